@@ -1,0 +1,40 @@
+ghost use Rattle.std.specs.Prelude.{◌≡◌, ℕ, List, length, replicate, IfOk};
+
+use std::alloc::{AllocError, Global};
+use std::marker::Model;
+
+/// The size of a chunk's buffer in bytes: no chunk of any layout is longer.
+pub const CHUNK_BUFFER_SIZE: usize = 32_816;
+
+/// A buffer for one chunk, of 32,816 bytes for good.
+#[derive(Drop)]
+pub struct ChunkBuf {
+    bytes: Vec<u8>,
+}
+
+impl Model for ChunkBuf {
+    ghost Value = { List ℕ };
+
+    ghost view = { λ buffer. buffer.bytes.items };
+
+    ghost invariant = { λ buffer. length buffer.bytes.items ≡ 32816 };
+}
+
+impl ChunkBuf {
+    /// A buffer of zeros.
+    pub fn new(alloc: Global) -> Result<ChunkBuf, AllocError>
+        ensures { IfOk result (λ buffer. buffer ≡ replicate CHUNK_BUFFER_SIZE 0) }
+    {
+        Ok(ChunkBuf {
+            bytes: vec![in alloc; 0; CHUNK_BUFFER_SIZE]?,
+        })
+    }
+
+    /// All its bytes.
+    pub fn bytes(&self) -> &[u8]
+        ensures value { result.now ≡ self.now }
+        ensures size { length result.now ≡ CHUNK_BUFFER_SIZE }
+    {
+        self.bytes.as_slice()
+    }
+}

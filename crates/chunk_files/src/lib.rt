@@ -1,0 +1,18 @@
+//! Content files: a header and sealed chunks, read back to the plain chunks, with each fault named
+//! exactly.
+#![tactic(auto)]
+
+pub mod chunk_buf;
+pub mod fault;
+mod header;
+pub mod keys;
+pub mod whole_decoder;
+mod zeros;
+
+pub use chunk_buf::ChunkBuf;
+pub use fault::ChunkFault;
+pub use keys::{ContentKeys, Layout};
+pub use whole_decoder::{Step, WholeDecoder};
+
+#[cfg(test)]
+mod tests;

@@ -1,0 +1,20 @@
+//! The streams that a command is handed: where its input comes from and where its output goes.
+//! Each object counts how often it failed, and no call answers a fault without that count.
+#![tactic(auto)]
+
+pub mod mem_sink;
+pub mod mem_source;
+pub mod sink;
+pub mod source;
+pub mod std_sink;
+pub mod std_source;
+
+pub use mem_sink::MemSink;
+pub use mem_source::MemSource;
+pub use sink::{Sink, SinkFault};
+pub use source::{Source, SourceFault};
+pub use std_sink::StdSink;
+pub use std_source::StdSource;
+
+#[cfg(test)]
+mod tests;

@@ -1,0 +1,3 @@
+mod Chunks
+mod Inputs
+mod RunLemmas

@@ -1,0 +1,45 @@
+-- What an answer's status and its cause say of each other.
+use Rattle.std.proofs.Common.{◌≡◌, ℕ, List, Option, refl, sym, subst, arith, length}
+use Rattle.std.proofs.Math.Seq.{take-length}
+use Rattle.std.specs.List.{concat}
+use Rattle.std.specs.Prelude.{◌⊎◌}
+use Rattle.std.proofs.Common.{inl, inr}
+use Rattle.std.specs.Io.KnownBytes.{Appends}
+use Rattle.chunk_files.specs.declared.fault.ChunkFault.{ChunkFault}
+use Rattle.vault_cli.specs.declared.answer.Answer.{Answer}
+use Rattle.vault_cli.specs.declared.answer.Answer.TheVariants.{Done, BadCommandLine, OutOfMemory, InputFault, OutputFault, Damaged, InputTooLong}
+use Rattle.vault_cli.specs.Answers.{status_of}
+use Rattle.vault_cli.specs.Decrypts.{input_reading}
+use Rattle.vault_cli.specs.Runs.{Executes}
+
+-- only a damaged content has status 12
+pub damaged_of_status : (answer : Answer) → status_of answer ≡ 12 → (fault : ChunkFault) × (answer ≡ Damaged fault)
+damaged_of_status Done is = absurd (omega arith)
+damaged_of_status BadCommandLine is = absurd (omega arith)
+damaged_of_status OutOfMemory is = absurd (omega arith)
+damaged_of_status InputFault is = absurd (omega arith)
+damaged_of_status OutputFault is = absurd (omega arith)
+damaged_of_status (Damaged fault) is = (fault, refl)
+damaged_of_status InputTooLong is = absurd (omega arith)
+
+-- a fault whose message found no memory
+damaged-unreported : (words : List (List ℕ)) (fault : ChunkFault) (left taken taken' : Option (List ℕ))
+    → Executes words (Damaged fault) left taken taken' → Executes words OutOfMemory left taken taken'
+damaged-unreported words fault left taken taken' executes = record {
+  command = (λ bad. cc, λ none. let bad = executes.command.1 none in cc);
+  refused = λ bad. cc;
+  tells = λ key input command told. tt;
+  writes = λ key input command told.
+      let chunks = (input_reading key input).chunks in
+      (length chunks, subst (λ cs. Appends taken taken' (concat cs)) (sym (take-length chunks)) (executes.writes key input command told));
+}
+
+-- what holds of an answer holds of the one that its report gives back
+pub Executes-reported : (words : List (List ℕ)) (answer result : Answer) (left taken taken' : Option (List ℕ))
+    → Executes words answer left taken taken' → (result ≡ answer) ⊎ ((fault : ChunkFault) × (answer ≡ Damaged fault) × (result ≡ OutOfMemory))
+    → Executes words result left taken taken'
+Executes-reported words answer result left taken taken' executes kept =
+    elim kept [
+      | inl same ↦ rw same executes
+      | inr lost ↦ rw lost.2 (damaged-unreported words lost.0 left taken taken' (rw lost.1 at executes))
+    ]

@@ -1,0 +1,5 @@
+pub mod Words
+pub mod Answers
+pub mod Gathers
+pub mod Decrypts
+pub mod Runs

@@ -1,0 +1,75 @@
+ghost use Rattle.std.specs.Prelude.{◌≡◌, ◌+◌, ◌≤◌, ◌↔◌, ◌⊎◌, ℕ, List, Some, map, string_bytes, IsTrue, IsNone};
+ghost use Rattle.std.specs.Io.KnownBytes.{IsAtEnd};
+ghost use Rattle.port_model.specs.Counts.{CountRose};
+ghost use Rattle.chunk_files.specs.Reading.{Faulty, Wanting};
+ghost use Rattle.vault_cli.specs.Words.{command_of};
+ghost use Rattle.vault_cli.specs.Answers.{TakesText, line_of, status_of};
+ghost use Rattle.vault_cli.specs.Gathers.{TakesAtMost};
+ghost use Rattle.vault_cli.specs.Decrypts.{input_reading};
+ghost use Rattle.vault_cli.specs.Runs.{Executes, answer_to};
+
+use crate::answer::Answer;
+use crate::decrypt::decrypt_file;
+use crate::gather::INPUT_LIMIT;
+use crate::reporting::report;
+use crate::words::Command;
+use port_model::{Sink, Source};
+use std::alloc::Global;
+
+/// Does what the words after the program's name ask for, between the three streams, and answers the
+/// status to end with: 0 done, 2 no command, 3 no memory, 5 the input failed, 6 the output failed,
+/// 12 the content is damaged, 23 the input is too long. Every status but 0 writes its line to `err`.
+pub fn run<I: Source, O: Sink, E: Sink>(
+    alloc: Global,
+    words: &[String],
+    input: &mut I,
+    out: &mut O,
+    err: &mut E,
+) -> u8
+    // There is one answer behind the status, the line on `err` and what `out` took.
+    ensures answer { (answer : Answer) × (result ≡ status_of answer)
+        × TakesText (E.taken err.old) (E.taken err.new) (E.faults err.old) (E.faults err.new) (line_of answer)
+        × Executes (map string_bytes words.now) answer (I.left input.old) (O.taken out.old) (O.taken out.new) }
+
+    // The cause of each status.
+    ensures bad_command_line { (result ≡ 2) ↔ IsNone (command_of (map string_bytes words.now)) }
+    ensures input_fault { result ≡ 5 → CountRose (I.faults input.old) (I.faults input.new) }
+    ensures output_fault { result ≡ 6 → CountRose (O.faults out.old) (O.faults out.new) }
+    ensures damaged { result ≡ 12 → (key bytes : List ℕ) → command_of (map string_bytes words.now) ≡ Some (Command.DecryptFile key)
+        → I.left input.old ≡ Some bytes → (fault : _) × ((input_reading key bytes).ending ≡ Faulty fault) }
+    ensures too_long { result ≡ 23 → (key bytes : List ℕ) → command_of (map string_bytes words.now) ≡ Some (Command.DecryptFile key)
+        → I.left input.old ≡ Some bytes → (input_reading key bytes).ending ≡ Wanting }
+
+    // Where no stream failed, the reading alone decides, unless memory is refused.
+    ensures decided { (key bytes : List ℕ) → command_of (map string_bytes words.now) ≡ Some (Command.DecryptFile key)
+        → I.left input.old ≡ Some bytes
+        → (CountRose (I.faults input.old) (I.faults input.new) → ⊥) → (CountRose (O.faults out.old) (O.faults out.new) → ⊥)
+        → (result ≡ 3) ⊎ (result ≡ status_of (answer_to (input_reading key bytes).ending)) }
+
+    // At 0 the input has ended; at no status was more taken of it than the limit and one byte.
+    ensures end { result ≡ 0 → IsTrue (I.ended input.new) × IsAtEnd (I.left input.new) }
+    ensures takes { TakesAtMost (INPUT_LIMIT + 1) (I.left input.old) (I.left input.new) }
+{
+    let answer = execute(alloc, words, input, out);
+    let answer = report(alloc, answer, err);
+    answer.status()
+}
+
+// Does what the words ask for.
+fn execute<I: Source, O: Sink>(
+    alloc: Global,
+    words: &[String],
+    input: &mut I,
+    out: &mut O,
+) -> Answer
+    ensures executes { Executes (map string_bytes words.now) result (I.left input.old) (O.taken out.old) (O.taken out.new) }
+    ensures end { result ≡ Answer.Done → IsTrue (I.ended input.new) × IsAtEnd (I.left input.new) }
+    ensures takes { TakesAtMost (INPUT_LIMIT + 1) (I.left input.old) (I.left input.new) }
+    ensures input_fault { result ≡ Answer.InputFault → CountRose (I.faults input.old) (I.faults input.new) }
+    ensures output_fault { result ≡ Answer.OutputFault → CountRose (O.faults out.old) (O.faults out.new) }
+{
+    match Command::from_words(words) {
+        Some(Command::DecryptFile(key)) => decrypt_file(alloc, &key, input, out),
+        None => Answer::BadCommandLine,
+    }
+}

@@ -1,0 +1,4 @@
+pub mod TableEntries
+pub mod WordBytes
+pub mod RoundSteps
+pub mod ByteSums

@@ -1,5 +1,5 @@
 -- Sums of bytes and of lists of bytes.
-use Rattle.std.proofs.Common.{◌≡◌, ℕ, zero, suc, ◌+◌, ◌<◌, ◌≤◌, List, [], ◌∷◌, bit_xor, bit_or, bit_and, length, slice_index, min, refl, sym, ap, ◌∙◌, arith}
+use Rattle.std.proofs.Common.{◌≡◌, ℕ, zero, suc, ◌+◌, ◌<◌, ◌≤◌, List, [], ◌∷◌, bit_xor, bit_or, bit_and, length, slice_index, refl, sym, ap, ◌∙◌, arith}
 use Rattle.std.proofs.lemmas.List.{ext_get_or}
 use lib.Bits.{xor_assoc, xor_self, xor_zero_l, xor_zero_r, or_add_and, and_le_l, and_le_r}
 use Rattle.aes_lanes.specs.Rounds.{xor_bytes}

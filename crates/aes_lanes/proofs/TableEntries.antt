@@ -1,9 +1,9 @@
 -- The look-up tables, entry by entry, against the definitions.
-use Rattle.std.proofs.Common.{◌≡◌, ℕ, ◌<◌, List, [], ◌∷◌, map, slice_index, bit_xor, get_or, refl, sym, ap, ◌∙◌, arith}
-use Rattle.std.proofs.lemmas.List.{get_or-map, length-map}
+use Rattle.std.proofs.Common.{◌≡◌, ℕ, ◌<◌, [], ◌∷◌, map, slice_index, bit_xor, get_or, refl, sym, ap, ◌∙◌, arith}
+use Rattle.std.proofs.lemmas.List.{get_or-map}
 use Rattle.std.proofs.lemmas.List.FromFn.{get_or-map-range_with_len}
 use Rattle.std.specs.List.{range_with_len}
-use Rattle.std.specs.Int.{w8, w32, rotate_left, rotate_right, to_be_bytes}
+use Rattle.std.specs.Int.{w32, rotate_right, to_be_bytes}
 use Rattle.aes_lanes.specs.declared.tables.TheConstants.{SBOX, COLUMNS}
 use Rattle.aes_lanes.specs.Field.{xtimes, partial_product, multiply, power, inverse, affine_map, sbox}
 use Rattle.aes_lanes.specs.Rounds.{mixed, xor_bytes}

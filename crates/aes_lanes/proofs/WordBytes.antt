@@ -6,9 +6,8 @@ use Rattle.std.proofs.lemmas.Nat.{be_bytes_4}
 use lib.Bits.{xor_shr, xor_mod}
 use Rattle.std.specs.List.{range_with_len}
 use Rattle.std.specs.Int.{w32, to_be_bytes, from_be_bytes}
-use Rattle.aes_lanes.specs.Rounds.{xor_bytes, sub_bytes, shift_rows, mixed, mix_columns, add_round_key}
-use Rattle.aes_lanes.specs.Schedule.{word_at, state_of, round_key}
-use Rattle.aes_lanes.specs.Field.{sbox}
+use Rattle.aes_lanes.specs.Rounds.{xor_bytes}
+use Rattle.aes_lanes.specs.Schedule.{word_at, state_of}
 
 -- eight bits from bit k on, of a bitwise sum
 byte-xor : (k a b : ℕ) → bit_xor a b / 2 ^ k % 2 ^ 8 ≡ bit_xor (a / 2 ^ k % 2 ^ 8) (b / 2 ^ k % 2 ^ 8)
@@ -23,7 +22,7 @@ pub xor_words : (p q : ℕ) (ps qs : List ℕ) → to_be_bytes w32 p ≡ ps → 
 xor_words p q ps qs e f = to_be_bytes-xor p q ∙ ap (λ l. xor_bytes l (to_be_bytes w32 q)) e ∙ ap (xor_bytes ps) f
 
 -- a list is its elements
-gathered : (l : List ℕ) (n : ℕ) → length l ≡ n → l ≡ map (λ i. get_or l i 0) (range_with_len 0 n)
+pub gathered : (l : List ℕ) (n : ℕ) → length l ≡ n → l ≡ map (λ i. get_or l i 0) (range_with_len 0 n)
 gathered l n h =
     ext_get_or 0 l (map (λ i. get_or l i 0) (range_with_len 0 n))
     (h ∙ sym (length-map-range_with_len (λ i. get_or l i 0) 0 n))

@@ -1,6 +1,6 @@
 -- Counter mode (SP 800-38A, section 6.5 and appendix B.1; SP 800-38D, sections 6.2 and 6.5). A block is
 -- sixteen bytes, and a block cipher a function from blocks to blocks.
-use Rattle.std.specs.Prelude.{ℕ, zero, suc, ◌+◌, ◌-◌, ◌*◌, ◌/◌, ◌%◌, ◌^◌, List, [], ◌∷◌, ◌++◌, length, take, drop, fold}
+use Rattle.std.specs.Prelude.{ℕ, zero, suc, ◌+◌, ◌-◌, ◌*◌, ◌/◌, ◌%◌, ◌^◌, List, [], ◌++◌, length, take, drop, fold}
 use Rattle.std.specs.Int.{bytes_high_first}
 use Rattle.aes_lanes.specs.Rounds.{xor_bytes}
 

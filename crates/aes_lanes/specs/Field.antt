@@ -1,6 +1,6 @@
 -- The field GF(2^8) and the S-box (FIPS 197, sections 4 and 5.1.1). A byte is a number below 256,
 -- whose bits are the coefficients of a polynomial of degree below 8.
-use Rattle.std.specs.Prelude.{ℕ, zero, suc, ◌+◌, ◌*◌, ◌/◌, ◌%◌, bit_xor}
+use Rattle.std.specs.Prelude.{ℕ, zero, suc, ◌*◌, ◌/◌, ◌%◌, bit_xor}
 use Rattle.std.specs.Int.{w8, rotate_left}
 
 -- x times the polynomial b, modulo x^8 + x^4 + x^3 + x + 1 (4.2)

@@ -3,4 +3,5 @@ pub mod Rounds
 pub mod Schedule
 pub mod Cipher
 pub mod Counter
+pub mod Counting
 pub mod Lengths

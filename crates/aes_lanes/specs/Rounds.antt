@@ -1,7 +1,7 @@
 -- The transformations of the rounds (FIPS 197, sections 3.4, 5.1 and 5.3). A state is a list of
 -- sixteen bytes, column after column.
 use Rattle.std.specs.Prelude.{◌≡◌, ℕ, ◌+◌, ◌*◌, ◌%◌, ◌<◌, ◌≤◌, length, List, [], ◌∷◌, ◌++◌, map, bit_xor, slice_index}
-use Rattle.aes_lanes.specs.Field.{xtimes, multiply, sbox, inverse_sbox}
+use Rattle.aes_lanes.specs.Field.{multiply, sbox, inverse_sbox}
 
 -- the byte in row r and column c of a state (3.4)
 abbrev pub state_byte : List ℕ → ℕ → ℕ → ℕ

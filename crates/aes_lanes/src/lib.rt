@@ -10,8 +10,10 @@ mod key;
 mod rounds;
 mod schedule;
 mod tables;
+#[cfg(test)]
+mod tests;
 
 pub use block::{Block, same_bytes, xor_into};
 pub use cipher::Cipher;
-pub use counter::ctr32_xor;
-pub use key::Key256;
+pub use counter::{ctr32_xor, ctr128_xor};
+pub use key::{Key128, Key256};

@@ -1,6 +1,6 @@
 // The rounds of AES on a state of four words, one for each column (FIPS 197, section 5.1).
 
-ghost use Rattle.std.specs.Prelude.{◌≡◌, ◌+◌, ◌*◌, ◌≤◌, List, [], ◌∷◌, length};
+ghost use Rattle.std.specs.Prelude.{◌≡◌, ◌+◌, ◌*◌, ◌≤◌, List, [], ◌∷◌, length, map};
 ghost use Rattle.std.specs.Int.{w32, to_be_bytes};
 ghost use Rattle.aes_lanes.specs.Field.{sbox};
 ghost use Rattle.aes_lanes.specs.Rounds.{add_round_key, mix_columns, mixed, shift_rows, sub_bytes, xor_bytes};
@@ -107,8 +107,8 @@ fn shifted_state(state: &State) -> State
     ]
 }
 
-/// Replaces a block by its image in `middle + 1` rounds, under the words of a key schedule.
-pub(crate) fn encrypt_block(words: &[u32], middle: usize, block: &mut Block)
+// Replaces a block by its image in `middle + 1` rounds, under the words of a key schedule.
+fn encrypt_block(words: &[u32], middle: usize, block: &mut Block)
     requires { length words.now ≡ 4 * (middle + 2) }
     ensures { block.new ≡ cipher middle words.now block.old }
 {
@@ -118,4 +118,14 @@ pub(crate) fn encrypt_block(words: &[u32], middle: usize, block: &mut Block)
         state = next;
     }
     *block = store(&add_key(&shifted_state(&state), words, middle + 1));
+}
+
+/// Replaces each block by its image in `middle + 1` rounds, under the words of a key schedule.
+pub(crate) fn encrypt_all(words: &[u32], middle: usize, blocks: &mut [Block])
+    requires { length words.now ≡ 4 * (middle + 2) }
+    ensures { blocks.new ≡ map (cipher middle words.now) blocks.old }
+{
+    for block in blocks.iter_mut() {
+        encrypt_block(words, middle, block);
+    }
 }

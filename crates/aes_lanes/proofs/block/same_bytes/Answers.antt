@@ -1,4 +1,4 @@
-use Rattle.std.proofs.Common.{◌≡◌, ℕ, ap, arith, below_more, slice_index}
+use Rattle.std.proofs.Common.{ap, arith, below_more, slice_index}
 use Rattle.std.proofs.lemmas.Bool.{eqb-true, eq-eqb}
 use Rattle.std.proofs.lemmas.List.{ext_get_or}
 use Rattle.aes_lanes.proofs.ByteSums.{bit_or-zero, bit_or-none, bit_xor-zero}

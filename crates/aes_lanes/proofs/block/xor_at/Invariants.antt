@@ -1,4 +1,4 @@
-use Rattle.std.proofs.Common.{◌≡◌, ℕ, ◌+◌, ◌<◌, ◌≤◌, length, bit_xor, slice_index}
+use Rattle.std.proofs.Common.{◌≡◌, ℕ, ◌+◌, ◌<◌, ◌≤◌, bit_xor, slice_index}
 use Rattle.aes_lanes.proofs.block.xor_at.Given as goal
 
 abbrev pub invariant-loop-i : goal.invariant-loop-i

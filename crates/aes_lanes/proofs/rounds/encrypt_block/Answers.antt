@@ -1,7 +1,7 @@
 use Rattle.std.proofs.Common.{◌≡◌, ◌+◌, sym, ap, ◌∙◌, arith}
 use Rattle.aes_lanes.specs.Rounds.{add_round_key, mix_columns, shift_rows, sub_bytes}
-use Rattle.aes_lanes.specs.Schedule.{round_key, state_of}
-use Rattle.aes_lanes.specs.Cipher.{rounds, cipher}
+use Rattle.aes_lanes.specs.Schedule.{round_key}
+use Rattle.aes_lanes.specs.Cipher.{rounds}
 use Rattle.aes_lanes.proofs.RoundSteps.{rounds-next, cipher-last}
 use Rattle.aes_lanes.proofs.rounds.encrypt_block.Goals as goal
 

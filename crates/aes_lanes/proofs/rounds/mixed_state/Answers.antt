@@ -1,4 +1,4 @@
-use Rattle.std.proofs.Common.{◌≡◌, refl, ◌∙◌}
+use Rattle.std.proofs.Common.{refl, ◌∙◌}
 use Rattle.aes_lanes.specs.Rounds.{mix_columns, shift_rows, sub_bytes}
 use Rattle.aes_lanes.specs.Schedule.{state_of}
 use Rattle.aes_lanes.proofs.WordBytes.{state_of-bytes}

@@ -1,4 +1,4 @@
-use Rattle.std.proofs.Common.{rules, ◌∙◌, refl}
+use Rattle.std.proofs.Common.{◌∙◌, refl}
 use Rattle.aes_lanes.proofs.WordBytes.{to_be_bytes-word}
 use Rattle.aes_lanes.proofs.rounds.shifted_column.Goals as goal
 

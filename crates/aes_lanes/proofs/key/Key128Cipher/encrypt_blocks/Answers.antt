@@ -1,0 +1,9 @@
+use Rattle.std.proofs.Common.{map, ap, ◌∙◌}
+use Rattle.aes_lanes.specs.Cipher.{aes, cipher, key_schedule}
+use Rattle.aes_lanes.proofs.key.Key128Cipher.encrypt_blocks.Goals as goal
+
+pub returns : goal.returns
+unfolding aes
+returns c =
+    c.encrypt_all.ensures
+    ∙ ap (λ words. map (cipher 9 words) c.args.blocks.now) (c.self.invariant ∙ ap (key_schedule 4) c.self.view_is)

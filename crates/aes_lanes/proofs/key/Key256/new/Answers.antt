@@ -1,0 +1,13 @@
+use Rattle.std.proofs.Common.{sym, ap, ◌∙◌}
+use Rattle.aes_lanes.specs.Schedule.{key_of}
+use Rattle.aes_lanes.specs.Cipher.{key_schedule}
+use Rattle.aes_lanes.proofs.ScheduleSteps.{key_of-expanded_key}
+use Rattle.aes_lanes.proofs.key.Key256.new.Goals as goal
+
+pub returns : goal.returns
+returns c =
+    ap (key_of 8) c.expand_key.ensures ∙ key_of-expanded_key 8 c.args.key.now 52 c.fits-key c.told-key
+
+pub invariant_of-result : goal.invariant_of-result
+unfolding key_schedule
+invariant_of-result c = c.expand_key.ensures ∙ ap (key_schedule 8) (sym (returns c))

@@ -1,0 +1,7 @@
+pub mod Field
+pub mod Rounds
+pub mod Schedule
+pub mod Cipher
+pub mod Counter
+pub mod Counting
+pub mod Lengths

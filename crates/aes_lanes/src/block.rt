@@ -1,0 +1,38 @@
+// Blocks and byte strings: their sum, and whether two are the same.
+
+ghost use Rattle.std.specs.Prelude.{◌≡◌, ◌↔◌, IsTrue};
+ghost use Rattle.aes_lanes.specs.Rounds.{IsXoredAt, xor_bytes};
+
+/// Sixteen bytes.
+pub type Block = [u8; 16];
+
+// Adds a block to the bytes from place `at` on, as far as they go.
+pub(crate) fn xor_at(bytes: &mut [u8], at: usize, block: &Block)
+    ensures { IsXoredAt at block.now bytes.old bytes.new }
+{
+    let rest = bytes.len().saturating_sub(at);
+    for i in 0..rest.min(16) {
+        bytes[at + i] ^= block[i];
+    }
+}
+
+/// Adds `right` to `left`, bit by bit.
+pub fn xor_into(left: &mut Block, right: &Block)
+    ensures { left.new ≡ xor_bytes left.old right.now }
+{
+    xor_at(left, 0, right);
+}
+
+/// Whether two byte strings are the same. Each byte is looked at, wherever they differ.
+pub fn same_bytes(left: &[u8], right: &[u8]) -> bool
+    ensures { IsTrue result ↔ (left.now ≡ right.now) }
+{
+    if left.len() != right.len() {
+        return false;
+    }
+    let mut differences = 0;
+    for i in 0..left.len() {
+        differences |= left[i] ^ right[i];
+    }
+    differences == 0
+}

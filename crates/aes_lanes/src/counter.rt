@@ -1,0 +1,69 @@
+// Counter mode (SP 800-38A, section 6.5).
+
+ghost use Rattle.std.specs.Prelude.{◌≡◌};
+ghost use Rattle.aes_lanes.specs.Counter.{counted, counter_mode, ctr128, ctr32, increment128, increment32};
+ghost use Rattle.aes_lanes.specs.Counting.{width_of};
+
+use crate::block::{Block, xor_at};
+use crate::cipher::Cipher;
+
+// Which part of a counter block counts.
+#[derive(Clone, Copy)]
+enum Counting {
+    LastFourBytes,
+    AllBytes,
+}
+
+fn increment32(block: &mut Block)
+    ensures { block.new ≡ increment32 block.old }
+{
+    let number = u32::from_be_bytes([block[12], block[13], block[14], block[15]]);
+    let bytes = number.wrapping_add(1).to_be_bytes();
+    block[12] = bytes[0];
+    block[13] = bytes[1];
+    block[14] = bytes[2];
+    block[15] = bytes[3];
+}
+
+fn increment128(block: &mut Block)
+    ensures { block.new ≡ increment128 block.old }
+{
+    *block = u128::from_be_bytes(*block).wrapping_add(1).to_be_bytes();
+}
+
+fn increment(counting: Counting, block: &mut Block)
+    ensures { block.new ≡ counted (width_of counting) 1 block.old }
+{
+    match counting {
+        Counting::LastFourBytes => increment32(block),
+        Counting::AllBytes => increment128(block),
+    }
+}
+
+fn counter_xor<C: Cipher>(cipher: &C, counting: Counting, start: &Block, bytes: &mut [u8])
+    ensures { bytes.new ≡ counter_mode (C.image cipher.now) (counted (width_of counting) 1) start.now bytes.old }
+{
+    let mut counter = *start;
+    for k in 0..bytes.len().div_ceil(16) {
+        let mut stream = [counter];
+        cipher.encrypt_blocks(&mut stream);
+        xor_at(bytes, 16 * k, &stream[0]);
+        increment(counting, &mut counter);
+    }
+}
+
+/// Xors the key stream that starts with the image of `start` into the bytes. Its counter blocks
+/// count modulo 2^32 on the last four bytes (SP 800-38D, section 6.5).
+pub fn ctr32_xor<C: Cipher>(cipher: &C, start: &Block, bytes: &mut [u8])
+    ensures { bytes.new ≡ ctr32 (C.image cipher.now) start.now bytes.old }
+{
+    counter_xor(cipher, Counting::LastFourBytes, start, bytes);
+}
+
+/// Xors the key stream that starts with the image of `start` into the bytes. Its counter blocks
+/// count modulo 2^128 on all sixteen bytes (SP 800-38A, appendix B.1).
+pub fn ctr128_xor<C: Cipher>(cipher: &C, start: &Block, bytes: &mut [u8])
+    ensures { bytes.new ≡ ctr128 (C.image cipher.now) start.now bytes.old }
+{
+    counter_xor(cipher, Counting::AllBytes, start, bytes);
+}

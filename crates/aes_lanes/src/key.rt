@@ -1,0 +1,93 @@
+// The keys of AES, which hold their key schedules.
+
+ghost use Rattle.std.specs.Prelude.{◌≡◌};
+
+use crate::block::Block;
+use crate::cipher::Cipher;
+use crate::rounds::encrypt_all;
+use crate::schedule::expand_key;
+use std::marker::Model;
+
+/// A key of AES-128, of 16 bytes. A contract sees it as those bytes.
+#[derive(Drop)]
+pub struct Key128 {
+    words: [u32; 44],
+}
+
+impl Model for Key128 {
+    ghost use Rattle.std.specs.Prelude.{◌≡◌, ℕ, List};
+    ghost use Rattle.aes_lanes.specs.Schedule.{key_of};
+    ghost use Rattle.aes_lanes.specs.Cipher.{key_schedule};
+
+    ghost Value = { List ℕ };
+
+    ghost view = { λ key. key_of 4 key.words };
+
+    ghost invariant = { λ key. key.words ≡ key_schedule 4 (key_of 4 key.words) };
+}
+
+impl Key128 {
+    /// The key of these bytes, expanded.
+    pub fn new(key: &[u8; 16]) -> Key128
+        ensures { result ≡ key.now }
+    {
+        let mut words = [0; 44];
+        expand_key(key, 4, &mut words);
+        Key128 { words }
+    }
+}
+
+impl Cipher for Key128 {
+    ghost use Rattle.aes_lanes.specs.Cipher.{aes128};
+    ghost use Rattle.aes_lanes.specs.Lengths.{length-aes};
+
+    ghost image = { aes128 };
+
+    ghost length_image = { length-aes 4 };
+
+    fn encrypt_blocks(&self, blocks: &mut [Block]) {
+        encrypt_all(&self.words, 9, blocks);
+    }
+}
+
+/// A key of AES-256, of 32 bytes. A contract sees it as those bytes.
+#[derive(Drop)]
+pub struct Key256 {
+    words: [u32; 60],
+}
+
+impl Model for Key256 {
+    ghost use Rattle.std.specs.Prelude.{◌≡◌, ℕ, List};
+    ghost use Rattle.aes_lanes.specs.Schedule.{key_of};
+    ghost use Rattle.aes_lanes.specs.Cipher.{key_schedule};
+
+    ghost Value = { List ℕ };
+
+    ghost view = { λ key. key_of 8 key.words };
+
+    ghost invariant = { λ key. key.words ≡ key_schedule 8 (key_of 8 key.words) };
+}
+
+impl Key256 {
+    /// The key of these bytes, expanded.
+    pub fn new(key: &[u8; 32]) -> Key256
+        ensures { result ≡ key.now }
+    {
+        let mut words = [0; 60];
+        expand_key(key, 8, &mut words);
+        Key256 { words }
+    }
+}
+
+impl Cipher for Key256 {
+    ghost use Rattle.aes_lanes.specs.Cipher.{aes256};
+    ghost use Rattle.aes_lanes.specs.Lengths.{length-aes};
+
+    ghost image = { aes256 };
+
+    ghost length_image = { length-aes 8 };
+
+    fn encrypt_blocks(&self, blocks: &mut [Block]) {
+        encrypt_all(&self.words, 13, blocks);
+    }
+}

@@ -1,0 +1,19 @@
+//! AES (FIPS 197) on any number of blocks, and its counter streams (SP 800-38A).
+//!
+//! Nothing here takes memory or refuses an input.
+#![tactic(auto)]
+
+mod block;
+mod cipher;
+mod counter;
+mod key;
+mod rounds;
+mod schedule;
+mod tables;
+#[cfg(test)]
+mod tests;
+
+pub use block::{Block, same_bytes, xor_into};
+pub use cipher::Cipher;
+pub use counter::{ctr32_xor, ctr128_xor};
+pub use key::{Key128, Key256};

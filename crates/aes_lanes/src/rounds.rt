@@ -1,0 +1,131 @@
+// The rounds of AES on a state of four words, one for each column (FIPS 197, section 5.1).
+
+ghost use Rattle.std.specs.Prelude.{◌≡◌, ◌+◌, ◌*◌, ◌≤◌, List, [], ◌∷◌, length, map};
+ghost use Rattle.std.specs.Int.{w32, to_be_bytes};
+ghost use Rattle.aes_lanes.specs.Field.{sbox};
+ghost use Rattle.aes_lanes.specs.Rounds.{add_round_key, mix_columns, mixed, shift_rows, sub_bytes, xor_bytes};
+ghost use Rattle.aes_lanes.specs.Schedule.{round_key, state_of};
+ghost use Rattle.aes_lanes.specs.Cipher.{cipher};
+
+use crate::block::Block;
+use crate::tables::{column, sbox};
+
+type State = [u32; 4];
+
+#[inline(always)]
+fn load(block: &Block) -> State
+    ensures { state_of result ≡ block.now }
+{
+    let [
+        a0,
+        a1,
+        a2,
+        a3,
+        b0,
+        b1,
+        b2,
+        b3,
+        c0,
+        c1,
+        c2,
+        c3,
+        d0,
+        d1,
+        d2,
+        d3,
+    ] = *block;
+    [
+        u32::from_be_bytes([a0, a1, a2, a3]),
+        u32::from_be_bytes([b0, b1, b2, b3]),
+        u32::from_be_bytes([c0, c1, c2, c3]),
+        u32::from_be_bytes([d0, d1, d2, d3]),
+    ]
+}
+
+#[inline(always)]
+fn store(state: &State) -> Block
+    ensures { result ≡ state_of state.now }
+{
+    let [a0, a1, a2, a3] = state[0].to_be_bytes();
+    let [b0, b1, b2, b3] = state[1].to_be_bytes();
+    let [c0, c1, c2, c3] = state[2].to_be_bytes();
+    let [d0, d1, d2, d3] = state[3].to_be_bytes();
+    [
+        a0, a1, a2, a3, b0, b1, b2, b3, c0, c1, c2, c3, d0, d1, d2, d3,
+    ]
+}
+
+#[inline(always)]
+fn add_key(state: &State, words: &[u32], round: usize) -> State
+    requires { 4 * round + 4 ≤ length words.now }
+    ensures { state_of result ≡ add_round_key (state_of state.now) (round_key words.now round) }
+{
+    [
+        state[0] ^ words[4 * round],
+        state[1] ^ words[4 * round + 1],
+        state[2] ^ words[4 * round + 2],
+        state[3] ^ words[4 * round + 3],
+    ]
+}
+
+#[inline(always)]
+fn mixed_state(state: &State) -> State
+    ensures { state_of result ≡ mix_columns (shift_rows (sub_bytes (state_of state.now))) }
+{
+    let [a0, a1, a2, a3] = state[0].to_be_bytes();
+    let [b0, b1, b2, b3] = state[1].to_be_bytes();
+    let [c0, c1, c2, c3] = state[2].to_be_bytes();
+    let [d0, d1, d2, d3] = state[3].to_be_bytes();
+    [
+        column(a0, b1, c2, d3),
+        column(b0, c1, d2, a3),
+        column(c0, d1, a2, b3),
+        column(d0, a1, b2, c3),
+    ]
+}
+
+#[inline(always)]
+fn shifted_column(a: u8, b: u8, c: u8, d: u8) -> u32
+    ensures { to_be_bytes w32 result ≡ sbox a ∷ sbox b ∷ sbox c ∷ sbox d ∷ [] }
+{
+    u32::from_be_bytes([sbox(a), sbox(b), sbox(c), sbox(d)])
+}
+
+#[inline(always)]
+fn shifted_state(state: &State) -> State
+    ensures { state_of result ≡ shift_rows (sub_bytes (state_of state.now)) }
+{
+    let [a0, a1, a2, a3] = state[0].to_be_bytes();
+    let [b0, b1, b2, b3] = state[1].to_be_bytes();
+    let [c0, c1, c2, c3] = state[2].to_be_bytes();
+    let [d0, d1, d2, d3] = state[3].to_be_bytes();
+    [
+        shifted_column(a0, b1, c2, d3),
+        shifted_column(b0, c1, d2, a3),
+        shifted_column(c0, d1, a2, b3),
+        shifted_column(d0, a1, b2, c3),
+    ]
+}
+
+// Replaces a block by its image in `middle + 1` rounds, under the words of a key schedule.
+fn encrypt_block(words: &[u32], middle: usize, block: &mut Block)
+    requires { length words.now ≡ 4 * (middle + 2) }
+    ensures { block.new ≡ cipher middle words.now block.old }
+{
+    let mut state = add_key(&load(block), words, 0);
+    for round in 0..middle {
+        let next = add_key(&mixed_state(&state), words, round + 1);
+        state = next;
+    }
+    *block = store(&add_key(&shifted_state(&state), words, middle + 1));
+}
+
+/// Replaces each block by its image in `middle + 1` rounds, under the words of a key schedule.
+pub(crate) fn encrypt_all(words: &[u32], middle: usize, blocks: &mut [Block])
+    requires { length words.now ≡ 4 * (middle + 2) }
+    ensures { blocks.new ≡ map (cipher middle words.now) blocks.old }
+{
+    for block in blocks.iter_mut() {
+        encrypt_block(words, middle, block);
+    }
+}

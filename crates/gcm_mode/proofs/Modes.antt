@@ -1,0 +1,57 @@
+-- The parts of GCM as the code computes them.
+use Rattle.std.proofs.Common.{◌≡◌, ◌≢◌, ℕ, ◌*◌, List, [], ◌∷◌, ◌++◌, length, bit_xor, eq-eqb, inl, inr, refl, sym, ap, ◌∙◌}
+use Rattle.std.proofs.lemmas.Bool.Decides.{eqb_tells}
+use Rattle.aes_lanes.specs.Cipher.{aes256}
+use Rattle.aes_lanes.specs.Counter.{ctr32, increment32}
+use Rattle.aes_lanes.specs.Lengths.{length-aes}
+use Rattle.gcm_mode.specs.Field.{product}
+use Rattle.gcm_mode.specs.Hash.{ghash, ghash_from, padded, block_bytes}
+use Rattle.gcm_mode.specs.Gcm.{hash_subkey, pre_counter, lengths_block, hashed, tag_of, encrypted, Sealed, sealed, Opens, OpensToOneText}
+use Rattle.gcm_mode.proofs.Hashes.{ghash_from-append}
+use Rattle.gcm_mode.proofs.Streams.{counter_mode-twice, length-counter_mode}
+
+pub pre_counter-short : (image : List ℕ → List ℕ) (iv : List ℕ) → length iv ≡ 12 → pre_counter image iv ≡ iv ++ 0 ∷ 0 ∷ 0 ∷ 1 ∷ []
+unfolding pre_counter
+pre_counter-short image iv twelve = rw (eq-eqb (length iv) 12 twelve)
+
+pub pre_counter-hashed : (image : List ℕ → List ℕ) (iv : List ℕ) (h hash : ℕ) → length iv ≢ 12 → h ≡ hash_subkey image → hash ≡ ghash_from h 0 (padded iv) → block_bytes (product (bit_xor hash (8 * length iv)) h) ≡ pre_counter image iv
+unfolding pre_counter ghash ghash_from
+pre_counter-hashed image iv h hash other subkey at =
+    rw (at, subkey) (elim (eqb_tells (length iv) 12) [
+      | inl twelve ↦ absurd (other twelve.1)
+      | inr test ↦ rw (test.0, ghash_from-append)
+    ])
+
+pub hashed-is : (image : List ℕ → List ℕ) (ad text : List ℕ) (h first hash : ℕ) → h ≡ hash_subkey image → first ≡ ghash_from h 0 (padded ad) → hash ≡ ghash_from h first (padded text) → product (bit_xor hash (lengths_block ad text)) h ≡ hashed image ad text
+unfolding hashed ghash ghash_from
+hashed-is image ad text h first hash subkey one two =
+    rw (two, one, subkey) (sym (rw (ghash_from-append, ghash_from-append) refl))
+
+-- a text that opens a sealed one shows the tag to be the sealed one's
+pub tag-opened : (image : List ℕ → List ℕ) (iv ad : List ℕ) (s : Sealed) (plain : List ℕ) → Opens image iv ad s plain → s.tag ≡ tag_of image iv ad s.text
+unfolding sealed
+tag-opened image iv ad s plain opens =
+    sym (ap (λ (t : Sealed). t.tag) opens) ∙ ap (tag_of image iv ad) (ap (λ (t : Sealed). t.text) opens)
+
+-- the text that the key stream of a sealed text's place leaves opens it, where the tag is right
+pub opened-is : (image : List ℕ → List ℕ) (iv ad text tag plain : List ℕ) → tag_of image iv ad text ≡ tag → plain ≡ ctr32 image (increment32 (pre_counter image iv)) text → length plain ≡ length text → Opens image iv ad (record { text = text; tag = tag }) plain
+unfolding sealed encrypted
+opened-is image iv ad text tag plain right stream whole =
+    let back : ctr32 image (increment32 (pre_counter image iv)) plain ≡ text = counter_mode-twice image increment32 (increment32 (pre_counter image iv)) text plain stream whole in
+    rw back (ap (λ (t : List ℕ). record { text = text; tag = t }) right)
+
+pub sealed-is : (image : List ℕ → List ℕ) (iv ad plain text tag : List ℕ) → text ≡ ctr32 image (increment32 (pre_counter image iv)) plain → tag ≡ ctr32 image (pre_counter image iv) (block_bytes (hashed image ad text)) → sealed image iv ad plain ≡ record { text = text; tag = tag }
+unfolding sealed encrypted tag_of
+sealed-is image iv ad plain text tag stream right = sym (rw (right, stream) refl)
+
+-- the key stream, laid over an encrypted text, gives back the plain text
+plain-is : (key iv ad plain : List ℕ) (s : Sealed) → Opens (aes256 key) iv ad s plain → ctr32 (aes256 key) (increment32 (pre_counter (aes256 key) iv)) s.text ≡ plain
+unfolding sealed encrypted
+plain-is key iv ad plain s opens =
+    let image : List ℕ → List ℕ = aes256 key in
+    let start : List ℕ = increment32 (pre_counter image iv) in
+    let text : s.text ≡ ctr32 image start plain = sym (ap (λ (t : Sealed). t.text) opens) in
+    counter_mode-twice image increment32 start plain s.text text (ap length text ∙ length-counter_mode image increment32 start plain (length-aes 8 key))
+
+pub opens_once : OpensToOneText
+opens_once key iv ad plain other s one two = sym (plain-is key iv ad plain s one) ∙ plain-is key iv ad other s two

@@ -1,0 +1,143 @@
+//! AES-256 in Galois/Counter Mode (NIST SP 800-38D), with tags of sixteen bytes. Nothing here takes memory.
+#![tactic(auto)]
+
+ghost use Rattle.std.specs.Prelude.{◌≡◌, ℕ, ◌^◌, ◌<◌, ◌≤◌, ◌↔◌, List, length, IsOk, OnOk, OnErr};
+ghost use Rattle.aes_lanes.specs.Cipher.{aes256};
+ghost use Rattle.aes_lanes.specs.Counter.{ctr32, increment32};
+ghost use Rattle.gcm_mode.specs.Hash.{block_bytes};
+ghost use Rattle.gcm_mode.specs.Gcm.{hash_subkey, hashed, pre_counter, tag_of, sealed, Opens, OpensToNothing, OpensToOneText};
+
+use aes_lanes::{Block, Cipher, Key256, ctr32_xor, same_bytes};
+use std::marker::Model;
+
+mod counter;
+mod field;
+mod hash;
+mod products;
+#[cfg(test)]
+mod tests;
+
+use counter::{next_counter, short_counter};
+use hash::{bit_length, hash_on};
+use products::Products;
+
+/// The tag isn't that of the text, its associated data and its initialization vector.
+#[derive(Clone, Copy, Debug, PartialEq, Eq)]
+pub struct BadTag;
+
+/// GCM under one AES-256 key. A clause sees the key's 32 bytes.
+#[derive(Drop)]
+pub struct Gcm {
+    cipher: Key256,
+    products: Products,
+}
+
+impl Model for Gcm {
+    ghost Value = { List ℕ };
+
+    ghost view = { λ g. g.cipher };
+
+    ghost invariant = { λ g. g.products ≡ hash_subkey (aes256 g.cipher) };
+}
+
+impl Gcm {
+    pub fn new(key: Key256) -> Gcm
+        ensures { result ≡ key }
+    {
+        let mut blocks = [[0; 16]];
+        key.encrypt_blocks(&mut blocks);
+        let products = Products::new(u128::from_be_bytes(blocks[0]));
+        Gcm {
+            cipher: key,
+            products,
+        }
+    }
+
+    /// Encrypts `text` in place, and gives its tag (section 7.1). `iv` has 1 to 2^32 bytes, `ad` and `text` have at
+    /// most 2^32.
+    pub fn seal(&self, iv: &[u8], ad: &[u8], text: &mut [u8]) -> [u8; 16]
+        requires some_iv { 0 < length iv.now }
+        requires iv_within { length iv.now ≤ 2 ^ 32 }
+        requires ad_within { length ad.now ≤ 2 ^ 32 }
+        requires text_within { length text.old ≤ 2 ^ 32 }
+        ensures { sealed (aes256 self.now) iv.now ad.now text.old ≡ record { text = text.new; tag = result } }
+    {
+        let counter = self.pre_counter(iv);
+        self.add_stream(&counter, text);
+        self.tag(&counter, ad, text)
+    }
+
+    /// Decrypts `text` in place where `tag` is its tag, else leaves it as it is (section 7.2). `iv` has 1 to 2^32
+    /// bytes, `ad` and `text` have at most 2^32.
+    pub fn unseal(
+        &self,
+        iv: &[u8],
+        ad: &[u8],
+        text: &mut [u8],
+        tag: &[u8; 16],
+    ) -> Result<(), BadTag>
+        requires some_iv { 0 < length iv.now }
+        requires iv_within { length iv.now ≤ 2 ^ 32 }
+        requires ad_within { length ad.now ≤ 2 ^ 32 }
+        requires text_within { length text.old ≤ 2 ^ 32 }
+        ensures right_tag { IsOk result ↔ (tag.now ≡ tag_of (aes256 self.now) iv.now ad.now text.old) }
+        ensures opened { OnOk result
+            (Opens (aes256 self.now) iv.now ad.now (record { text = text.old; tag = tag.now }) text.new) }
+        ensures bad_tag { OnErr result
+            (OpensToNothing (aes256 self.now) iv.now ad.now (record { text = text.old; tag = tag.now })) }
+        ensures unchanged { OnErr result (text.new ≡ text.old) }
+    {
+        let counter = self.pre_counter(iv);
+        if !same_bytes(&self.tag(&counter, ad, text), tag) {
+            return Err(BadTag);
+        }
+        self.add_stream(&counter, text);
+        Ok(())
+    }
+
+    fn pre_counter(&self, iv: &[u8]) -> Block
+        requires { length iv.now ≤ 2 ^ 32 }
+        ensures { result ≡ pre_counter (aes256 self.now) iv.now }
+    {
+        if iv.len() == 12 {
+            return short_counter(iv);
+        }
+        let hash = hash_on(&self.products, 0, iv);
+        self.products.times(hash ^ bit_length(iv)).to_be_bytes()
+    }
+
+    // Encrypts or decrypts a text whose pre-counter block is `counter`.
+    fn add_stream(&self, counter: &Block, text: &mut [u8])
+        ensures { text.new ≡ ctr32 (aes256 self.now) (increment32 counter.now) text.old }
+    {
+        ctr32_xor(&self.cipher, &next_counter(counter), text);
+    }
+
+    // The tag of an encrypted text whose pre-counter block is `counter`.
+    fn tag(&self, counter: &Block, ad: &[u8], text: &[u8]) -> Block
+        requires ad_within { length ad.now ≤ 2 ^ 32 }
+        requires text_within { length text.now ≤ 2 ^ 32 }
+        ensures { result
+            ≡ ctr32 (aes256 self.now) counter.now (block_bytes (hashed (aes256 self.now) ad.now text.now)) }
+    {
+        let mut tag = self.hash(ad, text);
+        ctr32_xor(&self.cipher, counter, &mut tag);
+        tag
+    }
+
+    // GHASH of the associated data and the encrypted text, with their lengths.
+    fn hash(&self, ad: &[u8], text: &[u8]) -> Block
+        requires ad_within { length ad.now ≤ 2 ^ 32 }
+        requires text_within { length text.now ≤ 2 ^ 32 }
+        ensures { result ≡ block_bytes (hashed (aes256 self.now) ad.now text.now) }
+    {
+        let hash = hash_on(&self.products, hash_on(&self.products, 0, ad), text);
+        let lengths = (bit_length(ad) << 64) + bit_length(text);
+        self.products.times(hash ^ lengths).to_be_bytes()
+    }
+}
+
+/// The law that an encrypted text with its tag opens to one text at most: the one that was sealed.
+pub fn opens_to_one_text()
+    ensures { OpensToOneText }
+{}

@@ -47,3 +47,10 @@ aes128 key block = aes 4 key block
 
 abbrev pub aes256 : List ℕ → List ℕ → List ℕ
 aes256 key block = aes 8 key block
+
+-- the inverse ciphers
+abbrev pub inverse_aes128 : List ℕ → List ℕ → List ℕ
+inverse_aes128 key block = inverse_aes 4 key block
+
+abbrev pub inverse_aes256 : List ℕ → List ℕ → List ℕ
+inverse_aes256 key block = inverse_aes 8 key block

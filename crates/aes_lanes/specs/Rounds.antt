@@ -7,6 +7,11 @@ use Rattle.aes_lanes.specs.Field.{multiply, sbox, inverse_sbox}
 abbrev pub state_byte : List ℕ → ℕ → ℕ → ℕ
 state_byte s r c = slice_index s (r + 4 * c)
 
+-- sixteen bytes
+pub record IsBlock (block : List ℕ) : Type 0 where
+  pub sixteen : length block ≡ 16
+  pub bytes : (k : ℕ) → slice_index block k < 256
+
 -- the bitwise sum of two lists, as long as the shorter one
 unfoldable pub xor_bytes : List ℕ → List ℕ → List ℕ
 xor_bytes [] ys = []

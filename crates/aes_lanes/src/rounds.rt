@@ -8,6 +8,7 @@ ghost use Rattle.aes_lanes.specs.Schedule.{round_key, state_of};
 ghost use Rattle.aes_lanes.specs.Cipher.{cipher, inverse_cipher};
 
 use crate::block::Block;
+use crate::schedule::load_word;
 use crate::tables::{column, inverse_column, inverse_sbox, sbox};
 
 type State = [u32; 4];
@@ -16,29 +17,11 @@ type State = [u32; 4];
 fn load(block: &Block) -> State
     ensures { state_of result ≡ block.now }
 {
-    let [
-        a0,
-        a1,
-        a2,
-        a3,
-        b0,
-        b1,
-        b2,
-        b3,
-        c0,
-        c1,
-        c2,
-        c3,
-        d0,
-        d1,
-        d2,
-        d3,
-    ] = *block;
     [
-        u32::from_be_bytes([a0, a1, a2, a3]),
-        u32::from_be_bytes([b0, b1, b2, b3]),
-        u32::from_be_bytes([c0, c1, c2, c3]),
-        u32::from_be_bytes([d0, d1, d2, d3]),
+        load_word(block, 0),
+        load_word(block, 1),
+        load_word(block, 2),
+        load_word(block, 3),
     ]
 }
 

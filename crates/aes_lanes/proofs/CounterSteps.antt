@@ -4,7 +4,8 @@ use Rattle.std.proofs.lemmas.List.{ext_get_or, get_or_append_left, get_or-append
 use Rattle.std.proofs.lemmas.Bool.{cases_lt}
 use Rattle.std.specs.Fn.{iterate}
 use Rattle.std.specs.Int.{w32, w128, to_be_bytes, from_be_bytes}
-use Rattle.aes_lanes.specs.Rounds.{xor_bytes, IsXoredAt}
+use Rattle.aes_lanes.specs.Bytes.{IsXoredAt}
+use Rattle.aes_lanes.specs.Rounds.{xor_bytes}
 use Rattle.aes_lanes.specs.Counter.{number_of, counted, key_stream, counter_mode}
 use Rattle.aes_lanes.specs.Lengths.{length-xor_bytes}
 use Rattle.aes_lanes.proofs.ByteSums.{slice_index-xor_bytes, xor_bytes-twice}

@@ -39,3 +39,11 @@ xor_bytes-from_places sum xs ys same long each =
     let here : k < length xs = omega arith in
     let there : k < length ys = omega arith in
     each k here ∙ sym (slice_index-xor_bytes xs ys k here there))
+
+pub xor_bytes-twice : (xs ys : List ℕ) → length xs ≤ length ys → xor_bytes (xor_bytes xs ys) ys ≡ xs
+unfolding xor_bytes
+xor_bytes-twice [] ys h = refl
+xor_bytes-twice (x ∷ xs) [] h = absurd (omega arith)
+xor_bytes-twice (x ∷ xs) (y ∷ ys) h =
+    let rest : length xs ≤ length ys = omega arith in
+    ap (λ z. z ∷ xor_bytes (xor_bytes xs ys) ys) (bit_xor-twice x y) ∙ ap (λ l. x ∷ l) (xor_bytes-twice xs ys rest)

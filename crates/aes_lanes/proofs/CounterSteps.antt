@@ -4,17 +4,22 @@ use Rattle.std.proofs.lemmas.List.{ext_get_or, get_or_append_left, get_or-append
 use Rattle.std.proofs.lemmas.Bool.{cases_lt}
 use Rattle.std.specs.Fn.{iterate}
 use Rattle.std.specs.Int.{w32, w128, to_be_bytes, from_be_bytes}
-use Rattle.aes_lanes.specs.Rounds.{IsXoredAt}
+use Rattle.aes_lanes.specs.Bytes.{IsXoredAt}
+use Rattle.aes_lanes.specs.Rounds.{xor_bytes}
 use Rattle.aes_lanes.specs.Counter.{number_of, counted, key_stream, counter_mode}
 use Rattle.aes_lanes.specs.Lengths.{length-xor_bytes}
-use Rattle.aes_lanes.proofs.ByteSums.{slice_index-xor_bytes}
+use Rattle.aes_lanes.proofs.ByteSums.{slice_index-xor_bytes, xor_bytes-twice}
 use Rattle.aes_lanes.proofs.WordBytes.{gathered}
 
-pub iterate-next : (f : List ℕ → List ℕ) (n : ℕ) (x : List ℕ) → iterate f (n + 1) x ≡ f (iterate f n x)
+iterate-next : (f : List ℕ → List ℕ) (n : ℕ) (x : List ℕ) → iterate f (n + 1) x ≡ f (iterate f n x)
 iterate-next f n x = let e : n + 1 ≡ suc n = omega arith in ap (λ m. iterate f m x) e ∙ step f n x where
   step : (f : List ℕ → List ℕ) (n : ℕ) (x : List ℕ) → iterate f (suc n) x ≡ f (iterate f n x)
   step f zero x = refl
   step f (suc n) x = step f n (f x)
+
+-- one more count of a counter
+pub counter-next : (f : List ℕ → List ℕ) (n : ℕ) (x y z : List ℕ) → y ≡ iterate f n x → z ≡ f y → z ≡ iterate f (n + 1) x
+counter-next f n x y z before step = step ∙ ap f before ∙ sym (iterate-next f n x)
 
 -- for a block cipher, whose images have sixteen bytes
 pub length-key_stream : (image increment : List ℕ → List ℕ) → ((b : List ℕ) → length (image b) ≡ 16)
@@ -72,6 +77,17 @@ counter_mode-from_places image increment sixteen start text bytes same each =
     (λ i lt.
     let here : i < length text = omega arith in
     each i here ∙ sym (slice_index-counter_mode image increment sixteen start text i here))
+
+-- a text that goes through counter mode twice
+pub counter_mode-twice : (image increment : List ℕ → List ℕ) → ((b : List ℕ) → length (image b) ≡ 16)
+    → (start text : List ℕ) → counter_mode image increment start (counter_mode image increment start text) ≡ text
+unfolding counter_mode
+counter_mode-twice image increment sixteen start text =
+    let n : ℕ = (length text + 15) / 16 in
+    let stream : ℕ → List ℕ = key_stream image increment start in
+    let long : length text ≤ length (stream n) = omega (arith, length-key_stream image increment sixteen start n) in
+    let same : length (xor_bytes text (stream n)) ≡ length text = length-xor_bytes text (stream n) long in
+    ap (λ m. xor_bytes (xor_bytes text (stream n)) (stream ((m + 15) / 16))) same ∙ xor_bytes-twice text (stream n) long
 
 -- a text of which the first k blocks are in counter mode
 pub record IsDoneTo (image increment : List ℕ → List ℕ) (start text bytes : List ℕ) (k : ℕ) : Type 0 where

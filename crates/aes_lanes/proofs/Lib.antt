@@ -4,3 +4,7 @@ pub mod RoundSteps
 pub mod ByteSums
 pub mod ScheduleSteps
 pub mod CounterSteps
+pub mod FieldLaws
+pub mod MixLaws
+pub mod BlockLaws
+pub mod InverseLaws

@@ -3,7 +3,7 @@ use Rattle.std.specs.Prelude.{ℕ, zero, suc, ◌+◌, ◌-◌, ◌*◌, List}
 use Rattle.aes_lanes.specs.Rounds.{sub_bytes, shift_rows, mix_columns, add_round_key, inverse_sub_bytes, inverse_shift_rows, inverse_mix_columns}
 use Rattle.aes_lanes.specs.Schedule.{expanded_key, round_key}
 
--- the state after the first n rounds, with the key schedule's words
+-- the state after the first round key and n rounds, with the key schedule's words
 unfoldable pub rounds : List ℕ → List ℕ → ℕ → List ℕ
 rounds words block zero = add_round_key block (round_key words 0)
 rounds words block (suc n) =
@@ -13,7 +13,7 @@ rounds words block (suc n) =
 unfoldable pub cipher : ℕ → List ℕ → List ℕ → List ℕ
 cipher n words block = add_round_key (shift_rows (sub_bytes (rounds words block n))) (round_key words (suc n))
 
--- the state n rounds up from the last one, which is round last
+-- the state after the key of round last and n rounds undone, from the last one back
 unfoldable pub inverse_rounds : ℕ → List ℕ → List ℕ → ℕ → List ℕ
 inverse_rounds last words block zero = add_round_key block (round_key words last)
 inverse_rounds last words block (suc n) =
@@ -47,3 +47,10 @@ aes128 key block = aes 4 key block
 
 abbrev pub aes256 : List ℕ → List ℕ → List ℕ
 aes256 key block = aes 8 key block
+
+-- the inverse ciphers
+abbrev pub inverse_aes128 : List ℕ → List ℕ → List ℕ
+inverse_aes128 key block = inverse_aes 4 key block
+
+abbrev pub inverse_aes256 : List ℕ → List ℕ → List ℕ
+inverse_aes256 key block = inverse_aes 8 key block

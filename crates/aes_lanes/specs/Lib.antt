@@ -1,5 +1,6 @@
 pub mod Field
 pub mod Rounds
+pub mod Bytes
 pub mod Schedule
 pub mod Cipher
 pub mod Counter

@@ -1,25 +1,22 @@
 -- The transformations of the rounds (FIPS 197, sections 3.4, 5.1 and 5.3). A state is a list of
 -- sixteen bytes, column after column.
-use Rattle.std.specs.Prelude.{◌≡◌, ℕ, ◌+◌, ◌*◌, ◌%◌, ◌<◌, ◌≤◌, length, List, [], ◌∷◌, ◌++◌, map, bit_xor, slice_index}
+use Rattle.std.specs.Prelude.{◌≡◌, ℕ, ◌+◌, ◌*◌, ◌%◌, ◌<◌, length, List, [], ◌∷◌, ◌++◌, map, bit_xor, slice_index}
 use Rattle.aes_lanes.specs.Field.{multiply, sbox, inverse_sbox}
 
 -- the byte in row r and column c of a state (3.4)
 abbrev pub state_byte : List ℕ → ℕ → ℕ → ℕ
 state_byte s r c = slice_index s (r + 4 * c)
 
+-- sixteen bytes
+pub record IsBlock (block : List ℕ) : Type 0 where
+  pub sixteen : length block ≡ 16
+  pub bytes : (k : ℕ) → slice_index block k < 256
+
 -- the bitwise sum of two lists, as long as the shorter one
 unfoldable pub xor_bytes : List ℕ → List ℕ → List ℕ
 xor_bytes [] ys = []
 xor_bytes (x ∷ xs) [] = []
 xor_bytes (x ∷ xs) (y ∷ ys) = bit_xor x y ∷ xor_bytes xs ys
-
--- bytes to which a block was added from a place on, as far as they go
-pub record IsXoredAt (at : ℕ) (block old new : List ℕ) : Type 0 where
-  pub same_length : length new ≡ length old
-  pub inside : (k : ℕ) → k < 16 → at + k < length old
-      → slice_index new (at + k) ≡ bit_xor (slice_index old (at + k)) (slice_index block k)
-  pub before : (k : ℕ) → k < at → slice_index new k ≡ slice_index old k
-  pub after : (k : ℕ) → at + 16 ≤ k → slice_index new k ≡ slice_index old k
 
 -- SUBBYTES (5.1.1)
 unfoldable pub sub_bytes : List ℕ → List ℕ

@@ -27,8 +27,8 @@ sub_word word = from_be_bytes w32 (map sbox (to_be_bytes w32 word))
 unfoldable pub round_constant : ℕ → ℕ
 round_constant j = power 0x02 (j - 1) * 2 ^ 24
 
--- what is added to word i - length to give word i, in the schedule of a key of length words, where
--- the word before is last
+-- what is added to word i - key_words to give word i, in the schedule of a key of key_words words,
+-- where last is word i - 1
 unfoldable pub schedule_step : ℕ → ℕ → ℕ → ℕ
 schedule_step key_words i last =
     if nat_eq (i % key_words) 0 then bit_xor (sub_word (rot_word last)) (round_constant (i / key_words))

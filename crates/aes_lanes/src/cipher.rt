@@ -4,13 +4,20 @@ ghost use Rattle.std.specs.Prelude.{◌≡◌, ℕ, List, length, map};
 
 use crate::block::Block;
 
-/// A block cipher under a key: `image` is its function from blocks to blocks.
+/// A block cipher under a key: `image` is its function from blocks to blocks, and `preimage` the
+/// function back.
 pub trait Cipher {
     ghost image: { Self → List ℕ → List ℕ };
+
+    ghost preimage: { Self → List ℕ → List ℕ };
 
     /// Replaces each block by its image.
     fn encrypt_blocks(&self, blocks: &mut [Block])
         ensures { blocks.new ≡ map (image self.now) blocks.old };
+
+    /// Replaces each block by its preimage.
+    fn decrypt_blocks(&self, blocks: &mut [Block])
+        ensures { blocks.new ≡ map (preimage self.now) blocks.old };
 
     ghost length_image: { (key : Self) (block : List ℕ) → length (image key block) ≡ 16 };
 }

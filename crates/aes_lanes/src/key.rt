@@ -4,7 +4,7 @@ ghost use Rattle.std.specs.Prelude.{◌≡◌};
 
 use crate::block::Block;
 use crate::cipher::Cipher;
-use crate::rounds::encrypt_all;
+use crate::rounds::{decrypt_all, encrypt_all};
 use crate::schedule::expand_key;
 use std::marker::Model;
 
@@ -38,15 +38,21 @@ impl Key128 {
 }
 
 impl Cipher for Key128 {
-    ghost use Rattle.aes_lanes.specs.Cipher.{aes128};
+    ghost use Rattle.aes_lanes.specs.Cipher.{aes128, inverse_aes128};
     ghost use Rattle.aes_lanes.specs.Lengths.{length-aes};
 
     ghost image = { aes128 };
+
+    ghost preimage = { inverse_aes128 };
 
     ghost length_image = { length-aes 4 };
 
     fn encrypt_blocks(&self, blocks: &mut [Block]) {
         encrypt_all(&self.words, 9, blocks);
+    }
+
+    fn decrypt_blocks(&self, blocks: &mut [Block]) {
+        decrypt_all(&self.words, 9, blocks);
     }
 }
 
@@ -80,14 +86,20 @@ impl Key256 {
 }
 
 impl Cipher for Key256 {
-    ghost use Rattle.aes_lanes.specs.Cipher.{aes256};
+    ghost use Rattle.aes_lanes.specs.Cipher.{aes256, inverse_aes256};
     ghost use Rattle.aes_lanes.specs.Lengths.{length-aes};
 
     ghost image = { aes256 };
+
+    ghost preimage = { inverse_aes256 };
 
     ghost length_image = { length-aes 8 };
 
     fn encrypt_blocks(&self, blocks: &mut [Block]) {
         encrypt_all(&self.words, 13, blocks);
+    }
+
+    fn decrypt_blocks(&self, blocks: &mut [Block]) {
+        decrypt_all(&self.words, 13, blocks);
     }
 }

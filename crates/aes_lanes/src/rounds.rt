@@ -2,13 +2,14 @@
 
 ghost use Rattle.std.specs.Prelude.{◌≡◌, ◌+◌, ◌*◌, ◌≤◌, List, [], ◌∷◌, length, map};
 ghost use Rattle.std.specs.Int.{w32, to_be_bytes};
-ghost use Rattle.aes_lanes.specs.Field.{sbox};
-ghost use Rattle.aes_lanes.specs.Rounds.{add_round_key, mix_columns, mixed, shift_rows, sub_bytes, xor_bytes};
+ghost use Rattle.aes_lanes.specs.Field.{inverse_sbox, sbox};
+ghost use Rattle.aes_lanes.specs.Rounds.{add_round_key, inverse_mix_columns, inverse_shift_rows, inverse_sub_bytes, mix_columns, mixed, shift_rows, sub_bytes, xor_bytes};
 ghost use Rattle.aes_lanes.specs.Schedule.{round_key, state_of};
-ghost use Rattle.aes_lanes.specs.Cipher.{cipher};
+ghost use Rattle.aes_lanes.specs.Cipher.{cipher, inverse_cipher};
 
 use crate::block::Block;
-use crate::tables::{column, sbox};
+use crate::schedule::load_word;
+use crate::tables::{column, inverse_column, inverse_sbox, sbox};
 
 type State = [u32; 4];
 
@@ -16,29 +17,11 @@ type State = [u32; 4];
 fn load(block: &Block) -> State
     ensures { state_of result ≡ block.now }
 {
-    let [
-        a0,
-        a1,
-        a2,
-        a3,
-        b0,
-        b1,
-        b2,
-        b3,
-        c0,
-        c1,
-        c2,
-        c3,
-        d0,
-        d1,
-        d2,
-        d3,
-    ] = *block;
     [
-        u32::from_be_bytes([a0, a1, a2, a3]),
-        u32::from_be_bytes([b0, b1, b2, b3]),
-        u32::from_be_bytes([c0, c1, c2, c3]),
-        u32::from_be_bytes([d0, d1, d2, d3]),
+        load_word(block, 0),
+        load_word(block, 1),
+        load_word(block, 2),
+        load_word(block, 3),
     ]
 }
 
@@ -120,6 +103,63 @@ fn encrypt_block(words: &[u32], middle: usize, block: &mut Block)
     *block = store(&add_key(&shifted_state(&state), words, middle + 1));
 }
 
+#[inline(always)]
+fn unshifted_column(a: u8, b: u8, c: u8, d: u8) -> u32
+    ensures { to_be_bytes w32 result ≡ inverse_sbox a ∷ inverse_sbox b ∷ inverse_sbox c ∷ inverse_sbox d ∷ [] }
+{
+    u32::from_be_bytes([
+        inverse_sbox(a),
+        inverse_sbox(b),
+        inverse_sbox(c),
+        inverse_sbox(d),
+    ])
+}
+
+#[inline(always)]
+fn unshifted_state(state: &State) -> State
+    ensures { state_of result ≡ inverse_sub_bytes (inverse_shift_rows (state_of state.now)) }
+{
+    let [a0, a1, a2, a3] = state[0].to_be_bytes();
+    let [b0, b1, b2, b3] = state[1].to_be_bytes();
+    let [c0, c1, c2, c3] = state[2].to_be_bytes();
+    let [d0, d1, d2, d3] = state[3].to_be_bytes();
+    [
+        unshifted_column(a0, d1, c2, b3),
+        unshifted_column(b0, a1, d2, c3),
+        unshifted_column(c0, b1, a2, d3),
+        unshifted_column(d0, c1, b2, a3),
+    ]
+}
+
+#[inline(always)]
+fn unmixed_state(state: &State) -> State
+    ensures { state_of result ≡ inverse_mix_columns (state_of state.now) }
+{
+    let [a0, a1, a2, a3] = state[0].to_be_bytes();
+    let [b0, b1, b2, b3] = state[1].to_be_bytes();
+    let [c0, c1, c2, c3] = state[2].to_be_bytes();
+    let [d0, d1, d2, d3] = state[3].to_be_bytes();
+    [
+        inverse_column(a0, a1, a2, a3),
+        inverse_column(b0, b1, b2, b3),
+        inverse_column(c0, c1, c2, c3),
+        inverse_column(d0, d1, d2, d3),
+    ]
+}
+
+// Replaces a block by its preimage in `middle + 1` rounds, under the words of a key schedule.
+fn decrypt_block(words: &[u32], middle: usize, block: &mut Block)
+    requires { length words.now ≡ 4 * (middle + 2) }
+    ensures { block.new ≡ inverse_cipher middle words.now block.old }
+{
+    let mut state = add_key(&load(block), words, middle + 1);
+    for undone in 0..middle {
+        let next = unmixed_state(&add_key(&unshifted_state(&state), words, middle - undone));
+        state = next;
+    }
+    *block = store(&add_key(&unshifted_state(&state), words, 0));
+}
+
 /// Replaces each block by its image in `middle + 1` rounds, under the words of a key schedule.
 pub(crate) fn encrypt_all(words: &[u32], middle: usize, blocks: &mut [Block])
     requires { length words.now ≡ 4 * (middle + 2) }
@@ -127,5 +167,15 @@ pub(crate) fn encrypt_all(words: &[u32], middle: usize, blocks: &mut [Block])
 {
     for block in blocks.iter_mut() {
         encrypt_block(words, middle, block);
+    }
+}
+
+/// Replaces each block by its preimage in `middle + 1` rounds, under the words of a key schedule.
+pub(crate) fn decrypt_all(words: &[u32], middle: usize, blocks: &mut [Block])
+    requires { length words.now ≡ 4 * (middle + 2) }
+    ensures { blocks.new ≡ map (inverse_cipher middle words.now) blocks.old }
+{
+    for block in blocks.iter_mut() {
+        decrypt_block(words, middle, block);
     }
 }

@@ -6,7 +6,8 @@ ghost use Rattle.aes_lanes.specs.Schedule.{expanded_key, rot_word, round_constan
 
 use crate::tables::sbox;
 
-fn load_word(bytes: &[u8], i: usize) -> u32
+#[inline(always)]
+pub(crate) fn load_word(bytes: &[u8], i: usize) -> u32
     requires { 4 * i + 4 ≤ length bytes.now }
     ensures { result ≡ word_at bytes.now i }
 {

@@ -23,6 +23,8 @@ fn aes_256_example(rt: HostRuntime) {
         0x89,
     ];
     assert_eq!(rt; blocks, [image, image]);
+    Key256::new(&KEY).decrypt_blocks(&mut blocks);
+    assert_eq!(rt; blocks, [PLAIN, PLAIN]);
 }
 
 // FIPS 197, appendix C.1.
@@ -35,6 +37,8 @@ fn aes_128_example(rt: HostRuntime) {
         0x5a,
     ];
     assert_eq!(rt; blocks, [image]);
+    Key128::new(&SHORT_KEY).decrypt_blocks(&mut blocks);
+    assert_eq!(rt; blocks, [PLAIN]);
 }
 
 // OpenSSL's AES-256 in counter mode, over zero bytes. The counter wraps after two blocks.

@@ -1,7 +1,7 @@
-use Rattle.std.proofs.Common.{◌≤◌, ◌*◌, [], length, get_or, sym, ap, ◌∙◌, arith}
+use Rattle.std.proofs.Common.{◌≤◌, ◌*◌, [], length, get_or, ap, ◌∙◌, arith}
 use Rattle.aes_lanes.specs.Counter.{counted}
 use Rattle.aes_lanes.specs.Counting.{width_of}
-use Rattle.aes_lanes.proofs.CounterSteps.{iterate-next, IsDoneTo-next, counter_mode-from_places}
+use Rattle.aes_lanes.proofs.CounterSteps.{counter-next, IsDoneTo-next, counter_mode-from_places}
 use Rattle.aes_lanes.proofs.counter.counter_xor.Goals as goal
 
 pub loop-k-preserved : goal.loop-k-preserved
@@ -9,7 +9,9 @@ loop-k-preserved g c =
     let image = g.C.Cipher.image c.args.cipher.now in
     let next = counted (width_of c.args.counting) 1 in
     record {
-      counter = c.increment.ensures ∙ ap next c.loop-k.invariant.counter ∙ sym (iterate-next next c.loop-k.k c.args.start.now);
+      counter =
+          counter-next next c.loop-k.k c.args.start.now c.loop-k.counter _ c.loop-k.invariant.counter
+          c.increment.ensures;
       done =
           IsDoneTo-next image next c.args.start.now c.args.bytes.now c.loop-k.bytes c.xor_at.new.bytes _ c.loop-k.k
           c.loop-k.auto.bytes c.loop-k.invariant.done

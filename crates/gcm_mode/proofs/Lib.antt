@@ -1,8 +1,10 @@
 pub mod Blocks
 pub mod Counters
+pub mod Halves
 pub mod Hashes
 pub mod Linear
 pub mod Modes
 pub mod Nibbles
+pub mod Rows
 pub mod Streams
 pub mod Terms

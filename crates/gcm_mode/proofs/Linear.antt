@@ -4,11 +4,11 @@ use lib.Bits.{xor_assoc, xor_comm, xor_self, xor_zero_r}
 use Rattle.std.proofs.lemmas.Nat.Bits.{bit_at_xor, bit_at-lt}
 use Rattle.gcm_mode.specs.Field.{coefficient, times_power, terms, product}
 
-zero-times : (v : ℕ) → 0 * v ≡ 0
+pub zero-times : (v : ℕ) → 0 * v ≡ 0
 zero-times v = omega arith
 
 -- two terms of one place add up to the term of their sum
-term-xor : (a b v : ℕ) → a < 2 → b < 2 → (a + b) % 2 * v ≡ bit_xor (a * v) (b * v)
+pub term-xor : (a b v : ℕ) → a < 2 → b < 2 → (a + b) % 2 * v ≡ bit_xor (a * v) (b * v)
 term-xor zero b v la lb =
     let e : (0 + b) % 2 ≡ b = omega arith in
     ap (λ (n : ℕ). n * v) e ∙ sym (rw (zero-times v) refl)
@@ -18,7 +18,7 @@ term-xor (suc zero) (suc (suc b)) v la lb = absurd (omega arith)
 term-xor (suc (suc a)) b v la lb = absurd (omega arith)
 
 -- the sums of two pairs, paired the other way
-pairs : (a b c d : ℕ) → bit_xor (bit_xor a b) (bit_xor c d) ≡ bit_xor (bit_xor a c) (bit_xor b d)
+pub pairs : (a b c d : ℕ) → bit_xor (bit_xor a b) (bit_xor c d) ≡ bit_xor (bit_xor a c) (bit_xor b d)
 pairs a b c d =
     xor_assoc a b (bit_xor c d)
     ∙ ap (bit_xor a) (sym (xor_assoc b c d) ∙ ap (λ (n : ℕ). bit_xor n d) (xor_comm b c) ∙ xor_assoc c b d)

@@ -1,6 +1,7 @@
 -- GF(2^128) in the bit order of GCM: NIST SP 800-38D, section 6.3.
--- A block stands here for a number of 128 bits, and for a polynomial in u: its first (highest) bit is the
--- coefficient of 1, its last the coefficient of u^127. A sum is `bit_xor`. Products are modulo 1 + u + u^2 + u^7 + u^128.
+-- A block is here a number of 128 bits, and stands for a polynomial in u: its first (highest) bit is
+-- the coefficient of 1, its last the coefficient of u^127. A sum is `bit_xor`, and products are modulo
+-- 1 + u + u^2 + u^7 + u^128.
 use Rattle.std.specs.Prelude.{ℕ, zero, suc, ◌-◌, ◌*◌, ◌/◌, ◌%◌, ◌^◌, bit_xor}
 
 -- the block R: the bits 11100001, then 120 zeros. It is u^128

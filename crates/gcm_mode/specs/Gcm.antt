@@ -8,7 +8,8 @@ use Rattle.gcm_mode.specs.Hash.{block_number, block_bytes, ghash, padded}
 unfoldable pub hash_subkey : (List ℕ → List ℕ) → ℕ
 hash_subkey image = block_number (image (replicate 16 0))
 
--- the pre-counter block J0 of an initialization vector, which ends with its length in bits where it is hashed
+-- the pre-counter block J0 of an initialization vector: the vector and the number 1, or GHASH of the
+-- vector and its length in bits
 unfoldable pub pre_counter : (List ℕ → List ℕ) → List ℕ → List ℕ
 pre_counter image iv =
     if length iv == 12

@@ -1,4 +1,6 @@
-//! AES-256 in Galois/Counter Mode (NIST SP 800-38D), with tags of sixteen bytes. Nothing here takes memory.
+//! AES-256 in Galois/Counter Mode (NIST SP 800-38D), with tags of sixteen bytes.
+//!
+//! Nothing here takes memory.
 #![tactic(auto)]
 
 ghost use Rattle.std.specs.Prelude.{◌≡◌, ℕ, ◌^◌, ◌<◌, ◌≤◌, ◌↔◌, List, length, IsOk, OnOk, OnErr};
@@ -25,7 +27,7 @@ use products::Products;
 #[derive(Clone, Copy, Debug, PartialEq, Eq)]
 pub struct BadTag;
 
-/// GCM under one AES-256 key. A clause sees the key's 32 bytes.
+/// GCM under one AES-256 key, with 8 kilobytes of tables for it. A clause sees the key's 32 bytes.
 #[derive(Drop)]
 pub struct Gcm {
     cipher: Key256,
@@ -41,6 +43,7 @@ impl Model for Gcm {
 }
 
 impl Gcm {
+    /// GCM under a key, whose tables are made here.
     pub fn new(key: Key256) -> Gcm
         ensures { result ≡ key }
     {
@@ -53,22 +56,23 @@ impl Gcm {
         }
     }
 
-    /// Encrypts `text` in place, and gives its tag (section 7.1). `iv` has 1 to 2^32 bytes, `ad` and `text` have at
-    /// most 2^32.
+    /// Encrypts `text` in place, and gives its tag (section 7.1). `iv` has 1 to 2^32 bytes, and
+    /// `ad` and `text` have at most 2^32.
     pub fn seal(&self, iv: &[u8], ad: &[u8], text: &mut [u8]) -> [u8; 16]
         requires some_iv { 0 < length iv.now }
         requires iv_within { length iv.now ≤ 2 ^ 32 }
         requires ad_within { length ad.now ≤ 2 ^ 32 }
         requires text_within { length text.old ≤ 2 ^ 32 }
-        ensures { sealed (aes256 self.now) iv.now ad.now text.old ≡ record { text = text.new; tag = result } }
+        ensures { sealed (aes256 self.now) iv.now ad.now text.old
+            ≡ record { text = text.new; tag = result } }
     {
         let counter = self.pre_counter(iv);
         self.add_stream(&counter, text);
         self.tag(&counter, ad, text)
     }
 
-    /// Decrypts `text` in place where `tag` is its tag, else leaves it as it is (section 7.2). `iv` has 1 to 2^32
-    /// bytes, `ad` and `text` have at most 2^32.
+    /// Decrypts `text` in place where `tag` is its tag, and else leaves it as it is (section 7.2).
+    /// `iv` has 1 to 2^32 bytes, and `ad` and `text` have at most 2^32.
     pub fn unseal(
         &self,
         iv: &[u8],
@@ -118,7 +122,8 @@ impl Gcm {
         requires ad_within { length ad.now ≤ 2 ^ 32 }
         requires text_within { length text.now ≤ 2 ^ 32 }
         ensures { result
-            ≡ ctr32 (aes256 self.now) counter.now (block_bytes (hashed (aes256 self.now) ad.now text.now)) }
+            ≡ ctr32 (aes256 self.now) counter.now
+            (block_bytes (hashed (aes256 self.now) ad.now text.now)) }
     {
         let mut tag = self.hash(ad, text);
         ctr32_xor(&self.cipher, counter, &mut tag);
@@ -137,7 +142,7 @@ impl Gcm {
     }
 }
 
-/// The law that an encrypted text with its tag opens to one text at most: the one that was sealed.
+/// The law that an encrypted text and its tag open to one text at most, the one that was sealed.
 pub fn opens_to_one_text()
     ensures { OpensToOneText }
 {}

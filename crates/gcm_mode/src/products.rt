@@ -1,10 +1,10 @@
 // The products of a hash subkey with every value of each nibble of a block.
 
-ghost use Rattle.std.specs.Prelude.{◌≡◌, ℕ, ◌*◌, ◌^◌, ◌<◌, length, slice_index};
+ghost use Rattle.std.specs.Prelude.{◌≡◌, ℕ, ◌+◌, ◌<◌};
 ghost use Rattle.gcm_mode.specs.Field.{product as product_of};
 ghost use Rattle.gcm_mode.specs.Products.{IsRow, AreRows};
 
-use super::field::product;
+use super::field::{product, times_u4};
 use std::marker::Model;
 
 // A clause sees the hash subkey.
@@ -27,8 +27,10 @@ impl Products {
         ensures { result ≡ subkey }
     {
         let mut rows = [[0; 16]; 32];
-        for place in 0..32 {
-            rows[place] = row(subkey, place);
+        rows[31] = first_row(subkey);
+        for done in 0..31 {
+            let place = 30 - done;
+            rows[place] = row_after(&rows[place + 1]);
         }
         Products { subkey, rows }
     }
@@ -47,14 +49,27 @@ impl Products {
     }
 }
 
-// The products with the nibble that stands `place` nibbles before a block's end.
-fn row(subkey: u128, place: usize) -> [u128; 16]
-    requires { place < 32 }
-    ensures { IsRow subkey place result }
+// The products with a block's first nibble.
+fn first_row(subkey: u128) -> [u128; 16]
+    ensures { IsRow subkey 31 result }
 {
     let mut row = [0; 16];
     for nibble in 0..16 {
-        row[nibble] = product((nibble as u128) << (4 * place), subkey);
+        row[nibble] = product((nibble as u128) << 124, subkey);
     }
     row
+}
+
+// The products with the nibble that follows a row's: they are those of the row, times u^4.
+fn row_after(row: &[u128; 16]) -> [u128; 16]
+    ensures { (subkey place : ℕ)
+        → place < 31
+        → IsRow subkey (place + 1) row.now
+        → IsRow subkey place result }
+{
+    let mut after = [0; 16];
+    for nibble in 0..16 {
+        after[nibble] = times_u4(row[nibble]);
+    }
+    after
 }

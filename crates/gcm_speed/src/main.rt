@@ -1,4 +1,5 @@
-//! Times AES-256 in counter mode and GCM on blocks of 4,096 bytes: `gcm_speed MEGABYTES` prints megabytes a second.
+//! Times AES-256 in counter mode and GCM on blocks of 4,096 bytes: `gcm_speed MEGABYTES` prints
+//! megabytes a second.
 #![tactic(auto)]
 
 use aes_lanes::{Key256, ctr32_xor};

@@ -6,5 +6,4 @@ pub mod Linear
 pub mod Modes
 pub mod Nibbles
 pub mod Rows
-pub mod Streams
 pub mod Terms

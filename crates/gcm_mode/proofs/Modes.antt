@@ -8,7 +8,7 @@ use Rattle.gcm_mode.specs.Field.{product}
 use Rattle.gcm_mode.specs.Hash.{ghash, ghash_from, padded, block_bytes}
 use Rattle.gcm_mode.specs.Gcm.{hash_subkey, pre_counter, lengths_block, hashed, tag_of, encrypted, Sealed, sealed, Opens, OpensToOneText}
 use Rattle.gcm_mode.proofs.Hashes.{ghash_from-append}
-use Rattle.gcm_mode.proofs.Streams.{counter_mode-twice, length-counter_mode}
+use Rattle.aes_lanes.proofs.CounterSteps.{counter_mode-twice, length-counter_mode}
 
 pub pre_counter-short : (image : List ℕ → List ℕ) (iv : List ℕ) → length iv ≡ 12 → pre_counter image iv ≡ iv ++ 0 ∷ 0 ∷ 0 ∷ 1 ∷ []
 unfolding pre_counter
@@ -33,25 +33,39 @@ unfolding sealed
 tag-opened image iv ad s plain opens =
     sym (ap (λ (t : Sealed). t.tag) opens) ∙ ap (tag_of image iv ad) (ap (λ (t : Sealed). t.text) opens)
 
+-- a text and its encryption are as long, and encrypting twice gives the text back
+pub length-encrypted : (key iv plain : List ℕ) → length (encrypted (aes256 key) iv plain) ≡ length plain
+unfolding encrypted
+length-encrypted key iv plain =
+    length-counter_mode (aes256 key) increment32 (length-aes 8 key) (increment32 (pre_counter (aes256 key) iv)) plain
+
+pub encrypted-twice : (key iv text : List ℕ) → encrypted (aes256 key) iv (encrypted (aes256 key) iv text) ≡ text
+unfolding encrypted
+encrypted-twice key iv text =
+    counter_mode-twice (aes256 key) increment32 (length-aes 8 key) (increment32 (pre_counter (aes256 key) iv)) text
+
 -- the text that the key stream of a sealed text's place leaves opens it, where the tag is right
-pub opened-is : (image : List ℕ → List ℕ) (iv ad text tag plain : List ℕ) → tag_of image iv ad text ≡ tag → plain ≡ ctr32 image (increment32 (pre_counter image iv)) text → length plain ≡ length text → Opens image iv ad (record { text = text; tag = tag }) plain
-unfolding sealed encrypted
-opened-is image iv ad text tag plain right stream whole =
-    let back : ctr32 image (increment32 (pre_counter image iv)) plain ≡ text = counter_mode-twice image increment32 (increment32 (pre_counter image iv)) text plain stream whole in
+pub opened-is : (key iv ad text tag plain : List ℕ) → tag_of (aes256 key) iv ad text ≡ tag → plain ≡ encrypted (aes256 key) iv text → Opens (aes256 key) iv ad (record { text = text; tag = tag }) plain
+unfolding sealed
+opened-is key iv ad text tag plain right stream =
+    let back : encrypted (aes256 key) iv plain ≡ text = ap (encrypted (aes256 key) iv) stream ∙ encrypted-twice key iv text in
     rw back (ap (λ (t : List ℕ). record { text = text; tag = t }) right)
 
 pub sealed-is : (image : List ℕ → List ℕ) (iv ad plain text tag : List ℕ) → text ≡ ctr32 image (increment32 (pre_counter image iv)) plain → tag ≡ ctr32 image (pre_counter image iv) (block_bytes (hashed image ad text)) → sealed image iv ad plain ≡ record { text = text; tag = tag }
 unfolding sealed encrypted tag_of
 sealed-is image iv ad plain text tag stream right = sym (rw (right, stream) refl)
 
--- the key stream, laid over an encrypted text, gives back the plain text
-plain-is : (key iv ad plain : List ℕ) (s : Sealed) → Opens (aes256 key) iv ad s plain → ctr32 (aes256 key) (increment32 (pre_counter (aes256 key) iv)) s.text ≡ plain
-unfolding sealed encrypted
+-- a text that opens a sealed one is the encrypted text, encrypted again
+pub plain-is : (key iv ad plain : List ℕ) (s : Sealed) → Opens (aes256 key) iv ad s plain → encrypted (aes256 key) iv s.text ≡ plain
+unfolding sealed
 plain-is key iv ad plain s opens =
-    let image : List ℕ → List ℕ = aes256 key in
-    let start : List ℕ = increment32 (pre_counter image iv) in
-    let text : s.text ≡ ctr32 image start plain = sym (ap (λ (t : Sealed). t.text) opens) in
-    counter_mode-twice image increment32 start plain s.text text (ap length text ∙ length-counter_mode image increment32 start plain (length-aes 8 key))
+    ap (encrypted (aes256 key) iv) (sym (ap (λ (t : Sealed). t.text) opens)) ∙ encrypted-twice key iv plain
+
+-- a tag has sixteen bytes
+pub length-tag_of : (key iv ad text : List ℕ) → length (tag_of (aes256 key) iv ad text) ≡ 16
+unfolding tag_of block_bytes
+length-tag_of key iv ad text =
+    length-counter_mode (aes256 key) increment32 (length-aes 8 key) (pre_counter (aes256 key) iv) (block_bytes (hashed (aes256 key) ad text))
 
 pub opens_once : OpensToOneText
 opens_once key iv ad plain other s one two = sym (plain-is key iv ad plain s one) ∙ plain-is key iv ad other s two

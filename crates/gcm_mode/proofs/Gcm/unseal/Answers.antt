@@ -1,6 +1,6 @@
 use Rattle.std.proofs.Common.{refl, sym, ◌∙◌}
 use Rattle.std.proofs.lemmas.Bool.{false≢true}
-use Rattle.gcm_mode.specs.Gcm.{tag_of}
+use Rattle.gcm_mode.specs.Gcm.{tag_of, encrypted}
 use Rattle.gcm_mode.proofs.Modes.{tag-opened, opened-is}
 use Rattle.gcm_mode.proofs.Gcm.unseal.Goals as goal
 
@@ -24,9 +24,9 @@ returns-clause-right_tag c =
     (λ e. sym (c.same_bytes.ensures.0 c.if-not-same_bytes.false) ∙ tag, λ e. refl)
 
 pub returns-clause-opened : goal.returns-clause-opened
-unfolding tag_of
+unfolding tag_of encrypted
 returns-clause-opened c =
     let tag = rw c.pre_counter-counter.ensures at c.tag.ensures in
     let right = sym tag ∙ c.same_bytes.ensures.0 c.if-not-same_bytes.false in
     let opened = rw c.pre_counter-counter.ensures at c.add_stream.ensures in
-    opened-is _ _ _ _ _ _ right opened c.add_stream.auto.text
+    opened-is c.args.self.now _ _ _ _ _ right opened

@@ -1,1 +1,6 @@
 pub mod Readings
+pub mod BlockReadings
+mod Opening
+mod StepLemmas
+mod BlocksOf
+pub mod FilesOf

@@ -1,5 +1,9 @@
 pub mod Fault
 pub mod Keys
 pub mod Reading
+pub mod Pieces
 pub mod Gocryptfs
+pub mod Contents
+pub mod FileOf
 pub mod Steps
+pub mod BlocksLeft

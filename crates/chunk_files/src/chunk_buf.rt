@@ -1,4 +1,4 @@
-ghost use Rattle.std.specs.Prelude.{◌≡◌, ℕ, List, length, replicate, IfOk};
+ghost use Rattle.std.specs.Prelude.{◌≡◌, ◌≤◌, ◌++◌, ℕ, List, length, drop, take, replicate, IfOk};
 
 use std::alloc::{AllocError, Global};
 use std::marker::Model;
@@ -37,4 +37,21 @@ impl ChunkBuf {
     {
         self.bytes.as_slice()
     }
+
+    // Puts these bytes at the front.
+    pub fn put_front(&mut self, bytes: &[u8])
+        requires { length bytes.now ≤ CHUNK_BUFFER_SIZE }
+        ensures front { take (length bytes.now) self.new ≡ bytes.now }
+        ensures size { length self.new ≡ CHUNK_BUFFER_SIZE }
+    {
+        copy_to_front(&mut self.bytes, bytes);
+    }
+}
+
+// Copies bytes to the front of a longer buffer.
+fn copy_to_front(buffer: &mut [u8], bytes: &[u8])
+    requires { length bytes.now ≤ length buffer.old }
+    ensures { buffer.new ≡ bytes.now ++ drop (length bytes.now) buffer.old }
+{
+    buffer[..bytes.len()].copy_from_slice(bytes);
 }

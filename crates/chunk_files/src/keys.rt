@@ -1,6 +1,8 @@
 ghost use Rattle.std.specs.Prelude.{◌≡◌, List, ℕ};
 ghost use Rattle.chunk_files.specs.Keys.{Keys, go_keys, full_size};
 
+use aes_lanes::Key256;
+use gcm_mode::Gcm;
 use std::marker::Model;
 
 /// How a vault's content files are laid out.
@@ -50,5 +52,12 @@ impl ContentKeys {
         ensures { result ≡ self.now.layout }
     {
         self.layout
+    }
+
+    // GCM under the content key.
+    pub fn gcm(&self) -> Gcm
+        ensures { result ≡ self.now.content }
+    {
+        Gcm::new(Key256::new(&self.content))
     }
 }

@@ -2,17 +2,22 @@
 //! exactly.
 #![tactic(auto)]
 
+mod block;
+mod blocks;
 pub mod chunk_buf;
 pub mod fault;
 mod header;
 pub mod keys;
+pub mod laws;
+pub mod step;
 pub mod whole_decoder;
 mod zeros;
 
 pub use chunk_buf::ChunkBuf;
 pub use fault::ChunkFault;
 pub use keys::{ContentKeys, Layout};
-pub use whole_decoder::{Step, WholeDecoder};
+pub use step::Step;
+pub use whole_decoder::WholeDecoder;
 
 #[cfg(test)]
 mod tests;

@@ -1,3 +1,4 @@
+use crate::laws::files_are_what_they_give;
 use crate::{ChunkBuf, ChunkFault, ContentKeys, Step, WholeDecoder};
 use std::test::Fail;
 
@@ -19,13 +20,32 @@ fn headers(rt: HostRuntime) -> Result<(), Fail> {
     ] {
         let keys = ContentKeys::go(&[0; 32]);
         assert_eq!(rt; keys.layout().full(), 4096);
-        let bytes = bytes.to_vec(rt.alloc())?;
-        assert!(rt; bytes.len() <= 18);
-        let mut decoder = WholeDecoder::start(keys, bytes, cut);
+        let mut decoder = WholeDecoder::start(keys, bytes.to_vec(rt.alloc())?, cut);
         assert_eq!(rt; decoder.next(&mut buffer), step);
         assert_eq!(rt; decoder.next(&mut buffer), step, "a second time");
     }
     assert_eq!(rt; buffer.bytes().len(), 32_816);
+    Ok(())
+}
+
+#[test]
+fn a_hole_and_a_cut_block(rt: HostRuntime) -> Result<(), Fail> {
+    let mut bytes =
+        b"\x00\x02\x00\x01\x02\x03\x04\x05\x06\x07\x08\x09\x0a\x0b\x0c\x0d\x0e\x0f".to_vec(
+            rt.alloc(),
+        )?;
+    bytes.extend_from_slice(&[0; 4128 + 31])?;
+    let mut buffer = ChunkBuf::new(rt.alloc())?;
+    for (cut, step) in [
+        (false, Err(ChunkFault::ShortChunk(1))),
+        (true, Ok(Step::More)),
+    ] {
+        let mut decoder = WholeDecoder::start(ContentKeys::go(&[7; 32]), bytes.clone()?, cut);
+        assert_eq!(rt; decoder.next(&mut buffer), Ok(Step::Chunk(4096)));
+        assert_eq!(rt; decoder.next(&mut buffer), step);
+        assert_eq!(rt; decoder.next(&mut buffer), step, "a second time");
+    }
+    files_are_what_they_give();
     Ok(())
 }
 

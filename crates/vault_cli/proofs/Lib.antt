@@ -1,3 +1,4 @@
 mod Chunks
 mod Inputs
 mod RunLemmas
+mod WholeFiles

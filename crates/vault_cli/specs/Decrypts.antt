@@ -5,7 +5,7 @@ use Rattle.std.specs.Io.KnownBytes.{Appends, Keeps}
 use Rattle.port_model.specs.Told.{AppendsPrefix}
 use Rattle.chunk_files.specs.Keys.{go_keys}
 use Rattle.chunk_files.specs.Reading.{Reading, Whole, Wanting, Faulty}
-use Rattle.chunk_files.specs.Gocryptfs.{read_file}
+use Rattle.chunk_files.specs.Contents.{read_file}
 use Rattle.vault_cli.specs.declared.gather.TheConstants.{INPUT_LIMIT}
 use Rattle.vault_cli.specs.declared.answer.Answer.{Answer}
 use Rattle.vault_cli.specs.declared.answer.Answer.TheVariants.{Done, BadCommandLine, OutOfMemory, InputFault, OutputFault, Damaged, InputTooLong}

@@ -7,7 +7,7 @@ use port_model::Source;
 use std::alloc::Global;
 
 /// The most bytes that an input may have.
-pub const INPUT_LIMIT: usize = 18;
+pub const INPUT_LIMIT: usize = 67_108_864;
 
 const PIECE_SIZE: usize = 65_536;
 
@@ -28,7 +28,7 @@ pub enum GatherFault {
 
 // Takes the input up to the limit, and one byte more where it goes on.
 pub fn gather<I: Source>(alloc: Global, input: &mut I) -> Result<Gathered, GatherFault>
-    ensures front { IfOk result (λ gathered. GathersFront (I.left input.old) gathered.bytes.items gathered.cut) }
+    ensures front { IfOk result (λ gathered. GathersFront INPUT_LIMIT (I.left input.old) gathered.bytes.items gathered.cut) }
     ensures limit { IfOk result (λ gathered. vec_len gathered.bytes ≤ INPUT_LIMIT) }
     ensures end { IfOk result (λ gathered. gathered.cut ≡ false → IsTrue (I.ended input.new) × IsAtEnd (I.left input.new)) }
     ensures takes { TakesAtMost (INPUT_LIMIT + 1) (I.left input.old) (I.left input.new) }

@@ -1,7 +1,9 @@
-ghost use Rattle.std.specs.Prelude.{◌≡◌, ◌+◌, ◌≤◌, ◌↔◌, ◌⊎◌, ℕ, List, Some, map, string_bytes, IsTrue, IsNone};
-ghost use Rattle.std.specs.Io.KnownBytes.{IsAtEnd};
+ghost use Rattle.std.specs.Prelude.{◌≡◌, ◌+◌, ◌≤◌, ◌↔◌, ◌⊎◌, ℕ, List, length, Some, map, string_bytes, IsTrue, IsNone};
+ghost use Rattle.std.specs.Io.KnownBytes.{Appends, IsAtEnd};
 ghost use Rattle.port_model.specs.Counts.{CountRose};
+ghost use Rattle.chunk_files.specs.Keys.{go_keys};
 ghost use Rattle.chunk_files.specs.Reading.{Faulty, Wanting};
+ghost use Rattle.chunk_files.specs.FileOf.{IsFileOf};
 ghost use Rattle.vault_cli.specs.Words.{command_of};
 ghost use Rattle.vault_cli.specs.Answers.{TakesText, line_of, status_of};
 ghost use Rattle.vault_cli.specs.Gathers.{TakesAtMost};
@@ -45,6 +47,15 @@ pub fn run<I: Source, O: Sink, E: Sink>(
         → I.left input.old ≡ Some bytes
         → (CountRose (I.faults input.old) (I.faults input.new) → ⊥) → (CountRose (O.faults out.old) (O.faults out.new) → ⊥)
         → (result ≡ 3) ⊎ (result ≡ status_of (answer_to (input_reading key bytes).ending)) }
+
+    // At 0 the input is a file of what was written; and a file within the limit comes to 0.
+    ensures decrypted { result ≡ 0 → (key bytes : List ℕ) → command_of (map string_bytes words.now) ≡ Some (Command.DecryptFile key)
+        → I.left input.old ≡ Some bytes
+        → (content : List ℕ) × IsFileOf (go_keys key) bytes content × Appends (O.taken out.old) (O.taken out.new) content }
+    ensures whole_files { (key bytes content : List ℕ) → command_of (map string_bytes words.now) ≡ Some (Command.DecryptFile key)
+        → I.left input.old ≡ Some bytes → length bytes ≤ INPUT_LIMIT → IsFileOf (go_keys key) bytes content
+        → (CountRose (I.faults input.old) (I.faults input.new) → ⊥) → (CountRose (O.faults out.old) (O.faults out.new) → ⊥)
+        → (result ≡ 3) ⊎ (result ≡ 0) }
 
     // At 0 the input has ended; at no status was more taken of it than the limit and one byte.
     ensures end { result ≡ 0 → IsTrue (I.ended input.new) × IsAtEnd (I.left input.new) }

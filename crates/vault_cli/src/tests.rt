@@ -1,5 +1,7 @@
+ghost use Rattle.std.specs.Prelude.{◌==◌, Some, length};
+
 use crate::run;
-use port_model::{MemSink, MemSource};
+use port_model::{MemSink, MemSource, Source, SourceFault};
 use std::alloc::Global;
 use std::test::Fail;
 
@@ -7,31 +9,67 @@ const KEY: &str = "0000000000000000000000000000000000000000000000000000000000000
 
 const HEADER: &[u8] = b"\x00\x02\x00\x01\x02\x03\x04\x05\x06\x07\x08\x09\x0a\x0b\x0c\x0d\x0e\x0f";
 
-// What a run over these words and this input came to.
+// The calls of each stream that fail, counted from 1.
+#[derive(Clone, Copy)]
+struct Fails<'a> {
+    input: &'a [u64],
+    out: &'a [u64],
+    err: &'a [u64],
+}
+
+const NONE: Fails = Fails {
+    input: &[],
+    out: &[],
+    err: &[],
+};
+
+// A source that gives one byte a call.
 #[derive(Drop)]
-struct Outcome {
+struct Trickle {
+    source: MemSource,
+}
+
+impl Source for Trickle {
+    ghost left = { λ s. Some s.source.left };
+
+    ghost ended = { λ s. length s.source.left == 0 };
+
+    ghost faults = { λ s. s.source.faults };
+
+    fn take(&mut self, out: &mut [u8]) -> Result<usize, SourceFault> {
+        let most = out.len().min(1);
+        self.source.take(&mut out[..most])
+    }
+}
+
+// What a run over some words and an input came to.
+#[derive(Drop)]
+struct Ended {
     status: u8,
     out: MemSink,
     err: MemSink,
 }
 
-// Runs with an input and an error stream that fail at these calls.
-fn ran(
-    alloc: Global,
-    words: &[&str],
-    input: &[u8],
-    input_fails: &[u64],
-    err_fails: &[u64],
-) -> Result<Outcome, Fail> {
+fn outcome(alloc: Global, words: &[&str], input: &[u8], fails: &Fails) -> Result<Ended, Fail> {
     let mut all = Vec::new(alloc);
     for word in words {
         all.push(String::from_str(alloc, word)?)?;
     }
-    let mut source = MemSource::new(input.to_vec(alloc)?, input_fails.to_vec(alloc)?);
-    let mut out = MemSink::new(alloc, 100_000, Vec::new(alloc))?;
-    let mut err = MemSink::new(alloc, 1_000, err_fails.to_vec(alloc)?)?;
+    let mut source = MemSource::new(input.to_vec(alloc)?, fails.input.to_vec(alloc)?);
+    let mut out = MemSink::new(alloc, 100_000, fails.out.to_vec(alloc)?)?;
+    let mut err = MemSink::new(alloc, 1_000, fails.err.to_vec(alloc)?)?;
     let status = run(alloc, all.as_slice(), &mut source, &mut out, &mut err);
-    Ok(Outcome { status, out, err })
+    Ok(Ended { status, out, err })
+}
+
+// A header, holes and more bytes behind them.
+fn file(alloc: Global, holes: usize, rest: &[u8]) -> Result<Vec<u8>, Fail> {
+    let mut bytes = HEADER.to_vec(alloc)?;
+    for _ in 0..holes {
+        bytes.extend_from_slice(&[0; 4128])?;
+    }
+    bytes.extend_from_slice(rest)?;
+    Ok(bytes)
 }
 
 #[test]
@@ -87,22 +125,116 @@ fn words_and_headers(rt: HostRuntime) -> Result<(), Fail> {
         ),
         (none, b"", 2, "vaultmove: bad command line\n"),
     ] {
-        let ran = ran(rt.alloc(), words, input, &[], &[])?;
-        assert_eq!(rt; ran.status, status, "at {message}");
-        assert_eq!(rt; ran.err.bytes(), message.as_bytes());
-        assert!(rt; ran.out.bytes().is_empty());
+        let outcome = outcome(rt.alloc(), words, input, &NONE)?;
+        assert_eq!(rt; outcome.status, status, "at {message}");
+        assert_eq!(rt; outcome.err.bytes(), message.as_bytes());
+        assert!(rt; outcome.out.bytes().is_empty());
+    }
+    Ok(())
+}
+
+#[test]
+fn chunks(rt: HostRuntime) -> Result<(), Fail> {
+    let other_key = "Ff00000000000000000000000000000000000000000000000000000000000000";
+    for (key, holes, rest, status, message) in [
+        (KEY, 1, [].as_slice(), 0, ""),
+        (other_key, 2, [].as_slice(), 0, ""),
+        (
+            KEY,
+            0,
+            [0; 31].as_slice(),
+            12,
+            "vaultmove: damaged: input: chunk 0 short\n",
+        ),
+        (
+            KEY,
+            0,
+            [0; 32].as_slice(),
+            12,
+            "vaultmove: damaged: input: chunk 0 zero nonce\n",
+        ),
+        (
+            KEY,
+            1,
+            [1; 32].as_slice(),
+            12,
+            "vaultmove: damaged: input: chunk 1 tag\n",
+        ),
+    ] {
+        let input = file(rt.alloc(), holes, rest)?;
+        let outcome = outcome(rt.alloc(), &["decrypt-file", key], input.as_slice(), &NONE)?;
+        assert_eq!(rt; outcome.status, status, "at {message}");
+        assert_eq!(rt; outcome.err.bytes(), message.as_bytes());
+        assert_eq!(rt;
+            outcome.out.bytes(),
+            vec![in rt.alloc(); 0; 4096 * holes]?.as_slice()
+        );
     }
     Ok(())
 }
 
 #[test]
 fn streams_that_fail(rt: HostRuntime) -> Result<(), Fail> {
-    let words = ["decrypt-file", KEY];
-    let failed = ran(rt.alloc(), words.as_slice(), HEADER, &[2], &[])?;
-    assert_eq!(rt; failed.status, 5);
-    assert_eq!(rt; failed.err.bytes(), b"vaultmove: input fault\n".as_slice());
-    let unheard = ran(rt.alloc(), words.as_slice(), &HEADER[..17], &[], &[1])?;
-    assert_eq!(rt; unheard.status, 12);
-    assert!(rt; unheard.err.bytes().is_empty());
+    let input = file(rt.alloc(), 2, &[])?;
+    for (fails, written, status, message) in [
+        (
+            Fails {
+                input: &[1],
+                ..NONE
+            },
+            0,
+            5,
+            "vaultmove: input fault\n",
+        ),
+        (
+            Fails {
+                input: &[2],
+                ..NONE
+            },
+            0,
+            5,
+            "vaultmove: input fault\n",
+        ),
+        (
+            Fails { out: &[2], ..NONE },
+            4096,
+            6,
+            "vaultmove: output fault\n",
+        ),
+        (
+            Fails {
+                out: &[1],
+                err: &[1],
+                ..NONE
+            },
+            0,
+            6,
+            "",
+        ),
+    ] {
+        let outcome = outcome(rt.alloc(), &["decrypt-file", KEY], input.as_slice(), &fails)?;
+        assert_eq!(rt; outcome.status, status);
+        assert_eq!(rt; outcome.err.bytes(), message.as_bytes());
+        assert_eq!(rt;
+            outcome.out.bytes(),
+            vec![in rt.alloc(); 0; written]?.as_slice()
+        );
+    }
+    Ok(())
+}
+
+#[test]
+fn a_byte_at_a_time(rt: HostRuntime) -> Result<(), Fail> {
+    let mut words = Vec::new(rt.alloc());
+    for word in ["decrypt-file", KEY] {
+        words.push(String::from_str(rt.alloc(), word)?)?;
+    }
+    let source = MemSource::new(file(rt.alloc(), 1, &[])?, Vec::new(rt.alloc()));
+    let mut input = Trickle { source };
+    let mut out = MemSink::new(rt.alloc(), 5_000, Vec::new(rt.alloc()))?;
+    let mut err = MemSink::new(rt.alloc(), 0, Vec::new(rt.alloc()))?;
+    let status = run(rt.alloc(), words.as_slice(), &mut input, &mut out, &mut err);
+    assert_eq!(rt; status, 0);
+    assert_eq!(rt; out.bytes().len(), 4096);
     Ok(())
 }

@@ -1,0 +1,35 @@
+-- A whole file within the limit, and what reading it gives.
+use Rattle.std.proofs.Common.{◌≡◌, ℕ, ◌≤◌, List, length, take, nat_lt, refl, sym, ap, ◌∙◌, inl, inr}
+use Rattle.std.specs.Prelude.{◌⊎◌}
+use Rattle.std.specs.List.{concat}
+use Rattle.std.proofs.lemmas.Bool.{le-ltb, ltb-false}
+use Rattle.std.proofs.lemmas.List.{take_all}
+use Rattle.chunk_files.specs.Keys.{go_keys}
+use Rattle.chunk_files.specs.Reading.{Whole}
+use Rattle.chunk_files.specs.Contents.{readable}
+use Rattle.chunk_files.specs.FileOf.{IsFileOf, Gives}
+use Rattle.chunk_files.proofs.FilesOf.{files_are_what_they_give}
+use Rattle.chunk_files.proofs.Readings.{whole-goes_on}
+use Rattle.vault_cli.specs.declared.gather.TheConstants.{INPUT_LIMIT}
+use Rattle.vault_cli.specs.Answers.{status_of}
+use Rattle.vault_cli.specs.Decrypts.{input_reading}
+use Rattle.vault_cli.specs.Runs.{answer_to}
+
+reading-within : (key bytes : List ℕ) → length bytes ≤ INPUT_LIMIT → input_reading key bytes ≡ readable (go_keys key) bytes
+reading-within key bytes within = rw (take_all INPUT_LIMIT bytes within, le-ltb INPUT_LIMIT (length bytes) within) refl
+
+-- a reading that ends well is of a whole file
+pub whole-content : (key bytes : List ℕ) → (input_reading key bytes).ending ≡ Whole → IsFileOf (go_keys key) bytes (concat (input_reading key bytes).chunks)
+whole-content key bytes whole =
+    let within : length bytes ≤ INPUT_LIMIT = ltb-false INPUT_LIMIT (length bytes) (whole-goes_on (go_keys key) (take INPUT_LIMIT bytes) (nat_lt INPUT_LIMIT (length bytes)) whole) in
+    let same : input_reading key bytes ≡ readable (go_keys key) bytes = reading-within key bytes within in
+    (files_are_what_they_give (go_keys key) bytes (concat (input_reading key bytes).chunks)).1
+    (record { whole = ap (λ r. r.ending) (sym same) ∙ whole; joined = ap (λ r. concat r.chunks) same })
+
+-- a file within the limit is answered by 0, where its reading decides
+pub decided-whole : (key bytes content : List ℕ) (status : ℕ) → length bytes ≤ INPUT_LIMIT → IsFileOf (go_keys key) bytes content
+    → (status ≡ 3) ⊎ (status ≡ status_of (answer_to (input_reading key bytes).ending)) → (status ≡ 3) ⊎ (status ≡ 0)
+decided-whole key bytes content status within file decided =
+    let gives : Gives (go_keys key) bytes content = (files_are_what_they_give (go_keys key) bytes content).0 file in
+    let whole : (input_reading key bytes).ending ≡ Whole = ap (λ r. r.ending) (reading-within key bytes within) ∙ gives.whole in
+    elim decided [ inl memory ↦ inl memory | inr is ↦ inr (is ∙ ap (λ e. status_of (answer_to e)) whole) ]

@@ -1,0 +1,4 @@
+pub mod Keys
+pub mod FirstBlocks
+pub mod XorBytes
+pub mod Rounds

@@ -1,0 +1,5 @@
+pub mod Hmac
+pub mod Blocks
+pub mod Hkdf
+pub mod Pbkdf2
+pub mod Pieces

@@ -1,6 +1,6 @@
 -- One more round of PBKDF2.
 use Rattle.std.proofs.Common.{◌≡◌, ℕ, suc, ◌+◌, ◌-◌, ◌≤◌, List, arith}
-use Rattle.kdf_suite.specs.Blocks.{xor_bytes}
+use Rattle.kdf_suite.specs.Blocks.{xor_each}
 use Rattle.kdf_suite.specs.Hmac.{hmac_sha256}
 use Rattle.kdf_suite.specs.Pbkdf2.{pbkdf2_u, pbkdf2_xor}
 
@@ -11,7 +11,7 @@ module _ (pass salt : List ℕ) (number c : ℕ) where
       let step : c + 1 - 1 ≡ suc (c - 1) = omega arith in
       rw (step, ← was) is
 
-  pub pbkdf2_xor-more : (sum u more : List ℕ) → 1 ≤ c → sum ≡ pbkdf2_xor pass salt number (c - 1) → u ≡ pbkdf2_u pass salt number (c + 1 - 1) → more ≡ xor_bytes sum u → more ≡ pbkdf2_xor pass salt number (c + 1 - 1)
+  pub pbkdf2_xor-more : (sum u more : List ℕ) → 1 ≤ c → sum ≡ pbkdf2_xor pass salt number (c - 1) → u ≡ pbkdf2_u pass salt number (c + 1 - 1) → more ≡ xor_each sum u → more ≡ pbkdf2_xor pass salt number (c + 1 - 1)
   unfolding pbkdf2_xor
   pbkdf2_xor-more sum u more low was last is =
       let step : c + 1 - 1 ≡ suc (c - 1) = omega arith in

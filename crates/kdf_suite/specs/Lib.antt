@@ -3,3 +3,8 @@ pub mod Blocks
 pub mod Hkdf
 pub mod Pbkdf2
 pub mod Pieces
+pub mod Salsa
+pub mod RoMix
+pub mod Table
+pub mod Scrypt
+pub mod ScryptCost

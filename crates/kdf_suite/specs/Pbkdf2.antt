@@ -2,7 +2,7 @@
 use Rattle.std.specs.Prelude.{ℕ, zero, suc, ◌-◌, List, ◌++◌, take}
 use Rattle.std.specs.Int.{div_ceil, w32, to_be_bytes}
 use Rattle.kdf_suite.specs.Hmac.{hmac_sha256}
-use Rattle.kdf_suite.specs.Blocks.{first_blocks, xor_bytes}
+use Rattle.kdf_suite.specs.Blocks.{first_blocks, xor_each}
 
 -- U_(c + 1) of the block of this number: U_1 is the HMAC of the salt and the number in four bytes,
 -- high byte first, and each later one is the HMAC of the one before
@@ -14,7 +14,7 @@ pbkdf2_u pass salt number (suc c) = hmac_sha256 pass (pbkdf2_u pass salt number 
 unfoldable pub pbkdf2_xor : List ℕ → List ℕ → ℕ → ℕ → List ℕ
 pbkdf2_xor pass salt number zero = pbkdf2_u pass salt number zero
 pbkdf2_xor pass salt number (suc c) =
-    xor_bytes (pbkdf2_xor pass salt number c) (pbkdf2_u pass salt number (suc c))
+    xor_each (pbkdf2_xor pass salt number c) (pbkdf2_u pass salt number (suc c))
 
 -- F: the block T of this number, after a number of rounds
 abbrev pub pbkdf2_block : List ℕ → List ℕ → ℕ → ℕ → List ℕ

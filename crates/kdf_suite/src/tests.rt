@@ -1,4 +1,5 @@
 use super::*;
+use std::test::Fail;
 
 // A key, a text, and their HMAC by SHA-256, SHA-384 and SHA-512.
 type Vector<'a> = (&'a [u8], &'a [u8], &'a [u8], &'a [u8], &'a [u8]);
@@ -122,4 +123,39 @@ fn pbkdf2_vectors(rt: HostRuntime) {
         pbkdf2_256(pass, salt, rounds, &mut out);
         assert_eq!(rt; out.as_slice(), want);
     }
+}
+
+// RFC 7914, section 12, the first vector.
+#[test]
+fn scrypt_vector(rt: HostRuntime) -> Result<(), Fail> {
+    let cost = ScryptCost::new(16, 1, 1)?;
+    let mut out = [0u8; 64];
+    scrypt(rt.alloc(), b"", b"", &cost, &mut out)?;
+    let want =
+        b"\x77\xd6\x57\x62\x38\x65\x7b\x20\x3b\x19\xca\x42\xc1\x8a\x04\x97\xf1\x6b\x48\x44\xe3\x07\x4a\xe8\xdf\xdf\xfa\x3f\xed\xe2\x14\x42\xfc\xd0\x06\x9d\xed\x09\x48\xf8\x32\x6a\x75\x3a\x0f\xc8\x1f\x17\xe8\xd3\xe0\xfb\x2e\x0d\x36\x28\xcf\x35\xe2\x0c\x38\xd1\x89\x06".as_slice();
+    assert_eq!(rt; out.as_slice(), want);
+    Ok(())
+}
+
+// Two blocks and three parts, by OpenSSL.
+#[test]
+fn scrypt_of_three_parts(rt: HostRuntime) -> Result<(), Fail> {
+    let cost = ScryptCost::new(16, 2, 3)?;
+    assert_eq!(rt; (cost.n(), cost.r(), cost.p()), (16, 2, 3));
+    let mut out = [0u8; 40];
+    scrypt(rt.alloc(), b"password", b"NaCl", &cost, &mut out)?;
+    let want =
+        b"\x6c\x81\x85\xaa\x3a\x08\x15\xf8\x87\xad\xe7\x5a\xa9\xd7\x0b\x17\x32\x18\x1a\x1b\xc1\x51\x5e\x8d\xc6\x7b\x43\x07\x9b\x86\x20\xab\x42\xcb\x85\x8e\x27\xa1\x6a\x4f".as_slice();
+    assert_eq!(rt; out.as_slice(), want);
+    Ok(())
+}
+
+#[test]
+fn bad_cost_is_told(rt: HostRuntime) -> Result<(), Fail> {
+    let fault = ScryptCost::new(15, 8, 1).err().ok_or("15 is no cost")?;
+    assert_eq!(rt;
+        fault.to_string(rt.alloc())?.as_str(),
+        "these numbers are no cost of scrypt"
+    );
+    Ok(())
 }

@@ -1,7 +1,8 @@
 -- BlockMix, a pair of blocks at a time.
-use Rattle.std.proofs.Common.{◌≡◌, ℕ, zero, suc, ◌+◌, ◌-◌, ◌*◌, ◌<◌, ◌≤◌, List, [], ◌++◌, length, take, drop, refl, ap, ap₂, ◌∙◌, sym, add-one, arith, rules}
+use Rattle.std.proofs.Common.{◌≡◌, ℕ, suc, ◌+◌, ◌-◌, ◌*◌, ◌<◌, List, ◌++◌, length, take, drop, refl, ap, ap₂, ◌∙◌, sym, add-one, arith}
 use Rattle.std.proofs.lemmas.List.{length-append, length-drop, length-take, take-append-drop, take_all}
-use Rattle.kdf_suite.specs.Blocks.{first_blocks, xor_each}
+use Rattle.kdf_suite.specs.Blocks.{first_blocks}
+use Rattle.kdf_suite.specs.ZipWith.{xor_each}
 use Rattle.kdf_suite.specs.RoMix.{block_at, block_mix, mixed_through}
 use Rattle.kdf_suite.specs.Salsa.{salsa20_8}
 use Rattle.kdf_suite.proofs.Written.{drop-written_above, drop-written_below, take-written, take-written_below, written_at}

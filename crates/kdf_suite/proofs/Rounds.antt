@@ -1,6 +1,6 @@
 -- One more round of PBKDF2.
 use Rattle.std.proofs.Common.{◌≡◌, ℕ, suc, ◌+◌, ◌-◌, ◌≤◌, List, arith}
-use Rattle.kdf_suite.specs.Blocks.{xor_each}
+use Rattle.kdf_suite.specs.ZipWith.{xor_each}
 use Rattle.kdf_suite.specs.Hmac.{hmac_sha256}
 use Rattle.kdf_suite.specs.Pbkdf2.{pbkdf2_u, pbkdf2_xor}
 

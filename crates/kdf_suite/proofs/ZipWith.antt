@@ -1,7 +1,7 @@
 -- Two lists combined in place, an element at a time.
 use Rattle.std.proofs.Common.{◌≡◌, ℕ, zero, suc, ◌+◌, ◌<◌, ◌≤◌, List, [], ◌∷◌, ◌++◌, length, take, drop, set, get_or, refl, ap, ◌∙◌, add-one, arith}
 use Rattle.std.proofs.lemmas.List.{append-nil, drop_all, take_all}
-use Rattle.kdf_suite.specs.Blocks.{zip_with}
+use Rattle.kdf_suite.specs.ZipWith.{zip_with}
 
 module _ (f : ℕ → ℕ → ℕ) where
   -- the first list with the first i elements of the second combined into it

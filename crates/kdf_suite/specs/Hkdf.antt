@@ -18,5 +18,5 @@ abbrev pub hkdf_expand : List ℕ → List ℕ → ℕ → List ℕ
 hkdf_expand key info len = take len (first_blocks (hkdf_block key info) (div_ceil len 32))
 
 -- the output keying material
-abbrev pub hkdf_sha256 : List ℕ → List ℕ → List ℕ → ℕ → List ℕ
+unfoldable pub hkdf_sha256 : List ℕ → List ℕ → List ℕ → ℕ → List ℕ
 hkdf_sha256 secret salt info len = hkdf_expand (hkdf_extract salt secret) info len

@@ -2,7 +2,8 @@ pub mod Hmac
 pub mod Blocks
 pub mod Hkdf
 pub mod Pbkdf2
-pub mod Pieces
+pub mod HmacPieces
+pub mod ZipWith
 pub mod Salsa
 pub mod RoMix
 pub mod Table

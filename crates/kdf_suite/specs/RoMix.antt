@@ -1,6 +1,7 @@
 -- BlockMix and ROMix (RFC 7914, sections 4 and 5), on the words of their blocks, sixteen a block.
 use Rattle.std.specs.Prelude.{ℕ, zero, suc, ◌+◌, ◌-◌, ◌*◌, ◌%◌, ◌^◌, List, [], ◌∷◌, ◌++◌, take, drop}
-use Rattle.kdf_suite.specs.Blocks.{first_blocks, xor_each}
+use Rattle.kdf_suite.specs.Blocks.{first_blocks}
+use Rattle.kdf_suite.specs.ZipWith.{xor_each}
 use Rattle.kdf_suite.specs.Salsa.{salsa20_8}
 
 -- B_i

@@ -1,7 +1,7 @@
 // Output that is made of numbered blocks of 32 bytes.
 
 ghost use Rattle.std.specs.Prelude.{◌≡◌, ℕ, ◌+◌, ◌-◌, ◌*◌, ◌/◌, ◌≤◌, List, ◌++◌, length, take, drop};
-ghost use Rattle.kdf_suite.specs.Blocks.{xor_each};
+ghost use Rattle.kdf_suite.specs.ZipWith.{xor_each};
 
 pub(crate) const BLOCK_LEN: usize = 32;
 

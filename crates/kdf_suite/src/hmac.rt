@@ -88,7 +88,7 @@ pub struct HmacPieces {
 }
 
 impl HmacPieces {
-    ghost use Rattle.kdf_suite.specs.Pieces.{HoldsText, HoldsUnder};
+    ghost use Rattle.kdf_suite.specs.HmacPieces.{HoldsText, HoldsUnder};
 
     /// The HMAC of the empty text so far, under `key`, of any length.
     pub fn new(key: &[u8]) -> HmacPieces

@@ -2,7 +2,7 @@
 
 ghost use Rattle.std.specs.Prelude.{◌≡◌, ℕ, ◌+◌, ◌-◌, ◌*◌, ◌%◌, ◌^◌, ◌<◌, ◌≤◌, List, ◌++◌, length, take, drop, IfOk};
 ghost use Rattle.std.specs.Int.{IsPowerOfTwo};
-ghost use Rattle.kdf_suite.specs.Blocks.{xor_each};
+ghost use Rattle.kdf_suite.specs.ZipWith.{xor_each};
 ghost use Rattle.kdf_suite.specs.RoMix.{block_at, block_mix, integerify, mixed_times, ro_mix};
 ghost use Rattle.kdf_suite.specs.Salsa.{salsa20_8};
 ghost use Rattle.kdf_suite.specs.Table.{IsTable};
@@ -11,6 +11,8 @@ use crate::salsa::{Block, salsa20_8};
 use std::alloc::{AllocError, Global};
 
 const BLOCK_WORDS: usize = 16;
+
+const PAIR_WORDS: usize = 2 * BLOCK_WORDS;
 
 // Xors `other` into `words`, word by word.
 fn xor_words(words: &mut [u32], other: &[u32])
@@ -43,9 +45,9 @@ fn block_mix(input: &[u32], output: &mut [u32], r: usize)
     ensures { output.new ≡ block_mix r input.now }
 {
     let mut x = [0u32; BLOCK_WORDS];
-    x.copy_from_slice(&input[32 * r - BLOCK_WORDS..]);
+    x.copy_from_slice(&input[PAIR_WORDS * r - BLOCK_WORDS..]);
     'pairs: for i in 0..r {
-        let even = 32 * i;
+        let even = PAIR_WORDS * i;
         let odd = even + BLOCK_WORDS;
         mix_block(&mut x, &input[even..odd], output, BLOCK_WORDS * i);
         mix_block(
@@ -73,7 +75,7 @@ fn fill_table(
     ensures table { IfOk result (λ table. IsTable r x.old n table.items) }
     ensures mixed { IfOk result (λ _. x.new ≡ mixed_times r x.old n) }
 {
-    let mut table = Vec::with_capacity(alloc, 32 * r * n)?;
+    let mut table = Vec::with_capacity(alloc, PAIR_WORDS * r * n)?;
     'rows: for _i in 0..n {
         table.extend_from_slice(x)?;
         block_mix(x, spare, r);
@@ -91,7 +93,7 @@ fn place_in_table(x: &[u32], n: usize, r: usize) -> usize
     ensures place { result ≡ integerify r x.now % n }
     ensures within { result < n }
 {
-    x[32 * r - BLOCK_WORDS] as usize % n
+    x[PAIR_WORDS * r - BLOCK_WORDS] as usize % n
 }
 
 // The n turns of the second loop, over the table of `first`, which is mixed n times in `x`.
@@ -106,8 +108,8 @@ fn mix_with_table(table: &[u32], x: &mut [u32], spare: &mut [u32], n: usize, r: 
         → x.new ≡ ro_mix n r first }
 {
     'turns: for _i in 0..n {
-        let start = 32 * r * place_in_table(x, n, r);
-        xor_words(x, &table[start..start + 32 * r]);
+        let start = PAIR_WORDS * r * place_in_table(x, n, r);
+        xor_words(x, &table[start..start + PAIR_WORDS * r]);
         block_mix(x, spare, r);
         x.copy_from_slice(spare);
     }
@@ -121,7 +123,7 @@ pub(crate) fn ro_mix(alloc: Global, x: &mut [u32], n: usize, r: usize) -> Result
     requires x { length x.old ≡ 32 * r }
     ensures { IfOk result (λ _. x.new ≡ ro_mix n r x.old) }
 {
-    let mut spare = vec![in alloc; 0u32; 32 * r]?;
+    let mut spare = vec![in alloc; 0u32; PAIR_WORDS * r]?;
     let table = fill_table(alloc, x, &mut spare, n, r)?;
     mix_with_table(&table, x, &mut spare, n, r);
     Ok(())

@@ -11,7 +11,10 @@ use crate::scrypt_cost::ScryptCost;
 use std::alloc::{AllocError, Global};
 
 /// scrypt (RFC 7914): fills `out`, of at most 2^24 bytes, with the key made of `pass` and `salt` at
-/// this cost. It takes about 128 · n · r bytes of memory; where they are wanting, `out` is unchanged.
+/// this cost.
+///
+/// It takes a table of 128 · n · r bytes, and little more. After an `Err`, for want of memory, `out`
+/// is unchanged.
 pub fn scrypt(
     alloc: Global,
     pass: &[u8],

@@ -1,6 +1,6 @@
 use Rattle.std.proofs.Common.{◌≡◌, ◌*◌, ◌≤◌, suc, length, ◌∙◌, add-one, refl, rules, arith}
 use Rattle.std.proofs.lemmas.List.{take_all}
-use Rattle.kdf_suite.specs.Hkdf.{hkdf_block}
+use Rattle.kdf_suite.specs.Hkdf.{hkdf_block, hkdf_sha256}
 use Rattle.kdf_suite.proofs.FirstBlocks.{IsFilled-all, IsFilled-more, IsFilled-none, begins-within}
 use Rattle.kdf_suite.proofs.hkdf.hkdf256.Goals as goal
 
@@ -23,6 +23,7 @@ numbered-preserved c =
     }
 
 pub returns : goal.returns
+unfolding hkdf_sha256
 returns c =
     rw (← c.hmac256-key.ensures)
     (IsFilled-all _ _ _ _ _ c.numbered.auto.out c.div_ceil-count.ensures c.numbered-test.false c.numbered.auto.index-end c.numbered.invariant.filled)

@@ -1,5 +1,5 @@
-use Rattle.std.proofs.Common.{◌≡◌, ◌∙◌, ◌+◌, ◌*◌, ◌-◌, ap, arith, length, rules}
-use Rattle.kdf_suite.specs.Blocks.{xor_each}
+use Rattle.std.proofs.Common.{◌∙◌, ◌+◌, ◌*◌, ◌-◌, ap, arith, length, rules}
+use Rattle.kdf_suite.specs.ZipWith.{xor_each}
 use Rattle.kdf_suite.specs.Salsa.{salsa20_8}
 use Rattle.kdf_suite.proofs.Mixed.{IsMixed-all, IsMixed-more, IsMixed-none, block_at-is}
 use Rattle.kdf_suite.proofs.ro_mix.block_mix.Goals as goal

@@ -1,5 +1,5 @@
-use Rattle.std.proofs.Common.{◌≡◌, ◌*◌, ◌∙◌, List, ap, ap₂, add-one, arith, refl, take, drop}
-use Rattle.kdf_suite.specs.Blocks.{xor_each}
+use Rattle.std.proofs.Common.{◌≡◌, ◌∙◌, ap, add-one, arith, refl}
+use Rattle.kdf_suite.specs.ZipWith.{xor_each}
 use Rattle.kdf_suite.specs.RoMix.{block_mix, integerify, mixed_turns}
 use Rattle.kdf_suite.proofs.Tables.{row_at}
 use Rattle.kdf_suite.proofs.ro_mix.mix_with_table.Goals as goal

@@ -1,5 +1,5 @@
 use Rattle.std.proofs.Common.{◌≡◌, ◌∙◌, ap, arith, length, rules}
-use Rattle.kdf_suite.specs.Blocks.{zip_with}
+use Rattle.kdf_suite.specs.ZipWith.{zip_with}
 use Rattle.kdf_suite.specs.Salsa.{add32, salsa20_8}
 use Rattle.kdf_suite.proofs.ZipWith.{zipped_below-all, zipped_below-more}
 use Rattle.kdf_suite.proofs.salsa.salsa20_8.Goals as goal

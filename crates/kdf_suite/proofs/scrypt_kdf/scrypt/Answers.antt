@@ -1,4 +1,4 @@
-use Rattle.std.proofs.Common.{◌≡◌, ◌*◌, ◌∙◌, ap, ap₂, arith, length}
+use Rattle.std.proofs.Common.{◌≡◌, ◌*◌, ◌∙◌, ap, arith, length}
 use Rattle.std.proofs.lemmas.List.{take_at}
 use Rattle.kdf_suite.specs.Blocks.{first_blocks}
 use Rattle.kdf_suite.specs.Pbkdf2.{pbkdf2_sha256}

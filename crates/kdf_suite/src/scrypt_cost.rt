@@ -1,6 +1,6 @@
 // The cost of scrypt.
 
-ghost use Rattle.std.specs.Prelude.{◌≡◌, ℕ, ◌↔◌, ◌≤◌, IsOk, IsTrue, IfOk};
+ghost use Rattle.std.specs.Prelude.{◌≡◌, ℕ, ◌↔◌, ◌≤◌, IsOk, IsTrue, IfOk, Some, codes};
 ghost use Rattle.std.specs.Int.{IsPowerOfTwo};
 ghost use Rattle.kdf_suite.specs.ScryptCost.{IsCost};
 
@@ -38,6 +38,8 @@ impl Model for ScryptCost {
 pub struct BadCost;
 
 impl fmt::Display for BadCost {
+    ghost output = { λ _. Some (codes "these numbers are no cost of scrypt") };
+
     fn fmt<W: fmt::Write>(&self, f: &mut fmt::Formatter<W>) -> fmt::Result {
         f.write_str("these numbers are no cost of scrypt")
     }

@@ -149,13 +149,3 @@ fn scrypt_of_three_parts(rt: HostRuntime) -> Result<(), Fail> {
     assert_eq!(rt; out.as_slice(), want);
     Ok(())
 }
-
-#[test]
-fn bad_cost_is_told(rt: HostRuntime) -> Result<(), Fail> {
-    let fault = ScryptCost::new(15, 8, 1).err().ok_or("15 is no cost")?;
-    assert_eq!(rt;
-        fault.to_string(rt.alloc())?.as_str(),
-        "these numbers are no cost of scrypt"
-    );
-    Ok(())
-}

@@ -14,6 +14,7 @@ below_limit n r some fits (inr short) =
     let low : 16 ≤ 16 * r = omega arith in
     omega (arith, pow_mono low)
 
+-- numbers that pass the tests are a cost
 pub IsCost-from_tests : (n r p : ℕ) → IsPowerOfTwo n → 2 ≤ n → 1 ≤ r → 1 ≤ p → p ≤ 16 → (2 ≤ r) ⊎ (n < 65536) → n * r ≤ 4194304 → r * p ≤ 131072 → IsCost (record { n = n; r = r; p = p })
 IsCost-from_tests n r p power two block part few below table parts = record {
   power_of_two = power;

@@ -45,9 +45,10 @@ power_from_ones (suc fuel) n below one =
           )
     ]
 
--- the test of a power of two
+-- a number that passes the test is a power of two
 pub power_from_test : (n : ℕ) → is_power_of_two n ≡ true → IsPowerOfTwo n
 power_from_test n test = power_from_ones n n (omega arith) ((Decides-eqb (count_ones n) 1).0 test)
 
+-- a power of two passes it
 pub test_from_power : (n : ℕ) → IsPowerOfTwo n → is_power_of_two n ≡ true
 test_from_power n power = (Decides-eqb (count_ones n) 1).1 (ap ones power.1 ∙ ones-pow power.0)

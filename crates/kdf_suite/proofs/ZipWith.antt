@@ -15,6 +15,7 @@ module _ (f : ℕ → ℕ → ℕ) where
   get_or-zipped_below [] ys i a b = absurd (omega arith)
   get_or-zipped_below (x ∷ xs) [] i a b = absurd (omega arith)
 
+  -- the next element of the second list is combined into it
   set-zipped_below : (xs ys : List ℕ) (i : ℕ) → i < length xs → i < length ys → set (zipped_below xs ys i) i (f (get_or xs i 0) (get_or ys i 0)) ≡ zipped_below xs ys (suc i)
   set-zipped_below (x ∷ xs) (y ∷ ys) zero a b = refl
   set-zipped_below (x ∷ xs) (y ∷ ys) (suc i) a b = ap (λ zs. f x y ∷ zs) (set-zipped_below xs ys i (omega arith) (omega arith))

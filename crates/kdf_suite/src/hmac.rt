@@ -6,6 +6,11 @@ ghost use Rattle.kdf_suite.specs.Hmac.{hmac_of_block, hmac_sha256, hmac_sha384, 
 
 use sha2::{Digest, Sha256, Sha384, Sha512};
 
+// The block lengths of SHA-256, and of SHA-384 and SHA-512, in bytes.
+const SHA256_BLOCK: usize = 64;
+
+const SHA512_BLOCK: usize = 128;
+
 const INNER_PAD: u8 = 0x36;
 
 const OUTER_PAD: u8 = 0x5C;
@@ -36,7 +41,7 @@ pub fn hmac256(key: &[u8], text: &[u8]) -> [u8; 32]
 pub fn hmac384(key: &[u8], text: &[u8]) -> [u8; 48]
     ensures { result ≡ hmac_sha384 key.now text.now }
 {
-    if key.len() > 128 {
+    if key.len() > SHA512_BLOCK {
         return hmac384_under(&Sha384::digest(key), text);
     }
     hmac384_under(key, text)
@@ -48,10 +53,10 @@ fn hmac384_under(key: &[u8], text: &[u8]) -> [u8; 48]
     ensures { result ≡ hmac_of_block sha384 (zero_padded 128 key.now) text.now }
 {
     let mut inner = Sha384::new();
-    inner.update(padded_key::<128>(key, INNER_PAD));
+    inner.update(padded_key::<SHA512_BLOCK>(key, INNER_PAD));
     inner.update(text);
     let mut outer = Sha384::new();
-    outer.update(padded_key::<128>(key, OUTER_PAD));
+    outer.update(padded_key::<SHA512_BLOCK>(key, OUTER_PAD));
     outer.update(inner.finalize());
     outer.finalize()
 }
@@ -60,7 +65,7 @@ fn hmac384_under(key: &[u8], text: &[u8]) -> [u8; 48]
 pub fn hmac512(key: &[u8], text: &[u8]) -> [u8; 64]
     ensures { result ≡ hmac_sha512 key.now text.now }
 {
-    if key.len() > 128 {
+    if key.len() > SHA512_BLOCK {
         return hmac512_under(&Sha512::digest(key), text);
     }
     hmac512_under(key, text)
@@ -72,10 +77,10 @@ fn hmac512_under(key: &[u8], text: &[u8]) -> [u8; 64]
     ensures { result ≡ hmac_of_block sha512 (zero_padded 128 key.now) text.now }
 {
     let mut inner = Sha512::new();
-    inner.update(padded_key::<128>(key, INNER_PAD));
+    inner.update(padded_key::<SHA512_BLOCK>(key, INNER_PAD));
     inner.update(text);
     let mut outer = Sha512::new();
-    outer.update(padded_key::<128>(key, OUTER_PAD));
+    outer.update(padded_key::<SHA512_BLOCK>(key, OUTER_PAD));
     outer.update(inner.finalize());
     outer.finalize()
 }
@@ -90,11 +95,11 @@ pub struct HmacPieces {
 impl HmacPieces {
     ghost use Rattle.kdf_suite.specs.HmacPieces.{HoldsText, HoldsUnder};
 
-    /// The HMAC of the empty text so far, under `key`, of any length.
+    /// Begins an HMAC under `key`, of any length, with no text yet.
     pub fn new(key: &[u8]) -> HmacPieces
         ensures { HoldsText result key.now [] }
     {
-        if key.len() > 64 {
+        if key.len() > SHA256_BLOCK {
             return HmacPieces::under(&Sha256::digest(key));
         }
         HmacPieces::under(key)
@@ -106,9 +111,9 @@ impl HmacPieces {
         ensures { HoldsUnder result (zero_padded 64 key.now) [] }
     {
         let mut inner = Sha256::new();
-        inner.update(padded_key::<64>(key, INNER_PAD));
+        inner.update(padded_key::<SHA256_BLOCK>(key, INNER_PAD));
         let mut outer = Sha256::new();
-        outer.update(padded_key::<64>(key, OUTER_PAD));
+        outer.update(padded_key::<SHA256_BLOCK>(key, OUTER_PAD));
         HmacPieces { inner, outer }
     }
 

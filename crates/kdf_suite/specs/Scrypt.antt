@@ -21,7 +21,7 @@ words_of (suc n) bytes = words_of n bytes ++ word_at bytes n ∷ []
 abbrev pub bytes_of : List ℕ → List ℕ
 bytes_of words = flat_map (λ w. to_le_bytes w32 w) words
 
--- part i of the 128 r bytes parts of b, counted from 1, mixed by ROMix (steps 1 and 2)
+-- part i of b, where each part has 128 r bytes and they are counted from 1, mixed by ROMix (step 2)
 abbrev pub mixed_part : ℕ → ℕ → List ℕ → ℕ → List ℕ
 mixed_part n r b i =
     bytes_of (ro_mix n r (words_of (32 * r) (take (128 * r) (drop (128 * r * (i - 1)) b))))

@@ -1,5 +1,5 @@
-//! Key functions over SHA-2, each by its RFC: HMAC (2104), HKDF (5869), PBKDF2
-//! (8018) and scrypt (7914).
+//! Key functions over SHA-2, each by its RFC: HMAC (2104), HKDF (5869), PBKDF2 (8018) and scrypt
+//! (7914).
 #![tactic(auto)]
 
 mod blocks;

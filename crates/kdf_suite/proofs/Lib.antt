@@ -1,0 +1,10 @@
+pub mod Keys
+pub mod FirstBlocks
+pub mod ZipWith
+pub mod Rounds
+pub mod Mixed
+pub mod Written
+pub mod Integerify
+pub mod Tables
+pub mod PowerOfTwo
+pub mod Costs

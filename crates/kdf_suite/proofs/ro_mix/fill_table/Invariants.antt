@@ -1,0 +1,10 @@
+use Rattle.std.proofs.Common.{◌≡◌}
+use Rattle.kdf_suite.specs.RoMix.{mixed_times}
+use Rattle.kdf_suite.specs.Table.{IsTable}
+use Rattle.kdf_suite.proofs.ro_mix.fill_table.Given as goal
+
+abbrev pub invariant-rows : goal.invariant-rows
+invariant-rows l = record {
+  table : IsTable l.r l.initial.x l._i l.table.items;
+  mixed : l.x ≡ mixed_times l.r l.initial.x l._i;
+}

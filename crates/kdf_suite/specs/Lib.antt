@@ -1,0 +1,11 @@
+pub mod Hmac
+pub mod Blocks
+pub mod Hkdf
+pub mod Pbkdf2
+pub mod HmacPieces
+pub mod ZipWith
+pub mod Salsa
+pub mod RoMix
+pub mod Table
+pub mod Scrypt
+pub mod ScryptCost

@@ -1,0 +1,26 @@
+//! Folders that can fail and crash: what a state is, what each call changes, what a crash leaves.
+//!
+//! The definitions stand in `specs/`, one subject a file, and their laws in `proofs/`.
+//! A crash keeps each directory change only together with all earlier ones, and of the bytes of a
+//! file those that were synced, with any others after them.
+#![tactic(auto)]
+
+/// What stands at a path.
+#[derive(Debug, Clone, Copy, PartialEq, Eq, Drop)]
+pub enum Kind {
+    Missing,
+    Dir,
+    File,
+    Other,
+}
+
+/// Why a call of a folder did not do its work.
+#[derive(Debug, Clone, Copy, PartialEq, Eq, Drop)]
+pub enum FolderFault {
+    /// The folder could not do it, though it was allowed. Its count of faults has risen.
+    Failed,
+    /// The call's condition does not hold.
+    Refused,
+    /// There was no memory for it, and nothing has changed.
+    NoMemory,
+}

@@ -40,9 +40,9 @@ image_of_itself image = record {
 -- and it has no other: what a crash leaves of what a crash left has the same table and the same bytes
 pub image_of_image : (image again : Image) → IsImage (state_of image) again → (again.table ≡ image.table) × ((n : ℕ) → again.bytes n ≡ image.bytes n)
 image_of_image image again h = (
-    (elim h.table as (λ _. again.table ≡ image.table) [ inl e ↦ e | inr none ↦ absurd none ]),
-    λ n. (h.bytes n).whole refl
-  )
+  (elim h.table as (λ _. again.table ≡ image.table) [ inl e ↦ e | inr none ↦ absurd none ]),
+  λ n. (h.bytes n).whole refl,
+)
 
 -- so a second crash leaves what the first might have left
 pub image_again : (s : State) (image again : Image) → IsImage s image → IsImage (state_of image) again → IsImage s again
@@ -58,9 +58,9 @@ image_again s image again first second =
 pub settle_narrows : (s : State) (image : Image) → IsImage (changed s Settle) image → IsImage s image
 settle_narrows s image h = record {
   table = elim h.table as (λ _. IsTableOf s image.table) [
-      | inl e ↦ subst (IsTableOf s) (sym e) (present_is_table s)
-      | inr none ↦ absurd none
-    ];
+    | inl e ↦ subst (IsTableOf s) (sym e) (present_is_table s)
+    | inr none ↦ absurd none
+  ];
   bytes = h.bytes;
   made = h.made;
 }
@@ -83,10 +83,10 @@ sync_narrows s p image sound h = narrows (present s p) h
     narrows (FileNode n) h = record {
       table = h.table;
       bytes = λ k. elim (nat_eq n k) as (λ b. nat_eq n k ≡ b → IsLeftOf (cond b (synced (s.nodes n)) (s.nodes k)) (image.bytes k) → IsLeftOf (s.nodes k) (image.bytes k)) [
-          | true ↦ λ e left.
-              let one : n ≡ k = eqb-true n k e in
-              synced_leaves_less (s.nodes k) (image.bytes k) (sound.nodes k) (subst (λ m. IsLeftOf (synced (s.nodes m)) (image.bytes k)) one left)
-          | false ↦ λ e left. left
-        ] refl (h.bytes k);
+        | true ↦ λ e left.
+            let one : n ≡ k = eqb-true n k e in
+            synced_leaves_less (s.nodes k) (image.bytes k) (sound.nodes k) (subst (λ m. IsLeftOf (synced (s.nodes m)) (image.bytes k)) one left)
+        | false ↦ λ e left. left
+      ] refl (h.bytes k);
       made = h.made;
     }

@@ -57,7 +57,9 @@ went_by_call P Q call a b (Err NoMemory) here done fell event h = subst (Went P 
 pub went_more : (P P' : State → Type 0) (Q Q' : State → Event → Type 0) (a b : Told)
     → ((s : State) → P s → P' s) → ((s : State) (e : Event) → Q s e → Q' s e) → Went P Q a b → Went P' Q' a b
 went_more P P' Q Q' a b more_state more_event h = record {
-  events = h.events; log = h.log; state = h.state;
+  events = h.events;
+  log = h.log;
+  state = h.state;
   states = states_more a.state h.events h.states;
   each = events_more a.state h.events h.each;
 }
@@ -65,6 +67,7 @@ went_more P P' Q Q' a b more_state more_event h = record {
     states_more : (s : State) (es : List Event) → EachState P s es → EachState P' s es
     states_more s [] k = more_state s k
     states_more s (e ∷ es) k = (more_state s k.0, states_more (after s e) es k.1)
+
     events_more : (s : State) (es : List Event) → EachEvent Q s es → EachEvent Q' s es
     events_more s [] k = tt
     events_more s (e ∷ es) k = (more_event s e k.0, events_more (after s e) es k.1)

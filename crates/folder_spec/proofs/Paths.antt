@@ -12,9 +12,9 @@ path_eq-same p = (path_eq-Decides p p).1 refl
 -- two paths are one or are not
 pub one_or_not : (p q : Path) → (p ≡ q) ⊎ ((p ≢ q) × (path_eq p q ≡ false))
 one_or_not p q = elim (path_eq p q) as (λ t. path_eq p q ≡ t → (p ≡ q) ⊎ ((p ≢ q) × (t ≡ false))) [
-    | true ↦ λ e. inl ((path_eq-Decides p q).0 e)
-    | false ↦ λ e. inr ((λ same. let yes_ : path_eq p q ≡ true = (path_eq-Decides p q).1 same in cc), refl)
-  ] refl
+  | true ↦ λ e. inl ((path_eq-Decides p q).0 e)
+  | false ↦ λ e. inr ((λ same. let yes_ : path_eq p q ≡ true = (path_eq-Decides p q).1 same in cc), refl)
+] refl
 
 pub path_eq-apart : (p q : Path) → p ≢ q → path_eq p q ≡ false
 path_eq-apart p q apart = elim (one_or_not p q) [ inl e ↦ absurd (apart e) | inr k ↦ k.1 ]
@@ -36,9 +36,9 @@ below_is (a ∷ w) (b ∷ p) rest h =
 -- p begins with w, or has nothing below it
 pub begins_or_not : (w p : Path) → ((rest : Path) × (p ≡ w ++ rest)) ⊎ (below w p ≡ None)
 begins_or_not w p = elim (below w p) as (λ o. below w p ≡ o → ((rest : Path) × (p ≡ w ++ rest)) ⊎ (o ≡ None)) [
-    | Some rest ↦ λ e. inl (rest, below_is w p rest e)
-    | None ↦ λ e. inr refl
-  ] refl
+  | Some rest ↦ λ e. inl (rest, below_is w p rest e)
+  | None ↦ λ e. inr refl
+] refl
 
 -- nothing begins with w that has nothing below it
 pub not_below : (w rest : Path) → below w (w ++ rest) ≡ None → ⊥
@@ -74,9 +74,9 @@ child-not_base (b ∷ p) a e = cc
 -- what has nothing below w has none above it that does
 pub below-above : (w p : Path) (a : Part) → below w (child p a) ≡ None → below w p ≡ None
 below-above w p a none = elim (begins_or_not w p) [
-    | inl k ↦ absurd (not_below w (k.0 ++ a ∷ []) (subst (λ q. below w q ≡ None) (ap (λ q. child q a) k.1 ∙ append_assoc w k.0 (a ∷ [])) none))
-    | inr none_above ↦ none_above
-  ]
+  | inl k ↦ absurd (not_below w (k.0 ++ a ∷ []) (subst (λ q. below w q ≡ None) (ap (λ q. child q a) k.1 ∙ append_assoc w k.0 (a ∷ [])) none))
+  | inr none_above ↦ none_above
+]
 
 -- the last part of a path
 pub child-last : (p : Path) (a b : Part) → child p a ≡ child p b → a ≡ b
@@ -86,10 +86,10 @@ child-last (c ∷ p) a b e = child-last p a b cc
 -- a child of p begins with w where it is w or p does
 pub child_begins : (w p : Path) (a : Part) (rest : Path) → child p a ≡ w ++ rest → (child p a ≡ w) ⊎ ((above : Path) × (p ≡ w ++ above) × (rest ≡ child above a))
 child_begins w p a rest e = elim (base_or_child rest) as (λ _. (child p a ≡ w) ⊎ ((above : Path) × (p ≡ w ++ above) × (rest ≡ child above a))) [
-    | inl is_w ↦ inl (e ∙ ap (λ r. w ++ r) is_w ∙ append-nil w)
-    | inr k ↦
-        let whole : child p a ≡ child (w ++ k.0) k.1 = e ∙ ap (λ r. w ++ r) k.2 ∙ sym (append_assoc w k.0 (k.1 ∷ [])) in
-        let up : p ≡ w ++ k.0 = child-injective p (w ++ k.0) a k.1 whole in
-        let parts : a ≡ k.1 = child-last p a k.1 (whole ∙ ap (λ q. child q k.1) (sym up)) in
-        inr (k.0, up, k.2 ∙ ap (λ b. child k.0 b) (sym parts))
-  ]
+  | inl is_w ↦ inl (e ∙ ap (λ r. w ++ r) is_w ∙ append-nil w)
+  | inr k ↦
+      let whole : child p a ≡ child (w ++ k.0) k.1 = e ∙ ap (λ r. w ++ r) k.2 ∙ sym (append_assoc w k.0 (k.1 ∷ [])) in
+      let up : p ≡ w ++ k.0 = child-injective p (w ++ k.0) a k.1 whole in
+      let parts : a ≡ k.1 = child-last p a k.1 (whole ∙ ap (λ q. child q k.1) (sym up)) in
+      inr (k.0, up, k.2 ∙ ap (λ b. child k.0 b) (sym parts))
+]

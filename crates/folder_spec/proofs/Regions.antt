@@ -29,28 +29,31 @@ spared_tables region s call spares t is_table = by_call call spares is_table
   where
     same : IsTableOf s t → (u : Table) × IsTableOf s u × AlikeIn region t u
     same h = (t, h, λ q inside. refl)
+
     new_table : (v : Table) → AlikeIn region v (present s) → IsTableOf (with_table s v) t → (u : Table) × IsTableOf s u × AlikeIn region t u
     new_table v alike h = elim h as (λ _. (u : Table) × IsTableOf s u × AlikeIn region t u) [
-        | inl e ↦ same (inl e)
-        | inr more ↦ elim (among-push t v s.later more) as (λ _. (u : Table) × IsTableOf s u × AlikeIn region t u) [
-            | inl old ↦ same (inr old)
-            | inr e ↦ (present s, present_is_table s, λ q inside. ap (λ w. w q) e ∙ alike q inside)
-          ]
+      | inl e ↦ same (inl e)
+      | inr more ↦ elim (among-push t v s.later more) as (λ _. (u : Table) × IsTableOf s u × AlikeIn region t u) [
+        | inl old ↦ same (inr old)
+        | inr e ↦ (present s, present_is_table s, λ q inside. ap (λ w. w q) e ∙ alike q inside)
       ]
+    ]
+
     file_changed : (x : Spot) (change : Node → Node) → IsTableOf (with_file s x change) t → (u : Table) × IsTableOf s u × AlikeIn region t u
     file_changed Nothing change h = same h
     file_changed Directory change h = same h
     file_changed Odd change h = same h
     file_changed (FileNode n) change h = same h
+
     by_call : (call : Call) → Spares region call → IsTableOf (changed s call) t → (u : Table) × IsTableOf s u × AlikeIn region t u
     by_call (MakeDir p) apart h = new_table (put (present s) p Directory) (λ q inside. put-other (present s) p Directory q (apart q inside)) h
     by_call (Create p) apart h = new_table (put (present s) p (FileNode s.made)) (λ q inside. put-other (present s) p (FileNode s.made) q (apart q inside)) h
     by_call (Append p piece) apart h = file_changed (present s p) (grown piece) h
     by_call (Sync p) apart h = file_changed (present s p) synced h
     by_call Settle apart h = elim h as (λ _. (u : Table) × IsTableOf s u × AlikeIn region t u) [
-        | inl e ↦ (present s, present_is_table s, λ q inside. ap (λ w. w q) e)
-        | inr none ↦ absurd none
-      ]
+      | inl e ↦ (present s, present_is_table s, λ q inside. ap (λ w. w q) e)
+      | inr none ↦ absurd none
+    ]
     by_call (Rename old new) apart h =
         new_table (moved (present s) old new) (λ q inside. moved-other (present s) old new q (apart q inside).0 (apart q inside).1) h
     by_call (RemoveFile p) apart h = new_table (put (present s) p Nothing) (λ q inside. put-other (present s) p Nothing q (apart q inside)) h
@@ -135,9 +138,9 @@ pub image_before_is : (s0 s : State) (u : Table) (image : Image) → IsSound s0 
 image_before_is s0 s u image sound is_table stay is_image = record {
   table = is_table;
   bytes = λ n. elim (nat_lt n s0.made) as (λ b. nat_lt n s0.made ≡ b → IsLeftOf (s0.nodes n) (cond b (image.bytes n) (s0.nodes n).now)) [
-      | true ↦ λ e. subst (λ node. IsLeftOf node (image.bytes n)) (stay n (ltb-true n s0.made e)) (is_image.bytes n)
-      | false ↦ λ e. record { begins = sound.nodes n; whole = λ _. refl }
-    ] refl;
+    | true ↦ λ e. subst (λ node. IsLeftOf node (image.bytes n)) (stay n (ltb-true n s0.made e)) (is_image.bytes n)
+    | false ↦ λ e. record { begins = sound.nodes n; whole = λ _. refl }
+  ] refl;
   made = refl;
 }
 
@@ -156,7 +159,8 @@ image_before_shows s0 u image q sound same = ap (found image.bytes) same ∙ fou
 pub as_before_images : (region : Path → Bool) (s0 s : State) → IsSound s0 → IsAsBefore region s0 s → (image : Image) → IsImage s image
     → (old : Image) × IsImage s0 old × AgreeIn region (view_of image) (view_of old)
 as_before_images region s0 s sound as_was image is_image =
-    let there : (u : Table) × IsTableOf s0 u × AlikeIn region image.table u = as_was.tables image.table is_image.table in
-    (image_before s0 there.0 image.bytes,
+    let there : (u : Table) × IsTableOf s0 u × AlikeIn region image.table u = as_was.tables image.table is_image.table in (
+      image_before s0 there.0 image.bytes,
       image_before_is s0 s there.0 image sound there.1 as_was.nodes is_image,
-      λ q inside. image_before_shows s0 there.0 image q (sound.tables there.0 there.1) (there.2 q inside))
+      λ q inside. image_before_shows s0 there.0 image q (sound.tables there.0 there.1) (there.2 q inside),
+    )

@@ -37,9 +37,9 @@ last_of-push t (v ∷ us) u = last_of-push v us u
 pub among-push : (t u : Table) (us : List Table) → IsAmong t (us ++ u ∷ []) → IsAmong t us ⊎ (t ≡ u)
 among-push t u [] h = elim h [ inl e ↦ inr e | inr no_ ↦ absurd no_ ]
 among-push t u (v ∷ us) h = elim h as (λ _. IsAmong t (v ∷ us) ⊎ (t ≡ u)) [
-    | inl e ↦ inl (inl e)
-    | inr more ↦ ⊎_elim (λ k. inl (inr k)) (λ e. inr e) (among-push t u us more)
-  ]
+  | inl e ↦ inl (inl e)
+  | inr more ↦ ⊎_elim (λ k. inl (inr k)) (λ e. inr e) (among-push t u us more)
+]
 
 pub among-old : (t u : Table) (us : List Table) → IsAmong t us → IsAmong t (us ++ u ∷ [])
 among-old t u [] h = absurd h

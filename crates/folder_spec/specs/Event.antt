@@ -72,11 +72,11 @@ empty_node = record { now = []; kept = [] }
 abbrev pub changed : State → Call → State
 changed s (MakeDir p) = with_table s (put (present s) p Directory)
 changed s (Create p) = record {
-    nodes = put_node s.nodes s.made empty_node;
-    made = suc s.made;
-    kept = s.kept;
-    later = s.later ++ put (present s) p (FileNode s.made) ∷ [];
-  }
+  nodes = put_node s.nodes s.made empty_node;
+  made = suc s.made;
+  kept = s.kept;
+  later = s.later ++ put (present s) p (FileNode s.made) ∷ [];
+}
 changed s (Append p piece) = with_file s (present s p) (grown piece)
 changed s (Sync p) = with_file s (present s p) synced
 changed s Settle = record s { kept = present s; later = [] }

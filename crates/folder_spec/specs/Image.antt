@@ -22,11 +22,11 @@ pub record IsImage (s : State) (image : Image) : Type 0 where
 -- the image taken as a state: nothing is pending
 abbrev pub state_of : Image → State
 state_of image = record {
-    nodes = λ n. record { now = image.bytes n; kept = image.bytes n };
-    made = image.made;
-    kept = image.table;
-    later = [];
-  }
+  nodes = λ n. record { now = image.bytes n; kept = image.bytes n };
+  made = image.made;
+  kept = image.table;
+  later = [];
+}
 
 -- the folder as a read now sees it
 abbrev pub seen_now : State → Image

@@ -2,14 +2,9 @@
 use Rattle.std.specs.Prelude.{◌≡◌, ◌≢◌, ℕ, ◌<◌, ◌⊎◌, Bool, List, [], ◌∷◌, ◌++◌, Option, Some, None, if◌then◌else◌, nat_eq, IsTrue}
 use Rattle.folder_spec.specs.declared.Kind.{Kind}
 use Rattle.folder_spec.specs.declared.Kind.TheVariants.{Missing, Dir, File, Other}
+pub use Rattle.folder_spec.specs.declared.Spot.{Spot}
+pub use Rattle.folder_spec.specs.declared.Spot.TheVariants.{Nothing, Directory, FileNode, Odd}
 use Rattle.folder_spec.specs.Path.{Part, Path, path_eq, below, child}
-
--- what a table has at a path
-pub data Spot : Type 0 where
-  Nothing : Spot
-  Directory : Spot
-  FileNode : ℕ → Spot
-  Odd : Spot
 
 abbrev pub kind_of : Spot → Kind
 kind_of Nothing = Missing

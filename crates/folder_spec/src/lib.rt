@@ -24,3 +24,12 @@ pub enum FolderFault {
     /// There was no memory for it, and nothing has changed.
     NoMemory,
 }
+
+/// What a name table has at a path: a file by the number of its node.
+#[derive(Debug, Clone, Copy, PartialEq, Eq, Drop)]
+pub enum Spot {
+    Nothing,
+    Directory,
+    FileNode(usize),
+    Odd,
+}

@@ -1,7 +1,7 @@
 -- What a crash leaves, and what it leaves of an image.
-use Rattle.std.proofs.Common.{◌≡◌, ◌≢◌, ℕ, ◌+◌, ◌⊎◌, Bool, true, false, List, [], ◌∷◌, ◌++◌, refl, sym, ap, ◌∙◌, subst, inl, inr, append-nil, append_assoc, nat_eq, cond, eqb→eq, T, eqb-true}
+use Rattle.std.proofs.Common.{◌≡◌, ℕ, ◌⊎◌, true, false, List, [], refl, sym, ◌∙◌, subst, inl, inr, append-nil, nat_eq, cond, eqb-true}
 use Rattle.folder_spec.specs.Path.{Path}
-use Rattle.folder_spec.specs.State.{Spot, Nothing, Directory, FileNode, Odd, Table, Node, State, present, IsTableOf, put_node, BeginsWith, IsClean, IsSoundTable, IsSound, HasNothingPending}
+use Rattle.folder_spec.specs.State.{Spot, Nothing, Directory, FileNode, Odd, Table, Node, State, present, IsTableOf, BeginsWith, IsSoundTable, IsSound, HasNothingPending}
 use Rattle.folder_spec.specs.Event.{Settle, Sync, changed, with_file, synced}
 use Rattle.folder_spec.specs.Image.{Image, IsLeftOf, IsImage, state_of, seen_now}
 use Rattle.folder_spec.proofs.Tables.{present_is_table}

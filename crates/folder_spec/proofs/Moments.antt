@@ -1,10 +1,10 @@
 -- How runs of calls go on.
-use Rattle.std.proofs.Common.{◌≡◌, ℕ, ◌≤◌, List, [], ◌∷◌, ◌++◌, Option, Some, None, Result, Ok, Err, refl, sym, ap, ◌∙◌, subst, append_assoc, append-nil, length}
+use Rattle.std.proofs.Common.{◌≡◌, ℕ, List, [], ◌∷◌, ◌++◌, Result, Ok, Err, refl, sym, ap, ◌∙◌, subst, append_assoc, append-nil}
 use Rattle.folder_spec.specs.declared.FolderFault.{FolderFault}
 use Rattle.folder_spec.specs.declared.FolderFault.TheVariants.{Failed, Refused, NoMemory}
 use Rattle.folder_spec.specs.State.{State}
-use Rattle.folder_spec.specs.Event.{Call, Outcome, Done, Fell, Denied, Event, Allowed, changed, fallen, after, outcome_state, Told, told_after, piece_of, Steps, Changes}
-use Rattle.folder_spec.specs.Moments.{run, EachState, EachEvent, Went, Moments}
+use Rattle.folder_spec.specs.Event.{Call, Outcome, Done, Fell, Denied, Event, Allowed, changed, fallen, after, outcome_state, Told, told_after, Steps}
+use Rattle.folder_spec.specs.Moments.{run, EachState, EachEvent, Went}
 
 run-append : (s : State) (es fs : List Event) → run s (es ++ fs) ≡ run (run s es) fs
 run-append s [] fs = refl

@@ -1,26 +1,12 @@
 -- A region of paths that calls leave as it was, and one path there that gets a new file.
-use Rattle.std.proofs.Common.{◌≡◌, ◌≢◌, ℕ, suc, ◌+◌, ◌<◌, ◌≤◌, ◌⊎◌, Bool, true, false, List, [], ◌∷◌, ◌++◌, Option, Some, None, refl, sym, ap, ◌∙◌, subst, inl, inr, ⊎_elim, arith, nat_eq, cond, IsTrue, eqb-true, ne_eqb, nat_lt, ltb-true, ltb-false, lt-ltb, take, append-nil}
-use Rattle.folder_spec.specs.Path.{Path, below}
-use Rattle.folder_spec.specs.State.{Spot, Nothing, Directory, FileNode, Odd, Table, Node, State, present, IsTableOf, put, moved, put_node, HasFile, BeginsWith, IsClean, IsSoundTable, IsSound}
-use Rattle.folder_spec.specs.Event.{Call, MakeDir, Create, Append, Sync, Settle, Rename, RemoveFile, RemoveDir, Allowed, with_table, with_file, grown, synced, empty_node, changed, fallen}
+use Rattle.std.proofs.Common.{◌≡◌, ◌≢◌, ℕ, ◌<◌, ◌≤◌, Bool, true, false, List, refl, ap, ◌∙◌, subst, inl, inr, arith, cond, ne_eqb, nat_lt, ltb-true, lt-ltb}
+use Rattle.folder_spec.specs.Path.{Path}
+use Rattle.folder_spec.specs.State.{Spot, Nothing, Directory, FileNode, Odd, Table, Node, State, present, IsTableOf, put, moved, put_node, IsSoundTable, IsSound}
+use Rattle.folder_spec.specs.Event.{Call, MakeDir, Create, Append, Sync, Settle, Rename, RemoveFile, RemoveDir, with_table, with_file, grown, synced, empty_node, changed}
 use Rattle.folder_spec.specs.Image.{Image, IsLeftOf, IsImage}
-use Rattle.folder_spec.specs.View.{Found, NoEntry, Folder, FileOf, Special, View, found, view_of, AgreeIn}
-use Rattle.folder_spec.proofs.Tables.{put-same, put-other, moved-new, moved-old, moved-other, present_is_table, among-push}
-
--- the call's paths, and all below those that it moves, lie outside the region
-abbrev pub Spares : (Path → Bool) → Call → Type 0
-Spares region (MakeDir p) = (q : Path) → IsTrue (region q) → p ≢ q
-Spares region (Create p) = (q : Path) → IsTrue (region q) → p ≢ q
-Spares region (Append p piece) = Unit {0}
-Spares region (Sync p) = Unit {0}
-Spares region Settle = Unit {0}
-Spares region (Rename old new) = (q : Path) → IsTrue (region q) → (below new q ≡ None) × (below old q ≡ None)
-Spares region (RemoveFile p) = (q : Path) → IsTrue (region q) → p ≢ q
-Spares region (RemoveDir p) = (q : Path) → IsTrue (region q) → p ≢ q
-
--- two tables have the same in the region
-abbrev pub AlikeIn : (Path → Bool) → Table → Table → Type 0
-AlikeIn region t u = (q : Path) → IsTrue (region q) → t q ≡ u q
+use Rattle.folder_spec.specs.View.{found, view_of, AgreeIn}
+use Rattle.folder_spec.specs.Region.{Spares, AlikeIn, IsAsBefore, WritesOnlyNew}
+use Rattle.folder_spec.proofs.Tables.{put-other, moved-other, present_is_table, among-push}
 
 -- what a call leaves at all paths that it spares: each table afterwards has there what a table before had
 pub spared_tables : (region : Path → Bool) (s : State) (call : Call) → Spares region call → (t : Table) → IsTableOf (changed s call) t
@@ -59,25 +45,8 @@ spared_tables region s call spares t is_table = by_call call spares is_table
     by_call (RemoveFile p) apart h = new_table (put (present s) p Nothing) (λ q inside. put-other (present s) p Nothing q (apart q inside)) h
     by_call (RemoveDir p) apart h = new_table (put (present s) p Nothing) (λ q inside. put-other (present s) p Nothing q (apart q inside)) h
 
--- in the region s is as s0 was: each table has there what a table of s0 had, and the files of then are as they were
-pub record IsAsBefore (region : Path → Bool) (s0 s : State) : Type 0 where
-  pub tables : (t : Table) → IsTableOf s t → (u : Table) × IsTableOf s0 u × AlikeIn region t u
-  pub nodes : (n : ℕ) → n < s0.made → s.nodes n ≡ s0.nodes n
-  pub made : s0.made ≤ s.made
-
 pub as_before : (region : Path → Bool) (s : State) → IsAsBefore region s s
 as_before region s = record { tables = λ t h. (t, h, λ q inside. refl); nodes = λ n h. refl; made = omega arith }
-
--- the call writes no file of the first `made`
-abbrev pub WritesOnlyNew : ℕ → State → Call → Type 0
-WritesOnlyNew made s (Append p piece) = (n : ℕ) → present s p ≡ FileNode n → made ≤ n
-WritesOnlyNew made s (Sync p) = (n : ℕ) → present s p ≡ FileNode n → made ≤ n
-WritesOnlyNew made s (MakeDir p) = Unit {0}
-WritesOnlyNew made s (Create p) = Unit {0}
-WritesOnlyNew made s Settle = Unit {0}
-WritesOnlyNew made s (Rename old new) = Unit {0}
-WritesOnlyNew made s (RemoveFile p) = Unit {0}
-WritesOnlyNew made s (RemoveDir p) = Unit {0}
 
 pub put_node-other : (nodes : ℕ → Node) (n : ℕ) (node : Node) (k : ℕ) → n ≢ k → put_node nodes n node k ≡ nodes k
 put_node-other nodes n node k apart = rw (ne_eqb n k apart) refl

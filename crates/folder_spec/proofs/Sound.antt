@@ -1,11 +1,11 @@
 -- A change that is allowed keeps a state sound.
-use Rattle.std.proofs.Common.{◌≡◌, ◌≢◌, ℕ, suc, ◌+◌, ◌<◌, ◌≤◌, ◌⊎◌, Bool, true, false, List, [], ◌∷◌, ◌++◌, Option, Some, None, Result, Ok, Err, refl, sym, ap, ◌∙◌, subst, inl, inr, ⊎_elim, append_assoc, append-nil, length-append, length, arith, take, nat_eq, cond}
+use Rattle.std.proofs.Common.{◌≡◌, ◌≢◌, ℕ, suc, ◌<◌, ◌⊎◌, true, false, List, [], ◌∷◌, ◌++◌, Some, None, Result, Ok, Err, refl, sym, ap, ◌∙◌, subst, inl, inr, append_assoc, append-nil, length-append, length, arith, take, nat_eq, cond}
 use Rattle.folder_spec.specs.declared.FolderFault.{FolderFault}
 use Rattle.folder_spec.specs.declared.FolderFault.TheVariants.{Failed, Refused, NoMemory}
-use Rattle.folder_spec.specs.Path.{Part, Path, path_eq, below, parent, child}
-use Rattle.folder_spec.specs.State.{Spot, Nothing, Directory, FileNode, Odd, Table, Node, State, last_of, present, IsAmong, IsTableOf, put, moved, put_node, HasFile, BeginsWith, IsSoundTable, IsSound}
-use Rattle.folder_spec.specs.Event.{Call, MakeDir, Create, Append, Sync, Settle, Rename, RemoveFile, RemoveDir, Outcome, Done, Fell, Denied, Event, IsFree, AllowedIn, Allowed, with_table, with_file, grown, synced, empty_node, changed, fallen, Told, told_after, Steps}
-use Rattle.folder_spec.proofs.Paths.{one_or_not, begins_or_not, not_below, parent-child, child_of_parent, child-apart, child-not_base, below-above, child_begins, below-append}
+use Rattle.folder_spec.specs.Path.{Part, Path, below, parent, child}
+use Rattle.folder_spec.specs.State.{Spot, Nothing, Directory, FileNode, Odd, Table, Node, State, present, put, moved, HasFile, BeginsWith, IsSoundTable, IsSound}
+use Rattle.folder_spec.specs.Event.{Call, MakeDir, Create, Append, Sync, Settle, Rename, RemoveFile, RemoveDir, IsFree, Allowed, with_table, with_file, grown, synced, empty_node, changed, fallen, Told, Steps}
+use Rattle.folder_spec.proofs.Paths.{one_or_not, begins_or_not, not_below, parent-child, child-apart, below-above, child_begins, below-append}
 use Rattle.folder_spec.proofs.Tables.{put-same, put-other, moved-new, moved-old, moved-other, present_is_table, among-push}
 
 node-injective : (m n : ℕ) → FileNode m ≡ FileNode n → m ≡ n

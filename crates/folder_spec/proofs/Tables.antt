@@ -1,7 +1,7 @@
 -- What stands where after a change of a table, and which tables a state has.
-use Rattle.std.proofs.Common.{◌≡◌, ◌≢◌, ℕ, ◌⊎◌, Bool, true, false, List, [], ◌∷◌, ◌++◌, Option, Some, None, refl, sym, ap, ◌∙◌, subst, inl, inr, ⊎_elim}
-use Rattle.folder_spec.specs.Path.{Part, Path, path_eq, below, parent, child}
-use Rattle.folder_spec.specs.State.{Spot, Nothing, Directory, FileNode, Odd, Table, Node, State, last_of, present, IsAmong, IsTableOf, put, moved, moved_spot}
+use Rattle.std.proofs.Common.{◌≡◌, ◌≢◌, ◌⊎◌, List, [], ◌∷◌, ◌++◌, None, refl, inl, inr, ⊎_elim}
+use Rattle.folder_spec.specs.Path.{Path, below}
+use Rattle.folder_spec.specs.State.{Spot, Nothing, Table, State, last_of, present, IsAmong, IsTableOf, put, moved}
 use Rattle.folder_spec.proofs.Paths.{path_eq-same, path_eq-apart, below-append}
 
 pub put-same : (t : Table) (p : Path) (x : Spot) → put t p x p ≡ x

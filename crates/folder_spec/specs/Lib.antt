@@ -5,3 +5,4 @@ pub mod Image
 pub mod Moments
 pub mod View
 pub mod Listing
+pub mod Region

@@ -5,7 +5,7 @@ use Rattle.std.specs.Ordering.{nat_cmp}
 use Rattle.std.specs.declared.cmp.Ordering.TheVariants.{Less}
 use Rattle.folder_spec.specs.declared.Kind.{Kind}
 use Rattle.folder_spec.specs.declared.Kind.TheVariants.{Missing}
-use Rattle.folder_spec.specs.Path.{Part, Path, child}
+use Rattle.folder_spec.specs.Path.{Path, child}
 use Rattle.folder_spec.specs.State.{Table, kind_of}
 
 -- one entry: its name and what stands there

@@ -1,7 +1,7 @@
 -- What a reader of a region of paths finds, in a table, in a state and in an image.
 use Rattle.std.specs.Prelude.{◌≡◌, ℕ, Bool, List, IsTrue}
 use Rattle.folder_spec.specs.Path.{Path}
-use Rattle.folder_spec.specs.State.{Spot, Nothing, Directory, FileNode, Odd, Table, Node, State, IsTableOf, IsClean}
+use Rattle.folder_spec.specs.State.{Spot, Nothing, Directory, FileNode, Odd, Table, State, IsTableOf, IsClean}
 use Rattle.folder_spec.specs.Image.{Image}
 
 -- what a reader finds at a path

@@ -5,6 +5,8 @@
 //! file those that were synced, with any others after them.
 #![tactic(auto)]
 
+pub mod laws;
+
 /// What stands at a path.
 #[derive(Debug, Clone, Copy, PartialEq, Eq, Drop)]
 pub enum Kind {

@@ -1,10 +1,9 @@
 -- Paths as lists of strings.
-use Rattle.std.proofs.Common.{◌≡◌, ℕ, ◌+◌, ◌<◌, ◌≤◌, ◌-◌, suc, Bool, true, false, ◌&&◌, List, [], ◌∷◌, ◌++◌, map, length, take, drop, Option, Some, None, is_some, cond, refl, sym, ap, ◌∙◌, subst, string_bytes, String, Global, bytes_eq, arith, leb, add-one, take_all}
-use Rattle.std.proofs.lemmas.List.{take-map, length-map}
-use borrow.Author.Tests.{tests}
-use Rattle.std.proofs.Common.{rules}
+use Rattle.std.proofs.Common.{◌≡◌, ℕ, ◌<◌, ◌≤◌, ◌-◌, suc, true, false, ◌&&◌, List, [], ◌∷◌, ◌++◌, map, length, take, drop, Option, Some, None, is_some, cond, refl, sym, ap, ◌∙◌, string_bytes, String, Global, bytes_eq, arith, take-append-drop, slice_index_or}
+use Rattle.std.proofs.lemmas.List.{take-map, length-map, map-append}
 use Rattle.std.specs.String.{string_eq}
 use Rattle.std.specs.Cmp.Lexicographic.{pointwise}
+use Rattle.folder_spec.proofs.Paths.{path_eq-Decides, below-append}
 use Rattle.folder_spec.specs.Path.{Path, path_eq, below, parent}
 
 abbrev pub path_of : List (String Global) → Path
@@ -39,15 +38,52 @@ parent_take (a ∷ b ∷ p) =
     sub-one-suc : (n : ℕ) → suc n - 1 ≡ n
     sub-one-suc n = omega arith
 
-pub begins : (whole front : List (String Global)) (n : ℕ) → n ≡ length front
-    → pointwise (string_eq {Z = Global}) front (take n whole) ≡ is_some (below (path_of front) (path_of whole))
-begins whole front n e =
-    strings_eq front (take n whole)
-    ∙ ap (path_eq (path_of front)) (sym (take-map (λ s. string_bytes s) n whole) ∙ ap (λ k. take k (path_of whole)) (e ∙ sym (length-map front (λ s. string_bytes s))))
-    ∙ sym (below_take (path_of front) (path_of whole))
+-- the rest of a path that begins with these parts
+pub rest_is : (path front : List (String Global)) → length front ≤ length path → pointwise (string_eq {Z = Global}) front (take (length front) path) ≡ true
+    → below (path_of front) (path_of path) ≡ Some (path_of (drop (length front) path))
+rest_is path front fits same =
+    let fronts : path_of front ≡ path_of (take (length front) path) =
+    (path_eq-Decides (path_of front) (path_of (take (length front) path))).0 (sym (strings_eq front (take (length front) path)) ∙ same) in
+    let whole : path_of path ≡ path_of front ++ path_of (drop (length front) path) =
+    ap path_of (sym (take-append-drop (length front) path))
+    ∙ map-append (λ s. string_bytes s) (take (length front) path) (drop (length front) path)
+    ∙ ap (λ p. p ++ path_of (drop (length front) path)) (sym fronts) in
+    ap (below (path_of front)) whole ∙ below-append (path_of front) (path_of (drop (length front) path))
 
-pub begins_not : (whole front : List (String Global)) (n m : ℕ) → n ≡ length front → m ≡ length whole → m < n
-    → leb n m ≡ is_some (below (path_of front) (path_of whole))
-begins_not whole front n m e k less =
-    search (tests, rules) ∙ sym (below_longer (path_of front) (path_of whole)
-    (omega (arith, e, k, less, length-map front (λ s. string_bytes s), length-map whole (λ s. string_bytes s))))
+pub rest_is_not : (path front : List (String Global)) → length front ≤ length path → pointwise (string_eq {Z = Global}) front (take (length front) path) ≡ false
+    → below (path_of front) (path_of path) ≡ None
+rest_is_not path front fits other =
+    none_of (below (path_of front) (path_of path))
+    (below_take (path_of front) (path_of path)
+    ∙ ap (λ n. path_eq (path_of front) (take n (path_of path))) (length-map front (λ s. string_bytes s))
+    ∙ ap (path_eq (path_of front)) (take-map (λ s. string_bytes s) (length front) path)
+    ∙ sym (strings_eq front (take (length front) path)) ∙ other)
+  where
+    none_of : (o : Option Path) → is_some o ≡ false → o ≡ None
+    none_of None e = refl
+    none_of (Some p) e = cc
+
+pub rest_is_none : (path front : List (String Global)) → length path < length front → below (path_of front) (path_of path) ≡ None
+rest_is_none path front less =
+    none_of (below (path_of front) (path_of path))
+    (below_longer (path_of front) (path_of path) (omega (arith, less, length-map front (λ s. string_bytes s), length-map path (λ s. string_bytes s))))
+  where
+    none_of : (o : Option Path) → is_some o ≡ false → o ≡ None
+    none_of None e = refl
+    none_of (Some p) e = cc
+
+-- a list of one string
+pub one_string : (xs : List (String Global)) (s : String Global) → length xs ≡ 1 → s ≡ slice_index_or xs 0 s → path_of xs ≡ string_bytes s ∷ []
+one_string [] s one is = absurd (omega (arith, one))
+one_string (x ∷ []) s one is = ap (λ y. string_bytes y ∷ []) (sym is)
+one_string (x ∷ y ∷ xs) s one is = absurd (omega (arith, one))
+
+-- where the rest is not one string, the path is no entry there
+pub no_entry : (at path : Path) (rest : List (String Global)) → (length rest ≡ 1 → ⊥) → below at path ≡ Some (path_of rest) → (a : List ℕ) → path ≡ at ++ a ∷ [] → ⊥
+no_entry at path rest more is a e =
+    let one : below at (at ++ a ∷ []) ≡ Some (a ∷ []) = below-append at (a ∷ []) in
+    let is_one : path_of rest ≡ a ∷ [] = some-injective (path_of rest) (a ∷ []) (sym is ∙ ap (below at) e ∙ one) in
+    more (sym (length-map rest (λ s. string_bytes s)) ∙ ap length is_one)
+  where
+    some-injective : (x y : Path) → Some x ≡ Some y → x ≡ y
+    some-injective x y e = cc

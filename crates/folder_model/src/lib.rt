@@ -1,10 +1,12 @@
 //! Folders as a trait, whose contract says what each call changes, how it can end and what a crash
-//! leaves, and a folder in memory that can fail and crash.
+//! leaves, and the paths in them.
 #![tactic(auto)]
 
 pub mod entry;
 pub mod folder;
 pub mod path;
+#[cfg(test)]
+mod tests;
 
 pub use entry::Entry;
 pub use folder::Folder;

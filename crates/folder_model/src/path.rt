@@ -1,7 +1,8 @@
 //! Folder paths.
-ghost use Rattle.std.specs.Prelude.{◌≡◌, ◌+◌, ◌<◌, ◌≤◌, [], ◌++◌, ◌∷◌, map, length, vec_len, string_bytes, is_some, IfOk, IsTrue, IsFalse, slice_index_or};
+ghost use Rattle.std.specs.Prelude.{◌≡◌, ◌+◌, ◌<◌, ◌≤◌, [], ◌++◌, ◌∷◌, map, length, vec_len, string_bytes, Some, None, is_some, IfOk, OnOk, MatchOption, ◌≢◌, IsTrue, IsFalse, slice_index_or};
 ghost use Rattle.std.specs.List.{list_all};
-ghost use Rattle.folder_spec.specs.Path.{path_eq, below, parent, child};
+ghost use Rattle.std.specs.Option.{option_map};
+ghost use Rattle.folder_spec.specs.Path.{Part, path_eq, below, parent, child};
 ghost use Rattle.folder_model.specs.Text.{is_plain_byte, is_plain_part, is_path_text, parts_of};
 
 use std::alloc::{AllocError, Global};
@@ -65,13 +66,20 @@ fn is_text(text: &str) -> bool
     !text.is_empty() && text.len() <= 1024 && has_plain_bytes(text) && has_plain_parts(text)
 }
 
+fn push_parts(alloc: Global, parts: &mut Vec<String>, more: &[String]) -> Result<(), AllocError>
+    ensures { OnOk result (map (λ s. string_bytes s) parts.new.items ≡ map (λ s. string_bytes s) parts.old.items ++ map (λ s. string_bytes s) more.now) }
+{
+    for part in more {
+        parts.push(String::from_str(alloc, part.as_str())?)?;
+    }
+    Ok(())
+}
+
 fn copy_parts(alloc: Global, parts: &[String]) -> Result<Vec<String>, AllocError>
     ensures { IfOk result (λ v. map (λ s. string_bytes s) v.items ≡ map (λ s. string_bytes s) parts.now) }
 {
     let mut copied = Vec::new(alloc);
-    for part in parts {
-        copied.push(String::from_str(alloc, part.as_str())?)?;
-    }
+    push_parts(alloc, &mut copied, parts)?;
     Ok(copied)
 }
 
@@ -83,6 +91,21 @@ fn split_parts(alloc: Global, text: &str) -> Result<Vec<String>, AllocError>
         parts.push(String::from_str(alloc, part)?)?;
     }
     Ok(parts)
+}
+
+// What of the path comes after `front`, if it begins with it.
+fn rest_after<'a>(path: &'a [String], front: &[String]) -> Option<&'a [String]>
+    ensures { MatchOption result (below (map (λ s. string_bytes s) front.now) (map (λ s. string_bytes s) path.now) ≡ None) (λ rest. below (map (λ s. string_bytes s) front.now) (map (λ s. string_bytes s) path.now) ≡ Some (map (λ s. string_bytes s) rest.now)) }
+{
+    let depth = front.len();
+    if depth > path.len() {
+        return None;
+    }
+    if front == &path[..depth] {
+        Some(&path[depth..])
+    } else {
+        None
+    }
 }
 
 impl FPath {
@@ -145,8 +168,7 @@ impl FPath {
     pub fn starts_with(&self, other: &FPath) -> bool
         ensures { result ≡ is_some (below other.now self.now) }
     {
-        let depth = other.parts.len();
-        depth <= self.parts.len() && other.parts.as_slice() == &self.parts[..depth]
+        rest_after(self.parts.as_slice(), other.parts.as_slice()).is_some()
     }
 
     /// The path one part further down.
@@ -173,5 +195,29 @@ impl FPath {
     {
         let parts = copy_parts(*self.parts.allocator(), self.parts.as_slice())?;
         Ok(FPath { parts })
+    }
+
+    /// If the path is `from` or lies below it: the path with `to` in the place of `from`.
+    pub(crate) fn rebased(&self, from: &FPath, to: &FPath) -> Result<Option<FPath>, AllocError>
+        ensures { IfOk result (λ r. r ≡ option_map (λ rest. to.now ++ rest) (below from.now self.now)) }
+    {
+        let Some(rest) = rest_after(self.parts.as_slice(), from.parts.as_slice()) else {
+            return Ok(None);
+        };
+        let alloc = *self.parts.allocator();
+        let mut parts = copy_parts(alloc, to.parts.as_slice())?;
+        push_parts(alloc, &mut parts, rest)?;
+        Ok(Some(FPath { parts }))
+    }
+
+    /// The name of the entry of `at` that the path is.
+    pub(crate) fn entry_of(&self, at: &FPath) -> Option<&str>
+        ensures { MatchOption result ((a : Part) → self.now ≢ child at.now a) (λ name. self.now ≡ child at.now name.now) }
+    {
+        let rest = rest_after(self.parts.as_slice(), at.parts.as_slice())?;
+        if rest.len() != 1 {
+            return None;
+        }
+        Some(rest[0].as_str())
     }
 }

@@ -1,0 +1,4 @@
+pub mod Strings
+pub mod StepLemmas
+pub mod States
+pub mod Entries

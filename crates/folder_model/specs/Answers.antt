@@ -1,0 +1,43 @@
+-- How the calls of a folder answer.
+use Rattle.std.specs.Prelude.{◌≡◌, ◌≢◌, ℕ, ◌<◌, ◌≤◌, ◌-◌, ◌+◌, ◌^◌, ◌⊎◌, List, [], ◌++◌, take, drop, length, min, Option, Some, None, Result, Ok, Err}
+use Rattle.folder_spec.specs.declared.FolderFault.{FolderFault}
+use Rattle.folder_spec.specs.declared.FolderFault.TheVariants.{Failed, Refused, NoMemory}
+use Rattle.folder_spec.specs.Path.{Path}
+use Rattle.folder_spec.specs.declared.Spot.TheVariants.{FileNode}
+use Rattle.folder_spec.specs.State.{State, present}
+use Rattle.folder_spec.specs.Event.{Told}
+
+-- the count of faults rose in a call, or stands at its end
+abbrev pub IsRisen : ℕ → ℕ → Type 0
+IsRisen before after = (before < after) ⊎ (after ≡ 2 ^ 64 - 1)
+
+-- By its answer, when a call raises the count of faults: `Failed` comes only where it rose. `Refused` comes only so from a
+-- folder that tells nothing. Nothing else raises the count of one that tells its state.
+abbrev pub Counts : {T : Type 0} → Option Told → ℕ → ℕ → Result T FolderFault → Type 0
+Counts told before after (Err Failed) = (before ≤ after) × IsRisen before after
+Counts (Some a) before after (Ok value) = after ≡ before
+Counts (Some a) before after (Err Refused) = after ≡ before
+Counts (Some a) before after (Err NoMemory) = after ≡ before
+Counts None before after (Ok value) = before ≤ after
+Counts None before after (Err Refused) = (before ≤ after) × IsRisen before after
+Counts None before after (Err NoMemory) = before ≤ after
+
+-- what a call that changes nothing answers, if the folder tells its state: by its condition, and by what it is to answer
+abbrev pub Answers : {T : Type 0} → Option Told → (State → Type 0) → (State → T → Type 0) → Result T FolderFault → Type 0
+Answers None Condition IsRight result = Unit {0}
+Answers (Some a) Condition IsRight (Ok value) = Condition a.state × IsRight a.state value
+Answers (Some a) Condition IsRight (Err Failed) = Condition a.state
+Answers (Some a) Condition IsRight (Err Refused) = ¬ Condition a.state
+Answers (Some a) Condition IsRight (Err NoMemory) = Unit {0}
+
+-- n bytes of the file at the path, from start on, are read into the front of out: as many as there are and fit
+abbrev pub Reads : State → Path → ℕ → List ℕ → List ℕ → ℕ → Type 0
+Reads s at start old new n = (node : ℕ) × (present s at ≡ FileNode node)
+    × (n ≡ min (length old) (length (s.nodes node).now - start)) × (new ≡ take n (drop start (s.nodes node).now) ++ drop n old)
+
+-- a call that did not get to work left it alone
+abbrev pub KeepsUnlessRun : {T : Type 0} → Result T FolderFault → Type 0 → Type 0
+KeepsUnlessRun (Ok value) P = Unit {0}
+KeepsUnlessRun (Err Failed) P = Unit {0}
+KeepsUnlessRun (Err Refused) P = P
+KeepsUnlessRun (Err NoMemory) P = P

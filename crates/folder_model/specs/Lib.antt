@@ -1,0 +1,8 @@
+pub mod Text
+pub mod Answers
+pub mod Nodes
+pub mod Steps
+pub mod Calls
+pub mod Memory
+pub mod Entries
+pub mod Sound

@@ -1,0 +1,391 @@
+//! A folder in memory, which can be made to fail.
+mod answers;
+pub mod call;
+pub mod list;
+pub mod node;
+pub mod step;
+
+ghost use Rattle.std.specs.Prelude.{◌≤◌, length};
+ghost use Rattle.folder_model.specs.Nodes.{KeepsFronts};
+ghost use Rattle.folder_model.specs.Steps.{AreSoundTables};
+
+use crate::entry::Entry;
+use crate::path::FPath;
+use call::{Call, Logged, Outcome};
+use folder_spec::{FolderFault, Kind, Spot};
+use list::{add_spot, kind_at};
+use node::{FileBytes, read_from};
+use std::alloc::{AllocError, Global};
+use step::{Step, look, names};
+
+/// A folder in memory. It tells its state and its log.
+///
+/// It keeps its tables as the steps that made them, and how many of these are kept.
+#[derive(Debug, Drop)]
+pub struct MemFolder {
+    alloc: Global,
+    nodes: Vec<FileBytes>,
+    steps: Vec<Step>,
+    kept: usize,
+    log: Vec<Logged>,
+    calls: u64,
+    fails: Vec<u64>,
+    faults: u64,
+    ghost within: { kept ≤ length steps.items },
+    ghost fronts: { KeepsFronts nodes.items },
+    ghost sound: { AreSoundTables (length nodes.items) steps.items kept },
+}
+
+impl MemFolder {
+    ghost use Rattle.std.specs.Prelude.{◌≡◌, ◌↔◌, ◌+◌, ◌++◌, Some, vec_len, vec_capacity, IfOk, OnOk, OnErr, IsTrue, [], ◌∷◌};
+    ghost use Rattle.folder_spec.specs.State.{present, kind_of, HasFile, IsSound};
+    ghost use Rattle.folder_spec.specs.Event.{IsFree, IsEmptyDir, Allowed, AllowedIn, with_table, changed, Create, Settle, Append, Sync, Rename, RemoveDir, Steps};
+    ghost use Rattle.folder_spec.specs.declared.Spot.TheVariants.{Directory};
+    ghost use Rattle.folder_spec.specs.Listing.{IsListing};
+    ghost use Rattle.folder_model.specs.Answers.{Answers, Counts, IsRisen, Reads};
+    ghost use Rattle.folder_model.specs.Calls.{call_of, outcome_of};
+    ghost use Rattle.folder_model.specs.Steps.{step_table};
+    ghost use Rattle.folder_model.specs.Memory.{state_of, told_of, new_told, KeepsRest};
+
+    fn spot(&self, at: &FPath) -> Result<Spot, AllocError>
+        ensures { IfOk result (λ spot. spot ≡ present (state_of self.now) at.now) }
+    {
+        look(self.steps.as_slice(), at)
+    }
+
+    fn push_step(&mut self, step: Step) -> Result<(), AllocError>
+        requires { IsSound (with_table (state_of self.old) (step_table (present (state_of self.old)) step)) }
+        ensures ok { OnOk result (state_of self.new ≡ with_table (state_of self.old) (step_table (present (state_of self.old)) step)) }
+        ensures err { OnErr result (state_of self.new ≡ state_of self.old) }
+        ensures rest { KeepsRest self.old self.new }
+    {
+        self.steps.push(step)?;
+        Ok(())
+    }
+
+    fn create_file(&mut self, at: FPath) -> Result<(), AllocError>
+        requires { IsFree (present (state_of self.old)) at }
+        ensures ok { OnOk result (state_of self.new ≡ changed (state_of self.old) (Create at)) }
+        ensures err { OnErr result (state_of self.new ≡ state_of self.old) }
+        ensures rest { KeepsRest self.old self.new }
+    {
+        let step = Step::Put(at, Spot::FileNode(self.nodes.len()));
+        self.steps.reserve(1)?;
+        self.nodes.reserve(1)?;
+        let _ = self.nodes.push(FileBytes::new(self.alloc));
+        let _ = self.steps.push(step);
+        Ok(())
+    }
+
+    fn settle_all(&mut self)
+        ensures state { state_of self.new ≡ changed (state_of self.old) Settle }
+        ensures rest { KeepsRest self.old self.new }
+    {
+        self.kept = self.steps.len();
+    }
+
+    fn grow_file(&mut self, at: &FPath, piece: &[u8]) -> Result<(), AllocError>
+        requires { HasFile (present (state_of self.old)) at.now }
+        ensures ok { OnOk result (state_of self.new ≡ changed (state_of self.old) (Append at.now piece.now)) }
+        ensures err { OnErr result (state_of self.new ≡ state_of self.old) }
+        ensures rest { KeepsRest self.old self.new }
+    {
+        match self.spot(at)? {
+            Spot::FileNode(number) => {
+                let node = &mut self.nodes[number];
+                node.grow(piece)
+            }
+            _ => Ok(()),
+        }
+    }
+
+    fn sync_file(&mut self, at: &FPath) -> Result<(), AllocError>
+        requires { HasFile (present (state_of self.old)) at.now }
+        ensures ok { OnOk result (state_of self.new ≡ changed (state_of self.old) (Sync at.now)) }
+        ensures err { OnErr result (state_of self.new ≡ state_of self.old) }
+        ensures rest { KeepsRest self.old self.new }
+    {
+        match self.spot(at)? {
+            Spot::FileNode(number) => {
+                let node = &mut self.nodes[number];
+                node.sync();
+                Ok(())
+            }
+            _ => Ok(()),
+        }
+    }
+
+    fn is_file(&self, at: &FPath) -> Result<bool, AllocError>
+        ensures { IfOk result (λ is. IsTrue is ↔ HasFile (present (state_of self.now)) at.now) }
+    {
+        match self.spot(at)? {
+            Spot::FileNode(_) => Ok(true),
+            _ => Ok(false),
+        }
+    }
+
+    fn is_free(&self, at: &FPath) -> Result<bool, AllocError>
+        ensures { IfOk result (λ is. IsTrue is ↔ IsFree (present (state_of self.now)) at.now) }
+    {
+        let above = self.spot(&at.parent()?)?;
+        match self.spot(at)? {
+            Spot::Nothing => match above {
+                Spot::Directory => Ok(true),
+                _ => Ok(false),
+            },
+            _ => Ok(false),
+        }
+    }
+
+    fn may_rename(&self, old: &FPath, new: &FPath) -> Result<bool, AllocError>
+        ensures { IfOk result (λ is. IsTrue is ↔ AllowedIn (present (state_of self.now)) (Rename old.now new.now)) }
+    {
+        if old.depth() == 0 {
+            return Ok(false);
+        }
+        if new.starts_with(old) {
+            return Ok(false);
+        }
+        match self.spot(old)? {
+            Spot::Nothing => return Ok(false),
+            _ => {}
+        }
+        if self.is_free(new)? {
+            return Ok(true);
+        }
+        if !self.is_file(old)? {
+            return Ok(false);
+        }
+        self.is_file(new)
+    }
+
+    // Does a call that is allowed. Of a call that wants memory nothing is done.
+    fn apply(&mut self, call: &Call) -> Result<(), AllocError>
+        requires { Allowed (state_of self.old) (call_of call.now) }
+        ensures ok { OnOk result (state_of self.new ≡ changed (state_of self.old) (call_of call.now)) }
+        ensures err { OnErr result (state_of self.new ≡ state_of self.old) }
+        ensures rest { KeepsRest self.old self.new }
+    {
+        match call {
+            Call::MakeDir(at) => {
+                let step = Step::Put(at.copy()?, Spot::Directory);
+                self.push_step(step)
+            }
+            Call::Create(at) => {
+                let at = at.copy()?;
+                self.create_file(at)
+            }
+            Call::Append(at, piece) => self.grow_file(at, piece.as_slice()),
+            Call::Sync(at) => self.sync_file(at),
+            Call::Settle => {
+                self.settle_all();
+                Ok(())
+            }
+            Call::Rename(old, new) => {
+                let step = Step::Move(old.copy()?, new.copy()?);
+                self.push_step(step)
+            }
+            Call::RemoveFile(at) => {
+                let step = Step::Put(at.copy()?, Spot::Nothing);
+                self.push_step(step)
+            }
+            Call::RemoveDir(at) => {
+                let step = Step::Put(at.copy()?, Spot::Nothing);
+                self.push_step(step)
+            }
+        }
+    }
+
+    // Counts a call, and says whether it is to fail.
+    fn is_due(&mut self) -> bool
+        ensures told { told_of self.new ≡ told_of self.old }
+        ensures state { state_of self.new ≡ state_of self.old }
+        ensures rest { KeepsRest self.old self.new }
+    {
+        self.calls = self.calls.saturating_add(1);
+        self.fails.contains(&self.calls)
+    }
+
+    // Whether the call's condition holds.
+    fn allows(&self, call: &Call) -> Result<bool, AllocError>
+        ensures { IfOk result (λ is. IsTrue is ↔ Allowed (state_of self.now) (call_of call.now)) }
+    {
+        match call {
+            Call::MakeDir(at) => self.is_free(at),
+            Call::Create(at) => self.is_free(at),
+            Call::Append(at, _) => self.is_file(at),
+            Call::Sync(at) => self.is_file(at),
+            Call::Settle => Ok(true),
+            Call::Rename(old, new) => self.may_rename(old, new),
+            Call::RemoveFile(at) => self.is_file(at),
+            Call::RemoveDir(at) => self.may_remove_dir(at),
+        }
+    }
+
+    // Logs a call, for which there is room.
+    fn note(&mut self, call: Call, outcome: Outcome)
+        requires { vec_len self.old.log + 1 ≤ vec_capacity self.old.log }
+        ensures log { (told_of self.new).log ≡ (told_of self.old).log ++ record { call = call_of call; outcome = outcome_of outcome } ∷ [] }
+        ensures state { state_of self.new ≡ state_of self.old }
+        ensures faults { self.new.faults ≡ self.old.faults }
+    {
+        let _ = self.log.push(Logged { call, outcome });
+    }
+
+    fn count_fault(&mut self)
+        ensures risen { (self.old.faults ≤ self.new.faults) × IsRisen self.old.faults self.new.faults }
+        ensures told { told_of self.new ≡ told_of self.old }
+        ensures log { self.new.log ≡ self.old.log }
+        ensures state { state_of self.new ≡ state_of self.old }
+    {
+        self.faults = self.faults.saturating_add(1);
+    }
+
+    // Answers a call that changes the folder.
+    fn run(&mut self, call: Call) -> Result<(), FolderFault>
+        ensures changes { Steps (call_of call) (told_of self.old) (told_of self.new) result }
+        ensures counts { Counts (Some (told_of self.old)) self.old.faults self.new.faults result }
+    {
+        let due = self.is_due();
+        if self.log.reserve(1).is_err() {
+            return Err(FolderFault::NoMemory);
+        }
+        let Ok(allowed) = self.allows(&call) else {
+            return Err(FolderFault::NoMemory);
+        };
+        if !allowed {
+            self.note(call, Outcome::Refused);
+            return Err(FolderFault::Refused);
+        }
+        if due {
+            self.count_fault();
+            self.note(call, Outcome::Failed(0));
+            return Err(FolderFault::Failed);
+        }
+        if self.apply(&call).is_err() {
+            return Err(FolderFault::NoMemory);
+        }
+        self.note(call, Outcome::Done);
+        Ok(())
+    }
+
+    fn may_remove_dir(&self, at: &FPath) -> Result<bool, AllocError>
+        ensures { IfOk result (λ is. IsTrue is ↔ AllowedIn (present (state_of self.now)) (RemoveDir at.now)) }
+    {
+        if at.depth() == 0 {
+            return Ok(false);
+        }
+        match self.spot(at)? {
+            Spot::Directory => {}
+            _ => return Ok(false),
+        }
+        let found = names(self.alloc, self.steps.as_slice(), at)?;
+        for name in &found {
+            match self.spot(&at.child(name.as_str())?)? {
+                Spot::Nothing => {}
+                _ => return Ok(false),
+            }
+        }
+        Ok(true)
+    }
+
+    // The entries of the directory, in order.
+    fn entries(&self, at: &FPath) -> Result<Vec<Entry>, AllocError>
+        ensures { IfOk result (λ entries. IsListing (present (state_of self.now)) at.now entries.items) }
+    {
+        let found = names(self.alloc, self.steps.as_slice(), at)?;
+        let mut entries = Vec::new(self.alloc);
+        for name in &found {
+            let spot = self.spot(&at.child(name.as_str())?)?;
+            add_spot(self.alloc, &mut entries, name.as_str(), spot)?;
+        }
+        Ok(entries)
+    }
+
+    /// An empty folder, with an empty log and no faults.
+    pub fn new(alloc: Global) -> Result<MemFolder, AllocError>
+        ensures told { IfOk result (λ m. told_of m ≡ new_told) }
+        ensures faults { IfOk result (λ m. m.faults ≡ 0) }
+    {
+        Ok(MemFolder {
+            alloc,
+            nodes: Vec::new(alloc),
+            steps: Vec::new(alloc),
+            kept: 0,
+            log: Vec::new(alloc),
+            calls: 0,
+            fails: Vec::new(alloc),
+            faults: 0,
+        })
+    }
+
+    /// Lets a later call fail, by its number from 1 on over all calls from now on.
+    pub fn fail_at(&mut self, call: u64) -> Result<(), AllocError>
+        ensures told { told_of self.new ≡ told_of self.old }
+    {
+        self.fails.push(self.calls.saturating_add(call))?;
+        Ok(())
+    }
+
+    fn kind_now(&mut self, at: &FPath) -> Result<Kind, FolderFault>
+        ensures told { told_of self.new ≡ told_of self.old }
+        ensures answer { Answers (Some (told_of self.old)) (λ s. Unit {0}) (λ s kind. kind ≡ kind_of (present s at.now)) result }
+        ensures counts { Counts (Some (told_of self.old)) self.old.faults self.new.faults result }
+    {
+        let due = self.is_due();
+        let Ok(spot) = self.spot(at) else {
+            return Err(FolderFault::NoMemory);
+        };
+        if due {
+            self.count_fault();
+            return Err(FolderFault::Failed);
+        }
+        Ok(kind_at(spot))
+    }
+
+    fn list_now(&mut self, at: &FPath) -> Result<Vec<Entry>, FolderFault>
+        ensures told { told_of self.new ≡ told_of self.old }
+        ensures answer { Answers (Some (told_of self.old)) (λ s. present s at.now ≡ Directory) (λ s entries. IsListing (present s) at.now entries.items) result }
+        ensures counts { Counts (Some (told_of self.old)) self.old.faults self.new.faults result }
+    {
+        let due = self.is_due();
+        let Ok(spot) = self.spot(at) else {
+            return Err(FolderFault::NoMemory);
+        };
+        match spot {
+            Spot::Directory => {}
+            _ => return Err(FolderFault::Refused),
+        }
+        if due {
+            self.count_fault();
+            return Err(FolderFault::Failed);
+        }
+        match self.entries(at) {
+            Ok(entries) => Ok(entries),
+            Err(_) => Err(FolderFault::NoMemory),
+        }
+    }
+
+    fn read_now(&mut self, at: &FPath, start: u64, out: &mut [u8]) -> Result<usize, FolderFault>
+        ensures told { told_of self.new ≡ told_of self.old }
+        ensures answer { Answers (Some (told_of self.old)) (λ s. HasFile (present s) at.now) (λ s n. Reads s at.now start out.old out.new n) result }
+        ensures unread { OnErr result (out.new ≡ out.old) }
+        ensures counts { Counts (Some (told_of self.old)) self.old.faults self.new.faults result }
+    {
+        let due = self.is_due();
+        let Ok(spot) = self.spot(at) else {
+            return Err(FolderFault::NoMemory);
+        };
+        match spot {
+            Spot::FileNode(number) => {
+                if due {
+                    self.count_fault();
+                    return Err(FolderFault::Failed);
+                }
+                let node = &self.nodes[number];
+                Ok(read_from(node.bytes(), start, out))
+            }
+            _ => Err(FolderFault::Refused),
+        }
+    }
+}

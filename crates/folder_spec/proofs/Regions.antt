@@ -1,0 +1,135 @@
+-- A region of paths that calls leave as it was, and one path there that gets a new file.
+use Rattle.std.proofs.Common.{◌≡◌, ◌≢◌, ℕ, ◌<◌, ◌≤◌, Bool, true, false, List, refl, ap, ◌∙◌, subst, inl, inr, arith, cond, ne_eqb, nat_lt, ltb-true, lt-ltb}
+use Rattle.folder_spec.specs.Path.{Path}
+use Rattle.folder_spec.specs.State.{Spot, Nothing, Directory, FileNode, Odd, Table, Node, State, present, IsTableOf, put, moved, put_node, IsSoundTable, IsSound}
+use Rattle.folder_spec.specs.Event.{Call, MakeDir, Create, Append, Sync, Settle, Rename, RemoveFile, RemoveDir, with_table, with_file, grown, synced, empty_node, changed}
+use Rattle.folder_spec.specs.Image.{Image, IsLeftOf, IsImage}
+use Rattle.folder_spec.specs.View.{found, view_of, AgreeIn}
+use Rattle.folder_spec.specs.Region.{Spares, AlikeIn, IsAsBefore, WritesOnlyNew}
+use Rattle.folder_spec.proofs.Tables.{put-other, moved-other, present_is_table, among-push}
+
+-- what a call leaves at all paths that it spares: each table afterwards has there what a table before had
+pub spared_tables : (region : Path → Bool) (s : State) (call : Call) → Spares region call → (t : Table) → IsTableOf (changed s call) t
+    → (u : Table) × IsTableOf s u × AlikeIn region t u
+spared_tables region s call spares t is_table = by_call call spares is_table
+  where
+    same : IsTableOf s t → (u : Table) × IsTableOf s u × AlikeIn region t u
+    same h = (t, h, λ q inside. refl)
+
+    new_table : (v : Table) → AlikeIn region v (present s) → IsTableOf (with_table s v) t → (u : Table) × IsTableOf s u × AlikeIn region t u
+    new_table v alike h = elim h as (λ _. (u : Table) × IsTableOf s u × AlikeIn region t u) [
+      | inl e ↦ same (inl e)
+      | inr more ↦ elim (among-push t v s.later more) as (λ _. (u : Table) × IsTableOf s u × AlikeIn region t u) [
+        | inl old ↦ same (inr old)
+        | inr e ↦ (present s, present_is_table s, λ q inside. ap (λ w. w q) e ∙ alike q inside)
+      ]
+    ]
+
+    file_changed : (x : Spot) (change : Node → Node) → IsTableOf (with_file s x change) t → (u : Table) × IsTableOf s u × AlikeIn region t u
+    file_changed Nothing change h = same h
+    file_changed Directory change h = same h
+    file_changed Odd change h = same h
+    file_changed (FileNode n) change h = same h
+
+    by_call : (call : Call) → Spares region call → IsTableOf (changed s call) t → (u : Table) × IsTableOf s u × AlikeIn region t u
+    by_call (MakeDir p) apart h = new_table (put (present s) p Directory) (λ q inside. put-other (present s) p Directory q (apart q inside)) h
+    by_call (Create p) apart h = new_table (put (present s) p (FileNode s.made)) (λ q inside. put-other (present s) p (FileNode s.made) q (apart q inside)) h
+    by_call (Append p piece) apart h = file_changed (present s p) (grown piece) h
+    by_call (Sync p) apart h = file_changed (present s p) synced h
+    by_call Settle apart h = elim h as (λ _. (u : Table) × IsTableOf s u × AlikeIn region t u) [
+      | inl e ↦ (present s, present_is_table s, λ q inside. ap (λ w. w q) e)
+      | inr none ↦ absurd none
+    ]
+    by_call (Rename old new) apart h =
+        new_table (moved (present s) old new) (λ q inside. moved-other (present s) old new q (apart q inside).0 (apart q inside).1) h
+    by_call (RemoveFile p) apart h = new_table (put (present s) p Nothing) (λ q inside. put-other (present s) p Nothing q (apart q inside)) h
+    by_call (RemoveDir p) apart h = new_table (put (present s) p Nothing) (λ q inside. put-other (present s) p Nothing q (apart q inside)) h
+
+pub as_before : (region : Path → Bool) (s : State) → IsAsBefore region s s
+as_before region s = record { tables = λ t h. (t, h, λ q inside. refl); nodes = λ n h. refl; made = omega arith }
+
+pub put_node-other : (nodes : ℕ → Node) (n : ℕ) (node : Node) (k : ℕ) → n ≢ k → put_node nodes n node k ≡ nodes k
+put_node-other nodes n node k apart = rw (ne_eqb n k apart) refl
+
+file_stays : (s : State) (made : ℕ) (x : Spot) (change : Node → Node) → ((n : ℕ) → x ≡ FileNode n → made ≤ n)
+    → (n : ℕ) → n < made → (with_file s x change).nodes n ≡ s.nodes n
+file_stays s made Nothing change new n old = refl
+file_stays s made Directory change new n old = refl
+file_stays s made Odd change new n old = refl
+file_stays s made (FileNode k) change new n old =
+    put_node-other s.nodes k (change (s.nodes k)) n (λ e. let le : made ≤ k = new k refl in omega (arith, e, old, le))
+
+file_made : (s : State) (x : Spot) (change : Node → Node) → s.made ≤ (with_file s x change).made
+file_made s Nothing change = omega arith
+file_made s Directory change = omega arith
+file_made s Odd change = omega arith
+file_made s (FileNode n) change = omega arith
+
+made_grows : (s : State) (call : Call) → s.made ≤ (changed s call).made
+made_grows s (MakeDir p) = omega arith
+made_grows s (Create p) = omega arith
+made_grows s (Append p piece) = file_made s (present s p) (grown piece)
+made_grows s (Sync p) = file_made s (present s p) synced
+made_grows s Settle = omega arith
+made_grows s (Rename old new) = omega arith
+made_grows s (RemoveFile p) = omega arith
+made_grows s (RemoveDir p) = omega arith
+
+-- the files of then stay
+pub old_nodes_stay : (s : State) (call : Call) (made : ℕ) → made ≤ s.made → WritesOnlyNew made s call → (n : ℕ) → n < made → (changed s call).nodes n ≡ s.nodes n
+old_nodes_stay s (MakeDir p) made le new n old = refl
+old_nodes_stay s (Create p) made le new n old = put_node-other s.nodes s.made empty_node n (λ e. omega (arith, e, old, le))
+old_nodes_stay s (Append p piece) made le new n old = file_stays s made (present s p) (grown piece) new n old
+old_nodes_stay s (Sync p) made le new n old = file_stays s made (present s p) synced new n old
+old_nodes_stay s Settle made le new n old = refl
+old_nodes_stay s (Rename a b) made le new n old = refl
+old_nodes_stay s (RemoveFile p) made le new n old = refl
+old_nodes_stay s (RemoveDir p) made le new n old = refl
+
+-- a call that spares the region, and writes new files alone, leaves it as it was
+pub as_before_on : (region : Path → Bool) (s0 s : State) (call : Call) → Spares region call → WritesOnlyNew s0.made s call → IsAsBefore region s0 s
+    → IsAsBefore region s0 (changed s call)
+as_before_on region s0 s call spares new so_far = record {
+  tables = λ t is_table.
+      let mid : (u : Table) × IsTableOf s u × AlikeIn region t u = spared_tables region s call spares t is_table in
+      let first : (v : Table) × IsTableOf s0 v × AlikeIn region mid.0 v = so_far.tables mid.0 mid.1 in
+      (first.0, first.1, λ q inside. mid.2 q inside ∙ first.2 q inside);
+  nodes = λ n old. old_nodes_stay s call s0.made so_far.made new n old ∙ so_far.nodes n old;
+  made = omega (arith, so_far.made, made_grows s call);
+}
+
+-- the image of s0 with this table and, of the files of then, these bytes
+abbrev pub image_before : State → Table → (ℕ → List ℕ) → Image
+image_before s0 u bytes = record { table = u; bytes = λ n. cond (nat_lt n s0.made) (bytes n) (s0.nodes n).now; made = s0.made }
+
+pub image_before_is : (s0 s : State) (u : Table) (image : Image) → IsSound s0 → IsTableOf s0 u → ((n : ℕ) → n < s0.made → s.nodes n ≡ s0.nodes n)
+    → IsImage s image → IsImage s0 (image_before s0 u image.bytes)
+image_before_is s0 s u image sound is_table stay is_image = record {
+  table = is_table;
+  bytes = λ n. elim (nat_lt n s0.made) as (λ b. nat_lt n s0.made ≡ b → IsLeftOf (s0.nodes n) (cond b (image.bytes n) (s0.nodes n).now)) [
+    | true ↦ λ e. subst (λ node. IsLeftOf node (image.bytes n)) (stay n (ltb-true n s0.made e)) (is_image.bytes n)
+    | false ↦ λ e. record { begins = sound.nodes n; whole = λ _. refl }
+  ] refl;
+  made = refl;
+}
+
+-- it shows there what the image shows
+pub image_before_shows : (s0 : State) (u : Table) (image : Image) (q : Path) → IsSoundTable s0.made u → image.table q ≡ u q
+    → view_of image q ≡ view_of (image_before s0 u image.bytes) q
+image_before_shows s0 u image q sound same = ap (found image.bytes) same ∙ found_same (u q) refl
+  where
+    found_same : (x : Spot) → u q ≡ x → found image.bytes x ≡ found (image_before s0 u image.bytes).bytes x
+    found_same Nothing e = refl
+    found_same Directory e = refl
+    found_same Odd e = refl
+    found_same (FileNode n) e = rw (lt-ltb n s0.made (sound.is_made q n e)) refl
+
+-- so each image shows there what some image of s0 showed
+pub as_before_images : (region : Path → Bool) (s0 s : State) → IsSound s0 → IsAsBefore region s0 s → (image : Image) → IsImage s image
+    → (old : Image) × IsImage s0 old × AgreeIn region (view_of image) (view_of old)
+as_before_images region s0 s sound as_was image is_image =
+    let there : (u : Table) × IsTableOf s0 u × AlikeIn region image.table u = as_was.tables image.table is_image.table in (
+      image_before s0 there.0 image.bytes,
+      image_before_is s0 s there.0 image sound there.1 as_was.nodes is_image,
+      λ q inside. image_before_shows s0 there.0 image q (sound.tables there.0 there.1) (there.2 q inside),
+    )

@@ -1,0 +1,38 @@
+-- Regions of paths that calls leave as they were.
+use Rattle.std.specs.Prelude.{◌≡◌, ◌≢◌, ℕ, ◌<◌, ◌≤◌, Bool, None, IsTrue}
+use Rattle.folder_spec.specs.declared.Spot.TheVariants.{FileNode}
+use Rattle.folder_spec.specs.Path.{Path, below}
+use Rattle.folder_spec.specs.State.{Table, State, present, IsTableOf}
+use Rattle.folder_spec.specs.Event.{Call, MakeDir, Create, Append, Sync, Settle, Rename, RemoveFile, RemoveDir}
+
+-- the call's paths, and all below those that it moves, lie outside the region
+abbrev pub Spares : (Path → Bool) → Call → Type 0
+Spares region (MakeDir p) = (q : Path) → IsTrue (region q) → p ≢ q
+Spares region (Create p) = (q : Path) → IsTrue (region q) → p ≢ q
+Spares region (Append p piece) = Unit {0}
+Spares region (Sync p) = Unit {0}
+Spares region Settle = Unit {0}
+Spares region (Rename old new) = (q : Path) → IsTrue (region q) → (below new q ≡ None) × (below old q ≡ None)
+Spares region (RemoveFile p) = (q : Path) → IsTrue (region q) → p ≢ q
+Spares region (RemoveDir p) = (q : Path) → IsTrue (region q) → p ≢ q
+
+-- two tables have the same in the region
+abbrev pub AlikeIn : (Path → Bool) → Table → Table → Type 0
+AlikeIn region t u = (q : Path) → IsTrue (region q) → t q ≡ u q
+
+-- in the region s is as s0 was: each table has there what a table of s0 had, and the files of then are as they were
+pub record IsAsBefore (region : Path → Bool) (s0 s : State) : Type 0 where
+  pub tables : (t : Table) → IsTableOf s t → (u : Table) × IsTableOf s0 u × AlikeIn region t u
+  pub nodes : (n : ℕ) → n < s0.made → s.nodes n ≡ s0.nodes n
+  pub made : s0.made ≤ s.made
+
+-- the call writes no file of the first `made`
+abbrev pub WritesOnlyNew : ℕ → State → Call → Type 0
+WritesOnlyNew made s (Append p piece) = (n : ℕ) → present s p ≡ FileNode n → made ≤ n
+WritesOnlyNew made s (Sync p) = (n : ℕ) → present s p ≡ FileNode n → made ≤ n
+WritesOnlyNew made s (MakeDir p) = Unit {0}
+WritesOnlyNew made s (Create p) = Unit {0}
+WritesOnlyNew made s Settle = Unit {0}
+WritesOnlyNew made s (Rename old new) = Unit {0}
+WritesOnlyNew made s (RemoveFile p) = Unit {0}
+WritesOnlyNew made s (RemoveDir p) = Unit {0}

@@ -1,0 +1,35 @@
+//! Laws of the definitions. Each function does nothing, and its clause is the law.
+ghost use Rattle.std.specs.Prelude.{◌≡◌, ℕ, Bool};
+ghost use Rattle.folder_spec.specs.State.{State, IsSound, HasNothingPending};
+ghost use Rattle.folder_spec.specs.Event.{Call, Sync, Settle, Allowed, changed, fallen};
+ghost use Rattle.folder_spec.specs.Image.{Image, IsImage, state_of, seen_now};
+ghost use Rattle.folder_spec.specs.Path.{Path};
+ghost use Rattle.folder_spec.specs.View.{view_of, AgreeIn};
+ghost use Rattle.folder_spec.specs.Region.{Spares, WritesOnlyNew, IsAsBefore};
+
+/// A call that is allowed keeps a state sound, whether it is done or fails.
+pub fn calls_keep_states_sound()
+    ensures done { (s : State) (call : Call) → IsSound s → Allowed s call → IsSound (changed s call) }
+    ensures failed { (s : State) (call : Call) (added : ℕ) → IsSound s → Allowed s call → IsSound (fallen s call added) }
+{}
+
+/// The folder as a read now sees it is an image, and so is an image of an image, which has nothing
+/// pending.
+pub fn images_are_states()
+    ensures seen { (s : State) → IsSound s → IsImage s (seen_now s) }
+    ensures sound { (s : State) (image : Image) → IsSound s → IsImage s image → IsSound (state_of image) }
+    ensures settled { (image : Image) → HasNothingPending (state_of image) }
+    ensures again { (s : State) (image second : Image) → IsImage s image → IsImage (state_of image) second → IsImage s second }
+{}
+
+/// After a sync and after a settle a crash leaves nothing that it did not leave before.
+pub fn syncs_narrow_images()
+    ensures sync { (s : State) (p : Path) (image : Image) → IsSound s → IsImage (changed s (Sync p)) image → IsImage s image }
+    ensures settle { (s : State) (image : Image) → IsImage (changed s Settle) image → IsImage s image }
+{}
+
+/// Calls leave a region that they spare as it was: no crash shows there what none showed before.
+pub fn spared_regions_stay()
+    ensures one_call { (region : Path → Bool) (s0 s : State) (call : Call) → Spares region call → WritesOnlyNew s0.made s call → IsAsBefore region s0 s → IsAsBefore region s0 (changed s call) }
+    ensures images { (region : Path → Bool) (s0 s : State) → IsSound s0 → IsAsBefore region s0 s → (image : Image) → IsImage s image → (old : Image) × IsImage s0 old × AgreeIn region (view_of image) (view_of old) }
+{}

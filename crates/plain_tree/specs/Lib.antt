@@ -1,0 +1,4 @@
+pub mod Names
+pub mod Order
+pub mod Shown
+pub mod Reading

@@ -1,0 +1,24 @@
+//! The plain tree: names, paths, their order, and their shown form with its reading.
+#![tactic(auto)]
+
+pub mod laws;
+pub mod name;
+mod order;
+pub mod path;
+mod reading;
+pub mod shown;
+
+pub use name::{Name, NameNewFault};
+pub use path::{PathFault, PlainPath};
+pub use reading::MAX_PARTS;
+pub use shown::shown_text;
+
+#[cfg(test)]
+mod tests;
+
+/// What a path of the plain tree leads to.
+#[derive(Clone, Copy, Debug, PartialEq, Eq)]
+pub enum NodeKind {
+    Dir,
+    File,
+}

@@ -1,0 +1,4 @@
+pub mod Bytes
+pub mod Ciphers
+pub mod Steps
+pub mod Wraps

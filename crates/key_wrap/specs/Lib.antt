@@ -1,0 +1,2 @@
+-- The AES Key Wrap algorithm, as RFC 3394 defines it.
+pub mod Wrap

@@ -1,0 +1,3 @@
+pub mod Macs
+pub mod LastStrings
+pub mod Seals

@@ -1,0 +1,6 @@
+use Rattle.siv_mode.specs.Cmac.{cmac}
+use Rattle.siv_mode.proofs.mac.cmac.Goals as goal
+
+pub returns : goal.returns
+unfolding cmac
+returns g c = c.cmac_from.ensures

@@ -1,0 +1,11 @@
+use Rattle.std.proofs.Common.{◌∙◌}
+use Rattle.siv_mode.proofs.Macs.{last_block-whole, last_block-short}
+use Rattle.siv_mode.proofs.mac.last_block.Goals as goal
+
+pub returns-then-bytes-eq16 : goal.returns-then-bytes-eq16
+returns-then-bytes-eq16 g c =
+    c.sum.ensures ∙ rw (c.whole.ensures, c.doubled-subkey.ensures, c.image.ensures) (last_block-whole (g.C.Cipher.image c.args.cipher.now) c.args.bytes.now c.if-bytes-eq16.true)
+
+pub returns : goal.returns
+returns g c =
+    c.sum-2.ensures ∙ rw (c.padded.ensures, c.doubled.ensures, c.doubled-subkey.ensures, c.image.ensures) (last_block-short (g.C.Cipher.image c.args.cipher.now) c.args.bytes.now c.if-bytes-eq16.false)

@@ -1,5 +1,5 @@
 -- What a folder in memory tells.
-use Rattle.std.specs.Prelude.{◌≡◌, List, [], map}
+use Rattle.std.specs.Prelude.{◌≡◌, [], map}
 use Rattle.folder_spec.specs.State.{State}
 use Rattle.folder_spec.specs.Event.{Told}
 use Rattle.folder_model.specs.declared.mem.MemFolder.{MemFolder}

@@ -13,4 +13,5 @@ pub use entry::Entry;
 pub use folder::Folder;
 pub use folder_spec::{FolderFault, Kind, Spot};
 pub use mem::MemFolder;
+pub use mem::crash::Pick;
 pub use path::{FPath, FPathFault};

@@ -1,6 +1,7 @@
 //! A folder in memory, which can be made to fail.
 mod answers;
 pub mod call;
+pub mod crash;
 pub mod list;
 pub mod node;
 pub mod step;

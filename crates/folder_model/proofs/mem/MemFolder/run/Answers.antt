@@ -1,7 +1,7 @@
 -- A call that is to fail adds nothing.
-use Rattle.std.proofs.Common.{rules, arith, ◌≡◌, ◌≤◌, ◌++◌, ◌∷◌, [], List, ◌∙◌, sym, ap, ap₂, subst, map, zero-le, length, IsTrue}
+use Rattle.std.proofs.Common.{rules, ◌≡◌, ◌++◌, ◌∷◌, [], List, ◌∙◌, sym, ap, ap₂, subst, map, zero-le, IsTrue}
 use Rattle.folder_spec.specs.State.{State}
-use Rattle.folder_spec.specs.Event.{Event, Fell, Allowed, Told, fallen, piece_of}
+use Rattle.folder_spec.specs.Event.{Event, Fell, Allowed, fallen}
 use Rattle.folder_model.specs.Calls.{call_of, event_of}
 use Rattle.folder_model.specs.Memory.{state_of, told_of}
 use Rattle.folder_model.proofs.States.{fallen_zero}

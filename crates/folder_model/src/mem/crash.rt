@@ -42,13 +42,14 @@ fn steps_to(mut steps: Vec<Step>, kept: usize, table: usize) -> Vec<Step>
 impl MemFolder {
     ghost use Rattle.folder_spec.specs.Image.{IsImage, seen_now};
     ghost use Rattle.folder_model.specs.Crash.{picked, told_by};
-    ghost use Rattle.folder_model.specs.Memory.{state_of, told_of};
+    ghost use Rattle.folder_model.specs.Memory.{state_of, told_of, faults_of, plan_of, new_plan};
 
     /// The folder after a crash: the picked image, with an empty log, no faults and no call to fail.
     pub fn crash(self, pick: &Pick) -> Result<MemFolder, AllocError>
         ensures image { IfOk result (λ m. IsImage (state_of self) (seen_now (state_of m))) }
         ensures picked { IfOk result (λ m. told_of m ≡ told_by (picked (state_of self) pick.now.table pick.now.tail.items)) }
-        ensures faults { IfOk result (λ m. m.faults ≡ 0) }
+        ensures faults { IfOk result (λ m. faults_of m ≡ 0) }
+        ensures plan { IfOk result (λ m. plan_of m ≡ new_plan) }
     {
         let alloc = self.alloc;
         let nodes = nodes_left(alloc, self.nodes, pick.tail.as_slice())?;

@@ -1,10 +1,10 @@
 //! A folder in memory, which can be made to fail.
 mod answers;
-pub mod call;
-pub mod crash;
-pub mod list;
-pub mod node;
-pub mod step;
+mod call;
+mod crash;
+mod list;
+mod node;
+mod step;
 
 ghost use Rattle.std.specs.Prelude.{◌≤◌, length};
 ghost use Rattle.folder_model.specs.Nodes.{KeepsFronts};
@@ -13,6 +13,7 @@ ghost use Rattle.folder_model.specs.Steps.{AreSoundTables};
 use crate::entry::Entry;
 use crate::path::FPath;
 use call::{Call, Logged, Outcome};
+pub use crash::Pick;
 use folder_spec::{FolderFault, Kind, Spot};
 use list::{add_spot, kind_at};
 use node::{FileBytes, read_from};

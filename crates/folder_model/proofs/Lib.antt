@@ -2,3 +2,4 @@ pub mod Strings
 pub mod StepLemmas
 pub mod States
 pub mod Entries
+pub mod Crashes

@@ -1,17 +1,17 @@
 -- The state of a folder in memory after each of its changes.
-use Rattle.std.proofs.Common.{◌≡◌, ◌≢◌, ℕ, suc, ◌+◌, ◌-◌, ◌<◌, ◌≤◌, ◌⊎◌, Bool, true, false, cond, nat_eq, List, [], ◌∷◌, ◌++◌, length, take, drop, set, get_or, slice_index_or, refl, sym, ap, ap₂, ◌∙◌, subst, inl, inr, arith, take_all, take-append-drop, drop_of_length-le, le_refl, length-set, length-append, get_or-set_same, get_or-set_other, eqb-true, le_of_eq, append-nil, Result, Ok, Err, OnErr, OnOk, is_ok}
+use Rattle.std.proofs.Common.{◌≡◌, ◌≢◌, ℕ, suc, ◌+◌, ◌<◌, ◌≤◌, Bool, true, false, cond, nat_eq, List, [], ◌∷◌, ◌++◌, length, take, drop, set, get_or, slice_index_or, refl, sym, ap, ap₂, ◌∙◌, subst, arith, take_all, take-append-drop, drop_of_length-le, le_refl, length-set, length-append, get_or-set_same, get_or-set_other, eqb-true, append-nil, Result, Ok, Err, OnErr, OnOk, is_ok}
 use Rattle.std.proofs.lemmas.List.{take-append-le, drop-append-le}
 use Rattle.std.proofs.lemmas.Bool.{eqb-false}
 use mathlib.Core.Path.{fun_ext}
 use Rattle.folder_spec.specs.declared.Spot.{Spot}
 use Rattle.folder_spec.specs.declared.Spot.TheVariants.{Nothing, Directory, FileNode, Odd}
 use Rattle.folder_spec.specs.Path.{Path}
-use Rattle.folder_spec.specs.State.{Table, Node, State, present, last_of, put, put_node, IsSound, BeginsWith}
+use Rattle.folder_spec.specs.State.{Node, State, present, put_node, IsSound, BeginsWith}
 use Rattle.folder_spec.proofs.Tables.{present_is_table}
 use Rattle.folder_spec.proofs.Sound.{changed_sound}
 use Rattle.folder_spec.specs.Event.{Call, MakeDir, Append, Sync, Rename, RemoveFile, RemoveDir, fallen, grown, IsFree, Create, Settle, changed, with_table, with_file, empty_node}
 use Rattle.folder_model.specs.declared.mem.step.Step.{Step}
-use Rattle.folder_model.specs.declared.mem.step.Step.TheVariants.{Put, Move}
+use Rattle.folder_model.specs.declared.mem.step.Step.TheVariants.{Put}
 use Rattle.folder_model.specs.Sound.{state_sound}
 use Rattle.folder_model.specs.Steps.{base_table, step_table, replay, tables_after, kept_table, state_from, AreSoundTables}
 use Rattle.folder_model.specs.Nodes.{KeepsFront, KeepsFronts}

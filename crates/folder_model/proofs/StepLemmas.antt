@@ -1,18 +1,16 @@
 -- Tables by their steps.
-use Rattle.std.proofs.Common.{◌≡◌, ◌≢◌, ℕ, suc, ◌+◌, ◌-◌, ◌<◌, ◌≤◌, ◌⊎◌, Bool, true, false, List, [], ◌∷◌, ◌++◌, length, take, drop, Option, Some, None, slice_index_or, refl, sym, ap, ◌∙◌, subst, inl, inr, append_assoc, arith, Contains, add-one, take_all, take-append-drop, map, string_bytes, String, Global}
+use Rattle.std.proofs.Common.{◌≡◌, ◌≢◌, ℕ, suc, ◌-◌, ◌<◌, ◌≤◌, ◌⊎◌, List, [], ◌∷◌, ◌++◌, length, take, Option, Some, None, slice_index_or, refl, sym, ap, ◌∙◌, subst, inl, inr, append_assoc, arith, Contains, map, string_bytes, String, Global}
 use Rattle.std.proofs.lemmas.List.{length-map}
 use Rattle.std.specs.Option.{option_map}
 use Rattle.folder_spec.specs.declared.Spot.{Spot}
 use Rattle.folder_spec.specs.declared.Spot.TheVariants.{Nothing, Directory, FileNode, Odd}
-use Rattle.folder_spec.specs.Path.{Part, Path, path_eq, below, child}
-use Rattle.folder_spec.specs.State.{Table, put, moved, last_of}
-use Rattle.folder_spec.proofs.Paths.{one_or_not, begins_or_not, child_begins, not_below, below_is}
-use Rattle.folder_spec.proofs.Tables.{put-same, put-other, moved-new, moved-old, moved-other}
+use Rattle.folder_spec.specs.Path.{Part, Path, below, child}
+use Rattle.folder_spec.specs.State.{Table, moved, last_of}
+use Rattle.folder_spec.proofs.Paths.{begins_or_not, child_begins, not_below, below_is}
+use Rattle.folder_spec.proofs.Tables.{put-other, moved-new, moved-old, moved-other}
 use Rattle.folder_model.specs.declared.mem.step.Step.{Step}
 use Rattle.folder_model.specs.declared.mem.step.Step.TheVariants.{Put, Move}
-use Rattle.folder_model.specs.declared.mem.step.Looked.{Looked}
-use Rattle.folder_model.specs.declared.mem.step.Looked.TheVariants.{Here, Before}
-use Rattle.folder_model.specs.Steps.{base_table, step_table, replay, tables_after, looked_in, target, KeepsEntries}
+use Rattle.folder_model.specs.Steps.{base_table, step_table, replay, tables_after, KeepsEntries}
 
 pub replay-take-suc : (t : Table) (steps : List Step) (n : ℕ) (d : Step) → n < length steps
     → replay t (take (suc n) steps) ≡ step_table (replay t (take n steps)) (slice_index_or steps n d)

@@ -1,5 +1,5 @@
 -- Paths as lists of strings.
-use Rattle.std.proofs.Common.{◌≡◌, ℕ, ◌+◌, ◌<◌, ◌≤◌, ◌-◌, suc, Bool, true, false, ◌&&◌, List, [], ◌∷◌, ◌++◌, map, length, take, drop, Option, Some, None, is_some, cond, refl, sym, ap, ◌∙◌, subst, string_bytes, String, Global, bytes_eq, arith, leb, add-one, take_all, take-append-drop, slice_index_or}
+use Rattle.std.proofs.Common.{◌≡◌, ℕ, ◌<◌, ◌≤◌, ◌-◌, suc, true, false, ◌&&◌, List, [], ◌∷◌, ◌++◌, map, length, take, drop, Option, Some, None, is_some, cond, refl, sym, ap, ◌∙◌, string_bytes, String, Global, bytes_eq, arith, take-append-drop, slice_index_or}
 use Rattle.std.proofs.lemmas.List.{take-map, length-map, map-append}
 use Rattle.std.specs.String.{string_eq}
 use Rattle.std.specs.Cmp.Lexicographic.{pointwise}

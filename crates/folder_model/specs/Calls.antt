@@ -1,5 +1,4 @@
 -- The calls of a folder in memory, as the definitions have them.
-use Rattle.std.specs.Prelude.{List, map}
 use Rattle.folder_spec.specs.Event as spec
 use Rattle.folder_model.specs.declared.mem.call.Call.{Call}
 use Rattle.folder_model.specs.declared.mem.call.Call.TheVariants.{MakeDir, Create, Append, Sync, Settle, Rename, RemoveFile, RemoveDir}

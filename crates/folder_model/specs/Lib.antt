@@ -6,3 +6,4 @@ pub mod Calls
 pub mod Memory
 pub mod Entries
 pub mod Sound
+pub mod Crash

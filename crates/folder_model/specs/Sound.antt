@@ -1,5 +1,5 @@
 -- What a folder in memory tells is sound.
-use Rattle.std.specs.Prelude.{◌≡◌, ℕ, List, ◌++◌, length, take, drop, slice_index_or, Some}
+use Rattle.std.specs.Prelude.{◌≡◌, ℕ, List, ◌++◌, length, drop, slice_index_or, Some}
 use Rattle.std.specs.Option.{unwrap_or}
 use Rattle.std.proofs.Common.{sym, ap, ◌∙◌, subst, take-append-drop}
 use Rattle.folder_spec.specs.State.{Node, IsSound}

@@ -12,5 +12,5 @@ mod tests;
 pub use entry::Entry;
 pub use folder::Folder;
 pub use folder_spec::{FolderFault, Kind, Spot};
-pub use mem::MemFolder;
+pub use mem::{MemFolder, Pick};
 pub use path::{FPath, FPathFault};

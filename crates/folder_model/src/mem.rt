@@ -1,9 +1,10 @@
 //! A folder in memory, which can be made to fail.
 mod answers;
-pub mod call;
-pub mod list;
-pub mod node;
-pub mod step;
+mod call;
+mod crash;
+mod list;
+mod node;
+mod step;
 
 ghost use Rattle.std.specs.Prelude.{◌≤◌, length};
 ghost use Rattle.folder_model.specs.Nodes.{KeepsFronts};
@@ -12,6 +13,7 @@ ghost use Rattle.folder_model.specs.Steps.{AreSoundTables};
 use crate::entry::Entry;
 use crate::path::FPath;
 use call::{Call, Logged, Outcome};
+pub use crash::Pick;
 use folder_spec::{FolderFault, Kind, Spot};
 use list::{add_spot, kind_at};
 use node::{FileBytes, read_from};
@@ -45,7 +47,7 @@ impl MemFolder {
     ghost use Rattle.folder_model.specs.Answers.{Answers, Counts, IsRisen, Reads};
     ghost use Rattle.folder_model.specs.Calls.{call_of, outcome_of};
     ghost use Rattle.folder_model.specs.Steps.{step_table};
-    ghost use Rattle.folder_model.specs.Memory.{state_of, told_of, new_told, KeepsRest};
+    ghost use Rattle.folder_model.specs.Memory.{state_of, told_of, faults_of, new_told, KeepsRest, plan_of, new_plan, with_failing, counted, fails_next, FailsAs};
 
     fn spot(&self, at: &FPath) -> Result<Spot, AllocError>
         ensures { IfOk result (λ spot. spot ≡ present (state_of self.now) at.now) }
@@ -198,9 +200,12 @@ impl MemFolder {
 
     // Counts a call, and says whether it is to fail.
     fn is_due(&mut self) -> bool
+        ensures due { result ≡ fails_next (plan_of self.old) }
+        ensures plan { plan_of self.new ≡ counted (plan_of self.old) }
         ensures told { told_of self.new ≡ told_of self.old }
         ensures state { state_of self.new ≡ state_of self.old }
-        ensures rest { KeepsRest self.old self.new }
+        ensures log { self.new.log ≡ self.old.log }
+        ensures faults { self.new.faults ≡ self.old.faults }
     {
         self.calls = self.calls.saturating_add(1);
         self.fails.contains(&self.calls)
@@ -228,6 +233,7 @@ impl MemFolder {
         ensures log { (told_of self.new).log ≡ (told_of self.old).log ++ record { call = call_of call; outcome = outcome_of outcome } ∷ [] }
         ensures state { state_of self.new ≡ state_of self.old }
         ensures faults { self.new.faults ≡ self.old.faults }
+        ensures plan { plan_of self.new ≡ plan_of self.old }
     {
         let _ = self.log.push(Logged { call, outcome });
     }
@@ -237,14 +243,28 @@ impl MemFolder {
         ensures told { told_of self.new ≡ told_of self.old }
         ensures log { self.new.log ≡ self.old.log }
         ensures state { state_of self.new ≡ state_of self.old }
+        ensures plan { plan_of self.new ≡ plan_of self.old }
     {
         self.faults = self.faults.saturating_add(1);
+    }
+
+    // Answers a call for which there is no memory. It is counted too.
+    fn want_memory(&mut self) -> Result<(), FolderFault>
+        ensures answer { result ≡ Err FolderFault.NoMemory }
+        ensures plan { plan_of self.new ≡ counted (plan_of self.old) }
+        ensures told { told_of self.new ≡ told_of self.old }
+        ensures faults { self.new.faults ≡ self.old.faults }
+    {
+        let _ = self.is_due();
+        Err(FolderFault::NoMemory)
     }
 
     // Answers a call that changes the folder.
     fn run(&mut self, call: Call) -> Result<(), FolderFault>
         ensures changes { Steps (call_of call) (told_of self.old) (told_of self.new) result }
         ensures counts { Counts (Some (told_of self.old)) self.old.faults self.new.faults result }
+        ensures plan { plan_of self.new ≡ counted (plan_of self.old) }
+        ensures due { FailsAs (fails_next (plan_of self.old)) result }
     {
         let due = self.is_due();
         if self.log.reserve(1).is_err() {
@@ -305,7 +325,8 @@ impl MemFolder {
     /// An empty folder, with an empty log and no faults.
     pub fn new(alloc: Global) -> Result<MemFolder, AllocError>
         ensures told { IfOk result (λ m. told_of m ≡ new_told) }
-        ensures faults { IfOk result (λ m. m.faults ≡ 0) }
+        ensures faults { IfOk result (λ m. faults_of m ≡ 0) }
+        ensures plan { IfOk result (λ m. plan_of m ≡ new_plan) }
     {
         Ok(MemFolder {
             alloc,
@@ -321,7 +342,10 @@ impl MemFolder {
 
     /// Lets a later call fail, by its number from 1 on over all calls from now on.
     pub fn fail_at(&mut self, call: u64) -> Result<(), AllocError>
+        ensures ok { OnOk result (plan_of self.new ≡ with_failing (plan_of self.old) call) }
+        ensures err { OnErr result (plan_of self.new ≡ plan_of self.old) }
         ensures told { told_of self.new ≡ told_of self.old }
+        ensures faults { faults_of self.new ≡ faults_of self.old }
     {
         self.fails.push(self.calls.saturating_add(call))?;
         Ok(())
@@ -331,6 +355,8 @@ impl MemFolder {
         ensures told { told_of self.new ≡ told_of self.old }
         ensures answer { Answers (Some (told_of self.old)) (λ s. Unit {0}) (λ s kind. kind ≡ kind_of (present s at.now)) result }
         ensures counts { Counts (Some (told_of self.old)) self.old.faults self.new.faults result }
+        ensures plan { plan_of self.new ≡ counted (plan_of self.old) }
+        ensures due { FailsAs (fails_next (plan_of self.old)) result }
     {
         let due = self.is_due();
         let Ok(spot) = self.spot(at) else {
@@ -347,6 +373,8 @@ impl MemFolder {
         ensures told { told_of self.new ≡ told_of self.old }
         ensures answer { Answers (Some (told_of self.old)) (λ s. present s at.now ≡ Directory) (λ s entries. IsListing (present s) at.now entries.items) result }
         ensures counts { Counts (Some (told_of self.old)) self.old.faults self.new.faults result }
+        ensures plan { plan_of self.new ≡ counted (plan_of self.old) }
+        ensures due { FailsAs (fails_next (plan_of self.old)) result }
     {
         let due = self.is_due();
         let Ok(spot) = self.spot(at) else {
@@ -371,6 +399,8 @@ impl MemFolder {
         ensures answer { Answers (Some (told_of self.old)) (λ s. HasFile (present s) at.now) (λ s n. Reads s at.now start out.old out.new n) result }
         ensures unread { OnErr result (out.new ≡ out.old) }
         ensures counts { Counts (Some (told_of self.old)) self.old.faults self.new.faults result }
+        ensures plan { plan_of self.new ≡ counted (plan_of self.old) }
+        ensures due { FailsAs (fails_next (plan_of self.old)) result }
     {
         let due = self.is_due();
         let Ok(spot) = self.spot(at) else {

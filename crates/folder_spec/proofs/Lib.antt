@@ -4,3 +4,4 @@ pub mod Sound
 pub mod Images
 pub mod Moments
 pub mod Regions
+pub mod Views

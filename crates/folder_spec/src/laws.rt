@@ -1,10 +1,11 @@
 //! Laws of the definitions. Each function does nothing, and its clause is the law.
-ghost use Rattle.std.specs.Prelude.{◌≡◌, ℕ, Bool};
-ghost use Rattle.folder_spec.specs.State.{State, IsSound, HasNothingPending};
+ghost use Rattle.std.specs.Prelude.{◌≡◌, ◌++◌, ℕ, Bool, None, IsTrue};
+ghost use Rattle.folder_spec.specs.State.{State, Table, moved, IsSound, HasNothingPending};
 ghost use Rattle.folder_spec.specs.Event.{Call, Sync, Settle, Allowed, changed, fallen};
 ghost use Rattle.folder_spec.specs.Image.{Image, IsImage, state_of, seen_now};
-ghost use Rattle.folder_spec.specs.Path.{Path};
-ghost use Rattle.folder_spec.specs.View.{view_of, AgreeIn};
+ghost use Rattle.folder_spec.specs.Path.{Path, below};
+ghost use Rattle.folder_spec.specs.declared.Spot.TheVariants.{Nothing};
+ghost use Rattle.folder_spec.specs.View.{View, view_of, AgreeIn, Shows, ShowsOneOf};
 ghost use Rattle.folder_spec.specs.Region.{Spares, WritesOnlyNew, IsAsBefore};
 
 /// A call that is allowed keeps a state sound, whether it is done or fails.
@@ -32,4 +33,19 @@ pub fn syncs_narrow_images()
 pub fn spared_regions_stay()
     ensures one_call { (region : Path → Bool) (s0 s : State) (call : Call) → Spares region call → WritesOnlyNew s0.made s call → IsAsBefore region s0 s → IsAsBefore region s0 (changed s call) }
     ensures images { (region : Path → Bool) (s0 s : State) → IsSound s0 → IsAsBefore region s0 s → (image : Image) → IsImage s image → (old : Image) × IsImage s0 old × AgreeIn region (view_of image) (view_of old) }
+{}
+
+/// A rename moves what stands at the old path and below it, and leaves all else.
+pub fn renames_move_all_below()
+    ensures there { (t : Table) (old new rest : Path) → moved t old new (new ++ rest) ≡ t (old ++ rest) }
+    ensures gone { (t : Table) (old new rest : Path) → below new (old ++ rest) ≡ None → moved t old new (old ++ rest) ≡ Nothing }
+    ensures others { (t : Table) (old new path : Path) → below new path ≡ None → below old path ≡ None → moved t old new path ≡ t path }
+{}
+
+/// Where every table shows one of these views in a region, and the files there are clean, each image
+/// shows one of them, and taken as a state that one alone.
+pub fn images_show_views()
+    ensures one { (region : Path → Bool) (s : State) (image : Image) (v : View) → IsImage s image → Shows region s image.table v → AgreeIn region (view_of image) v }
+    ensures images { (region : Path → Bool) (is_one : View → Bool) (s : State) (image : Image) → ShowsOneOf region (λ v. IsTrue (is_one v)) s → IsImage s image → (v : View) × IsTrue (is_one v) × AgreeIn region (view_of image) v }
+    ensures alone { (region : Path → Bool) (is_one : View → Bool) (s : State) (image : Image) → ShowsOneOf region (λ v. IsTrue (is_one v)) s → IsImage s image → (v : View) × IsTrue (is_one v) × ShowsOneOf region (λ w. w ≡ v) (state_of image) }
 {}

@@ -41,6 +41,7 @@ pub fn read_from(bytes: &[u8], start: u64, out: &mut [u8]) -> usize
 
 impl FileBytes {
     ghost use Rattle.folder_model.specs.Nodes.{KeepsFront};
+    ghost use Rattle.folder_model.specs.Crash.{node_left};
 
     pub fn new(alloc: Global) -> Self
         ensures { result ≡ empty_node }
@@ -70,5 +71,19 @@ impl FileBytes {
         ensures front { KeepsFront self.new }
     {
         self.kept = self.bytes.len();
+    }
+
+    /// What a crash leaves of it, with `tail` after the kept bytes where it is not clean.
+    pub fn crashed(self, tail: &[u8]) -> Result<Self, AllocError>
+        ensures { IfOk result (λ left. left ≡ node_left tail.now self) }
+    {
+        if self.kept == self.bytes.len() {
+            return Ok(self);
+        }
+        let mut bytes = self.bytes;
+        bytes.truncate(self.kept);
+        bytes.extend_from_slice(tail)?;
+        let kept = bytes.len();
+        Ok(FileBytes { bytes, kept })
     }
 }

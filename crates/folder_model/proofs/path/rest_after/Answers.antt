@@ -1,6 +1,6 @@
-use Rattle.std.proofs.Common.{◌≡◌, ◌-◌, Some, sym, ap, ◌∙◌, take, drop, length}
+use Rattle.std.proofs.Common.{sym, ◌∙◌}
 use Rattle.std.proofs.lemmas.List.{take_rest}
-use Rattle.folder_model.proofs.Strings.{path_of, rest_is, rest_is_not, rest_is_none}
+use Rattle.folder_model.proofs.Strings.{rest_is, rest_is_not, rest_is_none}
 use Rattle.folder_model.proofs.path.rest_after.Goals as goal
 
 pub returns-then-depth-path : goal.returns-then-depth-path

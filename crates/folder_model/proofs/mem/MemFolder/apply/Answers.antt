@@ -1,8 +1,6 @@
 -- A call that is allowed keeps the state sound.
-use Rattle.std.proofs.Common.{◌≡◌, sym, ap, subst}
-use Rattle.folder_spec.specs.declared.Spot.TheVariants.{Nothing, Directory}
-use Rattle.folder_spec.specs.State.{IsSound, put, moved, present}
-use Rattle.folder_spec.specs.Event.{Call, Allowed, with_table, changed, MakeDir, Rename, RemoveFile, RemoveDir}
+use Rattle.std.proofs.Common.{subst}
+use Rattle.folder_spec.specs.Event.{Allowed, MakeDir, Rename, RemoveFile, RemoveDir}
 use Rattle.folder_spec.proofs.Sound.{changed_sound}
 use Rattle.folder_model.specs.Calls.{call_of}
 use Rattle.folder_model.specs.Memory.{state_of}

@@ -1,8 +1,7 @@
 -- Each name of an entry is looked at.
-use Rattle.std.proofs.Common.{rules, arith, ◌≡◌, ◌≢◌, ◌<◌, ◌≤◌, ◌+◌, ◌∙◌, sym, ap, subst, length, inl, inr, string_bytes, slice_index_or}
+use Rattle.std.proofs.Common.{arith, ◌≡◌, ◌≢◌, ◌∙◌, sym, ap, subst, inl, inr, string_bytes, slice_index_or}
 use Rattle.folder_spec.specs.declared.Kind.TheVariants.{Missing}
-use Rattle.folder_spec.specs.declared.Spot.TheVariants.{Nothing}
-use Rattle.folder_spec.specs.Path.{Part, child}
+use Rattle.folder_spec.specs.Path.{child}
 use Rattle.folder_spec.specs.State.{present, kind_of}
 use Rattle.folder_model.specs.Entries.{AddsEntry, HasName}
 use Rattle.folder_model.specs.Memory.{state_of}

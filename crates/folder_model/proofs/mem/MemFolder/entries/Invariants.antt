@@ -1,4 +1,4 @@
-use Rattle.std.proofs.Common.{◌≡◌, ◌≢◌, ℕ, ◌<◌, slice_index_or, string_bytes, String, Global}
+use Rattle.std.proofs.Common.{◌≢◌, ℕ, ◌<◌, slice_index_or, string_bytes, String, Global}
 use Rattle.folder_spec.specs.declared.Kind.TheVariants.{Missing}
 use Rattle.folder_spec.specs.Path.{child}
 use Rattle.folder_spec.specs.State.{present, kind_of}

@@ -1,5 +1,5 @@
 -- No name of an entry is left out.
-use Rattle.std.proofs.Common.{rules, arith, ◌≡◌, ◌≢◌, ◌<◌, ◌∙◌, [], sym, ap, length, inl, inr}
+use Rattle.std.proofs.Common.{rules, arith, ◌≡◌, ◌≢◌, ◌∙◌, [], sym, ap, length, inl, inr}
 use Rattle.folder_spec.specs.declared.Spot.TheVariants.{Nothing, Directory}
 use Rattle.folder_spec.specs.Path.{Part, child}
 use Rattle.folder_spec.specs.State.{present}

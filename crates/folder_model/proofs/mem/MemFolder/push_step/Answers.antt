@@ -1,4 +1,4 @@
-use Rattle.std.proofs.Common.{◌≡◌, ◌≤◌, ◌++◌, ◌∷◌, [], ◌∙◌, sym, ap, is_ok, length, List}
+use Rattle.std.proofs.Common.{◌≤◌, ◌∙◌, ap, is_ok, length}
 use Rattle.folder_model.specs.Steps.{AreSoundTables, state_from}
 use Rattle.folder_model.proofs.States.{pushed_holds, step_pushed}
 use Rattle.folder_model.proofs.mem.MemFolder.push_step.Goals as goal

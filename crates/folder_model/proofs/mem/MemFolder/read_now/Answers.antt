@@ -1,6 +1,6 @@
 use Rattle.std.proofs.Common.{◌≡◌, ◌<◌, ◌-◌, ◌++◌, ◌∙◌, sym, ap, subst, length, take, drop, min, slice_index_or}
 use Rattle.folder_spec.specs.declared.Spot.TheVariants.{FileNode}
-use Rattle.folder_spec.specs.State.{State, Node, present, HasFile}
+use Rattle.folder_spec.specs.State.{Node, present, HasFile}
 use Rattle.folder_spec.specs.Event.{empty_node}
 use Rattle.folder_model.specs.Answers.{Reads}
 use Rattle.folder_model.specs.Memory.{state_of}

@@ -1,7 +1,7 @@
 -- A call that is to fail adds nothing.
-use Rattle.std.proofs.Common.{rules, arith, ◌≡◌, ◌≤◌, ◌++◌, ◌∷◌, [], List, ◌∙◌, sym, ap, ap₂, subst, map, zero-le, length, IsTrue}
+use Rattle.std.proofs.Common.{rules, ◌≡◌, ◌++◌, ◌∷◌, [], List, ◌∙◌, sym, ap, ap₂, subst, map, zero-le, IsTrue}
 use Rattle.folder_spec.specs.State.{State}
-use Rattle.folder_spec.specs.Event.{Event, Fell, Allowed, Told, fallen, piece_of}
+use Rattle.folder_spec.specs.Event.{Event, Fell, Allowed, fallen}
 use Rattle.folder_model.specs.Calls.{call_of, event_of}
 use Rattle.folder_model.specs.Memory.{state_of, told_of}
 use Rattle.folder_model.proofs.States.{fallen_zero}
@@ -18,5 +18,5 @@ returns-then-due-clause-changes c =
     let log : (told_of c.note-then-due.new.self).log ≡ map event_of c.args.self.now.log.items ++ event ∷ [] =
     c.note-then-due.ensures.log
     ∙ ap (λ items. map event_of items ++ event ∷ [])
-    (ap (λ log. log.items) c.count_fault.ensures.log ∙ c.reserve.ensures.items ∙ ap (λ log. log.items) c.is_due-due.ensures.rest.log) in
+    (ap (λ log. log.items) c.count_fault.ensures.log ∙ c.reserve.ensures.items ∙ ap (λ log. log.items) c.is_due-due.ensures.log) in
     (allowed, (0, zero-le, ap₂ (λ (s : State) (log : List Event). record { state = s; log = log }) state log))

@@ -1,6 +1,6 @@
-use Rattle.std.proofs.Common.{◌≡◌, ◌≤◌, ◌∙◌, sym, ap, length, le_refl, subst}
+use Rattle.std.proofs.Common.{◌≡◌, ◌∙◌, sym, ap, length, le_refl, subst}
 use Rattle.folder_spec.specs.State.{IsSound}
-use Rattle.folder_spec.specs.Event.{Settle, changed}
+use Rattle.folder_spec.specs.Event.{Settle}
 use Rattle.folder_spec.proofs.Sound.{changed_sound}
 use Rattle.folder_model.specs.Steps.{AreSoundTables, state_from}
 use Rattle.folder_model.proofs.States.{settled}

@@ -1,4 +1,3 @@
-use Rattle.std.proofs.Common.{◌∙◌, sym, ap}
 use Rattle.folder_model.proofs.States.{present_is}
 use Rattle.folder_model.proofs.mem.MemFolder.spot.Goals as goal
 

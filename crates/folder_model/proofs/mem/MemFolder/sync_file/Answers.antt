@@ -1,6 +1,6 @@
-use Rattle.std.proofs.Common.{◌≡◌, ◌<◌, ◌∙◌, sym, ap, length, slice_set, slice_index_or}
+use Rattle.std.proofs.Common.{◌≡◌, ◌<◌, ◌∙◌, sym, length, slice_set}
 use Rattle.folder_spec.specs.declared.Spot.TheVariants.{FileNode}
-use Rattle.folder_spec.specs.State.{Node, present}
+use Rattle.folder_spec.specs.State.{present}
 use Rattle.folder_spec.specs.Event.{synced}
 use Rattle.folder_model.specs.Nodes.{KeepsFronts}
 use Rattle.folder_model.specs.Steps.{AreSoundTables, state_from}

@@ -1,7 +1,6 @@
 use Rattle.std.proofs.Common.{rules, ◌≡◌, ◌≢◌, ◌∙◌, sym, ap, subst}
 use Rattle.folder_spec.specs.declared.Kind.TheVariants.{Missing}
 use Rattle.folder_spec.specs.State.{kind_of}
-use Rattle.folder_spec.specs.Path.{child}
 use Rattle.folder_model.specs.Entries.{AddsItem}
 use Rattle.folder_model.proofs.Entries.{adds_entry}
 use Rattle.folder_model.proofs.States.{on_ok}

@@ -1,4 +1,4 @@
-use Rattle.std.proofs.Common.{◌≡◌, ◌∙◌, sym, ap, ap₂, take_all, le_refl, arith, length, take, ◌-◌}
+use Rattle.std.proofs.Common.{◌∙◌, sym, ap, ap₂, take_all, le_refl, arith, length, take, ◌-◌}
 use Rattle.folder_model.specs.Steps.{base_table, replay, looked_in}
 use Rattle.folder_model.proofs.StepLemmas.{looked_before, none_left, base_is, base_is_not}
 use Rattle.folder_model.proofs.mem.step.look.Goals as goal

@@ -1,9 +1,7 @@
-use Rattle.std.proofs.Common.{◌≡◌, ◌≢◌, ◌⊎◌, ◌∙◌, ◌-◌, sym, ap, take, length, map, string_bytes, Contains, inl, inr, arith}
-use Rattle.folder_spec.specs.declared.Spot.TheVariants.{Nothing}
-use Rattle.folder_spec.specs.Path.{Part, Path, child}
+use Rattle.std.proofs.Common.{◌∙◌, ◌-◌, take, inl, inr, arith}
+use Rattle.folder_spec.specs.Path.{child}
 use Rattle.folder_spec.proofs.Paths.{one_or_not}
-use Rattle.folder_spec.specs.State.{Table}
-use Rattle.folder_model.specs.Steps.{base_table, replay, target, step_table}
+use Rattle.folder_model.specs.Steps.{base_table, replay, target}
 use Rattle.folder_model.proofs.StepLemmas.{looked_before, none_left, base_child}
 use Rattle.folder_model.proofs.mem.step.names.Goals as goal
 

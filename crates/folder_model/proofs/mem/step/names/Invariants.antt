@@ -1,4 +1,4 @@
-use Rattle.std.proofs.Common.{◌≡◌, ◌≢◌, ◌≤◌, ◌⊎◌, take, length, map, Contains, string_bytes}
+use Rattle.std.proofs.Common.{◌≢◌, ◌≤◌, ◌⊎◌, take, length, map, Contains, string_bytes}
 use Rattle.folder_spec.specs.declared.Spot.TheVariants.{Nothing}
 use Rattle.folder_spec.specs.Path.{Part, child}
 use Rattle.folder_model.specs.Steps.{base_table, replay}

@@ -1,5 +1,4 @@
-use Rattle.std.proofs.Common.{◌≡◌, ◌∙◌, sym, subst}
-use Rattle.folder_model.specs.Steps.{KeepsEntries}
+use Rattle.std.proofs.Common.{◌∙◌, sym}
 use Rattle.folder_model.proofs.StepLemmas.{put_keeps, move_keeps, move_keeps_here}
 use Rattle.folder_model.proofs.mem.step.place_before.Goals as goal
 

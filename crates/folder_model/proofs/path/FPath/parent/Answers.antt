@@ -1,4 +1,4 @@
-use Rattle.std.proofs.Common.{◌≡◌, ◌∙◌, ◌-◌, sym, ap, length, take, map, string_bytes}
+use Rattle.std.proofs.Common.{◌∙◌, ◌-◌, sym, ap, take, string_bytes}
 use Rattle.std.proofs.lemmas.List.{take-map, length-map}
 use Rattle.folder_model.proofs.Strings.{parent_take, path_of}
 use Rattle.folder_model.proofs.path.FPath.parent.Goals as goal

@@ -1,0 +1,4 @@
+pub mod Values
+pub mod Lines
+pub mod Readings
+pub mod Exact

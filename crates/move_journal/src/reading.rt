@@ -1,0 +1,33 @@
+//! Reading the journal's file.
+ghost use Rattle.std.specs.Prelude.{◌≡◌, Err};
+ghost use Rattle.folder_model.specs.Answers.{IsRisen};
+ghost use Rattle.move_journal.specs.declared.journal.JournalFault.TheVariants.{Failed};
+ghost use Rattle.move_journal.specs.Reading.{ReadsJournal};
+
+use crate::journal::{Journal, JournalFault};
+use crate::parse::parse;
+use folder_model::{FPath, Folder, Kind};
+use std::alloc::Global;
+
+/// Reads the journal in the work folder.
+///
+/// A journal that is accepted has one of the texts that `journal_text` gives, and no more than
+/// 65,536 bytes. Otherwise the answer names the first line that fits no journal.
+pub fn read<F: Folder>(alloc: Global, folder: &mut F, work: &FPath) -> Result<Journal, JournalFault>
+    ensures told { F.told folder.new ≡ F.told folder.old }
+    ensures answer { ReadsJournal (F.told folder.old) work.now result }
+    ensures failed { result ≡ Err Failed → IsRisen (F.faults folder.old) (F.faults folder.new) }
+{
+    let at = work.child("journal")?;
+    match folder.kind(&at)? {
+        Kind::File => {}
+        _ => return Err(JournalFault::NoJournal),
+    }
+    let mut buffer = vec![in alloc; 0u8; 65_537]?;
+    let bytes = buffer.as_mut_slice();
+    let length = folder.read(&at, 0, bytes)?;
+    if length > 65_536 {
+        return Err(JournalFault::TooLarge);
+    }
+    parse(alloc, &bytes[..length])
+}

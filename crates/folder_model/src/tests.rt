@@ -1,4 +1,4 @@
-use crate::{Entry, FPath, FPathFault, Folder, FolderFault, Kind, MemFolder};
+use crate::{Entry, FPath, FPathFault, Folder, FolderFault, Kind, MemFolder, Pick};
 use std::test::Fail;
 
 #[test]
@@ -127,5 +127,207 @@ fn fails_when_told_to(rt: HostRuntime) -> Result<(), Fail> {
     let mut out = [0u8; 4];
     assert_eq!(rt; folder.read(&file, 0, &mut out), Ok(1));
     assert_eq!(rt; out[0], b'd');
+    Ok(())
+}
+
+#[derive(Debug, Clone, Copy)]
+enum Doing {
+    Kind,
+    List,
+    Read,
+    MakeDir,
+    Create,
+    Append,
+    Sync,
+    Settle,
+    Rename,
+    RemoveFile,
+    RemoveDir,
+}
+
+// A rename goes to `to`.
+fn answer<F: Folder>(folder: &mut F, doing: Doing, at: &FPath, to: &FPath) -> Option<FolderFault> {
+    let mut out = [0u8; 4];
+    match doing {
+        Doing::Kind => folder.kind(at).err(),
+        Doing::List => folder.list(at).err(),
+        Doing::Read => folder.read(at, 0, &mut out).err(),
+        Doing::MakeDir => folder.make_dir(at).err(),
+        Doing::Create => folder.create(at).err(),
+        Doing::Append => folder.append(at, b"de").err(),
+        Doing::Sync => folder.sync(at).err(),
+        Doing::Settle => folder.settle().err(),
+        Doing::Rename => folder.rename(at, to).err(),
+        Doing::RemoveFile => folder.remove_file(at).err(),
+        Doing::RemoveDir => folder.remove_dir(at).err(),
+    }
+}
+
+// Makes a directory `d` with a file `d/f`, an empty directory `e` and a file `f` of three bytes.
+fn fill<F: Folder>(alloc: std::alloc::Global, folder: &mut F) -> Result<(), Fail> {
+    let file = path(alloc, "f")?;
+    let _ = folder.make_dir(&path(alloc, "d")?);
+    let _ = folder.create(&path(alloc, "d/f")?);
+    let _ = folder.make_dir(&path(alloc, "e")?);
+    let _ = folder.create(&file);
+    let _ = folder.append(&file, b"abc");
+    Ok(())
+}
+
+// How a call answers that is to fail, and how it answers again.
+fn answers(
+    alloc: std::alloc::Global,
+    doing: Doing,
+    at: &str,
+) -> Result<(Option<FolderFault>, Option<FolderFault>), Fail> {
+    let mut folder = MemFolder::new(alloc)?;
+    fill(alloc, &mut folder)?;
+    folder.fail_at(1)?;
+    let (at, to) = (path(alloc, at)?, path(alloc, "g")?);
+    let first = answer(&mut folder, doing, &at, &to);
+    Ok((first, answer(&mut folder, doing, &at, &to)))
+}
+
+#[test]
+fn fails_as_listed(rt: HostRuntime) -> Result<(), Fail> {
+    let alloc = rt.alloc();
+    for (doing, at) in [
+        (Doing::Kind, "x"),
+        (Doing::List, "d"),
+        (Doing::Read, "f"),
+        (Doing::MakeDir, "d/x"),
+        (Doing::Create, "e/x"),
+        (Doing::Append, "d/f"),
+        (Doing::Sync, "f"),
+        (Doing::Settle, "x"),
+        (Doing::Rename, "d"),
+        (Doing::RemoveFile, "d/f"),
+        (Doing::RemoveDir, "e"),
+    ] {
+        let failed = Some(FolderFault::Failed);
+        assert_eq!(rt; answers(alloc, doing, at)?, (failed, None), "{doing:?}");
+    }
+    Ok(())
+}
+
+#[test]
+fn refuses_where_the_condition_is_false(rt: HostRuntime) -> Result<(), Fail> {
+    let alloc = rt.alloc();
+    for (doing, at) in [
+        (Doing::List, "f"),
+        (Doing::Read, "d"),
+        (Doing::MakeDir, "d"),
+        (Doing::Create, "f/x"),
+        (Doing::Append, "d"),
+        (Doing::Sync, "x"),
+        (Doing::Rename, "x"),
+        (Doing::RemoveFile, "d"),
+        (Doing::RemoveDir, "d"),
+    ] {
+        let refused = Some(FolderFault::Refused);
+        assert_eq!(rt; answers(alloc, doing, at)?, (refused, refused), "{doing:?}");
+    }
+    Ok(())
+}
+
+// Whether a file of these bytes stands at the path.
+fn holds<F: Folder>(folder: &mut F, at: &FPath, wanted: &str) -> bool {
+    let mut out = [0u8; 8];
+    match folder.read(at, 0, &mut out) {
+        Ok(count) => &out[..count] == wanted.as_bytes(),
+        Err(_) => false,
+    }
+}
+
+// After `fill` and a settle: two bytes more that are not synced, a new file, and a rename.
+fn change<F: Folder>(alloc: std::alloc::Global, folder: &mut F) -> Result<(), Fail> {
+    let (old, other) = (path(alloc, "f")?, path(alloc, "d/g")?);
+    let _ = folder.sync(&old);
+    let _ = folder.settle();
+    let _ = folder.append(&old, b"de");
+    let _ = folder.create(&other);
+    let _ = folder.append(&other, b"xy");
+    let _ = folder.rename(&old, &path(alloc, "h")?);
+    Ok(())
+}
+
+// Whether a crash to that table leaves a file of these bytes at the path.
+fn leaves(
+    alloc: std::alloc::Global,
+    table: usize,
+    tail: &str,
+    at: &str,
+    wanted: &str,
+) -> Result<bool, Fail> {
+    let mut folder = MemFolder::new(alloc)?;
+    fill(alloc, &mut folder)?;
+    change(alloc, &mut folder)?;
+    let tail = Vec::from_slice(alloc, tail.as_bytes())?;
+    let mut left = folder.crash(&Pick { table, tail })?;
+    Ok(holds(&mut left, &path(alloc, at)?, wanted))
+}
+
+#[test]
+fn crashes_to_each_table(rt: HostRuntime) -> Result<(), Fail> {
+    let alloc = rt.alloc();
+    for (table, at, without, with) in [
+        (0, "f", "abc", "abczz"),
+        (0, "d/f", "", ""),
+        (1, "f", "abc", "abczz"),
+        (1, "d/g", "", "zz"),
+        (2, "h", "abc", "abczz"),
+        (9, "h", "abc", "abczz"),
+        (9, "d/g", "", "zz"),
+    ] {
+        assert!(rt; leaves(alloc, table, "", at, without)?, "{table} {at}");
+        assert!(rt; leaves(alloc, table, "zz", at, with)?, "{table} {at}");
+    }
+    for (table, at) in [(0, "h"), (0, "d/g"), (1, "h"), (2, "f"), (9, "f")] {
+        assert!(rt; !leaves(alloc, table, "", at, "abc")?, "{table} {at}");
+    }
+    Ok(())
+}
+
+// Fifty files in a directory of that name.
+fn fill_directory<F: Folder>(
+    alloc: std::alloc::Global,
+    folder: &mut F,
+    dir: &FPath,
+) -> Result<(), Fail> {
+    let _ = folder.make_dir(dir);
+    for name in 0..50u32 {
+        let file = dir.child(format!(in alloc; "{name}")?.as_str())?;
+        let _ = folder.create(&file);
+        let _ = folder.append(&file, b"abc");
+    }
+    let _ = folder.settle();
+    Ok(())
+}
+
+// Whether fifty files with their bytes are listed there.
+fn lists_all<F: Folder>(folder: &mut F, dir: &FPath) -> Result<bool, Fail> {
+    let Ok(entries) = folder.list(dir) else {
+        return Ok(false);
+    };
+    for entry in &entries {
+        if !holds(folder, &dir.child(entry.name.as_str())?, "abc") {
+            return Ok(false);
+        }
+    }
+    Ok(entries.len() == 50)
+}
+
+#[test]
+fn bears_many_files(rt: HostRuntime) -> Result<(), Fail> {
+    let alloc = rt.alloc();
+    let mut folder = MemFolder::new(alloc)?;
+    for number in 0..100u32 {
+        let dir = path(alloc, format!(in alloc; "{number}")?.as_str())?;
+        fill_directory(alloc, &mut folder, &dir)?;
+    }
+    for number in 0..100u32 {
+        let dir = path(alloc, format!(in alloc; "{number}")?.as_str())?;
+        assert!(rt; lists_all(&mut folder, &dir)?, "{number}");
+    }
     Ok(())
 }

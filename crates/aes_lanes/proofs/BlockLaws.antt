@@ -50,7 +50,7 @@ map-undone f g undoes [] bytes = refl
 map-undone f g undoes (x ∷ xs) bytes =
     ap (λ y. y ∷ map f (map g xs)) (undoes x (bytes zero)) ∙ ap (λ l. x ∷ l) (map-undone f g undoes xs (λ k. bytes (suc k)))
 
-IsBlock-xor : (s t : List ℕ) → IsBlock s → IsBlock t → IsBlock (xor_bytes s t)
+pub IsBlock-xor : (s t : List ℕ) → IsBlock s → IsBlock t → IsBlock (xor_bytes s t)
 IsBlock-xor s t b d =
     let long : length s ≤ length t = omega (arith, b.sixteen, d.sixteen) in
     record {

@@ -1,7 +1,7 @@
 -- Sums of bytes and of lists of bytes.
 use Rattle.std.proofs.Common.{◌≡◌, ℕ, zero, suc, ◌+◌, ◌<◌, ◌≤◌, List, [], ◌∷◌, bit_xor, bit_or, bit_and, length, slice_index, refl, sym, ap, ◌∙◌, arith}
 use Rattle.std.proofs.lemmas.List.{ext_get_or}
-use lib.Bits.{xor_assoc, xor_self, xor_zero_l, xor_zero_r, or_add_and, and_le_l, and_le_r}
+use lib.Bits.{xor_assoc, xor_comm, xor_self, xor_zero_l, xor_zero_r, or_add_and, and_le_l, and_le_r}
 use Rattle.aes_lanes.specs.Rounds.{xor_bytes}
 use Rattle.aes_lanes.specs.Lengths.{length-xor_bytes}
 
@@ -47,3 +47,20 @@ xor_bytes-twice (x ∷ xs) [] h = absurd (omega arith)
 xor_bytes-twice (x ∷ xs) (y ∷ ys) h =
     let rest : length xs ≤ length ys = omega arith in
     ap (λ z. z ∷ xor_bytes (xor_bytes xs ys) ys) (bit_xor-twice x y) ∙ ap (λ l. x ∷ l) (xor_bytes-twice xs ys rest)
+
+pub xor_bytes-swap : (xs ys : List ℕ) → xor_bytes xs ys ≡ xor_bytes ys xs
+unfolding xor_bytes
+xor_bytes-swap [] [] = refl
+xor_bytes-swap [] (y ∷ ys) = refl
+xor_bytes-swap (x ∷ xs) [] = refl
+xor_bytes-swap (x ∷ xs) (y ∷ ys) =
+    ap (λ z. z ∷ xor_bytes xs ys) (xor_comm x y) ∙ ap (λ l. bit_xor y x ∷ l) (xor_bytes-swap xs ys)
+
+pub xor_bytes-regroup : (xs ys zs : List ℕ) → xor_bytes (xor_bytes xs ys) zs ≡ xor_bytes xs (xor_bytes ys zs)
+unfolding xor_bytes
+xor_bytes-regroup [] ys zs = refl
+xor_bytes-regroup (x ∷ xs) [] zs = refl
+xor_bytes-regroup (x ∷ xs) (y ∷ ys) [] = refl
+xor_bytes-regroup (x ∷ xs) (y ∷ ys) (z ∷ zs) =
+    ap (λ a. a ∷ xor_bytes (xor_bytes xs ys) zs) (xor_assoc x y z)
+    ∙ ap (λ l. bit_xor x (bit_xor y z) ∷ l) (xor_bytes-regroup xs ys zs)

@@ -5,13 +5,13 @@ use Rattle.aes_lanes.specs.Schedule.{round_key}
 use Rattle.aes_lanes.specs.Cipher.{rounds, cipher, inverse_rounds, inverse_cipher, middle_rounds, key_schedule, aes, inverse_aes}
 use Rattle.aes_lanes.proofs.BlockLaws.{IsBlock-add, IsBlock-mix_columns, IsBlock-inverse_mix_columns, IsBlock-shifted, IsBlock-unshifted, add-twice, inverse_mix_columns-mix_columns, mix_columns-inverse_mix_columns, unshifted-shifted, shifted-unshifted}
 
-IsBlock-rounds : (words block : List ℕ) → IsBlock block → (n : ℕ) → IsBlock (rounds words block n)
+pub IsBlock-rounds : (words block : List ℕ) → IsBlock block → (n : ℕ) → IsBlock (rounds words block n)
 unfolding rounds add_round_key
 IsBlock-rounds words block b zero = IsBlock-add block words 0 b
 IsBlock-rounds words block b (suc n) =
     IsBlock-add _ words (suc n) (IsBlock-mix_columns _ (IsBlock-shifted _ (IsBlock-rounds words block b n)))
 
-IsBlock-inverse_rounds : (last : ℕ) (words block : List ℕ) → IsBlock block → (n : ℕ) → IsBlock (inverse_rounds last words block n)
+pub IsBlock-inverse_rounds : (last : ℕ) (words block : List ℕ) → IsBlock block → (n : ℕ) → IsBlock (inverse_rounds last words block n)
 unfolding inverse_rounds add_round_key
 IsBlock-inverse_rounds last words block b zero = IsBlock-add block words last b
 IsBlock-inverse_rounds last words block b (suc n) = IsBlock-inverse_mix_columns _

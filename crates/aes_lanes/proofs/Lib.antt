@@ -8,3 +8,4 @@ pub mod FieldLaws
 pub mod MixLaws
 pub mod BlockLaws
 pub mod InverseLaws
+pub mod Ciphers

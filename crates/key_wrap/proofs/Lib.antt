@@ -1,4 +1,3 @@
 pub mod Bytes
-pub mod Ciphers
 pub mod Steps
 pub mod Wraps

@@ -3,3 +3,4 @@ pub mod StepLemmas
 pub mod States
 pub mod Entries
 pub mod Crashes
+pub mod Counting

@@ -1,10 +1,11 @@
 -- Paths as lists of strings.
-use Rattle.std.proofs.Common.{◌≡◌, ℕ, ◌<◌, ◌≤◌, ◌-◌, suc, true, false, ◌&&◌, List, [], ◌∷◌, ◌++◌, map, length, take, drop, Option, Some, None, is_some, cond, refl, sym, ap, ◌∙◌, string_bytes, String, Global, bytes_eq, arith, take-append-drop, slice_index_or}
+use Rattle.std.proofs.Common.{◌≡◌, ℕ, ◌<◌, ◌≤◌, ◌-◌, zero, suc, true, false, ◌&&◌, List, [], ◌∷◌, ◌++◌, map, length, take, drop, Option, Some, None, is_some, cond, refl, sym, ap, ◌∙◌, string_bytes, String, Global, bytes_eq, arith, take-append-drop, slice_index_or, append-nil, append_assoc}
 use Rattle.std.proofs.lemmas.List.{take-map, length-map, map-append}
 use Rattle.std.specs.String.{string_eq}
 use Rattle.std.specs.Cmp.Lexicographic.{pointwise}
 use Rattle.folder_spec.proofs.Paths.{path_eq-Decides, below-append}
 use Rattle.folder_spec.specs.Path.{Path, path_eq, below, parent}
+use Rattle.folder_model.specs.Text.{text_of}
 
 abbrev pub path_of : List (String Global) → Path
 path_of parts = map (λ s. string_bytes s) parts
@@ -87,3 +88,26 @@ no_entry at path rest more is a e =
   where
     some-injective : (x y : Path) → Some x ≡ Some y → x ≡ y
     some-injective x y e = cc
+
+-- each with a slash before it
+abbrev pub slashed : List (List ℕ) → List ℕ
+slashed [] = []
+slashed (x ∷ xs) = 47 ∷ (x ++ slashed xs)
+
+-- one more of the strings
+pub slashed-more : (xs : List (String Global)) (k : ℕ) (d : String Global) → k < length xs
+    → slashed (path_of (take (suc k) xs)) ≡ slashed (path_of (take k xs)) ++ 47 ∷ string_bytes (slice_index_or xs k d)
+slashed-more [] k d lt = absurd (omega arith)
+slashed-more (x ∷ xs) zero d lt = ap (λ l. 47 ∷ l) (append-nil (string_bytes x))
+slashed-more (x ∷ xs) (suc k) d lt =
+    ap (λ l. 47 ∷ (string_bytes x ++ l)) (slashed-more xs k d (omega arith))
+    ∙ ap (λ l. 47 ∷ l) (sym (append_assoc (string_bytes x) (slashed (path_of (take k xs))) (47 ∷ string_bytes (slice_index_or xs k d))))
+
+pub text_of-slashed : (x : List ℕ) (xs : List (List ℕ)) → text_of (x ∷ xs) ≡ x ++ slashed xs
+text_of-slashed x [] = sym (append-nil x)
+text_of-slashed x (y ∷ xs) = ap (λ l. x ++ 47 ∷ l) (text_of-slashed y xs)
+
+-- a slash and a part are added to a text
+pub part_added : (before so_far part old mid new : List ℕ) → old ≡ before ++ so_far → mid ≡ old ++ 47 ∷ [] → new ≡ mid ++ part → new ≡ before ++ (so_far ++ 47 ∷ part)
+part_added before so_far part old mid new e f g =
+    g ∙ ap (λ l. l ++ part) (f ∙ ap (λ l. l ++ 47 ∷ []) e) ∙ append_assoc (before ++ so_far) (47 ∷ []) part ∙ append_assoc before so_far (47 ∷ part)

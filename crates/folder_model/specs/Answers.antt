@@ -1,5 +1,6 @@
 -- How the calls of a folder answer.
-use Rattle.std.specs.Prelude.{◌≡◌, ℕ, ◌<◌, ◌≤◌, ◌-◌, ◌^◌, ◌⊎◌, List, ◌++◌, take, drop, length, min, Option, Some, None, Result, Ok, Err}
+use Rattle.std.specs.Prelude.{◌≡◌, ℕ, ◌≤◌, ◌-◌, List, ◌++◌, take, drop, length, min, Option, Some, None, Result, Ok, Err}
+use Rattle.port_model.specs.Counts.{CountRose, IsCounted}
 use Rattle.folder_spec.specs.declared.FolderFault.{FolderFault}
 use Rattle.folder_spec.specs.declared.FolderFault.TheVariants.{Failed, Refused, NoMemory}
 use Rattle.folder_spec.specs.Path.{Path}
@@ -7,20 +8,16 @@ use Rattle.folder_spec.specs.declared.Spot.TheVariants.{FileNode}
 use Rattle.folder_spec.specs.State.{State, present}
 use Rattle.folder_spec.specs.Event.{Told}
 
--- the count of faults rose in a call, or stands at its end
-abbrev pub IsRisen : ℕ → ℕ → Type 0
-IsRisen before after = (before < after) ⊎ (after ≡ 2 ^ 64 - 1)
-
 -- By its answer, when a call raises the count of faults: `Failed` comes only where it rose. `Refused` comes only so from a
 -- folder that tells nothing. Nothing else raises the count of one that tells its state.
 abbrev pub Counts : {T : Type 0} → Option Told → ℕ → ℕ → Result T FolderFault → Type 0
-Counts told before after (Err Failed) = (before ≤ after) × IsRisen before after
+Counts told before after (Err Failed) = IsCounted before after × CountRose before after
 Counts (Some a) before after (Ok value) = after ≡ before
 Counts (Some a) before after (Err Refused) = after ≡ before
 Counts (Some a) before after (Err NoMemory) = after ≡ before
-Counts None before after (Ok value) = before ≤ after
-Counts None before after (Err Refused) = (before ≤ after) × IsRisen before after
-Counts None before after (Err NoMemory) = before ≤ after
+Counts None before after (Ok value) = IsCounted before after
+Counts None before after (Err Refused) = IsCounted before after × CountRose before after
+Counts None before after (Err NoMemory) = IsCounted before after
 
 -- what a call that changes nothing answers, if the folder tells its state: by its condition, and by what it is to answer
 abbrev pub Answers : {T : Type 0} → Option Told → (State → Type 0) → (State → T → Type 0) → Result T FolderFault → Type 0
@@ -41,3 +38,11 @@ KeepsUnlessRun (Ok value) P = Unit {0}
 KeepsUnlessRun (Err Failed) P = Unit {0}
 KeepsUnlessRun (Err Refused) P = P
 KeepsUnlessRun (Err NoMemory) P = P
+
+-- By its answer, when a call above a folder raises the folder's count of faults: it names the folder as its cause only where
+-- the count rose, and the count never falls.
+abbrev pub CountsAbove : {T : Type 0} → ℕ → ℕ → Result T FolderFault → Type 0
+CountsAbove before after (Ok value) = before ≤ after
+CountsAbove before after (Err Failed) = (before ≤ after) × CountRose before after
+CountsAbove before after (Err Refused) = (before ≤ after) × CountRose before after
+CountsAbove before after (Err NoMemory) = before ≤ after

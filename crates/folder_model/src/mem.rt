@@ -44,7 +44,8 @@ impl MemFolder {
     ghost use Rattle.folder_spec.specs.Event.{IsFree, IsEmptyDir, Allowed, AllowedIn, with_table, changed, Create, Settle, Append, Sync, Rename, RemoveDir, Steps};
     ghost use Rattle.folder_spec.specs.declared.Spot.TheVariants.{Directory};
     ghost use Rattle.folder_spec.specs.Listing.{IsListing};
-    ghost use Rattle.folder_model.specs.Answers.{Answers, Counts, IsRisen, Reads};
+    ghost use Rattle.port_model.specs.Counts.{CountRose, IsCounted};
+    ghost use Rattle.folder_model.specs.Answers.{Answers, Counts, Reads};
     ghost use Rattle.folder_model.specs.Calls.{call_of, outcome_of};
     ghost use Rattle.folder_model.specs.Steps.{step_table};
     ghost use Rattle.folder_model.specs.Memory.{state_of, told_of, faults_of, new_told, KeepsRest, plan_of, new_plan, with_failing, counted, fails_next, FailsAs};
@@ -239,7 +240,7 @@ impl MemFolder {
     }
 
     fn count_fault(&mut self)
-        ensures risen { (self.old.faults ≤ self.new.faults) × IsRisen self.old.faults self.new.faults }
+        ensures risen { IsCounted self.old.faults self.new.faults × CountRose self.old.faults self.new.faults }
         ensures told { told_of self.new ≡ told_of self.old }
         ensures log { self.new.log ≡ self.old.log }
         ensures state { state_of self.new ≡ state_of self.old }

@@ -3,7 +3,7 @@ ghost use Rattle.std.specs.Prelude.{◌≡◌, ◌+◌, ◌<◌, ◌≤◌, [], 
 ghost use Rattle.std.specs.List.{list_all};
 ghost use Rattle.std.specs.Option.{option_map};
 ghost use Rattle.folder_spec.specs.Path.{Part, path_eq, below, parent, child};
-ghost use Rattle.folder_model.specs.Text.{is_plain_byte, is_plain_part, is_path_text, parts_of};
+ghost use Rattle.folder_model.specs.Text.{is_plain_byte, is_plain_part, is_path_text, parts_of, text_of};
 
 use std::alloc::{AllocError, Global};
 use std::marker::Model;
@@ -93,6 +93,21 @@ fn split_parts(alloc: Global, text: &str) -> Result<Vec<String>, AllocError>
     Ok(parts)
 }
 
+fn join_parts(alloc: Global, parts: &[String]) -> Result<String, AllocError>
+    ensures { IfOk result (λ text. string_bytes text ≡ text_of (map (λ s. string_bytes s) parts.now)) }
+{
+    let mut text = String::new(alloc);
+    let Some((first, rest)) = parts.split_first() else {
+        return Ok(text);
+    };
+    text.push_str(first.as_str())?;
+    for part in rest {
+        text.push_str("/")?;
+        text.push_str(part.as_str())?;
+    }
+    Ok(text)
+}
+
 // What of the path comes after `front`, if it begins with it.
 fn rest_after<'a>(path: &'a [String], front: &[String]) -> Option<&'a [String]>
     ensures { MatchOption result (below (map (λ s. string_bytes s) front.now) (map (λ s. string_bytes s) path.now) ≡ None) (λ rest. below (map (λ s. string_bytes s) front.now) (map (λ s. string_bytes s) path.now) ≡ Some (map (λ s. string_bytes s) rest.now)) }
@@ -148,6 +163,13 @@ impl FPath {
         ensures { map (λ s. string_bytes s) result.now ≡ self.now }
     {
         self.parts.as_slice()
+    }
+
+    /// The parts joined by slashes.
+    pub fn text(&self) -> Result<String, AllocError>
+        ensures { IfOk result (λ text. string_bytes text ≡ text_of self.now) }
+    {
+        join_parts(*self.parts.allocator(), self.parts.as_slice())
     }
 
     /// How many parts the path has.

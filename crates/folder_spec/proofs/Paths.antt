@@ -93,3 +93,20 @@ child_begins w p a rest e = elim (base_or_child rest) as (λ _. (child p a ≡ w
       let parts : a ≡ k.1 = child-last p a k.1 (whole ∙ ap (λ q. child q k.1) (sym up)) in
       inr (k.0, up, k.2 ∙ ap (λ b. child k.0 b) (sym parts))
 ]
+
+-- what has nothing below w has no parent that does
+pub below-parent : (w p : Path) → below w p ≡ None → below w (parent p) ≡ None
+below-parent w p none = elim (base_or_child p) as (λ _. below w (parent p) ≡ None) [
+  | inl is_base ↦ subst (λ q. below w q ≡ None) (is_base ∙ sym (ap parent is_base)) none
+  | inr k ↦
+      let up : parent p ≡ k.0 = ap parent k.2 ∙ parent-child k.0 k.1 in
+      subst (λ q. below w q ≡ None) (sym up) (below-above w k.0 k.1 (subst (λ q. below w q ≡ None) k.2 none))
+]
+
+pub parent-apart : (p : Path) → p ≢ [] → p ≢ parent p
+parent-apart p some e = let k : (a : Part) × (p ≡ child (parent p) a) = child_of_parent p some in child-apart (parent p) k.0 (sym k.1 ∙ e)
+
+-- neither of two entries of one directory is below the other
+pub below-sibling : (p : Path) (a b : Part) → bytes_eq a b ≡ false → below (child p a) (child p b) ≡ None
+below-sibling [] a b apart = rw apart refl
+below-sibling (c ∷ p) a b apart = rw ((bytes_eq-Decides c c).1 refl) (below-sibling p a b apart)

@@ -6,7 +6,7 @@ use Rattle.folder_spec.specs.Event.{Call, MakeDir, Create, Append, Sync, Settle,
 use Rattle.folder_spec.specs.Image.{Image, IsLeftOf, IsImage}
 use Rattle.folder_spec.specs.View.{found, view_of, AgreeIn}
 use Rattle.folder_spec.specs.Region.{Spares, AlikeIn, IsAsBefore, WritesOnlyNew}
-use Rattle.folder_spec.proofs.Tables.{put-other, moved-other, present_is_table, among-push}
+use Rattle.folder_spec.proofs.Tables.{put-other, moved-other, present_is_table, among-push, last_of-push}
 
 -- what a call leaves at all paths that it spares: each table afterwards has there what a table before had
 pub spared_tables : (region : Path → Bool) (s : State) (call : Call) → Spares region call → (t : Table) → IsTableOf (changed s call) t
@@ -45,8 +45,33 @@ spared_tables region s call spares t is_table = by_call call spares is_table
     by_call (RemoveFile p) apart h = new_table (put (present s) p Nothing) (λ q inside. put-other (present s) p Nothing q (apart q inside)) h
     by_call (RemoveDir p) apart h = new_table (put (present s) p Nothing) (λ q inside. put-other (present s) p Nothing q (apart q inside)) h
 
+-- and the present table has there what was present
+pub spared_present : (region : Path → Bool) (s : State) (call : Call) → Spares region call → AlikeIn region (present (changed s call)) (present s)
+spared_present region s call spares q inside = by_call call spares
+  where
+    file_changed : (x : Spot) (change : Node → Node) → present (with_file s x change) q ≡ present s q
+    file_changed Nothing change = refl
+    file_changed Directory change = refl
+    file_changed Odd change = refl
+    file_changed (FileNode n) change = refl
+
+    new_table : (v : Table) → v q ≡ present s q → present (with_table s v) q ≡ present s q
+    new_table v e = ap (λ w. w q) (last_of-push s.kept s.later v) ∙ e
+
+    by_call : (call : Call) → Spares region call → present (changed s call) q ≡ present s q
+    by_call (MakeDir p) apart = new_table (put (present s) p Directory) (put-other (present s) p Directory q (apart q inside))
+    by_call (Create p) apart = new_table (put (present s) p (FileNode s.made)) (put-other (present s) p (FileNode s.made) q (apart q inside))
+    by_call (Append p piece) apart = file_changed (present s p) (grown piece)
+    by_call (Sync p) apart = file_changed (present s p) synced
+    by_call Settle apart = refl
+    by_call (Rename old new) apart =
+        new_table (moved (present s) old new) (moved-other (present s) old new q (apart q inside).0 (apart q inside).1)
+    by_call (RemoveFile p) apart = new_table (put (present s) p Nothing) (put-other (present s) p Nothing q (apart q inside))
+    by_call (RemoveDir p) apart = new_table (put (present s) p Nothing) (put-other (present s) p Nothing q (apart q inside))
+
 pub as_before : (region : Path → Bool) (s : State) → IsAsBefore region s s
-as_before region s = record { tables = λ t h. (t, h, λ q inside. refl); nodes = λ n h. refl; made = omega arith }
+as_before region s =
+    record { tables = λ t h. (t, h, λ q inside. refl); seen = λ q inside. refl; nodes = λ n h. refl; made = omega arith }
 
 pub put_node-other : (nodes : ℕ → Node) (n : ℕ) (node : Node) (k : ℕ) → n ≢ k → put_node nodes n node k ≡ nodes k
 put_node-other nodes n node k apart = rw (ne_eqb n k apart) refl
@@ -94,6 +119,7 @@ as_before_on region s0 s call spares new so_far = record {
       let mid : (u : Table) × IsTableOf s u × AlikeIn region t u = spared_tables region s call spares t is_table in
       let first : (v : Table) × IsTableOf s0 v × AlikeIn region mid.0 v = so_far.tables mid.0 mid.1 in
       (first.0, first.1, λ q inside. mid.2 q inside ∙ first.2 q inside);
+  seen = λ q inside. spared_present region s call spares q inside ∙ so_far.seen q inside;
   nodes = λ n old. old_nodes_stay s call s0.made so_far.made new n old ∙ so_far.nodes n old;
   made = omega (arith, so_far.made, made_grows s call);
 }

@@ -29,6 +29,10 @@ pub record Event : Type 0 where
 abbrev pub IsFree : Table → Path → Type 0
 IsFree t p = (t p ≡ Nothing) × (t (parent p) ≡ Directory)
 
+-- a file stands there, or may be made there
+abbrev pub IsFilePlace : Table → Path → Type 0
+IsFilePlace t p = IsFree t p ⊎ HasFile t p
+
 -- a directory without entries
 abbrev pub IsEmptyDir : Table → Path → Type 0
 IsEmptyDir t p = (t p ≡ Directory) × ((a : Part) → t (child p a) ≡ Nothing)
@@ -132,9 +136,13 @@ Steps call a b (Err Failed) = Allowed a.state call × ((added : ℕ) × (added �
 Steps call a b (Err Refused) = (¬ Allowed a.state call) × (b ≡ told_after a call Denied)
 Steps call a b (Err NoMemory) = b ≡ a
 
--- the same of a folder that may tell nothing: then it tells nothing afterwards either
+-- R holds of what a folder tells before and after. One that tells nothing before tells nothing afterwards either.
+abbrev pub FromTo : (Told → Told → Type 0) → Option Told → Option Told → Type 0
+FromTo R None None = Unit {0}
+FromTo R (Some a) (Some b) = R a b
+FromTo R None (Some b) = ⊥
+FromTo R (Some a) None = ⊥
+
+-- a call by its answer, of a folder that may tell nothing
 abbrev pub Changes : Call → Option Told → Option Told → Result (Unit {0}) FolderFault → Type 0
-Changes call None None result = Unit {0}
-Changes call (Some a) (Some b) result = Steps call a b result
-Changes call None (Some b) result = ⊥
-Changes call (Some a) None result = ⊥
+Changes call before after result = FromTo (λ a b. Steps call a b result) before after

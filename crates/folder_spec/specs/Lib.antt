@@ -6,3 +6,4 @@ pub mod Moments
 pub mod View
 pub mod Listing
 pub mod Region
+pub mod Replace

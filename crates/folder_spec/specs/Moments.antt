@@ -1,7 +1,7 @@
 -- The states of a call: the state at entry, and the state after each event that the call adds to the log.
-use Rattle.std.specs.Prelude.{◌≡◌, List, [], ◌∷◌, ◌++◌, Option, Some, None}
+use Rattle.std.specs.Prelude.{◌≡◌, List, [], ◌∷◌, ◌++◌, Option}
 use Rattle.folder_spec.specs.State.{State}
-use Rattle.folder_spec.specs.Event.{Event, after, Told}
+use Rattle.folder_spec.specs.Event.{Event, after, Told, FromTo}
 
 -- the state after these events
 abbrev pub run : State → List Event → State
@@ -26,9 +26,6 @@ pub record Went (P : State → Type 0) (Q : State → Event → Type 0) (a b : T
   pub states : EachState P a.state events
   pub each : EachEvent Q a.state events
 
--- the same of a folder that may tell nothing, where P and Q speak of the state at entry
+-- the same of a folder that may tell nothing; here P and Q speak of the state at entry
 abbrev pub Moments : (State → State → Type 0) → (State → State → Event → Type 0) → Option Told → Option Told → Type 0
-Moments P Q None None = Unit {0}
-Moments P Q (Some a) (Some b) = Went (P a.state) (Q a.state) a b
-Moments P Q None (Some b) = ⊥
-Moments P Q (Some a) None = ⊥
+Moments P Q before after = FromTo (λ a b. Went (P a.state) (Q a.state) a b) before after

@@ -1,9 +1,17 @@
 -- Regions of paths that calls leave as they were.
-use Rattle.std.specs.Prelude.{◌≡◌, ◌≢◌, ℕ, ◌<◌, ◌≤◌, Bool, None, IsTrue}
+use Rattle.std.specs.Prelude.{◌≡◌, ◌≢◌, ℕ, ◌<◌, ◌≤◌, Bool, ◌&&◌, None, is_none, IsTrue}
 use Rattle.folder_spec.specs.declared.Spot.TheVariants.{FileNode}
 use Rattle.folder_spec.specs.Path.{Path, below}
 use Rattle.folder_spec.specs.State.{Table, State, present, IsTableOf}
 use Rattle.folder_spec.specs.Event.{Call, MakeDir, Create, Append, Sync, Settle, Rename, RemoveFile, RemoveDir}
+
+-- the paths that do not begin with w
+abbrev pub apart_from : Path → Path → Bool
+apart_from w p = is_none (below w p)
+
+-- the paths that begin with neither
+abbrev pub apart_from_both : Path → Path → Path → Bool
+apart_from_both v w p = apart_from v p && apart_from w p
 
 -- the call's paths, and all below those that it moves, lie outside the region
 abbrev pub Spares : (Path → Bool) → Call → Type 0
@@ -20,9 +28,11 @@ Spares region (RemoveDir p) = (q : Path) → IsTrue (region q) → p ≢ q
 abbrev pub AlikeIn : (Path → Bool) → Table → Table → Type 0
 AlikeIn region t u = (q : Path) → IsTrue (region q) → t q ≡ u q
 
--- in the region s is as s0 was: each table has there what a table of s0 had, and the files of then are as they were
+-- In the region s is as s0 was: each table has there what a table of s0 had, and the present one what was present. The
+-- files of then are as they were.
 pub record IsAsBefore (region : Path → Bool) (s0 s : State) : Type 0 where
   pub tables : (t : Table) → IsTableOf s t → (u : Table) × IsTableOf s0 u × AlikeIn region t u
+  pub seen : AlikeIn region (present s) (present s0)
   pub nodes : (n : ℕ) → n < s0.made → s.nodes n ≡ s0.nodes n
   pub made : s0.made ≤ s.made
 
@@ -36,3 +46,7 @@ WritesOnlyNew made s Settle = Unit {0}
 WritesOnlyNew made s (Rename old new) = Unit {0}
 WritesOnlyNew made s (RemoveFile p) = Unit {0}
 WritesOnlyNew made s (RemoveDir p) = Unit {0}
+
+-- the call spares the region, and all files of then
+abbrev pub SparesOld : (Path → Bool) → State → State → Call → Type 0
+SparesOld region s0 s call = Spares region call × WritesOnlyNew s0.made s call

@@ -1,11 +1,12 @@
 //! Laws of the definitions. Each function does nothing, and its clause is the law.
-ghost use Rattle.std.specs.Prelude.{◌≡◌, ◌++◌, ℕ, Bool, None, IsTrue};
+ghost use Rattle.std.specs.Prelude.{◌≡◌, ◌++◌, ℕ, List, Bool, None, IsTrue};
 ghost use Rattle.folder_spec.specs.State.{State, Table, moved, IsSound, HasNothingPending};
 ghost use Rattle.folder_spec.specs.Event.{Call, Sync, Settle, Allowed, changed, fallen};
 ghost use Rattle.folder_spec.specs.Image.{Image, IsImage, state_of, seen_now};
 ghost use Rattle.folder_spec.specs.Path.{Path, below};
 ghost use Rattle.folder_spec.specs.declared.Spot.TheVariants.{Nothing};
-ghost use Rattle.folder_spec.specs.View.{View, view_of, AgreeIn, Shows, ShowsOneOf};
+ghost use Rattle.folder_spec.specs.Replace.{IsOldOrNew, IsReplaced, ShowsOldOrNew, IsCleanAt};
+ghost use Rattle.folder_spec.specs.View.{FileOf, View, view_of, AgreeIn, Shows, ShowsOneOf};
 ghost use Rattle.folder_spec.specs.Region.{Spares, WritesOnlyNew, IsAsBefore};
 
 /// A call that is allowed keeps a state sound, whether it is done or fails.
@@ -33,6 +34,14 @@ pub fn syncs_narrow_images()
 pub fn spared_regions_stay()
     ensures one_call { (region : Path → Bool) (s0 s : State) (call : Call) → Spares region call → WritesOnlyNew s0.made s call → IsAsBefore region s0 s → IsAsBefore region s0 (changed s call) }
     ensures images { (region : Path → Bool) (s0 s : State) → IsSound s0 → IsAsBefore region s0 s → (image : Image) → IsImage s image → (old : Image) × IsImage s0 old × AgreeIn region (view_of image) (view_of old) }
+{}
+
+/// Where a file is put in the place of another at once, a crash shows the old one or the new one, and
+/// clean files stay clean. Once that is settled, a crash shows the new one.
+pub fn replaced_files_are_old_or_new()
+    ensures images { (region : Path → Bool) (at : Path) (bytes : List ℕ) (s0 s : State) (image : Image) → IsSound s0 → IsOldOrNew region at bytes s0 s → IsImage s image → ShowsOldOrNew region at bytes s0 image }
+    ensures settled { (region : Path → Bool) (at : Path) (bytes : List ℕ) (s0 s : State) (image : Image) → IsReplaced region at bytes s0 s → IsImage s image → view_of image at ≡ FileOf bytes }
+    ensures clean { (region : Path → Bool) (at : Path) (bytes : List ℕ) (s0 s : State) → IsSound s0 → IsCleanAt at s0 → IsOldOrNew region at bytes s0 s → IsCleanAt at s }
 {}
 
 /// A rename moves what stands at the old path and below it, and leaves all else.

@@ -7,6 +7,8 @@
 
 pub mod laws;
 
+use std::alloc::AllocError;
+
 /// What stands at a path.
 #[derive(Debug, Clone, Copy, PartialEq, Eq, Drop)]
 pub enum Kind {
@@ -25,6 +27,17 @@ pub enum FolderFault {
     Refused,
     /// There was no memory for it, and nothing has changed.
     NoMemory,
+}
+
+impl From<AllocError> for FolderFault {
+    ghost use Rattle.std.specs.Prelude.{◌≡◌};
+    ghost use Rattle.folder_spec.specs.declared.FolderFault.TheVariants.{NoMemory};
+
+    ghost from_gives = { λ _ result. result ≡ NoMemory };
+
+    fn from(_fault: AllocError) -> FolderFault {
+        FolderFault::NoMemory
+    }
 }
 
 /// What a name table has at a path: a file by the number of its node.

@@ -32,10 +32,10 @@ line_is_plain (suc (suc (suc (suc (suc zero))))) line h =
 line_is_plain (suc (suc (suc (suc (suc (suc n)))))) line h = let none : None ≡ Some line = h.there in cc none
 
 -- the line that comes next is the journal's own
-same_line : (n : ℕ) (line own rest after : List ℕ) → IsLine n line → IsLine n own → line ++ 10 ∷ rest ≡ own ++ 10 ∷ after → (line ≡ own) × (rest ≡ after)
+pub same_line : (n : ℕ) (line own rest after : List ℕ) → IsLine n line → IsLine n own → line ++ 10 ∷ rest ≡ own ++ 10 ∷ after → (line ≡ own) × (rest ≡ after)
 same_line n line own rest after is is_own e = one_line line own rest after (line_is_plain n line is) (line_is_plain n own is_own) e
 
-own_line : (j : Journal) (n : ℕ) (line : List ℕ) → IsJournal j → slice_get (lines_of j) n ≡ Some line → IsLine n line
+pub own_line : (j : Journal) (n : ℕ) (line : List ℕ) → IsJournal j → slice_get (lines_of j) n ≡ Some line → IsLine n line
 own_line j n line fits there = record { journal = j; fits = fits; there = there }
 
 next_left : (j : Journal) (n : ℕ) (line rest : List ℕ) → IsJournal j → IsLine n line → line ++ 10 ∷ rest ≡ ended (drop n (lines_of j)) → rest ≡ ended (drop (suc n) (lines_of j))

@@ -2,3 +2,5 @@ pub mod Values
 pub mod Lines
 pub mod Readings
 pub mod Exact
+pub mod Writings
+pub mod BackAgain

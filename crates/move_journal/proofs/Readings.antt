@@ -1,5 +1,5 @@
 -- How reading answers where a call of the folder fell, and where it read the file.
-use Rattle.std.proofs.Common.{◌≡◌, ◌≢◌, ℕ, ◌<◌, ◌≤◌, ◌-◌, ◌^◌, ◌⊎◌, List, [], ◌∷◌, ◌++◌, length, take, drop, min, Option, Some, None, Result, Ok, Err, refl, sym, ap, ◌∙◌, subst, inl, inr, arith}
+use Rattle.std.proofs.Common.{◌≡◌, ◌≢◌, ℕ, ◌<◌, ◌≤◌, ◌-◌, ◌^◌, ◌⊎◌, List, [], ◌∷◌, ◌++◌, length, take, drop, min, Option, Some, None, Result, Ok, Err, IfOk, refl, sym, ap, ◌∙◌, subst, inl, inr, arith}
 use Rattle.std.proofs.lemmas.List.{take_all}
 use Rattle.move_journal.proofs.Values.{take_front}
 use Rattle.folder_spec.specs.declared.FolderFault.{FolderFault}
@@ -11,10 +11,13 @@ use Rattle.folder_spec.specs.declared.Spot.TheVariants.{Nothing, Directory, File
 use Rattle.folder_spec.specs.Path.{Path}
 use Rattle.folder_spec.specs.State.{State, present, kind_of, HasFile}
 use Rattle.folder_spec.specs.Event.{Told}
-use Rattle.folder_model.specs.Answers.{IsRisen, Counts, Answers, Reads}
+use Rattle.port_model.specs.Counts.{CountRose}
+use Rattle.folder_model.specs.Answers.{Counts, Answers, Reads}
+use Rattle.folder_model.proofs.Counting.{never_falls, rose_since}
 use Rattle.move_journal.specs.declared.journal.Journal.{Journal}
 use Rattle.move_journal.specs.declared.journal.JournalFault.{JournalFault}
 use Rattle.move_journal.specs.declared.journal.JournalFault.TheVariants.{NoJournal, BadJournal, TooLarge, Failed, NoMemory}
+use Rattle.move_journal.specs.Journal.{IsJournal}
 use Rattle.move_journal.specs.Reading.{journal_path, file_bytes, journal_bytes, ParsesAs, ReadsAs, ReadsAt, ReadsJournal, fault_of}
 
 pub no_memory_at : (told : Option Told) (work : Path) → ReadsJournal told work (Err NoMemory)
@@ -42,18 +45,11 @@ fell_at told work folder.NoMemory = no_memory_at told work
 -- and the count rose, if it was no want of memory
 pub risen_by : {T : Type 0} (told : Option Told) (before after : ℕ) (Condition : State → Type 0) (IsRight : State → T → Type 0) (fault : FolderFault)
     → ((a : Told) → told ≡ Some a → Condition a.state) → Counts {T = T} told before after (Err fault) → Answers {T = T} told Condition IsRight (Err fault)
-    → fault_of fault ≡ Failed → IsRisen before after
+    → fault_of fault ≡ Failed → CountRose before after
 risen_by told before after Condition IsRight folder.Failed holds counts answers e = counts.1
 risen_by None before after Condition IsRight folder.Refused holds counts answers e = counts.1
 risen_by (Some a) before after Condition IsRight folder.Refused holds counts answers e = absurd (answers (holds a refl))
 risen_by told before after Condition IsRight folder.NoMemory holds counts answers e = cc e
-
-pub counted : {T : Type 0} (told : Option Told) (before after : ℕ) (value : T) → Counts told before after (Ok value) → before ≤ after
-counted None before after value h = h
-counted (Some a) before after value h = omega (arith, h)
-
-pub risen_since : (before mid after : ℕ) → before ≤ mid → IsRisen mid after → IsRisen before after
-risen_since before mid after le h = elim h as (λ _. IsRisen before after) [ inl more ↦ inl (omega arith) | inr end_ ↦ inr end_ ]
 
 -- a file is where its kind says so
 file_there : (s : State) (x : Spot) → File ≡ kind_of x → (n : ℕ) × (x ≡ FileNode n)
@@ -141,9 +137,21 @@ whole_at told mid work at old new n result same place size small answers parses 
 pub risen_second : (told mid : Option Told) (at : Path) (before between after : ℕ) (kind : Kind) (old new : List ℕ) (fault : FolderFault) → mid ≡ told → kind ≡ File
     → Answers told (λ s. Unit {0}) (λ s k. k ≡ kind_of (present s at)) (Ok kind) → Counts told before between (Ok kind)
     → Answers mid (λ s. HasFile (present s) at) (λ s k. Reads s at 0 old new k) (Err fault) → Counts {T = ℕ} mid between after (Err fault)
-    → fault_of fault ≡ Failed → IsRisen before after
+    → fault_of fault ≡ Failed → CountRose before after
 risen_second told mid at before between after kind old new fault same is_file first counts second counted_too e =
-    risen_since before between after (counted told before between kind counts)
+    rose_since before between after (never_falls told before between (Ok kind) counts)
     (risen_by {T = ℕ} mid between after (λ s. HasFile (present s) at) (λ s k. Reads s at 0 old new k) fault
     (λ a is. has_file told at (subst (λ k. Answers told (λ s. Unit {0}) (λ s j. j ≡ kind_of (present s at)) (Ok k)) is_file first) a (sym same ∙ is))
     counted_too second e)
+
+-- the count never falls
+pub grows_twice : {T U : Type 0} (told mid : Option Told) (before between after : ℕ) (first : Result T FolderFault) (second : Result U FolderFault)
+    → Counts told before between first → Counts mid between after second → before ≤ after
+grows_twice told mid before between after first second one two =
+    let a : before ≤ between = never_falls told before between first one in
+    let b : between ≤ after = never_falls mid between after second two in
+    omega arith
+
+pub parses_journals : (text : List ℕ) (result : Result Journal JournalFault) → ParsesAs text result → IfOk result (λ j. IsJournal j)
+parses_journals text (Ok j) h = h.0
+parses_journals text (Err fault) h = tt

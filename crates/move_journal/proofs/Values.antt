@@ -15,11 +15,11 @@ use Rattle.folder_model.specs.Text.{is_plain_byte, is_plain_part, is_path_text, 
 use Rattle.move_journal.specs.Journal.{IsParsed, IsDigest}
 use Rattle.move_journal.specs.Lines.{has_no_newline}
 
-both-left : (s t : Bool) → (s && t) ≡ true → s ≡ true
+pub both-left : (s t : Bool) → (s && t) ≡ true → s ≡ true
 both-left true t h = refl
 both-left false t h = h
 
-both-right : (s t : Bool) → (s && t) ≡ true → t ≡ true
+pub both-right : (s t : Bool) → (s && t) ≡ true → t ≡ true
 both-right true t h = h
 both-right false t h = absurd (false≢true h)
 

@@ -18,8 +18,12 @@ pub mod laws;
 mod line;
 mod parse;
 pub mod reading;
+mod replace;
 #[cfg(test)]
 mod tests;
+mod text;
+pub mod writing;
 
 pub use journal::{Journal, JournalFault, Phase};
 pub use reading::read;
+pub use writing::write;

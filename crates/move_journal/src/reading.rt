@@ -1,7 +1,8 @@
 //! Reading the journal's file.
-ghost use Rattle.std.specs.Prelude.{◌≡◌, Err};
-ghost use Rattle.folder_model.specs.Answers.{IsRisen};
+ghost use Rattle.std.specs.Prelude.{◌≡◌, ◌≤◌, Err, IfOk};
+ghost use Rattle.port_model.specs.Counts.{CountRose};
 ghost use Rattle.move_journal.specs.declared.journal.JournalFault.TheVariants.{Failed};
+ghost use Rattle.move_journal.specs.Journal.{IsJournal};
 ghost use Rattle.move_journal.specs.Reading.{ReadsJournal};
 
 use crate::journal::{Journal, JournalFault};
@@ -16,7 +17,9 @@ use std::alloc::Global;
 pub fn read<F: Folder>(alloc: Global, folder: &mut F, work: &FPath) -> Result<Journal, JournalFault>
     ensures told { F.told folder.new ≡ F.told folder.old }
     ensures answer { ReadsJournal (F.told folder.old) work.now result }
-    ensures failed { result ≡ Err Failed → IsRisen (F.faults folder.old) (F.faults folder.new) }
+    ensures journal { IfOk result (λ journal. IsJournal journal) }
+    ensures grows { F.faults folder.old ≤ F.faults folder.new }
+    ensures failed { result ≡ Err Failed → CountRose (F.faults folder.old) (F.faults folder.new) }
 {
     let at = work.child("journal")?;
     match folder.kind(&at)? {

@@ -1,6 +1,12 @@
-use crate::{Journal, JournalFault, Phase, read};
-use folder_model::{FPath, Folder, MemFolder};
-use std::alloc::Global;
+ghost use Rattle.std.specs.Prelude.{◌≡◌, IfOk, IfSome, IsTrue};
+ghost use Rattle.folder_spec.specs.declared.Spot.TheVariants.{Directory};
+ghost use Rattle.folder_spec.specs.State.{present};
+ghost use Rattle.move_journal.specs.Writing.{IsNothingOrFile, IsWorkFolder};
+
+use crate::{Journal, JournalFault, Phase, read, write};
+use folder_model::{FPath, Folder, Kind, MemFolder, Pick};
+use folder_spec::FolderFault;
+use std::alloc::{AllocError, Global};
 use std::test::Fail;
 
 const TEXT: &str =
@@ -87,5 +93,140 @@ fn refuses_what_is_no_journal(rt: HostRuntime) -> Result<(), Fail> {
         read(alloc, &mut folder, &work).err(),
         Some(JournalFault::Failed)
     );
+    Ok(())
+}
+
+// A settled folder with the journal of `TEXT` in `w`.
+fn begun(alloc: Global) -> Result<MemFolder, Fail> {
+    let mut folder = MemFolder::new(alloc)?;
+    let file = path(alloc, "w/journal")?;
+    let _ = folder.make_dir(&path(alloc, "w")?);
+    let _ = folder.create(&file);
+    let _ = folder.append(&file, TEXT.as_bytes());
+    let _ = folder.sync(&file);
+    let _ = folder.settle();
+    Ok(folder)
+}
+
+fn is_directory<F: Folder>(folder: &mut F, at: &FPath) -> bool
+    ensures told { F.told folder.new ≡ F.told folder.old }
+    ensures is { IsTrue result → IfSome (F.told folder.old) (λ a. present a.state at.now ≡ Directory) }
+{
+    match folder.kind(at) {
+        Ok(Kind::Dir) => true,
+        _ => false,
+    }
+}
+
+fn is_nothing_or_file<F: Folder>(folder: &mut F, at: &FPath) -> bool
+    ensures told { F.told folder.new ≡ F.told folder.old }
+    ensures is { IsTrue result → IfSome (F.told folder.old) (λ a. IsNothingOrFile (present a.state) at.now) }
+{
+    match folder.kind(at) {
+        Ok(Kind::Missing) => true,
+        Ok(Kind::File) => true,
+        _ => false,
+    }
+}
+
+// Whether a journal can be written in the folder.
+fn is_work_folder<F: Folder>(folder: &mut F, work: &FPath) -> Result<bool, AllocError>
+    ensures { IfOk result (λ yes. IsTrue yes → IfSome (F.told folder.new) (λ a. IsWorkFolder (present a.state) work.now)) }
+{
+    let at = work.child("journal")?;
+    let new = work.child("journal.new")?;
+    Ok(
+        is_directory(folder, work)
+            && is_nothing_or_file(folder, &at)
+            && is_nothing_or_file(folder, &new),
+    )
+}
+
+// Writes the folder's journal again, as that of a migration that is done. The call of that number
+// fails, counted over those of `write`.
+fn finish(
+    alloc: Global,
+    folder: &mut MemFolder,
+    fail: u64,
+) -> Result<Result<(), FolderFault>, Fail> {
+    let work = path(alloc, "w")?;
+    let mut journal = read(alloc, folder, &work).ok().ok_or("a journal")?;
+    journal.phase = Phase::Done;
+    if !is_work_folder(folder, &work)? {
+        return Err(Fail::from("a work folder"));
+    }
+    folder.fail_at(fail)?;
+    Ok(write(alloc, folder, &work, &journal))
+}
+
+// The phase of the journal that a crash to that table leaves after `finish`.
+fn phase_left(alloc: Global, fail: u64, table: usize) -> Result<Option<Phase>, Fail> {
+    let mut folder = begun(alloc)?;
+    let _ = finish(alloc, &mut folder, fail)?;
+    let tail = Vec::from_slice(alloc, b"x")?;
+    let mut left = folder.crash(&Pick { table, tail })?;
+    let work = path(alloc, "w")?;
+    Ok(
+        read(alloc, &mut left, &work)
+            .ok()
+            .map(|journal| journal.phase),
+    )
+}
+
+#[test]
+fn writes_the_six_lines(rt: HostRuntime) -> Result<(), Fail> {
+    let alloc = rt.alloc();
+    let mut folder = begun(alloc)?;
+    assert_eq!(rt; finish(alloc, &mut folder, 0)?, Ok(()));
+    let mut out = [0u8; 256];
+    let count = folder
+        .read(&path(alloc, "w/journal")?, 0, &mut out)
+        .ok()
+        .ok_or("the file")?;
+    let (before, after) = TEXT.split_once("building").ok_or("a phase")?;
+    let text = format!(in alloc; "{before}done{after}")?;
+    assert_eq!(rt; &out[..count], text.as_bytes());
+    Ok(())
+}
+
+#[test]
+fn removes_what_a_stop_left(rt: HostRuntime) -> Result<(), Fail> {
+    let alloc = rt.alloc();
+    let mut folder = begun(alloc)?;
+    let new = path(alloc, "w/journal.new")?;
+    let _ = folder.create(&new);
+    let _ = folder.append(&new, b"vaultmove 1\nph");
+    assert_eq!(rt; finish(alloc, &mut folder, 0)?, Ok(()));
+    assert_eq!(rt; folder.kind(&new), Ok(Kind::Missing));
+    let work = path(alloc, "w")?;
+    let phase = read(alloc, &mut folder, &work)
+        .ok()
+        .map(|journal| journal.phase);
+    assert_eq!(rt; phase, Some(Phase::Done));
+    Ok(())
+}
+
+#[test]
+fn leaves_one_journal_at_each_moment(rt: HostRuntime) -> Result<(), Fail> {
+    let alloc = rt.alloc();
+    // 1 kind, 2 create, 3 append, 4 sync, 5 rename, 6 settle; 7 is past the last
+    for (fail, table, phase) in [
+        (1, 0, Phase::Building),
+        (2, 0, Phase::Building),
+        (3, 1, Phase::Building),
+        (4, 1, Phase::Building),
+        (5, 0, Phase::Building),
+        (5, 1, Phase::Building),
+        (6, 0, Phase::Building),
+        (6, 1, Phase::Building),
+        (6, 2, Phase::Done),
+        (7, 0, Phase::Done),
+    ] {
+        assert_eq!(rt;
+            phase_left(alloc, fail, table)?,
+            Some(phase),
+            "{fail} {table}"
+        );
+    }
     Ok(())
 }

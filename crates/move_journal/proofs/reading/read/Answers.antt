@@ -3,7 +3,7 @@ use Rattle.std.proofs.lemmas.Result.{err_from_is_err_and}
 use Rattle.folder_spec.specs.declared.FolderFault.{FolderFault}
 use Rattle.move_journal.specs.declared.journal.JournalFault.TheVariants.{Failed}
 use Rattle.move_journal.specs.Reading.{fault_of}
-use Rattle.move_journal.proofs.Readings.{fell_at, risen_second, whole_at, too_large_at}
+use Rattle.move_journal.proofs.Readings.{fell_at, risen_second, whole_at, too_large_at, grows_twice, parses_journals}
 use Rattle.move_journal.proofs.reading.read.Goals as goal
 
 pub returns-in_err-length-clause-answer : goal.returns-in_err-length-clause-answer
@@ -31,3 +31,21 @@ returns-clause-answer g c =
     whole_at (g.F.Folder.told c.args.folder.now) (g.F.Folder.told c.kind.new.self) c.args.work.now c.in_ok-at.at c.as_mut_slice-bytes.result.now
     c.read.new.out c.in_ok-length.length c.parse.result c.in_ok-kind.ensures.told c.in_ok-at.ensures size c.if-length-gt65536.false
     c.in_ok-length.ensures.answer c.parse.ensures
+
+pub returns-in_err-length-clause-grows : goal.returns-in_err-length-clause-grows
+returns-in_err-length-clause-grows g c =
+    grows_twice (g.F.Folder.told c.args.folder.now) (g.F.Folder.told c.kind.new.self) (g.F.Folder.faults c.args.folder.now)
+    (g.F.Folder.faults c.kind.new.self) (g.F.Folder.faults c.read.new.self) c.kind.result c.read.result c.kind.ensures.counts c.read.ensures.counts
+
+pub returns-then-length-gt65536-clause-grows : goal.returns-then-length-gt65536-clause-grows
+returns-then-length-gt65536-clause-grows g c =
+    grows_twice (g.F.Folder.told c.args.folder.now) (g.F.Folder.told c.kind.new.self) (g.F.Folder.faults c.args.folder.now)
+    (g.F.Folder.faults c.kind.new.self) (g.F.Folder.faults c.read.new.self) c.kind.result c.read.result c.kind.ensures.counts c.read.ensures.counts
+
+pub returns-clause-grows : goal.returns-clause-grows
+returns-clause-grows g c =
+    grows_twice (g.F.Folder.told c.args.folder.now) (g.F.Folder.told c.kind.new.self) (g.F.Folder.faults c.args.folder.now)
+    (g.F.Folder.faults c.kind.new.self) (g.F.Folder.faults c.read.new.self) c.kind.result c.read.result c.kind.ensures.counts c.read.ensures.counts
+
+pub returns-clause-journal : goal.returns-clause-journal
+returns-clause-journal g c = parses_journals _ c.parse.result c.parse.ensures

@@ -1,0 +1,44 @@
+-- How the count of faults goes on from call to call.
+use Rattle.std.proofs.Common.{◌≡◌, ℕ, ◌<◌, ◌≤◌, Option, Some, None, Result, Ok, Err, refl, inl, inr, arith}
+use Rattle.port_model.specs.Counts.{CountRose, IsCounted}
+use Rattle.folder_spec.specs.declared.FolderFault.{FolderFault}
+use Rattle.folder_spec.specs.declared.FolderFault.TheVariants.{Failed, Refused, NoMemory}
+use Rattle.folder_spec.specs.State.{State}
+use Rattle.folder_spec.specs.Event.{Call, Allowed, Told, Changes}
+use Rattle.folder_model.specs.Answers.{Counts, Answers, CountsAbove}
+
+pub never_falls : {T : Type 0} (told : Option Told) (before after : ℕ) (result : Result T FolderFault) → Counts told before after result → before ≤ after
+never_falls None before after (Ok value) h = h.grows
+never_falls (Some a) before after (Ok value) h = omega (arith, h)
+never_falls told before after (Err Failed) h = h.0.grows
+never_falls None before after (Err Refused) h = h.0.grows
+never_falls (Some a) before after (Err Refused) h = omega (arith, h)
+never_falls None before after (Err NoMemory) h = h.grows
+never_falls (Some a) before after (Err NoMemory) h = omega (arith, h)
+
+pub rose_since : (before mid after : ℕ) → before ≤ mid → CountRose mid after → CountRose before after
+rose_since before mid after le h = elim h as (λ _. CountRose before after) [ inl more ↦ inl (omega arith) | inr at_end ↦ inr at_end ]
+
+-- a call whose condition holds, if the folder tells its state
+pub counts_above : (T U : Type 0) (told : Option Told) (before after : ℕ) (fault : FolderFault) → ((a : Told) → told ≡ Some a → fault ≡ Refused → ⊥)
+    → Counts {T = T} told before after (Err fault) → CountsAbove {T = U} before after (Err fault)
+counts_above T U told before after Failed none h = (h.0.grows, h.1)
+counts_above T U None before after Refused none h = (h.0.grows, h.1)
+counts_above T U (Some a) before after Refused none h = absurd (none a refl refl)
+counts_above T U told before after NoMemory none h = never_falls {T = T} told before after (Err NoMemory) h
+
+-- after other calls
+pub counts_on : {T : Type 0} (before mid after : ℕ) (result : Result T FolderFault) → before ≤ mid → CountsAbove mid after result → CountsAbove before after result
+counts_on before mid after (Ok value) le h = omega arith
+counts_on before mid after (Err Failed) le h = (omega (arith, h.0), rose_since before mid after le h.1)
+counts_on before mid after (Err Refused) le h = (omega (arith, h.0), rose_since before mid after le h.1)
+counts_on before mid after (Err NoMemory) le h = omega arith
+
+-- a changing call whose condition holds is not refused
+pub not_refused : (call : Call) (t u : Option Told) → ((a : Told) → t ≡ Some a → Allowed a.state call) → (fault : FolderFault) → Changes call t u (Err fault)
+    → (a : Told) → t ≡ Some a → fault ≡ Refused → ⊥
+not_refused call (Some a) (Some b) allowed Refused h c is same = h.0 (allowed a refl)
+not_refused call (Some a) (Some b) allowed Failed h c is same = cc same
+not_refused call (Some a) (Some b) allowed NoMemory h c is same = cc same
+not_refused call (Some a) None allowed fault h c is same = absurd h
+not_refused call None u allowed fault h c is same = cc is

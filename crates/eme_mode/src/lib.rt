@@ -3,10 +3,8 @@
 //! Nothing here takes memory.
 #![tactic(auto)]
 
-ghost use Rattle.std.specs.Prelude.{◌≡◌, ◌<◌, ◌≤◌, ◌∷◌, ℕ, List, length, map, replicate};
-ghost use Rattle.aes_lanes.specs.Cipher.{aes256, inverse_aes256};
-ghost use Rattle.aes_lanes.specs.Rounds.{xor_bytes};
-ghost use Rattle.eme_mode.specs.Eme.{doubled, doubles, masked, sum_from, mixed, first_mask, eme256, inverse_eme256};
+ghost use Rattle.std.specs.Prelude.{◌≡◌, ◌<◌, ◌≤◌, ℕ, List, length};
+ghost use Rattle.eme_mode.specs.Eme.{doubled, masked, sum_from, mixed, first_mask, eme256, inverse_eme256};
 
 use aes_lanes::{Block, Cipher, Key256, xor_into};
 use std::marker::Model;
@@ -89,7 +87,7 @@ fn double(block: &Block) -> Block
 
 // Adds a mask to the first block, and to each next one the mask's double.
 fn add_masks(blocks: &mut [Block], first: &Block)
-    ensures { blocks.new ≡ masked blocks.old (doubles first.now (length blocks.old)) }
+    ensures { blocks.new ≡ masked first.now blocks.old }
 {
     let mut mask = *first;
     for block in blocks.iter_mut() {

@@ -1,36 +1,33 @@
 -- The masks as a loop adds them, and EME as the code goes through it.
-use Rattle.std.proofs.Common.{◌≡◌, ℕ, suc, ◌+◌, ◌-◌, ◌<◌, List, [], ◌∷◌, ◌++◌, length, take, drop, set, get_or, map, refl, sym, ap, ◌∙◌, arith, append_assoc}
+use Rattle.std.proofs.Common.{◌≡◌, ℕ, suc, ◌+◌, ◌<◌, List, [], ◌∷◌, ◌++◌, length, take, drop, set, get_or, map, refl, sym, ap, ◌∙◌, arith, append_assoc}
 use Rattle.std.proofs.Math.Seq.{take-suc-set, drop-cons}
 use Rattle.std.proofs.lemmas.List.{drop-set-lt, nil_from_length}
 use Rattle.aes_lanes.specs.Rounds.{xor_bytes}
-use Rattle.eme_mode.specs.Eme.{doubled, doubles, masked, sum_from, mixed, eme_by}
+use Rattle.eme_mode.specs.Eme.{doubled, masked, sum_from, mixed, eme_by}
 
 -- one block more has its mask
-pub masked-next : (whole blocks : List (List ℕ)) (i n : ℕ) (mask next block d : List ℕ)
-    → whole ≡ take i blocks ++ masked (drop i blocks) (doubles mask (n - i)) → i < length blocks → length blocks ≡ n
-    → block ≡ xor_bytes (get_or blocks i d) mask → next ≡ doubled mask
-    → whole ≡ take (i + 1) (set blocks i block) ++ masked (drop (i + 1) (set blocks i block)) (doubles next (n - (i + 1)))
-unfolding masked doubles
-masked-next whole blocks i n mask next block d so_far within long is doubling =
-    let left : n - i ≡ suc (n - (i + 1)) = omega arith in
+pub masked-next : (whole blocks : List (List ℕ)) (i : ℕ) (mask next block d : List ℕ)
+    → whole ≡ take i blocks ++ masked mask (drop i blocks) → i < length blocks → block ≡ xor_bytes (get_or blocks i d) mask
+    → next ≡ doubled mask → whole ≡ take (i + 1) (set blocks i block) ++ masked next (drop (i + 1) (set blocks i block))
+unfolding masked
+masked-next whole blocks i mask next block d so_far within is doubling =
     let after : i + 1 ≡ suc i = omega arith in
     let first : drop i blocks ≡ get_or blocks i d ∷ drop (i + 1) blocks = drop-cons blocks i d within ∙ ap (λ k. get_or blocks i d ∷ drop k blocks) (sym after) in
     let rest : drop (i + 1) (set blocks i block) ≡ drop (i + 1) blocks = drop-set-lt (i + 1) blocks i block (omega arith) in
     let front : take (i + 1) (set blocks i block) ≡ take i blocks ++ block ∷ [] = ap (λ k. take k (set blocks i block)) after ∙ take-suc-set blocks i block within in
-    let now : whole ≡ take i blocks ++ (block ∷ masked (drop (i + 1) blocks) (doubles next (n - (i + 1)))) =
-    so_far ∙ rw (first, left, is, doubling) refl in
-    now ∙ sym (ap (λ f. f ++ masked (drop (i + 1) (set blocks i block)) (doubles next (n - (i + 1)))) front
-    ∙ append_assoc (take i blocks) (block ∷ []) (masked (drop (i + 1) (set blocks i block)) (doubles next (n - (i + 1))))
-    ∙ ap (λ bs. take i blocks ++ (block ∷ masked bs (doubles next (n - (i + 1))))) rest)
+    let now : whole ≡ take i blocks ++ (block ∷ masked next (drop (i + 1) blocks)) = so_far ∙ rw (first, is, doubling) refl in
+    now ∙ sym (ap (λ f. f ++ masked next (drop (i + 1) (set blocks i block))) front
+    ∙ append_assoc (take i blocks) (block ∷ []) (masked next (drop (i + 1) (set blocks i block)))
+    ∙ ap (λ bs. take i blocks ++ (block ∷ masked next bs)) rest)
 
 -- no block is left
-pub masked-nil : (masks : List (List ℕ)) → masked [] masks ≡ []
+pub masked-nil : (mask : List ℕ) → masked mask [] ≡ []
 unfolding masked
-masked-nil masks = refl
+masked-nil mask = refl
 
 -- the blocks of which the first is the sum of the others
 pub mixed-cons : (tweak mp mc first step start sum : List ℕ) (blocks rest others : List (List ℕ))
-    → blocks ≡ first ∷ rest → step ≡ xor_bytes mp mc → others ≡ masked rest (doubles (doubled step) (length rest))
+    → blocks ≡ first ∷ rest → step ≡ xor_bytes mp mc → others ≡ masked (doubled step) rest
     → start ≡ xor_bytes mc tweak → sum ≡ sum_from start others → sum ∷ others ≡ mixed tweak mp mc blocks
 unfolding mixed
 mixed-cons tweak mp mc first step start sum blocks rest others parts step_is others_is start_is sum_is =
@@ -42,10 +39,9 @@ mixed-nil tweak mp mc blocks none = rw (nil_from_length blocks none) refl
 
 -- the steps of EME one after the other
 pub eme-steps : (f : List ℕ → List ℕ) (mask tweak sum inner : List ℕ) (blocks masked_once called mixed_once called_again last : List (List ℕ))
-    → masked_once ≡ masked blocks (doubles mask (length blocks)) → called ≡ map f masked_once → sum ≡ sum_from tweak called → inner ≡ f sum
-    → mixed_once ≡ mixed tweak sum inner called → called_again ≡ map f mixed_once
-    → last ≡ masked called_again (doubles mask (length called_again)) → length called_again ≡ length blocks
+    → masked_once ≡ masked mask blocks → called ≡ map f masked_once → sum ≡ sum_from tweak called → inner ≡ f sum
+    → mixed_once ≡ mixed tweak sum inner called → called_again ≡ map f mixed_once → last ≡ masked mask called_again
     → last ≡ eme_by f mask tweak blocks
 unfolding eme_by
-eme-steps f mask tweak sum inner blocks masked_once called mixed_once called_again last one two three four five six seven long =
-    seven ∙ rw (long, six, five, four, three, two, one) refl
+eme-steps f mask tweak sum inner blocks masked_once called mixed_once called_again last one two three four five six seven =
+    seven ∙ rw (six, five, four, three, two, one) refl

@@ -1,13 +1,27 @@
 //! Names that gocryptfs 2.3 encrypted in a vault of its own. A name is padded to whole blocks, each added byte the
 //! number of the bytes added.
+ghost use Rattle.std.specs.Prelude.{◌≡◌, ◌∷◌, []};
+
 use crate::Eme;
-use aes_lanes::Key256;
+use crate::laws::directions_undo_each_other;
+use aes_lanes::{Block, Key256};
 
 const KEY: &[u8; 32] =
     b"\xf4\x47\xe8\xbb\x85\x46\x09\xf1\x1e\xa1\x47\xe8\xf4\xbf\xd9\xd1\x28\x65\x3a\xfb\xb4\x69\xe1\x04\x8c\x84\x00\xe5\x9a\xe1\xd6\xa1";
 
 // The key of the directory, which is the tweak.
 const TWEAK: &[u8; 16] = b"\xbd\x9f\xc6\x69\xdc\x79\xb7\x19\x84\x6d\x80\x0c\x71\x41\x74\xc6";
+
+// Decrypting what was encrypted gives it back, whatever it is.
+fn encrypt_and_decrypt(eme: &Eme, tweak: &Block, first: &Block, second: &Block) -> [Block; 2]
+    ensures { result ≡ first.now ∷ second.now ∷ [] }
+{
+    let mut blocks = [*first, *second];
+    eme.encrypt(tweak, &mut blocks);
+    eme.decrypt(tweak, &mut blocks);
+    directions_undo_each_other();
+    blocks
+}
 
 #[test]
 fn a_name_of_one_block(rt: HostRuntime) {
@@ -45,4 +59,6 @@ fn a_name_of_four_blocks(rt: HostRuntime) {
     assert_eq!(rt; blocks, encrypted);
     eme.decrypt(TWEAK, &mut blocks);
     assert_eq!(rt; blocks, plain);
+    let both = encrypt_and_decrypt(&eme, TWEAK, &plain[0], &plain[1]);
+    assert_eq!(rt; both, [plain[0], plain[1]]);
 }

@@ -260,9 +260,10 @@ impl MemFolder {
         Err(FolderFault::NoMemory)
     }
 
-    // Answers a call that changes the folder.
+    // Answers a call that changes the folder. It does all of the change or nothing of it.
     fn run(&mut self, call: Call) -> Result<(), FolderFault>
         ensures changes { Steps (call_of call) (told_of self.old) (told_of self.new) result }
+        ensures whole { OnErr result (state_of self.new ≡ state_of self.old) }
         ensures counts { Counts (Some (told_of self.old)) self.old.faults self.new.faults result }
         ensures plan { plan_of self.new ≡ counted (plan_of self.old) }
         ensures due { FailsAs (fails_next (plan_of self.old)) result }

@@ -1,4 +1,7 @@
+mod silent;
+
 use crate::{Entry, FPath, FPathFault, Folder, FolderFault, Kind, MemFolder, Pick};
+use silent::Silent;
 use std::test::Fail;
 
 #[test]
@@ -227,6 +230,30 @@ fn refuses_where_the_condition_is_false(rt: HostRuntime) -> Result<(), Fail> {
         let refused = Some(FolderFault::Refused);
         assert_eq!(rt; answers(alloc, doing, at)?, (refused, refused), "{doing:?}");
     }
+    Ok(())
+}
+
+#[test]
+fn a_folder_may_tell_nothing(rt: HostRuntime) -> Result<(), Fail> {
+    let alloc = rt.alloc();
+    let mut folder = Silent { faults: 0 };
+    let (at, to) = (path(alloc, "f")?, path(alloc, "g")?);
+    for (doing, fault) in [
+        (Doing::Kind, None),
+        (Doing::List, Some(FolderFault::Refused)),
+        (Doing::Read, Some(FolderFault::Failed)),
+        (Doing::MakeDir, Some(FolderFault::Failed)),
+        (Doing::Create, Some(FolderFault::Failed)),
+        (Doing::Append, Some(FolderFault::Failed)),
+        (Doing::Sync, Some(FolderFault::Failed)),
+        (Doing::Settle, Some(FolderFault::Failed)),
+        (Doing::Rename, Some(FolderFault::Failed)),
+        (Doing::RemoveFile, Some(FolderFault::Failed)),
+        (Doing::RemoveDir, Some(FolderFault::Failed)),
+    ] {
+        assert_eq!(rt; answer(&mut folder, doing, &at, &to), fault, "{doing:?}");
+    }
+    assert_eq!(rt; folder.faults, 10);
     Ok(())
 }
 

@@ -7,7 +7,7 @@ ghost use Rattle.std.specs.Prelude.{◌≡◌, ℕ, ◌^◌, ◌<◌, ◌≤◌,
 ghost use Rattle.aes_lanes.specs.Cipher.{aes256};
 ghost use Rattle.aes_lanes.specs.Counter.{ctr32, increment32};
 ghost use Rattle.gcm_mode.specs.Hash.{block_bytes};
-ghost use Rattle.gcm_mode.specs.Gcm.{hash_subkey, hashed, pre_counter, tag_of, sealed, Opens, OpensToNothing, OpensToOneText};
+ghost use Rattle.gcm_mode.specs.Gcm.{hash_subkey, hashed, pre_counter, tag_of, sealed, Opens, OpensToNothing};
 
 use aes_lanes::{Block, Cipher, Key256, ctr32_xor, same_bytes};
 use std::marker::Model;
@@ -15,6 +15,7 @@ use std::marker::Model;
 mod counter;
 mod field;
 mod hash;
+pub mod laws;
 mod products;
 #[cfg(test)]
 mod tests;
@@ -141,8 +142,3 @@ impl Gcm {
         self.products.times(hash ^ lengths).to_be_bytes()
     }
 }
-
-/// The law that an encrypted text and its tag open to one text at most, the one that was sealed.
-pub fn opens_to_one_text()
-    ensures { OpensToOneText }
-{}

@@ -1,8 +1,9 @@
 // The cases with AES-256 of McGrew and Viega, 'The Galois/Counter Mode of Operation', appendix B.
 
-ghost use Rattle.std.specs.Prelude.{◌≡◌, ◌<◌, length};
+ghost use Rattle.std.specs.Prelude.{◌≡◌, ◌<◌, ◌≤◌, ◌^◌, length, IsOk};
 
 use super::*;
+use laws::{opens_to_one_text, unsealing_undoes_sealing};
 use std::process::Abort;
 
 const KEY: &[u8; 32] =
@@ -20,6 +21,22 @@ const IV_8: &[u8; 8] = b"\xca\xfe\xba\xbe\xfa\xce\xdb\xad";
 
 const IV_60: &[u8; 60] =
     b"\x93\x13\x22\x5d\xf8\x84\x06\xe5\x55\x90\x9c\x5a\xff\x52\x69\xaa\x6a\x7a\x95\x38\x53\x4f\x7d\xa1\xe4\xc3\x03\xd2\xa3\x18\xa7\x28\xc3\xc0\xc9\x51\x56\x80\x95\x39\xfc\xf0\xe2\x42\x9a\x6b\x52\x54\x16\xae\xdb\xf5\xa0\xde\x6a\x57\xa6\x37\xb3\x9b";
+
+// Unsealing a text that was sealed gives it back, whatever it is.
+fn seal_and_unseal(gcm: &Gcm, iv: &[u8], ad: &[u8], text: &mut [u8]) -> Result<(), BadTag>
+    requires some_iv { 0 < length iv.now }
+    requires iv_within { length iv.now ≤ 2 ^ 32 }
+    requires ad_within { length ad.now ≤ 2 ^ 32 }
+    requires text_within { length text.old ≤ 2 ^ 32 }
+    ensures right_tag { IsOk result }
+    ensures same_text { text.new ≡ text.old }
+{
+    let tag = gcm.seal(iv, ad, text);
+    let unsealed = gcm.unseal(iv, ad, text, &tag);
+    unsealing_undoes_sealing();
+    opens_to_one_text();
+    unsealed
+}
 
 // `plain` seals to `sealed` and `tag`, which open to it, and which another tag doesn't open.
 fn seals(
@@ -52,6 +69,7 @@ fn seals(
 
     assert_eq!(rt; gcm.unseal(iv, ad, text, tag), Ok(()));
     assert!(rt; same_bytes(text, plain));
+    assert_eq!(rt; seal_and_unseal(&gcm, iv, ad, text), Ok(()));
 }
 
 #[test]

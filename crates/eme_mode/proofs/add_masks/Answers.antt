@@ -5,7 +5,7 @@ use Rattle.eme_mode.proofs.add_masks.Goals as goal
 
 pub loop-block-preserved : goal.loop-block-preserved
 loop-block-preserved c =
-    masked-next _ _ _ _ _ _ _ _ c.loop-block.invariant (omega arith) c.loop-block.auto.blocks c.xor_into.ensures c.double-next.ensures
+    masked-next _ _ _ _ _ _ _ c.loop-block.invariant (omega arith) c.xor_into.ensures c.double-next.ensures
 
 pub returns : goal.returns
 returns c =

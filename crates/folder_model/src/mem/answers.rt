@@ -13,7 +13,7 @@ impl Folder for MemFolder {
     ghost use Rattle.folder_spec.specs.Event.{Steps, MakeDir, Create, Append, Sync, Settle, Rename, RemoveFile, RemoveDir};
     ghost use Rattle.folder_spec.specs.Listing.{IsListing};
     ghost use Rattle.folder_model.specs.Answers.{Answers, Counts, Reads};
-    ghost use Rattle.folder_model.specs.Memory.{told_of, faults_of, plan_of, counted, fails_next, FailsAs};
+    ghost use Rattle.folder_model.specs.Memory.{state_of, told_of, faults_of, plan_of, counted, fails_next, FailsAs};
     ghost use Rattle.folder_model.specs.Calls.{event_of};
     ghost use Rattle.folder_model.specs.Sound.{told_from, told_sound};
 
@@ -81,6 +81,7 @@ impl Folder for MemFolder {
 
     fn append(&mut self, at: &FPath, piece: &[u8]) -> Result<(), FolderFault>
         ensures changes { Steps (Append at.now piece.now) (told_of self.old) (told_of self.new) result }
+        ensures whole { OnErr result (state_of self.new ≡ state_of self.old) }
         ensures counts { Counts (Some (told_of self.old)) (faults_of self.old) (faults_of self.new) result }
         ensures plan { plan_of self.new ≡ counted (plan_of self.old) }
         ensures due { FailsAs (fails_next (plan_of self.old)) result }

@@ -75,8 +75,9 @@ impl Encoder {
         })
     }
 
-    /// Encodes the next chunk, puts its block at the front of `out` and answers the block's length. Each
-    /// chunk before the last is full, and the file wasn't begun as empty. It takes no memory.
+    /// Encodes the next chunk, puts its block at the front of `out` and answers the block's length. It
+    /// takes no memory. What was made is a file where each chunk before the last is full and the file
+    /// wasn't begun as empty; elsewhere the block is sealed all the same.
     pub fn chunk<R: Randoms>(
         &mut self,
         random: &mut R,

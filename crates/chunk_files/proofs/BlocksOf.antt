@@ -54,7 +54,7 @@ sealed-split : (key id : List ℕ) (number : ℕ) (block chunk : List ℕ) (s : 
     (tag_of (aes256 key) s.nonce (block_data id number) (encrypted (aes256 key) s.nonce chunk))
 unfolding sealed
 sealed-split key id number block chunk s = record {
-  parts = s.parts;
+  parts = s.is;
   nonce_length = s.sixteen;
   tag_length = length-tag_of key s.nonce (block_data id number) (encrypted (aes256 key) s.nonce chunk);
 }
@@ -86,7 +86,7 @@ zeros-zero : (n : ℕ) → is_all_zero (replicate n 0) ≡ true
 zeros-zero zero = refl
 zeros-zero (suc n) = zeros-zero n
 
-zero-zeros : (bytes : List ℕ) → is_all_zero bytes ≡ true → bytes ≡ replicate (length bytes) 0
+pub zero-zeros : (bytes : List ℕ) → is_all_zero bytes ≡ true → bytes ≡ replicate (length bytes) 0
 zero-zeros [] all = refl
 zero-zeros (byte ∷ bytes) all =
     let first = both-true (byte == 0) (is_all_zero bytes) all in
@@ -148,7 +148,7 @@ opened-sealed key id number block chunk opened =
       nonce = block_nonce block;
       sixteen = omega (arith, length-take 16 block);
       some_bit = opened.some;
-      parts = rw (tag, text) (parts-of block long);
+      is = rw (tag, text) (parts-of block long);
     }
 
 hole-of : (block chunk : List ℕ) → is_hole block ≡ true → replicate 4096 0 ≡ chunk → IsHole block chunk

@@ -4,3 +4,5 @@ mod Opening
 mod StepLemmas
 mod BlocksOf
 pub mod FilesOf
+mod PiecesOf
+pub mod Encrypting

@@ -1,22 +1,20 @@
 -- Which files are of which content: a header, and the sealed chunks of the content in order.
 use Rattle.std.specs.Prelude.{◌≡◌, ℕ, ◌+◌, ◌≤◌, ◌⊎◌, ◌↔◌, false, List, [], ◌∷◌, ◌++◌, length, replicate}
 use Rattle.std.specs.List.{concat}
-use Rattle.aes_lanes.specs.Cipher.{aes256}
-use Rattle.gcm_mode.specs.Gcm.{sealed}
 use Rattle.chunk_files.specs.declared.keys.Layout.{Layout}
 use Rattle.chunk_files.specs.declared.keys.Layout.TheVariants.{Go}
 use Rattle.chunk_files.specs.Keys.{Keys}
 use Rattle.chunk_files.specs.Reading.{Whole}
-use Rattle.chunk_files.specs.Gocryptfs.{is_all_zero, block_data}
+use Rattle.chunk_files.specs.Gocryptfs.{is_all_zero}
 use Rattle.chunk_files.specs.Contents.{readable}
+use Rattle.chunk_files.specs.Encrypt.{header_of, sealed_block, IsEncrypted}
 
 -- a chunk sealed by GCM under a nonce that isn't all zero
 pub record IsSealedBlock (key id : List ℕ) (number : ℕ) (block chunk : List ℕ) : Type 0 where
   pub nonce : List ℕ
   pub sixteen : length nonce ≡ 16
   pub some_bit : is_all_zero nonce ≡ false
-  pub parts : block ≡ nonce ++ (sealed (aes256 key) nonce (block_data id number) chunk).text
-      ++ (sealed (aes256 key) nonce (block_data id number) chunk).tag
+  pub is : block ≡ sealed_block key id number nonce chunk
 
 -- a hole, which stands for a full chunk of zeros
 pub record IsHole (block chunk : List ℕ) : Type 0 where
@@ -50,7 +48,7 @@ pub record HasBlocks (key bytes content : List ℕ) : Type 0 where
   pub sixteen : length id ≡ 16
   pub some_bit : is_all_zero id ≡ false
   pub blocks : List ℕ
-  pub parts : bytes ≡ 0 ∷ 2 ∷ (id ++ blocks)
+  pub parts : bytes ≡ header_of id ++ blocks
   pub chunks : List (List ℕ)
   pub of : AreBlocksOf key id 0 blocks chunks
   pub joined : content ≡ concat chunks
@@ -75,3 +73,7 @@ pub record Gives (keys : Keys) (bytes content : List ℕ) : Type 0 where
 -- a file is of a content exactly where reading it ends without a fault and gives that content
 abbrev pub FilesAreWhatTheyGive : Type 0
 FilesAreWhatTheyGive = (keys : Keys) (bytes content : List ℕ) → IsFileOf keys bytes content ↔ Gives keys bytes content
+
+-- what is encrypted is a file of its content
+abbrev pub EncryptedFilesAreFiles : Type 0
+EncryptedFilesAreFiles = (keys : Keys) (drawn content file : List ℕ) → IsEncrypted keys drawn content file → IsFileOf keys file content

@@ -4,6 +4,9 @@ pub mod Reading
 pub mod Pieces
 pub mod Gocryptfs
 pub mod Contents
+pub mod Encrypt
 pub mod FileOf
+pub mod Encoding
+pub mod DrawFaults
 pub mod Steps
 pub mod BlocksLeft

@@ -1,8 +1,9 @@
 //! The sealed blocks of a gocryptfs content file.
 
-ghost use Rattle.std.specs.Prelude.{◌≡◌, ◌≤◌, ◌-◌, length};
+ghost use Rattle.std.specs.Prelude.{◌≡◌, ◌≤◌, ◌+◌, ◌-◌, length, take};
 ghost use Rattle.std.specs.Bool.{OnTrue};
 ghost use Rattle.chunk_files.specs.Gocryptfs.{read_block, block_data, is_hole, is_tag_right, plain_text};
+ghost use Rattle.chunk_files.specs.Encrypt.{sealed_block};
 ghost use Rattle.chunk_files.specs.Steps.{PutsBlock};
 
 use crate::chunk_buf::ChunkBuf;
@@ -67,6 +68,30 @@ fn unseal(gcm: &Gcm, associated: &[u8; 24], block: &[u8], text: &mut [u8]) -> bo
         Ok(()) => true,
         Err(_) => false,
     }
+}
+
+// Seals a chunk under a nonce as the block of this number in the file of this id, puts the block at the
+// front of `out`, and answers its length.
+pub fn seal_block(
+    gcm: &Gcm,
+    id: &[u8; 16],
+    number: u64,
+    nonce: &[u8; 16],
+    chunk: &[u8],
+    out: &mut ChunkBuf,
+) -> usize
+    requires { length chunk.now ≤ FULL_CHUNK }
+    ensures size { result ≡ 32 + length chunk.now }
+    ensures block { take result out.new ≡ sealed_block gcm.now id.now number nonce.now chunk.now }
+{
+    let size = chunk.len();
+    let mut text = [0; FULL_CHUNK];
+    text[..size].copy_from_slice(chunk);
+    let tag = gcm.seal(nonce, &associated_data(id, number), &mut text[..size]);
+    out.put_at(0, nonce);
+    out.put_at(NONCE_SIZE, &text[..size]);
+    out.put_at(NONCE_SIZE + size, &tag);
+    NONCE_SIZE + size + TAG_SIZE
 }
 
 // Whether a block stands for a full chunk of zeros.

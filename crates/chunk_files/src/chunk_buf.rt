@@ -1,4 +1,4 @@
-ghost use Rattle.std.specs.Prelude.{◌≡◌, ◌≤◌, ◌++◌, ℕ, List, length, drop, take, replicate, IfOk};
+ghost use Rattle.std.specs.Prelude.{◌≡◌, ◌≤◌, ◌+◌, ◌++◌, ℕ, List, length, take, replicate, IfOk};
 
 use std::alloc::{AllocError, Global};
 use std::marker::Model;
@@ -44,14 +44,23 @@ impl ChunkBuf {
         ensures front { take (length bytes.now) self.new ≡ bytes.now }
         ensures size { length self.new ≡ CHUNK_BUFFER_SIZE }
     {
-        copy_to_front(&mut self.bytes, bytes);
+        self.put_at(0, bytes);
+    }
+
+    // Puts these bytes behind the first `at`.
+    pub fn put_at(&mut self, at: usize, bytes: &[u8])
+        requires { at + length bytes.now ≤ CHUNK_BUFFER_SIZE }
+        ensures front { take (at + length bytes.now) self.new ≡ take at self.old ++ bytes.now }
+        ensures size { length self.new ≡ CHUNK_BUFFER_SIZE }
+    {
+        copy_at(&mut self.bytes, at, bytes);
     }
 }
 
-// Copies bytes to the front of a longer buffer.
-fn copy_to_front(buffer: &mut [u8], bytes: &[u8])
-    requires { length bytes.now ≤ length buffer.old }
-    ensures { buffer.new ≡ bytes.now ++ drop (length bytes.now) buffer.old }
+// Copies bytes into a buffer, behind its first `at`.
+fn copy_at(buffer: &mut [u8], at: usize, bytes: &[u8])
+    requires { at + length bytes.now ≤ length buffer.old }
+    ensures { take (at + length bytes.now) buffer.new ≡ take at buffer.old ++ bytes.now }
 {
-    buffer[..bytes.len()].copy_from_slice(bytes);
+    buffer[at..at + bytes.len()].copy_from_slice(bytes);
 }

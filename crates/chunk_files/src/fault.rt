@@ -22,6 +22,15 @@ pub enum ChunkFault {
     ChunkTag(u64),
 }
 
+/// Why a content file could not be made. The encoder is then of no further use.
+#[derive(Clone, Copy, Debug, PartialEq, Eq)]
+pub enum EncodeFault {
+    /// The random source failed; its count of faults says how often.
+    Random,
+    /// A file id or a nonce was drawn as sixteen zero bytes.
+    ZeroRandom,
+}
+
 impl fmt::Display for ChunkFault {
     ghost output = { λ fault. Some (fault_text fault) };
 

@@ -1,1 +1,3 @@
 mod Moves
+pub mod Draws
+mod Words

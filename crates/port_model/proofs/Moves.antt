@@ -16,6 +16,12 @@ moved_to_front bytes out front at n copied within =
     let seam : take n (front ++ drop n out) ≡ front = ap (λ k. take k (front ++ drop n out)) (sym long) ∙ take-append_seam front (drop n out) in
     sym (ap (λ f. f ++ drop (at + n) bytes) (seam ∙ taken) ∙ ap (λ rest. take n (drop at bytes) ++ rest) (sym (drop-drop n at bytes)) ∙ take-append-drop n (drop at bytes))
 
+-- the bytes left are those of the buffer that was filled with the first of them, and those behind them
+pub moved_whole : (bytes out : List ℕ) (at n : ℕ) → out ≡ take n (take (length bytes - at) (drop at bytes)) → drop at bytes ≡ out ++ drop (at + n) bytes
+moved_whole bytes out at n copied =
+    let taken : out ≡ take n (drop at bytes) = copied ∙ ap (take n) (take_rest bytes at) in
+    sym (ap (λ (front : List ℕ). front ++ drop (at + n) bytes) taken ∙ ap (λ (rest : List ℕ). take n (drop at bytes) ++ rest) (sym (drop-drop n at bytes)) ∙ take-append-drop n (drop at bytes))
+
 -- a writer that took the front of a piece, and then more of it
 pub Appends-more : (a b c : Option (List ℕ)) (piece : List ℕ) (at n : ℕ) → Appends a b (take at piece)
     → Appends b c (take n (take (length piece - at) (drop at piece))) → Appends a c (take (at + n) piece)

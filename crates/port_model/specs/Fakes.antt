@@ -3,7 +3,7 @@ use Rattle.std.specs.Prelude.{ℕ, Bool, List, [], ◌==◌, ◌||◌, nat_lt, l
 use Rattle.std.specs.List.{list_any}
 use Rattle.port_model.specs.Counts.{counted_up}
 
--- a source over a list of bytes
+-- a source, or a random source, over a list of bytes
 pub record Unread : Type 0 where
   pub left : List ℕ
   pub calls : ℕ
@@ -33,3 +33,7 @@ unwritten room fails = record { taken = []; room = room; calls = 0; fails = fail
 -- whether the next piece makes the sink fail: its call is listed, or it has no room
 abbrev pub refuses : Written → List ℕ → Bool
 refuses sink piece = fails_next sink.fails sink.calls || nat_lt sink.room (length piece)
+
+-- whether the next call makes a random source fail: it is listed, or fewer bytes are left than it asks for
+abbrev pub lacks : Unread → List ℕ → Bool
+lacks random out = fails_next random.fails random.calls || nat_lt (length random.left) (length out)

@@ -1,15 +1,15 @@
 -- A new file: made, written and synced where no name table showed a file of then.
-use Rattle.std.proofs.Common.{◌≡◌, ◌≢◌, ◌⊎◌, ℕ, ◌≤◌, Bool, true, ◌&&◌, List, [], ◌∷◌, ◌++◌, Option, Some, None, Result, Ok, Err, OnOk, take, refl, sym, ap, ◌∙◌, subst, inl, inr, IsTrue}
+use Rattle.std.proofs.Common.{◌≡◌, ◌≢◌, ◌⊎◌, ℕ, ◌≤◌, Bool, List, [], Option, Some, None, Result, Ok, Err, OnOk, take, refl, sym, ap, ◌∙◌, subst, inl, inr, IsTrue}
 use Rattle.std.proofs.lemmas.Bool.{eq-eqb}
 use Rattle.folder_spec.specs.declared.FolderFault.{FolderFault}
 use Rattle.folder_spec.specs.declared.Kind.{Kind}
-use Rattle.folder_spec.specs.declared.Kind.TheVariants.{Missing, Dir, File, Other}
+use Rattle.folder_spec.specs.declared.Kind.TheVariants.{Missing, File}
 use Rattle.folder_spec.specs.Path.{Part, Path, below, parent, child}
-use Rattle.folder_spec.specs.State.{Spot, Nothing, Directory, FileNode, Odd, Table, Node, State, present, put, put_node, kind_of, HasFile, IsSound, IsSoundTable}
-use Rattle.folder_spec.specs.Event.{Call, MakeDir, Create, Append, Sync, Settle, Rename, RemoveFile, RemoveDir, Outcome, Event, IsFree, IsFilePlace, Allowed, with_file, grown, synced, empty_node, changed, fallen, Told, Steps, Changes, FromTo}
+use Rattle.folder_spec.specs.State.{Nothing, Directory, FileNode, Table, Node, State, present, put, put_node, kind_of, HasFile, IsSound, IsSoundTable}
+use Rattle.folder_spec.specs.Event.{Call, MakeDir, Create, Append, Sync, Settle, Rename, RemoveFile, RemoveDir, Event, IsFree, IsFilePlace, Allowed, with_file, grown, synced, empty_node, changed, fallen, Told, Steps, Changes, FromTo}
 use Rattle.folder_spec.specs.Image.{Image, IsImage}
 use Rattle.folder_spec.specs.Moments.{Went, Moments}
-use Rattle.folder_spec.specs.Region.{Spares, WritesOnlyNew, SparesOld, IsAsBefore, AlikeIn, apart_from, apart_from_both}
+use Rattle.folder_spec.specs.Region.{Spares, WritesOnlyNew, SparesOld, IsAsBefore, apart_from, apart_from_both}
 use Rattle.folder_spec.specs.Replace.{IsNewNode, IsNewFile, IsOldOrNew, IsReplaced, ShowsOldOrNew, IsCleanAt}
 use Rattle.folder_spec.proofs.Paths.{below-parent, parent-apart, parent-child, child_of_parent}
 use Rattle.folder_spec.proofs.Tables.{put-same, put-other, last_of-push, present_is_table}

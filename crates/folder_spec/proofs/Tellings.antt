@@ -1,11 +1,6 @@
 -- Calls of a folder, one after the other, whether or not it tells its state.
-use Rattle.std.proofs.Common.{◌≡◌, ℕ, ◌≤◌, Option, Some, None, IfSome, Result, Ok, Err, refl, sym, subst}
-use Rattle.folder_spec.specs.declared.FolderFault.{FolderFault}
-use Rattle.folder_spec.specs.declared.FolderFault.TheVariants.{Failed, Refused, NoMemory}
-use Rattle.folder_spec.specs.State.{State}
-use Rattle.folder_spec.specs.Event.{Call, Outcome, Event, Allowed, changed, fallen, Told, FromTo, Steps, Changes}
-use Rattle.folder_spec.specs.Moments.{Went, Moments}
-use Rattle.folder_spec.proofs.Moments.{went_nowhere, went_on, went_by_call, went_to}
+use Rattle.std.proofs.Common.{◌≡◌, Option, Some, None, IfSome, refl, sym, subst}
+use Rattle.folder_spec.specs.Event.{Told, FromTo}
 
 -- more is known
 pub from_to_more : (R R' : Told → Told → Type 0) (t u : Option Told) → ((a b : Told) → t ≡ Some a → R a b → R' a b) → FromTo R t u → FromTo R' t u

@@ -150,7 +150,9 @@ fn finish(
     fail: u64,
 ) -> Result<Result<(), FolderFault>, Fail> {
     let work = path(alloc, "w")?;
-    let mut journal = read(alloc, folder, &work).ok().ok_or("a journal")?;
+    let Ok(mut journal) = read(alloc, folder, &work) else {
+        return Err(Fail::from("a journal"));
+    };
     journal.phase = Phase::Done;
     if !is_work_folder(folder, &work)? {
         return Err(Fail::from("a work folder"));

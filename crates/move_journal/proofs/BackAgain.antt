@@ -1,5 +1,5 @@
 -- A journal is read back from its text.
-use Rattle.std.proofs.Common.{◌≡◌, ◌≢◌, ℕ, ◌+◌, ◌*◌, ◌<◌, ◌≤◌, ◌^◌, true, false, nat_le, List, [], ◌∷◌, ◌++◌, codes, decimal, length, refl, sym, ap, ◌∙◌, subst, arith, length-append, Result, Ok, Err, ◌&&◌, not, nat_eq}
+use Rattle.std.proofs.Common.{◌≡◌, ℕ, ◌+◌, ◌≤◌, true, nat_le, List, [], ◌∷◌, ◌++◌, codes, decimal, length, refl, sym, ap, ◌∙◌, subst, arith, length-append, Result, Ok, Err, ◌&&◌, not, nat_eq}
 use Rattle.std.specs.List.{list_all}
 use Rattle.std.proofs.lemmas.Fmt.{decimal_injective, length-decimal-le}
 use Rattle.hex.specs.Hex.{encode_lower, decode_sized, lower_digits}
@@ -11,10 +11,10 @@ use Rattle.move_journal.specs.declared.journal.JournalFault.{JournalFault}
 use Rattle.move_journal.specs.declared.journal.JournalFault.TheVariants.{NoJournal, BadJournal, TooLarge, Failed, NoMemory}
 use Rattle.move_journal.specs.declared.journal.Phase.{Phase}
 use Rattle.move_journal.specs.declared.journal.Phase.TheVariants.{Building, Done}
-use Rattle.move_journal.specs.Journal.{IsParsed, IsDigest, IsJournal, title, phase_line, from_line, to_line, items_line, plan_line, lines_of, ended, journal_text}
+use Rattle.move_journal.specs.Journal.{IsParsed, IsDigest, IsJournal, title, phase_line, from_line, to_line, items_line, plan_line, journal_text}
 use Rattle.move_journal.specs.Reading.{ReadsAs}
 use Rattle.move_journal.specs.Writing.{GivesBack}
-use Rattle.move_journal.proofs.Values.{one_line, same_rest, parsed_text, plan_decoded, both-left, both-right}
+use Rattle.move_journal.proofs.Values.{same_rest, parsed_text, plan_decoded, both-left, both-right}
 use Rattle.move_journal.proofs.Exact.{same_line, own_line, no_bad_line}
 
 same_phase : (p q : Phase) → phase_line p ≡ phase_line q → p ≡ q

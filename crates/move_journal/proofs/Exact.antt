@@ -1,16 +1,12 @@
 -- Which texts are journals: one text for each, and no bad line in it.
-use Rattle.std.proofs.Common.{◌≡◌, ◌≢◌, ℕ, ◌<◌, ◌≤◌, ◌^◌, zero, suc, true, List, [], ◌∷◌, ◌++◌, codes, decimal, drop, refl, sym, ap, ◌∙◌, subst, arith, Some, None, Result, Ok}
+use Rattle.std.proofs.Common.{◌≡◌, ◌≢◌, ℕ, ◌≤◌, zero, suc, true, List, [], ◌∷◌, ◌++◌, codes, drop, refl, ap, ◌∙◌, arith, Some, None}
 use Rattle.std.specs.Prelude.{slice_get}
-use Rattle.std.proofs.lemmas.Fmt.{decimal_injective}
-use Rattle.hex.specs.Hex.{encode_lower, decode_sized}
-use Rattle.folder_spec.specs.Path.{Path}
-use Rattle.folder_model.specs.Text.{text_of, parts_of}
 use Rattle.move_journal.specs.declared.journal.Journal.{Journal}
 use Rattle.move_journal.specs.declared.journal.Phase.{Phase}
 use Rattle.move_journal.specs.declared.journal.Phase.TheVariants.{Building, Done}
-use Rattle.move_journal.specs.Journal.{IsParsed, IsDigest, IsJournal, title, phase_line, from_line, to_line, items_line, plan_line, lines_of, ended, journal_text}
+use Rattle.move_journal.specs.Journal.{IsJournal, title, phase_line, from_line, to_line, items_line, plan_line, lines_of, ended, journal_text}
 use Rattle.move_journal.specs.Lines.{IsLine, Leaves, at_start, after_line, IsBadLine, has_no_newline}
-use Rattle.move_journal.proofs.Values.{one_line, no_newline-append, same_rest, parsed_text, plan_decoded, path_has_no_newline, items_have_no_newline, plan_has_no_newline}
+use Rattle.move_journal.proofs.Values.{one_line, no_newline-append, path_has_no_newline, items_have_no_newline, plan_has_no_newline}
 use Rattle.move_journal.proofs.Lines.{title_there, phase_there, source_there, target_there, items_there, plan_there}
 
 phase_is_plain : (phase : Phase) → has_no_newline (phase_line phase) ≡ true

@@ -1,6 +1,5 @@
 -- How the lines of a text are read, one after another.
-use Rattle.std.proofs.Common.{◌≡◌, ◌≢◌, ℕ, ◌<◌, ◌≤◌, zero, suc, true, List, [], ◌∷◌, ◌++◌, length, codes, decimal, unwrap_or, get_or, refl, sym, ap, ◌∙◌, subst, arith, Some, None, lit<, lit≤}
-use Rattle.std.specs.Str.{IsUtf8}
+use Rattle.std.proofs.Common.{◌≡◌, ◌≢◌, ℕ, ◌<◌, ◌≤◌, zero, suc, List, [], ◌∷◌, ◌++◌, codes, decimal, unwrap_or, refl, sym, ap, ◌∙◌, subst, arith, Some, None, lit<}
 use Rattle.std.proofs.lemmas.Str.{IsUtf8-from_ascii}
 use Rattle.std.proofs.lemmas.Str.Ascii.{IsAscii-cons, IsAscii-nil}
 use Rattle.hex.specs.Hex.{encode_lower, IsBytes}
@@ -9,8 +8,8 @@ use Rattle.folder_model.specs.Text.{text_of}
 use Rattle.move_journal.specs.declared.journal.Journal.{Journal}
 use Rattle.move_journal.specs.declared.journal.Phase.{Phase}
 use Rattle.move_journal.specs.declared.journal.Phase.TheVariants.{Building, Done}
-use Rattle.move_journal.specs.Journal.{IsParsed, IsDigest, IsJournal, title, phase_line, from_line, to_line, items_line, plan_line, lines_of, ended, journal_text}
-use Rattle.move_journal.specs.Lines.{IsLine, Leaves, at_start, after_line, BeginsWithNoLine, IsBadLine}
+use Rattle.move_journal.specs.Journal.{IsParsed, IsDigest, IsJournal, title, phase_line, from_line, to_line, items_line, plan_line, journal_text}
+use Rattle.move_journal.specs.Lines.{IsLine, Leaves, after_line, BeginsWithNoLine, IsBadLine}
 use Rattle.move_journal.proofs.Values.{IsPathText, IsItemsText, IsPlanText}
 
 -- a line of a journal is the one that the journal has there

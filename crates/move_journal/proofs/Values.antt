@@ -1,5 +1,5 @@
 -- Texts between newlines, and the values that have none.
-use Rattle.std.proofs.Common.{◌≡◌, ◌≢◌, ℕ, ◌<◌, ◌≤◌, suc, Bool, true, false, not, nat_eq, ◌&&◌, nat_le, List, [], ◌∷◌, ◌++◌, length, get_or, refl, sym, ap, ◌∙◌, subst, cond, decimal, Some, None, Option, Result, Ok, Err, MatchOption, IsFalse, IsOk, OnOk, ◌↔◌, ◌^◌, ◌*◌, arith, lit<, IsTrue, take, drop, take-append-drop, length-append, zero, ◌+◌, ◌/◌, ◌%◌, add-one}
+use Rattle.std.proofs.Common.{◌≡◌, ◌≢◌, ℕ, ◌<◌, ◌≤◌, suc, Bool, true, false, not, nat_eq, ◌&&◌, nat_le, List, [], ◌∷◌, ◌++◌, length, get_or, refl, sym, ap, ◌∙◌, subst, decimal, Some, None, Option, Result, Ok, Err, MatchOption, IsFalse, IsOk, OnOk, ◌↔◌, ◌^◌, ◌*◌, arith, IsTrue, take, drop, take-append-drop, length-append, zero, ◌+◌, ◌/◌, ◌%◌}
 use Rattle.std.specs.List.{list_all}
 use Rattle.std.proofs.lemmas.Bool.{false≢true}
 use Rattle.std.specs.Str.{bytes_eq, IsUtf8}

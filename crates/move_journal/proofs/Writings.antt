@@ -1,7 +1,7 @@
 -- Where a journal is written.
 use Rattle.std.proofs.Common.{◌≡◌, ℕ, List, Option, Some, None, IfSome, Result, OnOk, refl, sym, subst}
-use Rattle.folder_spec.specs.Path.{Path, below, child}
-use Rattle.folder_spec.specs.State.{Table, present}
+use Rattle.folder_spec.specs.Path.{Path, below}
+use Rattle.folder_spec.specs.State.{present}
 use Rattle.folder_spec.specs.declared.FolderFault.{FolderFault}
 use Rattle.folder_spec.specs.Event.{Told, FromTo, IsFilePlace}
 use Rattle.folder_spec.specs.Region.{apart_from_both}

@@ -2,7 +2,7 @@
 use Rattle.std.specs.Prelude.{◌≡◌, ◌⊎◌, Bool, codes, Result, Ok, Err}
 use Rattle.folder_spec.specs.declared.Spot.TheVariants.{Nothing, Directory}
 use Rattle.folder_spec.specs.Path.{Path, child}
-use Rattle.folder_spec.specs.State.{Table, State, present, HasFile}
+use Rattle.folder_spec.specs.State.{Table, HasFile}
 use Rattle.folder_spec.specs.Region.{apart_from_both}
 use Rattle.move_journal.specs.declared.journal.Journal.{Journal}
 use Rattle.move_journal.specs.declared.journal.JournalFault.{JournalFault}

@@ -1,4 +1,4 @@
-use Rattle.std.proofs.Common.{◌≡◌, Ok, sym, ap, ◌∙◌, arith, decimal, string_bytes}
+use Rattle.std.proofs.Common.{◌≡◌, Ok, sym, ap, ◌∙◌, arith, decimal}
 use Rattle.move_journal.proofs.Values.{not_utf8_items, items_parsed, texts_differ}
 use Rattle.move_journal.proofs.line.items_in.Goals as goal
 

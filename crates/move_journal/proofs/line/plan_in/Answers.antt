@@ -1,4 +1,4 @@
-use Rattle.std.proofs.Common.{◌≡◌, ◌*◌, length, Ok, sym, ap, ◌∙◌, arith}
+use Rattle.std.proofs.Common.{◌≡◌, ◌*◌, length, Ok, ap, ◌∙◌, arith}
 use Rattle.hex.specs.Hex.{encode_lower}
 use Rattle.move_journal.proofs.Values.{plan_decoded, texts_differ, written}
 use Rattle.move_journal.proofs.line.plan_in.Goals as goal

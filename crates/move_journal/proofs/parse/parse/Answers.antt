@@ -1,6 +1,6 @@
-use Rattle.std.proofs.Common.{◌≡◌, ◌≤◌, ℕ, List, [], ◌++◌, ◌∷◌, length, nat_eq, true, ap, ◌∙◌, rules, arith, lit<}
-use Rattle.move_journal.specs.Journal.{IsParsed, IsDigest, title, phase_line, from_line, to_line, items_line, plan_line}
-use Rattle.move_journal.specs.Lines.{Leaves, at_start, IsBadLine}
+use Rattle.std.proofs.Common.{◌≡◌, ◌≤◌, ℕ, List, ◌++◌, ◌∷◌, length, nat_eq, true, ap, ◌∙◌, arith, lit<}
+use Rattle.move_journal.specs.Journal.{IsParsed, title, phase_line, from_line, to_line, items_line, plan_line}
+use Rattle.move_journal.specs.Lines.{at_start}
 use Rattle.move_journal.proofs.Lines.{title_is_line, phase_is_line, from_is_line, to_is_line, items_is_line, plan_is_line, leaves_more, bad_line, bad_end}
 use Rattle.move_journal.proofs.parse.parse.Goals as goal
 

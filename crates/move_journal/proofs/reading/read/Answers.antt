@@ -1,6 +1,5 @@
 use Rattle.std.proofs.Common.{◌≡◌, length, arith}
 use Rattle.std.proofs.lemmas.Result.{err_from_is_err_and}
-use Rattle.folder_spec.specs.declared.FolderFault.{FolderFault}
 use Rattle.move_journal.specs.declared.journal.JournalFault.TheVariants.{Failed}
 use Rattle.move_journal.specs.Reading.{fault_of}
 use Rattle.move_journal.proofs.Readings.{fell_at, risen_second, whole_at, too_large_at, grows_twice, parses_journals}

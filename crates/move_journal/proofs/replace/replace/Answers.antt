@@ -1,12 +1,12 @@
-use Rattle.std.proofs.Common.{◌≡◌, ◌≤◌, arith, Some, Result, Ok, Err, OnOk, IfSome}
+use Rattle.std.proofs.Common.{◌≡◌, Some, Err}
 use Rattle.std.proofs.lemmas.Result.{err_from_is_err_and}
-use Rattle.folder_spec.specs.Event.{Told, FromTo, Rename, IsFilePlace}
+use Rattle.folder_spec.specs.Event.{Told, Rename, IsFilePlace}
 use Rattle.folder_spec.specs.State.{present}
-use Rattle.folder_spec.specs.Region.{apart_from, IsAsBefore, SparesOld}
+use Rattle.folder_spec.specs.Region.{apart_from}
 use Rattle.folder_spec.specs.Replace.{IsNewFile}
 use Rattle.folder_spec.proofs.Tellings.{from_to_both, at_told}
 use Rattle.folder_spec.proofs.Stages.{Staging, replacing_from, renaming_from, renamed_from, may_rename_from, settling_from, settled_from}
-use Rattle.folder_model.proofs.Counting.{counts_above, counts_on, not_refused, never_falls}
+use Rattle.folder_model.proofs.Counting.{counts_above, counts_on, not_refused}
 use Rattle.move_journal.proofs.replace.replace.Goals as goal
 
 pub returns-in_err-stage-clause-moments : goal.returns-in_err-stage-clause-moments

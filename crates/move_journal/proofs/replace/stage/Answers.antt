@@ -1,8 +1,6 @@
-use Rattle.std.proofs.Common.{◌≡◌, ◌≤◌, arith, Result, Ok, Err, OnOk}
+use Rattle.std.proofs.Common.{◌≤◌, arith, Ok, Err}
 use Rattle.std.proofs.lemmas.Result.{err_from_is_err_and}
-use Rattle.folder_spec.specs.Event.{Told, FromTo, Append, Sync, Steps, empty_node, grown}
-use Rattle.folder_spec.specs.State.{present}
-use Rattle.folder_spec.specs.Replace.{IsNewFile}
+use Rattle.folder_spec.specs.Event.{Append, empty_node, grown}
 use Rattle.folder_spec.proofs.Stages.{creating_from, created_from, appending_from, appended_from, syncing_from, written_from, staged_from}
 use Rattle.folder_model.proofs.Counting.{counts_above, counts_on, not_refused, never_falls}
 use Rattle.move_journal.proofs.replace.stage.Goals as goal

@@ -1,15 +1,9 @@
-use Rattle.std.proofs.Common.{◌≡◌, ℕ, Some, IfSome, List, Result, Ok, Err, OnOk, codes, sym, ap, ◌∙◌, refl, subst}
-use Rattle.folder_spec.specs.Path.{Path, child}
-use Rattle.folder_spec.specs.State.{present}
-use Rattle.folder_spec.specs.Event.{Told, FromTo, IsFilePlace}
-use Rattle.folder_spec.specs.Moments.{Moments}
-use Rattle.folder_spec.specs.Region.{SparesOld, apart_from_both}
-use Rattle.folder_spec.specs.Replace.{IsOldOrNew, IsReplaced}
-use Rattle.folder_spec.proofs.Paths.{below-sibling}
-use Rattle.folder_spec.proofs.Stages.{replacing_none, images_from, clean_from, place_in}
+use Rattle.std.proofs.Common.{◌∙◌}
+use Rattle.folder_spec.specs.Region.{SparesOld}
+use Rattle.folder_spec.proofs.Stages.{replacing_none, images_from, clean_from}
 use Rattle.move_journal.specs.Journal.{journal_text}
 use Rattle.move_journal.specs.Reading.{journal_path}
-use Rattle.move_journal.specs.Writing.{IsWorkFolder, new_journal_path, elsewhere}
+use Rattle.move_journal.specs.Writing.{new_journal_path, elsewhere}
 use Rattle.move_journal.proofs.Writings.{moments_at, replaced_at, apart, new_place, old_place}
 use Rattle.move_journal.proofs.writing.write.Goals as goal
 

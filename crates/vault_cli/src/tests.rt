@@ -1,7 +1,8 @@
-ghost use Rattle.std.specs.Prelude.{◌==◌, Some, length};
+ghost use Rattle.std.specs.Prelude.{◌≡◌, ◌+◌, ◌<◌, ◌≤◌, ◌==◌, Some, OnOk, length};
 
 use crate::run;
-use port_model::{MemSink, MemSource, Source, SourceFault};
+use chunk_files::{ChunkBuf, ContentKeys, Encoder, Layout};
+use port_model::{ListRandoms, MemSink, MemSource, Source, SourceFault};
 use std::alloc::Global;
 use std::test::Fail;
 
@@ -236,5 +237,54 @@ fn a_byte_at_a_time(rt: HostRuntime) -> Result<(), Fail> {
     let status = run(rt.alloc(), words.as_slice(), &mut input, &mut out, &mut err);
     assert_eq!(rt; status, 0);
     assert_eq!(rt; out.bytes().len(), 4096);
+    Ok(())
+}
+
+// Adds the block of a chunk to a file.
+fn add_chunk(
+    encoder: &mut Encoder,
+    random: &mut ListRandoms,
+    plain: &[u8],
+    out: &mut ChunkBuf,
+    file: &mut Vec<u8>,
+) -> Result<(), Fail>
+    requires some { 0 < length plain.now }
+    requires size { length plain.now ≤ 4096 }
+    requires layout { encoder.old.keys.layout ≡ Layout.Go }
+    requires count { encoder.old.number < 100 }
+    ensures { OnOk result ((encoder.new.number ≡ encoder.old.number + 1) × (encoder.new.keys.layout ≡ Layout.Go)) }
+{
+    let size = encoder.chunk(random, plain, out)?;
+    file.extend_from_slice(&out.bytes()[..size])?;
+    Ok(())
+}
+
+// The file that an encoder makes of 9,000 bytes.
+fn encoded(alloc: Global) -> Result<Vec<u8>, Fail> {
+    let mut random = ListRandoms::new([9; 64].to_vec(alloc)?, Vec::new(alloc));
+    let mut out = ChunkBuf::new(alloc)?;
+    let begun = Encoder::start(ContentKeys::go(&[0; 32]), &mut random, false, &mut out)?;
+    let mut encoder = begun.encoder;
+    let mut file = out.bytes()[..begun.length].to_vec(alloc)?;
+    add_chunk(&mut encoder, &mut random, &[1; 4096], &mut out, &mut file)?;
+    add_chunk(&mut encoder, &mut random, &[2; 4096], &mut out, &mut file)?;
+    add_chunk(&mut encoder, &mut random, &[3; 808], &mut out, &mut file)?;
+    Ok(file)
+}
+
+#[test]
+fn a_bit_that_was_changed_in_the_second_block(rt: HostRuntime) -> Result<(), Fail> {
+    let mut file = encoded(rt.alloc())?;
+    assert_eq!(rt; file.len(), 9114);
+    if let Some(byte) = file.get_mut(4246) {
+        *byte ^= 1;
+    }
+    let outcome = outcome(rt.alloc(), &["decrypt-file", KEY], file.as_slice(), &NONE)?;
+    assert_eq!(rt; outcome.status, 12);
+    assert_eq!(rt; outcome.out.bytes(), [1; 4096].as_slice());
+    assert_eq!(rt;
+        outcome.err.bytes(),
+        b"vaultmove: damaged: input: chunk 1 tag\n".as_slice()
+    );
     Ok(())
 }

@@ -2,6 +2,21 @@
 //! guards.
 #![tactic(auto)]
 
+pub mod conf;
+pub mod fault;
+mod fields;
 pub mod keys;
+pub mod making;
+mod master_key;
+pub mod reading;
+pub mod unlocking;
 
+pub use conf::{GoConf, GoDraw, Salt};
+pub use fault::{GoConfFault, Text, UnlockFault};
 pub use keys::GoKeys;
+pub use making::make;
+pub use reading::read;
+pub use unlocking::unlock;
+
+#[cfg(test)]
+mod tests;

@@ -1,7 +1,7 @@
 -- Each answer of the tests of the fields.
 use Rattle.std.proofs.Common.{◌≡◌, ◌≢◌, ◌⊎◌, ℕ, List, length, codes, Option, Some, None, Ok, Err, inl, inr, refl, sym, ap, ◌∙◌, subst}
 use Rattle.std.specs.Option.{option_or}
-use Rattle.kdf_suite.specs.ScryptCost.{Cost, IsCost}
+use Rattle.kdf_suite.specs.ScryptCost.{IsCost}
 use Rattle.gocrypt_conf.specs.declared.fault.GoConfFault.{GoConfFault}
 use Rattle.gocrypt_conf.specs.declared.fault.GoConfFault.TheVariants as fault
 use Rattle.gocrypt_conf.specs.Fields.{Fields}

@@ -1,10 +1,9 @@
 -- A sealed master key has 64 bytes.
-use Rattle.std.proofs.Common.{◌≡◌, ◌≢◌, ℕ, zero, suc, ◌+◌, ◌-◌, ◌*◌, ◌/◌, ◌%◌, ◌^◌, ◌<◌, ◌≤◌, List, [], ◌∷◌, ◌++◌, length, take, drop, replicate, slice_index, inl, inr, refl, sym, ap, ◌∙◌, arith, lit<, length-append}
+use Rattle.std.proofs.Common.{◌≡◌, ℕ, zero, suc, ◌+◌, ◌-◌, ◌/◌, ◌%◌, ◌^◌, ◌<◌, ◌≤◌, List, ◌++◌, length, take, drop, inl, inr, refl, ap, arith, lit<, length-append}
 use Rattle.std.specs.Int.{bytes_high_first, byte_at}
 use Rattle.std.proofs.lemmas.List.{get_or-take, get_or_past, get_or_append_left, length-take-le}
 use Rattle.std.proofs.Math.Seq.{get_or-append_right}
 use Rattle.std.proofs.lemmas.Bool.{cases_lt}
-use Rattle.std.proofs.lemmas.Bool.Decides.{eqb_tells}
 use Rattle.std.specs.Fn.{iterate}
 use lib.Bits.{xor_lt}
 use Rattle.aes_lanes.specs.Rounds.{IsBlock}
@@ -15,7 +14,7 @@ use Rattle.aes_lanes.proofs.Ciphers.{IsBlock-aes}
 use Rattle.aes_lanes.proofs.CounterSteps.{slice_index-counter_mode, length-counter_mode}
 use Rattle.base64.specs.GeneralPurpose.{IsBytes}
 use Rattle.gcm_mode.specs.Hash.{block_bytes}
-use Rattle.gcm_mode.specs.Gcm.{pre_counter, hashed, encrypted, tag_of, sealed}
+use Rattle.gcm_mode.specs.Gcm.{pre_counter, encrypted, tag_of, sealed}
 use Rattle.gcm_mode.proofs.Modes.{length-tag_of, length-encrypted}
 use Rattle.gocrypt_conf.specs.MasterKey.{sealed_key}
 use Rattle.gocrypt_conf.proofs.Sealing.{zeros}

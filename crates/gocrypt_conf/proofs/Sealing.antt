@@ -1,9 +1,9 @@
 -- Sealed master keys, taken apart.
-use Rattle.std.proofs.Common.{◌≡◌, ◌≢◌, Result, Ok, Err, OnErr, ℕ, ◌+◌, ◌-◌, ◌≤◌, List, ◌++◌, length, take, drop, replicate, refl, sym, ap, ap₂, ◌∙◌, arith, append_assoc, length-append}
+use Rattle.std.proofs.Common.{◌≡◌, ◌≢◌, Result, Ok, Err, OnErr, ℕ, List, ◌++◌, length, take, drop, replicate, refl, sym, ap, ap₂, ◌∙◌, arith, append_assoc, length-append}
 use Rattle.std.proofs.lemmas.List.{take_at, drop_at, length-take-le, length-drop, take-append-drop}
 use Rattle.aes_lanes.specs.Cipher.{aes256}
 use Rattle.gcm_mode.specs.Gcm.{Sealed, sealed, tag_of, encrypted, Opens, OpensToNothing}
-use Rattle.gcm_mode.proofs.Modes.{length-tag_of, length-encrypted, plain-is}
+use Rattle.gcm_mode.proofs.Modes.{length-tag_of, encrypted-twice}
 use Rattle.gocrypt_conf.specs.MasterKey.{sealed_key}
 
 -- the associated data
@@ -73,3 +73,23 @@ opens_to_nothing key bytes nonce text tag parts nothing master seals =
 pub on_err : {T E : Type 0} (r : Result T E) (P : Type 0) → P → OnErr r P
 on_err (Ok value) P holds = tt
 on_err (Err fault) P holds = holds
+
+-- sealed bytes hold one master key
+pub holds_once : (key nonce bytes master other : List ℕ) → sealed_key key nonce master ≡ bytes → sealed_key key nonce other ≡ bytes → master ≡ other
+unfolding sealed_key sealed
+holds_once key nonce bytes master other one two =
+    let c : List ℕ = encrypted (aes256 key) nonce master in
+    let d : List ℕ = encrypted (aes256 key) nonce other in
+    let t : List ℕ = tag_of (aes256 key) nonce zeros c in
+    let u : List ℕ = tag_of (aes256 key) nonce zeros d in
+    let same : nonce ++ (c ++ t) ≡ nonce ++ (d ++ u) =
+    sym (append_assoc nonce c t) ∙ one ∙ sym two ∙ append_assoc nonce d u in
+    let rest : c ++ t ≡ d ++ u = (parts-equal nonce (c ++ t) nonce (d ++ u) refl same).1 in
+    let long : length c ≡ length d =
+    omega (arith, length-append c t, length-append d u, ap length rest, length-tag_of key nonce zeros c, length-tag_of key nonce zeros d) in
+    sym (encrypted-twice key nonce master) ∙ ap (encrypted (aes256 key) nonce) (parts-equal c t d u long rest).0 ∙ encrypted-twice key nonce other
+
+-- the nonce stands first
+pub nonce_first : (key nonce master : List ℕ) → length nonce ≡ 16 → take 16 (sealed_key key nonce master) ≡ nonce
+unfolding sealed_key sealed
+nonce_first key nonce master sixteen = ap (take 16) (append_assoc nonce _ _) ∙ take_at nonce _ 16 sixteen

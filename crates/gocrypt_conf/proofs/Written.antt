@@ -1,14 +1,14 @@
 -- The text of a configuration, as what is written for a JSON value, and read back.
-use Rattle.std.proofs.Common.{◌≡◌, ℕ, ◌^◌, ◌<◌, List, [], ◌∷◌, ◌++◌, false, Some, codes, decimal, refl, sym, ap, ◌∙◌, append_assoc, append-nil}
+use Rattle.std.proofs.Common.{◌≡◌, ℕ, List, ◌++◌, false, codes, decimal, refl, ◌∙◌, append_assoc}
 use Rattle.std.specs.Fmt.{digits}
-use Rattle.json.specs.Print.{escape, escape_byte, print}
+use Rattle.json.specs.Print.{escape, escape_byte}
 use Rattle.base64.specs.Engines.{standard}
 use Rattle.base64.specs.GeneralPurpose.{encode_of, IsBytes}
 use Rattle.kdf_suite.specs.ScryptCost.{Cost}
 use Rattle.serde_json.specs.Data.{Data}
 use Rattle.serde_json.specs.Written.{compact_text, has_float}
 use Rattle.gocrypt_conf.specs.Text.{text_with, conf_text}
-use Rattle.gocrypt_conf.specs.Views.{conf_data, scrypt_data}
+use Rattle.gocrypt_conf.specs.Value.{conf_data, scrypt_data}
 use Rattle.gocrypt_conf.proofs.Plain.{escape-base64}
 
 decimal-2 : decimal 2 ≡ codes "2"

@@ -5,4 +5,6 @@ pub mod Json
 pub mod Fields
 pub mod Tests
 pub mod Text
+pub mod Laws
 pub mod Views
+pub mod Value

@@ -6,6 +6,7 @@ pub mod conf;
 pub mod fault;
 mod fields;
 pub mod keys;
+pub mod laws;
 pub mod making;
 mod master_key;
 pub mod reading;

@@ -3,7 +3,7 @@
 ghost use Rattle.std.specs.Prelude.{◌≡◌, IfOk, string_bytes};
 ghost use Rattle.serde_json.specs.View.{view};
 ghost use Rattle.gocrypt_conf.specs.Text.{conf_text, made_conf};
-ghost use Rattle.gocrypt_conf.specs.Views.{conf_data, flag_data, scrypt_data};
+ghost use Rattle.gocrypt_conf.specs.Value.{conf_data, flag_data, scrypt_data};
 
 use crate::conf::GoDraw;
 use crate::keys::unlocking_key;

@@ -13,6 +13,16 @@ use crate::fields::{Fields, fields_of, json_object};
 use kdf_suite::ScryptCost;
 use std::alloc::Global;
 
+// The flags that must all be there, and no others.
+const KNOWN_FLAGS: [&str; 6] = [
+    "GCMIV128",
+    "HKDF",
+    "DirIV",
+    "EMENames",
+    "LongNames",
+    "Raw64",
+];
+
 /// The configuration that the bytes of `gocryptfs.conf` are, or the first of its tests that they fail.
 #[tactic(auto, unfolding(crate::specs::Fields::fields_in))]
 pub fn read(alloc: Global, bytes: &[u8]) -> Result<GoConf, GoConfFault>
@@ -55,15 +65,6 @@ fn checked(alloc: Global, fields: Fields) -> Result<GoConf, GoConfFault>
         sealed,
     })
 }
-
-const KNOWN_FLAGS: [&str; 6] = [
-    "GCMIV128",
-    "HKDF",
-    "DirIV",
-    "EMENames",
-    "LongNames",
-    "Raw64",
-];
 
 // The first of some texts that isn't among others.
 fn first_outside<'t>(others: &[&str], texts: &[&'t str]) -> Option<&'t str>

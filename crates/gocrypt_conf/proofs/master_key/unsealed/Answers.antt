@@ -1,5 +1,5 @@
 use Rattle.std.proofs.Common.{◌∙◌}
-use Rattle.gocrypt_conf.proofs.Sealing.{IsParted, parted, on_err, opens_to, opens_to_nothing}
+use Rattle.gocrypt_conf.proofs.Sealing.{parted, on_err, opens_to, opens_to_nothing}
 use Rattle.gocrypt_conf.proofs.master_key.unsealed.Goals as goal
 
 pub returns-in_err-unseal-clause-bad_tag : goal.returns-in_err-unseal-clause-bad_tag

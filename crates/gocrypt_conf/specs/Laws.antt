@@ -1,0 +1,44 @@
+-- Laws of configurations.
+use Rattle.std.specs.Prelude.{◌≡◌, ◌↔◌, ℕ, List, length, Some, Ok}
+use Rattle.base64.specs.Engines.{standard}
+use Rattle.base64.specs.GeneralPurpose.{IsBytes, decoded_of, encode_of}
+use Rattle.kdf_suite.specs.ScryptCost.{Cost, IsCost}
+use Rattle.gocrypt_conf.specs.declared.conf.GoConf.{GoConf}
+use Rattle.gocrypt_conf.specs.declared.conf.GoDraw.{GoDraw}
+use Rattle.gocrypt_conf.specs.declared.keys.GoKeys.{GoKeys}
+use Rattle.gocrypt_conf.specs.Keys.{keys_of}
+use Rattle.gocrypt_conf.specs.MasterKey.{Unlocks}
+use Rattle.gocrypt_conf.specs.Tests.{Answer, ReadsAs}
+use Rattle.gocrypt_conf.specs.Text.{conf_text, made_conf}
+
+-- bytes have one answer at most
+abbrev pub HaveOneAnswer : Type 0
+HaveOneAnswer = (bytes : List ℕ) (a b : Answer) → ReadsAs bytes a → ReadsAs bytes b → a ≡ b
+
+-- a passphrase unlocks one pair of keys at most
+abbrev pub UnlocksOnePair : Type 0
+UnlocksOnePair =
+    (conf : GoConf) (pass : List ℕ) (keys other : GoKeys) → Unlocks conf pass keys → Unlocks conf pass other → keys ≡ other
+
+-- a drawn master key of 32 bytes, a salt of 32 and a nonce of 16
+pub record IsDrawn (drawn : GoDraw) : Type 0 where
+  pub master_size : length drawn.master ≡ 32
+  pub master_bytes : IsBytes drawn.master
+  pub salt_size : length drawn.salt ≡ 32
+  pub salt_bytes : IsBytes drawn.salt
+  pub nonce_size : length drawn.nonce ≡ 16
+  pub nonce_bytes : IsBytes drawn.nonce
+
+-- the text of a new configuration reads as the configuration, and its passphrase unlocks the keys of
+-- the drawn master key
+pub record Returns (pass : List ℕ) (cost : Cost) (drawn : GoDraw) : Type 0 where
+  pub read : ReadsAs (conf_text (made_conf pass cost drawn)) (Ok (made_conf pass cost drawn))
+  pub unlocked : Unlocks (made_conf pass cost drawn) pass (keys_of drawn.master)
+
+abbrev pub MadeTextReturns : Type 0
+MadeTextReturns = (pass : List ℕ) (cost : Cost) (drawn : GoDraw) → IsCost cost → IsDrawn drawn → Returns pass cost drawn
+
+-- a text is the base64 of the bytes that it is read as
+abbrev pub ReadsEncodings : Type 0
+ReadsEncodings =
+    (text bytes : List ℕ) → IsBytes text → IsBytes bytes → (decoded_of standard text ≡ Some bytes) ↔ (text ≡ encode_of standard bytes)

@@ -1,0 +1,10 @@
+-- The configuration of a gocryptfs vault (on-disk format 2), and its keys.
+pub mod Keys
+pub mod MasterKey
+pub mod Json
+pub mod Fields
+pub mod Tests
+pub mod Text
+pub mod Laws
+pub mod Views
+pub mod Value

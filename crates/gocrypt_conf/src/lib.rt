@@ -1,0 +1,23 @@
+//! The configuration of a gocryptfs vault (on-disk format 2), `gocryptfs.conf`, and the keys that it
+//! guards.
+#![tactic(auto)]
+
+pub mod conf;
+pub mod fault;
+mod fields;
+pub mod keys;
+pub mod laws;
+pub mod making;
+mod master_key;
+pub mod reading;
+pub mod unlocking;
+
+pub use conf::{GoConf, GoDraw, Salt};
+pub use fault::{GoConfFault, Text, UnlockFault};
+pub use keys::GoKeys;
+pub use making::make;
+pub use reading::read;
+pub use unlocking::unlock;
+
+#[cfg(test)]
+mod tests;

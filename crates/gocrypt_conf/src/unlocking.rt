@@ -1,0 +1,26 @@
+//! The keys that a configuration and a passphrase give.
+
+ghost use Rattle.std.specs.Prelude.{◌≡◌, IfOk, Err};
+ghost use Rattle.gocrypt_conf.specs.declared.keys.GoKeys.{GoKeys};
+ghost use Rattle.gocrypt_conf.specs.declared.fault.UnlockFault.TheVariants.{WrongPass};
+ghost use Rattle.gocrypt_conf.specs.MasterKey.{Unlocks};
+
+use crate::conf::GoConf;
+use crate::fault::UnlockFault;
+use crate::keys::{GoKeys, keys_of, unlocking_key};
+use crate::master_key::unsealed;
+use std::alloc::Global;
+
+/// The keys of a vault, from its configuration and passphrase.
+///
+/// It takes the memory of scrypt, 128 · n · r bytes and little more.
+pub fn unlock(alloc: Global, conf: &GoConf, pass: &[u8]) -> Result<GoKeys, UnlockFault>
+    ensures keys { IfOk result (λ keys. Unlocks conf.now pass.now keys) }
+    ensures wrong_pass { result ≡ Err WrongPass → (keys : GoKeys) → ¬ Unlocks conf.now pass.now keys }
+{
+    let key = unlocking_key(alloc, pass, conf.salt.as_slice(), &conf.cost)?;
+    match unsealed(&key, &conf.sealed) {
+        Ok(master) => Ok(keys_of(&master)),
+        Err(_) => Err(UnlockFault::WrongPass),
+    }
+}

@@ -1,8 +1,9 @@
 -- EME, the wide-block mode of Halevi and Rogaway ("A Parallelizable Enciphering Mode"), as gocryptfs uses it. A block is
 -- sixteen bytes. Deciphering is the same with the inverse cipher at each place but in the first mask.
-use Rattle.std.specs.Prelude.{ℕ, zero, suc, ◌*◌, ◌/◌, ◌%◌, ◌^◌, List, [], ◌∷◌, length, map, fold, bit_xor}
+use Rattle.std.specs.Prelude.{ℕ, zero, suc, ◌*◌, ◌/◌, ◌%◌, ◌^◌, List, [], ◌∷◌, length, map, fold, replicate, bit_xor}
 use Rattle.std.specs.Int.{w128, from_le_bytes, to_le_bytes}
 use Rattle.aes_lanes.specs.Rounds.{xor_bytes}
+use Rattle.aes_lanes.specs.Cipher.{aes256, inverse_aes256}
 
 -- a block times two: each byte shifted to the left by one bit with the carry into the next byte, and a carry out of the
 -- last byte added as 0x87 to the first
@@ -40,3 +41,14 @@ unfoldable pub eme_by : (List ℕ → List ℕ) → List ℕ → List ℕ → Li
 eme_by f mask tweak blocks =
     let masks = doubles mask (length blocks) in
     masked (map f (mixed_by f tweak (map f (masked blocks masks)))) masks
+
+-- the first mask L_1: the double of the zero block's image
+abbrev pub first_mask : List ℕ → List ℕ
+first_mask key = doubled (aes256 key (replicate 16 0))
+
+-- EME over AES-256 under a key and a tweak, and its inverse
+abbrev pub eme256 : List ℕ → List ℕ → List (List ℕ) → List (List ℕ)
+eme256 key tweak blocks = eme_by (aes256 key) (first_mask key) tweak blocks
+
+abbrev pub inverse_eme256 : List ℕ → List ℕ → List (List ℕ) → List (List ℕ)
+inverse_eme256 key tweak blocks = eme_by (inverse_aes256 key) (first_mask key) tweak blocks

@@ -6,11 +6,12 @@
 ghost use Rattle.std.specs.Prelude.{◌≡◌, ◌<◌, ◌≤◌, ◌∷◌, ℕ, List, length, map, replicate};
 ghost use Rattle.aes_lanes.specs.Cipher.{aes256, inverse_aes256};
 ghost use Rattle.aes_lanes.specs.Rounds.{xor_bytes};
-ghost use Rattle.eme_mode.specs.Eme.{doubled, doubles, masked, sum_from, mixed, eme_by};
+ghost use Rattle.eme_mode.specs.Eme.{doubled, doubles, masked, sum_from, mixed, first_mask, eme256, inverse_eme256};
 
 use aes_lanes::{Block, Cipher, Key256, xor_into};
 use std::marker::Model;
 
+pub mod laws;
 #[cfg(test)]
 mod tests;
 
@@ -37,7 +38,7 @@ impl Eme {
     pub fn encrypt(&self, tweak: &Block, blocks: &mut [Block])
         requires some { 0 < length blocks.old }
         requires most { length blocks.old ≤ 128 }
-        ensures { blocks.new ≡ eme_by (aes256 self.now) (doubled (aes256 self.now (replicate 16 0))) tweak.now blocks.old }
+        ensures { blocks.new ≡ eme256 self.now tweak.now blocks.old }
     {
         let mask = first_mask(&self.key);
         add_masks(blocks, &mask);
@@ -54,7 +55,7 @@ impl Eme {
     pub fn decrypt(&self, tweak: &Block, blocks: &mut [Block])
         requires some { 0 < length blocks.old }
         requires most { length blocks.old ≤ 128 }
-        ensures { blocks.new ≡ eme_by (inverse_aes256 self.now) (doubled (aes256 self.now (replicate 16 0))) tweak.now blocks.old }
+        ensures { blocks.new ≡ inverse_eme256 self.now tweak.now blocks.old }
     {
         let mask = first_mask(&self.key);
         add_masks(blocks, &mask);
@@ -70,7 +71,7 @@ impl Eme {
 
 // The first mask: the double of the zero block's image.
 fn first_mask(key: &Key256) -> Block
-    ensures { result ≡ doubled (aes256 key.now (replicate 16 0)) }
+    ensures { result ≡ first_mask key.now }
 {
     let mut blocks = [[0; 16]];
     key.encrypt_blocks(&mut blocks);

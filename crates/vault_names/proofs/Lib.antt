@@ -1,0 +1,4 @@
+pub mod Blocks
+pub mod Encryption
+pub mod Padded
+pub mod Texts

@@ -20,6 +20,11 @@ IsBytes-take n xs within bytes = λ k. elim (cases_lt k n) [
       rw (get_or_past (take n xs) k 0 past) (lit< tt)
 ]
 
+pub IsBytes-append : (xs ys : List ℕ) → IsBytes xs → IsBytes ys → IsBytes (xs ++ ys)
+IsBytes-append [] ys left right k = right k
+IsBytes-append (x ∷ xs) ys left right zero = left zero
+IsBytes-append (x ∷ xs) ys left right (suc k) = IsBytes-append xs ys (λ i. left (suc i)) right k
+
 -- chunks are joined
 bytes_of-first_chunks : (n k : ℕ) (xs : List ℕ) → length xs ≡ k * n → bytes_of (first_chunks n k xs) ≡ xs
 bytes_of-first_chunks n zero xs size =
@@ -52,6 +57,11 @@ pub length-bytes_of : (blocks : List (List ℕ)) → All IsBlock blocks → leng
 length-bytes_of [] are = refl
 length-bytes_of (block ∷ blocks) are =
     omega (arith, length-append block (bytes_of blocks), (All-head IsBlock _ _ are).sixteen, length-bytes_of blocks (All-tail IsBlock _ _ are))
+
+pub IsBytes-bytes_of : (blocks : List (List ℕ)) → All IsBlock blocks → IsBytes (bytes_of blocks)
+IsBytes-bytes_of [] are = λ k. lit< tt
+IsBytes-bytes_of (block ∷ blocks) are =
+    IsBytes-append block (bytes_of blocks) (All-head IsBlock _ _ are).bytes (IsBytes-bytes_of blocks (All-tail IsBlock _ _ are))
 
 pub length-first_chunks : (n k : ℕ) (xs : List ℕ) → length (first_chunks n k xs) ≡ k
 length-first_chunks n zero xs = refl

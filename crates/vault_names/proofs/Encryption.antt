@@ -1,5 +1,5 @@
 -- Names encrypt to texts, and texts decrypt to names.
-use Rattle.std.proofs.Common.{◌≡◌, ℕ, zero, suc, ◌/◌, ◌%◌, ◌<◌, ◌≤◌, List, [], ◌∷◌, length, Ok, IsTrue, refl, sym, ap, subst, ◌∙◌, arith, lit<}
+use Rattle.std.proofs.Common.{◌≡◌, ◌+◌, ℕ, zero, suc, ◌/◌, ◌%◌, ◌<◌, ◌≤◌, List, [], ◌∷◌, length, Ok, IsTrue, sym, ap, subst, ◌∙◌, arith, lit<}
 use Rattle.std.specs.List.{All, list_all}
 use Rattle.std.proofs.lemmas.Bool.{and_parts, leb-true}
 use Rattle.std.proofs.lemmas.Bool.Decides.{nat_tests}
@@ -63,17 +63,22 @@ IsBlock-encrypted key iv blocks = IsBlock-eme_by (aes256 key) (IsBlock-aes 8 key
 IsBlock-decrypted : (key iv : List ℕ) (blocks : List (List ℕ)) → IsBlock iv → All IsBlock blocks → All IsBlock (inverse_eme256 key iv blocks)
 IsBlock-decrypted key iv blocks = IsBlock-eme_by (inverse_aes256 key) (IsBlock-inverse_aes 8 key) (first_mask key) iv blocks (IsBlock-doubled _)
 
+pub length-encrypted : (key iv name : List ℕ) → length (eme256 key iv (blocks_of (padded name))) ≡ length name / 16 + 1
+length-encrypted key iv name =
+    let count : length (padded name) / 16 ≡ length name / 16 + 1 = omega (arith, length-padded name) in
+    length-eme_by (aes256 key) (first_mask key) iv (blocks_of (padded name))
+    ∙ length-first_chunks 16 (length (padded name) / 16) (padded name) ∙ count
+
 -- the blocks behind a name's text
 pub AreBlocksOf-text : (key iv name text : List ℕ) → IsBlock iv → IsTextOf key iv name text → AreBlocksOf text (eme256 key iv (blocks_of (padded name)))
 unfolding go_text
 AreBlocksOf-text key iv name text is_iv is =
-    let plain : List (List ℕ) = blocks_of (padded name) in
-    let count : length (eme256 key iv plain) ≡ length (padded name) / 16 =
-    length-eme_by (aes256 key) (first_mask key) iv plain ∙ length-first_chunks 16 (length (padded name) / 16) (padded name) in
+    let count = length-encrypted key iv name in
+    let size = length-name name is.named in
     record {
-      some = rw count (some_blocks name (padded name) refl);
-      most = rw count (few_blocks name (padded name) is.named refl);
-      each = IsBlock-encrypted key iv plain is_iv (IsBlock-padded name is.named);
+      some = omega arith;
+      most = omega arith;
+      each = IsBlock-encrypted key iv (blocks_of (padded name)) is_iv (IsBlock-padded name is.named);
       encoded = sym is.encrypts;
     }
 

@@ -1,13 +1,13 @@
 -- Padding by PKCS#7 loses nothing.
-use Rattle.std.proofs.Common.{◌≡◌, ℕ, ◌+◌, ◌-◌, ◌*◌, ◌/◌, ◌%◌, ◌<◌, ◌≤◌, List, ◌++◌, length, replicate, ◌≢◌, Option, slice_get, Some, None, inl, inr, refl, sym, ap, ◌∙◌, arith, lit<, length-append}
+use Rattle.std.proofs.Common.{◌≡◌, ◌≢◌, ℕ, zero, suc, ◌+◌, ◌-◌, ◌*◌, ◌/◌, ◌%◌, ◌<◌, ◌≤◌, List, ◌++◌, length, replicate, slice_get, Option, Some, None, refl, sym, ap, ◌∙◌, arith, lit<, length-append}
 use Rattle.std.specs.Option.{MatchOption}
 use denote.Ref.{Bor}
-use Rattle.std.proofs.lemmas.List.{get_or_append_left, get_or-replicate, get_or_past, length-replicate, append_cancel_right}
+use Rattle.std.proofs.lemmas.List.{get_or-replicate, length-replicate, append_cancel_right}
 use Rattle.std.proofs.lemmas.Option.{slice_get-get_or}
 use Rattle.std.proofs.Math.Seq.{get_or-append_right}
-use Rattle.std.proofs.lemmas.Bool.{cases_lt}
 use Rattle.base64.specs.GeneralPurpose.{IsBytes}
 use Rattle.vault_names.specs.Gocryptfs.{padded}
+use Rattle.vault_names.proofs.Blocks.{IsBytes-append}
 
 pub length-padded : (bytes : List ℕ) → length (padded bytes) ≡ 16 * (length bytes / 16 + 1)
 unfolding padded
@@ -15,21 +15,16 @@ length-padded bytes =
     let added : ℕ = 16 - length bytes % 16 in
     omega (arith, length-append bytes (replicate added added), length-replicate added added)
 
+IsBytes-replicate : (n byte : ℕ) → byte < 256 → IsBytes (replicate n byte)
+IsBytes-replicate zero byte small k = lit< tt
+IsBytes-replicate (suc n) byte small zero = small
+IsBytes-replicate (suc n) byte small (suc k) = IsBytes-replicate n byte small k
+
 pub IsBytes-padded : (bytes : List ℕ) → IsBytes bytes → IsBytes (padded bytes)
 unfolding padded
-IsBytes-padded bytes are k =
-    let added : ℕ = 16 - length bytes % 16 in
-    elim (cases_lt k (length bytes)) [
-      | inl lt ↦ rw (get_or_append_left bytes (replicate added added) 0 k lt) (are k)
-      | inr ge ↦ rw (get_or-append_right bytes (replicate added added) k 0 ge) (elim (cases_lt (k - length bytes) added) [
-        | inl lt ↦
-            let small : added < 256 = omega arith in
-            rw (get_or-replicate added (k - length bytes) added 0 lt) small
-        | inr ge' ↦
-            let past : length (replicate added added) ≤ k - length bytes = omega (arith, length-replicate added added) in
-            rw (get_or_past (replicate added added) (k - length bytes) 0 past) (lit< tt)
-      ])
-    ]
+IsBytes-padded bytes are =
+    let small : 16 - length bytes % 16 < 256 = omega arith in
+    IsBytes-append bytes _ are (IsBytes-replicate _ _ small)
 
 -- the last byte is the number of the bytes added
 padded-last : (bytes : List ℕ) → slice_get (padded bytes) (length (padded bytes) - 1) ≡ Some (16 - length bytes % 16)

@@ -1,24 +1,11 @@
 -- The blocks behind a text.
-use Rattle.std.proofs.Common.{◌≡◌, ℕ, ◌*◌, ◌/◌, List, [], ◌∷◌, length, Ok, inl, inr, refl, sym, ap, ◌∙◌, arith, lit<}
-use Rattle.std.specs.List.{All}
-use Rattle.std.proofs.lemmas.List.{get_or_append_left}
-use Rattle.std.proofs.Math.Seq.{get_or-append_right}
-use Rattle.std.proofs.lemmas.List.Elements.{All-head, All-tail}
-use Rattle.std.proofs.lemmas.Bool.{cases_lt}
+use Rattle.std.proofs.Common.{◌≡◌, ℕ, ◌*◌, ◌/◌, List, length, Ok, refl, sym, ap, ◌∙◌, arith}
 use Rattle.base64.specs.Engines.{url_safe_no_pad}
 use Rattle.base64.specs.GeneralPurpose.{IsBytes, decode_of}
 use Rattle.base64.proofs.EngineFacts.{decode_of-encode_of}
-use Rattle.aes_lanes.specs.Rounds.{IsBlock}
 use Rattle.vault_names.specs.Blocks.{AreBlocksOf, IsSizeOfBlocks}
 use Rattle.vault_names.specs.Gocryptfs.{base64url, blocks_of, bytes_of}
-use Rattle.vault_names.proofs.Blocks.{length-bytes_of, length-first_chunks, bytes_of-blocks_of, IsBlock-blocks_of}
-
-IsBytes-bytes_of : (blocks : List (List ℕ)) → All IsBlock blocks → IsBytes (bytes_of blocks)
-IsBytes-bytes_of [] are k = lit< tt
-IsBytes-bytes_of (block ∷ blocks) are k = elim (cases_lt k (length block)) [
-  | inl lt ↦ rw (get_or_append_left block (bytes_of blocks) 0 k lt) ((All-head IsBlock _ _ are).bytes k)
-  | inr ge ↦ rw (get_or-append_right block (bytes_of blocks) k 0 ge) (IsBytes-bytes_of blocks (All-tail IsBlock _ _ are) _)
-]
+use Rattle.vault_names.proofs.Blocks.{IsBytes-bytes_of, length-bytes_of, length-first_chunks, bytes_of-blocks_of, IsBlock-blocks_of}
 
 -- a text decodes to what it is the base64url of
 decode_of-base64url : (bytes : List ℕ) → IsBytes bytes → decode_of url_safe_no_pad (base64url bytes) ≡ Ok bytes

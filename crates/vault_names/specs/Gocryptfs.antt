@@ -1,6 +1,7 @@
--- The stored names of gocryptfs, on-disk format 2, in the encrypting direction. A name is under the name key of its vault
--- and in a directory whose file `gocryptfs.diriv` has sixteen bytes, `iv`.
-use Rattle.std.specs.Prelude.{◌≡◌, ℕ, ◌-◌, ◌/◌, ◌%◌, List, ◌++◌, length, replicate, codes, nat_le, if◌then◌else◌, IsTrue, Some, None}
+-- The stored names of gocryptfs, on-disk format 2, in the encrypting direction: `key` is the vault's name key, and `iv` the
+-- sixteen bytes of a directory's `gocryptfs.diriv`.
+use Rattle.std.specs.Prelude.{◌≡◌, ℕ, Bool, ◌||◌, ◌==◌, ◌-◌, ◌/◌, ◌%◌, List, ◌++◌, length, replicate, codes, nat_le, if◌then◌else◌, IsTrue, Some, None}
+use Rattle.std.specs.Char.{is_ascii_alphanumeric}
 use Rattle.std.specs.List.{flat_map}
 use Rattle.std.specs.Simd.{first_chunks}
 use Rattle.sha2.specs.Sha256.{sha256}
@@ -14,16 +15,21 @@ use Rattle.vault_names.specs.declared.entry.Stored.{Stored}
 unfoldable pub padded : List ℕ → List ℕ
 padded bytes = let added = 16 - length bytes % 16 in bytes ++ replicate added added
 
--- bytes as blocks of sixteen, and the bytes of blocks
+-- bytes as blocks of sixteen
 abbrev pub blocks_of : List ℕ → List (List ℕ)
 blocks_of bytes = first_chunks 16 (length bytes / 16) bytes
 
+-- the bytes of blocks
 abbrev pub bytes_of : List (List ℕ) → List ℕ
 bytes_of blocks = flat_map (λ block. block) blocks
 
 -- base64url without padding (RFC 4648, sections 3.2 and 5)
 abbrev pub base64url : List ℕ → List ℕ
 base64url bytes = encode_of url_safe_no_pad bytes
+
+-- a character of base64url: a letter, a digit, `-` or `_`
+abbrev pub is_base64url : ℕ → Bool
+is_base64url c = is_ascii_alphanumeric c || c == 45 || c == 95
 
 -- the whole encrypted text of a name: padded, by EME under the name key with the directory's bytes as the tweak, in base64url
 unfoldable pub go_text : List ℕ → List ℕ → List ℕ → List ℕ

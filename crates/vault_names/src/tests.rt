@@ -181,4 +181,6 @@ fn text_of_129_blocks(rt: HostRuntime) -> Result<(), Fail> {
 #[test]
 fn laws_do_nothing() {
     laws::text_has_one_name();
+    laws::texts_are_plain();
+    laws::long_names_are_plain();
 }

@@ -1,0 +1,5 @@
+pub mod Blocks
+pub mod Characters
+pub mod Encryption
+pub mod Padded
+pub mod Texts

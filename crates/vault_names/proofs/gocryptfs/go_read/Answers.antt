@@ -1,0 +1,40 @@
+use Rattle.std.proofs.Common.{◌≡◌, length, ap, subst, ◌∙◌, arith}
+use Rattle.std.proofs.lemmas.List.{take_at}
+use Rattle.std.proofs.lemmas.Result.{IfOk-weaker}
+use Rattle.aes_lanes.specs.Rounds.{IsBlock}
+use Rattle.eme_mode.specs.Eme.{inverse_eme256}
+use Rattle.vault_names.specs.Blocks.{AreBlocksOf, IsPaddedName}
+use Rattle.vault_names.specs.Gocryptfs.{bytes_of, IsTextOf}
+use Rattle.vault_names.proofs.Encryption.{AreBlocksOf-text, IsPaddedName-text, IsTextOf-padded}
+use Rattle.vault_names.proofs.gocryptfs.go_read.Goals as goal
+
+pub returns-in_default-clause-not_stored : goal.returns-in_default-clause-not_stored
+returns-in_default-clause-not_stored c = λ fault name is.
+    let none = rw c.in_default.is at c.in_ok-blocks.ensures in
+    let is_iv : IsBlock c.args.iv.now = record { sixteen = c.told-iv; bytes = c.fits-iv } in
+    none _ (AreBlocksOf-text c.args.keys.now.names c.args.iv.now name c.args.text.now is_iv is)
+
+-- what was decrypted
+whole : (c : goal.After-drop-blocks) → c.as_flattened.result.now ≡ bytes_of (inverse_eme256 c.args.keys.now.names c.args.iv.now c.in-Some.blocks.items)
+whole c =
+    let long : length c.decrypt.new.blocks ≡ c.in-Some.blocks.len = omega (arith, c.decrypt.auto.blocks, c.as_mut_slice.ensures.len) in
+    let slice : c.as_slice.result.now ≡ c.decrypt.new.blocks = c.as_slice.ensures.value ∙ take_at c.decrypt.new.blocks _ c.in-Some.blocks.len long in
+    let key = c.new-2.ensures ∙ c.new.ensures in
+    c.as_flattened.ensures.value ∙ ap bytes_of (slice ∙ c.decrypt.ensures)
+    ∙ ap (λ bs. bytes_of (inverse_eme256 c.new-2.result c.args.iv.now bs)) c.as_mut_slice.ensures.value
+    ∙ ap (λ key. bytes_of (inverse_eme256 key c.args.iv.now c.in-Some.blocks.items)) key
+
+pub returns-clause-name : goal.returns-clause-name
+returns-clause-name c =
+    let is_iv : IsBlock c.args.iv.now = record { sixteen = c.told-iv; bytes = c.fits-iv } in
+    let are : AreBlocksOf c.args.text.now c.in-Some.blocks.items = rw c.in-Some.is at c.in_ok-blocks.ensures in
+    IfOk-weaker c.unpadded_name.result _ (λ name. IsTextOf c.args.keys.now.names c.args.iv.now name c.args.text.now)
+    (λ name is. IsTextOf-padded c.args.keys.now.names c.args.iv.now name c.args.text.now c.in-Some.blocks.items is_iv are (subst (IsPaddedName name) (whole c) is))
+    c.unpadded_name.ensures.name
+
+pub returns-clause-not_stored : goal.returns-clause-not_stored
+returns-clause-not_stored c = λ fault name is.
+    let is_iv : IsBlock c.args.iv.now = record { sixteen = c.told-iv; bytes = c.fits-iv } in
+    let are : AreBlocksOf c.args.text.now c.in-Some.blocks.items = rw c.in-Some.is at c.in_ok-blocks.ensures in
+    c.unpadded_name.ensures.not_stored fault name
+    (rw (whole c) (IsPaddedName-text c.args.keys.now.names c.args.iv.now name c.args.text.now _ is_iv are is))

@@ -1,0 +1,2 @@
+pub mod Gocryptfs
+pub mod Blocks

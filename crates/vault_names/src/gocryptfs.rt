@@ -1,0 +1,121 @@
+//! Stored names of gocryptfs, on-disk format 2: EME over AES-256 on padded names, in base64url without padding.
+ghost use Rattle.std.specs.Prelude.{◌≡◌, ℕ, ◌%◌, ◌↔◌, List, length, IfOk, MatchOption, IsTrue, Err, string_bytes};
+ghost use Rattle.vault_names.specs.Blocks.{AreBlocksOf, IsPaddedName, IsSizeOfBlocks};
+ghost use Rattle.vault_names.specs.Gocryptfs.{go_text, long_name, stored, IsTextOf, base64url, bytes_of};
+
+use crate::entry::{NameFault, Stored, StoredText};
+use crate::padding::{BLOCK_SIZE, padded, unpadded};
+use aes_lanes::{Block, Key256};
+use base64::DecodeAllocError;
+use base64::engine::general_purpose::URL_SAFE_NO_PAD;
+use eme_mode::Eme;
+use gocrypt_conf::GoKeys;
+use plain_tree::{Name, NameNewFault};
+use sha2::{Digest, Sha256};
+use std::alloc::{AllocError, Global};
+
+/// The greatest length of a text that is an entry's name, in characters.
+pub const MAX_ENTRY_SIZE: usize = 255;
+
+// The size of the 128 blocks that EME takes at most.
+const MAX_SIZE: usize = 128 * BLOCK_SIZE;
+
+/// What is stored of a name in the directory whose `gocryptfs.diriv` holds `iv`.
+#[tactic(auto, unfolding(crate::specs::Gocryptfs::stored))]
+pub fn go_store(alloc: Global, keys: &GoKeys, iv: &Block, name: &Name) -> Result<Stored, AllocError>
+    ensures { IfOk result (λ entry. entry ≡ stored keys.now.names iv.now name.now) }
+{
+    let text = encrypted_text(alloc, keys, iv, name)?;
+    if text.len() <= MAX_ENTRY_SIZE {
+        return Ok(Stored {
+            name: StoredText::new(text),
+            full: None,
+        });
+    }
+    Ok(Stored {
+        name: StoredText::new(go_long(alloc, text.as_str())?),
+        full: Some(StoredText::new(text)),
+    })
+}
+
+/// The entry's name of an encrypted text that is too long for one: `gocryptfs.longname.` and the base64url of its SHA-256.
+#[tactic(auto, unfolding(crate::specs::Gocryptfs::long_name))]
+pub fn go_long(alloc: Global, text: &str) -> Result<String, AllocError>
+    ensures { IfOk result (λ name. string_bytes name ≡ long_name text.now) }
+{
+    let mut name = String::from_str(alloc, "gocryptfs.longname.")?;
+    URL_SAFE_NO_PAD.encode_string(&Sha256::digest(text.as_bytes()), &mut name)?;
+    Ok(name)
+}
+
+/// The name that encrypts to a text, in the directory whose `gocryptfs.diriv` holds `iv`. The text is the whole
+/// encrypted one, an entry's name or what a long-name file holds.
+pub fn go_read(alloc: Global, keys: &GoKeys, iv: &Block, text: &str) -> Result<Name, NameFault>
+    ensures name { IfOk result (λ name. IsTextOf keys.now.names iv.now name text.now) }
+    ensures not_stored { result ≡ Err NameFault.NotStored
+        → (name : List ℕ) → ¬ IsTextOf keys.now.names iv.now name text.now }
+{
+    let Some(mut blocks) = encrypted_blocks(alloc, text)? else {
+        return Err(NameFault::NotStored);
+    };
+    Eme::new(Key256::new(&keys.names)).decrypt(iv, blocks.as_mut_slice());
+    unpadded_name(alloc, blocks.as_slice().as_flattened())
+}
+
+// The whole encrypted text of a name.
+#[tactic(auto, unfolding(crate::specs::Gocryptfs::go_text))]
+fn encrypted_text(
+    alloc: Global,
+    keys: &GoKeys,
+    iv: &Block,
+    name: &Name,
+) -> Result<String, AllocError>
+    ensures { IfOk result (λ text. string_bytes text ≡ go_text keys.now.names iv.now name.now) }
+{
+    let whole = padded(alloc, name.bytes())?;
+    let (blocks, _) = whole.as_slice().as_chunks::<BLOCK_SIZE>();
+    let mut blocks = Vec::from_slice(alloc, blocks)?;
+    Eme::new(Key256::new(&keys.names)).encrypt(iv, blocks.as_mut_slice());
+    URL_SAFE_NO_PAD.encode(alloc, blocks.as_slice().as_flattened())
+}
+
+// The 1 to 128 blocks that a text is the base64url of, or `None` where there are none.
+fn encrypted_blocks(alloc: Global, text: &str) -> Result<Option<Vec<Block>>, AllocError>
+    ensures { IfOk result (λ found. MatchOption found
+        ((blocks : List (List ℕ)) → ¬ AreBlocksOf text.now blocks)
+        (λ blocks. AreBlocksOf text.now blocks.items)) }
+{
+    let bytes = match URL_SAFE_NO_PAD.decode(alloc, text.as_bytes()) {
+        Ok(bytes) => bytes,
+        Err(DecodeAllocError::DecodeError(_)) => return Ok(None),
+        Err(DecodeAllocError::OutOfMemory) => return Err(AllocError),
+    };
+    if !is_size_of_blocks(bytes.len()) {
+        return Ok(None);
+    }
+    let (blocks, _) = bytes.as_slice().as_chunks::<BLOCK_SIZE>();
+    Ok(Some(Vec::from_slice(alloc, blocks)?))
+}
+
+// Whether so many bytes are 1 to 128 blocks.
+fn is_size_of_blocks(size: usize) -> bool
+    ensures { IsTrue result ↔ IsSizeOfBlocks size }
+{
+    0 < size && size <= MAX_SIZE && size % BLOCK_SIZE == 0
+}
+
+// The name that these whole blocks are the padding of.
+fn unpadded_name(alloc: Global, whole: &[u8]) -> Result<Name, NameFault>
+    requires { length whole.now % 16 ≡ 0 }
+    ensures name { IfOk result (λ name. IsPaddedName name whole.now) }
+    ensures not_stored { result ≡ Err NameFault.NotStored → (name : List ℕ) → ¬ IsPaddedName name whole.now }
+{
+    let Some(name) = unpadded(whole) else {
+        return Err(NameFault::NotStored);
+    };
+    match Name::new(alloc, name) {
+        Ok(name) => Ok(name),
+        Err(NameNewFault::BadName) => Err(NameFault::NotStored),
+        Err(NameNewFault::NoMemory) => Err(NameFault::NoMemory),
+    }
+}

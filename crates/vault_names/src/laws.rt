@@ -1,0 +1,26 @@
+//! Laws of stored names, for callers to cite. They do nothing.
+ghost use Rattle.std.specs.Prelude.{◌≡◌, ℕ, ◌+◌, ◌*◌, ◌/◌, List, length, take, drop, codes, IsTrue};
+ghost use Rattle.std.specs.List.{list_all};
+ghost use Rattle.aes_lanes.specs.Rounds.{IsBlock};
+ghost use Rattle.plain_tree.specs.Names.{is_name};
+ghost use Rattle.vault_names.specs.Gocryptfs.{go_text, is_base64url, long_name, IsTextOf};
+
+/// A text is that of one name at most, under each key and in each directory.
+pub fn text_has_one_name()
+    ensures { (key iv text name other : List ℕ) → IsBlock iv → IsTextOf key iv name text → IsTextOf key iv other text → name ≡ other }
+{}
+
+/// A text's size follows from its name's, and a text is of letters, digits, `-` and `_`.
+pub fn texts_are_plain()
+    ensures size { (key iv name : List ℕ) → IsBlock iv → IsTrue (is_name name)
+        → length (go_text key iv name) ≡ (64 * (length name / 16 + 1) + 2) / 3 }
+    ensures characters { (key iv name : List ℕ) → IsBlock iv → IsTrue (is_name name)
+        → IsTrue (list_all is_base64url (go_text key iv name)) }
+{}
+
+/// A long name has 62 characters: `gocryptfs.longname.`, and then letters, digits, `-` and `_`.
+pub fn long_names_are_plain()
+    ensures size { (text : List ℕ) → length (long_name text) ≡ 62 }
+    ensures prefix { (text : List ℕ) → take 19 (long_name text) ≡ codes "gocryptfs.longname." }
+    ensures characters { (text : List ℕ) → IsTrue (list_all is_base64url (drop 19 (long_name text))) }
+{}

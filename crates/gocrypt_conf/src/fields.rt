@@ -1,10 +1,10 @@
 // The fields of a configuration, as they stand in its JSON.
 
-ghost use Rattle.std.specs.Prelude.{◌≡◌, ◌⊎◌, ℕ, List, map, Option, Some, None, Ok, Err, IfOk, IfErr, option_map};
+ghost use Rattle.std.specs.Prelude.{◌≡◌, ◌⊎◌, Some, None, Ok, Err, IfOk, IfErr, option_map};
 ghost use Rattle.serde_json.specs.View.{view, items_view};
 ghost use Rattle.gocrypt_conf.specs.declared.fault.GoConfFault.TheVariants.{Field, NoMemory, NotJson};
 ghost use Rattle.gocrypt_conf.specs.Json.{json_object, number_at, texts_at, texts_of, bytes_at, object_at};
-ghost use Rattle.gocrypt_conf.specs.Fields.{scrypt_fields_of, fields_of, fields_in};
+ghost use Rattle.gocrypt_conf.specs.Fields.{scrypt_fields_of, fields_of};
 ghost use Rattle.gocrypt_conf.specs.Views.{scrypt_view, fields_view, texts_view};
 
 use crate::fault::{GoConfFault, Text};

@@ -1,6 +1,6 @@
 //! Reading `gocryptfs.conf`.
 
-ghost use Rattle.std.specs.Prelude.{◌≡◌, ◌⊎◌, ℕ, List, length, codes, Ok, Err, Option, Some, None, IfOk, IfErr, option_map};
+ghost use Rattle.std.specs.Prelude.{◌≡◌, ◌⊎◌, Ok, Err, IfOk, IfErr, option_map};
 ghost use Rattle.gocrypt_conf.specs.declared.fault.GoConfFault.TheVariants.{Flag, Length, NoMemory};
 ghost use Rattle.std.specs.List.{list_any};
 ghost use Rattle.std.specs.Str.{bytes_eq};

@@ -10,3 +10,4 @@ pub mod Encoding
 pub mod DrawFaults
 pub mod Steps
 pub mod BlocksLeft
+pub mod Lending

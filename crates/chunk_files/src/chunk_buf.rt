@@ -1,4 +1,4 @@
-ghost use Rattle.std.specs.Prelude.{◌≡◌, ◌≤◌, ◌+◌, ◌++◌, ℕ, List, length, take, replicate, IfOk};
+ghost use Rattle.std.specs.Prelude.{◌≡◌, ◌≤◌, ◌+◌, ◌++◌, length, take, replicate, IfOk};
 
 use std::alloc::{AllocError, Global};
 use std::marker::Model;
@@ -9,25 +9,29 @@ pub const CHUNK_BUFFER_SIZE: usize = 32_816;
 /// A buffer for one chunk, of 32,816 bytes for good.
 #[derive(Drop)]
 pub struct ChunkBuf {
-    bytes: Vec<u8>,
+    bytes: Box<[u8; CHUNK_BUFFER_SIZE]>,
 }
 
 impl Model for ChunkBuf {
+    ghost use Rattle.std.specs.Prelude.{ℕ, List};
+
     ghost Value = { List ℕ };
 
-    ghost view = { λ buffer. buffer.bytes.items };
-
-    ghost invariant = { λ buffer. length buffer.bytes.items ≡ 32816 };
+    ghost view = { λ buffer. buffer.bytes.value };
 }
 
 impl ChunkBuf {
+    ghost use Rattle.std.specs.Borrow.{sem};
+    ghost use Rattle.chunk_files.specs.Lending.{LendsBytes};
+
     /// A buffer of zeros.
     pub fn new(alloc: Global) -> Result<ChunkBuf, AllocError>
         ensures { IfOk result (λ buffer. buffer ≡ replicate CHUNK_BUFFER_SIZE 0) }
     {
-        Ok(ChunkBuf {
-            bytes: vec![in alloc; 0; CHUNK_BUFFER_SIZE]?,
-        })
+        let Ok(bytes) = Box::new(alloc, [0; CHUNK_BUFFER_SIZE]) else {
+            return Err(AllocError);
+        };
+        Ok(ChunkBuf { bytes })
     }
 
     /// All its bytes.
@@ -35,7 +39,19 @@ impl ChunkBuf {
         ensures value { result.now ≡ self.now }
         ensures size { length result.now ≡ CHUNK_BUFFER_SIZE }
     {
-        self.bytes.as_slice()
+        all_of(&self.bytes)
+    }
+
+    /// Lends all its bytes.
+    pub fn bytes_mut(&mut self) -> &mut [u8]
+        ensures value { result.now ≡ self.old }
+        ensures size { length result.now ≡ CHUNK_BUFFER_SIZE }
+        ensures* writes_back { sem 𝓛 (LendsBytes self.entry result) }
+    {
+        // shows that there are so many
+        let _all = all_of(&self.bytes);
+        let bytes = &mut *self.bytes;
+        bytes.as_mut_slice()
     }
 
     // Puts these bytes at the front.
@@ -57,10 +73,18 @@ impl ChunkBuf {
     }
 }
 
+fn all_of(buffer: &[u8; CHUNK_BUFFER_SIZE]) -> &[u8]
+    ensures value { result.now ≡ buffer.now }
+    ensures size { length result.now ≡ CHUNK_BUFFER_SIZE }
+{
+    buffer.as_slice()
+}
+
 // Copies bytes into a buffer, behind its first `at`.
-fn copy_at(buffer: &mut [u8], at: usize, bytes: &[u8])
-    requires { at + length bytes.now ≤ length buffer.old }
-    ensures { take (at + length bytes.now) buffer.new ≡ take at buffer.old ++ bytes.now }
+fn copy_at(buffer: &mut [u8; CHUNK_BUFFER_SIZE], at: usize, bytes: &[u8])
+    requires { at + length bytes.now ≤ CHUNK_BUFFER_SIZE }
+    ensures front { take (at + length bytes.now) buffer.new ≡ take at buffer.old ++ bytes.now }
+    ensures size { length buffer.new ≡ CHUNK_BUFFER_SIZE }
 {
     buffer[at..at + bytes.len()].copy_from_slice(bytes);
 }

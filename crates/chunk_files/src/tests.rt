@@ -191,3 +191,12 @@ fn draws_that_fail(rt: HostRuntime) -> Result<(), Fail> {
     }
     Ok(())
 }
+
+#[test]
+fn a_buffer_lends_its_bytes(rt: HostRuntime) -> Result<(), Fail> {
+    let mut buffer = ChunkBuf::new(rt.alloc())?;
+    buffer.bytes_mut()[1..3].copy_from_slice(b"ab");
+    assert_eq!(rt; &buffer.bytes()[..4], b"\0ab\0".as_slice());
+    assert_eq!(rt; buffer.bytes_mut().len(), 32_816);
+    Ok(())
+}

@@ -45,6 +45,7 @@ fn moves_among_paths(rt: HostRuntime) -> Result<(), Fail> {
     assert!(rt; !path.is(&below));
     let base = FPath::base(alloc);
     assert!(rt; path.starts_with(&base));
+    assert_eq!(rt; below.text()?.as_str(), "a/b/c");
     assert!(rt; base.parent()?.is(&base));
     let again = FPath::from_parts(below.into_parts());
     let parts = again.parts();
@@ -63,74 +64,6 @@ fn makes_an_entry(rt: HostRuntime) -> Result<(), Fail> {
 
 fn path(alloc: std::alloc::Global, text: &str) -> Result<FPath, Fail> {
     Ok(FPath::parse(alloc, text).ok().ok_or("a path")?)
-}
-
-#[test]
-fn drives_a_folder(rt: HostRuntime) -> Result<(), Fail> {
-    let alloc = rt.alloc();
-    let mut folder = MemFolder::new(alloc)?;
-    let (dir, file, other) = (path(alloc, "d")?, path(alloc, "d/f")?, path(alloc, "g")?);
-    assert_eq!(rt; folder.create(&file), Err(FolderFault::Refused));
-    assert_eq!(rt; folder.make_dir(&dir), Ok(()));
-    assert_eq!(rt; folder.make_dir(&dir), Err(FolderFault::Refused));
-    assert_eq!(rt; folder.create(&file), Ok(()));
-    assert_eq!(rt; folder.append(&file, b"abc"), Ok(()));
-    assert_eq!(rt; folder.append(&dir, b"abc"), Err(FolderFault::Refused));
-    assert_eq!(rt; folder.sync(&file), Ok(()));
-    assert_eq!(rt; folder.sync(&other), Err(FolderFault::Refused));
-    assert_eq!(rt; folder.settle(), Ok(()));
-    let mut out = [0u8; 8];
-    assert_eq!(rt; folder.read(&file, 1, &mut out), Ok(2));
-    assert_eq!(rt; out[0], b'b');
-    assert_eq!(rt; out[1], b'c');
-    assert_eq!(rt; folder.read(&file, 9, &mut out), Ok(0));
-    assert_eq!(rt; folder.read(&dir, 0, &mut out), Err(FolderFault::Refused));
-    assert_eq!(rt; folder.remove_dir(&dir), Err(FolderFault::Refused));
-    assert_eq!(rt; folder.rename(&dir, &file), Err(FolderFault::Refused));
-    assert_eq!(rt; folder.rename(&dir, &other), Ok(()));
-    assert_eq!(rt; folder.kind(&dir), Ok(Kind::Missing));
-    assert_eq!(rt; folder.kind(&path(alloc, "g/f")?), Ok(Kind::File));
-    assert_eq!(rt; folder.remove_file(&other), Err(FolderFault::Refused));
-    assert_eq!(rt; folder.remove_file(&path(alloc, "g/f")?), Ok(()));
-    assert_eq!(rt; folder.remove_dir(&other), Ok(()));
-    assert_eq!(rt; folder.kind(&FPath::base(alloc)), Ok(Kind::Dir));
-    Ok(())
-}
-
-#[test]
-fn lists_in_order(rt: HostRuntime) -> Result<(), Fail> {
-    let alloc = rt.alloc();
-    let mut folder = MemFolder::new(alloc)?;
-    for name in ["b", "c", "a"] {
-        assert_eq!(rt; folder.create(&path(alloc, name)?), Ok(()));
-    }
-    assert_eq!(rt; folder.remove_file(&path(alloc, "c")?), Ok(()));
-    assert_eq!(rt; folder.make_dir(&path(alloc, "c")?), Ok(()));
-    let entries = folder.list(&FPath::base(alloc)).ok().ok_or("a listing")?;
-    assert_eq!(rt; entries.len(), 3);
-    assert_eq!(rt; entries[0].name.as_str(), "a");
-    assert_eq!(rt; entries[1].name.as_str(), "b");
-    assert_eq!(rt; entries[2].name.as_str(), "c");
-    assert_eq!(rt; entries[2].kind, Kind::Dir);
-    assert!(rt; folder.list(&path(alloc, "a")?).is_err());
-    Ok(())
-}
-
-#[test]
-fn fails_when_told_to(rt: HostRuntime) -> Result<(), Fail> {
-    let alloc = rt.alloc();
-    let mut folder = MemFolder::new(alloc)?;
-    let file = path(alloc, "f")?;
-    folder.fail_at(2)?;
-    folder.fail_at(4)?;
-    assert_eq!(rt; folder.create(&file), Ok(()));
-    assert_eq!(rt; folder.append(&file, b"abc"), Err(FolderFault::Failed));
-    assert_eq!(rt; folder.append(&file, b"d"), Ok(()));
-    assert_eq!(rt; folder.kind(&file), Err(FolderFault::Failed));
-    let mut out = [0u8; 4];
-    assert_eq!(rt; folder.read(&file, 0, &mut out), Ok(1));
-    assert_eq!(rt; out[0], b'd');
-    Ok(())
 }
 
 #[derive(Debug, Clone, Copy)]
@@ -174,6 +107,120 @@ fn fill<F: Folder>(alloc: std::alloc::Global, folder: &mut F) -> Result<(), Fail
     let _ = folder.make_dir(&path(alloc, "e")?);
     let _ = folder.create(&file);
     let _ = folder.append(&file, b"abc");
+    Ok(())
+}
+
+// The fault of each call in turn, over one folder. A rename goes to `g`.
+#[test]
+fn drives_a_folder(rt: HostRuntime) -> Result<(), Fail> {
+    let alloc = rt.alloc();
+    let mut folder = MemFolder::new(alloc)?;
+    let to = path(alloc, "g")?;
+    let refused = Some(FolderFault::Refused);
+    for (doing, at, wanted) in [
+        (Doing::Create, "d/f", refused),
+        (Doing::MakeDir, "d", None),
+        (Doing::MakeDir, "d", refused),
+        (Doing::Create, "d/f", None),
+        (Doing::Append, "d/f", None),
+        (Doing::Append, "d", refused),
+        (Doing::Sync, "d/f", None),
+        (Doing::Sync, "g", refused),
+        (Doing::Settle, "d", None),
+        (Doing::Read, "d/f", None),
+        (Doing::Read, "d", refused),
+        (Doing::RemoveDir, "d", refused),
+        (Doing::Rename, "d", None),
+        (Doing::Kind, "d", None),
+        (Doing::List, "g", None),
+        (Doing::RemoveFile, "g", refused),
+        (Doing::Rename, "g/f", refused),
+        (Doing::RemoveFile, "g/f", None),
+        (Doing::RemoveDir, "g", None),
+    ] {
+        let answer = answer(&mut folder, doing, &path(alloc, at)?, &to);
+        assert_eq!(rt; answer, wanted, "{doing:?} {at}");
+    }
+    Ok(())
+}
+
+fn kind_at<F: Folder>(folder: &mut F, at: &FPath) -> Option<Kind> {
+    folder.kind(at).ok()
+}
+
+#[test]
+fn tells_kinds_and_bytes(rt: HostRuntime) -> Result<(), Fail> {
+    let alloc = rt.alloc();
+    let mut folder = MemFolder::new(alloc)?;
+    fill(alloc, &mut folder)?;
+    let file = path(alloc, "f")?;
+    for (at, kind) in [("x", Kind::Missing), ("d", Kind::Dir), ("d/f", Kind::File)] {
+        assert_eq!(rt; kind_at(&mut folder, &path(alloc, at)?), Some(kind), "{at}");
+    }
+    assert_eq!(rt; kind_at(&mut folder, &FPath::base(alloc)), Some(Kind::Dir));
+    for (start, wanted) in [(0, "abc"), (1, "bc"), (3, ""), (9, "")] {
+        assert!(rt; reads(&mut folder, &file, start, wanted), "{start}");
+    }
+    Ok(())
+}
+
+fn entries_at<F: Folder>(folder: &mut F, at: &FPath) -> Option<Vec<Entry>> {
+    folder.list(at).ok()
+}
+
+#[test]
+fn lists_in_order(rt: HostRuntime) -> Result<(), Fail> {
+    let alloc = rt.alloc();
+    let mut folder = MemFolder::new(alloc)?;
+    let to = path(alloc, "g")?;
+    for (doing, at) in [
+        (Doing::Create, "b"),
+        (Doing::Create, "c"),
+        (Doing::Create, "a"),
+        (Doing::RemoveFile, "c"),
+        (Doing::MakeDir, "c"),
+    ] {
+        assert_eq!(rt;
+            answer(&mut folder, doing, &path(alloc, at)?, &to),
+            None,
+            "{at}"
+        );
+    }
+    let entries = entries_at(&mut folder, &FPath::base(alloc)).ok_or("a listing")?;
+    assert_eq!(rt; entries.len(), 3);
+    for (place, name, kind) in [
+        (0, "a", Kind::File),
+        (1, "b", Kind::File),
+        (2, "c", Kind::Dir),
+    ] {
+        assert_eq!(rt; entries[place].name.as_str(), name);
+        assert_eq!(rt; entries[place].kind, kind);
+    }
+    assert!(rt; entries_at(&mut folder, &path(alloc, "a")?).is_none());
+    Ok(())
+}
+
+#[test]
+fn fails_when_told_to(rt: HostRuntime) -> Result<(), Fail> {
+    let alloc = rt.alloc();
+    let mut folder = MemFolder::new(alloc)?;
+    let file = path(alloc, "f")?;
+    let failed = Some(FolderFault::Failed);
+    folder.fail_at(2)?;
+    folder.fail_at(4)?;
+    for (doing, wanted) in [
+        (Doing::Create, None),
+        (Doing::Append, failed),
+        (Doing::Append, None),
+        (Doing::Kind, failed),
+    ] {
+        assert_eq!(rt;
+            answer(&mut folder, doing, &file, &file),
+            wanted,
+            "{doing:?}"
+        );
+    }
+    assert!(rt; reads(&mut folder, &file, 0, "de"));
     Ok(())
 }
 
@@ -259,8 +306,13 @@ fn a_folder_may_tell_nothing(rt: HostRuntime) -> Result<(), Fail> {
 
 // Whether a file of these bytes stands at the path.
 fn holds<F: Folder>(folder: &mut F, at: &FPath, wanted: &str) -> bool {
+    reads(folder, at, 0, wanted)
+}
+
+// Whether a file has these bytes from `start` on.
+fn reads<F: Folder>(folder: &mut F, at: &FPath, start: u64, wanted: &str) -> bool {
     let mut out = [0u8; 8];
-    match folder.read(at, 0, &mut out) {
+    match folder.read(at, start, &mut out) {
         Ok(count) => &out[..count] == wanted.as_bytes(),
         Err(_) => false,
     }

@@ -1,6 +1,6 @@
 //! A folder that tells nothing.
-ghost use Rattle.std.specs.Prelude.{◌≡◌, ◌≤◌};
-ghost use Rattle.folder_model.specs.Answers.{IsRisen};
+ghost use Rattle.std.specs.Prelude.{◌≡◌};
+ghost use Rattle.port_model.specs.Counts.{CountRose, IsCounted};
 
 use crate::{Entry, FPath, Folder, FolderFault, Kind};
 
@@ -13,14 +13,14 @@ pub struct Silent {
 
 impl Silent {
     fn count_fault(&mut self)
-        ensures { (self.old.faults ≤ self.new.faults) × IsRisen self.old.faults self.new.faults }
+        ensures { IsCounted self.old.faults self.new.faults × CountRose self.old.faults self.new.faults }
     {
         self.faults = self.faults.saturating_add(1);
     }
 
     fn fail(&mut self) -> Result<(), FolderFault>
         ensures failed { result ≡ Err FolderFault.Failed }
-        ensures risen { (self.old.faults ≤ self.new.faults) × IsRisen self.old.faults self.new.faults }
+        ensures risen { IsCounted self.old.faults self.new.faults × CountRose self.old.faults self.new.faults }
     {
         self.count_fault();
         Err(FolderFault::Failed)
@@ -38,6 +38,7 @@ impl Folder for Silent {
     ghost sound = { λ folder a is. absurd (none-some a is) };
 
     fn kind(&mut self, _at: &FPath) -> Result<Kind, FolderFault> {
+        let _before = self.faults;
         Ok(Kind::Missing)
     }
 

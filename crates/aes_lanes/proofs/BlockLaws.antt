@@ -14,22 +14,22 @@ use Rattle.aes_lanes.proofs.MixLaws.{unmixed-mixed, mixed-unmixed}
 use Rattle.aes_lanes.proofs.TableEntries.{sbox-lt, inverse_sbox-lt, inverse_sbox-sbox, sbox-inverse_sbox}
 
 -- each number of a list is a byte
-AreBytes : List ℕ → Type 0
-AreBytes [] = Unit {0}
-AreBytes (x ∷ xs) = (x < 256) × AreBytes xs
+EachByte : List ℕ → Type 0
+EachByte [] = Unit {0}
+EachByte (x ∷ xs) = (x < 256) × EachByte xs
 
-bytes_at : (xs : List ℕ) → AreBytes xs → (k : ℕ) → slice_index xs k < 256
-unfolding AreBytes
+bytes_at : (xs : List ℕ) → EachByte xs → (k : ℕ) → slice_index xs k < 256
+unfolding EachByte
 bytes_at [] p k = lit< tt
 bytes_at (x ∷ xs) p zero = p.0
 bytes_at (x ∷ xs) p (suc k) = bytes_at xs p.1 k
 
-AreBytes-append : (xs ys : List ℕ) → AreBytes xs → AreBytes ys → AreBytes (xs ++ ys)
-unfolding AreBytes
-AreBytes-append [] ys p q = q
-AreBytes-append (x ∷ xs) ys p q = (p.0, AreBytes-append xs ys p.1 q)
+EachByte-append : (xs ys : List ℕ) → EachByte xs → EachByte ys → EachByte (xs ++ ys)
+unfolding EachByte
+EachByte-append [] ys p q = q
+EachByte-append (x ∷ xs) ys p q = (p.0, EachByte-append xs ys p.1 q)
 
-block_of : (xs : List ℕ) → length xs ≡ 16 → AreBytes xs → IsBlock xs
+block_of : (xs : List ℕ) → length xs ≡ 16 → EachByte xs → IsBlock xs
 block_of xs h p = record { sixteen = h; bytes = bytes_at xs p }
 
 -- a map of bytes to bytes
@@ -71,7 +71,7 @@ byte-lt : (n : ℕ) → n % 256 < 256
 byte-lt n = omega arith
 
 IsBlock-round_key : (words : List ℕ) (r : ℕ) → IsBlock (round_key words r)
-unfolding round_key state_of AreBytes
+unfolding round_key state_of EachByte
 IsBlock-round_key words r =
     block_of (round_key words r) refl (
       byte-lt _,
@@ -110,7 +110,7 @@ add-twice s words r b =
 
 -- the rows
 IsBlock-shift_rows : (s : List ℕ) → IsBlock s → IsBlock (shift_rows s)
-unfolding shift_rows AreBytes
+unfolding shift_rows EachByte
 IsBlock-shift_rows s b =
     block_of (shift_rows s) refl (
       b.bytes 0,
@@ -139,7 +139,7 @@ IsBlock-shift_rows s b =
     )
 
 IsBlock-inverse_shift_rows : (s : List ℕ) → IsBlock s → IsBlock (inverse_shift_rows s)
-unfolding inverse_shift_rows AreBytes
+unfolding inverse_shift_rows EachByte
 IsBlock-inverse_shift_rows s b =
     block_of (inverse_shift_rows s) refl (
       b.bytes 0,
@@ -176,8 +176,8 @@ unfolding shift_rows inverse_shift_rows
 shift_rows-inverse_shift_rows s h = sym (gathered s 16 h)
 
 -- the columns
-mixed-bytes : (a b c d : ℕ) → a < 256 → b < 256 → c < 256 → d < 256 → AreBytes (mixed a b c d)
-unfolding mixed AreBytes
+mixed-bytes : (a b c d : ℕ) → a < 256 → b < 256 → c < 256 → d < 256 → EachByte (mixed a b c d)
+unfolding mixed EachByte
 mixed-bytes a b c d ha hb hc hd = (
   sum_of-lt _ _ _ _ (multiply-lt 2 a (lit< tt)) (multiply-lt 3 b (lit< tt)) hc hd,
   (
@@ -189,8 +189,8 @@ mixed-bytes a b c d ha hb hc hd = (
   ),
 )
 
-unmixed-bytes : (a b c d : ℕ) → AreBytes (unmixed a b c d)
-unfolding unmixed AreBytes
+unmixed-bytes : (a b c d : ℕ) → EachByte (unmixed a b c d)
+unfolding unmixed EachByte
 unmixed-bytes a b c d =
     let row : (p q r s : ℕ) → p < 256 → q < 256 → r < 256 → s < 256 → sum_of (multiply p a) (multiply q b) (multiply r c) (multiply s d) < 256 =
     λ p q r s hp hq hr hs. sum_of-lt _ _ _ _ (multiply-lt p a hp) (multiply-lt q b hq) (multiply-lt r c hr) (multiply-lt s d hs) in (
@@ -201,9 +201,9 @@ unmixed-bytes a b c d =
       ),
     )
 
-four_columns : (k l m n : List ℕ) → AreBytes k → AreBytes l → AreBytes m → AreBytes n → AreBytes (k ++ l ++ m ++ n)
+four_columns : (k l m n : List ℕ) → EachByte k → EachByte l → EachByte m → EachByte n → EachByte (k ++ l ++ m ++ n)
 four_columns k l m n hk hl hm hn =
-    AreBytes-append (k ++ l ++ m) n (AreBytes-append (k ++ l) m (AreBytes-append k l hk hl) hm) hn
+    EachByte-append (k ++ l ++ m) n (EachByte-append (k ++ l) m (EachByte-append k l hk hl) hm) hn
 
 length-mix_columns : (s : List ℕ) → length (mix_columns s) ≡ 16
 unfolding mix_columns mixed
@@ -212,7 +212,7 @@ length-mix_columns s = refl
 pub IsBlock-mix_columns : (s : List ℕ) → IsBlock s → IsBlock (mix_columns s)
 unfolding mix_columns
 IsBlock-mix_columns s b =
-    let column : (c : ℕ) → AreBytes (mixed (slice_index s (4 * c)) (slice_index s (1 + 4 * c)) (slice_index s (2 + 4 * c)) (slice_index s (3 + 4 * c))) =
+    let column : (c : ℕ) → EachByte (mixed (slice_index s (4 * c)) (slice_index s (1 + 4 * c)) (slice_index s (2 + 4 * c)) (slice_index s (3 + 4 * c))) =
     λ c. mixed-bytes _ _ _ _ (b.bytes (4 * c)) (b.bytes (1 + 4 * c)) (b.bytes (2 + 4 * c)) (b.bytes (3 + 4 * c)) in
     block_of (mix_columns s) (length-mix_columns s) (four_columns _ _ _ _ (column 0) (column 1) (column 2) (column 3))
 

@@ -2,6 +2,8 @@ pub mod TableEntries
 pub mod WordBytes
 pub mod RoundSteps
 pub mod ByteSums
+pub mod Bytes
+pub mod CounterBytes
 pub mod ScheduleSteps
 pub mod CounterSteps
 pub mod FieldLaws

@@ -7,6 +7,10 @@ use Rattle.aes_lanes.specs.Field.{multiply, sbox, inverse_sbox}
 abbrev pub state_byte : List ℕ → ℕ → ℕ → ℕ
 state_byte s r c = slice_index s (r + 4 * c)
 
+-- each number of a list is a byte, and so is the zero past its end
+abbrev pub AreBytes : List ℕ → Type 0
+AreBytes xs = (k : ℕ) → slice_index xs k < 256
+
 -- sixteen bytes
 pub record IsBlock (block : List ℕ) : Type 0 where
   pub sixteen : length block ≡ 16

@@ -1,10 +1,11 @@
 -- EME's two directions undo each other: what is masked and mixed once more is as it was.
 use Rattle.std.proofs.Common.{◌≡◌, ℕ, zero, suc, ◌*◌, ◌/◌, ◌%◌, ◌^◌, ◌<◌, ◌≤◌, bit_xor, List, [], ◌∷◌, length, map, slice_index, refl, ap, ◌∙◌, arith, lit<}
 use Rattle.std.specs.List.{All}
-use Rattle.std.specs.Int.{w128, byte_at, bytes_low_first, from_le_bytes}
+use Rattle.std.specs.Int.{w128, bytes_low_first, from_le_bytes}
 use Rattle.std.proofs.lemmas.List.{length-map}
 use Rattle.std.proofs.lemmas.List.Elements.{All-nil, All-cons, All-head, All-tail, All-map, All-weaker}
 use Rattle.aes_lanes.specs.Rounds.{IsBlock, xor_bytes}
+use Rattle.aes_lanes.proofs.Bytes.{byte_at-lt}
 use Rattle.aes_lanes.proofs.ByteSums.{xor_bytes-twice, xor_bytes-swap, xor_bytes-regroup}
 use Rattle.aes_lanes.proofs.BlockLaws.{IsBlock-xor}
 use Rattle.aes_lanes.proofs.Ciphers.{AreInverse}
@@ -14,10 +15,6 @@ use Rattle.eme_mode.specs.Eme.{doubled, masked, sum_from, mixed, mixed_by, eme_b
 length-bytes_low_first : (i k n : ℕ) → length (bytes_low_first i k n) ≡ k
 length-bytes_low_first i zero n = refl
 length-bytes_low_first i (suc k) n = ap suc (length-bytes_low_first (suc i) k n)
-
-byte_at-lt : (i n : ℕ) → byte_at i n < 256
-byte_at-lt zero n = omega arith
-byte_at-lt (suc i) n = omega arith
 
 bytes_low_first-lt : (i k n j : ℕ) → slice_index (bytes_low_first i k n) j < 256
 bytes_low_first-lt i zero n j = lit< tt

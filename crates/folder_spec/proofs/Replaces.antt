@@ -1,6 +1,7 @@
 -- A file that is written elsewhere, synced, and renamed onto its place.
-use Rattle.std.proofs.Common.{◌≡◌, ◌≢◌, ℕ, ◌⊎◌, Bool, true, false, ◌&&◌, List, [], ◌∷◌, Option, Some, None, refl, sym, ap, ◌∙◌, subst, inl, inr, append-nil, IsTrue}
+use Rattle.std.proofs.Common.{◌≡◌, ◌≢◌, ℕ, ◌⊎◌, Bool, true, List, [], ◌∷◌, Option, Some, None, refl, sym, ap, ◌∙◌, subst, inl, inr, append-nil, IsTrue}
 use Rattle.std.specs.Prelude.{is_none}
+use Rattle.std.specs.Cmp.{first_so, second_so}
 use Rattle.folder_spec.specs.Path.{Path, below}
 use Rattle.folder_spec.specs.State.{Spot, FileNode, Table, Node, State, last_of, present, moved, IsAmong, IsTableOf, IsClean, IsSoundTable, IsSound}
 use Rattle.folder_spec.specs.Event.{Settle, Rename, changed}
@@ -11,14 +12,6 @@ use Rattle.folder_spec.specs.Replace.{IsNewFile, IsOldOrNew, IsReplaced, ShowsOl
 use Rattle.folder_spec.proofs.Paths.{below-append}
 use Rattle.folder_spec.proofs.Tables.{moved-new, moved-other, present_is_table, among-push, last_of-push}
 use Rattle.folder_spec.proofs.Regions.{image_before, image_before_is, image_before_shows}
-
-pub both-left : (s t : Bool) → (s && t) ≡ true → s ≡ true
-both-left true t h = refl
-both-left false t h = h
-
-pub both-right : (s t : Bool) → (s && t) ≡ true → t ≡ true
-both-right true t h = h
-both-right false t h = cc
 
 pub apart-below : (w q : Path) → IsTrue (apart_from w q) → below w q ≡ None
 apart-below w q h = none (below w q) h
@@ -38,7 +31,7 @@ apart-from_below w q none = ap is_none none
 
 module _ (staged at : Path) (bytes : List ℕ) (s0 s : State) (apart : below staged at ≡ None) (as_was : IsAsBefore (apart_from staged) s0 s) where
   alike_within : (t u : Table) → AlikeIn (apart_from staged) t u → AlikeIn (apart_from_both staged at) t u
-  alike_within t u alike q inside = alike q (both-left (apart_from staged q) (apart_from at q) inside)
+  alike_within t u alike q inside = alike q (first_so (apart_from staged q) (apart_from at q) inside)
 
   abbrev Old : (t : Table) → Type 0
   Old t = (u : Table) × IsTableOf s0 u × AlikeIn (apart_from_both staged at) t u × (t at ≡ u at)
@@ -59,8 +52,8 @@ module _ (staged at : Path) (bytes : List ℕ) (s0 s : State) (apart : below sta
 
   moved_alike : AlikeIn (apart_from_both staged at) (moved (present s) staged at) (present s)
   moved_alike q inside =
-      moved-other (present s) staged at q (apart-below at q (both-right (apart_from staged q) (apart_from at q) inside))
-      (apart-below staged q (both-left (apart_from staged q) (apart_from at q) inside))
+      moved-other (present s) staged at q (apart-below at q (second_so (apart_from staged q) (apart_from at q) inside))
+      (apart-below staged q (first_so (apart_from staged q) (apart_from at q) inside))
 
   moved_at : moved (present s) staged at at ≡ present s staged
   moved_at =

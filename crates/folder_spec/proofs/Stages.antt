@@ -1,6 +1,7 @@
 -- A new file: made, written and synced where no name table showed a file of then.
 use Rattle.std.proofs.Common.{◌≡◌, ◌≢◌, ◌⊎◌, ℕ, ◌≤◌, Bool, List, [], Option, Some, None, Result, Ok, Err, OnOk, take, refl, sym, ap, ◌∙◌, subst, inl, inr, IsTrue}
 use Rattle.std.proofs.lemmas.Bool.{eq-eqb}
+use Rattle.std.specs.Cmp.{first_so, second_so}
 use Rattle.folder_spec.specs.declared.FolderFault.{FolderFault}
 use Rattle.folder_spec.specs.declared.Kind.{Kind}
 use Rattle.folder_spec.specs.declared.Kind.TheVariants.{Missing, File}
@@ -16,7 +17,7 @@ use Rattle.folder_spec.proofs.Tables.{put-same, put-other, last_of-push, present
 use Rattle.folder_spec.proofs.Moments.{went_nowhere, went_on, went_by_call, went_more, went_to}
 use Rattle.folder_spec.proofs.Tellings.{from_to_on, from_to_more, from_to_same}
 use Rattle.folder_spec.proofs.Regions.{as_before, as_before_on}
-use Rattle.folder_spec.proofs.Replaces.{images_show_old_or_new, clean_stays, both-left, both-right, apart-below, apart-not_same, apart-from_below, old_or_new_so_far, old_or_new_renamed, new_renamed, replaced_by_settle}
+use Rattle.folder_spec.proofs.Replaces.{images_show_old_or_new, clean_stays, apart-below, apart-not_same, apart-from_below, old_or_new_so_far, old_or_new_renamed, new_renamed, replaced_by_settle}
 
 put_node-same : (nodes : ℕ → Node) (n : ℕ) (node : Node) → put_node nodes n node n ≡ node
 put_node-same nodes n node = rw (eq-eqb n n refl) refl
@@ -155,7 +156,7 @@ replacing_so_far staged at bytes a0 a apart so_far =
     went_more (IsAsBefore (apart_from staged) a0.state) (IsOldOrNew (apart_from_both staged at) at bytes a0.state)
     (λ s e. SparesOld (apart_from staged) a0.state s e.call) (λ s e. SparesOld (apart_from_both staged at) a0.state s e.call) a0 a
     (λ s h. old_or_new_so_far staged at bytes a0.state s apart h)
-    (λ s e h. (spares_within (apart_from_both staged at) (apart_from staged) (λ q inside. both-left (apart_from staged q) (apart_from at q) inside) e.call h.0, h.1)) so_far
+    (λ s e h. (spares_within (apart_from_both staged at) (apart_from staged) (λ q inside. first_so (apart_from staged q) (apart_from at q) inside) e.call h.0, h.1)) so_far
 
 replacing_call : (staged at : Path) (bytes : List ℕ) (call : Call) (a0 a b : Told) (result : Result (Unit {0}) FolderFault)
     → Spares (apart_from_both staged at) call → WritesOnlyNew a0.state.made a.state call
@@ -174,7 +175,7 @@ renamed_on staged at bytes a0 a b result apart so_far steps =
     let here : IsAsBefore (apart_from staged) a0.state a.state =
     went_to (IsAsBefore (apart_from staged) a0.state) (λ s e. SparesOld (apart_from staged) a0.state s e.call) a0 a so_far.0 in
     replacing_call staged at bytes (Rename staged at) a0 a b result
-    (λ q inside. (apart-below at q (both-right (apart_from staged q) (apart_from at q) inside), apart-below staged q (both-left (apart_from staged q) (apart_from at q) inside))) tt
+    (λ q inside. (apart-below at q (second_so (apart_from staged q) (apart_from at q) inside), apart-below staged q (first_so (apart_from staged q) (apart_from at q) inside))) tt
     (old_or_new_renamed staged at bytes a0.state a.state apart here so_far.1) (λ added. refl)
     (replacing_so_far staged at bytes a0 a apart so_far.0) steps
 

@@ -6,4 +6,5 @@ pub mod Linear
 pub mod Modes
 pub mod Nibbles
 pub mod Rows
+pub mod SealedBytes
 pub mod Terms

@@ -147,7 +147,7 @@ made_returns pass cost drawn is_cost drawn_bytes =
     record {
       read =
           conf_reads_back (made_conf pass cost drawn) is_cost (length-sealed_key key drawn.nonce drawn.master drawn_bytes.nonce_size drawn_bytes.master_size)
-          (bytes-sealed_key key drawn.nonce drawn.master drawn_bytes.nonce_size drawn_bytes.nonce_bytes drawn_bytes.master_bytes) drawn_bytes.salt_bytes;
+          (bytes-sealed_key key drawn.nonce drawn.master drawn_bytes.nonce_bytes drawn_bytes.master_bytes) drawn_bytes.salt_bytes;
       unlocked = record {
         master = drawn.master;
         seals = ap (λ nonce. sealed_key key nonce drawn.master) (nonce_first key drawn.nonce drawn.master drawn_bytes.nonce_size);

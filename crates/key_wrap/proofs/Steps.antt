@@ -8,7 +8,7 @@ use Rattle.aes_lanes.specs.Lengths.{length-xor_bytes}
 use Rattle.aes_lanes.proofs.ByteSums.{xor_bytes-twice}
 use Rattle.aes_lanes.proofs.WordBytes.{gathered}
 use Rattle.key_wrap.specs.Wrap.{numbered, step, IsState}
-use Rattle.key_wrap.proofs.Bytes.{bytes-drop, bytes-append, bytes-take, bytes-xor, bytes-high_first}
+use Rattle.aes_lanes.proofs.Bytes.{bytes-drop, bytes-append, bytes-take, bytes-xor, bytes-high_first}
 use Rattle.aes_lanes.proofs.Ciphers.{AreInverse}
 
 -- the eight bytes of a number that is one byte

@@ -3,7 +3,7 @@ use Rattle.std.proofs.Common.{◌≡◌, ℕ, zero, suc, ◌*◌, ◌/◌, ◌�
 use Rattle.std.proofs.lemmas.List.{take_at, drop_at, take-append-drop, length-drop}
 use Rattle.aes_lanes.specs.Cipher.{aes256}
 use Rattle.key_wrap.specs.Wrap.{step, steps, wrapped, initial_value, IsState, IsKey, Unwraps, UnwrapsToOneKey}
-use Rattle.key_wrap.proofs.Bytes.{bytes-append, bytes-replicate}
+use Rattle.aes_lanes.proofs.Bytes.{bytes-append, bytes-replicate}
 use Rattle.aes_lanes.proofs.Ciphers.{AreInverse, aes-undone}
 use Rattle.key_wrap.proofs.Steps.{IsState-step, step_back, step_back-step}
 

@@ -1,5 +1,6 @@
 -- A journal is read back from its text.
 use Rattle.std.proofs.Common.{◌≡◌, ℕ, ◌+◌, ◌≤◌, true, nat_le, List, [], ◌∷◌, ◌++◌, codes, decimal, length, refl, sym, ap, ◌∙◌, subst, arith, length-append, Result, Ok, Err, ◌&&◌, not, nat_eq}
+use Rattle.std.specs.Cmp.{first_so, second_so}
 use Rattle.std.specs.List.{list_all}
 use Rattle.std.proofs.lemmas.Fmt.{decimal_injective, length-decimal-le}
 use Rattle.hex.specs.Hex.{encode_lower, decode_sized, lower_digits}
@@ -14,7 +15,7 @@ use Rattle.move_journal.specs.declared.journal.Phase.TheVariants.{Building, Done
 use Rattle.move_journal.specs.Journal.{IsParsed, IsDigest, IsJournal, title, phase_line, from_line, to_line, items_line, plan_line, journal_text}
 use Rattle.move_journal.specs.Reading.{ReadsAs}
 use Rattle.move_journal.specs.Writing.{GivesBack}
-use Rattle.move_journal.proofs.Values.{same_rest, parsed_text, plan_decoded, both-left, both-right}
+use Rattle.move_journal.proofs.Values.{same_rest, parsed_text, plan_decoded}
 use Rattle.move_journal.proofs.Exact.{same_line, own_line, no_bad_line}
 
 same_phase : (p q : Phase) → phase_line p ≡ phase_line q → p ≡ q
@@ -74,9 +75,9 @@ path_is_short path h = subst (λ bs. length bs ≤ 1024) (sym (parsed_text path 
 
     short : (text : List ℕ) → (not (nat_eq (length text) 0) && nat_le (length text) 1024 && list_all is_plain_byte text && list_all is_plain_part (parts_of text)) ≡ true → length text ≤ 1024
     short text fits =
-        le (length text) (both-right (not (nat_eq (length text) 0)) (nat_le (length text) 1024)
-        (both-left (not (nat_eq (length text) 0) && nat_le (length text) 1024) (list_all is_plain_byte text)
-        (both-left (not (nat_eq (length text) 0) && nat_le (length text) 1024 && list_all is_plain_byte text) (list_all is_plain_part (parts_of text)) fits)))
+        le (length text) (second_so (not (nat_eq (length text) 0)) (nat_le (length text) 1024)
+        (first_so (not (nat_eq (length text) 0) && nat_le (length text) 1024) (list_all is_plain_byte text)
+        (first_so (not (nat_eq (length text) 0) && nat_le (length text) 1024 && list_all is_plain_byte text) (list_all is_plain_part (parts_of text)) fits)))
 
 phase_is_short : (phase : Phase) → length (phase_line phase) ≤ 14
 phase_is_short Building = omega arith

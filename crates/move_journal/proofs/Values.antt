@@ -1,5 +1,6 @@
 -- Texts between newlines, and the values that have none.
 use Rattle.std.proofs.Common.{◌≡◌, ◌≢◌, ℕ, ◌<◌, ◌≤◌, suc, Bool, true, false, not, nat_eq, ◌&&◌, nat_le, List, [], ◌∷◌, ◌++◌, length, get_or, refl, sym, ap, ◌∙◌, subst, decimal, Some, None, Option, Result, Ok, Err, MatchOption, IsFalse, IsOk, OnOk, ◌↔◌, ◌^◌, ◌*◌, arith, IsTrue, take, drop, take-append-drop, length-append, zero, ◌+◌, ◌/◌, ◌%◌}
+use Rattle.std.specs.Cmp.{first_so, second_so}
 use Rattle.std.specs.List.{list_all}
 use Rattle.std.proofs.lemmas.Bool.{false≢true}
 use Rattle.std.specs.Str.{bytes_eq, IsUtf8}
@@ -14,14 +15,6 @@ use Rattle.folder_spec.specs.Path.{Path}
 use Rattle.folder_model.specs.Text.{is_plain_byte, is_plain_part, is_path_text, parts_of, text_of}
 use Rattle.move_journal.specs.Journal.{IsParsed, IsDigest}
 use Rattle.move_journal.specs.Lines.{has_no_newline}
-
-pub both-left : (s t : Bool) → (s && t) ≡ true → s ≡ true
-both-left true t h = refl
-both-left false t h = h
-
-pub both-right : (s t : Bool) → (s && t) ≡ true → t ≡ true
-both-right true t h = h
-both-right false t h = absurd (false≢true h)
 
 -- what comes after one front is one
 pub same_rest : (front x y : List ℕ) → front ++ x ≡ front ++ y → x ≡ y
@@ -38,13 +31,13 @@ one_line [] (b ∷ bs) x y p q e = absurd (newline_first b bs q cc)
 one_line (a ∷ front) [] x y p q e = absurd (newline_first a front p cc)
 one_line (a ∷ front) (b ∷ bs) x y p q e =
     let heads : a ≡ b = cc in
-    let more : (front ≡ bs) × (x ≡ y) = one_line front bs x y (both-right (not (nat_eq a 10)) (has_no_newline front) p) (both-right (not (nat_eq b 10)) (has_no_newline bs) q) cc in
+    let more : (front ≡ bs) × (x ≡ y) = one_line front bs x y (second_so (not (nat_eq a 10)) (has_no_newline front) p) (second_so (not (nat_eq b 10)) (has_no_newline bs) q) cc in
     (let tails : front ≡ bs = more.0 in cc, more.1)
 
 pub no_newline-append : (xs ys : List ℕ) → has_no_newline xs ≡ true → has_no_newline ys ≡ true → has_no_newline (xs ++ ys) ≡ true
 no_newline-append [] ys p q = q
 no_newline-append (x ∷ xs) ys p q =
-    rw (both-left (not (nat_eq x 10)) (has_no_newline xs) p) (no_newline-append xs ys (both-right (not (nat_eq x 10)) (has_no_newline xs) p) q)
+    rw (first_so (not (nat_eq x 10)) (has_no_newline xs) p) (no_newline-append xs ys (second_so (not (nat_eq x 10)) (has_no_newline xs) p) q)
 
 not_ten : (b : ℕ) → b ≢ 10 → not (nat_eq b 10) ≡ true
 not_ten b apart = grind (arith)
@@ -58,7 +51,7 @@ plain_is_not_ten b h e = false≢true (subst (λ n. is_plain_byte n ≡ true) e 
 plain_has_no_newline : (bs : List ℕ) → list_all is_plain_byte bs ≡ true → has_no_newline bs ≡ true
 plain_has_no_newline [] h = refl
 plain_has_no_newline (b ∷ bs) h =
-    no_newline-cons b bs (plain_is_not_ten b (both-left (is_plain_byte b) (list_all is_plain_byte bs) h)) (plain_has_no_newline bs (both-right (is_plain_byte b) (list_all is_plain_byte bs) h))
+    no_newline-cons b bs (plain_is_not_ten b (first_so (is_plain_byte b) (list_all is_plain_byte bs) h)) (plain_has_no_newline bs (second_so (is_plain_byte b) (list_all is_plain_byte bs) h))
 
 -- a text gives a path whose text it is
 pub text_of-parts_of : (text : List ℕ) → text_of (parts_of text) ≡ text
@@ -81,8 +74,8 @@ pub path_has_no_newline : (value : List ℕ) → IsPathText value → has_no_new
 path_has_no_newline value h =
     let text = h.1.text in
     let plain : list_all is_plain_byte text ≡ true =
-    both-right (not (nat_eq (length text) 0) && nat_le (length text) 1024) (list_all is_plain_byte text)
-    (both-left (not (nat_eq (length text) 0) && nat_le (length text) 1024 && list_all is_plain_byte text) (list_all is_plain_part (parts_of text)) h.1.fits) in
+    second_so (not (nat_eq (length text) 0) && nat_le (length text) 1024) (list_all is_plain_byte text)
+    (first_so (not (nat_eq (length text) 0) && nat_le (length text) 1024 && list_all is_plain_byte text) (list_all is_plain_part (parts_of text)) h.1.fits) in
     subst (λ bs. has_no_newline bs ≡ true) (sym (h.2 ∙ parsed_text h.0 h.1)) (plain_has_no_newline text plain)
 
 pub items_have_no_newline : (value : List ℕ) → IsItemsText value → has_no_newline value ≡ true

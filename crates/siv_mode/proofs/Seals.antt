@@ -1,21 +1,21 @@
 -- Sealing, and the texts that seal to given bytes.
-use Rattle.std.proofs.Common.{◌≡◌, ℕ, List, length, take, drop, sym, ap, ◌∙◌}
+use Rattle.std.proofs.Common.{◌≡◌, ℕ, ◌+◌, List, length, take, drop, sym, ap, ◌∙◌, arith, length-append}
 use Rattle.std.proofs.lemmas.List.{take_at, drop_at, take-append-drop}
 use Rattle.aes_lanes.specs.Counter.{ctr128, increment128}
-use Rattle.aes_lanes.proofs.CounterSteps.{counter_mode-twice}
+use Rattle.aes_lanes.proofs.CounterSteps.{counter_mode-twice, length-counter_mode}
 use Rattle.siv_mode.specs.S2v.{s2v}
-use Rattle.siv_mode.specs.Cmac.{cmac, cmac_from}
-use Rattle.siv_mode.specs.Siv.{first_counter, sealed, Opens, OpensToOneText}
+use Rattle.siv_mode.specs.Cmac.{cmac}
+use Rattle.siv_mode.specs.Siv.{first_counter, siv_encrypt, Opens, OpensToOneText}
 
 length-s2v : (image : List ℕ → List ℕ) → ((b : List ℕ) → length (image b) ≡ 16) → (strings : List (List ℕ)) (string : List ℕ) → length (s2v image strings string) ≡ 16
-unfolding s2v cmac cmac_from
+unfolding s2v cmac
 length-s2v image sixteen strings string = sixteen _
 
 -- where a text seals to some bytes, the bytes after the vector are the text's, and the vector is the S2V of the text that they give
 pub opened-is : (mac ctr : List ℕ → List ℕ) → ((b : List ℕ) → length (mac b) ≡ 16) → ((b : List ℕ) → length (ctr b) ≡ 16)
     → (strings : List (List ℕ)) (bytes plain : List ℕ) → Opens mac ctr strings bytes plain
     → ctr128 ctr (first_counter (take 16 bytes)) (drop 16 bytes) ≡ plain
-unfolding sealed
+unfolding siv_encrypt
 opened-is mac ctr mac_sixteen ctr_sixteen strings bytes plain opens =
     let v : List ℕ = s2v mac strings plain in
     let start : List ℕ = first_counter v in
@@ -26,7 +26,7 @@ opened-is mac ctr mac_sixteen ctr_sixteen strings bytes plain opens =
 
 pub vector-is : (mac ctr : List ℕ → List ℕ) → ((b : List ℕ) → length (mac b) ≡ 16)
     → (strings : List (List ℕ)) (bytes plain : List ℕ) → Opens mac ctr strings bytes plain → take 16 bytes ≡ s2v mac strings plain
-unfolding sealed
+unfolding siv_encrypt
 vector-is mac ctr mac_sixteen strings bytes plain opens =
     let v : List ℕ = s2v mac strings plain in
     sym (ap (take 16) opens) ∙ take_at v (ctr128 ctr (first_counter v) plain) 16 (length-s2v mac mac_sixteen strings plain)
@@ -35,7 +35,7 @@ vector-is mac ctr mac_sixteen strings bytes plain opens =
 pub opens-where : (mac ctr : List ℕ → List ℕ) → ((b : List ℕ) → length (ctr b) ≡ 16)
     → (strings : List (List ℕ)) (bytes plain : List ℕ) → plain ≡ ctr128 ctr (first_counter (take 16 bytes)) (drop 16 bytes)
     → s2v mac strings plain ≡ take 16 bytes → Opens mac ctr strings bytes plain
-unfolding sealed
+unfolding siv_encrypt
 opens-where mac ctr sixteen strings bytes plain e right =
     let start : List ℕ = first_counter (take 16 bytes) in
     let back : ctr128 ctr start plain ≡ drop 16 bytes = ap (ctr128 ctr start) e ∙ counter_mode-twice ctr increment128 sixteen start (drop 16 bytes) in
@@ -46,3 +46,12 @@ pub opens_once : (mac ctr : List ℕ → List ℕ) → ((b : List ℕ) → lengt
 opens_once mac ctr mac_sixteen ctr_sixteen strings bytes plain other one two =
     sym (opened-is mac ctr mac_sixteen ctr_sixteen strings bytes plain one)
     ∙ opened-is mac ctr mac_sixteen ctr_sixteen strings bytes other two
+
+-- a sealed text is longer by its vector
+pub length-siv_encrypt : (mac ctr : List ℕ → List ℕ) → ((b : List ℕ) → length (mac b) ≡ 16) → ((b : List ℕ) → length (ctr b) ≡ 16)
+    → (strings : List (List ℕ)) (plain : List ℕ) → length (siv_encrypt mac ctr strings plain) ≡ 16 + length plain
+unfolding siv_encrypt
+length-siv_encrypt mac ctr mac_sixteen ctr_sixteen strings plain =
+    let v : List ℕ = s2v mac strings plain in
+    let text : List ℕ = ctr128 ctr (first_counter v) plain in
+    omega (arith, length-append v text, length-s2v mac mac_sixteen strings plain, length-counter_mode ctr increment128 ctr_sixteen (first_counter v) plain)

@@ -1,5 +1,5 @@
 use Rattle.siv_mode.proofs.Seals.{opens_once}
-use Rattle.siv_mode.proofs.siv.opens_to_one_text.Goals as goal
+use Rattle.siv_mode.proofs.laws.opens_to_one_text.Goals as goal
 
 pub returns : goal.returns
 returns g c =

@@ -1,14 +1,14 @@
 -- A sealed text is of bytes.
-use Rattle.std.proofs.Common.{◌≡◌, ℕ, zero, suc, ◌-◌, ◌*◌, ◌/◌, ◌%◌, ◌^◌, ◌<◌, ◌≤◌, List, [], ◌∷◌, false, nat_eq, bit_xor, bit_and, length, take, drop, replicate, refl, arith, lit<, lit≤, length-append, inl, inr}
+use Rattle.std.proofs.Common.{◌≡◌, ℕ, zero, suc, ◌-◌, ◌*◌, ◌/◌, ◌%◌, ◌^◌, ◌<◌, ◌≤◌, List, [], ◌∷◌, false, nat_eq, bit_xor, bit_and, length, take, drop, replicate, refl, arith, lit<, length-append, inl, inr}
 use Rattle.std.specs.List.{All}
 use Rattle.std.specs.Int.{w128, from_be_bytes, bytes_high_first}
 use Rattle.std.proofs.lemmas.Bool.{cases_lt, lt-ltb, le-ltb, eq-eqb, ne_eqb}
 use Rattle.std.proofs.lemmas.List.{length-take-le, length-drop, length-replicate}
 use Rattle.std.proofs.lemmas.List.Elements.{All-head, All-tail}
 use Rattle.aes_lanes.specs.Bytes.{AreBytes, IsBlock, xor_bytes}
+use Rattle.aes_lanes.specs.Counter.{ctr128}
 use Rattle.aes_lanes.specs.Laws.Rounds.{IsBlock-xor}
 use Rattle.aes_lanes.proofs.Bytes.{bytes-append, bytes-drop, bytes-take, bytes-xor, bytes-replicate, bytes-high_first, length-high_first}
-use Rattle.aes_lanes.proofs.CounterBytes.{bytes-counter_mode}
 use Rattle.siv_mode.specs.Blocks.{zero_block, double, padded_block}
 use Rattle.siv_mode.specs.Cmac.{first_subkey, second_subkey, blocks_before_last, last_block, chained, cmac}
 use Rattle.siv_mode.specs.S2v.{xorend, summed, last_text, s2v}
@@ -112,10 +112,11 @@ IsBlock-s2v image keeps strings string all bytes =
     let d = IsBlock-summed image keeps (cmac image zero_block) strings (IsBlock-cmac image keeps zero_block IsBlock-zero_block.bytes) all in
     IsBlock-cmac image keeps _ (bytes-last_text _ string d bytes)
 
-pub bytes-siv_encrypt : (mac ctr : List ℕ → List ℕ) → ((b : List ℕ) → length (ctr b) ≡ 16) → KeepsBlocks mac → KeepsBlocks ctr
+pub bytes-siv_encrypt : (mac ctr : List ℕ → List ℕ) → KeepsBlocks mac
+    → ((start text : List ℕ) → IsBlock start → AreBytes text → AreBytes (ctr128 ctr start text))
     → (strings : List (List ℕ)) (plain : List ℕ) → All (λ string. AreBytes string) strings → AreBytes plain
     → AreBytes (siv_encrypt mac ctr strings plain)
 unfolding siv_encrypt
-bytes-siv_encrypt mac ctr ctr_sixteen mac_keeps ctr_keeps strings plain all bytes =
+bytes-siv_encrypt mac ctr mac_keeps ctr_keeps strings plain all bytes =
     let v = IsBlock-s2v mac mac_keeps strings plain all bytes in
-    bytes-append _ _ v.bytes (bytes-counter_mode 16 (lit≤ tt) ctr ctr_sixteen ctr_keeps _ plain (IsBlock-first_counter _) bytes)
+    bytes-append _ _ v.bytes (ctr_keeps _ plain (IsBlock-first_counter _) bytes)

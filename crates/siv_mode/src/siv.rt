@@ -8,6 +8,7 @@ ghost use Rattle.aes_lanes.specs.Counter.{ctr128};
 
 use super::blocks::whole;
 use super::strings::s2v;
+use aes_lanes::laws::counter_mode_undoes_itself;
 use aes_lanes::{Block, Cipher, ctr128_xor, same_bytes};
 use std::alloc::{AllocError, Global};
 use std::marker::Model;
@@ -92,6 +93,7 @@ impl<C: Cipher> Siv<C> {
         ensures bad_tag { IsErrOf result BadTag
             → OpensToNothing (C.image self.now.mac) (C.image self.now.ctr) (associated ad.entry) sealed.now }
     {
+        counter_mode_undoes_itself();
         if sealed.len() < 16 {
             return Err(SivFault::Short);
         }

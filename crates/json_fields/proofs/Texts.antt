@@ -6,8 +6,8 @@ use Rattle.std.proofs.lemmas.List.{drop_more}
 use Rattle.serde_json.specs.Find.{as_str}
 use Rattle.serde_json.specs.View.{view, items_view}
 use Rattle.serde_json.specs.declared.value.Value.{Value}
-use Rattle.gocrypt_conf.specs.Json.{texts_of}
-use Rattle.gocrypt_conf.specs.Views.{texts_view}
+use Rattle.json_fields.specs.Json.{texts_of}
+use Rattle.json_fields.specs.Views.{texts_view}
 
 -- the texts of what is left, after those that were taken
 abbrev pub after : List (List ℕ) → Option (List (List ℕ)) → Option (List (List ℕ))

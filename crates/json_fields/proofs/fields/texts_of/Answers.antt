@@ -1,6 +1,6 @@
 use Rattle.std.proofs.Common.{sym, ap, ◌∙◌, option_map}
-use Rattle.gocrypt_conf.proofs.Texts.{after, no_text_at_item}
-use Rattle.gocrypt_conf.proofs.fields.texts_of.Goals as goal
+use Rattle.json_fields.proofs.Texts.{after, no_text_at_item}
+use Rattle.json_fields.proofs.fields.texts_of.Goals as goal
 
 pub returns-in_default : goal.returns-in_default
 returns-in_default c =

@@ -1,9 +1,9 @@
 use Rattle.std.proofs.Common.{◌≡◌, drop}
 use Rattle.serde_json.specs.View.{items_view}
-use Rattle.gocrypt_conf.specs.Json.{texts_of}
-use Rattle.gocrypt_conf.specs.Views.{texts_view}
-use Rattle.gocrypt_conf.proofs.Texts.{after}
-use Rattle.gocrypt_conf.proofs.fields.texts_of.Given as goal
+use Rattle.json_fields.specs.Json.{texts_of}
+use Rattle.json_fields.specs.Views.{texts_view}
+use Rattle.json_fields.proofs.Texts.{after}
+use Rattle.json_fields.proofs.fields.texts_of.Given as goal
 
 abbrev pub invariant-loop-item : goal.invariant-loop-item
 invariant-loop-item l =

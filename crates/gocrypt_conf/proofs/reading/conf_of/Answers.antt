@@ -1,7 +1,7 @@
 use Rattle.std.proofs.Common.{Some, None, inr, refl, rules}
-use Rattle.gocrypt_conf.specs.Views.{texts_view}
+use Rattle.json_fields.specs.Views.{texts_view}
 use Rattle.gocrypt_conf.proofs.Checked.{named, wrong_version, unknown_refused, missing_refused, flag_refused, no_cost, wrong_sealed, wrong_key_len, all_passed}
-use Rattle.gocrypt_conf.proofs.reading.checked.Goals as goal
+use Rattle.gocrypt_conf.proofs.reading.conf_of.Goals as goal
 
 pub returns-then-fields-ne2-clause-fault : goal.returns-then-fields-ne2-clause-fault
 returns-then-fields-ne2-clause-fault c = inr (wrong_version _ c.if-fields-ne2.true)

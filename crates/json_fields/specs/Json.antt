@@ -1,11 +1,11 @@
 -- What stands at a name of a JSON object, where it has a form.
 use Rattle.std.specs.Prelude.{ℕ, List, [], ◌∷◌, is_some, if◌then◌else◌, Option, Some, None, option_map, option_and_then}
 use Rattle.std.specs.Str.{is_utf8}
-use Rattle.base64.specs.Engines.{standard}
-use Rattle.base64.specs.GeneralPurpose.{decoded_of}
 use Rattle.serde_json.specs.Data.{Data, Items, no_items, item}
 use Rattle.serde_json.specs.Read.{read}
 use Rattle.serde_json.specs.Find.{get, as_number, as_u64, as_str, as_array, as_object}
+use Rattle.json_fields.specs.declared.base64_text.Alphabet.{Alphabet}
+use Rattle.json_fields.specs.Base64.{decoded_by}
 
 -- the value, where it is an object
 abbrev pub object_of : Data → Option Data
@@ -25,13 +25,17 @@ texts_of (item d ds) =
 abbrev pub number_at : List ℕ → Data → Option ℕ
 number_at name d = option_and_then as_u64 (option_and_then as_number (get name d))
 
+-- the text at a name
+abbrev pub text_at : List ℕ → Data → Option (List ℕ)
+text_at name d = option_and_then as_str (get name d)
+
 -- the texts of the array at a name
 abbrev pub texts_at : List ℕ → Data → Option (List (List ℕ))
 texts_at name d = option_and_then texts_of (option_and_then as_array (get name d))
 
--- the bytes whose base64 stands at a name, with the standard alphabet and padding
-abbrev pub bytes_at : List ℕ → Data → Option (List ℕ)
-bytes_at name d = option_and_then (decoded_of standard) (option_and_then as_str (get name d))
+-- the bytes whose base64 stands at a name
+abbrev pub bytes_at : Alphabet → List ℕ → Data → Option (List ℕ)
+bytes_at alphabet name d = option_and_then (decoded_by alphabet) (text_at name d)
 
 -- the object at a name
 abbrev pub object_at : List ℕ → Data → Option Data

@@ -5,7 +5,7 @@ use Rattle.std.proofs.lemmas.List.{get_or-drop, get_or-take, get_or_past, get_or
 use Rattle.std.proofs.Math.Seq.{get_or-append_right}
 use Rattle.std.proofs.lemmas.Bool.{cases_lt}
 use lib.Bits.{xor_lt}
-use Rattle.aes_lanes.specs.Rounds.{AreBytes, xor_bytes}
+use Rattle.aes_lanes.specs.Bytes.{AreBytes, xor_bytes}
 
 pub bytes-drop : (n : ℕ) (xs : List ℕ) → AreBytes xs → AreBytes (drop n xs)
 bytes-drop n xs bytes = λ k. rw (get_or-drop n xs k 0) (bytes (n + k))

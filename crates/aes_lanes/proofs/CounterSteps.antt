@@ -4,12 +4,10 @@ use Rattle.std.proofs.lemmas.List.{ext_get_or, get_or_append_left, get_or-append
 use Rattle.std.proofs.lemmas.Bool.{cases_lt}
 use Rattle.std.specs.Fn.{iterate}
 use Rattle.std.specs.Int.{w32, w128, to_be_bytes, from_be_bytes}
-use Rattle.aes_lanes.specs.Bytes.{IsXoredAt}
-use Rattle.aes_lanes.specs.Rounds.{xor_bytes}
-use Rattle.aes_lanes.specs.Counter.{number_of, counted, key_stream, counter_mode}
-use Rattle.aes_lanes.specs.Lengths.{length-xor_bytes}
-use Rattle.aes_lanes.proofs.ByteSums.{slice_index-xor_bytes, xor_bytes-twice}
-use Rattle.aes_lanes.proofs.WordBytes.{gathered}
+use Rattle.aes_lanes.specs.Private.{IsXoredAt}
+use Rattle.aes_lanes.specs.Bytes.{xor_bytes}
+use Rattle.aes_lanes.specs.Counter.{number_of, increment, key_stream, counter_mode}
+use Rattle.aes_lanes.specs.Laws.Sums.{gathered, length-xor_bytes, slice_index-xor_bytes, xor_bytes-twice}
 
 iterate-next : (f : List ℕ → List ℕ) (n : ℕ) (x : List ℕ) → iterate f (n + 1) x ≡ f (iterate f n x)
 iterate-next f n x = let e : n + 1 ≡ suc n = omega arith in ap (λ m. iterate f m x) e ∙ step f n x where
@@ -22,85 +20,85 @@ pub counter-next : (f : List ℕ → List ℕ) (n : ℕ) (x y z : List ℕ) → 
 counter-next f n x y z before step = step ∙ ap f before ∙ sym (iterate-next f n x)
 
 -- for a block cipher, whose images have sixteen bytes
-pub length-key_stream : (image increment : List ℕ → List ℕ) → ((b : List ℕ) → length (image b) ≡ 16)
-    → (block : List ℕ) (n : ℕ) → length (key_stream image increment block n) ≡ 16 * n
+pub length-key_stream : (image next : List ℕ → List ℕ) → ((b : List ℕ) → length (image b) ≡ 16)
+    → (block : List ℕ) (n : ℕ) → length (key_stream image next block n) ≡ 16 * n
 unfolding key_stream
-length-key_stream image increment sixteen block zero = refl
-length-key_stream image increment sixteen block (suc n) =
-    omega (arith, length-append (image block) (key_stream image increment (increment block) n), sixteen block, length-key_stream image increment sixteen (increment block) n)
+length-key_stream image next sixteen block zero = refl
+length-key_stream image next sixteen block (suc n) =
+    omega (arith, length-append (image block) (key_stream image next (next block) n), sixteen block, length-key_stream image next sixteen (next block) n)
 
 -- byte r of block k of a key stream
-pub slice_index-key_stream : (image increment : List ℕ → List ℕ) → ((b : List ℕ) → length (image b) ≡ 16)
+pub slice_index-key_stream : (image next : List ℕ → List ℕ) → ((b : List ℕ) → length (image b) ≡ 16)
     → (block : List ℕ) (n k r i : ℕ) → k < n → r < 16 → i ≡ 16 * k + r
-    → slice_index (key_stream image increment block n) i ≡ slice_index (image (iterate increment k block)) r
+    → slice_index (key_stream image next block n) i ≡ slice_index (image (iterate next k block)) r
 unfolding key_stream
-slice_index-key_stream image increment sixteen block zero k r i hk hr e = absurd (omega arith)
-slice_index-key_stream image increment sixteen block (suc n) zero r i hk hr e =
+slice_index-key_stream image next sixteen block zero k r i hk hr e = absurd (omega arith)
+slice_index-key_stream image next sixteen block (suc n) zero r i hk hr e =
     let same : i ≡ r = omega arith in
     let within : i < length (image block) = omega (arith, sixteen block) in
-    get_or_append_left (image block) (key_stream image increment (increment block) n) 0 i within
+    get_or_append_left (image block) (key_stream image next (next block) n) 0 i within
     ∙ ap (slice_index (image block)) same
-slice_index-key_stream image increment sixteen block (suc n) (suc k) r i hk hr e =
-    get_or-append_right (image block) (key_stream image increment (increment block) n) 16 i 0 (sixteen block) (omega arith)
-    ∙ slice_index-key_stream image increment sixteen (increment block) n k r (i - 16) (omega arith) hr (omega arith)
+slice_index-key_stream image next sixteen block (suc n) (suc k) r i hk hr e =
+    get_or-append_right (image block) (key_stream image next (next block) n) 16 i 0 (sixteen block) (omega arith)
+    ∙ slice_index-key_stream image next sixteen (next block) n k r (i - 16) (omega arith) hr (omega arith)
 
-pub length-counter_mode : (image increment : List ℕ → List ℕ) → ((b : List ℕ) → length (image b) ≡ 16)
-    → (start text : List ℕ) → length (counter_mode image increment start text) ≡ length text
+pub length-counter_mode : (image next : List ℕ → List ℕ) → ((b : List ℕ) → length (image b) ≡ 16)
+    → (start text : List ℕ) → length (counter_mode image next start text) ≡ length text
 unfolding counter_mode
-length-counter_mode image increment sixteen start text =
-    let stream : List ℕ = key_stream image increment start ((length text + 15) / 16) in
-    let long : length text ≤ length stream = omega (arith, length-key_stream image increment sixteen start ((length text + 15) / 16)) in
+length-counter_mode image next sixteen start text =
+    let stream : List ℕ = key_stream image next start ((length text + 15) / 16) in
+    let long : length text ≤ length stream = omega (arith, length-key_stream image next sixteen start ((length text + 15) / 16)) in
     length-xor_bytes text stream long
 
 -- byte i of a text in counter mode
-pub slice_index-counter_mode : (image increment : List ℕ → List ℕ) → ((b : List ℕ) → length (image b) ≡ 16)
+pub slice_index-counter_mode : (image next : List ℕ → List ℕ) → ((b : List ℕ) → length (image b) ≡ 16)
     → (start text : List ℕ) (i : ℕ) → i < length text
-    → slice_index (counter_mode image increment start text) i
-    ≡ bit_xor (slice_index text i) (slice_index (image (iterate increment (i / 16) start)) (i % 16))
+    → slice_index (counter_mode image next start text) i
+    ≡ bit_xor (slice_index text i) (slice_index (image (iterate next (i / 16) start)) (i % 16))
 unfolding counter_mode
-slice_index-counter_mode image increment sixteen start text i h =
+slice_index-counter_mode image next sixteen start text i h =
     let n : ℕ = (length text + 15) / 16 in
-    let stream : List ℕ = key_stream image increment start n in
-    let within : i < length stream = omega (arith, length-key_stream image increment sixteen start n) in
+    let stream : List ℕ = key_stream image next start n in
+    let within : i < length stream = omega (arith, length-key_stream image next sixteen start n) in
     slice_index-xor_bytes text stream i h within
     ∙ ap (bit_xor (slice_index text i))
-    (slice_index-key_stream image increment sixteen start n (i / 16) (i % 16) i (omega arith) (omega arith) (omega arith))
+    (slice_index-key_stream image next sixteen start n (i / 16) (i % 16) i (omega arith) (omega arith) (omega arith))
 
 -- bytes that are a text in counter mode at each place are that
-pub counter_mode-from_places : (image increment : List ℕ → List ℕ) → ((b : List ℕ) → length (image b) ≡ 16)
+pub counter_mode-from_places : (image next : List ℕ → List ℕ) → ((b : List ℕ) → length (image b) ≡ 16)
     → (start text bytes : List ℕ) → length bytes ≡ length text
-    → ((i : ℕ) → i < length text → slice_index bytes i ≡ bit_xor (slice_index text i) (slice_index (image (iterate increment (i / 16) start)) (i % 16)))
-    → bytes ≡ counter_mode image increment start text
-counter_mode-from_places image increment sixteen start text bytes same each =
-    ext_get_or 0 bytes (counter_mode image increment start text)
-    (same ∙ sym (length-counter_mode image increment sixteen start text))
+    → ((i : ℕ) → i < length text → slice_index bytes i ≡ bit_xor (slice_index text i) (slice_index (image (iterate next (i / 16) start)) (i % 16)))
+    → bytes ≡ counter_mode image next start text
+counter_mode-from_places image next sixteen start text bytes same each =
+    ext_get_or 0 bytes (counter_mode image next start text)
+    (same ∙ sym (length-counter_mode image next sixteen start text))
     (λ i lt.
     let here : i < length text = omega arith in
-    each i here ∙ sym (slice_index-counter_mode image increment sixteen start text i here))
+    each i here ∙ sym (slice_index-counter_mode image next sixteen start text i here))
 
 -- a text that goes through counter mode twice
-pub counter_mode-twice : (image increment : List ℕ → List ℕ) → ((b : List ℕ) → length (image b) ≡ 16)
-    → (start text : List ℕ) → counter_mode image increment start (counter_mode image increment start text) ≡ text
+pub counter_mode-twice : (image next : List ℕ → List ℕ) → ((b : List ℕ) → length (image b) ≡ 16)
+    → (start text : List ℕ) → counter_mode image next start (counter_mode image next start text) ≡ text
 unfolding counter_mode
-counter_mode-twice image increment sixteen start text =
+counter_mode-twice image next sixteen start text =
     let n : ℕ = (length text + 15) / 16 in
-    let stream : ℕ → List ℕ = key_stream image increment start in
-    let long : length text ≤ length (stream n) = omega (arith, length-key_stream image increment sixteen start n) in
+    let stream : ℕ → List ℕ = key_stream image next start in
+    let long : length text ≤ length (stream n) = omega (arith, length-key_stream image next sixteen start n) in
     let same : length (xor_bytes text (stream n)) ≡ length text = length-xor_bytes text (stream n) long in
     ap (λ m. xor_bytes (xor_bytes text (stream n)) (stream ((m + 15) / 16))) same ∙ xor_bytes-twice text (stream n) long
 
 -- a text of which the first k blocks are in counter mode
-pub record IsDoneTo (image increment : List ℕ → List ℕ) (start text bytes : List ℕ) (k : ℕ) : Type 0 where
+pub record IsDoneTo (image next : List ℕ → List ℕ) (start text bytes : List ℕ) (k : ℕ) : Type 0 where
   pub before : (i : ℕ) → i < 16 * k → i < length text
-      → slice_index bytes i ≡ bit_xor (slice_index text i) (slice_index (image (iterate increment (i / 16) start)) (i % 16))
+      → slice_index bytes i ≡ bit_xor (slice_index text i) (slice_index (image (iterate next (i / 16) start)) (i % 16))
   pub after : (i : ℕ) → 16 * k ≤ i → slice_index bytes i ≡ slice_index text i
 
 -- one more block
-pub IsDoneTo-next : (image increment : List ℕ → List ℕ) (start text bytes new stream : List ℕ) (k : ℕ)
-    → length bytes ≡ length text → IsDoneTo image increment start text bytes k
-    → stream ≡ image (iterate increment k start) → IsXoredAt (16 * k) stream bytes new
-    → IsDoneTo image increment start text new (k + 1)
-IsDoneTo-next image increment start text bytes new stream k same done e xored = record {
+pub IsDoneTo-next : (image next : List ℕ → List ℕ) (start text bytes new stream : List ℕ) (k : ℕ)
+    → length bytes ≡ length text → IsDoneTo image next start text bytes k
+    → stream ≡ image (iterate next k start) → IsXoredAt (16 * k) stream bytes new
+    → IsDoneTo image next start text new (k + 1)
+IsDoneTo-next image next start text bytes new stream k same done e xored = record {
   before = λ i below within. elim (cases_lt i (16 * k)) [
     | inl old ↦ xored.before i old ∙ done.before i old within
     | inr here ↦
@@ -122,16 +120,16 @@ unfolding number_of
 number_of-16 l h = rw (gathered l 16 h) (omega arith)
 
 -- the block after a block, where the last four bytes count
-pub counted-4 : (block bytes : List ℕ) → length block ≡ 16
+pub increment-4 : (block bytes : List ℕ) → length block ≡ 16
     → bytes ≡ to_be_bytes w32 ((from_be_bytes w32 (slice_index block 12 ∷ slice_index block 13 ∷ slice_index block 14 ∷ slice_index block 15 ∷ []) + 1) % 2 ^ 32)
     → slice_set (slice_set (slice_set (slice_set block 12 (slice_index bytes 0)) 13 (slice_index bytes 1)) 14 (slice_index bytes 2)) 15 (slice_index bytes 3)
-    ≡ counted 4 1 block
-unfolding counted number_of
-counted-4 block bytes h e =
+    ≡ increment 4 block
+unfolding increment number_of
+increment-4 block bytes h e =
     rw (e, number_of-4 (slice_index block 12) (slice_index block 13) (slice_index block 14) (slice_index block 15)) (rw (gathered block 16 h) refl)
 
 -- the block after a block, where all bytes count
-pub counted-16 : (block : List ℕ) → length block ≡ 16
-    → to_be_bytes w128 ((from_be_bytes w128 block + 1) % 2 ^ 128) ≡ counted 16 1 block
-unfolding counted
-counted-16 block h = ap (λ n. to_be_bytes w128 ((n + 1) % 2 ^ 128)) (number_of-16 block h)
+pub increment-16 : (block : List ℕ) → length block ≡ 16
+    → to_be_bytes w128 ((from_be_bytes w128 block + 1) % 2 ^ 128) ≡ increment 16 block
+unfolding increment
+increment-16 block h = ap (λ n. to_be_bytes w128 ((n + 1) % 2 ^ 128)) (number_of-16 block h)

@@ -1,13 +1,7 @@
 pub mod TableEntries
 pub mod WordBytes
 pub mod RoundSteps
-pub mod ByteSums
 pub mod Bytes
 pub mod CounterBytes
 pub mod ScheduleSteps
 pub mod CounterSteps
-pub mod FieldLaws
-pub mod MixLaws
-pub mod BlockLaws
-pub mod InverseLaws
-pub mod Ciphers

@@ -10,7 +10,8 @@ use Rattle.std.proofs.lemmas.List.FromFn.{get_or-map-range_with_len}
 use Rattle.std.specs.List.{range_with_len, flat_map}
 use Rattle.aes_lanes.specs.declared.schedule.TheConstants.{ROUND_CONSTANTS}
 use Rattle.aes_lanes.specs.Field.{xtimes, partial_product, multiply, power}
-use Rattle.aes_lanes.specs.Schedule.{rot_word, sub_word, round_constant, schedule_step, word_at, first_words, with_next_word, expanded_key, key_of}
+use Rattle.aes_lanes.specs.Schedule.{rot_word, sub_word, round_constant, schedule_step, word_at, first_words, with_next_word, expanded_key}
+use Rattle.aes_lanes.specs.Private.{key_of}
 use Rattle.aes_lanes.proofs.WordBytes.{to_be_bytes-word_at}
 
 ROUND_CONSTANTS_are : map (λ b. b * 2 ^ 24 % 2 ^ 32) ROUND_CONSTANTS ≡ map round_constant (range_with_len 1 10)

@@ -1,12 +1,13 @@
 -- The look-up tables, entry by entry, against the definitions.
-use Rattle.std.proofs.Common.{◌≡◌, ℕ, ◌<◌, ◌%◌, List, [], ◌∷◌, map, slice_index, bit_xor, get_or, length, refl, sym, ap, ◌∙◌, arith}
+use Rattle.std.proofs.Common.{◌≡◌, ℕ, ◌<◌, List, [], ◌∷◌, map, slice_index, bit_xor, get_or, length, refl, sym, ap, ◌∙◌, arith}
 use Rattle.std.proofs.lemmas.List.{get_or-map}
 use Rattle.std.proofs.lemmas.List.FromFn.{get_or-range_with_len}
 use Rattle.std.specs.List.{range_with_len}
 use Rattle.std.specs.Int.{w32, rotate_right, to_be_bytes}
 use Rattle.aes_lanes.specs.declared.tables.TheConstants.{SBOX, INVERSE_SBOX, COLUMNS, INVERSE_COLUMNS}
 use Rattle.aes_lanes.specs.Field.{xtimes, partial_product, multiply, power, inverse, affine_map, sbox, inverse_affine_map, inverse_sbox}
-use Rattle.aes_lanes.specs.Rounds.{mixed, unmixed, xor_bytes}
+use Rattle.aes_lanes.specs.Bytes.{xor_bytes}
+use Rattle.aes_lanes.specs.Rounds.{column_product, inverse_column_product}
 use Rattle.aes_lanes.proofs.WordBytes.{xor_words}
 
 -- every byte, in order
@@ -39,41 +40,6 @@ sbox_at = values (λ s. s) sbox 0 SBOX SBOX_is refl
 
 pub inverse_sbox_at : (x : ℕ) → x < 256 → slice_index INVERSE_SBOX x ≡ inverse_sbox x
 inverse_sbox_at = values (λ s. s) inverse_sbox 0 INVERSE_SBOX INVERSE_SBOX_is refl
-
--- the S-box and its inverse take bytes to bytes, and undo each other
-SBOX-lt : map (λ s. s % 256) SBOX ≡ map (λ s. s) SBOX
-SBOX-lt = refl
-
-INVERSE_SBOX-lt : map (λ s. s % 256) INVERSE_SBOX ≡ map (λ s. s) INVERSE_SBOX
-INVERSE_SBOX-lt = refl
-
-INVERSE_SBOX-SBOX : map (slice_index INVERSE_SBOX) SBOX ≡ map (λ x. x) bytes
-INVERSE_SBOX-SBOX = refl
-
-SBOX-INVERSE_SBOX : map (slice_index SBOX) INVERSE_SBOX ≡ map (λ x. x) bytes
-SBOX-INVERSE_SBOX = refl
-
-pub sbox-lt : (x : ℕ) → x < 256 → sbox x < 256
-sbox-lt x h =
-    let e = entries (λ s. s % 256) (λ s. s) 0 SBOX SBOX SBOX-lt x h h in
-    let at = sbox_at x h in
-    omega (arith, e, at)
-
-pub inverse_sbox-lt : (x : ℕ) → x < 256 → inverse_sbox x < 256
-inverse_sbox-lt x h =
-    let e = entries (λ s. s % 256) (λ s. s) 0 INVERSE_SBOX INVERSE_SBOX INVERSE_SBOX-lt x h h in
-    let at = inverse_sbox_at x h in
-    omega (arith, e, at)
-
-pub inverse_sbox-sbox : (x : ℕ) → x < 256 → inverse_sbox (sbox x) ≡ x
-inverse_sbox-sbox x h =
-    sym (inverse_sbox_at (sbox x) (sbox-lt x h)) ∙ ap (slice_index INVERSE_SBOX) (sym (sbox_at x h))
-    ∙ values (slice_index INVERSE_SBOX) (λ y. y) 0 SBOX INVERSE_SBOX-SBOX refl x h
-
-pub sbox-inverse_sbox : (x : ℕ) → x < 256 → sbox (inverse_sbox x) ≡ x
-sbox-inverse_sbox x h =
-    sym (sbox_at (inverse_sbox x) (inverse_sbox-lt x h)) ∙ ap (slice_index SBOX) (sym (inverse_sbox_at x h))
-    ∙ values (slice_index SBOX) (λ y. y) 0 INVERSE_SBOX SBOX-INVERSE_SBOX refl x h
 
 -- the bytes of a word rotated by k bits
 abbrev turned : ℕ → ℕ → List ℕ
@@ -112,8 +78,8 @@ COLUMNS_row3 = refl
 mixed_words : (p q r s a b c d : ℕ)
     → to_be_bytes w32 p ≡ from_row0 a → to_be_bytes w32 q ≡ from_row1 b
     → to_be_bytes w32 r ≡ from_row2 c → to_be_bytes w32 s ≡ from_row3 d
-    → to_be_bytes w32 (bit_xor (bit_xor (bit_xor p q) r) s) ≡ mixed a b c d
-unfolding mixed xor_bytes
+    → to_be_bytes w32 (bit_xor (bit_xor (bit_xor p q) r) s) ≡ column_product a b c d
+unfolding column_product xor_bytes
 mixed_words p q r s a b c d ep eq er es =
     xor_words (bit_xor (bit_xor p q) r) s _ _ (xor_words (bit_xor p q) r _ _ (xor_words p q _ _ ep eq) er) es
 
@@ -123,7 +89,7 @@ pub mixed_at : (a b c d q r s : ℕ) → a < 256 → b < 256 → c < 256 → d <
     → r ≡ rotate_right w32 (slice_index COLUMNS c) 16
     → s ≡ rotate_right w32 (slice_index COLUMNS d) 24
     → to_be_bytes w32 (bit_xor (bit_xor (bit_xor (slice_index COLUMNS a) q) r) s)
-    ≡ mixed (sbox a) (sbox b) (sbox c) (sbox d)
+    ≡ column_product (sbox a) (sbox b) (sbox c) (sbox d)
 mixed_at a b c d q r s ha hb hc hd eq er es =
     mixed_words (slice_index COLUMNS a) q r s (sbox a) (sbox b) (sbox c) (sbox d)
     (entry (to_be_bytes w32) from_row0 COLUMNS_row0 a ha)
@@ -165,8 +131,8 @@ INVERSE_COLUMNS_row3 = refl
 unmixed_words : (p q r s a b c d : ℕ)
     → to_be_bytes w32 p ≡ unmixed_row0 a → to_be_bytes w32 q ≡ unmixed_row1 b
     → to_be_bytes w32 r ≡ unmixed_row2 c → to_be_bytes w32 s ≡ unmixed_row3 d
-    → to_be_bytes w32 (bit_xor (bit_xor (bit_xor p q) r) s) ≡ unmixed a b c d
-unfolding unmixed xor_bytes
+    → to_be_bytes w32 (bit_xor (bit_xor (bit_xor p q) r) s) ≡ inverse_column_product a b c d
+unfolding inverse_column_product xor_bytes
 unmixed_words p q r s a b c d ep eq er es =
     xor_words (bit_xor (bit_xor p q) r) s _ _ (xor_words (bit_xor p q) r _ _ (xor_words p q _ _ ep eq) er) es
 
@@ -175,7 +141,7 @@ pub unmixed_at : (a b c d q r s : ℕ) → a < 256 → b < 256 → c < 256 → d
     → q ≡ rotate_right w32 (slice_index INVERSE_COLUMNS b) 8
     → r ≡ rotate_right w32 (slice_index INVERSE_COLUMNS c) 16
     → s ≡ rotate_right w32 (slice_index INVERSE_COLUMNS d) 24
-    → to_be_bytes w32 (bit_xor (bit_xor (bit_xor (slice_index INVERSE_COLUMNS a) q) r) s) ≡ unmixed a b c d
+    → to_be_bytes w32 (bit_xor (bit_xor (bit_xor (slice_index INVERSE_COLUMNS a) q) r) s) ≡ inverse_column_product a b c d
 unmixed_at a b c d q r s ha hb hc hd eq er es =
     unmixed_words (slice_index INVERSE_COLUMNS a) q r s a b c d
     (value (to_be_bytes w32) unmixed_row0 INVERSE_COLUMNS_row0 a ha)

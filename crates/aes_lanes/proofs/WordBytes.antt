@@ -1,13 +1,11 @@
 -- The bytes of a word, first byte highest, and of a state of four words.
-use Rattle.std.proofs.Common.{◌≡◌, ℕ, zero, suc, ◌<◌, ◌+◌, ◌*◌, ◌/◌, ◌%◌, ◌^◌, List, [], ◌∷◌, ◌++◌, bit_xor, length, get_or, map, refl, sym, ap, ◌∙◌, arith, lit<}
-use Rattle.std.proofs.lemmas.List.{ext_get_or}
-use Rattle.std.proofs.lemmas.List.FromFn.{get_or-map-range_with_len, length-map-range_with_len}
+use Rattle.std.proofs.Common.{◌≡◌, ℕ, zero, suc, ◌<◌, ◌+◌, ◌*◌, ◌/◌, ◌%◌, ◌^◌, List, [], ◌∷◌, ◌++◌, bit_xor, length, get_or, refl, ap, ◌∙◌, lit<}
 use Rattle.std.proofs.lemmas.Nat.{be_bytes_4}
 use lib.Bits.{xor_shr, xor_mod}
-use Rattle.std.specs.List.{range_with_len}
 use Rattle.std.specs.Int.{w32, to_be_bytes, from_be_bytes}
-use Rattle.aes_lanes.specs.Rounds.{xor_bytes}
+use Rattle.aes_lanes.specs.Bytes.{xor_bytes}
 use Rattle.aes_lanes.specs.Schedule.{word_at, state_of}
+use Rattle.aes_lanes.specs.Laws.Sums.{gathered}
 
 -- eight bits from bit k on, of a bitwise sum
 byte-xor : (k a b : ℕ) → bit_xor a b / 2 ^ k % 2 ^ 8 ≡ bit_xor (a / 2 ^ k % 2 ^ 8) (b / 2 ^ k % 2 ^ 8)
@@ -20,13 +18,6 @@ to_be_bytes-xor a b = rw (byte-xor 24 a b, byte-xor 16 a b, byte-xor 8 a b, xor_
 -- the same, with the bytes given
 pub xor_words : (p q : ℕ) (ps qs : List ℕ) → to_be_bytes w32 p ≡ ps → to_be_bytes w32 q ≡ qs → to_be_bytes w32 (bit_xor p q) ≡ xor_bytes ps qs
 xor_words p q ps qs e f = to_be_bytes-xor p q ∙ ap (λ l. xor_bytes l (to_be_bytes w32 q)) e ∙ ap (xor_bytes ps) f
-
--- a list is its elements
-pub gathered : (l : List ℕ) (n : ℕ) → length l ≡ n → l ≡ map (λ i. get_or l i 0) (range_with_len 0 n)
-gathered l n h =
-    ext_get_or 0 l (map (λ i. get_or l i 0) (range_with_len 0 n))
-    (h ∙ sym (length-map-range_with_len (λ i. get_or l i 0) 0 n))
-    (λ i lt. sym (get_or-map-range_with_len (λ i. get_or l i 0) 0 n i i 0 (omega arith) (omega arith)))
 
 -- four bytes, of which each is below 256
 each_fits : (a b c d : ℕ) → a < 256 → b < 256 → c < 256 → d < 256 → (k : ℕ) → get_or (a ∷ b ∷ c ∷ d ∷ []) k 0 < 256

@@ -1,10 +1,16 @@
--- A block added to a part of a list of bytes.
-use Rattle.std.specs.Prelude.{◌≡◌, ℕ, ◌+◌, ◌<◌, ◌≤◌, length, List, bit_xor, slice_index}
+-- Lists of bytes, blocks, and their bitwise sum.
+use Rattle.std.specs.Prelude.{◌≡◌, ℕ, ◌<◌, length, List, bit_xor, slice_index}
+use Rattle.std.specs.Simd.Lanes.{zip2}
 
--- bytes to which a block was added from a place on, as far as they go
-pub record IsXoredAt (at : ℕ) (block old new : List ℕ) : Type 0 where
-  pub same_length : length new ≡ length old
-  pub inside : (k : ℕ) → k < 16 → at + k < length old
-      → slice_index new (at + k) ≡ bit_xor (slice_index old (at + k)) (slice_index block k)
-  pub before : (k : ℕ) → k < at → slice_index new k ≡ slice_index old k
-  pub after : (k : ℕ) → at + 16 ≤ k → slice_index new k ≡ slice_index old k
+-- each number of a list is a byte, and so is the zero past its end
+abbrev pub AreBytes : List ℕ → Type 0
+AreBytes xs = (k : ℕ) → slice_index xs k < 256
+
+-- sixteen bytes
+pub record IsBlock (block : List ℕ) : Type 0 where
+  pub sixteen : length block ≡ 16
+  pub bytes : (k : ℕ) → slice_index block k < 256
+
+-- the bitwise sum of two lists, element by element, as long as the shorter one
+unfoldable pub xor_bytes : List ℕ → List ℕ → List ℕ
+xor_bytes xs ys = zip2 bit_xor xs ys

@@ -9,37 +9,37 @@ rounds words block zero = add_round_key block (round_key words 0)
 rounds words block (suc n) =
     add_round_key (mix_columns (shift_rows (sub_bytes (rounds words block n)))) (round_key words (suc n))
 
--- CIPHER in n + 1 rounds, of which the last one mixes no columns (5.1)
+-- CIPHER in nr rounds, of which the last one mixes no columns (5.1)
 unfoldable pub cipher : ℕ → List ℕ → List ℕ → List ℕ
-cipher n words block = add_round_key (shift_rows (sub_bytes (rounds words block n))) (round_key words (suc n))
+cipher nr words block = add_round_key (shift_rows (sub_bytes (rounds words block (nr - 1)))) (round_key words nr)
 
--- the state after the key of round last and n rounds undone, from the last one back
+-- of nr rounds, the state after the last round's key and n rounds undone, from the last one back
 unfoldable pub inverse_rounds : ℕ → List ℕ → List ℕ → ℕ → List ℕ
-inverse_rounds last words block zero = add_round_key block (round_key words last)
-inverse_rounds last words block (suc n) =
-    inverse_mix_columns (add_round_key (inverse_sub_bytes (inverse_shift_rows (inverse_rounds last words block n)))
-    (round_key words (last - suc n)))
+inverse_rounds nr words block zero = add_round_key block (round_key words nr)
+inverse_rounds nr words block (suc n) =
+    inverse_mix_columns (add_round_key (inverse_sub_bytes (inverse_shift_rows (inverse_rounds nr words block n)))
+    (round_key words (nr - suc n)))
 
--- INVCIPHER in n + 1 rounds (5.3)
+-- INVCIPHER in nr rounds (5.3)
 unfoldable pub inverse_cipher : ℕ → List ℕ → List ℕ → List ℕ
-inverse_cipher n words block =
-    add_round_key (inverse_sub_bytes (inverse_shift_rows (inverse_rounds (suc n) words block n))) (round_key words 0)
+inverse_cipher nr words block =
+    add_round_key (inverse_sub_bytes (inverse_shift_rows (inverse_rounds nr words block (nr - 1)))) (round_key words 0)
 
--- how many rounds but the last a key of so many words has: 9 at 4 words, 13 at 8 (5, table 3)
-abbrev pub middle_rounds : ℕ → ℕ
-middle_rounds key_words = key_words + 5
+-- Nr, the number of rounds with a key of so many words: 10 at 4 words, 14 at 8 (5, table 3)
+abbrev pub number_of_rounds : ℕ → ℕ
+number_of_rounds key_words = key_words + 6
 
--- the whole schedule of a key of so many words
+-- the schedule of a key of so many words: the key's words and those after it, 4 * (Nr + 1) in all (5.2)
 unfoldable pub key_schedule : ℕ → List ℕ → List ℕ
-key_schedule key_words key = expanded_key key_words key (4 * (middle_rounds key_words + 2) - key_words)
+key_schedule key_words key = expanded_key key_words key (4 * (number_of_rounds key_words + 1) - key_words)
 
 -- a block's image under AES with a key of so many words
 unfoldable pub aes : ℕ → List ℕ → List ℕ → List ℕ
-aes key_words key block = cipher (middle_rounds key_words) (key_schedule key_words key) block
+aes key_words key block = cipher (number_of_rounds key_words) (key_schedule key_words key) block
 
 -- the block whose image under AES with a key of so many words is this block
 unfoldable pub inverse_aes : ℕ → List ℕ → List ℕ → List ℕ
-inverse_aes key_words key block = inverse_cipher (middle_rounds key_words) (key_schedule key_words key) block
+inverse_aes key_words key block = inverse_cipher (number_of_rounds key_words) (key_schedule key_words key) block
 
 -- AES-128 and AES-256, with keys of 16 and of 32 bytes
 abbrev pub aes128 : List ℕ → List ℕ → List ℕ

@@ -2,35 +2,34 @@
 -- sixteen bytes, and a block cipher a function from blocks to blocks.
 use Rattle.std.specs.Prelude.{ℕ, zero, suc, ◌+◌, ◌-◌, ◌*◌, ◌/◌, ◌%◌, ◌^◌, List, [], ◌++◌, length, take, drop, fold}
 use Rattle.std.specs.Int.{bytes_high_first}
-use Rattle.aes_lanes.specs.Rounds.{xor_bytes}
+use Rattle.aes_lanes.specs.Bytes.{xor_bytes}
 
 -- the number that a list of bytes stands for, its first byte highest
 unfoldable pub number_of : List ℕ → ℕ
 number_of bytes = fold (λ n byte. n * 256 + byte) 0 bytes
 
--- the block n counts after a block, in which the last width bytes count modulo 256 ^ width and the
--- bytes before them stay
-unfoldable pub counted : ℕ → ℕ → List ℕ → List ℕ
-counted width n block =
+-- the block after a block, of which the last width bytes count modulo 256 ^ width and those before them stay
+unfoldable pub increment : ℕ → List ℕ → List ℕ
+increment width block =
     take (16 - width) block
-    ++ bytes_high_first width ((number_of (drop (16 - width) block) + n) % 256 ^ width)
+    ++ bytes_high_first width ((number_of (drop (16 - width) block) + 1) % 256 ^ width)
 
 -- the standard incrementing functions of the last 32 bits and of all 128
 abbrev pub increment32 : List ℕ → List ℕ
-increment32 block = counted 4 1 block
+increment32 block = increment 4 block
 
 abbrev pub increment128 : List ℕ → List ℕ
-increment128 block = counted 16 1 block
+increment128 block = increment 16 block
 
 -- the images of n counter blocks, from a first one on, end to end
 unfoldable pub key_stream : (List ℕ → List ℕ) → (List ℕ → List ℕ) → List ℕ → ℕ → List ℕ
-key_stream image increment block zero = []
-key_stream image increment block (suc n) = image block ++ key_stream image increment (increment block) n
+key_stream image next block zero = []
+key_stream image next block (suc n) = image block ++ key_stream image next (next block) n
 
 -- a text xored with the key stream of as many blocks as it needs, of which the last may be cut
 unfoldable pub counter_mode : (List ℕ → List ℕ) → (List ℕ → List ℕ) → List ℕ → List ℕ → List ℕ
-counter_mode image increment start text =
-    xor_bytes text (key_stream image increment start ((length text + 15) / 16))
+counter_mode image next start text =
+    xor_bytes text (key_stream image next start ((length text + 15) / 16))
 
 -- counter mode modulo 2^32 and modulo 2^128
 abbrev pub ctr32 : (List ℕ → List ℕ) → List ℕ → List ℕ → List ℕ

@@ -21,7 +21,8 @@ unfoldable pub power : ℕ → ℕ → ℕ
 power b zero = 1
 power b (suc n) = multiply (power b n) b
 
--- the multiplicative inverse of b, and 0 of 0 (4.4): the power 254, since each power 255 is 1
+-- the multiplicative inverse of b, where b isn't 0 (4.4): the power 254, since the power 255 of each byte
+-- but 0 is 1. Of 0 it is 0, as SBOX wants it (5.1.1)
 unfoldable pub inverse : ℕ → ℕ
 inverse b = power b 254
 

@@ -1,8 +1,9 @@
+pub mod Bytes
 pub mod Field
 pub mod Rounds
-pub mod Bytes
 pub mod Schedule
 pub mod Cipher
+pub mod BlockCipher
 pub mod Counter
-pub mod Counting
-pub mod Lengths
+pub mod Private
+pub mod Laws

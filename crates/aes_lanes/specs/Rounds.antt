@@ -1,26 +1,12 @@
 -- The transformations of the rounds (FIPS 197, sections 3.4, 5.1 and 5.3). A state is a list of
 -- sixteen bytes, column after column.
-use Rattle.std.specs.Prelude.{◌≡◌, ℕ, ◌+◌, ◌*◌, ◌%◌, ◌<◌, length, List, [], ◌∷◌, ◌++◌, map, bit_xor, slice_index}
+use Rattle.std.specs.Prelude.{ℕ, ◌+◌, ◌*◌, ◌%◌, List, [], ◌∷◌, ◌++◌, map, bit_xor, slice_index}
+use Rattle.aes_lanes.specs.Bytes.{xor_bytes}
 use Rattle.aes_lanes.specs.Field.{multiply, sbox, inverse_sbox}
 
 -- the byte in row r and column c of a state (3.4)
 abbrev pub state_byte : List ℕ → ℕ → ℕ → ℕ
 state_byte s r c = slice_index s (r + 4 * c)
-
--- each number of a list is a byte, and so is the zero past its end
-abbrev pub AreBytes : List ℕ → Type 0
-AreBytes xs = (k : ℕ) → slice_index xs k < 256
-
--- sixteen bytes
-pub record IsBlock (block : List ℕ) : Type 0 where
-  pub sixteen : length block ≡ 16
-  pub bytes : (k : ℕ) → slice_index block k < 256
-
--- the bitwise sum of two lists, as long as the shorter one
-unfoldable pub xor_bytes : List ℕ → List ℕ → List ℕ
-xor_bytes [] ys = []
-xor_bytes (x ∷ xs) [] = []
-xor_bytes (x ∷ xs) (y ∷ ys) = bit_xor x y ∷ xor_bytes xs ys
 
 -- SUBBYTES (5.1.1)
 unfoldable pub sub_bytes : List ℕ → List ℕ
@@ -41,15 +27,15 @@ abbrev pub sum_of : ℕ → ℕ → ℕ → ℕ → ℕ
 sum_of a b c d = bit_xor (bit_xor (bit_xor a b) c) d
 
 -- the column of the bytes a, b, c and d times the fixed matrix (5.1.3)
-unfoldable pub mixed : ℕ → ℕ → ℕ → ℕ → List ℕ
-mixed a b c d =
+unfoldable pub column_product : ℕ → ℕ → ℕ → ℕ → List ℕ
+column_product a b c d =
     sum_of (multiply 0x02 a) (multiply 0x03 b) c d
     ∷ sum_of a (multiply 0x02 b) (multiply 0x03 c) d
     ∷ sum_of a b (multiply 0x02 c) (multiply 0x03 d)
     ∷ sum_of (multiply 0x03 a) b c (multiply 0x02 d) ∷ []
 
 abbrev pub mixed_column : List ℕ → ℕ → List ℕ
-mixed_column s c = mixed (state_byte s 0 c) (state_byte s 1 c) (state_byte s 2 c) (state_byte s 3 c)
+mixed_column s c = column_product (state_byte s 0 c) (state_byte s 1 c) (state_byte s 2 c) (state_byte s 3 c)
 
 -- MIXCOLUMNS (5.1.3)
 unfoldable pub mix_columns : List ℕ → List ℕ
@@ -75,15 +61,15 @@ inverse_shift_rows s =
     unshifted_column s 0 ++ unshifted_column s 1 ++ unshifted_column s 2 ++ unshifted_column s 3
 
 -- the column of the bytes a, b, c and d times the inverse matrix (5.3.3)
-unfoldable pub unmixed : ℕ → ℕ → ℕ → ℕ → List ℕ
-unmixed a b c d =
+unfoldable pub inverse_column_product : ℕ → ℕ → ℕ → ℕ → List ℕ
+inverse_column_product a b c d =
     sum_of (multiply 0x0e a) (multiply 0x0b b) (multiply 0x0d c) (multiply 0x09 d)
     ∷ sum_of (multiply 0x09 a) (multiply 0x0e b) (multiply 0x0b c) (multiply 0x0d d)
     ∷ sum_of (multiply 0x0d a) (multiply 0x09 b) (multiply 0x0e c) (multiply 0x0b d)
     ∷ sum_of (multiply 0x0b a) (multiply 0x0d b) (multiply 0x09 c) (multiply 0x0e d) ∷ []
 
 abbrev pub unmixed_column : List ℕ → ℕ → List ℕ
-unmixed_column s c = unmixed (state_byte s 0 c) (state_byte s 1 c) (state_byte s 2 c) (state_byte s 3 c)
+unmixed_column s c = inverse_column_product (state_byte s 0 c) (state_byte s 1 c) (state_byte s 2 c) (state_byte s 3 c)
 
 -- INVMIXCOLUMNS (5.3.3)
 unfoldable pub inverse_mix_columns : List ℕ → List ℕ

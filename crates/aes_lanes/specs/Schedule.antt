@@ -1,6 +1,5 @@
 -- The key schedule (FIPS 197, section 5.2). A word is four bytes, the first of them highest.
-use Rattle.std.specs.Prelude.{ℕ, zero, suc, ◌+◌, ◌-◌, ◌*◌, ◌/◌, ◌%◌, ◌^◌, List, [], ◌∷◌, ◌++◌, map, bit_xor, slice_index, nat_eq, nat_lt, take, ◌&&◌, if◌then◌else◌}
-use Rattle.std.specs.List.{flat_map}
+use Rattle.std.specs.Prelude.{ℕ, zero, suc, ◌+◌, ◌-◌, ◌*◌, ◌/◌, ◌%◌, ◌^◌, List, [], ◌∷◌, ◌++◌, map, bit_xor, slice_index, nat_eq, nat_lt, ◌&&◌, if◌then◌else◌}
 use Rattle.std.specs.Int.{w32, to_be_bytes, from_be_bytes}
 use Rattle.aes_lanes.specs.Field.{sbox, power}
 
@@ -53,7 +52,3 @@ state_of words = to_be_bytes w32 (slice_index words 0) ++ to_be_bytes w32 (slice
 unfoldable pub round_key : List ℕ → ℕ → List ℕ
 round_key words r = state_of (slice_index words (4 * r) ∷ slice_index words (4 * r + 1)
     ∷ slice_index words (4 * r + 2) ∷ slice_index words (4 * r + 3) ∷ [])
-
--- the bytes of the first n words: the key from which a schedule was expanded
-unfoldable pub key_of : ℕ → List ℕ → List ℕ
-key_of n words = flat_map (to_be_bytes w32) (take n words)

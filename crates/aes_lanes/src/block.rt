@@ -1,8 +1,8 @@
 // Blocks and byte strings: their sum, and whether two are the same.
 
 ghost use Rattle.std.specs.Prelude.{◌≡◌, ◌↔◌, IsTrue};
-ghost use Rattle.aes_lanes.specs.Bytes.{IsXoredAt};
-ghost use Rattle.aes_lanes.specs.Rounds.{xor_bytes};
+ghost use Rattle.aes_lanes.specs.Bytes.{xor_bytes};
+ghost use Rattle.aes_lanes.specs.Private.{IsXoredAt};
 
 /// Sixteen bytes.
 pub type Block = [u8; 16];

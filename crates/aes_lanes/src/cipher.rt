@@ -1,6 +1,7 @@
 // What the modes of operation know of a block cipher.
 
 ghost use Rattle.std.specs.Prelude.{◌≡◌, ℕ, List, length, map};
+ghost use Rattle.aes_lanes.specs.BlockCipher.{AreInverse};
 
 use crate::block::Block;
 
@@ -19,5 +20,9 @@ pub trait Cipher {
     fn decrypt_blocks(&self, blocks: &mut [Block])
         ensures { blocks.new ≡ map (preimage self.now) blocks.old };
 
+    /// An image has sixteen bytes.
     ghost length_image: { (key : Self) (block : List ℕ) → length (image key block) ≡ 16 };
+
+    /// Images and preimages of blocks are blocks, and the two functions undo each other on blocks.
+    ghost undone: { (key : Self) → AreInverse (image key) (preimage key) };
 }

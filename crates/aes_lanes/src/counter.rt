@@ -1,8 +1,8 @@
 // Counter mode (SP 800-38A, section 6.5).
 
 ghost use Rattle.std.specs.Prelude.{◌≡◌};
-ghost use Rattle.aes_lanes.specs.Counter.{counted, counter_mode, ctr128, ctr32, increment128, increment32};
-ghost use Rattle.aes_lanes.specs.Counting.{width_of};
+ghost use Rattle.aes_lanes.specs.Counter.{counter_mode, ctr128, ctr32, increment, increment128, increment32};
+ghost use Rattle.aes_lanes.specs.Private.{width_of};
 
 use crate::block::{Block, xor_at};
 use crate::cipher::Cipher;
@@ -32,7 +32,7 @@ fn increment128(block: &mut Block)
 }
 
 fn increment(counting: Counting, block: &mut Block)
-    ensures { block.new ≡ counted (width_of counting) 1 block.old }
+    ensures { block.new ≡ increment (width_of counting) block.old }
 {
     match counting {
         Counting::LastFourBytes => increment32(block),
@@ -41,7 +41,7 @@ fn increment(counting: Counting, block: &mut Block)
 }
 
 fn counter_xor<C: Cipher>(cipher: &C, counting: Counting, start: &Block, bytes: &mut [u8])
-    ensures { bytes.new ≡ counter_mode (C.image cipher.now) (counted (width_of counting) 1) start.now bytes.old }
+    ensures { bytes.new ≡ counter_mode (C.image cipher.now) (increment (width_of counting)) start.now bytes.old }
 {
     let mut counter = *start;
     for k in 0..bytes.len().div_ceil(16) {

@@ -16,7 +16,7 @@ pub struct Key128 {
 
 impl Model for Key128 {
     ghost use Rattle.std.specs.Prelude.{◌≡◌, ℕ, List};
-    ghost use Rattle.aes_lanes.specs.Schedule.{key_of};
+    ghost use Rattle.aes_lanes.specs.Private.{key_of};
     ghost use Rattle.aes_lanes.specs.Cipher.{key_schedule};
 
     ghost Value = { List ℕ };
@@ -39,7 +39,7 @@ impl Key128 {
 
 impl Cipher for Key128 {
     ghost use Rattle.aes_lanes.specs.Cipher.{aes128, inverse_aes128};
-    ghost use Rattle.aes_lanes.specs.Lengths.{length-aes};
+    ghost use Rattle.aes_lanes.specs.Laws.Cipher.{aes-undone, length-aes};
 
     ghost image = { aes128 };
 
@@ -47,12 +47,14 @@ impl Cipher for Key128 {
 
     ghost length_image = { length-aes 4 };
 
+    ghost undone = { aes-undone 4 };
+
     fn encrypt_blocks(&self, blocks: &mut [Block]) {
-        encrypt_all(&self.words, 9, blocks);
+        encrypt_all(&self.words, 10, blocks);
     }
 
     fn decrypt_blocks(&self, blocks: &mut [Block]) {
-        decrypt_all(&self.words, 9, blocks);
+        decrypt_all(&self.words, 10, blocks);
     }
 }
 
@@ -64,7 +66,7 @@ pub struct Key256 {
 
 impl Model for Key256 {
     ghost use Rattle.std.specs.Prelude.{◌≡◌, ℕ, List};
-    ghost use Rattle.aes_lanes.specs.Schedule.{key_of};
+    ghost use Rattle.aes_lanes.specs.Private.{key_of};
     ghost use Rattle.aes_lanes.specs.Cipher.{key_schedule};
 
     ghost Value = { List ℕ };
@@ -87,7 +89,7 @@ impl Key256 {
 
 impl Cipher for Key256 {
     ghost use Rattle.aes_lanes.specs.Cipher.{aes256, inverse_aes256};
-    ghost use Rattle.aes_lanes.specs.Lengths.{length-aes};
+    ghost use Rattle.aes_lanes.specs.Laws.Cipher.{aes-undone, length-aes};
 
     ghost image = { aes256 };
 
@@ -95,11 +97,13 @@ impl Cipher for Key256 {
 
     ghost length_image = { length-aes 8 };
 
+    ghost undone = { aes-undone 8 };
+
     fn encrypt_blocks(&self, blocks: &mut [Block]) {
-        encrypt_all(&self.words, 13, blocks);
+        encrypt_all(&self.words, 14, blocks);
     }
 
     fn decrypt_blocks(&self, blocks: &mut [Block]) {
-        decrypt_all(&self.words, 13, blocks);
+        decrypt_all(&self.words, 14, blocks);
     }
 }

@@ -1,9 +1,9 @@
 // The rounds of AES on a state of four words, one for each column (FIPS 197, section 5.1).
 
-ghost use Rattle.std.specs.Prelude.{◌≡◌, ◌+◌, ◌*◌, ◌≤◌, List, [], ◌∷◌, length, map};
+ghost use Rattle.std.specs.Prelude.{◌≡◌, ◌+◌, ◌*◌, ◌<◌, ◌≤◌, List, [], ◌∷◌, length, map};
 ghost use Rattle.std.specs.Int.{w32, to_be_bytes};
 ghost use Rattle.aes_lanes.specs.Field.{inverse_sbox, sbox};
-ghost use Rattle.aes_lanes.specs.Rounds.{add_round_key, inverse_mix_columns, inverse_shift_rows, inverse_sub_bytes, mix_columns, mixed, shift_rows, sub_bytes, xor_bytes};
+ghost use Rattle.aes_lanes.specs.Rounds.{add_round_key, inverse_mix_columns, inverse_shift_rows, inverse_sub_bytes, mix_columns, shift_rows, sub_bytes};
 ghost use Rattle.aes_lanes.specs.Schedule.{round_key, state_of};
 ghost use Rattle.aes_lanes.specs.Cipher.{cipher, inverse_cipher};
 
@@ -90,17 +90,18 @@ fn shifted_state(state: &State) -> State
     ]
 }
 
-// Replaces a block by its image in `middle + 1` rounds, under the words of a key schedule.
-fn encrypt_block(words: &[u32], middle: usize, block: &mut Block)
-    requires { length words.now ≡ 4 * (middle + 2) }
-    ensures { block.new ≡ cipher middle words.now block.old }
+// Replaces a block by its image in so many rounds, under the words of a key schedule.
+fn encrypt_block(words: &[u32], rounds: usize, block: &mut Block)
+    requires some { 0 < rounds }
+    requires words { length words.now ≡ 4 * (rounds + 1) }
+    ensures { block.new ≡ cipher rounds words.now block.old }
 {
     let mut state = add_key(&load(block), words, 0);
-    for round in 0..middle {
-        let next = add_key(&mixed_state(&state), words, round + 1);
+    for round in 1..rounds {
+        let next = add_key(&mixed_state(&state), words, round);
         state = next;
     }
-    *block = store(&add_key(&shifted_state(&state), words, middle + 1));
+    *block = store(&add_key(&shifted_state(&state), words, rounds));
 }
 
 #[inline(always)]
@@ -147,35 +148,38 @@ fn unmixed_state(state: &State) -> State
     ]
 }
 
-// Replaces a block by its preimage in `middle + 1` rounds, under the words of a key schedule.
-fn decrypt_block(words: &[u32], middle: usize, block: &mut Block)
-    requires { length words.now ≡ 4 * (middle + 2) }
-    ensures { block.new ≡ inverse_cipher middle words.now block.old }
+// Replaces a block by its preimage in so many rounds, under the words of a key schedule.
+fn decrypt_block(words: &[u32], rounds: usize, block: &mut Block)
+    requires some { 0 < rounds }
+    requires words { length words.now ≡ 4 * (rounds + 1) }
+    ensures { block.new ≡ inverse_cipher rounds words.now block.old }
 {
-    let mut state = add_key(&load(block), words, middle + 1);
-    for undone in 0..middle {
-        let next = unmixed_state(&add_key(&unshifted_state(&state), words, middle - undone));
+    let mut state = add_key(&load(block), words, rounds);
+    for undone in 1..rounds {
+        let next = unmixed_state(&add_key(&unshifted_state(&state), words, rounds - undone));
         state = next;
     }
     *block = store(&add_key(&unshifted_state(&state), words, 0));
 }
 
-/// Replaces each block by its image in `middle + 1` rounds, under the words of a key schedule.
-pub(crate) fn encrypt_all(words: &[u32], middle: usize, blocks: &mut [Block])
-    requires { length words.now ≡ 4 * (middle + 2) }
-    ensures { blocks.new ≡ map (cipher middle words.now) blocks.old }
+/// Replaces each block by its image in so many rounds, under the words of a key schedule.
+pub(crate) fn encrypt_all(words: &[u32], rounds: usize, blocks: &mut [Block])
+    requires some { 0 < rounds }
+    requires words { length words.now ≡ 4 * (rounds + 1) }
+    ensures { blocks.new ≡ map (cipher rounds words.now) blocks.old }
 {
     for block in blocks.iter_mut() {
-        encrypt_block(words, middle, block);
+        encrypt_block(words, rounds, block);
     }
 }
 
-/// Replaces each block by its preimage in `middle + 1` rounds, under the words of a key schedule.
-pub(crate) fn decrypt_all(words: &[u32], middle: usize, blocks: &mut [Block])
-    requires { length words.now ≡ 4 * (middle + 2) }
-    ensures { blocks.new ≡ map (inverse_cipher middle words.now) blocks.old }
+/// Replaces each block by its preimage in so many rounds, under the words of a key schedule.
+pub(crate) fn decrypt_all(words: &[u32], rounds: usize, blocks: &mut [Block])
+    requires some { 0 < rounds }
+    requires words { length words.now ≡ 4 * (rounds + 1) }
+    ensures { blocks.new ≡ map (inverse_cipher rounds words.now) blocks.old }
 {
     for block in blocks.iter_mut() {
-        decrypt_block(words, middle, block);
+        decrypt_block(words, rounds, block);
     }
 }

@@ -3,7 +3,7 @@
 ghost use Rattle.std.specs.Prelude.{◌≡◌};
 ghost use Rattle.std.specs.Int.{w32, to_be_bytes};
 ghost use Rattle.aes_lanes.specs.Field.{inverse_sbox, sbox};
-ghost use Rattle.aes_lanes.specs.Rounds.{mixed, unmixed};
+ghost use Rattle.aes_lanes.specs.Rounds.{column_product, inverse_column_product};
 
 const SBOX: [u8; 256] = [
     0x63, 0x7c, 0x77, 0x7b, 0xf2, 0x6b, 0x6f, 0xc5, 0x30, 0x01, 0x67, 0x2b, 0xfe, 0xd7, 0xab, 0x76,
@@ -132,7 +132,7 @@ pub(crate) fn inverse_sbox(x: u8) -> u8
 // The mixed column of four bytes after the S-box.
 #[inline(always)]
 pub(crate) fn column(a: u8, b: u8, c: u8, d: u8) -> u32
-    ensures { to_be_bytes w32 result ≡ mixed (sbox a) (sbox b) (sbox c) (sbox d) }
+    ensures { to_be_bytes w32 result ≡ column_product (sbox a) (sbox b) (sbox c) (sbox d) }
 {
     COLUMNS[a as usize]
         ^ COLUMNS[b as usize].rotate_right(8)
@@ -143,7 +143,7 @@ pub(crate) fn column(a: u8, b: u8, c: u8, d: u8) -> u32
 // The column of four bytes before it was mixed.
 #[inline(always)]
 pub(crate) fn inverse_column(a: u8, b: u8, c: u8, d: u8) -> u32
-    ensures { to_be_bytes w32 result ≡ unmixed a b c d }
+    ensures { to_be_bytes w32 result ≡ inverse_column_product a b c d }
 {
     INVERSE_COLUMNS[a as usize]
         ^ INVERSE_COLUMNS[b as usize].rotate_right(8)

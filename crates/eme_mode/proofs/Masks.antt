@@ -2,7 +2,7 @@
 use Rattle.std.proofs.Common.{◌≡◌, ℕ, suc, ◌+◌, ◌<◌, List, [], ◌∷◌, ◌++◌, length, take, drop, set, get_or, map, refl, sym, ap, ◌∙◌, arith, append_assoc}
 use Rattle.std.proofs.Math.Seq.{take-suc-set, drop-cons}
 use Rattle.std.proofs.lemmas.List.{drop-set-lt, nil_from_length}
-use Rattle.aes_lanes.specs.Rounds.{xor_bytes}
+use Rattle.aes_lanes.specs.Bytes.{xor_bytes}
 use Rattle.eme_mode.specs.Eme.{doubled, masked, sum_from, mixed, eme_by}
 
 -- one block more has its mask

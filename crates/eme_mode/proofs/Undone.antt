@@ -4,11 +4,11 @@ use Rattle.std.specs.List.{All}
 use Rattle.std.specs.Int.{w128, bytes_low_first, from_le_bytes}
 use Rattle.std.proofs.lemmas.List.{length-map}
 use Rattle.std.proofs.lemmas.List.Elements.{All-nil, All-cons, All-head, All-tail, All-map, All-weaker}
-use Rattle.aes_lanes.specs.Rounds.{IsBlock, xor_bytes}
+use Rattle.aes_lanes.specs.Bytes.{IsBlock, xor_bytes}
 use Rattle.aes_lanes.proofs.Bytes.{byte_at-lt}
-use Rattle.aes_lanes.proofs.ByteSums.{xor_bytes-twice, xor_bytes-swap, xor_bytes-regroup}
-use Rattle.aes_lanes.proofs.BlockLaws.{IsBlock-xor}
-use Rattle.aes_lanes.proofs.Ciphers.{AreInverse}
+use Rattle.aes_lanes.specs.Laws.Sums.{xor_bytes-twice, xor_bytes-swap, xor_bytes-regroup}
+use Rattle.aes_lanes.specs.Laws.Rounds.{IsBlock-xor}
+use Rattle.aes_lanes.specs.BlockCipher.{AreInverse}
 use Rattle.eme_mode.specs.Eme.{doubled, masked, sum_from, mixed, mixed_by, eme_by}
 
 -- a double is a block

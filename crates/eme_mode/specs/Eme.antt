@@ -2,7 +2,7 @@
 -- sixteen bytes. Deciphering is the same with the inverse cipher at each place but in the first mask.
 use Rattle.std.specs.Prelude.{ℕ, ◌*◌, ◌/◌, ◌%◌, ◌^◌, List, [], ◌∷◌, map, fold, replicate, bit_xor}
 use Rattle.std.specs.Int.{w128, from_le_bytes, to_le_bytes}
-use Rattle.aes_lanes.specs.Rounds.{xor_bytes}
+use Rattle.aes_lanes.specs.Bytes.{xor_bytes}
 use Rattle.aes_lanes.specs.Cipher.{aes256, inverse_aes256}
 
 -- a block times two: each byte shifted to the left by one bit with the carry into the next byte, and a carry out of the

@@ -1,7 +1,7 @@
 //! Laws of the definitions, each on a function that computes nothing: its clauses are the law.
 
 ghost use Rattle.std.specs.Prelude.{◌≡◌, ℕ, List, length, All};
-ghost use Rattle.aes_lanes.specs.Rounds.{IsBlock};
+ghost use Rattle.aes_lanes.specs.Bytes.{IsBlock};
 ghost use Rattle.eme_mode.specs.Eme.{eme256, inverse_eme256};
 
 /// Encryption and decryption under one key and one tweak undo each other on any number of blocks.

@@ -3,7 +3,7 @@ use Rattle.std.proofs.Common.{◌≡◌, ◌≢◌, ℕ, ◌*◌, List, [], ◌�
 use Rattle.std.proofs.lemmas.Bool.Decides.{eqb_tells}
 use Rattle.aes_lanes.specs.Cipher.{aes256}
 use Rattle.aes_lanes.specs.Counter.{ctr32, increment32}
-use Rattle.aes_lanes.specs.Lengths.{length-aes}
+use Rattle.aes_lanes.specs.Laws.Cipher.{length-aes}
 use Rattle.gcm_mode.specs.Field.{product}
 use Rattle.gcm_mode.specs.Hash.{ghash, ghash_from, padded, block_bytes}
 use Rattle.gcm_mode.specs.Gcm.{hash_subkey, pre_counter, lengths_block, hashed, tag_of, encrypted, Sealed, sealed, Opens, OpensToOneText}

@@ -1,7 +1,7 @@
 //! Laws of the definitions, each on a function that computes nothing: its clauses are the law.
 
 ghost use Rattle.std.specs.Prelude.{◌≡◌, ℕ, List, length};
-ghost use Rattle.aes_lanes.specs.Rounds.{AreBytes};
+ghost use Rattle.aes_lanes.specs.Bytes.{AreBytes};
 ghost use Rattle.aes_lanes.specs.Cipher.{aes256};
 ghost use Rattle.gcm_mode.specs.Gcm.{Sealed, sealed, encrypted, tag_of, Opens, OpensToOneText};
 

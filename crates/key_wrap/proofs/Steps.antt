@@ -3,13 +3,13 @@ use Rattle.std.proofs.Common.{◌≡◌, ℕ, ◌<◌, ◌≤◌, ◌/◌, ◌%�
 use Rattle.std.specs.Int.{bytes_high_first}
 use Rattle.std.proofs.lemmas.List.{take_at, drop_at, take-append-drop, length-take-le, length-drop}
 use lib.Bits.{xor_zero_r}
-use Rattle.aes_lanes.specs.Rounds.{IsBlock, xor_bytes}
-use Rattle.aes_lanes.specs.Lengths.{length-xor_bytes}
-use Rattle.aes_lanes.proofs.ByteSums.{xor_bytes-twice}
-use Rattle.aes_lanes.proofs.WordBytes.{gathered}
+use Rattle.aes_lanes.specs.Bytes.{IsBlock, xor_bytes}
+use Rattle.aes_lanes.specs.Laws.Sums.{length-xor_bytes}
+use Rattle.aes_lanes.specs.Laws.Sums.{xor_bytes-twice}
+use Rattle.aes_lanes.specs.Laws.Sums.{gathered}
 use Rattle.key_wrap.specs.Wrap.{numbered, step, IsState}
 use Rattle.aes_lanes.proofs.Bytes.{bytes-drop, bytes-append, bytes-take, bytes-xor, bytes-high_first}
-use Rattle.aes_lanes.proofs.Ciphers.{AreInverse}
+use Rattle.aes_lanes.specs.BlockCipher.{AreInverse}
 
 -- the eight bytes of a number that is one byte
 number-small : (t : ℕ) → t < 256 → bytes_high_first 8 t ≡ 0 ∷ 0 ∷ 0 ∷ 0 ∷ 0 ∷ 0 ∷ 0 ∷ t ∷ []

@@ -4,7 +4,8 @@ use Rattle.std.proofs.lemmas.List.{take_at, drop_at, take-append-drop, length-dr
 use Rattle.aes_lanes.specs.Cipher.{aes256}
 use Rattle.key_wrap.specs.Wrap.{step, steps, wrapped, initial_value, IsState, IsKey, Unwraps, UnwrapsToOneKey}
 use Rattle.aes_lanes.proofs.Bytes.{bytes-append, bytes-replicate}
-use Rattle.aes_lanes.proofs.Ciphers.{AreInverse, aes-undone}
+use Rattle.aes_lanes.specs.BlockCipher.{AreInverse}
+use Rattle.aes_lanes.specs.Laws.Cipher.{aes-undone}
 use Rattle.key_wrap.proofs.Steps.{IsState-step, step_back, step_back-step}
 
 pub IsState-steps : (image preimage : List ℕ → List ℕ) (n : ℕ) (s : List ℕ) → AreInverse image preimage → IsState s → IsState (steps image n s)

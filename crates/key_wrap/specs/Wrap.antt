@@ -2,7 +2,7 @@
 use Rattle.std.specs.Prelude.{◌≡◌, ℕ, zero, suc, ◌*◌, ◌/◌, ◌<◌, List, ◌++◌, length, take, drop, replicate, slice_index}
 use Rattle.std.specs.Int.{bytes_high_first}
 use Rattle.aes_lanes.specs.Cipher.{aes256}
-use Rattle.aes_lanes.specs.Rounds.{xor_bytes}
+use Rattle.aes_lanes.specs.Bytes.{xor_bytes}
 
 -- the initial value of A (2.2.3.1)
 abbrev pub initial_value : List ℕ

@@ -2,8 +2,8 @@
 use Rattle.std.proofs.Common.{◌≡◌, ℕ, ◌+◌, ◌-◌, ◌<◌, ◌≤◌, List, ◌++◌, length, take, drop, refl, ◌∙◌, arith, length-append}
 use Rattle.std.proofs.lemmas.List.{length-drop, take-append-le, drop-append-le, length-take-le, drop-drop, drop-take, take-take}
 use Rattle.std.proofs.lemmas.Bool.{lt-ltb, le-ltb}
-use Rattle.aes_lanes.specs.Rounds.{xor_bytes}
-use Rattle.aes_lanes.specs.Lengths.{length-xor_bytes}
+use Rattle.aes_lanes.specs.Bytes.{xor_bytes}
+use Rattle.aes_lanes.specs.Laws.Sums.{length-xor_bytes}
 use Rattle.siv_mode.specs.Blocks.{doubled, padded}
 use Rattle.siv_mode.specs.Cmac.{cmac_from}
 use Rattle.siv_mode.specs.S2v.{xorend, last_text}

@@ -1,6 +1,6 @@
 -- CMAC: RFC 4493, section 2.4, over a block cipher that is given as the image of a block.
 use Rattle.std.specs.Prelude.{ℕ, zero, suc, ◌+◌, ◌-◌, ◌*◌, ◌/◌, List, length, take, drop, ◌==◌, if◌then◌else◌}
-use Rattle.aes_lanes.specs.Rounds.{xor_bytes}
+use Rattle.aes_lanes.specs.Bytes.{xor_bytes}
 use Rattle.siv_mode.specs.Blocks.{zero_block, doubled, padded}
 
 -- the subkeys K1 and K2 (2.3)

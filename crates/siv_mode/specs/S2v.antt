@@ -2,7 +2,7 @@
 use Rattle.std.specs.Prelude.{ℕ, ◌-◌, List, [], ◌∷◌, ◌++◌, length, take, drop, Option, nat_lt, if◌then◌else◌}
 use Rattle.std.specs.Option.{option_to_list, option_copied}
 use Rattle.std.specs.Borrow.{Bor}
-use Rattle.aes_lanes.specs.Rounds.{xor_bytes}
+use Rattle.aes_lanes.specs.Bytes.{xor_bytes}
 use Rattle.siv_mode.specs.Blocks.{zero_block, doubled, padded}
 use Rattle.siv_mode.specs.Cmac.{cmac}
 

@@ -1,7 +1,7 @@
 // Blocks that are doubled and padded, and byte strings as blocks.
 
 ghost use Rattle.std.specs.Prelude.{◌≡◌, ◌<◌, ◌≤◌, length};
-ghost use Rattle.aes_lanes.specs.Rounds.{xor_bytes};
+ghost use Rattle.aes_lanes.specs.Bytes.{xor_bytes};
 ghost use Rattle.siv_mode.specs.Blocks.{doubled as doubled_of, padded as padded_of};
 
 use aes_lanes::{Block, xor_into};

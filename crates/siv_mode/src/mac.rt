@@ -1,7 +1,7 @@
 // CMAC (RFC 4493).
 
 ghost use Rattle.std.specs.Prelude.{◌≡◌, ◌≤◌, length};
-ghost use Rattle.aes_lanes.specs.Rounds.{xor_bytes};
+ghost use Rattle.aes_lanes.specs.Bytes.{xor_bytes};
 ghost use Rattle.siv_mode.specs.Cmac.{cmac as cmac_of, cmac_from as cmac_from_of, last_block as last_block_of};
 
 use super::blocks::{doubled, padded, sum, whole};

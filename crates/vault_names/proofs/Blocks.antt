@@ -6,7 +6,7 @@ use Rattle.std.proofs.lemmas.List.{get_or-drop, get_or-take, get_or_past, take_a
 use Rattle.std.proofs.lemmas.List.Elements.{All-nil, All-cons, All-head, All-tail}
 use Rattle.std.proofs.lemmas.Bool.{cases_lt}
 use Rattle.base64.specs.GeneralPurpose.{IsBytes}
-use Rattle.aes_lanes.specs.Rounds.{IsBlock}
+use Rattle.aes_lanes.specs.Bytes.{IsBlock}
 use Rattle.vault_names.specs.Gocryptfs.{blocks_of, bytes_of}
 
 IsBytes-drop : (n : ℕ) (xs : List ℕ) → IsBytes xs → IsBytes (drop n xs)

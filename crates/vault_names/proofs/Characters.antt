@@ -11,7 +11,7 @@ use Rattle.base64.specs.Engines.{url_safe_no_pad}
 use Rattle.base64.specs.GeneralPurpose.{IsBytes}
 use Rattle.base64.specs.Rfc4648.{encode_symbols}
 use Rattle.base64.proofs.RoundTrip.{length-encode_symbols}
-use Rattle.aes_lanes.specs.Rounds.{IsBlock}
+use Rattle.aes_lanes.specs.Bytes.{IsBlock}
 use Rattle.eme_mode.specs.Eme.{eme256}
 use Rattle.plain_tree.specs.Names.{is_name}
 use Rattle.vault_names.specs.Gocryptfs.{padded, blocks_of, bytes_of, base64url, is_base64url, go_text, long_name}

@@ -5,8 +5,8 @@ use Rattle.std.proofs.lemmas.Bool.{and_parts, leb-true}
 use Rattle.std.proofs.lemmas.Bool.Decides.{nat_tests}
 use Rattle.base64.specs.GeneralPurpose.{IsBytes}
 use Rattle.aes_lanes.specs.Cipher.{aes256, inverse_aes256}
-use Rattle.aes_lanes.specs.Rounds.{IsBlock}
-use Rattle.aes_lanes.proofs.Ciphers.{IsBlock-aes, IsBlock-inverse_aes, aes-undone}
+use Rattle.aes_lanes.specs.Bytes.{IsBlock}
+use Rattle.aes_lanes.specs.Laws.Cipher.{IsBlock-aes, IsBlock-inverse_aes, aes-undone}
 use Rattle.eme_mode.specs.Eme.{first_mask, eme256, inverse_eme256}
 use Rattle.eme_mode.proofs.Undone.{IsBlock-eme_by, length-eme_by, IsBlock-doubled, eme_by-undone, turned}
 use Rattle.plain_tree.specs.Names.{is_name_byte, is_name}

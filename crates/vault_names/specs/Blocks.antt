@@ -1,7 +1,7 @@
 -- The blocks behind a text (private contracts only).
 use Rattle.std.specs.Prelude.{◌≡◌, ℕ, ◌%◌, ◌<◌, ◌≤◌, List, length, IsTrue}
 use Rattle.std.specs.List.{All}
-use Rattle.aes_lanes.specs.Rounds.{IsBlock}
+use Rattle.aes_lanes.specs.Bytes.{IsBlock}
 use Rattle.plain_tree.specs.Names.{is_name}
 use Rattle.vault_names.specs.Gocryptfs.{base64url, bytes_of, padded}
 

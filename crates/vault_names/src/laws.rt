@@ -1,7 +1,7 @@
 //! Laws of stored names, for callers to cite. They do nothing.
 ghost use Rattle.std.specs.Prelude.{◌≡◌, ℕ, ◌+◌, ◌*◌, ◌/◌, List, length, take, drop, codes, IsTrue};
 ghost use Rattle.std.specs.List.{list_all};
-ghost use Rattle.aes_lanes.specs.Rounds.{IsBlock};
+ghost use Rattle.aes_lanes.specs.Bytes.{IsBlock};
 ghost use Rattle.plain_tree.specs.Names.{is_name};
 ghost use Rattle.vault_names.specs.Gocryptfs.{go_text, is_base64url, long_name, IsTextOf};
 

@@ -1,6 +1,6 @@
 use Rattle.std.proofs.Common.{◌≡◌, suc, ◌-◌, ◌+◌, sym, ◌∙◌, arith, append-nil}
 use Rattle.aes_lanes.specs.Cipher.{aes256, inverse_aes256}
-use Rattle.aes_lanes.proofs.Ciphers.{aes-undone}
+use Rattle.aes_lanes.specs.Laws.Cipher.{aes-undone}
 use Rattle.key_wrap.proofs.Wraps.{steps-back, steps-undone, value-unwrapped, key-unwrapped}
 use Rattle.key_wrap.proofs.unwrap_key.Goals as goal
 

@@ -1,7 +1,7 @@
 use Rattle.std.proofs.Common.{ap, arith, below_more, slice_index}
 use Rattle.std.proofs.lemmas.Bool.{eqb-true, eq-eqb}
 use Rattle.std.proofs.lemmas.List.{ext_get_or}
-use Rattle.aes_lanes.proofs.ByteSums.{bit_or-zero, bit_or-none, bit_xor-zero}
+use Rattle.aes_lanes.specs.Laws.Sums.{bit_or-zero, bit_or-none, bit_xor-zero}
 use Rattle.aes_lanes.proofs.block.same_bytes.Goals as goal
 
 pub loop-i-preserved : goal.loop-i-preserved

@@ -1,5 +1,5 @@
 use Rattle.std.proofs.Common.{arith, zero-add}
-use Rattle.aes_lanes.proofs.ByteSums.{xor_bytes-from_places}
+use Rattle.aes_lanes.specs.Laws.Sums.{xor_bytes-from_places}
 use Rattle.aes_lanes.proofs.block.xor_into.Goals as goal
 
 pub returns : goal.returns

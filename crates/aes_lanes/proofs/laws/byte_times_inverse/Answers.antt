@@ -1,5 +1,5 @@
 use Rattle.std.proofs.Common.{rules, ◌≡◌, min, ◌∙◌, arith}
-use Rattle.aes_lanes.proofs.FieldLaws.{multiply-inverse}
+use Rattle.aes_lanes.specs.Laws.Field.{multiply-inverse}
 use Rattle.aes_lanes.proofs.laws.byte_times_inverse.Goals as goal
 
 pub returns : goal.returns

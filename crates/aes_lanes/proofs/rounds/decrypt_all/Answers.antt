@@ -8,6 +8,6 @@ pub loop-block-preserved : goal.loop-block-preserved
 loop-block-preserved c =
     let here : c.loop-block.block-index < length c.loop-block.blocks = omega arith in
     ap (slice_set c.loop-block.blocks c.loop-block.block-index) c.decrypt_block.ensures
-    ∙ map_over_more (inverse_cipher c.args.middle c.args.words.now) c.args.blocks.now c.loop-block.blocks
+    ∙ map_over_more (inverse_cipher c.args.rounds c.args.words.now) c.args.blocks.now c.loop-block.blocks
     c.loop-block.block-index _ (omega arith) c.loop-block.invariant
     (get_or_default c.loop-block.blocks c.loop-block.block-index _ _ here)

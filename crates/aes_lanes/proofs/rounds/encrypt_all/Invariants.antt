@@ -4,4 +4,4 @@ use Rattle.aes_lanes.proofs.rounds.encrypt_all.Given as goal
 
 abbrev pub invariant-loop-block : goal.invariant-loop-block
 invariant-loop-block l =
-    l.blocks ≡ map (cipher l.middle l.words) (take l.block-index l.initial.blocks) ++ drop l.block-index l.initial.blocks
+    l.blocks ≡ map (cipher l.rounds l.words) (take l.block-index l.initial.blocks) ++ drop l.block-index l.initial.blocks

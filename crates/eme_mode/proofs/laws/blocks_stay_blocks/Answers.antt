@@ -1,5 +1,5 @@
 use Rattle.aes_lanes.specs.Cipher.{aes256, inverse_aes256}
-use Rattle.aes_lanes.proofs.Ciphers.{IsBlock-aes, IsBlock-inverse_aes}
+use Rattle.aes_lanes.specs.Laws.Cipher.{IsBlock-aes, IsBlock-inverse_aes}
 use Rattle.eme_mode.specs.Eme.{first_mask}
 use Rattle.eme_mode.proofs.Undone.{IsBlock-eme_by, length-eme_by, IsBlock-doubled}
 use Rattle.eme_mode.proofs.laws.blocks_stay_blocks.Goals as goal

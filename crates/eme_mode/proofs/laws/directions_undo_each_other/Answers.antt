@@ -1,5 +1,5 @@
 use Rattle.aes_lanes.specs.Cipher.{aes256, inverse_aes256}
-use Rattle.aes_lanes.proofs.Ciphers.{aes-undone}
+use Rattle.aes_lanes.specs.Laws.Cipher.{aes-undone}
 use Rattle.eme_mode.specs.Eme.{first_mask}
 use Rattle.eme_mode.proofs.Undone.{eme_by-undone, IsBlock-doubled, turned}
 use Rattle.eme_mode.proofs.laws.directions_undo_each_other.Goals as goal

@@ -1,6 +1,6 @@
 use Rattle.std.proofs.Common.{◌∙◌, ap, [], ◌∷◌}
 use Rattle.std.proofs.lemmas.List.Elements.{All-nil, All-cons}
-use Rattle.aes_lanes.specs.Rounds.{IsBlock}
+use Rattle.aes_lanes.specs.Bytes.{IsBlock}
 use Rattle.eme_mode.specs.Eme.{inverse_eme256}
 use Rattle.eme_mode.proofs.tests.encrypt_and_decrypt.Goals as goal
 

@@ -1,7 +1,7 @@
 use Rattle.std.proofs.Common.{◌≡◌, length, ap, subst, ◌∙◌, arith}
 use Rattle.std.proofs.lemmas.List.{take_at}
 use Rattle.std.proofs.lemmas.Result.{IfOk-weaker}
-use Rattle.aes_lanes.specs.Rounds.{IsBlock}
+use Rattle.aes_lanes.specs.Bytes.{IsBlock}
 use Rattle.eme_mode.specs.Eme.{inverse_eme256}
 use Rattle.vault_names.specs.Blocks.{AreBlocksOf, IsPaddedName}
 use Rattle.vault_names.specs.Gocryptfs.{bytes_of, IsTextOf}

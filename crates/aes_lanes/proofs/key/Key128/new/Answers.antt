@@ -1,5 +1,5 @@
 use Rattle.std.proofs.Common.{sym, ap, ◌∙◌}
-use Rattle.aes_lanes.specs.Schedule.{key_of}
+use Rattle.aes_lanes.specs.Private.{key_of}
 use Rattle.aes_lanes.specs.Cipher.{key_schedule}
 use Rattle.aes_lanes.proofs.ScheduleSteps.{key_of-expanded_key}
 use Rattle.aes_lanes.proofs.key.Key128.new.Goals as goal

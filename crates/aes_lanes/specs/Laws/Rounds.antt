@@ -4,14 +4,12 @@ use Rattle.std.proofs.lemmas.List.{get_or-map, get_or_past, length-map}
 use Rattle.std.proofs.lemmas.Bool.{cases_lt}
 use lib.Bits.{xor_lt}
 use Rattle.aes_lanes.specs.Field.{multiply, sbox, inverse_sbox}
-use Rattle.aes_lanes.specs.Rounds.{IsBlock, xor_bytes, sub_bytes, shift_rows, mixed, sum_of, mix_columns, inverse_sub_bytes, inverse_shift_rows, unmixed, inverse_mix_columns}
+use Rattle.aes_lanes.specs.Bytes.{IsBlock, xor_bytes}
+use Rattle.aes_lanes.specs.Rounds.{sub_bytes, shift_rows, column_product, sum_of, mix_columns, inverse_sub_bytes, inverse_shift_rows, inverse_column_product, inverse_mix_columns}
 use Rattle.aes_lanes.specs.Schedule.{state_of, round_key}
-use Rattle.aes_lanes.specs.Lengths.{length-xor_bytes}
-use Rattle.aes_lanes.proofs.ByteSums.{slice_index-xor_bytes, xor_bytes-twice}
-use Rattle.aes_lanes.proofs.WordBytes.{gathered}
-use Rattle.aes_lanes.proofs.FieldLaws.{multiply-lt, sum_of-lt}
-use Rattle.aes_lanes.proofs.MixLaws.{unmixed-mixed, mixed-unmixed}
-use Rattle.aes_lanes.proofs.TableEntries.{sbox-lt, inverse_sbox-lt, inverse_sbox-sbox, sbox-inverse_sbox}
+use Rattle.aes_lanes.specs.Laws.Sums.{gathered, length-xor_bytes, slice_index-xor_bytes, xor_bytes-twice}
+use Rattle.aes_lanes.specs.Laws.Field.{multiply-lt, sum_of-lt, sbox-lt, inverse_sbox-lt, inverse_sbox-sbox, sbox-inverse_sbox}
+use Rattle.aes_lanes.specs.Laws.Columns.{unmixed-mixed, mixed-unmixed}
 
 -- each number of a list is a byte
 EachByte : List ℕ → Type 0
@@ -176,8 +174,8 @@ unfolding shift_rows inverse_shift_rows
 shift_rows-inverse_shift_rows s h = sym (gathered s 16 h)
 
 -- the columns
-mixed-bytes : (a b c d : ℕ) → a < 256 → b < 256 → c < 256 → d < 256 → EachByte (mixed a b c d)
-unfolding mixed EachByte
+mixed-bytes : (a b c d : ℕ) → a < 256 → b < 256 → c < 256 → d < 256 → EachByte (column_product a b c d)
+unfolding column_product EachByte
 mixed-bytes a b c d ha hb hc hd = (
   sum_of-lt _ _ _ _ (multiply-lt 2 a (lit< tt)) (multiply-lt 3 b (lit< tt)) hc hd,
   (
@@ -189,8 +187,8 @@ mixed-bytes a b c d ha hb hc hd = (
   ),
 )
 
-unmixed-bytes : (a b c d : ℕ) → EachByte (unmixed a b c d)
-unfolding unmixed EachByte
+unmixed-bytes : (a b c d : ℕ) → EachByte (inverse_column_product a b c d)
+unfolding inverse_column_product EachByte
 unmixed-bytes a b c d =
     let row : (p q r s : ℕ) → p < 256 → q < 256 → r < 256 → s < 256 → sum_of (multiply p a) (multiply q b) (multiply r c) (multiply s d) < 256 =
     λ p q r s hp hq hr hs. sum_of-lt _ _ _ _ (multiply-lt p a hp) (multiply-lt q b hq) (multiply-lt r c hr) (multiply-lt s d hs) in (
@@ -206,18 +204,18 @@ four_columns k l m n hk hl hm hn =
     EachByte-append (k ++ l ++ m) n (EachByte-append (k ++ l) m (EachByte-append k l hk hl) hm) hn
 
 length-mix_columns : (s : List ℕ) → length (mix_columns s) ≡ 16
-unfolding mix_columns mixed
+unfolding mix_columns column_product
 length-mix_columns s = refl
 
 pub IsBlock-mix_columns : (s : List ℕ) → IsBlock s → IsBlock (mix_columns s)
 unfolding mix_columns
 IsBlock-mix_columns s b =
-    let column : (c : ℕ) → EachByte (mixed (slice_index s (4 * c)) (slice_index s (1 + 4 * c)) (slice_index s (2 + 4 * c)) (slice_index s (3 + 4 * c))) =
+    let column : (c : ℕ) → EachByte (column_product (slice_index s (4 * c)) (slice_index s (1 + 4 * c)) (slice_index s (2 + 4 * c)) (slice_index s (3 + 4 * c))) =
     λ c. mixed-bytes _ _ _ _ (b.bytes (4 * c)) (b.bytes (1 + 4 * c)) (b.bytes (2 + 4 * c)) (b.bytes (3 + 4 * c)) in
     block_of (mix_columns s) (length-mix_columns s) (four_columns _ _ _ _ (column 0) (column 1) (column 2) (column 3))
 
 length-inverse_mix_columns : (s : List ℕ) → length (inverse_mix_columns s) ≡ 16
-unfolding inverse_mix_columns unmixed
+unfolding inverse_mix_columns inverse_column_product
 length-inverse_mix_columns s = refl
 
 pub IsBlock-inverse_mix_columns : (s : List ℕ) → IsBlock (inverse_mix_columns s)
@@ -227,7 +225,7 @@ IsBlock-inverse_mix_columns s =
     (four_columns _ _ _ _ (unmixed-bytes _ _ _ _) (unmixed-bytes _ _ _ _) (unmixed-bytes _ _ _ _) (unmixed-bytes _ _ _ _))
 
 pub inverse_mix_columns-mix_columns : (s : List ℕ) → IsBlock s → inverse_mix_columns (mix_columns s) ≡ s
-unfolding mix_columns inverse_mix_columns mixed
+unfolding mix_columns inverse_mix_columns column_product
 inverse_mix_columns-mix_columns s b =
     rw (
       unmixed-mixed (slice_index s 0) (slice_index s 1) (slice_index s 2) (slice_index s 3) (b.bytes 0) (b.bytes 1) (b.bytes 2) (b.bytes 3),
@@ -238,7 +236,7 @@ inverse_mix_columns-mix_columns s b =
     (sym (gathered s 16 b.sixteen))
 
 pub mix_columns-inverse_mix_columns : (s : List ℕ) → IsBlock s → mix_columns (inverse_mix_columns s) ≡ s
-unfolding mix_columns inverse_mix_columns unmixed
+unfolding mix_columns inverse_mix_columns inverse_column_product
 mix_columns-inverse_mix_columns s b =
     rw (
       mixed-unmixed (slice_index s 0) (slice_index s 1) (slice_index s 2) (slice_index s 3) (b.bytes 0) (b.bytes 1) (b.bytes 2) (b.bytes 3),

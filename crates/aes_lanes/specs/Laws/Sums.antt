@@ -1,9 +1,25 @@
 -- Sums of bytes and of lists of bytes.
-use Rattle.std.proofs.Common.{◌≡◌, ℕ, zero, suc, ◌+◌, ◌<◌, ◌≤◌, List, [], ◌∷◌, bit_xor, bit_or, bit_and, length, slice_index, refl, sym, ap, ◌∙◌, arith}
+use Rattle.std.proofs.Common.{◌≡◌, ℕ, zero, suc, ◌+◌, ◌<◌, ◌≤◌, List, [], ◌∷◌, bit_xor, bit_or, bit_and, length, get_or, slice_index, map, refl, sym, ap, ◌∙◌, arith}
 use Rattle.std.proofs.lemmas.List.{ext_get_or}
+use Rattle.std.proofs.lemmas.List.FromFn.{get_or-map-range_with_len, length-map-range_with_len}
+use Rattle.std.specs.List.{range_with_len}
 use lib.Bits.{xor_assoc, xor_comm, xor_self, xor_zero_l, xor_zero_r, or_add_and, and_le_l, and_le_r}
-use Rattle.aes_lanes.specs.Rounds.{xor_bytes}
-use Rattle.aes_lanes.specs.Lengths.{length-xor_bytes}
+use Rattle.aes_lanes.specs.Bytes.{xor_bytes}
+
+-- a list is its elements
+pub gathered : (l : List ℕ) (n : ℕ) → length l ≡ n → l ≡ map (λ i. get_or l i 0) (range_with_len 0 n)
+gathered l n h =
+    ext_get_or 0 l (map (λ i. get_or l i 0) (range_with_len 0 n))
+    (h ∙ sym (length-map-range_with_len (λ i. get_or l i 0) 0 n))
+    (λ i lt. sym (get_or-map-range_with_len (λ i. get_or l i 0) 0 n i i 0 (omega arith) (omega arith)))
+
+pub length-xor_bytes : (xs ys : List ℕ) → length xs ≤ length ys → length (xor_bytes xs ys) ≡ length xs
+unfolding xor_bytes
+length-xor_bytes [] ys h = refl
+length-xor_bytes (x ∷ xs) [] h = absurd (omega arith)
+length-xor_bytes (x ∷ xs) (y ∷ ys) h =
+    let h' : length xs ≤ length ys = omega arith in
+    ap suc (length-xor_bytes xs ys h')
 
 pub bit_or-zero : (a b : ℕ) → bit_or a b ≡ 0 → (a ≡ 0) × (b ≡ 0)
 bit_or-zero a b h =

@@ -4,7 +4,7 @@ use Rattle.std.proofs.lemmas.List.FromFn.{get_or-map-range_with_len}
 use Rattle.std.proofs.lemmas.Bool.{cases_lt}
 use Rattle.std.specs.List.{range_with_len}
 use lib.Bits.{xor_assoc, xor_comm, xor_self, xor_zero_l, xor_zero_r, xor_lt, xor_mod, xor_shr}
-use Rattle.aes_lanes.specs.Field.{xtimes, partial_product, multiply, power, inverse}
+use Rattle.aes_lanes.specs.Field.{xtimes, partial_product, multiply, power, inverse, affine_map, sbox, inverse_affine_map, inverse_sbox}
 use Rattle.aes_lanes.specs.Rounds.{sum_of}
 
 -- two functions that agree on each byte, from their tables
@@ -121,3 +121,26 @@ sum_of-lt a b c d ha hb hc hd =
 pub multiply-inverse : (x : ℕ) → x < 256 → multiply x (inverse x) ≡ min x 1
 unfolding xtimes partial_product multiply power inverse
 multiply-inverse = at_each (λ x. multiply x (inverse x)) (λ x. min x 1) refl
+
+-- the S-box and its inverse take bytes to bytes, and undo each other
+sbox-mod : (x : ℕ) → x < 256 → sbox x % 256 ≡ sbox x
+unfolding xtimes partial_product multiply power inverse affine_map sbox
+sbox-mod = at_each (λ x. sbox x % 256) sbox refl
+
+pub sbox-lt : (x : ℕ) → x < 256 → sbox x < 256
+sbox-lt x h = let e = sbox-mod x h in omega (arith, e)
+
+inverse_sbox-mod : (x : ℕ) → x < 256 → inverse_sbox x % 256 ≡ inverse_sbox x
+unfolding xtimes partial_product multiply power inverse inverse_affine_map inverse_sbox
+inverse_sbox-mod = at_each (λ x. inverse_sbox x % 256) inverse_sbox refl
+
+pub inverse_sbox-lt : (x : ℕ) → x < 256 → inverse_sbox x < 256
+inverse_sbox-lt x h = let e = inverse_sbox-mod x h in omega (arith, e)
+
+pub inverse_sbox-sbox : (x : ℕ) → x < 256 → inverse_sbox (sbox x) ≡ x
+unfolding xtimes partial_product multiply power inverse affine_map sbox inverse_affine_map inverse_sbox
+inverse_sbox-sbox = at_each (λ x. inverse_sbox (sbox x)) (λ x. x) refl
+
+pub sbox-inverse_sbox : (x : ℕ) → x < 256 → sbox (inverse_sbox x) ≡ x
+unfolding xtimes partial_product multiply power inverse affine_map sbox inverse_affine_map inverse_sbox
+sbox-inverse_sbox = at_each (λ x. sbox (inverse_sbox x)) (λ x. x) refl

@@ -1,0 +1,6 @@
+-- The lemmas by which each key of AES meets the laws of a block cipher.
+pub mod Sums
+pub mod Field
+pub mod Columns
+pub mod Rounds
+pub mod Cipher

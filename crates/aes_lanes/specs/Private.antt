@@ -1,0 +1,24 @@
+-- Words of private contracts: a block added to a part of a list of bytes, how many of a counter block's
+-- bytes count, and the key of a schedule.
+use Rattle.std.specs.Prelude.{◌≡◌, ℕ, ◌+◌, ◌<◌, ◌≤◌, length, take, List, bit_xor, slice_index}
+use Rattle.std.specs.List.{flat_map}
+use Rattle.std.specs.Int.{w32, to_be_bytes}
+use Rattle.aes_lanes.specs.declared.counter.Counting.{Counting}
+use Rattle.aes_lanes.specs.declared.counter.Counting.TheVariants.{LastFourBytes, AllBytes}
+
+-- bytes to which a block was added from a place on, as far as they go
+pub record IsXoredAt (at : ℕ) (block old new : List ℕ) : Type 0 where
+  pub same_length : length new ≡ length old
+  pub inside : (k : ℕ) → k < 16 → at + k < length old
+      → slice_index new (at + k) ≡ bit_xor (slice_index old (at + k)) (slice_index block k)
+  pub before : (k : ℕ) → k < at → slice_index new k ≡ slice_index old k
+  pub after : (k : ℕ) → at + 16 ≤ k → slice_index new k ≡ slice_index old k
+
+-- how many of a counter block's last bytes count
+abbrev pub width_of : Counting → ℕ
+width_of LastFourBytes = 4
+width_of AllBytes = 16
+
+-- the bytes of the first n words: the key from which a schedule was expanded
+unfoldable pub key_of : ℕ → List ℕ → List ℕ
+key_of n words = flat_map (to_be_bytes w32) (take n words)

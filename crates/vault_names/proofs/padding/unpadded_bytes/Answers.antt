@@ -3,7 +3,7 @@ use Rattle.std.proofs.lemmas.Bool.Decides.{Decides-eqb}
 use Rattle.std.proofs.lemmas.List.{take-replicate}
 use Rattle.std.proofs.lemmas.Slice.Eq.{strip_suffix_is}
 use Rattle.vault_names.proofs.Padded.{last_of_padded, stripped-is}
-use Rattle.vault_names.proofs.padding.unpadded.Goals as goal
+use Rattle.vault_names.proofs.padding.unpadded_bytes.Goals as goal
 
 pub returns-in_err-last : goal.returns-in_err-last
 returns-in_err-last c = rw c.from_residual.ensures (λ bytes same.

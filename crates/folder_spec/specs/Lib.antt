@@ -7,3 +7,4 @@ pub mod View
 pub mod Listing
 pub mod Region
 pub mod Replace
+pub mod Written

@@ -68,6 +68,10 @@ put_node nodes n node = λ k. if nat_eq n k then node else nodes k
 abbrev pub HasFile : Table → Path → Type 0
 HasFile t p = (n : ℕ) × (t p ≡ FileNode n)
 
+-- nothing stands there, or a file
+abbrev pub IsNothingOrFile : Table → Path → Type 0
+IsNothingOrFile t p = (t p ≡ Nothing) ⊎ HasFile t p
+
 abbrev pub IsClean : Node → Type 0
 IsClean node = node.now ≡ node.kept
 

@@ -1,5 +1,5 @@
 //! Laws of the definitions. Each function does nothing, and its clause is the law.
-ghost use Rattle.std.specs.Prelude.{◌≡◌, ◌++◌, ℕ, List, Bool, None, IsTrue};
+ghost use Rattle.std.specs.Prelude.{◌≡◌, ◌<◌, ◌++◌, ℕ, List, Bool, None, IsTrue};
 ghost use Rattle.folder_spec.specs.State.{State, Table, moved, IsSound, HasNothingPending};
 ghost use Rattle.folder_spec.specs.Event.{Call, Sync, Settle, Allowed, changed, fallen};
 ghost use Rattle.folder_spec.specs.Image.{Image, IsImage, state_of, seen_now};
@@ -7,7 +7,8 @@ ghost use Rattle.folder_spec.specs.Path.{Path, below};
 ghost use Rattle.folder_spec.specs.declared.Spot.TheVariants.{Nothing};
 ghost use Rattle.folder_spec.specs.Replace.{IsOldOrNew, IsReplaced, ShowsOldOrNew, IsCleanAt};
 ghost use Rattle.folder_spec.specs.View.{FileOf, View, view_of, AgreeIn, Shows, ShowsOneOf};
-ghost use Rattle.folder_spec.specs.Region.{Spares, WritesOnlyNew, IsAsBefore};
+ghost use Rattle.folder_spec.specs.Region.{Spares, WritesOnlyNew, IsAsBefore, HasOldOrFile, PutsOnlyFiles};
+ghost use Rattle.folder_spec.specs.Written.{HoldFronts, WritesFronts};
 
 /// A call that is allowed keeps a state sound, whether it is done or fails.
 pub fn calls_keep_states_sound()
@@ -34,6 +35,16 @@ pub fn syncs_narrow_images()
 pub fn spared_regions_stay()
     ensures one_call { (region : Path → Bool) (s0 s : State) (call : Call) → Spares region call → WritesOnlyNew s0.made s call → IsAsBefore region s0 s → IsAsBefore region s0 (changed s call) }
     ensures images { (region : Path → Bool) (s0 s : State) → IsSound s0 → IsAsBefore region s0 s → (image : Image) → IsImage s image → (old : Image) × IsImage s0 old × AgreeIn region (view_of image) (view_of old) }
+{}
+
+/// Where calls write only front parts of some files, the files made since then hold such, also after
+/// a call that fails; and where they put only files at a path, nothing else comes to stand there. One
+/// stretch of calls after another writes the files of both.
+pub fn new_files_hold_fronts()
+    ensures one_call { (files : List (List ℕ)) (s0 s : State) (call : Call) → WritesFronts files s call → HoldFronts files s0 s → HoldFronts files s0 (changed s call) }
+    ensures failed { (files : List (List ℕ)) (s0 s : State) (call : Call) (added : ℕ) → WritesFronts files s call → HoldFronts files s0 s → HoldFronts files s0 (fallen s call added) }
+    ensures composed { (files more : List (List ℕ)) (s0 s1 s : State) → HoldFronts files s0 s1 → HoldFronts more s1 s → ((n : ℕ) → n < s1.made → s.nodes n ≡ s1.nodes n) → HoldFronts (files ++ more) s0 s }
+    ensures place { (at : Path) (s0 s : State) → HasOldOrFile at s0 s → (call : Call) → PutsOnlyFiles at call → HasOldOrFile at s0 (changed s call) }
 {}
 
 /// Where a file is put in the place of another at once, a crash shows the old one or the new one, and

@@ -9,3 +9,5 @@ pub mod Replaces
 pub mod Tellings
 pub mod Stages
 pub mod Views
+pub mod Seen
+pub mod Edits

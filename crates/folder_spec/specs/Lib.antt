@@ -8,3 +8,5 @@ pub mod Listing
 pub mod Region
 pub mod Replace
 pub mod Written
+pub mod Seen
+pub mod Edit

@@ -3,7 +3,7 @@ use Rattle.std.specs.Prelude.{◌≡◌, ◌≢◌, ℕ, ◌<◌, ◌≤◌, ◌
 use Rattle.folder_spec.specs.declared.Spot.TheVariants.{FileNode}
 use Rattle.folder_spec.specs.Path.{Path, below}
 use Rattle.folder_spec.specs.State.{Table, State, present, IsTableOf, IsNothingOrFile}
-use Rattle.folder_spec.specs.Event.{Call, MakeDir, Create, Append, Sync, Settle, Rename, RemoveFile, RemoveDir}
+use Rattle.folder_spec.specs.Event.{Call, IsFree, MakeDir, Create, Append, Sync, Settle, Rename, RemoveFile, RemoveDir}
 
 -- the paths that do not begin with w
 abbrev pub apart_from : Path → Path → Bool
@@ -65,3 +65,14 @@ PutsOnlyFiles at (Sync p) = Unit {0}
 PutsOnlyFiles at Settle = Unit {0}
 PutsOnlyFiles at (RemoveFile p) = Unit {0}
 PutsOnlyFiles at (RemoveDir p) = Unit {0}
+
+-- The call takes nothing away in the region. What it brings there is a directory, or what stood outside, at a free place.
+abbrev pub OnlyAdds : (Path → Bool) → State → Call → Type 0
+OnlyAdds region s (MakeDir p) = Unit {0}
+OnlyAdds region s (Create p) = (q : Path) → IsTrue (region q) → p ≢ q
+OnlyAdds region s (Append p piece) = Unit {0}
+OnlyAdds region s (Sync p) = Unit {0}
+OnlyAdds region s Settle = Unit {0}
+OnlyAdds region s (Rename old new) = ((q : Path) → IsTrue (region q) → below old q ≡ None) × IsFree (present s) new
+OnlyAdds region s (RemoveFile p) = (q : Path) → IsTrue (region q) → p ≢ q
+OnlyAdds region s (RemoveDir p) = (q : Path) → IsTrue (region q) → p ≢ q

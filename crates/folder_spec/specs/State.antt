@@ -96,7 +96,7 @@ pub record HasNothingPending (s : State) : Type 0 where
   pub clean : (n : ℕ) → IsClean (s.nodes n)
   pub settled : s.later ≡ []
 
--- outside the region no crash can change anything: all tables agree there, and the files there are clean
-pub record HasNothingPendingOutside (region : Path → Bool) (s : State) : Type 0 where
-  pub agree : (t : Table) (p : Path) → IsTableOf s t → ¬ IsTrue (region p) → t p ≡ present s p
-  pub clean : (p : Path) (n : ℕ) → ¬ IsTrue (region p) → present s p ≡ FileNode n → IsClean (s.nodes n)
+-- in the region no crash can change anything: all tables agree there, and the files there are clean
+pub record HasNothingPendingIn (region : Path → Bool) (s : State) : Type 0 where
+  pub agree : (t : Table) (p : Path) → IsTableOf s t → IsTrue (region p) → t p ≡ present s p
+  pub clean : (p : Path) (n : ℕ) → IsTrue (region p) → present s p ≡ FileNode n → IsClean (s.nodes n)

@@ -118,11 +118,11 @@ module _ (stage p : Path) (e : Edit) (s0 s : State) (sound : IsSound s0) (as_was
   pub published : HasPublished stage (e ∷ []) s0 (changed s (Rename p e.at))
   published = table_published stage e s0 s (moved (present s) p e.at) sound as_was shows_edited
 
--- nothing stands below nothing
-nothing_below : (made : ℕ) (t : Table) → IsSoundTable made t → (w : Path) (b : Part) (rest : Path) → t w ≡ Nothing → t (w ++ b ∷ rest) ≡ Nothing
-nothing_below made t sound w b rest none = elim (spot_or_nothing (t (w ++ b ∷ rest))) [
+-- nothing stands below what is no directory
+pub nothing_below_file : (made : ℕ) (t : Table) → IsSoundTable made t → (w : Path) (b : Part) (rest : Path) → t w ≢ Directory → t (w ++ b ∷ rest) ≡ Nothing
+nothing_below_file made t sound w b rest other = elim (spot_or_nothing (t (w ++ b ∷ rest))) [
   | inl nothing ↦ nothing
-  | inr stands ↦ absurd (let directory : t w ≡ Directory = above_is_directory made t sound w b rest stands in cc)
+  | inr stands ↦ absurd (other (above_is_directory made t sound w b rest stands))
 ]
   where
     spot_or_nothing : (x : Spot) → (x ≡ Nothing) ⊎ (x ≢ Nothing)
@@ -130,6 +130,9 @@ nothing_below made t sound w b rest none = elim (spot_or_nothing (t (w ++ b ∷ 
     spot_or_nothing Directory = inr (λ e. cc)
     spot_or_nothing (FileNode n) = inr (λ e. cc)
     spot_or_nothing Odd = inr (λ e. cc)
+
+nothing_below : (made : ℕ) (t : Table) → IsSoundTable made t → (w : Path) (b : Part) (rest : Path) → t w ≡ Nothing → t (w ++ b ∷ rest) ≡ Nothing
+nothing_below made t sound w b rest none = nothing_below_file made t sound w b rest (λ directory. cc)
 
 -- A directory is made in its place.
 module _ (stage at : Path) (s0 s : State) (sound : IsSound s0) (sound_now : IsSound s) (as_was : IsAsBefore (apart_from stage) s0 s) (free : IsFree (present s) at) where

@@ -7,7 +7,7 @@ use Rattle.folder_spec.specs.declared.FolderFault.{FolderFault}
 use Rattle.folder_spec.specs.declared.Kind.{Kind}
 use Rattle.folder_spec.specs.declared.Kind.TheVariants.{Missing, File}
 use Rattle.folder_spec.specs.Path.{Part, Path, below, parent, child}
-use Rattle.folder_spec.specs.State.{Nothing, Directory, FileNode, Table, Node, State, present, put, moved, put_node, kind_of, HasFile, IsSound, IsSoundTable}
+use Rattle.folder_spec.specs.State.{Nothing, Directory, FileNode, Table, Node, State, present, put, moved, put_node, kind_of, HasFile, IsClean, IsSound, IsSoundTable}
 use Rattle.folder_spec.specs.Event.{Call, MakeDir, Create, Append, Sync, Settle, Rename, RemoveFile, RemoveDir, Event, IsFree, IsFilePlace, Allowed, with_file, grown, synced, empty_node, changed, fallen, Told, Steps, Changes, FromTo}
 use Rattle.folder_spec.specs.Moments.{Went}
 use Rattle.folder_spec.specs.Region.{Spares, WritesOnlyNew, SparesOld, IsAsBefore, PutsOnlyFiles, apart_from, apart_from_both}
@@ -16,7 +16,10 @@ use Rattle.folder_spec.specs.Replace.{IsNewNode, IsNewFile, IsStaging, IsReplaci
 use Rattle.folder_spec.proofs.Paths.{below-parent, parent-apart, parent-child, child_of_parent}
 use Rattle.folder_spec.proofs.Tables.{put-same, put-other, moved-old, last_of-push, present_is_table}
 use Rattle.folder_spec.proofs.Moments.{went_nowhere, went_on, went_by_call, went_more, went_to}
-use Rattle.folder_spec.proofs.Tellings.{from_to_on, from_to_more, from_to_same}
+use Rattle.folder_spec.proofs.Tellings.{from_to_on, from_to_more, from_to_same, from_to_known}
+use Rattle.folder_spec.specs.View.{FileOf, found}
+use Rattle.folder_spec.specs.Edit.{file_view, file_edit, IsStagedView, HasPublished}
+use Rattle.folder_spec.proofs.Edits.{nothing_below_file, publishes_nothing, published, settle_publishes, settled}
 use Rattle.folder_spec.proofs.Regions.{as_before, as_before_on, old_or_file_on, old_or_file_at_first}
 use Rattle.folder_spec.proofs.Written.{shorter_piece, fronts_on, fronts_of_none, fronts_of_more}
 use Rattle.folder_spec.proofs.Replaces.{apart-below, apart-not_same, apart-from_below, old_or_new_so_far, old_or_new_renamed, new_renamed, replaced_by_settle}
@@ -196,15 +199,20 @@ spares_within small large within (RemoveDir p) h = λ q inside. h q (within q in
 
 -- The file of these bytes is written at the one path, then renamed onto the other. Neither path is below the other.
 module _ (staged at : Path) (bytes : List ℕ) (apart : below staged at ≡ None) where
-  replacing_of_staging : (s0 s : State) → IsStaging (bytes ∷ []) staged s0 s → IsReplacing staged at bytes s0 s
-  replacing_of_staging s0 s h = record { change = old_or_new_so_far staged at bytes s0 s apart h.others; place = h.place; fronts = h.fronts }
+  replacing_of_staging : (s0 s : State) → IsSound s0 → IsStaging (bytes ∷ []) staged s0 s → IsReplacing staged at bytes s0 s
+  replacing_of_staging s0 s sound h = record {
+    change = old_or_new_so_far staged at bytes s0 s apart h.others;
+    publishes = publishes_nothing staged (file_edit at bytes ∷ []) s0 s sound h.others;
+    place = h.place;
+    fronts = h.fronts;
+  }
 
   -- while it is written
-  pub replacing_so_far : (a0 a : Told) → Staging (bytes ∷ []) staged a0 a → Replacing staged at bytes a0 a
-  replacing_so_far a0 a so_far =
+  pub replacing_so_far : (a0 a : Told) → IsSound a0.state → Staging (bytes ∷ []) staged a0 a → Replacing staged at bytes a0 a
+  replacing_so_far a0 a sound so_far =
       went_more (IsStaging (bytes ∷ []) staged a0.state) (IsReplacing staged at bytes a0.state)
       (λ s e. SparesOld (apart_from staged) a0.state s e.call) (λ s e. SparesOld (apart_from_both staged at) a0.state s e.call) a0 a
-      (replacing_of_staging a0.state)
+      (λ s h. replacing_of_staging a0.state s sound h)
       (λ s e h. (spares_within (apart_from_both staged at) (apart_from staged) (λ q inside. first_so (apart_from staged q) (apart_from at q) inside) e.call h.0, h.1)) so_far
 
   replacing_call : (call : Call) (a0 a b : Told) (result : Result (Unit {0}) FolderFault)
@@ -218,18 +226,48 @@ module _ (staged at : Path) (bytes : List ℕ) (apart : below staged at ≡ None
       let here : P a.state = went_to P Q a0 a so_far in
       went_on P Q a0 a b so_far (went_by_call P Q call a b result here (λ allowed. done here) (λ added allowed. subst P (sym (fell added)) here) (λ outcome. (spares, new)) steps)
 
-  pub renamed_on : (a0 a b : Told) (result : Result (Unit {0}) FolderFault) → below at staged ≡ None
+  -- what stands where it was written is the file, and nothing below it
+  staged_view : (s0 s : State) → IsSound s → IsNewFile bytes s0 s (present s staged) → IsStagedView s (present s) staged (file_view bytes)
+  staged_view s0 s sound new = record {
+    shown = λ rest. shown rest;
+    clean = λ rest n here. clean rest n here;
+  }
+    where
+      is_file : present s (staged ++ []) ≡ FileNode new.number
+      is_file = ap (present s) (append-nil staged) ∙ new.is
+
+      none_below : (a : Part) (rest : Path) → present s (staged ++ a ∷ rest) ≡ Nothing
+      none_below a rest =
+          nothing_below_file s.made (present s) (sound.tables (present s) (present_is_table s)) staged a rest (λ directory. (let file : present s staged ≡ FileNode new.number = new.is in cc))
+
+      shown : (rest : Path) → found (λ n. (s.nodes n).now) (present s (staged ++ rest)) ≡ file_view bytes rest
+      shown [] = ap (found (λ n. (s.nodes n).now)) is_file ∙ ap (λ (node : Node). FileOf node.now) new.holds
+      shown (a ∷ rest) = ap (found (λ n. (s.nodes n).now)) (none_below a rest)
+
+      clean : (rest : Path) (n : ℕ) → present s (staged ++ rest) ≡ FileNode n → IsClean (s.nodes n)
+      clean [] n here = let one : new.number ≡ n = (let file : present s (staged ++ []) ≡ FileNode new.number = is_file in cc) in subst (λ k. IsClean (s.nodes k)) one (subst IsClean (sym new.holds) refl)
+      clean (a ∷ rest) n here = absurd (let none : present s (staged ++ a ∷ rest) ≡ Nothing = none_below a rest in cc)
+
+  pub published_on : (a0 a b : Told) → IsSound a0.state → IsSound a.state → IsStagedAs (bytes ∷ []) staged (record { now = bytes; kept = bytes }) a0 a
+      → HasPublished staged (file_edit at bytes ∷ []) a0.state (changed a.state (Rename staged at))
+  published_on a0 a b sound sound_now so_far =
+      let here : IsStaging (bytes ∷ []) staged a0.state a.state = staging_so_far (bytes ∷ []) staged a0 a so_far.0 in
+      published staged staged (file_edit at bytes) a0.state a.state sound here.others (λ q inside. apart-below staged q inside)
+      (staged_view a0.state a.state sound_now so_far.1)
+
+  pub renamed_on : (a0 a b : Told) (result : Result (Unit {0}) FolderFault) → below at staged ≡ None → IsSound a0.state → IsSound a.state
       → IsStagedAs (bytes ∷ []) staged (record { now = bytes; kept = bytes }) a0 a → Steps (Rename staged at) a b result → Replacing staged at bytes a0 b
-  renamed_on a0 a b result beside so_far steps =
+  renamed_on a0 a b result beside sound sound_now so_far steps =
       let here : IsStaging (bytes ∷ []) staged a0.state a.state = staging_so_far (bytes ∷ []) staged a0 a so_far.0 in
       replacing_call (Rename staged at) a0 a b result
       (λ q inside. (apart-below at q (second_so (apart_from staged q) (apart_from at q) inside), apart-below staged q (first_so (apart_from staged q) (apart_from at q) inside))) tt
       (λ so_far_. record {
         change = old_or_new_renamed staged at bytes a0.state a.state apart here.others so_far.1;
+        publishes = (published_on a0 a b sound sound_now so_far).publishes;
         place = old_or_file_on staged a0.state a.state here.place (Rename staged at) beside;
         fronts = fronts_on (bytes ∷ []) a0.state a.state (Rename staged at) tt here.fronts;
       }) (λ added. refl)
-      (replacing_so_far a0 a so_far.0) steps
+      (replacing_so_far a0 a sound so_far.0) steps
 
   pub new_renamed_on : (a0 a b : Told)
       → IsStagedAs (bytes ∷ []) staged (record { now = bytes; kept = bytes }) a0 a → Steps (Rename staged at) a b (Ok tt) → IsNewFile bytes a0.state b.state (present b.state at)
@@ -252,17 +290,22 @@ module _ (staged at : Path) (bytes : List ℕ) (apart : below staged at ≡ None
       replacing_call Settle a0 a b result tt tt
       (λ here. record {
         change = (replaced_by_settle (apart_from_both staged at) at bytes a0.state a.state here.change new).change;
+        publishes = settle_publishes staged (file_edit at bytes ∷ []) a0.state a.state here.publishes;
         place = old_or_file_on staged a0.state a.state here.place Settle tt;
         fronts = fronts_on (bytes ∷ []) a0.state a.state Settle tt here.fronts;
       }) (λ added. refl) so_far steps
 
-  pub replaced_on : (a0 a b : Told) → Replacing staged at bytes a0 a → present a.state staged ≡ Nothing
+  pub replaced_on : (a0 a b : Told) → Replacing staged at bytes a0 a → HasPublished staged (file_edit at bytes ∷ []) a0.state a.state → present a.state staged ≡ Nothing
       → IsNewFile bytes a0.state a.state (present a.state at) → Steps Settle a b (Ok tt) → HasReplaced staged at bytes a0.state b.state
-  replaced_on a0 a b so_far gone new steps =
+  replaced_on a0 a b so_far shown gone new steps =
       let P : State → Type 0 = IsReplacing staged at bytes a0.state in
       let here : P a.state = went_to P (λ s e. SparesOld (apart_from_both staged at) a0.state s e.call) a0 a so_far in
       subst (λ (c : Told). HasReplaced staged at bytes a0.state c.state) (sym steps.1)
-      (record { replaced = replaced_by_settle (apart_from_both staged at) at bytes a0.state a.state here.change new; gone = gone })
+      (record {
+        replaced = replaced_by_settle (apart_from_both staged at) at bytes a0.state a.state here.change new;
+        published = settled staged (file_edit at bytes ∷ []) a0.state a.state shown;
+        gone = gone;
+      })
 
   -- the place is still one for a file
   pub place_stays : (s0 s : State) → IsAsBefore (apart_from staged) s0 s → IsFilePlace (present s0) at → IsFilePlace (present s) at
@@ -375,20 +418,23 @@ pub none_of_it : (bytes : List ℕ) → IsFrontOfOne (bytes ∷ []) []
 none_of_it bytes = record { file = bytes; among = (0, omega arith, refl); front = (bytes, refl) }
 
 module _ (staged at : Path) (bytes : List ℕ) (apart : below staged at ≡ None) where
-  pub replacing_from : (t0 t1 : Option Told) → FromTo (Staging (bytes ∷ []) staged) t0 t1 → FromTo (Replacing staged at bytes) t0 t1
-  replacing_from t0 t1 so_far =
-      from_to_more (Staging (bytes ∷ []) staged) (Replacing staged at bytes) t0 t1 (λ a b is h. replacing_so_far staged at bytes apart a b h) so_far
+  pub replacing_from : (t0 t1 : Option Told) → ((a : Told) → t0 ≡ Some a → IsSound a.state) → FromTo (Staging (bytes ∷ []) staged) t0 t1
+      → FromTo (Replacing staged at bytes) t0 t1
+  replacing_from t0 t1 sound so_far =
+      from_to_more (Staging (bytes ∷ []) staged) (Replacing staged at bytes) t0 t1 (λ a b is h. replacing_so_far staged at bytes apart a b (sound a is) h) so_far
 
   -- no call yet
-  pub replacing_none : (t : Option Told) → FromTo (Replacing staged at bytes) t t
-  replacing_none t =
-      replacing_from t t (from_to_same (Staging (bytes ∷ []) staged) t t refl (staging_none (bytes ∷ []) staged))
+  pub replacing_none : (t : Option Told) → ((a : Told) → t ≡ Some a → IsSound a.state) → FromTo (Replacing staged at bytes) t t
+  replacing_none t sound =
+      replacing_from t t sound (from_to_same (Staging (bytes ∷ []) staged) t t refl (staging_none (bytes ∷ []) staged))
 
   pub renaming_from : (t0 t1 t2 : Option Told) (result : Result (Unit {0}) FolderFault) → below at staged ≡ None
+      → ((a : Told) → t0 ≡ Some a → IsSound a.state) → ((a : Told) → t1 ≡ Some a → IsSound a.state)
       → FromTo (IsStagedFile staged bytes) t0 t1 → Changes (Rename staged at) t1 t2 result → FromTo (Replacing staged at bytes) t0 t2
-  renaming_from t0 t1 t2 result beside so_far changes =
-      from_to_on (IsStagedFile staged bytes) (λ a b. Steps (Rename staged at) a b result) (Replacing staged at bytes) t0 t1 t2
-      (λ a0 a b h steps. renamed_on staged at bytes apart a0 a b result beside h steps) so_far changes
+  renaming_from t0 t1 t2 result beside sound sound_now so_far changes =
+      from_to_on (λ a b. IsStagedFile staged bytes a b × IsSound a.state × IsSound b.state) (λ a b. Steps (Rename staged at) a b result) (Replacing staged at bytes) t0 t1 t2
+      (λ a0 a b h steps. renamed_on staged at bytes apart a0 a b result beside h.1 h.2 h.0 steps)
+      (from_to_known (IsStagedFile staged bytes) (λ a. IsSound a.state) t0 t1 sound sound_now so_far) changes
 
   pub may_rename_from : (t0 t1 : Option Told) → staged ≢ [] → ((a : Told) → t0 ≡ Some a → IsFilePlace (present a.state) at)
       → FromTo (IsStagedFile staged bytes) t0 t1 → (a : Told) → t1 ≡ Some a → Allowed a.state (Rename staged at)
@@ -402,19 +448,22 @@ module _ (staged at : Path) (bytes : List ℕ) (apart : below staged at ≡ None
 -- renamed, and not yet settled
 pub record IsRenamed (staged at : Path) (bytes : List ℕ) (a0 a : Told) : Type 0 where
   pub went : Replacing staged at bytes a0 a
+  pub published : HasPublished staged (file_edit at bytes ∷ []) a0.state a.state
   pub new : IsNewFile bytes a0.state a.state (present a.state at)
   pub gone : present a.state staged ≡ Nothing
 
 module _ (staged at : Path) (bytes : List ℕ) (apart : below staged at ≡ None) where
   pub renamed_from : (t0 t1 t2 : Option Told) → below at staged ≡ None
+      → ((a : Told) → t0 ≡ Some a → IsSound a.state) → ((a : Told) → t1 ≡ Some a → IsSound a.state)
       → FromTo (IsStagedFile staged bytes) t0 t1 → Changes (Rename staged at) t1 t2 (Ok tt) → FromTo (IsRenamed staged at bytes) t0 t2
-  renamed_from t0 t1 t2 beside so_far changes =
-      from_to_on (IsStagedFile staged bytes) (λ a b. Steps (Rename staged at) a b (Ok tt)) (IsRenamed staged at bytes) t0 t1 t2
+  renamed_from t0 t1 t2 beside sound sound_now so_far changes =
+      from_to_on (λ a b. IsStagedFile staged bytes a b × IsSound a.state × IsSound b.state) (λ a b. Steps (Rename staged at) a b (Ok tt)) (IsRenamed staged at bytes) t0 t1 t2
       (λ a0 a b h steps. record {
-        went = renamed_on staged at bytes apart a0 a b (Ok tt) beside h steps;
-        new = new_renamed_on staged at bytes apart a0 a b h steps;
+        went = renamed_on staged at bytes apart a0 a b (Ok tt) beside h.1 h.2 h.0 steps;
+        published = subst (λ (c : Told). HasPublished staged (file_edit at bytes ∷ []) a0.state c.state) (sym steps.1) (published_on staged at bytes apart a0 a b h.1 h.2 h.0);
+        new = new_renamed_on staged at bytes apart a0 a b h.0 steps;
         gone = gone_renamed_on staged at bytes apart a b beside steps;
-      }) so_far changes
+      }) (from_to_known (IsStagedFile staged bytes) (λ a. IsSound a.state) t0 t1 sound sound_now so_far) changes
 
   pub settling_from : (t0 t1 t2 : Option Told) (result : Result (Unit {0}) FolderFault)
       → FromTo (IsRenamed staged at bytes) t0 t1 → Changes Settle t1 t2 result → FromTo (Replacing staged at bytes) t0 t2
@@ -428,7 +477,7 @@ module _ (staged at : Path) (bytes : List ℕ) (apart : below staged at ≡ None
   settled_from t0 t1 t2 (Err fault) so_far changes = tt
   settled_from t0 t1 t2 (Ok done) so_far changes =
       from_to_on (IsRenamed staged at bytes) (λ a b. Steps Settle a b (Ok done)) (λ a b. HasReplaced staged at bytes a.state b.state) t0 t1 t2
-      (λ a0 a b h steps. replaced_on staged at bytes apart a0 a b h.went h.gone h.new steps) so_far changes
+      (λ a0 a b h steps. replaced_on staged at bytes apart a0 a b h.went h.published h.gone h.new steps) so_far changes
 
 -- a place for a file in a directory
 pub place_in : (t : Table) (at : Path) (a : Part) → t at ≡ Directory → (t (child at a) ≡ Nothing) ⊎ HasFile t (child at a) → IsFilePlace t (child at a)

@@ -8,6 +8,7 @@ use Rattle.folder_spec.specs.Image.{Image, IsImage}
 use Rattle.folder_spec.specs.View.{FileOf, view_of, AgreeIn}
 use Rattle.folder_spec.specs.Region.{AlikeIn, IsAsBefore, HasOldOrFile, apart_from, apart_from_both}
 use Rattle.folder_spec.specs.Written.{HoldFronts}
+use Rattle.folder_spec.specs.Edit.{file_edit, Publishes, HasSettled}
 
 -- a file made since s0 stands there, and this is its node
 pub record IsNewNode (node : Node) (s0 s : State) (spot : Spot) : Type 0 where
@@ -44,12 +45,14 @@ pub record IsStaging (files : List (List ℕ)) (at : Path) (s0 s : State) : Type
 -- Since s0 a file of these bytes is being written at the one path, and may have been put at the other.
 pub record IsReplacing (staged at : Path) (bytes : List ℕ) (s0 s : State) : Type 0 where
   pub change : IsOldOrNew (apart_from_both staged at) at bytes s0 s
+  pub publishes : Publishes staged (file_edit at bytes ∷ []) s0 s
   pub place : HasOldOrFile staged s0 s
   pub fronts : HoldFronts (bytes ∷ []) s0 s
 
 -- Since s0 it has been put there for good, and nothing is left where it was written.
 pub record HasReplaced (staged at : Path) (bytes : List ℕ) (s0 s : State) : Type 0 where
   pub replaced : IsReplaced (apart_from_both staged at) at bytes s0 s
+  pub published : HasSettled staged (file_edit at bytes ∷ []) s0 s
   pub gone : present s staged ≡ Nothing
 
 -- what a crash leaves shows in the region what a crash at s0 might have left, and at the path that or the new file

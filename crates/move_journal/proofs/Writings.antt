@@ -25,6 +25,7 @@ beside work = below-sibling work _ _ refl
 is_writing : (work : Path) (text : List ℕ) (s0 s : State) → IsSound s0 → IsReplacing (new_journal_path work) (journal_path work) text s0 s → IsWriting work text s0 s
 is_writing work text s0 s sound h = record {
   journal = h.change;
+  publishes = h.publishes;
   new_journal = h.place;
   fronts = h.fronts;
   clean = λ clean. clean_stays (elsewhere work) (journal_path work) text s0 s sound clean h.change;
@@ -37,6 +38,7 @@ new_file_read bytes s0 s work new = ap (file_bytes s) new.is ∙ ap (λ (node : 
 is_written : (work : Path) (text : List ℕ) (s0 s : State) → HasReplaced (new_journal_path work) (journal_path work) text s0 s → IsWritten work text s0 s
 is_written work text s0 s h = record {
   replaced = h.replaced;
+  published = h.published;
   new_journal = h.gone;
   shown = λ image is_image. images_show_new (elsewhere work) (journal_path work) text s0 s image h.replaced is_image;
   read = new_file_read text s0 s work h.replaced.new;
@@ -53,7 +55,7 @@ writes_from work journal t u sound moments =
 -- no call yet
 pub writes_none : (work : Path) (journal : Journal) (t : Option Told) → ((a : Told) → t ≡ Some a → IsSound a.state) → Writes work journal t t
 writes_none work journal t sound =
-    writes_from work journal t t sound (replacing_none (new_journal_path work) (journal_path work) (journal_text journal) (apart work) t)
+    writes_from work journal t t sound (replacing_none (new_journal_path work) (journal_path work) (journal_text journal) (apart work) t sound)
 
 -- what replacing a file says, at the paths and the text of a journal
 module _ (t u : Option Told) (work new at : Path) (bytes : List ℕ) (journal : Journal) (is_new : new ≡ new_journal_path work) (is_at : at ≡ journal_path work)

@@ -10,6 +10,7 @@ use Rattle.folder_spec.specs.Region.{HasOldOrFile, SparesOld, apart_from_both}
 use Rattle.folder_spec.specs.Written.{HoldFronts}
 use Rattle.folder_spec.specs.Replace.{IsOldOrNew, IsReplaced, ShowsOldOrNew, IsCleanAt}
 use Rattle.folder_spec.specs.View.{FileOf, view_of}
+use Rattle.folder_spec.specs.Edit.{file_edit, Publishes, HasSettled}
 use Rattle.move_journal.specs.declared.journal.Journal.{Journal}
 use Rattle.move_journal.specs.declared.journal.JournalFault.{JournalFault}
 use Rattle.move_journal.specs.declared.journal.JournalFault.TheVariants.{NoJournal, BadJournal, TooLarge, Failed, NoMemory}
@@ -34,6 +35,8 @@ elsewhere work = apart_from_both (new_journal_path work) (journal_path work)
 pub record IsWriting (work : Path) (text : List ℕ) (s0 s : State) : Type 0 where
   -- each table has at `journal` what a table of s0 had there, or the new journal, and elsewhere what that table had
   pub journal : IsOldOrNew (elsewhere work) (journal_path work) text s0 s
+  -- apart from `journal.new`, each table shows one of the views shown at s0, or what was seen there with the new journal
+  pub publishes : Publishes (new_journal_path work) (file_edit (journal_path work) text ∷ []) s0 s
   -- each table has at `journal.new` what a table of s0 had there, or nothing, or a file
   pub new_journal : HasOldOrFile (new_journal_path work) s0 s
   -- each file that was made holds a front part of the text
@@ -47,6 +50,8 @@ pub record IsWriting (work : Path) (text : List ℕ) (s0 s : State) : Type 0 whe
 pub record IsWritten (work : Path) (text : List ℕ) (s0 s : State) : Type 0 where
   -- all tables have the new journal, and no directory change is pending
   pub replaced : IsReplaced (elsewhere work) (journal_path work) text s0 s
+  -- apart from `journal.new`, what was seen at s0 is shown alone, with the new journal
+  pub published : HasSettled (new_journal_path work) (file_edit (journal_path work) text ∷ []) s0 s
   -- nothing is left at `journal.new`
   pub new_journal : present s (new_journal_path work) ≡ Nothing
   -- every crash leaves the new journal

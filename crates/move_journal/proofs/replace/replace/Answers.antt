@@ -11,7 +11,7 @@ use Rattle.move_journal.proofs.replace.replace.Goals as goal
 pub returns-in_err-stage-clause-moments : goal.returns-in_err-stage-clause-moments
 returns-in_err-stage-clause-moments g c =
     replacing_from c.args.staged.now c.args.at.now c.args.bytes.now c.requires.apart (g.F.Folder.told c.args.folder.now) (g.F.Folder.told c.stage.new.folder)
-    c.stage.ensures.moments
+    (g.met.F.Folder.sound c.args.folder.now) c.stage.ensures.moments
 
 pub returns-in_err-rename-clause-moments : goal.returns-in_err-rename-clause-moments
 returns-in_err-rename-clause-moments g c =
@@ -19,8 +19,8 @@ returns-in_err-rename-clause-moments g c =
     let t1 = g.F.Folder.told c.stage.new.folder in
     let staged = from_to_both (Staging (c.args.bytes.now ∷ []) c.args.staged.now) (λ a b. IsNewFile c.args.bytes.now a.state b.state (present b.state c.args.staged.now)) t0 t1
     c.in_ok-stage.ensures.moments c.in_ok-stage.ensures.written in
-    renaming_from c.args.staged.now c.args.at.now c.args.bytes.now c.requires.apart t0 t1 (g.F.Folder.told c.rename.new.self) c.rename.result c.requires.beside staged
-    c.rename.ensures.changes
+    renaming_from c.args.staged.now c.args.at.now c.args.bytes.now c.requires.apart t0 t1 (g.F.Folder.told c.rename.new.self) c.rename.result c.requires.beside
+    (g.met.F.Folder.sound c.args.folder.now) (g.met.F.Folder.sound c.stage.new.folder) staged c.rename.ensures.changes
 
 pub returns-in_err-rename-clause-counts : goal.returns-in_err-rename-clause-counts
 returns-in_err-rename-clause-counts g c =
@@ -49,7 +49,8 @@ returns-clause-moments g c =
     let t2 = g.F.Folder.told c.rename.new.self in
     let staged = from_to_both (Staging (c.args.bytes.now ∷ []) c.args.staged.now) (λ a b. IsNewFile c.args.bytes.now a.state b.state (present b.state c.args.staged.now)) t0 t1
     c.in_ok-stage.ensures.moments c.in_ok-stage.ensures.written in
-    let renamed = renamed_from c.args.staged.now c.args.at.now c.args.bytes.now c.requires.apart t0 t1 t2 c.requires.beside staged c.in_ok-rename.ensures.changes in
+    let renamed = renamed_from c.args.staged.now c.args.at.now c.args.bytes.now c.requires.apart t0 t1 t2 c.requires.beside
+    (g.met.F.Folder.sound c.args.folder.now) (g.met.F.Folder.sound c.stage.new.folder) staged c.in_ok-rename.ensures.changes in
     settling_from c.args.staged.now c.args.at.now c.args.bytes.now c.requires.apart t0 t2 (g.F.Folder.told c.settle.new.self) c.settle.result renamed c.settle.ensures.changes
 
 pub returns-clause-replaced : goal.returns-clause-replaced
@@ -59,5 +60,6 @@ returns-clause-replaced g c =
     let t2 = g.F.Folder.told c.rename.new.self in
     let staged = from_to_both (Staging (c.args.bytes.now ∷ []) c.args.staged.now) (λ a b. IsNewFile c.args.bytes.now a.state b.state (present b.state c.args.staged.now)) t0 t1
     c.in_ok-stage.ensures.moments c.in_ok-stage.ensures.written in
-    let renamed = renamed_from c.args.staged.now c.args.at.now c.args.bytes.now c.requires.apart t0 t1 t2 c.requires.beside staged c.in_ok-rename.ensures.changes in
+    let renamed = renamed_from c.args.staged.now c.args.at.now c.args.bytes.now c.requires.apart t0 t1 t2 c.requires.beside
+    (g.met.F.Folder.sound c.args.folder.now) (g.met.F.Folder.sound c.stage.new.folder) staged c.in_ok-rename.ensures.changes in
     settled_from c.args.staged.now c.args.at.now c.args.bytes.now c.requires.apart t0 t2 (g.F.Folder.told c.settle.new.self) c.settle.result renamed c.settle.ensures.changes

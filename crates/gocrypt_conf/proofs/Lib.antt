@@ -1,10 +1,6 @@
-pub mod Base64
 pub mod Checked
-pub mod Objects
 pub mod OneAnswer
-pub mod Plain
 pub mod ReadBack
 pub mod SealedBytes
 pub mod Sealing
-pub mod Texts
 pub mod Written

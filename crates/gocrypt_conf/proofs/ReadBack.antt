@@ -25,7 +25,7 @@ use Rattle.serde_json.proofs.Texts.{print-outline}
 use Rattle.kdf_suite.specs.ScryptCost.{Cost, IsCost}
 use Rattle.gocrypt_conf.specs.declared.conf.GoConf.{GoConf}
 use Rattle.gocrypt_conf.specs.declared.fault.GoConfFault.{GoConfFault}
-use Rattle.gocrypt_conf.specs.Json.{json_object}
+use Rattle.json_fields.specs.Json.{json_object}
 use Rattle.gocrypt_conf.specs.Fields.{Fields, fields_of, fields_in}
 use Rattle.gocrypt_conf.specs.Tests.{Answer, Checks, ReadsAs}
 use Rattle.gocrypt_conf.specs.Text.{text_with, conf_text, made_conf}
@@ -34,11 +34,10 @@ use Rattle.gocrypt_conf.specs.MasterKey.{sealed_key}
 use Rattle.gocrypt_conf.specs.Laws.{MadeTextReturns}
 use Rattle.gocrypt_conf.specs.Value.{conf_data, scrypt_data}
 use Rattle.gocrypt_conf.proofs.Checked.{all_passed}
-use Rattle.gocrypt_conf.proofs.Objects.{object_in}
-use Rattle.gocrypt_conf.proofs.Plain.{escape-base64}
-use Rattle.gocrypt_conf.proofs.Sealing.{nonce_first}
-use Rattle.gocrypt_conf.proofs.SealedBytes.{length-sealed_key, bytes-sealed_key}
-use Rattle.gocrypt_conf.proofs.Written.{compact_text-conf_data}
+use Rattle.json_fields.proofs.Objects.{object_in}
+use Rattle.gocrypt_conf.proofs.Sealing.{HasTags, nonce_first}
+use Rattle.gocrypt_conf.proofs.SealedBytes.{HasTexts, length-sealed_key, bytes-sealed_key}
+use Rattle.gocrypt_conf.proofs.Written.{IsPlain, compact_text-conf_data}
 
 -- scrypt's numbers fit 64 bits
 pub record Fits (n r p : ℕ) : Type 0 where
@@ -130,24 +129,24 @@ object_on : (bytes : List ℕ) (d : Data) → json_object bytes ≡ Some d → f
 unfolding fields_in
 object_on bytes d found = rw found refl
 
-pub conf_reads_back : (conf : GoConf) → IsCost conf.cost → length conf.sealed ≡ 64 → IsBytes conf.sealed → IsBytes conf.salt → ReadsAs (conf_text conf) (Ok conf)
-conf_reads_back conf cost size sealed_bytes salt_bytes =
+pub conf_reads_back : IsPlain → (conf : GoConf) → IsCost conf.cost → length conf.sealed ≡ 64 → IsBytes conf.sealed → IsBytes conf.salt → ReadsAs (conf_text conf) (Ok conf)
+conf_reads_back is_plain conf cost size sealed_bytes salt_bytes =
     let sealed : List ℕ = encode_of standard conf.sealed in
     let salt : List ℕ = encode_of standard conf.salt in
     let fits = cost_fits conf.cost cost in
-    let reads = read-text_with sealed salt conf.cost.n conf.cost.r conf.cost.p fits (escape-base64 conf.sealed sealed_bytes) (escape-base64 conf.salt salt_bytes) in
+    let reads = read-text_with sealed salt conf.cost.n conf.cost.r conf.cost.p fits (is_plain conf.sealed sealed_bytes) (is_plain conf.salt salt_bytes) in
     let utf8 = utf8-text_with sealed salt conf.cost.n conf.cost.r conf.cost.p (base64-utf8 conf.sealed) (base64-utf8 conf.salt) fits in
-    let object = object_in (conf_text conf) _ utf8 reads refl in
+    let object = object_in (conf_text conf) _ utf8 reads in
     let fields = fields_of-conf_data sealed salt conf.sealed conf.salt conf.cost.n conf.cost.r conf.cost.p (decoded-encoded conf.sealed sealed_bytes) (decoded-encoded conf.salt salt_bytes) in
     reads_on (conf_text conf) _ (Ok conf) (object_on (conf_text conf) _ object ∙ fields) (all_passed _ refl refl cost size refl)
 
-pub made_returns : MadeTextReturns
-made_returns pass cost drawn is_cost drawn_bytes =
+pub made_returns : HasTags → HasTexts → IsPlain → MadeTextReturns
+made_returns tags texts is_plain pass cost drawn is_cost drawn_bytes =
     let key : List ℕ = unlocking_key pass drawn.salt cost in
     record {
       read =
-          conf_reads_back (made_conf pass cost drawn) is_cost (length-sealed_key key drawn.nonce drawn.master drawn_bytes.nonce_size drawn_bytes.master_size)
-          (bytes-sealed_key key drawn.nonce drawn.master drawn_bytes.nonce_bytes drawn_bytes.master_bytes) drawn_bytes.salt_bytes;
+          conf_reads_back is_plain (made_conf pass cost drawn) is_cost (length-sealed_key tags texts key drawn.nonce drawn.master drawn_bytes.nonce_size drawn_bytes.master_size)
+          (bytes-sealed_key texts key drawn.nonce drawn.master drawn_bytes.nonce_bytes drawn_bytes.master_bytes) drawn_bytes.salt_bytes;
       unlocked = record {
         master = drawn.master;
         seals = ap (λ nonce. sealed_key key nonce drawn.master) (nonce_first key drawn.nonce drawn.master drawn_bytes.nonce_size);

@@ -2,13 +2,16 @@
 use Rattle.std.proofs.Common.{◌≡◌, ◌≢◌, Result, Ok, Err, OnErr, ℕ, List, ◌++◌, length, take, drop, replicate, refl, sym, ap, ap₂, ◌∙◌, arith, append_assoc, length-append}
 use Rattle.std.proofs.lemmas.List.{take_at, drop_at, length-take-le, length-drop, take-append-drop}
 use Rattle.aes_lanes.specs.Cipher.{aes256}
-use Rattle.gcm_mode.specs.Gcm.{Sealed, sealed, tag_of, encrypted, Opens, OpensToNothing}
-use Rattle.gcm_mode.proofs.Modes.{length-tag_of, encrypted-twice}
+use Rattle.gcm_mode.specs.Gcm.{Sealed, sealed, Opens, OpensToNothing, OpensToOneText}
 use Rattle.gocrypt_conf.specs.MasterKey.{sealed_key}
 
 -- the associated data
 abbrev pub zeros : List ℕ
 zeros = replicate 8 0
+
+-- tags are of sixteen bytes
+abbrev pub HasTags : Type 0
+HasTags = (key iv ad plain : List ℕ) → length (sealed (aes256 key) iv ad plain).tag ≡ 16
 
 -- the two parts of what is as long as the same parts
 pub parts-equal : (a b c d : List ℕ) → length a ≡ length c → a ++ b ≡ c ++ d → (a ≡ c) × (b ≡ d)
@@ -24,21 +27,24 @@ unfolding sealed_key
 sealed_from_open key nonce text tag master bytes is opens =
     ap (λ (s : Sealed). nonce ++ s.text ++ s.tag) opens ∙ sym is
 
--- bytes that a master key seals to open to it
-pub open_from_sealed : (key nonce text tag master bytes : List ℕ) → bytes ≡ nonce ++ text ++ tag → length tag ≡ 16
-    → sealed_key key nonce master ≡ bytes → Opens (aes256 key) nonce zeros (record { text = text; tag = tag }) master
-unfolding sealed_key sealed
-open_from_sealed key nonce text tag master bytes is sixteen seals =
-    let c : List ℕ = encrypted (aes256 key) nonce master in
-    let t : List ℕ = tag_of (aes256 key) nonce zeros c in
-    let same : nonce ++ (c ++ t) ≡ nonce ++ (text ++ tag) =
-    sym (append_assoc nonce c t) ∙ seals ∙ is ∙ append_assoc nonce text tag in
-    let rest : c ++ t ≡ text ++ tag = (parts-equal nonce (c ++ t) nonce (text ++ tag) refl same).1 in
-    let long : length c ≡ length text =
-    omega (arith, length-append c t, length-append text tag, ap length rest, length-tag_of key nonce zeros c, sixteen) in
-    let both = parts-equal c t text tag long rest in
+-- two texts with tags behind a nonce
+pub same-sealed : (nonce : List ℕ) (s t : Sealed) → length s.tag ≡ 16 → length t.tag ≡ 16 → nonce ++ s.text ++ s.tag ≡ nonce ++ t.text ++ t.tag → s ≡ t
+same-sealed nonce s t sixteen as_long same =
+    let behind : nonce ++ (s.text ++ s.tag) ≡ nonce ++ (t.text ++ t.tag) =
+    sym (append_assoc nonce s.text s.tag) ∙ same ∙ append_assoc nonce t.text t.tag in
+    let rest : s.text ++ s.tag ≡ t.text ++ t.tag = (parts-equal nonce (s.text ++ s.tag) nonce (t.text ++ t.tag) refl behind).1 in
+    let long : length s.text ≡ length t.text =
+    omega (arith, length-append s.text s.tag, length-append t.text t.tag, ap length rest, sixteen, as_long) in
+    let both = parts-equal s.text s.tag t.text t.tag long rest in
     let make : List ℕ → List ℕ → Sealed = λ a b. record { text = a; tag = b } in
     ap₂ make both.0 both.1
+
+-- bytes that a master key seals to open to it
+pub open_from_sealed : HasTags → (key nonce text tag master bytes : List ℕ) → bytes ≡ nonce ++ text ++ tag → length tag ≡ 16
+    → sealed_key key nonce master ≡ bytes → Opens (aes256 key) nonce zeros (record { text = text; tag = tag }) master
+unfolding sealed_key
+open_from_sealed tags key nonce text tag master bytes is sixteen seals =
+    same-sealed nonce (sealed (aes256 key) nonce zeros master) (record { text = text; tag = tag }) (tags key nonce zeros master) sixteen (seals ∙ is)
 
 -- the parts of sealed bytes
 pub record IsParted (bytes nonce text tag : List ℕ) : Type 0 where
@@ -65,31 +71,25 @@ pub opens_to : (key bytes nonce text tag master : List ℕ) → IsParted bytes n
 opens_to key bytes nonce text tag master parts opens = rw parts.first (sealed_from_open key nonce text tag master bytes parts.joined opens)
 
 -- sealed bytes that open to nothing
-pub opens_to_nothing : (key bytes nonce text tag : List ℕ) → IsParted bytes nonce text tag
+pub opens_to_nothing : HasTags → (key bytes nonce text tag : List ℕ) → IsParted bytes nonce text tag
     → OpensToNothing (aes256 key) nonce zeros (record { text = text; tag = tag }) → (master : List ℕ) → sealed_key key (take 16 bytes) master ≢ bytes
-opens_to_nothing key bytes nonce text tag parts nothing master seals =
-    nothing master (open_from_sealed key nonce text tag master bytes parts.joined parts.sixteen (rw parts.first at seals))
+opens_to_nothing tags key bytes nonce text tag parts nothing master seals =
+    nothing master (open_from_sealed tags key nonce text tag master bytes parts.joined parts.sixteen (rw parts.first at seals))
 
 pub on_err : {T E : Type 0} (r : Result T E) (P : Type 0) → P → OnErr r P
 on_err (Ok value) P holds = tt
 on_err (Err fault) P holds = holds
 
 -- sealed bytes hold one master key
-pub holds_once : (key nonce bytes master other : List ℕ) → sealed_key key nonce master ≡ bytes → sealed_key key nonce other ≡ bytes → master ≡ other
-unfolding sealed_key sealed
-holds_once key nonce bytes master other one two =
-    let c : List ℕ = encrypted (aes256 key) nonce master in
-    let d : List ℕ = encrypted (aes256 key) nonce other in
-    let t : List ℕ = tag_of (aes256 key) nonce zeros c in
-    let u : List ℕ = tag_of (aes256 key) nonce zeros d in
-    let same : nonce ++ (c ++ t) ≡ nonce ++ (d ++ u) =
-    sym (append_assoc nonce c t) ∙ one ∙ sym two ∙ append_assoc nonce d u in
-    let rest : c ++ t ≡ d ++ u = (parts-equal nonce (c ++ t) nonce (d ++ u) refl same).1 in
-    let long : length c ≡ length d =
-    omega (arith, length-append c t, length-append d u, ap length rest, length-tag_of key nonce zeros c, length-tag_of key nonce zeros d) in
-    sym (encrypted-twice key nonce master) ∙ ap (encrypted (aes256 key) nonce) (parts-equal c t d u long rest).0 ∙ encrypted-twice key nonce other
+pub holds_once : HasTags → OpensToOneText → (key nonce bytes master other : List ℕ) → sealed_key key nonce master ≡ bytes → sealed_key key nonce other ≡ bytes → master ≡ other
+unfolding sealed_key
+holds_once tags once key nonce bytes master other one two =
+    let s : Sealed = sealed (aes256 key) nonce zeros other in
+    let opens : Opens (aes256 key) nonce zeros s master =
+    same-sealed nonce (sealed (aes256 key) nonce zeros master) s (tags key nonce zeros master) (tags key nonce zeros other) (one ∙ sym two) in
+    once key nonce zeros master other s opens refl
 
 -- the nonce stands first
 pub nonce_first : (key nonce master : List ℕ) → length nonce ≡ 16 → take 16 (sealed_key key nonce master) ≡ nonce
-unfolding sealed_key sealed
+unfolding sealed_key
 nonce_first key nonce master sixteen = ap (take 16) (append_assoc nonce _ _) ∙ take_at nonce _ 16 sixteen

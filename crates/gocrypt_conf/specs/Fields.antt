@@ -1,9 +1,11 @@
 -- The fields of a configuration that are read, and the first that is missing or of another form.
-use Rattle.std.specs.Prelude.{ℕ, List, codes, Option, Some, None, Result, Ok, Err}
+use Rattle.std.specs.Prelude.{ℕ, List, codes, Result, Ok, Err}
 use Rattle.serde_json.specs.Data.{Data}
 use Rattle.gocrypt_conf.specs.declared.fault.GoConfFault.{GoConfFault}
 use Rattle.gocrypt_conf.specs.declared.fault.GoConfFault.TheVariants.{NotJson, Field}
-use Rattle.gocrypt_conf.specs.Json.{json_object, number_at, texts_at, bytes_at, object_at}
+use Rattle.json_fields.specs.declared.base64_text.Alphabet.TheVariants.{Standard}
+use Rattle.json_fields.specs.Fields.{need, field}
+use Rattle.json_fields.specs.Json.{json_object, number_at, texts_at, bytes_at, object_at}
 
 -- the fields of `ScryptObject`
 pub record ScryptFields : Type 0 where
@@ -20,22 +22,13 @@ pub record Fields : Type 0 where
   pub sealed : List ℕ
   pub scrypt : ScryptFields
 
--- what follows where there is a value, and else a fault
-abbrev pub need : {A B : Type 0} → GoConfFault → Option A → (A → Result B GoConfFault) → Result B GoConfFault
-need fault None next = Err fault
-need fault (Some value) next = next value
-
--- what follows what stands at a name
-abbrev pub field : {A B : Type 0} → (List ℕ → Data → Option A) → List ℕ → Data → (A → Result B GoConfFault) → Result B GoConfFault
-field at name d next = need (Field name) (at name d) next
-
 abbrev pub scrypt_fields_of : Data → Result ScryptFields GoConfFault
 scrypt_fields_of d =
-    field bytes_at (codes "Salt") d (λ salt.
-    field number_at (codes "N") d (λ n.
-    field number_at (codes "R") d (λ r.
-    field number_at (codes "P") d (λ p.
-    field number_at (codes "KeyLen") d (λ key_len.
+    field Field (bytes_at Standard) (codes "Salt") d (λ salt.
+    field Field number_at (codes "N") d (λ n.
+    field Field number_at (codes "R") d (λ r.
+    field Field number_at (codes "P") d (λ p.
+    field Field number_at (codes "KeyLen") d (λ key_len.
     Ok (record { salt = salt; n = n; r = r; p = p; key_len = key_len }))))))
 
 abbrev pub with_scrypt : ℕ → List (List ℕ) → List ℕ → Result ScryptFields GoConfFault → Result Fields GoConfFault
@@ -45,10 +38,10 @@ with_scrypt version flags sealed (Err fault) = Err fault
 
 abbrev pub fields_of : Data → Result Fields GoConfFault
 fields_of d =
-    field number_at (codes "Version") d (λ version.
-    field texts_at (codes "FeatureFlags") d (λ flags.
-    field bytes_at (codes "EncryptedKey") d (λ sealed.
-    field object_at (codes "ScryptObject") d (λ scrypt.
+    field Field number_at (codes "Version") d (λ version.
+    field Field texts_at (codes "FeatureFlags") d (λ flags.
+    field Field (bytes_at Standard) (codes "EncryptedKey") d (λ sealed.
+    field Field object_at (codes "ScryptObject") d (λ scrypt.
     with_scrypt version flags sealed (scrypt_fields_of scrypt)))))
 
 -- the fields in the bytes of a file

@@ -1,7 +1,6 @@
 -- Laws of configurations.
-use Rattle.std.specs.Prelude.{◌≡◌, ◌↔◌, ℕ, List, length, Some, Ok}
-use Rattle.base64.specs.Engines.{standard}
-use Rattle.base64.specs.GeneralPurpose.{IsBytes, decoded_of, encode_of}
+use Rattle.std.specs.Prelude.{◌≡◌, ℕ, List, length, Ok}
+use Rattle.base64.specs.GeneralPurpose.{IsBytes}
 use Rattle.kdf_suite.specs.ScryptCost.{Cost, IsCost}
 use Rattle.gocrypt_conf.specs.declared.conf.GoConf.{GoConf}
 use Rattle.gocrypt_conf.specs.declared.conf.GoDraw.{GoDraw}
@@ -37,8 +36,3 @@ pub record Returns (pass : List ℕ) (cost : Cost) (drawn : GoDraw) : Type 0 whe
 
 abbrev pub MadeTextReturns : Type 0
 MadeTextReturns = (pass : List ℕ) (cost : Cost) (drawn : GoDraw) → IsCost cost → IsDrawn drawn → Returns pass cost drawn
-
--- a text is the base64 of the bytes that it is read as
-abbrev pub ReadsEncodings : Type 0
-ReadsEncodings =
-    (text bytes : List ℕ) → IsBytes text → IsBytes bytes → (decoded_of standard text ≡ Some bytes) ↔ (text ≡ encode_of standard bytes)

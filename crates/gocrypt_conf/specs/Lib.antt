@@ -1,7 +1,7 @@
 -- The configuration of a gocryptfs vault (on-disk format 2), and its keys.
 pub mod Keys
 pub mod MasterKey
-pub mod Json
+pub mod Fault
 pub mod Fields
 pub mod Tests
 pub mod Text

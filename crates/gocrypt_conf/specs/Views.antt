@@ -1,11 +1,7 @@
 -- What private clauses see of the fields that were read.
-use Rattle.std.specs.Prelude.{ℕ, List, map}
-use Rattle.std.specs.Borrow.{Bor}
+use Rattle.json_fields.specs.Views.{texts_view}
 use Rattle.gocrypt_conf.specs.declared.fields as read
 use Rattle.gocrypt_conf.specs.Fields.{Fields, ScryptFields}
-
-abbrev pub texts_view : List (Bor (List ℕ)) → List (List ℕ)
-texts_view = map (λ text. text.now)
 
 abbrev pub scrypt_view : read.ScryptFields.ScryptFields → ScryptFields
 scrypt_view s = record { salt = s.salt.items; n = s.n; r = s.r; p = s.p; key_len = s.key_len }

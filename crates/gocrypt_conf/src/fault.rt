@@ -1,49 +1,15 @@
 //! Why a configuration is refused, and why no keys are unlocked.
 
-ghost use Rattle.std.specs.Prelude.{◌≡◌, string_bytes};
+ghost use Rattle.std.specs.Prelude.{Some};
+ghost use Rattle.gocrypt_conf.specs.Fault.{fault_text};
 
-use std::alloc::{AllocError, Global};
-use std::marker::Model;
-
-/// A text that a fault names. Contracts see it as its bytes.
-#[derive(Debug, Drop)]
-pub struct Text {
-    text: String,
-}
-
-impl Model for Text {
-    ghost use Rattle.std.specs.Prelude.{ℕ, List, string_bytes};
-
-    ghost Value = { List ℕ };
-
-    ghost view = { λ t. string_bytes t.text };
-}
-
-impl Text {
-    /// The text that a string holds. It takes no memory.
-    pub fn new(text: String) -> Text
-        ensures { result ≡ string_bytes text }
-    {
-        Text { text }
-    }
-
-    /// The text.
-    pub fn as_str(&self) -> &str
-        ensures { result.now ≡ self.now }
-    {
-        self.text.as_str()
-    }
-
-    /// The string that holds the text. It takes no memory.
-    pub fn into_string(self) -> String
-        ensures { string_bytes result ≡ self }
-    {
-        self.text
-    }
-}
+use json_fields::FieldFault;
+use std::alloc::AllocError;
+use std::fmt;
+use text_model::Text;
 
 /// Why a configuration is refused: the first of its tests that fails.
-#[derive(Debug, Drop)]
+#[derive(Debug, PartialEq, Eq, Drop)]
 pub enum GoConfFault {
     /// The bytes are no JSON object.
     NotJson,
@@ -69,6 +35,36 @@ impl From<AllocError> for GoConfFault {
 
     fn from(_error: AllocError) -> GoConfFault {
         GoConfFault::NoMemory
+    }
+}
+
+impl From<FieldFault> for GoConfFault {
+    ghost use Rattle.std.specs.Prelude.{◌≡◌};
+    ghost use Rattle.gocrypt_conf.specs.Fault.{of_field};
+
+    ghost from_gives = { λ field fault. fault ≡ of_field field };
+
+    fn from(fault: FieldFault) -> GoConfFault {
+        match fault {
+            FieldFault::Wrong(name) => GoConfFault::Field(name),
+            FieldFault::NoMemory => GoConfFault::NoMemory,
+        }
+    }
+}
+
+impl fmt::Display for GoConfFault {
+    ghost output = { λ fault. Some (fault_text fault) };
+
+    fn fmt<W: fmt::Write>(&self, f: &mut fmt::Formatter<W>) -> fmt::Result {
+        match self {
+            GoConfFault::NotJson => write!(f, "not JSON"),
+            GoConfFault::Field(name) => write!(f, "field {name}"),
+            GoConfFault::Version(version) => write!(f, "version {version}"),
+            GoConfFault::Flag(flag) => write!(f, "flag {flag}"),
+            GoConfFault::Cost => write!(f, "cost"),
+            GoConfFault::Length(name) => write!(f, "length {name}"),
+            GoConfFault::NoMemory => write!(f, "out of memory"),
+        }
     }
 }
 

@@ -1,11 +1,17 @@
-//! Laws of the definitions. Each function does nothing, and its clause is the law.
+//! Laws of the definitions. Each function computes nothing, and its clause is the law; the laws that it rests on are called.
 
-ghost use Rattle.gocrypt_conf.specs.Laws.{HaveOneAnswer, UnlocksOnePair, MadeTextReturns, ReadsEncodings};
+ghost use Rattle.gocrypt_conf.specs.Laws.{HaveOneAnswer, UnlocksOnePair, MadeTextReturns};
+
+use gcm_mode::laws::{opens_to_one_text, sealed_texts_are_bytes};
+use json_fields::laws::base64_is_plain;
 
 /// Reading and unlocking the text of a new configuration gives the keys of the drawn master key.
 pub fn made_texts_give_back_their_keys()
     ensures { MadeTextReturns }
-{}
+{
+    sealed_texts_are_bytes();
+    base64_is_plain();
+}
 
 /// No bytes read as two answers.
 pub fn bytes_have_one_answer()
@@ -15,9 +21,7 @@ pub fn bytes_have_one_answer()
 /// No passphrase unlocks two pairs of keys.
 pub fn passphrases_unlock_one_pair()
     ensures { UnlocksOnePair }
-{}
-
-/// A text is read as bytes exactly where it is their base64.
-pub fn base64_is_exact()
-    ensures { ReadsEncodings }
-{}
+{
+    opens_to_one_text();
+    sealed_texts_are_bytes();
+}

@@ -12,8 +12,8 @@ mod master_key;
 pub mod reading;
 pub mod unlocking;
 
-pub use conf::{GoConf, GoDraw, Salt};
-pub use fault::{GoConfFault, Text, UnlockFault};
+pub use conf::{GoConf, GoDraw};
+pub use fault::{GoConfFault, UnlockFault};
 pub use keys::GoKeys;
 pub use making::make;
 pub use reading::read;

@@ -7,8 +7,9 @@ ghost use Rattle.gocrypt_conf.specs.Value.{conf_data, flag_data, scrypt_data};
 
 use crate::conf::GoDraw;
 use crate::keys::unlocking_key;
-use crate::master_key::sealed;
+use crate::master_key::seal_master;
 use base64::engine::general_purpose::STANDARD;
+use json_fields::laws::base64_is_plain;
 use kdf_suite::ScryptCost;
 use serde_json::{Value, json};
 use std::alloc::{AllocError, Global};
@@ -25,7 +26,7 @@ pub fn make(
     ensures { IfOk result (λ text. text.items ≡ conf_text (made_conf pass.now cost.now drawn.now)) }
 {
     let key = unlocking_key(alloc, pass, &drawn.salt, cost)?;
-    let sealed = sealed(&key, &drawn.nonce, &drawn.master);
+    let sealed = seal_master(&key, &drawn.nonce, &drawn.master);
     let text = text_of(alloc, &drawn.salt, cost, &sealed)?;
     Ok(text.into_bytes())
 }
@@ -40,6 +41,7 @@ fn text_of(
     ensures { IfOk result (λ text. string_bytes text
         ≡ conf_text (record { salt = salt.now; cost = cost.now; sealed = sealed.now })) }
 {
+    base64_is_plain();
     let sealed = STANDARD.encode(alloc, sealed)?;
     let salt = STANDARD.encode(alloc, salt)?;
     let scrypt = scrypt_object(alloc, salt, cost.n(), cost.r(), cost.p())?;

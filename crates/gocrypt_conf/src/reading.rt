@@ -5,13 +5,16 @@ ghost use Rattle.gocrypt_conf.specs.declared.fault.GoConfFault.TheVariants.{Flag
 ghost use Rattle.std.specs.List.{list_any};
 ghost use Rattle.std.specs.Str.{bytes_eq};
 ghost use Rattle.gocrypt_conf.specs.Tests.{Checks, ReadsAs, first_outside};
-ghost use Rattle.gocrypt_conf.specs.Views.{fields_view, texts_view};
+ghost use Rattle.json_fields.specs.Views.{texts_view};
+ghost use Rattle.gocrypt_conf.specs.Views.{fields_view};
 
-use crate::conf::{GoConf, Salt};
-use crate::fault::{GoConfFault, Text};
-use crate::fields::{Fields, fields_of, json_object};
+use crate::conf::GoConf;
+use crate::fault::GoConfFault;
+use crate::fields::{Fields, fields_of};
+use json_fields::json_object;
 use kdf_suite::ScryptCost;
 use std::alloc::Global;
+use text_model::{Bytes, Text};
 
 // The flags that must all be there, and no others.
 const KNOWN_FLAGS: [&str; 6] = [
@@ -29,13 +32,15 @@ pub fn read(alloc: Global, bytes: &[u8]) -> Result<GoConf, GoConfFault>
     ensures conf { IfOk result (λ conf. ReadsAs bytes.now (Ok conf)) }
     ensures fault { IfErr result (λ fault. (fault ≡ NoMemory) ⊎ ReadsAs bytes.now (Err fault)) }
 {
-    let conf = json_object(alloc, bytes)?;
+    let Some(conf) = json_object(alloc, bytes)? else {
+        return Err(GoConfFault::NotJson);
+    };
     let fields = fields_of(alloc, &conf)?;
-    checked(alloc, fields)
+    conf_of(alloc, fields)
 }
 
 // The configuration that the fields make, or the first of their tests that fails.
-fn checked(alloc: Global, fields: Fields) -> Result<GoConf, GoConfFault>
+fn conf_of(alloc: Global, fields: Fields) -> Result<GoConf, GoConfFault>
     ensures conf { IfOk result (λ conf. Checks (fields_view fields.entry) (Ok conf)) }
     ensures fault { IfErr result (λ fault. (fault ≡ NoMemory) ⊎ Checks (fields_view fields.entry) (Err fault)) }
 {
@@ -60,7 +65,7 @@ fn checked(alloc: Global, fields: Fields) -> Result<GoConf, GoConfFault>
     let mut sealed = [0; 64];
     sealed.copy_from_slice(fields.sealed.as_slice());
     Ok(GoConf {
-        salt: Salt::new(fields.scrypt.salt),
+        salt: Bytes::new(fields.scrypt.salt),
         cost,
         sealed,
     })
@@ -89,8 +94,8 @@ fn contains(texts: &[&str], text: &str) -> bool
 fn flag_fault(alloc: Global, flag: &str) -> GoConfFault
     ensures { (result ≡ NoMemory) ⊎ (result ≡ Flag flag.now) }
 {
-    match String::from_str(alloc, flag) {
-        Ok(flag) => GoConfFault::Flag(Text::new(flag)),
+    match Text::copy_of(alloc, flag) {
+        Ok(flag) => GoConfFault::Flag(flag),
         Err(_) => GoConfFault::NoMemory,
     }
 }
@@ -99,8 +104,8 @@ fn flag_fault(alloc: Global, flag: &str) -> GoConfFault
 fn length_fault(alloc: Global, name: &str) -> GoConfFault
     ensures { (result ≡ NoMemory) ⊎ (result ≡ Length name.now) }
 {
-    match String::from_str(alloc, name) {
-        Ok(name) => GoConfFault::Length(Text::new(name)),
+    match Text::copy_of(alloc, name) {
+        Ok(name) => GoConfFault::Length(name),
         Err(_) => GoConfFault::NoMemory,
     }
 }

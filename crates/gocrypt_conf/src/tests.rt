@@ -46,13 +46,7 @@ const MADE: &str =
 fn answer(alloc: Global, bytes: &[u8]) -> Result<String, Fail> {
     match read(alloc, bytes) {
         Ok(_) => Ok(String::from_str(alloc, "read")?),
-        Err(GoConfFault::NotJson) => Ok(String::from_str(alloc, "not JSON")?),
-        Err(GoConfFault::Field(name)) => Ok(format!(in alloc; "field {}", name.as_str())?),
-        Err(GoConfFault::Version(version)) => Ok(format!(in alloc; "version {version}")?),
-        Err(GoConfFault::Flag(flag)) => Ok(format!(in alloc; "flag {}", flag.as_str())?),
-        Err(GoConfFault::Cost) => Ok(String::from_str(alloc, "cost")?),
-        Err(GoConfFault::Length(name)) => Ok(format!(in alloc; "length {}", name.as_str())?),
-        Err(GoConfFault::NoMemory) => Ok(String::from_str(alloc, "no memory")?),
+        Err(fault) => Ok(format!(in alloc; "{fault}")?),
     }
 }
 
@@ -132,11 +126,8 @@ fn unlocks_what_gocryptfs_wrote(rt: HostRuntime) -> Result<(), Fail> {
     let alloc = rt.alloc();
     let conf = conf_of(alloc, WRITTEN)?;
     assert_eq!(rt; conf.cost.n(), 1024);
-    assert_eq!(rt; unlock(alloc, &conf, b"correct horse"), Ok(KEYS));
-    assert_eq!(rt;
-        unlock(alloc, &conf, b"correct house"),
-        Err(UnlockFault::WrongPass)
-    );
+    assert!(rt; unlock(alloc, &conf, b"correct horse") == Ok(KEYS));
+    assert!(rt; unlock(alloc, &conf, b"correct house") == Err(UnlockFault::WrongPass));
     Ok(())
 }
 

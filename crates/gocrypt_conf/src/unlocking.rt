@@ -8,7 +8,7 @@ ghost use Rattle.gocrypt_conf.specs.MasterKey.{Unlocks};
 use crate::conf::GoConf;
 use crate::fault::UnlockFault;
 use crate::keys::{GoKeys, keys_of, unlocking_key};
-use crate::master_key::unsealed;
+use crate::master_key::unseal_master;
 use std::alloc::Global;
 
 /// The keys of a vault, from its configuration and passphrase.
@@ -19,7 +19,7 @@ pub fn unlock(alloc: Global, conf: &GoConf, pass: &[u8]) -> Result<GoKeys, Unloc
     ensures wrong_pass { result ≡ Err WrongPass → (keys : GoKeys) → ¬ Unlocks conf.now pass.now keys }
 {
     let key = unlocking_key(alloc, pass, conf.salt.as_slice(), &conf.cost)?;
-    match unsealed(&key, &conf.sealed) {
+    match unseal_master(&key, &conf.sealed) {
         Ok(master) => Ok(keys_of(&master)),
         Err(_) => Err(UnlockFault::WrongPass),
     }

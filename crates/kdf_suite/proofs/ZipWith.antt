@@ -1,12 +1,12 @@
 -- Two lists combined in place, an element at a time.
 use Rattle.std.proofs.Common.{◌≡◌, ℕ, zero, suc, ◌+◌, ◌<◌, ◌≤◌, List, [], ◌∷◌, ◌++◌, length, take, drop, set, get_or, refl, ap, ◌∙◌, add-one, arith}
 use Rattle.std.proofs.lemmas.List.{append-nil, drop_all, take_all}
-use Rattle.kdf_suite.specs.ZipWith.{zip_with}
+use Rattle.std.specs.Simd.Lanes.{zip2}
 
 module _ (f : ℕ → ℕ → ℕ) where
   -- the first list with the first i elements of the second combined into it
   abbrev pub zipped_below : List ℕ → List ℕ → ℕ → List ℕ
-  zipped_below xs ys i = zip_with f (take i xs) (take i ys) ++ drop i xs
+  zipped_below xs ys i = zip2 f (take i xs) (take i ys) ++ drop i xs
 
   -- the next element is still the first list's
   get_or-zipped_below : (xs ys : List ℕ) (i : ℕ) → i < length xs → i < length ys → get_or (zipped_below xs ys i) i 0 ≡ get_or xs i 0
@@ -28,6 +28,6 @@ module _ (f : ℕ → ℕ → ℕ) where
       rw (add-one, below, get_or-zipped_below xs ys i a b) (set-zipped_below xs ys i a b)
 
   -- all elements are combined
-  pub zipped_below-all : (xs ys zs : List ℕ) (i : ℕ) → length xs ≤ i → length ys ≤ i → zs ≡ zipped_below xs ys i → zs ≡ zip_with f xs ys
+  pub zipped_below-all : (xs ys zs : List ℕ) (i : ℕ) → length xs ≤ i → length ys ≤ i → zs ≡ zipped_below xs ys i → zs ≡ zip2 f xs ys
   zipped_below-all xs ys zs i a b below =
       below ∙ rw (take_all i xs a, take_all i ys b, drop_all i xs a, append-nil)

@@ -2,7 +2,7 @@
 use Rattle.std.specs.Prelude.{ℕ, zero, suc, List, [], ◌∷◌, ◌++◌, take}
 use Rattle.std.specs.Int.{div_ceil}
 use Rattle.kdf_suite.specs.Hmac.{hmac_sha256}
-use Rattle.kdf_suite.specs.Blocks.{first_blocks}
+use Rattle.kdf_suite.specs.Blocks.{joined_from_one}
 
 -- the pseudorandom key (section 2.2)
 abbrev pub hkdf_extract : List ℕ → List ℕ → List ℕ
@@ -15,7 +15,7 @@ hkdf_block key info (suc n) = hmac_sha256 key (hkdf_block key info n ++ info ++ 
 
 -- the first bytes of T(1), T(2), …, as many as asked for (section 2.3)
 abbrev pub hkdf_expand : List ℕ → List ℕ → ℕ → List ℕ
-hkdf_expand key info len = take len (first_blocks (hkdf_block key info) (div_ceil len 32))
+hkdf_expand key info len = take len (joined_from_one (hkdf_block key info) (div_ceil len 32))
 
 -- the output keying material
 unfoldable pub hkdf_sha256 : List ℕ → List ℕ → List ℕ → ℕ → List ℕ

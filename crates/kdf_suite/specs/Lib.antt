@@ -3,7 +3,6 @@ pub mod Blocks
 pub mod Hkdf
 pub mod Pbkdf2
 pub mod HmacPieces
-pub mod ZipWith
 pub mod Salsa
 pub mod RoMix
 pub mod Table

@@ -1,7 +1,7 @@
 // Output that is made of numbered blocks of 32 bytes.
 
-ghost use Rattle.std.specs.Prelude.{◌≡◌, ℕ, ◌+◌, ◌-◌, ◌*◌, ◌/◌, ◌≤◌, List, ◌++◌, length, take, drop};
-ghost use Rattle.kdf_suite.specs.ZipWith.{xor_each};
+ghost use Rattle.std.specs.Prelude.{◌≡◌, ℕ, ◌+◌, ◌-◌, ◌*◌, ◌/◌, ◌≤◌, List, ◌++◌, length, take, drop, bit_xor};
+ghost use Rattle.std.specs.Simd.Lanes.{zip2};
 
 pub(crate) const BLOCK_LEN: usize = 32;
 
@@ -17,7 +17,7 @@ pub(crate) fn write_front(out: &mut [u8], start: usize, block: &[u8; 32])
 
 // Xors `other` into `bytes`, byte by byte.
 pub(crate) fn xor_into(bytes: &mut [u8; 32], other: &[u8; 32])
-    ensures { bytes.new ≡ xor_each bytes.old other.now }
+    ensures { bytes.new ≡ zip2 bit_xor bytes.old other.now }
 {
     'bytes: for i in 0..BLOCK_LEN {
         bytes[i] ^= other[i];

@@ -2,9 +2,11 @@
 
 ghost use Rattle.std.specs.Prelude.{◌≡◌, ℕ, ◌≤◌, List, [], ◌++◌, length};
 ghost use Rattle.sha2.specs.Sha512.{sha384, sha512};
+ghost use Rattle.kdf_suite.specs.HmacPieces.{HoldsText, HoldsUnder};
 ghost use Rattle.kdf_suite.specs.Hmac.{hmac_of_block, hmac_sha256, hmac_sha384, hmac_sha512, xored_with, zero_padded};
 
 use sha2::{Digest, Sha256, Sha384, Sha512};
+use std::marker::Model;
 
 // The block lengths of SHA-256, and of SHA-384 and SHA-512, in bytes.
 const SHA256_BLOCK: usize = 64;
@@ -85,16 +87,22 @@ fn hmac512_under(key: &[u8], text: &[u8]) -> [u8; 64]
     outer.finalize()
 }
 
-/// HMAC-SHA-256 (RFC 2104) of a text that comes in pieces.
+/// HMAC-SHA-256 (RFC 2104) of a text that comes in pieces. A contract sees it as its two hashes.
 #[derive(Drop)]
 pub struct HmacPieces {
     inner: Sha256,
     outer: Sha256,
 }
 
-impl HmacPieces {
-    ghost use Rattle.kdf_suite.specs.HmacPieces.{HoldsText, HoldsUnder};
+impl Model for HmacPieces {
+    ghost use Rattle.kdf_suite.specs.HmacPieces.{TwoHashes};
 
+    ghost Value = { TwoHashes };
+
+    ghost view = { λ pieces. record { inner = pieces.inner; outer = pieces.outer } };
+}
+
+impl HmacPieces {
     /// Begins an HMAC under `key`, of any length, with no text yet.
     pub fn new(key: &[u8]) -> HmacPieces
         ensures { HoldsText result key.now [] }

@@ -36,7 +36,7 @@ fn derived_block(pass: &[u8], salt: &[u8], rounds: u32, number: u32) -> [u8; 32]
 }
 
 fn first_round(pass: &[u8], salt: &[u8], number: u32) -> [u8; 32]
-    ensures { result ≡ pbkdf2_u pass.now salt.now number 0 }
+    ensures { result ≡ pbkdf2_u pass.now salt.now number 1 }
 {
     let mut pieces = HmacPieces::new(pass);
     pieces.update(salt);

@@ -1,8 +1,8 @@
 // BlockMix and ROMix (RFC 7914, sections 4 and 5).
 
-ghost use Rattle.std.specs.Prelude.{◌≡◌, ℕ, ◌+◌, ◌-◌, ◌*◌, ◌%◌, ◌^◌, ◌<◌, ◌≤◌, List, ◌++◌, length, take, drop, IfOk};
+ghost use Rattle.std.specs.Prelude.{◌≡◌, ℕ, ◌+◌, ◌-◌, ◌*◌, ◌%◌, ◌^◌, ◌<◌, ◌≤◌, List, ◌++◌, length, take, drop, bit_xor, IfOk};
 ghost use Rattle.std.specs.Int.{IsPowerOfTwo};
-ghost use Rattle.kdf_suite.specs.ZipWith.{xor_each};
+ghost use Rattle.std.specs.Simd.Lanes.{zip2};
 ghost use Rattle.kdf_suite.specs.RoMix.{block_at, block_mix, integerify, mixed_times, ro_mix};
 ghost use Rattle.kdf_suite.specs.Salsa.{salsa20_8};
 ghost use Rattle.kdf_suite.specs.Table.{IsTable};
@@ -17,7 +17,7 @@ const PAIR_WORDS: usize = 2 * BLOCK_WORDS;
 // Xors `other` into `words`, word by word.
 fn xor_words(words: &mut [u32], other: &[u32])
     requires { length words.old ≡ length other.now }
-    ensures { words.new ≡ xor_each words.old other.now }
+    ensures { words.new ≡ zip2 bit_xor words.old other.now }
 {
     'words: for i in 0..words.len() {
         words[i] ^= other[i];
@@ -28,7 +28,7 @@ fn xor_words(words: &mut [u32], other: &[u32])
 fn mix_block(x: &mut Block, block: &[u32], output: &mut [u32], start: usize)
     requires block { length block.now ≡ 16 }
     requires room { start + 16 ≤ length output.old }
-    ensures mixed { x.new ≡ salsa20_8 (xor_each x.old block.now) }
+    ensures mixed { x.new ≡ salsa20_8 (zip2 bit_xor x.old block.now) }
     ensures written { output.new
         ≡ take start output.old ++ (x.new ++ drop (start + 16) output.old) }
 {

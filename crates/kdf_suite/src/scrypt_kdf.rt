@@ -2,7 +2,7 @@
 
 ghost use Rattle.std.specs.Prelude.{◌≡◌, ℕ, ◌+◌, ◌*◌, ◌^◌, ◌<◌, ◌≤◌, List, ◌++◌, length, IfOk, OnOk, OnErr};
 ghost use Rattle.std.specs.Int.{IsPowerOfTwo};
-ghost use Rattle.kdf_suite.specs.Blocks.{first_blocks};
+ghost use Rattle.kdf_suite.specs.Blocks.{joined};
 ghost use Rattle.kdf_suite.specs.Scrypt.{bytes_of, mixed_part, scrypt_key, word_at, words_of};
 
 use crate::pbkdf2::pbkdf2_256;
@@ -49,7 +49,7 @@ fn mix_parts(
     requires power { IsPowerOfTwo n }
     requires fits { 32 * r * n < 2 ^ 32 }
     requires parts { length parts.now ≡ 128 * r * p }
-    ensures { IfOk result (λ mixed. mixed.items ≡ first_blocks (mixed_part n r parts.now) p) }
+    ensures { IfOk result (λ mixed. mixed.items ≡ joined (mixed_part n r parts.now) p) }
 {
     let mut mixed = Vec::with_capacity(alloc, parts.len())?;
     'parts: for i in 0..p {

@@ -12,7 +12,8 @@ use Rattle.std.proofs.lemmas.List.Recursion.{and_at}
 use Rattle.std.proofs.lemmas.List.Splits.{slice_split_none, slice_split_at}
 use Rattle.plain_tree.specs.Names.{Path, is_name_byte, is_name}
 use Rattle.plain_tree.specs.Shown.{escape, is_escaped, shown_byte, shown, shown_path}
-use Rattle.plain_tree.specs.Reading.{digit_of, byte_of, escaped_byte, first_written, written, before, read_name, read_names, read_path, parts_of}
+use Rattle.plain_tree.specs.FirstByte.{byte_behind, first_written}
+use Rattle.plain_tree.specs.Reading.{digit_of, byte_of, escaped_byte, written, before, read_name, read_names, read_path, parts_of}
 use Rattle.plain_tree.proofs.Writing.{written-step, read_path-few}
 
 digit_of-digit_char : (d : ℕ) → d < 16 → digit_of (digit_char d) ≡ Some d
@@ -26,7 +27,7 @@ byte_of-digits byte h =
     ∙ ap Some (omega arith)
 
 first_written-escape : (byte : ℕ) (text : List ℕ) → byte < 256 → first_written (escape byte ++ text) ≡ Some (byte, 4)
-unfolding first_written escaped_byte
+unfolding first_written byte_behind escaped_byte
 first_written-escape byte text h = ap (option_map (λ value. (value, 4))) (byte_of-digits byte h)
 
 first_written-plain : (byte : ℕ) (text : List ℕ) → (byte == 92) ≡ false → first_written (byte ∷ text) ≡ Some (byte, 1)

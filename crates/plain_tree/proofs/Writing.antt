@@ -6,26 +6,61 @@ use Rattle.std.specs.List.{list_all}
 use Rattle.std.proofs.lemmas.Bool.{and_from}
 use Rattle.std.proofs.lemmas.Bool.Decides.{nat_tests}
 use Rattle.plain_tree.specs.Names.{Path, is_name}
-use Rattle.plain_tree.specs.Reading.{first_written, written_past, written, before, read_name, read_names, read_path, parts_of}
+use Rattle.plain_tree.specs.FirstByte.{byte_behind, first_written}
+use Rattle.plain_tree.specs.Reading.{escaped_byte, written, before, read_name, read_names, read_path, parts_of}
 
-written_past-drop : (past : ℕ) (text : List ℕ) → written_past past text ≡ written (drop past text)
-written_past-drop zero text = refl
-written_past-drop (suc past) [] = refl
-written_past-drop (suc past) (byte ∷ text) = written_past-drop past text
+before-some : {A : Type 0} (value : A) (others : Option (List A)) → before (Some value) others ≡ option_map (λ rest. value ∷ rest) others
+before-some value None = refl
+before-some value (Some others) = refl
+
+-- a byte that is no backslash writes itself
+pub written-plain : (byte : ℕ) (text : List ℕ) → (byte == 92) ≡ false → written (byte ∷ text) ≡ before (Some byte) (written text)
+written-plain byte [] e = rw e refl
+written-plain byte (x ∷ []) e = rw e refl
+written-plain byte (x ∷ high ∷ []) e = rw e refl
+written-plain byte (x ∷ high ∷ low ∷ text) e = rw e refl
+
+-- a backslash writes a byte with the three behind it
+written-escape : (byte : ℕ) (text : List ℕ) → (byte == 92) ≡ true → written (byte ∷ text) ≡ before (byte_behind text) (written (drop 3 text))
+unfolding byte_behind
+written-escape byte [] e = rw e refl
+written-escape byte (x ∷ []) e = rw e refl
+written-escape byte (x ∷ high ∷ []) e = rw e refl
+written-escape byte (x ∷ high ∷ low ∷ text) e = rw e refl
 
 -- the first byte, and then what the rest writes
 pub written-step : (text : List ℕ) (byte size : ℕ) → first_written text ≡ Some (byte, suc size) → written text ≡ option_map (λ rest. byte ∷ rest) (written (drop (suc size) text))
 unfolding first_written
 written-step [] byte size e = cc
-written-step (x ∷ text) byte size e =
-    ap (option_and_then (λ first. option_map (λ others. first.0 ∷ others) (written_past (first.1 - 1) text))) e
-    ∙ ap (λ n. option_map (λ others. byte ∷ others) (written_past n text)) (omega arith)
-    ∙ ap (option_map (λ others. byte ∷ others)) (written_past-drop size text)
+written-step (x ∷ text) byte size e = by (x == 92) refl (byte_behind text) refl e
+  where
+    by : (b : Bool) → (x == 92) ≡ b → (value : Option ℕ) → byte_behind text ≡ value → cond b (option_map {U = ℕ × ℕ} (λ value. (value, 4)) value) (Some (x, 1)) ≡ Some (byte, suc size) → written (x ∷ text) ≡ option_map (λ rest. byte ∷ rest) (written (drop (suc size) (x ∷ text)))
+    by true e None behind h = cc
+    by true e (Some value) behind h =
+        let pair : ◌≡◌ {A = ℕ × ℕ} (value, 4) (byte, suc size) = cc in
+        let same : value ≡ byte = ap (λ p. p.0) pair in
+        let long : 3 ≡ size = omega (arith, ap (λ p. p.1) pair) in
+        written-escape x text e ∙ ap (λ first. before first (written (drop 3 text))) behind
+        ∙ before-some value (written (drop 3 text))
+        ∙ ap (λ v. option_map (λ rest. v ∷ rest) (written (drop 3 text))) same
+        ∙ ap (λ n. option_map (λ rest. byte ∷ rest) (written (drop n text))) long
+    by false e value behind h =
+        let pair : ◌≡◌ {A = ℕ × ℕ} (x, 1) (byte, suc size) = cc in
+        let same : x ≡ byte = ap (λ p. p.0) pair in
+        let long : 0 ≡ size = omega (arith, ap (λ p. p.1) pair) in
+        written-plain x text e ∙ before-some x (written text)
+        ∙ ap (λ v. option_map (λ rest. v ∷ rest) (written text)) same
+        ∙ ap (λ n. option_map (λ rest. byte ∷ rest) (written (drop n text))) long
 
 pub written-none : (text : List ℕ) → 0 < length text → first_written text ≡ None → written text ≡ None
 unfolding first_written
 written-none [] l e = absurd (omega arith)
-written-none (x ∷ text) l e = ap (option_and_then (λ first. option_map (λ others. first.0 ∷ others) (written_past (first.1 - 1) text))) e
+written-none (x ∷ text) l e = by (x == 92) refl (byte_behind text) refl e
+  where
+    by : (b : Bool) → (x == 92) ≡ b → (value : Option ℕ) → byte_behind text ≡ value → cond b (option_map {U = ℕ × ℕ} (λ value. (value, 4)) value) (Some (x, 1)) ≡ None → written (x ∷ text) ≡ None
+    by true e None behind h = written-escape x text e ∙ ap (λ first. before first (written (drop 3 text))) behind
+    by true e (Some value) behind h = cc
+    by false e value behind h = cc
 
 after : (bytes : List ℕ) (byte : ℕ) (rest : Option (List ℕ)) → option_map (λ more. bytes ++ more) (option_map (λ more. byte ∷ more) rest) ≡ option_map (λ more. (bytes ++ byte ∷ []) ++ more) rest
 after bytes byte None = refl

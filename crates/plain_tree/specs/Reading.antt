@@ -1,7 +1,7 @@
 -- Reading a shown form. The empty text is the root. In any other the slashes part the names, `\xHH` with
 -- lower-case digits writes a byte, and each other byte writes itself. A backslash that begins no such
 -- escape, a part that writes no name, and more than 64 parts make the text no path.
-use Rattle.std.specs.Prelude.{ℕ, suc, zero, ◌+◌, ◌*◌, ◌-◌, ◌==◌, ◌&&◌, nat_lt, nat_le, List, [], ◌∷◌, length, if◌then◌else◌, Option, None, Some, option_map}
+use Rattle.std.specs.Prelude.{ℕ, ◌+◌, ◌*◌, ◌-◌, ◌==◌, ◌&&◌, nat_lt, nat_le, List, [], ◌∷◌, length, if◌then◌else◌, Option, None, Some, option_map}
 use Rattle.std.specs.Option.{option_and_then}
 use Rattle.std.specs.List.{slice_split}
 use Rattle.plain_tree.specs.Names.{Path, is_name}
@@ -23,27 +23,17 @@ before (Some value) (Some others) = Some (value ∷ others)
 unfoldable pub byte_of : ℕ → ℕ → Option ℕ
 byte_of high low = option_and_then (λ h. option_map (λ l. h * 16 + l) (digit_of low)) (digit_of high)
 
--- the byte that a backslash writes with the bytes behind it
-unfoldable pub escaped_byte : List ℕ → Option ℕ
-escaped_byte (x ∷ high ∷ low ∷ _) = if x == 120 then byte_of high low else None
-escaped_byte _ = None
-
--- the first byte that a text writes, and how many of its bytes write it
-unfoldable pub first_written : List ℕ → Option (ℕ × ℕ)
-first_written [] = None
-first_written (byte ∷ text) =
-    if byte == 92 then option_map (λ value. (value, 4)) (escaped_byte text) else Some (byte, 1)
-
--- what a text writes behind its first `past` bytes
-abbrev pub written_past : ℕ → List ℕ → Option (List ℕ)
-written_past past [] = Some []
-written_past (suc past) (byte ∷ text) = written_past past text
-written_past zero (byte ∷ text) =
-    option_and_then (λ first. option_map (λ others. first.0 ∷ others) (written_past (first.1 - 1) text)) (first_written (byte ∷ text))
+-- the byte that a backslash writes with the three bytes behind it
+unfoldable pub escaped_byte : ℕ → ℕ → ℕ → Option ℕ
+escaped_byte x high low = if x == 120 then byte_of high low else None
 
 -- the bytes that a text writes
 abbrev pub written : List ℕ → Option (List ℕ)
-written text = written_past 0 text
+written (byte ∷ x ∷ high ∷ low ∷ text) =
+    if byte == 92 then before (escaped_byte x high low) (written text)
+    else before (Some byte) (written (x ∷ high ∷ low ∷ text))
+written (byte ∷ text) = if byte == 92 then None else before (Some byte) (written text)
+written [] = Some []
 
 -- the name that a part writes
 unfoldable pub read_name : List ℕ → Option (List ℕ)
@@ -56,7 +46,7 @@ read_names (part ∷ parts) = before (read_name part) (read_names parts)
 abbrev pub parts_of : List ℕ → List (List ℕ)
 parts_of text = slice_split (λ byte. byte == 47) text
 
--- the path that a text is the shown form of
+-- the path that a text writes
 unfoldable pub read_path : List ℕ → Option Path
 read_path text =
     if length text == 0 then Some []

@@ -61,7 +61,7 @@ impl PlainPath {
         }
     }
 
-    /// The path that a text is the shown form of: the empty text is the root, slashes part the
+    /// The path that a text writes, as shown forms do: the empty text is the root, slashes part the
     /// names, `\xHH` with lower-case digits is a byte, and other bytes stand for themselves. It is
     /// refused where a backslash doesn't begin such an escape, a part isn't a name, or there are
     /// more than 64 parts.

@@ -1,7 +1,8 @@
 //! Reading a shown path.
 ghost use Rattle.std.specs.Prelude.{◌≡◌, ◌<◌, ◌≤◌, IfOk, IfSome, OnSome, Some, None, length};
 ghost use Rattle.std.specs.Option.{option_map};
-ghost use Rattle.plain_tree.specs.Reading.{digit_of, byte_of, escaped_byte, first_written, written, read_name, read_names, read_path, parts_of};
+ghost use Rattle.plain_tree.specs.FirstByte.{byte_behind, first_written};
+ghost use Rattle.plain_tree.specs.Reading.{digit_of, byte_of, written, read_name, read_names, read_path, parts_of};
 
 use crate::name::Name;
 use std::alloc::{AllocError, Global};
@@ -9,7 +10,7 @@ use std::alloc::{AllocError, Global};
 /// The greatest number of names that a path has that is read from text.
 pub const MAX_PARTS: usize = 64;
 
-// The names of the path that a text is the shown form of, or `None` where it is no path.
+// The names of the path that a text writes, or `None` where it is no path.
 #[tactic(auto, unfolding(crate::specs::Reading::read_path))]
 pub fn read_path(alloc: Global, text: &str) -> Result<Option<Vec<Name>>, AllocError>
     ensures { IfOk result (λ names. option_map (λ v. v.items) names ≡ read_path text.now) }
@@ -67,22 +68,22 @@ fn written(alloc: Global, text: &[u8]) -> Result<Option<Vec<u8>>, AllocError>
 }
 
 // The first byte that a text writes, and how many of its bytes write it.
-#[tactic(auto, unfolding(crate::specs::Reading::first_written))]
+#[tactic(auto, unfolding(crate::specs::FirstByte::first_written))]
 fn written_byte(text: &[u8]) -> Option<(u8, usize)>
     ensures value { result ≡ first_written text.now }
     ensures within { IfSome result (λ first. (0 < first.1) × (first.1 ≤ length text.now)) }
 {
     match text {
-        [b'\\', behind @ ..] => Some((escaped_byte(behind)?, 4)),
+        [b'\\', behind @ ..] => Some((byte_behind(behind)?, 4)),
         [byte, ..] => Some((*byte, 1)),
         [] => None,
     }
 }
 
 // The byte that a backslash writes with these bytes behind it.
-#[tactic(auto, unfolding(crate::specs::Reading::escaped_byte))]
-fn escaped_byte(behind: &[u8]) -> Option<u8>
-    ensures value { result ≡ escaped_byte behind.now }
+#[tactic(auto, unfolding(crate::specs::FirstByte::byte_behind, crate::specs::Reading::escaped_byte))]
+fn byte_behind(behind: &[u8]) -> Option<u8>
+    ensures value { result ≡ byte_behind behind.now }
     ensures within { OnSome result (3 ≤ length behind.now) }
 {
     match behind {

@@ -7,8 +7,7 @@ use Rattle.std.specs.Io.KnownBytes.{Consumes, IsAtEnd}
 use Rattle.chunk_files.specs.Keys.{go_keys}
 use Rattle.chunk_files.specs.Contents.{read_file}
 use Rattle.vault_cli.specs.declared.answer.Answer.{Answer}
-use Rattle.vault_cli.specs.declared.gather.TheConstants.{INPUT_LIMIT}
-use Rattle.vault_cli.specs.Gathers.{GathersFront}
+use Rattle.vault_cli.specs.Gathers.{GathersFront, input_limit}
 use Rattle.vault_cli.specs.Decrypts.{input_reading, Writes}
 
 -- an input that has ended within the limit
@@ -33,7 +32,7 @@ front-cut limit (Some input) (Some rest) bytes consumed past =
     (sym (ap (take limit) consumed ∙ take-append-le limit bytes rest within), sym (lt-ltb limit (length input) longer))
 
 pub Writes-gathered : (left : Option (List ℕ)) (key bytes : List ℕ) (cut : Bool) (answer : Answer) (taken taken' : Option (List ℕ))
-    → GathersFront INPUT_LIMIT left bytes cut → Writes answer (read_file (go_keys key) bytes cut) taken taken'
+    → GathersFront input_limit left bytes cut → Writes answer (read_file (go_keys key) bytes cut) taken taken'
     → IfSome left (λ input. Writes answer (input_reading key input) taken taken')
 Writes-gathered None key bytes cut answer taken taken' gathered writes = tt
 Writes-gathered (Some input) key bytes cut answer taken taken' gathered writes = rw (← gathered.0, ← gathered.1) writes

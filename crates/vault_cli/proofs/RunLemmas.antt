@@ -24,9 +24,9 @@ damaged_of_status (Damaged fault) is = (fault, refl)
 damaged_of_status InputTooLong is = absurd (omega arith)
 
 -- a fault whose message found no memory
-damaged-unreported : (words : List (List ℕ)) (fault : ChunkFault) (left taken taken' : Option (List ℕ))
-    → Executes words (Damaged fault) left taken taken' → Executes words OutOfMemory left taken taken'
-damaged-unreported words fault left taken taken' executes = record {
+damaged-unreported : (words : List (List ℕ)) (fault : ChunkFault) (left left' taken taken' : Option (List ℕ))
+    → Executes words (Damaged fault) left left' taken taken' → Executes words OutOfMemory left left' taken taken'
+damaged-unreported words fault left left' taken taken' executes = record {
   command = (λ bad. cc, λ none. let bad = executes.command.1 none in cc);
   refused = λ bad. cc;
   tells = λ key input command told. tt;
@@ -36,13 +36,13 @@ damaged-unreported words fault left taken taken' executes = record {
 }
 
 -- what holds of an answer holds of the one that its report gives back
-pub Executes-reported : (words : List (List ℕ)) (answer result : Answer) (left taken taken' : Option (List ℕ))
-    → Executes words answer left taken taken' → (result ≡ answer) ⊎ ((fault : ChunkFault) × (answer ≡ Damaged fault) × (result ≡ OutOfMemory))
-    → Executes words result left taken taken'
-Executes-reported words answer result left taken taken' executes kept =
+pub Executes-reported : (words : List (List ℕ)) (answer result : Answer) (left left' taken taken' : Option (List ℕ))
+    → Executes words answer left left' taken taken' → (result ≡ answer) ⊎ ((fault : ChunkFault) × (answer ≡ Damaged fault) × (result ≡ OutOfMemory))
+    → Executes words result left left' taken taken'
+Executes-reported words answer result left left' taken taken' executes kept =
     elim kept [
       | inl same ↦ rw same executes
-      | inr lost ↦ rw lost.2 (damaged-unreported words lost.0 left taken taken' (rw lost.1 at executes))
+      | inr lost ↦ rw lost.2 (damaged-unreported words lost.0 left left' taken taken' (rw lost.1 at executes))
     ]
 
 pub done_of_status : (answer : Answer) → status_of answer ≡ 0 → answer ≡ Done
@@ -60,18 +60,27 @@ pub reported-as : (answer result other : Answer) → (result ≡ answer) ⊎ ((f
 reported-as answer result other kept is known = elim kept [ inl same ↦ sym same ∙ is | inr lost ↦ absurd (known (sym is ∙ lost.2)) ]
 
 -- where no stream failed, the reading decides, or memory was refused
-pub decided : (words : List (List ℕ)) (answer : Answer) (left taken taken' : Option (List ℕ)) (key bytes : List ℕ)
-    → Executes words answer left taken taken' → command_of words ≡ Some (DecryptFile key) → left ≡ Some bytes
+pub decided : (words : List (List ℕ)) (answer : Answer) (left left' taken taken' : Option (List ℕ)) (key bytes : List ℕ)
+    → Executes words answer left left' taken taken' → command_of words ≡ Some (DecryptFile key) → left ≡ Some bytes
     → (answer ≡ InputFault → ⊥) → (answer ≡ OutputFault → ⊥)
     → (status_of answer ≡ 3) ⊎ (status_of answer ≡ status_of (answer_to (input_reading key bytes).ending))
-decided words Done left taken taken' key bytes executes command told input output =
+decided words Done left left' taken taken' key bytes executes command told input output =
     inr (ap (λ e. status_of (answer_to e)) (sym (executes.tells key bytes command told)))
-decided words BadCommandLine left taken taken' key bytes executes command told input output =
+decided words BadCommandLine left left' taken taken' key bytes executes command told input output =
     let none = rw command at (executes.command.0 refl) in cc
-decided words OutOfMemory left taken taken' key bytes executes command told input output = inl refl
-decided words InputFault left taken taken' key bytes executes command told input output = absurd (input refl)
-decided words OutputFault left taken taken' key bytes executes command told input output = absurd (output refl)
-decided words (Damaged fault) left taken taken' key bytes executes command told input output =
+decided words OutOfMemory left left' taken taken' key bytes executes command told input output = inl refl
+decided words InputFault left left' taken taken' key bytes executes command told input output = absurd (input refl)
+decided words OutputFault left left' taken taken' key bytes executes command told input output = absurd (output refl)
+decided words (Damaged fault) left left' taken taken' key bytes executes command told input output =
     inr (ap (λ e. status_of (answer_to e)) (sym (executes.tells key bytes command told)))
-decided words InputTooLong left taken taken' key bytes executes command told input output =
+decided words InputTooLong left left' taken taken' key bytes executes command told input output =
     inr (ap (λ e. status_of (answer_to e)) (sym (executes.tells key bytes command told)))
+
+pub bad_of_status : (answer : Answer) → status_of answer ≡ 2 → answer ≡ BadCommandLine
+bad_of_status Done is = absurd (omega arith)
+bad_of_status BadCommandLine is = refl
+bad_of_status OutOfMemory is = absurd (omega arith)
+bad_of_status InputFault is = absurd (omega arith)
+bad_of_status OutputFault is = absurd (omega arith)
+bad_of_status (Damaged fault) is = absurd (omega arith)
+bad_of_status InputTooLong is = absurd (omega arith)

@@ -10,24 +10,24 @@ use Rattle.chunk_files.specs.Contents.{readable}
 use Rattle.chunk_files.specs.FileOf.{IsFileOf, Gives}
 use Rattle.chunk_files.proofs.FilesOf.{files_are_what_they_give}
 use Rattle.chunk_files.proofs.Readings.{whole-goes_on}
-use Rattle.vault_cli.specs.declared.gather.TheConstants.{INPUT_LIMIT}
+use Rattle.vault_cli.specs.Gathers.{input_limit}
 use Rattle.vault_cli.specs.Answers.{status_of}
 use Rattle.vault_cli.specs.Decrypts.{input_reading}
 use Rattle.vault_cli.specs.Runs.{answer_to}
 
-reading-within : (key bytes : List ℕ) → length bytes ≤ INPUT_LIMIT → input_reading key bytes ≡ readable (go_keys key) bytes
-reading-within key bytes within = rw (take_all INPUT_LIMIT bytes within, le-ltb INPUT_LIMIT (length bytes) within) refl
+reading-within : (key bytes : List ℕ) → length bytes ≤ input_limit → input_reading key bytes ≡ readable (go_keys key) bytes
+reading-within key bytes within = rw (take_all input_limit bytes within, le-ltb input_limit (length bytes) within) refl
 
 -- a reading that ends well is of a whole file
 pub whole-content : (key bytes : List ℕ) → (input_reading key bytes).ending ≡ Whole → IsFileOf (go_keys key) bytes (concat (input_reading key bytes).chunks)
 whole-content key bytes whole =
-    let within : length bytes ≤ INPUT_LIMIT = ltb-false INPUT_LIMIT (length bytes) (whole-goes_on (go_keys key) (take INPUT_LIMIT bytes) (nat_lt INPUT_LIMIT (length bytes)) whole) in
+    let within : length bytes ≤ input_limit = ltb-false input_limit (length bytes) (whole-goes_on (go_keys key) (take input_limit bytes) (nat_lt input_limit (length bytes)) whole) in
     let same : input_reading key bytes ≡ readable (go_keys key) bytes = reading-within key bytes within in
     (files_are_what_they_give (go_keys key) bytes (concat (input_reading key bytes).chunks)).1
     (record { whole = ap (λ r. r.ending) (sym same) ∙ whole; joined = ap (λ r. concat r.chunks) same })
 
 -- a file within the limit is answered by 0, where its reading decides
-pub decided-whole : (key bytes content : List ℕ) (status : ℕ) → length bytes ≤ INPUT_LIMIT → IsFileOf (go_keys key) bytes content
+pub decided-whole : (key bytes content : List ℕ) (status : ℕ) → length bytes ≤ input_limit → IsFileOf (go_keys key) bytes content
     → (status ≡ 3) ⊎ (status ≡ status_of (answer_to (input_reading key bytes).ending)) → (status ≡ 3) ⊎ (status ≡ 0)
 decided-whole key bytes content status within file decided =
     let gives : Gives (go_keys key) bytes content = (files_are_what_they_give (go_keys key) bytes content).0 file in

@@ -6,13 +6,13 @@ use Rattle.port_model.specs.Told.{AppendsPrefix}
 use Rattle.chunk_files.specs.Keys.{go_keys}
 use Rattle.chunk_files.specs.Reading.{Reading, Whole, Wanting, Faulty}
 use Rattle.chunk_files.specs.Contents.{read_file}
-use Rattle.vault_cli.specs.declared.gather.TheConstants.{INPUT_LIMIT}
+use Rattle.vault_cli.specs.Gathers.{input_limit}
 use Rattle.vault_cli.specs.declared.answer.Answer.{Answer}
 use Rattle.vault_cli.specs.declared.answer.Answer.TheVariants.{Done, BadCommandLine, OutOfMemory, InputFault, OutputFault, Damaged, InputTooLong}
 
 -- the input as a content file, up to the limit
 abbrev pub input_reading : List ℕ → List ℕ → Reading
-input_reading key input = read_file (go_keys key) (take INPUT_LIMIT input) (nat_lt INPUT_LIMIT (length input))
+input_reading key input = read_file (go_keys key) (take input_limit input) (nat_lt input_limit (length input))
 
 -- The reading that an answer tells of: it ended well, at this fault, or for want of bytes past the limit.
 -- The other answers have other causes.

@@ -15,11 +15,11 @@ answer_to Wanting = InputTooLong
 answer_to (Faulty fault) = Damaged fault
 
 -- The answer to these words over an input that had `left` and an output that had taken `taken`.
-pub record Executes (words : List (List ℕ)) (answer : Answer) (left taken taken' : Option (List ℕ)) : Type 0 where
+pub record Executes (words : List (List ℕ)) (answer : Answer) (left left' taken taken' : Option (List ℕ)) : Type 0 where
   -- words that make no command are refused, and no others
   pub command : (answer ≡ BadCommandLine) ↔ IsNone (command_of words)
-  -- nothing is written then
-  pub refused : answer ≡ BadCommandLine → Keeps taken taken'
+  -- nothing is taken or written then
+  pub refused : answer ≡ BadCommandLine → Keeps left left' × Keeps taken taken'
   -- the cause of a `decrypt-file`'s answer, and what it wrote
   pub tells : (key input : List ℕ) → command_of words ≡ Some (DecryptFile key) → left ≡ Some input → TellsOf answer (input_reading key input)
   pub writes : (key input : List ℕ) → command_of words ≡ Some (DecryptFile key) → left ≡ Some input → Writes answer (input_reading key input) taken taken'

@@ -1,11 +1,11 @@
 ghost use Rattle.std.specs.Prelude.{◌≡◌, ◌+◌, ◌≤◌, IsTrue, IfSome};
 ghost use Rattle.std.specs.Io.KnownBytes.{IsAtEnd};
 ghost use Rattle.port_model.specs.Counts.{CountRose};
-ghost use Rattle.vault_cli.specs.Gathers.{TakesAtMost};
+ghost use Rattle.vault_cli.specs.Gathers.{TakesAtMost, input_limit};
 ghost use Rattle.vault_cli.specs.Decrypts.{input_reading, TellsOf, Writes};
 
 use crate::answer::Answer;
-use crate::gather::{GatherFault, INPUT_LIMIT, gather};
+use crate::gather::{GatherFault, gather};
 use chunk_files::{ChunkBuf, ContentKeys, Step, WholeDecoder};
 use port_model::{Sink, Source};
 use std::alloc::Global;
@@ -21,7 +21,7 @@ pub fn decrypt_file<I: Source, O: Sink>(
     ensures writes { IfSome (I.left input.old) (λ bytes. Writes result (input_reading key.now bytes) (O.taken out.old) (O.taken out.new)) }
     ensures words { result ≡ Answer.BadCommandLine → ⊥ }
 
-    ensures takes { TakesAtMost (INPUT_LIMIT + 1) (I.left input.old) (I.left input.new) }
+    ensures takes { TakesAtMost (input_limit + 1) (I.left input.old) (I.left input.new) }
     ensures end { result ≡ Answer.Done → IsTrue (I.ended input.new) × IsAtEnd (I.left input.new) }
 
     ensures input_fault { result ≡ Answer.InputFault → CountRose (I.faults input.old) (I.faults input.new) }

@@ -1,13 +1,13 @@
 ghost use Rattle.std.specs.Prelude.{◌≡◌, ◌+◌, ◌≤◌, ◌<◌, length, take, drop, nat_lt, false, Some, IsTrue, IfOk, IfSome, vec_len};
 ghost use Rattle.std.specs.Io.KnownBytes.{IsAtEnd};
 ghost use Rattle.port_model.specs.Counts.{CountRose};
-ghost use Rattle.vault_cli.specs.Gathers.{GathersFront, TakesAtMost};
+ghost use Rattle.vault_cli.specs.Gathers.{GathersFront, TakesAtMost, input_limit};
 
 use port_model::Source;
 use std::alloc::Global;
 
 /// The most bytes that an input may have.
-pub const INPUT_LIMIT: usize = 67_108_864;
+const INPUT_LIMIT: usize = 67_108_864;
 
 const PIECE_SIZE: usize = 65_536;
 
@@ -28,10 +28,10 @@ pub enum GatherFault {
 
 // Takes the input up to the limit, and one byte more where it goes on.
 pub fn gather<I: Source>(alloc: Global, input: &mut I) -> Result<Gathered, GatherFault>
-    ensures front { IfOk result (λ gathered. GathersFront INPUT_LIMIT (I.left input.old) gathered.bytes.items gathered.cut) }
-    ensures limit { IfOk result (λ gathered. vec_len gathered.bytes ≤ INPUT_LIMIT) }
+    ensures front { IfOk result (λ gathered. GathersFront input_limit (I.left input.old) gathered.bytes.items gathered.cut) }
+    ensures limit { IfOk result (λ gathered. vec_len gathered.bytes ≤ input_limit) }
     ensures end { IfOk result (λ gathered. gathered.cut ≡ false → IsTrue (I.ended input.new) × IsAtEnd (I.left input.new)) }
-    ensures takes { TakesAtMost (INPUT_LIMIT + 1) (I.left input.old) (I.left input.new) }
+    ensures takes { TakesAtMost (input_limit + 1) (I.left input.old) (I.left input.new) }
     ensures fault { result ≡ Err GatherFault.Input → CountRose (I.faults input.old) (I.faults input.new) }
     ensures counted { I.faults input.old ≤ I.faults input.new }
 {

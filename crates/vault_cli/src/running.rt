@@ -1,18 +1,17 @@
 ghost use Rattle.std.specs.Prelude.{◌≡◌, ◌+◌, ◌≤◌, ◌↔◌, ◌⊎◌, ℕ, List, length, Some, map, string_bytes, IsTrue, IsNone};
-ghost use Rattle.std.specs.Io.KnownBytes.{Appends, IsAtEnd};
+ghost use Rattle.std.specs.Io.KnownBytes.{Appends, IsAtEnd, Keeps};
 ghost use Rattle.port_model.specs.Counts.{CountRose};
 ghost use Rattle.chunk_files.specs.Keys.{go_keys};
 ghost use Rattle.chunk_files.specs.Reading.{Faulty, Wanting};
 ghost use Rattle.chunk_files.specs.FileOf.{IsFileOf};
 ghost use Rattle.vault_cli.specs.Words.{command_of};
 ghost use Rattle.vault_cli.specs.Answers.{TakesText, line_of, status_of};
-ghost use Rattle.vault_cli.specs.Gathers.{TakesAtMost};
+ghost use Rattle.vault_cli.specs.Gathers.{TakesAtMost, input_limit};
 ghost use Rattle.vault_cli.specs.Decrypts.{input_reading};
 ghost use Rattle.vault_cli.specs.Runs.{Executes, answer_to};
 
 use crate::answer::Answer;
 use crate::decrypt::decrypt_file;
-use crate::gather::INPUT_LIMIT;
 use crate::reporting::report;
 use crate::words::Command;
 use port_model::{Sink, Source};
@@ -31,7 +30,7 @@ pub fn run<I: Source, O: Sink, E: Sink>(
     // There is one answer behind the status, the line on `err` and what `out` took.
     ensures answer { (answer : Answer) × (result ≡ status_of answer)
         × TakesText (E.taken err.old) (E.taken err.new) (E.faults err.old) (E.faults err.new) (line_of answer)
-        × Executes (map string_bytes words.now) answer (I.left input.old) (O.taken out.old) (O.taken out.new) }
+        × Executes (map string_bytes words.now) answer (I.left input.old) (I.left input.new) (O.taken out.old) (O.taken out.new) }
 
     // The cause of each status.
     ensures bad_command_line { (result ≡ 2) ↔ IsNone (command_of (map string_bytes words.now)) }
@@ -53,13 +52,14 @@ pub fn run<I: Source, O: Sink, E: Sink>(
         → I.left input.old ≡ Some bytes
         → (content : List ℕ) × IsFileOf (go_keys key) bytes content × Appends (O.taken out.old) (O.taken out.new) content }
     ensures whole_files { (key bytes content : List ℕ) → command_of (map string_bytes words.now) ≡ Some (Command.DecryptFile key)
-        → I.left input.old ≡ Some bytes → length bytes ≤ INPUT_LIMIT → IsFileOf (go_keys key) bytes content
+        → I.left input.old ≡ Some bytes → length bytes ≤ input_limit → IsFileOf (go_keys key) bytes content
         → (CountRose (I.faults input.old) (I.faults input.new) → ⊥) → (CountRose (O.faults out.old) (O.faults out.new) → ⊥)
         → (result ≡ 3) ⊎ (result ≡ 0) }
 
-    // At 0 the input has ended; at no status was more taken of it than the limit and one byte.
+    // At 0 the input has ended; at 2 nothing of it was taken, and at no status more than the limit and one byte.
     ensures end { result ≡ 0 → IsTrue (I.ended input.new) × IsAtEnd (I.left input.new) }
-    ensures takes { TakesAtMost (INPUT_LIMIT + 1) (I.left input.old) (I.left input.new) }
+    ensures untouched { result ≡ 2 → Keeps (I.left input.old) (I.left input.new) }
+    ensures takes { TakesAtMost (input_limit + 1) (I.left input.old) (I.left input.new) }
 {
     let answer = execute(alloc, words, input, out);
     let answer = report(alloc, answer, err);
@@ -73,9 +73,9 @@ fn execute<I: Source, O: Sink>(
     input: &mut I,
     out: &mut O,
 ) -> Answer
-    ensures executes { Executes (map string_bytes words.now) result (I.left input.old) (O.taken out.old) (O.taken out.new) }
+    ensures executes { Executes (map string_bytes words.now) result (I.left input.old) (I.left input.new) (O.taken out.old) (O.taken out.new) }
     ensures end { result ≡ Answer.Done → IsTrue (I.ended input.new) × IsAtEnd (I.left input.new) }
-    ensures takes { TakesAtMost (INPUT_LIMIT + 1) (I.left input.old) (I.left input.new) }
+    ensures takes { TakesAtMost (input_limit + 1) (I.left input.old) (I.left input.new) }
     ensures input_fault { result ≡ Answer.InputFault → CountRose (I.faults input.old) (I.faults input.new) }
     ensures output_fault { result ≡ Answer.OutputFault → CountRose (O.faults out.old) (O.faults out.new) }
 {

@@ -14,9 +14,9 @@ use Rattle.base64.proofs.RoundTrip.{length-encode_symbols}
 use Rattle.aes_lanes.specs.Bytes.{IsBlock}
 use Rattle.eme_mode.specs.Eme.{eme256}
 use Rattle.plain_tree.specs.Names.{is_name}
-use Rattle.vault_names.specs.Gocryptfs.{padded, blocks_of, bytes_of, base64url, is_base64url, go_text, long_name}
+use Rattle.vault_names.specs.Gocryptfs.{padded_bytes, blocks_of, bytes_of, base64url, is_base64url, go_text, long_name}
 use Rattle.vault_names.proofs.Blocks.{IsBytes-append, IsBytes-bytes_of, length-bytes_of}
-use Rattle.vault_names.proofs.Encryption.{AreBlocksOf-text, length-encrypted}
+use Rattle.vault_names.proofs.Encryption.{AreEme, AreBlocksOf-text, length-encrypted}
 
 -- the alphabet of base64url
 abbrev symbols : List ℕ
@@ -74,16 +74,16 @@ unfolding sha256
 IsBytes-sha256 text = IsBytes-digest _ 8
 
 -- the text of a name
-pub length-text : (key iv name : List ℕ) → IsBlock iv → IsTrue (is_name name) → length (go_text key iv name) ≡ (64 * (length name / 16 + 1) + 2) / 3
-length-text key iv name is_iv named =
-    let are = AreBlocksOf-text key iv name (go_text key iv name) is_iv (record { named = named; encrypts = refl }) in
-    let size : length (bytes_of (eme256 key iv (blocks_of (padded name)))) ≡ 16 * (length name / 16 + 1) =
-    length-bytes_of _ are.each ∙ ap (λ n. 16 * n) (length-encrypted key iv name) in
+pub length-text : (key iv name : List ℕ) → AreEme key iv → IsTrue (is_name name) → length (go_text key iv name) ≡ (64 * (length name / 16 + 1) + 2) / 3
+length-text key iv name eme named =
+    let are = AreBlocksOf-text key iv name (go_text key iv name) eme (record { named = named; encrypts = refl }) in
+    let size : length (bytes_of (eme256 key iv (blocks_of (padded_bytes name)))) ≡ 16 * (length name / 16 + 1) =
+    length-bytes_of _ are.each ∙ ap (λ n. 16 * n) (length-encrypted key iv name eme) in
     ap length are.encoded ∙ length-base64url _ ∙ omega (arith, size)
 
-pub characters-text : (key iv name : List ℕ) → IsBlock iv → IsTrue (is_name name) → IsTrue (list_all is_base64url (go_text key iv name))
-characters-text key iv name is_iv named =
-    let are = AreBlocksOf-text key iv name (go_text key iv name) is_iv (record { named = named; encrypts = refl }) in
+pub characters-text : (key iv name : List ℕ) → AreEme key iv → IsTrue (is_name name) → IsTrue (list_all is_base64url (go_text key iv name))
+characters-text key iv name eme named =
+    let are = AreBlocksOf-text key iv name (go_text key iv name) eme (record { named = named; encrypts = refl }) in
     ap (list_all is_base64url) are.encoded ∙ are_base64url _ (IsBytes-bytes_of _ are.each)
 
 -- a long name

@@ -3,7 +3,7 @@ use Rattle.std.specs.Prelude.{◌≡◌, ℕ, ◌%◌, ◌<◌, ◌≤◌, List,
 use Rattle.std.specs.List.{All}
 use Rattle.aes_lanes.specs.Bytes.{IsBlock}
 use Rattle.plain_tree.specs.Names.{is_name}
-use Rattle.vault_names.specs.Gocryptfs.{base64url, bytes_of, padded}
+use Rattle.vault_names.specs.Gocryptfs.{base64url, bytes_of, padded_bytes}
 
 -- 1 to 128 blocks, and the text is the base64url of their bytes
 pub record AreBlocksOf (text : List ℕ) (blocks : List (List ℕ)) : Type 0 where
@@ -21,4 +21,4 @@ pub record IsSizeOfBlocks (size : ℕ) : Type 0 where
 -- the bytes are a name with its padding
 pub record IsPaddedName (name bytes : List ℕ) : Type 0 where
   pub named : IsTrue (is_name name)
-  pub padded : padded name ≡ bytes
+  pub padded : padded_bytes name ≡ bytes

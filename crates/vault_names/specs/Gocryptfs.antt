@@ -12,8 +12,8 @@ use Rattle.plain_tree.specs.Names.{is_name}
 use Rattle.vault_names.specs.declared.entry.Stored.{Stored}
 
 -- PKCS#7 (RFC 5652, section 6.3): 1 to 16 bytes are added, each the number of bytes added, up to a multiple of sixteen
-unfoldable pub padded : List ℕ → List ℕ
-padded bytes = let added = 16 - length bytes % 16 in bytes ++ replicate added added
+unfoldable pub padded_bytes : List ℕ → List ℕ
+padded_bytes bytes = let added = 16 - length bytes % 16 in bytes ++ replicate added added
 
 -- bytes as blocks of sixteen
 abbrev pub blocks_of : List ℕ → List (List ℕ)
@@ -33,7 +33,7 @@ is_base64url c = is_ascii_alphanumeric c || c == 45 || c == 95
 
 -- the whole encrypted text of a name: padded, by EME under the name key with the directory's bytes as the tweak, in base64url
 unfoldable pub go_text : List ℕ → List ℕ → List ℕ → List ℕ
-go_text key iv name = base64url (bytes_of (eme256 key iv (blocks_of (padded name))))
+go_text key iv name = base64url (bytes_of (eme256 key iv (blocks_of (padded_bytes name))))
 
 -- the entry's name of a text that is too long for one
 unfoldable pub long_name : List ℕ → List ℕ

@@ -3,16 +3,18 @@ ghost use Rattle.std.specs.Prelude.{◌≡◌, ℕ, ◌%◌, ◌↔◌, List, le
 ghost use Rattle.vault_names.specs.Blocks.{AreBlocksOf, IsPaddedName, IsSizeOfBlocks};
 ghost use Rattle.vault_names.specs.Gocryptfs.{go_text, long_name, stored, IsTextOf, base64url, bytes_of};
 
-use crate::entry::{NameFault, Stored, StoredText};
-use crate::padding::{BLOCK_SIZE, padded, unpadded};
+use crate::entry::{NameFault, Stored};
+use crate::padding::{BLOCK_SIZE, padded_bytes, unpadded_bytes};
 use aes_lanes::{Block, Key256};
 use base64::DecodeAllocError;
 use base64::engine::general_purpose::URL_SAFE_NO_PAD;
 use eme_mode::Eme;
+use eme_mode::laws::{blocks_stay_blocks, directions_undo_each_other};
 use gocrypt_conf::GoKeys;
 use plain_tree::{Name, NameNewFault};
 use sha2::{Digest, Sha256};
 use std::alloc::{AllocError, Global};
+use text_model::Text;
 
 /// The greatest length of a text that is an entry's name, in characters.
 pub const MAX_ENTRY_SIZE: usize = 255;
@@ -28,13 +30,13 @@ pub fn go_store(alloc: Global, keys: &GoKeys, iv: &Block, name: &Name) -> Result
     let text = encrypted_text(alloc, keys, iv, name)?;
     if text.len() <= MAX_ENTRY_SIZE {
         return Ok(Stored {
-            name: StoredText::new(text),
+            name: Text::new(text),
             full: None,
         });
     }
     Ok(Stored {
-        name: StoredText::new(go_long(alloc, text.as_str())?),
-        full: Some(StoredText::new(text)),
+        name: Text::new(go_long(alloc, text.as_str())?),
+        full: Some(Text::new(text)),
     })
 }
 
@@ -55,6 +57,8 @@ pub fn go_read(alloc: Global, keys: &GoKeys, iv: &Block, text: &str) -> Result<N
     ensures not_stored { result ≡ Err NameFault.NotStored
         → (name : List ℕ) → ¬ IsTextOf keys.now.names iv.now name text.now }
 {
+    directions_undo_each_other();
+    blocks_stay_blocks();
     let Some(mut blocks) = encrypted_blocks(alloc, text)? else {
         return Err(NameFault::NotStored);
     };
@@ -72,7 +76,7 @@ fn encrypted_text(
 ) -> Result<String, AllocError>
     ensures { IfOk result (λ text. string_bytes text ≡ go_text keys.now.names iv.now name.now) }
 {
-    let whole = padded(alloc, name.bytes())?;
+    let whole = padded_bytes(alloc, name.bytes())?;
     let (blocks, _) = whole.as_slice().as_chunks::<BLOCK_SIZE>();
     let mut blocks = Vec::from_slice(alloc, blocks)?;
     Eme::new(Key256::new(&keys.names)).encrypt(iv, blocks.as_mut_slice());
@@ -110,7 +114,7 @@ fn unpadded_name(alloc: Global, whole: &[u8]) -> Result<Name, NameFault>
     ensures name { IfOk result (λ name. IsPaddedName name whole.now) }
     ensures not_stored { result ≡ Err NameFault.NotStored → (name : List ℕ) → ¬ IsPaddedName name whole.now }
 {
-    let Some(name) = unpadded(whole) else {
+    let Some(name) = unpadded_bytes(whole) else {
         return Err(NameFault::NotStored);
     };
     match Name::new(alloc, name) {

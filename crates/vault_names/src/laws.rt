@@ -1,14 +1,19 @@
-//! Laws of stored names, for callers to cite. They do nothing.
+//! Laws of stored names, for callers to cite. They compute nothing, and call the laws that they rest on.
 ghost use Rattle.std.specs.Prelude.{◌≡◌, ℕ, ◌+◌, ◌*◌, ◌/◌, List, length, take, drop, codes, IsTrue};
 ghost use Rattle.std.specs.List.{list_all};
 ghost use Rattle.aes_lanes.specs.Bytes.{IsBlock};
 ghost use Rattle.plain_tree.specs.Names.{is_name};
 ghost use Rattle.vault_names.specs.Gocryptfs.{go_text, is_base64url, long_name, IsTextOf};
 
+use eme_mode::laws::{blocks_stay_blocks, directions_undo_each_other};
+
 /// A text is that of one name at most, under each key and in each directory.
 pub fn text_has_one_name()
     ensures { (key iv text name other : List ℕ) → IsBlock iv → IsTextOf key iv name text → IsTextOf key iv other text → name ≡ other }
-{}
+{
+    directions_undo_each_other();
+    blocks_stay_blocks();
+}
 
 /// A text's size follows from its name's, and a text is of letters, digits, `-` and `_`.
 pub fn texts_are_plain()
@@ -16,7 +21,10 @@ pub fn texts_are_plain()
         → length (go_text key iv name) ≡ (64 * (length name / 16 + 1) + 2) / 3 }
     ensures characters { (key iv name : List ℕ) → IsBlock iv → IsTrue (is_name name)
         → IsTrue (list_all is_base64url (go_text key iv name)) }
-{}
+{
+    directions_undo_each_other();
+    blocks_stay_blocks();
+}
 
 /// A long name has 62 characters: `gocryptfs.longname.`, and then letters, digits, `-` and `_`.
 pub fn long_names_are_plain()

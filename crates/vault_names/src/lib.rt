@@ -6,7 +6,7 @@ pub mod gocryptfs;
 pub mod laws;
 mod padding;
 
-pub use entry::{NameFault, Stored, StoredText};
+pub use entry::{NameFault, Stored};
 pub use gocryptfs::{go_long, go_read, go_store};
 
 #[cfg(test)]

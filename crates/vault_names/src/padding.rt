@@ -1,6 +1,6 @@
 //! Padding to whole blocks by PKCS#7 (RFC 5652, section 6.3): 1 to 16 bytes are added, each the number of bytes added.
 ghost use Rattle.std.specs.Prelude.{◌≡◌, ◌≢◌, ℕ, ◌%◌, ◌≤◌, ◌↔◌, List, length, IfOk, MatchOption, IsTrue};
-ghost use Rattle.vault_names.specs.Gocryptfs.{padded as padded_of};
+ghost use Rattle.vault_names.specs.Gocryptfs.{padded_bytes};
 
 use std::alloc::{AllocError, Global};
 
@@ -8,9 +8,9 @@ use std::alloc::{AllocError, Global};
 pub(crate) const BLOCK_SIZE: usize = 16;
 
 /// The bytes with their padding.
-#[tactic(auto, unfolding(crate::specs::Gocryptfs::padded))]
-pub(crate) fn padded(alloc: Global, bytes: &[u8]) -> Result<Vec<u8>, AllocError>
-    ensures { IfOk result (λ whole. whole.items ≡ padded_of bytes.now) }
+#[tactic(auto, unfolding(crate::specs::Gocryptfs::padded_bytes))]
+pub(crate) fn padded_bytes(alloc: Global, bytes: &[u8]) -> Result<Vec<u8>, AllocError>
+    ensures { IfOk result (λ whole. whole.items ≡ padded_bytes bytes.now) }
 {
     let added = BLOCK_SIZE - bytes.len() % BLOCK_SIZE;
     let mut whole = Vec::from_slice(alloc, bytes)?;
@@ -19,9 +19,9 @@ pub(crate) fn padded(alloc: Global, bytes: &[u8]) -> Result<Vec<u8>, AllocError>
 }
 
 /// The bytes whose padding gives these whole blocks, or `None` where there are none.
-pub(crate) fn unpadded(whole: &[u8]) -> Option<&[u8]>
+pub(crate) fn unpadded_bytes(whole: &[u8]) -> Option<&[u8]>
     requires { length whole.now % 16 ≡ 0 }
-    ensures { MatchOption result ((bytes : List ℕ) → padded_of bytes ≢ whole.now) (λ bytes. padded_of bytes.now ≡ whole.now) }
+    ensures { MatchOption result ((bytes : List ℕ) → padded_bytes bytes ≢ whole.now) (λ bytes. padded_bytes bytes.now ≡ whole.now) }
 {
     let last = *whole.last()?;
     let added = usize::from(last);

@@ -1,6 +1,6 @@
 use Rattle.std.proofs.Common.{sym, ◌∙◌}
 use Rattle.std.specs.Str.{bytes_eq}
-use Rattle.gocrypt_conf.proofs.Texts.{any_text}
+use Rattle.json_fields.proofs.Texts.{any_text}
 use Rattle.gocrypt_conf.proofs.reading.contains.Goals as goal
 
 pub returns : goal.returns

@@ -1,6 +1,6 @@
 use Rattle.std.proofs.Common.{◌≡◌, drop}
 use Rattle.gocrypt_conf.specs.Tests.{first_outside}
-use Rattle.gocrypt_conf.specs.Views.{texts_view}
+use Rattle.json_fields.specs.Views.{texts_view}
 use Rattle.gocrypt_conf.proofs.reading.first_outside.Given as goal
 
 abbrev pub invariant-loop-text : goal.invariant-loop-text

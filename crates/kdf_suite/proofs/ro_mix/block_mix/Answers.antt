@@ -1,5 +1,5 @@
-use Rattle.std.proofs.Common.{◌∙◌, ◌+◌, ◌*◌, ◌-◌, ap, arith, length, rules}
-use Rattle.kdf_suite.specs.ZipWith.{xor_each}
+use Rattle.std.proofs.Common.{◌∙◌, ◌+◌, ◌*◌, ◌-◌, ap, arith, bit_xor, length, rules}
+use Rattle.std.specs.Simd.Lanes.{zip2}
 use Rattle.kdf_suite.specs.Salsa.{salsa20_8}
 use Rattle.kdf_suite.proofs.Mixed.{IsMixed-all, IsMixed-more, IsMixed-none, block_at-is}
 use Rattle.kdf_suite.proofs.ro_mix.block_mix.Goals as goal
@@ -11,8 +11,8 @@ pairs-init c =
 
 pub pairs-preserved : goal.pairs-preserved
 pairs-preserved c =
-    let even = c.mix_block.ensures.mixed ∙ ap (λ block. salsa20_8 (xor_each c.pairs.x block)) (block_at-is c.args.input.now (2 * c.pairs.i) _ _ (omega arith) (omega arith)) in
-    let odd = c.mix_block-in-pairs.ensures.mixed ∙ ap (λ block. salsa20_8 (xor_each c.mix_block.new.x block)) (block_at-is c.args.input.now (2 * c.pairs.i + 1) _ _ (omega arith) (omega arith)) in
+    let even = c.mix_block.ensures.mixed ∙ ap (λ block. salsa20_8 (zip2 bit_xor c.pairs.x block)) (block_at-is c.args.input.now (2 * c.pairs.i) _ _ (omega arith) (omega arith)) in
+    let odd = c.mix_block-in-pairs.ensures.mixed ∙ ap (λ block. salsa20_8 (zip2 bit_xor c.mix_block.new.x block)) (block_at-is c.args.input.now (2 * c.pairs.i + 1) _ _ (omega arith) (omega arith)) in
     rw (c.mix_block-in-pairs.ensures.written, c.mix_block.ensures.written)
     (IsMixed-more c.args.r c.args.input.now c.pairs.i c.pairs.x c.pairs.output c.mix_block.new.x c.mix_block-in-pairs.new.x c.pairs-test.true (omega (arith, c.pairs.auto.output, c.requires.output)) (search rules) (search rules) even odd c.pairs.invariant)
 

@@ -1,5 +1,5 @@
-use Rattle.std.proofs.Common.{◌≡◌, ◌∙◌, ap, add-one, arith, refl}
-use Rattle.kdf_suite.specs.ZipWith.{xor_each}
+use Rattle.std.proofs.Common.{◌≡◌, ◌∙◌, ap, add-one, arith, bit_xor, refl}
+use Rattle.std.specs.Simd.Lanes.{zip2}
 use Rattle.kdf_suite.specs.RoMix.{block_mix, integerify, mixed_turns}
 use Rattle.kdf_suite.proofs.Tables.{row_at}
 use Rattle.kdf_suite.proofs.ro_mix.mix_with_table.Goals as goal
@@ -15,7 +15,7 @@ turns-preserved c = λ first table mixed.
     let row = row_at c.args.r first c.args.n c.place_in_table.result (integerify c.args.r c.turns.x) _ _ c.args.table.now table c.place_in_table.ensures.place c.place_in_table.ensures.within (omega arith) refl in
     rw (add-one, ← now)
     (c.copy_from_slice.ensures.after ∙ c.block_mix.ensures
-    ∙ ap (block_mix c.args.r) (c.xor_words.ensures ∙ ap (xor_each c.turns.x) row))
+    ∙ ap (block_mix c.args.r) (c.xor_words.ensures ∙ ap (zip2 bit_xor c.turns.x) row))
 
 pub returns : goal.returns
 returns c = λ first table mixed.

@@ -1,5 +1,5 @@
 use Rattle.std.proofs.Common.{◌≡◌, ◌∙◌, ap, arith, length, rules}
-use Rattle.kdf_suite.specs.ZipWith.{zip_with}
+use Rattle.std.specs.Simd.Lanes.{zip2}
 use Rattle.kdf_suite.specs.Salsa.{add32, salsa20_8}
 use Rattle.kdf_suite.proofs.ZipWith.{zipped_below-all, zipped_below-more}
 use Rattle.kdf_suite.proofs.salsa.salsa20_8.Goals as goal
@@ -14,4 +14,4 @@ unfolding salsa20_8
 returns c =
     let long : length c.eight_rounds-mixed.result ≡ 16 = search rules in
     zipped_below-all add32 c.args.block.now c.eight_rounds-mixed.result c.words.block c.words.i (omega (arith, c.told-block)) (omega (arith, long)) c.words.invariant
-    ∙ ap (zip_with add32 c.args.block.now) c.eight_rounds-mixed.ensures
+    ∙ ap (zip2 add32 c.args.block.now) c.eight_rounds-mixed.ensures

@@ -1,7 +1,7 @@
 use Rattle.std.proofs.Common.{◌≡◌}
-use Rattle.kdf_suite.specs.Blocks.{first_blocks}
+use Rattle.kdf_suite.specs.Blocks.{joined}
 use Rattle.kdf_suite.specs.Scrypt.{mixed_part}
 use Rattle.kdf_suite.proofs.scrypt_kdf.mix_parts.Given as goal
 
 abbrev pub invariant-parts : goal.invariant-parts
-invariant-parts l = l.mixed.items ≡ first_blocks (mixed_part l.n l.r l.parts) l.i
+invariant-parts l = l.mixed.items ≡ joined (mixed_part l.n l.r l.parts) l.i

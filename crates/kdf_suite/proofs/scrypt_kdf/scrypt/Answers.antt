@@ -1,6 +1,6 @@
 use Rattle.std.proofs.Common.{◌≡◌, ◌*◌, ◌∙◌, ap, arith, length}
 use Rattle.std.proofs.lemmas.List.{take_at}
-use Rattle.kdf_suite.specs.Blocks.{first_blocks}
+use Rattle.kdf_suite.specs.Blocks.{joined}
 use Rattle.kdf_suite.specs.Pbkdf2.{pbkdf2_sha256}
 use Rattle.kdf_suite.specs.Scrypt.{mixed_part, scrypt_key}
 use Rattle.kdf_suite.proofs.scrypt_kdf.scrypt.Goals as goal
@@ -14,6 +14,6 @@ returns-clause-key c =
     ∙ c.pbkdf2_256.ensures
     ∙ ap (pbkdf2_sha256 c.args.pass.now c.args.salt.now 1) size in
     let mixed = c.deref-2.ensures.value ∙ c.in_ok-mixed.ensures
-    ∙ ap (λ b. first_blocks (mixed_part c.n-n.result c.r-r.result b) c.p-p.result) parts in
+    ∙ ap (λ b. joined (mixed_part c.n-n.result c.r-r.result b) c.p-p.result) parts in
     rw (← c.n-n.ensures.number, ← c.r-r.ensures.number, ← c.p-p.ensures.number)
     (c.pbkdf2_256-2.ensures ∙ ap (λ salt. pbkdf2_sha256 c.args.pass.now salt 1 (length c.args.out.now)) mixed)

@@ -1,7 +1,7 @@
 use Rattle.std.proofs.Common.{arith, ℕ, ◌<◌, length, length-append, length-take}
 use Rattle.std.proofs.KnownBytes.{Consumes-kept, Consumes-trans}
 use Rattle.vault_cli.proofs.Inputs.{front-whole, front-cut}
-use Rattle.vault_cli.specs.declared.gather.TheConstants.{INPUT_LIMIT}
+use Rattle.vault_cli.specs.Gathers.{input_limit}
 use Rattle.vault_cli.proofs.gather.gather.Goals as goal
 
 pub returns-in-Err-clause-takes : goal.returns-in-Err-clause-takes
@@ -17,10 +17,10 @@ returns-in-Ok-eq0-clause-front g c =
     let moved = rw c.in-Ok-eq0.field-0-test at c.in-Ok-eq0.ensures.moved in
     let room : 0 < length c.take.new.out = omega (arith, length-take {A = ℕ}) in
     let end = c.in-Ok-eq0.ensures.end c.in-Ok-eq0.field-0-test room in
-    front-whole INPUT_LIMIT _ _ _ c.pieces.bytes.items c.pieces.invariant.0 moved end.1 (omega arith)
+    front-whole input_limit _ _ _ c.pieces.bytes.items c.pieces.invariant.0 moved end.1 (omega arith)
 
 pub returns-clause-front : goal.returns-clause-front
-returns-clause-front g c = rw c.truncate.ensures.items (front-cut INPUT_LIMIT _ _ c.pieces.bytes.items c.pieces.invariant.0 (omega arith))
+returns-clause-front g c = rw c.truncate.ensures.items (front-cut input_limit _ _ c.pieces.bytes.items c.pieces.invariant.0 (omega arith))
 
 pub returns-clause-takes : goal.returns-clause-takes
 returns-clause-takes g c = (c.pieces.bytes.items, omega arith, c.pieces.invariant.0)

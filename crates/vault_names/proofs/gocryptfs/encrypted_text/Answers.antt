@@ -1,5 +1,5 @@
 use Rattle.std.proofs.Common.{◌≡◌, ◌/◌, length, ap, ◌∙◌}
-use Rattle.vault_names.specs.Gocryptfs.{padded}
+use Rattle.vault_names.specs.Gocryptfs.{padded_bytes}
 use Rattle.vault_names.proofs.Encryption.{some_blocks, few_blocks}
 use Rattle.vault_names.proofs.gocryptfs.encrypted_text.Goals as goal
 
@@ -10,10 +10,10 @@ count c =
 
 pub encrypt-requires-clause-some : goal.encrypt-requires-clause-some
 encrypt-requires-clause-some c =
-    let same : c.in_ok-whole.whole.items ≡ padded c.args.name.now = c.in_ok-whole.ensures ∙ ap padded c.bytes.ensures.value in
+    let same : c.in_ok-whole.whole.items ≡ padded_bytes c.args.name.now = c.in_ok-whole.ensures ∙ ap padded_bytes c.bytes.ensures.value in
     rw (count c) (some_blocks c.args.name.now _ same)
 
 pub encrypt-requires-clause-most : goal.encrypt-requires-clause-most
 encrypt-requires-clause-most c =
-    let same : c.in_ok-whole.whole.items ≡ padded c.args.name.now = c.in_ok-whole.ensures ∙ ap padded c.bytes.ensures.value in
+    let same : c.in_ok-whole.whole.items ≡ padded_bytes c.args.name.now = c.in_ok-whole.ensures ∙ ap padded_bytes c.bytes.ensures.value in
     rw (count c) (few_blocks c.args.name.now _ c.bytes.ensures.named same)

@@ -1,0 +1,4 @@
+pub mod Base64
+pub mod Objects
+pub mod Plain
+pub mod Texts

@@ -1,0 +1,17 @@
+//! Laws of base64 and of its texts in JSON. Each function does nothing, and its clause is the law.
+
+ghost use Rattle.std.specs.Prelude.{◌≡◌, ℕ, List};
+ghost use Rattle.json.specs.Print.{escape};
+ghost use Rattle.base64.specs.GeneralPurpose.{IsBytes};
+ghost use Rattle.json_fields.specs.declared.base64_text.Alphabet.{Alphabet};
+ghost use Rattle.json_fields.specs.Base64.{encoded_by, ReadsEncodings};
+
+/// A text is read as bytes exactly where it is their base64.
+pub fn base64_is_exact()
+    ensures { (alphabet : Alphabet) → ReadsEncodings alphabet }
+{}
+
+/// Base64 stands in a JSON string as it is.
+pub fn base64_is_plain()
+    ensures { (bytes : List ℕ) → IsBytes bytes → escape (encoded_by Alphabet.Standard bytes) ≡ encoded_by Alphabet.Standard bytes }
+{}

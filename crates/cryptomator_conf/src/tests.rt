@@ -15,9 +15,14 @@ const ZEROS: &str =
 
 // The keys of the files below, which Python's HMAC, key wrap and JSON made.
 const KEYS: CmKeys = CmKeys {
-    enc: *b"\x00\x01\x02\x03\x04\x05\x06\x07\x08\x09\x0a\x0b\x0c\x0d\x0e\x0f\x10\x11\x12\x13\x14\x15\x16\x17\x18\x19\x1a\x1b\x1c\x1d\x1e\x1f",
-    mac: *b" !\"#$%&'()*+,-./0123456789:;<=>?",
+    enc: *ENC,
+    mac: *MAC,
 };
+
+const ENC: &[u8; 32] =
+    b"\x00\x01\x02\x03\x04\x05\x06\x07\x08\x09\x0a\x0b\x0c\x0d\x0e\x0f\x10\x11\x12\x13\x14\x15\x16\x17\x18\x19\x1a\x1b\x1c\x1d\x1e\x1f";
+
+const MAC: &[u8; 32] = b" !\"#$%&'()*+,-./0123456789:;<=>?";
 
 // For the passphrase `demo`, the cost 1024, 8 and the bytes 0x40 to 0x57 as salt and id.
 const MASTER: &str =
@@ -229,8 +234,8 @@ fn makes_what_another_program_wrote(rt: HostRuntime) -> Result<(), Fail> {
     let alloc = rt.alloc();
     let cost = ScryptCost::new(1024, 8, 1).ok().ok_or("a cost")?;
     let drawn = CmDraw {
-        enc: KEYS.enc,
-        mac: KEYS.mac,
+        enc: *ENC,
+        mac: *MAC,
         salt: *b"@ABCDEFG",
         jti: *b"HIJKLMNOPQRSTUVW",
     };

@@ -1,2 +1,2 @@
 mod Masks
-pub mod Undone
+mod Undone

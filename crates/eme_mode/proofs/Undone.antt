@@ -9,7 +9,7 @@ use Rattle.aes_lanes.proofs.Bytes.{byte_at-lt}
 use Rattle.aes_lanes.specs.Laws.Sums.{xor_bytes-twice, xor_bytes-swap, xor_bytes-regroup}
 use Rattle.aes_lanes.specs.Laws.Rounds.{IsBlock-xor}
 use Rattle.aes_lanes.specs.BlockCipher.{AreInverse}
-use Rattle.eme_mode.specs.Eme.{doubled, masked, sum_from, mixed, mixed_by, eme_by}
+use Rattle.eme_mode.specs.Eme.{times_two, with_masks, sum_from, ccc_of, eme_by}
 
 -- a double is a block
 length-bytes_low_first : (i k n : ℕ) → length (bytes_low_first i k n) ≡ k
@@ -24,9 +24,9 @@ bytes_low_first-lt i (suc k) n (suc j) = bytes_low_first-lt (suc i) k n j
 IsBlock-bytes_low_first : (n : ℕ) → IsBlock (bytes_low_first 0 16 n)
 IsBlock-bytes_low_first n = record { sixteen = length-bytes_low_first 0 16 n; bytes = bytes_low_first-lt 0 16 n }
 
-pub IsBlock-doubled : (block : List ℕ) → IsBlock (doubled block)
-unfolding doubled
-IsBlock-doubled block =
+pub IsBlock-times_two : (block : List ℕ) → IsBlock (times_two block)
+unfolding times_two
+IsBlock-times_two block =
     let n = from_le_bytes w128 block in
     IsBlock-bytes_low_first (bit_xor (n * 2 % 2 ^ 128) (n / 2 ^ 127 * 0x87))
 
@@ -40,24 +40,24 @@ xor-around : (a b : List ℕ) → IsBlock a → IsBlock b → xor_bytes b (xor_b
 xor-around a b is_a is_b = xor_bytes-swap b (xor_bytes a b) ∙ xor-twice a b is_a is_b
 
 -- masks
-length-masked : (mask : List ℕ) (blocks : List (List ℕ)) → length (masked mask blocks) ≡ length blocks
-unfolding masked
+length-masked : (mask : List ℕ) (blocks : List (List ℕ)) → length (with_masks mask blocks) ≡ length blocks
+unfolding with_masks
 length-masked mask [] = refl
-length-masked mask (block ∷ blocks) = ap suc (length-masked (doubled mask) blocks)
+length-masked mask (block ∷ blocks) = ap suc (length-masked (times_two mask) blocks)
 
-IsBlock-masked : (mask : List ℕ) (blocks : List (List ℕ)) → IsBlock mask → All IsBlock blocks → All IsBlock (masked mask blocks)
-unfolding masked
+IsBlock-masked : (mask : List ℕ) (blocks : List (List ℕ)) → IsBlock mask → All IsBlock blocks → All IsBlock (with_masks mask blocks)
+unfolding with_masks
 IsBlock-masked mask [] m bs = All-nil IsBlock
 IsBlock-masked mask (block ∷ blocks) m bs =
     All-cons IsBlock _ _ (IsBlock-xor block mask (All-head IsBlock _ _ bs) m)
-    (IsBlock-masked (doubled mask) blocks (IsBlock-doubled mask) (All-tail IsBlock _ _ bs))
+    (IsBlock-masked (times_two mask) blocks (IsBlock-times_two mask) (All-tail IsBlock _ _ bs))
 
-masked-twice : (mask : List ℕ) (blocks : List (List ℕ)) → IsBlock mask → All IsBlock blocks → masked mask (masked mask blocks) ≡ blocks
-unfolding masked
+masked-twice : (mask : List ℕ) (blocks : List (List ℕ)) → IsBlock mask → All IsBlock blocks → with_masks mask (with_masks mask blocks) ≡ blocks
+unfolding with_masks
 masked-twice mask [] m bs = refl
 masked-twice mask (block ∷ blocks) m bs =
-    ap (λ b. b ∷ masked (doubled mask) (masked (doubled mask) blocks)) (xor-twice block mask (All-head IsBlock _ _ bs) m)
-    ∙ ap (λ bs. block ∷ bs) (masked-twice (doubled mask) blocks (IsBlock-doubled mask) (All-tail IsBlock _ _ bs))
+    ap (λ b. b ∷ with_masks (times_two mask) (with_masks (times_two mask) blocks)) (xor-twice block mask (All-head IsBlock _ _ bs) m)
+    ∙ ap (λ bs. block ∷ bs) (masked-twice (times_two mask) blocks (IsBlock-times_two mask) (All-tail IsBlock _ _ bs))
 
 -- sums
 IsBlock-sum_from : (first : List ℕ) (blocks : List (List ℕ)) → IsBlock first → All IsBlock blocks → IsBlock (sum_from first blocks)
@@ -89,18 +89,24 @@ sum_from-around a b blocks is_a is_b bs =
     ∙ ap (xor_bytes b) (sum_from-twice (xor_bytes a b) blocks (IsBlock-xor a b is_a is_b) bs)
     ∙ xor-around a b is_a is_b
 
--- mixing
-length-mixed : (tweak mp mc : List ℕ) (blocks : List (List ℕ)) → length (mixed tweak mp mc blocks) ≡ length blocks
-unfolding mixed
-length-mixed tweak mp mc [] = refl
-length-mixed tweak mp mc (first ∷ rest) = ap suc (length-masked (doubled (xor_bytes mp mc)) rest)
+-- CCC of PPP, by MP and MC, and by the block function
+abbrev mixed : List ℕ → List ℕ → List ℕ → List (List ℕ) → List (List ℕ)
+mixed tweak mp mc blocks = ccc_of tweak mc (xor_bytes mp mc) blocks
 
-IsBlock-others : (mp mc : List ℕ) (rest : List (List ℕ)) → All IsBlock rest → All IsBlock (masked (doubled (xor_bytes mp mc)) rest)
-IsBlock-others mp mc rest bs = IsBlock-masked _ rest (IsBlock-doubled (xor_bytes mp mc)) bs
+abbrev mixed_by : (List ℕ → List ℕ) → List ℕ → List (List ℕ) → List (List ℕ)
+mixed_by f tweak blocks = mixed tweak (sum_from tweak blocks) (f (sum_from tweak blocks)) blocks
+
+length-mixed : (tweak mp mc : List ℕ) (blocks : List (List ℕ)) → length (mixed tweak mp mc blocks) ≡ length blocks
+unfolding ccc_of
+length-mixed tweak mp mc [] = refl
+length-mixed tweak mp mc (first ∷ rest) = ap suc (length-masked (times_two (xor_bytes mp mc)) rest)
+
+IsBlock-others : (mp mc : List ℕ) (rest : List (List ℕ)) → All IsBlock rest → All IsBlock (with_masks (times_two (xor_bytes mp mc)) rest)
+IsBlock-others mp mc rest bs = IsBlock-masked _ rest (IsBlock-times_two (xor_bytes mp mc)) bs
 
 IsBlock-mixed : (tweak mp mc : List ℕ) (blocks : List (List ℕ)) → IsBlock tweak → IsBlock mc → All IsBlock blocks
     → All IsBlock (mixed tweak mp mc blocks)
-unfolding mixed
+unfolding ccc_of
 IsBlock-mixed tweak mp mc [] is_tweak is_mc bs = All-nil IsBlock
 IsBlock-mixed tweak mp mc (first ∷ rest) is_tweak is_mc bs =
     let others = IsBlock-others mp mc rest (All-tail IsBlock _ _ bs) in
@@ -109,24 +115,24 @@ IsBlock-mixed tweak mp mc (first ∷ rest) is_tweak is_mc bs =
 -- what was mixed has MC as its sum with the tweak
 sum_from-mixed : (tweak mp mc first : List ℕ) (rest : List (List ℕ)) → IsBlock tweak → IsBlock mc → All IsBlock rest
     → sum_from tweak (mixed tweak mp mc (first ∷ rest)) ≡ mc
-unfolding mixed
+unfolding ccc_of
 sum_from-mixed tweak mp mc first rest is_tweak is_mc bs =
-    sum_from-around mc tweak (masked (doubled (xor_bytes mp mc)) rest) is_mc is_tweak (IsBlock-others mp mc rest bs)
+    sum_from-around mc tweak (with_masks (times_two (xor_bytes mp mc)) rest) is_mc is_tweak (IsBlock-others mp mc rest bs)
 
 -- mixing once more, with MP and MC exchanged
 mixed-twice : (tweak mp mc first : List ℕ) (rest : List (List ℕ)) → IsBlock tweak → IsBlock first → All IsBlock rest
     → mp ≡ sum_from tweak (first ∷ rest) → mixed tweak mc mp (mixed tweak mp mc (first ∷ rest)) ≡ first ∷ rest
-unfolding mixed
+unfolding ccc_of
 mixed-twice tweak mp mc first rest is_tweak is_first bs sum =
-    let others : masked (doubled (xor_bytes mc mp)) (masked (doubled (xor_bytes mp mc)) rest) ≡ rest =
-    rw (xor_bytes-swap mc mp) (masked-twice _ rest (IsBlock-doubled (xor_bytes mp mc)) bs) in
+    let others : with_masks (times_two (xor_bytes mc mp)) (with_masks (times_two (xor_bytes mp mc)) rest) ≡ rest =
+    rw (xor_bytes-swap mc mp) (masked-twice _ rest (IsBlock-times_two (xor_bytes mp mc)) bs) in
     let back : sum_from (xor_bytes mp tweak) rest ≡ first =
     rw (xor_bytes-swap mp tweak, sum, xor_bytes-swap tweak first) (sum_from-around first tweak rest is_first is_tweak bs) in
     rw (others, back) refl
 
 mixed_by-undone : (f g : List ℕ → List ℕ) → AreInverse f g → (tweak : List ℕ) (blocks : List (List ℕ)) → IsBlock tweak → All IsBlock blocks
     → mixed_by g tweak (mixed_by f tweak blocks) ≡ blocks
-unfolding mixed
+unfolding ccc_of
 mixed_by-undone f g undo tweak [] is_tweak bs = refl
 mixed_by-undone f g undo tweak (first ∷ rest) is_tweak bs =
     let mp : List ℕ = sum_from tweak (first ∷ rest) in
@@ -161,9 +167,9 @@ turned f g undo = record { block = undo.block_back; block_back = undo.block; bac
 pub length-eme_by : (f : List ℕ → List ℕ) (mask tweak : List ℕ) (blocks : List (List ℕ)) → length (eme_by f mask tweak blocks) ≡ length blocks
 unfolding eme_by
 length-eme_by f mask tweak blocks =
-    let called : List (List ℕ) = map f (masked mask blocks) in
+    let called : List (List ℕ) = map f (with_masks mask blocks) in
     length-masked mask (map f (mixed_by f tweak called)) ∙ length-map (mixed_by f tweak called) f ∙ length-mixed tweak _ _ called
-    ∙ length-map (masked mask blocks) f ∙ length-masked mask blocks
+    ∙ length-map (with_masks mask blocks) f ∙ length-masked mask blocks
 
 pub IsBlock-eme_by : (f : List ℕ → List ℕ) → ((b : List ℕ) → IsBlock b → IsBlock (f b)) → (mask tweak : List ℕ) (blocks : List (List ℕ))
     → IsBlock mask → IsBlock tweak → All IsBlock blocks → All IsBlock (eme_by f mask tweak blocks)
@@ -177,12 +183,12 @@ pub eme_by-undone : (f g : List ℕ → List ℕ) → AreInverse f g → (mask t
 unfolding eme_by
 eme_by-undone f g undo mask tweak blocks is_mask is_tweak bs =
     let are_masked = IsBlock-masked mask blocks is_mask bs in
-    let called : List (List ℕ) = map f (masked mask blocks) in
+    let called : List (List ℕ) = map f (with_masks mask blocks) in
     let are_called : All IsBlock called = IsBlock-map f undo.block _ are_masked in
     let mixed_once : List (List ℕ) = mixed_by f tweak called in
     let are_mixed : All IsBlock mixed_once = IsBlock-mixed_by f undo.block tweak called is_tweak are_called in
-    ap (λ bs. masked mask (map g (mixed_by g tweak (map g bs)))) (masked-twice mask _ is_mask (IsBlock-map f undo.block mixed_once are_mixed))
-    ∙ ap (λ bs. masked mask (map g (mixed_by g tweak bs))) (map-undone f g undo mixed_once are_mixed)
-    ∙ ap (λ bs. masked mask (map g bs)) (mixed_by-undone f g undo tweak called is_tweak are_called)
-    ∙ ap (masked mask) (map-undone f g undo _ are_masked)
+    ap (λ bs. with_masks mask (map g (mixed_by g tweak (map g bs)))) (masked-twice mask _ is_mask (IsBlock-map f undo.block mixed_once are_mixed))
+    ∙ ap (λ bs. with_masks mask (map g (mixed_by g tweak bs))) (map-undone f g undo mixed_once are_mixed)
+    ∙ ap (λ bs. with_masks mask (map g bs)) (mixed_by-undone f g undo tweak called is_tweak are_called)
+    ∙ ap (with_masks mask) (map-undone f g undo _ are_masked)
     ∙ masked-twice mask blocks is_mask bs

@@ -3,10 +3,12 @@
 //! Nothing here takes memory.
 #![tactic(auto)]
 
-ghost use Rattle.std.specs.Prelude.{◌≡◌, ◌<◌, ◌≤◌, ℕ, List, length};
-ghost use Rattle.eme_mode.specs.Eme.{doubled, masked, sum_from, mixed, first_mask, eme256, inverse_eme256};
+ghost use Rattle.std.specs.Prelude.{◌≡◌, ◌<◌, ◌≤◌, ℕ, List, length, All};
+ghost use Rattle.eme_mode.specs.Eme.{times_two, with_masks, sum_from, ccc_of, first_mask, eme256, inverse_eme256};
+ghost use Rattle.aes_lanes.specs.Bytes.{xor_bytes, IsBlock};
 
 use aes_lanes::{Block, Cipher, Key256, xor_into};
+use laws::directions_undo_each_other;
 use std::marker::Model;
 
 pub mod laws;
@@ -49,12 +51,15 @@ impl Eme {
         add_masks(blocks, &mask);
     }
 
-    /// Decrypts 1 to 128 blocks in place.
+    /// Decrypts 1 to 128 blocks in place: they become those that encrypt to them.
     pub fn decrypt(&self, tweak: &Block, blocks: &mut [Block])
         requires some { 0 < length blocks.old }
         requires most { length blocks.old ≤ 128 }
-        ensures { blocks.new ≡ inverse_eme256 self.now tweak.now blocks.old }
+        ensures decrypted { blocks.new ≡ inverse_eme256 self.now tweak.now blocks.old }
+        ensures back { eme256 self.now tweak.now blocks.new ≡ blocks.old }
     {
+        are_blocks(blocks);
+        directions_undo_each_other();
         let mask = first_mask(&self.key);
         add_masks(blocks, &mask);
         self.key.decrypt_blocks(blocks);
@@ -67,7 +72,7 @@ impl Eme {
     }
 }
 
-// The first mask: the double of the zero block's image.
+// The first mask: the zero block's image times two.
 fn first_mask(key: &Key256) -> Block
     ensures { result ≡ first_mask key.now }
 {
@@ -77,9 +82,9 @@ fn first_mask(key: &Key256) -> Block
 }
 
 // The block times two.
-#[tactic(auto, unfolding(crate::specs::Eme::doubled))]
+#[tactic(auto, unfolding(crate::specs::Eme::times_two))]
 fn double(block: &Block) -> Block
-    ensures { result ≡ doubled block.now }
+    ensures { result ≡ times_two block.now }
 {
     let number = u128::from_le_bytes(*block);
     ((number << 1) ^ ((number >> 127) * 0x87)).to_le_bytes()
@@ -87,7 +92,7 @@ fn double(block: &Block) -> Block
 
 // Adds a mask to the first block, and to each next one the mask's double.
 fn add_masks(blocks: &mut [Block], first: &Block)
-    ensures { blocks.new ≡ masked first.now blocks.old }
+    ensures { blocks.new ≡ with_masks first.now blocks.old }
 {
     let mut mask = *first;
     for block in blocks.iter_mut() {
@@ -108,9 +113,9 @@ fn sum_of(first: &Block, blocks: &[Block]) -> Block
     sum
 }
 
-// Mixes blocks whose sum with the tweak is `sum`, and that sum's image is `image`.
+// Makes CCC of PPP, whose sum with the tweak is MP, `sum`, of which MC is the `image`.
 fn mix(tweak: &Block, sum: &Block, image: &Block, blocks: &mut [Block])
-    ensures { blocks.new ≡ mixed tweak.now sum.now image.now blocks.old }
+    ensures { blocks.new ≡ ccc_of tweak.now image.now (xor_bytes sum.now image.now) blocks.old }
 {
     let mut step = *sum;
     xor_into(&mut step, image);
@@ -121,4 +126,19 @@ fn mix(tweak: &Block, sum: &Block, image: &Block, blocks: &mut [Block])
     let mut start = *image;
     xor_into(&mut start, tweak);
     *first = sum_of(&start, rest);
+}
+
+// Each of these is sixteen bytes, as its type says.
+fn are_blocks(blocks: &[Block])
+    ensures { All IsBlock blocks.now }
+{
+    for block in blocks {
+        is_block(block);
+    }
+}
+
+fn is_block(block: &Block)
+    ensures { IsBlock block.now }
+{
+    let _bytes = block.as_slice();
 }

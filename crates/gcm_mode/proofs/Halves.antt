@@ -6,7 +6,7 @@ use Rattle.std.proofs.lemmas.Nat.Bits.{bit_at_xor, bit_at_lowest, bit_at-lt}
 use Rattle.gcm_mode.specs.Field.{reduction, times_u, coefficient, times_power, terms, product}
 use Rattle.gcm_mode.proofs.Linear.{term-xor, pairs, zero-times}
 
-times_u-xor : (a b : ℕ) → times_u (bit_xor a b) ≡ bit_xor (times_u a) (times_u b)
+pub times_u-xor : (a b : ℕ) → times_u (bit_xor a b) ≡ bit_xor (times_u a) (times_u b)
 unfolding times_u
 times_u-xor a b =
     let last : bit_xor a b % 2 ≡ (a % 2 + b % 2) % 2 = sym (bit_at_lowest (bit_xor a b)) ∙ bit_at_xor a b 0 ∙ ap₂ (λ (m n : ℕ). (m + n) % 2) (bit_at_lowest a) (bit_at_lowest b) in

@@ -1,10 +1,11 @@
-pub mod Blocks
-pub mod Counters
-pub mod Halves
-pub mod Hashes
-pub mod Linear
+mod Algebra
+mod Blocks
+mod Counters
+mod Halves
+mod Hashes
+mod Linear
 pub mod Modes
-pub mod Nibbles
-pub mod Rows
+mod Nibbles
+mod Rows
 pub mod SealedBytes
-pub mod Terms
+mod Terms

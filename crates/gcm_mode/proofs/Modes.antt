@@ -5,27 +5,28 @@ use Rattle.aes_lanes.specs.Cipher.{aes256}
 use Rattle.aes_lanes.specs.Counter.{ctr32, increment32}
 use Rattle.aes_lanes.specs.Laws.Cipher.{length-aes}
 use Rattle.gcm_mode.specs.Field.{product}
-use Rattle.gcm_mode.specs.Hash.{ghash, ghash_from, padded, block_bytes}
+use Rattle.gcm_mode.specs.Hash.{blocks_of, block_bytes}
+use Rattle.gcm_mode.specs.Private.{ghash_from}
 use Rattle.gcm_mode.specs.Gcm.{hash_subkey, pre_counter, lengths_block, hashed, tag_of, encrypted, Sealed, sealed, Opens, OpensToOneText}
-use Rattle.gcm_mode.proofs.Hashes.{ghash_from-append}
+use Rattle.gcm_mode.proofs.Hashes.{ghash_from-append, ghash-last}
 use Rattle.aes_lanes.proofs.CounterSteps.{counter_mode-twice, length-counter_mode}
 
 pub pre_counter-short : (image : List ℕ → List ℕ) (iv : List ℕ) → length iv ≡ 12 → pre_counter image iv ≡ iv ++ 0 ∷ 0 ∷ 0 ∷ 1 ∷ []
 unfolding pre_counter
 pre_counter-short image iv twelve = rw (eq-eqb (length iv) 12 twelve)
 
-pub pre_counter-hashed : (image : List ℕ → List ℕ) (iv : List ℕ) (h hash : ℕ) → length iv ≢ 12 → h ≡ hash_subkey image → hash ≡ ghash_from h 0 (padded iv) → block_bytes (product (bit_xor hash (8 * length iv)) h) ≡ pre_counter image iv
-unfolding pre_counter ghash ghash_from
+pub pre_counter-hashed : (image : List ℕ → List ℕ) (iv : List ℕ) (h hash : ℕ) → length iv ≢ 12 → h ≡ hash_subkey image → hash ≡ ghash_from h 0 (blocks_of iv) → block_bytes (product (bit_xor hash (8 * length iv)) h) ≡ pre_counter image iv
+unfolding pre_counter
 pre_counter-hashed image iv h hash other subkey at =
     rw (at, subkey) (elim (eqb_tells (length iv) 12) [
       | inl twelve ↦ absurd (other twelve.1)
-      | inr test ↦ rw (test.0, ghash_from-append)
+      | inr test ↦ rw (test.0, ghash-last) refl
     ])
 
-pub hashed-is : (image : List ℕ → List ℕ) (ad text : List ℕ) (h first hash : ℕ) → h ≡ hash_subkey image → first ≡ ghash_from h 0 (padded ad) → hash ≡ ghash_from h first (padded text) → product (bit_xor hash (lengths_block ad text)) h ≡ hashed image ad text
-unfolding hashed ghash ghash_from
+pub hashed-is : (image : List ℕ → List ℕ) (ad text : List ℕ) (h first hash : ℕ) → h ≡ hash_subkey image → first ≡ ghash_from h 0 (blocks_of ad) → hash ≡ ghash_from h first (blocks_of text) → product (bit_xor hash (lengths_block ad text)) h ≡ hashed image ad text
+unfolding hashed
 hashed-is image ad text h first hash subkey one two =
-    rw (two, one, subkey) (sym (rw (ghash_from-append, ghash_from-append) refl))
+    rw (two, one, subkey) (sym (rw (ghash-last, ghash_from-append) refl))
 
 -- a text that opens a sealed one shows the tag to be the sealed one's
 pub tag-opened : (image : List ℕ → List ℕ) (iv ad : List ℕ) (s : Sealed) (plain : List ℕ) → Opens image iv ad s plain → s.tag ≡ tag_of image iv ad s.text

@@ -2,7 +2,7 @@
 use Rattle.std.proofs.Common.{◌≡◌, ◌≢◌, ℕ, ◌+◌, ◌<◌, ◌≤◌, List, [], ◌⊎◌, inl, inr, length, get_or, set, sym, ap, ◌∙◌, subst, arith, get_or-set_same, get_or-set_other}
 use Rattle.std.proofs.lemmas.Bool.{cases_eq}
 use Rattle.gcm_mode.specs.Field.{times_power}
-use Rattle.gcm_mode.specs.Products.{IsRow}
+use Rattle.gcm_mode.specs.Private.{IsRow}
 use Rattle.gcm_mode.proofs.Halves.{product-nibble}
 
 -- a row whose products are u^4 times those of another is the row of the place before

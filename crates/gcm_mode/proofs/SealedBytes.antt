@@ -5,7 +5,7 @@ use Rattle.aes_lanes.specs.Cipher.{aes256}
 use Rattle.aes_lanes.proofs.Bytes.{bytes-append, bytes-high_first, length-high_first}
 use Rattle.aes_lanes.specs.Laws.Cipher.{aes-undone, length-aes}
 use Rattle.aes_lanes.proofs.CounterBytes.{IsBlock-increment, bytes-counter_mode}
-use Rattle.gcm_mode.specs.Hash.{block_bytes, ghash, padded}
+use Rattle.gcm_mode.specs.Hash.{block_bytes, ghash, blocks_of}
 use Rattle.gcm_mode.specs.Gcm.{pre_counter, hash_subkey, encrypted, tag_of}
 
 IsBlock-block_bytes : (n : ℕ) → IsBlock (block_bytes n)
@@ -28,7 +28,7 @@ IsBlock-short_counter iv bytes twelve = record {
 IsBlock-pre_counter : (key iv : List ℕ) → AreBytes iv → IsBlock (pre_counter (aes256 key) iv)
 unfolding pre_counter
 IsBlock-pre_counter key iv bytes =
-    let hash : ℕ = ghash (hash_subkey (aes256 key)) (padded iv ++ 8 * length iv ∷ []) in
+    let hash : ℕ = ghash (hash_subkey (aes256 key)) (blocks_of iv ++ 8 * length iv ∷ []) in
     elim (nat_eq (length iv) 12) as (λ t. nat_eq (length iv) 12 ≡ t → IsBlock (cond t (iv ++ 0 ∷ 0 ∷ 0 ∷ 1 ∷ []) (block_bytes hash))) [
       | true ↦ λ e. IsBlock-short_counter iv bytes (eqb-true (length iv) 12 e)
       | false ↦ λ e. IsBlock-block_bytes hash

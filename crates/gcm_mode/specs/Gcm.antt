@@ -2,7 +2,7 @@
 use Rattle.std.specs.Prelude.{◌≡◌, ℕ, ◌+◌, ◌*◌, ◌^◌, List, [], ◌∷◌, ◌++◌, length, replicate, ◌==◌, if◌then◌else◌}
 use Rattle.aes_lanes.specs.Cipher.{aes256}
 use Rattle.aes_lanes.specs.Counter.{ctr32, increment32}
-use Rattle.gcm_mode.specs.Hash.{block_number, block_bytes, ghash, padded}
+use Rattle.gcm_mode.specs.Hash.{block_number, block_bytes, ghash, blocks_of}
 
 -- the hash subkey H: the image of the zero block
 unfoldable pub hash_subkey : (List ℕ → List ℕ) → ℕ
@@ -14,7 +14,7 @@ unfoldable pub pre_counter : (List ℕ → List ℕ) → List ℕ → List ℕ
 pre_counter image iv =
     if length iv == 12
     then iv ++ 0 ∷ 0 ∷ 0 ∷ 1 ∷ []
-    else block_bytes (ghash (hash_subkey image) (padded iv ++ 8 * length iv ∷ []))
+    else block_bytes (ghash (hash_subkey image) (blocks_of iv ++ 8 * length iv ∷ []))
 
 -- the block of two lengths in bits, of 64 bits each
 unfoldable pub lengths_block : List ℕ → List ℕ → ℕ
@@ -22,7 +22,7 @@ lengths_block ad text = 8 * length ad * 2 ^ 64 + 8 * length text
 
 -- the block S: GHASH of the associated data, the encrypted text and their lengths
 unfoldable pub hashed : (List ℕ → List ℕ) → List ℕ → List ℕ → ℕ
-hashed image ad text = ghash (hash_subkey image) (padded ad ++ padded text ++ lengths_block ad text ∷ [])
+hashed image ad text = ghash (hash_subkey image) (blocks_of ad ++ blocks_of text ++ lengths_block ad text ∷ [])
 
 -- the tag T of an encrypted text: S, encrypted from J0 on
 unfoldable pub tag_of : (List ℕ → List ℕ) → List ℕ → List ℕ → List ℕ → List ℕ

@@ -1,5 +1,5 @@
 -- GCM as NIST SP 800-38D defines it, from the field up.
 pub mod Field
 pub mod Hash
-pub mod Products
 pub mod Gcm
+pub mod Private

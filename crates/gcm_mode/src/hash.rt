@@ -1,7 +1,8 @@
 // GHASH over byte strings, each padded with zeros to whole blocks.
 
 ghost use Rattle.std.specs.Prelude.{◌≡◌, ◌*◌, ◌^◌, ◌≤◌, length};
-ghost use Rattle.gcm_mode.specs.Hash.{block_number, ghash_from, padded};
+ghost use Rattle.gcm_mode.specs.Hash.{block_number, blocks_of};
+ghost use Rattle.gcm_mode.specs.Private.{ghash_from};
 
 use super::products::Products;
 
@@ -17,7 +18,7 @@ fn block_of(bytes: &[u8]) -> u128
 
 // GHASH goes on from `hash` over `bytes`.
 pub fn hash_on(products: &Products, mut hash: u128, bytes: &[u8]) -> u128
-    ensures { result ≡ ghash_from products.now hash (padded bytes.now) }
+    ensures { result ≡ ghash_from products.now hash (blocks_of bytes.now) }
 {
     let mut rest = bytes;
     while !rest.is_empty() {

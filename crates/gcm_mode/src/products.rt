@@ -2,7 +2,7 @@
 
 ghost use Rattle.std.specs.Prelude.{◌≡◌, ℕ, ◌+◌, ◌<◌};
 ghost use Rattle.gcm_mode.specs.Field.{product as product_of};
-ghost use Rattle.gcm_mode.specs.Products.{IsRow, AreRows};
+ghost use Rattle.gcm_mode.specs.Private.{IsRow, AreRows};
 
 use super::field::{product, times_u4};
 use std::marker::Model;

@@ -1,2 +1,2 @@
-pub mod Steps
-pub mod Wraps
+mod Steps
+mod Wraps

@@ -7,7 +7,8 @@ use Rattle.aes_lanes.specs.Bytes.{IsBlock, xor_bytes}
 use Rattle.aes_lanes.specs.Laws.Sums.{length-xor_bytes}
 use Rattle.aes_lanes.specs.Laws.Sums.{xor_bytes-twice}
 use Rattle.aes_lanes.specs.Laws.Sums.{gathered}
-use Rattle.key_wrap.specs.Wrap.{numbered, step, IsState}
+use Rattle.key_wrap.specs.Wrap.{numbered, step}
+use Rattle.key_wrap.specs.Private.{IsState}
 use Rattle.aes_lanes.proofs.Bytes.{bytes-drop, bytes-append, bytes-take, bytes-xor, bytes-high_first}
 use Rattle.aes_lanes.specs.BlockCipher.{AreInverse}
 

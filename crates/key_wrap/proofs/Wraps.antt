@@ -1,8 +1,9 @@
 -- Steps one after the other, and whole wrappings.
 use Rattle.std.proofs.Common.{◌≡◌, ℕ, zero, suc, ◌*◌, ◌/◌, ◌↔◌, List, ◌++◌, length, take, drop, refl, sym, ap, ◌∙◌, arith, lit<, length-append}
 use Rattle.std.proofs.lemmas.List.{take_at, drop_at, take-append-drop, length-drop}
-use Rattle.aes_lanes.specs.Cipher.{aes256}
-use Rattle.key_wrap.specs.Wrap.{step, steps, wrapped, initial_value, IsState, IsKey, Unwraps, UnwrapsToOneKey}
+use Rattle.aes_lanes.specs.Cipher.{aes256, inverse_aes256}
+use Rattle.key_wrap.specs.Wrap.{step, steps, wrapped, initial_value, IsKey, Unwraps, UnwrapsToOneKey}
+use Rattle.key_wrap.specs.Private.{IsState}
 use Rattle.aes_lanes.proofs.Bytes.{bytes-append, bytes-replicate}
 use Rattle.aes_lanes.specs.BlockCipher.{AreInverse}
 use Rattle.aes_lanes.specs.Laws.Cipher.{aes-undone}
@@ -36,6 +37,11 @@ IsState-start key is_key = record {
 pub wrapped-steps : (image : List ℕ → List ℕ) (key : List ℕ) → length key ≡ 32 → wrapped image key ≡ steps image 24 (initial_value ++ key)
 unfolding wrapped
 wrapped-steps image key h = ap (λ n. steps image (6 * (n / 8)) (initial_value ++ key)) h
+
+pub IsState-wrapped : (kek key : List ℕ) → IsKey key → IsState (wrapped (aes256 kek) key)
+IsState-wrapped kek key is_key =
+    rw (wrapped-steps (aes256 kek) key is_key.thirty_two)
+    (IsState-steps (aes256 kek) (inverse_aes256 kek) 24 (initial_value ++ key) (aes-undone 8 kek) (IsState-start key is_key))
 
 pub unwraps_once : UnwrapsToOneKey
 unwraps_once kek bytes key other one two first second =

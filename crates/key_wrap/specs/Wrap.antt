@@ -28,11 +28,6 @@ steps image (suc t) state = step image (suc t) (steps image t state)
 unfoldable pub wrapped : (List ℕ → List ℕ) → List ℕ → List ℕ
 wrapped image key = steps image (6 * (length key / 8)) (initial_value ++ key)
 
--- 40 bytes: the value A and the four parts of a key
-pub record IsState (state : List ℕ) : Type 0 where
-  pub forty : length state ≡ 40
-  pub bytes : (k : ℕ) → slice_index state k < 256
-
 -- 32 bytes
 pub record IsKey (key : List ℕ) : Type 0 where
   pub thirty_two : length key ≡ 32

@@ -5,10 +5,12 @@
 
 ghost use Rattle.std.specs.Prelude.{◌≡◌, ℕ, ◌+◌, ◌↔◌, List, ◌++◌, length, IfOk, OnErr};
 ghost use Rattle.aes_lanes.specs.Cipher.{aes256};
-ghost use Rattle.key_wrap.specs.Wrap.{wrapped as wrapped_of, numbered as numbered_of, step as step_of, IsState, Unwraps, UnwrapsToNothing, UnwrapsToOneKey};
+ghost use Rattle.key_wrap.specs.Wrap.{wrapped as wrapped_of, numbered as numbered_of, step as step_of, Unwraps, UnwrapsToNothing};
+ghost use Rattle.key_wrap.specs.Private.{IsState};
 
 use aes_lanes::{Block, Cipher, Key256, same_bytes};
 
+pub mod laws;
 #[cfg(test)]
 mod tests;
 
@@ -98,8 +100,3 @@ fn joined<const N: usize>(front: &[u8], back: &[u8]) -> [u8; N]
     end.copy_from_slice(back);
     bytes
 }
-
-/// The law that wrapped bytes unwrap to one key at most, the one that was wrapped.
-pub fn unwraps_to_one_key()
-    ensures { UnwrapsToOneKey }
-{}

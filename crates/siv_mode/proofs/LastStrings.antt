@@ -4,12 +4,12 @@ use Rattle.std.proofs.lemmas.List.{length-drop, take-append-le, drop-append-le, 
 use Rattle.std.proofs.lemmas.Bool.{lt-ltb, le-ltb}
 use Rattle.aes_lanes.specs.Bytes.{xor_bytes}
 use Rattle.aes_lanes.specs.Laws.Sums.{length-xor_bytes}
-use Rattle.siv_mode.specs.Blocks.{doubled, padded}
-use Rattle.siv_mode.specs.Cmac.{cmac_from}
+use Rattle.siv_mode.specs.Blocks.{double, padded_block}
+use Rattle.siv_mode.specs.Private.{cmac_from}
 use Rattle.siv_mode.specs.S2v.{xorend, last_text}
 use Rattle.siv_mode.proofs.Macs.{cmac_from-more}
 
-pub last_text-short : (d string : List ℕ) → length string < 16 → xor_bytes (doubled d) (padded string) ≡ last_text d string
+pub last_text-short : (d string : List ℕ) → length string < 16 → xor_bytes (double d) (padded_block string) ≡ last_text d string
 unfolding last_text
 last_text-short d string short = rw (lt-ltb (length string) 16 short) refl
 

@@ -1,3 +1,4 @@
-pub mod Macs
-pub mod LastStrings
-pub mod Seals
+mod Macs
+mod LastStrings
+mod Seals
+mod SealedBytes

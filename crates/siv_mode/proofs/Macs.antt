@@ -3,8 +3,9 @@ use Rattle.std.proofs.Common.{◌≡◌, ◌≢◌, ℕ, suc, ◌+◌, ◌-◌, 
 use Rattle.std.proofs.lemmas.Bool.Decides.{eqb_tells}
 use Rattle.std.proofs.lemmas.List.{drop-replicate, drop-drop, length-drop}
 use Rattle.aes_lanes.specs.Bytes.{xor_bytes}
-use Rattle.siv_mode.specs.Blocks.{zero_block, doubled, padded}
-use Rattle.siv_mode.specs.Cmac.{first_subkey, second_subkey, blocks_before_last, last_block, chained, cmac_from}
+use Rattle.siv_mode.specs.Blocks.{zero_block, double, padded_block}
+use Rattle.siv_mode.specs.Cmac.{first_subkey, second_subkey, blocks_before_last, last_block, chained}
+use Rattle.siv_mode.specs.Private.{cmac_from}
 
 -- a byte put after a string, over the first of some zeros
 put_after : (bytes : List ℕ) (x k : ℕ) → slice_set (bytes ++ replicate (suc k) 0) (length bytes) x ≡ bytes ++ x ∷ replicate k 0
@@ -12,19 +13,19 @@ put_after [] x k = refl
 put_after (b ∷ bytes) x k = ap (λ l. b ∷ l) (put_after bytes x k)
 
 -- a block of zeros that begins with a string and goes on with one bit
-pub padded-made : (bytes : List ℕ) → length bytes < 16 → slice_set (bytes ++ drop (length bytes) zero_block) (length bytes) 0x80 ≡ padded bytes
-unfolding padded
+pub padded-made : (bytes : List ℕ) → length bytes < 16 → slice_set (bytes ++ drop (length bytes) zero_block) (length bytes) 0x80 ≡ padded_block bytes
+unfolding padded_block
 padded-made bytes short =
     let count : 16 - length bytes ≡ suc (15 - length bytes) = omega arith in
     let zeros : drop (length bytes) zero_block ≡ replicate (suc (15 - length bytes)) 0 =
     drop-replicate (length bytes) 16 0 ∙ ap (λ n. replicate n 0) count in
     rw zeros (put_after bytes 0x80 (15 - length bytes))
 
-pub last_block-whole : (image : List ℕ → List ℕ) (bytes : List ℕ) → length bytes ≡ 16 → xor_bytes bytes (doubled (image zero_block)) ≡ last_block image bytes
+pub last_block-whole : (image : List ℕ → List ℕ) (bytes : List ℕ) → length bytes ≡ 16 → xor_bytes bytes (double (image zero_block)) ≡ last_block image bytes
 unfolding last_block first_subkey
 last_block-whole image bytes sixteen = rw (eq-eqb (length bytes) 16 sixteen)
 
-pub last_block-short : (image : List ℕ → List ℕ) (bytes : List ℕ) → length bytes ≢ 16 → xor_bytes (padded bytes) (doubled (doubled (image zero_block))) ≡ last_block image bytes
+pub last_block-short : (image : List ℕ → List ℕ) (bytes : List ℕ) → length bytes ≢ 16 → xor_bytes (padded_block bytes) (double (double (image zero_block))) ≡ last_block image bytes
 unfolding last_block first_subkey second_subkey
 last_block-short image bytes other = elim (eqb_tells (length bytes) 16) [
   | inl whole ↦ absurd (other whole.1)

@@ -7,11 +7,11 @@ abbrev pub zero_block : List ℕ
 zero_block = replicate 16 0
 
 -- a block, shifted to the left by one bit, and 0x87 added where the bit that leaves was set
-unfoldable pub doubled : List ℕ → List ℕ
-doubled block =
+unfoldable pub double : List ℕ → List ℕ
+double block =
     let n : ℕ = from_be_bytes w128 block in
     to_be_bytes w128 (bit_xor (n * 2 % 2 ^ 128) (n / 2 ^ 127 * 0x87))
 
 -- fewer than sixteen bytes, then one bit and zeros to a whole block
-unfoldable pub padded : List ℕ → List ℕ
-padded bytes = bytes ++ 0x80 ∷ replicate (15 - length bytes) 0
+unfoldable pub padded_block : List ℕ → List ℕ
+padded_block bytes = bytes ++ 0x80 ∷ replicate (15 - length bytes) 0

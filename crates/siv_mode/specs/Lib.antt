@@ -4,3 +4,4 @@ pub mod Cmac
 pub mod S2v
 pub mod Keys
 pub mod Siv
+pub mod Private

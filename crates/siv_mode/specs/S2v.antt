@@ -3,7 +3,7 @@ use Rattle.std.specs.Prelude.{ℕ, ◌-◌, List, [], ◌∷◌, ◌++◌, lengt
 use Rattle.std.specs.Option.{option_to_list, option_copied}
 use Rattle.std.specs.Borrow.{Bor}
 use Rattle.aes_lanes.specs.Bytes.{xor_bytes}
-use Rattle.siv_mode.specs.Blocks.{zero_block, doubled, padded}
+use Rattle.siv_mode.specs.Blocks.{zero_block, double, padded_block}
 use Rattle.siv_mode.specs.Cmac.{cmac}
 
 -- a string with a block added to its end: 'xorend' (2.1)
@@ -15,12 +15,12 @@ xorend string block =
 -- the value D after some more strings
 unfoldable pub summed : (List ℕ → List ℕ) → List ℕ → List (List ℕ) → List ℕ
 summed image d [] = d
-summed image d (string ∷ strings) = summed image (xor_bytes (doubled d) (cmac image string)) strings
+summed image d (string ∷ strings) = summed image (xor_bytes (double d) (cmac image string)) strings
 
 -- the text T of D and the last string
 unfoldable pub last_text : List ℕ → List ℕ → List ℕ
 last_text d string =
-    if nat_lt (length string) 16 then xor_bytes (doubled d) (padded string) else xorend string d
+    if nat_lt (length string) 16 then xor_bytes (double d) (padded_block string) else xorend string d
 
 -- S2V of strings and a last one
 unfoldable pub s2v : (List ℕ → List ℕ) → List (List ℕ) → List ℕ → List ℕ

@@ -10,14 +10,14 @@ first_counter v = to_be_bytes w128 (bit_and (from_be_bytes w128 v) (2 ^ 128 - 1 
 
 -- SIV-ENCRYPT with the images of the key of S2V and of the key of counter mode: the vector V, then the
 -- plain text, encrypted from Q on
-unfoldable pub sealed : (List ℕ → List ℕ) → (List ℕ → List ℕ) → List (List ℕ) → List ℕ → List ℕ
-sealed mac ctr strings plain =
+unfoldable pub siv_encrypt : (List ℕ → List ℕ) → (List ℕ → List ℕ) → List (List ℕ) → List ℕ → List ℕ
+siv_encrypt mac ctr strings plain =
     let v : List ℕ = s2v mac strings plain in
     v ++ ctr128 ctr (first_counter v) plain
 
 -- the plain text is one that seals to these bytes
 abbrev pub Opens : (List ℕ → List ℕ) → (List ℕ → List ℕ) → List (List ℕ) → List ℕ → List ℕ → Type 0
-Opens mac ctr strings bytes plain = sealed mac ctr strings plain ≡ bytes
+Opens mac ctr strings bytes plain = siv_encrypt mac ctr strings plain ≡ bytes
 
 -- no plain text seals to these bytes
 abbrev pub OpensToNothing : (List ℕ → List ℕ) → (List ℕ → List ℕ) → List (List ℕ) → List ℕ → Type 0

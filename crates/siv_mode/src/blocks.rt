@@ -2,14 +2,14 @@
 
 ghost use Rattle.std.specs.Prelude.{◌≡◌, ◌<◌, ◌≤◌, length};
 ghost use Rattle.aes_lanes.specs.Bytes.{xor_bytes};
-ghost use Rattle.siv_mode.specs.Blocks.{doubled as doubled_of, padded as padded_of};
+ghost use Rattle.siv_mode.specs.Blocks.{double, padded_block};
 
 use aes_lanes::{Block, xor_into};
 
 const REDUCTION: u128 = 0x87;
 
 pub fn doubled(block: &Block) -> Block
-    ensures { result ≡ doubled_of block.now }
+    ensures { result ≡ double block.now }
 {
     let number = u128::from_be_bytes(*block);
     (number << 1 ^ (number >> 127) * REDUCTION).to_be_bytes()
@@ -18,7 +18,7 @@ pub fn doubled(block: &Block) -> Block
 // Fewer than 16 bytes, then one bit and zeros.
 pub fn padded(bytes: &[u8]) -> Block
     requires { length bytes.now < 16 }
-    ensures { result ≡ padded_of bytes.now }
+    ensures { result ≡ padded_block bytes.now }
 {
     let mut block = [0; 16];
     block[..bytes.len()].copy_from_slice(bytes);

@@ -1,9 +1,10 @@
 //! CMAC (RFC 4493), and S2V and SIV (RFC 5297) with at most one associated string.
 //!
-//! Sealing and unsealing take memory, and nothing else does.
+//! Sealing and unsealing take memory, and nothing else does. Both yield to want of it.
 #![tactic(auto)]
 
 mod blocks;
+pub mod laws;
 mod mac;
 mod siv;
 mod strings;
@@ -11,4 +12,4 @@ mod strings;
 mod tests;
 
 pub use mac::cmac;
-pub use siv::{Siv, SivFault, opens_to_one_text};
+pub use siv::{Siv, SivFault};

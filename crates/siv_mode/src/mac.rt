@@ -2,7 +2,8 @@
 
 ghost use Rattle.std.specs.Prelude.{◌≡◌, ◌≤◌, length};
 ghost use Rattle.aes_lanes.specs.Bytes.{xor_bytes};
-ghost use Rattle.siv_mode.specs.Cmac.{cmac as cmac_of, cmac_from as cmac_from_of, last_block as last_block_of};
+ghost use Rattle.siv_mode.specs.Cmac.{cmac as cmac_of, last_block as last_block_of};
+ghost use Rattle.siv_mode.specs.Private.{cmac_from as cmac_from_of};
 
 use super::blocks::{doubled, padded, sum, whole};
 use aes_lanes::{Block, Cipher};

@@ -1,13 +1,14 @@
 // SIV (RFC 5297, sections 2.6 and 2.7).
 
 ghost use Rattle.std.specs.Prelude.{◌≡◌, ◌<◌, ◌≤◌, ◌↔◌, length, IfOk, IsErrOf};
-ghost use Rattle.siv_mode.specs.Siv.{first_counter as first_counter_of, sealed as sealed_of, Opens, OpensToNothing, OpensToOneText};
+ghost use Rattle.siv_mode.specs.Siv.{first_counter as first_counter_of, siv_encrypt, Opens, OpensToNothing};
 ghost use Rattle.siv_mode.specs.S2v.{associated, s2v as s2v_of};
 ghost use Rattle.siv_mode.specs.declared.siv.SivFault.TheVariants.{Short, BadTag};
 ghost use Rattle.aes_lanes.specs.Counter.{ctr128};
 
 use super::blocks::whole;
 use super::strings::s2v;
+use aes_lanes::laws::counter_mode_undoes_itself;
 use aes_lanes::{Block, Cipher, ctr128_xor, same_bytes};
 use std::alloc::{AllocError, Global};
 use std::marker::Model;
@@ -69,7 +70,7 @@ impl<C: Cipher> Siv<C> {
     /// (section 2.6).
     pub fn seal(&self, alloc: Global, ad: Option<&[u8]>, text: &[u8]) -> Result<Vec<u8>, AllocError>
         ensures { IfOk result (λ bytes. bytes.items
-            ≡ sealed_of (C.image self.now.mac) (C.image self.now.ctr) (associated ad.entry) text.now) }
+            ≡ siv_encrypt (C.image self.now.mac) (C.image self.now.ctr) (associated ad.entry) text.now) }
     {
         let vector = self.s2v(ad, text);
         let body = self.streamed(alloc, &vector, text)?;
@@ -92,6 +93,7 @@ impl<C: Cipher> Siv<C> {
         ensures bad_tag { IsErrOf result BadTag
             → OpensToNothing (C.image self.now.mac) (C.image self.now.ctr) (associated ad.entry) sealed.now }
     {
+        counter_mode_undoes_itself();
         if sealed.len() < 16 {
             return Err(SivFault::Short);
         }
@@ -114,11 +116,6 @@ impl<C: Cipher> Siv<C> {
         Ok(streamed)
     }
 }
-
-/// The law that bytes open to one text at most, the one that was sealed.
-pub fn opens_to_one_text<C: Cipher>(siv: &Siv<C>)
-    ensures { OpensToOneText (C.image siv.now.mac) (C.image siv.now.ctr) }
-{}
 
 // All bits but bit 63 and bit 31.
 const KEPT: u128 = !(1 << 63 | 1 << 31);

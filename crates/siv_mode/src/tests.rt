@@ -1,7 +1,12 @@
 // The examples of RFC 4493, section 4, and of RFC 5297, appendix A.1, and lengths around whole blocks.
 
+ghost use Rattle.std.specs.Prelude.{◌≡◌, IfOk, IfErr};
+ghost use Rattle.siv_mode.specs.declared.siv.SivFault.TheVariants.{NoMemory};
+
 use super::*;
-use aes_lanes::{Key128, same_bytes};
+use crate::laws::unsealing_undoes_sealing;
+use aes_lanes::{Cipher, Key128, same_bytes};
+use std::alloc::Global;
 use std::test::Fail;
 
 const KEY: [u8; 16] = *b"\x2b\x7e\x15\x16\x28\xae\xd2\xa6\xab\xf7\x15\x88\x09\xcf\x4f\x3c";
@@ -59,6 +64,21 @@ fn published_text_seals(rt: HostRuntime) -> Result<(), Fail> {
     Ok(())
 }
 
+// Unsealing what was sealed gives it back, whatever it is, or there was no memory.
+fn seal_and_unseal<C: Cipher>(
+    alloc: Global,
+    siv: &Siv<C>,
+    ad: Option<&[u8]>,
+    text: &[u8],
+) -> Result<Vec<u8>, SivFault>
+    ensures opened { IfOk result (λ opened. opened.items ≡ text.now) }
+    ensures no_memory { IfErr result (λ fault. fault ≡ NoMemory) }
+{
+    let sealed = siv.seal(alloc, ad, text)?;
+    unsealing_undoes_sealing(siv);
+    siv.unseal(alloc, ad, sealed.as_slice())
+}
+
 #[test]
 fn every_length_opens(rt: HostRuntime) -> Result<(), Fail> {
     let siv = published_siv();
@@ -66,7 +86,7 @@ fn every_length_opens(rt: HostRuntime) -> Result<(), Fail> {
     for len in [0, 1, 15, 16, 17, 31, 32, 33, 100] {
         let sealed = siv.seal(rt.alloc(), None, &text[..len])?;
         assert_eq!(rt; sealed.len(), 16 + len);
-        match siv.unseal(rt.alloc(), None, sealed.as_slice()) {
+        match seal_and_unseal(rt.alloc(), &siv, None, &text[..len]) {
             Ok(opened) => assert!(rt; same_bytes(opened.as_slice(), &text[..len])),
             Err(_) => assert!(rt; false),
         }

@@ -1,6 +1,7 @@
 use Rattle.std.proofs.Common.{◌≡◌, get_or, [], refl, ap, ◌∙◌}
 use Rattle.aes_lanes.specs.Cipher.{aes256, inverse_aes256}
-use Rattle.key_wrap.specs.Wrap.{numbered, IsState}
+use Rattle.key_wrap.specs.Wrap.{numbered}
+use Rattle.key_wrap.specs.Private.{IsState}
 use Rattle.aes_lanes.specs.Laws.Cipher.{aes-undone}
 use Rattle.key_wrap.proofs.Steps.{step_back, IsState-step_back, step-iff}
 use Rattle.key_wrap.proofs.unstep.Goals as goal

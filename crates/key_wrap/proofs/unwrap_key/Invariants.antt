@@ -1,6 +1,7 @@
 use Rattle.std.proofs.Common.{◌≡◌, ◌-◌, List, ℕ, ◌↔◌}
 use Rattle.aes_lanes.specs.Cipher.{aes256}
-use Rattle.key_wrap.specs.Wrap.{steps, IsState}
+use Rattle.key_wrap.specs.Wrap.{steps}
+use Rattle.key_wrap.specs.Private.{IsState}
 use Rattle.key_wrap.proofs.unwrap_key.Given as goal
 
 abbrev pub invariant-loop-undone : goal.invariant-loop-undone

@@ -11,7 +11,7 @@ returns c =
     let is_tweak : IsBlock c.args.tweak.now = record { sixteen = c.told-tweak; bytes = c.fits-tweak } in
     let is_first : IsBlock a = record { sixteen = c.told-first; bytes = c.fits-first } in
     let is_second : IsBlock b = record { sixteen = c.told-second; bytes = c.fits-second } in
-    c.decrypt.ensures
+    c.decrypt.ensures.decrypted
     ∙ ap (inverse_eme256 c.args.eme.now c.args.tweak.now) c.encrypt.ensures
     ∙ c.directions_undo_each_other.ensures.decrypted c.args.eme.now c.args.tweak.now (a ∷ b ∷ []) is_tweak
     (All-cons IsBlock a (b ∷ []) is_first (All-cons IsBlock b [] is_second (All-nil IsBlock)))

@@ -1,9 +1,10 @@
 use Rattle.std.proofs.Common.{◌≡◌, length}
-use Rattle.gcm_mode.specs.Hash.{ghash_from, padded}
+use Rattle.gcm_mode.specs.Hash.{blocks_of}
+use Rattle.gcm_mode.specs.Private.{ghash_from}
 use Rattle.gcm_mode.proofs.hash.hash_on.Given as goal
 
 abbrev pub invariant-loop-rest : goal.invariant-loop-rest
-invariant-loop-rest l = ghash_from l.products l.hash (padded l.rest) ≡ ghash_from l.products l.initial.hash (padded l.bytes)
+invariant-loop-rest l = ghash_from l.products l.hash (blocks_of l.rest) ≡ ghash_from l.products l.initial.hash (blocks_of l.bytes)
 
 abbrev pub decreases-loop-rest : goal.decreases-loop-rest
 decreases-loop-rest l = length l.rest

@@ -1,6 +1,7 @@
 use Rattle.siv_mode.specs.Cmac.{cmac}
+use Rattle.siv_mode.specs.Private.{cmac_from}
 use Rattle.siv_mode.proofs.mac.cmac.Goals as goal
 
 pub returns : goal.returns
-unfolding cmac
+unfolding cmac cmac_from
 returns g c = c.cmac_from.ensures

@@ -1,5 +1,5 @@
 use Rattle.std.proofs.Common.{◌≡◌, length}
-use Rattle.siv_mode.specs.Cmac.{cmac_from}
+use Rattle.siv_mode.specs.Private.{cmac_from}
 use Rattle.siv_mode.proofs.mac.cmac_from.Given as goal
 
 abbrev pub invariant-loop-rest : goal.invariant-loop-rest

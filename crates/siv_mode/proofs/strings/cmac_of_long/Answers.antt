@@ -1,10 +1,11 @@
 use Rattle.std.proofs.Common.{refl, sym, ◌∙◌, arith}
 use Rattle.siv_mode.specs.Cmac.{cmac}
+use Rattle.siv_mode.specs.Private.{cmac_from}
 use Rattle.siv_mode.proofs.LastStrings.{cmac_from-xorend, xorend-parts}
 use Rattle.siv_mode.proofs.strings.cmac_of_long.Goals as goal
 
 pub loop-rest-init : goal.loop-rest-init
-unfolding cmac
+unfolding cmac cmac_from
 loop-rest-init g c = record { long = c.requires; same = refl }
 
 pub loop-rest-preserved : goal.loop-rest-preserved

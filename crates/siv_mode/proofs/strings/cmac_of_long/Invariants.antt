@@ -1,5 +1,6 @@
 use Rattle.std.proofs.Common.{◌≡◌, ◌≤◌, length}
-use Rattle.siv_mode.specs.Cmac.{cmac, cmac_from}
+use Rattle.siv_mode.specs.Cmac.{cmac}
+use Rattle.siv_mode.specs.Private.{cmac_from}
 use Rattle.siv_mode.specs.S2v.{xorend}
 use Rattle.siv_mode.proofs.strings.cmac_of_long.Given as goal
 

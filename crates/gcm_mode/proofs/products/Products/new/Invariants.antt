@@ -1,5 +1,5 @@
 use Rattle.std.proofs.Common.{◌≡◌, ℕ, ◌-◌, ◌≤◌, ◌<◌, [], length, get_or}
-use Rattle.gcm_mode.specs.Products.{IsRow}
+use Rattle.gcm_mode.specs.Private.{IsRow}
 use Rattle.gcm_mode.proofs.products.Products.new.Given as goal
 
 abbrev pub invariant-loop-done : goal.invariant-loop-done

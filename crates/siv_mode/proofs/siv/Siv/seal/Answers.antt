@@ -1,9 +1,9 @@
 use Rattle.std.proofs.Common.{◌∙◌, refl}
-use Rattle.siv_mode.specs.Siv.{sealed}
+use Rattle.siv_mode.specs.Siv.{siv_encrypt}
 use Rattle.siv_mode.proofs.siv.Siv.seal.Goals as goal
 
 pub returns : goal.returns
-unfolding sealed
+unfolding siv_encrypt
 returns g c =
     let vector = c.s2v-vector.ensures in
     let body = c.in_ok-body.ensures in

@@ -8,8 +8,8 @@ use Rattle.json_fields.specs.Base64.{encoded_by}
 use Rattle.serde_json.specs.Data.{Data}
 use Rattle.serde_json.specs.Written.{compact_text, has_float}
 use Rattle.cryptomator_conf.specs.declared.conf.MasterFile.{MasterFile}
-use Rattle.cryptomator_conf.specs.Text.{master_text, payload_text}
-use Rattle.cryptomator_conf.specs.Value.{master_data, payload_data}
+use Rattle.cryptomator_conf.specs.Text.{master_text}
+use Rattle.cryptomator_conf.specs.Value.{master_data}
 
 -- base64 stands in a JSON string as it is
 abbrev pub IsPlain : Type 0

@@ -1,6 +1,6 @@
 -- A signed token in compact form (RFC 7515, section 7.1): three parts with dots between them, each in base64url without
 -- padding. Newlines and blanks may follow.
-use Rattle.std.specs.Prelude.{ℕ, ◌+◌, ◌==◌, ◌||◌, Bool, List, [], ◌∷◌, ◌++◌, codes, take, drop, if◌then◌else◌, Option, Some, None, option_map, option_and_then}
+use Rattle.std.specs.Prelude.{ℕ, ◌+◌, ◌==◌, ◌||◌, Bool, List, [], ◌∷◌, ◌++◌, codes, take, drop, if◌then◌else◌, Option, option_map, option_and_then}
 use Rattle.std.specs.List.{list_all, position_from}
 use Rattle.serde_json.specs.Data.{Data}
 use Rattle.json_fields.specs.declared.base64_text.Alphabet.TheVariants.{UrlSafe}

@@ -14,15 +14,14 @@ const ZEROS: &str =
     "{\"version\":3,\"scryptSalt\":\"AAAAAAAAAAA=\",\"scryptCostParam\":2,\"scryptBlockSize\":8,\"primaryMasterKey\":\"mM+qoQ+o0qvPTiDAZYt+flaC3WbpNAx1sTXaUzxwpy0M9Ctj6Tih/Q==\",\"hmacMasterKey\":\"mM+qoQ+o0qvPTiDAZYt+flaC3WbpNAx1sTXaUzxwpy0M9Ctj6Tih/Q==\",\"versionMac\":\"iUmRRHITuyJsJbVNqGNw+82YQ4A3Rma7j/y1v0DCVLA=\"}";
 
 // The keys of the files below, which Python's HMAC, key wrap and JSON made.
-const KEYS: CmKeys = CmKeys {
-    enc: *ENC,
-    mac: *MAC,
-};
+const ENC: [u8; 32] =
+    *b"\x00\x01\x02\x03\x04\x05\x06\x07\x08\x09\x0a\x0b\x0c\x0d\x0e\x0f\x10\x11\x12\x13\x14\x15\x16\x17\x18\x19\x1a\x1b\x1c\x1d\x1e\x1f";
 
-const ENC: &[u8; 32] =
-    b"\x00\x01\x02\x03\x04\x05\x06\x07\x08\x09\x0a\x0b\x0c\x0d\x0e\x0f\x10\x11\x12\x13\x14\x15\x16\x17\x18\x19\x1a\x1b\x1c\x1d\x1e\x1f";
+const MAC: [u8; 32] = *b" !\"#$%&'()*+,-./0123456789:;<=>?";
 
-const MAC: &[u8; 32] = b" !\"#$%&'()*+,-./0123456789:;<=>?";
+fn keys() -> CmKeys {
+    CmKeys { enc: ENC, mac: MAC }
+}
 
 // For the passphrase `demo`, the cost 1024, 8 and the bytes 0x40 to 0x57 as salt and id.
 const MASTER: &str =
@@ -201,9 +200,9 @@ fn tags_the_version_as_cryptomator_does(rt: HostRuntime) -> Result<(), Fail> {
 fn brings_passphrases_to_one_form(rt: HostRuntime) -> Result<(), Fail> {
     let alloc = rt.alloc();
     let file = master_of(alloc, ACCENTED)?;
-    assert!(rt; unlock(alloc, &file, b"\xc3\xa9") == Ok(KEYS));
-    assert!(rt; unlock(alloc, &file, b"e\xcc\x81") == Ok(KEYS));
-    assert!(rt; unlock(alloc, &master_of(alloc, NOT_TEXT)?, b"\xff\xfe") == Ok(KEYS));
+    assert!(rt; unlock(alloc, &file, b"\xc3\xa9") == Ok(keys()));
+    assert!(rt; unlock(alloc, &file, b"e\xcc\x81") == Ok(keys()));
+    assert!(rt; unlock(alloc, &master_of(alloc, NOT_TEXT)?, b"\xff\xfe") == Ok(keys()));
     Ok(())
 }
 
@@ -212,9 +211,9 @@ fn checks_each_hash(rt: HostRuntime) -> Result<(), Fail> {
     let alloc = rt.alloc();
     for text in [VAULT, HS384, HS512] {
         let file = vault_of(alloc, text)?;
-        assert!(rt; check_signature(&file, &KEYS).is_ok());
+        assert!(rt; check_signature(&file, &keys()).is_ok());
         let followed = format!(in alloc; "{text}\r\n \n")?;
-        assert!(rt; check_signature(&vault_of(alloc, followed.as_str())?, &KEYS).is_ok());
+        assert!(rt; check_signature(&vault_of(alloc, followed.as_str())?, &keys()).is_ok());
     }
     Ok(())
 }
@@ -225,7 +224,7 @@ fn refuses_another_signature(rt: HostRuntime) -> Result<(), Fail> {
     let alloc = rt.alloc();
     let text = changed(alloc, VAULT, "NTU1NTY1NyIs", "NTU1NTY1OCIs")?;
     let file = vault_of(alloc, text.as_str())?;
-    assert!(rt; check_signature(&file, &KEYS).is_err());
+    assert!(rt; check_signature(&file, &keys()).is_err());
     Ok(())
 }
 
@@ -234,8 +233,8 @@ fn makes_what_another_program_wrote(rt: HostRuntime) -> Result<(), Fail> {
     let alloc = rt.alloc();
     let cost = ScryptCost::new(1024, 8, 1).ok().ok_or("a cost")?;
     let drawn = CmDraw {
-        enc: *ENC,
-        mac: *MAC,
+        enc: ENC,
+        mac: MAC,
         salt: *b"@ABCDEFG",
         jti: *b"HIJKLMNOPQRSTUVW",
     };

@@ -29,7 +29,7 @@ whole c =
     let long : length c.decrypt.new.blocks ≡ c.in-Some.blocks.len = omega (arith, c.decrypt.auto.blocks, c.as_mut_slice.ensures.len) in
     let slice : c.as_slice.result.now ≡ c.decrypt.new.blocks = c.as_slice.ensures.value ∙ take_at c.decrypt.new.blocks _ c.in-Some.blocks.len long in
     let key = c.new-2.ensures ∙ c.new.ensures in
-    c.as_flattened.ensures.value ∙ ap bytes_of (slice ∙ c.decrypt.ensures)
+    c.as_flattened.ensures.value ∙ ap bytes_of (slice ∙ c.decrypt.ensures.decrypted)
     ∙ ap (λ bs. bytes_of (inverse_eme256 c.new-2.result c.args.iv.now bs)) c.as_mut_slice.ensures.value
     ∙ ap (λ key. bytes_of (inverse_eme256 key c.args.iv.now c.in-Some.blocks.items)) key
 

@@ -1,0 +1,3 @@
+pub mod Passphrase
+pub mod Trimmed
+pub mod Written

@@ -1,0 +1,18 @@
+-- Passphrases as they are used.
+use Rattle.std.proofs.Common.{◌≡◌, ℕ, List, Bool, true, false, cond, encode_utf8_all, refl}
+use Rattle.std.specs.Str.{IsUtf8, is_utf8, chars}
+use Rattle.std.proofs.lemmas.Str.{is_utf8-from_IsUtf8, IsUtf8-from_is_utf8}
+use Rattle.unicode_normalization.specs.Forms.{nfc}
+use Rattle.cryptomator_conf.specs.Keys.{passphrase}
+
+pub passphrase-text : (pass : List ℕ) → IsUtf8 pass → passphrase pass ≡ encode_utf8_all (nfc (chars pass))
+unfolding passphrase
+passphrase-text pass utf8 = rw (is_utf8-from_IsUtf8 pass utf8) refl
+
+by_test : (test : Bool) (text bytes : List ℕ) → (test ≡ true → ⊥) → cond test text bytes ≡ bytes
+by_test true text bytes not = absurd (not refl)
+by_test false text bytes not = refl
+
+pub passphrase-bytes : (pass : List ℕ) → ¬ IsUtf8 pass → passphrase pass ≡ pass
+unfolding passphrase
+passphrase-bytes pass not = by_test (is_utf8 pass) _ pass (λ test. not (IsUtf8-from_is_utf8 pass test))

@@ -1,0 +1,11 @@
+-- The configuration files of a Cryptomator vault (format 8), and its keys.
+pub mod Fault
+pub mod Id
+pub mod Keys
+pub mod Master
+pub mod Jwt
+pub mod Vault
+pub mod Signature
+pub mod Text
+pub mod Value
+pub mod Views

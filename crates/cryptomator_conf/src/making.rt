@@ -1,0 +1,143 @@
+//! The texts of new configuration files.
+
+ghost use Rattle.std.specs.Prelude.{◌≡◌, IfOk, string_bytes};
+ghost use Rattle.serde_json.specs.View.{view};
+ghost use Rattle.cryptomator_conf.specs.Text.{made_master, master_text, payload_text, signed_text, vault_text, version_mac, version_bytes};
+ghost use Rattle.cryptomator_conf.specs.Value.{master_data};
+
+use crate::conf::{CmDraw, CmFiles};
+use crate::id::id_text;
+use crate::keys::{CmKeys, wrapping_key};
+use crate::signing::signing_key;
+use aes_lanes::Key256;
+use base64::engine::general_purpose::{STANDARD, URL_SAFE_NO_PAD};
+use json_fields::laws::base64_is_plain;
+use kdf_suite::{ScryptCost, hmac256};
+use key_wrap::wrap_key;
+use serde_json::{Value, json};
+use std::alloc::{AllocError, Global};
+use text_model::Bytes;
+
+const HEADER: &str =
+    "{\"alg\":\"HS256\",\"kid\":\"masterkeyfile:masterkey.cryptomator\",\"typ\":\"JWT\"}";
+
+const VERSION: u32 = 999;
+
+/// The texts of `masterkey.cryptomator` and `vault.cryptomator` for a new vault, whose keys, salt and id are drawn. The
+/// keys are wrapped at the cost's n and r, with one part.
+///
+/// It takes the memory of scrypt, 128 · n · r bytes and little more.
+pub fn make(
+    alloc: Global,
+    pass: &[u8],
+    cost: &ScryptCost,
+    drawn: &CmDraw,
+) -> Result<CmFiles, AllocError>
+    ensures master { IfOk result (λ files. files.master
+        ≡ master_text (made_master pass.now cost.now drawn.now) (version_mac drawn.now.mac version_bytes)) }
+    ensures vault { IfOk result (λ files. files.vault ≡ vault_text drawn.now) }
+{
+    let cost = one_part(cost);
+    let key = Key256::new(&wrapping_key(alloc, pass, &drawn.salt, &cost)?);
+    let primary = wrap_key(&key, &drawn.enc);
+    let hmac = wrap_key(&key, &drawn.mac);
+    let tag = hmac256(&drawn.mac, &VERSION.to_be_bytes());
+    let master = master_text(alloc, &cost, &drawn.salt, &primary, &hmac, &tag)?;
+    Ok(CmFiles {
+        master: Bytes::new(master.into_bytes()),
+        vault: Bytes::new(vault_text(alloc, drawn)?.into_bytes()),
+    })
+}
+
+// The same cost with one part.
+fn one_part(cost: &ScryptCost) -> ScryptCost
+    ensures { result ≡ record { n = cost.now.n; r = cost.now.r; p = 1 } }
+{
+    match ScryptCost::new(cost.n(), cost.r(), 1) {
+        Ok(cost) => cost,
+        Err(_) => *cost,
+    }
+}
+
+// The text of `masterkey.cryptomator`, with the tag of its version.
+fn master_text(
+    alloc: Global,
+    cost: &ScryptCost,
+    salt: &[u8; 8],
+    primary: &[u8; 40],
+    hmac: &[u8; 40],
+    tag: &[u8; 32],
+) -> Result<String, AllocError>
+    ensures { IfOk result (λ text. string_bytes text
+        ≡ master_text (record { salt = salt.now; cost = cost.now; primary = primary.now; hmac = hmac.now }) tag.now) }
+{
+    base64_is_plain();
+    let hmac = STANDARD.encode(alloc, hmac)?;
+    let primary = STANDARD.encode(alloc, primary)?;
+    let salt = STANDARD.encode(alloc, salt)?;
+    let tag = STANDARD.encode(alloc, tag)?;
+    let object = master_object(alloc, hmac, primary, cost.r(), cost.n(), salt, tag)?;
+    object.to_string(alloc)
+}
+
+fn master_object(
+    alloc: Global,
+    hmac: String,
+    primary: String,
+    r: u64,
+    n: u64,
+    salt: String,
+    tag: String,
+) -> Result<Value, AllocError>
+    ensures { IfOk result (λ object. view object
+        ≡ master_data (string_bytes hmac) (string_bytes primary) r n (string_bytes salt) (string_bytes tag)) }
+{
+    json!(in alloc; {
+        "hmacMasterKey": hmac,
+        "primaryMasterKey": primary,
+        "scryptBlockSize": r,
+        "scryptCostParam": n,
+        "scryptSalt": salt,
+        "version": 999u64,
+        "versionMac": tag
+    })
+}
+
+// The text of `vault.cryptomator`.
+#[tactic(auto, unfolding(crate::specs::Text::vault_text))]
+fn vault_text(alloc: Global, drawn: &CmDraw) -> Result<String, AllocError>
+    ensures { IfOk result (λ text. string_bytes text ≡ vault_text drawn.now) }
+{
+    let id = id_text(alloc, &drawn.jti)?;
+    let mut text = signed_text(alloc, id.as_str())?;
+    let keys = CmKeys {
+        enc: drawn.enc,
+        mac: drawn.mac,
+    };
+    let signature = hmac256(&signing_key(&keys), text.as_bytes());
+    text.push_str(".")?;
+    URL_SAFE_NO_PAD.encode_string(&signature, &mut text)?;
+    Ok(text)
+}
+
+// What is signed: the two objects, with a dot between them.
+#[tactic(auto, unfolding(crate::specs::Text::signed_text))]
+fn signed_text(alloc: Global, id: &str) -> Result<String, AllocError>
+    ensures { IfOk result (λ text. string_bytes text ≡ signed_text id.now) }
+{
+    let payload = payload_text(alloc, id)?;
+    let mut text = URL_SAFE_NO_PAD.encode(alloc, HEADER.as_bytes())?;
+    text.push_str(".")?;
+    URL_SAFE_NO_PAD.encode_string(payload.as_bytes(), &mut text)?;
+    Ok(text)
+}
+
+// The text of the token's second object.
+#[tactic(auto, unfolding(crate::specs::Text::payload_text))]
+fn payload_text(alloc: Global, id: &str) -> Result<String, AllocError>
+    ensures { IfOk result (λ text. string_bytes text ≡ payload_text id.now) }
+{
+    format!(in alloc;
+        "{{\"cipherCombo\":\"SIV_GCM\",\"format\":8,\"jti\":\"{id}\",\"shorteningThreshold\":220}}"
+    )
+}

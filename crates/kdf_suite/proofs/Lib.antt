@@ -1,10 +1,10 @@
-pub mod Keys
-pub mod FirstBlocks
-pub mod ZipWith
-pub mod Rounds
-pub mod Mixed
-pub mod Written
-pub mod Integerify
-pub mod Tables
-pub mod PowerOfTwo
-pub mod Costs
+mod Keys
+mod FirstBlocks
+mod ZipWith
+mod Rounds
+mod Mixed
+mod Written
+mod Integerify
+mod Tables
+mod PowerOfTwo
+mod Costs

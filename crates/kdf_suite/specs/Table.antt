@@ -1,4 +1,4 @@
--- The table of ROMix.
+-- A word of private contracts: the table of ROMix.
 use Rattle.std.specs.Prelude.{◌≡◌, ℕ, ◌*◌, ◌<◌, List, length, take, drop}
 use Rattle.kdf_suite.specs.RoMix.{mixed_times}
 

@@ -1,11 +1,9 @@
 // The cost of scrypt.
 
-ghost use Rattle.std.specs.Prelude.{◌≡◌, ℕ, ◌↔◌, ◌≤◌, IsOk, IsTrue, IfOk, Some, codes};
+ghost use Rattle.std.specs.Prelude.{◌≡◌, ℕ, ◌↔◌, ◌≤◌, IsOk, IsTrue, IfOk};
 ghost use Rattle.std.specs.Int.{IsPowerOfTwo};
 ghost use Rattle.kdf_suite.specs.ScryptCost.{IsCost};
 
-use std::error::Error;
-use std::fmt;
 use std::marker::Model;
 
 /// The cost of scrypt (RFC 7914, section 2): n, the cost parameter, r, the block size, and p, the
@@ -36,16 +34,6 @@ impl Model for ScryptCost {
 /// Three numbers that are no cost of scrypt.
 #[derive(Clone, Copy, Debug, PartialEq, Eq)]
 pub struct BadCost;
-
-impl fmt::Display for BadCost {
-    ghost output = { λ _. Some (codes "these numbers are no cost of scrypt") };
-
-    fn fmt<W: fmt::Write>(&self, f: &mut fmt::Formatter<W>) -> fmt::Result {
-        f.write_str("these numbers are no cost of scrypt")
-    }
-}
-
-impl Error for BadCost {}
 
 impl ScryptCost {
     /// The cost of these three numbers, where they keep to its limits.

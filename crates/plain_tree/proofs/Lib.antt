@@ -1,4 +1,4 @@
-pub mod Orders
-pub mod Utf8
-pub mod Writing
-pub mod ReadsBack
+mod Orders
+mod Utf8
+mod Writing
+mod ReadsBack

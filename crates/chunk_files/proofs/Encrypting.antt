@@ -1,202 +1,23 @@
 -- Files that are encrypted chunk by chunk.
-use Rattle.std.proofs.Common.{◌≡◌, ℕ, zero, suc, ◌+◌, ◌-◌, ◌*◌, ◌/◌, ◌<◌, ◌≤◌, nat_lt, ◌==◌, false, List, [], ◌∷◌, ◌++◌, length, take, drop, inl, inr, refl, sym, ap, ◌∙◌, subst, arith, append-nil, append_assoc, length-append, length-drop}
-use Rattle.std.specs.Prelude.{◌⊎◌}
-use Rattle.std.specs.List.{All}
-use Rattle.std.proofs.lemmas.Bool.{le-ltb}
+use Rattle.std.proofs.Common.{◌≡◌, ℕ, zero, suc, ◌+◌, ◌-◌, ◌*◌, ◌<◌, ◌≤◌, nat_lt, ◌==◌, ◌&&◌, Bool, true, false, cond, ◌⊎◌, List, [], ◌∷◌, ◌++◌, length, take, drop, inl, inr, refl, sym, ap, ◌∙◌, subst, arith, append-nil, append_assoc, length-append, length-drop}
+use Rattle.std.specs.List.{All, concat}
+use Rattle.std.proofs.lemmas.Bool.{cases_lt, le-ltb, lt-ltb, eqb-true}
 use Rattle.std.proofs.lemmas.Bool.Decides.{eqb_tells}
-use Rattle.std.proofs.lemmas.List.{take_at, take-append-drop, take-append-le, drop-append-le, take_all, length-take, length-take-le, nil_from_length}
+use Rattle.std.proofs.lemmas.List.{take_at, take-append-drop, take-append-le, drop-append-le, take_all, drop_all, length-take, length-take-le, nil_from_length}
 use Rattle.std.proofs.lemmas.List.Elements.{All-append}
-use Rattle.aes_lanes.specs.Cipher.{aes256}
-use Rattle.gcm_mode.specs.Gcm.{sealed}
-use Rattle.chunk_files.specs.declared.keys.Layout.{Layout}
-use Rattle.chunk_files.specs.declared.keys.Layout.TheVariants.{Go}
-use Rattle.chunk_files.specs.Keys.{Keys, full_size}
-use Rattle.chunk_files.specs.Pieces.{first_pieces, pieces}
-use Rattle.chunk_files.specs.Gocryptfs.{is_all_zero, block_data}
-use Rattle.chunk_files.specs.Encrypt.{header_of, sealed_block, sealed_blocks, header_and_blocks, encrypt_go, HasNoZeros, IsEncrypted}
-use Rattle.chunk_files.specs.Encoding.{HasMade, GoesOn, begun, front_by}
-use Rattle.chunk_files.specs.FileOf.{AreBlocksOf, HasBlocks, IsFileOf, EncryptedFilesAreFiles}
-use Rattle.chunk_files.proofs.PiecesOf.{first_pieces-append, length-first_pieces, concat-first_pieces, pieces-are}
-
--- ---- one chunk more
-
-sealed_blocks-append : (key id : List ℕ) (number : ℕ) (drawn nonce : List ℕ) (chunks : List (List ℕ)) (chunk : List ℕ)
-    → length drawn ≡ 16 * length chunks → length nonce ≡ 16
-    → sealed_blocks key id number (drawn ++ nonce) (chunks ++ (chunk ∷ [])) ≡ sealed_blocks key id number drawn chunks ++ sealed_block key id (number + length chunks) nonce chunk
-unfolding sealed_blocks
-sealed_blocks-append key id number drawn nonce [] chunk many sixteen =
-    let none : drawn ≡ [] = nil_from_length drawn (omega arith) in
-    let enough : nat_lt (length nonce) 16 ≡ false = le-ltb (length nonce) 16 (omega arith) in
-    let all : take 16 nonce ≡ nonce = take_all 16 nonce (omega arith) in
-    let same : number + 0 ≡ number = omega arith in
-    rw (none, enough, all, same) (append-nil (sealed_block key id number nonce chunk))
-sealed_blocks-append key id number drawn nonce (c ∷ cs) chunk many sixteen =
-    let long : 16 ≤ length drawn = omega arith in
-    let enough : nat_lt (length drawn) 16 ≡ false = le-ltb (length drawn) 16 long in
-    let enough' : nat_lt (length (drawn ++ nonce)) 16 ≡ false = le-ltb (length (drawn ++ nonce)) 16 (omega (arith, length-append drawn nonce)) in
-    let rest : length (drop 16 drawn) ≡ 16 * length cs = omega (arith, length-drop 16 drawn) in
-    let place : number + 1 + length cs ≡ number + suc (length cs) = omega arith in
-    let more = sealed_blocks-append key id (number + 1) (drop 16 drawn) nonce cs chunk rest sixteen in
-    rw (enough, enough', take-append-le 16 drawn nonce long, drop-append-le 16 drawn nonce long, more, place)
-    (sym (append_assoc (sealed_block key id number (take 16 drawn) c) (sealed_blocks key id (number + 1) (drop 16 drawn) cs) (sealed_block key id (number + suc (length cs)) nonce chunk)))
-
-header_and_blocks-append : (key drawn nonce : List ℕ) (chunks : List (List ℕ)) (chunk : List ℕ) → length drawn ≡ 16 * (length chunks + 1) → length nonce ≡ 16
-    → header_and_blocks key (drawn ++ nonce) (chunks ++ (chunk ∷ [])) ≡ header_and_blocks key drawn chunks ++ sealed_block key (take 16 drawn) (length chunks) nonce chunk
-unfolding header_and_blocks
-header_and_blocks-append key drawn nonce chunks chunk many sixteen =
-    let long : 16 ≤ length drawn = omega arith in
-    let enough : nat_lt (length drawn) 16 ≡ false = le-ltb (length drawn) 16 long in
-    let enough' : nat_lt (length (drawn ++ nonce)) 16 ≡ false = le-ltb (length (drawn ++ nonce)) 16 (omega (arith, length-append drawn nonce)) in
-    let rest : length (drop 16 drawn) ≡ 16 * length chunks = omega (arith, length-drop 16 drawn) in
-    let more = sealed_blocks-append key (take 16 drawn) 0 (drop 16 drawn) nonce chunks chunk rest sixteen in
-    let place : 0 + length chunks ≡ length chunks = omega arith in
-    rw (enough, enough', take-append-le 16 drawn nonce long, drop-append-le 16 drawn nonce long, more, place)
-    (sym (append_assoc (header_of (take 16 drawn)) (sealed_blocks key (take 16 drawn) 0 (drop 16 drawn) chunks) (sealed_block key (take 16 drawn) (length chunks) nonce chunk)))
-
--- what grows by one piece
-record GrowsByPiece (size : ℕ) (xs ys : List ℕ) (n : ℕ) : Type 0 where
-  pub before : length (pieces size xs) ≡ n
-  pub after : length (pieces size (xs ++ ys)) ≡ n + 1
-  pub joined : pieces size (xs ++ ys) ≡ pieces size xs ++ (ys ∷ [])
-
-grows : (size n : ℕ) (xs ys : List ℕ) → (length xs + size - 1) / size ≡ n → (length (xs ++ ys) + size - 1) / size ≡ n + 1
-    → length xs ≡ n * size → length ys ≤ size → GrowsByPiece size xs ys n
-grows size n xs ys count count' whole last =
-    let first = pieces-are n size xs count in
-    let then' = pieces-are (n + 1) size (xs ++ ys) count' in
-    record {
-      before = ap length first ∙ length-first_pieces n size xs;
-      after = ap length then' ∙ length-first_pieces (n + 1) size (xs ++ ys);
-      joined = then' ∙ first_pieces-append n size xs ys whole last ∙ ap (λ (ps : List (List ℕ)). ps ++ (ys ∷ [])) (sym first);
-    }
-
-content-grows : (n : ℕ) (content chunk : List ℕ) → length content ≡ 4096 * n → 0 < length chunk → length chunk ≤ 4096 → GrowsByPiece 4096 content chunk n
-content-grows n content chunk full some last =
-    let count : (length content + 4096 - 1) / 4096 ≡ n = omega arith in
-    let count' : (length (content ++ chunk) + 4096 - 1) / 4096 ≡ n + 1 = omega (arith, length-append content chunk) in
-    grows 4096 n content chunk count count' (omega arith) last
-
-drawn-grows : (n : ℕ) (drawn nonce : List ℕ) → length drawn ≡ 16 * n → length nonce ≡ 16 → GrowsByPiece 16 drawn nonce n
-drawn-grows n drawn nonce many sixteen =
-    let count : (length drawn + 16 - 1) / 16 ≡ n = omega arith in
-    let count' : (length (drawn ++ nonce) + 16 - 1) / 16 ≡ n + 1 = omega (arith, length-append drawn nonce) in
-    grows 16 n drawn nonce count count' (omega arith) (omega arith)
+use Rattle.chunk_files.specs.Format.{Format, Header, stored_size}
+use Rattle.chunk_files.specs.Keys.{Keys, format_of, IsHeaderBy}
+use Rattle.chunk_files.specs.Pieces.{pieces}
+use Rattle.chunk_files.specs.Contents.{is_refused}
+use Rattle.chunk_files.specs.Encrypt.{sealed_chunks, header_and_chunks, has_no_bytes, encrypt_by, encrypt, draws, AreAccepted, IsEncrypted}
+use Rattle.chunk_files.specs.Encoding.{Encoding, HasMade, GoesOn, IsFrontOf, MoreDrawnGiveMore, MadeIsAFront, begun}
+use Rattle.chunk_files.specs.FileOf.{AreStored, HasChunks, IsFileOf, EncryptedFilesAreFiles}
+use Rattle.chunk_files.proofs.Lawful.{IsLawful, lawful}
+use Rattle.chunk_files.proofs.PiecesOf.{pieces-nil, pieces-next, pieces-one, pieces-append, length-pieces, concat-pieces}
 
 All-one : (P : List ℕ → Type 0) (x : List ℕ) → P x → All P (x ∷ [])
 All-one P x h zero d within = h
 All-one P x h (suc k) d within = absurd (omega arith)
-
-no-zeros-more : (n : ℕ) (drawn nonce : List ℕ) → length drawn ≡ 16 * n → length nonce ≡ 16 → HasNoZeros drawn → is_all_zero nonce ≡ false → HasNoZeros (drawn ++ nonce)
-no-zeros-more n drawn nonce many sixteen none some =
-    let P : List ℕ → Type 0 = λ part. is_all_zero part ≡ false in
-    let grown : GrowsByPiece 16 drawn nonce n = drawn-grows n drawn nonce many sixteen in
-    subst (All P) (sym grown.joined) (All-append P (pieces 16 drawn) (nonce ∷ []) none (All-one P nonce some))
-
-some-content : (content chunk : List ℕ) → 0 < length chunk → (length (content ++ chunk) == 0) ≡ false
-some-content content chunk some = elim (eqb_tells (length (content ++ chunk)) 0) [ inl none ↦ absurd (omega (arith, length-append content chunk)) | inr some' ↦ some'.0 ]
-
--- the block of the next chunk, under the nonce at its front
-pub record IsNextBlock (key id : List ℕ) (number : ℕ) (chunk block : List ℕ) : Type 0 where
-  pub sixteen : length (take 16 block) ≡ 16
-  pub some_bit : is_all_zero (take 16 block) ≡ false
-  pub is : block ≡ sealed_block key id number (take 16 block) chunk
-
-pub block-nonce : (key id : List ℕ) (number : ℕ) (nonce chunk block : List ℕ) → block ≡ sealed_block key id number nonce chunk → length nonce ≡ 16 → take 16 block ≡ nonce
-block-nonce key id number nonce chunk block is sixteen =
-    let text : List ℕ = (sealed (aes256 key) nonce (block_data id number) chunk).text in
-    let tag : List ℕ = (sealed (aes256 key) nonce (block_data id number) chunk).tag in
-    ap (take 16) (is ∙ append_assoc nonce text tag) ∙ take_at nonce (text ++ tag) 16 sixteen
-
--- the nonce of a block at the front of a buffer
-pub buffer-nonce : (key id : List ℕ) (number : ℕ) (nonce chunk out : List ℕ) (size : ℕ) → take size out ≡ sealed_block key id number nonce chunk → length nonce ≡ 16 → take 16 out ≡ nonce
-buffer-nonce key id number nonce chunk out size is sixteen =
-    let text : List ℕ = (sealed (aes256 key) nonce (block_data id number) chunk).text in
-    let tag : List ℕ = (sealed (aes256 key) nonce (block_data id number) chunk).tag in
-    let parts : out ≡ nonce ++ ((text ++ tag) ++ drop size out) =
-    sym (take-append-drop size out) ∙ ap (λ (b : List ℕ). b ++ drop size out) (is ∙ append_assoc nonce text tag) ∙ append_assoc nonce (text ++ tag) (drop size out) in
-    ap (take 16) parts ∙ take_at nonce ((text ++ tag) ++ drop size out) 16 sixteen
-
-pub next-block : (key id : List ℕ) (number : ℕ) (nonce chunk block : List ℕ) → block ≡ sealed_block key id number nonce chunk → length nonce ≡ 16 → is_all_zero nonce ≡ false
-    → IsNextBlock key id number chunk block
-next-block key id number nonce chunk block is sixteen some =
-    let front : take 16 block ≡ nonce = block-nonce key id number nonce chunk block is sixteen in
-    record {
-      sixteen = ap length front ∙ sixteen;
-      some_bit = ap is_all_zero front ∙ some;
-      is = is ∙ ap (λ (n : List ℕ). sealed_block key id number n chunk) (sym front);
-    }
-
-made-go : (key id : List ℕ) (number : ℕ) (chunk block drawn content file : List ℕ) → 0 < length chunk → length chunk ≤ 4096 → IsNextBlock key id number chunk block
-    → HasMade (record { keys = record { layout = Go; content = key }; id = id; number = number }) drawn content file
-    → file ++ block ≡ header_and_blocks key (drawn ++ take 16 block) (pieces 4096 (content ++ chunk))
-made-go key id number chunk block drawn content file some last next made =
-    let grown : GrowsByPiece 4096 content chunk number = content-grows number content chunk made.full some last in
-    let many : length drawn ≡ 16 * (length (pieces 4096 content) + 1) = rw grown.before made.drawn_so_far in
-    let same : block ≡ sealed_block key (take 16 drawn) (length (pieces 4096 content)) (take 16 block) chunk =
-    rw (grown.before, ← made.id) next.is in
-    ap (λ (f : List ℕ). f ++ block) made.is
-    ∙ ap (λ (b : List ℕ). header_and_blocks key drawn (pieces 4096 content) ++ b) same
-    ∙ sym (header_and_blocks-append key drawn (take 16 block) (pieces 4096 content) chunk many next.sixteen)
-    ∙ ap (λ (ps : List (List ℕ)). header_and_blocks key (drawn ++ take 16 block) ps) (sym grown.joined)
-
-pub goes-on : (layout : Layout) (key id : List ℕ) (number : ℕ) (chunk block : List ℕ) → 0 < length chunk → length chunk ≤ full_size layout → IsNextBlock key id number chunk block
-    → GoesOn (record { keys = record { layout = layout; content = key }; id = id; number = number })
-    (record { keys = record { layout = layout; content = key }; id = id; number = number + 1 }) chunk block
-unfolding encrypt_go
-goes-on Go key id number chunk block some last next drawn content file made =
-    let nonce : List ℕ = take 16 block in
-    let grown : GrowsByPiece 4096 content chunk number = content-grows number content chunk made.full some last in
-    let is : file ++ block ≡ header_and_blocks key (drawn ++ nonce) (pieces 4096 (content ++ chunk)) = made-go key id number chunk block drawn content file some last next made in
-    let none : HasNoZeros (drawn ++ nonce) = no-zeros-more (number + 1) drawn nonce made.drawn_so_far next.sixteen made.no_zeros next.some_bit in
-    let whole : (length (content ++ chunk) == 0) ≡ false = some-content content chunk some in
-    let many : length (drawn ++ nonce) ≡ 16 * (number + 1 + 1) = omega (arith, length-append drawn nonce, made.drawn_so_far, next.sixteen) in
-    let long : 16 ≤ length drawn = omega (arith, made.drawn_so_far) in (
-      record {
-        enough = rw (whole, grown.after) (omega arith);
-        no_zeros = none;
-        is = rw whole is;
-      },
-      λ full. record {
-        drawn_so_far = many;
-        no_zeros = none;
-        id = made.id ∙ sym (take-append-le 16 drawn nonce long);
-        full = omega (arith, length-append content chunk, made.full);
-        is = is;
-      },
-    )
-
--- ---- what a file begins with
-
-empty-by : (layout : Layout) (key : List ℕ) → IsEncrypted (record { layout = layout; content = key }) [] [] []
-unfolding encrypt_go first_pieces
-empty-by Go key = record { enough = refl; no_zeros = λ k d within. absurd (omega arith); is = refl }
-
--- no bytes stand for no content
-pub empty-encrypted : (keys : Keys) → IsEncrypted keys [] [] []
-empty-encrypted keys = empty-by keys.layout keys.content
-
-header-by : (layout : Layout) (key id file : List ℕ) → length id ≡ 16 → file ≡ header_of id → file ≡ front_by layout key id []
-unfolding header_and_blocks sealed_blocks first_pieces
-header-by Go key id file sixteen is =
-    let enough : nat_lt (length id) 16 ≡ false = le-ltb (length id) 16 (omega arith) in
-    let all : take 16 id ≡ id = take_all 16 id (omega arith) in
-    is ∙ rw (enough, all) (sym (append-nil (header_of id)))
-
-pub header-made : (keys : Keys) (id file : List ℕ) → length id ≡ 16 → is_all_zero id ≡ false → file ≡ header_of id → HasMade (begun keys id) id [] file
-unfolding first_pieces
-header-made keys id file sixteen some is =
-    let P : List ℕ → Type 0 = λ part. is_all_zero part ≡ false in
-    let all : take 16 id ≡ id = take_all 16 id (omega arith) in
-    let one : pieces 16 id ≡ id ∷ [] = pieces-are 1 16 id (omega arith) ∙ ap (λ (part : List ℕ). part ∷ []) all in
-    record {
-      drawn_so_far = omega arith;
-      no_zeros = subst (All P) (sym one) (All-one P id some);
-      id = sym all;
-      full = omega arith;
-      is = header-by keys.layout keys.content id file sixteen is;
-    }
-
--- ---- what is encrypted is a file of its content
 
 All-head : (P : List ℕ → Type 0) (x : List ℕ) (xs : List (List ℕ)) → All P (x ∷ xs) → P x
 All-head P x xs all = all zero [] (omega arith)
@@ -204,72 +25,345 @@ All-head P x xs all = all zero [] (omega arith)
 All-tail : (P : List ℕ → Type 0) (x : List ℕ) (xs : List (List ℕ)) → All P (x ∷ xs) → All P xs
 All-tail P x xs all = λ k d within. all (suc k) d (omega arith)
 
--- the first of n pieces more is full, or it is the last
-full-or-last : (n size : ℕ) (bytes : List ℕ) → suc n * size < length bytes + size → (length (take size bytes) ≡ size) ⊎ ((length (take size bytes) ≤ size) × (first_pieces n size (drop size bytes) ≡ []))
-unfolding first_pieces
-full-or-last zero size bytes many = inr (omega (arith, length-take size bytes), refl)
-full-or-last (suc n) size bytes many = inl (omega (arith, length-take size bytes))
+-- the next chunk stored, under the nonce at its front
+pub record IsNext (f : Format) (header : Header) (number : ℕ) (chunk stored : List ℕ) : Type 0 where
+  pub size : length (take f.nonce_size stored) ≡ f.nonce_size
+  pub accepted : is_refused f (take f.nonce_size stored) ≡ false
+  pub is : stored ≡ f.sealed_chunk header number (take f.nonce_size stored) chunk
 
-blocks-are : (n : ℕ) (key id : List ℕ) (number : ℕ) (drawn bytes : List ℕ) → length drawn ≡ 16 * n → All (λ part. is_all_zero part ≡ false) (first_pieces n 16 drawn)
-    → n * 4096 < length bytes + 4096 → AreBlocksOf key id number (sealed_blocks key id number drawn (first_pieces n 4096 bytes)) (first_pieces n 4096 bytes)
-unfolding first_pieces sealed_blocks
-blocks-are zero key id number drawn bytes many none within = refl
-blocks-are (suc n) key id number drawn bytes many none within =
-    let P : List ℕ → Type 0 = λ part. is_all_zero part ≡ false in
-    let enough : nat_lt (length drawn) 16 ≡ false = le-ltb (length drawn) 16 (omega arith) in
-    let rest : List ℕ = sealed_blocks key id (number + 1) (drop 16 drawn) (first_pieces n 4096 (drop 4096 bytes)) in
-    let less : n * 4096 < length (drop 4096 bytes) + 4096 = omega (arith, length-drop 4096 bytes) in (
-      full-or-last n 4096 bytes within,
-      (
-        rest,
-        record {
-          block = sealed_block key id number (take 16 drawn) (take 4096 bytes);
-          parts = rw enough refl;
-          of = inr (record {
-            nonce = take 16 drawn;
-            sixteen = length-take-le 16 drawn (omega arith);
-            some_bit = All-head P (take 16 drawn) (first_pieces n 16 (drop 16 drawn)) none;
-            is = refl;
-          });
-        },
-        blocks-are n key id (number + 1) (drop 16 drawn) (drop 4096 bytes) (omega (arith, length-drop 16 drawn)) (All-tail P (take 16 drawn) (first_pieces n 16 (drop 16 drawn)) none) less,
-      ),
-    )
+module _ (f : Format) where
+  -- ---- one chunk more
 
-file-of-blocks : (n : ℕ) (key drawn content : List ℕ) → n * 4096 < length content + 4096 → length content ≤ n * 4096 → length drawn ≡ 16 + 16 * n → HasNoZeros drawn
-    → HasBlocks key (header_and_blocks key drawn (first_pieces n 4096 content)) content
-unfolding first_pieces header_and_blocks
-file-of-blocks n key drawn content most least many none =
-    let P : List ℕ → Type 0 = λ part. is_all_zero part ≡ false in
-    let enough : nat_lt (length drawn) 16 ≡ false = le-ltb (length drawn) 16 (omega arith) in
-    let parts : pieces 16 drawn ≡ first_pieces (suc n) 16 drawn = pieces-are (suc n) 16 drawn (omega arith) in
-    let nonzero : All P (take 16 drawn ∷ first_pieces n 16 (drop 16 drawn)) = subst (All P) parts none in
-    record {
-      id = take 16 drawn;
-      sixteen = length-take-le 16 drawn (omega arith);
-      some_bit = All-head P (take 16 drawn) (first_pieces n 16 (drop 16 drawn)) nonzero;
-      blocks = sealed_blocks key (take 16 drawn) 0 (drop 16 drawn) (first_pieces n 4096 content);
-      parts = rw enough refl;
-      chunks = first_pieces n 4096 content;
-      of = blocks-are n key (take 16 drawn) 0 (drop 16 drawn) content (omega (arith, length-drop 16 drawn)) (All-tail P (take 16 drawn) (first_pieces n 16 (drop 16 drawn)) nonzero) most;
-      joined = sym (concat-first_pieces n 4096 content least);
-    }
+  sealed_chunks-append : (header : Header) (number : ℕ) (drawn nonce : List ℕ) (chunks : List (List ℕ)) (chunk : List ℕ)
+      → length drawn ≡ f.nonce_size * length chunks → length nonce ≡ f.nonce_size
+      → sealed_chunks f header number (drawn ++ nonce) (chunks ++ (chunk ∷ []))
+      ≡ sealed_chunks f header number drawn chunks ++ f.sealed_chunk header (number + length chunks) nonce chunk
+  unfolding sealed_chunks
+  sealed_chunks-append header number drawn nonce [] chunk many size =
+      let none : drawn ≡ [] = nil_from_length drawn (omega arith) in
+      let enough : nat_lt (length nonce) f.nonce_size ≡ false = le-ltb (length nonce) f.nonce_size (omega arith) in
+      let all : take f.nonce_size nonce ≡ nonce = take_all f.nonce_size nonce (omega arith) in
+      let same : number + 0 ≡ number = omega arith in
+      rw (none, enough, all, same) (append-nil (f.sealed_chunk header number nonce chunk))
+  sealed_chunks-append header number drawn nonce (c ∷ cs) chunk many size =
+      let n : ℕ = f.nonce_size in
+      let long : n ≤ length drawn = omega arith in
+      let enough : nat_lt (length drawn) n ≡ false = le-ltb (length drawn) n long in
+      let enough' : nat_lt (length (drawn ++ nonce)) n ≡ false = le-ltb (length (drawn ++ nonce)) n (omega (arith, length-append drawn nonce)) in
+      let rest : length (drop n drawn) ≡ n * length cs = omega (arith, length-drop n drawn) in
+      let place : number + 1 + length cs ≡ number + suc (length cs) = omega arith in
+      let more = sealed_chunks-append header (number + 1) (drop n drawn) nonce cs chunk rest size in
+      rw (enough, enough', take-append-le n drawn nonce long, drop-append-le n drawn nonce long, more, place)
+      (sym (append_assoc (f.sealed_chunk header number (take n drawn) c) (sealed_chunks f header (number + 1) (drop n drawn) cs) (f.sealed_chunk header (number + suc (length cs)) nonce chunk)))
 
-file-of : (layout : Layout) (key drawn content file : List ℕ) → IsEncrypted (record { layout = layout; content = key }) drawn content file → IsFileOf (record { layout = layout; content = key }) file content
-unfolding encrypt_go
-file-of Go key drawn content file made = elim (eqb_tells (length content) 0) [
-  | inl none ↦
-      inl (record {
-        stored = made.is ∙ rw none.0 refl;
-        plain = nil_from_length content none.1;
+  header_and_chunks-append : (drawn nonce : List ℕ) (chunks : List (List ℕ)) (chunk : List ℕ)
+      → length drawn ≡ f.header_draw + f.nonce_size * length chunks → length nonce ≡ f.nonce_size
+      → header_and_chunks f (drawn ++ nonce) (chunks ++ (chunk ∷ []))
+      ≡ header_and_chunks f drawn chunks ++ f.sealed_chunk (f.new_told (take f.header_draw drawn)) (length chunks) nonce chunk
+  unfolding header_and_chunks
+  header_and_chunks-append drawn nonce chunks chunk many size =
+      let h : ℕ = f.header_draw in
+      let long : h ≤ length drawn = omega arith in
+      let enough : nat_lt (length drawn) h ≡ false = le-ltb (length drawn) h long in
+      let enough' : nat_lt (length (drawn ++ nonce)) h ≡ false = le-ltb (length (drawn ++ nonce)) h (omega (arith, length-append drawn nonce)) in
+      let rest : length (drop h drawn) ≡ f.nonce_size * length chunks = omega (arith, length-drop h drawn) in
+      let header : Header = f.new_told (take h drawn) in
+      let more = sealed_chunks-append header 0 (drop h drawn) nonce chunks chunk rest size in
+      let place : 0 + length chunks ≡ length chunks = omega arith in
+      rw (enough, enough', take-append-le h drawn nonce long, drop-append-le h drawn nonce long, more, place)
+      (sym (append_assoc (f.new_header (take h drawn)) (sealed_chunks f header 0 (drop h drawn) chunks) (f.sealed_chunk header (length chunks) nonce chunk)))
+
+  accepted-more : (number : ℕ) (drawn nonce : List ℕ) → 0 < f.nonce_size → length drawn ≡ f.header_draw + f.nonce_size * number → length nonce ≡ f.nonce_size
+      → AreAccepted f drawn → is_refused f nonce ≡ false → AreAccepted f (drawn ++ nonce)
+  accepted-more number drawn nonce some many size accepted right =
+      let P : List ℕ → Type 0 = λ part. is_refused f part ≡ false in
+      let h : ℕ = f.header_draw in
+      let n : ℕ = f.nonce_size in
+      let long : h ≤ length drawn = omega arith in
+      let rest : length (drop h drawn) ≡ n * number = omega (arith, length-drop h drawn) in
+      let joined : pieces n (drop h (drawn ++ nonce)) ≡ pieces n (drop h drawn) ++ (nonce ∷ []) =
+      ap (pieces n) (drop-append-le h drawn nonce long) ∙ pieces-append number n (drop h drawn) nonce some rest
+      ∙ ap (λ (ps : List (List ℕ)). pieces n (drop h drawn) ++ ps) (pieces-one n nonce (omega arith) (omega arith)) in
+      record {
+        id = ap (is_refused f) (take-append-le h drawn nonce long) ∙ accepted.id;
+        nonces = subst (All P) (sym joined) (All-append P (pieces n (drop h drawn)) (nonce ∷ []) accepted.nonces (All-one P nonce right));
+      }
+
+  some-bytes : (content : List ℕ) → 0 < length content → has_no_bytes f content ≡ false
+  some-bytes content more = elim (eqb_tells (length content) 0) [ inl none ↦ absurd (omega arith) | inr some ↦ rw some.0 refl ]
+
+  -- ---- more drawn bytes
+
+  sealed-front : (header : Header) (number : ℕ) (drawn more : List ℕ) (chunks : List (List ℕ))
+      → IsFrontOf (sealed_chunks f header number drawn chunks) (sealed_chunks f header number (drawn ++ more) chunks)
+  unfolding sealed_chunks
+  sealed-front header number drawn more [] = record { behind = []; is = refl }
+  sealed-front header number drawn more (c ∷ cs) =
+      let n : ℕ = f.nonce_size in
+      elim (cases_lt (length drawn) n) [
+        | inl less ↦ rw (lt-ltb (length drawn) n less) (record { behind = _; is = refl })
+        | inr long ↦
+            let enough : nat_lt (length drawn) n ≡ false = le-ltb (length drawn) n long in
+            let enough' : nat_lt (length (drawn ++ more)) n ≡ false = le-ltb (length (drawn ++ more)) n (omega (arith, length-append drawn more)) in
+            let rest = sealed-front header (number + 1) (drop n drawn) more cs in
+            rw (enough, enough', take-append-le n drawn more long, drop-append-le n drawn more long)
+            (record {
+              behind = rest.behind;
+              is = ap (λ (r : List ℕ). f.sealed_chunk header number (take n drawn) c ++ r) rest.is
+                  ∙ sym (append_assoc (f.sealed_chunk header number (take n drawn) c) (sealed_chunks f header (number + 1) (drop n drawn) cs) rest.behind);
+            })
+      ]
+
+  header-front : (drawn more : List ℕ) (chunks : List (List ℕ)) → IsFrontOf (header_and_chunks f drawn chunks) (header_and_chunks f (drawn ++ more) chunks)
+  unfolding header_and_chunks
+  header-front drawn more chunks =
+      let h : ℕ = f.header_draw in
+      elim (cases_lt (length drawn) h) [
+        | inl less ↦ rw (lt-ltb (length drawn) h less) (record { behind = _; is = refl })
+        | inr long ↦
+            let enough : nat_lt (length drawn) h ≡ false = le-ltb (length drawn) h long in
+            let enough' : nat_lt (length (drawn ++ more)) h ≡ false = le-ltb (length (drawn ++ more)) h (omega (arith, length-append drawn more)) in
+            let rest = sealed-front (f.new_told (take h drawn)) 0 (drop h drawn) more chunks in
+            rw (enough, enough', take-append-le h drawn more long, drop-append-le h drawn more long)
+            (record {
+              behind = rest.behind;
+              is = ap (λ (r : List ℕ). f.new_header (take h drawn) ++ r) rest.is
+                  ∙ sym (append_assoc (f.new_header (take h drawn)) (sealed_chunks f (f.new_told (take h drawn)) 0 (drop h drawn) chunks) rest.behind);
+            })
+      ]
+
+  -- ---- more chunks
+
+  sealed-longer : (header : Header) (number : ℕ) (drawn : List ℕ) (chunks others : List (List ℕ))
+      → length drawn ≡ f.nonce_size * length chunks
+      → IsFrontOf (sealed_chunks f header number drawn chunks) (sealed_chunks f header number drawn (chunks ++ others))
+  unfolding sealed_chunks
+  sealed-longer header number drawn [] others many = record { behind = _; is = refl }
+  sealed-longer header number drawn (c ∷ cs) others many =
+      let n : ℕ = f.nonce_size in
+      let long : n ≤ length drawn = omega arith in
+      let enough : nat_lt (length drawn) n ≡ false = le-ltb (length drawn) n long in
+      let rest' : length (drop n drawn) ≡ n * length cs = omega (arith, length-drop n drawn) in
+      let rest = sealed-longer header (number + 1) (drop n drawn) cs others rest' in
+      rw enough
+      (record {
+        behind = rest.behind;
+        is = ap (λ (r : List ℕ). f.sealed_chunk header number (take n drawn) c ++ r) rest.is
+            ∙ sym (append_assoc (f.sealed_chunk header number (take n drawn) c) (sealed_chunks f header (number + 1) (drop n drawn) cs) rest.behind);
       })
-  | inr some ↦
-      let n : ℕ = (length content + 4096 - 1) / 4096 in
-      let whole : (length content == 0) ≡ false = some.0 in
-      let is : file ≡ header_and_blocks key drawn (pieces 4096 content) = made.is ∙ rw whole refl in
-      let many : length drawn ≡ 16 + 16 * n = made.enough ∙ rw (whole, length-first_pieces n 4096 content) refl in
-      inr (rw is (file-of-blocks n key drawn content (omega arith) (omega arith) many made.no_zeros))
-]
+
+  header-longer : (drawn : List ℕ) (chunks others : List (List ℕ)) → length drawn ≡ f.header_draw + f.nonce_size * length chunks
+      → IsFrontOf (header_and_chunks f drawn chunks) (header_and_chunks f drawn (chunks ++ others))
+  unfolding header_and_chunks
+  header-longer drawn chunks others many =
+      let h : ℕ = f.header_draw in
+      let long : h ≤ length drawn = omega arith in
+      let enough : nat_lt (length drawn) h ≡ false = le-ltb (length drawn) h long in
+      let rest' : length (drop h drawn) ≡ f.nonce_size * length chunks = omega (arith, length-drop h drawn) in
+      let rest = sealed-longer (f.new_told (take h drawn)) 0 (drop h drawn) chunks others rest' in
+      rw enough
+      (record {
+        behind = rest.behind;
+        is = ap (λ (r : List ℕ). f.new_header (take h drawn) ++ r) rest.is
+            ∙ sym (append_assoc (f.new_header (take h drawn)) (sealed_chunks f (f.new_told (take h drawn)) 0 (drop h drawn) chunks) rest.behind);
+      })
+
+  IsFrontOf-trans : (a b c : List ℕ) → IsFrontOf a b → IsFrontOf b c → IsFrontOf a c
+  IsFrontOf-trans a b c first second = record {
+    behind = first.behind ++ second.behind;
+    is = second.is ∙ ap (λ (x : List ℕ). x ++ second.behind) first.is ∙ append_assoc a first.behind second.behind;
+  }
+
+  encrypt-front : (none : Bool) (drawn more content : List ℕ) → has_no_bytes f content ≡ none → IsFrontOf (encrypt_by f drawn content) (encrypt_by f (drawn ++ more) content)
+  unfolding encrypt_by
+  encrypt-front true drawn more content is = rw is (record { behind = []; is = refl })
+  encrypt-front false drawn more content is = rw is (header-front drawn more (pieces f.full_size content))
+
+pub more_drawn_give_more : MoreDrawnGiveMore
+more_drawn_give_more keys drawn more content = encrypt-front (format_of keys) (has_no_bytes (format_of keys) content) drawn more content refl
+
+module _ (e : Encoding) where
+  abbrev fe : Format
+  fe = format_of e.keys
+
+  law : IsLawful fe (IsHeaderBy e.keys.layout e.keys.key)
+  law = lawful e.keys
+
+  made-front : (drawn more content rest file : List ℕ) → HasMade e drawn content file → has_no_bytes fe (content ++ rest) ≡ false
+      → IsFrontOf file (encrypt e.keys (drawn ++ more) (content ++ rest))
+  unfolding encrypt_by
+  made-front drawn more content rest file made some =
+      let chunks : List (List ℕ) = pieces fe.full_size content in
+      let others : List (List ℕ) = pieces fe.full_size rest in
+      let count : length chunks ≡ e.number = length-pieces e.number fe.full_size content law.some_full made.full in
+      let many : length drawn ≡ fe.header_draw + fe.nonce_size * length chunks = rw count made.drawn_so_far in
+      let joined : pieces fe.full_size (content ++ rest) ≡ chunks ++ others = pieces-append e.number fe.full_size content rest law.some_full made.full in
+      rw (some, joined, made.is)
+      (IsFrontOf-trans fe _ _ _ (header-longer fe drawn chunks others many) (header-front fe drawn more (chunks ++ others)))
+
+  -- ---- the next chunk
+
+  pub goes-on : (chunk stored : List ℕ) → 0 < length chunk → length chunk ≤ fe.full_size → IsNext fe e.header e.number chunk stored
+      → GoesOn e (record e { number = e.number + 1 }) chunk stored
+  unfolding encrypt_by
+  goes-on chunk stored some last next drawn content file made =
+      let nonce : List ℕ = take fe.nonce_size stored in
+      let chunks : List (List ℕ) = pieces fe.full_size content in
+      let count : length chunks ≡ e.number = length-pieces e.number fe.full_size content law.some_full made.full in
+      let joined : pieces fe.full_size (content ++ chunk) ≡ chunks ++ (chunk ∷ []) =
+      pieces-append e.number fe.full_size content chunk law.some_full made.full ∙ ap (λ (ps : List (List ℕ)). chunks ++ ps) (pieces-one fe.full_size chunk some last) in
+      let many : length drawn ≡ fe.header_draw + fe.nonce_size * length chunks = rw count made.drawn_so_far in
+      let same : stored ≡ fe.sealed_chunk (fe.new_told (take fe.header_draw drawn)) (length chunks) nonce chunk = rw (count, ← made.header) next.is in
+      let is : file ++ stored ≡ header_and_chunks fe (drawn ++ nonce) (pieces fe.full_size (content ++ chunk)) =
+      ap (λ (x : List ℕ). x ++ stored) made.is
+      ∙ ap (λ (x : List ℕ). header_and_chunks fe drawn chunks ++ x) same
+      ∙ sym (header_and_chunks-append fe drawn nonce chunks chunk many next.size)
+      ∙ ap (header_and_chunks fe (drawn ++ nonce)) (sym joined) in
+      let accepted : AreAccepted fe (drawn ++ nonce) = accepted-more fe e.number drawn nonce law.some_nonce made.drawn_so_far next.size made.accepted next.accepted in
+      let whole : has_no_bytes fe (content ++ chunk) ≡ false = some-bytes fe (content ++ chunk) (omega (arith, length-append content chunk)) in
+      let long : fe.header_draw ≤ length drawn = omega (arith, made.drawn_so_far) in
+      let after : length (pieces fe.full_size (content ++ chunk)) ≡ e.number + 1 = ap length joined ∙ length-append chunks (chunk ∷ []) ∙ omega (arith, count) in
+      let sum : length (drawn ++ nonce) ≡ fe.header_draw + fe.nonce_size * (e.number + 1) = omega (arith, length-append drawn nonce, made.drawn_so_far, next.size) in (
+        record {
+          enough = rw (whole, after) sum;
+          accepted = λ none. accepted;
+          is = rw whole is;
+        },
+        λ full. record {
+          drawn_so_far = sum;
+          accepted = accepted;
+          header = made.header ∙ ap fe.new_told (sym (take-append-le fe.header_draw drawn nonce long));
+          full = omega (arith, length-append content chunk, made.full);
+          is = is;
+        },
+      )
+
+pub made_is_a_front : MadeIsAFront
+made_is_a_front e drawn more content rest file made some = made-front e drawn more content rest file made some
+
+-- ---- what a file begins with
+
+module _ (keys : Keys) where
+  abbrev fk : Format
+  fk = format_of keys
+
+  -- no bytes stand for no content
+  pub empty-encrypted : fk.empty_has_no_header ≡ true → IsEncrypted keys [] [] []
+  unfolding encrypt_by
+  empty-encrypted allowed = record {
+    enough = rw allowed refl;
+    accepted = λ some. (let none : true ≡ false = rw allowed at some in cc);
+    is = rw allowed refl;
+  }
+
+  pub header-made : (drawn file : List ℕ) → length drawn ≡ fk.header_draw → is_refused fk drawn ≡ false → file ≡ fk.new_header drawn
+      → HasMade (begun keys (fk.new_told drawn)) drawn [] file
+  unfolding header_and_chunks sealed_chunks
+  header-made drawn file size some is =
+      let enough : nat_lt (length drawn) fk.header_draw ≡ false = le-ltb (length drawn) fk.header_draw (omega arith) in
+      let all : take fk.header_draw drawn ≡ drawn = take_all fk.header_draw drawn (omega arith) in
+      let rest : drop fk.header_draw drawn ≡ [] = drop_all fk.header_draw drawn (omega arith) in
+      record {
+        drawn_so_far = omega arith;
+        accepted = record {
+          id = ap (is_refused fk) all ∙ some;
+          nonces = subst (All (λ nonce. is_refused fk nonce ≡ false)) (sym (ap (pieces fk.nonce_size) rest ∙ pieces-nil fk.nonce_size [] refl)) (λ k d within. absurd (omega arith));
+        };
+        header = ap fk.new_told (sym all);
+        full = omega arith;
+        is = is ∙ rw (enough, all, pieces-nil fk.full_size [] refl) (sym (append-nil (fk.new_header drawn)));
+      }
+
+  -- a file that has a header and no chunk is the file of no content
+  pub header-encrypted : (drawn file : List ℕ) → fk.empty_has_no_header ≡ false → HasMade (begun keys (fk.new_told drawn)) drawn [] file → IsEncrypted keys drawn [] file
+  unfolding encrypt_by
+  header-encrypted drawn file header made = record {
+    enough = rw (header, pieces-nil fk.full_size [] refl) made.drawn_so_far;
+    accepted = λ some. made.accepted;
+    is = rw header made.is;
+  }
+
+  -- ---- what is encrypted is a file of its content
+
+  chunks-stored : (most : ℕ) (header : Header) (number : ℕ) (drawn content : List ℕ) → length content ≤ most
+      → length drawn ≡ fk.nonce_size * length (pieces fk.full_size content) → All (λ nonce. is_refused fk nonce ≡ false) (pieces fk.nonce_size drawn)
+      → AreStored fk header number (sealed_chunks fk header number drawn (pieces fk.full_size content)) (pieces fk.full_size content)
+  unfolding sealed_chunks
+  chunks-stored most header number drawn [] within many accepted = rw (pieces-nil fk.full_size [] refl) refl
+  chunks-stored zero header number drawn (x ∷ xs) within many accepted = absurd (omega arith)
+  chunks-stored (suc most) header number drawn (x ∷ xs) within many accepted =
+      let law : IsLawful fk (IsHeaderBy keys.layout keys.key) = lawful keys in
+      let P : List ℕ → Type 0 = λ nonce. is_refused fk nonce ≡ false in
+      let content : List ℕ = x ∷ xs in
+      let n : ℕ = fk.nonce_size in
+      let m : ℕ = fk.full_size in
+      let chunk : List ℕ = take m content in
+      let rest : List ℕ = drop m content in
+      let next : pieces m content ≡ chunk ∷ pieces m rest = pieces-next m content law.some_full (omega arith) in
+      let many' : length drawn ≡ n * suc (length (pieces m rest)) = many ∙ ap (λ (ps : List (List ℕ)). n * length ps) next in
+      let long : n ≤ length drawn = omega arith in
+      let enough : nat_lt (length drawn) n ≡ false = le-ltb (length drawn) n long in
+      let first : pieces n drawn ≡ take n drawn ∷ pieces n (drop n drawn) = pieces-next n drawn law.some_nonce (omega (arith, law.some_nonce)) in
+      let parts : All P (take n drawn ∷ pieces n (drop n drawn)) = subst (All P) first accepted in
+      let shorter : length rest ≤ most = omega (arith, length-drop m content, law.some_full) in
+      let behind : List ℕ = sealed_chunks fk header (number + 1) (drop n drawn) (pieces m rest) in
+      let stored = chunks-stored most header (number + 1) (drop n drawn) rest shorter (omega (arith, length-drop n drawn)) (All-tail P (take n drawn) (pieces n (drop n drawn)) parts) in
+      rw (next, enough) (
+        full-or-last content law.some_full,
+        (
+          behind,
+          record {
+            stored = fk.sealed_chunk header number (take n drawn) chunk;
+            parts = refl;
+            of = inr (record {
+              nonce = take n drawn;
+              size = length-take-le n drawn long;
+              accepted = All-head P (take n drawn) (pieces n (drop n drawn)) parts;
+              is = refl;
+            });
+          },
+          stored,
+        ),
+      )
+    where
+      full-or-last : (bytes : List ℕ) → 0 < fk.full_size → (length (take fk.full_size bytes) ≡ fk.full_size) ⊎ ((length (take fk.full_size bytes) ≤ fk.full_size) × (pieces fk.full_size (drop fk.full_size bytes) ≡ []))
+      full-or-last bytes some = elim (cases_lt (length bytes) fk.full_size) [
+        | inr long ↦ inl (omega (arith, length-take fk.full_size bytes))
+        | inl less ↦ inr (omega (arith, length-take fk.full_size bytes), pieces-nil fk.full_size (drop fk.full_size bytes) (omega (arith, length-drop fk.full_size bytes)))
+      ]
+
+  both-true : (a b : Bool) → (a && b) ≡ true → (a ≡ true) × (b ≡ true)
+  both-true true true all = (refl, refl)
+  both-true true false all = cc
+  both-true false b all = cc
+
+  file-of : (none : Bool) (drawn content file : List ℕ) → has_no_bytes fk content ≡ none → IsEncrypted keys drawn content file → IsFileOf keys file content
+  unfolding encrypt_by header_and_chunks
+  file-of true drawn content file is made =
+      let both = both-true (length content == 0) fk.empty_has_no_header is in
+      inl (record {
+        allowed = both.1;
+        stored = made.is ∙ rw is refl;
+        plain = nil_from_length content (eqb-true (length content) 0 both.0);
+      })
+  file-of false drawn content file is made =
+      let law : IsLawful fk (IsHeaderBy keys.layout keys.key) = lawful keys in
+      let h : ℕ = fk.header_draw in
+      let chunks : List (List ℕ) = pieces fk.full_size content in
+      let many : length drawn ≡ h + fk.nonce_size * length chunks = made.enough ∙ rw is refl in
+      let enough : nat_lt (length drawn) h ≡ false = le-ltb (length drawn) h (omega arith) in
+      let accepted : AreAccepted fk drawn = made.accepted is in
+      let header : Header = fk.new_told (take h drawn) in
+      inr (record {
+        header = header;
+        head = fk.new_header (take h drawn);
+        is_header = law.new_head (take h drawn) (length-take-le h drawn (omega arith)) accepted.id;
+        behind = sealed_chunks fk header 0 (drop h drawn) chunks;
+        parts = made.is ∙ rw (is, enough) refl;
+        chunks = chunks;
+        of = chunks-stored (length content) header 0 (drop h drawn) content (omega arith) (omega (arith, length-drop h drawn)) accepted.nonces;
+        joined = sym (concat-pieces fk.full_size content law.some_full);
+      })
 
 pub encrypted_files_are_files : EncryptedFilesAreFiles
-encrypted_files_are_files keys drawn content file made = file-of keys.layout keys.content drawn content file made
+encrypted_files_are_files keys drawn content file made = file-of keys (has_no_bytes (format_of keys) content) drawn content file refl made

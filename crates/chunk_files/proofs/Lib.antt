@@ -1,8 +1,13 @@
-pub mod Readings
-pub mod BlockReadings
-mod Opening
-mod StepLemmas
-mod BlocksOf
-pub mod FilesOf
 mod PiecesOf
+mod Sealing
+mod Opening
+mod BufferSeals
+pub mod Given
+mod HeldBytes
+mod Beginnings
+mod Decodings
+pub mod Lawful
+pub mod ChunkReadings
+mod StoredChunks
+pub mod FilesOf
 pub mod Encrypting

@@ -1,41 +1,65 @@
 -- What an encoder has made of a content so far.
-use Rattle.std.specs.Prelude.{◌≡◌, ℕ, ◌+◌, ◌*◌, List, ◌++◌, length, take}
-use Rattle.chunk_files.specs.declared.keys.Layout.{Layout}
-use Rattle.chunk_files.specs.declared.keys.Layout.TheVariants.{Go}
-use Rattle.chunk_files.specs.Keys.{Keys, full_size}
+use Rattle.std.specs.Prelude.{◌≡◌, ℕ, ◌+◌, ◌*◌, ◌&&◌, Bool, false, List, [], ◌++◌, length, take, Option}
+use Rattle.port_model.specs.Draws.{ByteStream, Draws}
+use Rattle.chunk_files.specs.Format.{Format, Header}
+use Rattle.chunk_files.specs.Keys.{Keys, format_of}
 use Rattle.chunk_files.specs.Pieces.{pieces}
-use Rattle.chunk_files.specs.Encrypt.{HasNoZeros, IsEncrypted, header_and_blocks}
+use Rattle.chunk_files.specs.Encrypt.{AreAccepted, IsEncrypted, encrypt, has_no_bytes, header_and_chunks}
 
--- an encoder: the keys, the file's id, and how many chunks were made
+-- an encoder: the keys, what the file's header tells, and how many chunks were made
 pub record Encoding : Type 0 where
   pub keys : Keys
-  pub id : List ℕ
+  pub header : Header
   pub number : ℕ
 
 -- an encoder that made no chunk yet
-abbrev pub begun : Keys → List ℕ → Encoding
-begun keys id = record { keys = keys; id = id; number = 0 }
+abbrev pub begun : Keys → Header → Encoding
+begun keys header = record { keys = keys; header = header; number = 0 }
 
 -- one chunk later
 abbrev pub one_chunk_later : Encoding → Encoding
 one_chunk_later e = record e { number = e.number + 1 }
 
--- the header and the blocks of a content whose file isn't at its end
-abbrev pub front_by : Layout → List ℕ → List ℕ → List ℕ → List ℕ
-front_by Go key drawn content = header_and_blocks key drawn (pieces 4096 content)
-
 -- this was made of the content so far, whose chunks are all full, under the bytes drawn so far
 pub record HasMade (e : Encoding) (drawn content file : List ℕ) : Type 0 where
-  pub drawn_so_far : length drawn ≡ 16 * (e.number + 1)
-  pub no_zeros : HasNoZeros drawn
-  pub id : e.id ≡ take 16 drawn
-  pub full : length content ≡ full_size e.keys.layout * e.number
-  pub is : file ≡ front_by e.keys.layout e.keys.content drawn content
+  pub drawn_so_far : length drawn ≡ (format_of e.keys).header_draw + (format_of e.keys).nonce_size * e.number
+  pub accepted : AreAccepted (format_of e.keys) drawn
+  pub header : e.header ≡ (format_of e.keys).new_told (take (format_of e.keys).header_draw drawn)
+  pub full : length content ≡ (format_of e.keys).full_size * e.number
+  pub is : file ≡ header_and_chunks (format_of e.keys) drawn (pieces (format_of e.keys).full_size content)
 
--- The block of the next chunk, under the nonce at its front, ends the file of the content with that
--- chunk. Where the chunk is full, more may follow.
+-- a file was begun: these bytes are the header made under the bytes drawn, and the whole file of no content where
+-- that has a header
+pub record HasBegun (keys : Keys) (left left' : Option ByteStream) (e : Encoding) (file : List ℕ) : Type 0 where
+  pub drawn : List ℕ
+  pub were_drawn : Draws left left' drawn
+  pub made : HasMade e drawn [] file
+  pub whole : (format_of keys).empty_has_no_header ≡ false → IsEncrypted keys drawn [] file
+
+-- whether a file is begun without a header
+abbrev pub begins_bare : Keys → Bool → Bool
+begins_bare keys empty = empty && (format_of keys).empty_has_no_header
+
+-- The next chunk stored, under the nonce at its front, ends the file of the content with that chunk. Where
+-- the chunk is full, more may follow.
 abbrev pub GoesOn : Encoding → Encoding → List ℕ → List ℕ → Type 0
-GoesOn e e' chunk block =
+GoesOn e e' chunk stored =
     (drawn content file : List ℕ) → HasMade e drawn content file
-    → IsEncrypted e.keys (drawn ++ take 16 block) (content ++ chunk) (file ++ block)
-    × (length chunk ≡ full_size e.keys.layout → HasMade e' (drawn ++ take 16 block) (content ++ chunk) (file ++ block))
+    → IsEncrypted e.keys (drawn ++ take (format_of e.keys).nonce_size stored) (content ++ chunk) (file ++ stored)
+    × (length chunk ≡ (format_of e.keys).full_size
+    → HasMade e' (drawn ++ take (format_of e.keys).nonce_size stored) (content ++ chunk) (file ++ stored))
+
+-- some bytes stand at the front of others
+pub record IsFrontOf (front whole : List ℕ) : Type 0 where
+  pub behind : List ℕ
+  pub is : whole ≡ front ++ behind
+
+-- more bytes drawn give the same file or a longer one
+abbrev pub MoreDrawnGiveMore : Type 0
+MoreDrawnGiveMore = (keys : Keys) (drawn more content : List ℕ) → IsFrontOf (encrypt keys drawn content) (encrypt keys (drawn ++ more) content)
+
+-- what was made so far is the front of the file of any content that goes on so
+abbrev pub MadeIsAFront : Type 0
+MadeIsAFront = (e : Encoding) (drawn more content rest file : List ℕ) → HasMade e drawn content file
+    → has_no_bytes (format_of e.keys) (content ++ rest) ≡ false
+    → IsFrontOf file (encrypt e.keys (drawn ++ more) (content ++ rest))

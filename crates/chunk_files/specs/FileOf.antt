@@ -1,69 +1,66 @@
 -- Which files are of which content: a header, and the sealed chunks of the content in order.
-use Rattle.std.specs.Prelude.{◌≡◌, ℕ, ◌+◌, ◌≤◌, ◌⊎◌, ◌↔◌, false, List, [], ◌∷◌, ◌++◌, length, replicate}
+use Rattle.std.specs.Prelude.{◌≡◌, ℕ, ◌+◌, ◌≤◌, ◌⊎◌, ◌↔◌, true, false, List, [], ◌∷◌, ◌++◌, length, replicate}
 use Rattle.std.specs.List.{concat}
-use Rattle.chunk_files.specs.declared.keys.Layout.{Layout}
-use Rattle.chunk_files.specs.declared.keys.Layout.TheVariants.{Go}
-use Rattle.chunk_files.specs.Keys.{Keys}
+use Rattle.chunk_files.specs.Format.{Format, Header, stored_size}
+use Rattle.chunk_files.specs.Keys.{Keys, format_of, IsHeaderBy}
 use Rattle.chunk_files.specs.Reading.{Whole}
-use Rattle.chunk_files.specs.Gocryptfs.{is_all_zero}
-use Rattle.chunk_files.specs.Contents.{readable}
-use Rattle.chunk_files.specs.Encrypt.{header_of, sealed_block, IsEncrypted}
+use Rattle.chunk_files.specs.Contents.{is_refused, readable}
+use Rattle.chunk_files.specs.Encrypt.{IsEncrypted}
 
--- a chunk sealed by GCM under a nonce that isn't all zero
-pub record IsSealedBlock (key id : List ℕ) (number : ℕ) (block chunk : List ℕ) : Type 0 where
+-- a chunk sealed under a nonce that isn't refused
+pub record IsSealedChunk (f : Format) (header : Header) (number : ℕ) (stored chunk : List ℕ) : Type 0 where
   pub nonce : List ℕ
-  pub sixteen : length nonce ≡ 16
-  pub some_bit : is_all_zero nonce ≡ false
-  pub is : block ≡ sealed_block key id number nonce chunk
+  pub size : length nonce ≡ f.nonce_size
+  pub accepted : is_refused f nonce ≡ false
+  pub is : stored ≡ f.sealed_chunk header number nonce chunk
 
 -- a hole, which stands for a full chunk of zeros
-pub record IsHole (block chunk : List ℕ) : Type 0 where
-  pub stored : block ≡ replicate 4128 0
-  pub plain : chunk ≡ replicate 4096 0
+pub record IsHole (f : Format) (stored chunk : List ℕ) : Type 0 where
+  pub allowed : f.has_holes ≡ true
+  pub zeros : stored ≡ replicate (stored_size f) 0
+  pub plain : chunk ≡ replicate f.full_size 0
 
--- the block of this number is of this chunk
-abbrev pub IsBlockOf : List ℕ → List ℕ → ℕ → List ℕ → List ℕ → Type 0
-IsBlockOf key id number block chunk = IsHole block chunk ⊎ IsSealedBlock key id number block chunk
+-- the stored chunk of this number is of this chunk
+abbrev pub IsStored : Format → Header → ℕ → List ℕ → List ℕ → Type 0
+IsStored f header number stored chunk = IsHole f stored chunk ⊎ IsSealedChunk f header number stored chunk
 
 -- a chunk is full, or is the last one and no longer
-abbrev pub IsFullOrLast : List ℕ → List (List ℕ) → Type 0
-IsFullOrLast chunk behind = (length chunk ≡ 4096) ⊎ ((length chunk ≤ 4096) × (behind ≡ []))
+abbrev pub IsFullOrLast : Format → List ℕ → List (List ℕ) → Type 0
+IsFullOrLast f chunk behind = (length chunk ≡ f.full_size) ⊎ ((length chunk ≤ f.full_size) × (behind ≡ []))
 
--- the first block of some bytes is of this chunk, and the rest is left
-pub record BeginsWithBlock (key id : List ℕ) (number : ℕ) (bytes chunk rest : List ℕ) : Type 0 where
-  pub block : List ℕ
-  pub parts : bytes ≡ block ++ rest
-  pub of : IsBlockOf key id number block chunk
+-- some bytes begin with the stored chunk of this chunk, and the rest is left
+pub record BeginsWithChunk (f : Format) (header : Header) (number : ℕ) (bytes chunk rest : List ℕ) : Type 0 where
+  pub stored : List ℕ
+  pub parts : bytes ≡ stored ++ rest
+  pub of : IsStored f header number stored chunk
 
--- the blocks of these chunks from this number on, one after the other
-abbrev pub AreBlocksOf : List ℕ → List ℕ → ℕ → List ℕ → List (List ℕ) → Type 0
-AreBlocksOf key id number bytes [] = bytes ≡ []
-AreBlocksOf key id number bytes (chunk ∷ chunks) =
-    IsFullOrLast chunk chunks
-    × ((rest : List ℕ) × BeginsWithBlock key id number bytes chunk rest × AreBlocksOf key id (number + 1) rest chunks)
+-- these chunks from this number on, stored one after the other
+abbrev pub AreStored : Format → Header → ℕ → List ℕ → List (List ℕ) → Type 0
+AreStored f header number bytes [] = bytes ≡ []
+AreStored f header number bytes (chunk ∷ chunks) =
+    IsFullOrLast f chunk chunks
+    × ((rest : List ℕ) × BeginsWithChunk f header number bytes chunk rest × AreStored f header (number + 1) rest chunks)
 
--- a header, and the blocks of the content's chunks
-pub record HasBlocks (key bytes content : List ℕ) : Type 0 where
-  pub id : List ℕ
-  pub sixteen : length id ≡ 16
-  pub some_bit : is_all_zero id ≡ false
-  pub blocks : List ℕ
-  pub parts : bytes ≡ header_of id ++ blocks
+-- a header, and the content's chunks behind it
+pub record HasChunks (keys : Keys) (bytes content : List ℕ) : Type 0 where
+  pub header : Header
+  pub head : List ℕ
+  pub is_header : IsHeaderBy keys.layout keys.key header head
+  pub behind : List ℕ
+  pub parts : bytes ≡ head ++ behind
   pub chunks : List (List ℕ)
-  pub of : AreBlocksOf key id 0 blocks chunks
+  pub of : AreStored (format_of keys) header 0 behind chunks
   pub joined : content ≡ concat chunks
 
 -- no bytes stand for no content
-pub record IsEmptyFile (bytes content : List ℕ) : Type 0 where
+pub record IsEmptyFile (f : Format) (bytes content : List ℕ) : Type 0 where
+  pub allowed : f.empty_has_no_header ≡ true
   pub stored : bytes ≡ []
   pub plain : content ≡ []
 
-abbrev pub IsFileBy : Layout → List ℕ → List ℕ → List ℕ → Type 0
-IsFileBy Go key bytes content = IsEmptyFile bytes content ⊎ HasBlocks key bytes content
-
 -- these bytes are a file of this content
 abbrev pub IsFileOf : Keys → List ℕ → List ℕ → Type 0
-IsFileOf keys bytes content = IsFileBy keys.layout keys.content bytes content
+IsFileOf keys bytes content = IsEmptyFile (format_of keys) bytes content ⊎ HasChunks keys bytes content
 
 -- reading these bytes meets no fault and gives this content
 pub record Gives (keys : Keys) (bytes content : List ℕ) : Type 0 where

@@ -1,5 +1,9 @@
-ghost use Rattle.std.specs.Prelude.{◌≡◌, ◌≤◌, ◌+◌, ◌++◌, length, take, replicate, IfOk};
+ghost use Rattle.std.specs.Prelude.{◌≡◌, ◌<◌, ◌≤◌, ◌+◌, ◌-◌, ◌++◌, ℕ, List, length, take, drop, replicate, IfOk};
+ghost use Rattle.chunk_files.specs.Sealed.{opened_text, sealed_text};
+ghost use Rattle.chunk_files.specs.Steps.{PutsText};
 
+use crate::sealed::{TAG_SIZE, open_text};
+use gcm_mode::Gcm;
 use std::alloc::{AllocError, Global};
 use std::marker::Model;
 
@@ -71,6 +75,89 @@ impl ChunkBuf {
     {
         copy_at(&mut self.bytes, at, bytes);
     }
+
+    // Moves the bytes from `start` to `end` to the front.
+    pub fn move_front(&mut self, start: usize, end: usize)
+        requires start { start ≤ end }
+        requires end { end ≤ CHUNK_BUFFER_SIZE }
+        ensures front { take (end - start) self.new ≡ take (end - start) (drop start self.old) }
+        ensures size { length self.new ≡ CHUNK_BUFFER_SIZE }
+    {
+        move_in(&mut self.bytes, start, end);
+    }
+
+    // Opens the text that is stored behind a nonce of `n` bytes to the front, and answers its length.
+    pub fn open(&mut self, gcm: &Gcm, associated: &[u8], n: usize, stored: &[u8]) -> Option<usize>
+        requires some_nonce { 0 < n }
+        requires nonce { n ≤ 16 }
+        requires associated { length associated.now ≤ 24 }
+        requires least { n + 16 ≤ length stored.now }
+        requires most { length stored.now ≤ CHUNK_BUFFER_SIZE }
+        ensures { PutsText (opened_text gcm.now associated.now n stored.now) result self.new }
+    {
+        open_front(&mut self.bytes, gcm, associated, n, stored)
+    }
+
+    // Seals a text to the front, and answers how many bytes are to be stored.
+    pub fn seal(&mut self, gcm: &Gcm, associated: &[u8], nonce: &[u8], text: &[u8]) -> usize
+        requires some_nonce { 0 < length nonce.now }
+        requires nonce { length nonce.now ≤ 16 }
+        requires associated { length associated.now ≤ 24 }
+        requires text { length text.now ≤ 32768 }
+        ensures size { result ≡ length nonce.now + 16 + length text.now }
+        ensures stored { take result self.new ≡ sealed_text gcm.now associated.now nonce.now text.now }
+        ensures buffer { length self.new ≡ CHUNK_BUFFER_SIZE }
+    {
+        let end = nonce.len() + text.len();
+        self.put_at(0, nonce);
+        self.put_at(nonce.len(), text);
+        let tag = seal_between(&mut self.bytes, gcm, associated, nonce, end);
+        self.put_at(end, &tag);
+        end + TAG_SIZE
+    }
+}
+
+// Opens what is stored to the front of a buffer.
+#[tactic(auto, unfolding(crate::specs::Sealed::opened_text))]
+fn open_front(
+    buffer: &mut [u8; CHUNK_BUFFER_SIZE],
+    gcm: &Gcm,
+    associated: &[u8],
+    n: usize,
+    stored: &[u8],
+) -> Option<usize>
+    requires some_nonce { 0 < n }
+    requires nonce { n ≤ 16 }
+    requires associated { length associated.now ≤ 24 }
+    requires least { n + 16 ≤ length stored.now }
+    requires most { length stored.now ≤ CHUNK_BUFFER_SIZE }
+    ensures { PutsText (opened_text gcm.now associated.now n stored.now) result buffer.new }
+{
+    let size = stored.len() - n - TAG_SIZE;
+    if open_text(gcm, associated, n, stored, &mut buffer[..size]) {
+        Some(size)
+    } else {
+        None
+    }
+}
+
+// Encrypts what stands in a buffer behind a nonce and before `end`, and answers its tag.
+fn seal_between(
+    buffer: &mut [u8; CHUNK_BUFFER_SIZE],
+    gcm: &Gcm,
+    associated: &[u8],
+    nonce: &[u8],
+    end: usize,
+) -> [u8; TAG_SIZE]
+    requires some_nonce { 0 < length nonce.now }
+    requires nonce { length nonce.now ≤ 16 }
+    requires associated { length associated.now ≤ 24 }
+    requires end { length nonce.now ≤ end }
+    requires within { end + 16 ≤ CHUNK_BUFFER_SIZE }
+    ensures { (text : List ℕ) → take end buffer.old ≡ nonce.now ++ text
+        → take end buffer.new ++ result ≡ sealed_text gcm.now associated.now nonce.now text }
+{
+    gcm.seal(nonce, associated, &mut buffer[nonce.len()..end])
 }
 
 fn all_of(buffer: &[u8; CHUNK_BUFFER_SIZE]) -> &[u8]
@@ -78,6 +165,16 @@ fn all_of(buffer: &[u8; CHUNK_BUFFER_SIZE]) -> &[u8]
     ensures size { length result.now ≡ CHUNK_BUFFER_SIZE }
 {
     buffer.as_slice()
+}
+
+// Moves bytes of a buffer to its front.
+fn move_in(buffer: &mut [u8; CHUNK_BUFFER_SIZE], start: usize, end: usize)
+    requires start { start ≤ end }
+    requires end { end ≤ CHUNK_BUFFER_SIZE }
+    ensures front { take (end - start) buffer.new ≡ take (end - start) (drop start buffer.old) }
+    ensures size { length buffer.new ≡ CHUNK_BUFFER_SIZE }
+{
+    buffer.copy_within(start..end, 0);
 }
 
 // Copies bytes into a buffer, behind its first `at`.

@@ -1,29 +1,30 @@
-ghost use Rattle.std.specs.Prelude.{◌≡◌, ◌+◌, ◌-◌, ◌^◌, ◌<◌, ◌≤◌, true, false, [], length, take, replicate, IsOk, IfOk, IfErr, OnOk, OnErr, if◌then◌else◌};
+ghost use Rattle.std.specs.Prelude.{◌≡◌, ◌+◌, ◌-◌, ◌^◌, ◌<◌, ◌≤◌, true, false, [], length, take, IsOk, IfOk, IfErr, OnOk, OnErr, if◌then◌else◌};
 ghost use Rattle.port_model.specs.Counts.{IsCounted};
 ghost use Rattle.port_model.specs.Draws.{Draws};
-ghost use Rattle.chunk_files.specs.Keys.{full_size};
-ghost use Rattle.chunk_files.specs.Gocryptfs.{is_all_zero};
+ghost use Rattle.chunk_files.specs.Contents.{is_refused};
 ghost use Rattle.chunk_files.specs.DrawFaults.{DrawFails};
-ghost use Rattle.chunk_files.specs.Encoding.{HasMade, GoesOn, begun, one_chunk_later};
-ghost use Rattle.chunk_files.specs.Encrypt.{IsEncrypted, sealed_block};
+ghost use Rattle.chunk_files.specs.Encoding.{GoesOn, HasBegun, begins_bare, begun, one_chunk_later};
+ghost use Rattle.chunk_files.specs.Encrypt.{IsEncrypted};
+ghost use Rattle.chunk_files.specs.Keys.{format_of};
 
-use crate::block::seal_block;
-use crate::chunk_buf::ChunkBuf;
-use crate::draw::draw;
+use crate::chunk::seal_chunk;
+use crate::chunk_buf::{CHUNK_BUFFER_SIZE, ChunkBuf};
+use crate::draw::{draw, draw_nonce, draw_some};
 use crate::fault::EncodeFault;
-use crate::header;
+use crate::header::{CM_HEADER, GO_HEADER, go_header};
 use crate::keys::{ContentKeys, Layout};
+use crate::told::Told;
+use aes_lanes::Key256;
 use gcm_mode::Gcm;
 use port_model::Randoms;
 use std::marker::Model;
 
-/// An encoder of one content file, chunk by chunk. It draws a file id and a nonce for each block, and
-/// never writes holes.
+/// An encoder of one content file, chunk by chunk. It draws what its layout draws for a header and for each
+/// chunk, and never writes holes.
 #[derive(Drop)]
 pub struct Encoder {
-    layout: Layout,
-    gcm: Gcm,
-    id: [u8; 16],
+    keys: ContentKeys,
+    told: Told,
     number: u64,
 }
 
@@ -32,7 +33,7 @@ impl Model for Encoder {
 
     ghost Value = { Encoding };
 
-    ghost view = { λ e. record { keys = record { layout = e.layout; content = e.gcm }; id = e.id; number = e.number } };
+    ghost view = { λ e. record { keys = e.keys; header = e.told; number = e.number } };
 }
 
 /// A file that was begun: its encoder, and the length of its header.
@@ -43,41 +44,45 @@ pub struct Begun {
 }
 
 impl Encoder {
-    /// Begins a file, and puts its header at the front of `out`. An empty file has no bytes and draws
-    /// none. It takes no memory.
+    /// Begins a file, and puts its header at the front of `out`. An empty gocryptfs file has no bytes and
+    /// draws none. It takes no memory.
     pub fn start<R: Randoms>(
         keys: ContentKeys,
         random: &mut R,
         empty: bool,
         out: &mut ChunkBuf,
     ) -> Result<Begun, EncodeFault>
-        ensures empty_never_fails { empty ≡ true → IsOk result }
-        ensures empty_draws_nothing { empty ≡ true → random.new ≡ random.old }
-        ensures empty_file { empty ≡ true → IfOk result (λ b. IsEncrypted keys [] [] (take b.length out.new)) }
-        ensures header { empty ≡ false → IfOk result (λ b. HasMade b.encoder b.encoder.id [] (take b.length out.new)) }
-        ensures length { IfOk result (λ b. b.length ≡ (if empty then 0 else 18)) }
-        ensures drawn { IfOk result (λ b. Draws (R.left random.old) (R.left random.new) (if empty then [] else b.encoder.id)) }
-        ensures begun { IfOk result (λ b. b.encoder ≡ begun keys (if empty then replicate 16 0 else b.encoder.id)) }
-        ensures fault { IfErr result (DrawFails (R.left random.old) (R.left random.new) (R.faults random.old) (R.faults random.new)) }
-        ensures counted { empty ≡ false → IsCounted (R.faults random.old) (R.faults random.new) }
+        ensures bare_never_fails { begins_bare keys empty ≡ true → IsOk result }
+        ensures bare_draws_nothing { begins_bare keys empty ≡ true → random.new ≡ random.old }
+        ensures bare_file { begins_bare keys empty ≡ true → IfOk result (λ b. IsEncrypted keys [] [] (take b.length out.new)) }
+        ensures header { begins_bare keys empty ≡ false → IfOk result (λ b. HasBegun keys (R.left random.old) (R.left random.new) b.encoder (take b.length out.new)) }
+        ensures length { IfOk result (λ b. b.length ≡ (if begins_bare keys empty then 0 else (format_of keys).header_size)) }
+        ensures begun { IfOk result (λ b. b.encoder ≡ begun keys b.encoder.header) }
+        ensures buffer { begins_bare keys empty ≡ false → OnOk result (length out.new ≡ CHUNK_BUFFER_SIZE) }
+        ensures fault { IfErr result (DrawFails (format_of keys) (format_of keys).header_draw (R.left random.old) (R.left random.new) (R.faults random.old) (R.faults random.new)) }
+        ensures counted { begins_bare keys empty ≡ false → IsCounted (R.faults random.old) (R.faults random.new) }
     {
-        if empty {
+        let layout = keys.layout();
+        if empty && layout.empty_has_no_header() {
+            let told = Told::new(keys.gcm(), &[]);
             return Ok(Begun {
-                encoder: Encoder::with_id(&keys, [0; 16]),
+                encoder: Encoder {
+                    keys,
+                    told,
+                    number: 0,
+                },
                 length: 0,
             });
         }
-        let id = draw(random)?;
-        out.put_front(&header::of(&id));
-        Ok(Begun {
-            encoder: Encoder::with_id(&keys, id),
-            length: header::HEADER_SIZE,
-        })
+        match layout {
+            Layout::Go => start_go(keys, random, out),
+            Layout::CmGcm => start_cm(keys, random, out),
+        }
     }
 
-    /// Encodes the next chunk, puts its block at the front of `out` and answers the block's length. It
-    /// takes no memory. What was made is a file where each chunk before the last is full and the file
-    /// wasn't begun as empty; elsewhere the block is sealed all the same.
+    /// Encodes the next chunk, puts what is to be stored at the front of `out` and answers its length. It
+    /// takes no memory. What was made is a file where each chunk before the last is full and the file wasn't
+    /// begun without a header; elsewhere the chunk is sealed all the same.
     pub fn chunk<R: Randoms>(
         &mut self,
         random: &mut R,
@@ -85,33 +90,85 @@ impl Encoder {
         out: &mut ChunkBuf,
     ) -> Result<usize, EncodeFault>
         requires some { 0 < length plain.now }
-        requires at_most { length plain.now ≤ full_size self.old.keys.layout }
+        requires at_most { length plain.now ≤ (format_of self.old.keys).full_size }
         requires count { self.old.number < 2 ^ 64 - 1 }
         ensures goes_on { IfOk result (λ size. GoesOn self.old self.new plain.now (take size out.new)) }
-        ensures block { IfOk result (λ size. take size out.new ≡ sealed_block self.old.keys.content self.old.id self.old.number (take 16 out.new) plain.now) }
-        ensures size { IfOk result (λ size. size ≡ 32 + length plain.now) }
-        ensures drawn { OnOk result (Draws (R.left random.old) (R.left random.new) (take 16 out.new)) }
-        ensures some_bit { OnOk result (is_all_zero (take 16 out.new) ≡ false) }
+        ensures stored { IfOk result (λ size. take size out.new ≡ (format_of self.old.keys).sealed_chunk self.old.header self.old.number (take (format_of self.old.keys).nonce_size out.new) plain.now) }
+        ensures size { IfOk result (λ size. size ≡ (format_of self.old.keys).seal_size + length plain.now) }
+        ensures buffer { OnOk result (length out.new ≡ CHUNK_BUFFER_SIZE) }
+        ensures drawn { OnOk result (Draws (R.left random.old) (R.left random.new) (take (format_of self.old.keys).nonce_size out.new)) }
+        ensures accepted { OnOk result (is_refused (format_of self.old.keys) (take (format_of self.old.keys).nonce_size out.new) ≡ false) }
         ensures next { OnOk result (self.new ≡ one_chunk_later self.old) }
         ensures fault_changes_nothing { OnErr result (self.new ≡ self.old) }
-        ensures fault { IfErr result (DrawFails (R.left random.old) (R.left random.new) (R.faults random.old) (R.faults random.new)) }
+        ensures fault { IfErr result (DrawFails (format_of self.old.keys) 1 (R.left random.old) (R.left random.new) (R.faults random.old) (R.faults random.new)) }
         ensures counted { IsCounted (R.faults random.old) (R.faults random.new) }
     {
-        let nonce = draw(random)?;
-        let size = seal_block(&self.gcm, &self.id, self.number, &nonce, plain, out);
+        let nonce = draw_nonce(&self.keys, random)?;
+        let size = seal_chunk(
+            &self.told,
+            self.number,
+            &nonce.bytes[..nonce.size],
+            plain,
+            out,
+        );
         self.number += 1;
         Ok(size)
     }
+}
 
-    // An encoder that made no chunk yet, of the file of this id.
-    fn with_id(keys: &ContentKeys, id: [u8; 16]) -> Encoder
-        ensures { result ≡ begun keys.now id }
-    {
-        Encoder {
-            layout: keys.layout(),
-            gcm: keys.gcm(),
-            id,
+// Begins a gocryptfs file with a header.
+fn start_go<R: Randoms>(
+    keys: ContentKeys,
+    random: &mut R,
+    out: &mut ChunkBuf,
+) -> Result<Begun, EncodeFault>
+    requires { keys.layout ≡ Layout.Go }
+    ensures header { IfOk result (λ b. HasBegun keys (R.left random.old) (R.left random.new) b.encoder (take b.length out.new)) }
+    ensures length { IfOk result (λ b. b.length ≡ GO_HEADER) }
+    ensures begun { IfOk result (λ b. b.encoder ≡ begun keys b.encoder.header) }
+    ensures buffer { OnOk result (length out.new ≡ CHUNK_BUFFER_SIZE) }
+    ensures fault { IfErr result (DrawFails (format_of keys) 16 (R.left random.old) (R.left random.new) (R.faults random.old) (R.faults random.new)) }
+    ensures counted { IsCounted (R.faults random.old) (R.faults random.new) }
+{
+    let id = draw_some(random)?;
+    out.put_front(&go_header(&id));
+    let told = Told::new(keys.gcm(), &id);
+    Ok(Begun {
+        encoder: Encoder {
+            keys,
+            told,
             number: 0,
-        }
-    }
+        },
+        length: GO_HEADER,
+    })
+}
+
+// Begins a Cryptomator file.
+fn start_cm<R: Randoms>(
+    keys: ContentKeys,
+    random: &mut R,
+    out: &mut ChunkBuf,
+) -> Result<Begun, EncodeFault>
+    requires { keys.layout ≡ Layout.CmGcm }
+    ensures header { IfOk result (λ b. HasBegun keys (R.left random.old) (R.left random.new) b.encoder (take b.length out.new)) }
+    ensures length { IfOk result (λ b. b.length ≡ CM_HEADER) }
+    ensures begun { IfOk result (λ b. b.encoder ≡ begun keys b.encoder.header) }
+    ensures buffer { OnOk result (length out.new ≡ CHUNK_BUFFER_SIZE) }
+    ensures fault { IfErr result (DrawFails (format_of keys) 44 (R.left random.old) (R.left random.new) (R.faults random.old) (R.faults random.new)) }
+    ensures counted { IsCounted (R.faults random.old) (R.faults random.new) }
+{
+    let nonce = draw::<12, R>(random)?;
+    let key = draw::<32, R>(random)?;
+    let mut plain = [0xFF; 40];
+    plain[8..].copy_from_slice(&key);
+    let length = out.seal(&keys.gcm(), &[], &nonce, &plain);
+    let told = Told::new(Gcm::new(Key256::new(&key)), &nonce);
+    Ok(Begun {
+        encoder: Encoder {
+            keys,
+            told,
+            number: 0,
+        },
+        length,
+    })
 }

@@ -1,37 +1,72 @@
-//! The header of a gocryptfs content file.
+//! Headers, read and made.
 
-ghost use Rattle.std.specs.Prelude.{◌≡◌, length};
-ghost use Rattle.chunk_files.specs.Encrypt.{header_of};
-ghost use Rattle.chunk_files.specs.Gocryptfs.{header_fault};
+ghost use Rattle.std.specs.Prelude.{◌≡◌, ◌++◌, length, drop, take};
+ghost use Rattle.chunk_files.specs.Gocryptfs.{go_header_of, read_go_header};
+ghost use Rattle.chunk_files.specs.CryptomatorGcm.{new_plain, read_cm_header};
+ghost use Rattle.chunk_files.specs.Keys.{format_of};
+ghost use Rattle.chunk_files.specs.Sealed.{sealed_text};
 
 use crate::fault::ChunkFault;
+use crate::keys::{ContentKeys, Layout};
+use crate::sealed::open_text;
+use crate::told::Told;
 use crate::zeros::all_zero;
+use aes_lanes::Key256;
+use gcm_mode::Gcm;
 
-/// The length of a header in bytes.
-pub const HEADER_SIZE: usize = 18;
+/// The lengths of both layouts' headers in bytes.
+pub const GO_HEADER: usize = 18;
 
-// The header of the file of this id.
-pub fn of(id: &[u8; 16]) -> [u8; HEADER_SIZE]
-    ensures { result ≡ header_of id.now }
+pub const CM_HEADER: usize = 68;
+
+const RESERVED: usize = 8;
+
+// What a whole header tells, or its first fault.
+pub fn read_header(keys: &ContentKeys, header: &[u8]) -> Result<Told, ChunkFault>
+    requires { length header.now ≡ (format_of keys.now).header_size }
+    ensures { result ≡ (format_of keys.now).read_header header.now }
 {
-    let mut header = [0; HEADER_SIZE];
-    header[1] = 2;
-    header[2..].copy_from_slice(id);
-    header
+    match keys.layout() {
+        Layout::Go => read_go(keys, header),
+        Layout::CmGcm => read_cm(keys, header),
+    }
 }
 
-// The first fault of a whole header.
-#[tactic(auto, unfolding(crate::specs::Gocryptfs::header_fault))]
-pub fn fault_of(header: &[u8]) -> Option<ChunkFault>
-    requires { length header.now ≡ HEADER_SIZE }
-    ensures { result ≡ header_fault header.now }
+#[tactic(auto, unfolding(crate::specs::Gocryptfs::read_go_header))]
+fn read_go(keys: &ContentKeys, header: &[u8]) -> Result<Told, ChunkFault>
+    requires { length header.now ≡ GO_HEADER }
+    ensures { result ≡ read_go_header keys.now.key header.now }
 {
     let version = u16::from_be_bytes([header[0], header[1]]);
     if version != 2 {
-        return Some(ChunkFault::HeaderVersion(version));
+        return Err(ChunkFault::HeaderVersion(version));
     }
     if all_zero(&header[2..]) {
-        return Some(ChunkFault::ZeroId);
+        return Err(ChunkFault::ZeroId);
     }
-    None
+    Ok(Told::new(keys.gcm(), &header[2..]))
+}
+
+#[tactic(auto, unfolding(crate::specs::CryptomatorGcm::read_cm_header, crate::specs::Sealed::opened_text))]
+fn read_cm(keys: &ContentKeys, header: &[u8]) -> Result<Told, ChunkFault>
+    requires { length header.now ≡ CM_HEADER }
+    ensures { result ≡ read_cm_header keys.now.key header.now }
+{
+    let mut plain = [0; 40];
+    if !open_text(&keys.gcm(), &[], 12, header, &mut plain) {
+        return Err(ChunkFault::HeaderTag);
+    }
+    let mut key = [0; 32];
+    key.copy_from_slice(&plain[RESERVED..]);
+    Ok(Told::new(Gcm::new(Key256::new(&key)), &header[..12]))
+}
+
+// The header of a gocryptfs file of this id.
+pub fn go_header(id: &[u8; 16]) -> [u8; GO_HEADER]
+    ensures { result ≡ go_header_of id.now }
+{
+    let mut header = [0; GO_HEADER];
+    header[1] = 2;
+    header[2..].copy_from_slice(id);
+    header
 }

@@ -1,5 +1,5 @@
 ghost use Rattle.std.specs.Prelude.{◌≡◌};
-ghost use Rattle.chunk_files.specs.Gocryptfs.{is_all_zero};
+ghost use Rattle.chunk_files.specs.Zeros.{is_all_zero};
 
 // Whether no byte is other than zero.
 pub fn all_zero(bytes: &[u8]) -> bool

@@ -1,4 +1,3 @@
-mod Chunks
-mod Inputs
+mod Outcomes
 mod RunLemmas
 mod WholeFiles

@@ -4,13 +4,14 @@ use Rattle.std.specs.Prelude.{◌⊎◌}
 use Rattle.std.specs.List.{concat}
 use Rattle.std.proofs.lemmas.Bool.{le-ltb, ltb-false}
 use Rattle.std.proofs.lemmas.List.{take_all}
+use Rattle.chunk_files.specs.Gocryptfs.{go_format}
 use Rattle.chunk_files.specs.Keys.{go_keys}
 use Rattle.chunk_files.specs.Reading.{Whole}
 use Rattle.chunk_files.specs.Contents.{readable}
 use Rattle.chunk_files.specs.FileOf.{IsFileOf, Gives}
 use Rattle.chunk_files.proofs.FilesOf.{files_are_what_they_give}
-use Rattle.chunk_files.proofs.Readings.{whole-goes_on}
-use Rattle.vault_cli.specs.Gathers.{input_limit}
+use Rattle.chunk_files.proofs.ChunkReadings.{whole-goes_on}
+use Rattle.vault_cli.specs.Inputs.{input_limit}
 use Rattle.vault_cli.specs.Answers.{status_of}
 use Rattle.vault_cli.specs.Decrypts.{input_reading}
 use Rattle.vault_cli.specs.Runs.{answer_to}
@@ -21,7 +22,7 @@ reading-within key bytes within = rw (take_all input_limit bytes within, le-ltb 
 -- a reading that ends well is of a whole file
 pub whole-content : (key bytes : List ℕ) → (input_reading key bytes).ending ≡ Whole → IsFileOf (go_keys key) bytes (concat (input_reading key bytes).chunks)
 whole-content key bytes whole =
-    let within : length bytes ≤ input_limit = ltb-false input_limit (length bytes) (whole-goes_on (go_keys key) (take input_limit bytes) (nat_lt input_limit (length bytes)) whole) in
+    let within : length bytes ≤ input_limit = ltb-false input_limit (length bytes) (whole-goes_on (go_format key) (take input_limit bytes) (nat_lt input_limit (length bytes)) whole) in
     let same : input_reading key bytes ≡ readable (go_keys key) bytes = reading-within key bytes within in
     (files_are_what_they_give (go_keys key) bytes (concat (input_reading key bytes).chunks)).1
     (record { whole = ap (λ r. r.ending) (sym same) ∙ whole; joined = ap (λ r. concat r.chunks) same })

@@ -1,12 +1,14 @@
 -- What `decrypt-file` makes of its input.
-use Rattle.std.specs.Prelude.{◌≡◌, ℕ, List, take, length, nat_lt, Option}
+use Rattle.std.specs.Prelude.{◌≡◌, ℕ, zero, suc, ◌+◌, ◌*◌, ◌≤◌, min, List, ◌++◌, take, length, nat_lt, Option}
 use Rattle.std.specs.List.{concat}
-use Rattle.std.specs.Io.KnownBytes.{Appends, Keeps}
+use Rattle.std.specs.Io.KnownBytes.{Appends, Consumes, Keeps}
 use Rattle.port_model.specs.Told.{AppendsPrefix}
+use Rattle.chunk_files.specs.Format.{Format, stored_size}
+use Rattle.chunk_files.specs.Gocryptfs.{go_format}
 use Rattle.chunk_files.specs.Keys.{go_keys}
 use Rattle.chunk_files.specs.Reading.{Reading, Whole, Wanting, Faulty}
 use Rattle.chunk_files.specs.Contents.{read_file}
-use Rattle.vault_cli.specs.Gathers.{input_limit}
+use Rattle.vault_cli.specs.Inputs.{input_limit}
 use Rattle.vault_cli.specs.declared.answer.Answer.{Answer}
 use Rattle.vault_cli.specs.declared.answer.Answer.TheVariants.{Done, BadCommandLine, OutOfMemory, InputFault, OutputFault, Damaged, InputTooLong}
 
@@ -32,3 +34,17 @@ Writes OutputFault reading taken taken' = AppendsPrefix taken taken' (concat rea
 Writes InputFault reading taken taken' = (k : ℕ) × Appends taken taken' (concat (take k reading.chunks))
 Writes OutOfMemory reading taken taken' = (k : ℕ) × Appends taken taken' (concat (take k reading.chunks))
 Writes BadCommandLine reading taken taken' = Keeps taken taken'
+
+-- the stored end of the first so many chunks of an input, and its start before them
+abbrev pub end_of_chunks : Format → List ℕ → ℕ → ℕ
+end_of_chunks f input zero = 0
+end_of_chunks f input (suc k) = min (f.header_size + stored_size f * suc k) (length input)
+
+-- of the input no more than 98,448 bytes were taken past the stored end of chunks that the output took whole
+pub record TakesNear (key input : List ℕ) (left left' taken taken' : Option (List ℕ)) : Type 0 where
+  pub whole : ℕ
+  pub behind : List ℕ
+  pub wrote : Appends taken taken' (concat (take whole (input_reading key input).chunks) ++ behind)
+  pub eaten : List ℕ
+  pub consumed : Consumes left left' eaten
+  pub near : length eaten ≤ end_of_chunks (go_format key) input whole + 98448

@@ -1,5 +1,6 @@
 pub mod Words
 pub mod Answers
-pub mod Gathers
+pub mod Inputs
 pub mod Decrypts
+pub mod Streaming
 pub mod Runs

@@ -1,16 +1,23 @@
-ghost use Rattle.std.specs.Prelude.{◌≡◌, ◌+◌, ◌≤◌, IsTrue, IfSome};
-ghost use Rattle.std.specs.Io.KnownBytes.{IsAtEnd};
+ghost use Rattle.std.specs.Prelude.{◌≡◌, ◌+◌, ◌≤◌, ◌<◌, ◌⊎◌, List, ℕ, IsTrue, IfOk, IfSome, OnErr, Ok, Option, None, Some, length, true, false};
+ghost use Rattle.std.specs.Io.KnownBytes.{IsAtEnd, Keeps};
 ghost use Rattle.port_model.specs.Counts.{CountRose};
-ghost use Rattle.vault_cli.specs.Gathers.{TakesAtMost, input_limit};
-ghost use Rattle.vault_cli.specs.Decrypts.{input_reading, TellsOf, Writes};
+ghost use Rattle.chunk_files.specs.Decoding.{started, wanted};
+ghost use Rattle.chunk_files.specs.Keys.{go_keys};
+ghost use Rattle.vault_cli.specs.Inputs.{TakesAtMost, input_limit};
+ghost use Rattle.vault_cli.specs.Decrypts.{TakesNear, TellsOf, Writes, input_reading};
+ghost use Rattle.vault_cli.specs.Streaming.{Drains, HasWritten, Outcome};
 
 use crate::answer::Answer;
-use crate::gather::{GatherFault, gather};
-use chunk_files::{ChunkBuf, ContentKeys, Step, WholeDecoder};
-use port_model::{Sink, Source};
+use chunk_files::laws::given_chunks_come_first;
+use chunk_files::{ChunkBuf, ContentKeys, Decoder, Step};
+use port_model::{Sink, Source, SourceFault};
 use std::alloc::Global;
 
-// Decrypts a gocryptfs content file from the input, and writes each chunk as it is opened.
+const INPUT_LIMIT: u64 = 1_099_511_627_776;
+
+const PIECE_SIZE: usize = 32_768;
+
+// Decrypts a gocryptfs content file from the input piece by piece, and writes each chunk as it is opened.
 pub fn decrypt_file<I: Source, O: Sink>(
     alloc: Global,
     key: &[u8; 32],
@@ -22,6 +29,8 @@ pub fn decrypt_file<I: Source, O: Sink>(
     ensures words { result ≡ Answer.BadCommandLine → ⊥ }
 
     ensures takes { TakesAtMost (input_limit + 1) (I.left input.old) (I.left input.new) }
+    ensures near { (result ≡ Answer.OutputFault) ⊎ ((fault : _) × (result ≡ Answer.Damaged fault))
+        → IfSome (I.left input.old) (λ bytes. TakesNear key.now bytes (I.left input.old) (I.left input.new) (O.taken out.old) (O.taken out.new)) }
     ensures end { result ≡ Answer.Done → IsTrue (I.ended input.new) × IsAtEnd (I.left input.new) }
 
     ensures input_fault { result ≡ Answer.InputFault → CountRose (I.faults input.old) (I.faults input.new) }
@@ -29,37 +38,181 @@ pub fn decrypt_file<I: Source, O: Sink>(
     ensures input_counted { I.faults input.old ≤ I.faults input.new }
     ensures output_counted { O.faults out.old ≤ O.faults out.new }
 {
-    let gathered = match gather(alloc, input) {
-        Ok(gathered) => gathered,
-        Err(GatherFault::Input) => return Answer::InputFault,
-        Err(GatherFault::NoMemory) => return Answer::OutOfMemory,
-    };
-    let mut buffer = match ChunkBuf::new(alloc) {
-        Ok(buffer) => buffer,
+    let mut decoder = match Decoder::start(alloc, ContentKeys::go(key)) {
+        Ok(decoder) => decoder,
         Err(_) => return Answer::OutOfMemory,
     };
-    let mut decoder = WholeDecoder::start(ContentKeys::go(key), gathered.bytes, gathered.cut);
-    write_chunks(&mut decoder, &mut buffer, out)
+    let mut chunk = match ChunkBuf::new(alloc) {
+        Ok(chunk) => chunk,
+        Err(_) => return Answer::OutOfMemory,
+    };
+    given_chunks_come_first();
+    stream(&mut decoder, &mut chunk, input, out)
 }
 
-// Writes the chunks that the decoder has left, up to the end of its reading.
-fn write_chunks<O: Sink>(decoder: &mut WholeDecoder, buffer: &mut ChunkBuf, out: &mut O) -> Answer
-    ensures tells { TellsOf result decoder.old }
-    ensures writes { Writes result decoder.old (O.taken out.old) (O.taken out.new) }
-    ensures input { result ≡ Answer.InputFault → ⊥ }
+// Streams the input through a decoder that was fed nothing.
+fn stream<I: Source, O: Sink>(
+    decoder: &mut Decoder,
+    chunk: &mut ChunkBuf,
+    input: &mut I,
+    out: &mut O,
+) -> Answer
+    requires nothing { decoder.old.taken ≡ 0 }
+    requires open { decoder.old.ended ≡ false }
+    ensures outcome { (key : List ℕ) → HasWritten key (I.left input.old) (I.left input.old) (O.taken out.old) (O.taken out.old) decoder.old
+        → Outcome key (I.left input.old) (I.left input.new) (O.taken out.old) (O.taken out.new) result }
     ensures words { result ≡ Answer.BadCommandLine → ⊥ }
+    ensures end { result ≡ Answer.Done → IsTrue (I.ended input.new) × IsAtEnd (I.left input.new) }
+    ensures input_fault { result ≡ Answer.InputFault → CountRose (I.faults input.old) (I.faults input.new) }
     ensures output_fault { result ≡ Answer.OutputFault → CountRose (O.faults out.old) (O.faults out.new) }
+    ensures input_counted { I.faults input.old ≤ I.faults input.new }
     ensures output_counted { O.faults out.old ≤ O.faults out.new }
 {
+    let mut fed = 0;
+    'pieces: while fed < INPUT_LIMIT {
+        match write_chunks(decoder, chunk, out) {
+            Some(answer) => return answer,
+            None => {}
+        }
+        match feed_piece(decoder, input, INPUT_LIMIT - fed) {
+            Ok(0) => return write_rest(decoder, chunk, out),
+            Ok(count) => fed += count as u64,
+            Err(_) => return Answer::InputFault,
+        }
+    }
+    stream_end(decoder, chunk, input, out)
+}
+
+// Ends with an input of which as much was fed as it may have.
+fn stream_end<I: Source, O: Sink>(
+    decoder: &mut Decoder,
+    chunk: &mut ChunkBuf,
+    input: &mut I,
+    out: &mut O,
+) -> Answer
+    requires all { decoder.old.taken ≡ input_limit }
+    requires open { decoder.old.ended ≡ false }
+    ensures outcome { (key : List ℕ) (at taken : Option (List ℕ)) → HasWritten key at (I.left input.old) taken (O.taken out.old) decoder.old
+        → Outcome key at (I.left input.new) taken (O.taken out.new) result }
+    ensures words { result ≡ Answer.BadCommandLine → ⊥ }
+    ensures end { result ≡ Answer.Done → IsTrue (I.ended input.new) × IsAtEnd (I.left input.new) }
+    ensures input_fault { result ≡ Answer.InputFault → CountRose (I.faults input.old) (I.faults input.new) }
+    ensures output_fault { result ≡ Answer.OutputFault → CountRose (O.faults out.old) (O.faults out.new) }
+    ensures input_counted { I.faults input.old ≤ I.faults input.new }
+    ensures output_counted { O.faults out.old ≤ O.faults out.new }
+{
+    match write_chunks(decoder, chunk, out) {
+        Some(answer) => return answer,
+        None => {}
+    }
+    given_chunks_come_first();
+    let mut byte = [0u8; 1];
+    match input.take(&mut byte) {
+        Ok(0) => {
+            decoder.end();
+            write_rest(decoder, chunk, out)
+        }
+        Ok(_) => Answer::InputTooLong,
+        Err(_) => Answer::InputFault,
+    }
+}
+
+// Takes a piece of at most `most` bytes of the input and feeds it, or tells the decoder that the input has
+// ended where there is none.
+fn feed_piece<I: Source>(
+    decoder: &mut Decoder,
+    input: &mut I,
+    most: u64,
+) -> Result<usize, SourceFault>
+    requires open { decoder.old.ended ≡ false }
+    requires room { length decoder.old.held < 32816 }
+    requires some { 0 < most }
+    requires within { decoder.old.taken + most ≤ input_limit }
+    ensures streams { (key : List ℕ) (at taken taken2 : Option (List ℕ)) → HasWritten key at (I.left input.old) taken taken2 decoder.old
+        → HasWritten key at (I.left input.new) taken taken2 decoder.new }
+    ensures count { IfOk result (λ n. decoder.new.taken ≡ decoder.old.taken + n) }
+    ensures most { IfOk result (λ n. n ≤ most) }
+    ensures ended { result ≡ Ok 0 → (decoder.new.ended ≡ true) × IsTrue (I.ended input.new) × IsAtEnd (I.left input.new) }
+    ensures still_open { IfOk result (λ n. 0 < n → decoder.new.ended ≡ false) }
+    ensures fault { OnErr result (CountRose (I.faults input.old) (I.faults input.new)) }
+    ensures nothing { OnErr result (decoder.new ≡ decoder.old) }
+    ensures counted { I.faults input.old ≤ I.faults input.new }
+{
+    let mut piece = [0u8; PIECE_SIZE];
+    let size = decoder.room().min(PIECE_SIZE).min(most as usize);
+    feed_from(decoder, input, &mut piece[..size])
+}
+
+// Takes the next bytes of the input into `piece` and feeds them.
+fn feed_from<I: Source>(
+    decoder: &mut Decoder,
+    input: &mut I,
+    piece: &mut [u8],
+) -> Result<usize, SourceFault>
+    requires open { decoder.old.ended ≡ false }
+    requires room { length decoder.old.held + length piece.old ≤ 32816 }
+    requires some { 0 < length piece.old }
+    requires within { decoder.old.taken + length piece.old ≤ input_limit }
+    ensures streams { (key : List ℕ) (at taken taken2 : Option (List ℕ)) → HasWritten key at (I.left input.old) taken taken2 decoder.old
+        → HasWritten key at (I.left input.new) taken taken2 decoder.new }
+    ensures count { IfOk result (λ n. decoder.new.taken ≡ decoder.old.taken + n) }
+    ensures most { IfOk result (λ n. n ≤ length piece.old) }
+    ensures ended { result ≡ Ok 0 → (decoder.new.ended ≡ true) × IsTrue (I.ended input.new) × IsAtEnd (I.left input.new) }
+    ensures still_open { IfOk result (λ n. 0 < n → decoder.new.ended ≡ false) }
+    ensures fault { OnErr result (CountRose (I.faults input.old) (I.faults input.new)) }
+    ensures nothing { OnErr result (decoder.new ≡ decoder.old) }
+    ensures counted { I.faults input.old ≤ I.faults input.new }
+{
+    given_chunks_come_first();
+    let count = input.take(piece)?;
+    if count == 0 {
+        decoder.end();
+    } else {
+        decoder.feed(&piece[..count]);
+    }
+    Ok(count)
+}
+
+// Writes the chunks that are left of an input that has ended.
+fn write_rest<O: Sink>(decoder: &mut Decoder, chunk: &mut ChunkBuf, out: &mut O) -> Answer
+    requires { decoder.old.ended ≡ true }
+    ensures drains { (key : List ℕ) (at at2 taken : Option (List ℕ)) → HasWritten key at at2 taken (O.taken out.old) decoder.old
+        → Drains key at at2 taken (O.taken out.new) (Some result) decoder.new }
+    ensures answer { (result ≡ Answer.Done) ⊎ ((result ≡ Answer.OutputFault) ⊎ ((fault : _) × (result ≡ Answer.Damaged fault))) }
+    ensures taken { decoder.new.taken ≡ decoder.old.taken }
+    ensures ended { decoder.new.ended ≡ true }
+    ensures output_fault { result ≡ Answer.OutputFault → CountRose (O.faults out.old) (O.faults out.new) }
+    ensures counted { O.faults out.old ≤ O.faults out.new }
+{
+    match write_chunks(decoder, chunk, out) {
+        Some(answer) => answer,
+        None => Answer::Done,
+    }
+}
+
+// Writes the chunks that the decoder has to give, and answers where it wants no more bytes.
+fn write_chunks<O: Sink>(decoder: &mut Decoder, chunk: &mut ChunkBuf, out: &mut O) -> Option<Answer>
+    ensures drains { (key : List ℕ) (at at2 taken : Option (List ℕ)) → HasWritten key at at2 taken (O.taken out.old) decoder.old
+        → Drains key at at2 taken (O.taken out.new) result decoder.new }
+    ensures answer { IfSome result (λ answer. (answer ≡ Answer.Done) ⊎ ((answer ≡ Answer.OutputFault) ⊎ ((fault : _) × (answer ≡ Answer.Damaged fault)))) }
+    ensures done { result ≡ Some Answer.Done → decoder.old.ended ≡ true }
+    ensures wanting { result ≡ None → decoder.old.ended ≡ false }
+    ensures room { result ≡ None → length decoder.new.held < 32816 }
+    ensures taken { decoder.new.taken ≡ decoder.old.taken }
+    ensures ended { decoder.new.ended ≡ decoder.old.ended }
+    ensures output_fault { result ≡ Some Answer.OutputFault → CountRose (O.faults out.old) (O.faults out.new) }
+    ensures counted { O.faults out.old ≤ O.faults out.new }
+{
+    given_chunks_come_first();
     'chunks: loop {
-        match decoder.next(buffer) {
-            Ok(Step::Chunk(size)) => match out.put(&buffer.bytes()[..size]) {
+        match decoder.next(chunk) {
+            Ok(Step::Chunk(size)) => match out.put(&chunk.bytes()[..size]) {
                 Ok(()) => {}
-                Err(_) => return Answer::OutputFault,
+                Err(_) => return Some(Answer::OutputFault),
             },
-            Ok(Step::End) => return Answer::Done,
-            Ok(Step::More) => return Answer::InputTooLong,
-            Err(fault) => return Answer::Damaged(fault),
+            Ok(Step::More) => return None,
+            Ok(Step::End) => return Some(Answer::Done),
+            Err(fault) => return Some(Answer::Damaged(fault)),
         }
     }
 }

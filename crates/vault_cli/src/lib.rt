@@ -4,7 +4,6 @@
 
 pub mod answer;
 mod decrypt;
-mod gather;
 mod reporting;
 mod running;
 pub mod words;

@@ -6,8 +6,8 @@ ghost use Rattle.chunk_files.specs.Reading.{Faulty, Wanting};
 ghost use Rattle.chunk_files.specs.FileOf.{IsFileOf};
 ghost use Rattle.vault_cli.specs.Words.{command_of};
 ghost use Rattle.vault_cli.specs.Answers.{TakesText, line_of, status_of};
-ghost use Rattle.vault_cli.specs.Gathers.{TakesAtMost, input_limit};
-ghost use Rattle.vault_cli.specs.Decrypts.{input_reading};
+ghost use Rattle.vault_cli.specs.Inputs.{TakesAtMost, input_limit};
+ghost use Rattle.vault_cli.specs.Decrypts.{TakesNear, input_reading};
 ghost use Rattle.vault_cli.specs.Runs.{Executes, answer_to};
 
 use crate::answer::Answer;
@@ -60,6 +60,11 @@ pub fn run<I: Source, O: Sink, E: Sink>(
     ensures end { result ≡ 0 → IsTrue (I.ended input.new) × IsAtEnd (I.left input.new) }
     ensures untouched { result ≡ 2 → Keeps (I.left input.old) (I.left input.new) }
     ensures takes { TakesAtMost (input_limit + 1) (I.left input.old) (I.left input.new) }
+
+    // At 6 and 12 little more was taken than the output took.
+    ensures near { (result ≡ 6) ⊎ (result ≡ 12) → (key bytes : List ℕ) → command_of (map string_bytes words.now) ≡ Some (Command.DecryptFile key)
+        → I.left input.old ≡ Some bytes
+        → TakesNear key bytes (I.left input.old) (I.left input.new) (O.taken out.old) (O.taken out.new) }
 {
     let answer = execute(alloc, words, input, out);
     let answer = report(alloc, answer, err);
@@ -76,6 +81,9 @@ fn execute<I: Source, O: Sink>(
     ensures executes { Executes (map string_bytes words.now) result (I.left input.old) (I.left input.new) (O.taken out.old) (O.taken out.new) }
     ensures end { result ≡ Answer.Done → IsTrue (I.ended input.new) × IsAtEnd (I.left input.new) }
     ensures takes { TakesAtMost (input_limit + 1) (I.left input.old) (I.left input.new) }
+    ensures near { (result ≡ Answer.OutputFault) ⊎ ((fault : _) × (result ≡ Answer.Damaged fault))
+        → (key bytes : List ℕ) → command_of (map string_bytes words.now) ≡ Some (Command.DecryptFile key) → I.left input.old ≡ Some bytes
+        → TakesNear key bytes (I.left input.old) (I.left input.new) (O.taken out.old) (O.taken out.new) }
     ensures input_fault { result ≡ Answer.InputFault → CountRose (I.faults input.old) (I.faults input.new) }
     ensures output_fault { result ≡ Answer.OutputFault → CountRose (O.faults out.old) (O.faults out.new) }
 {

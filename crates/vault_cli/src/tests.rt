@@ -192,7 +192,7 @@ fn streams_that_fail(rt: HostRuntime) -> Result<(), Fail> {
                 input: &[2],
                 ..NONE
             },
-            0,
+            8192,
             5,
             "vaultmove: input fault\n",
         ),
@@ -221,22 +221,6 @@ fn streams_that_fail(rt: HostRuntime) -> Result<(), Fail> {
             vec![in rt.alloc(); 0; written]?.as_slice()
         );
     }
-    Ok(())
-}
-
-#[test]
-fn a_byte_at_a_time(rt: HostRuntime) -> Result<(), Fail> {
-    let mut words = Vec::new(rt.alloc());
-    for word in ["decrypt-file", KEY] {
-        words.push(String::from_str(rt.alloc(), word)?)?;
-    }
-    let source = MemSource::new(file(rt.alloc(), 1, &[])?, Vec::new(rt.alloc()));
-    let mut input = Trickle { source };
-    let mut out = MemSink::new(rt.alloc(), 5_000, Vec::new(rt.alloc()))?;
-    let mut err = MemSink::new(rt.alloc(), 0, Vec::new(rt.alloc()))?;
-    let status = run(rt.alloc(), words.as_slice(), &mut input, &mut out, &mut err);
-    assert_eq!(rt; status, 0);
-    assert_eq!(rt; out.bytes().len(), 4096);
     Ok(())
 }
 
@@ -272,13 +256,19 @@ fn encoded(alloc: Global) -> Result<Vec<u8>, Fail> {
     Ok(file)
 }
 
-#[test]
-fn a_bit_that_was_changed_in_the_second_block(rt: HostRuntime) -> Result<(), Fail> {
-    let mut file = encoded(rt.alloc())?;
-    assert_eq!(rt; file.len(), 9114);
+// The file of 9,000 bytes with one bit of its second block changed.
+fn changed(alloc: Global) -> Result<Vec<u8>, Fail> {
+    let mut file = encoded(alloc)?;
     if let Some(byte) = file.get_mut(4246) {
         *byte ^= 1;
     }
+    Ok(file)
+}
+
+#[test]
+fn a_bit_that_was_changed_in_the_second_block(rt: HostRuntime) -> Result<(), Fail> {
+    let file = changed(rt.alloc())?;
+    assert_eq!(rt; file.len(), 9114);
     let outcome = outcome(rt.alloc(), &["decrypt-file", KEY], file.as_slice(), &NONE)?;
     assert_eq!(rt; outcome.status, 12);
     assert_eq!(rt; outcome.out.bytes(), [1; 4096].as_slice());
@@ -286,5 +276,35 @@ fn a_bit_that_was_changed_in_the_second_block(rt: HostRuntime) -> Result<(), Fai
         outcome.err.bytes(),
         b"vaultmove: damaged: input: chunk 1 tag\n".as_slice()
     );
+    Ok(())
+}
+
+#[test]
+fn a_byte_at_a_time(rt: HostRuntime) -> Result<(), Fail> {
+    let mut words = Vec::new(rt.alloc());
+    for word in ["decrypt-file", KEY] {
+        words.push(String::from_str(rt.alloc(), word)?)?;
+    }
+    let source = MemSource::new(changed(rt.alloc())?, Vec::new(rt.alloc()));
+    let mut input = Trickle { source };
+    let mut out = MemSink::new(rt.alloc(), 5_000, Vec::new(rt.alloc()))?;
+    let mut err = MemSink::new(rt.alloc(), 100, Vec::new(rt.alloc()))?;
+    let status = run(rt.alloc(), words.as_slice(), &mut input, &mut out, &mut err);
+    assert_eq!(rt; status, 12);
+    assert_eq!(rt; out.bytes(), [1; 4096].as_slice());
+    assert_eq!(rt;
+        err.bytes(),
+        b"vaultmove: damaged: input: chunk 1 tag\n".as_slice()
+    );
+    Ok(())
+}
+
+#[test]
+fn many_holes_and_an_output_that_fails(rt: HostRuntime) -> Result<(), Fail> {
+    let input = file(rt.alloc(), 300, &[])?;
+    let fails = Fails { out: &[2], ..NONE };
+    let outcome = outcome(rt.alloc(), &["decrypt-file", KEY], input.as_slice(), &fails)?;
+    assert_eq!(rt; outcome.status, 6);
+    assert_eq!(rt; outcome.out.bytes().len(), 4096);
     Ok(())
 }

@@ -1,12 +1,29 @@
-use Rattle.chunk_files.proofs.Readings.{whole-goes_on}
-use Rattle.vault_cli.proofs.Inputs.{Writes-gathered}
+use Rattle.std.proofs.Common.{◌≡◌, ◌∙◌, ap}
+use Rattle.chunk_files.specs.Decoding.{Decoding, started}
+use Rattle.chunk_files.specs.Keys.{Keys, go_keys}
+use Rattle.vault_cli.proofs.Outcomes.{written-nothing}
 use Rattle.vault_cli.proofs.decrypt.decrypt_file.Goals as goal
+
+pub returns-clause-tells : goal.returns-clause-tells
+returns-clause-tells g c =
+    let key = c.args.key.now in
+    let nothing = written-nothing key (g.I.Source.left c.args.input.now) (g.O.Sink.taken c.args.out.now) c.in-Ok.decoder (c.in-Ok.ensures ∙ ap started c.go.ensures) (c.given_chunks_come_first.ensures.started (go_keys key)) in
+    (c.stream.ensures.outcome key nothing).tells
 
 pub returns-clause-writes : goal.returns-clause-writes
 returns-clause-writes g c =
-    Writes-gathered _ _ _ _ _ _ _ c.in-Ok.ensures.front (rw (c.start-decoder.ensures, c.go.ensures) at c.write_chunks.ensures.writes)
+    let key = c.args.key.now in
+    let nothing = written-nothing key (g.I.Source.left c.args.input.now) (g.O.Sink.taken c.args.out.now) c.in-Ok.decoder (c.in-Ok.ensures ∙ ap started c.go.ensures) (c.given_chunks_come_first.ensures.started (go_keys key)) in
+    (c.stream.ensures.outcome key nothing).writes
 
-pub returns-clause-end : goal.returns-clause-end
-returns-clause-end g c = λ done.
-    let tells = rw (done, c.start-decoder.ensures) at c.write_chunks.ensures.tells in
-    c.in-Ok.ensures.end (whole-goes_on _ _ _ tells)
+pub returns-clause-takes : goal.returns-clause-takes
+returns-clause-takes g c =
+    let key = c.args.key.now in
+    let nothing = written-nothing key (g.I.Source.left c.args.input.now) (g.O.Sink.taken c.args.out.now) c.in-Ok.decoder (c.in-Ok.ensures ∙ ap started c.go.ensures) (c.given_chunks_come_first.ensures.started (go_keys key)) in
+    (c.stream.ensures.outcome key nothing).takes
+
+pub returns-clause-near : goal.returns-clause-near
+returns-clause-near g c =
+    let key = c.args.key.now in
+    let nothing = written-nothing key (g.I.Source.left c.args.input.now) (g.O.Sink.taken c.args.out.now) c.in-Ok.decoder (c.in-Ok.ensures ∙ ap started c.go.ensures) (c.given_chunks_come_first.ensures.started (go_keys key)) in
+    (c.stream.ensures.outcome key nothing).near

@@ -1,12 +1,17 @@
-use Rattle.std.proofs.Common.{◌≤◌, length}
-use Rattle.vault_cli.proofs.Chunks.{Gave}
+use Rattle.std.proofs.Common.{◌≡◌, ◌≤◌, [], List, ℕ, Option, length, not}
+use Rattle.chunk_files.specs.Decoding.{left}
+use Rattle.vault_cli.specs.Streaming.{HasWritten}
 use Rattle.vault_cli.proofs.decrypt.write_chunks.Given as goal
 
--- the output took the chunks given so far
+-- all chunks so far were given and written
 abbrev pub invariant-chunks : goal.invariant-chunks
-invariant-chunks g l =
-    Gave l.initial.decoder l.decoder (g.O.Sink.taken l.initial.out) (g.O.Sink.taken l.out)
-    × (g.O.Sink.faults l.initial.out ≤ g.O.Sink.faults l.out)
+invariant-chunks g l = record {
+  written : (key : List ℕ) (at at2 taken : Option (List ℕ)) → HasWritten key at at2 taken (g.O.Sink.taken l.initial.out) l.initial.decoder
+      → HasWritten key at at2 taken (g.O.Sink.taken l.out) l.decoder;
+  ended : l.decoder.ended ≡ l.initial.decoder.ended;
+  same : l.decoder.taken ≡ l.initial.decoder.taken;
+  counted : g.O.Sink.faults l.initial.out ≤ g.O.Sink.faults l.out;
+}
 
 abbrev pub decreases-chunks : goal.decreases-chunks
-decreases-chunks g l = length l.decoder.chunks
+decreases-chunks g l = length (left l.decoder [] (not l.decoder.ended)).chunks

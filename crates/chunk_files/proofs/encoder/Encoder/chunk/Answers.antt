@@ -1,34 +1,43 @@
-use Rattle.std.proofs.Common.{◌≡◌, ℕ, ◌≤◌, List, length, take, ap, sym, ◌∙◌, subst, arith}
+use Rattle.std.proofs.Common.{◌≡◌, ◌≤◌, ℕ, List, length, take, ap, sym, ◌∙◌, subst, arith}
 use Rattle.port_model.specs.Draws.{Draws}
-use Rattle.chunk_files.specs.Keys.{full_size}
-use Rattle.chunk_files.specs.Gocryptfs.{is_all_zero}
 use Rattle.chunk_files.specs.Encoding.{Encoding}
-use Rattle.chunk_files.proofs.Encrypting.{buffer-nonce, next-block, goes-on}
+use Rattle.chunk_files.specs.Keys.{format_of}
+use Rattle.chunk_files.specs.Contents.{is_refused}
+use Rattle.chunk_files.proofs.Beginnings.{buffer-nonce, next-stored, sealed-same}
+use Rattle.chunk_files.proofs.Encrypting.{goes-on}
 use Rattle.chunk_files.proofs.encoder.Encoder.chunk.Goals as goal
 
 pub returns-clause-goes_on : goal.returns-clause-goes_on
 returns-clause-goes_on g c =
     let e = c.self.inside in
-    let layout : full_size e.layout ≡ full_size c.args.self.now.keys.layout = ap (λ (s : Encoding). full_size s.keys.layout) c.self.view_is in
-    let most : length c.args.plain.now ≤ full_size e.layout = omega (arith, layout, c.requires.at_most) in
-    let next = next-block e.gcm e.id e.number c.in_ok-nonce.nonce c.args.plain.now (take c.seal_block-size.result c.seal_block-size.new.out)
-    c.seal_block-size.ensures.block c.in_ok-nonce.ensures.sixteen c.in_ok-nonce.ensures.some_bit in
-    rw (← c.self.view_is) (goes-on e.layout e.gcm e.id e.number c.args.plain.now (take c.seal_block-size.result c.seal_block-size.new.out) c.requires.some most next)
+    let nonce : List ℕ = take c.in_ok-nonce.nonce.size c.in_ok-nonce.nonce.bytes in
+    let made : Encoding = record { keys = e.keys; header = e.told; number = e.number } in
+    let stored : List ℕ = take c.seal_chunk-size.result c.seal_chunk-size.new.out in
+    let is = c.seal_chunk-size.ensures.stored ∙ sym (sealed-same e.keys e.told e.number nonce c.args.plain.now) in
+    let most : length c.args.plain.now ≤ (format_of e.keys).full_size = omega (arith, ap (λ (x : Encoding). (format_of x.keys).full_size) c.self.view_is, c.requires.at_most) in
+    let next = next-stored e.keys e.told e.number nonce c.args.plain.now c.in_ok-nonce.ensures.size stored c.in_ok-nonce.ensures.accepted is in
+    rw (← c.self.view_is) (goes-on made c.args.plain.now stored c.requires.some most next)
 
-pub returns-clause-block : goal.returns-clause-block
-returns-clause-block g c =
+pub returns-clause-stored : goal.returns-clause-stored
+returns-clause-stored g c =
     let e = c.self.inside in
-    let front = buffer-nonce e.gcm e.id e.number c.in_ok-nonce.nonce c.args.plain.now c.seal_block-size.new.out c.seal_block-size.result c.seal_block-size.ensures.block c.in_ok-nonce.ensures.sixteen in
-    rw (front, ← c.self.view_is) c.seal_block-size.ensures.block
+    let nonce : List ℕ = take c.in_ok-nonce.nonce.size c.in_ok-nonce.nonce.bytes in
+    let is = c.seal_chunk-size.ensures.stored ∙ sym (sealed-same e.keys e.told e.number nonce c.args.plain.now) in
+    let front = buffer-nonce e.keys e.told e.number nonce c.args.plain.now c.in_ok-nonce.ensures.size c.seal_chunk-size.new.out c.seal_chunk-size.result is in
+    rw (← c.self.view_is) (is ∙ ap (λ (n : List ℕ). (format_of e.keys).sealed_chunk e.told e.number n c.args.plain.now) (sym front))
 
 pub returns-clause-drawn : goal.returns-clause-drawn
 returns-clause-drawn g c =
     let e = c.self.inside in
-    let front = buffer-nonce e.gcm e.id e.number c.in_ok-nonce.nonce c.args.plain.now c.seal_block-size.new.out c.seal_block-size.result c.seal_block-size.ensures.block c.in_ok-nonce.ensures.sixteen in
-    subst (λ (bytes : List ℕ). Draws (g.R.Randoms.left c.args.random.now) (g.R.Randoms.left c.draw.new.random) bytes) (sym front) c.in_ok-nonce.ensures.drawn
+    let nonce : List ℕ = take c.in_ok-nonce.nonce.size c.in_ok-nonce.nonce.bytes in
+    let is = c.seal_chunk-size.ensures.stored ∙ sym (sealed-same e.keys e.told e.number nonce c.args.plain.now) in
+    let front = buffer-nonce e.keys e.told e.number nonce c.args.plain.now c.in_ok-nonce.ensures.size c.seal_chunk-size.new.out c.seal_chunk-size.result is in
+    rw (← c.self.view_is) (subst (λ (bytes : List ℕ). Draws (g.R.Randoms.left c.args.random.now) (g.R.Randoms.left c.draw_nonce.new.random) bytes) (sym front) c.in_ok-nonce.ensures.drawn)
 
-pub returns-clause-some_bit : goal.returns-clause-some_bit
-returns-clause-some_bit g c =
+pub returns-clause-accepted : goal.returns-clause-accepted
+returns-clause-accepted g c =
     let e = c.self.inside in
-    let front = buffer-nonce e.gcm e.id e.number c.in_ok-nonce.nonce c.args.plain.now c.seal_block-size.new.out c.seal_block-size.result c.seal_block-size.ensures.block c.in_ok-nonce.ensures.sixteen in
-    ap is_all_zero front ∙ c.in_ok-nonce.ensures.some_bit
+    let nonce : List ℕ = take c.in_ok-nonce.nonce.size c.in_ok-nonce.nonce.bytes in
+    let is = c.seal_chunk-size.ensures.stored ∙ sym (sealed-same e.keys e.told e.number nonce c.args.plain.now) in
+    let front = buffer-nonce e.keys e.told e.number nonce c.args.plain.now c.in_ok-nonce.ensures.size c.seal_chunk-size.new.out c.seal_chunk-size.result is in
+    rw (← c.self.view_is) (ap (is_refused (format_of e.keys)) front ∙ c.in_ok-nonce.ensures.accepted)

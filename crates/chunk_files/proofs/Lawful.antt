@@ -1,0 +1,155 @@
+-- What each layout gives to the proofs that hold for all.
+use Rattle.std.proofs.Common.{◌≡◌, ℕ, zero, suc, ◌+◌, ◌*◌, ◌-◌, ◌<◌, ◌≤◌, ◌==◌, ◌&&◌, Bool, true, false, cond, List, [], ◌∷◌, ◌++◌, length, take, drop, replicate, Some, None, Ok, Err, refl, sym, ap, ap₂, ◌∙◌, arith, length-append, length-drop}
+use Rattle.std.specs.Prelude.{Option, Result, not}
+use Rattle.std.proofs.lemmas.Bool.{eqb-true}
+use Rattle.std.proofs.lemmas.List.{length-take, length-replicate, take_at, drop_at, take_all, take-append-drop}
+use Rattle.chunk_files.specs.declared.fault.ChunkFault.{ChunkFault}
+use Rattle.chunk_files.specs.declared.fault.ChunkFault.TheVariants.{HeaderVersion, ZeroId, HeaderTag}
+use Rattle.chunk_files.specs.declared.keys.Layout.{Layout}
+use Rattle.chunk_files.specs.declared.keys.Layout.TheVariants.{Go, CmGcm}
+use Rattle.chunk_files.specs.Zeros.{is_all_zero}
+use Rattle.chunk_files.specs.Format.{Format, Header}
+use Rattle.chunk_files.specs.Sealed.{sealed_text, opened_text, chunk_data}
+use Rattle.chunk_files.specs.Gocryptfs.{header_version, file_id, go_header, go_header_of, read_go_header, IsGoHeader, go_format}
+use Rattle.chunk_files.specs.CryptomatorGcm.{cm_header, told_by_plain, read_cm_header, IsCmHeader, new_plain, cm_gcm_format}
+use Rattle.chunk_files.specs.Keys.{Keys, format_by, format_of, IsHeaderBy}
+use Rattle.chunk_files.specs.Contents.{is_refused}
+use Rattle.chunk_files.proofs.Sealing.{length-sealed_text, nonce-sealed_text, opened-sealed_text, sealed-opened_text, length-plain_text}
+
+pub record IsLawful (f : Format) (IsHead : Header → List ℕ → Type 0) : Type 0 where
+  pub some_header : 0 < f.header_size
+  pub some_full : 0 < f.full_size
+  pub some_nonce : 0 < f.nonce_size
+  pub nonce_within : f.nonce_size ≤ f.seal_size
+  pub holes_refused : f.has_holes ≡ true → f.refuses_zeros ≡ true
+  -- headers
+  pub head_size : (header : Header) (bytes : List ℕ) → IsHead header bytes → length bytes ≡ f.header_size
+  pub head_read : (header : Header) (bytes : List ℕ) → IsHead header bytes → f.read_header bytes ≡ Ok header
+  pub read_head : (header : Header) (bytes : List ℕ) → length bytes ≡ f.header_size → f.read_header bytes ≡ Ok header → IsHead header bytes
+  pub new_head : (drawn : List ℕ) → length drawn ≡ f.header_draw → is_refused f drawn ≡ false → IsHead (f.new_told drawn) (f.new_header drawn)
+  -- chunks
+  pub seal_size : (header : Header) (number : ℕ) (nonce chunk : List ℕ) → length nonce ≡ f.nonce_size
+      → length (f.sealed_chunk header number nonce chunk) ≡ f.seal_size + length chunk
+  pub seal_nonce : (header : Header) (number : ℕ) (nonce chunk : List ℕ) → length nonce ≡ f.nonce_size
+      → take f.nonce_size (f.sealed_chunk header number nonce chunk) ≡ nonce
+  pub seal_opens : (header : Header) (number : ℕ) (nonce chunk : List ℕ) → length nonce ≡ f.nonce_size
+      → f.opened_chunk header number (f.sealed_chunk header number nonce chunk) ≡ Some chunk
+  pub opens_seal : (header : Header) (number : ℕ) (stored chunk : List ℕ) → f.seal_size ≤ length stored
+      → f.opened_chunk header number stored ≡ Some chunk → stored ≡ f.sealed_chunk header number (take f.nonce_size stored) chunk
+
+-- ---- gocryptfs
+
+-- the cases of a header's test
+none-cases : {A : Type 0} (version unset : Bool) (a b : ChunkFault) (told told' : A)
+    → cond (not version) (Err a) (cond unset (Err b) (Ok told)) ≡ Ok told' → (version ≡ true) × (unset ≡ false) × (told ≡ told')
+none-cases false unset a b told told' is = cc
+none-cases true true a b told told' is = cc
+none-cases true false a b told told' is = (refl, refl, (cc))
+
+go-head-read : (key : List ℕ) (header : Header) (bytes : List ℕ) → IsGoHeader key header bytes → read_go_header key bytes ≡ Ok header
+unfolding read_go_header
+go-head-read key header bytes head = rw (head.is, head.some_bit, head.tells) refl
+
+-- the first two bytes of a header of the format 2
+two-bytes : (bytes : List ℕ) → 2 ≤ length bytes → header_version bytes ≡ 2 → bytes ≡ 0 ∷ 2 ∷ drop 2 bytes
+two-bytes [] long version = absurd (omega arith)
+two-bytes (a ∷ []) long version = absurd (omega arith)
+two-bytes (a ∷ b ∷ rest) long version =
+    let high : a ≡ 0 = omega arith in
+    let low : b ≡ 2 = omega arith in
+    rw (high, low) refl
+
+go-read-head : (key : List ℕ) (header : Header) (bytes : List ℕ) → length bytes ≡ 18 → read_go_header key bytes ≡ Ok header → IsGoHeader key header bytes
+unfolding read_go_header
+go-read-head key header bytes size is =
+    let cases = none-cases (header_version bytes == 2) (is_all_zero (file_id bytes)) (HeaderVersion (header_version bytes)) ZeroId (go_header key (file_id bytes)) header is in
+    record {
+      id = file_id bytes;
+      sixteen = omega (arith, length-drop 2 bytes);
+      some_bit = cases.1;
+      is = two-bytes bytes (omega arith) (eqb-true (header_version bytes) 2 cases.0);
+      tells = sym cases.2;
+    }
+
+go-lawful : (key : List ℕ) → IsLawful (go_format key) (IsGoHeader key)
+unfolding is_refused
+go-lawful key = record {
+  some_header = omega arith;
+  some_full = omega arith;
+  some_nonce = omega arith;
+  nonce_within = omega arith;
+  holes_refused = λ holes. refl;
+  head_size = λ header bytes head. ap length head.is ∙ (let more : suc (suc (length head.id)) ≡ 18 = omega (arith, head.sixteen) in more);
+  head_read = go-head-read key;
+  read_head = go-read-head key;
+  new_head = λ drawn size some. record { id = drawn; sixteen = size; some_bit = some; is = refl; tells = refl };
+  seal_size = λ header number nonce chunk size. length-sealed_text header.key (chunk_data header number) 16 nonce chunk size;
+  seal_nonce = λ header number nonce chunk size. nonce-sealed_text header.key (chunk_data header number) 16 nonce chunk size;
+  seal_opens = λ header number nonce chunk size. opened-sealed_text header.key (chunk_data header number) 16 nonce chunk size;
+  opens_seal = λ header number stored chunk long opens. sealed-opened_text header.key (chunk_data header number) 16 stored chunk long opens;
+}
+
+-- ---- Cryptomator with SIV_GCM
+
+cm-head-size : (key : List ℕ) (header : Header) (bytes : List ℕ) → IsCmHeader key header bytes → length bytes ≡ 68
+cm-head-size key header bytes head =
+    ap length head.is ∙ length-sealed_text key [] 12 head.nonce head.plain head.twelve ∙ ap (λ (n : ℕ). 28 + n) head.forty
+
+cm-head-read : (key : List ℕ) (header : Header) (bytes : List ℕ) → IsCmHeader key header bytes → read_cm_header key bytes ≡ Ok header
+unfolding read_cm_header
+cm-head-read key header bytes head =
+    let nonce : take 12 bytes ≡ head.nonce = ap (take 12) head.is ∙ nonce-sealed_text key [] 12 head.nonce head.plain head.twelve in
+    let opens : opened_text key [] 12 bytes ≡ Some head.plain = ap (opened_text key [] 12) head.is ∙ opened-sealed_text key [] 12 head.nonce head.plain head.twelve in
+    rw (nonce, opens) (ap Ok (sym head.tells))
+
+cm-told : (key : List ℕ) (header : Header) (bytes : List ℕ) (opened : Option (List ℕ)) → length bytes ≡ 68 → opened_text key [] 12 bytes ≡ opened
+    → told_by_plain (take 12 bytes) opened ≡ Ok header → IsCmHeader key header bytes
+cm-told key header bytes None size opens is = cc
+cm-told key header bytes (Some plain) size opens is =
+    let long : 28 ≤ length bytes = omega arith in
+    record {
+      nonce = take 12 bytes;
+      twelve = omega (arith, length-take 12 bytes);
+      plain = plain;
+      forty = omega (arith, length-plain_text key [] 12 bytes plain long opens);
+      is = sealed-opened_text key [] 12 bytes plain long opens;
+      tells = cc;
+    }
+
+cm-read-head : (key : List ℕ) (header : Header) (bytes : List ℕ) → length bytes ≡ 68 → read_cm_header key bytes ≡ Ok header → IsCmHeader key header bytes
+unfolding read_cm_header
+cm-read-head key header bytes size is = cm-told key header bytes (opened_text key [] 12 bytes) size refl is
+
+cm-new-head : (key drawn : List ℕ) → length drawn ≡ 44 → IsCmHeader key (cm_header (take 12 drawn) (new_plain drawn)) (sealed_text key [] (take 12 drawn) (new_plain drawn))
+cm-new-head key drawn size = record {
+  nonce = take 12 drawn;
+  twelve = omega (arith, length-take 12 drawn);
+  plain = new_plain drawn;
+  forty = length-append (replicate 8 0xFF) (drop 12 drawn) ∙ omega (arith, length-replicate {A = ℕ} 8 0xFF, length-drop 12 drawn);
+  is = refl;
+  tells = refl;
+}
+
+cm-lawful : (key : List ℕ) → IsLawful (cm_gcm_format key) (IsCmHeader key)
+cm-lawful key = record {
+  some_header = omega arith;
+  some_full = omega arith;
+  some_nonce = omega arith;
+  nonce_within = omega arith;
+  holes_refused = λ holes. cc;
+  head_size = cm-head-size key;
+  head_read = cm-head-read key;
+  read_head = cm-read-head key;
+  new_head = λ drawn size some. cm-new-head key drawn size;
+  seal_size = λ header number nonce chunk size. length-sealed_text header.key (chunk_data header number) 12 nonce chunk size;
+  seal_nonce = λ header number nonce chunk size. nonce-sealed_text header.key (chunk_data header number) 12 nonce chunk size;
+  seal_opens = λ header number nonce chunk size. opened-sealed_text header.key (chunk_data header number) 12 nonce chunk size;
+  opens_seal = λ header number stored chunk long opens. sealed-opened_text header.key (chunk_data header number) 12 stored chunk long opens;
+}
+
+lawful-by : (layout : Layout) (key : List ℕ) → IsLawful (format_by layout key) (IsHeaderBy layout key)
+lawful-by Go key = go-lawful key
+lawful-by CmGcm key = cm-lawful key
+
+pub lawful : (keys : Keys) → IsLawful (format_of keys) (IsHeaderBy keys.layout keys.key)
+lawful keys = lawful-by keys.layout keys.key

@@ -1,0 +1,16 @@
+use Rattle.std.proofs.Common.{◌≡◌, ◌∙◌, List, ℕ, take, ap, arith, refl}
+use Rattle.std.proofs.lemmas.List.{take_all}
+use Rattle.chunk_files.specs.Zeros.{is_all_zero}
+use Rattle.chunk_files.specs.Contents.{is_refused}
+use Rattle.chunk_files.proofs.draw.draw_nonce.Goals as goal
+
+pub returns-in_ok-bytes-in-Go-clause-accepted : goal.returns-in_ok-bytes-in-Go-clause-accepted
+unfolding is_refused
+returns-in_ok-bytes-in-Go-clause-accepted g c =
+    let bytes : List ℕ = c.in_ok-bytes-in-Go.bytes in
+    let all : take 16 bytes ≡ bytes = take_all 16 bytes (omega (arith, c.in_ok-bytes-in-Go.ensures.sixteen)) in
+    rw (← c.layout.ensures, c.in-Go.is) (ap is_all_zero all ∙ c.in_ok-bytes-in-Go.ensures.some_bit)
+
+pub returns-in_ok-nonce-in-CmGcm-clause-accepted : goal.returns-in_ok-nonce-in-CmGcm-clause-accepted
+unfolding is_refused
+returns-in_ok-nonce-in-CmGcm-clause-accepted g c = rw (← c.layout.ensures, c.in-CmGcm.is) refl

@@ -1,0 +1,12 @@
+use Rattle.std.proofs.Common.{◌≡◌, ℕ, List, length, replicate, true, sym, ap, ◌∙◌, subst, arith, refl}
+use Rattle.port_model.specs.Draws.{Draws}
+use Rattle.chunk_files.specs.Zeros.{is_all_zero}
+use Rattle.chunk_files.proofs.StoredChunks.{zero-zeros}
+use Rattle.chunk_files.proofs.draw.draw_some.Goals as goal
+
+pub returns-then-all_zero-clause-fault : goal.returns-then-all_zero-clause-fault
+returns-then-all_zero-clause-fault g c =
+    let bytes = c.in_ok-bytes.bytes in
+    let none : is_all_zero bytes ≡ true = sym c.if-all_zero.ensures in
+    let zeros : bytes ≡ replicate 16 0 = zero-zeros bytes none ∙ ap (λ (n : ℕ). replicate n 0) c.in_ok-bytes.ensures.size in
+    (refl, subst (λ (b : List ℕ). Draws (g.R.Randoms.left c.args.random.now) (g.R.Randoms.left c.draw.new.random) b) zeros c.in_ok-bytes.ensures.drawn)

@@ -1,0 +1,13 @@
+use Rattle.std.proofs.Common.{◌≡◌, ℕ, List, length, take, ap, sym, ◌∙◌, arith}
+use Rattle.chunk_files.specs.Gocryptfs.{go_header, go_header_of}
+use Rattle.chunk_files.proofs.Beginnings.{started-go}
+use Rattle.chunk_files.proofs.encoder.start_go.Goals as goal
+
+pub returns-clause-header : goal.returns-clause-header
+returns-clause-header g c =
+    let id : List ℕ = c.in_ok-id.id in
+    let buffer : List ℕ = c.put_front.new.self in
+    let size : length c.go_header.result ≡ 18 = omega (arith, ap length c.go_header.ensures, c.in_ok-id.ensures.sixteen) in
+    let header : take 18 buffer ≡ go_header_of id = ap (λ (n : ℕ). take n buffer) (sym size) ∙ c.put_front.ensures.front ∙ c.go_header.ensures in
+    started-go c.args.keys _ _ id c.new-told.result (take 18 buffer) c.requires c.in_ok-id.ensures.drawn c.in_ok-id.ensures.sixteen c.in_ok-id.ensures.some_bit
+    (c.new-told.ensures ∙ ap (λ (k : List ℕ). go_header k id) c.gcm.ensures) header

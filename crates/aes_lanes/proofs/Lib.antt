@@ -5,3 +5,4 @@ pub mod Bytes
 pub mod CounterBytes
 pub mod ScheduleSteps
 pub mod CounterSteps
+mod LaneSteps

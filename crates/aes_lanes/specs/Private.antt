@@ -1,5 +1,5 @@
 -- Words of private contracts: a block added to a part of a list of bytes, how many of a counter block's
--- bytes count, and the key of a schedule.
+-- bytes count, the key of a schedule, and the lanes of a vector.
 use Rattle.std.specs.Prelude.{◌≡◌, ℕ, ◌+◌, ◌<◌, ◌≤◌, length, take, List, bit_xor, slice_index}
 use Rattle.std.specs.List.{flat_map}
 use Rattle.std.specs.Int.{w32, to_be_bytes}
@@ -22,3 +22,8 @@ width_of AllBytes = 16
 -- the bytes of the first n words: the key from which a schedule was expanded
 unfoldable pub key_of : ℕ → List ℕ → List ℕ
 key_of n words = flat_map (to_be_bytes w32) (take n words)
+
+-- the lanes of a vector of 64 bytes
+pub record AreLanes (v : List ℕ) : Type 0 where
+  pub sixty_four : length v ≡ 64
+  pub bytes : (k : ℕ) → slice_index v k < 256

@@ -7,6 +7,7 @@ mod block;
 mod cipher;
 mod counter;
 mod key;
+pub mod lanes;
 pub mod laws;
 mod rounds;
 mod schedule;

@@ -1,6 +1,9 @@
 // The examples of the standards, through the public calls.
 
+use crate::lanes::{sub, unsub};
+use crate::tables::{inverse_sbox, sbox};
 use crate::{Block, Cipher, Key128, Key256, ctr32_xor, ctr128_xor, same_bytes, xor_into};
+use std::simd::prelude::*;
 
 const KEY: [u8; 32] = [
     0, 1, 2, 3, 4, 5, 6, 7, 8, 9, 10, 11, 12, 13, 14, 15, 16, 17, 18, 19, 20, 21, 22, 23, 24, 25,
@@ -106,4 +109,21 @@ fn sums_and_comparisons(rt: HostRuntime) {
     assert!(rt; !same_bytes(&sum, &PLAIN));
     assert!(rt; !same_bytes(&sum, &want[..15]));
     assert!(rt; same_bytes(&[], &[]));
+}
+
+// The published tables of the S-box and its inverse, on all 256 bytes.
+#[test]
+fn lanes_are_the_tables(rt: HostRuntime) {
+    for quarter in 0..4u8 {
+        let mut bytes = [0; 64];
+        let mut images = [0; 64];
+        let mut preimages = [0; 64];
+        for k in 0..64u8 {
+            bytes[k as usize] = 64 * quarter + k;
+            images[k as usize] = sbox(64 * quarter + k);
+            preimages[k as usize] = inverse_sbox(64 * quarter + k);
+        }
+        assert_eq!(rt; sub(u8x64::from_array(bytes)).to_array(), images);
+        assert_eq!(rt; unsub(u8x64::from_array(bytes)).to_array(), preimages);
+    }
 }

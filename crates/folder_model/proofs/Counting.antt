@@ -1,11 +1,10 @@
 -- How the count of faults goes on from call to call.
-use Rattle.std.proofs.Common.{◌≡◌, ℕ, ◌<◌, ◌≤◌, Option, Some, None, Result, Ok, Err, refl, inl, inr, arith}
-use Rattle.port_model.specs.Counts.{CountRose, IsCounted}
+use Rattle.std.proofs.Common.{◌≡◌, ℕ, ◌≤◌, Option, Some, None, Result, Ok, Err, refl, inl, inr, arith}
+use Rattle.port_model.specs.Counts.{CountRose}
 use Rattle.folder_spec.specs.declared.FolderFault.{FolderFault}
 use Rattle.folder_spec.specs.declared.FolderFault.TheVariants.{Failed, Refused, NoMemory}
-use Rattle.folder_spec.specs.State.{State}
 use Rattle.folder_spec.specs.Event.{Call, Allowed, Told, Changes}
-use Rattle.folder_model.specs.Answers.{Counts, Answers, CountsAbove}
+use Rattle.folder_model.specs.Answers.{Counts, CountsAbove}
 
 pub never_falls : {T : Type 0} (told : Option Told) (before after : ℕ) (result : Result T FolderFault) → Counts told before after result → before ≤ after
 never_falls None before after (Ok value) h = h.grows

@@ -13,7 +13,7 @@ use Rattle.folder_model.specs.declared.mem.step.Step.{Step}
 use Rattle.folder_model.specs.Crash.{table_at, bytes_left, node_left, picked}
 use Rattle.folder_model.specs.Nodes.{KeepsFronts}
 use Rattle.folder_model.specs.Sound.{state_sound}
-use Rattle.folder_model.specs.Steps.{base_table, step_table, replay, tables_after, kept_table, state_from, AreSoundTables}
+use Rattle.folder_model.specs.Steps.{step_table, replay, tables_after, kept_table, state_from, AreSoundTables}
 use Rattle.folder_model.proofs.StepLemmas.{last_of-tables, replay-append}
 use Rattle.folder_model.proofs.States.{fronts_of}
 
@@ -49,14 +49,14 @@ replay_to t steps ℕ.zero = refl
 replay_to t [] (suc number) = refl
 replay_to t (s ∷ steps) (suc number) = replay_to (step_table t s) steps number
 
-pub table_at_number : (nodes : List Node) (steps : List Step) (kept number : ℕ)
-    → table_at (state_from nodes steps kept) number ≡ replay base_table (take (kept + number) steps)
-table_at_number nodes steps kept number =
-    let t = kept_table steps kept in
+pub table_at_number : (nodes : List Node) (base : Table) (steps : List Step) (kept number : ℕ)
+    → table_at (state_from nodes base steps kept) number ≡ replay base (take (kept + number) steps)
+table_at_number nodes base steps kept number =
+    let t = kept_table base steps kept in
     ap (λ d. slice_index_or (t ∷ tables_after t (drop kept steps)) number d) (last_of-tables t (drop kept steps))
     ∙ replay_to t (drop kept steps) number
-    ∙ sym (replay-append base_table (take kept steps) (take number (drop kept steps)))
-    ∙ ap (replay base_table) (sym (take-add kept number steps))
+    ∙ sym (replay-append base (take kept steps) (take number (drop kept steps)))
+    ∙ ap (replay base) (sym (take-add kept number steps))
 
 -- a file of which all bytes are kept stays
 pub clean_left : (tail : List ℕ) (node : Node) → node.kept ≡ node.now → node ≡ node_left tail node
@@ -69,31 +69,43 @@ nodes_left (x ∷ nodes) tail ℕ.zero = refl
 nodes_left (x ∷ nodes) tail (suc n) = nodes_left nodes tail n
 
 -- where all steps are kept, nothing is later
-all_kept : (nodes : List Node) (steps : List Step)
-    → state_from nodes steps (length steps) ≡ record { nodes = λ n. slice_index_or nodes n empty_node; made = length nodes; kept = replay base_table steps; later = [] }
-all_kept nodes steps =
-    ap₂ (λ front back. record { nodes = λ n. slice_index_or nodes n empty_node; made = length nodes; kept = replay base_table front; later = tables_after (replay base_table front) back })
+all_kept : (nodes : List Node) (base : Table) (steps : List Step)
+    → state_from nodes base steps (length steps) ≡ record { nodes = λ n. slice_index_or nodes n empty_node; made = length nodes; kept = replay base steps; later = [] }
+all_kept nodes base steps =
+    ap₂ (λ front back. record { nodes = λ n. slice_index_or nodes n empty_node; made = length nodes; kept = replay base front; later = tables_after (replay base front) back })
     (take_all (length steps) steps (le_refl (length steps))) (drop_of_length-le steps (le_refl (length steps)))
 
-pub crashed : (nodes : List Node) (steps : List Step) (kept number : ℕ) (tail : List ℕ) (new_nodes : List Node) (new_steps : List Step)
+pub crashed : (nodes : List Node) (base : Table) (steps : List Step) (kept number : ℕ) (tail : List ℕ) (new_nodes : List Node) (new_steps : List Step)
     → new_nodes ≡ map (λ node. node_left tail node) nodes → new_steps ≡ take (kept + number) steps
-    → state_from new_nodes new_steps (length new_steps) ≡ spec.state_of (picked (state_from nodes steps kept) number tail)
-crashed nodes steps kept number tail new_nodes new_steps nodes_are steps_are =
-    ap₂ (λ ns ss. state_from ns ss (length ss)) nodes_are steps_are
-    ∙ all_kept (map (λ node. node_left tail node) nodes) (take (kept + number) steps)
-    ∙ ap₂ (λ (f : ℕ → Node) made. record { nodes = f; made = made; kept = replay base_table (take (kept + number) steps); later = [] })
+    → state_from new_nodes base new_steps (length new_steps) ≡ spec.state_of (picked (state_from nodes base steps kept) number tail)
+crashed nodes base steps kept number tail new_nodes new_steps nodes_are steps_are =
+    ap₂ (λ ns ss. state_from ns base ss (length ss)) nodes_are steps_are
+    ∙ all_kept (map (λ node. node_left tail node) nodes) base (take (kept + number) steps)
+    ∙ ap₂ (λ (f : ℕ → Node) made. record { nodes = f; made = made; kept = replay base (take (kept + number) steps); later = [] })
     (fun_ext (nodes_left nodes tail)) (length-map nodes (λ node. node_left tail node))
     ∙ ap (λ t. record { nodes = λ n. node_left tail (slice_index_or nodes n empty_node); made = length nodes; kept = t; later = [] })
-    (sym (table_at_number nodes steps kept number))
+    (sym (table_at_number nodes base steps kept number))
+
+-- some of the steps make some of the tables
+first_tables : (base : Table) (steps : List Step) (n : ℕ) (t : Table) → IsAmong t (base ∷ tables_after base (take n steps)) → IsAmong t (base ∷ tables_after base steps)
+first_tables base steps ℕ.zero t (inl e) = inl e
+first_tables base steps ℕ.zero t (inr none) = absurd none
+first_tables base [] (suc n) t among = among
+first_tables base (s ∷ steps) (suc n) t (inl e) = inl e
+first_tables base (s ∷ steps) (suc n) t (inr more) = inr (first_tables (step_table base s) steps n t more)
 
 -- the invariants after the crash
-pub crashed_holds : (nodes : List Node) (steps : List Step) (kept number : ℕ) (tail : List ℕ) (new_nodes : List Node) (new_steps : List Step)
+pub crashed_holds : (nodes : List Node) (base : Table) (steps : List Step) (kept number : ℕ) (tail : List ℕ) (new_nodes : List Node) (new_steps : List Step)
     → new_nodes ≡ map (λ node. node_left tail node) nodes → new_steps ≡ take (kept + number) steps
-    → KeepsFronts nodes → AreSoundTables (length nodes) steps kept
-    → KeepsFronts new_nodes × AreSoundTables (length new_nodes) new_steps (length new_steps)
-crashed_holds nodes steps kept number tail new_nodes new_steps nodes_are steps_are fronts tables =
-    let sound : IsSound (state_from nodes steps kept) = state_sound nodes steps kept fronts tables in
-    let left : IsSound (state_from new_nodes new_steps (length new_steps)) =
-    subst IsSound (sym (crashed nodes steps kept number tail new_nodes new_steps nodes_are steps_are))
-    (image_is_sound (state_from nodes steps kept) (picked (state_from nodes steps kept) number tail) sound (picked_is_image (state_from nodes steps kept) number tail sound)) in
-    (fronts_of new_nodes new_steps (length new_steps) left, left.tables)
+    → KeepsFronts nodes → AreSoundTables (length nodes) base steps
+    → KeepsFronts new_nodes × AreSoundTables (length new_nodes) base new_steps
+crashed_holds nodes base steps kept number tail new_nodes new_steps nodes_are steps_are fronts tables =
+    let sound : IsSound (state_from nodes base steps kept) = state_sound nodes base steps kept fronts tables in
+    let left : IsSound (state_from new_nodes base new_steps (length new_steps)) =
+    subst IsSound (sym (crashed nodes base steps kept number tail new_nodes new_steps nodes_are steps_are))
+    (image_is_sound (state_from nodes base steps kept) (picked (state_from nodes base steps kept) number tail) sound (picked_is_image (state_from nodes base steps kept) number tail sound)) in
+    let made : length nodes ≡ length new_nodes = sym (ap length nodes_are ∙ length-map nodes (λ node. node_left tail node)) in (
+      fronts_of new_nodes base new_steps (length new_steps) left,
+      subst (λ n. AreSoundTables n base new_steps) made
+          (λ t among. tables t (first_tables base steps (kept + number) t (subst (λ ss. IsAmong t (base ∷ tables_after base ss)) steps_are among))),
+    )

@@ -1,5 +1,6 @@
 pub mod Strings
 pub mod StepLemmas
+pub mod NameTables
 pub mod States
 pub mod Entries
 pub mod Crashes

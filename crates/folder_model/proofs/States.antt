@@ -1,44 +1,45 @@
 -- The state of a folder in memory after each of its changes.
-use Rattle.std.proofs.Common.{◌≡◌, ◌≢◌, ℕ, suc, ◌+◌, ◌<◌, ◌≤◌, Bool, true, false, cond, nat_eq, List, [], ◌∷◌, ◌++◌, length, take, drop, set, get_or, slice_index_or, refl, sym, ap, ap₂, ◌∙◌, subst, arith, take_all, take-append-drop, drop_of_length-le, le_refl, length-set, length-append, get_or-set_same, get_or-set_other, eqb-true, append-nil, Result, Ok, Err, OnErr, OnOk, is_ok}
+use Rattle.std.proofs.Common.{◌≡◌, ◌≢◌, ℕ, suc, ◌+◌, ◌<◌, ◌≤◌, Bool, true, false, cond, nat_eq, List, [], ◌∷◌, ◌++◌, length, take, drop, set, get_or, slice_index_or, refl, sym, ap, ap₂, ◌∙◌, subst, arith, take_all, take-append-drop, drop_of_length-le, le_refl, length-set, length-append, get_or-set_same, get_or-set_other, eqb-true, append-nil, Result, Ok, Err, OnErr, OnOk, is_ok, ◌⊎◌, ⊎_elim, inl, inr}
 use Rattle.std.proofs.lemmas.List.{take-append-le, drop-append-le}
 use Rattle.std.proofs.lemmas.Bool.{eqb-false}
 use mathlib.Core.Path.{fun_ext}
 use Rattle.folder_spec.specs.declared.Spot.{Spot}
 use Rattle.folder_spec.specs.declared.Spot.TheVariants.{Nothing, Directory, FileNode, Odd}
 use Rattle.folder_spec.specs.Path.{Path}
-use Rattle.folder_spec.specs.State.{Node, State, present, put_node, IsSound, BeginsWith}
-use Rattle.folder_spec.proofs.Tables.{present_is_table}
+use Rattle.folder_spec.specs.State.{Table, Node, State, present, put_node, IsAmong, IsSoundTable, IsSound, BeginsWith}
+use Rattle.folder_spec.proofs.Tables.{present_is_table, among-new}
 use Rattle.folder_spec.proofs.Sound.{changed_sound}
 use Rattle.folder_spec.specs.Event.{Call, MakeDir, Append, Sync, Rename, RemoveFile, RemoveDir, fallen, grown, IsFree, Create, Settle, changed, with_table, with_file, empty_node}
 use Rattle.folder_model.specs.declared.mem.step.Step.{Step}
 use Rattle.folder_model.specs.declared.mem.step.Step.TheVariants.{Put}
-use Rattle.folder_model.specs.Sound.{state_sound}
-use Rattle.folder_model.specs.Steps.{base_table, step_table, replay, tables_after, kept_table, state_from, AreSoundTables}
+use Rattle.folder_model.specs.Sound.{among_all, state_sound}
+use Rattle.folder_model.specs.Tables.{HasParents}
+use Rattle.folder_model.specs.Steps.{step_table, replay, tables_after, kept_table, state_from, AreSoundTables}
 use Rattle.folder_model.specs.Nodes.{KeepsFront, KeepsFronts}
 use Rattle.folder_model.proofs.StepLemmas.{last_of-tables, replay-append, tables_after-push}
 
 -- the present table is that after all steps
-pub present_is : (nodes : List Node) (steps : List Step) (kept : ℕ) → present (state_from nodes steps kept) ≡ replay base_table steps
-present_is nodes steps kept =
-    last_of-tables (kept_table steps kept) (drop kept steps)
-    ∙ sym (replay-append base_table (take kept steps) (drop kept steps))
-    ∙ ap (replay base_table) (take-append-drop kept steps)
+pub present_is : (nodes : List Node) (base : Table) (steps : List Step) (kept : ℕ) → present (state_from nodes base steps kept) ≡ replay base steps
+present_is nodes base steps kept =
+    last_of-tables (kept_table base steps kept) (drop kept steps)
+    ∙ sym (replay-append base (take kept steps) (drop kept steps))
+    ∙ ap (replay base) (take-append-drop kept steps)
 
 -- one step more
-pub step_pushed : (nodes : List Node) (steps : List Step) (kept : ℕ) (s : Step) → kept ≤ length steps
-    → state_from nodes (steps ++ s ∷ []) kept ≡ with_table (state_from nodes steps kept) (step_table (present (state_from nodes steps kept)) s)
-step_pushed nodes steps kept s within =
+pub step_pushed : (nodes : List Node) (base : Table) (steps : List Step) (kept : ℕ) (s : Step) → kept ≤ length steps
+    → state_from nodes base (steps ++ s ∷ []) kept ≡ with_table (state_from nodes base steps kept) (step_table (present (state_from nodes base steps kept)) s)
+step_pushed nodes base steps kept s within =
     ap₂ (λ front back. with_front nodes front back) (take-append-le kept steps (s ∷ []) within) (drop-append-le kept steps (s ∷ []) within)
-    ∙ ap (λ later. record { nodes = λ n. slice_index_or nodes n empty_node; made = length nodes; kept = kept_table steps kept; later = later })
-    (tables_after-push (kept_table steps kept) (drop kept steps) s
-    ∙ ap (λ t. tables_after (kept_table steps kept) (drop kept steps) ++ step_table t s ∷ []) (sym (last_of-tables (kept_table steps kept) (drop kept steps))))
+    ∙ ap (λ later. record { nodes = λ n. slice_index_or nodes n empty_node; made = length nodes; kept = kept_table base steps kept; later = later })
+    (tables_after-push (kept_table base steps kept) (drop kept steps) s
+    ∙ ap (λ t. tables_after (kept_table base steps kept) (drop kept steps) ++ step_table t s ∷ []) (sym (last_of-tables (kept_table base steps kept) (drop kept steps))))
   where
     with_front : List Node → List Step → List Step → State
     with_front nodes front back = record {
       nodes = λ n. slice_index_or nodes n empty_node;
       made = length nodes;
-      kept = replay base_table front;
-      later = tables_after (replay base_table front) back;
+      kept = replay base front;
+      later = tables_after (replay base front) back;
     }
 
 -- past the nodes that are made every node is empty
@@ -71,45 +72,75 @@ nodes_set nodes n node made = fun_ext (λ k. at k (nat_eq n k) refl)
     at k true e = rw e (ap (λ j. slice_index_or (set nodes n node) j empty_node) (sym (eqb-true n k e)) ∙ get_or-set_same nodes n node empty_node made)
     at k false e = rw e (let apart : k ≢ n = λ same. eqb-false n k e (sym same) in get_or-set_other nodes n k node empty_node apart)
 
-pub file_changed : (nodes : List Node) (steps : List Step) (kept n : ℕ) (change : Node → Node) → n < length nodes
-    → state_from (set nodes n (change (slice_index_or nodes n empty_node))) steps kept ≡ with_file (state_from nodes steps kept) (FileNode n) change
-file_changed nodes steps kept n change made =
-    ap₂ (λ (f : ℕ → Node) made. record { nodes = f; made = made; kept = kept_table steps kept; later = tables_after (kept_table steps kept) (drop kept steps) })
+pub file_changed : (nodes : List Node) (base : Table) (steps : List Step) (kept n : ℕ) (change : Node → Node) → n < length nodes
+    → state_from (set nodes n (change (slice_index_or nodes n empty_node))) base steps kept ≡ with_file (state_from nodes base steps kept) (FileNode n) change
+file_changed nodes base steps kept n change made =
+    ap₂ (λ (f : ℕ → Node) made. record { nodes = f; made = made; kept = kept_table base steps kept; later = tables_after (kept_table base steps kept) (drop kept steps) })
     (nodes_set nodes n (change (slice_index_or nodes n empty_node)) made) (length-set nodes n (change (slice_index_or nodes n empty_node)))
 
-pub created : (nodes : List Node) (steps : List Step) (kept : ℕ) (p : Path) → kept ≤ length steps
-    → state_from (nodes ++ empty_node ∷ []) (steps ++ Put p (FileNode (length nodes)) ∷ []) kept ≡ changed (state_from nodes steps kept) (Create p)
-created nodes steps kept p within =
-    ap₂ (λ (f : ℕ → Node) made. record { nodes = f; made = made; kept = kept_table (steps ++ Put p (FileNode (length nodes)) ∷ []) kept; later = tables_after (kept_table (steps ++ Put p (FileNode (length nodes)) ∷ []) kept) (drop kept (steps ++ Put p (FileNode (length nodes)) ∷ [])) })
+pub created : (nodes : List Node) (base : Table) (steps : List Step) (kept : ℕ) (p : Path) → kept ≤ length steps
+    → state_from (nodes ++ empty_node ∷ []) base (steps ++ Put p (FileNode (length nodes)) ∷ []) kept ≡ changed (state_from nodes base steps kept) (Create p)
+created nodes base steps kept p within =
+    ap₂ (λ (f : ℕ → Node) made. record { nodes = f; made = made; kept = kept_table base (steps ++ Put p (FileNode (length nodes)) ∷ []) kept; later = tables_after (kept_table base (steps ++ Put p (FileNode (length nodes)) ∷ []) kept) (drop kept (steps ++ Put p (FileNode (length nodes)) ∷ [])) })
     (nodes_pushed nodes) (length-append nodes (empty_node ∷ []) ∙ suc_is (length nodes))
     ∙ ap (λ (s : State). record { nodes = put_node (λ n. slice_index_or nodes n empty_node) (length nodes) empty_node; made = suc (length nodes); kept = s.kept; later = s.later })
-    (step_pushed nodes steps kept (Put p (FileNode (length nodes))) within)
+    (step_pushed nodes base steps kept (Put p (FileNode (length nodes))) within)
   where
     suc_is : (n : ℕ) → n + 1 ≡ suc n
     suc_is n = omega arith
 
-pub settled : (nodes : List Node) (steps : List Step) (kept : ℕ) → state_from nodes steps (length steps) ≡ changed (state_from nodes steps kept) Settle
-settled nodes steps kept =
-    ap₂ (λ front back. record { nodes = λ n. slice_index_or nodes n empty_node; made = length nodes; kept = replay base_table front; later = tables_after (replay base_table front) back })
-    (take_all (length steps) steps (le_refl (length steps))) (drop_of_length-le steps (le_refl (length steps)))
-    ∙ ap (λ t. record { nodes = λ n. slice_index_or nodes n empty_node; made = length nodes; kept = t; later = [] }) (sym (present_is nodes steps kept))
+pub settled : (nodes : List Node) (base new_base : Table) (steps new_steps : List Step) (kept : ℕ) → replay new_base new_steps ≡ replay base steps
+    → state_from nodes new_base new_steps (length new_steps) ≡ changed (state_from nodes base steps kept) Settle
+settled nodes base new_base steps new_steps kept same =
+    ap₂ (λ front back. record { nodes = λ n. slice_index_or nodes n empty_node; made = length nodes; kept = replay new_base front; later = tables_after (replay new_base front) back })
+    (take_all (length new_steps) new_steps (le_refl (length new_steps))) (drop_of_length-le new_steps (le_refl (length new_steps)))
+    ∙ ap (λ t. record { nodes = λ n. slice_index_or nodes n empty_node; made = length nodes; kept = t; later = [] }) (same ∙ sym (present_is nodes base steps kept))
 
-pub fronts_of : (nodes : List Node) (steps : List Step) (kept : ℕ) → IsSound (state_from nodes steps kept) → KeepsFronts nodes
-fronts_of nodes steps kept sound n =
+-- what stands has a directory above it, in each table
+pub have_parents : (made : ℕ) (base : Table) (steps : List Step) → AreSoundTables made base steps → (t : Table) → IsAmong t (base ∷ tables_after base steps) → HasParents t
+have_parents made base steps sound t among = (sound t among).parents
+
+pub fronts_of : (nodes : List Node) (base : Table) (steps : List Step) (kept : ℕ) → IsSound (state_from nodes base steps kept) → KeepsFronts nodes
+fronts_of nodes base steps kept sound n =
     let node = slice_index_or nodes n empty_node in
     let begins : BeginsWith node.now node.kept = sound.nodes n in
     ap (take (length node.kept)) begins.1 ∙ take-append-le (length node.kept) node.kept begins.0 (le_refl (length node.kept)) ∙ take_all (length node.kept) node.kept (le_refl (length node.kept))
 
+-- the tables after one step more are sound where the new one is
+pub one_more_sound : (made : ℕ) (base : Table) (steps : List Step) (s : Step) → AreSoundTables made base steps → IsSoundTable made (step_table (replay base steps) s)
+    → AreSoundTables made base (steps ++ s ∷ [])
+one_more_sound made base steps s sound new t among = elim (among_more base steps s t among) as (λ _. IsSoundTable made t) [
+  | inl old ↦ sound t old
+  | inr e ↦ subst (IsSoundTable made) (sym e) new
+]
+  where
+    among_more : (base : Table) (steps : List Step) (s : Step) (t : Table) → IsAmong t (base ∷ tables_after base (steps ++ s ∷ []))
+        → IsAmong t (base ∷ tables_after base steps) ⊎ (t ≡ step_table (replay base steps) s)
+    among_more base [] s t (inl e) = inl (inl e)
+    among_more base [] s t (inr (inl e)) = inr e
+    among_more base [] s t (inr (inr none)) = absurd none
+    among_more base (x ∷ steps) s t (inl e) = inl (inl e)
+    among_more base (x ∷ steps) s t (inr more) = ⊎_elim (λ k. inl (inr k)) (λ e. inr e) (among_more (step_table base x) steps s t more)
+
+-- the last table of a state that a step was added to is sound
+pub new_table_sound : (nodes : List Node) (base : Table) (steps : List Step) (kept : ℕ) (s : Step)
+    → IsSound (with_table (state_from nodes base steps kept) (step_table (present (state_from nodes base steps kept)) s))
+    → IsSoundTable (length nodes) (step_table (replay base steps) s)
+new_table_sound nodes base steps kept s sound =
+    let t = step_table (present (state_from nodes base steps kept)) s in
+    subst (λ u. IsSoundTable (length nodes) (step_table u s)) (present_is nodes base steps kept)
+    (sound.tables t (inr (among-new t (tables_after (kept_table base steps kept) (drop kept steps)))))
+
 -- the invariants after a push of a step, whether there was room for it or not
-pub pushed_holds : (nodes : List Node) (steps new : List Step) (kept : ℕ) (s : Step) (b : Bool) → new ≡ cond b (steps ++ s ∷ []) steps → kept ≤ length steps
-    → AreSoundTables (length nodes) steps kept → IsSound (with_table (state_from nodes steps kept) (step_table (present (state_from nodes steps kept)) s))
-    → (kept ≤ length new) × AreSoundTables (length nodes) new kept
-pushed_holds nodes steps new kept s true e within sound pushed = (
+pub pushed_holds : (nodes : List Node) (base : Table) (steps new : List Step) (kept : ℕ) (s : Step) (b : Bool) → new ≡ cond b (steps ++ s ∷ []) steps → kept ≤ length steps
+    → AreSoundTables (length nodes) base steps → IsSound (with_table (state_from nodes base steps kept) (step_table (present (state_from nodes base steps kept)) s))
+    → (kept ≤ length new) × AreSoundTables (length nodes) base new
+pushed_holds nodes base steps new kept s true e within sound pushed = (
   rw e (let longer : length (steps ++ s ∷ []) ≡ length steps + 1 = length-append steps (s ∷ []) in omega (arith, longer, within)),
-  subst (λ ss. AreSoundTables (length nodes) ss kept) (sym e) (subst IsSound (sym (step_pushed nodes steps kept s within)) pushed).tables,
+  subst (AreSoundTables (length nodes) base) (sym e) (one_more_sound (length nodes) base steps s sound (new_table_sound nodes base steps kept s pushed)),
 )
-pushed_holds nodes steps new kept s false e within sound pushed =
-    (rw e within, subst (λ ss. AreSoundTables (length nodes) ss kept) (sym e) sound)
+pushed_holds nodes base steps new kept s false e within sound pushed =
+    (rw e within, subst (AreSoundTables (length nodes) base) (sym e) sound)
 
 -- there was room
 pub was_pushed : {T E : Type 0} (r : Result T E) (capacity len : ℕ) → OnErr r (capacity ≤ len) → len + 1 ≤ capacity → is_ok r ≡ true
@@ -119,45 +150,59 @@ was_pushed (Err e) capacity len full room = absurd (omega (arith, full, room))
 pub all_pushed : {T E X : Type 0} (r : Result T E) (new xs : List X) (x : X) → new ≡ cond (is_ok r) (xs ++ x ∷ []) xs → is_ok r ≡ true → new ≡ xs ++ x ∷ []
 all_pushed r new xs x e ok = rw ok at e
 
+-- one node more has been made
+more_made : (made : ℕ) (base : Table) (steps : List Step) → AreSoundTables made base steps → AreSoundTables (suc made) base steps
+more_made made base steps sound t among =
+    let its : IsSoundTable made t = sound t among in
+    record { base = its.base; parents = its.parents; alone = its.alone; is_made = λ p n at_p. (let less : n < made = its.is_made p n at_p in omega (arith, less)) }
+
 -- the invariants after a new file
-pub created_holds : (nodes new_nodes : List Node) (steps new_steps : List Step) (kept : ℕ) (at : Path)
+pub created_holds : (nodes new_nodes : List Node) (base : Table) (steps new_steps : List Step) (kept : ℕ) (at : Path)
     → new_nodes ≡ nodes ++ empty_node ∷ [] → new_steps ≡ steps ++ Put at (FileNode (length nodes)) ∷ []
-    → kept ≤ length steps → KeepsFronts nodes → AreSoundTables (length nodes) steps kept → IsFree (present (state_from nodes steps kept)) at
-    → (kept ≤ length new_steps) × KeepsFronts new_nodes × AreSoundTables (length new_nodes) new_steps kept
-created_holds nodes new_nodes steps new_steps kept at e k within fronts sound free =
+    → kept ≤ length steps → KeepsFronts nodes → AreSoundTables (length nodes) base steps → IsFree (present (state_from nodes base steps kept)) at
+    → (kept ≤ length new_steps) × KeepsFronts new_nodes × AreSoundTables (length new_nodes) base new_steps
+created_holds nodes new_nodes base steps new_steps kept at e k within fronts sound free =
     let step = Put at (FileNode (length nodes)) in
-    let all : IsSound (state_from (nodes ++ empty_node ∷ []) (steps ++ step ∷ []) kept) =
-    subst IsSound (sym (created nodes steps kept at within))
-    (changed_sound (state_from nodes steps kept) (Create at) (state_sound nodes steps kept fronts sound) free) in (
+    let s = state_from nodes base steps kept in
+    let new : IsSound (changed s (Create at)) = changed_sound s (Create at) (state_sound nodes base steps kept fronts sound) free in
+    let all : IsSound (state_from (nodes ++ empty_node ∷ []) base (steps ++ step ∷ []) kept) =
+    subst IsSound (sym (created nodes base steps kept at within)) new in
+    let t = step_table (present s) step in
+    let last : IsSoundTable (suc (length nodes)) (step_table (replay base steps) step) =
+    subst (λ u. IsSoundTable (suc (length nodes)) (step_table u step)) (present_is nodes base steps kept)
+    (new.tables t (inr (among-new t (tables_after (kept_table base steps kept) (drop kept steps))))) in
+    let made : suc (length nodes) ≡ length (nodes ++ empty_node ∷ []) = (let one : length (nodes ++ empty_node ∷ []) ≡ length nodes + 1 = length-append nodes (empty_node ∷ []) in omega (arith, one)) in (
       subst (λ ss. kept ≤ length ss) (sym k) (let longer : length (steps ++ step ∷ []) ≡ length steps + 1 = length-append steps (step ∷ []) in omega (arith, longer, within)),
-      subst KeepsFronts (sym e) (fronts_of (nodes ++ empty_node ∷ []) (steps ++ step ∷ []) kept all),
-      subst (λ ss. AreSoundTables (length new_nodes) ss kept) (sym k)
-          (subst (λ ns. AreSoundTables (length ns) (steps ++ step ∷ []) kept) (sym e) all.tables),
+      subst KeepsFronts (sym e) (fronts_of (nodes ++ empty_node ∷ []) base (steps ++ step ∷ []) kept all),
+      subst (AreSoundTables (length new_nodes) base) (sym k)
+          (subst (λ (ns : List Node). AreSoundTables (length ns) base (steps ++ step ∷ [])) (sym e)
+          (subst (λ n. AreSoundTables n base (steps ++ step ∷ [])) made
+          (one_more_sound (suc (length nodes)) base steps step (more_made (length nodes) base steps sound) last))),
     )
 
 -- a node that stands somewhere has been made
-pub node_made : (nodes : List Node) (steps : List Step) (kept : ℕ) (at : Path) (n : ℕ) → AreSoundTables (length nodes) steps kept
-    → present (state_from nodes steps kept) at ≡ FileNode n → n < length nodes
-node_made nodes steps kept at n sound here =
-    (sound (present (state_from nodes steps kept)) (present_is_table (state_from nodes steps kept))).is_made at n here
+pub node_made : (nodes : List Node) (base : Table) (steps : List Step) (kept : ℕ) (at : Path) (n : ℕ) → AreSoundTables (length nodes) base steps
+    → present (state_from nodes base steps kept) at ≡ FileNode n → n < length nodes
+node_made nodes base steps kept at n sound here =
+    (sound (present (state_from nodes base steps kept)) (among_all base steps kept (present (state_from nodes base steps kept)) (present_is_table (state_from nodes base steps kept)))).is_made at n here
 
 -- the invariants after a change of a node
-pub node_holds : (nodes : List Node) (steps : List Step) (kept n : ℕ) (node : Node) → n < length nodes → KeepsFront node → KeepsFronts nodes
-    → AreSoundTables (length nodes) steps kept → KeepsFronts (set nodes n node) × AreSoundTables (length (set nodes n node)) steps kept
-node_holds nodes steps kept n node made front fronts sound = (
+pub node_holds : (nodes : List Node) (base : Table) (steps : List Step) (kept n : ℕ) (node : Node) → n < length nodes → KeepsFront node → KeepsFronts nodes
+    → AreSoundTables (length nodes) base steps → KeepsFronts (set nodes n node) × AreSoundTables (length (set nodes n node)) base steps
+node_holds nodes base steps kept n node made front fronts sound = (
   λ k. subst (λ (f : ℕ → Node). KeepsFront (f k)) (sym (nodes_set nodes n node made))
       (elim (nat_eq n k) as (λ b. KeepsFront (cond b node (slice_index_or nodes k empty_node))) [ true ↦ front | false ↦ fronts k ]),
-  subst (λ made. AreSoundTables made steps kept) (sym (length-set nodes n node)) sound,
+  subst (λ made. AreSoundTables made base steps) (sym (length-set nodes n node)) sound,
 )
 
 -- the state after it
-pub node_changed : (nodes : List Node) (steps : List Step) (kept n : ℕ) (at : Path) (old new : Node) (change : Node → Node) → n < length nodes
-    → present (state_from nodes steps kept) at ≡ FileNode n → old ≡ slice_index_or nodes n old → new ≡ change old
-    → state_from (set nodes n new) steps kept ≡ with_file (state_from nodes steps kept) (present (state_from nodes steps kept) at) change
-node_changed nodes steps kept n at old new change made here is e =
-    ap (λ node. state_from (set nodes n node) steps kept) (e ∙ ap change (is ∙ any_default nodes n old empty_node made))
-    ∙ file_changed nodes steps kept n change made
-    ∙ ap (λ x. with_file (state_from nodes steps kept) x change) (sym here)
+pub node_changed : (nodes : List Node) (base : Table) (steps : List Step) (kept n : ℕ) (at : Path) (old new : Node) (change : Node → Node) → n < length nodes
+    → present (state_from nodes base steps kept) at ≡ FileNode n → old ≡ slice_index_or nodes n old → new ≡ change old
+    → state_from (set nodes n new) base steps kept ≡ with_file (state_from nodes base steps kept) (present (state_from nodes base steps kept) at) change
+node_changed nodes base steps kept n at old new change made here is e =
+    ap (λ node. state_from (set nodes n node) base steps kept) (e ∙ ap change (is ∙ any_default nodes n old empty_node made))
+    ∙ file_changed nodes base steps kept n change made
+    ∙ ap (λ x. with_file (state_from nodes base steps kept) x change) (sym here)
   where
     any_default : (xs : List Node) (n : ℕ) (a b : Node) → n < length xs → slice_index_or xs n a ≡ slice_index_or xs n b
     any_default [] n a b h = absurd (omega (arith, h))

@@ -1,16 +1,16 @@
 -- Tables by their steps.
-use Rattle.std.proofs.Common.{◌≡◌, ◌≢◌, ℕ, suc, ◌-◌, ◌<◌, ◌≤◌, ◌⊎◌, List, [], ◌∷◌, ◌++◌, length, take, Option, Some, None, slice_index_or, refl, sym, ap, ◌∙◌, subst, inl, inr, append_assoc, arith, Contains, map, string_bytes, String, Global}
+use Rattle.std.proofs.Common.{◌≡◌, ◌≢◌, ℕ, suc, ◌+◌, ◌-◌, ◌<◌, ◌≤◌, ◌⊎◌, List, [], ◌∷◌, ◌++◌, length, take, drop, Option, Some, None, slice_index_or, refl, sym, ap, ◌∙◌, subst, inl, inr, append_assoc, arith, Contains, map, string_bytes, String, Global}
 use Rattle.std.proofs.lemmas.List.{length-map}
 use Rattle.std.specs.Option.{option_map}
 use Rattle.folder_spec.specs.declared.Spot.{Spot}
 use Rattle.folder_spec.specs.declared.Spot.TheVariants.{Nothing, Directory, FileNode, Odd}
 use Rattle.folder_spec.specs.Path.{Part, Path, below, child}
-use Rattle.folder_spec.specs.State.{Table, moved, last_of}
+use Rattle.folder_spec.specs.State.{Table, IsAmong, moved, last_of}
 use Rattle.folder_spec.proofs.Paths.{begins_or_not, child_begins, not_below, below_is}
 use Rattle.folder_spec.proofs.Tables.{put-other, moved-new, moved-old, moved-other}
 use Rattle.folder_model.specs.declared.mem.step.Step.{Step}
 use Rattle.folder_model.specs.declared.mem.step.Step.TheVariants.{Put, Move}
-use Rattle.folder_model.specs.Steps.{base_table, step_table, replay, tables_after, KeepsEntries}
+use Rattle.folder_model.specs.Steps.{step_table, replay, tables_after, KeepsEntries}
 
 pub replay-take-suc : (t : Table) (steps : List Step) (n : ℕ) (d : Step) → n < length steps
     → replay t (take (suc n) steps) ≡ step_table (replay t (take n steps)) (slice_index_or steps n d)
@@ -19,24 +19,36 @@ replay-take-suc t (s ∷ steps) ℕ.zero d h = refl
 replay-take-suc t (s ∷ steps) (suc n) d h = replay-take-suc (step_table t s) steps n d (omega (arith, h))
 
 -- the last step before `left` is looked through
-pub looked_before : (steps : List Step) (left : ℕ) (p : Path) (step : Step) → 0 < left → left ≤ length steps → step ≡ slice_index_or steps (left - 1) step
-    → replay base_table (take left steps) p ≡ step_table (replay base_table (take (left - 1) steps)) step p
-looked_before steps left p step some fits is =
+pub looked_before : (base : Table) (steps : List Step) (left : ℕ) (p : Path) (step : Step) → 0 < left → left ≤ length steps → step ≡ slice_index_or steps (left - 1) step
+    → replay base (take left steps) p ≡ step_table (replay base (take (left - 1) steps)) step p
+looked_before base steps left p step some fits is =
     let e : left ≡ suc (left - 1) = omega (arith, some) in
-    ap (λ n. replay base_table (take n steps) p) e
-    ∙ ap (λ t. t p) (replay-take-suc base_table steps (left - 1) step (omega (arith, some, fits)))
-    ∙ ap (λ s. step_table (replay base_table (take (left - 1) steps)) s p) (sym is)
+    ap (λ n. replay base (take n steps) p) e
+    ∙ ap (λ t. t p) (replay-take-suc base steps (left - 1) step (omega (arith, some, fits)))
+    ∙ ap (λ s. step_table (replay base (take (left - 1) steps)) s p) (sym is)
 
-pub none_left : (steps : List Step) (left : ℕ) (p : Path) → left ≤ 0 → replay base_table (take left steps) p ≡ base_table p
-none_left steps left p none = let e : left ≡ 0 = omega (arith, none) in ap (λ n. replay base_table (take n steps) p) e
+pub none_left : (base : Table) (steps : List Step) (left : ℕ) (p : Path) → left ≤ 0 → replay base (take left steps) p ≡ base p
+none_left base steps left p none = let e : left ≡ 0 = omega (arith, none) in ap (λ n. replay base (take n steps) p) e
 
-pub base_is : (p : Path) → length p ≡ 0 → base_table p ≡ Directory
-base_is [] e = refl
-base_is (a ∷ p) e = absurd (omega (arith, e))
+-- the step that is next
+pub next_step : (steps : List Step) (n : ℕ) (s : Step) → n < length steps → s ≡ slice_index_or steps n s → drop n steps ≡ s ∷ drop (n + 1) steps
+next_step steps n s fits is = at steps n s fits is ∙ ap (λ k. s ∷ drop k steps) (suc_is n)
+  where
+    suc_is : (n : ℕ) → suc n ≡ n + 1
+    suc_is n = omega arith
 
-pub base_is_not : (p : Path) → (length p ≡ 0 → ⊥) → base_table p ≡ Nothing
-base_is_not [] e = absurd (e refl)
-base_is_not (a ∷ p) e = refl
+    at : (steps : List Step) (n : ℕ) (s : Step) → n < length steps → s ≡ slice_index_or steps n s → drop n steps ≡ s ∷ drop (suc n) steps
+    at [] n s fits is = absurd (omega (arith, fits))
+    at (x ∷ steps) ℕ.zero s fits is = ap (λ y. y ∷ steps) (sym is)
+    at (x ∷ steps) (suc n) s fits is = at steps n s (omega (arith, fits)) is
+
+-- it is done to the table
+pub step_done : (t u : Table) (steps rest : List Step) (s : Step) → steps ≡ s ∷ rest → u ≡ step_table t s
+    → (replay u rest ≡ replay t steps) × ((v : Table) → IsAmong v (u ∷ tables_after u rest) → IsAmong v (t ∷ tables_after t steps))
+step_done t u steps rest s e done =
+    subst (λ ss. (replay u rest ≡ replay t ss) × ((v : Table) → IsAmong v (u ∷ tables_after u rest) → IsAmong v (t ∷ tables_after t ss))) (sym e)
+    (subst (λ w. (replay w rest ≡ replay t (s ∷ rest)) × ((v : Table) → IsAmong v (w ∷ tables_after w rest) → IsAmong v (t ∷ tables_after t (s ∷ rest)))) (sym done)
+    (refl, λ v among. inr among))
 
 pub put_keeps : (p : Path) (x : Spot) (at : Path) → KeepsEntries (Put p x) at at
 put_keeps p x at t a apart stands none = stands (put-other t p x (child at a) apart ∙ none)
@@ -84,10 +96,6 @@ replay-append t (x ∷ xs) ys = replay-append (step_table t x) xs ys
 pub tables_after-push : (t : Table) (steps : List Step) (s : Step) → tables_after t (steps ++ s ∷ []) ≡ tables_after t steps ++ step_table (replay t steps) s ∷ []
 tables_after-push t [] s = refl
 tables_after-push t (x ∷ steps) s = ap (λ ts. step_table t x ∷ ts) (tables_after-push (step_table t x) steps s)
-
-pub base_child : (p : Path) (a : Part) → base_table (child p a) ≡ Nothing
-base_child [] a = refl
-base_child (b ∷ p) a = refl
 
 pub stands_or_not : (x : Spot) → (x ≡ Nothing) ⊎ (x ≢ Nothing)
 stands_or_not Nothing = inl refl

@@ -1,7 +1,9 @@
 pub mod Text
+pub mod Order
 pub mod Answers
 pub mod Nodes
 pub mod Steps
+pub mod Tables
 pub mod Calls
 pub mod Memory
 pub mod Entries

@@ -7,10 +7,11 @@ use Rattle.folder_spec.specs.State.{State}
 use Rattle.folder_spec.specs.Event.{Told}
 use Rattle.folder_model.specs.declared.mem.MemFolder.{MemFolder}
 use Rattle.folder_model.specs.Calls.{event_of}
-use Rattle.folder_model.specs.Steps.{state_from}
+use Rattle.folder_model.specs.Steps.{base_table, state_from}
+use Rattle.folder_model.specs.Tables.{names_of}
 
 abbrev pub state_of : MemFolder → State
-state_of m = state_from m.nodes.items m.steps.items m.kept
+state_of m = state_from m.nodes.items (names_of m.base) m.steps.items m.kept
 
 abbrev pub told_of : MemFolder → Told
 told_of m = record { state = state_of m; log = map event_of m.log.items }
@@ -61,4 +62,4 @@ pub record KeepsRest (old new : MemFolder) : Type 0 where
 
 -- an empty base, and no log
 abbrev pub new_told : Told
-new_told = record { state = state_from [] [] 0; log = [] }
+new_told = record { state = state_from [] base_table [] 0; log = [] }

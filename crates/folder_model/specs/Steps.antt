@@ -1,4 +1,4 @@
--- A folder in memory keeps its tables as the steps that made them.
+-- A folder in memory keeps a table, and those after it as the steps that made them.
 use Rattle.std.specs.Prelude.{◌≡◌, ◌≢◌, ℕ, List, [], ◌∷◌, length, take, drop, slice_index_or, Contains}
 use Rattle.folder_spec.specs.declared.Spot.{Spot}
 use Rattle.folder_spec.specs.declared.Spot.TheVariants.{Nothing, Directory}
@@ -30,22 +30,21 @@ tables_after t [] = []
 tables_after t (step ∷ steps) = step_table t step ∷ tables_after (step_table t step) steps
 
 -- the table after the steps that are kept
-abbrev pub kept_table : List Step → ℕ → Table
-kept_table steps kept = replay base_table (take kept steps)
+abbrev pub kept_table : Table → List Step → ℕ → Table
+kept_table base steps kept = replay base (take kept steps)
 
--- the state by its nodes, its steps and how many of them are kept
-abbrev pub state_from : List Node → List Step → ℕ → State
-state_from nodes steps kept = record {
+-- the state by its nodes, a table, the steps from there and how many of them are kept
+abbrev pub state_from : List Node → Table → List Step → ℕ → State
+state_from nodes base steps kept = record {
   nodes = λ n. slice_index_or nodes n empty_node;
   made = length nodes;
-  kept = kept_table steps kept;
-  later = tables_after (kept_table steps kept) (drop kept steps);
+  kept = kept_table base steps kept;
+  later = tables_after (kept_table base steps kept) (drop kept steps);
 }
 
 -- each table is sound
-abbrev pub AreSoundTables : ℕ → List Step → ℕ → Type 0
-AreSoundTables made steps kept =
-    (t : Table) → IsAmong t (kept_table steps kept ∷ tables_after (kept_table steps kept) (drop kept steps)) → IsSoundTable made t
+abbrev pub AreSoundTables : ℕ → Table → List Step → Type 0
+AreSoundTables made base steps = (t : Table) → IsAmong t (base ∷ tables_after base steps) → IsSoundTable made t
 
 -- what stands at a path after a step: this, or what stood at some path before it
 abbrev pub looked_in : Table → Looked → Spot

@@ -5,6 +5,7 @@
 pub mod entry;
 pub mod folder;
 pub mod mem;
+mod order;
 pub mod path;
 #[cfg(test)]
 mod tests;

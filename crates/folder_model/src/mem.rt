@@ -5,10 +5,12 @@ mod crash;
 mod list;
 mod node;
 mod step;
+mod table;
 
 ghost use Rattle.std.specs.Prelude.{◌≤◌, length};
 ghost use Rattle.folder_model.specs.Nodes.{KeepsFronts};
 ghost use Rattle.folder_model.specs.Steps.{AreSoundTables};
+ghost use Rattle.folder_model.specs.Tables.{names_of};
 
 use crate::entry::Entry;
 use crate::path::FPath;
@@ -19,14 +21,17 @@ use list::{add_spot, kind_at};
 use node::{FileBytes, read_from};
 use std::alloc::{AllocError, Global};
 use step::{Step, look, names};
+use table::{NameTable, absorb_all};
 
 /// A folder in memory. It tells its state and its log.
 ///
-/// It keeps its tables as the steps that made them, and how many of these are kept.
+/// It keeps one table as an ordered map, the steps that made the tables after it, and how many of
+/// these are kept. A settle does the steps to the map, as far as there is memory for it.
 #[derive(Debug, Drop)]
 pub struct MemFolder {
     alloc: Global,
     nodes: Vec<FileBytes>,
+    base: NameTable,
     steps: Vec<Step>,
     kept: usize,
     log: Vec<Logged>,
@@ -35,7 +40,7 @@ pub struct MemFolder {
     faults: u64,
     ghost within: { kept ≤ length steps.items },
     ghost fronts: { KeepsFronts nodes.items },
-    ghost sound: { AreSoundTables (length nodes.items) steps.items kept },
+    ghost sound: { AreSoundTables (length nodes.items) (names_of base) steps.items },
 }
 
 impl MemFolder {
@@ -53,7 +58,7 @@ impl MemFolder {
     fn spot(&self, at: &FPath) -> Result<Spot, AllocError>
         ensures { IfOk result (λ spot. spot ≡ present (state_of self.now) at.now) }
     {
-        look(self.steps.as_slice(), at)
+        look(&self.base, self.steps.as_slice(), at)
     }
 
     fn push_step(&mut self, step: Step) -> Result<(), AllocError>
@@ -84,6 +89,7 @@ impl MemFolder {
         ensures state { state_of self.new ≡ changed (state_of self.old) Settle }
         ensures rest { KeepsRest self.old self.new }
     {
+        absorb_all(&mut self.base, &mut self.steps);
         self.kept = self.steps.len();
     }
 
@@ -301,7 +307,7 @@ impl MemFolder {
             Spot::Directory => {}
             _ => return Ok(false),
         }
-        let found = names(self.alloc, self.steps.as_slice(), at)?;
+        let found = names(self.alloc, &self.base, self.steps.as_slice(), at)?;
         for name in &found {
             match self.spot(&at.child(name.as_str())?)? {
                 Spot::Nothing => {}
@@ -315,7 +321,7 @@ impl MemFolder {
     fn entries(&self, at: &FPath) -> Result<Vec<Entry>, AllocError>
         ensures { IfOk result (λ entries. IsListing (present (state_of self.now)) at.now entries.items) }
     {
-        let found = names(self.alloc, self.steps.as_slice(), at)?;
+        let found = names(self.alloc, &self.base, self.steps.as_slice(), at)?;
         let mut entries = Vec::new(self.alloc);
         for name in &found {
             let spot = self.spot(&at.child(name.as_str())?)?;
@@ -333,6 +339,7 @@ impl MemFolder {
         Ok(MemFolder {
             alloc,
             nodes: Vec::new(alloc),
+            base: NameTable::base(alloc)?,
             steps: Vec::new(alloc),
             kept: 0,
             log: Vec::new(alloc),

@@ -3,9 +3,11 @@ ghost use Rattle.std.specs.Prelude.{◌≡◌, ◌+◌, ◌<◌, ◌≤◌, [], 
 ghost use Rattle.std.specs.List.{list_all};
 ghost use Rattle.std.specs.Option.{option_map};
 ghost use Rattle.folder_spec.specs.Path.{Part, path_eq, below, parent, child};
+ghost use Rattle.folder_model.specs.Order.{path_cmp};
 ghost use Rattle.folder_model.specs.Text.{is_plain_byte, is_plain_part, is_path_text, parts_of, text_of};
 
 use std::alloc::{AllocError, Global};
+use std::cmp::Ordering;
 use std::marker::Model;
 
 /// A path in a folder: its parts, from the base down. The base has none.
@@ -184,6 +186,13 @@ impl FPath {
         ensures { result ≡ path_eq self.now other.now }
     {
         self.parts.as_slice() == other.parts.as_slice()
+    }
+
+    /// How the two paths are ordered: part by part, parts by their bytes, a prefix first.
+    pub(crate) fn compared(&self, other: &FPath) -> Ordering
+        ensures { result ≡ path_cmp self.now other.now }
+    {
+        self.parts.as_slice().cmp(other.parts.as_slice())
     }
 
     /// Whether the path is the other one or lies below it. Takes no memory.

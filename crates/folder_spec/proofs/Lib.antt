@@ -4,7 +4,10 @@ pub mod Sound
 pub mod Images
 pub mod Moments
 pub mod Regions
+pub mod Written
 pub mod Replaces
 pub mod Tellings
 pub mod Stages
 pub mod Views
+pub mod Seen
+pub mod Edits

@@ -1,12 +1,13 @@
 -- A region of paths that calls leave as it was, and one path there that gets a new file.
-use Rattle.std.proofs.Common.{◌≡◌, ◌≢◌, ℕ, ◌<◌, ◌≤◌, Bool, true, false, List, refl, ap, ◌∙◌, subst, inl, inr, arith, cond, ne_eqb, nat_lt, ltb-true, lt-ltb}
-use Rattle.folder_spec.specs.Path.{Path}
-use Rattle.folder_spec.specs.State.{Spot, Nothing, Directory, FileNode, Odd, Table, Node, State, present, IsTableOf, put, moved, put_node, IsSoundTable, IsSound}
+use Rattle.std.proofs.Common.{◌≡◌, ◌≢◌, ◌⊎◌, ℕ, ◌<◌, ◌≤◌, Bool, true, false, List, None, refl, sym, ap, ◌∙◌, subst, inl, inr, arith, cond, ne_eqb, nat_lt, ltb-true, lt-ltb}
+use Rattle.folder_spec.specs.Path.{Path, below}
+use Rattle.folder_spec.specs.State.{Spot, Nothing, Directory, FileNode, Odd, Table, Node, State, present, IsTableOf, IsNothingOrFile, put, moved, put_node, IsSoundTable, IsSound}
 use Rattle.folder_spec.specs.Event.{Call, MakeDir, Create, Append, Sync, Settle, Rename, RemoveFile, RemoveDir, with_table, with_file, grown, synced, empty_node, changed}
 use Rattle.folder_spec.specs.Image.{Image, IsLeftOf, IsImage}
 use Rattle.folder_spec.specs.View.{found, view_of, AgreeIn}
-use Rattle.folder_spec.specs.Region.{Spares, AlikeIn, IsAsBefore, WritesOnlyNew}
-use Rattle.folder_spec.proofs.Tables.{put-other, moved-other, present_is_table, among-push, last_of-push}
+use Rattle.folder_spec.specs.Region.{Spares, AlikeIn, IsAsBefore, WritesOnlyNew, HasOldOrFile, PutsOnlyFiles}
+use Rattle.folder_spec.proofs.Paths.{one_or_not, begins_or_not}
+use Rattle.folder_spec.proofs.Tables.{put-same, put-other, moved-old, moved-other, present_is_table, among-push, last_of-push}
 
 -- what a call leaves at all paths that it spares: each table afterwards has there what a table before had
 pub spared_tables : (region : Path → Bool) (s : State) (call : Call) → Spares region call → (t : Table) → IsTableOf (changed s call) t
@@ -159,3 +160,65 @@ as_before_images region s0 s sound as_was image is_image =
       image_before_is s0 s there.0 image sound there.1 as_was.nodes is_image,
       λ q inside. image_before_shows s0 there.0 image q (sound.tables there.0 there.1) (there.2 q inside),
     )
+
+-- A path at which calls put nothing but new files.
+module _ (at : Path) (s0 s : State) (so_far : HasOldOrFile at s0 s) where
+  abbrev OldOrFile : Table → Type 0
+  OldOrFile t = IsNothingOrFile t at ⊎ ((u : Table) × IsTableOf s0 u × (t at ≡ u at))
+
+  -- the table that a call makes has there what was there, or nothing, or a file
+  abbrev Leaves : Table → Type 0
+  Leaves v = (v at ≡ present s at) ⊎ IsNothingOrFile v at
+
+  at_present : (v : Table) → v at ≡ present s at → OldOrFile v
+  at_present v same = elim (so_far (present s) (present_is_table s)) as (λ _. OldOrFile v) [
+    | inl free ↦ elim free as (λ _. OldOrFile v) [
+      | inl none ↦ inl (inl (same ∙ none))
+      | inr file ↦ inl (inr (file.0, same ∙ file.1))
+    ]
+    | inr old ↦ inr (old.0, old.1, same ∙ old.2)
+  ]
+
+  new_table_has : (v : Table) → Leaves v → (t : Table) → IsTableOf (with_table s v) t → OldOrFile t
+  new_table_has v leaves t is_table = elim is_table as (λ _. OldOrFile t) [
+    | inl e ↦ so_far t (inl e)
+    | inr more ↦ elim (among-push t v s.later more) as (λ _. OldOrFile t) [
+      | inl old ↦ so_far t (inr old)
+      | inr e ↦ subst OldOrFile (sym e) (elim leaves as (λ _. OldOrFile v) [ inl same ↦ at_present v same | inr free ↦ inl free ])
+    ]
+  ]
+
+  put_leaves : (p : Path) (x : Spot) → IsNothingOrFile (put (present s) p x) p → Leaves (put (present s) p x)
+  put_leaves p x here = elim (one_or_not p at) as (λ _. Leaves (put (present s) p x)) [
+    | inl e ↦ inr (subst (IsNothingOrFile (put (present s) p x)) e here)
+    | inr k ↦ inl (put-other (present s) p x at k.0)
+  ]
+
+  moved_leaves : (old new : Path) → below new at ≡ None → Leaves (moved (present s) old new)
+  moved_leaves old new none = elim (begins_or_not old at) as (λ _. Leaves (moved (present s) old new)) [
+    | inl k ↦ inr (inl (ap (moved (present s) old new) k.1 ∙ moved-old (present s) old new k.0 (ap (below new) (sym k.1) ∙ none)))
+    | inr not_old ↦ inl (moved-other (present s) old new at none not_old)
+  ]
+
+  file_changed_has : (x : Spot) (change : Node → Node) (t : Table) → IsTableOf (with_file s x change) t → OldOrFile t
+  file_changed_has Nothing change t h = so_far t h
+  file_changed_has Directory change t h = so_far t h
+  file_changed_has Odd change t h = so_far t h
+  file_changed_has (FileNode n) change t h = so_far t h
+
+  pub old_or_file_on : (call : Call) → PutsOnlyFiles at call → HasOldOrFile at s0 (changed s call)
+  old_or_file_on (MakeDir p) apart = new_table_has (put (present s) p Directory) (inl (put-other (present s) p Directory at apart))
+  old_or_file_on (Create p) puts =
+      new_table_has (put (present s) p (FileNode s.made)) (put_leaves p (FileNode s.made) (inr (s.made, put-same (present s) p (FileNode s.made))))
+  old_or_file_on (Append p piece) puts = file_changed_has (present s p) (grown piece)
+  old_or_file_on (Sync p) puts = file_changed_has (present s p) synced
+  old_or_file_on Settle puts = λ t is_table. elim is_table as (λ _. OldOrFile t) [
+    | inl e ↦ at_present t (ap (λ w. w at) e)
+    | inr none ↦ absurd none
+  ]
+  old_or_file_on (Rename old new) none = new_table_has (moved (present s) old new) (moved_leaves old new none)
+  old_or_file_on (RemoveFile p) puts = new_table_has (put (present s) p Nothing) (put_leaves p Nothing (inl (put-same (present s) p Nothing)))
+  old_or_file_on (RemoveDir p) puts = new_table_has (put (present s) p Nothing) (put_leaves p Nothing (inl (put-same (present s) p Nothing)))
+
+pub old_or_file_at_first : (at : Path) (s : State) → HasOldOrFile at s s
+old_or_file_at_first at s t is_table = inr (t, is_table, refl)

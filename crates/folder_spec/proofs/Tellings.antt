@@ -37,3 +37,11 @@ from_to_same R t u same each = subst (FromTo R t) (sym same) (at t)
 pub at_told : (X : Told → Type 0) (t : Option Told) → IfSome t X → (a : Told) → t ≡ Some a → X a
 at_told X (Some b) h a is = let same : b ≡ a = cc is in subst X same h
 at_told X None h a is = cc is
+
+-- what holds of all that is told holds before and after
+pub from_to_known : (R : Told → Told → Type 0) (X : Told → Type 0) (t u : Option Told) → ((a : Told) → t ≡ Some a → X a) → ((a : Told) → u ≡ Some a → X a)
+    → FromTo R t u → FromTo (λ a b. R a b × X a × X b) t u
+from_to_known R X None None before after h = tt
+from_to_known R X (Some a) (Some b) before after h = (h, before a refl, after b refl)
+from_to_known R X None (Some b) before after h = absurd h
+from_to_known R X (Some a) None before after h = absurd h

@@ -7,3 +7,6 @@ pub mod View
 pub mod Listing
 pub mod Region
 pub mod Replace
+pub mod Written
+pub mod Seen
+pub mod Edit

@@ -1,9 +1,9 @@
 -- Regions of paths that calls leave as they were.
-use Rattle.std.specs.Prelude.{◌≡◌, ◌≢◌, ℕ, ◌<◌, ◌≤◌, Bool, ◌&&◌, None, is_none, IsTrue}
+use Rattle.std.specs.Prelude.{◌≡◌, ◌≢◌, ℕ, ◌<◌, ◌≤◌, ◌⊎◌, Bool, ◌&&◌, None, is_none, IsTrue}
 use Rattle.folder_spec.specs.declared.Spot.TheVariants.{FileNode}
 use Rattle.folder_spec.specs.Path.{Path, below}
-use Rattle.folder_spec.specs.State.{Table, State, present, IsTableOf}
-use Rattle.folder_spec.specs.Event.{Call, MakeDir, Create, Append, Sync, Settle, Rename, RemoveFile, RemoveDir}
+use Rattle.folder_spec.specs.State.{Table, State, present, IsTableOf, IsNothingOrFile}
+use Rattle.folder_spec.specs.Event.{Call, IsFree, MakeDir, Create, Append, Sync, Settle, Rename, RemoveFile, RemoveDir}
 
 -- the paths that do not begin with w
 abbrev pub apart_from : Path → Path → Bool
@@ -50,3 +50,29 @@ WritesOnlyNew made s (RemoveDir p) = Unit {0}
 -- the call spares the region, and all files of then
 abbrev pub SparesOld : (Path → Bool) → State → State → Call → Type 0
 SparesOld region s0 s call = Spares region call × WritesOnlyNew s0.made s call
+
+-- what a path may come to have, beside what it had: each table has there what a table of s0 had, or nothing, or a file
+abbrev pub HasOldOrFile : Path → State → State → Type 0
+HasOldOrFile at s0 s = (t : Table) → IsTableOf s t → IsNothingOrFile t at ⊎ ((u : Table) × IsTableOf s0 u × (t at ≡ u at))
+
+-- the call puts nothing but a new file at the path
+abbrev pub PutsOnlyFiles : Path → Call → Type 0
+PutsOnlyFiles at (MakeDir p) = p ≢ at
+PutsOnlyFiles at (Rename old new) = below new at ≡ None
+PutsOnlyFiles at (Create p) = Unit {0}
+PutsOnlyFiles at (Append p piece) = Unit {0}
+PutsOnlyFiles at (Sync p) = Unit {0}
+PutsOnlyFiles at Settle = Unit {0}
+PutsOnlyFiles at (RemoveFile p) = Unit {0}
+PutsOnlyFiles at (RemoveDir p) = Unit {0}
+
+-- The call takes nothing away in the region. What it brings there is a directory, or what stood outside, at a free place.
+abbrev pub OnlyAdds : (Path → Bool) → State → Call → Type 0
+OnlyAdds region s (MakeDir p) = Unit {0}
+OnlyAdds region s (Create p) = (q : Path) → IsTrue (region q) → p ≢ q
+OnlyAdds region s (Append p piece) = Unit {0}
+OnlyAdds region s (Sync p) = Unit {0}
+OnlyAdds region s Settle = Unit {0}
+OnlyAdds region s (Rename old new) = ((q : Path) → IsTrue (region q) → below old q ≡ None) × IsFree (present s) new
+OnlyAdds region s (RemoveFile p) = (q : Path) → IsTrue (region q) → p ≢ q
+OnlyAdds region s (RemoveDir p) = (q : Path) → IsTrue (region q) → p ≢ q

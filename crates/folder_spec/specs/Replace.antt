@@ -1,12 +1,14 @@
 -- A file that is put in the place of another at once: it is written elsewhere, synced, and renamed.
-use Rattle.std.specs.Prelude.{◌≡◌, ℕ, ◌<◌, ◌≤◌, ◌⊎◌, Bool, List, []}
+use Rattle.std.specs.Prelude.{◌≡◌, ℕ, ◌<◌, ◌≤◌, ◌⊎◌, Bool, List, [], ◌∷◌}
 use Rattle.folder_spec.specs.declared.Spot.{Spot}
-use Rattle.folder_spec.specs.declared.Spot.TheVariants.{FileNode}
+use Rattle.folder_spec.specs.declared.Spot.TheVariants.{Nothing, FileNode}
 use Rattle.folder_spec.specs.Path.{Path}
 use Rattle.folder_spec.specs.State.{Table, Node, State, present, IsTableOf, IsClean}
 use Rattle.folder_spec.specs.Image.{Image, IsImage}
 use Rattle.folder_spec.specs.View.{FileOf, view_of, AgreeIn}
-use Rattle.folder_spec.specs.Region.{AlikeIn}
+use Rattle.folder_spec.specs.Region.{AlikeIn, IsAsBefore, HasOldOrFile, apart_from, apart_from_both}
+use Rattle.folder_spec.specs.Written.{HoldFronts}
+use Rattle.folder_spec.specs.Edit.{file_edit, Publishes, HasSettled}
 
 -- a file made since s0 stands there, and this is its node
 pub record IsNewNode (node : Node) (s0 s : State) (spot : Spot) : Type 0 where
@@ -32,6 +34,26 @@ pub record IsReplaced (region : Path → Bool) (at : Path) (bytes : List ℕ) (s
   pub change : IsOldOrNew region at bytes s0 s
   pub settled : s.later ≡ []
   pub new : IsNewFile bytes s0 s (present s at)
+
+-- Since s0 a new file is being written at the path: all else is as it was, nothing but a file comes to stand there, and each
+-- file that was made holds a front part of one of these.
+pub record IsStaging (files : List (List ℕ)) (at : Path) (s0 s : State) : Type 0 where
+  pub others : IsAsBefore (apart_from at) s0 s
+  pub place : HasOldOrFile at s0 s
+  pub fronts : HoldFronts files s0 s
+
+-- Since s0 a file of these bytes is being written at the one path, and may have been put at the other.
+pub record IsReplacing (staged at : Path) (bytes : List ℕ) (s0 s : State) : Type 0 where
+  pub change : IsOldOrNew (apart_from_both staged at) at bytes s0 s
+  pub publishes : Publishes staged (file_edit at bytes ∷ []) s0 s
+  pub place : HasOldOrFile staged s0 s
+  pub fronts : HoldFronts (bytes ∷ []) s0 s
+
+-- Since s0 it has been put there for good, and nothing is left where it was written.
+pub record HasReplaced (staged at : Path) (bytes : List ℕ) (s0 s : State) : Type 0 where
+  pub replaced : IsReplaced (apart_from_both staged at) at bytes s0 s
+  pub published : HasSettled staged (file_edit at bytes ∷ []) s0 s
+  pub gone : present s staged ≡ Nothing
 
 -- what a crash leaves shows in the region what a crash at s0 might have left, and at the path that or the new file
 pub record ShowsOldOrNew (region : Path → Bool) (at : Path) (bytes : List ℕ) (s0 : State) (image : Image) : Type 0 where

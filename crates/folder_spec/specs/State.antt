@@ -68,6 +68,10 @@ put_node nodes n node = λ k. if nat_eq n k then node else nodes k
 abbrev pub HasFile : Table → Path → Type 0
 HasFile t p = (n : ℕ) × (t p ≡ FileNode n)
 
+-- nothing stands there, or a file
+abbrev pub IsNothingOrFile : Table → Path → Type 0
+IsNothingOrFile t p = (t p ≡ Nothing) ⊎ HasFile t p
+
 abbrev pub IsClean : Node → Type 0
 IsClean node = node.now ≡ node.kept
 
@@ -92,7 +96,7 @@ pub record HasNothingPending (s : State) : Type 0 where
   pub clean : (n : ℕ) → IsClean (s.nodes n)
   pub settled : s.later ≡ []
 
--- outside the region no crash can change anything: all tables agree there, and the files there are clean
-pub record HasNothingPendingOutside (region : Path → Bool) (s : State) : Type 0 where
-  pub agree : (t : Table) (p : Path) → IsTableOf s t → ¬ IsTrue (region p) → t p ≡ present s p
-  pub clean : (p : Path) (n : ℕ) → ¬ IsTrue (region p) → present s p ≡ FileNode n → IsClean (s.nodes n)
+-- in the region no crash can change anything: all tables agree there, and the files there are clean
+pub record HasNothingPendingIn (region : Path → Bool) (s : State) : Type 0 where
+  pub agree : (t : Table) (p : Path) → IsTableOf s t → IsTrue (region p) → t p ≡ present s p
+  pub clean : (p : Path) (n : ℕ) → IsTrue (region p) → present s p ≡ FileNode n → IsClean (s.nodes n)

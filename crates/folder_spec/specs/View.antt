@@ -1,5 +1,5 @@
 -- What a reader of a region of paths finds, in a table, in a state and in an image.
-use Rattle.std.specs.Prelude.{◌≡◌, ℕ, Bool, List, IsTrue}
+use Rattle.std.specs.Prelude.{◌≡◌, ℕ, Bool, List, Contains, IsTrue}
 use Rattle.folder_spec.specs.Path.{Path}
 use Rattle.folder_spec.specs.State.{Spot, Nothing, Directory, FileNode, Odd, Table, State, IsTableOf, IsClean}
 use Rattle.folder_spec.specs.Image.{Image}
@@ -37,6 +37,6 @@ pub record Shows (region : Path → Bool) (s : State) (t : Table) (v : View) : T
   pub agrees : AgreeIn region (view_in s t) v
   pub clean : (p : Path) (n : ℕ) → IsTrue (region p) → t p ≡ FileNode n → IsClean (s.nodes n)
 
--- every table of the state shows one of these views in the region
-abbrev pub ShowsOneOf : (Path → Bool) → (View → Type 0) → State → Type 0
-ShowsOneOf region IsOne s = (t : Table) → IsTableOf s t → (v : View) × IsOne v × Shows region s t v
+-- each table of the state shows one of these views in the region
+abbrev pub ShowsAmong : (Path → Bool) → State → List View → Type 0
+ShowsAmong region s views = (t : Table) → IsTableOf s t → (v : View) × Contains views v × Shows region s t v

@@ -1,13 +1,16 @@
 //! Laws of the definitions. Each function does nothing, and its clause is the law.
-ghost use Rattle.std.specs.Prelude.{◌≡◌, ◌++◌, ℕ, List, Bool, None, IsTrue};
-ghost use Rattle.folder_spec.specs.State.{State, Table, moved, IsSound, HasNothingPending};
-ghost use Rattle.folder_spec.specs.Event.{Call, Sync, Settle, Allowed, changed, fallen};
+ghost use Rattle.std.specs.Prelude.{◌≡◌, ◌≢◌, ◌<◌, ◌++◌, ◌∷◌, [], ℕ, List, Bool, None, Contains, IsTrue};
+ghost use Rattle.folder_spec.specs.State.{State, Table, present, moved, IsSound, HasNothingPending, HasNothingPendingIn};
+ghost use Rattle.folder_spec.specs.Event.{Call, MakeDir, Sync, Settle, Rename, IsFree, Allowed, changed, fallen};
 ghost use Rattle.folder_spec.specs.Image.{Image, IsImage, state_of, seen_now};
 ghost use Rattle.folder_spec.specs.Path.{Path, below};
-ghost use Rattle.folder_spec.specs.declared.Spot.TheVariants.{Nothing};
+ghost use Rattle.folder_spec.specs.declared.Spot.TheVariants.{Nothing, Odd};
 ghost use Rattle.folder_spec.specs.Replace.{IsOldOrNew, IsReplaced, ShowsOldOrNew, IsCleanAt};
-ghost use Rattle.folder_spec.specs.View.{FileOf, View, view_of, AgreeIn, Shows, ShowsOneOf};
-ghost use Rattle.folder_spec.specs.Region.{Spares, WritesOnlyNew, IsAsBefore};
+ghost use Rattle.folder_spec.specs.View.{FileOf, View, view_of, AgreeIn, Shows, ShowsAmong};
+ghost use Rattle.folder_spec.specs.Seen.{seen, seen_after, MayCall};
+ghost use Rattle.folder_spec.specs.Edit.{Edit, directory_edit, view_after, IsOutside, IsStagedView, Publishes, HasPublished, HasSettled};
+ghost use Rattle.folder_spec.specs.Region.{Spares, WritesOnlyNew, IsAsBefore, HasOldOrFile, PutsOnlyFiles, OnlyAdds, apart_from};
+ghost use Rattle.folder_spec.specs.Written.{HoldFronts, WritesFronts};
 
 /// A call that is allowed keeps a state sound, whether it is done or fails.
 pub fn calls_keep_states_sound()
@@ -36,6 +39,16 @@ pub fn spared_regions_stay()
     ensures images { (region : Path → Bool) (s0 s : State) → IsSound s0 → IsAsBefore region s0 s → (image : Image) → IsImage s image → (old : Image) × IsImage s0 old × AgreeIn region (view_of image) (view_of old) }
 {}
 
+/// Where calls write only front parts of some files, the files made since then hold such, also after
+/// a call that fails; and where they put only files at a path, nothing else comes to stand there. One
+/// stretch of calls after another writes the files of both.
+pub fn new_files_hold_fronts()
+    ensures one_call { (files : List (List ℕ)) (s0 s : State) (call : Call) → WritesFronts files s call → HoldFronts files s0 s → HoldFronts files s0 (changed s call) }
+    ensures failed { (files : List (List ℕ)) (s0 s : State) (call : Call) (added : ℕ) → WritesFronts files s call → HoldFronts files s0 s → HoldFronts files s0 (fallen s call added) }
+    ensures composed { (files more : List (List ℕ)) (s0 s1 s : State) → HoldFronts files s0 s1 → HoldFronts more s1 s → ((n : ℕ) → n < s1.made → s.nodes n ≡ s1.nodes n) → HoldFronts (files ++ more) s0 s }
+    ensures place { (at : Path) (s0 s : State) → HasOldOrFile at s0 s → (call : Call) → PutsOnlyFiles at call → HasOldOrFile at s0 (changed s call) }
+{}
+
 /// Where a file is put in the place of another at once, a crash shows the old one or the new one, and
 /// clean files stay clean. Once that is settled, a crash shows the new one.
 pub fn replaced_files_are_old_or_new()
@@ -51,10 +64,44 @@ pub fn renames_move_all_below()
     ensures others { (t : Table) (old new path : Path) → below new path ≡ None → below old path ≡ None → moved t old new path ≡ t path }
 {}
 
-/// Where every table shows one of these views in a region, and the files there are clean, each image
-/// shows one of them, and taken as a state that one alone.
+/// Where each table shows one of these views in a region, and the files there are clean, each image
+/// shows one of them, and taken as a state that one alone. Where nothing is pending in a region, what is
+/// seen there is shown alone.
 pub fn images_show_views()
     ensures one { (region : Path → Bool) (s : State) (image : Image) (v : View) → IsImage s image → Shows region s image.table v → AgreeIn region (view_of image) v }
-    ensures images { (region : Path → Bool) (is_one : View → Bool) (s : State) (image : Image) → ShowsOneOf region (λ v. IsTrue (is_one v)) s → IsImage s image → (v : View) × IsTrue (is_one v) × AgreeIn region (view_of image) v }
-    ensures alone { (region : Path → Bool) (is_one : View → Bool) (s : State) (image : Image) → ShowsOneOf region (λ v. IsTrue (is_one v)) s → IsImage s image → (v : View) × IsTrue (is_one v) × ShowsOneOf region (λ w. w ≡ v) (state_of image) }
+    ensures images { (region : Path → Bool) (s : State) (image : Image) (views : List View) → ShowsAmong region s views → IsImage s image → (v : View) × Contains views v × AgreeIn region (view_of image) v }
+    ensures alone { (region : Path → Bool) (s : State) (image : Image) (views : List View) → ShowsAmong region s views → IsImage s image → (v : View) × Contains views v × ShowsAmong region (state_of image) (v ∷ []) }
+    ensures settled { (region : Path → Bool) (s : State) → HasNothingPendingIn region s → ShowsAmong region s (seen s ∷ []) }
+    ensures everywhere { (region : Path → Bool) (s : State) → HasNothingPending s → HasNothingPendingIn region s }
+{}
+
+/// What is seen after each call follows from what was seen, and so does when it may be made. No call
+/// makes an entry that is neither file nor directory.
+pub fn calls_change_what_is_seen()
+    ensures seen { (s : State) (call : Call) → IsSound s → Allowed s call → seen (changed s call) ≡ seen_after (seen s) call }
+    ensures allowed { (s : State) (call : Call) → MayCall (seen s) call → Allowed s call }
+    ensures may_be_made { (s : State) (call : Call) → Allowed s call → MayCall (seen s) call }
+    ensures special { (s : State) (call : Call) (q : Path) → present (changed s call) q ≡ Odd → (p : Path) × (present s p ≡ Odd) }
+{}
+
+/// A call that only adds in a region keeps all that stands there.
+pub fn additions_keep_what_stands()
+    ensures { (region : Path → Bool) (s : State) (call : Call) → IsSound s → Allowed s call → OnlyAdds region s call → (q : Path) → IsTrue (region q) → present s q ≢ Nothing → present (changed s call) q ≡ present s q }
+{}
+
+/// Calls that stage an edit publish nothing. A rename from the stage publishes what was staged, and so
+/// is a directory made in its place. More edits may come. After a settle the last view is shown alone.
+pub fn edits_are_published()
+    ensures staged { (stage : Path) (edits : List Edit) (s0 s : State) → IsSound s0 → IsAsBefore (apart_from stage) s0 s → Publishes stage edits s0 s }
+    ensures renamed { (stage p : Path) (e : Edit) (s0 s : State) → IsSound s0 → IsAsBefore (apart_from stage) s0 s → ((q : Path) → IsTrue (apart_from stage q) → below p q ≡ None) → IsStagedView s (present s) p e.made → HasPublished stage (e ∷ []) s0 (changed s (Rename p e.at)) }
+    ensures directory { (stage at : Path) (s0 s : State) → IsSound s0 → IsSound s → IsAsBefore (apart_from stage) s0 s → IsFree (present s) at → HasPublished stage (directory_edit at ∷ []) s0 (changed s (MakeDir at)) }
+    ensures more { (stage : Path) (edits more : List Edit) (s0 s : State) → Publishes stage edits s0 s → Publishes stage (edits ++ more) s0 s }
+    ensures settle { (stage : Path) (edits : List Edit) (s0 s : State) → HasPublished stage edits s0 s → HasSettled stage edits s0 (changed s Settle) }
+    ensures alone { (stage : Path) (edits : List Edit) (s0 s : State) → HasSettled stage edits s0 s → (region : Path → Bool) (v : View) → IsOutside stage region → Shows region s0 (present s0) v → ShowsAmong region s (view_after v edits ∷ []) }
+{}
+
+/// Calls that publish edits one after the other publish all of them in order.
+pub fn edits_join()
+    ensures publishes { (stage : Path) (edits more : List Edit) (s0 s1 s : State) → HasPublished stage edits s0 s1 → Publishes stage more s1 s → Publishes stage (edits ++ more) s0 s }
+    ensures published { (stage : Path) (edits more : List Edit) (s0 s1 s : State) → HasPublished stage edits s0 s1 → HasPublished stage more s1 s → HasPublished stage (edits ++ more) s0 s }
 {}

@@ -1,5 +1,5 @@
 -- A journal is read back from its text.
-use Rattle.std.proofs.Common.{◌≡◌, ℕ, ◌+◌, ◌≤◌, true, nat_le, List, [], ◌∷◌, ◌++◌, codes, decimal, length, refl, sym, ap, ◌∙◌, subst, arith, length-append, Result, Ok, Err, ◌&&◌, not, nat_eq}
+use Rattle.std.proofs.Common.{◌≡◌, ℕ, ◌+◌, ◌≤◌, true, nat_le, List, [], ◌∷◌, ◌++◌, codes, decimal, length, refl, sym, ap, ◌∙◌, subst, arith, length-append, Result, Ok, Err, ◌&&◌, not, nat_eq, Some}
 use Rattle.std.specs.Cmp.{first_so, second_so}
 use Rattle.std.specs.List.{list_all}
 use Rattle.std.proofs.lemmas.Fmt.{decimal_injective, length-decimal-le}
@@ -111,8 +111,8 @@ text_is_short j h =
     let whole : length (journal_text j) ≤ 11 + 2156 + 1 = length-line title after_title 11 2156 (omega arith) phase in
     omega (arith, whole)
 
-pub read_back : (j : Journal) (result : Result Journal JournalFault) → IsJournal j → ReadsAs (journal_text j) result → GivesBack j result
-read_back j (Ok k) h reads = sym (one_journal j k h reads.1.0 reads.1.1)
+pub read_back : (j : Journal) (result : Result Journal JournalFault) → IsJournal j → ReadsAs (Some (journal_text j)) result → GivesBack j result
+read_back j (Ok k) h reads = sym (one_journal j k h reads.0 reads.1)
 read_back j (Err NoJournal) h reads = reads
 read_back j (Err (BadJournal number)) h reads = no_bad_line j number h reads.1
 read_back j (Err TooLarge) h reads = (let short : length (journal_text j) ≤ 65536 = text_is_short j h in omega (arith, short, reads))

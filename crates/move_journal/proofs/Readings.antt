@@ -1,5 +1,5 @@
 -- How reading answers where a call of the folder fell, and where it read the file.
-use Rattle.std.proofs.Common.{◌≡◌, ◌≢◌, ℕ, ◌<◌, ◌≤◌, ◌-◌, List, [], ◌∷◌, ◌++◌, length, take, drop, min, Option, Some, None, Result, Ok, Err, IfOk, refl, sym, ap, ◌∙◌, subst, arith}
+use Rattle.std.proofs.Common.{◌≡◌, ◌≢◌, ℕ, ◌<◌, ◌≤◌, ◌-◌, List, [], ◌∷◌, ◌++◌, length, take, drop, min, Option, Some, None, IfSome, Result, Ok, Err, IfOk, refl, sym, ap, ◌∙◌, subst, arith}
 use Rattle.std.proofs.lemmas.List.{take_all}
 use Rattle.move_journal.proofs.Values.{take_front}
 use Rattle.folder_spec.specs.declared.FolderFault.{FolderFault}
@@ -18,13 +18,18 @@ use Rattle.move_journal.specs.declared.journal.Journal.{Journal}
 use Rattle.move_journal.specs.declared.journal.JournalFault.{JournalFault}
 use Rattle.move_journal.specs.declared.journal.JournalFault.TheVariants.{NoJournal, BadJournal, TooLarge, Failed, NoMemory}
 use Rattle.move_journal.specs.Journal.{IsJournal}
-use Rattle.move_journal.specs.Reading.{journal_path, file_bytes, journal_bytes, ParsesAs, ReadsAs, ReadsAt, ReadsJournal, fault_of}
+use Rattle.move_journal.specs.Parsing.{ParsesAs}
+use Rattle.move_journal.specs.Reading.{journal_path, file_bytes, journal_bytes, ReadsAs, fault_of}
+
+-- the answers allowed, of a folder that may tell nothing
+abbrev ReadsJournal : Option Told → Path → Result Journal JournalFault → Type 0
+ReadsJournal told work result = IfSome told (λ a. ReadsAs (journal_bytes a.state work) result)
 
 pub no_memory_at : (told : Option Told) (work : Path) → ReadsJournal told work (Err NoMemory)
 no_memory_at None work = tt
 no_memory_at (Some a) work = at (journal_bytes a.state work)
   where
-    at : (bytes : Option (List ℕ)) → ReadsAt bytes (Err NoMemory)
+    at : (bytes : Option (List ℕ)) → ReadsAs bytes (Err NoMemory)
     at None = tt
     at (Some bytes) = tt
 
@@ -32,7 +37,7 @@ failed_at : (told : Option Told) (work : Path) → ReadsJournal told work (Err F
 failed_at None work = tt
 failed_at (Some a) work = at (journal_bytes a.state work)
   where
-    at : (bytes : Option (List ℕ)) → ReadsAt bytes (Err Failed)
+    at : (bytes : Option (List ℕ)) → ReadsAs bytes (Err Failed)
     at None = tt
     at (Some bytes) = tt
 
@@ -68,7 +73,7 @@ pub no_file : (told : Option Told) (work : Path) (kind : Kind) → kind ≢ File
 no_file None work kind apart answers = tt
 no_file (Some a) work kind apart answers = none (present a.state (journal_path work)) answers.1
   where
-    none : (x : Spot) → kind ≡ kind_of x → ReadsAt (file_bytes a.state x) (Err NoJournal)
+    none : (x : Spot) → kind ≡ kind_of x → ReadsAs (file_bytes a.state x) (Err NoJournal)
     none Nothing e = tt
     none Directory e = tt
     none Odd e = tt
@@ -92,14 +97,14 @@ read_whole (Some a) work old new n result size small answers parses =
     let reads = answers.1 in
     let bytes = (a.state.nodes reads.0).now in
     let all_ : n ≡ length bytes = whole bytes reads.2 in
-    subst (λ x. ReadsAt (file_bytes a.state x) result) (sym reads.1)
+    subst (λ x. ReadsAs (file_bytes a.state x) result) (sym reads.1)
     (reads_as bytes result (omega arith) (subst (λ text. ParsesAs text result) (ap (take n) reads.3 ∙ front_of_read bytes old n all_) parses))
   where
     whole : (bytes : List ℕ) → n ≡ min (length old) (length bytes - 0) → n ≡ length bytes
     whole bytes e = omega arith
 
-    reads_as : (bytes : List ℕ) (result : Result Journal JournalFault) → length bytes ≤ 65536 → ParsesAs bytes result → ReadsAs bytes result
-    reads_as bytes (Ok j) small h = (small, h)
+    reads_as : (bytes : List ℕ) (result : Result Journal JournalFault) → length bytes ≤ 65536 → ParsesAs bytes result → ReadsAs (Some bytes) result
+    reads_as bytes (Ok j) small h = h
     reads_as bytes (Err NoJournal) small h = h
     reads_as bytes (Err (BadJournal number)) small h = (small, h)
     reads_as bytes (Err TooLarge) small h = absurd h
@@ -111,7 +116,7 @@ pub read_too_large : (told : Option Told) (work : Path) (old new : List ℕ) (n 
 read_too_large None work old new n large answers = tt
 read_too_large (Some a) work old new n large answers =
     let reads = answers.1 in
-    subst (λ x. ReadsAt (file_bytes a.state x) (Err TooLarge)) (sym reads.1) (larger (a.state.nodes reads.0).now reads.2)
+    subst (λ x. ReadsAs (file_bytes a.state x) (Err TooLarge)) (sym reads.1) (larger (a.state.nodes reads.0).now reads.2)
   where
     larger : (bytes : List ℕ) → n ≡ min (length old) (length bytes - 0) → 65536 < length bytes
     larger bytes e = omega arith

@@ -1,30 +1,77 @@
--- Where a journal is written.
-use Rattle.std.proofs.Common.{◌≡◌, ℕ, List, Option, Some, None, IfSome, Result, OnOk, refl, sym, subst}
+-- Where a journal is written, and what putting a file in the place of another says of it.
+use Rattle.std.proofs.Common.{◌≡◌, ℕ, List, Option, Some, None, IfSome, Result, Ok, Err, OnOk, refl, ap, sym, ◌∙◌, subst}
 use Rattle.folder_spec.specs.Path.{Path, below}
-use Rattle.folder_spec.specs.State.{present}
+use Rattle.folder_spec.specs.State.{Node, State, present, IsSound}
 use Rattle.folder_spec.specs.declared.FolderFault.{FolderFault}
 use Rattle.folder_spec.specs.Event.{Told, FromTo, IsFilePlace}
-use Rattle.folder_spec.specs.Region.{apart_from_both}
-use Rattle.folder_spec.specs.Replace.{IsReplaced}
+use Rattle.folder_spec.specs.Region.{SparesOld}
+use Rattle.folder_spec.specs.Replace.{IsNewFile, IsReplacing, HasReplaced}
 use Rattle.folder_spec.proofs.Paths.{below-sibling}
-use Rattle.folder_spec.proofs.Stages.{Replacing, place_in}
-use Rattle.move_journal.specs.Reading.{journal_path}
-use Rattle.move_journal.specs.Writing.{IsWorkFolder, new_journal_path, elsewhere}
-
--- what replacing a file says, at the paths and the text of a journal
-module _ (t u : Option Told) (work new at : Path) (bytes text : List ℕ) (is_new : new ≡ new_journal_path work) (is_at : at ≡ journal_path work) (is_text : bytes ≡ text) where
-  at_these : (X : Path → Path → List ℕ → Type 0) → X new at bytes → X (new_journal_path work) (journal_path work) text
-  at_these X x = subst (X (new_journal_path work) (journal_path work)) is_text (subst (λ p. X (new_journal_path work) p bytes) is_at (subst (λ p. X p at bytes) is_new x))
-
-  pub moments_at : FromTo (Replacing new at bytes) t u → FromTo (Replacing (new_journal_path work) (journal_path work) text) t u
-  moments_at h = at_these (λ p q b. FromTo (Replacing p q b) t u) h
-
-  pub replaced_at : (result : Result (Unit {0}) FolderFault) → OnOk result (FromTo (λ a b. IsReplaced (apart_from_both new at) at bytes a.state b.state) t u)
-      → OnOk result (FromTo (λ a b. IsReplaced (elsewhere work) (journal_path work) text a.state b.state) t u)
-  replaced_at result h = at_these (λ p q bs. OnOk result (FromTo (λ a b. IsReplaced (apart_from_both p q) q bs a.state b.state) t u)) h
+use Rattle.folder_spec.proofs.Moments.{went_more}
+use Rattle.folder_spec.proofs.Tellings.{from_to_more}
+use Rattle.folder_spec.proofs.Replaces.{images_show_old_or_new, images_show_new, clean_stays}
+use Rattle.folder_spec.proofs.Stages.{Replacing, place_in, replacing_none}
+use Rattle.move_journal.specs.declared.journal.Journal.{Journal}
+use Rattle.move_journal.specs.Journal.{journal_text}
+use Rattle.move_journal.specs.Reading.{journal_path, journal_bytes, file_bytes}
+use Rattle.move_journal.specs.Writing.{IsWorkFolder, IsWriting, IsWritten, Writes, HasWritten, new_journal_path, elsewhere}
 
 pub apart : (work : Path) → below (new_journal_path work) (journal_path work) ≡ None
 apart work = below-sibling work _ _ refl
+
+pub beside : (work : Path) → below (journal_path work) (new_journal_path work) ≡ None
+beside work = below-sibling work _ _ refl
+
+is_writing : (work : Path) (text : List ℕ) (s0 s : State) → IsSound s0 → IsReplacing (new_journal_path work) (journal_path work) text s0 s → IsWriting work text s0 s
+is_writing work text s0 s sound h = record {
+  journal = h.change;
+  publishes = h.publishes;
+  new_journal = h.place;
+  fronts = h.fronts;
+  clean = λ clean. clean_stays (elsewhere work) (journal_path work) text s0 s sound clean h.change;
+  images = λ image is_image. images_show_old_or_new (elsewhere work) (journal_path work) text s0 s image sound h.change is_image;
+}
+
+new_file_read : (bytes : List ℕ) (s0 s : State) (work : Path) → IsNewFile bytes s0 s (present s (journal_path work)) → journal_bytes s work ≡ Some bytes
+new_file_read bytes s0 s work new = ap (file_bytes s) new.is ∙ ap (λ (node : Node). Some node.now) new.holds
+
+is_written : (work : Path) (text : List ℕ) (s0 s : State) → HasReplaced (new_journal_path work) (journal_path work) text s0 s → IsWritten work text s0 s
+is_written work text s0 s h = record {
+  replaced = h.replaced;
+  published = h.published;
+  new_journal = h.gone;
+  shown = λ image is_image. images_show_new (elsewhere work) (journal_path work) text s0 s image h.replaced is_image;
+  read = new_file_read text s0 s work h.replaced.new;
+}
+
+writes_from : (work : Path) (journal : Journal) (t u : Option Told) → ((a : Told) → t ≡ Some a → IsSound a.state)
+    → FromTo (Replacing (new_journal_path work) (journal_path work) (journal_text journal)) t u → Writes work journal t u
+writes_from work journal t u sound moments =
+    from_to_more (Replacing (new_journal_path work) (journal_path work) (journal_text journal)) _ t u
+    (λ a b is went. went_more (IsReplacing (new_journal_path work) (journal_path work) (journal_text journal) a.state) (IsWriting work (journal_text journal) a.state)
+    (λ s e. SparesOld (elsewhere work) a.state s e.call) (λ s e. SparesOld (elsewhere work) a.state s e.call) a b
+    (λ s h. is_writing work (journal_text journal) a.state s (sound a is) h) (λ s e h. h) went) moments
+
+-- no call yet
+pub writes_none : (work : Path) (journal : Journal) (t : Option Told) → ((a : Told) → t ≡ Some a → IsSound a.state) → Writes work journal t t
+writes_none work journal t sound =
+    writes_from work journal t t sound (replacing_none (new_journal_path work) (journal_path work) (journal_text journal) (apart work) t sound)
+
+-- what replacing a file says, at the paths and the text of a journal
+module _ (t u : Option Told) (work new at : Path) (bytes : List ℕ) (journal : Journal) (is_new : new ≡ new_journal_path work) (is_at : at ≡ journal_path work)
+    (is_text : bytes ≡ journal_text journal) where
+  at_these : (X : Path → Path → List ℕ → Type 0) → X new at bytes → X (new_journal_path work) (journal_path work) (journal_text journal)
+  at_these X x = subst (X (new_journal_path work) (journal_path work)) is_text (subst (λ p. X (new_journal_path work) p bytes) is_at (subst (λ p. X p at bytes) is_new x))
+
+  pub writes_at : ((a : Told) → t ≡ Some a → IsSound a.state) → FromTo (Replacing new at bytes) t u → Writes work journal t u
+  writes_at sound h = writes_from work journal t u sound (at_these (λ p q b. FromTo (Replacing p q b) t u) h)
+
+  pub written_at : (result : Result (Unit {0}) FolderFault) → OnOk result (FromTo (λ a b. HasReplaced new at bytes a.state b.state) t u)
+      → OnOk result (HasWritten work journal t u)
+  written_at (Err fault) h = tt
+  written_at (Ok done) h =
+      from_to_more (λ a b. HasReplaced (new_journal_path work) (journal_path work) (journal_text journal) a.state b.state) _ t u
+      (λ a b is. is_written work (journal_text journal) a.state b.state) (at_these (λ p q bs. FromTo (λ a b. HasReplaced p q bs a.state b.state) t u) h)
 
 pub new_place : (t : Option Told) (work new : Path) → new ≡ new_journal_path work → IfSome t (λ a. IsWorkFolder (present a.state) work) → IfSome t (λ a. IsFilePlace (present a.state) new)
 new_place None work new is h = tt

@@ -1,4 +1,5 @@
 pub mod Journal
 pub mod Lines
 pub mod Reading
+pub mod Parsing
 pub mod Writing

@@ -6,7 +6,6 @@ use Rattle.folder_spec.specs.Path.{Path, child}
 use Rattle.folder_spec.specs.declared.Spot.{Spot}
 use Rattle.folder_spec.specs.declared.Spot.TheVariants.{Nothing, Directory, FileNode, Odd}
 use Rattle.folder_spec.specs.State.{State, present}
-use Rattle.folder_spec.specs.Event.{Told}
 use Rattle.move_journal.specs.declared.journal.Journal.{Journal}
 use Rattle.move_journal.specs.declared.journal.JournalFault.{JournalFault}
 use Rattle.move_journal.specs.declared.journal.JournalFault.TheVariants.{NoJournal, BadJournal, TooLarge, Failed, NoMemory}
@@ -27,38 +26,18 @@ file_bytes s Odd = None
 abbrev pub journal_bytes : State → Path → Option (List ℕ)
 journal_bytes s work = file_bytes s (present s (journal_path work))
 
--- a text gives this answer
-abbrev pub ParsesAs : List ℕ → Result Journal JournalFault → Type 0
-ParsesAs text (Ok j) = IsJournal j × (text ≡ journal_text j)
-ParsesAs text (Err NoJournal) = ⊥
-ParsesAs text (Err (BadJournal number)) = IsBadLine text number
-ParsesAs text (Err TooLarge) = ⊥
-ParsesAs text (Err Failed) = ⊥
-ParsesAs text (Err NoMemory) = Unit {0}
-
--- a file of these bytes gives this answer
-abbrev pub ReadsAs : List ℕ → Result Journal JournalFault → Type 0
-ReadsAs bytes (Ok j) = (length bytes ≤ 65536) × ParsesAs bytes (Ok j)
-ReadsAs bytes (Err NoJournal) = ⊥
-ReadsAs bytes (Err (BadJournal number)) = (length bytes ≤ 65536) × ParsesAs bytes (Err (BadJournal number))
-ReadsAs bytes (Err TooLarge) = 65536 < length bytes
-ReadsAs bytes (Err Failed) = Unit {0}
-ReadsAs bytes (Err NoMemory) = Unit {0}
-
--- where no file is, there is no journal
-abbrev pub ReadsAt : Option (List ℕ) → Result Journal JournalFault → Type 0
-ReadsAt (Some bytes) result = ReadsAs bytes result
-ReadsAt None (Err NoJournal) = Unit {0}
-ReadsAt None (Err Failed) = Unit {0}
-ReadsAt None (Err NoMemory) = Unit {0}
-ReadsAt None (Err (BadJournal number)) = ⊥
-ReadsAt None (Err TooLarge) = ⊥
-ReadsAt None (Ok j) = ⊥
-
--- the same of a folder that may tell nothing
-abbrev pub ReadsJournal : Option Told → Path → Result Journal JournalFault → Type 0
-ReadsJournal None work result = Unit {0}
-ReadsJournal (Some a) work result = ReadsAt (journal_bytes a.state work) result
+-- the answers that reading may give, by the bytes of the journal's file, if there is one
+abbrev pub ReadsAs : Option (List ℕ) → Result Journal JournalFault → Type 0
+ReadsAs (Some bytes) (Ok j) = IsJournal j × (bytes ≡ journal_text j)
+ReadsAs (Some bytes) (Err NoJournal) = ⊥
+ReadsAs (Some bytes) (Err (BadJournal number)) = (length bytes ≤ 65536) × IsBadLine bytes number
+ReadsAs (Some bytes) (Err TooLarge) = 65536 < length bytes
+ReadsAs None (Ok j) = ⊥
+ReadsAs None (Err NoJournal) = Unit {0}
+ReadsAs None (Err (BadJournal number)) = ⊥
+ReadsAs None (Err TooLarge) = ⊥
+ReadsAs file (Err Failed) = Unit {0}
+ReadsAs file (Err NoMemory) = Unit {0}
 
 -- the fault of a folder, as reading a journal tells it
 abbrev pub fault_of : FolderFault → JournalFault

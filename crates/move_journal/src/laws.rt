@@ -1,5 +1,5 @@
 //! Laws of the definitions. Each function does nothing, and its clause is the law.
-ghost use Rattle.std.specs.Prelude.{◌≡◌, ℕ, Result};
+ghost use Rattle.std.specs.Prelude.{◌≡◌, ℕ, Some, Result};
 ghost use Rattle.move_journal.specs.declared.journal.Journal.{Journal};
 ghost use Rattle.move_journal.specs.declared.journal.JournalFault.{JournalFault};
 ghost use Rattle.move_journal.specs.Journal.{IsJournal, journal_text};
@@ -15,5 +15,5 @@ pub fn journal_texts_have_no_bad_line()
 /// A text is that of one journal alone, and reading it gives that journal back.
 pub fn journals_are_read_back()
     ensures one { (j k : Journal) → IsJournal j → IsJournal k → journal_text j ≡ journal_text k → j ≡ k }
-    ensures read { (j : Journal) (result : Result Journal JournalFault) → IsJournal j → ReadsAs (journal_text j) result → GivesBack j result }
+    ensures read { (j : Journal) (result : Result Journal JournalFault) → IsJournal j → ReadsAs (Some (journal_text j)) result → GivesBack j result }
 {}

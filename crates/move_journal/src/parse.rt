@@ -2,7 +2,7 @@
 ghost use Rattle.std.specs.Prelude.{◌≡◌, ◌≤◌, ◌++◌, ◌∷◌, IfOk, MatchOption};
 ghost use Rattle.move_journal.specs.Journal.{IsParsed, IsDigest, title, phase_line, from_line, to_line, items_line, plan_line};
 ghost use Rattle.move_journal.specs.Lines.{BeginsWithNoLine};
-ghost use Rattle.move_journal.specs.Reading.{ParsesAs};
+ghost use Rattle.move_journal.specs.Parsing.{ParsesAs};
 
 use crate::journal::{Journal, JournalFault, Phase};
 use crate::line::{items_in, next_value, path_in, plan_in, rest_after};

@@ -1,11 +1,11 @@
 //! Putting a file in the place of another at once.
-ghost use Rattle.std.specs.Prelude.{◌≡◌, ◌≢◌, [], None, IfSome, OnOk};
+ghost use Rattle.std.specs.Prelude.{◌≡◌, ◌≢◌, [], ◌∷◌, None, IfSome, OnOk};
 ghost use Rattle.folder_spec.specs.Path.{below};
 ghost use Rattle.folder_spec.specs.State.{present};
 ghost use Rattle.folder_spec.specs.Event.{FromTo, IsFree, IsFilePlace};
 ghost use Rattle.folder_spec.specs.Moments.{Moments};
-ghost use Rattle.folder_spec.specs.Region.{IsAsBefore, SparesOld, apart_from, apart_from_both};
-ghost use Rattle.folder_spec.specs.Replace.{IsNewFile, IsOldOrNew, IsReplaced};
+ghost use Rattle.folder_spec.specs.Region.{SparesOld, apart_from, apart_from_both};
+ghost use Rattle.folder_spec.specs.Replace.{IsNewFile, IsStaging, IsReplacing, HasReplaced};
 ghost use Rattle.folder_model.specs.Answers.{CountsAbove};
 
 use folder_model::{FPath, Folder, Kind};
@@ -15,7 +15,7 @@ use folder_spec::FolderFault;
 fn clear<F: Folder>(folder: &mut F, at: &FPath) -> Result<(), FolderFault>
     requires below_base { at.now ≢ [] }
     requires place { IfSome (F.told folder.old) (λ a. IsFilePlace (present a.state) at.now) }
-    ensures moments { Moments (λ s0 s. IsAsBefore (apart_from at.now) s0 s) (λ s0 s e. SparesOld (apart_from at.now) s0 s e.call) (F.told folder.old) (F.told folder.new) }
+    ensures moments { Moments (IsStaging [] at.now) (λ s0 s e. SparesOld (apart_from at.now) s0 s e.call) (F.told folder.old) (F.told folder.new) }
     ensures free { OnOk result (FromTo (λ a b. IsFree (present b.state) at.now) (F.told folder.old) (F.told folder.new)) }
     ensures counts { CountsAbove (F.faults folder.old) (F.faults folder.new) result }
 {
@@ -29,7 +29,7 @@ fn clear<F: Folder>(folder: &mut F, at: &FPath) -> Result<(), FolderFault>
 fn stage<F: Folder>(folder: &mut F, at: &FPath, bytes: &[u8]) -> Result<(), FolderFault>
     requires below_base { at.now ≢ [] }
     requires place { IfSome (F.told folder.old) (λ a. IsFilePlace (present a.state) at.now) }
-    ensures moments { Moments (λ s0 s. IsAsBefore (apart_from at.now) s0 s) (λ s0 s e. SparesOld (apart_from at.now) s0 s e.call) (F.told folder.old) (F.told folder.new) }
+    ensures moments { Moments (IsStaging (bytes.now ∷ []) at.now) (λ s0 s e. SparesOld (apart_from at.now) s0 s e.call) (F.told folder.old) (F.told folder.new) }
     ensures written { OnOk result (FromTo (λ a b. IsNewFile bytes.now a.state b.state (present b.state at.now)) (F.told folder.old) (F.told folder.new)) }
     ensures counts { CountsAbove (F.faults folder.old) (F.faults folder.new) result }
 {
@@ -49,10 +49,11 @@ pub(crate) fn replace<F: Folder>(
 ) -> Result<(), FolderFault>
     requires below_base { staged.now ≢ [] }
     requires apart { below staged.now at.now ≡ None }
+    requires beside { below at.now staged.now ≡ None }
     requires staging { IfSome (F.told folder.old) (λ a. IsFilePlace (present a.state) staged.now) }
     requires place { IfSome (F.told folder.old) (λ a. IsFilePlace (present a.state) at.now) }
-    ensures moments { Moments (λ s0 s. IsOldOrNew (apart_from_both staged.now at.now) at.now bytes.now s0 s) (λ s0 s e. SparesOld (apart_from_both staged.now at.now) s0 s e.call) (F.told folder.old) (F.told folder.new) }
-    ensures replaced { OnOk result (FromTo (λ a b. IsReplaced (apart_from_both staged.now at.now) at.now bytes.now a.state b.state) (F.told folder.old) (F.told folder.new)) }
+    ensures moments { Moments (IsReplacing staged.now at.now bytes.now) (λ s0 s e. SparesOld (apart_from_both staged.now at.now) s0 s e.call) (F.told folder.old) (F.told folder.new) }
+    ensures replaced { OnOk result (FromTo (λ a b. HasReplaced staged.now at.now bytes.now a.state b.state) (F.told folder.old) (F.told folder.new)) }
     ensures counts { CountsAbove (F.faults folder.old) (F.faults folder.new) result }
 {
     stage(folder, staged, bytes)?;

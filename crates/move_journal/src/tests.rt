@@ -1,7 +1,7 @@
 ghost use Rattle.std.specs.Prelude.{◌≡◌, IfOk, IfSome, IsTrue};
 ghost use Rattle.folder_spec.specs.declared.Spot.TheVariants.{Directory};
-ghost use Rattle.folder_spec.specs.State.{present};
-ghost use Rattle.move_journal.specs.Writing.{IsNothingOrFile, IsWorkFolder};
+ghost use Rattle.folder_spec.specs.State.{present, IsNothingOrFile};
+ghost use Rattle.move_journal.specs.Writing.{IsWorkFolder};
 
 use crate::{Journal, JournalFault, Phase, read, write};
 use folder_model::{FPath, Folder, Kind, MemFolder, Pick};

@@ -89,7 +89,7 @@ pub same-additive : IsAdditive (λ x. x)
 same-additive = record { sum = λ x y. refl }
 
 -- products and sums of bytes are bytes
-xtimes-lt : (b : ℕ) → b < 256 → xtimes b < 256
+pub xtimes-lt : (b : ℕ) → b < 256 → xtimes b < 256
 unfolding xtimes
 xtimes-lt b h =
     let low : b * 2 % 256 < 2 ^ 8 = omega arith in

@@ -16,12 +16,13 @@ impl Folder for MemFolder {
     ghost use Rattle.folder_model.specs.Memory.{state_of, told_of, faults_of, plan_of, counted, fails_next, FailsAs};
     ghost use Rattle.folder_model.specs.Calls.{event_of};
     ghost use Rattle.folder_model.specs.Sound.{told_from, told_sound};
+    ghost use Rattle.folder_model.specs.Tables.{names_of};
 
-    ghost told = { λ m. Some (told_from m.nodes.items m.steps.items m.kept (map event_of m.log.items)) };
+    ghost told = { λ m. Some (told_from m.nodes.items (names_of m.base) m.steps.items m.kept (map event_of m.log.items)) };
 
     ghost faults = { λ m. m.faults };
 
-    ghost sound = { λ m a is. told_sound m.nodes.items m.steps.items m.kept (map event_of m.log.items) m.fronts m.sound a is };
+    ghost sound = { λ m a is. told_sound m.nodes.items (names_of m.base) m.steps.items m.kept (map event_of m.log.items) m.fronts m.sound a is };
 
     fn kind(&mut self, at: &FPath) -> Result<Kind, FolderFault>
         ensures told { told_of self.new ≡ told_of self.old }

@@ -58,6 +58,7 @@ impl MemFolder {
         Ok(MemFolder {
             alloc,
             nodes,
+            base: self.base,
             steps,
             kept,
             log: Vec::new(alloc),

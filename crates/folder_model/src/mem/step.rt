@@ -3,8 +3,10 @@ ghost use Rattle.std.specs.Prelude.{◌≡◌, ◌≢◌, ◌+◌, ◌<◌, ◌�
 ghost use Rattle.folder_spec.specs.declared.Spot.TheVariants.{Nothing};
 ghost use Rattle.folder_spec.specs.Path.{Part, child};
 ghost use Rattle.folder_spec.specs.State.{Table};
-ghost use Rattle.folder_model.specs.Steps.{base_table, step_table, replay, looked_in, target, KeepsEntries, GainsEntry};
+ghost use Rattle.folder_model.specs.Tables.{names_of};
+ghost use Rattle.folder_model.specs.Steps.{step_table, replay, looked_in, target, KeepsEntries, GainsEntry};
 
+use crate::mem::table::NameTable;
 use crate::path::FPath;
 use folder_spec::Spot;
 use std::alloc::{AllocError, Global};
@@ -48,9 +50,9 @@ fn look_through(step: &Step, path: FPath) -> Result<Looked, AllocError>
     }
 }
 
-/// What stands at the path after the steps.
-pub fn look(steps: &[Step], at: &FPath) -> Result<Spot, AllocError>
-    ensures { IfOk result (λ spot. spot ≡ replay base_table steps.now at.now) }
+/// What stands at the path after the steps from that table.
+pub fn look(base: &NameTable, steps: &[Step], at: &FPath) -> Result<Spot, AllocError>
+    ensures { IfOk result (λ spot. spot ≡ replay (names_of base.now) steps.now at.now) }
 {
     let mut path = at.copy()?;
     let mut left = steps.len();
@@ -61,10 +63,7 @@ pub fn look(steps: &[Step], at: &FPath) -> Result<Spot, AllocError>
             Looked::Before(before) => path = before,
         }
     }
-    if path.depth() == 0 {
-        return Ok(Spot::Directory);
-    }
-    Ok(Spot::Nothing)
+    Ok(base.spot(&path))
 }
 
 // The name of the entry at the path that the step may have made.
@@ -106,8 +105,13 @@ fn push_entry(
 }
 
 /// Names among which are those of all entries at the path after the steps.
-pub fn names(alloc: Global, steps: &[Step], at: &FPath) -> Result<Vec<String>, AllocError>
-    ensures { IfOk result (λ v. (a : Part) → replay base_table steps.now (child at.now a) ≢ Nothing → Contains (map (λ s. string_bytes s) v.items) a) }
+pub fn names(
+    alloc: Global,
+    base: &NameTable,
+    steps: &[Step],
+    at: &FPath,
+) -> Result<Vec<String>, AllocError>
+    ensures { IfOk result (λ v. (a : Part) → replay (names_of base.now) steps.now (child at.now a) ≢ Nothing → Contains (map (λ s. string_bytes s) v.items) a) }
 {
     let mut found = Vec::new(alloc);
     let mut path = at.copy()?;
@@ -118,5 +122,6 @@ pub fn names(alloc: Global, steps: &[Step], at: &FPath) -> Result<Vec<String>, A
         push_entry(alloc, &mut found, step, &path)?;
         path = place_before(step, path)?;
     }
+    base.push_names(&mut found, &path)?;
     Ok(found)
 }

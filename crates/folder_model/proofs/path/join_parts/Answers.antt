@@ -1,4 +1,4 @@
-use Rattle.std.proofs.Common.{◌≡◌, ◌++◌, ◌∷◌, length, string_bytes, take, sym, ap, ◌∙◌, append-nil, add-one}
+use Rattle.std.proofs.Common.{◌++◌, ◌∷◌, string_bytes, take, sym, ap, ◌∙◌, append-nil, add-one}
 use Rattle.std.proofs.lemmas.List.{take_all}
 use Rattle.folder_model.specs.Text.{text_of}
 use Rattle.folder_model.proofs.Strings.{path_of, slashed, slashed-more, text_of-slashed, part_added}

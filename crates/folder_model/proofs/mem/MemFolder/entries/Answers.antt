@@ -8,6 +8,7 @@ use Rattle.folder_model.specs.Memory.{state_of}
 use Rattle.folder_model.proofs.Entries.{below_or_not, listing_is}
 use Rattle.folder_model.proofs.StepLemmas.{of_named, any_default}
 use Rattle.folder_model.proofs.States.{present_is}
+use Rattle.folder_model.specs.Tables.{names_of}
 use Rattle.folder_model.proofs.mem.MemFolder.entries.Goals as goal
 
 pub loop-name-preserved : goal.loop-name-preserved
@@ -43,5 +44,5 @@ returns c =
     (λ a some. of_named (λ name. kind_of (t (child at name)) ≢ Missing → HasName items name) c.deref-name-items.result.now a
     (λ k d fits. c.loop-name.invariant.2 k d (omega (arith, fits, c.loop-name-test.false)))
     (rw c.deref-name-items.ensures.value (c.in_ok-found.ensures a
-    (λ none. some (ap kind_of (ap (λ u. u (child at a)) (present_is self.nodes.items self.steps.items self.kept) ∙ rw c.as_slice.ensures.value at none)))))
+    (λ none. some (ap kind_of (ap (λ u. u (child at a)) (present_is self.nodes.items (names_of self.base) self.steps.items self.kept) ∙ rw c.as_slice.ensures.value at none)))))
     some)

@@ -6,6 +6,7 @@ use Rattle.folder_spec.specs.State.{present}
 use Rattle.folder_model.specs.Memory.{state_of}
 use Rattle.folder_model.proofs.StepLemmas.{stands_or_not, of_named}
 use Rattle.folder_model.proofs.States.{present_is}
+use Rattle.folder_model.specs.Tables.{names_of}
 use Rattle.folder_model.proofs.mem.MemFolder.may_remove_dir.Goals as goal
 
 pub returns : goal.returns
@@ -19,6 +20,6 @@ returns c =
       | inr stands ↦ of_named (λ name. t (child c.args.at.now name) ≡ Nothing) c.deref-name-items.result.now a
           (λ k d fits. c.loop-name.invariant k d (omega (arith, fits, c.loop-name-test.false)))
           (rw c.deref-name-items.ensures.value (c.in_ok-found.ensures a
-          (λ none. stands (ap (λ u. u (child c.args.at.now a)) (present_is self.nodes.items self.steps.items self.kept) ∙ rw c.as_slice.ensures.value at none))))
+          (λ none. stands (ap (λ u. u (child c.args.at.now a)) (present_is self.nodes.items (names_of self.base) self.steps.items self.kept) ∙ rw c.as_slice.ensures.value at none))))
     ] in
     ((λ _. (not_base, (directory, empty))), λ _. search rules)

@@ -6,12 +6,13 @@ use Rattle.folder_model.specs.Answers.{Reads}
 use Rattle.folder_model.specs.Memory.{state_of}
 use Rattle.folder_model.proofs.StepLemmas.{any_default}
 use Rattle.folder_model.proofs.States.{node_made}
+use Rattle.folder_model.specs.Tables.{names_of}
 use Rattle.folder_model.proofs.mem.MemFolder.read_now.Goals as goal
 
 pub index-node-requires : goal.index-node-requires
 index-node-requires c =
     let self = c.is_due-due.new.self in
-    rw self.nodes.ok.0 (node_made self.nodes.items self.steps.items self.kept c.args.at.now c.in-FileNode.number self.sound (sym c.in-Ok.ensures ∙ c.in-FileNode.is))
+    rw self.nodes.ok.0 (node_made self.nodes.items (names_of self.base) self.steps.items self.kept c.args.at.now c.in-FileNode.number self.sound (sym c.in-Ok.ensures ∙ c.in-FileNode.is))
 
 pub returns-else-due-clause-answer : goal.returns-else-due-clause-answer
 returns-else-due-clause-answer c =
@@ -19,7 +20,7 @@ returns-else-due-clause-answer c =
     let at = c.args.at.now in
     let number = c.in-FileNode.number in
     let here : present (state_of self) at ≡ FileNode number = sym c.in-Ok.ensures ∙ c.in-FileNode.is in
-    let made : number < length self.nodes.items = node_made self.nodes.items self.steps.items self.kept at number self.sound here in
+    let made : number < length self.nodes.items = node_made self.nodes.items (names_of self.base) self.steps.items self.kept at number self.sound here in
     let bytes : c.bytes.result.now ≡ (slice_index_or self.nodes.items number empty_node).now =
     c.bytes.ensures ∙ ap (λ (node : Node). node.now) (c.index-node.ensures ∙ any_default self.nodes.items number c.index-node.result.now empty_node made) in
     let reads : Reads (state_of self) at c.args.start c.args.out.now c.read_from.new.out c.read_from.result = (

@@ -1,26 +1,28 @@
-use Rattle.std.proofs.Common.{◌≡◌, ◌∙◌, sym, ap, length, le_refl, subst}
-use Rattle.folder_spec.specs.State.{IsSound}
-use Rattle.folder_spec.specs.Event.{Settle}
-use Rattle.folder_spec.proofs.Sound.{changed_sound}
-use Rattle.folder_model.specs.Steps.{AreSoundTables, state_from}
-use Rattle.folder_model.proofs.States.{settled}
-use Rattle.folder_model.specs.Sound.{state_sound}
+use Rattle.std.proofs.Common.{◌≡◌, ◌∙◌, ap, length, le_refl}
+use Rattle.folder_model.specs.Steps.{state_from}
+use Rattle.folder_model.proofs.States.{settled, have_parents}
+use Rattle.folder_model.specs.Tables.{names_of}
 use Rattle.folder_model.proofs.mem.MemFolder.settle_all.Goals as goal
+
+pub absorb_all-requires : goal.absorb_all-requires
+absorb_all-requires c =
+    let self = c.args.self.now in
+    have_parents (length self.nodes.items) (names_of self.base) self.steps.items self.sound
 
 pub invariant_of-self : goal.invariant_of-self
 invariant_of-self c =
     let self = c.args.self.now in
-    let all : c.len-self.result ≡ length self.steps.items = c.len-self.ensures ∙ self.steps.ok.0 in
-    let sound : IsSound (state_from self.nodes.items self.steps.items (length self.steps.items)) =
-    subst IsSound (sym (settled self.nodes.items self.steps.items self.kept))
-    (changed_sound (state_from self.nodes.items self.steps.items self.kept) Settle (state_sound self.nodes.items self.steps.items self.kept self.fronts self.sound) tt) in
+    let steps = c.absorb_all.new.steps in
+    let all : c.len-self.result ≡ length steps.items = c.len-self.ensures ∙ steps.ok.0 in
     record {
-      within = rw all (le_refl (length self.steps.items));
+      within = rw all (le_refl (length steps.items));
       fronts = self.fronts;
-      sound = subst (AreSoundTables (length self.nodes.items) self.steps.items) (sym all) sound.tables;
+      sound = λ t among. self.sound t (c.absorb_all.ensures.tables t among);
     }
 
 pub returns-clause-state : goal.returns-clause-state
 returns-clause-state c =
     let self = c.args.self.now in
-    ap (state_from self.nodes.items self.steps.items) (c.len-self.ensures ∙ self.steps.ok.0) ∙ settled self.nodes.items self.steps.items self.kept
+    let steps = c.absorb_all.new.steps in
+    ap (state_from self.nodes.items (names_of c.absorb_all.new.table) steps.items) (c.len-self.ensures ∙ steps.ok.0)
+    ∙ settled self.nodes.items (names_of self.base) (names_of c.absorb_all.new.table) self.steps.items steps.items self.kept c.absorb_all.ensures.last

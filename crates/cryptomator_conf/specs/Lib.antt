@@ -7,5 +7,6 @@ pub mod Jwt
 pub mod Vault
 pub mod Signature
 pub mod Text
+pub mod Laws
 pub mod Value
 pub mod Views

@@ -7,6 +7,7 @@ pub mod fault;
 pub mod id;
 mod jwt;
 pub mod keys;
+pub mod laws;
 pub mod making;
 pub mod master;
 pub mod signing;

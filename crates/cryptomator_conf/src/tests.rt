@@ -1,8 +1,8 @@
 // Files that other programs wrote, and ones that fail a test.
 
 use crate::{
-    CmDraw, CmFiles, CmKeys, MasterFile, UnlockFault, VaultFile, check_signature, make,
-    read_master, read_vault, unlock,
+    CmDraw, CmFiles, CmKeys, MasterFile, UnlockFault, VaultFile, check_signature, id_text, laws,
+    make, read_master, read_vault, unlock,
 };
 use base64::engine::general_purpose::{STANDARD, URL_SAFE_NO_PAD};
 use kdf_suite::{ScryptCost, hmac256};
@@ -242,4 +242,20 @@ fn makes_what_another_program_wrote(rt: HostRuntime) -> Result<(), Fail> {
     assert_eq!(rt; master.as_slice(), MASTER.as_bytes());
     assert_eq!(rt; vault.as_slice(), VAULT.as_bytes());
     Ok(())
+}
+
+#[test]
+fn ids_of_the_same_bits(rt: HostRuntime) -> Result<(), Fail> {
+    let zeros = id_text(rt.alloc(), &[0; 16])?;
+    assert_eq!(rt; zeros.as_str(), "00000000-0000-4000-8000-000000000000");
+    let ones = id_text(rt.alloc(), &[0xff; 16])?;
+    assert_eq!(rt; ones.as_str(), "ffffffff-ffff-4fff-bfff-ffffffffffff");
+    Ok(())
+}
+
+#[test]
+fn laws_compute_nothing() {
+    laws::made_files_give_back_their_keys();
+    laws::bytes_have_one_answer();
+    laws::passphrases_unlock_one_pair();
 }

@@ -1,4 +1,5 @@
 pub mod Base64
 pub mod Objects
 pub mod Plain
+pub mod Symbols
 pub mod Texts

@@ -1,5 +1,6 @@
 -- Base64 (RFC 4648) by its alphabet.
-use Rattle.std.specs.Prelude.{◌≡◌, ◌↔◌, ℕ, List, Option, Some}
+use Rattle.std.specs.Prelude.{◌≡◌, ◌↔◌, ◌||◌, ◌==◌, ℕ, Bool, List, Option, Some}
+use Rattle.std.specs.Char.{is_ascii_alphanumeric}
 use Rattle.base64.specs.declared.engine.general_purpose.GeneralPurpose.{GeneralPurpose}
 use Rattle.base64.specs.Engines.{standard, url_safe_no_pad}
 use Rattle.base64.specs.GeneralPurpose.{IsBytes, decoded_of, encode_of}
@@ -18,6 +19,10 @@ decoded_by alphabet text = decoded_of (engine_of alphabet) text
 -- the base64 of bytes
 abbrev pub encoded_by : Alphabet → List ℕ → List ℕ
 encoded_by alphabet bytes = encode_of (engine_of alphabet) bytes
+
+-- a character of the alphabet for URLs: a letter, a digit, `-` or `_`
+abbrev pub is_base64url : ℕ → Bool
+is_base64url c = is_ascii_alphanumeric c || c == 45 || c == 95
 
 -- a text is read as bytes exactly where it is their base64
 abbrev pub ReadsEncodings : Alphabet → Type 0

@@ -81,4 +81,5 @@ fn base64_with_and_without_padding(rt: HostRuntime) -> Result<(), Fail> {
 fn laws_do_nothing() {
     laws::base64_is_exact();
     laws::base64_is_plain();
+    laws::base64url_is_of_its_alphabet();
 }

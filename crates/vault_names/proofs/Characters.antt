@@ -7,55 +7,18 @@ use Rattle.std.proofs.lemmas.List.Folds.{list_all_at}
 use Rattle.std.proofs.lemmas.List.{take_at, drop_at}
 use Rattle.sha2.specs.Sha256.{sha256, digest_bytes}
 use Rattle.sha2.proofs.Facts256.{length-sha256}
-use Rattle.base64.specs.Engines.{url_safe_no_pad}
 use Rattle.base64.specs.GeneralPurpose.{IsBytes}
-use Rattle.base64.specs.Rfc4648.{encode_symbols}
-use Rattle.base64.proofs.RoundTrip.{length-encode_symbols}
-use Rattle.aes_lanes.specs.Bytes.{IsBlock}
+use Rattle.json_fields.specs.Base64.{is_base64url}
 use Rattle.eme_mode.specs.Eme.{eme256}
 use Rattle.plain_tree.specs.Names.{is_name}
-use Rattle.vault_names.specs.Gocryptfs.{padded_bytes, blocks_of, bytes_of, base64url, is_base64url, go_text, long_name}
+use Rattle.vault_names.specs.Gocryptfs.{padded_bytes, blocks_of, bytes_of, base64url, go_text, long_name}
 use Rattle.vault_names.proofs.Blocks.{IsBytes-append, IsBytes-bytes_of, length-bytes_of}
 use Rattle.vault_names.proofs.Encryption.{AreEme, AreBlocksOf-text, length-encrypted}
 
--- the alphabet of base64url
-abbrev symbols : List ℕ
-symbols = url_safe_no_pad.encode_table
-
-is_base64url-symbol : (k : ℕ) → k < 64 → is_base64url (slice_index symbols k) ≡ true
-is_base64url-symbol k within = elim (cases_Bool (is_base64url (slice_index symbols k))) [
-  | inl is ↦ is
-  | inr not ↦
-      let some : true ≡ false = list_all_at is_base64url symbols k 0 within not in
-      cc
-]
-
-are_symbols : (bytes : List ℕ) → IsBytes bytes → list_all is_base64url (encode_symbols symbols bytes) ≡ true
-unfolding encode_symbols
-are_symbols [] are = refl
-are_symbols (a ∷ []) are =
-    let a_byte : a < 256 = are 0 in
-    and_from _ _ (is_base64url-symbol (a / 4) (omega arith)) (and_from _ _ (is_base64url-symbol (a % 4 * 16) (omega arith)) refl)
-are_symbols (a ∷ b ∷ []) are =
-    let a_byte : a < 256 = are 0 in
-    let b_byte : b < 256 = are 1 in
-    and_from _ _ (is_base64url-symbol (a / 4) (omega arith))
-    (and_from _ _ (is_base64url-symbol (a % 4 * 16 + b / 16) (omega arith))
-    (and_from _ _ (is_base64url-symbol (b % 16 * 4) (omega arith)) refl))
-are_symbols (a ∷ b ∷ c ∷ rest) are =
-    let a_byte : a < 256 = are 0 in
-    let b_byte : b < 256 = are 1 in
-    let c_byte : c < 256 = are 2 in
-    and_from _ _ (is_base64url-symbol (a / 4) (omega arith))
-    (and_from _ _ (is_base64url-symbol (a % 4 * 16 + b / 16) (omega arith))
-    (and_from _ _ (is_base64url-symbol (b % 16 * 4 + c / 64) (omega arith))
-    (and_from _ _ (is_base64url-symbol (c % 64) (omega arith)) (are_symbols rest (λ k. are (suc (suc (suc k))))))))
-
-are_base64url : (bytes : List ℕ) → IsBytes bytes → list_all is_base64url (base64url bytes) ≡ true
-are_base64url bytes are = ap (list_all is_base64url) (append-nil (encode_symbols symbols bytes)) ∙ are_symbols bytes are
-
-length-base64url : (bytes : List ℕ) → length (base64url bytes) ≡ (4 * length bytes + 2) / 3
-length-base64url bytes = ap length (append-nil (encode_symbols symbols bytes)) ∙ length-encode_symbols symbols bytes
+-- the characters and the size of base64 for URLs
+pub record IsOfAlphabet : Type 0 where
+  pub characters : (bytes : List ℕ) → IsBytes bytes → IsTrue (list_all is_base64url (base64url bytes))
+  pub size : (bytes : List ℕ) → length (base64url bytes) ≡ (4 * length bytes + 2) / 3
 
 -- a digest is bytes
 IsBytes-high_first : (i n : ℕ) → IsBytes (bytes_high_first i n)
@@ -74,31 +37,31 @@ unfolding sha256
 IsBytes-sha256 text = IsBytes-digest _ 8
 
 -- the text of a name
-pub length-text : (key iv name : List ℕ) → AreEme key iv → IsTrue (is_name name) → length (go_text key iv name) ≡ (64 * (length name / 16 + 1) + 2) / 3
-length-text key iv name eme named =
+pub length-text : IsOfAlphabet → (key iv name : List ℕ) → AreEme key iv → IsTrue (is_name name) → length (go_text key iv name) ≡ (64 * (length name / 16 + 1) + 2) / 3
+length-text alphabet key iv name eme named =
     let are = AreBlocksOf-text key iv name (go_text key iv name) eme (record { named = named; encrypts = refl }) in
     let size : length (bytes_of (eme256 key iv (blocks_of (padded_bytes name)))) ≡ 16 * (length name / 16 + 1) =
     length-bytes_of _ are.each ∙ ap (λ n. 16 * n) (length-encrypted key iv name eme) in
-    ap length are.encoded ∙ length-base64url _ ∙ omega (arith, size)
+    ap length are.encoded ∙ alphabet.size _ ∙ omega (arith, size)
 
-pub characters-text : (key iv name : List ℕ) → AreEme key iv → IsTrue (is_name name) → IsTrue (list_all is_base64url (go_text key iv name))
-characters-text key iv name eme named =
+pub characters-text : IsOfAlphabet → (key iv name : List ℕ) → AreEme key iv → IsTrue (is_name name) → IsTrue (list_all is_base64url (go_text key iv name))
+characters-text alphabet key iv name eme named =
     let are = AreBlocksOf-text key iv name (go_text key iv name) eme (record { named = named; encrypts = refl }) in
-    ap (list_all is_base64url) are.encoded ∙ are_base64url _ (IsBytes-bytes_of _ are.each)
+    ap (list_all is_base64url) are.encoded ∙ alphabet.characters _ (IsBytes-bytes_of _ are.each)
 
 -- a long name
-pub length-long_name : (text : List ℕ) → length (long_name text) ≡ 62
+pub length-long_name : IsOfAlphabet → (text : List ℕ) → length (long_name text) ≡ 62
 unfolding long_name
-length-long_name text =
-    let size : length (base64url (sha256 text)) ≡ 43 = length-base64url (sha256 text) ∙ ap (λ n. (4 * n + 2) / 3) (length-sha256 text) in
+length-long_name alphabet text =
+    let size : length (base64url (sha256 text)) ≡ 43 = alphabet.size (sha256 text) ∙ ap (λ n. (4 * n + 2) / 3) (length-sha256 text) in
     length-append (codes "gocryptfs.longname.") (base64url (sha256 text)) ∙ ap (λ n. 19 + n) size
 
 pub take-long_name : (text : List ℕ) → take 19 (long_name text) ≡ codes "gocryptfs.longname."
 unfolding long_name
 take-long_name text = take_at (codes "gocryptfs.longname.") (base64url (sha256 text)) 19 refl
 
-pub characters-long_name : (text : List ℕ) → IsTrue (list_all is_base64url (drop 19 (long_name text)))
+pub characters-long_name : IsOfAlphabet → (text : List ℕ) → IsTrue (list_all is_base64url (drop 19 (long_name text)))
 unfolding long_name
-characters-long_name text =
+characters-long_name alphabet text =
     ap (list_all is_base64url) (drop_at (codes "gocryptfs.longname.") (base64url (sha256 text)) 19 refl)
-    ∙ are_base64url (sha256 text) (IsBytes-sha256 text)
+    ∙ alphabet.characters (sha256 text) (IsBytes-sha256 text)

@@ -29,7 +29,7 @@ IsBytes-name_bytes (byte ∷ bytes) named zero =
 IsBytes-name_bytes (byte ∷ bytes) named (suc k) =
     IsBytes-name_bytes bytes (and_parts (is_name_byte byte) (list_all is_name_byte bytes) named).1 k
 
-IsBytes-name : (name : List ℕ) → IsTrue (is_name name) → IsBytes name
+pub IsBytes-name : (name : List ℕ) → IsTrue (is_name name) → IsBytes name
 unfolding is_name
 IsBytes-name name named = IsBytes-name_bytes name (and_parts _ _ (and_parts _ _ named).0).1
 

@@ -1,7 +1,6 @@
 -- The stored names of gocryptfs, on-disk format 2, in the encrypting direction: `key` is the vault's name key, and `iv` the
 -- sixteen bytes of a directory's `gocryptfs.diriv`.
-use Rattle.std.specs.Prelude.{◌≡◌, ℕ, Bool, ◌||◌, ◌==◌, ◌-◌, ◌/◌, ◌%◌, List, ◌++◌, length, replicate, codes, nat_le, if◌then◌else◌, IsTrue, Some, None}
-use Rattle.std.specs.Char.{is_ascii_alphanumeric}
+use Rattle.std.specs.Prelude.{◌≡◌, ℕ, ◌-◌, ◌/◌, ◌%◌, List, ◌++◌, length, replicate, codes, nat_le, if◌then◌else◌, IsTrue, Some, None}
 use Rattle.std.specs.List.{flat_map}
 use Rattle.std.specs.Simd.{first_chunks}
 use Rattle.sha2.specs.Sha256.{sha256}
@@ -26,10 +25,6 @@ bytes_of blocks = flat_map (λ block. block) blocks
 -- base64url without padding (RFC 4648, sections 3.2 and 5)
 abbrev pub base64url : List ℕ → List ℕ
 base64url bytes = encode_of url_safe_no_pad bytes
-
--- a character of base64url: a letter, a digit, `-` or `_`
-abbrev pub is_base64url : ℕ → Bool
-is_base64url c = is_ascii_alphanumeric c || c == 45 || c == 95
 
 -- the whole encrypted text of a name: padded, by EME under the name key with the directory's bytes as the tweak, in base64url
 unfoldable pub go_text : List ℕ → List ℕ → List ℕ → List ℕ

@@ -3,9 +3,11 @@ ghost use Rattle.std.specs.Prelude.{◌≡◌, ℕ, ◌+◌, ◌*◌, ◌/◌, L
 ghost use Rattle.std.specs.List.{list_all};
 ghost use Rattle.aes_lanes.specs.Bytes.{IsBlock};
 ghost use Rattle.plain_tree.specs.Names.{is_name};
-ghost use Rattle.vault_names.specs.Gocryptfs.{go_text, is_base64url, long_name, IsTextOf};
+ghost use Rattle.json_fields.specs.Base64.{is_base64url};
+ghost use Rattle.vault_names.specs.Gocryptfs.{go_text, long_name, IsTextOf};
 
 use eme_mode::laws::{blocks_stay_blocks, directions_undo_each_other};
+use json_fields::laws::base64url_is_of_its_alphabet;
 
 /// A text is that of one name at most, under each key and in each directory.
 pub fn text_has_one_name()
@@ -24,6 +26,7 @@ pub fn texts_are_plain()
 {
     directions_undo_each_other();
     blocks_stay_blocks();
+    base64url_is_of_its_alphabet();
 }
 
 /// A long name has 62 characters: `gocryptfs.longname.`, and then letters, digits, `-` and `_`.
@@ -31,4 +34,6 @@ pub fn long_names_are_plain()
     ensures size { (text : List ℕ) → length (long_name text) ≡ 62 }
     ensures prefix { (text : List ℕ) → take 19 (long_name text) ≡ codes "gocryptfs.longname." }
     ensures characters { (text : List ℕ) → IsTrue (list_all is_base64url (drop 19 (long_name text))) }
-{}
+{
+    base64url_is_of_its_alphabet();
+}

@@ -1,13 +1,19 @@
 //! The names under which the items of a vault are stored.
 #![tactic(auto)]
 
+pub mod base32;
+pub mod cryptomator;
 pub mod entry;
 pub mod gocryptfs;
 pub mod laws;
 mod padding;
 
+pub use base32::base32_of;
+pub use cryptomator::{cm_folder, cm_long, cm_read, cm_store, new_dir_id};
 pub use entry::{NameFault, Stored};
 pub use gocryptfs::{go_long, go_read, go_store};
 
+#[cfg(test)]
+mod cm_tests;
 #[cfg(test)]
 mod tests;

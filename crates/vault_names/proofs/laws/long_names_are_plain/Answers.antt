@@ -1,5 +1,8 @@
-use Rattle.vault_names.proofs.Characters.{length-long_name, take-long_name, characters-long_name}
+use Rattle.vault_names.proofs.Characters.{IsOfAlphabet, length-long_name, take-long_name, characters-long_name}
 use Rattle.vault_names.proofs.laws.long_names_are_plain.Goals as goal
 
 pub returns : goal.returns
-returns c = record { size = length-long_name; prefix = take-long_name; characters = characters-long_name }
+returns c =
+    let of_alphabet = c.base64url_is_of_its_alphabet.ensures in
+    let alphabet : IsOfAlphabet = record { characters = of_alphabet.characters; size = of_alphabet.size } in
+    record { size = length-long_name alphabet; prefix = take-long_name; characters = characters-long_name alphabet }

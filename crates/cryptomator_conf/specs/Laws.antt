@@ -1,0 +1,57 @@
+-- Laws of the configuration.
+use Rattle.std.specs.Prelude.{◌≡◌, ℕ, List, length, Result, Ok}
+use Rattle.base64.specs.GeneralPurpose.{IsBytes}
+use Rattle.kdf_suite.specs.ScryptCost.{Cost, IsCost}
+use Rattle.key_wrap.specs.Wrap.{IsKey}
+use Rattle.cryptomator_conf.specs.declared.conf.Alg.TheVariants.{Hs256}
+use Rattle.cryptomator_conf.specs.declared.conf.CmDraw.{CmDraw}
+use Rattle.cryptomator_conf.specs.declared.conf.Combo.TheVariants.{SivGcm}
+use Rattle.cryptomator_conf.specs.declared.conf.MasterFile.{MasterFile}
+use Rattle.cryptomator_conf.specs.declared.conf.VaultFile.{VaultFile}
+use Rattle.cryptomator_conf.specs.declared.fault.CmConfFault.{CmConfFault}
+use Rattle.cryptomator_conf.specs.declared.keys.CmKeys.{CmKeys}
+use Rattle.cryptomator_conf.specs.Id.{id_of}
+use Rattle.cryptomator_conf.specs.Keys.{AreKeys, Unlocks}
+use Rattle.cryptomator_conf.specs.Master.{ReadsMaster}
+use Rattle.cryptomator_conf.specs.Signature.{signature_of}
+use Rattle.cryptomator_conf.specs.Text.{keys_of, made_master, master_text, signed_text, vault_text, version_bytes, version_mac}
+use Rattle.cryptomator_conf.specs.Vault.{vault_in}
+
+-- the bytes of `masterkey.cryptomator` have one answer at most
+abbrev pub HaveOneAnswer : Type 0
+HaveOneAnswer =
+    (bytes : List ℕ) (a b : Result MasterFile CmConfFault) → ReadsMaster bytes a → ReadsMaster bytes b → a ≡ b
+
+-- a passphrase unlocks one pair of keys at most
+abbrev pub UnlocksOnePair : Type 0
+UnlocksOnePair =
+    (file : MasterFile) (pass : List ℕ) (keys other : CmKeys) → AreKeys keys → AreKeys other → Unlocks file pass keys → Unlocks file pass other → keys ≡ other
+
+-- two drawn keys, a salt of 8 bytes and 16 bytes for the id
+pub record IsDrawn (drawn : CmDraw) : Type 0 where
+  pub enc : IsKey drawn.enc
+  pub mac : IsKey drawn.mac
+  pub salt : IsBytes drawn.salt
+  pub id_size : length drawn.jti ≡ 16
+
+-- what a new `vault.cryptomator` says
+abbrev pub made_vault : CmDraw → VaultFile
+made_vault drawn =
+    let signed : List ℕ = signed_text (id_of drawn.jti) in
+    record {
+      alg = Hs256;
+      combo = SivGcm;
+      threshold = 220;
+      signed = signed;
+      signature = signature_of Hs256 (keys_of drawn) signed;
+    }
+
+-- the texts of new files read as the files; the passphrase unlocks the drawn keys, and the signature is theirs
+pub record Return (pass : List ℕ) (cost : Cost) (drawn : CmDraw) : Type 0 where
+  pub master : ReadsMaster (master_text (made_master pass cost drawn) (version_mac drawn.mac version_bytes)) (Ok (made_master pass cost drawn))
+  pub vault : vault_in (vault_text drawn) ≡ Ok (made_vault drawn)
+  pub unlocked : Unlocks (made_master pass cost drawn) pass (keys_of drawn)
+  pub signed : (made_vault drawn).signature ≡ signature_of (made_vault drawn).alg (keys_of drawn) (made_vault drawn).signed
+
+abbrev pub MadeFilesReturn : Type 0
+MadeFilesReturn = (pass : List ℕ) (cost : Cost) (drawn : CmDraw) → IsCost cost → IsDrawn drawn → Return pass cost drawn

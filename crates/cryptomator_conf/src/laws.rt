@@ -1,0 +1,28 @@
+//! Laws of the definitions. Each function computes nothing, and its clause is the law; the laws that it rests on are called.
+
+ghost use Rattle.cryptomator_conf.specs.Laws.{HaveOneAnswer, UnlocksOnePair, MadeFilesReturn};
+
+use json_fields::laws::{base64_is_plain, base64url_is_of_its_alphabet};
+use key_wrap::laws::{unwraps_to_one_key, wrapped_keys_are_bytes};
+
+/// Reading the texts of new files gives what they say, unlocking the first with its passphrase the drawn keys, and the
+/// signature of the second is theirs.
+pub fn made_files_give_back_their_keys()
+    ensures { MadeFilesReturn }
+{
+    wrapped_keys_are_bytes();
+    base64_is_plain();
+    base64url_is_of_its_alphabet();
+}
+
+/// No bytes of `masterkey.cryptomator` read as two answers. Those of `vault.cryptomator` read by a function.
+pub fn bytes_have_one_answer()
+    ensures { HaveOneAnswer }
+{}
+
+/// No passphrase unlocks two pairs of keys.
+pub fn passphrases_unlock_one_pair()
+    ensures { UnlocksOnePair }
+{
+    unwraps_to_one_key();
+}

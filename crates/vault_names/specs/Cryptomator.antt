@@ -1,0 +1,47 @@
+-- The stored names of Cryptomator, vault format 8, in the encrypting direction: `id` is the id of a directory, of no bytes
+-- for the root.
+use Rattle.std.specs.Prelude.{◌≡◌, ℕ, List, [], ◌∷◌, ◌++◌, length, codes, nat_le, if◌then◌else◌, IsTrue, Some, None}
+use Rattle.aes_lanes.specs.Cipher.{aes256}
+use Rattle.base64.specs.Engines.{url_safe}
+use Rattle.base64.specs.GeneralPurpose.{encode_of}
+use Rattle.cryptomator_conf.specs.declared.keys.CmKeys.{CmKeys}
+use Rattle.sha1.specs.Sha1.{sha1}
+use Rattle.siv_mode.specs.Siv.{siv_encrypt}
+use Rattle.plain_tree.specs.Names.{is_name}
+use Rattle.vault_names.specs.declared.entry.Stored.{Stored}
+use Rattle.vault_names.specs.Base32.{base32}
+
+-- SIV under a vault's keys: S2V under the MAC key, and counter mode under the encryption key
+abbrev pub siv_under : CmKeys → List (List ℕ) → List ℕ → List ℕ
+siv_under keys strings text = siv_encrypt (aes256 keys.mac) (aes256 keys.enc) strings text
+
+-- base64url with padding (RFC 4648, section 5)
+abbrev pub padded_base64url : List ℕ → List ℕ
+padded_base64url bytes = encode_of url_safe bytes
+
+-- the whole encrypted text of a name, with the directory's id as associated string
+unfoldable pub cm_text : CmKeys → List ℕ → List ℕ → List ℕ
+cm_text keys id name = padded_base64url (siv_under keys (id ∷ []) name) ++ codes ".c9r"
+
+-- the entry's name of a text that is too long for one
+unfoldable pub cm_long_name : List ℕ → List ℕ
+cm_long_name text = padded_base64url (sha1 text) ++ codes ".c9s"
+
+-- a text of at most the threshold's characters is the entry's name; a longer one stands in a file of the entry
+abbrev pub cm_entry_of : ℕ → List ℕ → Stored
+cm_entry_of threshold text =
+    if nat_le (length text) threshold then record { name = text; full = None }
+    else record { name = cm_long_name text; full = Some text }
+
+-- the entry of a name and, where its text is too long, what its long-name file holds
+unfoldable pub cm_stored : CmKeys → ℕ → List ℕ → List ℕ → Stored
+cm_stored keys threshold id name = cm_entry_of threshold (cm_text keys id name)
+
+-- the folder of a directory's entries, of 32 characters: the base32 of the SHA-1 of its id, encrypted without associated string
+unfoldable pub cm_folder_of : CmKeys → List ℕ → List ℕ
+cm_folder_of keys id = base32 (sha1 (siv_under keys [] id))
+
+-- the text is that of a name
+pub record IsCmTextOf (keys : CmKeys) (id name text : List ℕ) : Type 0 where
+  pub named : IsTrue (is_name name)
+  pub encrypts : cm_text keys id name ≡ text

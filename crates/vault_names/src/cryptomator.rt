@@ -1,0 +1,142 @@
+//! Stored names of Cryptomator, vault format 8: SIV over AES-256, in base64url with padding.
+ghost use Rattle.std.specs.Prelude.{◌≡◌, ◌≢◌, ◌++◌, ℕ, List, false, codes, IfOk, OnErr, IsTrue, MatchOption, Err, string_bytes};
+ghost use Rattle.aes_lanes.specs.Bytes.{AreBytes};
+ghost use Rattle.cryptomator_conf.specs.Id.{id_of};
+ghost use Rattle.plain_tree.specs.Names.{is_name};
+ghost use Rattle.vault_names.specs.Cryptomator.{cm_text, cm_long_name, cm_stored, cm_folder_of, padded_base64url, IsCmTextOf};
+
+use crate::base32::base32_of;
+use crate::entry::{NameFault, Stored};
+use aes_lanes::Key256;
+use base64::DecodeAllocError;
+use base64::engine::general_purpose::URL_SAFE;
+use cryptomator_conf::{CmKeys, id_text};
+use plain_tree::Name;
+use sha1::Sha1;
+use siv_mode::laws::{opens_to_one_text, sealed_texts_are_bytes, unsealing_undoes_sealing};
+use siv_mode::{Siv, SivFault};
+use std::alloc::{AllocError, Global};
+use text_model::Text;
+
+/// What is stored of a name in the directory of this id, in a vault of this threshold.
+#[tactic(auto, unfolding(crate::specs::Cryptomator::cm_stored))]
+pub fn cm_store(
+    alloc: Global,
+    keys: &CmKeys,
+    threshold: u32,
+    id: &[u8],
+    name: &Name,
+) -> Result<Stored, AllocError>
+    ensures { IfOk result (λ entry. entry ≡ cm_stored keys.now threshold id.now name.now) }
+{
+    let text = encrypted_text(alloc, keys, id, name)?;
+    if text.len() <= threshold as usize {
+        return Ok(Stored {
+            name: Text::new(text),
+            full: None,
+        });
+    }
+    Ok(Stored {
+        name: Text::new(cm_long(alloc, text.as_str())?),
+        full: Some(Text::new(text)),
+    })
+}
+
+/// The entry's name of an encrypted text that is too long for one: the base64url of its SHA-1, with `.c9s`.
+#[tactic(auto, unfolding(crate::specs::Cryptomator::cm_long_name))]
+pub fn cm_long(alloc: Global, text: &str) -> Result<String, AllocError>
+    ensures { IfOk result (λ name. string_bytes name ≡ cm_long_name text.now) }
+{
+    let mut name = URL_SAFE.encode(alloc, &Sha1::digest(text.as_bytes()))?;
+    name.push_str(".c9s")?;
+    Ok(name)
+}
+
+/// The name that encrypts to a text, in the directory of this id. The text is the whole encrypted one, an entry's name or
+/// what a long-name file holds.
+pub fn cm_read(alloc: Global, keys: &CmKeys, id: &[u8], text: &str) -> Result<Name, NameFault>
+    ensures name { IfOk result (λ name. IsCmTextOf keys.now id.now name text.now) }
+    ensures not_stored { result ≡ Err NameFault.NotStored
+        → (name : List ℕ) → ¬ IsCmTextOf keys.now id.now name text.now }
+{
+    let siv = siv_of(keys);
+    sealed_texts_are_bytes(&siv);
+    unsealing_undoes_sealing(&siv);
+    opens_to_one_text(&siv);
+    let Some(sealed) = sealed_bytes(alloc, text)? else {
+        return Err(NameFault::NotStored);
+    };
+    match siv.unseal(alloc, Some(id), sealed.as_slice()) {
+        Ok(name) => named(name),
+        Err(SivFault::Short) => Err(NameFault::NotStored),
+        Err(SivFault::BadTag) => Err(NameFault::NotStored),
+        Err(SivFault::NoMemory) => Err(NameFault::NoMemory),
+    }
+}
+
+/// The folder of the entries of the directory of this id, in 32 characters.
+#[tactic(auto, unfolding(crate::specs::Cryptomator::cm_folder_of))]
+pub fn cm_folder(alloc: Global, keys: &CmKeys, id: &[u8]) -> Result<String, AllocError>
+    ensures { IfOk result (λ folder. string_bytes folder ≡ cm_folder_of keys.now id.now) }
+{
+    let siv = siv_of(keys);
+    let sealed = siv.seal(alloc, None, id)?;
+    let text = base32_of(&Sha1::digest(sealed.as_slice()));
+    Ok(String::from_utf8(Vec::from_slice(alloc, &text)?).unwrap())
+}
+
+/// A new directory's id of sixteen drawn bytes, in 36 characters.
+pub fn new_dir_id(alloc: Global, drawn: &[u8; 16]) -> Result<String, AllocError>
+    ensures { IfOk result (λ id. string_bytes id ≡ id_of drawn.now) }
+{
+    id_text(alloc, drawn)
+}
+
+// The whole encrypted text of a name.
+#[tactic(auto, unfolding(crate::specs::Cryptomator::cm_text))]
+fn encrypted_text(
+    alloc: Global,
+    keys: &CmKeys,
+    id: &[u8],
+    name: &Name,
+) -> Result<String, AllocError>
+    ensures { IfOk result (λ text. string_bytes text ≡ cm_text keys.now id.now name.now) }
+{
+    let siv = siv_of(keys);
+    let sealed = siv.seal(alloc, Some(id), name.bytes())?;
+    let mut text = URL_SAFE.encode(alloc, sealed.as_slice())?;
+    text.push_str(".c9r")?;
+    Ok(text)
+}
+
+// The bytes whose base64url stands before `.c9r` in a text, or `None` where there are none.
+fn sealed_bytes(alloc: Global, text: &str) -> Result<Option<Vec<u8>>, AllocError>
+    ensures { IfOk result (λ found. MatchOption found
+        ((bytes : List ℕ) → AreBytes bytes → padded_base64url bytes ++ codes ".c9r" ≢ text.now)
+        (λ bytes. AreBytes bytes.items × (padded_base64url bytes.items ++ codes ".c9r" ≡ text.now))) }
+{
+    let Some(front) = text.as_bytes().strip_suffix(b".c9r") else {
+        return Ok(None);
+    };
+    match URL_SAFE.decode(alloc, front) {
+        Ok(bytes) => Ok(Some(bytes)),
+        Err(DecodeAllocError::DecodeError(_)) => Ok(None),
+        Err(DecodeAllocError::OutOfMemory) => Err(AllocError),
+    }
+}
+
+// The name that bytes are.
+fn named(bytes: Vec<u8>) -> Result<Name, NameFault>
+    ensures name { IfOk result (λ name. (name ≡ bytes.items) × IsTrue (is_name name)) }
+    ensures not_stored { OnErr result (is_name bytes.items ≡ false) }
+{
+    Name::from_vec(bytes).ok_or(NameFault::NotStored)
+}
+
+// SIV under the two keys.
+fn siv_of(keys: &CmKeys) -> Siv<Key256>
+    ensures mac { result.mac ≡ keys.now.mac }
+    ensures ctr { result.ctr ≡ keys.now.enc }
+{
+    Siv::new(Key256::new(&keys.mac), Key256::new(&keys.enc))
+}

@@ -18,7 +18,6 @@ pub mod laws;
 mod line;
 mod parse;
 pub mod reading;
-mod replace;
 #[cfg(test)]
 mod tests;
 mod text;

@@ -6,10 +6,10 @@ ghost use Rattle.move_journal.specs.Journal.{IsParsed};
 ghost use Rattle.move_journal.specs.Writing.{IsWorkFolder, Writes, HasWritten};
 
 use crate::journal::Journal;
-use crate::replace::replace;
 use crate::text::text_of;
 use folder_model::{FPath, Folder};
 use folder_spec::FolderFault;
+use folder_staging::replace_file;
 use std::alloc::Global;
 
 /// Writes the journal in the work folder, in the place of one that may stand there.
@@ -33,5 +33,5 @@ pub fn write<F: Folder>(
     let text = text_of(alloc, journal)?;
     let new = work.child("journal.new")?;
     let at = work.child("journal")?;
-    replace(folder, &new, &at, text.as_bytes())
+    replace_file(folder, &new, &at, text.as_bytes())
 }

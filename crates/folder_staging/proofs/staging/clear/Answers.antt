@@ -1,7 +1,7 @@
 use Rattle.std.proofs.Common.{[]}
 use Rattle.folder_spec.proofs.Tellings.{from_to_same}
 use Rattle.folder_spec.proofs.Stages.{Staging, staging_none, removing_from, freed_from}
-use Rattle.move_journal.proofs.replace.clear.Goals as goal
+use Rattle.folder_staging.proofs.staging.clear.Goals as goal
 
 pub returns-in-File-clause-moments : goal.returns-in-File-clause-moments
 returns-in-File-clause-moments g c =

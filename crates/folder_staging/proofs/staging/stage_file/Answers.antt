@@ -3,7 +3,7 @@ use Rattle.std.proofs.lemmas.Result.{err_from_is_err_and}
 use Rattle.folder_spec.specs.Event.{Append, empty_node, grown}
 use Rattle.folder_spec.proofs.Stages.{staging_of_none, creating_from, created_from, appending_from, appended_from, syncing_from, written_from, staged_from, one_file, none_of_it}
 use Rattle.folder_model.proofs.Counting.{counts_above, counts_on, not_refused, never_falls}
-use Rattle.move_journal.proofs.replace.stage.Goals as goal
+use Rattle.folder_staging.proofs.staging.stage_file.Goals as goal
 
 pub returns-in_err-clear-clause-moments : goal.returns-in_err-clear-clause-moments
 returns-in_err-clear-clause-moments g c =

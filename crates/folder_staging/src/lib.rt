@@ -1,0 +1,14 @@
+//! Files written and put in their places so that a crash at any moment leaves the folder as it was or
+//! with the whole file.
+//!
+//! A file is staged at a path of its own: made, written and synced. It is published by a rename onto its
+//! place, where nothing or a file stands, and lasts once the folder is settled.
+#![tactic(auto)]
+
+pub mod publishing;
+pub mod staging;
+#[cfg(test)]
+mod tests;
+
+pub use publishing::{publish_file, replace_file, replace_with_side_file};
+pub use staging::{clear, is_file_place, stage_file};

@@ -1,8 +1,8 @@
-pub mod TableEntries
-pub mod WordBytes
-pub mod RoundSteps
+mod TableEntries
+mod WordBytes
+mod RoundSteps
 pub mod Bytes
 pub mod CounterBytes
-pub mod ScheduleSteps
+mod ScheduleSteps
 pub mod CounterSteps
 mod LaneSteps

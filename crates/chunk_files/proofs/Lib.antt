@@ -2,12 +2,12 @@ mod PiecesOf
 mod Sealing
 mod Opening
 mod BufferSeals
-pub mod Given
+mod Given
 mod HeldBytes
 mod Beginnings
 mod Decodings
-pub mod Lawful
+mod Lawful
 pub mod ChunkReadings
 mod StoredChunks
 pub mod FilesOf
-pub mod Encrypting
+mod Encrypting

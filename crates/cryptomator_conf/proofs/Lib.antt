@@ -1,9 +1,9 @@
-pub mod Dots
-pub mod HashBytes
-pub mod IdText
-pub mod OneAnswer
-pub mod Passphrase
-pub mod ReadBack
-pub mod Trimmed
-pub mod VaultReadBack
-pub mod Written
+mod Dots
+mod HashBytes
+mod IdText
+mod OneAnswer
+mod Passphrase
+mod ReadBack
+mod Trimmed
+mod VaultReadBack
+mod Written

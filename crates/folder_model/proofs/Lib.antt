@@ -1,7 +1,7 @@
-pub mod Strings
-pub mod StepLemmas
-pub mod NameTables
-pub mod States
-pub mod Entries
-pub mod Crashes
+mod Strings
+mod StepLemmas
+mod NameTables
+mod States
+mod Entries
+mod Crashes
 pub mod Counting

@@ -3,11 +3,11 @@ pub mod Tables
 pub mod Sound
 pub mod Images
 pub mod Moments
-pub mod Regions
-pub mod Written
+mod Regions
+mod Written
 pub mod Replaces
 pub mod Tellings
 pub mod Stages
-pub mod Views
-pub mod Seen
+mod Views
+mod Seen
 pub mod Edits

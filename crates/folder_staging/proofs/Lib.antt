@@ -1,2 +1,2 @@
-pub mod Exits
-pub mod Pairs
+mod Exits
+mod Pairs

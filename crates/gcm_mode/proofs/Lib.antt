@@ -7,5 +7,5 @@ mod Linear
 pub mod Modes
 mod Nibbles
 mod Rows
-pub mod SealedBytes
+mod SealedBytes
 mod Terms

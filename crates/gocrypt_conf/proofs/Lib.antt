@@ -1,6 +1,6 @@
-pub mod Checked
-pub mod OneAnswer
-pub mod ReadBack
-pub mod SealedBytes
-pub mod Sealing
-pub mod Written
+mod Checked
+mod OneAnswer
+mod ReadBack
+mod SealedBytes
+mod Sealing
+mod Written

@@ -1,5 +1,5 @@
-pub mod Base64
+mod Base64
 pub mod Objects
-pub mod Plain
-pub mod Symbols
+mod Plain
+mod Symbols
 pub mod Texts

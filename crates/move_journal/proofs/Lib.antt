@@ -1,6 +1,6 @@
-pub mod Values
-pub mod Lines
-pub mod Readings
-pub mod Exact
-pub mod Writings
-pub mod BackAgain
+mod Values
+mod Lines
+mod Readings
+mod Exact
+mod Writings
+mod BackAgain

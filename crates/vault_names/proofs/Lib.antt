@@ -1,7 +1,7 @@
-pub mod Groups
-pub mod Blocks
-pub mod Characters
-pub mod CmNames
-pub mod Encryption
-pub mod Padded
-pub mod Texts
+mod Groups
+mod Blocks
+mod Characters
+mod CmNames
+mod Encryption
+mod Padded
+mod Texts

@@ -14,6 +14,8 @@ pub mod keys;
 pub mod laws;
 mod sealed;
 pub mod step;
+#[cfg(test)]
+mod tests;
 mod told;
 mod zeros;
 

@@ -1,17 +1,17 @@
 -- Files that were begun, and chunks that go on.
-use Rattle.std.proofs.Common.{◌≡◌, ℕ, ◌+◌, ◌≤◌, ◌&&◌, Bool, true, false, List, [], ◌++◌, length, take, drop, replicate, Option, refl, sym, ap, ap₂, ◌∙◌, arith, length-append, length-take}
+use Rattle.std.proofs.Common.{◌≡◌, ℕ, ◌≤◌, false, List, [], ◌++◌, length, take, drop, replicate, Option, refl, sym, ap, ap₂, ◌∙◌, arith, length-append}
 use Rattle.std.proofs.lemmas.List.{drop_at, take_at, take-append-le, take-append-drop}
 use Rattle.port_model.specs.Draws.{ByteStream, Draws}
 use Rattle.chunk_files.specs.declared.keys.Layout.{Layout}
 use Rattle.chunk_files.specs.declared.keys.Layout.TheVariants.{Go, CmGcm}
 use Rattle.chunk_files.specs.Zeros.{is_all_zero}
-use Rattle.chunk_files.specs.Format.{Format, Header}
+use Rattle.chunk_files.specs.Format.{Header}
 use Rattle.chunk_files.specs.Sealed.{sealed_text, chunk_data}
 use Rattle.chunk_files.specs.Gocryptfs.{go_header, go_header_of}
 use Rattle.chunk_files.specs.CryptomatorGcm.{cm_header, new_plain}
 use Rattle.chunk_files.specs.Keys.{Keys, format_by, format_of, IsHeaderBy}
 use Rattle.chunk_files.specs.Contents.{is_refused}
-use Rattle.chunk_files.specs.Encoding.{Encoding, HasBegun, begun}
+use Rattle.chunk_files.specs.Encoding.{HasBegun}
 use Rattle.chunk_files.proofs.Encrypting.{IsNext, header-encrypted, header-made}
 use Rattle.chunk_files.proofs.Lawful.{IsLawful, lawful}
 

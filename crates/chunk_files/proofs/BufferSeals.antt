@@ -4,7 +4,7 @@ use Rattle.std.proofs.lemmas.List.{append_assoc, drop_at, drop-take, take_at, ta
 use Rattle.std.proofs.lemmas.Slice.{take-put_mid}
 use borrow.Rule.Slice.PartMut.{mid_of, put_mid}
 use Rattle.aes_lanes.specs.Cipher.{aes256}
-use Rattle.gcm_mode.specs.Gcm.{sealed, encrypted}
+use Rattle.gcm_mode.specs.Gcm.{sealed}
 use Rattle.gcm_mode.proofs.Modes.{length-encrypted}
 use Rattle.chunk_files.specs.Sealed.{sealed_text}
 

@@ -1,5 +1,5 @@
 -- What the bytes held and those that follow them give, step by step.
-use Rattle.std.proofs.Common.{◌≡◌, ℕ, suc, ◌+◌, ◌-◌, ◌*◌, ◌<◌, ◌≤◌, ◌==◌, ◌&&◌, nat_lt, min, Bool, true, false, cond, List, [], ◌∷◌, ◌++◌, length, take, drop, Option, Some, None, Result, Ok, Err, inl, inr, refl, sym, ap, ◌∙◌, arith, append-nil, length-append, length-drop, length-take}
+use Rattle.std.proofs.Common.{◌≡◌, ℕ, ◌+◌, ◌<◌, ◌≤◌, ◌==◌, ◌&&◌, nat_lt, min, Bool, true, false, cond, List, [], ◌∷◌, ◌++◌, length, take, drop, Option, Some, None, Result, Ok, Err, inl, inr, refl, sym, ap, ◌∙◌, arith, append-nil, length-append}
 use Rattle.std.proofs.lemmas.Bool.{cases_lt, eqb-true, le-ltb, lt-ltb}
 use Rattle.std.proofs.lemmas.Bool.Decides.{eqb_tells}
 use Rattle.std.proofs.lemmas.List.{take-append-le, drop-append-le, take_all, drop_all}
@@ -7,13 +7,13 @@ use Rattle.chunk_files.specs.declared.fault.ChunkFault.{ChunkFault}
 use Rattle.chunk_files.specs.declared.fault.ChunkFault.TheVariants.{NoHeader}
 use Rattle.chunk_files.specs.declared.step.Step.{Step}
 use Rattle.chunk_files.specs.declared.step.Step.TheVariants.{More, Chunk, End}
-use Rattle.chunk_files.specs.Format.{Format, Header, stored_size}
+use Rattle.chunk_files.specs.Format.{Header, stored_size}
 use Rattle.chunk_files.specs.Keys.{Keys, format_of, IsHeaderBy}
-use Rattle.chunk_files.specs.Reading.{Reading, Whole, Wanting, Faulty, ends, chunk_before}
-use Rattle.chunk_files.specs.Contents.{read_by, read_behind, read_from, read_on, read_chunk, at_end}
+use Rattle.chunk_files.specs.Reading.{Whole, Wanting, Faulty, ends}
+use Rattle.chunk_files.specs.Contents.{read_by, read_behind, read_from, read_on, read_chunk}
 use Rattle.chunk_files.specs.declared.keys.Layout.{Layout}
 use Rattle.chunk_files.specs.declared.keys.Layout.TheVariants.{Go, CmGcm}
-use Rattle.chunk_files.specs.Decoding.{wanted, Decoding, GivesNext, LeavesAll, MayFollow, left, read_at}
+use Rattle.chunk_files.specs.Decoding.{wanted, Decoding, GivesNext, LeavesAll, read_at}
 use Rattle.chunk_files.proofs.Lawful.{IsLawful, lawful}
 use Rattle.chunk_files.proofs.ChunkReadings.{read_from-nil, read_from-next, read_from-wanting}
 

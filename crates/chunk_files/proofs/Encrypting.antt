@@ -1,17 +1,17 @@
 -- Files that are encrypted chunk by chunk.
-use Rattle.std.proofs.Common.{◌≡◌, ℕ, zero, suc, ◌+◌, ◌-◌, ◌*◌, ◌<◌, ◌≤◌, nat_lt, ◌==◌, ◌&&◌, Bool, true, false, cond, ◌⊎◌, List, [], ◌∷◌, ◌++◌, length, take, drop, inl, inr, refl, sym, ap, ◌∙◌, subst, arith, append-nil, append_assoc, length-append, length-drop}
-use Rattle.std.specs.List.{All, concat}
+use Rattle.std.proofs.Common.{◌≡◌, ℕ, zero, suc, ◌+◌, ◌*◌, ◌<◌, ◌≤◌, nat_lt, ◌==◌, ◌&&◌, Bool, true, false, ◌⊎◌, List, [], ◌∷◌, ◌++◌, length, take, drop, inl, inr, refl, sym, ap, ◌∙◌, subst, arith, append-nil, append_assoc, length-append, length-drop}
+use Rattle.std.specs.List.{All}
 use Rattle.std.proofs.lemmas.Bool.{cases_lt, le-ltb, lt-ltb, eqb-true}
 use Rattle.std.proofs.lemmas.Bool.Decides.{eqb_tells}
-use Rattle.std.proofs.lemmas.List.{take_at, take-append-drop, take-append-le, drop-append-le, take_all, drop_all, length-take, length-take-le, nil_from_length}
+use Rattle.std.proofs.lemmas.List.{take-append-le, drop-append-le, take_all, drop_all, length-take, length-take-le, nil_from_length}
 use Rattle.std.proofs.lemmas.List.Elements.{All-append}
-use Rattle.chunk_files.specs.Format.{Format, Header, stored_size}
+use Rattle.chunk_files.specs.Format.{Format, Header}
 use Rattle.chunk_files.specs.Keys.{Keys, format_of, IsHeaderBy}
 use Rattle.chunk_files.specs.Pieces.{pieces}
 use Rattle.chunk_files.specs.Contents.{is_refused}
-use Rattle.chunk_files.specs.Encrypt.{sealed_chunks, header_and_chunks, has_no_bytes, encrypt_by, encrypt, draws, AreAccepted, IsEncrypted}
+use Rattle.chunk_files.specs.Encrypt.{sealed_chunks, header_and_chunks, has_no_bytes, encrypt_by, encrypt, AreAccepted, IsEncrypted}
 use Rattle.chunk_files.specs.Encoding.{Encoding, HasMade, GoesOn, IsFrontOf, MoreDrawnGiveMore, MadeIsAFront, begun}
-use Rattle.chunk_files.specs.FileOf.{AreStored, HasChunks, IsFileOf, EncryptedFilesAreFiles}
+use Rattle.chunk_files.specs.FileOf.{AreStored, IsFileOf, EncryptedFilesAreFiles}
 use Rattle.chunk_files.proofs.Lawful.{IsLawful, lawful}
 use Rattle.chunk_files.proofs.PiecesOf.{pieces-nil, pieces-next, pieces-one, pieces-append, length-pieces, concat-pieces}
 

@@ -1,10 +1,9 @@
 -- The chunks that a decoder gave are the first of those that the file gives.
-use Rattle.std.proofs.Common.{◌≡◌, ℕ, ◌+◌, Bool, true, false, List, [], ◌∷◌, ◌++◌, length, take, Result, Ok, Err, refl, sym, ap, ◌∙◌, arith, append-nil, append_assoc, length-append}
+use Rattle.std.proofs.Common.{◌≡◌, ℕ, ◌+◌, true, false, List, [], ◌∷◌, ◌++◌, take, Result, Ok, Err, refl, sym, ap, ◌∙◌, arith, append_assoc, length-append}
 use Rattle.chunk_files.specs.declared.fault.ChunkFault.{ChunkFault}
 use Rattle.chunk_files.specs.declared.step.Step.{Step}
 use Rattle.chunk_files.specs.declared.step.Step.TheVariants.{More, Chunk, End}
 use Rattle.chunk_files.specs.Keys.{Keys}
-use Rattle.chunk_files.specs.Reading.{Reading, chunk_before}
 use Rattle.chunk_files.specs.Decoding.{Decoding, GivesNext, HasGiven, LeavesAll, MayFollow, chunks_before, chunks_in, left, started, with_step}
 
 pub given-started : (keys : Keys) → HasGiven keys [] [] (started keys)

@@ -1,16 +1,16 @@
 -- What each layout gives to the proofs that hold for all.
-use Rattle.std.proofs.Common.{◌≡◌, ℕ, zero, suc, ◌+◌, ◌*◌, ◌-◌, ◌<◌, ◌≤◌, ◌==◌, ◌&&◌, Bool, true, false, cond, List, [], ◌∷◌, ◌++◌, length, take, drop, replicate, Some, None, Ok, Err, refl, sym, ap, ap₂, ◌∙◌, arith, length-append, length-drop}
-use Rattle.std.specs.Prelude.{Option, Result, not}
+use Rattle.std.proofs.Common.{◌≡◌, ℕ, suc, ◌+◌, ◌<◌, ◌≤◌, ◌==◌, Bool, true, false, cond, List, [], ◌∷◌, length, take, drop, replicate, Some, None, Ok, Err, refl, sym, ap, ◌∙◌, arith, length-append, length-drop}
+use Rattle.std.specs.Prelude.{Option, not}
 use Rattle.std.proofs.lemmas.Bool.{eqb-true}
-use Rattle.std.proofs.lemmas.List.{length-take, length-replicate, take_at, drop_at, take_all, take-append-drop}
+use Rattle.std.proofs.lemmas.List.{length-take, length-replicate}
 use Rattle.chunk_files.specs.declared.fault.ChunkFault.{ChunkFault}
-use Rattle.chunk_files.specs.declared.fault.ChunkFault.TheVariants.{HeaderVersion, ZeroId, HeaderTag}
+use Rattle.chunk_files.specs.declared.fault.ChunkFault.TheVariants.{HeaderVersion, ZeroId}
 use Rattle.chunk_files.specs.declared.keys.Layout.{Layout}
 use Rattle.chunk_files.specs.declared.keys.Layout.TheVariants.{Go, CmGcm}
 use Rattle.chunk_files.specs.Zeros.{is_all_zero}
 use Rattle.chunk_files.specs.Format.{Format, Header}
 use Rattle.chunk_files.specs.Sealed.{sealed_text, opened_text, chunk_data}
-use Rattle.chunk_files.specs.Gocryptfs.{header_version, file_id, go_header, go_header_of, read_go_header, IsGoHeader, go_format}
+use Rattle.chunk_files.specs.Gocryptfs.{header_version, file_id, go_header, read_go_header, IsGoHeader, go_format}
 use Rattle.chunk_files.specs.CryptomatorGcm.{cm_header, told_by_plain, read_cm_header, IsCmHeader, new_plain, cm_gcm_format}
 use Rattle.chunk_files.specs.Keys.{Keys, format_by, format_of, IsHeaderBy}
 use Rattle.chunk_files.specs.Contents.{is_refused}

@@ -1,12 +1,11 @@
 -- A stored chunk is of a chunk exactly where it is read as that chunk.
-use Rattle.std.proofs.Common.{◌≡◌, ℕ, zero, suc, ◌+◌, ◌-◌, ◌<◌, ◌≤◌, ◌==◌, ◌&&◌, nat_lt, Bool, true, false, cond, List, [], ◌∷◌, ◌++◌, length, take, drop, replicate, Some, None, Ok, Err, inl, inr, refl, sym, ap, ◌∙◌, arith}
-use Rattle.std.specs.Prelude.{◌⊎◌, Option}
+use Rattle.std.proofs.Common.{◌≡◌, ℕ, zero, suc, ◌+◌, ◌≤◌, ◌==◌, ◌&&◌, nat_lt, Bool, true, false, cond, List, [], ◌∷◌, length, take, drop, replicate, Some, None, Ok, Err, inl, inr, refl, sym, ap, ◌∙◌, arith}
+use Rattle.std.specs.Prelude.{Option}
 use Rattle.std.proofs.lemmas.Bool.{le-ltb, ltb-false, eq-eqb, eqb-true}
 use Rattle.std.proofs.lemmas.List.{length-take, length-replicate, take-append-drop}
 use Rattle.std.proofs.lemmas.List.Folds.{list_all-append}
 use Rattle.std.proofs.Math.Bool.{and-false}
-use Rattle.chunk_files.specs.declared.fault.ChunkFault.{ChunkFault}
-use Rattle.chunk_files.specs.declared.fault.ChunkFault.TheVariants.{ShortChunk, ZeroNonce, ChunkTag}
+use Rattle.chunk_files.specs.declared.fault.ChunkFault.TheVariants.{ShortChunk, ZeroNonce}
 use Rattle.chunk_files.specs.Zeros.{is_all_zero}
 use Rattle.chunk_files.specs.Format.{Format, Header, stored_size}
 use Rattle.chunk_files.specs.Contents.{is_hole, is_refused, opened_or_fault, read_chunk}

@@ -1,5 +1,5 @@
 -- What a content file gives, chunk by chunk.
-use Rattle.std.specs.Prelude.{◌≡◌, ℕ, ◌+◌, ◌==◌, ◌&&◌, Bool, false, nat_lt, List, [], ◌∷◌, length, take, drop, replicate, if◌then◌else◌, Option, None, Some, Result, Ok, Err}
+use Rattle.std.specs.Prelude.{ℕ, ◌+◌, ◌==◌, ◌&&◌, Bool, false, nat_lt, List, [], ◌∷◌, length, take, drop, replicate, if◌then◌else◌, Option, None, Some, Result, Ok, Err}
 use Rattle.chunk_files.specs.declared.fault.ChunkFault.{ChunkFault}
 use Rattle.chunk_files.specs.declared.fault.ChunkFault.TheVariants.{NoHeader, ShortChunk, ZeroNonce, ChunkTag}
 use Rattle.chunk_files.specs.Zeros.{is_all_zero}

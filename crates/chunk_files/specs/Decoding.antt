@@ -1,9 +1,9 @@
 -- A decoder that is fed a content file in pieces, and what it has left to give.
-use Rattle.std.specs.Prelude.{◌≡◌, ℕ, ◌+◌, ◌*◌, ◌<◌, ◌≤◌, Bool, true, false, List, [], ◌∷◌, ◌++◌, length, take, Option, None, Some, Result, Ok, Err}
+use Rattle.std.specs.Prelude.{◌≡◌, ℕ, ◌+◌, ◌*◌, ◌≤◌, Bool, true, false, List, [], ◌∷◌, ◌++◌, length, take, Option, None, Some, Result, Ok, Err}
 use Rattle.chunk_files.specs.declared.fault.ChunkFault.{ChunkFault}
 use Rattle.chunk_files.specs.declared.step.Step.{Step}
 use Rattle.chunk_files.specs.declared.step.Step.TheVariants.{More, Chunk, End}
-use Rattle.chunk_files.specs.Format.{Format, Header, stored_size}
+use Rattle.chunk_files.specs.Format.{Header, stored_size}
 use Rattle.chunk_files.specs.Keys.{Keys, format_of}
 use Rattle.chunk_files.specs.Reading.{Whole, Wanting, Faulty, Reading, ends, chunk_before}
 use Rattle.chunk_files.specs.Contents.{read_from, read_file}

@@ -1,7 +1,7 @@
 -- What an encoder has made of a content so far.
 use Rattle.std.specs.Prelude.{◌≡◌, ℕ, ◌+◌, ◌*◌, ◌&&◌, Bool, false, List, [], ◌++◌, length, take, Option}
 use Rattle.port_model.specs.Draws.{ByteStream, Draws}
-use Rattle.chunk_files.specs.Format.{Format, Header}
+use Rattle.chunk_files.specs.Format.{Header}
 use Rattle.chunk_files.specs.Keys.{Keys, format_of}
 use Rattle.chunk_files.specs.Pieces.{pieces}
 use Rattle.chunk_files.specs.Encrypt.{AreAccepted, IsEncrypted, encrypt, has_no_bytes, header_and_chunks}

@@ -1,15 +1,14 @@
 -- What holds of an answer, from what was fed, given and written.
-use Rattle.std.proofs.Common.{◌≡◌, ℕ, zero, suc, ◌+◌, ◌-◌, ◌*◌, ◌<◌, ◌≤◌, min, nat_lt, Bool, true, false, List, [], ◌∷◌, ◌++◌, length, take, Option, None, Some, IfSome, inl, inr, refl, sym, ap, ◌∙◌, subst, arith, append-nil, append_assoc, length-append, length-take}
-use Rattle.std.specs.Prelude.{◌⊎◌}
+use Rattle.std.proofs.Common.{◌≡◌, ℕ, zero, suc, ◌+◌, ◌-◌, ◌≤◌, nat_lt, Bool, true, false, List, [], ◌∷◌, ◌++◌, length, take, Option, None, Some, inl, inr, refl, sym, ap, ◌∙◌, subst, arith, append-nil, append_assoc, length-append, length-take}
 use Rattle.std.specs.List.{concat}
 use Rattle.std.specs.Io.KnownBytes.{Appends, Consumes, IsAtEnd, Keeps}
 use Rattle.std.proofs.KnownBytes.{Appends-nil, Consumes-kept, Consumes-nil, Consumes-trans}
 use Rattle.std.proofs.Math.Seq.{take-append-add, take-append_seam}
-use Rattle.std.proofs.lemmas.Bool.{cases_lt, le-ltb, lt-ltb}
+use Rattle.std.proofs.lemmas.Bool.{le-ltb, lt-ltb}
 use Rattle.std.proofs.lemmas.List.{nil_from_length, take_all, take_min, take-append-le}
 use Rattle.std.proofs.lemmas.List.Folds.{concat-append}
 use Rattle.chunk_files.specs.declared.fault.ChunkFault.{ChunkFault}
-use Rattle.chunk_files.specs.Format.{Header, stored_size}
+use Rattle.chunk_files.specs.Format.{Header}
 use Rattle.chunk_files.specs.Gocryptfs.{go_format}
 use Rattle.chunk_files.specs.Keys.{Keys, go_keys}
 use Rattle.port_model.specs.Told.{AppendsPrefix}
@@ -19,7 +18,7 @@ use Rattle.chunk_files.specs.Decoding.{Decoding, HasGiven, IsPlaced, MayFollow, 
 use Rattle.vault_cli.specs.declared.answer.Answer.{Answer}
 use Rattle.vault_cli.specs.declared.answer.Answer.TheVariants.{Done, BadCommandLine, OutOfMemory, InputFault, OutputFault, Damaged, InputTooLong}
 use Rattle.vault_cli.specs.Inputs.{TakesAtMost, input_limit}
-use Rattle.vault_cli.specs.Decrypts.{TakesNear, TellsOf, Writes, end_of_chunks, input_reading}
+use Rattle.vault_cli.specs.Decrypts.{TakesNear, end_of_chunks, input_reading}
 use Rattle.vault_cli.specs.Streaming.{AppendsPart, Drains, HasFailed, HasWritten, Outcome, Streams}
 
 -- the reading of an input of which so much was fed

@@ -1,5 +1,5 @@
 -- What is taken of an input.
-use Rattle.std.specs.Prelude.{◌≡◌, ℕ, ◌≤◌, List, length, Option}
+use Rattle.std.specs.Prelude.{ℕ, ◌≤◌, List, length, Option}
 use Rattle.std.specs.Io.KnownBytes.{Consumes}
 
 -- the most bytes that an input may have, 2^40

@@ -1,16 +1,15 @@
 -- Words of private contracts: an input that streams through a decoder into an output.
-use Rattle.std.specs.Prelude.{◌≡◌, ℕ, ◌+◌, ◌<◌, ◌≤◌, true, false, Bool, List, [], ◌∷◌, ◌++◌, length, take, ◌⊎◌, Option, None, Some, IfSome}
+use Rattle.std.specs.Prelude.{◌≡◌, ℕ, ◌+◌, ◌<◌, true, false, Bool, List, [], ◌∷◌, ◌++◌, length, take, ◌⊎◌, Option, None, Some, IfSome}
 use Rattle.chunk_files.specs.declared.fault.ChunkFault.{ChunkFault}
 use Rattle.vault_cli.specs.Inputs.{TakesAtMost, input_limit}
 use Rattle.vault_cli.specs.Decrypts.{TakesNear, TellsOf, Writes, input_reading}
 use Rattle.std.specs.List.{concat}
-use Rattle.std.specs.Io.KnownBytes.{Appends, Consumes, Keeps}
-use Rattle.port_model.specs.Told.{AppendsPrefix}
+use Rattle.std.specs.Io.KnownBytes.{Appends, Consumes}
 use Rattle.chunk_files.specs.Keys.{go_keys}
 use Rattle.chunk_files.specs.Reading.{Whole, Wanting, Faulty, ends}
 use Rattle.chunk_files.specs.Decoding.{Decoding, HasGiven, IsPlaced, MayFollow, left, wanted}
 use Rattle.vault_cli.specs.declared.answer.Answer.{Answer}
-use Rattle.vault_cli.specs.declared.answer.Answer.TheVariants.{Done, BadCommandLine, OutOfMemory, InputFault, OutputFault, Damaged, InputTooLong}
+use Rattle.vault_cli.specs.declared.answer.Answer.TheVariants.{Done, OutputFault, Damaged}
 
 -- what was taken of the input was fed to the decoder, which gave these chunks, of which the output took this
 pub record Streams (key : List ℕ) (at at' taken taken' : Option (List ℕ)) (d : Decoding) (chunks : List (List ℕ)) (written : List ℕ) : Type 0 where

@@ -1,4 +1,4 @@
-use Rattle.std.proofs.Common.{◌≡◌, ℕ, List, length, replicate, true, sym, ap, ◌∙◌, subst, arith, refl}
+use Rattle.std.proofs.Common.{◌≡◌, ℕ, List, replicate, true, sym, ap, ◌∙◌, subst, refl}
 use Rattle.port_model.specs.Draws.{Draws}
 use Rattle.chunk_files.specs.Zeros.{is_all_zero}
 use Rattle.chunk_files.proofs.StoredChunks.{zero-zeros}

@@ -1,4 +1,4 @@
-use Rattle.std.proofs.Common.{◌∙◌, ◌∷◌, [], ap, length, arith}
+use Rattle.std.proofs.Common.{◌∙◌, ◌∷◌, [], ap, length}
 use Rattle.std.proofs.lemmas.List.{take_at}
 use Rattle.chunk_files.proofs.draw.padded.Goals as goal
 

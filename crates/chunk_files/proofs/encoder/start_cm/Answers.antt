@@ -1,7 +1,5 @@
-use Rattle.std.proofs.Common.{append-nil, ◌≡◌, ℕ, List, [], ◌++◌, length, take, replicate, ap, sym, ◌∙◌, arith}
+use Rattle.std.proofs.Common.{append-nil, ℕ, List, ◌++◌, take, replicate, ap, ◌∙◌}
 use Rattle.port_model.proofs.Draws.{Draws-trans}
-use Rattle.chunk_files.specs.Format.{Header}
-use Rattle.chunk_files.specs.Sealed.{sealed_text}
 use Rattle.chunk_files.proofs.Beginnings.{started-cm}
 use Rattle.chunk_files.proofs.encoder.start_cm.Goals as goal
 

@@ -1,7 +1,6 @@
-use Rattle.std.proofs.Common.{◌≡◌, ◌∙◌, ◌-◌, Ok, Some, List, [], ℕ, true, drop, take, length, sym, ap, arith}
+use Rattle.std.proofs.Common.{◌≡◌, ◌∙◌, Ok, List, [], ℕ, true, drop, take, sym, ap, arith}
 use Rattle.std.proofs.lemmas.List.{length-drop, take_all}
-use Rattle.chunk_files.specs.Format.{Header}
-use Rattle.chunk_files.specs.CryptomatorGcm.{read_cm_header, told_by_plain}
+use Rattle.chunk_files.specs.CryptomatorGcm.{read_cm_header}
 use Rattle.chunk_files.specs.Sealed.{is_tag_right, opened_text, plain_text}
 use Rattle.chunk_files.proofs.header.read_cm.Goals as goal
 

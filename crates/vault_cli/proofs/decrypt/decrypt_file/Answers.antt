@@ -1,6 +1,6 @@
-use Rattle.std.proofs.Common.{◌≡◌, ◌∙◌, ap}
-use Rattle.chunk_files.specs.Decoding.{Decoding, started}
-use Rattle.chunk_files.specs.Keys.{Keys, go_keys}
+use Rattle.std.proofs.Common.{◌∙◌, ap}
+use Rattle.chunk_files.specs.Decoding.{started}
+use Rattle.chunk_files.specs.Keys.{go_keys}
 use Rattle.vault_cli.proofs.Outcomes.{written-nothing}
 use Rattle.vault_cli.proofs.decrypt.decrypt_file.Goals as goal
 

@@ -1,8 +1,8 @@
-use Rattle.std.proofs.Common.{◌≡◌, ◌∙◌, ◌++◌, ◌+◌, ◌-◌, min, List, ℕ, length, take, ap, sym, subst, refl, arith, length-append, length-take}
+use Rattle.std.proofs.Common.{◌≡◌, ◌∙◌, ◌++◌, ◌+◌, ◌-◌, min, List, ℕ, length, take, ap, sym, subst, arith, length-append, length-take}
 use Rattle.std.proofs.KnownBytes.{Consumes-trans}
 use Rattle.std.proofs.lemmas.List.{take_all}
-use Rattle.chunk_files.specs.Decoding.{Decoding, HasGiven, IsPlaced}
-use Rattle.chunk_files.specs.Keys.{Keys, go_keys}
+use Rattle.chunk_files.specs.Decoding.{Decoding, HasGiven}
+use Rattle.chunk_files.specs.Keys.{go_keys}
 use Rattle.vault_cli.proofs.decrypt.feed_from.Goals as goal
 
 pub returns-else-count-eq0-clause-streams : goal.returns-else-count-eq0-clause-streams

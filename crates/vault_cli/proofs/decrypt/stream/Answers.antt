@@ -1,4 +1,4 @@
-use Rattle.std.proofs.Common.{◌≡◌, ◌≤◌, ◌∙◌, List, ℕ, Option, Ok, true, false, refl, sym, ap, arith}
+use Rattle.std.proofs.Common.{◌≡◌, ◌≤◌, ◌∙◌, Ok, true, false, sym, ap, arith}
 use Rattle.chunk_files.specs.Decoding.{Decoding}
 use Rattle.vault_cli.specs.Inputs.{input_limit}
 use Rattle.vault_cli.proofs.Outcomes.{outcome-answer, outcome-input}

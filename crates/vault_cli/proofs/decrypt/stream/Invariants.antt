@@ -1,4 +1,4 @@
-use Rattle.std.proofs.Common.{◌≡◌, ◌≤◌, ◌-◌, List, ℕ, Option, false}
+use Rattle.std.proofs.Common.{◌≡◌, ◌≤◌, ◌-◌, List, ℕ, false}
 use Rattle.vault_cli.specs.Streaming.{HasWritten}
 use Rattle.vault_cli.proofs.decrypt.stream.Given as goal
 

@@ -1,4 +1,4 @@
-use Rattle.std.proofs.Common.{◌≡◌, ◌≤◌, ◌∙◌, List, ℕ, Option, true, false, take, length, length-take, refl, sym, ap, arith}
+use Rattle.std.proofs.Common.{◌≡◌, ◌≤◌, ◌∙◌, List, ℕ, true, false, take, length, length-take, sym, ap, arith}
 use Rattle.chunk_files.specs.Decoding.{Decoding}
 use Rattle.chunk_files.specs.Keys.{go_keys}
 use Rattle.vault_cli.specs.Inputs.{input_limit}

@@ -1,8 +1,8 @@
-use Rattle.std.proofs.Common.{◌≡◌, ◌∙◌, ◌<◌, ◌≤◌, ◌+◌, ◌++◌, ℕ, List, false, true, Bool, Ok, Err, [], length, min, drop, take, ap, ap₂, arith, refl, sym}
+use Rattle.std.proofs.Common.{◌≡◌, ◌∙◌, ◌<◌, ◌≤◌, ℕ, List, false, true, length, min, take, ap, ap₂, arith, refl, sym}
 use Rattle.chunk_files.specs.declared.keys.Layout.{Layout}
 use Rattle.chunk_files.specs.Format.{stored_size}
 use Rattle.chunk_files.specs.Contents.{read_chunk}
-use Rattle.chunk_files.specs.Keys.{Keys, format_by, format_of}
+use Rattle.chunk_files.specs.Keys.{format_by, format_of}
 use Rattle.chunk_files.proofs.Decodings.{chunk-read-at, chunks-none, chunks-wanting, some-stored}
 use Rattle.chunk_files.proofs.decoder.Decoder.step_chunk.Goals as goal
 use Rattle.chunk_files.proofs.decoder.Decoder.step_chunk.Goals.{else-held-stored-via-then-held-stored+else-not-self, else-held-stored-via-else-held-stored}

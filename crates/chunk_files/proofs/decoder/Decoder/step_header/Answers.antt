@@ -1,7 +1,6 @@
-use Rattle.std.proofs.Common.{◌≡◌, ◌∙◌, ◌<◌, ◌≤◌, ◌+◌, ◌++◌, ◌==◌, ◌&&◌, ℕ, List, false, true, Bool, Option, None, Some, Ok, Err, [], length, drop, take, ap, ap₂, arith, refl, sym}
+use Rattle.std.proofs.Common.{◌≡◌, ◌∙◌, ◌<◌, ◌≤◌, ◌==◌, ◌&&◌, ℕ, List, None, length, take, ap, ap₂, arith, refl}
 use Rattle.chunk_files.specs.declared.keys.Layout.{Layout}
-use Rattle.chunk_files.specs.Format.{Header}
-use Rattle.chunk_files.specs.Keys.{Keys, format_by, format_of}
+use Rattle.chunk_files.specs.Keys.{format_by, format_of}
 use Rattle.chunk_files.specs.Decoding.{Decoding}
 use Rattle.chunk_files.proofs.Decodings.{before-header-at, header-fault-at, header-told-at}
 use Rattle.chunk_files.proofs.decoder.Decoder.step_header.Goals as goal

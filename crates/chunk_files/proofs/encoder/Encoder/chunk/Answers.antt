@@ -1,4 +1,4 @@
-use Rattle.std.proofs.Common.{◌≡◌, ◌≤◌, ℕ, List, length, take, ap, sym, ◌∙◌, subst, arith}
+use Rattle.std.proofs.Common.{◌≤◌, ℕ, List, length, take, ap, sym, ◌∙◌, subst, arith}
 use Rattle.port_model.specs.Draws.{Draws}
 use Rattle.chunk_files.specs.Encoding.{Encoding}
 use Rattle.chunk_files.specs.Keys.{format_of}

@@ -1,4 +1,4 @@
-use Rattle.std.proofs.Common.{◌∙◌, ◌++◌, List, ℕ, ap, arith, sym}
+use Rattle.std.proofs.Common.{◌∙◌, ◌++◌, List, ℕ, ap, arith}
 use Rattle.chunk_files.proofs.HeldBytes.{held-push}
 use Rattle.chunk_files.proofs.held.Held.push.Goals as goal
 

@@ -1,4 +1,4 @@
-use Rattle.std.proofs.Common.{◌≡◌, ◌∙◌, ◌+◌, ◌≤◌, ap, arith, drop, length, sym}
+use Rattle.std.proofs.Common.{◌∙◌, ◌+◌, ◌≤◌, ap, arith, drop, length}
 use Rattle.chunk_files.proofs.HeldBytes.{held-length, held-skip}
 use Rattle.chunk_files.proofs.held.Held.skip.Goals as goal
 

@@ -1,9 +1,7 @@
 -- The characters of texts and of long names.
-use Rattle.std.proofs.Common.{◌≡◌, ℕ, zero, suc, ◌+◌, ◌*◌, ◌/◌, ◌%◌, ◌<◌, true, false, List, [], ◌∷◌, length, take, drop, slice_index, inl, inr, IsTrue, codes, refl, ap, ◌∙◌, arith, lit<, length-append, append-nil}
+use Rattle.std.proofs.Common.{◌≡◌, ℕ, zero, suc, ◌+◌, ◌*◌, ◌/◌, List, length, take, drop, slice_index, IsTrue, codes, refl, ap, ◌∙◌, arith, lit<, length-append}
 use Rattle.std.specs.List.{list_all}
 use Rattle.std.specs.Int.{bytes_high_first}
-use Rattle.std.proofs.lemmas.Bool.{and_from, cases_Bool}
-use Rattle.std.proofs.lemmas.List.Folds.{list_all_at}
 use Rattle.std.proofs.lemmas.List.{take_at, drop_at}
 use Rattle.sha2.specs.Sha256.{sha256, digest_bytes}
 use Rattle.sha2.proofs.Facts256.{length-sha256}

@@ -1,10 +1,10 @@
 -- Base32 of four groups, and its characters.
-use Rattle.std.proofs.Common.{◌≡◌, ℕ, zero, suc, ◌+◌, ◌/◌, ◌%◌, ◌<◌, List, [], ◌∷◌, ◌++◌, length, map, take, drop, get_or, flat_map, refl, sym, ap, ◌∙◌, arith, lit<, append-nil}
+use Rattle.std.proofs.Common.{◌≡◌, ℕ, zero, suc, ◌/◌, ◌%◌, ◌<◌, List, [], ◌∷◌, ◌++◌, length, map, take, drop, get_or, flat_map, sym, ap, ◌∙◌, arith, lit<, append-nil}
 use Rattle.std.specs.Simd.{first_chunks}
 use Rattle.std.specs.Str.{IsAscii, IsUtf8}
 use Rattle.std.proofs.lemmas.Bool.Decides.{nat_tests}
 use Rattle.std.proofs.lemmas.Str.{IsUtf8-from_ascii}
-use Rattle.vault_names.specs.Base32.{base32, group_text, digits_of, number_of, symbol}
+use Rattle.vault_names.specs.Base32.{base32, group_text, number_of, symbol}
 
 joined : (a b c d : List ℕ) → a ++ (b ++ (c ++ d)) ≡ a ++ (b ++ (c ++ (d ++ [])))
 joined a b c d = ap (λ e. a ++ (b ++ (c ++ e))) (sym (append-nil d))

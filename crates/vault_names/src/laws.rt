@@ -1,13 +1,17 @@
 //! Laws of stored names, for callers to cite. They compute nothing, and call the laws that they rest on.
 ghost use Rattle.std.specs.Prelude.{◌≡◌, ℕ, ◌+◌, ◌*◌, ◌/◌, List, length, take, drop, codes, IsTrue};
 ghost use Rattle.std.specs.List.{list_all};
-ghost use Rattle.aes_lanes.specs.Bytes.{IsBlock};
+ghost use Rattle.aes_lanes.specs.Bytes.{AreBytes, IsBlock};
 ghost use Rattle.plain_tree.specs.Names.{is_name};
 ghost use Rattle.json_fields.specs.Base64.{is_base64url};
+ghost use Rattle.vault_names.specs.Cryptomator.{IsCmTextOf};
 ghost use Rattle.vault_names.specs.Gocryptfs.{go_text, long_name, IsTextOf};
 
+use crate::cryptomator::siv_of;
+use cryptomator_conf::CmKeys;
 use eme_mode::laws::{blocks_stay_blocks, directions_undo_each_other};
 use json_fields::laws::base64url_is_of_its_alphabet;
+use siv_mode::laws::{opens_to_one_text, sealed_texts_are_bytes};
 
 /// A text is that of one name at most, under each key and in each directory.
 pub fn text_has_one_name()
@@ -36,4 +40,14 @@ pub fn long_names_are_plain()
     ensures characters { (text : List ℕ) → IsTrue (list_all is_base64url (drop 19 (long_name text))) }
 {
     base64url_is_of_its_alphabet();
+}
+
+/// A text of Cryptomator is that of one name at most, under these keys and in each directory.
+pub fn cm_text_has_one_name(keys: &CmKeys)
+    ensures { (id name other text : List ℕ) → AreBytes id
+        → IsCmTextOf keys.now id name text → IsCmTextOf keys.now id other text → name ≡ other }
+{
+    let siv = siv_of(keys);
+    sealed_texts_are_bytes(&siv);
+    opens_to_one_text(&siv);
 }

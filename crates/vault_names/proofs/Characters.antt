@@ -19,7 +19,7 @@ pub record IsOfAlphabet : Type 0 where
   pub size : (bytes : List ℕ) → length (base64url bytes) ≡ (4 * length bytes + 2) / 3
 
 -- a digest is bytes
-IsBytes-high_first : (i n : ℕ) → IsBytes (bytes_high_first i n)
+pub IsBytes-high_first : (i n : ℕ) → IsBytes (bytes_high_first i n)
 IsBytes-high_first zero n k = lit< tt
 IsBytes-high_first (suc zero) n zero = omega arith
 IsBytes-high_first (suc (suc i)) n zero = omega arith

@@ -4,7 +4,7 @@ ghost use Rattle.std.specs.List.{list_all};
 ghost use Rattle.aes_lanes.specs.Bytes.{AreBytes, IsBlock};
 ghost use Rattle.plain_tree.specs.Names.{is_name};
 ghost use Rattle.json_fields.specs.Base64.{is_base64url};
-ghost use Rattle.vault_names.specs.Cryptomator.{IsCmTextOf};
+ghost use Rattle.vault_names.specs.Cryptomator.{cm_long_name, IsCmTextOf, IsPlainUpTo};
 ghost use Rattle.vault_names.specs.Gocryptfs.{go_text, long_name, IsTextOf};
 
 use crate::cryptomator::siv_of;
@@ -50,4 +50,12 @@ pub fn cm_text_has_one_name(keys: &CmKeys)
     let siv = siv_of(keys);
     sealed_texts_are_bytes(&siv);
     opens_to_one_text(&siv);
+}
+
+/// A long name of Cryptomator has 32 characters: letters, digits, `-`, `_` and `=`, and then `.c9s`.
+pub fn cm_long_names_are_plain()
+    ensures size { (text : List ℕ) → length (cm_long_name text) ≡ 32 }
+    ensures characters { (text : List ℕ) → IsPlainUpTo (codes ".c9s") (cm_long_name text) }
+{
+    base64url_is_of_its_alphabet();
 }

@@ -12,8 +12,11 @@ use Rattle.base64.specs.GeneralPurpose.{IsBytes}
 use Rattle.base64.specs.Rfc4648.{encode_symbols, padding_len}
 use Rattle.json_fields.specs.Base64.{is_base64url}
 use Rattle.vault_names.specs.Gocryptfs.{base64url}
-use Rattle.vault_names.specs.Cryptomator.{cm_long_name, padded_base64url, is_padded_base64url, IsPlainUpTo}
+use Rattle.vault_names.specs.Cryptomator.{cm_folder_of, cm_long_name, padded_base64url, is_padded_base64url, IsPlainUpTo}
+use Rattle.cryptomator_conf.specs.declared.keys.CmKeys.{CmKeys}
+use Rattle.vault_names.specs.Base32.{is_base32}
 use Rattle.vault_names.proofs.Blocks.{IsBytes-append}
+use Rattle.vault_names.proofs.Groups.{characters-base32, length-base32}
 use Rattle.vault_names.proofs.Characters.{IsOfAlphabet, IsBytes-high_first}
 
 -- base64url with padding is that without, and then the padding
@@ -91,3 +94,12 @@ length-cm_long_name alphabet text =
 pub plain-cm_long_name : IsOfAlphabet → (text : List ℕ) → IsPlainUpTo (codes ".c9s") (cm_long_name text)
 unfolding cm_long_name
 plain-cm_long_name alphabet text = plain-ended alphabet (sha1 text) (codes ".c9s") _ (IsBytes-sha1 text) refl
+
+-- a folder
+pub length-cm_folder_of : (keys : CmKeys) (id : List ℕ) → length (cm_folder_of keys id) ≡ 32
+unfolding cm_folder_of
+length-cm_folder_of keys id = length-base32 _ ∙ ap (λ n. 8 * (n / 5)) (length-sha1 _)
+
+pub characters-cm_folder_of : (keys : CmKeys) (id : List ℕ) → IsTrue (list_all is_base32 (cm_folder_of keys id))
+unfolding cm_folder_of
+characters-cm_folder_of keys id = characters-base32 _

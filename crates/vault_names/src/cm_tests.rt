@@ -127,4 +127,5 @@ fn ids_of_the_same_bits(rt: HostRuntime) -> Result<(), Fail> {
 fn laws_of_texts_do_nothing() {
     laws::cm_text_has_one_name(&KEYS);
     laws::cm_long_names_are_plain();
+    laws::cm_folders_are_plain();
 }

@@ -2,9 +2,11 @@
 ghost use Rattle.std.specs.Prelude.{◌≡◌, ℕ, ◌+◌, ◌*◌, ◌/◌, List, length, take, drop, codes, IsTrue};
 ghost use Rattle.std.specs.List.{list_all};
 ghost use Rattle.aes_lanes.specs.Bytes.{AreBytes, IsBlock};
+ghost use Rattle.cryptomator_conf.specs.declared.keys.CmKeys.{CmKeys};
 ghost use Rattle.plain_tree.specs.Names.{is_name};
 ghost use Rattle.json_fields.specs.Base64.{is_base64url};
-ghost use Rattle.vault_names.specs.Cryptomator.{cm_long_name, IsCmTextOf, IsPlainUpTo};
+ghost use Rattle.vault_names.specs.Base32.{is_base32};
+ghost use Rattle.vault_names.specs.Cryptomator.{cm_folder_of, cm_long_name, IsCmTextOf, IsPlainUpTo};
 ghost use Rattle.vault_names.specs.Gocryptfs.{go_text, long_name, IsTextOf};
 
 use crate::cryptomator::siv_of;
@@ -59,3 +61,11 @@ pub fn cm_long_names_are_plain()
 {
     base64url_is_of_its_alphabet();
 }
+
+/// The folder of a directory's entries has 32 characters, 2 and 30 once split, of `A` to `Z` and `2` to `7`.
+pub fn cm_folders_are_plain()
+    ensures size { (keys : CmKeys) (id : List ℕ) → length (cm_folder_of keys id) ≡ 32 }
+    ensures first { (keys : CmKeys) (id : List ℕ) → length (take 2 (cm_folder_of keys id)) ≡ 2 }
+    ensures rest { (keys : CmKeys) (id : List ℕ) → length (drop 2 (cm_folder_of keys id)) ≡ 30 }
+    ensures characters { (keys : CmKeys) (id : List ℕ) → IsTrue (list_all is_base32 (cm_folder_of keys id)) }
+{}

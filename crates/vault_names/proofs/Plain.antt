@@ -12,7 +12,7 @@ use Rattle.base64.specs.GeneralPurpose.{IsBytes}
 use Rattle.base64.specs.Rfc4648.{encode_symbols, padding_len}
 use Rattle.json_fields.specs.Base64.{is_base64url}
 use Rattle.vault_names.specs.Gocryptfs.{base64url}
-use Rattle.vault_names.specs.Cryptomator.{cm_folder_of, cm_long_name, padded_base64url, is_padded_base64url, IsPlainUpTo}
+use Rattle.vault_names.specs.Cryptomator.{cm_folder_of, cm_long_name, cm_text, siv_under, padded_base64url, is_padded_base64url, IsPlainUpTo}
 use Rattle.cryptomator_conf.specs.declared.keys.CmKeys.{CmKeys}
 use Rattle.vault_names.specs.Base32.{is_base32}
 use Rattle.vault_names.proofs.Blocks.{IsBytes-append}
@@ -84,6 +84,18 @@ length-sha1 text = length-digest _ 5
 IsBytes-sha1 : (text : List ℕ) → IsBytes (sha1 text)
 unfolding sha1
 IsBytes-sha1 text = IsBytes-digest _ 5
+
+-- a text, where sealing adds sixteen bytes and gives bytes
+pub length-cm_text : IsOfAlphabet → (keys : CmKeys) (id name : List ℕ) → length (siv_under keys (id ∷ []) name) ≡ 16 + length name
+    → length (cm_text keys id name) ≡ 4 * ((length name + 16 + 2) / 3) + 4
+unfolding cm_text
+length-cm_text alphabet keys id name longer =
+    length-ended alphabet (siv_under keys (id ∷ []) name) (codes ".c9r") ∙ ap (λ n. 4 * ((n + 2) / 3) + 4) longer ∙ omega arith
+
+pub plain-cm_text : IsOfAlphabet → (keys : CmKeys) (id name : List ℕ) → IsBytes (siv_under keys (id ∷ []) name)
+    → IsPlainUpTo (codes ".c9r") (cm_text keys id name)
+unfolding cm_text
+plain-cm_text alphabet keys id name sealed = plain-ended alphabet (siv_under keys (id ∷ []) name) (codes ".c9r") _ sealed refl
 
 -- a long name
 pub length-cm_long_name : IsOfAlphabet → (text : List ℕ) → length (cm_long_name text) ≡ 32

@@ -126,6 +126,7 @@ fn ids_of_the_same_bits(rt: HostRuntime) -> Result<(), Fail> {
 #[test]
 fn laws_of_texts_do_nothing() {
     laws::cm_text_has_one_name(&KEYS);
+    laws::cm_texts_are_plain(&KEYS);
     laws::cm_long_names_are_plain();
     laws::cm_folders_are_plain();
 }

@@ -6,14 +6,14 @@ ghost use Rattle.cryptomator_conf.specs.declared.keys.CmKeys.{CmKeys};
 ghost use Rattle.plain_tree.specs.Names.{is_name};
 ghost use Rattle.json_fields.specs.Base64.{is_base64url};
 ghost use Rattle.vault_names.specs.Base32.{is_base32};
-ghost use Rattle.vault_names.specs.Cryptomator.{cm_folder_of, cm_long_name, IsCmTextOf, IsPlainUpTo};
+ghost use Rattle.vault_names.specs.Cryptomator.{cm_folder_of, cm_long_name, cm_text, IsCmTextOf, IsPlainUpTo};
 ghost use Rattle.vault_names.specs.Gocryptfs.{go_text, long_name, IsTextOf};
 
 use crate::cryptomator::siv_of;
 use cryptomator_conf::CmKeys;
 use eme_mode::laws::{blocks_stay_blocks, directions_undo_each_other};
 use json_fields::laws::base64url_is_of_its_alphabet;
-use siv_mode::laws::{opens_to_one_text, sealed_texts_are_bytes};
+use siv_mode::laws::{opens_to_one_text, sealed_texts_are_bytes, unsealing_undoes_sealing};
 
 /// A text is that of one name at most, under each key and in each directory.
 pub fn text_has_one_name()
@@ -52,6 +52,19 @@ pub fn cm_text_has_one_name(keys: &CmKeys)
     let siv = siv_of(keys);
     sealed_texts_are_bytes(&siv);
     opens_to_one_text(&siv);
+}
+
+/// A text's size follows from its name's: four characters for each three bytes begun of the name and sixteen more, and
+/// four. A text is of letters, digits, `-`, `_` and `=`, and then `.c9r`.
+pub fn cm_texts_are_plain(keys: &CmKeys)
+    ensures size { (id name : List ℕ) → length (cm_text keys.now id name) ≡ 4 * ((length name + 16 + 2) / 3) + 4 }
+    ensures characters { (id name : List ℕ) → AreBytes id → IsTrue (is_name name)
+        → IsPlainUpTo (codes ".c9r") (cm_text keys.now id name) }
+{
+    let siv = siv_of(keys);
+    sealed_texts_are_bytes(&siv);
+    unsealing_undoes_sealing(&siv);
+    base64url_is_of_its_alphabet();
 }
 
 /// A long name of Cryptomator has 32 characters: letters, digits, `-`, `_` and `=`, and then `.c9s`.

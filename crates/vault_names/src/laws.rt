@@ -1,4 +1,5 @@
-//! Laws of stored names, for callers to cite. They compute nothing, and call the laws that they rest on.
+//! Laws of stored names, for callers to cite. They give nothing, and call the laws that they rest on; those of a vault's keys
+//! expand these to call the laws of SIV.
 ghost use Rattle.std.specs.Prelude.{◌≡◌, ℕ, ◌+◌, ◌*◌, ◌/◌, List, length, take, drop, codes, IsTrue};
 ghost use Rattle.std.specs.List.{list_all};
 ghost use Rattle.aes_lanes.specs.Bytes.{AreBytes, IsBlock};

@@ -1,9 +1,7 @@
 -- The characters of texts and of long names.
-use Rattle.std.proofs.Common.{◌≡◌, ℕ, zero, suc, ◌+◌, ◌*◌, ◌/◌, ◌%◌, ◌<◌, true, false, List, [], ◌∷◌, length, take, drop, slice_index, inl, inr, IsTrue, codes, refl, ap, ◌∙◌, arith, lit<, length-append, append-nil}
+use Rattle.std.proofs.Common.{◌≡◌, ℕ, zero, suc, ◌+◌, ◌*◌, ◌/◌, List, length, take, drop, slice_index, IsTrue, codes, refl, ap, ◌∙◌, arith, lit<, length-append}
 use Rattle.std.specs.List.{list_all}
 use Rattle.std.specs.Int.{bytes_high_first}
-use Rattle.std.proofs.lemmas.Bool.{and_from, cases_Bool}
-use Rattle.std.proofs.lemmas.List.Folds.{list_all_at}
 use Rattle.std.proofs.lemmas.List.{take_at, drop_at}
 use Rattle.sha2.specs.Sha256.{sha256, digest_bytes}
 use Rattle.sha2.proofs.Facts256.{length-sha256}
@@ -21,7 +19,7 @@ pub record IsOfAlphabet : Type 0 where
   pub size : (bytes : List ℕ) → length (base64url bytes) ≡ (4 * length bytes + 2) / 3
 
 -- a digest is bytes
-IsBytes-high_first : (i n : ℕ) → IsBytes (bytes_high_first i n)
+pub IsBytes-high_first : (i n : ℕ) → IsBytes (bytes_high_first i n)
 IsBytes-high_first zero n k = lit< tt
 IsBytes-high_first (suc zero) n zero = omega arith
 IsBytes-high_first (suc (suc i)) n zero = omega arith

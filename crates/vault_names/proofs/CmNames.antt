@@ -1,5 +1,5 @@
 -- Texts of Cryptomator, and what they open to.
-use Rattle.std.proofs.Common.{◌≡◌, ◌≢◌, ◌+◌, ℕ, List, [], ◌∷◌, ◌++◌, length, codes, Ok, IsTrue, true, false, sym, ap, ◌∙◌, refl}
+use Rattle.std.proofs.Common.{◌≡◌, ℕ, List, [], ◌∷◌, ◌++◌, codes, Ok, IsTrue, sym, ap, ◌∙◌, refl}
 use Rattle.std.proofs.lemmas.List.{append_cancel_right}
 use Rattle.base64.specs.Engines.{url_safe}
 use Rattle.base64.specs.GeneralPurpose.{IsBytes, decode_of}

@@ -5,12 +5,11 @@ use Rattle.std.proofs.lemmas.Bool.{and_parts, leb-true}
 use Rattle.std.proofs.lemmas.Bool.Decides.{nat_tests}
 use Rattle.base64.specs.GeneralPurpose.{IsBytes}
 use Rattle.aes_lanes.specs.Bytes.{IsBlock}
-use Rattle.aes_lanes.specs.Laws.Cipher.{IsBlock-aes, IsBlock-inverse_aes, aes-undone}
 use Rattle.eme_mode.specs.Eme.{eme256, inverse_eme256}
 use Rattle.plain_tree.specs.Names.{is_name_byte, is_name}
 use Rattle.vault_names.specs.Blocks.{AreBlocksOf, IsPaddedName}
 use Rattle.vault_names.specs.Gocryptfs.{padded_bytes, blocks_of, bytes_of, base64url, go_text, IsTextOf}
-use Rattle.vault_names.proofs.Blocks.{length-first_chunks, length-bytes_of, bytes_of-blocks_of, IsBlock-blocks_of, blocks_of-bytes_of}
+use Rattle.vault_names.proofs.Blocks.{length-first_chunks, bytes_of-blocks_of, IsBlock-blocks_of, blocks_of-bytes_of}
 use Rattle.vault_names.proofs.Padded.{length-padded, IsBytes-padded, padded-once}
 use Rattle.vault_names.proofs.Texts.{decoded_blocks}
 

@@ -4,4 +4,5 @@ mod Characters
 mod CmNames
 mod Encryption
 mod Padded
+mod Plain
 mod Texts

@@ -1,11 +1,15 @@
 -- Base32 (RFC 4648, section 6): each group of 40 bits is eight digits of five bits, highest first.
-use Rattle.std.specs.Prelude.{ℕ, ◌+◌, ◌*◌, ◌/◌, ◌%◌, ◌^◌, List, [], ◌∷◌, length, map, slice_index, nat_lt, if◌then◌else◌}
+use Rattle.std.specs.Prelude.{ℕ, ◌+◌, ◌*◌, ◌/◌, ◌%◌, ◌^◌, ◌&&◌, ◌||◌, Bool, List, [], ◌∷◌, length, map, slice_index, nat_lt, nat_le, if◌then◌else◌}
 use Rattle.std.specs.List.{flat_map}
 use Rattle.std.specs.Simd.{first_chunks}
 
 -- `A` to `Z`, then `2` to `7`
 abbrev pub symbol : ℕ → ℕ
 symbol digit = if nat_lt digit 26 then 65 + digit else 24 + digit
+
+-- one of `A` to `Z` and `2` to `7`
+abbrev pub is_base32 : ℕ → Bool
+is_base32 c = (nat_le 65 c && nat_le c 90) || (nat_le 50 c && nat_le c 55)
 
 -- five bytes as a number, the first byte highest
 abbrev pub number_of : List ℕ → ℕ

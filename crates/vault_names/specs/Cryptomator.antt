@@ -1,10 +1,12 @@
 -- The stored names of Cryptomator, vault format 8, in the encrypting direction: `id` is the id of a directory, of no bytes
 -- for the root.
-use Rattle.std.specs.Prelude.{◌≡◌, ℕ, List, [], ◌∷◌, ◌++◌, length, codes, nat_le, if◌then◌else◌, IsTrue, Some, None}
+use Rattle.std.specs.Prelude.{◌≡◌, ◌||◌, ◌==◌, ℕ, Bool, List, [], ◌∷◌, ◌++◌, length, codes, nat_le, if◌then◌else◌, IsTrue, Some, None}
+use Rattle.std.specs.List.{list_all}
 use Rattle.aes_lanes.specs.Cipher.{aes256}
 use Rattle.base64.specs.Engines.{url_safe}
 use Rattle.base64.specs.GeneralPurpose.{encode_of}
 use Rattle.cryptomator_conf.specs.declared.keys.CmKeys.{CmKeys}
+use Rattle.json_fields.specs.Base64.{is_base64url}
 use Rattle.sha1.specs.Sha1.{sha1}
 use Rattle.siv_mode.specs.Siv.{siv_encrypt}
 use Rattle.plain_tree.specs.Names.{is_name}
@@ -45,3 +47,13 @@ cm_folder_of keys id = base32 (sha1 (siv_under keys [] id))
 pub record IsCmTextOf (keys : CmKeys) (id name text : List ℕ) : Type 0 where
   pub named : IsTrue (is_name name)
   pub encrypts : cm_text keys id name ≡ text
+
+-- a letter, a digit, `-`, `_` or `=`
+abbrev pub is_padded_base64url : ℕ → Bool
+is_padded_base64url c = is_base64url c || c == 61
+
+-- the text is of such characters, and then this ending
+pub record IsPlainUpTo (ending text : List ℕ) : Type 0 where
+  pub front : List ℕ
+  pub plain : IsTrue (list_all is_padded_base64url front)
+  pub ended : text ≡ front ++ ending

@@ -1,5 +1,7 @@
 //! Names of Cryptomator, made with Python's AES-SIV, and texts that no name encrypts to.
-use crate::{NameFault, Stored, base32_of, cm_folder, cm_long, cm_read, cm_store, new_dir_id};
+use crate::{
+    NameFault, Stored, base32_of, cm_folder, cm_long, cm_read, cm_store, laws, new_dir_id,
+};
 use cryptomator_conf::CmKeys;
 use plain_tree::Name;
 use std::alloc::Global;
@@ -119,4 +121,12 @@ fn ids_of_the_same_bits(rt: HostRuntime) -> Result<(), Fail> {
     let ones = new_dir_id(rt.alloc(), &[0xff; 16])?;
     assert_eq!(rt; ones.as_str(), "ffffffff-ffff-4fff-bfff-ffffffffffff");
     Ok(())
+}
+
+#[test]
+fn laws_of_texts_do_nothing() {
+    laws::cm_text_has_one_name(&KEYS);
+    laws::cm_texts_are_plain(&KEYS);
+    laws::cm_long_names_are_plain();
+    laws::cm_folders_are_plain();
 }

@@ -134,7 +134,7 @@ fn named(bytes: Vec<u8>) -> Result<Name, NameFault>
 }
 
 // SIV under the two keys.
-fn siv_of(keys: &CmKeys) -> Siv<Key256>
+pub(crate) fn siv_of(keys: &CmKeys) -> Siv<Key256>
     ensures mac { result.mac ≡ keys.now.mac }
     ensures ctr { result.ctr ≡ keys.now.enc }
 {

@@ -1,13 +1,20 @@
-//! Laws of stored names, for callers to cite. They compute nothing, and call the laws that they rest on.
+//! Laws of stored names, for callers to cite. They give nothing, and call the laws that they rest on; those of a vault's keys
+//! expand these to call the laws of SIV.
 ghost use Rattle.std.specs.Prelude.{◌≡◌, ℕ, ◌+◌, ◌*◌, ◌/◌, List, length, take, drop, codes, IsTrue};
 ghost use Rattle.std.specs.List.{list_all};
-ghost use Rattle.aes_lanes.specs.Bytes.{IsBlock};
+ghost use Rattle.aes_lanes.specs.Bytes.{AreBytes, IsBlock};
+ghost use Rattle.cryptomator_conf.specs.declared.keys.CmKeys.{CmKeys};
 ghost use Rattle.plain_tree.specs.Names.{is_name};
 ghost use Rattle.json_fields.specs.Base64.{is_base64url};
+ghost use Rattle.vault_names.specs.Base32.{is_base32};
+ghost use Rattle.vault_names.specs.Cryptomator.{cm_folder_of, cm_long_name, cm_text, IsCmTextOf, IsPlainUpTo};
 ghost use Rattle.vault_names.specs.Gocryptfs.{go_text, long_name, IsTextOf};
 
+use crate::cryptomator::siv_of;
+use cryptomator_conf::CmKeys;
 use eme_mode::laws::{blocks_stay_blocks, directions_undo_each_other};
 use json_fields::laws::base64url_is_of_its_alphabet;
+use siv_mode::laws::{opens_to_one_text, sealed_texts_are_bytes, unsealing_undoes_sealing};
 
 /// A text is that of one name at most, under each key and in each directory.
 pub fn text_has_one_name()
@@ -37,3 +44,42 @@ pub fn long_names_are_plain()
 {
     base64url_is_of_its_alphabet();
 }
+
+/// A text of Cryptomator is that of one name at most, under these keys and in each directory.
+pub fn cm_text_has_one_name(keys: &CmKeys)
+    ensures { (id name other text : List ℕ) → AreBytes id
+        → IsCmTextOf keys.now id name text → IsCmTextOf keys.now id other text → name ≡ other }
+{
+    let siv = siv_of(keys);
+    sealed_texts_are_bytes(&siv);
+    opens_to_one_text(&siv);
+}
+
+/// A text's size follows from its name's: four characters for each three bytes begun of the name and sixteen more, and
+/// four. A text is of letters, digits, `-`, `_` and `=`, and then `.c9r`.
+pub fn cm_texts_are_plain(keys: &CmKeys)
+    ensures size { (id name : List ℕ) → length (cm_text keys.now id name) ≡ 4 * ((length name + 16 + 2) / 3) + 4 }
+    ensures characters { (id name : List ℕ) → AreBytes id → IsTrue (is_name name)
+        → IsPlainUpTo (codes ".c9r") (cm_text keys.now id name) }
+{
+    let siv = siv_of(keys);
+    sealed_texts_are_bytes(&siv);
+    unsealing_undoes_sealing(&siv);
+    base64url_is_of_its_alphabet();
+}
+
+/// A long name of Cryptomator has 32 characters: letters, digits, `-`, `_` and `=`, and then `.c9s`.
+pub fn cm_long_names_are_plain()
+    ensures size { (text : List ℕ) → length (cm_long_name text) ≡ 32 }
+    ensures characters { (text : List ℕ) → IsPlainUpTo (codes ".c9s") (cm_long_name text) }
+{
+    base64url_is_of_its_alphabet();
+}
+
+/// The folder of a directory's entries has 32 characters, 2 and 30 once split, of `A` to `Z` and `2` to `7`.
+pub fn cm_folders_are_plain()
+    ensures size { (keys : CmKeys) (id : List ℕ) → length (cm_folder_of keys id) ≡ 32 }
+    ensures first { (keys : CmKeys) (id : List ℕ) → length (take 2 (cm_folder_of keys id)) ≡ 2 }
+    ensures rest { (keys : CmKeys) (id : List ℕ) → length (drop 2 (cm_folder_of keys id)) ≡ 30 }
+    ensures characters { (keys : CmKeys) (id : List ℕ) → IsTrue (list_all is_base32 (cm_folder_of keys id)) }
+{}

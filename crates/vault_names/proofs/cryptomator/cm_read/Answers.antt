@@ -1,10 +1,9 @@
-use Rattle.std.proofs.Common.{◌≡◌, ℕ, List, [], ◌∷◌, length, true, false, Err, IsTrue, sym, ap, subst, ◌∙◌, arith}
-use Rattle.std.specs.List.{All}
+use Rattle.std.proofs.Common.{◌≡◌, [], ◌∷◌, length, true, false, Err, sym, ap, ◌∙◌, arith}
 use Rattle.std.proofs.lemmas.List.Elements.{All-nil, All-cons}
 use Rattle.std.proofs.lemmas.Result.{IfOk-weaker}
 use Rattle.base64.specs.GeneralPurpose.{IsBytes}
 use Rattle.plain_tree.specs.Names.{is_name}
-use Rattle.vault_names.specs.Cryptomator.{siv_under, IsCmTextOf}
+use Rattle.vault_names.specs.Cryptomator.{siv_under}
 use Rattle.vault_names.proofs.CmNames.{sealed-once, sealed-text, text-sealed}
 use Rattle.vault_names.proofs.Encryption.{IsBytes-name}
 use Rattle.vault_names.proofs.cryptomator.cm_read.Goals as goal

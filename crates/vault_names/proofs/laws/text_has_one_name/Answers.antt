@@ -1,5 +1,3 @@
-use Rattle.std.proofs.Common.{ℕ, List}
-use Rattle.aes_lanes.specs.Bytes.{IsBlock}
 use Rattle.vault_names.proofs.Encryption.{AreEme, text-once}
 use Rattle.vault_names.proofs.laws.text_has_one_name.Goals as goal
 

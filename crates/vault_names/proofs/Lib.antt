@@ -3,6 +3,7 @@ mod Blocks
 mod Characters
 mod CmNames
 mod Encryption
+mod Ids
 mod Padded
 mod Plain
 mod Texts

@@ -1,6 +1,6 @@
 -- The stored names of Cryptomator, vault format 8, in the encrypting direction: `id` is the id of a directory, of no bytes
 -- for the root.
-use Rattle.std.specs.Prelude.{◌≡◌, ◌||◌, ◌==◌, ℕ, Bool, List, [], ◌∷◌, ◌++◌, length, codes, nat_le, if◌then◌else◌, IsTrue, Some, None}
+use Rattle.std.specs.Prelude.{◌≡◌, ◌&&◌, ◌||◌, ◌==◌, ℕ, Bool, List, [], ◌∷◌, ◌++◌, length, codes, nat_le, if◌then◌else◌, IsTrue, Some, None}
 use Rattle.std.specs.List.{list_all}
 use Rattle.aes_lanes.specs.Cipher.{aes256}
 use Rattle.base64.specs.Engines.{url_safe}
@@ -47,6 +47,10 @@ cm_folder_of keys id = base32 (sha1 (siv_under keys [] id))
 pub record IsCmTextOf (keys : CmKeys) (id name text : List ℕ) : Type 0 where
   pub named : IsTrue (is_name name)
   pub encrypts : cm_text keys id name ≡ text
+
+-- a digit, one of `a` to `f`, or `-`
+abbrev pub is_id_character : ℕ → Bool
+is_id_character c = (nat_le 48 c && nat_le c 57) || (nat_le 97 c && nat_le c 102) || c == 45
 
 -- a letter, a digit, `-`, `_` or `=`
 abbrev pub is_padded_base64url : ℕ → Bool

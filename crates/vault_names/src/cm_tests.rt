@@ -129,4 +129,5 @@ fn laws_of_texts_do_nothing() {
     laws::cm_texts_are_plain(&KEYS);
     laws::cm_long_names_are_plain();
     laws::cm_folders_are_plain();
+    laws::dir_ids_are_plain();
 }

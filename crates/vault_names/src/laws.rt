@@ -3,11 +3,12 @@
 ghost use Rattle.std.specs.Prelude.{◌≡◌, ℕ, ◌+◌, ◌*◌, ◌/◌, List, length, take, drop, codes, IsTrue};
 ghost use Rattle.std.specs.List.{list_all};
 ghost use Rattle.aes_lanes.specs.Bytes.{AreBytes, IsBlock};
+ghost use Rattle.cryptomator_conf.specs.Id.{id_of};
 ghost use Rattle.cryptomator_conf.specs.declared.keys.CmKeys.{CmKeys};
 ghost use Rattle.plain_tree.specs.Names.{is_name};
 ghost use Rattle.json_fields.specs.Base64.{is_base64url};
 ghost use Rattle.vault_names.specs.Base32.{is_base32};
-ghost use Rattle.vault_names.specs.Cryptomator.{cm_folder_of, cm_long_name, cm_text, IsCmTextOf, IsPlainUpTo};
+ghost use Rattle.vault_names.specs.Cryptomator.{cm_folder_of, cm_long_name, cm_text, is_id_character, IsCmTextOf, IsPlainUpTo};
 ghost use Rattle.vault_names.specs.Gocryptfs.{go_text, long_name, IsTextOf};
 
 use crate::cryptomator::siv_of;
@@ -82,4 +83,10 @@ pub fn cm_folders_are_plain()
     ensures first { (keys : CmKeys) (id : List ℕ) → length (take 2 (cm_folder_of keys id)) ≡ 2 }
     ensures rest { (keys : CmKeys) (id : List ℕ) → length (drop 2 (cm_folder_of keys id)) ≡ 30 }
     ensures characters { (keys : CmKeys) (id : List ℕ) → IsTrue (list_all is_base32 (cm_folder_of keys id)) }
+{}
+
+/// A new directory's id has 36 characters: digits, `a` to `f`, and `-`.
+pub fn dir_ids_are_plain()
+    ensures size { (drawn : List ℕ) → length (id_of drawn) ≡ 36 }
+    ensures characters { (drawn : List ℕ) → IsTrue (list_all is_id_character (id_of drawn)) }
 {}

@@ -1,10 +1,10 @@
 -- Counter mode block by block and byte by byte.
-use Rattle.std.proofs.Common.{◌≡◌, ℕ, zero, suc, ◌<◌, ◌≤◌, ◌+◌, ◌-◌, ◌*◌, ◌/◌, ◌%◌, ◌^◌, List, [], ◌∷◌, length, slice_index, slice_set, bit_xor, refl, sym, ap, ◌∙◌, arith, inl, inr, length-append}
+use Rattle.std.proofs.Common.{◌≡◌, ℕ, zero, suc, ◌<◌, ◌≤◌, ◌+◌, ◌-◌, ◌*◌, ◌/◌, ◌%◌, ◌^◌, List, [], ◌∷◌, length, slice_index, slice_set, bit_xor, get_or, refl, sym, ap, ap₂, ◌∙◌, arith, inl, inr, length-append}
 use Rattle.std.proofs.lemmas.List.{ext_get_or, get_or_append_left, get_or-append_right}
 use Rattle.std.proofs.lemmas.Bool.{cases_lt}
 use Rattle.std.specs.Fn.{iterate}
 use Rattle.std.specs.Int.{w32, w128, to_be_bytes, from_be_bytes}
-use Rattle.aes_lanes.specs.Private.{IsXoredAt}
+use Rattle.aes_lanes.specs.Private.{AreXoredAt, IsXoredAt}
 use Rattle.aes_lanes.specs.Bytes.{xor_bytes}
 use Rattle.aes_lanes.specs.Counter.{number_of, increment, key_stream, counter_mode}
 use Rattle.aes_lanes.specs.Laws.Sums.{gathered, length-xor_bytes, slice_index-xor_bytes, xor_bytes-twice}
@@ -109,6 +109,32 @@ IsDoneTo-next image next start text bytes new stream k same done e xored = recor
   ];
   after = λ i above. xored.after i (omega arith) ∙ done.after i (omega arith);
 }
+
+-- eight more blocks
+pub IsDoneTo-eight : (image next : List ℕ → List ℕ) (start text bytes new : List ℕ) (blocks : List (List ℕ)) (k : ℕ)
+    → length bytes ≡ length text → IsDoneTo image next start text bytes k
+    → ((i : ℕ) → i < 8 → get_or blocks i [] ≡ image (iterate next (k + i) start)) → AreXoredAt (16 * k) 8 blocks bytes new
+    → IsDoneTo image next start text new (k + 8)
+IsDoneTo-eight image next start text bytes new blocks k same done each xored = record {
+  before = λ i below within. elim (cases_lt i (16 * k)) [
+    | inl old ↦ xored.before i old ∙ done.before i old within
+    | inr here ↦
+        let nth : ℕ = (i - 16 * k) / 16 in
+        let few : nth < 8 = omega arith in
+        let block : i / 16 ≡ k + nth = omega arith in
+        let back : 16 * k + 16 * nth + i % 16 ≡ i = omega arith in
+        let e = xored.inside nth (i % 16) few (omega arith) in
+        ap (slice_index new) (sym back) ∙ e
+        ∙ ap₂ bit_xor (ap (slice_index bytes) back ∙ done.after i here)
+        (ap (λ b. slice_index b (i % 16)) (each nth few ∙ ap (λ n. image (iterate next n start)) (sym block)))
+  ];
+  after = λ i above. xored.after i (omega arith) ∙ done.after i (omega arith);
+}
+
+-- counts one after another
+pub iterate-more : (f : List ℕ → List ℕ) (m n : ℕ) (x : List ℕ) → iterate f n (iterate f m x) ≡ iterate f (m + n) x
+iterate-more f zero n x = let e : n ≡ 0 + n = omega arith in ap (λ k. iterate f k x) e
+iterate-more f (suc m) n x = let e : suc (m + n) ≡ suc m + n = omega arith in iterate-more f m n (f x) ∙ ap (λ k. iterate f k x) e
 
 -- a number's bytes read at once, as they are read one by one
 number_of-4 : (a b c d : ℕ) → from_be_bytes w32 (a ∷ b ∷ c ∷ d ∷ []) ≡ number_of (a ∷ b ∷ c ∷ d ∷ [])

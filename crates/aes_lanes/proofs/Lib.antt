@@ -6,3 +6,10 @@ pub mod CounterBytes
 mod ScheduleSteps
 pub mod CounterSteps
 mod LaneSteps
+mod PlaneBits
+mod Gates
+mod PlaneMoves
+mod MapParts
+mod XorSteps
+mod PlaneSwaps
+mod PlaneBlocks

@@ -6,4 +6,6 @@ pub mod Cipher
 pub mod BlockCipher
 pub mod Counter
 pub mod Private
+pub mod Planes
+pub mod PlaneList
 pub mod Laws

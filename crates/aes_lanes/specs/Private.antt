@@ -1,6 +1,6 @@
 -- Words of private contracts: a block added to a part of a list of bytes, how many of a counter block's
 -- bytes count, the key of a schedule, and the lanes of a vector.
-use Rattle.std.specs.Prelude.{◌≡◌, ℕ, ◌+◌, ◌<◌, ◌≤◌, length, take, List, bit_xor, slice_index}
+use Rattle.std.specs.Prelude.{◌≡◌, ℕ, ◌+◌, ◌*◌, ◌<◌, ◌≤◌, length, take, List, [], bit_xor, get_or, slice_index}
 use Rattle.std.specs.List.{flat_map}
 use Rattle.std.specs.Int.{w32, to_be_bytes}
 use Rattle.aes_lanes.specs.declared.counter.Counting.{Counting}
@@ -13,6 +13,14 @@ pub record IsXoredAt (at : ℕ) (block old new : List ℕ) : Type 0 where
       → slice_index new (at + k) ≡ bit_xor (slice_index old (at + k)) (slice_index block k)
   pub before : (k : ℕ) → k < at → slice_index new k ≡ slice_index old k
   pub after : (k : ℕ) → at + 16 ≤ k → slice_index new k ≡ slice_index old k
+
+-- bytes to which the first n of some blocks were added, end to end, from a place on
+pub record AreXoredAt (at n : ℕ) (blocks : List (List ℕ)) (old new : List ℕ) : Type 0 where
+  pub same_length : length new ≡ length old
+  pub inside : (i r : ℕ) → i < n → r < 16
+      → slice_index new (at + 16 * i + r) ≡ bit_xor (slice_index old (at + 16 * i + r)) (slice_index (get_or blocks i []) r)
+  pub before : (k : ℕ) → k < at → slice_index new k ≡ slice_index old k
+  pub after : (k : ℕ) → at + 16 * n ≤ k → slice_index new k ≡ slice_index old k
 
 -- how many of a counter block's last bytes count
 abbrev pub width_of : Counting → ℕ

@@ -1,8 +1,10 @@
 // Blocks and byte strings: their sum, and whether two are the same.
 
-ghost use Rattle.std.specs.Prelude.{◌≡◌, ◌↔◌, IsTrue};
+ghost use Rattle.std.specs.Prelude.{◌≡◌, ◌↔◌, ◌+◌, ◌≤◌, length, IsTrue};
 ghost use Rattle.aes_lanes.specs.Bytes.{xor_bytes};
-ghost use Rattle.aes_lanes.specs.Private.{IsXoredAt};
+ghost use Rattle.aes_lanes.specs.Private.{AreXoredAt, IsXoredAt};
+
+use std::simd::prelude::*;
 
 /// Sixteen bytes.
 pub type Block = [u8; 16];
@@ -14,6 +16,27 @@ pub(crate) fn xor_at(bytes: &mut [u8], at: usize, block: &Block)
     let rest = bytes.len().saturating_sub(at);
     for i in 0..rest.min(16) {
         bytes[at + i] ^= block[i];
+    }
+}
+
+// Adds a block to the sixteen bytes from place `at` on, at once.
+#[inline(always)]
+fn xor_block(bytes: &mut [u8], at: usize, block: &Block)
+    requires { at + 16 ≤ length bytes.old }
+    ensures { IsXoredAt at block.now bytes.old bytes.new }
+{
+    let part = &mut bytes[at..at + 16];
+    let sum = u8x16::from_slice(part) ^ u8x16::from_array(*block);
+    sum.copy_to_slice(part);
+}
+
+// Adds eight blocks, end to end, to the bytes from place `at` on.
+pub(crate) fn xor_eight(bytes: &mut [u8], at: usize, blocks: &[Block; 8])
+    requires { at + 128 ≤ length bytes.old }
+    ensures { AreXoredAt at 8 blocks.now bytes.old bytes.new }
+{
+    for i in 0..8 {
+        xor_block(bytes, at + 16 * i, &blocks[i]);
     }
 }
 

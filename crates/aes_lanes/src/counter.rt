@@ -1,10 +1,11 @@
 // Counter mode (SP 800-38A, section 6.5).
 
-ghost use Rattle.std.specs.Prelude.{◌≡◌};
+ghost use Rattle.std.specs.Prelude.{◌≡◌, ℕ, ◌<◌, [], get_or, length};
+ghost use Rattle.std.specs.Fn.{iterate};
 ghost use Rattle.aes_lanes.specs.Counter.{counter_mode, ctr128, ctr32, increment, increment128, increment32};
 ghost use Rattle.aes_lanes.specs.Private.{width_of};
 
-use crate::block::{Block, xor_at};
+use crate::block::{Block, xor_at, xor_eight};
 use crate::cipher::Cipher;
 
 // Which part of a counter block counts.
@@ -40,11 +41,31 @@ fn increment(counting: Counting, block: &mut Block)
     }
 }
 
+// Eight counter blocks from `counter` on, which becomes the one after them.
+fn next_eight(counting: Counting, counter: &mut Block) -> [Block; 8]
+    ensures eight { length result ≡ 8 }
+    ensures counts { (i : ℕ) → i < 8 → get_or result i [] ≡ iterate (increment (width_of counting)) i counter.old }
+    ensures counter { counter.new ≡ iterate (increment (width_of counting)) 8 counter.old }
+{
+    let mut blocks = [[0; 16]; 8];
+    for i in 0..8 {
+        blocks[i] = *counter;
+        increment(counting, counter);
+    }
+    blocks
+}
+
 fn counter_xor<C: Cipher>(cipher: &C, counting: Counting, start: &Block, bytes: &mut [u8])
     ensures { bytes.new ≡ counter_mode (C.image cipher.now) (increment (width_of counting)) start.now bytes.old }
 {
     let mut counter = *start;
-    for k in 0..bytes.len().div_ceil(16) {
+    let sets = bytes.len() / 128;
+    for set in 0..sets {
+        let mut stream = next_eight(counting, &mut counter);
+        cipher.encrypt_blocks(&mut stream);
+        xor_eight(bytes, 128 * set, &stream);
+    }
+    for k in 8 * sets..bytes.len().div_ceil(16) {
         let mut stream = [counter];
         cipher.encrypt_blocks(&mut stream);
         xor_at(bytes, 16 * k, &stream[0]);

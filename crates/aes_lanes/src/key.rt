@@ -4,6 +4,8 @@ ghost use Rattle.std.specs.Prelude.{◌≡◌};
 
 use crate::block::Block;
 use crate::cipher::Cipher;
+use crate::plane_rounds::expand_planes;
+use crate::planes::{Planes, no_planes};
 use crate::rounds::{decrypt_all, encrypt_all};
 use crate::schedule::expand_key;
 use std::marker::Model;
@@ -12,10 +14,12 @@ use std::marker::Model;
 #[derive(Drop)]
 pub struct Key128 {
     words: [u32; 44],
+    planes: [Planes; 11],
 }
 
 impl Model for Key128 {
     ghost use Rattle.std.specs.Prelude.{◌≡◌, ℕ, List};
+    ghost use Rattle.aes_lanes.specs.PlaneList.{AreRoundKeys};
     ghost use Rattle.aes_lanes.specs.Private.{key_of};
     ghost use Rattle.aes_lanes.specs.Cipher.{key_schedule};
 
@@ -23,7 +27,10 @@ impl Model for Key128 {
 
     ghost view = { λ key. key_of 4 key.words };
 
-    ghost invariant = { λ key. key.words ≡ key_schedule 4 (key_of 4 key.words) };
+    ghost invariant = { λ key. record {
+      schedule : key.words ≡ key_schedule 4 (key_of 4 key.words);
+      planes : AreRoundKeys key.words key.planes;
+    } };
 }
 
 impl Key128 {
@@ -33,7 +40,9 @@ impl Key128 {
     {
         let mut words = [0; 44];
         expand_key(key, 4, &mut words);
-        Key128 { words }
+        let mut planes = [no_planes(); 11];
+        expand_planes(&words, &mut planes);
+        Key128 { words, planes }
     }
 }
 
@@ -50,7 +59,7 @@ impl Cipher for Key128 {
     ghost undone = { aes-undone 4 };
 
     fn encrypt_blocks(&self, blocks: &mut [Block]) {
-        encrypt_all(&self.words, 10, blocks);
+        encrypt_all(&self.words, &self.planes, 10, blocks);
     }
 
     fn decrypt_blocks(&self, blocks: &mut [Block]) {
@@ -62,10 +71,12 @@ impl Cipher for Key128 {
 #[derive(Drop)]
 pub struct Key256 {
     words: [u32; 60],
+    planes: [Planes; 15],
 }
 
 impl Model for Key256 {
     ghost use Rattle.std.specs.Prelude.{◌≡◌, ℕ, List};
+    ghost use Rattle.aes_lanes.specs.PlaneList.{AreRoundKeys};
     ghost use Rattle.aes_lanes.specs.Private.{key_of};
     ghost use Rattle.aes_lanes.specs.Cipher.{key_schedule};
 
@@ -73,7 +84,10 @@ impl Model for Key256 {
 
     ghost view = { λ key. key_of 8 key.words };
 
-    ghost invariant = { λ key. key.words ≡ key_schedule 8 (key_of 8 key.words) };
+    ghost invariant = { λ key. record {
+      schedule : key.words ≡ key_schedule 8 (key_of 8 key.words);
+      planes : AreRoundKeys key.words key.planes;
+    } };
 }
 
 impl Key256 {
@@ -83,7 +97,9 @@ impl Key256 {
     {
         let mut words = [0; 60];
         expand_key(key, 8, &mut words);
-        Key256 { words }
+        let mut planes = [no_planes(); 15];
+        expand_planes(&words, &mut planes);
+        Key256 { words, planes }
     }
 }
 
@@ -100,7 +116,7 @@ impl Cipher for Key256 {
     ghost undone = { aes-undone 8 };
 
     fn encrypt_blocks(&self, blocks: &mut [Block]) {
-        encrypt_all(&self.words, 14, blocks);
+        encrypt_all(&self.words, &self.planes, 14, blocks);
     }
 
     fn decrypt_blocks(&self, blocks: &mut [Block]) {

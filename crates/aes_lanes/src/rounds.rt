@@ -4,10 +4,13 @@ ghost use Rattle.std.specs.Prelude.{◌≡◌, ◌+◌, ◌*◌, ◌<◌, ◌≤
 ghost use Rattle.std.specs.Int.{w32, to_be_bytes};
 ghost use Rattle.aes_lanes.specs.Field.{inverse_sbox, sbox};
 ghost use Rattle.aes_lanes.specs.Rounds.{add_round_key, inverse_mix_columns, inverse_shift_rows, inverse_sub_bytes, mix_columns, shift_rows, sub_bytes};
+ghost use Rattle.aes_lanes.specs.PlaneList.{AreRoundKeys};
 ghost use Rattle.aes_lanes.specs.Schedule.{round_key, state_of};
 ghost use Rattle.aes_lanes.specs.Cipher.{cipher, inverse_cipher};
 
 use crate::block::Block;
+use crate::plane_rounds::encrypt_at;
+use crate::planes::Planes;
 use crate::schedule::load_word;
 use crate::tables::{column, inverse_column, inverse_sbox, sbox};
 
@@ -36,6 +39,19 @@ fn store(state: &State) -> Block
     [
         a0, a1, a2, a3, b0, b1, b2, b3, c0, c1, c2, c3, d0, d1, d2, d3,
     ]
+}
+
+/// The key of a round as a block.
+pub(crate) fn key_block(words: &[u32], round: usize) -> Block
+    requires { 4 * round + 4 ≤ length words.now }
+    ensures { result ≡ round_key words.now round }
+{
+    store(&[
+        words[4 * round],
+        words[4 * round + 1],
+        words[4 * round + 2],
+        words[4 * round + 3],
+    ])
 }
 
 #[inline(always)]
@@ -162,14 +178,21 @@ fn decrypt_block(words: &[u32], rounds: usize, block: &mut Block)
     *block = store(&add_key(&unshifted_state(&state), words, 0));
 }
 
-/// Replaces each block by its image in so many rounds, under the words of a key schedule.
-pub(crate) fn encrypt_all(words: &[u32], rounds: usize, blocks: &mut [Block])
+/// Replaces each block by its image in so many rounds, under the words of a key schedule, whose round keys are
+/// also given as planes.
+pub(crate) fn encrypt_all(words: &[u32], keys: &[Planes], rounds: usize, blocks: &mut [Block])
     requires some { 0 < rounds }
     requires words { length words.now ≡ 4 * (rounds + 1) }
+    requires keys { length keys.now ≡ rounds + 1 }
+    requires same_keys { AreRoundKeys words.now keys.now }
     ensures { blocks.new ≡ map (cipher rounds words.now) blocks.old }
 {
-    for block in blocks.iter_mut() {
-        encrypt_block(words, rounds, block);
+    let sets = blocks.len() / 8;
+    for set in 0..sets {
+        encrypt_at(keys, rounds, blocks, 8 * set);
+    }
+    for i in 8 * sets..blocks.len() {
+        encrypt_block(words, rounds, &mut blocks[i]);
     }
 }
 

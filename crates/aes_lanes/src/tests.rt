@@ -1,8 +1,10 @@
 // The examples of the standards, through the public calls.
 
+use crate::block::xor_at;
 use crate::lanes::{sub, unsub};
 use crate::tables::{inverse_sbox, sbox};
 use crate::{Block, Cipher, Key128, Key256, ctr32_xor, ctr128_xor, same_bytes, xor_into};
+use std::process::Abort;
 use std::simd::prelude::*;
 
 const KEY: [u8; 32] = [
@@ -94,6 +96,58 @@ fn seventeen_blocks_and_five_bytes(rt: HostRuntime) {
         0x74, 0x69, 0xbb, 0x45, 0x96, 0xb8,
     ];
     assert!(rt; same_bytes(&bytes[256..], &end));
+}
+
+// The stream block by block, each by the tables alone; the counter doesn't pass four bytes.
+fn plain_stream(key: &Key256, start: &Block, bytes: &mut [u8]) {
+    let mut counter = *start;
+    for k in 0..bytes.len().div_ceil(16) {
+        let mut block = [counter];
+        key.encrypt_blocks(&mut block);
+        xor_at(bytes, 16 * k, &block[0]);
+        counter = u128::from_be_bytes(counter).wrapping_add(1).to_be_bytes();
+    }
+}
+
+// The two streams of these bytes are the plain one.
+fn streams_are_plain(rt: &impl Abort, bytes: &mut [u8], plain: &mut [u8]) {
+    let key = Key256::new(&KEY);
+    ctr32_xor(&key, &PLAIN, bytes);
+    plain_stream(&key, &PLAIN, plain);
+    assert!(rt; same_bytes(bytes, plain));
+    ctr128_xor(&key, &PLAIN, bytes);
+    plain_stream(&key, &PLAIN, plain);
+    assert!(rt; same_bytes(bytes, plain));
+}
+
+#[test]
+fn streams_of_each_length(rt: HostRuntime) {
+    for length in 0..=200usize {
+        let mut bytes = [0x5a; 200];
+        let mut plain = [0x5a; 200];
+        streams_are_plain(&rt, &mut bytes[..length], &mut plain[..length]);
+    }
+    streams_are_plain(&rt, &mut [0x5a; 4096], &mut [0x5a; 4096]);
+}
+
+// So many blocks at once are as one by one.
+#[test]
+fn blocks_at_once(rt: HostRuntime) {
+    let key = Key256::new(&KEY);
+    for count in 0..=24usize {
+        let mut blocks = [PLAIN; 24];
+        for i in 0..24usize {
+            blocks[i][3] = i as u8;
+        }
+        let mut plain = blocks;
+        key.encrypt_blocks(&mut blocks[..count]);
+        for i in 0..count {
+            let mut block = [plain[i]];
+            key.encrypt_blocks(&mut block);
+            plain[i] = block[0];
+        }
+        assert_eq!(rt; blocks, plain);
+    }
 }
 
 #[test]

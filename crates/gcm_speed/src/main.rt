@@ -1,8 +1,8 @@
-//! Times AES-256 in counter mode and GCM on blocks of 4,096 bytes: `gcm_speed MEGABYTES` prints
-//! megabytes a second.
+//! Times AES-256 in counter mode, GCM on blocks of 4,096 bytes, and the cipher on sixteen blocks and
+//! on one: `gcm_speed MEGABYTES` prints megabytes a second.
 #![tactic(auto)]
 
-use aes_lanes::{Key256, ctr32_xor};
+use aes_lanes::{Cipher, Key256, ctr32_xor};
 use gcm_mode::Gcm;
 use std::rt::{Clock, Env};
 use std::time::{Duration, Instant};
@@ -17,7 +17,15 @@ fn main(rt: HostRuntime) -> io::Result<()> {
 
     let start = Instant::now(&rt)?;
     let last = unseal(megabytes);
-    report(&rt, "unseal", megabytes, start.elapsed(&rt)?, last)
+    report(&rt, "unseal", megabytes, start.elapsed(&rt)?, last)?;
+
+    let start = Instant::now(&rt)?;
+    let last = sixteen_blocks(megabytes);
+    report(&rt, "sixteen blocks", megabytes, start.elapsed(&rt)?, last)?;
+
+    let start = Instant::now(&rt)?;
+    let last = one_block(megabytes);
+    report(&rt, "one block", megabytes, start.elapsed(&rt)?, last)
 }
 
 // The number that the first word is, or 0.
@@ -66,4 +74,26 @@ fn unseal(megabytes: u32) -> u8 {
         }
     }
     last
+}
+
+fn sixteen_blocks(megabytes: u32) -> u8 {
+    let key = Key256::new(&[1; 32]);
+    let mut blocks = [[2; 16]; 16];
+    for _ in 0..megabytes {
+        for _ in 0..4096 {
+            key.encrypt_blocks(&mut blocks);
+        }
+    }
+    blocks[0][0]
+}
+
+fn one_block(megabytes: u32) -> u8 {
+    let key = Key256::new(&[1; 32]);
+    let mut blocks = [[2; 16]];
+    for _ in 0..megabytes {
+        for _ in 0..65536 {
+            key.encrypt_blocks(&mut blocks);
+        }
+    }
+    blocks[0][0]
 }

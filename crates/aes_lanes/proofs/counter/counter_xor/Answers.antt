@@ -1,8 +1,39 @@
-use Rattle.std.proofs.Common.{◌≤◌, ◌*◌, [], length, get_or, ap, ◌∙◌, arith}
+use Rattle.std.proofs.Common.{◌≡◌, ℕ, ◌≤◌, ◌<◌, ◌+◌, ◌*◌, List, [], map, length, get_or, ap, ◌∙◌, subst, arith}
+use Rattle.std.proofs.lemmas.List.{get_or-map}
+use Rattle.std.specs.Fn.{iterate}
 use Rattle.aes_lanes.specs.Counter.{increment}
-use Rattle.aes_lanes.specs.Private.{width_of}
-use Rattle.aes_lanes.proofs.CounterSteps.{counter-next, IsDoneTo-next, counter_mode-from_places}
+use Rattle.aes_lanes.specs.Private.{width_of, AreXoredAt}
+use Rattle.aes_lanes.proofs.CounterSteps.{counter-next, IsDoneTo, IsDoneTo-next, IsDoneTo-eight, iterate-more, counter_mode-from_places}
 use Rattle.aes_lanes.proofs.counter.counter_xor.Goals as goal
+
+-- the images of eight counter blocks, of which the first is a count
+images : (image next : List ℕ → List ℕ) (start counter : List ℕ) (blocks stream : List (List ℕ)) (n : ℕ) → length blocks ≡ 8
+    → counter ≡ iterate next n start → ((i : ℕ) → i < 8 → get_or blocks i [] ≡ iterate next i counter) → stream ≡ map image blocks
+    → (i : ℕ) → i < 8 → get_or stream i [] ≡ image (iterate next (n + i) start)
+images image next start counter blocks stream n eight counted each is i lt =
+    let within : i < length blocks = omega arith in
+    ap (λ l. get_or l i []) is ∙ get_or-map image blocks i [] [] within
+    ∙ ap image (each i lt ∙ ap (iterate next i) counted ∙ iterate-more next n i start)
+
+pub loop-set-preserved : goal.loop-set-preserved
+loop-set-preserved g c =
+    let image = g.C.Cipher.image c.args.cipher.now in
+    let next = increment (width_of c.args.counting) in
+    let start = c.args.start.now in
+    let more : 8 * c.loop-set.set + 8 ≡ 8 * (c.loop-set.set + 1) = omega arith in
+    let at : 128 * c.loop-set.set ≡ 16 * (8 * c.loop-set.set) = omega arith in
+    let stream = c.next_eight-stream.ensures in
+    record {
+      counter =
+          stream.counter ∙ ap (iterate next 8) c.loop-set.invariant.counter ∙ iterate-more next (8 * c.loop-set.set) 8 start
+          ∙ ap (λ n. iterate next n start) more;
+      done =
+          subst (IsDoneTo image next start c.args.bytes.now c.xor_eight.new.bytes) more
+          (IsDoneTo-eight image next start c.args.bytes.now c.loop-set.bytes c.xor_eight.new.bytes c.encrypt_blocks.new.blocks
+          (8 * c.loop-set.set) c.loop-set.auto.bytes c.loop-set.invariant.done
+          (images image next start c.loop-set.counter _ _ (8 * c.loop-set.set) stream.eight c.loop-set.invariant.counter stream.counts c.encrypt_blocks.ensures)
+          (subst (λ n. AreXoredAt n 8 c.encrypt_blocks.new.blocks c.loop-set.bytes c.xor_eight.new.bytes) at c.xor_eight.ensures));
+    }
 
 pub loop-k-preserved : goal.loop-k-preserved
 loop-k-preserved g c =
@@ -14,13 +45,13 @@ loop-k-preserved g c =
           c.increment.ensures;
       done =
           IsDoneTo-next image next c.args.start.now c.args.bytes.now c.loop-k.bytes c.xor_at.new.bytes _ c.loop-k.k
-          c.loop-k.auto.bytes c.loop-k.invariant.done
-          (ap (λ l. get_or l 0 []) c.encrypt_blocks.ensures ∙ ap image c.loop-k.invariant.counter) c.xor_at.ensures;
+          (c.loop-k.auto.bytes ∙ c.loop-set.auto.bytes) c.loop-k.invariant.done
+          (ap (λ l. get_or l 0 []) c.encrypt_blocks-in-loop-k.ensures ∙ ap image c.loop-k.invariant.counter) c.xor_at.ensures;
     }
 
 pub returns : goal.returns
 returns g c =
-    let all : length c.args.bytes.now ≤ 16 * c.loop-k.k = omega (arith, c.div_ceil-k-end.ensures) in
+    let all : length c.args.bytes.now ≤ 16 * c.loop-k.k = omega (arith, c.div_ceil-k-end.ensures, c.loop-set.auto.bytes) in
     counter_mode-from_places (g.C.Cipher.image c.args.cipher.now) (increment (width_of c.args.counting))
-    (g.met.C.Cipher.length_image c.args.cipher.now) c.args.start.now c.args.bytes.now c.loop-k.bytes c.loop-k.auto.bytes
+    (g.met.C.Cipher.length_image c.args.cipher.now) c.args.start.now c.args.bytes.now c.loop-k.bytes (c.loop-k.auto.bytes ∙ c.loop-set.auto.bytes)
     (λ i lt. c.loop-k.invariant.done.before i (omega arith) lt)

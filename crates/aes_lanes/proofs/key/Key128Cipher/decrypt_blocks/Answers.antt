@@ -6,4 +6,4 @@ pub returns : goal.returns
 unfolding inverse_aes
 returns c =
     c.decrypt_all.ensures
-    ∙ ap (λ words. map (inverse_cipher 10 words) c.args.blocks.now) (c.self.invariant ∙ ap (key_schedule 4) c.self.view_is)
+    ∙ ap (λ words. map (inverse_cipher 10 words) c.args.blocks.now) (c.self.invariant.schedule ∙ ap (key_schedule 4) c.self.view_is)

@@ -6,4 +6,4 @@ pub returns : goal.returns
 unfolding aes
 returns c =
     c.encrypt_all.ensures
-    ∙ ap (λ words. map (cipher 10 words) c.args.blocks.now) (c.self.invariant ∙ ap (key_schedule 4) c.self.view_is)
+    ∙ ap (λ words. map (cipher 10 words) c.args.blocks.now) (c.self.invariant.schedule ∙ ap (key_schedule 4) c.self.view_is)

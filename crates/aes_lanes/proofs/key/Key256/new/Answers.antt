@@ -10,4 +10,7 @@ returns c =
 
 pub invariant_of-result : goal.invariant_of-result
 unfolding key_schedule
-invariant_of-result c = c.expand_key.ensures ∙ ap (key_schedule 8) (sym (returns c))
+invariant_of-result c = record {
+  schedule = c.expand_key.ensures ∙ ap (key_schedule 8) (sym (returns c));
+  planes = c.expand_planes.ensures;
+}

@@ -8,7 +8,8 @@ use lib.Bits.{xor_lt}
 use Rattle.aes_lanes.specs.Bytes.{AreBytes, IsBlock}
 use Rattle.aes_lanes.specs.Counter.{number_of, increment, counter_mode}
 use Rattle.aes_lanes.proofs.Bytes.{bytes-append, bytes-take, bytes-high_first, length-high_first}
-use Rattle.aes_lanes.proofs.CounterSteps.{slice_index-counter_mode, length-counter_mode}
+use Rattle.aes_lanes.specs.Laws.Counter.{length-counter_mode}
+use Rattle.aes_lanes.proofs.CounterSteps.{slice_index-counter_mode}
 
 pub IsBlock-increment : (width : ℕ) → width ≤ 16 → (block : List ℕ) → IsBlock block → IsBlock (increment width block)
 unfolding increment

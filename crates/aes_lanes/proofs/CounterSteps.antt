@@ -1,13 +1,13 @@
 -- Counter mode block by block and byte by byte.
-use Rattle.std.proofs.Common.{◌≡◌, ℕ, zero, suc, ◌<◌, ◌≤◌, ◌+◌, ◌-◌, ◌*◌, ◌/◌, ◌%◌, ◌^◌, List, [], ◌∷◌, length, slice_index, slice_set, bit_xor, get_or, refl, sym, ap, ap₂, ◌∙◌, arith, inl, inr, length-append}
+use Rattle.std.proofs.Common.{◌≡◌, ℕ, zero, suc, ◌<◌, ◌≤◌, ◌+◌, ◌-◌, ◌*◌, ◌/◌, ◌%◌, ◌^◌, List, [], ◌∷◌, length, slice_index, slice_set, bit_xor, get_or, refl, sym, ap, ap₂, ◌∙◌, arith, inl, inr}
 use Rattle.std.proofs.lemmas.List.{ext_get_or, get_or_append_left, get_or-append_right}
 use Rattle.std.proofs.lemmas.Bool.{cases_lt}
 use Rattle.std.specs.Fn.{iterate}
 use Rattle.std.specs.Int.{w32, w128, to_be_bytes, from_be_bytes}
 use Rattle.aes_lanes.specs.Private.{AreXoredAt, IsXoredAt}
-use Rattle.aes_lanes.specs.Bytes.{xor_bytes}
 use Rattle.aes_lanes.specs.Counter.{number_of, increment, key_stream, counter_mode}
-use Rattle.aes_lanes.specs.Laws.Sums.{gathered, length-xor_bytes, slice_index-xor_bytes, xor_bytes-twice}
+use Rattle.aes_lanes.specs.Laws.Counter.{length-key_stream, length-counter_mode}
+use Rattle.aes_lanes.specs.Laws.Sums.{gathered, slice_index-xor_bytes}
 
 iterate-next : (f : List ℕ → List ℕ) (n : ℕ) (x : List ℕ) → iterate f (n + 1) x ≡ f (iterate f n x)
 iterate-next f n x = let e : n + 1 ≡ suc n = omega arith in ap (λ m. iterate f m x) e ∙ step f n x where
@@ -18,14 +18,6 @@ iterate-next f n x = let e : n + 1 ≡ suc n = omega arith in ap (λ m. iterate 
 -- one more count of a counter
 pub counter-next : (f : List ℕ → List ℕ) (n : ℕ) (x y z : List ℕ) → y ≡ iterate f n x → z ≡ f y → z ≡ iterate f (n + 1) x
 counter-next f n x y z before step = step ∙ ap f before ∙ sym (iterate-next f n x)
-
--- for a block cipher, whose images have sixteen bytes
-pub length-key_stream : (image next : List ℕ → List ℕ) → ((b : List ℕ) → length (image b) ≡ 16)
-    → (block : List ℕ) (n : ℕ) → length (key_stream image next block n) ≡ 16 * n
-unfolding key_stream
-length-key_stream image next sixteen block zero = refl
-length-key_stream image next sixteen block (suc n) =
-    omega (arith, length-append (image block) (key_stream image next (next block) n), sixteen block, length-key_stream image next sixteen (next block) n)
 
 -- byte r of block k of a key stream
 pub slice_index-key_stream : (image next : List ℕ → List ℕ) → ((b : List ℕ) → length (image b) ≡ 16)
@@ -41,14 +33,6 @@ slice_index-key_stream image next sixteen block (suc n) zero r i hk hr e =
 slice_index-key_stream image next sixteen block (suc n) (suc k) r i hk hr e =
     get_or-append_right (image block) (key_stream image next (next block) n) 16 i 0 (sixteen block) (omega arith)
     ∙ slice_index-key_stream image next sixteen (next block) n k r (i - 16) (omega arith) hr (omega arith)
-
-pub length-counter_mode : (image next : List ℕ → List ℕ) → ((b : List ℕ) → length (image b) ≡ 16)
-    → (start text : List ℕ) → length (counter_mode image next start text) ≡ length text
-unfolding counter_mode
-length-counter_mode image next sixteen start text =
-    let stream : List ℕ = key_stream image next start ((length text + 15) / 16) in
-    let long : length text ≤ length stream = omega (arith, length-key_stream image next sixteen start ((length text + 15) / 16)) in
-    length-xor_bytes text stream long
 
 -- byte i of a text in counter mode
 pub slice_index-counter_mode : (image next : List ℕ → List ℕ) → ((b : List ℕ) → length (image b) ≡ 16)
@@ -75,17 +59,6 @@ counter_mode-from_places image next sixteen start text bytes same each =
     (λ i lt.
     let here : i < length text = omega arith in
     each i here ∙ sym (slice_index-counter_mode image next sixteen start text i here))
-
--- a text that goes through counter mode twice
-pub counter_mode-twice : (image next : List ℕ → List ℕ) → ((b : List ℕ) → length (image b) ≡ 16)
-    → (start text : List ℕ) → counter_mode image next start (counter_mode image next start text) ≡ text
-unfolding counter_mode
-counter_mode-twice image next sixteen start text =
-    let n : ℕ = (length text + 15) / 16 in
-    let stream : ℕ → List ℕ = key_stream image next start in
-    let long : length text ≤ length (stream n) = omega (arith, length-key_stream image next sixteen start n) in
-    let same : length (xor_bytes text (stream n)) ≡ length text = length-xor_bytes text (stream n) long in
-    ap (λ m. xor_bytes (xor_bytes text (stream n)) (stream ((m + 15) / 16))) same ∙ xor_bytes-twice text (stream n) long
 
 -- a text of which the first k blocks are in counter mode
 pub record IsDoneTo (image next : List ℕ → List ℕ) (start text bytes : List ℕ) (k : ℕ) : Type 0 where

@@ -2,9 +2,9 @@ mod TableEntries
 mod WordBytes
 mod RoundSteps
 pub mod Bytes
-pub mod CounterBytes
+mod CounterBytes
 mod ScheduleSteps
-pub mod CounterSteps
+mod CounterSteps
 mod LaneSteps
 mod PlaneBits
 mod Gates

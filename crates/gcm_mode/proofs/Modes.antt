@@ -4,12 +4,12 @@ use Rattle.std.proofs.lemmas.Bool.Decides.{eqb_tells}
 use Rattle.aes_lanes.specs.Cipher.{aes256}
 use Rattle.aes_lanes.specs.Counter.{ctr32, increment32}
 use Rattle.aes_lanes.specs.Laws.Cipher.{length-aes}
+use Rattle.aes_lanes.specs.Laws.Counter.{counter_mode-twice, length-counter_mode}
 use Rattle.gcm_mode.specs.Field.{product}
 use Rattle.gcm_mode.specs.Hash.{blocks_of, block_bytes}
 use Rattle.gcm_mode.specs.Private.{ghash_from}
 use Rattle.gcm_mode.specs.Gcm.{hash_subkey, pre_counter, lengths_block, hashed, tag_of, encrypted, Sealed, sealed, Opens, OpensToOneText}
 use Rattle.gcm_mode.proofs.Hashes.{ghash_from-append, ghash-last}
-use Rattle.aes_lanes.proofs.CounterSteps.{counter_mode-twice, length-counter_mode}
 
 pub pre_counter-short : (image : List ℕ → List ℕ) (iv : List ℕ) → length iv ≡ 12 → pre_counter image iv ≡ iv ++ 0 ∷ 0 ∷ 0 ∷ 1 ∷ []
 unfolding pre_counter

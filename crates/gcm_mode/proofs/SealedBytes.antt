@@ -1,10 +1,10 @@
 -- A sealed text is of bytes, and its tag is a block.
-use Rattle.std.proofs.Common.{◌≡◌, ℕ, zero, suc, ◌+◌, ◌*◌, true, false, cond, nat_eq, eqb-true, List, [], ◌∷◌, ◌++◌, length, length-append, refl, ap, ◌∙◌, lit<, lit≤}
+use Rattle.std.proofs.Common.{◌≡◌, ℕ, zero, suc, ◌+◌, ◌*◌, true, false, cond, nat_eq, eqb-true, List, [], ◌∷◌, ◌++◌, length, length-append, refl, ap, ◌∙◌, lit<}
 use Rattle.aes_lanes.specs.Bytes.{AreBytes, IsBlock}
 use Rattle.aes_lanes.specs.Cipher.{aes256}
+use Rattle.aes_lanes.specs.Counter.{ctr32, increment32}
 use Rattle.aes_lanes.proofs.Bytes.{bytes-append, bytes-high_first, length-high_first}
 use Rattle.aes_lanes.specs.Laws.Cipher.{aes-undone, length-aes}
-use Rattle.aes_lanes.proofs.CounterBytes.{IsBlock-increment, bytes-counter_mode}
 use Rattle.gcm_mode.specs.Hash.{block_bytes, ghash, blocks_of}
 use Rattle.gcm_mode.specs.Gcm.{pre_counter, hash_subkey, encrypted, tag_of}
 
@@ -34,14 +34,19 @@ IsBlock-pre_counter key iv bytes =
       | false ↦ λ e. IsBlock-block_bytes hash
     ] refl
 
-pub bytes-encrypted : (key iv text : List ℕ) → AreBytes iv → AreBytes text → AreBytes (encrypted (aes256 key) iv text)
-unfolding encrypted
-bytes-encrypted key iv text iv_bytes bytes =
-    bytes-counter_mode 4 (lit≤ tt) (aes256 key) (length-aes 8 key) (aes-undone 8 key).block _ text
-    (IsBlock-increment 4 (lit≤ tt) _ (IsBlock-pre_counter key iv iv_bytes)) bytes
+-- what the law says of counter mode: counter blocks after a block are blocks, and a text of bytes stays one of bytes
+pub record KeepsBytes : Type 0 where
+  pub counter : (block : List ℕ) → IsBlock block → IsBlock (increment32 block)
+  pub text : (image : List ℕ → List ℕ) → ((block : List ℕ) → length (image block) ≡ 16)
+      → ((block : List ℕ) → IsBlock block → IsBlock (image block))
+      → (start text : List ℕ) → IsBlock start → AreBytes text → AreBytes (ctr32 image start text)
 
-pub bytes-tag_of : (key iv ad text : List ℕ) → AreBytes iv → AreBytes (tag_of (aes256 key) iv ad text)
+pub bytes-encrypted : KeepsBytes → (key iv text : List ℕ) → AreBytes iv → AreBytes text → AreBytes (encrypted (aes256 key) iv text)
+unfolding encrypted
+bytes-encrypted law key iv text iv_bytes bytes =
+    law.text (aes256 key) (length-aes 8 key) (aes-undone 8 key).block _ text (law.counter _ (IsBlock-pre_counter key iv iv_bytes)) bytes
+
+pub bytes-tag_of : KeepsBytes → (key iv ad text : List ℕ) → AreBytes iv → AreBytes (tag_of (aes256 key) iv ad text)
 unfolding tag_of
-bytes-tag_of key iv ad text iv_bytes =
-    bytes-counter_mode 4 (lit≤ tt) (aes256 key) (length-aes 8 key) (aes-undone 8 key).block _ _
-    (IsBlock-pre_counter key iv iv_bytes) (IsBlock-block_bytes _).bytes
+bytes-tag_of law key iv ad text iv_bytes =
+    law.text (aes256 key) (length-aes 8 key) (aes-undone 8 key).block _ _ (IsBlock-pre_counter key iv iv_bytes) (IsBlock-block_bytes _).bytes

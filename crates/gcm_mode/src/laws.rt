@@ -6,6 +6,8 @@ ghost use Rattle.aes_lanes.specs.Cipher.{aes256};
 ghost use Rattle.gcm_mode.specs.Field.{product};
 ghost use Rattle.gcm_mode.specs.Gcm.{Sealed, sealed, encrypted, tag_of, Opens, OpensToOneText};
 
+use aes_lanes::laws::bytes_stay_bytes;
+
 /// The law that an encrypted text and its tag open to one text at most, the one that was sealed.
 pub fn opens_to_one_text()
     ensures { OpensToOneText }
@@ -29,7 +31,9 @@ pub fn sealed_texts_are_bytes()
     ensures as_long { (key iv ad plain : List ℕ) → length (sealed (aes256 key) iv ad plain).text ≡ length plain }
     ensures tag { (key iv ad plain : List ℕ) → AreBytes iv → AreBytes (sealed (aes256 key) iv ad plain).tag }
     ensures sixteen { (key iv ad plain : List ℕ) → length (sealed (aes256 key) iv ad plain).tag ≡ 16 }
-{}
+{
+    bytes_stay_bytes();
+}
 
 /// The law that the product in GF(2^128) is associative.
 pub fn product_is_associative()

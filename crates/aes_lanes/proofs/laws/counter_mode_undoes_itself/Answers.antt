@@ -1,5 +1,5 @@
 use Rattle.aes_lanes.specs.Counter.{increment32, increment128}
-use Rattle.aes_lanes.proofs.CounterSteps.{counter_mode-twice}
+use Rattle.aes_lanes.specs.Laws.Counter.{counter_mode-twice}
 use Rattle.aes_lanes.proofs.laws.counter_mode_undoes_itself.Goals as goal
 
 pub returns : goal.returns

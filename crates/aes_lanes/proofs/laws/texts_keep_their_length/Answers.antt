@@ -1,5 +1,5 @@
 use Rattle.aes_lanes.specs.Counter.{increment32, increment128}
-use Rattle.aes_lanes.proofs.CounterSteps.{length-counter_mode}
+use Rattle.aes_lanes.specs.Laws.Counter.{length-counter_mode}
 use Rattle.aes_lanes.proofs.laws.texts_keep_their_length.Goals as goal
 
 pub returns : goal.returns

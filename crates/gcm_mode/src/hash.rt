@@ -4,7 +4,7 @@ ghost use Rattle.std.specs.Prelude.{◌≡◌, ◌*◌, ◌^◌, ◌≤◌, leng
 ghost use Rattle.gcm_mode.specs.Hash.{block_number, blocks_of};
 ghost use Rattle.gcm_mode.specs.Private.{ghash_from};
 
-use super::products::Products;
+use super::products::Powers;
 
 // At most 16 bytes as a block, padded with zeros.
 fn block_of(bytes: &[u8]) -> u128
@@ -16,17 +16,31 @@ fn block_of(bytes: &[u8]) -> u128
     u128::from_be_bytes(block)
 }
 
-// GHASH goes on from `hash` over `bytes`.
-pub fn hash_on(products: &Products, mut hash: u128, bytes: &[u8]) -> u128
-    ensures { result ≡ ghash_from products.now hash (blocks_of bytes.now) }
+// GHASH goes on from `hash` over `bytes`, block by block.
+fn hash_singly(powers: &Powers, mut hash: u128, bytes: &[u8]) -> u128
+    ensures { result ≡ ghash_from powers.now hash (blocks_of bytes.now) }
 {
     let mut rest = bytes;
     while !rest.is_empty() {
         let (block, others) = rest.split_at(rest.len().min(16));
-        hash = products.times(hash ^ block_of(block));
+        hash = powers.times(hash ^ block_of(block));
         rest = others;
     }
     hash
+}
+
+// GHASH goes on from `hash` over `bytes`, two blocks at a time.
+pub fn hash_on(powers: &Powers, mut hash: u128, bytes: &[u8]) -> u128
+    ensures { result ≡ ghash_from powers.now hash (blocks_of bytes.now) }
+{
+    let mut rest = bytes;
+    while rest.len() >= 32 {
+        let (one, others) = rest.split_at(16);
+        let (two, others) = others.split_at(16);
+        hash = powers.two_steps(hash, block_of(one), block_of(two));
+        rest = others;
+    }
+    hash_singly(powers, hash, rest)
 }
 
 pub fn bit_length(bytes: &[u8]) -> u128

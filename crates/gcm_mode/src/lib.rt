@@ -22,17 +22,17 @@ mod tests;
 
 use counter::{next_counter, short_counter};
 use hash::{bit_length, hash_on};
-use products::Products;
+use products::Powers;
 
 /// The tag isn't that of the text, its associated data and its initialization vector.
 #[derive(Clone, Copy, Debug, PartialEq, Eq)]
 pub struct BadTag;
 
-/// GCM under one AES-256 key, with 8 kilobytes of tables for it. A clause sees the key's 32 bytes.
+/// GCM under one AES-256 key, with 16 kilobytes of tables for it. A clause sees the key's 32 bytes.
 #[derive(Drop)]
 pub struct Gcm {
     cipher: Key256,
-    products: Products,
+    powers: Powers,
 }
 
 impl Model for Gcm {
@@ -40,7 +40,7 @@ impl Model for Gcm {
 
     ghost view = { λ g. g.cipher };
 
-    ghost invariant = { λ g. g.products ≡ hash_subkey (aes256 g.cipher) };
+    ghost invariant = { λ g. g.powers ≡ hash_subkey (aes256 g.cipher) };
 }
 
 impl Gcm {
@@ -50,10 +50,10 @@ impl Gcm {
     {
         let mut blocks = [[0; 16]];
         key.encrypt_blocks(&mut blocks);
-        let products = Products::new(u128::from_be_bytes(blocks[0]));
+        let powers = Powers::new(u128::from_be_bytes(blocks[0]));
         Gcm {
             cipher: key,
-            products,
+            powers,
         }
     }
 
@@ -107,8 +107,8 @@ impl Gcm {
         if iv.len() == 12 {
             return short_counter(iv);
         }
-        let hash = hash_on(&self.products, 0, iv);
-        self.products.times(hash ^ bit_length(iv)).to_be_bytes()
+        let hash = hash_on(&self.powers, 0, iv);
+        self.powers.times(hash ^ bit_length(iv)).to_be_bytes()
     }
 
     // Encrypts or decrypts a text whose pre-counter block is `counter`.
@@ -137,8 +137,8 @@ impl Gcm {
         requires text_within { length text.now ≤ 2 ^ 32 }
         ensures { result ≡ block_bytes (hashed (aes256 self.now) ad.now text.now) }
     {
-        let hash = hash_on(&self.products, hash_on(&self.products, 0, ad), text);
+        let hash = hash_on(&self.powers, hash_on(&self.powers, 0, ad), text);
         let lengths = (bit_length(ad) << 64) + bit_length(text);
-        self.products.times(hash ^ lengths).to_be_bytes()
+        self.powers.times(hash ^ lengths).to_be_bytes()
     }
 }

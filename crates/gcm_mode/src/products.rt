@@ -1,10 +1,11 @@
 // The products of a hash subkey with every value of each nibble of a block.
 
-ghost use Rattle.std.specs.Prelude.{◌≡◌, ℕ, ◌+◌, ◌<◌};
+ghost use Rattle.std.specs.Prelude.{◌≡◌, ℕ, ◌+◌, ◌^◌, ◌<◌, bit_xor};
 ghost use Rattle.gcm_mode.specs.Field.{product as product_of};
 ghost use Rattle.gcm_mode.specs.Private.{IsRow, AreRows};
 
 use super::field::{product, times_u4};
+use super::laws::{product_distributes_over_sums, product_is_associative};
 use std::marker::Model;
 
 // A clause sees the hash subkey.
@@ -46,6 +47,50 @@ impl Products {
             rest >>= 4;
         }
         sum
+    }
+}
+
+// The tables of a hash subkey and of its square. A clause sees the hash subkey.
+#[derive(Drop)]
+pub struct Powers {
+    first: Products,
+    second: Products,
+}
+
+impl Model for Powers {
+    ghost Value = { ℕ };
+
+    ghost view = { λ p. p.first };
+
+    ghost invariant = { λ p. record {
+      block : p.first < 2 ^ 128;
+      square : p.second ≡ product_of p.first p.first;
+    } };
+}
+
+impl Powers {
+    pub fn new(subkey: u128) -> Powers
+        ensures { result ≡ subkey }
+    {
+        let first = Products::new(subkey);
+        let second = Products::new(first.times(subkey));
+        Powers { first, second }
+    }
+
+    // x • the subkey
+    pub fn times(&self, x: u128) -> u128
+        ensures { result ≡ product_of x self.now }
+    {
+        self.first.times(x)
+    }
+
+    // GHASH goes on from `hash` over two blocks: (hash + one) • the square + two • the subkey.
+    pub fn two_steps(&self, hash: u128, one: u128, two: u128) -> u128
+        ensures { result ≡ product_of (bit_xor (product_of (bit_xor hash one) self.now) two) self.now }
+    {
+        product_is_associative();
+        product_distributes_over_sums();
+        self.second.times(hash ^ one) ^ self.first.times(two)
     }
 }
 

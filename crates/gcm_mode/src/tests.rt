@@ -3,6 +3,7 @@
 ghost use Rattle.std.specs.Prelude.{◌≡◌, ◌<◌, ◌≤◌, ◌^◌, length, IsOk};
 
 use super::*;
+use field::product;
 use laws::{opens_to_one_text, unsealing_undoes_sealing};
 use std::process::Abort;
 
@@ -144,4 +145,64 @@ fn long_vector_is_hashed(rt: HostRuntime) {
         b"\x5a\x8d\xef\x2f\x0c\x9e\x53\xf1\xf7\x5d\x78\x53\x65\x9e\x2a\x20\xee\xb2\xb2\x2a\xaf\xde\x64\x19\xa0\x58\xab\x4f\x6f\x74\x6b\xf4\x0f\xc0\xc3\xb7\x80\xf2\x44\x45\x2d\xa3\xeb\xf1\xc5\xd8\x2c\xde\xa2\x41\x89\x97\x20\x0e\xf8\x2e\x44\xae\x7e\x3f",
         b"\xa4\x4a\x82\x66\xee\x1c\x8e\xb0\xc8\xb5\xd4\xcf\x5a\xe9\xf1\x9a",
     );
+}
+
+// GHASH goes on from `hash` over `bytes`, each product bit by bit.
+fn plain_hash(subkey: u128, mut hash: u128, bytes: &[u8]) -> u128 {
+    for k in 0..bytes.len().div_ceil(16) {
+        let mut block = [0; 16];
+        for i in 0..16usize {
+            if let Some(byte) = bytes.get(16 * k + i) {
+                block[i] = *byte;
+            }
+        }
+        hash = product(hash ^ u128::from_be_bytes(block), subkey);
+    }
+    hash
+}
+
+// Encrypts `text` in place, one block at a time, and gives its tag.
+fn plain_seal(key: &Key256, iv: &[u8; 12], ad: &[u8], text: &mut [u8]) -> [u8; 16] {
+    let mut counter = short_counter(iv);
+    let mut blocks = [[0; 16], counter];
+    key.encrypt_blocks(&mut blocks);
+    for k in 0..text.len().div_ceil(16) {
+        counter = next_counter(&counter);
+        let mut stream = [counter];
+        key.encrypt_blocks(&mut stream);
+        for i in 0..16usize {
+            if let Some(byte) = text.get_mut(16 * k + i) {
+                *byte ^= stream[0][i];
+            }
+        }
+    }
+    let subkey = u128::from_be_bytes(blocks[0]);
+    let hash = plain_hash(subkey, plain_hash(subkey, 0, ad), text);
+    let lengths = ((ad.len() as u128).wrapping_mul(8) << 64) ^ (text.len() as u128).wrapping_mul(8);
+    let mut tag = product(hash ^ lengths, subkey).to_be_bytes();
+    for i in 0..16usize {
+        tag[i] ^= blocks[1][i];
+    }
+    tag
+}
+
+// These bytes are sealed as block by block.
+fn seals_as_plain(rt: &impl Abort, gcm: &Gcm, text: &mut [u8], plain: &mut [u8])
+    requires { length text.old ≤ 2 ^ 32 }
+{
+    let tag = gcm.seal(IV_12, DATA, text);
+    let plain_tag = plain_seal(&Key256::new(KEY), IV_12, DATA, plain);
+    assert!(rt; same_bytes(text, plain));
+    assert_eq!(rt; tag, plain_tag);
+}
+
+#[test]
+fn texts_of_each_length(rt: HostRuntime) {
+    let gcm = Gcm::new(Key256::new(KEY));
+    for length in 0..=200usize {
+        let mut text = [0x5a; 200];
+        let mut plain = [0x5a; 200];
+        seals_as_plain(&rt, &gcm, &mut text[..length], &mut plain[..length]);
+    }
+    seals_as_plain(&rt, &gcm, &mut [0x5a; 4096], &mut [0x5a; 4096]);
 }

@@ -1,22 +1,13 @@
-use Rattle.std.proofs.Common.{◌≡◌, ℕ, ◌<◌, length, bit_xor, ap, sym, ◌∙◌, rules}
-use Rattle.std.proofs.lemmas.List.{nil_from_length}
-use Rattle.gcm_mode.specs.Field.{product}
-use Rattle.gcm_mode.specs.Hash.{block_number, blocks_of}
-use Rattle.gcm_mode.specs.Private.{ghash_from}
-use Rattle.gcm_mode.proofs.Blocks.{blocks_of-more}
+use Rattle.std.proofs.Common.{◌∙◌, arith}
+use Rattle.gcm_mode.proofs.Hashes.{ghash_from-two}
 use Rattle.gcm_mode.proofs.hash.hash_on.Goals as goal
 
 pub loop-rest-preserved : goal.loop-rest-preserved
-unfolding ghash_from
 loop-rest-preserved c =
-    let some : 0 < length c.loop-rest.rest.now = search rules in
-    let more = blocks_of-more c.loop-rest.rest.now c.min.result c.min.ensures some in
-    let hash = c.times-hash.ensures ∙ ap (λ (x : ℕ). product (bit_xor c.loop-rest.hash x) c.args.products.now) (c.block_of.ensures ∙ ap block_number c.split_at.ensures.front) in
-    rw (hash, c.split_at.ensures.back) (sym (ap (ghash_from c.args.products.now c.loop-rest.hash) more) ∙ c.loop-rest.invariant)
+    ghash_from-two c.args.powers.now c.loop-rest.hash _ _ _ c.loop-rest.rest.now _ _ _ _ (omega arith)
+    c.split_at.ensures.front c.split_at.ensures.back c.split_at-in-loop-rest.ensures.front c.split_at-in-loop-rest.ensures.back
+    c.block_of.ensures c.block_of-in-loop-rest.ensures c.two_steps-hash.ensures
+    ∙ c.loop-rest.invariant
 
 pub returns : goal.returns
-unfolding ghash_from blocks_of
-returns c =
-    let none : length c.loop-rest.rest.now ≡ 0 = search rules in
-    let empty = nil_from_length c.loop-rest.rest.now none in
-    sym (ap (λ bytes. ghash_from c.args.products.now c.loop-rest.hash (blocks_of bytes)) empty) ∙ c.loop-rest.invariant
+returns c = c.hash_singly.ensures ∙ c.loop-rest.invariant

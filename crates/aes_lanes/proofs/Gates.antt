@@ -1,10 +1,9 @@
--- The circuit of the S-box as a list of gates, on bits and on planes of bits.
+-- The circuits of the S-box and of its inverse as lists of gates, on bits and on planes of bits.
 use Rattle.std.proofs.Common.{◌≡◌, ℕ, zero, suc, ◌/◌, ◌%◌, ◌^◌, ◌<◌, List, [], ◌∷◌, map, get_or, replicate, bit_and, bit_xor, refl, ap, ap₂, ◌∙◌, lit<}
 use Rattle.std.specs.Simd.Lanes.{zip2}
 use Rattle.std.proofs.lemmas.List.{get_or-replicate}
 use Rattle.std.proofs.Math.Nat.{zero-div}
-use Rattle.aes_lanes.specs.Field.{xtimes, partial_product, multiply, power, inverse, affine_map, sbox}
-use Rattle.aes_lanes.specs.Rounds.{sub_bytes}
+use Rattle.aes_lanes.specs.Field.{xtimes, partial_product, multiply, power, inverse, affine_map, inverse_affine_map, inverse_sbox, sbox}
 use Rattle.aes_lanes.specs.Laws.Field.{at_each}
 use Rattle.aes_lanes.specs.Planes.{IsPlane, bit, byte_of, byte_at, block_of}
 use Rattle.aes_lanes.proofs.PlaneBits.{IsPlane-sum, IsPlane-both, IsPlane-splat, bit-sum, bit-both, bit-lt, eight, eight_same, block_of-map, bits_of, on_bits}
@@ -21,8 +20,8 @@ values xor and none (sum i j ∷ gates) given = values xor and none gates (xor (
 values xor and none (both i j ∷ gates) given = values xor and none gates (and (get_or given i none) (get_or given j none) ∷ given)
 
 -- the 115 gates of Boyar and Peralta, and the complement of four values
-unfoldable pub circuit : List Gate
-circuit =
+unfoldable pub sbox_gates : List Gate
+sbox_gates =
     sum 3 5 ∷ sum 1 7 ∷ sum 2 5 ∷ sum 3 8 ∷ sum 5 6 ∷ sum 0 12 ∷ sum 0 9 ∷ sum 5 6 ∷ sum 2 8 ∷ sum 3 15 ∷
     sum 0 6 ∷ sum 15 3 ∷ sum 0 17 ∷ sum 1 14 ∷ sum 1 21 ∷ sum 2 10 ∷ sum 2 13 ∷ sum 24 0 ∷ sum 2 1 ∷
     sum 3 15 ∷ sum 15 3 ∷ sum 19 0 ∷ sum 22 1 ∷ both 15 10 ∷ both 13 9 ∷ sum 0 1 ∷ both 19 33 ∷ sum 0 3 ∷
@@ -38,9 +37,37 @@ circuit =
     sum 20 8 ∷ sum 5 4 ∷ sum 17 4 ∷ sum 20 5 ∷ sum 25 7 ∷ sum 9 2 ∷ sum 19 4 ∷ sum 7 123 ∷ sum 7 124 ∷
     sum 3 125 ∷ sum 3 126 ∷ []
 
--- the values that are the bits of the S-box, the lowest first
-abbrev pub chosen : {A : Type 0} → A → List A → List A
-chosen none all = map (λ i. get_or all i none) (2 ∷ 3 ∷ 6 ∷ 7 ∷ 8 ∷ 0 ∷ 1 ∷ 12 ∷ [])
+-- the linear part of the inverse affine map, the 115 gates, and that linear part once more
+unfoldable pub unsbox_gates : List Gate
+unsbox_gates =
+    sum 5 2 ∷ sum 0 1 ∷ sum 0 10 ∷ sum 7 4 ∷ sum 0 11 ∷ sum 8 5 ∷ sum 0 12 ∷ sum 0 15 ∷ sum 10 15 ∷
+    sum 0 14 ∷ sum 11 16 ∷ sum 0 15 ∷ sum 12 17 ∷ sum 0 16 ∷ sum 21 18 ∷ sum 0 17 ∷ sum 22 19 ∷ sum 0 18 ∷
+    sum 6 10 ∷ sum 1 14 ∷ sum 2 8 ∷ sum 3 13 ∷ sum 6 8 ∷ sum 0 20 ∷ sum 0 12 ∷ sum 5 6 ∷ sum 2 8 ∷ sum 3 22 ∷
+    sum 0 6 ∷ sum 19 3 ∷ sum 0 22 ∷ sum 1 15 ∷ sum 1 29 ∷ sum 2 10 ∷ sum 2 13 ∷ sum 32 0 ∷ sum 2 1 ∷
+    sum 3 15 ∷ sum 15 3 ∷ sum 19 0 ∷ sum 22 1 ∷ both 15 10 ∷ both 13 9 ∷ sum 0 1 ∷ both 19 41 ∷ sum 0 3 ∷
+    both 26 7 ∷ both 19 23 ∷ sum 0 1 ∷ both 22 13 ∷ sum 0 3 ∷ both 30 16 ∷ both 33 15 ∷ sum 0 1 ∷
+    both 32 20 ∷ sum 0 3 ∷ sum 12 2 ∷ sum 11 1 ∷ sum 9 4 ∷ sum 8 3 ∷ sum 3 28 ∷ sum 3 23 ∷ sum 3 22 ∷
+    sum 3 22 ∷ sum 3 2 ∷ both 4 2 ∷ sum 2 0 ∷ both 2 0 ∷ sum 0 6 ∷ sum 6 5 ∷ sum 8 4 ∷ both 0 1 ∷ sum 0 8 ∷
+    sum 10 0 ∷ sum 7 1 ∷ both 11 0 ∷ sum 0 2 ∷ sum 10 1 ∷ both 9 0 ∷ sum 14 0 ∷ sum 0 3 ∷ sum 12 8 ∷
+    sum 13 2 ∷ sum 10 6 ∷ sum 2 3 ∷ both 1 54 ∷ both 9 53 ∷ both 14 84 ∷ both 5 49 ∷ both 9 65 ∷ both 21 54 ∷
+    both 9 56 ∷ both 7 55 ∷ both 12 59 ∷ both 10 68 ∷ both 18 66 ∷ both 23 71 ∷ both 14 77 ∷ both 18 70 ∷
+    both 30 72 ∷ both 18 79 ∷ both 16 82 ∷ both 21 80 ∷ sum 2 1 ∷ sum 8 7 ∷ sum 14 6 ∷ sum 11 10 ∷ sum 19 9 ∷
+    sum 20 17 ∷ sum 16 15 ∷ sum 24 21 ∷ sum 19 18 ∷ sum 10 9 ∷ sum 15 7 ∷ sum 6 3 ∷ sum 25 11 ∷ sum 27 4 ∷
+    sum 13 2 ∷ sum 18 3 ∷ sum 9 3 ∷ sum 13 4 ∷ sum 31 4 ∷ sum 3 2 ∷ sum 36 2 ∷ sum 7 3 ∷ sum 11 5 ∷
+    sum 20 8 ∷ sum 5 4 ∷ sum 17 4 ∷ sum 20 5 ∷ sum 25 7 ∷ sum 9 2 ∷ sum 19 4 ∷ sum 2 0 ∷ sum 0 9 ∷ sum 5 3 ∷
+    sum 0 9 ∷ sum 8 12 ∷ sum 0 12 ∷ sum 6 12 ∷ sum 0 9 ∷ sum 9 15 ∷ sum 0 12 ∷ sum 18 12 ∷ sum 0 15 ∷
+    sum 18 15 ∷ sum 0 13 ∷ sum 21 18 ∷ sum 0 16 ∷ []
+
+-- some values of gates, those in these places
+abbrev pub chosen : {A : Type 0} → A → List ℕ → List A → List A
+chosen none places all = map (λ i. get_or all i none) places
+
+-- the values that are the bits of the S-box and of its inverse, the lowest first
+abbrev pub sbox_places : List ℕ
+sbox_places = 2 ∷ 3 ∷ 6 ∷ 7 ∷ 8 ∷ 0 ∷ 1 ∷ 12 ∷ []
+
+abbrev pub unsbox_places : List ℕ
+unsbox_places = 14 ∷ 12 ∷ 10 ∷ 8 ∷ 6 ∷ 4 ∷ 2 ∷ 0 ∷ []
 
 unfoldable pub zeros : List ℕ
 zeros = replicate 16 0
@@ -48,31 +75,32 @@ zeros = replicate 16 0
 unfoldable pub ones : List ℕ
 ones = replicate 16 255
 
--- the circuit on eight bits and on eight planes, the highest first, and a value of ones
-unfoldable pub sbox_bits : List ℕ → List ℕ
-sbox_bits given = chosen 0 (values bit_xor bit_and 0 circuit given)
-
-unfoldable pub sbox_planes : List (List ℕ) → List (List ℕ)
-sbox_planes given = chosen zeros (values (zip2 bit_xor) (zip2 bit_and) zeros circuit given)
-
--- the circuit on eight bits, the lowest first
-abbrev given_bits : List ℕ → List ℕ
+-- what gates are given: eight values, the highest first, and one of ones
+abbrev pub given_bits : List ℕ → List ℕ
 given_bits bits = get_or bits 7 0 ∷ get_or bits 6 0 ∷ get_or bits 5 0 ∷ get_or bits 4 0 ∷ get_or bits 3 0 ∷ get_or bits 2 0 ∷ get_or bits 1 0 ∷ get_or bits 0 0 ∷ 1 ∷ []
 
--- on all 256 bytes it is the S-box
-sbox-by_bits : (x : ℕ) → x < 256 → byte_of (sbox_bits (given_bits (bits_of x))) ≡ sbox x
-unfolding byte_of bits_of sbox_bits values circuit xtimes partial_product multiply power inverse affine_map sbox
-sbox-by_bits = at_each (λ x. byte_of (sbox_bits (given_bits (bits_of x)))) sbox refl
+-- the byte that gates make of a byte
+unfoldable pub by_gates : List Gate → List ℕ → ℕ → ℕ
+by_gates gates places x = byte_of (chosen 0 places (values bit_xor bit_and 0 gates (given_bits (bits_of x))))
+
+-- on all 256 bytes they are the S-box and its inverse
+pub sbox-by_gates : (x : ℕ) → x < 256 → by_gates sbox_gates sbox_places x ≡ sbox x
+unfolding by_gates byte_of bits_of values sbox_gates xtimes partial_product multiply power inverse affine_map sbox
+sbox-by_gates = at_each (by_gates sbox_gates sbox_places) sbox refl
+
+pub unsbox-by_gates : (x : ℕ) → x < 256 → by_gates unsbox_gates unsbox_places x ≡ inverse_sbox x
+unfolding by_gates byte_of bits_of values unsbox_gates xtimes partial_product multiply power inverse inverse_affine_map inverse_sbox
+unsbox-by_gates = at_each (by_gates unsbox_gates unsbox_places) inverse_sbox refl
 
 -- a plane with this bit in a place
 pub record HasBit (p k : ℕ) (v : List ℕ) (b : ℕ) : Type 0 where
   pub plane : IsPlane v
   pub same : bit p k v ≡ b
 
-record HaveBits (p k : ℕ) (planes : List (List ℕ)) (bits : List ℕ) : Type 0 where
+pub record HaveBits (p k : ℕ) (planes : List (List ℕ)) (bits : List ℕ) : Type 0 where
   pub each : (i : ℕ) → HasBit p k (get_or planes i zeros) (get_or bits i 0)
 
-HaveBits-more : (p k : ℕ) (plane : List ℕ) (b : ℕ) (planes : List (List ℕ)) (bits : List ℕ)
+pub HaveBits-more : (p k : ℕ) (plane : List ℕ) (b : ℕ) (planes : List (List ℕ)) (bits : List ℕ)
     → HasBit p k plane b → HaveBits p k planes bits → HaveBits p k (plane ∷ planes) (b ∷ bits)
 HaveBits-more p k plane b planes bits first rest = record { each = more } where
   more : (i : ℕ) → HasBit p k (get_or (plane ∷ planes) i zeros) (get_or (b ∷ bits) i 0)
@@ -92,7 +120,7 @@ HasBit-both p k u v a b lt f g = record {
 }
 
 -- gates keep planes and bits together
-values-bits : (p k : ℕ) → p < 16 → (gates : List Gate) (planes : List (List ℕ)) (bits : List ℕ) → HaveBits p k planes bits
+pub values-bits : (p k : ℕ) → p < 16 → (gates : List Gate) (planes : List (List ℕ)) (bits : List ℕ) → HaveBits p k planes bits
     → HaveBits p k (values (zip2 bit_xor) (zip2 bit_and) zeros gates planes) (values bit_xor bit_and 0 gates bits)
 unfolding values
 values-bits p k lt [] planes bits have = have
@@ -106,6 +134,10 @@ HasBit-splat p k n b byte lt is = record {
   plane = IsPlane-splat n byte;
   same = ap (λ m. m / 2 ^ k % 2) (get_or-replicate 16 p n 0 lt) ∙ is;
 }
+
+pub HasBit-zeros : (p k : ℕ) → p < 16 → HasBit p k zeros 0
+unfolding zeros
+HasBit-zeros p k lt = HasBit-splat p k 0 0 (lit< tt) lt (ap (λ m. m % 2) (zero-div (2 ^ k)))
 
 -- what the circuit is given
 given-bits : (p k : ℕ) (p0 p1 p2 p3 p4 p5 p6 p7 : List ℕ) → p < 16 → k < 8
@@ -123,37 +155,39 @@ given-bits p k p0 p1 p2 p3 p4 p5 p6 p7 lt lk a b c d e f g h =
     (HaveBits-more p k p1 _ _ _ (itself p1 b)
     (HaveBits-more p k p0 _ _ _ (itself p0 a)
     (HaveBits-more p k ones _ _ _ (HasBit-splat p k 255 1 (lit< tt) lt (eight (λ n. 255 / 2 ^ n % 2 ≡ 1) refl refl refl refl refl refl refl refl k lk))
-    (record { each = λ i. HasBit-splat p k 0 0 (lit< tt) lt (ap (λ m. m % 2) (zero-div (2 ^ k))) }))))))))) where
+    (record { each = λ i. HasBit-zeros p k lt }))))))))) where
       itself : (q : List ℕ) → IsPlane q → HasBit p k q (bit p k q)
       itself q plane = record { plane = plane; same = refl }
 
--- the S-box of each byte of eight planes
-module _ (p0 p1 p2 p3 p4 p5 p6 p7 : List ℕ)
-    (a : IsPlane p0) (b : IsPlane p1) (c : IsPlane p2) (d : IsPlane p3) (e : IsPlane p4) (f : IsPlane p5) (g : IsPlane p6) (h : IsPlane p7) where
+-- a function of each byte of eight planes, where gates are that function
+module _ (gates : List Gate) (i0 i1 i2 i3 i4 i5 i6 i7 : ℕ) (f : ℕ → ℕ)
+    (table : (x : ℕ) → x < 256 → by_gates gates (i0 ∷ i1 ∷ i2 ∷ i3 ∷ i4 ∷ i5 ∷ i6 ∷ i7 ∷ []) x ≡ f x)
+    (p0 p1 p2 p3 p4 p5 p6 p7 : List ℕ)
+    (a : IsPlane p0) (b : IsPlane p1) (c : IsPlane p2) (d : IsPlane p3) (e : IsPlane p4) (f0 : IsPlane p5) (g : IsPlane p6) (h : IsPlane p7) where
   abbrev all : List (List ℕ)
-  all = values (zip2 bit_xor) (zip2 bit_and) zeros circuit (p7 ∷ p6 ∷ p5 ∷ p4 ∷ p3 ∷ p2 ∷ p1 ∷ p0 ∷ ones ∷ [])
+  all = values (zip2 bit_xor) (zip2 bit_and) zeros gates (p7 ∷ p6 ∷ p5 ∷ p4 ∷ p3 ∷ p2 ∷ p1 ∷ p0 ∷ ones ∷ [])
 
-  abbrev bits : ℕ → ℕ → List ℕ
-  bits p k = values bit_xor bit_and 0 circuit (bit p k p7 ∷ bit p k p6 ∷ bit p k p5 ∷ bit p k p4 ∷ bit p k p3 ∷ bit p k p2 ∷ bit p k p1 ∷ bit p k p0 ∷ 1 ∷ [])
+  abbrev old : List (List ℕ)
+  old = p0 ∷ p1 ∷ p2 ∷ p3 ∷ p4 ∷ p5 ∷ p6 ∷ p7 ∷ []
 
-  value : (p k : ℕ) → p < 16 → k < 8 → (i : ℕ) → HasBit p k (get_or all i zeros) (get_or (bits p k) i 0)
-  value p k lt lk = (values-bits p k lt circuit _ _ (given-bits p k p0 p1 p2 p3 p4 p5 p6 p7 lt lk a b c d e f g h)).each
+  abbrev new : List (List ℕ)
+  new = chosen zeros (i0 ∷ i1 ∷ i2 ∷ i3 ∷ i4 ∷ i5 ∷ i6 ∷ i7 ∷ []) all
 
-  pub IsPlane-sbox : (i : ℕ) → IsPlane (get_or all i zeros)
-  IsPlane-sbox i = (value 0 0 (lit< tt) (lit< tt) i).plane
+  value : (p k : ℕ) → p < 16 → k < 8 → (i : ℕ)
+      → HasBit p k (get_or all i zeros) (get_or (values bit_xor bit_and 0 gates (given_bits (map (bit p k) old))) i 0)
+  value p k lt lk = (values-bits p k lt gates _ _ (given-bits p k p0 p1 p2 p3 p4 p5 p6 p7 lt lk a b c d e f0 g h)).each
 
-  pub byte_at-sbox : (k p : ℕ) → k < 8 → p < 16
-      → byte_at (sbox_planes (p7 ∷ p6 ∷ p5 ∷ p4 ∷ p3 ∷ p2 ∷ p1 ∷ p0 ∷ ones ∷ [])) k p
-      ≡ sbox (byte_at (p0 ∷ p1 ∷ p2 ∷ p3 ∷ p4 ∷ p5 ∷ p6 ∷ p7 ∷ []) k p)
-  unfolding sbox_planes sbox_bits
-  byte_at-sbox k p lk lt =
+  pub IsPlane-gates : (i : ℕ) → IsPlane (get_or all i zeros)
+  IsPlane-gates i = (value 0 0 (lit< tt) (lit< tt) i).plane
+
+  byte_at-gates : (k p : ℕ) → k < 8 → p < 16 → byte_at new k p ≡ f (byte_at old k p)
+  unfolding by_gates
+  byte_at-gates k p lk lt =
       let v = value p k lt lk in
-      ap byte_of (eight_same (v 2).same (v 3).same (v 6).same (v 7).same (v 8).same (v 0).same (v 1).same (v 12).same)
-      ∙ on_bits (λ l. byte_of (sbox_bits (given_bits l))) sbox sbox-by_bits (bit p k p0) (bit p k p1) (bit p k p2) (bit p k p3) (bit p k p4) (bit p k p5) (bit p k p6) (bit p k p7)
+      ap byte_of (eight_same (v i0).same (v i1).same (v i2).same (v i3).same (v i4).same (v i5).same (v i6).same (v i7).same)
+      ∙ on_bits (λ l. byte_of (chosen 0 (i0 ∷ i1 ∷ i2 ∷ i3 ∷ i4 ∷ i5 ∷ i6 ∷ i7 ∷ []) (values bit_xor bit_and 0 gates (given_bits l)))) f table
+      (bit p k p0) (bit p k p1) (bit p k p2) (bit p k p3) (bit p k p4) (bit p k p5) (bit p k p6) (bit p k p7)
       (bit-lt _) (bit-lt _) (bit-lt _) (bit-lt _) (bit-lt _) (bit-lt _) (bit-lt _) (bit-lt _)
 
-  pub block_of-sbox : (k : ℕ) → k < 8
-      → block_of (sbox_planes (p7 ∷ p6 ∷ p5 ∷ p4 ∷ p3 ∷ p2 ∷ p1 ∷ p0 ∷ ones ∷ [])) k
-      ≡ sub_bytes (block_of (p0 ∷ p1 ∷ p2 ∷ p3 ∷ p4 ∷ p5 ∷ p6 ∷ p7 ∷ []) k)
-  unfolding sub_bytes
-  block_of-sbox k lk = block_of-map sbox _ _ k (λ p lt. byte_at-sbox k p lk lt)
+  pub block_of-gates : (k : ℕ) → k < 8 → block_of new k ≡ map f (block_of old k)
+  block_of-gates k lk = block_of-map f new old k (λ p lt. byte_at-gates k p lk lt)

@@ -9,6 +9,8 @@ mod LaneSteps
 mod PlaneBits
 mod Gates
 mod PlaneMoves
+mod PlaneUnmix
+mod RoundPlanes
 mod MapParts
 mod XorSteps
 mod PlaneSwaps

@@ -9,7 +9,7 @@ use lib.Dec.{T}
 use lib.Bits.{xor_assoc, xor_comm, xor_lt}
 use Rattle.aes_lanes.specs.Bytes.{xor_bytes}
 use Rattle.aes_lanes.specs.Field.{xtimes, partial_product, multiply}
-use Rattle.aes_lanes.specs.Rounds.{sum_of, column_product, shift_rows, mix_columns, add_round_key}
+use Rattle.aes_lanes.specs.Rounds.{sum_of, column_product, shift_rows, mix_columns, inverse_shift_rows, add_round_key}
 use Rattle.aes_lanes.specs.Laws.Field.{at_each, multiply-additive}
 use Rattle.aes_lanes.specs.Planes.{IsPlane, bit, byte_of, byte_at, block_of, place}
 use Rattle.aes_lanes.proofs.PlaneBits.{IsPlane-sum, bit-sum, bit-lt, bits-lt, eight_same, eight_lt, byte_of-lt, range-agree, sixteen, bits_of, on_bits, byte_of-xor}
@@ -26,6 +26,9 @@ half_turn = 8 ∷ 9 ∷ 10 ∷ 11 ∷ 12 ∷ 13 ∷ 14 ∷ 15 ∷ 0 ∷ 1 ∷ 2 
 
 abbrev pub shift : List ℕ
 shift = 0 ∷ 1 ∷ 2 ∷ 3 ∷ 5 ∷ 6 ∷ 7 ∷ 4 ∷ 10 ∷ 11 ∷ 8 ∷ 9 ∷ 15 ∷ 12 ∷ 13 ∷ 14 ∷ []
+
+abbrev pub unshift : List ℕ
+unshift = 0 ∷ 1 ∷ 2 ∷ 3 ∷ 7 ∷ 4 ∷ 5 ∷ 6 ∷ 10 ∷ 11 ∷ 8 ∷ 9 ∷ 13 ∷ 14 ∷ 15 ∷ 12 ∷ []
 
 module _ (places : List ℕ) (long : length places ≡ 16) (within : T (all_below 16 places)) where
   pub slice_index-moved : (v : List ℕ) (p : ℕ) → IsPlane v → p < 16 → slice_index (moved places v) p ≡ slice_index v (get_or places p 0)
@@ -50,20 +53,35 @@ module _ (places : List ℕ) (long : length places ≡ 16) (within : T (all_belo
   pub bit-moved : (p k : ℕ) (v : List ℕ) → p < 16 → IsPlane v → bit p k (moved places v) ≡ bit (get_or places p 0) k v
   bit-moved p k v lt plane = ap (λ n. n / 2 ^ k % 2) (slice_index-moved v p plane lt)
 
--- the state whose rows are shifted
+-- blocks whose bytes all come from other places
+block_of-moved : (places : List ℕ) → length places ≡ 16 → T (all_below 16 places) → (p0 p1 p2 p3 p4 p5 p6 p7 : List ℕ)
+    → IsPlane p0 → IsPlane p1 → IsPlane p2 → IsPlane p3 → IsPlane p4 → IsPlane p5 → IsPlane p6 → IsPlane p7 → (k : ℕ)
+    → block_of (moved places p0 ∷ moved places p1 ∷ moved places p2 ∷ moved places p3 ∷ moved places p4 ∷ moved places p5 ∷ moved places p6 ∷ moved places p7 ∷ []) k
+    ≡ map (λ j. byte_at (p0 ∷ p1 ∷ p2 ∷ p3 ∷ p4 ∷ p5 ∷ p6 ∷ p7 ∷ []) k (get_or places (place j) 0)) (range_with_len 0 16)
+unfolding block_of
+block_of-moved places long below p0 p1 p2 p3 p4 p5 p6 p7 a b c d e f g h k =
+    range-agree _ (λ j. byte_at (p0 ∷ p1 ∷ p2 ∷ p3 ∷ p4 ∷ p5 ∷ p6 ∷ p7 ∷ []) k (get_or places (place j) 0)) 0 16 (λ j lt.
+    let p : ℕ = place j in
+    let within : p < 16 = omega arith in
+    ap byte_of (eight_same (at p p0 within a) (at p p1 within b) (at p p2 within c) (at p p3 within d) (at p p4 within e) (at p p5 within f) (at p p6 within g) (at p p7 within h)))
+  where
+    at : (p : ℕ) (v : List ℕ) → p < 16 → IsPlane v → bit p k (moved places v) ≡ bit (get_or places p 0) k v
+    at p v lt plane = bit-moved places long below p k v lt plane
+
+-- the states whose rows are shifted, and shifted back
 pub block_of-shift : (p0 p1 p2 p3 p4 p5 p6 p7 : List ℕ)
     → IsPlane p0 → IsPlane p1 → IsPlane p2 → IsPlane p3 → IsPlane p4 → IsPlane p5 → IsPlane p6 → IsPlane p7 → (k : ℕ)
     → block_of (moved shift p0 ∷ moved shift p1 ∷ moved shift p2 ∷ moved shift p3 ∷ moved shift p4 ∷ moved shift p5 ∷ moved shift p6 ∷ moved shift p7 ∷ []) k
     ≡ shift_rows (block_of (p0 ∷ p1 ∷ p2 ∷ p3 ∷ p4 ∷ p5 ∷ p6 ∷ p7 ∷ []) k)
 unfolding block_of shift_rows
-block_of-shift p0 p1 p2 p3 p4 p5 p6 p7 a b c d e f g h k =
-    range-agree _ (λ j. byte_at (p0 ∷ p1 ∷ p2 ∷ p3 ∷ p4 ∷ p5 ∷ p6 ∷ p7 ∷ []) k (get_or shift (place j) 0)) 0 16 (λ j lt.
-    let p : ℕ = place j in
-    let within : p < 16 = omega arith in
-    ap byte_of (eight_same (at p p0 within a) (at p p1 within b) (at p p2 within c) (at p p3 within d) (at p p4 within e) (at p p5 within f) (at p p6 within g) (at p p7 within h)))
-  where
-    at : (p : ℕ) (v : List ℕ) → p < 16 → IsPlane v → bit p k (moved shift v) ≡ bit (get_or shift p 0) k v
-    at p v lt plane = bit-moved shift refl tt p k v lt plane
+block_of-shift = block_of-moved shift refl tt
+
+pub block_of-unshift : (p0 p1 p2 p3 p4 p5 p6 p7 : List ℕ)
+    → IsPlane p0 → IsPlane p1 → IsPlane p2 → IsPlane p3 → IsPlane p4 → IsPlane p5 → IsPlane p6 → IsPlane p7 → (k : ℕ)
+    → block_of (moved unshift p0 ∷ moved unshift p1 ∷ moved unshift p2 ∷ moved unshift p3 ∷ moved unshift p4 ∷ moved unshift p5 ∷ moved unshift p6 ∷ moved unshift p7 ∷ []) k
+    ≡ inverse_shift_rows (block_of (p0 ∷ p1 ∷ p2 ∷ p3 ∷ p4 ∷ p5 ∷ p6 ∷ p7 ∷ []) k)
+unfolding block_of inverse_shift_rows
+block_of-unshift = block_of-moved unshift refl tt
 
 -- the sum of two states, a bit at a time
 pub byte_at-sum : (s0 s1 s2 s3 s4 s5 s6 s7 t0 t1 t2 t3 t4 t5 t6 t7 : List ℕ)
@@ -157,7 +175,7 @@ IsPlane-doubled u v a b = IsPlane-sum (paired u) (paired v) (IsPlane-paired u a)
 abbrev next : ℕ → ℕ
 next p = get_or turn p 0
 
-abbrev second : ℕ → ℕ
+abbrev pub second : ℕ → ℕ
 second p = get_or half_turn p 0
 
 module _ (p k : ℕ) (lt : p < 16) where
@@ -166,7 +184,7 @@ module _ (p k : ℕ) (lt : p < 16) where
     bound : (p : ℕ) → p < 16 → next p < 16
     bound p lt = let e = sixteen (λ q. next q % 16) next refl p lt in omega (arith, e)
 
-  half-lt : second p < 16
+  pub half-lt : second p < 16
   half-lt = bound p lt where
     bound : (p : ℕ) → p < 16 → second p < 16
     bound p lt = let e = sixteen (λ q. second q % 16) second refl p lt in omega (arith, e)
@@ -192,13 +210,13 @@ bit-mixed p k base v lt b plane =
     (bit-sum p k base (moved turn v) lt b turned ∙ ap (bit_xor (bit p k base)) (bit-moved turn refl tt p k v lt plane))
     (bit-half p k v lt plane)
 
-sums-lt : (bs cs : List ℕ) → ((i : ℕ) → get_or bs i 0 < 2) → ((i : ℕ) → get_or cs i 0 < 2) → (i : ℕ) → get_or (zip2 bit_xor bs cs) i 0 < 2
+pub sums-lt : (bs cs : List ℕ) → ((i : ℕ) → get_or bs i 0 < 2) → ((i : ℕ) → get_or cs i 0 < 2) → (i : ℕ) → get_or (zip2 bit_xor bs cs) i 0 < 2
 sums-lt [] cs low_bs low_cs i = lit< tt
 sums-lt (b ∷ bs) [] low_bs low_cs i = lit< tt
 sums-lt (b ∷ bs) (c ∷ cs) low_bs low_cs zero = xor_lt 1 b c (low_bs zero) (low_cs zero)
 sums-lt (b ∷ bs) (c ∷ cs) low_bs low_cs (suc i) = sums-lt bs cs (λ j. low_bs (suc j)) (λ j. low_cs (suc j)) i
 
-four : {w x y z w' x' y' z' : List ℕ} → w ≡ w' → x ≡ x' → y ≡ y' → z ≡ z' → w ++ x ++ y ++ z ≡ w' ++ x' ++ y' ++ z'
+pub four : {w x y z w' x' y' z' : List ℕ} → w ≡ w' → x ≡ x' → y ≡ y' → z ≡ z' → w ++ x ++ y ++ z ≡ w' ++ x' ++ y' ++ z'
 four {w} {x} {y} {z} {w'} {x'} {y'} {z'} ew ex ey ez =
     ap (λ l. l ++ x ++ y ++ z) ew ∙ ap (λ l. w' ++ l ++ y ++ z) ex ∙ ap (λ l. w' ++ x' ++ l ++ z) ey ∙ ap (λ l. w' ++ x' ++ y' ++ l) ez
 

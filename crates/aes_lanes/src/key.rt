@@ -63,7 +63,7 @@ impl Cipher for Key128 {
     }
 
     fn decrypt_blocks(&self, blocks: &mut [Block]) {
-        decrypt_all(&self.words, 10, blocks);
+        decrypt_all(&self.words, &self.planes, 10, blocks);
     }
 }
 
@@ -120,6 +120,6 @@ impl Cipher for Key256 {
     }
 
     fn decrypt_blocks(&self, blocks: &mut [Block]) {
-        decrypt_all(&self.words, 14, blocks);
+        decrypt_all(&self.words, &self.planes, 14, blocks);
     }
 }

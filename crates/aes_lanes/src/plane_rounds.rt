@@ -1,10 +1,10 @@
 // The transformations of the rounds on eight blocks as planes (FIPS 197, section 5.1).
 
 ghost use Rattle.std.specs.Prelude.{◌≡◌, ℕ, ◌+◌, ◌*◌, ◌<◌, ◌≤◌, ◌++◌, List, drop, length, map, take};
-ghost use Rattle.aes_lanes.specs.Cipher.{cipher};
+ghost use Rattle.aes_lanes.specs.Cipher.{cipher, inverse_cipher};
 ghost use Rattle.aes_lanes.specs.Planes.{block_of};
 ghost use Rattle.aes_lanes.specs.PlaneList.{AreRoundKeys, list_of};
-ghost use Rattle.aes_lanes.specs.Rounds.{add_round_key, mix_columns, shift_rows, sub_bytes};
+ghost use Rattle.aes_lanes.specs.Rounds.{add_round_key, inverse_mix_columns, inverse_shift_rows, inverse_sub_bytes, mix_columns, shift_rows, sub_bytes};
 
 use crate::block::Block;
 use crate::plane_blocks::{gather, scatter};
@@ -232,6 +232,255 @@ fn add(s: &Planes, key: &Planes) -> Planes
     }
 }
 
+// INVSUBBYTES, by the same gates between the linear part of the inverse affine map and itself.
+#[inline(always)]
+fn unsub(s: &Planes) -> Planes
+    ensures { (k : ℕ) → k < 8 → block_of (list_of result) k ≡ inverse_sub_bytes (block_of (list_of s.now) k) }
+{
+    let ones = u8x16::splat(0xff);
+    let p0 = s.p0;
+    let p1 = s.p1;
+    let p2 = s.p2;
+    let p3 = s.p3;
+    let p4 = s.p4;
+    let p5 = s.p5;
+    let p6 = s.p6;
+    let p7 = s.p7;
+    let u0 = p2 ^ p5;
+    let v0 = u0 ^ p7;
+    let w0 = v0 ^ ones;
+    let u1 = p3 ^ p6;
+    let w1 = u1 ^ p0;
+    let u2 = p4 ^ p7;
+    let v2 = u2 ^ p1;
+    let w2 = v2 ^ ones;
+    let u3 = p5 ^ p0;
+    let w3 = u3 ^ p2;
+    let u4 = p6 ^ p1;
+    let w4 = u4 ^ p3;
+    let u5 = p7 ^ p2;
+    let w5 = u5 ^ p4;
+    let u6 = p0 ^ p3;
+    let w6 = u6 ^ p5;
+    let u7 = p1 ^ p4;
+    let w7 = u7 ^ p6;
+    let y14 = w4 ^ w2;
+    let y13 = w7 ^ w1;
+    let y9 = w7 ^ w4;
+    let y8 = w7 ^ w2;
+    let t0 = w6 ^ w5;
+    let y1 = t0 ^ w0;
+    let y4 = y1 ^ w4;
+    let y12 = y13 ^ y14;
+    let y2 = y1 ^ w7;
+    let y5 = y1 ^ w1;
+    let y3 = y5 ^ y8;
+    let t1 = w3 ^ y12;
+    let y15 = t1 ^ w2;
+    let y20 = t1 ^ w6;
+    let y6 = y15 ^ w0;
+    let y10 = y15 ^ t0;
+    let y11 = y20 ^ y9;
+    let y7 = w0 ^ y11;
+    let y17 = y10 ^ y11;
+    let y19 = y10 ^ y8;
+    let y16 = t0 ^ y11;
+    let y21 = y13 ^ y16;
+    let y18 = w7 ^ y16;
+    let t2 = y12 & y15;
+    let t3 = y3 & y6;
+    let t4 = t3 ^ t2;
+    let t5 = y4 & w0;
+    let t6 = t5 ^ t2;
+    let t7 = y13 & y16;
+    let t8 = y5 & y1;
+    let t9 = t8 ^ t7;
+    let t10 = y2 & y7;
+    let t11 = t10 ^ t7;
+    let t12 = y9 & y11;
+    let t13 = y14 & y17;
+    let t14 = t13 ^ t12;
+    let t15 = y8 & y10;
+    let t16 = t15 ^ t12;
+    let t17 = t4 ^ t14;
+    let t18 = t6 ^ t16;
+    let t19 = t9 ^ t14;
+    let t20 = t11 ^ t16;
+    let t21 = t17 ^ y20;
+    let t22 = t18 ^ y19;
+    let t23 = t19 ^ y21;
+    let t24 = t20 ^ y18;
+    let t25 = t21 ^ t22;
+    let t26 = t21 & t23;
+    let t27 = t24 ^ t26;
+    let t28 = t25 & t27;
+    let t29 = t28 ^ t22;
+    let t30 = t23 ^ t24;
+    let t31 = t22 ^ t26;
+    let t32 = t31 & t30;
+    let t33 = t32 ^ t24;
+    let t34 = t23 ^ t33;
+    let t35 = t27 ^ t33;
+    let t36 = t24 & t35;
+    let t37 = t36 ^ t34;
+    let t38 = t27 ^ t36;
+    let t39 = t29 & t38;
+    let t40 = t25 ^ t39;
+    let t41 = t40 ^ t37;
+    let t42 = t29 ^ t33;
+    let t43 = t29 ^ t40;
+    let t44 = t33 ^ t37;
+    let t45 = t42 ^ t41;
+    let z0 = t44 & y15;
+    let z1 = t37 & y6;
+    let z2 = t33 & w0;
+    let z3 = t43 & y16;
+    let z4 = t40 & y1;
+    let z5 = t29 & y7;
+    let z6 = t42 & y11;
+    let z7 = t45 & y17;
+    let z8 = t41 & y10;
+    let z9 = t44 & y12;
+    let z10 = t37 & y3;
+    let z11 = t33 & y4;
+    let z12 = t43 & y13;
+    let z13 = t40 & y5;
+    let z14 = t29 & y2;
+    let z15 = t42 & y9;
+    let z16 = t45 & y14;
+    let z17 = t41 & y8;
+    let t46 = z15 ^ z16;
+    let t47 = z10 ^ z11;
+    let t48 = z5 ^ z13;
+    let t49 = z9 ^ z10;
+    let t50 = z2 ^ z12;
+    let t51 = z2 ^ z5;
+    let t52 = z7 ^ z8;
+    let t53 = z0 ^ z3;
+    let t54 = z6 ^ z7;
+    let t55 = z16 ^ z17;
+    let t56 = z12 ^ t48;
+    let t57 = t50 ^ t53;
+    let t58 = z4 ^ t46;
+    let t59 = z3 ^ t54;
+    let t60 = t46 ^ t57;
+    let t61 = z14 ^ t57;
+    let t62 = t52 ^ t58;
+    let t63 = t49 ^ t58;
+    let t64 = z4 ^ t59;
+    let t65 = t61 ^ t62;
+    let t66 = z1 ^ t63;
+    let s0 = t59 ^ t63;
+    let s6 = t56 ^ t62;
+    let s7 = t48 ^ t60;
+    let t67 = t64 ^ t65;
+    let s3 = t53 ^ t66;
+    let s4 = t51 ^ t66;
+    let s5 = t47 ^ t65;
+    let s1 = t64 ^ s3;
+    let s2 = t55 ^ t67;
+    let q0 = s5 ^ s2;
+    let r0 = q0 ^ s0;
+    let q1 = s4 ^ s1;
+    let r1 = q1 ^ s7;
+    let q2 = s3 ^ s0;
+    let r2 = q2 ^ s6;
+    let q3 = s2 ^ s7;
+    let r3 = q3 ^ s5;
+    let q4 = s1 ^ s6;
+    let r4 = q4 ^ s4;
+    let q5 = s0 ^ s5;
+    let r5 = q5 ^ s3;
+    let q6 = s7 ^ s4;
+    let r6 = q6 ^ s2;
+    let q7 = s6 ^ s3;
+    let r7 = q7 ^ s1;
+    Planes {
+        p0: r0,
+        p1: r1,
+        p2: r2,
+        p3: r3,
+        p4: r4,
+        p5: r5,
+        p6: r6,
+        p7: r7,
+    }
+}
+
+// Which byte of a plane comes to each place when the rows are shifted back.
+const UNSHIFT: [usize; 16] = [0, 1, 2, 3, 7, 4, 5, 6, 10, 11, 8, 9, 13, 14, 15, 12];
+
+// INVSHIFTROWS.
+#[inline(always)]
+fn unshift(s: &Planes) -> Planes
+    ensures { (k : ℕ) → block_of (list_of result) k ≡ inverse_shift_rows (block_of (list_of s.now) k) }
+{
+    Planes {
+        p0: s.p0.swizzle(UNSHIFT),
+        p1: s.p1.swizzle(UNSHIFT),
+        p2: s.p2.swizzle(UNSHIFT),
+        p3: s.p3.swizzle(UNSHIFT),
+        p4: s.p4.swizzle(UNSHIFT),
+        p5: s.p5.swizzle(UNSHIFT),
+        p6: s.p6.swizzle(UNSHIFT),
+        p7: s.p7.swizzle(UNSHIFT),
+    }
+}
+
+// The state whose mixed columns are the columns unmixed: to each byte x it adds 4 (x + y), for the byte y two rows on.
+#[inline(always)]
+fn spread(s: &Planes) -> Planes
+    ensures { (k : ℕ) → mix_columns (block_of (list_of result) k) ≡ inverse_mix_columns (block_of (list_of s.now) k) }
+{
+    let p0 = s.p0;
+    let h0 = s.p0.swizzle(HALF_TURN);
+    let p1 = s.p1;
+    let h1 = s.p1.swizzle(HALF_TURN);
+    let p2 = s.p2;
+    let h2 = s.p2.swizzle(HALF_TURN);
+    let p3 = s.p3;
+    let h3 = s.p3.swizzle(HALF_TURN);
+    let p4 = s.p4;
+    let h4 = s.p4.swizzle(HALF_TURN);
+    let p5 = s.p5;
+    let h5 = s.p5.swizzle(HALF_TURN);
+    let p6 = s.p6;
+    let h6 = s.p6.swizzle(HALF_TURN);
+    let p7 = s.p7;
+    let h7 = s.p7.swizzle(HALF_TURN);
+    let e0 = p0 ^ h0;
+    let e1 = p1 ^ h1;
+    let e2 = p2 ^ h2;
+    let e3 = p3 ^ h3;
+    let e4 = p4 ^ h4;
+    let e5 = p5 ^ h5;
+    let e6 = p6 ^ h6;
+    let e7 = p7 ^ h7;
+    let t = e6 ^ e7;
+    let q2 = e0 ^ e7;
+    let q3 = e1 ^ e6;
+    let q4 = e2 ^ t;
+    let q5 = e3 ^ e7;
+    let n0 = p0 ^ e6;
+    let n1 = p1 ^ t;
+    let n2 = p2 ^ q2;
+    let n3 = p3 ^ q3;
+    let n4 = p4 ^ q4;
+    let n5 = p5 ^ q5;
+    let n6 = p6 ^ e4;
+    let n7 = p7 ^ e5;
+    Planes {
+        p0: n0,
+        p1: n1,
+        p2: n2,
+        p3: n3,
+        p4: n4,
+        p5: n5,
+        p6: n6,
+        p7: n7,
+    }
+}
+
 /// Writes the round keys of a key schedule's words as planes, as many as there is room for.
 pub(crate) fn expand_planes(words: &[u32], keys: &mut [Planes])
     requires { 4 * length keys.old ≤ length words.now }
@@ -268,5 +517,33 @@ pub(crate) fn encrypt_at(keys: &[Planes], rounds: usize, blocks: &mut [Block], a
     let mut eight = [[0; 16]; 8];
     eight.copy_from_slice(&blocks[at..at + 8]);
     encrypt_eight(keys, rounds, &mut eight);
+    blocks[at..at + 8].copy_from_slice(&eight);
+}
+
+// Replaces eight blocks by their preimages in so many rounds, under round keys as planes.
+fn decrypt_eight(keys: &[Planes], rounds: usize, blocks: &mut [Block; 8])
+    requires some { 0 < rounds }
+    requires keys { length keys.now ≡ rounds + 1 }
+    ensures { (words : List ℕ) → AreRoundKeys words keys.now → blocks.new ≡ map (inverse_cipher rounds words) blocks.old }
+{
+    let mut state = add(&gather(blocks), &keys[rounds]);
+    for undone in 1..rounds {
+        let next = mix(&spread(&add(&unsub(&unshift(&state)), &keys[rounds - undone])));
+        state = next;
+    }
+    *blocks = scatter(&add(&unsub(&unshift(&state)), &keys[0]));
+}
+
+/// Replaces the eight blocks from place `at` on by their preimages in so many rounds, under round keys as planes.
+pub(crate) fn decrypt_at(keys: &[Planes], rounds: usize, blocks: &mut [Block], at: usize)
+    requires some { 0 < rounds }
+    requires keys { length keys.now ≡ rounds + 1 }
+    requires within { at + 8 ≤ length blocks.old }
+    ensures { (words : List ℕ) → AreRoundKeys words keys.now
+        → blocks.new ≡ take at blocks.old ++ (map (inverse_cipher rounds words) (take 8 (drop at blocks.old)) ++ drop (at + 8) blocks.old) }
+{
+    let mut eight = [[0; 16]; 8];
+    eight.copy_from_slice(&blocks[at..at + 8]);
+    decrypt_eight(keys, rounds, &mut eight);
     blocks[at..at + 8].copy_from_slice(&eight);
 }

@@ -9,7 +9,7 @@ ghost use Rattle.aes_lanes.specs.Schedule.{round_key, state_of};
 ghost use Rattle.aes_lanes.specs.Cipher.{cipher, inverse_cipher};
 
 use crate::block::Block;
-use crate::plane_rounds::encrypt_at;
+use crate::plane_rounds::{decrypt_at, encrypt_at};
 use crate::planes::Planes;
 use crate::schedule::load_word;
 use crate::tables::{column, inverse_column, inverse_sbox, sbox};
@@ -196,13 +196,20 @@ pub(crate) fn encrypt_all(words: &[u32], keys: &[Planes], rounds: usize, blocks:
     }
 }
 
-/// Replaces each block by its preimage in so many rounds, under the words of a key schedule.
-pub(crate) fn decrypt_all(words: &[u32], rounds: usize, blocks: &mut [Block])
+/// Replaces each block by its preimage in so many rounds, under the words of a key schedule, whose round keys are
+/// also given as planes.
+pub(crate) fn decrypt_all(words: &[u32], keys: &[Planes], rounds: usize, blocks: &mut [Block])
     requires some { 0 < rounds }
     requires words { length words.now ≡ 4 * (rounds + 1) }
+    requires keys { length keys.now ≡ rounds + 1 }
+    requires same_keys { AreRoundKeys words.now keys.now }
     ensures { blocks.new ≡ map (inverse_cipher rounds words.now) blocks.old }
 {
-    for block in blocks.iter_mut() {
-        decrypt_block(words, rounds, block);
+    let sets = blocks.len() / 8;
+    for set in 0..sets {
+        decrypt_at(keys, rounds, blocks, 8 * set);
+    }
+    for i in 8 * sets..blocks.len() {
+        decrypt_block(words, rounds, &mut blocks[i]);
     }
 }

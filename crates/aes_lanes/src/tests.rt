@@ -139,6 +139,7 @@ fn blocks_at_once(rt: HostRuntime) {
         for i in 0..24usize {
             blocks[i][3] = i as u8;
         }
+        let start = blocks;
         let mut plain = blocks;
         key.encrypt_blocks(&mut blocks[..count]);
         for i in 0..count {
@@ -147,6 +148,8 @@ fn blocks_at_once(rt: HostRuntime) {
             plain[i] = block[0];
         }
         assert_eq!(rt; blocks, plain);
+        key.decrypt_blocks(&mut blocks[..count]);
+        assert_eq!(rt; blocks, start);
     }
 }
 

@@ -1,5 +1,5 @@
-//! Times AES-256 in counter mode, GCM on blocks of 4,096 bytes, and the cipher on sixteen blocks and
-//! on one: `gcm_speed MEGABYTES` prints megabytes a second.
+//! Times AES-256 in counter mode, GCM on blocks of 4,096 bytes, and the cipher on sixteen blocks, both
+//! ways, and on one: `gcm_speed MEGABYTES` prints megabytes a second.
 #![tactic(auto)]
 
 use aes_lanes::{Cipher, Key256, ctr32_xor};
@@ -22,6 +22,16 @@ fn main(rt: HostRuntime) -> io::Result<()> {
     let start = Instant::now(&rt)?;
     let last = sixteen_blocks(megabytes);
     report(&rt, "sixteen blocks", megabytes, start.elapsed(&rt)?, last)?;
+
+    let start = Instant::now(&rt)?;
+    let last = sixteen_blocks_back(megabytes);
+    report(
+        &rt,
+        "sixteen blocks back",
+        megabytes,
+        start.elapsed(&rt)?,
+        last,
+    )?;
 
     let start = Instant::now(&rt)?;
     let last = one_block(megabytes);
@@ -82,6 +92,17 @@ fn sixteen_blocks(megabytes: u32) -> u8 {
     for _ in 0..megabytes {
         for _ in 0..4096 {
             key.encrypt_blocks(&mut blocks);
+        }
+    }
+    blocks[0][0]
+}
+
+fn sixteen_blocks_back(megabytes: u32) -> u8 {
+    let key = Key256::new(&[1; 32]);
+    let mut blocks = [[2; 16]; 16];
+    for _ in 0..megabytes {
+        for _ in 0..4096 {
+            key.decrypt_blocks(&mut blocks);
         }
     }
     blocks[0][0]

@@ -11,7 +11,7 @@ abbrev sum_columns : List ℕ → List ℕ → List ℕ → List ℕ → List �
 sum_columns k l m n = xor_bytes (xor_bytes (xor_bytes k l) m) n
 
 -- each matrix takes sums to sums
-mixed-sum : (a0 b0 c0 d0 a1 b1 c1 d1 a2 b2 c2 d2 a3 b3 c3 d3 : ℕ)
+pub mixed-sum : (a0 b0 c0 d0 a1 b1 c1 d1 a2 b2 c2 d2 a3 b3 c3 d3 : ℕ)
     → column_product (sum_of a0 b0 c0 d0) (sum_of a1 b1 c1 d1) (sum_of a2 b2 c2 d2) (sum_of a3 b3 c3 d3)
     ≡ sum_columns (column_product a0 a1 a2 a3) (column_product b0 b1 b2 b3) (column_product c0 c1 c2 c3) (column_product d0 d1 d2 d3)
 unfolding column_product xor_bytes

@@ -1,18 +1,10 @@
-use Rattle.std.proofs.Common.{◌≡◌, ◌∙◌, ℕ, ◌-◌, ◌<◌, List, [], map, length, get_or, sym, ap, ap₂, arith}
+use Rattle.std.proofs.Common.{◌≡◌, ◌∙◌, ◌-◌, ◌<◌, [], map, length, get_or, sym, ap, ap₂, arith}
 use Rattle.std.proofs.lemmas.List.{ext_get_or, get_or-map, length-map}
 use Rattle.aes_lanes.specs.Rounds.{add_round_key, mix_columns, shift_rows, sub_bytes}
-use Rattle.aes_lanes.specs.Schedule.{round_key}
 use Rattle.aes_lanes.specs.Cipher.{rounds, cipher}
-use Rattle.aes_lanes.specs.Planes.{block_of}
-use Rattle.aes_lanes.specs.PlaneList.{list_of}
-use Rattle.aes_lanes.specs.declared.planes.Planes.{Planes}
 use Rattle.aes_lanes.proofs.RoundSteps.{rounds-next}
+use Rattle.aes_lanes.proofs.RoundPlanes.{key_is}
 use Rattle.aes_lanes.proofs.plane_rounds.encrypt_eight.Goals as goal
-
--- a round key by its planes
-key_is : (words : List ℕ) (r k : ℕ) (key other : Planes) → key ≡ other → block_of (list_of other) k ≡ round_key words r
-    → block_of (list_of key) k ≡ round_key words r
-key_is words r k key other same e = ap (λ (x : Planes). block_of (list_of x) k) same ∙ e
 
 pub loop-round-init : goal.loop-round-init
 unfolding rounds

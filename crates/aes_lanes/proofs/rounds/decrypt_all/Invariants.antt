@@ -1,7 +1,10 @@
-use Rattle.std.proofs.Common.{◌≡◌, ◌++◌, take, drop, map}
+use Rattle.std.proofs.Common.{◌≡◌, ◌*◌, ◌++◌, take, drop, map}
 use Rattle.aes_lanes.specs.Cipher.{inverse_cipher}
 use Rattle.aes_lanes.proofs.rounds.decrypt_all.Given as goal
 
-abbrev pub invariant-loop-block : goal.invariant-loop-block
-invariant-loop-block l =
-    l.blocks ≡ map (inverse_cipher l.rounds l.words) (take l.block-index l.initial.blocks) ++ drop l.block-index l.initial.blocks
+abbrev pub invariant-loop-set : goal.invariant-loop-set
+invariant-loop-set l =
+    l.blocks ≡ map (inverse_cipher l.rounds l.words) (take (8 * l.set) l.initial.blocks) ++ drop (8 * l.set) l.initial.blocks
+
+abbrev pub invariant-loop-i : goal.invariant-loop-i
+invariant-loop-i l = l.blocks ≡ map (inverse_cipher l.rounds l.words) (take l.i l.fn.blocks) ++ drop l.i l.fn.blocks

@@ -1,0 +1,16 @@
+use Rattle.std.proofs.Common.{◌≡◌, ◌+◌, ◌-◌, ◌++◌, ◌∙◌, map, take, drop, ap, ap₂, arith}
+use Rattle.std.proofs.lemmas.List.{drop-drop}
+use Rattle.aes_lanes.specs.Cipher.{inverse_cipher}
+use Rattle.aes_lanes.proofs.plane_rounds.decrypt_at.Goals as goal
+
+pub returns : goal.returns
+returns c = λ words keys.
+    let blocks = c.args.blocks.now in
+    let at = c.args.at in
+    let f = inverse_cipher c.args.rounds words in
+    let eight : at + 8 - at ≡ 8 = omega arith in
+    let ends : at + (at + 8 - at) ≡ at + 8 = omega arith in
+    ap₂ (λ ys zs. take at blocks ++ (ys ++ zs))
+    (c.copy_from_slice-2.ensures.after ∙ c.decrypt_eight.ensures words keys
+    ∙ ap (map f) (c.copy_from_slice.ensures.after ∙ ap (λ n. take n (drop at blocks)) eight))
+    (drop-drop (at + 8 - at) at blocks ∙ ap (λ n. drop n blocks) ends)

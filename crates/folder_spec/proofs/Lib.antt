@@ -9,5 +9,6 @@ pub mod Replaces
 pub mod Tellings
 pub mod Stages
 mod Views
-mod Seen
+pub mod Seen
 pub mod Edits
+pub mod Under

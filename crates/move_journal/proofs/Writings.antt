@@ -1,26 +1,26 @@
 -- Where a journal is written, and what putting a file in the place of another says of it.
-use Rattle.std.proofs.Common.{◌≡◌, ℕ, List, Option, Some, None, IfSome, Result, Ok, Err, OnOk, refl, ap, sym, ◌∙◌, subst}
-use Rattle.folder_spec.specs.Path.{Path, below}
+use Rattle.std.proofs.Common.{◌≡◌, ℕ, List, Option, Some, None, Result, Ok, Err, OnOk, refl, ap, ◌∙◌, subst, inl, inr}
+use Rattle.folder_spec.specs.Path.{Part, Path, below, child}
 use Rattle.folder_spec.specs.State.{Node, State, present, IsSound}
 use Rattle.folder_spec.specs.declared.FolderFault.{FolderFault}
-use Rattle.folder_spec.specs.Event.{Told, FromTo, IsFilePlace}
+use Rattle.folder_spec.specs.Event.{Told, FromTo}
+use Rattle.folder_spec.specs.View.{Folder, View, found}
+use Rattle.folder_spec.specs.Seen.{seen, IsSeen, ShowsNothingOrFile, ShowsFilePlace}
 use Rattle.folder_spec.specs.Region.{SparesOld}
 use Rattle.folder_spec.specs.Replace.{IsNewFile, IsReplacing, HasReplaced}
-use Rattle.folder_spec.proofs.Paths.{below-sibling}
+use Rattle.folder_spec.proofs.Paths.{parent-child, child-not_base, below-sibling}
 use Rattle.folder_spec.proofs.Moments.{went_more}
 use Rattle.folder_spec.proofs.Tellings.{from_to_more}
 use Rattle.folder_spec.proofs.Replaces.{images_show_old_or_new, images_show_new, clean_stays}
-use Rattle.folder_spec.proofs.Stages.{Replacing, place_in, replacing_none}
+use Rattle.folder_spec.proofs.Stages.{Replacing, replacing_none}
+use Rattle.folder_staging.specs.Places.{MayPublish}
 use Rattle.move_journal.specs.declared.journal.Journal.{Journal}
 use Rattle.move_journal.specs.Journal.{journal_text}
 use Rattle.move_journal.specs.Reading.{journal_path, journal_bytes, file_bytes}
 use Rattle.move_journal.specs.Writing.{IsWorkFolder, IsWriting, IsWritten, Writes, HasWritten, new_journal_path, elsewhere}
 
-pub apart : (work : Path) → below (new_journal_path work) (journal_path work) ≡ None
+apart : (work : Path) → below (new_journal_path work) (journal_path work) ≡ None
 apart work = below-sibling work _ _ refl
-
-pub beside : (work : Path) → below (journal_path work) (new_journal_path work) ≡ None
-beside work = below-sibling work _ _ refl
 
 is_writing : (work : Path) (text : List ℕ) (s0 s : State) → IsSound s0 → IsReplacing (new_journal_path work) (journal_path work) text s0 s → IsWriting work text s0 s
 is_writing work text s0 s sound h = record {
@@ -32,8 +32,8 @@ is_writing work text s0 s sound h = record {
   images = λ image is_image. images_show_old_or_new (elsewhere work) (journal_path work) text s0 s image sound h.change is_image;
 }
 
-new_file_read : (bytes : List ℕ) (s0 s : State) (work : Path) → IsNewFile bytes s0 s (present s (journal_path work)) → journal_bytes s work ≡ Some bytes
-new_file_read bytes s0 s work new = ap (file_bytes s) new.is ∙ ap (λ (node : Node). Some node.now) new.holds
+new_file_read : (bytes : List ℕ) (s0 s : State) (work : Path) → IsNewFile bytes s0 s (present s (journal_path work)) → journal_bytes (seen s) work ≡ Some bytes
+new_file_read bytes s0 s work new = ap (λ x. file_bytes (found (λ n. (s.nodes n).now) x)) new.is ∙ ap (λ (node : Node). Some node.now) new.holds
 
 is_written : (work : Path) (text : List ℕ) (s0 s : State) → HasReplaced (new_journal_path work) (journal_path work) text s0 s → IsWritten work text s0 s
 is_written work text s0 s h = record {
@@ -73,10 +73,15 @@ module _ (t u : Option Told) (work new at : Path) (bytes : List ℕ) (journal : 
       from_to_more (λ a b. HasReplaced (new_journal_path work) (journal_path work) (journal_text journal) a.state b.state) _ t u
       (λ a b is. is_written work (journal_text journal) a.state b.state) (at_these (λ p q bs. FromTo (λ a b. HasReplaced p q bs a.state b.state) t u) h)
 
-pub new_place : (t : Option Told) (work new : Path) → new ≡ new_journal_path work → IfSome t (λ a. IsWorkFolder (present a.state) work) → IfSome t (λ a. IsFilePlace (present a.state) new)
-new_place None work new is h = tt
-new_place (Some a) work new is h = subst (IsFilePlace (present a.state)) (sym is) (place_in (present a.state) work _ h.folder h.new_journal)
+place_of : (v : View) (work : Path) (a : Part) → v work ≡ Folder → ShowsNothingOrFile v (child work a) → ShowsFilePlace v (child work a)
+place_of v work a folder here = elim here as (λ _. ShowsFilePlace v (child work a)) [
+  | inl none ↦ inl (none, ap v (parent-child work a) ∙ folder)
+  | inr file ↦ inr file
+]
 
-pub old_place : (t : Option Told) (work at : Path) → at ≡ journal_path work → IfSome t (λ a. IsWorkFolder (present a.state) work) → IfSome t (λ a. IsFilePlace (present a.state) at)
-old_place None work at is h = tt
-old_place (Some a) work at is h = subst (IsFilePlace (present a.state)) (sym is) (place_in (present a.state) work _ h.folder h.journal)
+pub may_publish : (t : Option Told) (work : Path) → ((v : View) → IsSeen t v → IsWorkFolder v work) → MayPublish t (new_journal_path work) (journal_path work)
+may_publish t work folder = record {
+  stage = record { below_base = child-not_base work _; place = λ v is. place_of v work _ (folder v is).folder (folder v is).new_journal };
+  place = λ v is. place_of v work _ (folder v is).folder (folder v is).journal;
+  apart = record { apart = below-sibling work _ _ refl; beside = below-sibling work _ _ refl };
+}

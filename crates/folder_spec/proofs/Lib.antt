@@ -3,7 +3,7 @@ pub mod Tables
 pub mod Sound
 pub mod Images
 pub mod Moments
-mod Regions
+pub mod Regions
 mod Written
 pub mod Replaces
 pub mod Tellings

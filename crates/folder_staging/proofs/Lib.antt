@@ -1,2 +1,4 @@
 mod Exits
 mod Pairs
+mod Removals
+mod Emptying

@@ -1,2 +1,3 @@
 pub mod Places
 pub mod Published
+pub mod Removal

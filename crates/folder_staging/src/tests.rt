@@ -1,3 +1,5 @@
+mod removal;
+
 ghost use Rattle.std.specs.Prelude.{◌≡◌, IsTrue, None};
 ghost use Rattle.folder_spec.specs.Path.{below};
 ghost use Rattle.folder_staging.specs.Places.{IsPlace, ArePlacesApart, MayPublish};

@@ -1,4 +1,5 @@
 mod Exits
 mod Pairs
+pub mod Pieces
 mod Removals
 mod Emptying

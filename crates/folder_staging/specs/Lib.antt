@@ -1,3 +1,4 @@
 pub mod Places
 pub mod Published
 pub mod Removal
+pub mod Pieces

@@ -6,6 +6,7 @@
 //! removed with all below it, the deepest first.
 #![tactic(auto)]
 
+pub mod laws;
 pub mod publishing;
 pub mod removal;
 pub mod staging;
@@ -14,4 +15,4 @@ mod tests;
 
 pub use publishing::{publish_file, replace_file, replace_with_side_file};
 pub use removal::{RemovalFault, remove_all, remove_below};
-pub use staging::{clear, is_file_place, stage_file};
+pub use staging::{add_piece, begin_file, clear, finish_file, is_file_place, stage_file};

@@ -2,3 +2,4 @@ pub mod Places
 pub mod Published
 pub mod Removal
 pub mod Pieces
+pub mod Folders

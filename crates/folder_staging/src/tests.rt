@@ -1,3 +1,4 @@
+mod folders;
 mod removal;
 
 ghost use Rattle.std.specs.Prelude.{◌≡◌, IsTrue, None};

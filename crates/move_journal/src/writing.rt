@@ -10,6 +10,7 @@ use crate::journal::Journal;
 use crate::text::text_of;
 use folder_model::{FPath, Folder};
 use folder_spec::FolderFault;
+use folder_spec::laws::replaced_files_are_old_or_new;
 use folder_staging::replace_file;
 use std::alloc::Global;
 
@@ -31,6 +32,7 @@ pub fn write<F: Folder>(
     ensures written { OnOk result (HasWritten work.now journal.now (F.told folder.old) (F.told folder.new)) }
     ensures counts { CountsAbove (F.faults folder.old) (F.faults folder.new) result }
 {
+    replaced_files_are_old_or_new();
     let text = text_of(alloc, journal)?;
     let new = work.child("journal.new")?;
     let at = work.child("journal")?;

@@ -9,7 +9,9 @@ use Rattle.folder_spec.specs.declared.Kind.{Kind}
 use Rattle.folder_spec.specs.declared.Kind.TheVariants.{Missing}
 use Rattle.folder_spec.specs.Path.{Part, Path, child}
 use Rattle.folder_spec.specs.State.{Table, kind_of}
+use Rattle.folder_spec.specs.View.{found}
 use Rattle.folder_spec.specs.Listing.{Item, IsListing}
+use Rattle.folder_spec.proofs.Seen.{kind_seen}
 use Rattle.folder_model.specs.Entries.{AreOrdered, IsPlace, HasName, AddsItem, AreRight, AddsEntry}
 
 pub below_or_not : (a b : ℕ) → (a < b) ⊎ (b ≤ a)
@@ -110,15 +112,16 @@ adds_entry t at name kind old new is some adds = record {
 }
 
 -- the gathered items are the listing, where each entry's name was among those that were looked at
-pub listing_is : (t : Table) (at : Path) (items : List Item) → AreOrdered items → AreRight t at items
-    → ((a : Part) → kind_of (t (child at a)) ≢ Missing → HasName items a) → IsListing t at items
-listing_is t at items ordered right all = record {
+pub listing_is : (bytes : ℕ → List ℕ) (t : Table) (at : Path) (items : List Item) → AreOrdered items → AreRight t at items
+    → ((a : Part) → kind_of (t (child at a)) ≢ Missing → HasName items a) → IsListing (λ p. found bytes (t p)) at items
+listing_is bytes t at items ordered right all = record {
   ordered = ordered;
   entries = λ x. (
-    right x,
+    λ among. ((right x among).0, sym (kind_seen bytes (t (child at x.name))) ∙ (right x among).1),
     λ h.
-        let there : HasName items x.name = all x.name (λ none. h.0 (sym h.1 ∙ none)) in
-        let kinds : there.0.kind ≡ x.kind = sym (right there.0 there.1).1 ∙ ap (λ a. kind_of (t (child at a))) there.2 ∙ h.1 in
+        let kind : kind_of (t (child at x.name)) ≡ x.kind = kind_seen bytes (t (child at x.name)) ∙ h.1 in
+        let there : HasName items x.name = all x.name (λ none. h.0 (sym kind ∙ none)) in
+        let kinds : there.0.kind ≡ x.kind = sym (right there.0 there.1).1 ∙ ap (λ a. kind_of (t (child at a))) there.2 ∙ kind in
         let same : there.0 ≡ x = λ i. record { name = there.2 i; kind = kinds i } in
         subst (Contains items) same there.1,
   );

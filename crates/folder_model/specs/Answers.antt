@@ -3,10 +3,9 @@ use Rattle.std.specs.Prelude.{◌≡◌, ℕ, ◌≤◌, ◌-◌, List, ◌++◌
 use Rattle.port_model.specs.Counts.{CountRose, IsCounted}
 use Rattle.folder_spec.specs.declared.FolderFault.{FolderFault}
 use Rattle.folder_spec.specs.declared.FolderFault.TheVariants.{Failed, Refused, NoMemory}
-use Rattle.folder_spec.specs.Path.{Path}
-use Rattle.folder_spec.specs.declared.Spot.TheVariants.{FileNode}
-use Rattle.folder_spec.specs.State.{State, present}
 use Rattle.folder_spec.specs.Event.{Told}
+use Rattle.folder_spec.specs.View.{Found, FileOf, View}
+use Rattle.folder_spec.specs.Seen.{IsSeen}
 
 -- By its answer, when a call raises the count of faults: `Failed` comes only where it rose. `Refused` comes only so from a
 -- folder that tells nothing. Nothing else raises the count of one that tells its state.
@@ -19,18 +18,21 @@ Counts None before after (Ok value) = IsCounted before after
 Counts None before after (Err Refused) = IsCounted before after × CountRose before after
 Counts None before after (Err NoMemory) = IsCounted before after
 
--- what a call that changes nothing answers, if the folder tells its state: by its condition, and by what it is to answer
-abbrev pub Answers : {T : Type 0} → Option Told → (State → Type 0) → (State → T → Type 0) → Result T FolderFault → Type 0
-Answers None Condition IsRight result = Unit {0}
-Answers (Some a) Condition IsRight (Ok value) = Condition a.state × IsRight a.state value
-Answers (Some a) Condition IsRight (Err Failed) = Condition a.state
-Answers (Some a) Condition IsRight (Err Refused) = ¬ Condition a.state
-Answers (Some a) Condition IsRight (Err NoMemory) = Unit {0}
+-- what a call that changes nothing answers, by its condition and by what it is to answer
+abbrev pub AnswersBy : {T : Type 0} → Type 0 → (T → Type 0) → Result T FolderFault → Type 0
+AnswersBy Condition IsRight (Ok value) = Condition × IsRight value
+AnswersBy Condition IsRight (Err Failed) = Condition
+AnswersBy Condition IsRight (Err Refused) = ¬ Condition
+AnswersBy Condition IsRight (Err NoMemory) = Unit {0}
 
--- n bytes of the file at the path, from start on, are read into the front of out: as many as there are and fit
-abbrev pub Reads : State → Path → ℕ → List ℕ → List ℕ → ℕ → Type 0
-Reads s at start old new n = (node : ℕ) × (present s at ≡ FileNode node)
-    × (n ≡ min (length old) (length (s.nodes node).now - start)) × (new ≡ take n (drop start (s.nodes node).now) ++ drop n old)
+-- the same by what is seen, if the folder tells its state
+abbrev pub Answers : {T : Type 0} → Option Told → (View → Type 0) → (View → T → Type 0) → Result T FolderFault → Type 0
+Answers told Condition IsRight result = (v : View) → IsSeen told v → AnswersBy (Condition v) (IsRight v) result
+
+-- n bytes of the file that is found, from start on, are read into the front of out: as many as there are and fit
+abbrev pub Reads : Found → ℕ → List ℕ → List ℕ → ℕ → Type 0
+Reads file start old new n = (bytes : List ℕ) × (file ≡ FileOf bytes)
+    × (n ≡ min (length old) (length bytes - start)) × (new ≡ take n (drop start bytes) ++ drop n old)
 
 -- a call that did not get to work left it alone
 abbrev pub KeepsUnlessRun : {T : Type 0} → Result T FolderFault → Type 0 → Type 0

@@ -1,8 +1,9 @@
 //! Folders that can fail and crash.
 ghost use Rattle.std.specs.Prelude.{◌≡◌, ◌≤◌, ℕ, Option, Some, length, IfOk};
-ghost use Rattle.folder_spec.specs.declared.Spot.TheVariants.{Directory};
-ghost use Rattle.folder_spec.specs.State.{State, present, kind_of, HasFile, IsSound};
+ghost use Rattle.folder_spec.specs.State.{IsSound};
 ghost use Rattle.folder_spec.specs.Event.{Told, Changes, MakeDir, Create, Append, Sync, Settle, Rename, RemoveFile, RemoveDir};
+ghost use Rattle.folder_spec.specs.View.{Folder, kind_found};
+ghost use Rattle.folder_spec.specs.Seen.{ShowsFile};
 ghost use Rattle.folder_spec.specs.Listing.{IsListing};
 ghost use Rattle.folder_model.specs.Answers.{Counts, Answers, Reads, KeepsUnlessRun};
 
@@ -12,8 +13,8 @@ use folder_spec::{FolderFault, Kind};
 
 /// A folder, whose calls can fail, and which a crash can interrupt.
 ///
-/// A folder may tell its state and its log: then contracts say what each call changes, and when it
-/// is refused. Every call tells by a count of faults why it failed. The changes of files and of
+/// A folder may tell its state and its log: then contracts say what each call changes, when it is
+/// refused, and what it answers, by what is seen of that state. Every call tells by a count of faults why it failed. The changes of files and of
 /// directories last through a crash only once they are synced and settled: what a crash leaves of
 /// a state is an image of it.
 pub trait Folder {
@@ -26,20 +27,20 @@ pub trait Folder {
     /// What stands at the path.
     fn kind(&mut self, at: &FPath) -> Result<Kind, FolderFault>
         ensures told { told self.new ≡ told self.old }
-        ensures answer { Answers (told self.old) (λ s. Unit {0}) (λ s kind. kind ≡ kind_of (present s at.now)) result }
+        ensures answer { Answers (told self.old) (λ v. Unit {0}) (λ v kind. kind ≡ kind_found (v at.now)) result }
         ensures counts { Counts (told self.old) (faults self.old) (faults self.new) result };
 
     /// The entries of the directory, in byte order of their names.
     fn list(&mut self, at: &FPath) -> Result<Vec<Entry>, FolderFault>
         ensures told { told self.new ≡ told self.old }
-        ensures answer { Answers (told self.old) (λ s. present s at.now ≡ Directory) (λ s entries. IsListing (present s) at.now entries.items) result }
+        ensures answer { Answers (told self.old) (λ v. v at.now ≡ Folder) (λ v entries. IsListing v at.now entries.items) result }
         ensures counts { Counts (told self.old) (faults self.old) (faults self.new) result };
 
     /// Reads the file's bytes from `start` on into the front of `out`, and says how many.
     fn read(&mut self, at: &FPath, start: u64, out: &mut [u8]) -> Result<usize, FolderFault>
         ensures told { told self.new ≡ told self.old }
         ensures within { IfOk result (λ n. n ≤ length out.old) }
-        ensures answer { Answers (told self.old) (λ s. HasFile (present s) at.now) (λ s n. Reads s at.now start out.old out.new n) result }
+        ensures answer { Answers (told self.old) (λ v. ShowsFile v at.now) (λ v n. Reads (v at.now) start out.old out.new n) result }
         ensures unread { KeepsUnlessRun result (out.new ≡ out.old) }
         ensures counts { Counts (told self.old) (faults self.old) (faults self.new) result };
 

@@ -45,12 +45,13 @@ pub struct MemFolder {
 
 impl MemFolder {
     ghost use Rattle.std.specs.Prelude.{◌≡◌, ◌↔◌, ◌+◌, ◌++◌, Some, vec_len, vec_capacity, IfOk, OnOk, OnErr, IsTrue, [], ◌∷◌};
-    ghost use Rattle.folder_spec.specs.State.{present, kind_of, HasFile, IsSound};
+    ghost use Rattle.folder_spec.specs.State.{present, HasFile, IsSound};
     ghost use Rattle.folder_spec.specs.Event.{IsFree, IsEmptyDir, Allowed, AllowedIn, with_table, changed, Create, Settle, Append, Sync, Rename, RemoveDir, Steps};
-    ghost use Rattle.folder_spec.specs.declared.Spot.TheVariants.{Directory};
+    ghost use Rattle.folder_spec.specs.View.{Folder, kind_found};
+    ghost use Rattle.folder_spec.specs.Seen.{seen, ShowsFile};
     ghost use Rattle.folder_spec.specs.Listing.{IsListing};
     ghost use Rattle.port_model.specs.Counts.{CountRose, IsCounted};
-    ghost use Rattle.folder_model.specs.Answers.{Answers, Counts, Reads};
+    ghost use Rattle.folder_model.specs.Answers.{AnswersBy, Counts, Reads};
     ghost use Rattle.folder_model.specs.Calls.{call_of, outcome_of};
     ghost use Rattle.folder_model.specs.Steps.{step_table};
     ghost use Rattle.folder_model.specs.Memory.{state_of, told_of, faults_of, new_told, KeepsRest, plan_of, new_plan, with_failing, counted, fails_next, FailsAs};
@@ -319,7 +320,7 @@ impl MemFolder {
 
     // The entries of the directory, in order.
     fn entries(&self, at: &FPath) -> Result<Vec<Entry>, AllocError>
-        ensures { IfOk result (λ entries. IsListing (present (state_of self.now)) at.now entries.items) }
+        ensures { IfOk result (λ entries. IsListing (seen (state_of self.now)) at.now entries.items) }
     {
         let found = names(self.alloc, &self.base, self.steps.as_slice(), at)?;
         let mut entries = Vec::new(self.alloc);
@@ -362,7 +363,7 @@ impl MemFolder {
 
     fn kind_now(&mut self, at: &FPath) -> Result<Kind, FolderFault>
         ensures told { told_of self.new ≡ told_of self.old }
-        ensures answer { Answers (Some (told_of self.old)) (λ s. Unit {0}) (λ s kind. kind ≡ kind_of (present s at.now)) result }
+        ensures answer { AnswersBy (Unit {0}) (λ kind. kind ≡ kind_found (seen (state_of self.old) at.now)) result }
         ensures counts { Counts (Some (told_of self.old)) self.old.faults self.new.faults result }
         ensures plan { plan_of self.new ≡ counted (plan_of self.old) }
         ensures due { FailsAs (fails_next (plan_of self.old)) result }
@@ -380,7 +381,7 @@ impl MemFolder {
 
     fn list_now(&mut self, at: &FPath) -> Result<Vec<Entry>, FolderFault>
         ensures told { told_of self.new ≡ told_of self.old }
-        ensures answer { Answers (Some (told_of self.old)) (λ s. present s at.now ≡ Directory) (λ s entries. IsListing (present s) at.now entries.items) result }
+        ensures answer { AnswersBy (seen (state_of self.old) at.now ≡ Folder) (λ entries. IsListing (seen (state_of self.old)) at.now entries.items) result }
         ensures counts { Counts (Some (told_of self.old)) self.old.faults self.new.faults result }
         ensures plan { plan_of self.new ≡ counted (plan_of self.old) }
         ensures due { FailsAs (fails_next (plan_of self.old)) result }
@@ -405,7 +406,7 @@ impl MemFolder {
 
     fn read_now(&mut self, at: &FPath, start: u64, out: &mut [u8]) -> Result<usize, FolderFault>
         ensures told { told_of self.new ≡ told_of self.old }
-        ensures answer { Answers (Some (told_of self.old)) (λ s. HasFile (present s) at.now) (λ s n. Reads s at.now start out.old out.new n) result }
+        ensures answer { AnswersBy (ShowsFile (seen (state_of self.old)) at.now) (λ n. Reads (seen (state_of self.old) at.now) start out.old out.new n) result }
         ensures unread { OnErr result (out.new ≡ out.old) }
         ensures counts { Counts (Some (told_of self.old)) self.old.faults self.new.faults result }
         ensures plan { plan_of self.new ≡ counted (plan_of self.old) }

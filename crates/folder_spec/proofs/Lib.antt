@@ -3,11 +3,12 @@ pub mod Tables
 pub mod Sound
 pub mod Images
 pub mod Moments
-mod Regions
+pub mod Regions
 mod Written
 pub mod Replaces
 pub mod Tellings
 pub mod Stages
 mod Views
-mod Seen
+pub mod Seen
 pub mod Edits
+pub mod Under

@@ -110,3 +110,32 @@ parent-apart p some e = let k : (a : Part) × (p ≡ child (parent p) a) = child
 pub below-sibling : (p : Path) (a b : Part) → bytes_eq a b ≡ false → below (child p a) (child p b) ≡ None
 below-sibling [] a b apart = rw apart refl
 below-sibling (c ∷ p) a b apart = rw ((bytes_eq-Decides c c).1 refl) (below-sibling p a b apart)
+
+-- a path twice below another one
+pub below-both : (w p q : Path) → below (w ++ p) (w ++ q) ≡ below p q
+below-both [] p q = refl
+below-both (a ∷ w) p q = rw ((bytes_eq-Decides a a).1 refl) (below-both w p q)
+
+pub append-cancel : (w p q : Path) → w ++ p ≡ w ++ q → p ≡ q
+append-cancel w p q e = let some : Some p ≡ Some q = sym (below-append w p) ∙ ap (below w) e ∙ below-append w q in cc
+
+-- of two paths above a third one begins the other
+pub one_begins : (v w p q : Path) → v ++ p ≡ w ++ q → ((rest : Path) × (w ≡ v ++ rest)) ⊎ ((rest : Path) × (v ≡ w ++ rest))
+one_begins [] w p q e = inl (w, refl)
+one_begins (a ∷ v) [] p q e = inr (a ∷ v, refl)
+one_begins (a ∷ v) (b ∷ w) p q e =
+    let heads : a ≡ b = cc in
+    elim (one_begins v w p q cc) as (λ _. ((rest : Path) × (b ∷ w ≡ (a ∷ v) ++ rest)) ⊎ ((rest : Path) × (a ∷ v ≡ (b ∷ w) ++ rest))) [
+      | inl k ↦ inl (k.0, (let tails : w ≡ v ++ k.0 = k.1 in cc))
+      | inr k ↦ inr (k.0, (let tails : v ≡ w ++ k.0 = k.1 in cc))
+    ]
+
+-- where neither of two paths is at or below the other, nothing below the one is below the other
+pub below-apart : (v w rest : Path) → below v w ≡ None → below w v ≡ None → below v (w ++ rest) ≡ None
+below-apart v w rest apart beside = elim (begins_or_not v (w ++ rest)) as (λ _. below v (w ++ rest) ≡ None) [
+  | inl k ↦ elim (one_begins v w k.0 rest (sym k.1)) [
+    | inl more ↦ absurd (not_below v more.0 (ap (below v) (sym more.1) ∙ apart))
+    | inr more ↦ absurd (not_below w more.0 (ap (below w) (sym more.1) ∙ beside))
+  ]
+  | inr none ↦ none
+]

@@ -1,12 +1,12 @@
 -- What is seen after each call, and when a call may be made, by what is seen.
-use Rattle.std.proofs.Common.{◌≡◌, ◌≢◌, ◌⊎◌, ℕ, ◌<◌, Bool, true, false, cond, nat_eq, List, [], ◌++◌, Option, Some, None, refl, sym, ap, ◌∙◌, inl, inr, arith, eqb-true}
+use Rattle.std.proofs.Common.{◌≡◌, ◌≢◌, ◌⊎◌, ℕ, ◌<◌, Bool, true, false, cond, nat_eq, List, [], ◌++◌, Option, Some, None, IfSome, refl, sym, ap, ◌∙◌, subst, inl, inr, arith, eqb-true}
 use Rattle.std.proofs.lemmas.Bool.{eq-eqb}
 use mathlib.Core.Path.{fun_ext}
 use Rattle.folder_spec.specs.Path.{Path, path_eq, below, parent, child}
-use Rattle.folder_spec.specs.State.{Spot, Nothing, Directory, FileNode, Odd, Table, Node, State, present, put, moved, moved_spot, put_node, HasFile, IsSound}
-use Rattle.folder_spec.specs.Event.{Call, MakeDir, Create, Append, Sync, Settle, Rename, RemoveFile, RemoveDir, IsFree, Allowed, with_table, with_file, grown, synced, empty_node, changed}
-use Rattle.folder_spec.specs.View.{NoEntry, Folder, FileOf, View, found}
-use Rattle.folder_spec.specs.Seen.{seen, put_found, moved_found, moved_view, appended, seen_after, ShowsFile, ShowsFree, MayCall}
+use Rattle.folder_spec.specs.State.{Spot, Nothing, Directory, FileNode, Odd, Table, Node, State, kind_of, present, put, moved, moved_spot, put_node, HasFile, IsSound}
+use Rattle.folder_spec.specs.Event.{Call, MakeDir, Create, Append, Sync, Settle, Rename, RemoveFile, RemoveDir, IsFree, IsFilePlace, Allowed, with_table, with_file, grown, synced, empty_node, changed, Told}
+use Rattle.folder_spec.specs.View.{NoEntry, Folder, FileOf, View, kind_found, found}
+use Rattle.folder_spec.specs.Seen.{seen, IsSeen, put_found, moved_found, moved_view, appended, seen_after, ShowsFile, ShowsFree, ShowsFilePlace, MayCall}
 use Rattle.folder_spec.proofs.Paths.{path_eq-Decides, one_or_not}
 use Rattle.folder_spec.proofs.Tables.{put-same, put-other, last_of-push, present_is_table}
 use Rattle.folder_spec.proofs.Regions.{put_node-other}
@@ -127,17 +127,38 @@ file_seen bytes Nothing file e = cc
 file_seen bytes Directory file e = cc
 file_seen bytes Odd file e = cc
 
-free_shown : (s : State) (p : Path) → IsFree (present s) p → ShowsFree (seen s) p
+pub kind_seen : (bytes : ℕ → List ℕ) (x : Spot) → kind_of x ≡ kind_found (found bytes x)
+kind_seen bytes Nothing = refl
+kind_seen bytes Directory = refl
+kind_seen bytes (FileNode n) = refl
+kind_seen bytes Odd = refl
+
+pub free_shown : (s : State) (p : Path) → IsFree (present s) p → ShowsFree (seen s) p
 free_shown s p free = (ap (found (λ n. (s.nodes n).now)) free.0, ap (found (λ n. (s.nodes n).now)) free.1)
 
-free_seen : (s : State) (p : Path) → ShowsFree (seen s) p → IsFree (present s) p
+pub free_seen : (s : State) (p : Path) → ShowsFree (seen s) p → IsFree (present s) p
 free_seen s p free = (none_seen (λ n. (s.nodes n).now) (present s p) free.0, folder_seen (λ n. (s.nodes n).now) (present s (parent p)) free.1)
 
-file_shown : (s : State) (p : Path) → HasFile (present s) p → ShowsFile (seen s) p
+pub file_shown : (s : State) (p : Path) → HasFile (present s) p → ShowsFile (seen s) p
 file_shown s p file = ((s.nodes (file.0)).now, ap (found (λ n. (s.nodes n).now)) file.1)
 
-has_file_seen : (s : State) (p : Path) → ShowsFile (seen s) p → HasFile (present s) p
+pub has_file_seen : (s : State) (p : Path) → ShowsFile (seen s) p → HasFile (present s) p
 has_file_seen s p file = file_seen (λ n. (s.nodes n).now) (present s p) file.0 file.1
+
+-- a place for a file, by what is seen of a folder that tells its state
+pub file_place_seen : (t : Option Told) (p : Path) → ((v : View) → IsSeen t v → ShowsFilePlace v p) → IfSome t (λ a. IsFilePlace (present a.state) p)
+file_place_seen None p shown = tt
+file_place_seen (Some a) p shown = elim (shown (seen a.state) refl) as (λ _. IsFilePlace (present a.state) p) [
+  | inl free ↦ inl (free_seen a.state p free)
+  | inr file ↦ inr (has_file_seen a.state p file)
+]
+
+pub file_place_shown : (t : Option Told) (p : Path) → IfSome t (λ a. IsFilePlace (present a.state) p) → (v : View) → IsSeen t v → ShowsFilePlace v p
+file_place_shown None p place v is = absurd is
+file_place_shown (Some a) p place v is = elim place as (λ _. ShowsFilePlace v p) [
+  | inl free ↦ inl (subst (λ w. ShowsFree w p) (sym is) (free_shown a.state p free))
+  | inr file ↦ inr (subst (λ w. ShowsFile w p) (sym is) (file_shown a.state p file))
+]
 
 -- a call may be made where what is seen says so
 pub may_call_allowed : (s : State) (call : Call) → MayCall (seen s) call → Allowed s call

@@ -187,7 +187,7 @@ free_or_file t p kind is place = elim place as (λ _. (kind ≡ File → HasFile
 abbrev pub Replacing : Path → Path → List ℕ → Told → Told → Type 0
 Replacing staged at bytes a0 a = Went (IsReplacing staged at bytes a0.state) (λ s e. SparesOld (apart_from_both staged at) a0.state s e.call) a0 a
 
-spares_within : (small large : Path → Bool) → ((q : Path) → IsTrue (small q) → IsTrue (large q)) → (call : Call) → Spares large call → Spares small call
+pub spares_within : (small large : Path → Bool) → ((q : Path) → IsTrue (small q) → IsTrue (large q)) → (call : Call) → Spares large call → Spares small call
 spares_within small large within (MakeDir p) h = λ q inside. h q (within q inside)
 spares_within small large within (Create p) h = λ q inside. h q (within q inside)
 spares_within small large within (Append p piece) h = tt

@@ -19,6 +19,14 @@ grafted v e q None = v q
 abbrev pub edited : View → Edit → View
 edited v e = λ q. grafted v e q (below e.at q)
 
+-- edits below a root, by their places below it
+abbrev pub edit_under : Path → Edit → Edit
+edit_under root e = record { at = root ++ e.at; made = e.made }
+
+abbrev pub edits_under : Path → List Edit → List Edit
+edits_under root [] = []
+edits_under root (e ∷ edits) = edit_under root e ∷ edits_under root edits
+
 -- a file alone
 abbrev pub file_view : List ℕ → View
 file_view bytes [] = FileOf bytes

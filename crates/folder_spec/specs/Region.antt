@@ -1,5 +1,5 @@
 -- Regions of paths that calls leave as they were.
-use Rattle.std.specs.Prelude.{◌≡◌, ◌≢◌, ℕ, ◌<◌, ◌≤◌, ◌⊎◌, Bool, ◌&&◌, None, is_none, IsTrue}
+use Rattle.std.specs.Prelude.{◌≡◌, ◌≢◌, ℕ, ◌<◌, ◌≤◌, ◌⊎◌, Bool, ◌&&◌, None, is_none, is_some, IsTrue}
 use Rattle.folder_spec.specs.declared.Spot.TheVariants.{FileNode}
 use Rattle.folder_spec.specs.Path.{Path, below}
 use Rattle.folder_spec.specs.State.{Table, State, present, IsTableOf, IsNothingOrFile}
@@ -8,6 +8,10 @@ use Rattle.folder_spec.specs.Event.{Call, IsFree, MakeDir, Create, Append, Sync,
 -- the paths that do not begin with w
 abbrev pub apart_from : Path → Path → Bool
 apart_from w p = is_none (below w p)
+
+-- the paths that begin with w
+abbrev pub at_or_below : Path → Path → Bool
+at_or_below w p = is_some (below w p)
 
 -- the paths that begin with neither
 abbrev pub apart_from_both : Path → Path → Path → Bool

@@ -2,7 +2,7 @@
 use Rattle.std.specs.Prelude.{◌≡◌, ◌≢◌, ◌⊎◌, List, [], ◌++◌, ℕ, Option, Some, None, if◌then◌else◌}
 use Rattle.folder_spec.specs.Path.{Part, Path, path_eq, below, parent, child}
 use Rattle.folder_spec.specs.State.{State, present}
-use Rattle.folder_spec.specs.Event.{Call, MakeDir, Create, Append, Sync, Settle, Rename, RemoveFile, RemoveDir}
+use Rattle.folder_spec.specs.Event.{Call, MakeDir, Create, Append, Sync, Settle, Rename, RemoveFile, RemoveDir, Told}
 use Rattle.folder_spec.specs.View.{Found, NoEntry, Folder, FileOf, Special, View, view_in}
 
 -- what a view shows at a root and below it
@@ -12,6 +12,11 @@ under root v = λ rest. v (root ++ rest)
 -- what a read sees now
 abbrev pub seen : State → View
 seen s = view_in s (present s)
+
+-- a folder that tells its state shows this; one that tells nothing shows no view
+abbrev pub IsSeen : Option Told → View → Type 0
+IsSeen (Some a) v = v ≡ seen a.state
+IsSeen None v = ⊥
 
 -- the view with this at the path
 abbrev pub put_found : View → Path → Found → View
@@ -52,6 +57,14 @@ ShowsFile v p = (bytes : List ℕ) × (v p ≡ FileOf bytes)
 -- nothing is seen there, and a directory above it
 abbrev pub ShowsFree : View → Path → Type 0
 ShowsFree v p = (v p ≡ NoEntry) × (v (parent p) ≡ Folder)
+
+-- nothing is seen there, or a file
+abbrev pub ShowsNothingOrFile : View → Path → Type 0
+ShowsNothingOrFile v p = (v p ≡ NoEntry) ⊎ ShowsFile v p
+
+-- a file is seen there, or may be made there
+abbrev pub ShowsFilePlace : View → Path → Type 0
+ShowsFilePlace v p = ShowsFree v p ⊎ ShowsFile v p
 
 -- the condition of each call, by what is seen
 abbrev pub MayCall : View → Call → Type 0

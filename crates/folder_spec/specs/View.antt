@@ -1,5 +1,7 @@
 -- What a reader of a region of paths finds, in a table, in a state and in an image.
 use Rattle.std.specs.Prelude.{◌≡◌, ℕ, Bool, List, Contains, IsTrue}
+use Rattle.folder_spec.specs.declared.Kind.{Kind}
+use Rattle.folder_spec.specs.declared.Kind.TheVariants.{Missing, Dir, File, Other}
 use Rattle.folder_spec.specs.Path.{Path}
 use Rattle.folder_spec.specs.State.{Spot, Nothing, Directory, FileNode, Odd, Table, State, IsTableOf, IsClean}
 use Rattle.folder_spec.specs.Image.{Image}
@@ -13,6 +15,12 @@ pub data Found : Type 0 where
 
 abbrev pub View : Type 0
 View = Path → Found
+
+abbrev pub kind_found : Found → Kind
+kind_found NoEntry = Missing
+kind_found Folder = Dir
+kind_found (FileOf bytes) = File
+kind_found Special = Other
 
 -- by the bytes of the nodes
 abbrev pub found : (ℕ → List ℕ) → Spot → Found

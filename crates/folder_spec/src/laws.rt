@@ -7,9 +7,9 @@ ghost use Rattle.folder_spec.specs.Path.{Path, below};
 ghost use Rattle.folder_spec.specs.declared.Spot.TheVariants.{Nothing, Odd};
 ghost use Rattle.folder_spec.specs.Replace.{IsOldOrNew, IsReplaced, ShowsOldOrNew, IsCleanAt};
 ghost use Rattle.folder_spec.specs.View.{FileOf, View, view_of, AgreeIn, Shows, ShowsAmong};
-ghost use Rattle.folder_spec.specs.Seen.{seen, seen_after, MayCall};
-ghost use Rattle.folder_spec.specs.Edit.{Edit, directory_edit, view_after, IsOutside, IsStagedView, Publishes, HasPublished, HasSettled};
-ghost use Rattle.folder_spec.specs.Region.{Spares, WritesOnlyNew, IsAsBefore, HasOldOrFile, PutsOnlyFiles, OnlyAdds, apart_from};
+ghost use Rattle.folder_spec.specs.Seen.{under, moved_view, seen, seen_after, MayCall};
+ghost use Rattle.folder_spec.specs.Edit.{Edit, directory_edit, edited, edits_under, view_after, IsOutside, IsStagedView, Publishes, HasPublished, HasSettled};
+ghost use Rattle.folder_spec.specs.Region.{Spares, WritesOnlyNew, IsAsBefore, HasOldOrFile, PutsOnlyFiles, OnlyAdds, apart_from, at_or_below};
 ghost use Rattle.folder_spec.specs.Written.{HoldFronts, WritesFronts};
 
 /// A call that is allowed keeps a state sound, whether it is done or fails.
@@ -104,4 +104,15 @@ pub fn edits_are_published()
 pub fn edits_join()
     ensures publishes { (stage : Path) (edits more : List Edit) (s0 s1 s : State) → HasPublished stage edits s0 s1 → Publishes stage more s1 s → Publishes stage (edits ++ more) s0 s }
     ensures published { (stage : Path) (edits more : List Edit) (s0 s1 s : State) → HasPublished stage edits s0 s1 → HasPublished stage more s1 s → HasPublished stage (edits ++ more) s0 s }
+{}
+
+/// What is shown at a root and below it: edits there are edits of that, and what happens elsewhere
+/// leaves it. Views that are alike there show the same there.
+pub fn roots_show_their_own()
+    ensures alike { (root : Path) (v w : View) → AgreeIn (at_or_below root) v w → under root v ≡ under root w }
+    ensures nested { (root more : Path) (v : View) → under more (under root v) ≡ under (root ++ more) v }
+    ensures edits { (root : Path) (v : View) (edits : List Edit) → under root (view_after v (edits_under root edits)) ≡ view_after (under root v) edits }
+    ensures edited_elsewhere { (root : Path) (v : View) (e : Edit) → below root e.at ≡ None → below e.at root ≡ None → under root (edited v e) ≡ under root v }
+    ensures moved_elsewhere { (root old new : Path) (v : View) → below root old ≡ None → below old root ≡ None → below root new ≡ None → below new root ≡ None → under root (moved_view v old new) ≡ under root v }
+    ensures outside { (stage root : Path) → below stage root ≡ None → below root stage ≡ None → IsOutside stage (at_or_below root) }
 {}

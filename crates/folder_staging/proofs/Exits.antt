@@ -1,21 +1,41 @@
 -- What each exit of a call that stages and publishes says.
-use Rattle.std.proofs.Common.{◌≡◌, ℕ, ◌≤◌, List, Option, Some, None, Result, Ok, Err, OnOk, arith}
+use Rattle.std.proofs.Common.{◌≡◌, ◌≢◌, ℕ, List, Option, Some, None, Result, Ok, Err, OnOk, refl, sym, ap, ◌∙◌, subst, inl, inr}
+use Rattle.folder_spec.specs.declared.Kind.{Kind}
+use Rattle.folder_spec.specs.declared.Kind.TheVariants.{File}
 use Rattle.folder_spec.specs.declared.FolderFault.{FolderFault}
 use Rattle.folder_spec.specs.Path.{Path, below}
-use Rattle.folder_spec.specs.State.{IsSound}
-use Rattle.folder_spec.specs.Event.{Call, Rename, Allowed, Told, Changes, FromTo}
+use Rattle.folder_spec.specs.State.{present, HasFile, IsSound}
+use Rattle.folder_spec.specs.Event.{Rename, IsFree, Told, Changes, FromTo}
+use Rattle.folder_spec.specs.View.{Found, NoEntry, Folder, FileOf, Special, View, kind_found}
+use Rattle.folder_spec.specs.Seen.{seen, IsSeen, ShowsFilePlace}
+use Rattle.folder_spec.proofs.Seen.{free_seen, has_file_seen}
 use Rattle.folder_spec.proofs.Tellings.{from_to_both, from_to_more}
 use Rattle.folder_spec.proofs.Stages.{IsStagedFile, Replacing, IsRenamed, renamed_from}
-use Rattle.folder_model.specs.Answers.{Counts, CountsAbove}
-use Rattle.folder_model.proofs.Counting.{never_falls, counts_above, counts_on, not_refused}
+use Rattle.folder_model.specs.Answers.{Answers}
 use Rattle.folder_staging.specs.Published.{IsPublished}
 
--- a last call that is allowed, by its answer
-pub counts_after : (call : Call) (t u : Option Told) (n0 n1 n2 : ℕ) (result : Result (Unit {0}) FolderFault) → n0 ≤ n1 → ((a : Told) → t ≡ Some a → Allowed a.state call)
-    → Changes call t u result → Counts t n1 n2 result → CountsAbove {T = Unit {0}} n0 n2 result
-counts_after call t u n0 n1 n2 (Ok done) le allowed changes counts = let more : n1 ≤ n2 = never_falls {T = Unit {0}} t n1 n2 (Ok done) counts in omega (arith, le, more)
-counts_after call t u n0 n1 n2 (Err fault) le allowed changes counts =
-    counts_on {T = Unit {0}} n0 n1 n2 (Err fault) le (counts_above (Unit {0}) (Unit {0}) t n1 n2 fault (not_refused call t u allowed fault changes) counts)
+-- what stands where a call found a file, or none
+pub found_file : (t u : Option Told) (at : Path) (kind : Kind) → kind ≡ File → u ≡ t → Answers t (λ v. Unit {0}) (λ v k. k ≡ kind_found (v at)) (Ok kind)
+    → (a : Told) → u ≡ Some a → HasFile (present a.state) at
+found_file t u at kind is_file same answer a is =
+    let here : kind ≡ kind_found (seen a.state at) = (answer (seen a.state) (subst (λ o. IsSeen o (seen a.state)) (sym is ∙ same) refl)).1 in
+    has_file_seen a.state at (by_kind (seen a.state at) (sym is_file ∙ here))
+  where
+    by_kind : (x : Found) → File ≡ kind_found x → (bytes : List ℕ) × (x ≡ FileOf bytes)
+    by_kind (FileOf bytes) e = (bytes, refl)
+    by_kind NoEntry e = cc
+    by_kind Folder e = cc
+    by_kind Special e = cc
+
+pub found_free : (t u : Option Told) (at : Path) (kind : Kind) → kind ≢ File → u ≡ t → Answers t (λ v. Unit {0}) (λ v k. k ≡ kind_found (v at)) (Ok kind)
+    → ((v : View) → IsSeen t v → ShowsFilePlace v at) → FromTo (λ a b. IsFree (present b.state) at) t u
+found_free None u at kind apart same answer place = subst (FromTo (λ a b. IsFree (present b.state) at) None) (sym same) tt
+found_free (Some a) u at kind apart same answer place =
+    subst (FromTo (λ a b. IsFree (present b.state) at) (Some a)) (sym same)
+    (elim (place (seen a.state) refl) [
+      | inl free ↦ free_seen a.state at free
+      | inr file ↦ absurd (apart ((answer (seen a.state) refl).1 ∙ ap kind_found file.1))
+    ])
 
 module _ (staged at : Path) (bytes : List ℕ) (apart : below staged at ≡ None) where
   pub published_from : (t0 t1 t2 : Option Told) (result : Result (Unit {0}) FolderFault) → below at staged ≡ None

@@ -15,6 +15,8 @@ use Rattle.folder_spec.proofs.Moments.{went_on, went_more, went_to}
 use Rattle.folder_spec.proofs.Tellings.{from_to_on, from_to_more, from_to_both}
 use Rattle.folder_spec.proofs.Stages.{Replacing}
 use Rattle.folder_spec.proofs.Edits.{publishes_more, publishes_joined, published_joined}
+use Rattle.folder_spec.proofs.Seen.{file_place_seen, file_place_shown}
+use Rattle.folder_staging.specs.Places.{MayPublish}
 use Rattle.folder_staging.specs.Published.{IsPublished, side_and_file}
 
 -- Places for files while another file is published.
@@ -94,7 +96,7 @@ module _ (staged side : Path) (side_bytes : List ℕ) (at : Path) (bytes : List 
       }) first second
 
 -- the places that the second file wants
-pub place_kept : (staged side : Path) (side_bytes : List ℕ) (at : Path) (t0 t1 : Option Told) → below staged at ≡ None → below side at ≡ None
+place_kept : (staged side : Path) (side_bytes : List ℕ) (at : Path) (t0 t1 : Option Told) → below staged at ≡ None → below side at ≡ None
     → FromTo (Replacing staged side side_bytes) t0 t1 → IfSome t0 (λ a. IsFilePlace (present a.state) at) → IfSome t1 (λ a. IsFilePlace (present a.state) at)
 place_kept staged side side_bytes at None None apart others went place = tt
 place_kept staged side side_bytes at (Some a) (Some b) apart others went place =
@@ -103,7 +105,7 @@ place_kept staged side side_bytes at (Some a) (Some b) apart others went place =
 place_kept staged side side_bytes at None (Some b) apart others went place = absurd went
 place_kept staged side side_bytes at (Some a) None apart others went place = absurd went
 
-pub stage_kept : (staged side : Path) (side_bytes : List ℕ) (t0 t1 : Option Told) → staged ≢ [] → below side staged ≡ None → ((a : Told) → t0 ≡ Some a → IsSound a.state)
+stage_kept : (staged side : Path) (side_bytes : List ℕ) (t0 t1 : Option Told) → staged ≢ [] → below side staged ≡ None → ((a : Told) → t0 ≡ Some a → IsSound a.state)
     → FromTo (Replacing staged side side_bytes) t0 t1 → FromTo (λ a b. IsPublished staged side side_bytes a.state b.state) t0 t1
     → IfSome t0 (λ a. IsFilePlace (present a.state) staged) → IfSome t1 (λ a. IsFilePlace (present a.state) staged)
 stage_kept staged side side_bytes None None some beside sound went published place = tt
@@ -113,3 +115,16 @@ stage_kept staged side side_bytes (Some a) (Some b) some beside sound went publi
     (sound a refl) some beside published.gone place
 stage_kept staged side side_bytes None (Some b) some beside sound went published place = absurd went
 stage_kept staged side side_bytes (Some a) None some beside sound went published place = absurd went
+
+pub may_publish_next : (staged side : Path) (side_bytes : List ℕ) (at : Path) (t0 t1 : Option Told) → ((a : Told) → t0 ≡ Some a → IsSound a.state)
+    → MayPublish t0 staged side → MayPublish t0 staged at → below side at ≡ None → FromTo (Replacing staged side side_bytes) t0 t1
+    → FromTo (λ a b. IsPublished staged side side_bytes a.state b.state) t0 t1 → MayPublish t1 staged at
+may_publish_next staged side side_bytes at t0 t1 sound first second others went published = record {
+  stage = record {
+    below_base = second.stage.below_base;
+    place = file_place_shown t1 staged
+        (stage_kept staged side side_bytes t0 t1 second.stage.below_base first.apart.beside sound went published (file_place_seen t0 staged first.stage.place));
+  };
+  place = file_place_shown t1 at (place_kept staged side side_bytes at t0 t1 second.apart.apart others went (file_place_seen t0 at second.place));
+  apart = second.apart;
+}

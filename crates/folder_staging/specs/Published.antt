@@ -1,21 +1,23 @@
--- A file that has been put in its place and is not yet settled.
-use Rattle.std.specs.Prelude.{◌≡◌, ℕ, List, [], ◌∷◌, None}
+-- Files that are put in their places.
+use Rattle.std.specs.Prelude.{◌≡◌, ℕ, List, [], ◌∷◌, Option}
 use Rattle.folder_spec.specs.declared.Spot.TheVariants.{Nothing}
-use Rattle.folder_spec.specs.Path.{Path, below}
+use Rattle.folder_spec.specs.Path.{Path}
 use Rattle.folder_spec.specs.State.{State, present}
 use Rattle.folder_spec.specs.Edit.{Edit, file_edit, HasPublished}
-use Rattle.folder_spec.specs.Replace.{IsNewFile}
+use Rattle.folder_spec.specs.Event.{Told}
+use Rattle.folder_spec.specs.Moments.{Moments}
+use Rattle.folder_spec.specs.Region.{SparesOld, apart_from_both}
+use Rattle.folder_spec.specs.Replace.{IsNewFile, IsReplacing}
 
--- Since s0 the file has been published, and nothing is left where it was staged.
+-- Since s0 the file has been published and not yet settled, and nothing is left where it was staged.
 pub record IsPublished (staged at : Path) (bytes : List ℕ) (s0 s : State) : Type 0 where
   pub published : HasPublished staged (file_edit at bytes ∷ []) s0 s
   pub new : IsNewFile bytes s0 s (present s at)
   pub gone : present s staged ≡ Nothing
 
--- neither place is at or below the other
-pub record ArePlacesApart (staged at : Path) : Type 0 where
-  pub apart : below staged at ≡ None
-  pub beside : below at staged ≡ None
+-- While a file is put in its place: at each moment it is being replaced, and each call spares all other paths and the files of then.
+abbrev pub Publishing : Path → Path → List ℕ → Option Told → Option Told → Type 0
+Publishing staged at bytes = Moments (IsReplacing staged at bytes) (λ s0 s e. SparesOld (apart_from_both staged at) s0 s e.call)
 
 -- a side file comes to stand at its place, and then a file at its own
 abbrev pub side_and_file : Path → List ℕ → Path → List ℕ → List Edit

@@ -1,14 +1,13 @@
 //! Publishing a staged file: renaming it onto its place.
-ghost use Rattle.std.specs.Prelude.{◌≡◌, ◌≢◌, [], None, IfSome, OnOk};
+ghost use Rattle.std.specs.Prelude.{◌≡◌, None, OnOk};
 ghost use Rattle.folder_spec.specs.Path.{below};
-ghost use Rattle.folder_spec.specs.State.{present};
-ghost use Rattle.folder_spec.specs.Event.{FromTo, IsFilePlace};
+ghost use Rattle.folder_spec.specs.Event.{FromTo};
 ghost use Rattle.folder_spec.specs.Moments.{Moments};
-ghost use Rattle.folder_spec.specs.Region.{SparesOld, apart_from_both};
-ghost use Rattle.folder_spec.specs.Replace.{IsReplacing, HasReplaced};
-ghost use Rattle.folder_model.specs.Answers.{CountsAbove};
+ghost use Rattle.folder_spec.specs.Replace.{HasReplaced};
 ghost use Rattle.folder_spec.specs.Edit.{Publishes, HasSettled};
-ghost use Rattle.folder_staging.specs.Published.{IsPublished, ArePlacesApart, side_and_file};
+ghost use Rattle.folder_model.specs.Answers.{CountsAbove};
+ghost use Rattle.folder_staging.specs.Places.{MayPublish};
+ghost use Rattle.folder_staging.specs.Published.{Publishing, IsPublished, side_and_file};
 
 use crate::staging::stage_file;
 use folder_model::{FPath, Folder};
@@ -22,12 +21,8 @@ pub fn publish_file<F: Folder>(
     at: &FPath,
     bytes: &[u8],
 ) -> Result<(), FolderFault>
-    requires below_base { staged.now ≢ [] }
-    requires apart { below staged.now at.now ≡ None }
-    requires beside { below at.now staged.now ≡ None }
-    requires staging { IfSome (F.told folder.old) (λ a. IsFilePlace (present a.state) staged.now) }
-    requires place { IfSome (F.told folder.old) (λ a. IsFilePlace (present a.state) at.now) }
-    ensures moments { Moments (IsReplacing staged.now at.now bytes.now) (λ s0 s e. SparesOld (apart_from_both staged.now at.now) s0 s e.call) (F.told folder.old) (F.told folder.new) }
+    requires { MayPublish (F.told folder.old) staged.now at.now }
+    ensures moments { Publishing staged.now at.now bytes.now (F.told folder.old) (F.told folder.new) }
     ensures published { OnOk result (FromTo (λ a b. IsPublished staged.now at.now bytes.now a.state b.state) (F.told folder.old) (F.told folder.new)) }
     ensures counts { CountsAbove (F.faults folder.old) (F.faults folder.new) result }
 {
@@ -42,12 +37,8 @@ pub fn replace_file<F: Folder>(
     at: &FPath,
     bytes: &[u8],
 ) -> Result<(), FolderFault>
-    requires below_base { staged.now ≢ [] }
-    requires apart { below staged.now at.now ≡ None }
-    requires beside { below at.now staged.now ≡ None }
-    requires staging { IfSome (F.told folder.old) (λ a. IsFilePlace (present a.state) staged.now) }
-    requires place { IfSome (F.told folder.old) (λ a. IsFilePlace (present a.state) at.now) }
-    ensures moments { Moments (IsReplacing staged.now at.now bytes.now) (λ s0 s e. SparesOld (apart_from_both staged.now at.now) s0 s e.call) (F.told folder.old) (F.told folder.new) }
+    requires { MayPublish (F.told folder.old) staged.now at.now }
+    ensures moments { Publishing staged.now at.now bytes.now (F.told folder.old) (F.told folder.new) }
     ensures replaced { OnOk result (FromTo (λ a b. HasReplaced staged.now at.now bytes.now a.state b.state) (F.told folder.old) (F.told folder.new)) }
     ensures counts { CountsAbove (F.faults folder.old) (F.faults folder.new) result }
 {
@@ -67,13 +58,9 @@ pub fn replace_with_side_file<F: Folder>(
     at: &FPath,
     bytes: &[u8],
 ) -> Result<(), FolderFault>
-    requires below_base { staged.now ≢ [] }
-    requires side_apart { ArePlacesApart staged.now side.now }
-    requires apart { ArePlacesApart staged.now at.now }
+    requires side { MayPublish (F.told folder.old) staged.now side.now }
+    requires file { MayPublish (F.told folder.old) staged.now at.now }
     requires others { below side.now at.now ≡ None }
-    requires staging { IfSome (F.told folder.old) (λ a. IsFilePlace (present a.state) staged.now) }
-    requires side_place { IfSome (F.told folder.old) (λ a. IsFilePlace (present a.state) side.now) }
-    requires place { IfSome (F.told folder.old) (λ a. IsFilePlace (present a.state) at.now) }
     ensures moments { Moments (Publishes staged.now (side_and_file side.now side_bytes.now at.now bytes.now)) (λ s0 s e. Unit {0}) (F.told folder.old) (F.told folder.new) }
     ensures settled { OnOk result (FromTo (λ a b. HasSettled staged.now (side_and_file side.now side_bytes.now at.now bytes.now) a.state b.state) (F.told folder.old) (F.told folder.new)) }
     ensures counts { CountsAbove (F.faults folder.old) (F.faults folder.new) result }

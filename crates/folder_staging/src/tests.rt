@@ -1,8 +1,9 @@
-ghost use Rattle.std.specs.Prelude.{◌≡◌, IfSome, IsTrue, None};
+mod folders;
+mod removal;
+
+ghost use Rattle.std.specs.Prelude.{◌≡◌, IsTrue, None};
 ghost use Rattle.folder_spec.specs.Path.{below};
-ghost use Rattle.folder_spec.specs.State.{present};
-ghost use Rattle.folder_spec.specs.Event.{IsFilePlace};
-ghost use Rattle.folder_staging.specs.Published.{ArePlacesApart};
+ghost use Rattle.folder_staging.specs.Places.{IsPlace, ArePlacesApart, MayPublish};
 
 use crate::{is_file_place, replace_with_side_file};
 use folder_model::{FPath, Folder, FolderFault, Kind, MemFolder, Pick};
@@ -24,12 +25,22 @@ fn are_apart(staged: &FPath, at: &FPath) -> bool
 
 fn is_place<F: Folder>(folder: &mut F, at: &FPath) -> bool
     ensures told { F.told folder.new ≡ F.told folder.old }
-    ensures place { IsTrue result → IfSome (F.told folder.old) (λ a. IsFilePlace (present a.state) at.now) }
+    ensures place { IsTrue result → IsPlace (F.told folder.old) at.now }
 {
     match is_file_place(folder, at) {
         Ok(yes) => yes,
         Err(_) => false,
     }
+}
+
+fn may_publish<F: Folder>(folder: &mut F, staged: &FPath, at: &FPath) -> bool
+    ensures told { F.told folder.new ≡ F.told folder.old }
+    ensures may { IsTrue result → MayPublish (F.told folder.old) staged.now at.now }
+{
+    if staged.depth() == 0 || !are_apart(staged, at) {
+        return false;
+    }
+    is_place(folder, staged) && is_place(folder, at)
 }
 
 fn is_not_below(side: &FPath, at: &FPath) -> bool
@@ -39,6 +50,22 @@ fn is_not_below(side: &FPath, at: &FPath) -> bool
         return false;
     }
     true
+}
+
+// Puts `name` in a side file and `bytes` in a file, if it may.
+fn put_in<F: Folder>(
+    folder: &mut F,
+    staged: &FPath,
+    side: &FPath,
+    at: &FPath,
+) -> Result<Result<(), FolderFault>, Fail> {
+    if !may_publish(folder, staged, side) || !may_publish(folder, staged, at) {
+        return Err(Fail::from("places"));
+    }
+    if !is_not_below(side, at) {
+        return Err(Fail::from("a side file beside its file"));
+    }
+    Ok(replace_with_side_file(folder, staged, side, b"name", at, b"bytes"))
 }
 
 // A settled folder with the directories `s` and `d`.
@@ -60,17 +87,8 @@ fn put_both(
     let staged = path(alloc, "s/f")?;
     let side = path(alloc, "d/side")?;
     let at = path(alloc, "d/file")?;
-    if staged.depth() == 0 || !are_apart(&staged, &side) || !are_apart(&staged, &at) {
-        return Err(Fail::from("paths apart"));
-    }
-    if !is_not_below(&side, &at) {
-        return Err(Fail::from("paths apart"));
-    }
-    folder.fail_at(fail.saturating_add(6))?;
-    if !is_place(folder, &staged) || !is_place(folder, &side) || !is_place(folder, &at) {
-        return Err(Fail::from("places"));
-    }
-    Ok(replace_with_side_file(folder, &staged, &side, b"name", &at, b"bytes"))
+    folder.fail_at(fail.saturating_add(8))?;
+    put_in(folder, &staged, &side, &at)
 }
 
 fn kind<F: Folder>(alloc: Global, folder: &mut F, text: &str) -> Result<Option<Kind>, Fail> {

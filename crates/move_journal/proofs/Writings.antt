@@ -1,82 +1,95 @@
 -- Where a journal is written, and what putting a file in the place of another says of it.
-use Rattle.std.proofs.Common.{◌≡◌, ℕ, List, Option, Some, None, IfSome, Result, Ok, Err, OnOk, refl, ap, sym, ◌∙◌, subst}
-use Rattle.folder_spec.specs.Path.{Path, below}
+use Rattle.std.proofs.Common.{◌≡◌, ℕ, Bool, List, Option, Some, None, Result, Ok, Err, OnOk, refl, ap, ◌∙◌, subst, inl, inr}
+use Rattle.folder_spec.specs.Path.{Part, Path, below, child}
 use Rattle.folder_spec.specs.State.{Node, State, present, IsSound}
 use Rattle.folder_spec.specs.declared.FolderFault.{FolderFault}
-use Rattle.folder_spec.specs.Event.{Told, FromTo, IsFilePlace}
+use Rattle.folder_spec.specs.Event.{Told, FromTo}
+use Rattle.folder_spec.specs.View.{Folder, FileOf, View, found, view_of}
+use Rattle.folder_spec.specs.Seen.{seen, IsSeen, ShowsNothingOrFile, ShowsFilePlace}
 use Rattle.folder_spec.specs.Region.{SparesOld}
-use Rattle.folder_spec.specs.Replace.{IsNewFile, IsReplacing, HasReplaced}
-use Rattle.folder_spec.proofs.Paths.{below-sibling}
+use Rattle.folder_spec.specs.Image.{Image, IsImage}
+use Rattle.folder_spec.specs.Replace.{IsNewFile, IsReplacing, HasReplaced, IsOldOrNew, IsReplaced, ShowsOldOrNew, IsCleanAt}
+use Rattle.folder_spec.proofs.Paths.{parent-child, child-not_base, below-sibling}
 use Rattle.folder_spec.proofs.Moments.{went_more}
 use Rattle.folder_spec.proofs.Tellings.{from_to_more}
-use Rattle.folder_spec.proofs.Replaces.{images_show_old_or_new, images_show_new, clean_stays}
-use Rattle.folder_spec.proofs.Stages.{Replacing, place_in, replacing_none}
+use Rattle.folder_spec.proofs.Stages.{Replacing, replacing_none}
+use Rattle.folder_staging.specs.Places.{MayPublish}
 use Rattle.move_journal.specs.declared.journal.Journal.{Journal}
 use Rattle.move_journal.specs.Journal.{journal_text}
 use Rattle.move_journal.specs.Reading.{journal_path, journal_bytes, file_bytes}
 use Rattle.move_journal.specs.Writing.{IsWorkFolder, IsWriting, IsWritten, Writes, HasWritten, new_journal_path, elsewhere}
 
-pub apart : (work : Path) → below (new_journal_path work) (journal_path work) ≡ None
+apart : (work : Path) → below (new_journal_path work) (journal_path work) ≡ None
 apart work = below-sibling work _ _ refl
 
-pub beside : (work : Path) → below (journal_path work) (new_journal_path work) ≡ None
-beside work = below-sibling work _ _ refl
+-- the law of folder_spec on files that are put in the place of others
+pub record ReplacedFiles : Type 0 where
+  pub images : (region : Path → Bool) (at : Path) (bytes : List ℕ) (s0 s : State) (image : Image) → IsSound s0 → IsOldOrNew region at bytes s0 s → IsImage s image
+      → ShowsOldOrNew region at bytes s0 image
+  pub settled : (region : Path → Bool) (at : Path) (bytes : List ℕ) (s0 s : State) (image : Image) → IsReplaced region at bytes s0 s → IsImage s image
+      → view_of image at ≡ FileOf bytes
+  pub clean : (region : Path → Bool) (at : Path) (bytes : List ℕ) (s0 s : State) → IsSound s0 → IsCleanAt at s0 → IsOldOrNew region at bytes s0 s → IsCleanAt at s
 
-is_writing : (work : Path) (text : List ℕ) (s0 s : State) → IsSound s0 → IsReplacing (new_journal_path work) (journal_path work) text s0 s → IsWriting work text s0 s
-is_writing work text s0 s sound h = record {
+is_writing : (law : ReplacedFiles) (work : Path) (text : List ℕ) (s0 s : State) → IsSound s0 → IsReplacing (new_journal_path work) (journal_path work) text s0 s → IsWriting work text s0 s
+is_writing law work text s0 s sound h = record {
   journal = h.change;
   publishes = h.publishes;
   new_journal = h.place;
   fronts = h.fronts;
-  clean = λ clean. clean_stays (elsewhere work) (journal_path work) text s0 s sound clean h.change;
-  images = λ image is_image. images_show_old_or_new (elsewhere work) (journal_path work) text s0 s image sound h.change is_image;
+  clean = λ clean. law.clean (elsewhere work) (journal_path work) text s0 s sound clean h.change;
+  images = λ image is_image. law.images (elsewhere work) (journal_path work) text s0 s image sound h.change is_image;
 }
 
-new_file_read : (bytes : List ℕ) (s0 s : State) (work : Path) → IsNewFile bytes s0 s (present s (journal_path work)) → journal_bytes s work ≡ Some bytes
-new_file_read bytes s0 s work new = ap (file_bytes s) new.is ∙ ap (λ (node : Node). Some node.now) new.holds
+new_file_read : (bytes : List ℕ) (s0 s : State) (work : Path) → IsNewFile bytes s0 s (present s (journal_path work)) → journal_bytes (seen s) work ≡ Some bytes
+new_file_read bytes s0 s work new = ap (λ x. file_bytes (found (λ n. (s.nodes n).now) x)) new.is ∙ ap (λ (node : Node). Some node.now) new.holds
 
-is_written : (work : Path) (text : List ℕ) (s0 s : State) → HasReplaced (new_journal_path work) (journal_path work) text s0 s → IsWritten work text s0 s
-is_written work text s0 s h = record {
+is_written : (law : ReplacedFiles) (work : Path) (text : List ℕ) (s0 s : State) → HasReplaced (new_journal_path work) (journal_path work) text s0 s → IsWritten work text s0 s
+is_written law work text s0 s h = record {
   replaced = h.replaced;
   published = h.published;
   new_journal = h.gone;
-  shown = λ image is_image. images_show_new (elsewhere work) (journal_path work) text s0 s image h.replaced is_image;
+  shown = λ image is_image. law.settled (elsewhere work) (journal_path work) text s0 s image h.replaced is_image;
   read = new_file_read text s0 s work h.replaced.new;
 }
 
-writes_from : (work : Path) (journal : Journal) (t u : Option Told) → ((a : Told) → t ≡ Some a → IsSound a.state)
+writes_from : (law : ReplacedFiles) (work : Path) (journal : Journal) (t u : Option Told) → ((a : Told) → t ≡ Some a → IsSound a.state)
     → FromTo (Replacing (new_journal_path work) (journal_path work) (journal_text journal)) t u → Writes work journal t u
-writes_from work journal t u sound moments =
+writes_from law work journal t u sound moments =
     from_to_more (Replacing (new_journal_path work) (journal_path work) (journal_text journal)) _ t u
     (λ a b is went. went_more (IsReplacing (new_journal_path work) (journal_path work) (journal_text journal) a.state) (IsWriting work (journal_text journal) a.state)
     (λ s e. SparesOld (elsewhere work) a.state s e.call) (λ s e. SparesOld (elsewhere work) a.state s e.call) a b
-    (λ s h. is_writing work (journal_text journal) a.state s (sound a is) h) (λ s e h. h) went) moments
+    (λ s h. is_writing law work (journal_text journal) a.state s (sound a is) h) (λ s e h. h) went) moments
 
 -- no call yet
-pub writes_none : (work : Path) (journal : Journal) (t : Option Told) → ((a : Told) → t ≡ Some a → IsSound a.state) → Writes work journal t t
-writes_none work journal t sound =
-    writes_from work journal t t sound (replacing_none (new_journal_path work) (journal_path work) (journal_text journal) (apart work) t sound)
+pub writes_none : (law : ReplacedFiles) (work : Path) (journal : Journal) (t : Option Told) → ((a : Told) → t ≡ Some a → IsSound a.state) → Writes work journal t t
+writes_none law work journal t sound =
+    writes_from law work journal t t sound (replacing_none (new_journal_path work) (journal_path work) (journal_text journal) (apart work) t sound)
 
 -- what replacing a file says, at the paths and the text of a journal
-module _ (t u : Option Told) (work new at : Path) (bytes : List ℕ) (journal : Journal) (is_new : new ≡ new_journal_path work) (is_at : at ≡ journal_path work)
+module _ (law : ReplacedFiles) (t u : Option Told) (work new at : Path) (bytes : List ℕ) (journal : Journal) (is_new : new ≡ new_journal_path work) (is_at : at ≡ journal_path work)
     (is_text : bytes ≡ journal_text journal) where
   at_these : (X : Path → Path → List ℕ → Type 0) → X new at bytes → X (new_journal_path work) (journal_path work) (journal_text journal)
   at_these X x = subst (X (new_journal_path work) (journal_path work)) is_text (subst (λ p. X (new_journal_path work) p bytes) is_at (subst (λ p. X p at bytes) is_new x))
 
   pub writes_at : ((a : Told) → t ≡ Some a → IsSound a.state) → FromTo (Replacing new at bytes) t u → Writes work journal t u
-  writes_at sound h = writes_from work journal t u sound (at_these (λ p q b. FromTo (Replacing p q b) t u) h)
+  writes_at sound h = writes_from law work journal t u sound (at_these (λ p q b. FromTo (Replacing p q b) t u) h)
 
   pub written_at : (result : Result (Unit {0}) FolderFault) → OnOk result (FromTo (λ a b. HasReplaced new at bytes a.state b.state) t u)
       → OnOk result (HasWritten work journal t u)
   written_at (Err fault) h = tt
   written_at (Ok done) h =
       from_to_more (λ a b. HasReplaced (new_journal_path work) (journal_path work) (journal_text journal) a.state b.state) _ t u
-      (λ a b is. is_written work (journal_text journal) a.state b.state) (at_these (λ p q bs. FromTo (λ a b. HasReplaced p q bs a.state b.state) t u) h)
+      (λ a b is. is_written law work (journal_text journal) a.state b.state) (at_these (λ p q bs. FromTo (λ a b. HasReplaced p q bs a.state b.state) t u) h)
 
-pub new_place : (t : Option Told) (work new : Path) → new ≡ new_journal_path work → IfSome t (λ a. IsWorkFolder (present a.state) work) → IfSome t (λ a. IsFilePlace (present a.state) new)
-new_place None work new is h = tt
-new_place (Some a) work new is h = subst (IsFilePlace (present a.state)) (sym is) (place_in (present a.state) work _ h.folder h.new_journal)
+place_of : (v : View) (work : Path) (a : Part) → v work ≡ Folder → ShowsNothingOrFile v (child work a) → ShowsFilePlace v (child work a)
+place_of v work a folder here = elim here as (λ _. ShowsFilePlace v (child work a)) [
+  | inl none ↦ inl (none, ap v (parent-child work a) ∙ folder)
+  | inr file ↦ inr file
+]
 
-pub old_place : (t : Option Told) (work at : Path) → at ≡ journal_path work → IfSome t (λ a. IsWorkFolder (present a.state) work) → IfSome t (λ a. IsFilePlace (present a.state) at)
-old_place None work at is h = tt
-old_place (Some a) work at is h = subst (IsFilePlace (present a.state)) (sym is) (place_in (present a.state) work _ h.folder h.journal)
+pub may_publish : (t : Option Told) (work : Path) → ((v : View) → IsSeen t v → IsWorkFolder v work) → MayPublish t (new_journal_path work) (journal_path work)
+may_publish t work folder = record {
+  stage = record { below_base = child-not_base work _; place = λ v is. place_of v work _ (folder v is).folder (folder v is).new_journal };
+  place = λ v is. place_of v work _ (folder v is).folder (folder v is).journal;
+  apart = record { apart = below-sibling work _ _ refl; beside = below-sibling work _ _ refl };
+}

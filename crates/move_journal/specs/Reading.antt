@@ -3,9 +3,7 @@ use Rattle.std.specs.Prelude.{◌≡◌, ℕ, ◌<◌, ◌≤◌, List, length, 
 use Rattle.folder_spec.specs.declared.FolderFault.{FolderFault}
 use Rattle.folder_spec.specs.declared.FolderFault.TheVariants as folder
 use Rattle.folder_spec.specs.Path.{Path, child}
-use Rattle.folder_spec.specs.declared.Spot.{Spot}
-use Rattle.folder_spec.specs.declared.Spot.TheVariants.{Nothing, Directory, FileNode, Odd}
-use Rattle.folder_spec.specs.State.{State, present}
+use Rattle.folder_spec.specs.View.{Found, NoEntry, Folder, FileOf, Special, View}
 use Rattle.move_journal.specs.declared.journal.Journal.{Journal}
 use Rattle.move_journal.specs.declared.journal.JournalFault.{JournalFault}
 use Rattle.move_journal.specs.declared.journal.JournalFault.TheVariants.{NoJournal, BadJournal, TooLarge, Failed, NoMemory}
@@ -15,16 +13,16 @@ use Rattle.move_journal.specs.Lines.{IsBadLine}
 abbrev pub journal_path : Path → Path
 journal_path work = child work (codes "journal")
 
--- the bytes of the file that stands there, if one does
-abbrev pub file_bytes : State → Spot → Option (List ℕ)
-file_bytes s (FileNode n) = Some (s.nodes n).now
-file_bytes s Nothing = None
-file_bytes s Directory = None
-file_bytes s Odd = None
+-- the bytes of the file that is found, if one is
+abbrev pub file_bytes : Found → Option (List ℕ)
+file_bytes (FileOf bytes) = Some bytes
+file_bytes NoEntry = None
+file_bytes Folder = None
+file_bytes Special = None
 
--- the bytes of the journal's file in the work folder
-abbrev pub journal_bytes : State → Path → Option (List ℕ)
-journal_bytes s work = file_bytes s (present s (journal_path work))
+-- the bytes of the journal's file that the view shows in the work folder
+abbrev pub journal_bytes : View → Path → Option (List ℕ)
+journal_bytes v work = file_bytes (v (journal_path work))
 
 -- the answers that reading may give, by the bytes of the journal's file, if there is one
 abbrev pub ReadsAs : Option (List ℕ) → Result Journal JournalFault → Type 0

@@ -1,15 +1,16 @@
 -- What writing a journal leaves behind.
 use Rattle.std.specs.Prelude.{◌≡◌, List, [], ◌∷◌, ℕ, Bool, codes, Option, Some, Result, Ok, Err}
-use Rattle.folder_spec.specs.declared.Spot.TheVariants.{Nothing, Directory}
+use Rattle.folder_spec.specs.declared.Spot.TheVariants.{Nothing}
 use Rattle.folder_spec.specs.Path.{Path, child}
-use Rattle.folder_spec.specs.State.{Table, State, present, IsNothingOrFile}
+use Rattle.folder_spec.specs.State.{State, present}
 use Rattle.folder_spec.specs.Event.{Told, FromTo}
 use Rattle.folder_spec.specs.Image.{Image, IsImage}
 use Rattle.folder_spec.specs.Moments.{Moments}
 use Rattle.folder_spec.specs.Region.{HasOldOrFile, SparesOld, apart_from_both}
 use Rattle.folder_spec.specs.Written.{HoldFronts}
 use Rattle.folder_spec.specs.Replace.{IsOldOrNew, IsReplaced, ShowsOldOrNew, IsCleanAt}
-use Rattle.folder_spec.specs.View.{FileOf, view_of}
+use Rattle.folder_spec.specs.View.{Folder, FileOf, View, view_of}
+use Rattle.folder_spec.specs.Seen.{seen, ShowsNothingOrFile}
 use Rattle.folder_spec.specs.Edit.{file_edit, Publishes, HasSettled}
 use Rattle.move_journal.specs.declared.journal.Journal.{Journal}
 use Rattle.move_journal.specs.declared.journal.JournalFault.{JournalFault}
@@ -21,11 +22,11 @@ use Rattle.move_journal.specs.Reading.{journal_path, journal_bytes}
 abbrev pub new_journal_path : Path → Path
 new_journal_path work = child work (codes "journal.new")
 
--- the work folder, as a journal can be written in it
-pub record IsWorkFolder (t : Table) (work : Path) : Type 0 where
-  pub folder : t work ≡ Directory
-  pub journal : IsNothingOrFile t (journal_path work)
-  pub new_journal : IsNothingOrFile t (new_journal_path work)
+-- the view shows the work folder, as a journal can be written in it
+pub record IsWorkFolder (v : View) (work : Path) : Type 0 where
+  pub folder : v work ≡ Folder
+  pub journal : ShowsNothingOrFile v (journal_path work)
+  pub new_journal : ShowsNothingOrFile v (new_journal_path work)
 
 -- the paths that writing a journal leaves alone: all but the two, and what is below them
 abbrev pub elsewhere : Path → Path → Bool
@@ -57,7 +58,7 @@ pub record IsWritten (work : Path) (text : List ℕ) (s0 s : State) : Type 0 whe
   -- every crash leaves the new journal
   pub shown : (image : Image) → IsImage s image → view_of image (journal_path work) ≡ FileOf text
   -- and so a read finds it
-  pub read : journal_bytes s work ≡ Some text
+  pub read : journal_bytes (seen s) work ≡ Some text
 
 -- At each moment the journal is being written, and each call of the folder spares all other paths and the files of then.
 abbrev pub Writes : Path → Journal → Option Told → Option Told → Type 0

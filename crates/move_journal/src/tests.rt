@@ -1,6 +1,6 @@
-ghost use Rattle.std.specs.Prelude.{◌≡◌, IfOk, IfSome, IsTrue};
-ghost use Rattle.folder_spec.specs.declared.Spot.TheVariants.{Directory};
-ghost use Rattle.folder_spec.specs.State.{present, IsNothingOrFile};
+ghost use Rattle.std.specs.Prelude.{◌≡◌, IfOk, IsTrue};
+ghost use Rattle.folder_spec.specs.View.{Folder, View};
+ghost use Rattle.folder_spec.specs.Seen.{IsSeen, ShowsNothingOrFile};
 ghost use Rattle.move_journal.specs.Writing.{IsWorkFolder};
 
 use crate::{Journal, JournalFault, Phase, read, write};
@@ -110,7 +110,7 @@ fn begun(alloc: Global) -> Result<MemFolder, Fail> {
 
 fn is_directory<F: Folder>(folder: &mut F, at: &FPath) -> bool
     ensures told { F.told folder.new ≡ F.told folder.old }
-    ensures is { IsTrue result → IfSome (F.told folder.old) (λ a. present a.state at.now ≡ Directory) }
+    ensures is { IsTrue result → (v : View) → IsSeen (F.told folder.old) v → v at.now ≡ Folder }
 {
     match folder.kind(at) {
         Ok(Kind::Dir) => true,
@@ -120,7 +120,7 @@ fn is_directory<F: Folder>(folder: &mut F, at: &FPath) -> bool
 
 fn is_nothing_or_file<F: Folder>(folder: &mut F, at: &FPath) -> bool
     ensures told { F.told folder.new ≡ F.told folder.old }
-    ensures is { IsTrue result → IfSome (F.told folder.old) (λ a. IsNothingOrFile (present a.state) at.now) }
+    ensures is { IsTrue result → (v : View) → IsSeen (F.told folder.old) v → ShowsNothingOrFile v at.now }
 {
     match folder.kind(at) {
         Ok(Kind::Missing) => true,
@@ -131,7 +131,7 @@ fn is_nothing_or_file<F: Folder>(folder: &mut F, at: &FPath) -> bool
 
 // Whether a journal can be written in the folder.
 fn is_work_folder<F: Folder>(folder: &mut F, work: &FPath) -> Result<bool, AllocError>
-    ensures { IfOk result (λ yes. IsTrue yes → IfSome (F.told folder.new) (λ a. IsWorkFolder (present a.state) work.now)) }
+    ensures { IfOk result (λ yes. IsTrue yes → (v : View) → IsSeen (F.told folder.new) v → IsWorkFolder v work.now) }
 {
     let at = work.child("journal")?;
     let new = work.child("journal.new")?;
@@ -142,23 +142,31 @@ fn is_work_folder<F: Folder>(folder: &mut F, work: &FPath) -> Result<bool, Alloc
     )
 }
 
-// Writes the folder's journal again, as that of a migration that is done. The call of that number
-// fails, counted over those of `write`.
+// Writes the folder's journal again, as that of a migration that is done.
+fn finish_in<F: Folder>(
+    alloc: Global,
+    folder: &mut F,
+    work: &FPath,
+) -> Result<Result<(), FolderFault>, Fail> {
+    let Ok(mut journal) = read(alloc, folder, work) else {
+        return Err(Fail::from("a journal"));
+    };
+    journal.phase = Phase::Done;
+    if !is_work_folder(folder, work)? {
+        return Err(Fail::from("a work folder"));
+    }
+    Ok(write(alloc, folder, work, &journal))
+}
+
+// The call of that number fails, counted over those of `write`, which come after five others.
 fn finish(
     alloc: Global,
     folder: &mut MemFolder,
     fail: u64,
 ) -> Result<Result<(), FolderFault>, Fail> {
     let work = path(alloc, "w")?;
-    let Ok(mut journal) = read(alloc, folder, &work) else {
-        return Err(Fail::from("a journal"));
-    };
-    journal.phase = Phase::Done;
-    if !is_work_folder(folder, &work)? {
-        return Err(Fail::from("a work folder"));
-    }
-    folder.fail_at(fail)?;
-    Ok(write(alloc, folder, &work, &journal))
+    folder.fail_at(fail.saturating_add(5))?;
+    finish_in(alloc, folder, &work)
 }
 
 // The phase of the journal that a crash to that table leaves after `finish`.
@@ -179,7 +187,7 @@ fn phase_left(alloc: Global, fail: u64, table: usize) -> Result<Option<Phase>, F
 fn writes_the_six_lines(rt: HostRuntime) -> Result<(), Fail> {
     let alloc = rt.alloc();
     let mut folder = begun(alloc)?;
-    assert_eq!(rt; finish(alloc, &mut folder, 0)?, Ok(()));
+    assert_eq!(rt; finish(alloc, &mut folder, 99)?, Ok(()));
     let mut out = [0u8; 256];
     let count = folder
         .read(&path(alloc, "w/journal")?, 0, &mut out)
@@ -198,7 +206,7 @@ fn removes_what_a_stop_left(rt: HostRuntime) -> Result<(), Fail> {
     let new = path(alloc, "w/journal.new")?;
     let _ = folder.create(&new);
     let _ = folder.append(&new, b"vaultmove 1\nph");
-    assert_eq!(rt; finish(alloc, &mut folder, 0)?, Ok(()));
+    assert_eq!(rt; finish(alloc, &mut folder, 99)?, Ok(()));
     assert_eq!(rt; folder.kind(&new), Ok(Kind::Missing));
     let work = path(alloc, "w")?;
     let phase = read(alloc, &mut folder, &work)

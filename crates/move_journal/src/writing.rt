@@ -1,6 +1,7 @@
 //! Writing the journal's file.
-ghost use Rattle.std.specs.Prelude.{◌≤◌, IfSome, OnOk};
-ghost use Rattle.folder_spec.specs.State.{present};
+ghost use Rattle.std.specs.Prelude.{◌≤◌, OnOk};
+ghost use Rattle.folder_spec.specs.View.{View};
+ghost use Rattle.folder_spec.specs.Seen.{IsSeen};
 ghost use Rattle.folder_model.specs.Answers.{CountsAbove};
 ghost use Rattle.move_journal.specs.Journal.{IsParsed};
 ghost use Rattle.move_journal.specs.Writing.{IsWorkFolder, Writes, HasWritten};
@@ -9,6 +10,7 @@ use crate::journal::Journal;
 use crate::text::text_of;
 use folder_model::{FPath, Folder};
 use folder_spec::FolderFault;
+use folder_spec::laws::replaced_files_are_old_or_new;
 use folder_staging::replace_file;
 use std::alloc::Global;
 
@@ -25,11 +27,12 @@ pub fn write<F: Folder>(
     requires source { IsParsed journal.now.source }
     requires target { IsParsed journal.now.target }
     requires items { journal.now.items ≤ 200000 }
-    requires work_folder { IfSome (F.told folder.old) (λ a. IsWorkFolder (present a.state) work.now) }
+    requires work_folder { (v : View) → IsSeen (F.told folder.old) v → IsWorkFolder v work.now }
     ensures moments { Writes work.now journal.now (F.told folder.old) (F.told folder.new) }
     ensures written { OnOk result (HasWritten work.now journal.now (F.told folder.old) (F.told folder.new)) }
     ensures counts { CountsAbove (F.faults folder.old) (F.faults folder.new) result }
 {
+    replaced_files_are_old_or_new();
     let text = text_of(alloc, journal)?;
     let new = work.child("journal.new")?;
     let at = work.child("journal")?;

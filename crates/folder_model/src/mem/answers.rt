@@ -8,8 +8,8 @@ use folder_spec::{FolderFault, Kind};
 
 impl Folder for MemFolder {
     ghost use Rattle.std.specs.Prelude.{◌≡◌, ◌≤◌, Some, map, length, IfOk, OnErr};
-    ghost use Rattle.folder_spec.specs.declared.Spot.TheVariants.{Directory};
-    ghost use Rattle.folder_spec.specs.State.{present, kind_of, HasFile};
+    ghost use Rattle.folder_spec.specs.View.{Folder, kind_found};
+    ghost use Rattle.folder_spec.specs.Seen.{ShowsFile};
     ghost use Rattle.folder_spec.specs.Event.{Steps, MakeDir, Create, Append, Sync, Settle, Rename, RemoveFile, RemoveDir};
     ghost use Rattle.folder_spec.specs.Listing.{IsListing};
     ghost use Rattle.folder_model.specs.Answers.{Answers, Counts, Reads};
@@ -26,7 +26,7 @@ impl Folder for MemFolder {
 
     fn kind(&mut self, at: &FPath) -> Result<Kind, FolderFault>
         ensures told { told_of self.new ≡ told_of self.old }
-        ensures answer { Answers (Some (told_of self.old)) (λ s. Unit {0}) (λ s kind. kind ≡ kind_of (present s at.now)) result }
+        ensures answer { Answers (Some (told_of self.old)) (λ v. Unit {0}) (λ v kind. kind ≡ kind_found (v at.now)) result }
         ensures counts { Counts (Some (told_of self.old)) (faults_of self.old) (faults_of self.new) result }
         ensures plan { plan_of self.new ≡ counted (plan_of self.old) }
         ensures due { FailsAs (fails_next (plan_of self.old)) result }
@@ -36,7 +36,7 @@ impl Folder for MemFolder {
 
     fn list(&mut self, at: &FPath) -> Result<Vec<Entry>, FolderFault>
         ensures told { told_of self.new ≡ told_of self.old }
-        ensures answer { Answers (Some (told_of self.old)) (λ s. present s at.now ≡ Directory) (λ s entries. IsListing (present s) at.now entries.items) result }
+        ensures answer { Answers (Some (told_of self.old)) (λ v. v at.now ≡ Folder) (λ v entries. IsListing v at.now entries.items) result }
         ensures counts { Counts (Some (told_of self.old)) (faults_of self.old) (faults_of self.new) result }
         ensures plan { plan_of self.new ≡ counted (plan_of self.old) }
         ensures due { FailsAs (fails_next (plan_of self.old)) result }
@@ -47,7 +47,7 @@ impl Folder for MemFolder {
     fn read(&mut self, at: &FPath, start: u64, out: &mut [u8]) -> Result<usize, FolderFault>
         ensures told { told_of self.new ≡ told_of self.old }
         ensures within { IfOk result (λ n. n ≤ length out.old) }
-        ensures answer { Answers (Some (told_of self.old)) (λ s. HasFile (present s) at.now) (λ s n. Reads s at.now start out.old out.new n) result }
+        ensures answer { Answers (Some (told_of self.old)) (λ v. ShowsFile v at.now) (λ v n. Reads (v at.now) start out.old out.new n) result }
         ensures unread { OnErr result (out.new ≡ out.old) }
         ensures counts { Counts (Some (told_of self.old)) (faults_of self.old) (faults_of self.new) result }
         ensures plan { plan_of self.new ≡ counted (plan_of self.old) }

@@ -1,5 +1,5 @@
 use Rattle.folder_model.proofs.Counting.{counts_on}
-use Rattle.folder_staging.proofs.Pairs.{pair_first, pair_second, pair_settled, place_kept, stage_kept}
+use Rattle.folder_staging.proofs.Pairs.{pair_first, pair_second, pair_settled, may_publish_next}
 use Rattle.folder_staging.proofs.publishing.replace_with_side_file.Goals as goal
 
 pub returns-in_err-publish_file-clause-moments : goal.returns-in_err-publish_file-clause-moments
@@ -7,16 +7,11 @@ returns-in_err-publish_file-clause-moments g c =
     pair_first c.args.staged.now c.args.side.now c.args.side_bytes.now c.args.at.now c.args.bytes.now (g.F.Folder.told c.args.folder.now)
     (g.F.Folder.told c.publish_file.new.folder) c.publish_file.ensures.moments
 
-pub replace_file-requires-clause-staging : goal.replace_file-requires-clause-staging
-replace_file-requires-clause-staging g c =
-    stage_kept c.args.staged.now c.args.side.now c.args.side_bytes.now (g.F.Folder.told c.args.folder.now) (g.F.Folder.told c.publish_file.new.folder)
-    c.requires.below_base c.requires.side_apart.beside (g.met.F.Folder.sound c.args.folder.now) c.in_ok-publish_file.ensures.moments
-    c.in_ok-publish_file.ensures.published c.requires.staging
-
-pub replace_file-requires-clause-place : goal.replace_file-requires-clause-place
-replace_file-requires-clause-place g c =
-    place_kept c.args.staged.now c.args.side.now c.args.side_bytes.now c.args.at.now (g.F.Folder.told c.args.folder.now) (g.F.Folder.told c.publish_file.new.folder)
-    c.requires.apart.apart c.requires.others c.in_ok-publish_file.ensures.moments c.requires.place
+pub replace_file-requires : goal.replace_file-requires
+replace_file-requires g c =
+    may_publish_next c.args.staged.now c.args.side.now c.args.side_bytes.now c.args.at.now (g.F.Folder.told c.args.folder.now) (g.F.Folder.told c.publish_file.new.folder)
+    (g.met.F.Folder.sound c.args.folder.now) c.requires.side c.requires.file c.requires.others c.in_ok-publish_file.ensures.moments
+    c.in_ok-publish_file.ensures.published
 
 pub returns-clause-moments : goal.returns-clause-moments
 returns-clause-moments g c =

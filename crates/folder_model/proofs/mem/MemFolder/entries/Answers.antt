@@ -40,7 +40,7 @@ returns c =
     let t = present (state_of self) in
     let at = c.args.at.now in
     let items = c.loop-name.entries.items in
-    listing_is t at items c.loop-name.invariant.0 c.loop-name.invariant.1
+    listing_is (λ n. ((state_of self).nodes n).now) t at items c.loop-name.invariant.0 c.loop-name.invariant.1
     (λ a some. of_named (λ name. kind_of (t (child at name)) ≢ Missing → HasName items name) c.deref-name-items.result.now a
     (λ k d fits. c.loop-name.invariant.2 k d (omega (arith, fits, c.loop-name-test.false)))
     (rw c.deref-name-items.ensures.value (c.in_ok-found.ensures a

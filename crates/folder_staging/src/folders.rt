@@ -1,0 +1,32 @@
+//! Staging a folder whole, and publishing it.
+ghost use Rattle.std.specs.Prelude.{◌≢◌, []};
+ghost use Rattle.folder_spec.specs.View.{View};
+ghost use Rattle.folder_spec.specs.Seen.{IsSeen, ShowsFree};
+ghost use Rattle.folder_model.specs.Answers.{CountsAbove};
+ghost use Rattle.folder_staging.specs.Folders.{BeginsFolder, MayPublishFolder, PublishesFolder};
+
+use folder_model::{FPath, Folder};
+use folder_spec::FolderFault;
+
+/// Begins a folder at a free place where nothing else looks. Its files are staged in it one by one.
+pub fn begin_folder<F: Folder>(folder: &mut F, at: &FPath) -> Result<(), FolderFault>
+    requires { (v : View) → IsSeen (F.told folder.old) v → ShowsFree v at.now }
+    ensures begun { BeginsFolder at.now (F.told folder.old) (F.told folder.new) result }
+    ensures counts { CountsAbove (F.faults folder.old) (F.faults folder.new) result }
+{
+    folder.make_dir(at)
+}
+
+/// Puts a staged folder at a free place, with all its files at once. The change is still pending
+/// afterwards.
+pub fn publish_folder<F: Folder>(
+    folder: &mut F,
+    staged: &FPath,
+    at: &FPath,
+) -> Result<(), FolderFault>
+    requires { MayPublishFolder (F.told folder.old) staged.now at.now }
+    ensures published { PublishesFolder staged.now at.now (F.told folder.old) (F.told folder.new) result }
+    ensures counts { CountsAbove (F.faults folder.old) (F.faults folder.new) result }
+{
+    folder.rename(staged, at)
+}

@@ -1,6 +1,6 @@
 -- Files that were begun, and chunks that go on.
 use Rattle.std.proofs.Common.{◌≡◌, ℕ, ◌≤◌, false, List, [], ◌++◌, length, take, drop, replicate, Option, refl, sym, ap, ap₂, ◌∙◌, arith, length-append}
-use Rattle.std.proofs.lemmas.List.{drop_at, take_at, take-append-le, take-append-drop}
+use Rattle.std.proofs.lemmas.List.{length-take, drop_at, take_at, take-append-le, take-append-drop}
 use Rattle.port_model.specs.Draws.{ByteStream, Draws}
 use Rattle.chunk_files.specs.declared.keys.Layout.{Layout}
 use Rattle.chunk_files.specs.declared.keys.Layout.TheVariants.{Go, CmGcm}
@@ -13,7 +13,7 @@ use Rattle.chunk_files.specs.Keys.{Keys, format_by, format_of, IsHeaderBy}
 use Rattle.chunk_files.specs.Contents.{is_refused}
 use Rattle.chunk_files.specs.Encoding.{HasBegun}
 use Rattle.chunk_files.proofs.Encrypting.{IsNext, header-encrypted, header-made}
-use Rattle.chunk_files.proofs.Lawful.{IsLawful, lawful}
+use Rattle.chunk_files.proofs.Lawful.{IsLaidOut, laid_out}
 
 sealed-by : (layout : Layout) (key : List ℕ) (header : Header) (number : ℕ) (nonce chunk : List ℕ)
     → (format_by layout key).sealed_chunk header number nonce chunk ≡ sealed_text header.key (chunk_data header number) nonce chunk
@@ -26,8 +26,8 @@ pub sealed-same : (keys : Keys) (header : Header) (number : ℕ) (nonce chunk : 
 sealed-same keys header number nonce chunk = sealed-by keys.layout keys.key header number nonce chunk
 
 module _ (keys : Keys) (header : Header) (number : ℕ) (nonce chunk : List ℕ) (size : length nonce ≡ (format_of keys).nonce_size) where
-  law : IsLawful (format_of keys) (IsHeaderBy keys.layout keys.key)
-  law = lawful keys
+  law : IsLaidOut (format_of keys) (IsHeaderBy keys.layout keys.key)
+  law = laid_out keys
 
   pub stored-nonce : (stored : List ℕ) → stored ≡ (format_of keys).sealed_chunk header number nonce chunk → take (format_of keys).nonce_size stored ≡ nonce
   stored-nonce stored is = ap (take (format_of keys).nonce_size) is ∙ law.seal_nonce header number nonce chunk size
@@ -36,7 +36,7 @@ module _ (keys : Keys) (header : Header) (number : ℕ) (nonce chunk : List ℕ)
   pub buffer-nonce : (out : List ℕ) (count : ℕ) → take count out ≡ (format_of keys).sealed_chunk header number nonce chunk → take (format_of keys).nonce_size out ≡ nonce
   buffer-nonce out count is =
       let n : ℕ = (format_of keys).nonce_size in
-      let long : n ≤ length (take count out) = omega (arith, ap length is, law.seal_size header number nonce chunk size, law.nonce_within) in
+      let long : n ≤ length (take count out) = omega (arith, ap length is, ap length (law.seal_nonce header number nonce chunk size), length-take n ((format_of keys).sealed_chunk header number nonce chunk)) in
       ap (take n) (sym (take-append-drop count out)) ∙ take-append-le n (take count out) (drop count out) long ∙ stored-nonce (take count out) is
 
   pub next-stored : (stored : List ℕ) → is_refused (format_of keys) nonce ≡ false → stored ≡ (format_of keys).sealed_chunk header number nonce chunk

@@ -5,7 +5,6 @@ use Rattle.std.proofs.lemmas.Slice.{take-put_mid}
 use borrow.Rule.Slice.PartMut.{mid_of, put_mid}
 use Rattle.aes_lanes.specs.Cipher.{aes256}
 use Rattle.gcm_mode.specs.Gcm.{sealed}
-use Rattle.gcm_mode.proofs.Modes.{length-encrypted}
 use Rattle.chunk_files.specs.Sealed.{sealed_text}
 
 module _ (key associated nonce text buffer new tag : List ℕ) (end : ℕ) where
@@ -17,16 +16,16 @@ module _ (key associated nonce text buffer new tag : List ℕ) (end : ℕ) where
       ∙ ap (λ (m : ℕ). drop (length nonce) (take m buffer)) sum
       ∙ ap (drop (length nonce)) front ∙ drop_at nonce text (length nonce) refl
 
-  pub sealed-between : take end buffer ≡ nonce ++ text → length nonce ≤ end → end ≤ length buffer
+  pub sealed-between : ((iv ad plain : List ℕ) → length (sealed (aes256 key) iv ad plain).text ≡ length plain) → take end buffer ≡ nonce ++ text → length nonce ≤ end → end ≤ length buffer
       → sealed (aes256 key) nonce associated (mid_of (length nonce) (end - length nonce) buffer) ≡ record { text = new; tag = tag }
       → take end (put_mid (length nonce) (end - length nonce) buffer new) ++ tag ≡ sealed_text key associated nonce text
   unfolding sealed_text sealed
-  sealed-between front within room is =
+  sealed-between as_long front within room is =
       let whole : length nonce + length text ≡ end = sym (length-append nonce text) ∙ ap length (sym front) ∙ omega (arith, length-take end buffer) in
       let same = middle front within in
       let text_is : (sealed (aes256 key) nonce associated text).text ≡ new = ap (λ t. (sealed (aes256 key) nonce associated t).text) (sym same) ∙ ap (λ s. s.text) is in
       let tag_is : (sealed (aes256 key) nonce associated text).tag ≡ tag = ap (λ t. (sealed (aes256 key) nonce associated t).tag) (sym same) ∙ ap (λ s. s.tag) is in
-      let long : length new ≡ length text = ap length (sym text_is) ∙ length-encrypted key nonce text in
+      let long : length new ≡ length text = ap length (sym text_is) ∙ as_long nonce associated text in
       let n : ℕ = length nonce in
       let start : take n buffer ≡ nonce =
       ap (take n) (sym (take-append-drop end buffer) ∙ ap (λ (x : List ℕ). x ++ drop end buffer) front ∙ append_assoc nonce text (drop end buffer))

@@ -14,7 +14,7 @@ use Rattle.chunk_files.specs.Contents.{read_by, read_behind, read_from, read_on,
 use Rattle.chunk_files.specs.declared.keys.Layout.{Layout}
 use Rattle.chunk_files.specs.declared.keys.Layout.TheVariants.{Go, CmGcm}
 use Rattle.chunk_files.specs.Decoding.{wanted, Decoding, GivesNext, LeavesAll, read_at}
-use Rattle.chunk_files.proofs.Lawful.{IsLawful, lawful}
+use Rattle.chunk_files.proofs.Lawful.{IsLaidOut, laid_out}
 use Rattle.chunk_files.proofs.ChunkReadings.{read_from-nil, read_from-next, read_from-wanting}
 
 -- where one has as much left to give as the other, a step of the other is one of the first
@@ -49,8 +49,8 @@ pub wanted-less : (keys : Keys) (told : Option Header) → wanted keys told < 32
 wanted-less keys told = wanted-by keys.layout keys.key told
 
 module _ (keys : Keys) where
-  law : IsLawful (format_of keys) (IsHeaderBy keys.layout keys.key)
-  law = lawful keys
+  law : IsLaidOut (format_of keys) (IsHeaderBy keys.layout keys.key)
+  law = laid_out keys
 
   pub some-stored : 0 < stored_size (format_of keys)
   some-stored = omega (arith, law.some_full)

@@ -12,7 +12,7 @@ use Rattle.chunk_files.specs.Contents.{is_refused}
 use Rattle.chunk_files.specs.Encrypt.{sealed_chunks, header_and_chunks, has_no_bytes, encrypt_by, encrypt, AreAccepted, IsEncrypted}
 use Rattle.chunk_files.specs.Encoding.{Encoding, HasMade, GoesOn, IsFrontOf, MoreDrawnGiveMore, MadeIsAFront, begun}
 use Rattle.chunk_files.specs.FileOf.{AreStored, IsFileOf, EncryptedFilesAreFiles}
-use Rattle.chunk_files.proofs.Lawful.{IsLawful, lawful}
+use Rattle.chunk_files.proofs.Lawful.{IsLaidOut, laid_out}
 use Rattle.chunk_files.proofs.PiecesOf.{pieces-nil, pieces-next, pieces-one, pieces-append, length-pieces, concat-pieces}
 
 All-one : (P : List ℕ → Type 0) (x : List ℕ) → P x → All P (x ∷ [])
@@ -186,8 +186,8 @@ module _ (e : Encoding) where
   abbrev fe : Format
   fe = format_of e.keys
 
-  law : IsLawful fe (IsHeaderBy e.keys.layout e.keys.key)
-  law = lawful e.keys
+  law : IsLaidOut fe (IsHeaderBy e.keys.layout e.keys.key)
+  law = laid_out e.keys
 
   made-front : (drawn more content rest file : List ℕ) → HasMade e drawn content file → has_no_bytes fe (content ++ rest) ≡ false
       → IsFrontOf file (encrypt e.keys (drawn ++ more) (content ++ rest))
@@ -292,7 +292,7 @@ module _ (keys : Keys) where
   chunks-stored most header number drawn [] within many accepted = rw (pieces-nil fk.full_size [] refl) refl
   chunks-stored zero header number drawn (x ∷ xs) within many accepted = absurd (omega arith)
   chunks-stored (suc most) header number drawn (x ∷ xs) within many accepted =
-      let law : IsLawful fk (IsHeaderBy keys.layout keys.key) = lawful keys in
+      let law : IsLaidOut fk (IsHeaderBy keys.layout keys.key) = laid_out keys in
       let P : List ℕ → Type 0 = λ nonce. is_refused fk nonce ≡ false in
       let content : List ℕ = x ∷ xs in
       let n : ℕ = fk.nonce_size in
@@ -347,7 +347,7 @@ module _ (keys : Keys) where
         plain = nil_from_length content (eqb-true (length content) 0 both.0);
       })
   file-of false drawn content file is made =
-      let law : IsLawful fk (IsHeaderBy keys.layout keys.key) = lawful keys in
+      let law : IsLaidOut fk (IsHeaderBy keys.layout keys.key) = laid_out keys in
       let h : ℕ = fk.header_draw in
       let chunks : List (List ℕ) = pieces fk.full_size content in
       let many : length drawn ≡ h + fk.nonce_size * length chunks = made.enough ∙ rw is refl in

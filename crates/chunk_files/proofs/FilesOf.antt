@@ -11,6 +11,7 @@ use Rattle.chunk_files.specs.Keys.{Keys, format_of, IsHeaderBy}
 use Rattle.chunk_files.specs.Reading.{Whole, Faulty, Reading, ends}
 use Rattle.chunk_files.specs.Contents.{read_chunk, read_from, read_on, read_behind, read_by, readable}
 use Rattle.chunk_files.specs.FileOf.{IsStored, IsFullOrLast, BeginsWithChunk, AreStored, HasChunks, IsFileOf, Gives, FilesAreWhatTheyGive}
+use Rattle.chunk_files.proofs.Sealing.{GcmLaws}
 use Rattle.chunk_files.proofs.Lawful.{IsLawful, lawful}
 use Rattle.chunk_files.proofs.ChunkReadings.{read_from-nil, read_from-next}
 use Rattle.chunk_files.proofs.StoredChunks.{read-stored, length-stored, stored-of-read}
@@ -30,7 +31,7 @@ record WasStored (f : Format) (header : Header) (number : ℕ) (bytes : List ℕ
 
 module _ (f : Format) (IsHead : Header → List ℕ → Type 0) (law : IsLawful f IsHead) (header : Header) where
   some-stored : 0 < stored_size f
-  some-stored = omega (arith, law.some_full)
+  some-stored = omega (arith, law.form.some_full)
 
   first-chunk : (bytes stored rest chunk : List ℕ) (chunks : List (List ℕ)) → bytes ≡ stored ++ rest → length stored ≡ f.seal_size + length chunk
       → IsFullOrLast f chunk chunks → (chunks ≡ [] → rest ≡ []) → IsFirst (stored_size f) bytes stored rest
@@ -66,7 +67,7 @@ module _ (f : Format) (IsHead : Header → List ℕ → Type 0) (law : IsLawful 
       let size : length begins.stored ≡ f.seal_size + length chunk = length-stored f IsHead law header number begins.stored chunk begins.of in
       let first : IsFirst (stored_size f) bytes begins.stored rest =
       first-chunk bytes begins.stored rest chunk chunks begins.parts size stored.0 (no-chunks (number + 1) rest chunks more) in
-      let some : 0 < length bytes = omega (arith, ap length begins.parts, length-append begins.stored rest, law.some_nonce, law.nonce_within) in
+      let some : 0 < length bytes = omega (arith, ap length begins.parts, length-append begins.stored rest, law.form.some_nonce, law.form.nonce_within) in
       read_from-next f header number bytes false some-stored some (λ cut. cc)
       ∙ rw (first.first, first.behind, read-stored f IsHead law header number begins.stored chunk begins.of, chunks-read (number + 1) rest chunks more) refl
 
@@ -112,7 +113,7 @@ module _ (f : Format) (IsHead : Header → List ℕ → Type 0) (law : IsLawful 
         (read-more number bytes (read_chunk f header number (take (stored_size f) bytes)) refl rest)
   ]
 
-module _ (keys : Keys) (bytes content : List ℕ) where
+module _ (laws : GcmLaws) (keys : Keys) (bytes content : List ℕ) where
   abbrev fk : Format
   fk = format_of keys
 
@@ -127,10 +128,10 @@ module _ (keys : Keys) (bytes content : List ℕ) where
       joined = rw (empty.stored, empty.allowed) empty.plain;
     }
     | inr has ↦
-        let law : IsLawful fk IsHead = lawful keys in
+        let law : IsLawful fk IsHead = lawful laws keys in
         let size : length has.head ≡ fk.header_size = law.head_size has.header has.head has.is_header in
         let long : fk.header_size ≤ length bytes = omega (arith, ap length has.parts, length-append has.head has.behind) in
-        let some : (length bytes == 0) ≡ false = some-bytes bytes (omega (arith, law.some_header)) in
+        let some : (length bytes == 0) ≡ false = some-bytes bytes (omega (arith, law.form.some_header)) in
         let enough : nat_lt (length bytes) fk.header_size ≡ false = le-ltb (length bytes) fk.header_size long in
         let front : take fk.header_size bytes ≡ has.head = ap (take fk.header_size) has.parts ∙ take_at has.head has.behind fk.header_size size in
         let told : fk.read_header (take fk.header_size bytes) ≡ Ok has.header = ap fk.read_header front ∙ law.head_read has.header has.head has.is_header in
@@ -152,7 +153,7 @@ module _ (keys : Keys) (bytes content : List ℕ) where
       → content ≡ concat (read_behind fk told (drop fk.header_size bytes) false).chunks → HasChunks keys bytes content
   file-told (Err fault) long is whole joined = cc
   file-told (Ok header) long is whole joined =
-      let law : IsLawful fk IsHead = lawful keys in
+      let law : IsLawful fk IsHead = lawful laws keys in
       let behind : List ℕ = drop fk.header_size bytes in
       let size : length (take fk.header_size bytes) ≡ fk.header_size = omega (arith, length-take fk.header_size bytes) in
       let read : WasStored fk header 0 behind (read_from fk header 0 behind false) = read-chunks fk IsHead law header (length behind) 0 behind (omega arith) in
@@ -195,6 +196,6 @@ module _ (keys : Keys) (bytes content : List ℕ) where
       (ap (λ (r : Reading). r.ending) (sym reading) ∙ gives.whole)
       (gives.joined ∙ ap (λ (r : Reading). concat r.chunks) reading))
 
-pub files_are_what_they_give : FilesAreWhatTheyGive
-files_are_what_they_give keys bytes content =
-    (file-gives keys bytes content, file-by-tests keys bytes content _ _ refl refl)
+pub files_are_what_they_give : GcmLaws → FilesAreWhatTheyGive
+files_are_what_they_give laws keys bytes content =
+    (file-gives laws keys bytes content, file-by-tests laws keys bytes content _ _ refl refl)

@@ -14,24 +14,29 @@ use Rattle.chunk_files.specs.Gocryptfs.{header_version, file_id, go_header, read
 use Rattle.chunk_files.specs.CryptomatorGcm.{cm_header, told_by_plain, read_cm_header, IsCmHeader, new_plain, cm_gcm_format}
 use Rattle.chunk_files.specs.Keys.{Keys, format_by, format_of, IsHeaderBy}
 use Rattle.chunk_files.specs.Contents.{is_refused}
-use Rattle.chunk_files.proofs.Sealing.{length-sealed_text, nonce-sealed_text, opened-sealed_text, sealed-opened_text, length-plain_text}
+use Rattle.chunk_files.proofs.Sealing.{GcmLaws, length-sealed_text, nonce-sealed_text, opened-sealed_text, sealed-opened_text, length-plain_text}
 
-pub record IsLawful (f : Format) (IsHead : Header → List ℕ → Type 0) : Type 0 where
+-- what its form alone gives
+pub record IsLaidOut (f : Format) (IsHead : Header → List ℕ → Type 0) : Type 0 where
   pub some_header : 0 < f.header_size
   pub some_full : 0 < f.full_size
   pub some_nonce : 0 < f.nonce_size
   pub nonce_within : f.nonce_size ≤ f.seal_size
   pub holes_refused : f.has_holes ≡ true → f.refuses_zeros ≡ true
+  pub new_head : (drawn : List ℕ) → length drawn ≡ f.header_draw → is_refused f drawn ≡ false → IsHead (f.new_told drawn) (f.new_header drawn)
+  pub seal_nonce : (header : Header) (number : ℕ) (nonce chunk : List ℕ) → length nonce ≡ f.nonce_size
+      → take f.nonce_size (f.sealed_chunk header number nonce chunk) ≡ nonce
+
+-- what the laws of GCM give beside it
+pub record IsLawful (f : Format) (IsHead : Header → List ℕ → Type 0) : Type 0 where
+  pub form : IsLaidOut f IsHead
   -- headers
   pub head_size : (header : Header) (bytes : List ℕ) → IsHead header bytes → length bytes ≡ f.header_size
   pub head_read : (header : Header) (bytes : List ℕ) → IsHead header bytes → f.read_header bytes ≡ Ok header
   pub read_head : (header : Header) (bytes : List ℕ) → length bytes ≡ f.header_size → f.read_header bytes ≡ Ok header → IsHead header bytes
-  pub new_head : (drawn : List ℕ) → length drawn ≡ f.header_draw → is_refused f drawn ≡ false → IsHead (f.new_told drawn) (f.new_header drawn)
   -- chunks
   pub seal_size : (header : Header) (number : ℕ) (nonce chunk : List ℕ) → length nonce ≡ f.nonce_size
       → length (f.sealed_chunk header number nonce chunk) ≡ f.seal_size + length chunk
-  pub seal_nonce : (header : Header) (number : ℕ) (nonce chunk : List ℕ) → length nonce ≡ f.nonce_size
-      → take f.nonce_size (f.sealed_chunk header number nonce chunk) ≡ nonce
   pub seal_opens : (header : Header) (number : ℕ) (nonce chunk : List ℕ) → length nonce ≡ f.nonce_size
       → f.opened_chunk header number (f.sealed_chunk header number nonce chunk) ≡ Some chunk
   pub opens_seal : (header : Header) (number : ℕ) (stored chunk : List ℕ) → f.seal_size ≤ length stored
@@ -71,54 +76,59 @@ go-read-head key header bytes size is =
       tells = sym cases.2;
     }
 
-go-lawful : (key : List ℕ) → IsLawful (go_format key) (IsGoHeader key)
+go-laid-out : (key : List ℕ) → IsLaidOut (go_format key) (IsGoHeader key)
 unfolding is_refused
-go-lawful key = record {
+go-laid-out key = record {
   some_header = omega arith;
   some_full = omega arith;
   some_nonce = omega arith;
   nonce_within = omega arith;
   holes_refused = λ holes. refl;
+  new_head = λ drawn size some. record { id = drawn; sixteen = size; some_bit = some; is = refl; tells = refl };
+  seal_nonce = λ header number nonce chunk size. nonce-sealed_text header.key (chunk_data header number) nonce chunk 16 size;
+}
+
+go-lawful : GcmLaws → (key : List ℕ) → IsLawful (go_format key) (IsGoHeader key)
+go-lawful laws key = record {
+  form = go-laid-out key;
   head_size = λ header bytes head. ap length head.is ∙ (let more : suc (suc (length head.id)) ≡ 18 = omega (arith, head.sixteen) in more);
   head_read = go-head-read key;
   read_head = go-read-head key;
-  new_head = λ drawn size some. record { id = drawn; sixteen = size; some_bit = some; is = refl; tells = refl };
-  seal_size = λ header number nonce chunk size. length-sealed_text header.key (chunk_data header number) 16 nonce chunk size;
-  seal_nonce = λ header number nonce chunk size. nonce-sealed_text header.key (chunk_data header number) 16 nonce chunk size;
-  seal_opens = λ header number nonce chunk size. opened-sealed_text header.key (chunk_data header number) 16 nonce chunk size;
-  opens_seal = λ header number stored chunk long opens. sealed-opened_text header.key (chunk_data header number) 16 stored chunk long opens;
+  seal_size = λ header number nonce chunk size. length-sealed_text laws header.key (chunk_data header number) 16 nonce chunk size;
+  seal_opens = λ header number nonce chunk size. opened-sealed_text laws header.key (chunk_data header number) 16 nonce chunk size;
+  opens_seal = λ header number stored chunk long opens. sealed-opened_text laws header.key (chunk_data header number) 16 stored chunk long opens;
 }
 
 -- ---- Cryptomator with SIV_GCM
 
-cm-head-size : (key : List ℕ) (header : Header) (bytes : List ℕ) → IsCmHeader key header bytes → length bytes ≡ 68
-cm-head-size key header bytes head =
-    ap length head.is ∙ length-sealed_text key [] 12 head.nonce head.plain head.twelve ∙ ap (λ (n : ℕ). 28 + n) head.forty
+cm-head-size : GcmLaws → (key : List ℕ) (header : Header) (bytes : List ℕ) → IsCmHeader key header bytes → length bytes ≡ 68
+cm-head-size laws key header bytes head =
+    ap length head.is ∙ length-sealed_text laws key [] 12 head.nonce head.plain head.twelve ∙ ap (λ (n : ℕ). 28 + n) head.forty
 
-cm-head-read : (key : List ℕ) (header : Header) (bytes : List ℕ) → IsCmHeader key header bytes → read_cm_header key bytes ≡ Ok header
+cm-head-read : GcmLaws → (key : List ℕ) (header : Header) (bytes : List ℕ) → IsCmHeader key header bytes → read_cm_header key bytes ≡ Ok header
 unfolding read_cm_header
-cm-head-read key header bytes head =
-    let nonce : take 12 bytes ≡ head.nonce = ap (take 12) head.is ∙ nonce-sealed_text key [] 12 head.nonce head.plain head.twelve in
-    let opens : opened_text key [] 12 bytes ≡ Some head.plain = ap (opened_text key [] 12) head.is ∙ opened-sealed_text key [] 12 head.nonce head.plain head.twelve in
+cm-head-read laws key header bytes head =
+    let nonce : take 12 bytes ≡ head.nonce = ap (take 12) head.is ∙ nonce-sealed_text key [] head.nonce head.plain 12 head.twelve in
+    let opens : opened_text key [] 12 bytes ≡ Some head.plain = ap (opened_text key [] 12) head.is ∙ opened-sealed_text laws key [] 12 head.nonce head.plain head.twelve in
     rw (nonce, opens) (ap Ok (sym head.tells))
 
-cm-told : (key : List ℕ) (header : Header) (bytes : List ℕ) (opened : Option (List ℕ)) → length bytes ≡ 68 → opened_text key [] 12 bytes ≡ opened
+cm-told : GcmLaws → (key : List ℕ) (header : Header) (bytes : List ℕ) (opened : Option (List ℕ)) → length bytes ≡ 68 → opened_text key [] 12 bytes ≡ opened
     → told_by_plain (take 12 bytes) opened ≡ Ok header → IsCmHeader key header bytes
-cm-told key header bytes None size opens is = cc
-cm-told key header bytes (Some plain) size opens is =
+cm-told laws key header bytes None size opens is = cc
+cm-told laws key header bytes (Some plain) size opens is =
     let long : 28 ≤ length bytes = omega arith in
     record {
       nonce = take 12 bytes;
       twelve = omega (arith, length-take 12 bytes);
       plain = plain;
-      forty = omega (arith, length-plain_text key [] 12 bytes plain long opens);
-      is = sealed-opened_text key [] 12 bytes plain long opens;
+      forty = omega (arith, length-plain_text laws key [] 12 bytes plain long opens);
+      is = sealed-opened_text laws key [] 12 bytes plain long opens;
       tells = cc;
     }
 
-cm-read-head : (key : List ℕ) (header : Header) (bytes : List ℕ) → length bytes ≡ 68 → read_cm_header key bytes ≡ Ok header → IsCmHeader key header bytes
+cm-read-head : GcmLaws → (key : List ℕ) (header : Header) (bytes : List ℕ) → length bytes ≡ 68 → read_cm_header key bytes ≡ Ok header → IsCmHeader key header bytes
 unfolding read_cm_header
-cm-read-head key header bytes size is = cm-told key header bytes (opened_text key [] 12 bytes) size refl is
+cm-read-head laws key header bytes size is = cm-told laws key header bytes (opened_text key [] 12 bytes) size refl is
 
 cm-new-head : (key drawn : List ℕ) → length drawn ≡ 44 → IsCmHeader key (cm_header (take 12 drawn) (new_plain drawn)) (sealed_text key [] (take 12 drawn) (new_plain drawn))
 cm-new-head key drawn size = record {
@@ -130,26 +140,40 @@ cm-new-head key drawn size = record {
   tells = refl;
 }
 
-cm-lawful : (key : List ℕ) → IsLawful (cm_gcm_format key) (IsCmHeader key)
-cm-lawful key = record {
+cm-laid-out : (key : List ℕ) → IsLaidOut (cm_gcm_format key) (IsCmHeader key)
+cm-laid-out key = record {
   some_header = omega arith;
   some_full = omega arith;
   some_nonce = omega arith;
   nonce_within = omega arith;
   holes_refused = λ holes. cc;
-  head_size = cm-head-size key;
-  head_read = cm-head-read key;
-  read_head = cm-read-head key;
   new_head = λ drawn size some. cm-new-head key drawn size;
-  seal_size = λ header number nonce chunk size. length-sealed_text header.key (chunk_data header number) 12 nonce chunk size;
-  seal_nonce = λ header number nonce chunk size. nonce-sealed_text header.key (chunk_data header number) 12 nonce chunk size;
-  seal_opens = λ header number nonce chunk size. opened-sealed_text header.key (chunk_data header number) 12 nonce chunk size;
-  opens_seal = λ header number stored chunk long opens. sealed-opened_text header.key (chunk_data header number) 12 stored chunk long opens;
+  seal_nonce = λ header number nonce chunk size. nonce-sealed_text header.key (chunk_data header number) nonce chunk 12 size;
 }
 
-lawful-by : (layout : Layout) (key : List ℕ) → IsLawful (format_by layout key) (IsHeaderBy layout key)
-lawful-by Go key = go-lawful key
-lawful-by CmGcm key = cm-lawful key
+cm-lawful : GcmLaws → (key : List ℕ) → IsLawful (cm_gcm_format key) (IsCmHeader key)
+cm-lawful laws key = record {
+  form = cm-laid-out key;
+  head_size = cm-head-size laws key;
+  head_read = cm-head-read laws key;
+  read_head = cm-read-head laws key;
+  seal_size = λ header number nonce chunk size. length-sealed_text laws header.key (chunk_data header number) 12 nonce chunk size;
+  seal_opens = λ header number nonce chunk size. opened-sealed_text laws header.key (chunk_data header number) 12 nonce chunk size;
+  opens_seal = λ header number stored chunk long opens. sealed-opened_text laws header.key (chunk_data header number) 12 stored chunk long opens;
+}
 
-pub lawful : (keys : Keys) → IsLawful (format_of keys) (IsHeaderBy keys.layout keys.key)
-lawful keys = lawful-by keys.layout keys.key
+-- ---- each of them
+
+laid_out-by : (layout : Layout) (key : List ℕ) → IsLaidOut (format_by layout key) (IsHeaderBy layout key)
+laid_out-by Go key = go-laid-out key
+laid_out-by CmGcm key = cm-laid-out key
+
+pub laid_out : (keys : Keys) → IsLaidOut (format_of keys) (IsHeaderBy keys.layout keys.key)
+laid_out keys = laid_out-by keys.layout keys.key
+
+lawful-by : GcmLaws → (layout : Layout) (key : List ℕ) → IsLawful (format_by layout key) (IsHeaderBy layout key)
+lawful-by laws Go key = go-lawful laws key
+lawful-by laws CmGcm key = cm-lawful laws key
+
+pub lawful : GcmLaws → (keys : Keys) → IsLawful (format_of keys) (IsHeaderBy keys.layout keys.key)
+lawful laws keys = lawful-by laws keys.layout keys.key

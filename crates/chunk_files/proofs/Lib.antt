@@ -7,7 +7,7 @@ mod HeldBytes
 mod Beginnings
 mod Decodings
 mod Lawful
-pub mod ChunkReadings
+mod ChunkReadings
 mod StoredChunks
-pub mod FilesOf
+mod FilesOf
 mod Encrypting

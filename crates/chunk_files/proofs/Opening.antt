@@ -4,8 +4,7 @@ use Rattle.std.proofs.lemmas.List.{take_rest}
 use Rattle.std.proofs.lemmas.Slice.Eq.{bytes_eq-Decides}
 use Rattle.std.specs.Str.{bytes_eq}
 use Rattle.aes_lanes.specs.Cipher.{aes256}
-use Rattle.gcm_mode.specs.Gcm.{encrypted, tag_of, Opens}
-use Rattle.gcm_mode.proofs.Modes.{plain-is}
+use Rattle.gcm_mode.specs.Gcm.{encrypted, tag_of, Sealed, Opens}
 use Rattle.chunk_files.specs.Sealed.{is_tag_right, plain_text, nonce_of, text_of, tag_in}
 
 -- the parts of what is stored that stand in buffers of their own
@@ -41,8 +40,10 @@ module _ (key associated : List ℕ) (n : ℕ) (stored text tag : List ℕ) (par
       ∙ ap (tag_of (aes256 key) (nonce_of n stored) associated) (sym text-is)) in
       false_of test equal
 
-  pub plain-opened : (plain : List ℕ) → Opens (aes256 key) (nonce_of n stored) associated (record { text = text; tag = tag }) plain → plain ≡ plain_text key n stored
+  pub plain-opened : (plain : List ℕ)
+      → ((iv ad : List ℕ) (s : Sealed) (plain : List ℕ) → Opens (aes256 key) iv ad s plain → encrypted (aes256 key) iv s.text ≡ plain)
+      → Opens (aes256 key) (nonce_of n stored) associated (record { text = text; tag = tag }) plain → plain ≡ plain_text key n stored
   unfolding plain_text
-  plain-opened plain opens =
-      sym (plain-is key (nonce_of n stored) associated plain (record { text = text; tag = tag }) opens)
+  plain-opened plain decrypted opens =
+      sym (decrypted (nonce_of n stored) associated (record { text = text; tag = tag }) plain opens)
       ∙ ap (encrypted (aes256 key) (nonce_of n stored)) text-is

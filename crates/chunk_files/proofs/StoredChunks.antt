@@ -48,14 +48,14 @@ module _ (f : Format) (IsHead : Header → List ℕ → Type 0) (law : IsLawful 
   unfolding is_hole is_refused
   no-hole false stored nonce holes front accepted = rw holes refl
   no-hole true stored nonce holes front accepted =
-      let some : is_all_zero nonce ≡ false = accepted-some f.refuses_zeros (is_all_zero nonce) (law.holes_refused holes) accepted in
+      let some : is_all_zero nonce ≡ false = accepted-some f.refuses_zeros (is_all_zero nonce) (law.form.holes_refused holes) accepted in
       let zero : is_all_zero stored ≡ false = front-zero f.nonce_size stored (ap is_all_zero front ∙ some) in
       rw zero (and-false (f.has_holes && (length stored == stored_size f)))
 
   read-sealed : (stored chunk : List ℕ) → IsSealedChunk f header number stored chunk → read_chunk f header number stored ≡ Ok chunk
   unfolding read_chunk
   read-sealed stored chunk s =
-      let front : take f.nonce_size stored ≡ s.nonce = ap (take f.nonce_size) s.is ∙ law.seal_nonce header number s.nonce chunk s.size in
+      let front : take f.nonce_size stored ≡ s.nonce = ap (take f.nonce_size) s.is ∙ law.form.seal_nonce header number s.nonce chunk s.size in
       let hole : is_hole f stored ≡ false = no-hole f.has_holes stored s.nonce refl front s.accepted in
       let size : length stored ≡ f.seal_size + length chunk = ap length s.is ∙ law.seal_size header number s.nonce chunk s.size in
       let long : nat_lt (length stored) f.seal_size ≡ false = le-ltb (length stored) f.seal_size (omega arith) in
@@ -87,7 +87,7 @@ module _ (f : Format) (IsHead : Header → List ℕ → Type 0) (law : IsLawful 
       let same : plain ≡ chunk = cc in
       inr (record {
         nonce = take f.nonce_size stored;
-        size = omega (arith, length-take f.nonce_size stored, law.nonce_within);
+        size = omega (arith, length-take f.nonce_size stored, law.form.nonce_within);
         accepted = accepted;
         is = law.opens_seal header number stored chunk long (opens ∙ ap Some same);
       })

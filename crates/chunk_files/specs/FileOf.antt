@@ -1,10 +1,10 @@
 -- Which files are of which content: a header, and the sealed chunks of the content in order.
-use Rattle.std.specs.Prelude.{◌≡◌, ℕ, ◌+◌, ◌≤◌, ◌⊎◌, ◌↔◌, true, false, List, [], ◌∷◌, ◌++◌, length, replicate}
+use Rattle.std.specs.Prelude.{◌≡◌, ℕ, ◌+◌, ◌≤◌, ◌⊎◌, ◌↔◌, Bool, true, false, List, [], ◌∷◌, ◌++◌, length, replicate}
 use Rattle.std.specs.List.{concat}
 use Rattle.chunk_files.specs.Format.{Format, Header, stored_size}
 use Rattle.chunk_files.specs.Keys.{Keys, format_of, IsHeaderBy}
 use Rattle.chunk_files.specs.Reading.{Whole}
-use Rattle.chunk_files.specs.Contents.{is_refused, readable}
+use Rattle.chunk_files.specs.Contents.{is_refused, read_file, readable}
 use Rattle.chunk_files.specs.Encrypt.{IsEncrypted}
 
 -- a chunk sealed under a nonce that isn't refused
@@ -74,3 +74,7 @@ FilesAreWhatTheyGive = (keys : Keys) (bytes content : List ℕ) → IsFileOf key
 -- what is encrypted is a file of its content
 abbrev pub EncryptedFilesAreFiles : Type 0
 EncryptedFilesAreFiles = (keys : Keys) (drawn content file : List ℕ) → IsEncrypted keys drawn content file → IsFileOf keys file content
+
+-- bytes behind which a file goes on are read as no whole file
+abbrev pub WholeFilesEnd : Type 0
+WholeFilesEnd = (keys : Keys) (bytes : List ℕ) (goes_on : Bool) → (read_file keys bytes goes_on).ending ≡ Whole → goes_on ≡ false

@@ -4,6 +4,7 @@ ghost use Rattle.chunk_files.specs.Steps.{PutsText};
 
 use crate::sealed::{TAG_SIZE, open_text};
 use gcm_mode::Gcm;
+use gcm_mode::laws::sealed_texts_are_bytes;
 use std::alloc::{AllocError, Global};
 use std::marker::Model;
 
@@ -157,6 +158,7 @@ fn seal_between(
     ensures { (text : List ℕ) → take end buffer.old ≡ nonce.now ++ text
         → take end buffer.new ++ result ≡ sealed_text gcm.now associated.now nonce.now text }
 {
+    sealed_texts_are_bytes();
     gcm.seal(nonce, associated, &mut buffer[nonce.len()..end])
 }
 

@@ -17,6 +17,7 @@ use crate::told::Told;
 use aes_lanes::Key256;
 use gcm_mode::Gcm;
 use port_model::Randoms;
+use port_model::laws::draws_compose;
 use std::marker::Model;
 
 /// An encoder of one content file, chunk by chunk. It draws what its layout draws for a header and for each
@@ -157,6 +158,7 @@ fn start_cm<R: Randoms>(
     ensures fault { IfErr result (DrawFails (format_of keys) 44 (R.left random.old) (R.left random.new) (R.faults random.old) (R.faults random.new)) }
     ensures counted { IsCounted (R.faults random.old) (R.faults random.new) }
 {
+    draws_compose();
     let nonce = draw::<12, R>(random)?;
     let key = draw::<32, R>(random)?;
     let mut plain = [0xFF; 40];

@@ -1,17 +1,27 @@
-//! Laws of the definitions.
+//! Laws of the definitions. Each function computes nothing, and its clauses are the law; the laws that it rests on are called.
 
 ghost use Rattle.std.specs.Prelude.{◌≡◌, ◌+◌, ◌++◌, ℕ, List, [], Result, true, false};
 ghost use Rattle.chunk_files.specs.declared.fault.ChunkFault.{ChunkFault};
 ghost use Rattle.chunk_files.specs.declared.step.Step.{Step};
 ghost use Rattle.chunk_files.specs.Decoding.{Decoding, GivesNext, HasGiven, chunks_in, started, with_step};
 ghost use Rattle.chunk_files.specs.Encoding.{MadeIsAFront, MoreDrawnGiveMore};
-ghost use Rattle.chunk_files.specs.FileOf.{EncryptedFilesAreFiles, FilesAreWhatTheyGive};
+ghost use Rattle.chunk_files.specs.FileOf.{EncryptedFilesAreFiles, FilesAreWhatTheyGive, WholeFilesEnd};
 ghost use Rattle.chunk_files.specs.Keys.{Keys};
+
+use gcm_mode::laws::{sealed_texts_are_bytes, unsealing_undoes_sealing};
 
 /// The law that a file is of a content exactly where reading it ends without a fault and gives that
 /// content.
 pub fn files_are_what_they_give()
     ensures { FilesAreWhatTheyGive }
+{
+    sealed_texts_are_bytes();
+    unsealing_undoes_sealing();
+}
+
+/// The law that bytes behind which a file goes on are read as no whole file.
+pub fn whole_files_end()
+    ensures { WholeFilesEnd }
 {}
 
 /// The law that what is encrypted under drawn bytes, of which neither the id nor a nonce is refused, is a

@@ -5,6 +5,7 @@ ghost use Rattle.std.specs.Bool.{OnTrue};
 ghost use Rattle.chunk_files.specs.Sealed.{is_tag_right, plain_text, sealed_text};
 
 use gcm_mode::Gcm;
+use gcm_mode::laws::unsealing_undoes_sealing;
 
 /// The length of a tag in bytes.
 pub const TAG_SIZE: usize = 16;
@@ -22,6 +23,7 @@ pub fn open_text(gcm: &Gcm, associated: &[u8], n: usize, stored: &[u8], text: &m
     ensures right { result ≡ is_tag_right gcm.now associated.now n stored.now }
     ensures opened { OnTrue result (text.new ≡ plain_text gcm.now n stored.now) }
 {
+    unsealing_undoes_sealing();
     let end = stored.len() - TAG_SIZE;
     let mut tag = [0; TAG_SIZE];
     tag.copy_from_slice(&stored[end..]);

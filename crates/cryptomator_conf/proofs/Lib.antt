@@ -1,5 +1,4 @@
 mod Dots
-mod HashBytes
 mod IdText
 mod OneAnswer
 mod Passphrase

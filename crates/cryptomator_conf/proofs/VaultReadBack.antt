@@ -25,18 +25,22 @@ use Rattle.cryptomator_conf.specs.declared.fault.CmConfFault.TheVariants.{NotJwt
 use Rattle.cryptomator_conf.specs.Id.{id_of}
 use Rattle.cryptomator_conf.specs.Jwt.{Parts, jwt_in, jwt_of, object_in}
 use Rattle.cryptomator_conf.specs.Laws.{made_vault}
+use Rattle.kdf_suite.specs.Hmac.{hmac_sha256}
 use Rattle.cryptomator_conf.specs.Signature.{signature_of}
 use Rattle.cryptomator_conf.specs.Text.{keys_of, header_text, payload_text, signed_text, vault_text}
 use Rattle.cryptomator_conf.specs.Value.{header_data, payload_data}
 use Rattle.cryptomator_conf.specs.Vault.{after, settings_of, vault_fields_of, vault_in, vault_of}
 use Rattle.cryptomator_conf.proofs.Dots.{parts-joined}
-use Rattle.cryptomator_conf.proofs.HashBytes.{IsBytes-hmac}
 use Rattle.cryptomator_conf.proofs.IdText.{escape-id, utf8-id, bytes-id}
 use Rattle.cryptomator_conf.proofs.ReadBack.{reads-written, decoded-encoded}
 
 -- base64 for URLs is of its alphabet
 abbrev pub IsOfAlphabet : Type 0
 IsOfAlphabet = (bytes : List ℕ) → IsBytes bytes → list_all is_base64url (encoded_by UrlSafe bytes) ≡ true
+
+-- tags are bytes
+abbrev pub TagsAreBytes : Type 0
+TagsAreBytes = (key text : List ℕ) → IsBytes (hmac_sha256 key text)
 
 bytes-literal : (xs : List ℕ) → list_all (λ c. nat_lt c 256) xs ≡ true → IsBytes xs
 bytes-literal [] small k = lit< tt
@@ -98,7 +102,7 @@ jwt_of-parts : (parts : Parts) (header payload : Data) (signature : List ℕ) �
     → jwt_of parts ≡ Some (record { header = header; payload = payload; signed = parts.header ++ codes "." ++ parts.payload; signature = signature })
 jwt_of-parts parts header payload signature is_header is_payload is_signature = rw (is_header, is_payload, is_signature) refl
 
-jwt_in-text : (drawn : CmDraw) → IsOfAlphabet
+jwt_in-text : (drawn : CmDraw) → IsOfAlphabet → TagsAreBytes
     → jwt_in (vault_text drawn) ≡ Some (record {
       header = header_data;
       payload = payload_data (id_of drawn.jti);
@@ -106,14 +110,14 @@ jwt_in-text : (drawn : CmDraw) → IsOfAlphabet
       signature = signature_of Hs256 (keys_of drawn) (signed_text (id_of drawn.jti));
     })
 unfolding jwt_in vault_text signed_text
-jwt_in-text drawn alphabet =
+jwt_in-text drawn alphabet tags =
     let id : List ℕ = id_of drawn.jti in
     let header_bytes : IsBytes header_text = bytes-literal header_text refl in
     let payload_bytes : IsBytes (payload_text id) = bytes-payload id (bytes-id drawn.jti) in
     let header : List ℕ = encoded_by UrlSafe header_text in
     let payload : List ℕ = encoded_by UrlSafe (payload_text id) in
     let tag : List ℕ = signature_of Hs256 (keys_of drawn) (header ++ codes "." ++ payload) in
-    let tag_bytes : IsBytes tag = IsBytes-hmac _ _ in
+    let tag_bytes : IsBytes tag = tags _ _ in
     ap (option_and_then jwt_of)
     (parts-joined header payload (encoded_by UrlSafe tag) (alphabet header_text header_bytes) (alphabet (payload_text id) payload_bytes) (alphabet tag tag_bytes))
     ∙ jwt_of-parts (record { header = header; payload = payload; signature = encoded_by UrlSafe tag }) header_data (payload_data id) tag
@@ -121,7 +125,7 @@ jwt_in-text drawn alphabet =
     (object_in-encoded (payload_text id) (payload_data id) payload_bytes (object-payload id (escape-id drawn.jti) (utf8-id drawn.jti)))
     (decoded-encoded UrlSafe tag tag_bytes)
 
-pub vault_reads_back : (drawn : CmDraw) → IsOfAlphabet → vault_in (vault_text drawn) ≡ Ok (made_vault drawn)
+pub vault_reads_back : (drawn : CmDraw) → IsOfAlphabet → TagsAreBytes → vault_in (vault_text drawn) ≡ Ok (made_vault drawn)
 unfolding vault_in
-vault_reads_back drawn alphabet =
-    ap (λ found. need NotJwt found (λ jwt. after (vault_of jwt) (after settings_of (vault_fields_of jwt)))) (jwt_in-text drawn alphabet)
+vault_reads_back drawn alphabet tags =
+    ap (λ found. need NotJwt found (λ jwt. after (vault_of jwt) (after settings_of (vault_fields_of jwt)))) (jwt_in-text drawn alphabet tags)

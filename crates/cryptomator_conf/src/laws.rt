@@ -3,6 +3,7 @@
 ghost use Rattle.cryptomator_conf.specs.Laws.{HaveOneAnswer, UnlocksOnePair, MadeFilesReturn};
 
 use json_fields::laws::{base64_is_plain, base64url_is_of_its_alphabet};
+use kdf_suite::laws::digests_are_bytes;
 use key_wrap::laws::{unwraps_to_one_key, wrapped_keys_are_bytes};
 
 /// Reading the texts of new files gives what they say, unlocking the first with its passphrase the drawn keys, and the
@@ -13,6 +14,7 @@ pub fn made_files_give_back_their_keys()
     wrapped_keys_are_bytes();
     base64_is_plain();
     base64url_is_of_its_alphabet();
+    digests_are_bytes();
 }
 
 /// No bytes of `masterkey.cryptomator` read as two answers. Those of `vault.cryptomator` read by a function.

@@ -8,3 +8,4 @@ mod Integerify
 mod Tables
 mod PowerOfTwo
 mod Costs
+mod Digests

@@ -5,6 +5,7 @@
 mod blocks;
 mod hkdf;
 mod hmac;
+pub mod laws;
 mod pbkdf2;
 mod ro_mix;
 mod salsa;

@@ -149,3 +149,8 @@ fn scrypt_of_three_parts(rt: HostRuntime) -> Result<(), Fail> {
     assert_eq!(rt; out.as_slice(), want);
     Ok(())
 }
+
+#[test]
+fn laws_do_nothing() {
+    laws::digests_are_bytes();
+}

@@ -1,3 +1,3 @@
 mod Moves
-pub mod Draws
+mod Draws
 mod Words

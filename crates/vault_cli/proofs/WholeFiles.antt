@@ -4,13 +4,10 @@ use Rattle.std.specs.Prelude.{◌⊎◌}
 use Rattle.std.specs.List.{concat}
 use Rattle.std.proofs.lemmas.Bool.{le-ltb, ltb-false}
 use Rattle.std.proofs.lemmas.List.{take_all}
-use Rattle.chunk_files.specs.Gocryptfs.{go_format}
 use Rattle.chunk_files.specs.Keys.{go_keys}
 use Rattle.chunk_files.specs.Reading.{Whole}
 use Rattle.chunk_files.specs.Contents.{readable}
-use Rattle.chunk_files.specs.FileOf.{IsFileOf, Gives}
-use Rattle.chunk_files.proofs.FilesOf.{files_are_what_they_give}
-use Rattle.chunk_files.proofs.ChunkReadings.{whole-goes_on}
+use Rattle.chunk_files.specs.FileOf.{FilesAreWhatTheyGive, Gives, IsFileOf, WholeFilesEnd}
 use Rattle.vault_cli.specs.Inputs.{input_limit}
 use Rattle.vault_cli.specs.Answers.{status_of}
 use Rattle.vault_cli.specs.Decrypts.{input_reading}
@@ -20,17 +17,17 @@ reading-within : (key bytes : List ℕ) → length bytes ≤ input_limit → inp
 reading-within key bytes within = rw (take_all input_limit bytes within, le-ltb input_limit (length bytes) within) refl
 
 -- a reading that ends well is of a whole file
-pub whole-content : (key bytes : List ℕ) → (input_reading key bytes).ending ≡ Whole → IsFileOf (go_keys key) bytes (concat (input_reading key bytes).chunks)
-whole-content key bytes whole =
-    let within : length bytes ≤ input_limit = ltb-false input_limit (length bytes) (whole-goes_on (go_format key) (take input_limit bytes) (nat_lt input_limit (length bytes)) whole) in
+pub whole-content : FilesAreWhatTheyGive → WholeFilesEnd → (key bytes : List ℕ) → (input_reading key bytes).ending ≡ Whole → IsFileOf (go_keys key) bytes (concat (input_reading key bytes).chunks)
+whole-content gives ends key bytes whole =
+    let within : length bytes ≤ input_limit = ltb-false input_limit (length bytes) (ends (go_keys key) (take input_limit bytes) (nat_lt input_limit (length bytes)) whole) in
     let same : input_reading key bytes ≡ readable (go_keys key) bytes = reading-within key bytes within in
-    (files_are_what_they_give (go_keys key) bytes (concat (input_reading key bytes).chunks)).1
+    (gives (go_keys key) bytes (concat (input_reading key bytes).chunks)).1
     (record { whole = ap (λ r. r.ending) (sym same) ∙ whole; joined = ap (λ r. concat r.chunks) same })
 
 -- a file within the limit is answered by 0, where its reading decides
-pub decided-whole : (key bytes content : List ℕ) (status : ℕ) → length bytes ≤ input_limit → IsFileOf (go_keys key) bytes content
+pub decided-whole : FilesAreWhatTheyGive → (key bytes content : List ℕ) (status : ℕ) → length bytes ≤ input_limit → IsFileOf (go_keys key) bytes content
     → (status ≡ 3) ⊎ (status ≡ status_of (answer_to (input_reading key bytes).ending)) → (status ≡ 3) ⊎ (status ≡ 0)
-decided-whole key bytes content status within file decided =
-    let gives : Gives (go_keys key) bytes content = (files_are_what_they_give (go_keys key) bytes content).0 file in
+decided-whole law key bytes content status within file decided =
+    let gives : Gives (go_keys key) bytes content = (law (go_keys key) bytes content).0 file in
     let whole : (input_reading key bytes).ending ≡ Whole = ap (λ r. r.ending) (reading-within key bytes within) ∙ gives.whole in
     elim decided [ inl memory ↦ inl memory | inr is ↦ inr (is ∙ ap (λ e. status_of (answer_to e)) whole) ]

@@ -14,6 +14,7 @@ use crate::answer::Answer;
 use crate::decrypt::decrypt_file;
 use crate::reporting::report;
 use crate::words::Command;
+use chunk_files::laws::{files_are_what_they_give, whole_files_end};
 use port_model::{Sink, Source};
 use std::alloc::Global;
 
@@ -68,6 +69,8 @@ pub fn run<I: Source, O: Sink, E: Sink>(
 {
     let answer = execute(alloc, words, input, out);
     let answer = report(alloc, answer, err);
+    files_are_what_they_give();
+    whole_files_end();
     answer.status()
 }
 

@@ -47,6 +47,8 @@ impl Source for Trickle {
 #[derive(Drop)]
 struct Ended {
     status: u8,
+    // How many bytes of the input are left.
+    left: usize,
     out: MemSink,
     err: MemSink,
 }
@@ -60,7 +62,14 @@ fn outcome(alloc: Global, words: &[&str], input: &[u8], fails: &Fails) -> Result
     let mut out = MemSink::new(alloc, 100_000, fails.out.to_vec(alloc)?)?;
     let mut err = MemSink::new(alloc, 1_000, fails.err.to_vec(alloc)?)?;
     let status = run(alloc, all.as_slice(), &mut source, &mut out, &mut err);
-    Ok(Ended { status, out, err })
+    let mut rest = input.to_vec(alloc)?;
+    let left = source.take(rest.as_mut_slice())?;
+    Ok(Ended {
+        status,
+        left,
+        out,
+        err,
+    })
 }
 
 // A header, holes and more bytes behind them.
@@ -306,5 +315,7 @@ fn many_holes_and_an_output_that_fails(rt: HostRuntime) -> Result<(), Fail> {
     let outcome = outcome(rt.alloc(), &["decrypt-file", KEY], input.as_slice(), &fails)?;
     assert_eq!(rt; outcome.status, 6);
     assert_eq!(rt; outcome.out.bytes().len(), 4096);
+    // At most 98,448 bytes were taken past the first 4,146, of 1,238,418.
+    assert!(rt; outcome.left >= 1_238_418 - 4_146 - 98_448);
     Ok(())
 }

@@ -1,16 +1,14 @@
 -- The characters of texts and of long names.
-use Rattle.std.proofs.Common.{◌≡◌, ℕ, zero, suc, ◌+◌, ◌*◌, ◌/◌, List, length, take, drop, slice_index, IsTrue, codes, refl, ap, ◌∙◌, arith, lit<, length-append}
+use Rattle.std.proofs.Common.{◌≡◌, ℕ, ◌+◌, ◌*◌, ◌/◌, List, length, take, drop, IsTrue, codes, refl, ap, ◌∙◌, arith, length-append}
 use Rattle.std.specs.List.{list_all}
-use Rattle.std.specs.Int.{bytes_high_first}
 use Rattle.std.proofs.lemmas.List.{take_at, drop_at}
-use Rattle.sha2.specs.Sha256.{sha256, digest_bytes}
-use Rattle.sha2.proofs.Facts256.{length-sha256}
+use Rattle.sha2.specs.Sha256.{sha256}
 use Rattle.base64.specs.GeneralPurpose.{IsBytes}
 use Rattle.json_fields.specs.Base64.{is_base64url}
 use Rattle.eme_mode.specs.Eme.{eme256}
 use Rattle.plain_tree.specs.Names.{is_name}
 use Rattle.vault_names.specs.Gocryptfs.{padded_bytes, blocks_of, bytes_of, base64url, go_text, long_name}
-use Rattle.vault_names.proofs.Blocks.{IsBytes-append, IsBytes-bytes_of, length-bytes_of}
+use Rattle.vault_names.proofs.Blocks.{IsBytes-bytes_of, length-bytes_of}
 use Rattle.vault_names.proofs.Encryption.{AreEme, AreBlocksOf-text, length-encrypted}
 
 -- the characters and the size of base64 for URLs
@@ -18,21 +16,10 @@ pub record IsOfAlphabet : Type 0 where
   pub characters : (bytes : List ℕ) → IsBytes bytes → IsTrue (list_all is_base64url (base64url bytes))
   pub size : (bytes : List ℕ) → length (base64url bytes) ≡ (4 * length bytes + 2) / 3
 
--- a digest is bytes
-pub IsBytes-high_first : (i n : ℕ) → IsBytes (bytes_high_first i n)
-IsBytes-high_first zero n k = lit< tt
-IsBytes-high_first (suc zero) n zero = omega arith
-IsBytes-high_first (suc (suc i)) n zero = omega arith
-IsBytes-high_first (suc i) n (suc k) = IsBytes-high_first i n k
-
-IsBytes-digest : (h : List ℕ) (n : ℕ) → IsBytes (digest_bytes h n)
-unfolding digest_bytes
-IsBytes-digest h zero = λ k. lit< tt
-IsBytes-digest h (suc n) = IsBytes-append _ _ (IsBytes-digest h n) (IsBytes-high_first 4 (slice_index h n))
-
-IsBytes-sha256 : (text : List ℕ) → IsBytes (sha256 text)
-unfolding sha256
-IsBytes-sha256 text = IsBytes-digest _ 8
+-- the size of SHA-256's digests, which are bytes
+pub record AreDigests : Type 0 where
+  pub size : (text : List ℕ) → length (sha256 text) ≡ 32
+  pub bytes : (text : List ℕ) → IsBytes (sha256 text)
 
 -- the text of a name
 pub length-text : IsOfAlphabet → (key iv name : List ℕ) → AreEme key iv → IsTrue (is_name name) → length (go_text key iv name) ≡ (64 * (length name / 16 + 1) + 2) / 3
@@ -48,18 +35,18 @@ characters-text alphabet key iv name eme named =
     ap (list_all is_base64url) are.encoded ∙ alphabet.characters _ (IsBytes-bytes_of _ are.each)
 
 -- a long name
-pub length-long_name : IsOfAlphabet → (text : List ℕ) → length (long_name text) ≡ 62
+pub length-long_name : IsOfAlphabet → AreDigests → (text : List ℕ) → length (long_name text) ≡ 62
 unfolding long_name
-length-long_name alphabet text =
-    let size : length (base64url (sha256 text)) ≡ 43 = alphabet.size (sha256 text) ∙ ap (λ n. (4 * n + 2) / 3) (length-sha256 text) in
+length-long_name alphabet digests text =
+    let size : length (base64url (sha256 text)) ≡ 43 = alphabet.size (sha256 text) ∙ ap (λ n. (4 * n + 2) / 3) (digests.size text) in
     length-append (codes "gocryptfs.longname.") (base64url (sha256 text)) ∙ ap (λ n. 19 + n) size
 
 pub take-long_name : (text : List ℕ) → take 19 (long_name text) ≡ codes "gocryptfs.longname."
 unfolding long_name
 take-long_name text = take_at (codes "gocryptfs.longname.") (base64url (sha256 text)) 19 refl
 
-pub characters-long_name : IsOfAlphabet → (text : List ℕ) → IsTrue (list_all is_base64url (drop 19 (long_name text)))
+pub characters-long_name : IsOfAlphabet → AreDigests → (text : List ℕ) → IsTrue (list_all is_base64url (drop 19 (long_name text)))
 unfolding long_name
-characters-long_name alphabet text =
+characters-long_name alphabet digests text =
     ap (list_all is_base64url) (drop_at (codes "gocryptfs.longname.") (base64url (sha256 text)) 19 refl)
-    ∙ alphabet.characters (sha256 text) (IsBytes-sha256 text)
+    ∙ alphabet.characters (sha256 text) (digests.bytes text)

@@ -17,7 +17,7 @@ use Rattle.cryptomator_conf.specs.declared.keys.CmKeys.{CmKeys}
 use Rattle.vault_names.specs.Base32.{is_base32}
 use Rattle.vault_names.proofs.Blocks.{IsBytes-append}
 use Rattle.vault_names.proofs.Groups.{characters-base32, length-base32}
-use Rattle.vault_names.proofs.Characters.{IsOfAlphabet, IsBytes-high_first}
+use Rattle.vault_names.proofs.Characters.{IsOfAlphabet}
 
 -- base64url with padding is that without, and then the padding
 padding_of : List ℕ → List ℕ
@@ -71,6 +71,12 @@ length-digest h zero = refl
 length-digest h (suc n) =
     length-append (digest_bytes h n) (bytes_high_first 4 (slice_index h n))
     ∙ omega (arith, length-digest h n, length-high_first 4 (slice_index h n))
+
+IsBytes-high_first : (i n : ℕ) → IsBytes (bytes_high_first i n)
+IsBytes-high_first zero n k = lit< tt
+IsBytes-high_first (suc zero) n zero = omega arith
+IsBytes-high_first (suc (suc i)) n zero = omega arith
+IsBytes-high_first (suc i) n (suc k) = IsBytes-high_first i n k
 
 IsBytes-digest : (h : List ℕ) (n : ℕ) → IsBytes (digest_bytes h n)
 unfolding digest_bytes

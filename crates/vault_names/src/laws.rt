@@ -15,6 +15,7 @@ use crate::cryptomator::siv_of;
 use cryptomator_conf::CmKeys;
 use eme_mode::laws::{blocks_stay_blocks, directions_undo_each_other};
 use json_fields::laws::base64url_is_of_its_alphabet;
+use kdf_suite::laws::digests_are_bytes;
 use siv_mode::laws::{opens_to_one_text, sealed_texts_are_bytes, unsealing_undoes_sealing};
 
 /// A text is that of one name at most, under each key and in each directory.
@@ -44,6 +45,7 @@ pub fn long_names_are_plain()
     ensures characters { (text : List ℕ) → IsTrue (list_all is_base64url (drop 19 (long_name text))) }
 {
     base64url_is_of_its_alphabet();
+    digests_are_bytes();
 }
 
 /// A text of Cryptomator is that of one name at most, under these keys and in each directory.

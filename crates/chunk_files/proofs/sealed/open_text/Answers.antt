@@ -10,7 +10,7 @@ returns-in-Ok-clause-right c =
 pub returns-in-Ok-clause-opened : goal.returns-in-Ok-clause-opened
 returns-in-Ok-clause-opened c =
     let parts : HasParts c.args.n c.args.stored.now c.copy_from_slice-2.new.self c.copy_from_slice.new.self = record { text_is = c.copy_from_slice-2.ensures.after; tag_is = c.copy_from_slice.ensures.after } in
-    plain-opened _ _ _ _ _ _ parts _ c.in-Ok.ensures.opened
+    plain-opened _ _ _ _ _ _ parts _ (c.unsealing_undoes_sealing.ensures.decrypted _) c.in-Ok.ensures.opened
 
 pub returns-in-Err-clause-right : goal.returns-in-Err-clause-right
 returns-in-Err-clause-right c =

@@ -1,7 +1,6 @@
 use Rattle.std.proofs.Common.{ℕ, List, refl}
 use Rattle.kdf_suite.specs.ScryptCost.{Cost}
 use Rattle.cryptomator_conf.specs.Keys.{wrapping_key}
-use Rattle.cryptomator_conf.proofs.HashBytes.{IsBytes-hmac}
 use Rattle.cryptomator_conf.proofs.ReadBack.{master_reads_back, one_part}
 use Rattle.cryptomator_conf.proofs.VaultReadBack.{vault_reads_back}
 use Rattle.cryptomator_conf.proofs.laws.made_files_give_back_their_keys.Goals as goal
@@ -9,13 +8,14 @@ use Rattle.cryptomator_conf.proofs.laws.made_files_give_back_their_keys.Goals as
 pub returns : goal.returns
 returns c = λ pass cost drawn is_cost is_drawn.
     let wraps = c.wrapped_keys_are_bytes.ensures in
+    let tags = c.digests_are_bytes.ensures.tag_bytes in
     let alone : Cost = record { n = cost.n; r = cost.r; p = 1 } in
     let key : List ℕ = wrapping_key pass drawn.salt alone in
     record {
       master =
           master_reads_back drawn.salt _ _ _ cost.n cost.r c.base64_is_plain.ensures (one_part cost is_cost) (wraps.forty key drawn.enc is_drawn.enc) (wraps.forty key drawn.mac is_drawn.mac)
-          (wraps.bytes key drawn.enc is_drawn.enc) (wraps.bytes key drawn.mac is_drawn.mac) is_drawn.salt (IsBytes-hmac _ _);
-      vault = vault_reads_back drawn c.base64url_is_of_its_alphabet.ensures.characters;
+          (wraps.bytes key drawn.enc is_drawn.enc) (wraps.bytes key drawn.mac is_drawn.mac) is_drawn.salt (tags _ _);
+      vault = vault_reads_back drawn c.base64url_is_of_its_alphabet.ensures.characters tags;
       unlocked = record { enc = refl; mac = refl };
       signed = refl;
     }

@@ -1,0 +1,28 @@
+-- Keys of directories are of bytes.
+use Rattle.std.proofs.Common.{◌≡◌, ℕ, zero, suc, ◌&&◌, Bool, true, false, List, [], ◌∷◌, Some, None, cond, refl, arith, nat_lt}
+use Rattle.std.proofs.lemmas.Bool.{ltb-true}
+use Rattle.aes_lanes.specs.Bytes.{AreBytes}
+use Rattle.vault_spec.specs.Format.{is_bytes}
+
+pub left_true : (a b : Bool) → (a && b) ≡ true → a ≡ true
+left_true true b e = refl
+left_true false b e = cc
+
+pub right_true : (a b : Bool) → (a && b) ≡ true → b ≡ true
+right_true true b e = e
+right_true false b e = cc
+
+-- what is given where a test is true
+pub given : {A : Type 0} (b : Bool) (x y : A) → cond b (Some x) None ≡ Some y → (b ≡ true) × (x ≡ y)
+given true x y e = (refl, cc)
+given false x y e = cc
+
+pub are_bytes : (xs : List ℕ) → is_bytes xs ≡ true → AreBytes xs
+are_bytes [] e k = omega (arith)
+are_bytes (x ∷ xs) e zero = ltb-true x 256 (left_true (nat_lt x 256) (is_bytes xs) e)
+are_bytes (x ∷ xs) e (suc k) = are_bytes xs (right_true (nat_lt x 256) (is_bytes xs) e) k
+
+-- nothing is given where a test is true
+pub none_given : {A : Type 0} (b : Bool) (x : A) → cond b None (Some x) ≡ None → b ≡ true
+none_given true x e = refl
+none_given false x e = cc

@@ -1,0 +1,335 @@
+-- A new item of Cryptomator comes alone: a file by its entry, and a directory after its folders.
+use Rattle.std.proofs.Common.{◌≡◌, ◌≢◌, ℕ, ◌+◌, true, List, [], ◌∷◌, ◌++◌, Ok, Err, cond, refl, sym, ap, ◌∙◌, subst, Some, None, Option, IsTrue, is_some, length, take, drop, length-append, append_assoc}
+use Rattle.std.specs.Option.{option_or, option_and_then}
+use Rattle.std.proofs.lemmas.Slice.Eq.{bytes_eq-Decides}
+use Rattle.folder_spec.specs.Path.{Part, Path, child}
+use Rattle.folder_spec.specs.View.{Found, NoEntry, Folder, FileOf, Special, View}
+use Rattle.folder_spec.specs.Seen.{under}
+use Rattle.folder_spec.specs.Edit.{Edit, edited, file_edit, file_view, directory_edit, directory_view, folder_edit, folder_view}
+use Rattle.plain_tree.specs.Names as plain
+use Rattle.plain_tree.specs.Names.{is_name}
+use Rattle.vault_names.specs.Cryptomator.{cm_stored, cm_folder_of}
+use Rattle.vault_names.specs.declared.entry.Stored.{Stored}
+use Rattle.vault_spec.specs.declared.Finding.TheVariants.{NoFolder}
+use Rattle.vault_spec.specs.Format.{Directory, DirectoryItem, file_bytes, is_folder, taken_at, key_of}
+use Rattle.vault_spec.specs.Cryptomator.{CmVault, cm_format, top, id_file, content_file, full_file, directory_id, shelf_named, folder_named, content_folder, cm_item, full_files, new_file_edit, folder_where_free, taken_unless_folder, taken_folders, taken_entry}
+use Rattle.vault_spec.specs.Standing.{File, Dir, entry_at, is_file_of, holds, holds_full, standing_of, standing_in, directory_with}
+use Rattle.vault_spec.specs.Opens.{Opened, opened_at, opened_file}
+use Rattle.vault_spec.specs.Opens as opens
+use Rattle.vault_spec.specs.Reached.{Leads}
+use Rattle.vault_spec.specs.Alike.{IsNoItem, HasFolders, IsOrderly, IsLeaf}
+use Rattle.vault_spec.specs.Adding.{OpensAs, ComesAlone, NewItemsComeAlone}
+use Rattle.vault_spec.proofs.Grafts.{reached_right, edited_adds, edited_entry, none_stands}
+use Rattle.vault_spec.proofs.Places.{SparesAll, IsNoEntry, child-both, IsSide, side_opens, brought, brought_there, arrived, IsNew, new_after_side, Arrives, comes_last}
+use Rattle.vault_spec.proofs.CmVault.{CmTexts, cm_lawful}
+
+-- the folder of a reached directory has three parts, and an entry in it four
+three_parts : (vault : CmVault) (texts : CmTexts vault.keys) (v : View) (path : plain.Path) (dir : Directory) → Leads (cm_format vault) v path dir → length dir.folder ≡ 3
+three_parts vault texts v path dir leads = ap length (reached_right (cm_format vault) (cm_lawful vault texts) v path dir leads).form
+
+one_more : (p : Path) (a : Part) → length (child p a) ≡ length p + 1
+one_more p a = length-append p (a ∷ [])
+
+-- a place of two, three or four parts spares what is there
+cm_spares : (vault : CmVault) (texts : CmTexts vault.keys) (v : View) (at : Path) → length at ≢ 1 → length at ≢ 5 → SparesAll (cm_format vault) (cm_lawful vault texts) v at
+unfolding cm_lawful
+cm_spares vault texts v at not_one not_five = record {
+  root = λ m is same. not_one (ap length (sym same));
+  entries = λ path dir name leads named there. record {
+    marks = λ m is same. not_five (ap length (sym same) ∙ one_more (entry_at (cm_format vault) dir name) m ∙ ap (λ n. n + 1) (one_more dir.folder (cm_stored vault.keys vault.threshold dir.key name).name)
+        ∙ ap (λ n. n + 1 + 1) (three_parts vault texts v path dir leads));
+    full = λ long same. not_five (ap length (sym same) ∙ length-append dir.folder ((cm_stored vault.keys vault.threshold dir.key name).name ∷ full_file ∷ [])
+        ∙ ap (λ n. n + 2) (three_parts vault texts v path dir leads));
+  };
+}
+
+-- and is no entry, where it doesn't have four
+cm_no_entry : (vault : CmVault) (texts : CmTexts vault.keys) (v : View) (at : Path) → length at ≢ 4 → IsNoEntry (cm_format vault) v at
+cm_no_entry vault texts v at not_four path dir name leads named same =
+    not_four (ap length (sym same) ∙ one_more dir.folder (cm_stored vault.keys vault.threshold dir.key name).name ∙ ap (λ n. n + 1) (three_parts vault texts v path dir leads))
+
+-- an entry has four parts
+four_parts : (vault : CmVault) (texts : CmTexts vault.keys) (v : View) (front : plain.Path) (dir : Directory) (name : List ℕ) (e : Edit) → IsNew (cm_format vault) v front dir name e → length e.at ≡ 4
+four_parts vault texts v front dir name e new =
+    ap length (sym new.place) ∙ one_more dir.folder (cm_stored vault.keys vault.threshold dir.key name).name ∙ ap (λ n. n + 1) (three_parts vault texts v front dir new.leads)
+
+entry_spares : (vault : CmVault) (texts : CmTexts vault.keys) (v : View) (front : plain.Path) (dir : Directory) (name : List ℕ) (e : Edit) → IsNew (cm_format vault) v front dir name e
+    → SparesAll (cm_format vault) (cm_lawful vault texts) v e.at
+entry_spares vault texts v front dir name e new =
+    cm_spares vault texts v e.at (λ one. apart_from_four 1 (λ z. cc) one) (λ five. apart_from_four 5 (λ z. cc) five)
+  where
+    apart_from_four : (n : ℕ) → n ≢ 4 → length e.at ≡ n → ⊥
+    apart_from_four n apart is = apart (sym is ∙ four_parts vault texts v front dir name e new)
+
+-- a long name's text comes with its entry
+text_comes : (vault : CmVault) (u : View) (dir : Directory) (name : List ℕ) (e : Edit) → entry_at (cm_format vault) dir name ≡ e.at
+    → (full : Option (List ℕ)) → (cm_stored vault.keys vault.threshold dir.key name).full ≡ full → ((text : List ℕ) → full ≡ Some text → e.made (full_file ∷ []) ≡ FileOf text)
+    → holds_full (cm_format vault) (edited u e) dir (cm_stored vault.keys vault.threshold dir.key name) ≡ true
+text_comes vault u dir name e place None is brings = ap (holds (edited u e) (dir.folder ++ (cm_format vault).full_at (cm_stored vault.keys vault.threshold dir.key name).name)) is
+text_comes vault u dir name e place (Some text) is brings =
+    ap (holds (edited u e) (dir.folder ++ (cm_format vault).full_at (cm_stored vault.keys vault.threshold dir.key name).name)) is
+    ∙ ap (λ x. is_file_of text (file_bytes x)) (ap (edited u e) at_full ∙ brought u e (full_file ∷ []) ∙ brings text refl)
+    ∙ (bytes_eq-Decides text text).1 refl
+  where
+    at_full : dir.folder ++ (cm_stored vault.keys vault.threshold dir.key name).name ∷ full_file ∷ [] ≡ e.at ++ full_file ∷ []
+    at_full = sym (append_assoc dir.folder ((cm_stored vault.keys vault.threshold dir.key name).name ∷ []) (full_file ∷ [])) ∙ ap (λ p. p ++ full_file ∷ []) place
+
+-- a file arrives by what its edit brings: itself, or a folder with its name and content
+file_arrives : (vault : CmVault) (u : View) (dir : Directory) (name bytes : List ℕ) (full : Option (List ℕ)) → IsTrue (is_name name) → (cm_stored vault.keys vault.threshold dir.key name).full ≡ full
+    → Arrives (cm_format vault) u dir name (new_file_edit (entry_at (cm_format vault) dir name) full bytes) (opened_file (cm_format vault).content (Some bytes))
+file_arrives vault u dir name bytes None named is = record {
+  full = held;
+  leaf = subst (IsLeaf (cm_format vault) (edited u e)) (sym stands) (record {});
+  opens = ap (opened_at (cm_format vault) (edited u e)) stands ∙ ap (λ x. opened_file (cm_format vault).content (file_bytes x)) (brought u e []);
+}
+  where
+    e : Edit
+    e = file_edit (entry_at (cm_format vault) dir name) bytes
+
+    held : holds_full (cm_format vault) (edited u (file_edit (entry_at (cm_format vault) dir name) bytes)) dir (cm_stored vault.keys vault.threshold dir.key name) ≡ true
+    held = text_comes vault u dir name (file_edit (entry_at (cm_format vault) dir name) bytes) refl None is (λ text none. cc)
+
+    stands : standing_in (cm_format vault) (edited u (file_edit (entry_at (cm_format vault) dir name) bytes)) dir name ≡ File (entry_at (cm_format vault) dir name ++ [])
+    stands = arrived (cm_format vault) u dir name (file_edit (entry_at (cm_format vault) dir name) bytes) named refl held
+        ∙ ap (λ o. standing_of (cm_format vault) (edited u (file_edit (entry_at (cm_format vault) dir name) bytes)) (entry_at (cm_format vault) dir name) true (cm_item (is_some o) (file_view bytes))) is
+file_arrives vault u dir name bytes (Some text) named is = record {
+  full = held;
+  leaf = subst (IsLeaf (cm_format vault) (edited u e)) (sym stands) (record {});
+  opens = ap (opened_at (cm_format vault) (edited u e)) stands ∙ ap (λ x. opened_file (cm_format vault).content (file_bytes x)) (brought u e (content_file ∷ []));
+}
+  where
+    e : Edit
+    e = folder_edit (entry_at (cm_format vault) dir name) ((full_file, text) ∷ (content_file, bytes) ∷ [])
+
+    held : holds_full (cm_format vault) (edited u (folder_edit (entry_at (cm_format vault) dir name) ((full_file, text) ∷ (content_file, bytes) ∷ []))) dir (cm_stored vault.keys vault.threshold dir.key name) ≡ true
+    held = text_comes vault u dir name (folder_edit (entry_at (cm_format vault) dir name) ((full_file, text) ∷ (content_file, bytes) ∷ [])) refl (Some text) is (λ other same. ap FileOf cc)
+
+    stands : standing_in (cm_format vault) (edited u (folder_edit (entry_at (cm_format vault) dir name) ((full_file, text) ∷ (content_file, bytes) ∷ []))) dir name
+        ≡ File (entry_at (cm_format vault) dir name ++ content_file ∷ [])
+    stands = arrived (cm_format vault) u dir name (folder_edit (entry_at (cm_format vault) dir name) ((full_file, text) ∷ (content_file, bytes) ∷ [])) named refl held
+        ∙ ap (λ o. standing_of (cm_format vault) (edited u (folder_edit (entry_at (cm_format vault) dir name) ((full_file, text) ∷ (content_file, bytes) ∷ []))) (entry_at (cm_format vault) dir name) true
+        (cm_item (is_some o) (folder_view ((full_file, text) ∷ (content_file, bytes) ∷ [])))) is
+
+entry_free : (v : View) (dir : Directory) (s : Stored) (rest : Option Path) → option_or (taken_entry v dir s) rest ≡ None → (v (child dir.folder s.name) ≡ NoEntry) × (rest ≡ None)
+entry_free v dir s rest none = by_entry (v (child dir.folder s.name)) refl none
+  where
+    by_entry : (x : Found) → v (child dir.folder s.name) ≡ x → option_or (taken_at (child dir.folder s.name) x) rest ≡ None → (v (child dir.folder s.name) ≡ NoEntry) × (rest ≡ None)
+    by_entry NoEntry is none = (is, none)
+    by_entry Folder is none = cc
+    by_entry (FileOf bytes) is none = cc
+    by_entry Special is none = cc
+
+free_at : (v : View) (at : Path) → taken_at at (v at) ≡ None → v at ≡ NoEntry
+free_at v at none = by_kind (v at) refl none
+  where
+    by_kind : (x : Found) → v at ≡ x → taken_at at x ≡ None → v at ≡ NoEntry
+    by_kind NoEntry is none = is
+    by_kind Folder is none = cc
+    by_kind (FileOf bytes) is none = cc
+    by_kind Special is none = cc
+
+new_file_at : (at : Path) (full : Option (List ℕ)) (bytes : List ℕ) → (new_file_edit at full bytes).at ≡ at
+new_file_at at None bytes = refl
+new_file_at at (Some text) bytes = refl
+
+-- a new file comes alone
+new_file_alone : (vault : CmVault) → CmTexts vault.keys → (v : View) (front : plain.Path) (dir : Directory) (name bytes : List ℕ)
+    → IsOrderly (cm_format vault) v → Leads (cm_format vault) v front dir → IsTrue (is_name name) → taken_entry v dir (cm_stored vault.keys vault.threshold dir.key name) ≡ None
+    → ComesAlone (cm_format vault) v v ((cm_format vault).new_file v dir (cm_stored vault.keys vault.threshold dir.key name) bytes) (front ++ name ∷ []) (opened_file (cm_format vault).content (Some bytes))
+new_file_alone vault texts v front dir name bytes orderly leads named none =
+    comes_last (cm_format vault) (cm_lawful vault texts) v v front dir name (new_file_edit (entry_at (cm_format vault) dir name) (cm_stored vault.keys vault.threshold dir.key name).full bytes)
+    (opened_file (cm_format vault).content (Some bytes)) (λ path. refl) new
+    (entry_spares vault texts v front dir name (new_file_edit (entry_at (cm_format vault) dir name) (cm_stored vault.keys vault.threshold dir.key name).full bytes) new)
+    (file_arrives vault v dir name bytes (cm_stored vault.keys vault.threshold dir.key name).full named refl)
+  where
+    new : IsNew (cm_format vault) v front dir name (new_file_edit (entry_at (cm_format vault) dir name) (cm_stored vault.keys vault.threshold dir.key name).full bytes)
+    new = record {
+      orderly = orderly;
+      leads = leads;
+      named = named;
+      place = sym (new_file_at (entry_at (cm_format vault) dir name) (cm_stored vault.keys vault.threshold dir.key name).full bytes);
+      free = free_at v (entry_at (cm_format vault) dir name) none;
+    }
+
+-- the folder that an id's directory is entered in stands empty
+record HasEmptyFolder (u : View) (folder : Path) : Type 0 where
+  there : u folder ≡ Folder
+  empty : (n : Part) → u (child folder n) ≡ NoEntry
+
+-- a directory arrives by the folder that its edit brings with its id
+directory_arrives : (vault : CmVault) (texts : CmTexts vault.keys) (u : View) (front : plain.Path) (dir : Directory) (name id : List ℕ) (e : Edit) → IsNew (cm_format vault) u front dir name e
+    → directory_id id ≡ Some id → HasEmptyFolder u (content_folder vault.keys id) → dir.folder ≢ content_folder vault.keys id
+    → holds_full (cm_format vault) (edited u e) dir (cm_stored vault.keys vault.threshold dir.key name) ≡ true
+    → cm_item (is_some (cm_stored vault.keys vault.threshold dir.key name).full) e.made ≡ DirectoryItem → e.made (id_file ∷ []) ≡ FileOf id
+    → Arrives (cm_format vault) u dir name e opens.Directory
+directory_arrives vault texts u front dir name id e new is_id ready apart held item brings = record {
+  full = held;
+  leaf = subst (IsLeaf (cm_format vault) (edited u e)) (sym stands) empty;
+  opens = ap (opened_at (cm_format vault) (edited u e)) stands;
+}
+  where
+    free : u e.at ≡ NoEntry
+    free = ap u (sym new.place) ∙ new.free
+
+    folder_there : edited u e (content_folder vault.keys id) ≡ Folder
+    folder_there = edited_adds u e new.orderly.folders free (content_folder vault.keys id) (λ none. let there : u (content_folder vault.keys id) ≡ Folder = ready.there in cc) ∙ ready.there
+
+    key_there : key_of (cm_format vault) (under e.at (edited u e)) ≡ Some id
+    key_there = ap (λ x. option_and_then directory_id (file_bytes x)) (brought u e (id_file ∷ []) ∙ brings) ∙ is_id
+
+    stands : standing_in (cm_format vault) (edited u e) dir name ≡ Dir e.at (Ok (record { folder = content_folder vault.keys id; key = id }))
+    stands =
+        arrived (cm_format vault) u dir name e new.named (sym new.place) held
+        ∙ ap (standing_of (cm_format vault) (edited u e) e.at true) item
+        ∙ ap (λ k. Dir e.at (directory_with (cm_format vault) (edited u e) e.at k)) key_there
+        ∙ ap (λ x. Dir e.at (cond (is_folder x) (Ok (record { folder = content_folder vault.keys id; key = id })) (Err NoFolder))) folder_there
+
+    entry_apart : (n : Part) → child (content_folder vault.keys id) n ≢ e.at
+    entry_apart n same =
+        let both : (content_folder vault.keys id ≡ dir.folder) × (n ≡ (cm_stored vault.keys vault.threshold dir.key name).name)
+        = child-both (content_folder vault.keys id) dir.folder n (cm_stored vault.keys vault.threshold dir.key name).name (same ∙ sym new.place) in
+        apart (sym both.0)
+
+    empty : (n : List ℕ) → IsNoItem (standing_in (cm_format vault) (edited u e) (record { folder = content_folder vault.keys id; key = id }) n)
+    empty n = none_stands (cm_format vault) (cm_lawful vault texts) (edited u e) (record { folder = content_folder vault.keys id; key = id }) n
+        (edited_entry u e new.orderly.folders free (content_folder vault.keys id) (cm_stored vault.keys vault.threshold id n).name
+        (λ none. let there : u (content_folder vault.keys id) ≡ Folder = ready.there in cc) (entry_apart (cm_stored vault.keys vault.threshold id n).name)
+        ∙ ready.empty (cm_stored vault.keys vault.threshold id n).name)
+
+-- the edit that brings a directory's entry
+abbrev directory_at : CmVault → Directory → List ℕ → List ℕ → Edit
+directory_at vault dir name id =
+    folder_edit (entry_at (cm_format vault) dir name) (full_files (cm_stored vault.keys vault.threshold dir.key name).full ++ (id_file, id) ∷ [])
+
+its_item : (full : Option (List ℕ)) (id : List ℕ) → cm_item (is_some full) (folder_view (full_files full ++ (id_file, id) ∷ [])) ≡ DirectoryItem
+its_item None id = refl
+its_item (Some text) id = refl
+
+its_id : (full : Option (List ℕ)) (id : List ℕ) → folder_view (full_files full ++ (id_file, id) ∷ []) (id_file ∷ []) ≡ FileOf id
+its_id None id = refl
+its_id (Some text) id = refl
+
+its_text : (full : Option (List ℕ)) (id text : List ℕ) → full ≡ Some text → folder_view (full_files full ++ (id_file, id) ∷ []) (full_file ∷ []) ≡ FileOf text
+its_text None id text is = cc
+its_text (Some other) id text is = ap FileOf cc
+
+directory_folders : HasFolders directory_view
+directory_folders [] a there = absurd (there refl)
+directory_folders (b ∷ p) a there = absurd (there refl)
+
+-- once the folder of content folders is there, the content folder is made, and then the entry
+after_shelf : (vault : CmVault) (texts : CmTexts vault.keys) (v w : View) (front : plain.Path) (dir : Directory) (name id : List ℕ)
+    → OpensAs (cm_format vault) v w → IsNew (cm_format vault) w front dir name (directory_at vault dir name id) → directory_id id ≡ Some id
+    → w (shelf_named (cm_folder_of vault.keys id)) ≡ Folder → w (content_folder vault.keys id) ≡ NoEntry
+    → ComesAlone (cm_format vault) v w (directory_edit (content_folder vault.keys id) ∷ directory_at vault dir name id ∷ []) (front ++ name ∷ []) opens.Directory
+after_shelf vault texts v w front dir name id as_before new is_id shelf free = (
+  opens_then,
+  comes_last (cm_format vault) (cm_lawful vault texts) v (edited w (directory_edit (content_folder vault.keys id))) front dir name (directory_at vault dir name id) opens.Directory opens_then new_then
+      (entry_spares vault texts (edited w (directory_edit (content_folder vault.keys id))) front dir name (directory_at vault dir name id) new_then)
+      (directory_arrives vault texts (edited w (directory_edit (content_folder vault.keys id))) front dir name id (directory_at vault dir name id) new_then is_id ready apart
+      (text_comes vault (edited w (directory_edit (content_folder vault.keys id))) dir name (directory_at vault dir name id) refl (cm_stored vault.keys vault.threshold dir.key name).full refl
+      (its_text (cm_stored vault.keys vault.threshold dir.key name).full id))
+      (its_item (cm_stored vault.keys vault.threshold dir.key name).full id) (its_id (cm_stored vault.keys vault.threshold dir.key name).full id)),
+)
+  where
+    side : IsSide (cm_format vault) (cm_lawful vault texts) w (directory_edit (content_folder vault.keys id)) (shelf_named (cm_folder_of vault.keys id)) (drop 2 (cm_folder_of vault.keys id))
+    side = record {
+      orderly = new.orderly;
+      free = free;
+      spares = cm_spares vault texts w (content_folder vault.keys id) (λ z. cc) (λ z. cc);
+      no_entry = cm_no_entry vault texts w (content_folder vault.keys id) (λ z. cc);
+      place = refl;
+      up_there = shelf;
+      made = directory_folders;
+    }
+
+    opens_then : OpensAs (cm_format vault) v (edited w (directory_edit (content_folder vault.keys id)))
+    opens_then = side_opens (cm_format vault) (cm_lawful vault texts) w v (directory_edit (content_folder vault.keys id)) (shelf_named (cm_folder_of vault.keys id)) (drop 2 (cm_folder_of vault.keys id)) as_before side
+
+    new_then : IsNew (cm_format vault) (edited w (directory_edit (content_folder vault.keys id))) front dir name (directory_at vault dir name id)
+    new_then = new_after_side (cm_format vault) (cm_lawful vault texts) w (directory_edit (content_folder vault.keys id)) (shelf_named (cm_folder_of vault.keys id)) (drop 2 (cm_folder_of vault.keys id))
+        front dir name (directory_at vault dir name id) side new
+
+    ready : HasEmptyFolder (edited w (directory_edit (content_folder vault.keys id))) (content_folder vault.keys id)
+    ready = record {
+      there = brought_there w (directory_edit (content_folder vault.keys id));
+      empty = λ n. brought w (directory_edit (content_folder vault.keys id)) (n ∷ []);
+    }
+
+    apart : dir.folder ≢ content_folder vault.keys id
+    apart same =
+        let there : w dir.folder ≡ Folder = (reached_right (cm_format vault) (cm_lawful vault texts) w front dir new.leads).there in
+        let clash : Folder ≡ NoEntry = sym there ∙ ap w same ∙ free in
+        cc
+
+-- a folder of content folders may stand there already
+folders_free : (v : View) (text : List ℕ) → taken_folders v text ≡ None → (v (folder_named text) ≡ NoEntry) × (taken_unless_folder (shelf_named text) (v (shelf_named text)) ≡ None)
+folders_free v text none = by_folder (v (folder_named text)) refl none
+  where
+    by_folder : (x : Found) → v (folder_named text) ≡ x → option_or (taken_at (folder_named text) x) (taken_unless_folder (shelf_named text) (v (shelf_named text))) ≡ None
+        → (v (folder_named text) ≡ NoEntry) × (taken_unless_folder (shelf_named text) (v (shelf_named text)) ≡ None)
+    by_folder NoEntry is none = (is, none)
+    by_folder Folder is none = cc
+    by_folder (FileOf bytes) is none = cc
+    by_folder Special is none = cc
+
+-- a new directory comes alone
+new_directory_alone : (vault : CmVault) → CmTexts vault.keys → (v : View) (front : plain.Path) (dir : Directory) (name id : List ℕ)
+    → IsOrderly (cm_format vault) v → Leads (cm_format vault) v front dir → IsTrue (is_name name) → directory_id id ≡ Some id
+    → (cm_format vault).taken_for_directory v dir (cm_stored vault.keys vault.threshold dir.key name) id ≡ None
+    → ComesAlone (cm_format vault) v v ((cm_format vault).new_directory v dir (cm_stored vault.keys vault.threshold dir.key name) id) (front ++ name ∷ []) opens.Directory
+new_directory_alone vault texts v front dir name id orderly leads named is_id none = by_shelf (v (shelf_named (cm_folder_of vault.keys id))) refl (folders_free v (cm_folder_of vault.keys id) rest_free).1
+  where
+    rest_free : taken_folders v (cm_folder_of vault.keys id) ≡ None
+    rest_free = (entry_free v dir (cm_stored vault.keys vault.threshold dir.key name) (taken_folders v (cm_folder_of vault.keys id)) none).1
+
+    folder_free : v (content_folder vault.keys id) ≡ NoEntry
+    folder_free = (folders_free v (cm_folder_of vault.keys id) rest_free).0
+
+    new : IsNew (cm_format vault) v front dir name (directory_at vault dir name id)
+    new = record {
+      orderly = orderly;
+      leads = leads;
+      named = named;
+      place = refl;
+      free = (entry_free v dir (cm_stored vault.keys vault.threshold dir.key name) (taken_folders v (cm_folder_of vault.keys id)) none).0;
+    }
+
+    up_there : v (top ∷ []) ≡ Folder
+    up_there =
+        let there : v dir.folder ≡ Folder = (reached_right (cm_format vault) (cm_lawful vault texts) v front dir leads).there in
+        let form : dir.folder ≡ content_folder vault.keys dir.key = (reached_right (cm_format vault) (cm_lawful vault texts) v front dir leads).form in
+        let folder : v (content_folder vault.keys dir.key) ≡ Folder = ap v (sym form) ∙ there in
+        let shelf : v (shelf_named (cm_folder_of vault.keys dir.key)) ≡ Folder
+        = orderly.folders (shelf_named (cm_folder_of vault.keys dir.key)) (drop 2 (cm_folder_of vault.keys dir.key)) (λ z. let clash : Folder ≡ NoEntry = sym folder ∙ z in cc) in
+        orderly.folders (top ∷ []) (take 2 (cm_folder_of vault.keys dir.key)) (λ z. let clash : Folder ≡ NoEntry = sym shelf ∙ z in cc)
+
+    side : v (shelf_named (cm_folder_of vault.keys id)) ≡ NoEntry
+        → IsSide (cm_format vault) (cm_lawful vault texts) v (directory_edit (shelf_named (cm_folder_of vault.keys id))) (top ∷ []) (take 2 (cm_folder_of vault.keys id))
+    side is = record {
+      orderly = orderly;
+      free = is;
+      spares = cm_spares vault texts v (shelf_named (cm_folder_of vault.keys id)) (λ z. cc) (λ z. cc);
+      no_entry = cm_no_entry vault texts v (shelf_named (cm_folder_of vault.keys id)) (λ z. cc);
+      place = refl;
+      up_there = up_there;
+      made = directory_folders;
+    }
+
+    by_shelf : (x : Found) → v (shelf_named (cm_folder_of vault.keys id)) ≡ x → taken_unless_folder (shelf_named (cm_folder_of vault.keys id)) x ≡ None
+        → ComesAlone (cm_format vault) v v ((folder_where_free (shelf_named (cm_folder_of vault.keys id)) x ++ directory_edit (content_folder vault.keys id) ∷ []) ++ directory_at vault dir name id ∷ []) (front ++ name ∷ []) opens.Directory
+    by_shelf Folder is none = after_shelf vault texts v v front dir name id (λ path. refl) new is_id is folder_free
+    by_shelf NoEntry is none = (
+      side_opens (cm_format vault) (cm_lawful vault texts) v v (directory_edit (shelf_named (cm_folder_of vault.keys id))) (top ∷ []) (take 2 (cm_folder_of vault.keys id)) (λ path. refl) (side is),
+      after_shelf vault texts v (edited v (directory_edit (shelf_named (cm_folder_of vault.keys id)))) front dir name id
+          (side_opens (cm_format vault) (cm_lawful vault texts) v v (directory_edit (shelf_named (cm_folder_of vault.keys id))) (top ∷ []) (take 2 (cm_folder_of vault.keys id)) (λ path. refl) (side is))
+          (new_after_side (cm_format vault) (cm_lawful vault texts) v (directory_edit (shelf_named (cm_folder_of vault.keys id))) (top ∷ []) (take 2 (cm_folder_of vault.keys id))
+          front dir name (directory_at vault dir name id) (side is) new) is_id
+          (brought_there v (directory_edit (shelf_named (cm_folder_of vault.keys id))))
+          (brought v (directory_edit (shelf_named (cm_folder_of vault.keys id))) (drop 2 (cm_folder_of vault.keys id) ∷ [])),
+    )
+    by_shelf (FileOf bytes) is none = cc
+    by_shelf Special is none = cc
+
+pub new_items : (vault : CmVault) → CmTexts vault.keys → NewItemsComeAlone (cm_format vault)
+new_items vault texts = record { file = new_file_alone vault texts; directory = new_directory_alone vault texts }

@@ -1,0 +1,326 @@
+-- A new item of gocryptfs comes alone: its long-name file first, where there is to be one, and then its entry.
+use Rattle.std.proofs.Common.{◌≡◌, ◌≢◌, ℕ, Bool, true, false, List, [], ◌∷◌, ◌++◌, Ok, Err, cond, refl, sym, ap, ◌∙◌, inl, inr, subst, Some, None, Option, IsTrue, is_some, codes, append-nil, bytes_eq}
+use Rattle.std.specs.Option.{option_or, option_and_then}
+use Rattle.std.specs.List.{list_all}
+use Rattle.std.proofs.lemmas.List.{append_cancel_right}
+use Rattle.std.proofs.lemmas.Slice.Eq.{bytes_eq-Decides}
+use Rattle.folder_spec.specs.Path.{Part, Path, child}
+use Rattle.folder_spec.specs.View.{Found, NoEntry, Folder, FileOf, Special, View}
+use Rattle.folder_spec.specs.Seen.{under}
+use Rattle.folder_spec.specs.Edit.{Edit, edited, file_edit, file_view, folder_edit, folder_view}
+use Rattle.gocrypt_conf.specs.declared.keys.GoKeys.{GoKeys}
+use Rattle.json_fields.specs.Base64.{is_base64url}
+use Rattle.plain_tree.specs.Names as plain
+use Rattle.plain_tree.specs.Names.{is_name}
+use Rattle.vault_names.specs.Gocryptfs.{go_text, long_name, entry_of, stored}
+use Rattle.vault_names.specs.declared.entry.Stored.{Stored}
+use Rattle.vault_spec.specs.declared.Finding.TheVariants.{NoFolder}
+use Rattle.vault_spec.specs.Format.{Directory, file_bytes, is_folder, taken_at, key_of}
+use Rattle.vault_spec.specs.Gocryptfs.{key_file, full_name, directory_key, go_item, go_format, full_edits, full_edits_at, taken_unless, go_taken}
+use Rattle.vault_spec.specs.Standing.{File, Dir, entry_at, is_file_of, holds, holds_full, standing_of, standing_in, directory_with}
+use Rattle.vault_spec.specs.Opens.{Opened, Content, opened_at, opened_file}
+use Rattle.vault_spec.specs.Opens as opens
+use Rattle.vault_spec.specs.Reached.{Leads}
+use Rattle.vault_spec.specs.Alike.{IsNoItem, HasFolders, IsOrderly, IsLeaf}
+use Rattle.vault_spec.specs.Adding.{OpensAs, OpensWith, ComesAlone, NewItemsComeAlone}
+use Rattle.vault_spec.proofs.ByteKeys.{none_given}
+use Rattle.vault_spec.proofs.Grafts.{reached_right, edited_adds, none_stands, standing_unnamed}
+use Rattle.vault_spec.proofs.Places.{IsSide, side_opens, brought, brought_there, arrived, IsNew, new_after_side, Arrives, comes_last, SparesAll, child-both}
+use Rattle.vault_spec.proofs.Entries.{long_entry, IsShortOrLong, entry_is}
+use Rattle.vault_spec.proofs.GoNames.{GoTexts, entry_not_key, entry_not_full, full_not_key}
+use Rattle.vault_spec.proofs.GoVault.{go_lawful, is_go_key, key_is, text_plain}
+
+differ : (a b : List ℕ) → a ≢ b → bytes_eq a b ≡ false
+differ a b apart = elim (bytes_eq a b) as (λ t. bytes_eq a b ≡ t → t ≡ false) [
+  | true ↦ λ e. absurd (apart ((bytes_eq-Decides a b).0 e))
+  | false ↦ λ e. refl
+] refl
+
+-- a place in a reached folder spares what is there, where its name is neither a key file's nor that of the long-name file of what is there
+go_spares : (texts : GoTexts) (keys : GoKeys) (v : View) (dir : Directory) (x : Part) → key_file ≢ x
+    → ((path : plain.Path) (other : Directory) (name : List ℕ) → Leads (go_format keys) v path other → is_name name ≡ true → v (entry_at (go_format keys) other name) ≢ NoEntry
+    → is_some (stored keys.names other.key name).full ≡ true → other.folder ≡ dir.folder → full_name (stored keys.names other.key name).name ≢ x)
+    → SparesAll (go_format keys) (go_lawful texts keys) v (child dir.folder x)
+unfolding go_lawful
+go_spares texts keys v dir x not_key not_full = record {
+  root = λ m is same. no_mark [] m is same;
+  entries = λ path other name leads named there. record {
+    marks = λ m is same. no_mark (entry_at (go_format keys) other name) m is same;
+    full = λ long same.
+        let both : (other.folder ≡ dir.folder) × (full_name (stored keys.names other.key name).name ≡ x)
+        = child-both other.folder dir.folder (full_name (stored keys.names other.key name).name) x same in
+        not_full path other name leads named there long both.0 both.1;
+  };
+}
+  where
+    no_mark : (up : Path) (m : Part) → bytes_eq m key_file ≡ true → child up m ≡ child dir.folder x → ⊥
+    no_mark up m is same =
+        let both : (up ≡ dir.folder) × (m ≡ x) = child-both up dir.folder m x same in
+        not_key (sym ((bytes_eq-Decides m key_file).0 is) ∙ both.1)
+
+-- what is stored of a name in a directory is of a text without dots
+record IsOfText (s : Stored) : Type 0 where
+  text : List ℕ
+  plain : IsTrue (list_all is_base64url text)
+  is : s ≡ entry_of text
+
+text_under : (texts : GoTexts) (keys : GoKeys) (key name : List ℕ) → is_go_key key ≡ true → IsTrue (is_name name) → IsOfText (stored keys.names key name)
+unfolding stored
+text_under texts keys key name is named = record {
+  text = go_text keys.names key name;
+  plain = text_plain texts keys key name is named;
+  is = refl;
+}
+
+of_text : (texts : GoTexts) (keys : GoKeys) (v : View) (path : plain.Path) (dir : Directory) (name : List ℕ) → Leads (go_format keys) v path dir → IsTrue (is_name name)
+    → IsOfText (stored keys.names dir.key name)
+unfolding go_lawful
+of_text texts keys v path dir name leads named = text_under texts keys dir.key name (reached_right (go_format keys) (go_lawful texts keys) v path dir leads).is_key named
+
+name_not_key : GoTexts → (s : Stored) → IsOfText s → key_file ≢ s.name
+name_not_key texts s of same = entry_not_key of.text texts of.plain (ap (λ (t : Stored). t.name) (sym of.is) ∙ sym same)
+
+-- the name of a long entry
+long_is : (s : Stored) → IsOfText s → is_some s.full ≡ true → (text : List ℕ) × (s ≡ long_entry long_name text)
+long_is s of long = by_form (entry_is long_name 255 of.text)
+  where
+    by_form : IsShortOrLong long_name 255 of.text → (text : List ℕ) × (s ≡ long_entry long_name text)
+    by_form (inl short) = let none : is_some s.full ≡ false = ap (λ (t : Stored). is_some t.full) (of.is ∙ short) in cc
+    by_form (inr is_long) = (of.text, of.is ∙ is_long)
+
+name_not_full : GoTexts → (s other : Stored) → IsOfText s → IsOfText other → is_some other.full ≡ true → full_name other.name ≢ s.name
+name_not_full texts s other of of_other long same =
+    let is_long : (text : List ℕ) × (other ≡ long_entry long_name text) = long_is other of_other long in
+    entry_not_full of.text is_long.0 texts of.plain
+    (ap (λ (t : Stored). t.name) (sym of.is) ∙ sym same ∙ ap (λ (t : Stored). full_name t.name) is_long.1)
+
+-- the place of an item's entry spares what is there
+entry_spares : (texts : GoTexts) (keys : GoKeys) (u : View) (front : plain.Path) (dir : Directory) (name : List ℕ) (e : Edit) → IsNew (go_format keys) u front dir name e
+    → SparesAll (go_format keys) (go_lawful texts keys) u e.at
+entry_spares texts keys u front dir name e new =
+    subst (SparesAll (go_format keys) (go_lawful texts keys) u) new.place
+    (go_spares texts keys u dir (stored keys.names dir.key name).name (name_not_key texts (stored keys.names dir.key name) its_text) not_full)
+  where
+    its_text : IsOfText (stored keys.names dir.key name)
+    its_text = of_text texts keys u front dir name new.leads new.named
+
+    not_full : (path : plain.Path) (other : Directory) (n : List ℕ) → Leads (go_format keys) u path other → is_name n ≡ true → u (entry_at (go_format keys) other n) ≢ NoEntry
+        → is_some (stored keys.names other.key n).full ≡ true → other.folder ≡ dir.folder → full_name (stored keys.names other.key n).name ≢ (stored keys.names dir.key name).name
+    not_full path other n leads named there long folders =
+        name_not_full texts (stored keys.names dir.key name) (stored keys.names other.key n) its_text (of_text texts keys u path other n leads named) long
+
+file_folders : (bytes : List ℕ) → HasFolders (file_view bytes)
+file_folders bytes [] a there = absurd (there refl)
+file_folders bytes (b ∷ p) a there = absurd (there refl)
+
+-- the place of an entry, and that of its long-name file
+abbrev full_place : Directory → Stored → Path
+full_place dir s = child dir.folder (full_name s.name)
+
+-- a file that is put there holds the text
+now_held : (w : View) (dir : Directory) (s : Stored) (text : List ℕ) → s.full ≡ Some text → w (child dir.folder (full_name s.name)) ≡ FileOf text → (keys : GoKeys) → holds_full (go_format keys) w dir s ≡ true
+now_held w dir s text is there keys =
+    ap (holds w (child dir.folder (full_name s.name))) is ∙ ap (λ x. is_file_of text (file_bytes x)) there ∙ (bytes_eq-Decides text text).1 refl
+
+-- the item arrives wherever its long-name file holds its text
+abbrev ArrivesAnywhere : GoKeys → Directory → List ℕ → Edit → Opened → Type 0
+ArrivesAnywhere keys dir name e item =
+    (u : View) → holds_full (go_format keys) (edited u e) dir (stored keys.names dir.key name) ≡ true → Arrives (go_format keys) u dir name e item
+
+-- one edit, where the name is short or its text is there
+alone_at_once : (texts : GoTexts) (keys : GoKeys) (v : View) (front : plain.Path) (dir : Directory) (name : List ℕ) (e : Edit) (item : Opened)
+    → IsNew (go_format keys) v front dir name e → ArrivesAnywhere keys dir name e item → holds_full (go_format keys) v dir (stored keys.names dir.key name) ≡ true
+    → OpensWith (go_format keys) v (edited v e) (front ++ name ∷ []) item
+alone_at_once texts keys v front dir name e item new arrives held =
+    comes_last (go_format keys) (go_lawful texts keys) v v front dir name e item (λ path. refl) new (entry_spares texts keys v front dir name e new)
+    (arrives v (still_held (stored keys.names dir.key name).full held))
+  where
+    still_held : (full : Option (List ℕ)) → holds v (full_place dir (stored keys.names dir.key name)) full ≡ true → holds (edited v e) (full_place dir (stored keys.names dir.key name)) full ≡ true
+    still_held None held = refl
+    still_held (Some text) held =
+        ap (λ x. is_file_of text (file_bytes x)) (edited_adds v e new.orderly.folders (ap v (sym new.place) ∙ new.free) (full_place dir (stored keys.names dir.key name))
+        (λ none. let no_file : is_file_of text (file_bytes NoEntry) ≡ true = ap (λ x. is_file_of text (file_bytes x)) (sym none) ∙ held in cc)) ∙ held
+
+-- once its text is put beside the entry, the item comes
+after_side : (texts : GoTexts) (keys : GoKeys) (v : View) (front : plain.Path) (dir : Directory) (name : List ℕ) (e : Edit) (item : Opened) (text : List ℕ)
+    → IsNew (go_format keys) v front dir name e → ArrivesAnywhere keys dir name e item → (stored keys.names dir.key name).full ≡ Some text
+    → (first : Edit) → first.at ≡ full_place dir (stored keys.names dir.key name) → first.made ≡ file_view text
+    → IsSide (go_format keys) (go_lawful texts keys) v first dir.folder (full_name (stored keys.names dir.key name).name)
+    → ComesAlone (go_format keys) v v (first ∷ e ∷ []) (front ++ name ∷ []) item
+after_side texts keys v front dir name e item text new arrives is first place brings side = (
+  opens_as,
+  comes_last (go_format keys) (go_lawful texts keys) v (edited v first) front dir name e item opens_as new_then
+      (entry_spares texts keys (edited v first) front dir name e new_then) (arrives (edited v first) held),
+)
+  where
+    opens_as : OpensAs (go_format keys) v (edited v first)
+    opens_as = side_opens (go_format keys) (go_lawful texts keys) v v first dir.folder (full_name (stored keys.names dir.key name).name) (λ path. refl) side
+
+    new_then : IsNew (go_format keys) (edited v first) front dir name e
+    new_then = new_after_side (go_format keys) (go_lawful texts keys) v first dir.folder (full_name (stored keys.names dir.key name).name) front dir name e side new
+
+    text_put : edited v first (full_place dir (stored keys.names dir.key name)) ≡ FileOf text
+    text_put = ap (edited v first) (sym place) ∙ brought_there v first ∙ ap (λ (m : View). m []) brings
+
+    held : holds_full (go_format keys) (edited (edited v first) e) dir (stored keys.names dir.key name) ≡ true
+    held = now_held (edited (edited v first) e) dir (stored keys.names dir.key name) text is
+        (edited_adds (edited v first) e new_then.orderly.folders (ap (edited v first) (sym new_then.place) ∙ new_then.free)
+        (full_place dir (stored keys.names dir.key name)) (λ none. let put : FileOf text ≡ NoEntry = sym text_put ∙ none in cc) ∙ text_put) keys
+
+-- two edits, where its text is put beside the entry first
+alone_in_turn : (texts : GoTexts) (keys : GoKeys) (v : View) (front : plain.Path) (dir : Directory) (name : List ℕ) (e : Edit) (item : Opened) (text : List ℕ)
+    → IsNew (go_format keys) v front dir name e → ArrivesAnywhere keys dir name e item
+    → (stored keys.names dir.key name).full ≡ Some text → v (full_place dir (stored keys.names dir.key name)) ≡ NoEntry
+    → ComesAlone (go_format keys) v v (file_edit (full_place dir (stored keys.names dir.key name)) text ∷ e ∷ []) (front ++ name ∷ []) item
+alone_in_turn texts keys v front dir name e item text new arrives is full_free =
+    after_side texts keys v front dir name e item text new arrives is (file_edit (full_place dir (stored keys.names dir.key name)) text) refl refl (record {
+      orderly = new.orderly;
+      free = full_free;
+      spares = go_spares texts keys v dir (full_name (stored keys.names dir.key name).name) not_key not_full;
+      no_entry = no_entry;
+      place = refl;
+      up_there = (reached_right (go_format keys) (go_lawful texts keys) v front dir new.leads).there;
+      made = file_folders text;
+    })
+  where
+    its_text : IsOfText (stored keys.names dir.key name)
+    its_text = of_text texts keys v front dir name new.leads new.named
+
+    long : is_some (stored keys.names dir.key name).full ≡ true
+    long = ap is_some is
+
+    not_key : key_file ≢ full_name (stored keys.names dir.key name).name
+    not_key same =
+        let is_long : (t : List ℕ) × (stored keys.names dir.key name ≡ long_entry long_name t) = long_is (stored keys.names dir.key name) its_text long in
+        full_not_key is_long.0 texts (ap (λ (s : Stored). full_name s.name) (sym is_long.1) ∙ sym same)
+
+    not_full : (path : plain.Path) (other : Directory) (n : List ℕ) → Leads (go_format keys) v path other → is_name n ≡ true → v (entry_at (go_format keys) other n) ≢ NoEntry
+        → is_some (stored keys.names other.key n).full ≡ true → other.folder ≡ dir.folder → full_name (stored keys.names other.key n).name ≢ full_name (stored keys.names dir.key name).name
+    not_full path other n leads named there _ folders same =
+        let names : (stored keys.names other.key n).name ≡ (stored keys.names dir.key name).name
+        = append_cancel_right (stored keys.names other.key n).name (stored keys.names dir.key name).name (codes ".name") same in
+        there (ap v (ap (λ p. child p (stored keys.names other.key n).name) folders ∙ ap (child dir.folder) names) ∙ new.free)
+
+    no_entry : (path : plain.Path) (other : Directory) (n : List ℕ) → Leads (go_format keys) v path other → is_name n ≡ true
+        → entry_at (go_format keys) other n ≢ full_place dir (stored keys.names dir.key name)
+    no_entry path other n leads named same =
+        let both : (other.folder ≡ dir.folder) × ((stored keys.names other.key n).name ≡ full_name (stored keys.names dir.key name).name)
+        = child-both other.folder dir.folder (stored keys.names other.key n).name (full_name (stored keys.names dir.key name).name) same in
+        name_not_full texts (stored keys.names other.key n) (stored keys.names dir.key name) (of_text texts keys v path other n leads named) its_text long (sym both.1)
+
+-- where no place is taken, the entry is free, and beside it is nothing or the text
+go_free : (v : View) (dir : Directory) (s : Stored) → go_taken v dir s ≡ None
+    → (v (child dir.folder s.name) ≡ NoEntry) × (taken_unless (full_place dir s) (v (full_place dir s)) s.full ≡ None)
+go_free v dir s none = by_entry (v (child dir.folder s.name)) refl none
+  where
+    by_entry : (x : Found) → v (child dir.folder s.name) ≡ x → option_or (taken_at (child dir.folder s.name) x) (taken_unless (full_place dir s) (v (full_place dir s)) s.full) ≡ None
+        → (v (child dir.folder s.name) ≡ NoEntry) × (taken_unless (full_place dir s) (v (full_place dir s)) s.full ≡ None)
+    by_entry NoEntry is none = (is, none)
+    by_entry Folder is none = cc
+    by_entry (FileOf bytes) is none = cc
+    by_entry Special is none = cc
+
+-- an item that is new comes alone
+new_alone : (texts : GoTexts) (keys : GoKeys) (v : View) (front : plain.Path) (dir : Directory) (name : List ℕ) (e : Edit) (item : Opened)
+    → IsOrderly (go_format keys) v → Leads (go_format keys) v front dir → IsTrue (is_name name) → entry_at (go_format keys) dir name ≡ e.at
+    → ArrivesAnywhere keys dir name e item → go_taken v dir (stored keys.names dir.key name) ≡ None
+    → ComesAlone (go_format keys) v v (full_edits v dir (stored keys.names dir.key name) ++ e ∷ []) (front ++ name ∷ []) item
+new_alone texts keys v front dir name e item orderly leads named place arrives none =
+    by_full (stored keys.names dir.key name).full refl (v (full_place dir (stored keys.names dir.key name))) refl (go_free v dir (stored keys.names dir.key name) none).1
+  where
+    new : IsNew (go_format keys) v front dir name e
+    new = record {
+      orderly = orderly;
+      leads = leads;
+      named = named;
+      place = place;
+      free = (go_free v dir (stored keys.names dir.key name) none).0;
+    }
+
+    by_full : (full : Option (List ℕ)) → (stored keys.names dir.key name).full ≡ full → (x : Found) → v (full_place dir (stored keys.names dir.key name)) ≡ x
+        → taken_unless (full_place dir (stored keys.names dir.key name)) x full ≡ None
+        → ComesAlone (go_format keys) v v (full_edits_at (full_place dir (stored keys.names dir.key name)) x full ++ e ∷ []) (front ++ name ∷ []) item
+    by_full None is x there none = alone_at_once texts keys v front dir name e item new arrives (ap (holds v (full_place dir (stored keys.names dir.key name))) is)
+    by_full (Some text) is NoEntry there none = alone_in_turn texts keys v front dir name e item text new arrives is there
+    by_full (Some text) is (FileOf bytes) there none =
+        alone_at_once texts keys v front dir name e item new arrives
+        (ap (holds v (full_place dir (stored keys.names dir.key name))) is ∙ ap (λ y. is_file_of text (file_bytes y)) there
+        ∙ none_given (bytes_eq bytes text) (full_place dir (stored keys.names dir.key name)) none)
+    by_full (Some text) is Folder there none = cc
+    by_full (Some text) is Special there none = cc
+
+-- a file arrives
+file_arrives : (keys : GoKeys) (u : View) (dir : Directory) (name bytes : List ℕ) (e : Edit) → IsTrue (is_name name) → e.at ≡ entry_at (go_format keys) dir name → e.made ≡ file_view bytes
+    → holds_full (go_format keys) (edited u e) dir (stored keys.names dir.key name) ≡ true
+    → Arrives (go_format keys) u dir name e (opened_file (go_format keys).content (Some bytes))
+file_arrives keys u dir name bytes e named place made held = record {
+  full = held;
+  leaf = subst (IsLeaf (go_format keys) (edited u e)) (sym stands) (record {});
+  opens = ap (opened_at (go_format keys) (edited u e)) stands
+      ∙ ap (λ x. opened_file (go_format keys).content (file_bytes x)) (brought u e [] ∙ ap (λ (m : View). m []) made);
+}
+  where
+    stands : standing_in (go_format keys) (edited u e) dir name ≡ File (e.at ++ [])
+    stands = arrived (go_format keys) u dir name e named place held ∙ ap (λ (m : View). standing_of (go_format keys) (edited u e) e.at true (go_item (m []))) made
+
+-- a directory with its key arrives
+directory_arrives : (texts : GoTexts) (keys : GoKeys) (u : View) (dir : Directory) (name key : List ℕ) (e : Edit) → IsTrue (is_name name) → e.at ≡ entry_at (go_format keys) dir name
+    → e.made ≡ folder_view ((key_file, key) ∷ []) → directory_key key ≡ Some key
+    → holds_full (go_format keys) (edited u e) dir (stored keys.names dir.key name) ≡ true
+    → Arrives (go_format keys) u dir name e opens.Directory
+directory_arrives texts keys u dir name key e named place made is_key held = record {
+  full = held;
+  leaf = subst (IsLeaf (go_format keys) (edited u e)) (sym stands) empty;
+  opens = ap (opened_at (go_format keys) (edited u e)) stands;
+}
+  where
+    the_directory : Directory
+    the_directory = record { folder = e.at; key = key }
+
+    brought_here : (rest : Path) → edited u e (e.at ++ rest) ≡ folder_view ((key_file, key) ∷ []) rest
+    brought_here rest = brought u e rest ∙ ap (λ (m : View). m rest) made
+
+    key_there : key_of (go_format keys) (under e.at (edited u e)) ≡ Some key
+    key_there =
+        ap (λ x. option_and_then directory_key (file_bytes x)) (brought_here (key_file ∷ []))
+        ∙ ap (λ b. option_and_then directory_key (file_bytes (cond b (FileOf key) NoEntry))) ((bytes_eq-Decides key_file key_file).1 refl) ∙ is_key
+
+    folder_there : edited u e e.at ≡ Folder
+    folder_there = ap (edited u e) (sym (append-nil e.at)) ∙ brought_here []
+
+    stands : standing_in (go_format keys) (edited u e) dir name ≡ Dir e.at (Ok (record { folder = e.at; key = key }))
+    stands =
+        arrived (go_format keys) u dir name e named place held
+        ∙ ap (λ (m : View). standing_of (go_format keys) (edited u e) e.at true (go_item (m []))) made
+        ∙ ap (λ k. Dir e.at (directory_with (go_format keys) (edited u e) e.at k)) key_there
+        ∙ ap (λ x. Dir e.at (cond (is_folder x) (Ok (record { folder = e.at; key = key })) (Err NoFolder))) folder_there
+
+    text_of : (n : List ℕ) → IsTrue (is_name n) → IsOfText (stored keys.names key n)
+    text_of n is = text_under texts keys key n (key_is (Some key) key is_key) is
+
+    empty : (n : List ℕ) → IsNoItem (standing_in (go_format keys) (edited u e) (record { folder = e.at; key = key }) n)
+    empty n = by_name (is_name n) refl
+      where
+        by_name : (b : Bool) → is_name n ≡ b → IsNoItem (standing_in (go_format keys) (edited u e) (record { folder = e.at; key = key }) n)
+        by_name false is = subst IsNoItem (sym (standing_unnamed (go_format keys) (edited u e) (record { folder = e.at; key = key }) n is)) (record {})
+        by_name true is = none_stands (go_format keys) (go_lawful texts keys) (edited u e) (record { folder = e.at; key = key }) n
+            (brought_here ((stored keys.names key n).name ∷ [])
+            ∙ ap (λ b. cond b (FileOf key) NoEntry) (differ key_file (stored keys.names key n).name (name_not_key texts (stored keys.names key n) (text_of n is))))
+
+-- A new file comes alone, and so does a new directory.
+new_file_alone : GoTexts → (keys : GoKeys) (v : View) (front : plain.Path) (dir : Directory) (name bytes : List ℕ)
+    → IsOrderly (go_format keys) v → Leads (go_format keys) v front dir → IsTrue (is_name name) → go_taken v dir (stored keys.names dir.key name) ≡ None
+    → ComesAlone (go_format keys) v v ((go_format keys).new_file v dir (stored keys.names dir.key name) bytes) (front ++ name ∷ []) (opened_file (go_format keys).content (Some bytes))
+new_file_alone texts keys v front dir name bytes orderly leads named none =
+    new_alone texts keys v front dir name (file_edit (entry_at (go_format keys) dir name) bytes) (opened_file (go_format keys).content (Some bytes)) orderly leads named refl
+    (λ u held. file_arrives keys u dir name bytes (file_edit (entry_at (go_format keys) dir name) bytes) named refl refl held) none
+
+new_directory_alone : GoTexts → (keys : GoKeys) (v : View) (front : plain.Path) (dir : Directory) (name key : List ℕ)
+    → IsOrderly (go_format keys) v → Leads (go_format keys) v front dir → IsTrue (is_name name) → directory_key key ≡ Some key → go_taken v dir (stored keys.names dir.key name) ≡ None
+    → ComesAlone (go_format keys) v v ((go_format keys).new_directory v dir (stored keys.names dir.key name) key) (front ++ name ∷ []) opens.Directory
+new_directory_alone texts keys v front dir name key orderly leads named is_key none =
+    new_alone texts keys v front dir name (folder_edit (entry_at (go_format keys) dir name) ((key_file, key) ∷ [])) opens.Directory orderly leads named refl
+    (λ u held. directory_arrives texts keys u dir name key (folder_edit (entry_at (go_format keys) dir name) ((key_file, key) ∷ [])) named refl refl is_key held) none
+
+pub new_items : GoTexts → (keys : GoKeys) → NewItemsComeAlone (go_format keys)
+new_items texts keys = record { file = new_file_alone texts keys; directory = new_directory_alone texts keys }

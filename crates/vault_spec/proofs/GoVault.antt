@@ -1,0 +1,100 @@
+-- gocryptfs's format is lawful, and a new item of it comes alone.
+use Rattle.std.proofs.Common.{◌≡◌, ◌≢◌, ℕ, ◌==◌, Bool, true, false, ◌&&◌, not, List, [], ◌∷◌, refl, sym, ap, ◌∙◌, inl, inr, subst, Some, None, Option, IsTrue, length, append-nil, bytes_eq}
+use Rattle.std.specs.Option.{option_and_then}
+use Rattle.std.specs.List.{list_all}
+use Rattle.std.proofs.lemmas.Bool.{eqb-true}
+use Rattle.std.proofs.lemmas.Slice.Eq.{bytes_eq-Decides}
+use Rattle.aes_lanes.specs.Bytes.{IsBlock}
+use Rattle.chunk_files.specs.Zeros.{is_all_zero}
+use Rattle.folder_spec.specs.Path.{Path}
+use Rattle.folder_spec.specs.View.{Found, NoEntry, Folder, FileOf, Special, View}
+use Rattle.gocrypt_conf.specs.declared.keys.GoKeys.{GoKeys}
+use Rattle.json_fields.specs.Base64.{is_base64url}
+use Rattle.plain_tree.specs.Names.{is_name}
+use Rattle.vault_names.specs.Gocryptfs.{go_text, long_name, stored}
+use Rattle.folder_spec.specs.Seen.{under}
+use Rattle.plain_tree.specs.Names as plain
+use Rattle.vault_spec.specs.Reached.{Leads, HaveOwnFolders}
+use Rattle.vault_spec.proofs.Grafts.{IsRight, reached_right}
+use Rattle.vault_spec.specs.Format.{Directory, FileItem, is_bytes, file_bytes, key_of}
+use Rattle.vault_spec.specs.Gocryptfs.{key_file, full_name, directory_key, go_item, go_format}
+use Rattle.vault_spec.proofs.Lawful.{IsLawful}
+use Rattle.vault_spec.proofs.ByteKeys.{left_true, right_true, given, are_bytes}
+use Rattle.vault_spec.proofs.Entries.{one_text, same_forms}
+use Rattle.vault_spec.proofs.GoNames.{GoTexts, not_long}
+
+-- sixteen bytes
+unfoldable pub is_go_key : List ℕ → Bool
+is_go_key key = is_bytes key && (length key == 16)
+
+pub is_block : (key : List ℕ) → is_go_key key ≡ true → IsBlock key
+unfolding is_go_key
+is_block key is = record {
+  sixteen = eqb-true (length key) 16 (right_true (is_bytes key) (length key == 16) is);
+  bytes = are_bytes key (left_true (is_bytes key) (length key == 16) is);
+}
+
+pub key_is : (o : Option (List ℕ)) (key : List ℕ) → option_and_then directory_key o ≡ Some key → is_go_key key ≡ true
+unfolding is_go_key
+key_is None key e = cc
+key_is (Some bytes) key e =
+    let both : ((is_bytes bytes && (length bytes == 16) && not (is_all_zero bytes)) ≡ true) × (bytes ≡ key)
+    = given (is_bytes bytes && (length bytes == 16) && not (is_all_zero bytes)) bytes key e in
+    ap is_go_key (sym both.1) ∙ two_true (is_bytes bytes) (length bytes == 16) (not (is_all_zero bytes)) both.0
+  where
+    two_true : (a b c : Bool) → (a && b && c) ≡ true → (a && b) ≡ true
+    two_true true true c e = refl
+    two_true true false c e = cc
+    two_true false b c e = cc
+
+pub text_plain : GoTexts → (keys : GoKeys) (key name : List ℕ) → is_go_key key ≡ true → IsTrue (is_name name) → IsTrue (list_all is_base64url (go_text keys.names key name))
+text_plain texts keys key name is named = texts.plain keys.names key name (is_block key is) named
+
+pub content_is : (x : Found) (rest : Path) → go_item x ≡ FileItem rest → (rest ≡ []) × (x ≢ NoEntry)
+content_is NoEntry rest e = cc
+content_is (FileOf bytes) rest e = (cc, λ none. cc)
+content_is Folder rest e = cc
+content_is Special rest e = cc
+
+unfoldable pub go_lawful : GoTexts → (keys : GoKeys) → IsLawful (go_format keys)
+unfolding stored
+go_lawful texts keys = record {
+  marks = λ m. bytes_eq m key_file;
+  is_key = is_go_key;
+  root_key = λ v key e. key_is (file_bytes (v (key_file ∷ []))) key e;
+  entry_key = λ v key e. key_is (file_bytes (v (key_file ∷ []))) key e;
+  root_apart = λ v w key other at some is is_other folders keys_one. some (sym folders);
+  one_name = λ key name other is named other_named e.
+      let texts_one : go_text keys.names key name ≡ go_text keys.names key other = one_text long_name 255 (go_text keys.names key name) (go_text keys.names key other) e in
+      texts.one keys.names key (go_text keys.names key other) name other (is_block key is) (record { named = named; encrypts = texts_one }) (record { named = other_named; encrypts = refl });
+  forms = λ key name other is named other_named e.
+      same_forms long_name 255 (go_text keys.names key name) (go_text keys.names key other)
+      (λ same. not_long (go_text keys.names key name) (go_text keys.names key other) [] texts (text_plain texts keys key name is named) (same ∙ sym (append-nil (long_name (go_text keys.names key other)))))
+      (λ same. not_long (go_text keys.names key other) (go_text keys.names key name) [] texts (text_plain texts keys key other is other_named) (same ∙ sym (append-nil (long_name (go_text keys.names key name))))) e;
+  item_by_marks = λ long v w there marks. ap go_item there;
+  key_by_marks = λ v w marks. ap (λ x. option_and_then directory_key (file_bytes x)) (marks key_file ((bytes_eq-Decides key_file key_file).1 refl));
+  root_by_marks = λ v w marks. ap (λ x. option_and_then directory_key (file_bytes x)) (marks key_file ((bytes_eq-Decides key_file key_file).1 refl));
+  none = λ long v free. ap go_item free;
+  content = λ long v rest e. let is : (rest ≡ []) × (v [] ≢ NoEntry) = content_is (v []) rest e in subst (λ r. v r ≢ NoEntry) (sym is.0) is.1;
+  full_place = λ entry. inl (full_name entry, refl);
+}
+
+-- the key of a reached directory is that of its folder
+key_by_folder : (texts : GoTexts) (keys : GoKeys) (v : View) (path : plain.Path) (dir : Directory) → Leads (go_format keys) v path dir → key_of (go_format keys) (under dir.folder v) ≡ Some dir.key
+key_by_folder texts keys v path dir leads =
+    let right : IsRight (go_format keys) (go_lawful texts keys) v dir = reached_right (go_format keys) (go_lawful texts keys) v path dir leads in
+    ap (λ p. key_of (go_format keys) (under p v)) right.form ∙ elim right.its_key [
+      | inl entered ↦ entered
+      | inr root ↦ ap (λ p. key_of (go_format keys) (under p v)) root.0 ∙ root.1
+    ]
+
+-- so no two directories have one folder
+pub own_folders : GoTexts → (keys : GoKeys) (v : View) → HaveOwnFolders (go_format keys) v
+own_folders texts keys v dir other one two same =
+    let keys_one : Some dir.key ≡ Some other.key
+    = sym (key_by_folder texts keys v one.0 dir one.1) ∙ ap (λ p. key_of (go_format keys) (under p v)) same ∙ key_by_folder texts keys v two.0 other two.1 in
+    let key_one : dir.key ≡ other.key = cc in
+    ap (λ p. the_directory p dir.key) same ∙ ap (the_directory other.folder) key_one
+  where
+    the_directory : Path → List ℕ → Directory
+    the_directory folder key = record { folder = folder; key = key }

@@ -1,0 +1,12 @@
+mod Steps
+mod Lawful
+mod Grafts
+mod Places
+mod Clean
+mod ByteKeys
+mod Entries
+mod GoNames
+mod GoVault
+mod GoAdding
+mod CmVault
+mod CmAdding

@@ -1,0 +1,13 @@
+use Rattle.std.proofs.Common.{subst, sym}
+use Rattle.vault_spec.proofs.CmVault.{cm_lawful}
+use Rattle.vault_spec.proofs.Lawful.{IsLawful}
+use Rattle.vault_spec.proofs.Clean.{clean_is_orderly}
+use Rattle.vault_spec.proofs.laws.clean_vaults_of_cryptomator_are_orderly.Goals as goal
+
+pub returns : goal.returns
+returns c combo threshold v f is there folders own clean =
+    clean_is_orderly f (subst IsLawful (sym is) (cm_lawful (record { keys = c.args.keys.now; combo = combo; threshold = threshold }) (record {
+      one = c.cm_text_has_one_name.ensures;
+      plain = c.cm_texts_are_plain.ensures.characters;
+      long_plain = c.cm_long_names_are_plain.ensures.characters;
+    }))) v there folders own clean

@@ -1,12 +1,12 @@
--- The circuits of the S-box and of its inverse as lists of gates, on bits and on planes of bits.
+-- The circuits behind the S-box and its inverse as lists of gates, on bits and on planes of bits.
 use Rattle.std.proofs.Common.{◌≡◌, ℕ, zero, suc, ◌/◌, ◌%◌, ◌^◌, ◌<◌, List, [], ◌∷◌, map, get_or, replicate, bit_and, bit_xor, refl, ap, ap₂, ◌∙◌, lit<}
 use Rattle.std.specs.Simd.Lanes.{zip2}
 use Rattle.std.proofs.lemmas.List.{get_or-replicate}
 use Rattle.std.proofs.Math.Nat.{zero-div}
 use Rattle.aes_lanes.specs.Field.{xtimes, partial_product, multiply, power, inverse, affine_map, inverse_affine_map, inverse_sbox, sbox}
 use Rattle.aes_lanes.specs.Laws.Field.{at_each}
-use Rattle.aes_lanes.specs.Planes.{IsPlane, bit, byte_of, byte_at, block_of}
-use Rattle.aes_lanes.proofs.PlaneBits.{IsPlane-sum, IsPlane-both, IsPlane-splat, bit-sum, bit-both, bit-lt, eight, eight_same, block_of-map, bits_of, on_bits}
+use Rattle.aes_lanes.specs.Planes.{IsPlane, bit, byte_of, byte_at}
+use Rattle.aes_lanes.proofs.PlaneBits.{IsPlane-sum, IsPlane-both, IsPlane-splat, bit-sum, bit-both, bit-lt, eight, eight_same, bits_of, on_bits}
 
 -- a gate of two earlier values, each named by how many values stand between
 pub data Gate : Type 0 where
@@ -19,7 +19,7 @@ values xor and none [] given = given
 values xor and none (sum i j ∷ gates) given = values xor and none gates (xor (get_or given i none) (get_or given j none) ∷ given)
 values xor and none (both i j ∷ gates) given = values xor and none gates (and (get_or given i none) (get_or given j none) ∷ given)
 
--- the 115 gates of Boyar and Peralta, and the complement of four values
+-- the 115 gates of Boyar and Peralta, without the complement of four values
 unfoldable pub sbox_gates : List Gate
 sbox_gates =
     sum 3 5 ∷ sum 1 7 ∷ sum 2 5 ∷ sum 3 8 ∷ sum 5 6 ∷ sum 0 12 ∷ sum 0 9 ∷ sum 5 6 ∷ sum 2 8 ∷ sum 3 15 ∷
@@ -34,40 +34,26 @@ sbox_gates =
     both 30 72 ∷ both 18 79 ∷ both 16 82 ∷ both 21 80 ∷ sum 2 1 ∷ sum 8 7 ∷ sum 14 6 ∷ sum 11 10 ∷ sum 19 9 ∷
     sum 20 17 ∷ sum 16 15 ∷ sum 24 21 ∷ sum 19 18 ∷ sum 10 9 ∷ sum 15 7 ∷ sum 6 3 ∷ sum 25 11 ∷ sum 27 4 ∷
     sum 13 2 ∷ sum 18 3 ∷ sum 9 3 ∷ sum 13 4 ∷ sum 31 4 ∷ sum 3 2 ∷ sum 36 2 ∷ sum 7 3 ∷ sum 11 5 ∷
-    sum 20 8 ∷ sum 5 4 ∷ sum 17 4 ∷ sum 20 5 ∷ sum 25 7 ∷ sum 9 2 ∷ sum 19 4 ∷ sum 7 123 ∷ sum 7 124 ∷
-    sum 3 125 ∷ sum 3 126 ∷ []
+    sum 20 8 ∷ sum 5 4 ∷ sum 17 4 ∷ sum 20 5 ∷ sum 25 7 ∷ sum 9 2 ∷ sum 19 4 ∷ []
 
--- the linear part of the inverse affine map, the 115 gates, and that linear part once more
-unfoldable pub unsbox_gates : List Gate
-unsbox_gates =
-    sum 5 2 ∷ sum 0 1 ∷ sum 0 10 ∷ sum 7 4 ∷ sum 0 11 ∷ sum 8 5 ∷ sum 0 12 ∷ sum 0 15 ∷ sum 10 15 ∷
-    sum 0 14 ∷ sum 11 16 ∷ sum 0 15 ∷ sum 12 17 ∷ sum 0 16 ∷ sum 21 18 ∷ sum 0 17 ∷ sum 22 19 ∷ sum 0 18 ∷
-    sum 6 10 ∷ sum 1 14 ∷ sum 2 8 ∷ sum 3 13 ∷ sum 6 8 ∷ sum 0 20 ∷ sum 0 12 ∷ sum 5 6 ∷ sum 2 8 ∷ sum 3 22 ∷
-    sum 0 6 ∷ sum 19 3 ∷ sum 0 22 ∷ sum 1 15 ∷ sum 1 29 ∷ sum 2 10 ∷ sum 2 13 ∷ sum 32 0 ∷ sum 2 1 ∷
-    sum 3 15 ∷ sum 15 3 ∷ sum 19 0 ∷ sum 22 1 ∷ both 15 10 ∷ both 13 9 ∷ sum 0 1 ∷ both 19 41 ∷ sum 0 3 ∷
-    both 26 7 ∷ both 19 23 ∷ sum 0 1 ∷ both 22 13 ∷ sum 0 3 ∷ both 30 16 ∷ both 33 15 ∷ sum 0 1 ∷
-    both 32 20 ∷ sum 0 3 ∷ sum 12 2 ∷ sum 11 1 ∷ sum 9 4 ∷ sum 8 3 ∷ sum 3 28 ∷ sum 3 23 ∷ sum 3 22 ∷
-    sum 3 22 ∷ sum 3 2 ∷ both 4 2 ∷ sum 2 0 ∷ both 2 0 ∷ sum 0 6 ∷ sum 6 5 ∷ sum 8 4 ∷ both 0 1 ∷ sum 0 8 ∷
-    sum 10 0 ∷ sum 7 1 ∷ both 11 0 ∷ sum 0 2 ∷ sum 10 1 ∷ both 9 0 ∷ sum 14 0 ∷ sum 0 3 ∷ sum 12 8 ∷
-    sum 13 2 ∷ sum 10 6 ∷ sum 2 3 ∷ both 1 54 ∷ both 9 53 ∷ both 14 84 ∷ both 5 49 ∷ both 9 65 ∷ both 21 54 ∷
-    both 9 56 ∷ both 7 55 ∷ both 12 59 ∷ both 10 68 ∷ both 18 66 ∷ both 23 71 ∷ both 14 77 ∷ both 18 70 ∷
-    both 30 72 ∷ both 18 79 ∷ both 16 82 ∷ both 21 80 ∷ sum 2 1 ∷ sum 8 7 ∷ sum 14 6 ∷ sum 11 10 ∷ sum 19 9 ∷
-    sum 20 17 ∷ sum 16 15 ∷ sum 24 21 ∷ sum 19 18 ∷ sum 10 9 ∷ sum 15 7 ∷ sum 6 3 ∷ sum 25 11 ∷ sum 27 4 ∷
-    sum 13 2 ∷ sum 18 3 ∷ sum 9 3 ∷ sum 13 4 ∷ sum 31 4 ∷ sum 3 2 ∷ sum 36 2 ∷ sum 7 3 ∷ sum 11 5 ∷
-    sum 20 8 ∷ sum 5 4 ∷ sum 17 4 ∷ sum 20 5 ∷ sum 25 7 ∷ sum 9 2 ∷ sum 19 4 ∷ sum 2 0 ∷ sum 0 9 ∷ sum 5 3 ∷
-    sum 0 9 ∷ sum 8 12 ∷ sum 0 12 ∷ sum 6 12 ∷ sum 0 9 ∷ sum 9 15 ∷ sum 0 12 ∷ sum 18 12 ∷ sum 0 15 ∷
-    sum 18 15 ∷ sum 0 13 ∷ sum 21 18 ∷ sum 0 16 ∷ []
+-- the linear part of the inverse affine map
+unfoldable pub linear_gates : List Gate
+linear_gates =
+    sum 5 2 ∷ sum 0 1 ∷ sum 6 3 ∷ sum 0 10 ∷ sum 7 4 ∷ sum 0 11 ∷ sum 8 13 ∷ sum 0 12 ∷ sum 9 14 ∷ sum 0 13 ∷
+    sum 10 15 ∷ sum 0 14 ∷ sum 19 16 ∷ sum 0 15 ∷ sum 20 17 ∷ sum 0 16 ∷ []
+
+-- the constants 0x63 and 0x05 of the two affine maps
+unfoldable pub gates_63 : List Gate
+gates_63 =
+    sum 7 8 ∷ sum 7 9 ∷ sum 4 10 ∷ sum 4 11 ∷ []
+
+unfoldable pub gates_05 : List Gate
+gates_05 =
+    sum 7 8 ∷ sum 6 9 ∷ []
 
 -- some values of gates, those in these places
 abbrev pub chosen : {A : Type 0} → A → List ℕ → List A → List A
 chosen none places all = map (λ i. get_or all i none) places
-
--- the values that are the bits of the S-box and of its inverse, the lowest first
-abbrev pub sbox_places : List ℕ
-sbox_places = 2 ∷ 3 ∷ 6 ∷ 7 ∷ 8 ∷ 0 ∷ 1 ∷ 12 ∷ []
-
-abbrev pub unsbox_places : List ℕ
-unsbox_places = 14 ∷ 12 ∷ 10 ∷ 8 ∷ 6 ∷ 4 ∷ 2 ∷ 0 ∷ []
 
 unfoldable pub zeros : List ℕ
 zeros = replicate 16 0
@@ -83,14 +69,27 @@ given_bits bits = get_or bits 7 0 ∷ get_or bits 6 0 ∷ get_or bits 5 0 ∷ ge
 unfoldable pub by_gates : List Gate → List ℕ → ℕ → ℕ
 by_gates gates places x = byte_of (chosen 0 places (values bit_xor bit_and 0 gates (given_bits (bits_of x))))
 
--- on all 256 bytes they are the S-box and its inverse
-pub sbox-by_gates : (x : ℕ) → x < 256 → by_gates sbox_gates sbox_places x ≡ sbox x
+-- what they are on all 256 bytes
+pub sbox-by_gates : (x : ℕ) → x < 256 → by_gates sbox_gates (6 ∷ 7 ∷ 2 ∷ 3 ∷ 4 ∷ 0 ∷ 1 ∷ 8 ∷ []) x ≡ bit_xor (sbox x) 0x63
 unfolding by_gates byte_of bits_of values sbox_gates xtimes partial_product multiply power inverse affine_map sbox
-sbox-by_gates = at_each (by_gates sbox_gates sbox_places) sbox refl
+sbox-by_gates = at_each (by_gates sbox_gates (6 ∷ 7 ∷ 2 ∷ 3 ∷ 4 ∷ 0 ∷ 1 ∷ 8 ∷ [])) (λ x. bit_xor (sbox x) 0x63) refl
 
-pub unsbox-by_gates : (x : ℕ) → x < 256 → by_gates unsbox_gates unsbox_places x ≡ inverse_sbox x
-unfolding by_gates byte_of bits_of values unsbox_gates xtimes partial_product multiply power inverse inverse_affine_map inverse_sbox
-unsbox-by_gates = at_each (by_gates unsbox_gates unsbox_places) inverse_sbox refl
+pub linear-by_gates : (x : ℕ) → x < 256 → by_gates linear_gates (14 ∷ 12 ∷ 10 ∷ 8 ∷ 6 ∷ 4 ∷ 2 ∷ 0 ∷ []) x ≡ bit_xor (inverse_affine_map x) 0x05
+unfolding by_gates byte_of bits_of values linear_gates inverse_affine_map
+linear-by_gates = at_each (by_gates linear_gates (14 ∷ 12 ∷ 10 ∷ 8 ∷ 6 ∷ 4 ∷ 2 ∷ 0 ∷ [])) (λ x. bit_xor (inverse_affine_map x) 0x05) refl
+
+pub sum63-by_gates : (x : ℕ) → x < 256 → by_gates gates_63 (3 ∷ 2 ∷ 9 ∷ 8 ∷ 7 ∷ 1 ∷ 0 ∷ 4 ∷ []) x ≡ bit_xor x 0x63
+unfolding by_gates byte_of bits_of values gates_63
+sum63-by_gates = at_each (by_gates gates_63 (3 ∷ 2 ∷ 9 ∷ 8 ∷ 7 ∷ 1 ∷ 0 ∷ 4 ∷ [])) (λ x. bit_xor x 0x63) refl
+
+pub sum05-by_gates : (x : ℕ) → x < 256 → by_gates gates_05 (1 ∷ 8 ∷ 0 ∷ 6 ∷ 5 ∷ 4 ∷ 3 ∷ 2 ∷ []) x ≡ bit_xor x 0x05
+unfolding by_gates byte_of bits_of values gates_05
+sum05-by_gates = at_each (by_gates gates_05 (1 ∷ 8 ∷ 0 ∷ 6 ∷ 5 ∷ 4 ∷ 3 ∷ 2 ∷ [])) (λ x. bit_xor x 0x05) refl
+
+-- the inverse S-box, by the S-box between linear parts
+pub unsbox-by_sbox : (x : ℕ) → x < 256 → bit_xor (inverse_affine_map (bit_xor (sbox (inverse_affine_map x)) 0x63)) 0x05 ≡ inverse_sbox x
+unfolding xtimes partial_product multiply power inverse affine_map sbox inverse_affine_map inverse_sbox
+unsbox-by_sbox = at_each (λ x. bit_xor (inverse_affine_map (bit_xor (sbox (inverse_affine_map x)) 0x63)) 0x05) inverse_sbox refl
 
 -- a plane with this bit in a place
 pub record HasBit (p k : ℕ) (v : List ℕ) (b : ℕ) : Type 0 where
@@ -180,7 +179,7 @@ module _ (gates : List Gate) (i0 i1 i2 i3 i4 i5 i6 i7 : ℕ) (f : ℕ → ℕ)
   pub IsPlane-gates : (i : ℕ) → IsPlane (get_or all i zeros)
   IsPlane-gates i = (value 0 0 (lit< tt) (lit< tt) i).plane
 
-  byte_at-gates : (k p : ℕ) → k < 8 → p < 16 → byte_at new k p ≡ f (byte_at old k p)
+  pub byte_at-gates : (k p : ℕ) → k < 8 → p < 16 → byte_at new k p ≡ f (byte_at old k p)
   unfolding by_gates
   byte_at-gates k p lk lt =
       let v = value p k lt lk in
@@ -188,6 +187,3 @@ module _ (gates : List Gate) (i0 i1 i2 i3 i4 i5 i6 i7 : ℕ) (f : ℕ → ℕ)
       ∙ on_bits (λ l. byte_of (chosen 0 (i0 ∷ i1 ∷ i2 ∷ i3 ∷ i4 ∷ i5 ∷ i6 ∷ i7 ∷ []) (values bit_xor bit_and 0 gates (given_bits l)))) f table
       (bit p k p0) (bit p k p1) (bit p k p2) (bit p k p3) (bit p k p4) (bit p k p5) (bit p k p6) (bit p k p7)
       (bit-lt _) (bit-lt _) (bit-lt _) (bit-lt _) (bit-lt _) (bit-lt _) (bit-lt _) (bit-lt _)
-
-  pub block_of-gates : (k : ℕ) → k < 8 → block_of new k ≡ map f (block_of old k)
-  block_of-gates k lk = block_of-map f new old k (λ p lt. byte_at-gates k p lk lt)

@@ -189,3 +189,7 @@ eight_lt a b c d e f g h ha hb hc hd he hf hg hh i = elim (cases_lt i 8) [
   | inl lt ↦ eight (λ j. get_or (a ∷ b ∷ c ∷ d ∷ e ∷ f ∷ g ∷ h ∷ []) j 0 < 2) ha hb hc hd he hf hg hh i lt
   | inr ge ↦ rw (get_or_past (a ∷ b ∷ c ∷ d ∷ e ∷ f ∷ g ∷ h ∷ []) i 0 ge) (lit< tt)
 ]
+
+pub byte_at-lt : (p0 p1 p2 p3 p4 p5 p6 p7 : List ℕ) (k p : ℕ) → byte_at (p0 ∷ p1 ∷ p2 ∷ p3 ∷ p4 ∷ p5 ∷ p6 ∷ p7 ∷ []) k p < 256
+byte_at-lt p0 p1 p2 p3 p4 p5 p6 p7 k p =
+    byte_of-lt _ _ _ _ _ _ _ _ (bit-lt _) (bit-lt _) (bit-lt _) (bit-lt _) (bit-lt _) (bit-lt _) (bit-lt _) (bit-lt _)

@@ -12,7 +12,7 @@ use Rattle.aes_lanes.specs.Field.{xtimes, partial_product, multiply}
 use Rattle.aes_lanes.specs.Rounds.{sum_of, column_product, shift_rows, mix_columns, inverse_shift_rows, add_round_key}
 use Rattle.aes_lanes.specs.Laws.Field.{at_each, multiply-additive}
 use Rattle.aes_lanes.specs.Planes.{IsPlane, bit, byte_of, byte_at, block_of, place}
-use Rattle.aes_lanes.proofs.PlaneBits.{IsPlane-sum, bit-sum, bit-lt, bits-lt, eight_same, eight_lt, byte_of-lt, range-agree, sixteen, bits_of, on_bits, byte_of-xor}
+use Rattle.aes_lanes.proofs.PlaneBits.{IsPlane-sum, bit-sum, bits-lt, eight_same, eight_lt, byte_at-lt, range-agree, sixteen, bits_of, on_bits, byte_of-xor}
 
 -- the lanes of a vector in other places, as `swizzle` gives them
 abbrev pub moved : List ℕ → List ℕ → List ℕ
@@ -236,9 +236,6 @@ module _ (p0 p1 p2 p3 p4 p5 p6 p7 : List ℕ)
       ∷ mixed_plane (paired p5) p6
       ∷ mixed_plane (paired p6) p7 ∷ []
 
-  byte_at-lt : (k p : ℕ) → byte_at old k p < 256
-  byte_at-lt k p = byte_of-lt _ _ _ _ _ _ _ _ (bit-lt _) (bit-lt _) (bit-lt _) (bit-lt _) (bit-lt _) (bit-lt _) (bit-lt _) (bit-lt _)
-
   byte_at-mixed : (k p : ℕ) → p < 16
       → byte_at new k p ≡ mixed (byte_at old k p) (byte_at old k (next p)) (byte_at old k (second p)) (byte_at old k (next (second p)))
   unfolding doubled
@@ -268,7 +265,7 @@ module _ (p0 p1 p2 p3 p4 p5 p6 p7 : List ℕ)
   pub block_of-mix : (k : ℕ) → block_of new k ≡ mix_columns (block_of old k)
   unfolding block_of mix_columns
   block_of-mix k =
-      let column = λ (q : ℕ). mixed-column (byte_at old k q) (byte_at old k (q + 4)) (byte_at old k (q + 8)) (byte_at old k (q + 12)) (byte_at-lt k q) (byte_at-lt k (q + 4)) (byte_at-lt k (q + 8)) (byte_at-lt k (q + 12)) in
+      let column = λ (q : ℕ). mixed-column (byte_at old k q) (byte_at old k (q + 4)) (byte_at old k (q + 8)) (byte_at old k (q + 12)) (byte_at-lt p0 p1 p2 p3 p4 p5 p6 p7 k q) (byte_at-lt p0 p1 p2 p3 p4 p5 p6 p7 k (q + 4)) (byte_at-lt p0 p1 p2 p3 p4 p5 p6 p7 k (q + 8)) (byte_at-lt p0 p1 p2 p3 p4 p5 p6 p7 k (q + 12)) in
       range-agree _ (λ j. mixed (byte_at old k (place j)) (byte_at old k (next (place j))) (byte_at old k (second (place j))) (byte_at old k (next (second (place j))))) 0 16
       (λ j lt. byte_at-mixed k (place j) (omega arith))
       ∙ four (column 0) (column 1) (column 2) (column 3)

@@ -9,7 +9,7 @@ use Rattle.aes_lanes.specs.Rounds.{sum_of, column_product, inverse_column_produc
 use Rattle.aes_lanes.specs.Laws.Field.{at_each, multiply-additive}
 use Rattle.aes_lanes.specs.Laws.Columns.{mixed-sum}
 use Rattle.aes_lanes.specs.Planes.{IsPlane, bit, byte_of, byte_at, block_of, place}
-use Rattle.aes_lanes.proofs.PlaneBits.{bit-lt, bits-lt, eight_same, eight_lt, byte_of-lt, range-agree, bits_of, on_bits, byte_of-xor}
+use Rattle.aes_lanes.proofs.PlaneBits.{bits-lt, eight_same, eight_lt, byte_at-lt, range-agree, bits_of, on_bits, byte_of-xor}
 use Rattle.aes_lanes.proofs.PlaneMoves.{moved, half_turn, second, four, sums-lt, IsPlane-moved, bit-moved}
 use Rattle.aes_lanes.proofs.Gates.{Gate, sum, values, zeros, HasBit, HaveBits, HaveBits-more, HasBit-zeros, values-bits}
 
@@ -144,9 +144,6 @@ module _ (p0 p1 p2 p3 p4 p5 p6 p7 : List ℕ)
       (on_bits (λ l. byte_of (quadrupled l)) (multiply 4) quadrupled-is _ _ _ _ _ _ _ _ (low_both 0) (low_both 1) (low_both 2) (low_both 3) (low_both 4) (low_both 5) (low_both 6) (low_both 7)
       ∙ ap (multiply 4) (byte_of-xor (at p) (at (second p)) refl (low p) (low (second p))))
 
-  byte_at-lt : (k p : ℕ) → byte_at old k p < 256
-  byte_at-lt k p = byte_of-lt _ _ _ _ _ _ _ _ (bit-lt _) (bit-lt _) (bit-lt _) (bit-lt _) (bit-lt _) (bit-lt _) (bit-lt _) (bit-lt _)
-
   blocks-spread : (k : ℕ) → block_of new k ≡ map (λ j. spread (byte_at old k (place j)) (byte_at old k (second (place j)))) (range_with_len 0 16)
   unfolding block_of
   blocks-spread k = range-agree _ (λ j. spread (byte_at old k (place j)) (byte_at old k (second (place j)))) 0 16 (λ j lt. byte_at-spread k (place j) (omega arith))
@@ -154,5 +151,5 @@ module _ (p0 p1 p2 p3 p4 p5 p6 p7 : List ℕ)
   pub block_of-spread : (k : ℕ) → mix_columns (block_of new k) ≡ inverse_mix_columns (block_of old k)
   unfolding block_of mix_columns inverse_mix_columns
   block_of-spread k =
-      let column = λ (q : ℕ). spread-column (byte_at old k q) (byte_at old k (q + 4)) (byte_at old k (q + 8)) (byte_at old k (q + 12)) (byte_at-lt k q) (byte_at-lt k (q + 4)) (byte_at-lt k (q + 8)) (byte_at-lt k (q + 12)) in
+      let column = λ (q : ℕ). spread-column (byte_at old k q) (byte_at old k (q + 4)) (byte_at old k (q + 8)) (byte_at old k (q + 12)) (byte_at-lt p0 p1 p2 p3 p4 p5 p6 p7 k q) (byte_at-lt p0 p1 p2 p3 p4 p5 p6 p7 k (q + 4)) (byte_at-lt p0 p1 p2 p3 p4 p5 p6 p7 k (q + 8)) (byte_at-lt p0 p1 p2 p3 p4 p5 p6 p7 k (q + 12)) in
       ap mix_columns (blocks-spread k) ∙ four (column 0) (column 1) (column 2) (column 3)

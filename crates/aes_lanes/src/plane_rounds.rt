@@ -1,8 +1,9 @@
 // The transformations of the rounds on eight blocks as planes (FIPS 197, section 5.1).
 
-ghost use Rattle.std.specs.Prelude.{◌≡◌, ℕ, ◌+◌, ◌*◌, ◌<◌, ◌≤◌, ◌++◌, List, drop, length, map, take};
+ghost use Rattle.std.specs.Prelude.{◌≡◌, ℕ, ◌+◌, ◌*◌, ◌<◌, ◌≤◌, ◌++◌, List, bit_xor, drop, length, map, take};
 ghost use Rattle.aes_lanes.specs.Cipher.{cipher, inverse_cipher};
-ghost use Rattle.aes_lanes.specs.Planes.{block_of};
+ghost use Rattle.aes_lanes.specs.Field.{inverse_affine_map, sbox};
+ghost use Rattle.aes_lanes.specs.Planes.{block_of, byte_at};
 ghost use Rattle.aes_lanes.specs.PlaneList.{AreRoundKeys, list_of};
 ghost use Rattle.aes_lanes.specs.Rounds.{add_round_key, inverse_mix_columns, inverse_shift_rows, inverse_sub_bytes, mix_columns, shift_rows, sub_bytes};
 
@@ -12,12 +13,12 @@ use crate::planes::Planes;
 use crate::rounds::key_block;
 use std::simd::prelude::*;
 
-// SUBBYTES, by the circuit of Boyar and Peralta.
+// The circuit of Boyar and Peralta without the complement of four planes: the S-box and 0x63.
 #[inline(always)]
-fn sub(s: &Planes) -> Planes
-    ensures { (k : ℕ) → k < 8 → block_of (list_of result) k ≡ sub_bytes (block_of (list_of s.now) k) }
+fn gates(s: &Planes) -> Planes
+    ensures { (k p : ℕ) → k < 8 → p < 16
+        → byte_at (list_of result) k p ≡ bit_xor (sbox (byte_at (list_of s.now) k p)) 0x63 }
 {
-    let ones = u8x16::splat(0xff);
     let x0 = s.p7;
     let x1 = s.p6;
     let x2 = s.p5;
@@ -141,20 +142,81 @@ fn sub(s: &Planes) -> Planes
     let s5 = t47 ^ t65;
     let s1 = t64 ^ s3;
     let s2 = t55 ^ t67;
-    let c6 = s6 ^ ones;
-    let c7 = s7 ^ ones;
-    let c1 = s1 ^ ones;
-    let c2 = s2 ^ ones;
     Planes {
-        p0: c7,
-        p1: c6,
+        p0: s7,
+        p1: s6,
         p2: s5,
         p3: s4,
         p4: s3,
-        p5: c2,
-        p6: c1,
+        p5: s2,
+        p6: s1,
         p7: s0,
     }
+}
+
+// SUBBYTES.
+#[inline(always)]
+fn sub(s: &Planes) -> Planes
+    ensures { (k : ℕ) → k < 8 → block_of (list_of result) k ≡ sub_bytes (block_of (list_of s.now) k) }
+{
+    let ones = u8x16::splat(0xff);
+    let g = gates(s);
+    Planes {
+        p0: g.p0 ^ ones,
+        p1: g.p1 ^ ones,
+        p2: g.p2,
+        p3: g.p3,
+        p4: g.p4,
+        p5: g.p5 ^ ones,
+        p6: g.p6 ^ ones,
+        p7: g.p7,
+    }
+}
+
+// The linear part of the inverse affine map.
+#[inline(always)]
+fn linear(s: &Planes) -> Planes
+    ensures { (k p : ℕ) → k < 8 → p < 16
+        → byte_at (list_of result) k p ≡ bit_xor (inverse_affine_map (byte_at (list_of s.now) k p)) 0x05 }
+{
+    Planes {
+        p0: s.p2 ^ s.p5 ^ s.p7,
+        p1: s.p3 ^ s.p6 ^ s.p0,
+        p2: s.p4 ^ s.p7 ^ s.p1,
+        p3: s.p5 ^ s.p0 ^ s.p2,
+        p4: s.p6 ^ s.p1 ^ s.p3,
+        p5: s.p7 ^ s.p2 ^ s.p4,
+        p6: s.p0 ^ s.p3 ^ s.p5,
+        p7: s.p1 ^ s.p4 ^ s.p6,
+    }
+}
+
+// The inverse affine map.
+#[inline(always)]
+fn unmapped(s: &Planes) -> Planes
+    ensures { (k p : ℕ) → k < 8 → p < 16
+        → byte_at (list_of result) k p ≡ inverse_affine_map (byte_at (list_of s.now) k p) }
+{
+    let ones = u8x16::splat(0xff);
+    let l = linear(s);
+    Planes {
+        p0: l.p0 ^ ones,
+        p1: l.p1,
+        p2: l.p2 ^ ones,
+        p3: l.p3,
+        p4: l.p4,
+        p5: l.p5,
+        p6: l.p6,
+        p7: l.p7,
+    }
+}
+
+// INVSUBBYTES, by the gates of the S-box between the inverse affine map and its linear part.
+#[inline(always)]
+fn unsub(s: &Planes) -> Planes
+    ensures { (k : ℕ) → k < 8 → block_of (list_of result) k ≡ inverse_sub_bytes (block_of (list_of s.now) k) }
+{
+    linear(&gates(&unmapped(s)))
 }
 
 // Which byte of a plane comes to each place when the rows are shifted.
@@ -229,181 +291,6 @@ fn add(s: &Planes, key: &Planes) -> Planes
         p5: s.p5 ^ key.p5,
         p6: s.p6 ^ key.p6,
         p7: s.p7 ^ key.p7,
-    }
-}
-
-// INVSUBBYTES, by the same gates between the linear part of the inverse affine map and itself.
-#[inline(always)]
-fn unsub(s: &Planes) -> Planes
-    ensures { (k : ℕ) → k < 8 → block_of (list_of result) k ≡ inverse_sub_bytes (block_of (list_of s.now) k) }
-{
-    let ones = u8x16::splat(0xff);
-    let p0 = s.p0;
-    let p1 = s.p1;
-    let p2 = s.p2;
-    let p3 = s.p3;
-    let p4 = s.p4;
-    let p5 = s.p5;
-    let p6 = s.p6;
-    let p7 = s.p7;
-    let u0 = p2 ^ p5;
-    let v0 = u0 ^ p7;
-    let w0 = v0 ^ ones;
-    let u1 = p3 ^ p6;
-    let w1 = u1 ^ p0;
-    let u2 = p4 ^ p7;
-    let v2 = u2 ^ p1;
-    let w2 = v2 ^ ones;
-    let u3 = p5 ^ p0;
-    let w3 = u3 ^ p2;
-    let u4 = p6 ^ p1;
-    let w4 = u4 ^ p3;
-    let u5 = p7 ^ p2;
-    let w5 = u5 ^ p4;
-    let u6 = p0 ^ p3;
-    let w6 = u6 ^ p5;
-    let u7 = p1 ^ p4;
-    let w7 = u7 ^ p6;
-    let y14 = w4 ^ w2;
-    let y13 = w7 ^ w1;
-    let y9 = w7 ^ w4;
-    let y8 = w7 ^ w2;
-    let t0 = w6 ^ w5;
-    let y1 = t0 ^ w0;
-    let y4 = y1 ^ w4;
-    let y12 = y13 ^ y14;
-    let y2 = y1 ^ w7;
-    let y5 = y1 ^ w1;
-    let y3 = y5 ^ y8;
-    let t1 = w3 ^ y12;
-    let y15 = t1 ^ w2;
-    let y20 = t1 ^ w6;
-    let y6 = y15 ^ w0;
-    let y10 = y15 ^ t0;
-    let y11 = y20 ^ y9;
-    let y7 = w0 ^ y11;
-    let y17 = y10 ^ y11;
-    let y19 = y10 ^ y8;
-    let y16 = t0 ^ y11;
-    let y21 = y13 ^ y16;
-    let y18 = w7 ^ y16;
-    let t2 = y12 & y15;
-    let t3 = y3 & y6;
-    let t4 = t3 ^ t2;
-    let t5 = y4 & w0;
-    let t6 = t5 ^ t2;
-    let t7 = y13 & y16;
-    let t8 = y5 & y1;
-    let t9 = t8 ^ t7;
-    let t10 = y2 & y7;
-    let t11 = t10 ^ t7;
-    let t12 = y9 & y11;
-    let t13 = y14 & y17;
-    let t14 = t13 ^ t12;
-    let t15 = y8 & y10;
-    let t16 = t15 ^ t12;
-    let t17 = t4 ^ t14;
-    let t18 = t6 ^ t16;
-    let t19 = t9 ^ t14;
-    let t20 = t11 ^ t16;
-    let t21 = t17 ^ y20;
-    let t22 = t18 ^ y19;
-    let t23 = t19 ^ y21;
-    let t24 = t20 ^ y18;
-    let t25 = t21 ^ t22;
-    let t26 = t21 & t23;
-    let t27 = t24 ^ t26;
-    let t28 = t25 & t27;
-    let t29 = t28 ^ t22;
-    let t30 = t23 ^ t24;
-    let t31 = t22 ^ t26;
-    let t32 = t31 & t30;
-    let t33 = t32 ^ t24;
-    let t34 = t23 ^ t33;
-    let t35 = t27 ^ t33;
-    let t36 = t24 & t35;
-    let t37 = t36 ^ t34;
-    let t38 = t27 ^ t36;
-    let t39 = t29 & t38;
-    let t40 = t25 ^ t39;
-    let t41 = t40 ^ t37;
-    let t42 = t29 ^ t33;
-    let t43 = t29 ^ t40;
-    let t44 = t33 ^ t37;
-    let t45 = t42 ^ t41;
-    let z0 = t44 & y15;
-    let z1 = t37 & y6;
-    let z2 = t33 & w0;
-    let z3 = t43 & y16;
-    let z4 = t40 & y1;
-    let z5 = t29 & y7;
-    let z6 = t42 & y11;
-    let z7 = t45 & y17;
-    let z8 = t41 & y10;
-    let z9 = t44 & y12;
-    let z10 = t37 & y3;
-    let z11 = t33 & y4;
-    let z12 = t43 & y13;
-    let z13 = t40 & y5;
-    let z14 = t29 & y2;
-    let z15 = t42 & y9;
-    let z16 = t45 & y14;
-    let z17 = t41 & y8;
-    let t46 = z15 ^ z16;
-    let t47 = z10 ^ z11;
-    let t48 = z5 ^ z13;
-    let t49 = z9 ^ z10;
-    let t50 = z2 ^ z12;
-    let t51 = z2 ^ z5;
-    let t52 = z7 ^ z8;
-    let t53 = z0 ^ z3;
-    let t54 = z6 ^ z7;
-    let t55 = z16 ^ z17;
-    let t56 = z12 ^ t48;
-    let t57 = t50 ^ t53;
-    let t58 = z4 ^ t46;
-    let t59 = z3 ^ t54;
-    let t60 = t46 ^ t57;
-    let t61 = z14 ^ t57;
-    let t62 = t52 ^ t58;
-    let t63 = t49 ^ t58;
-    let t64 = z4 ^ t59;
-    let t65 = t61 ^ t62;
-    let t66 = z1 ^ t63;
-    let s0 = t59 ^ t63;
-    let s6 = t56 ^ t62;
-    let s7 = t48 ^ t60;
-    let t67 = t64 ^ t65;
-    let s3 = t53 ^ t66;
-    let s4 = t51 ^ t66;
-    let s5 = t47 ^ t65;
-    let s1 = t64 ^ s3;
-    let s2 = t55 ^ t67;
-    let q0 = s5 ^ s2;
-    let r0 = q0 ^ s0;
-    let q1 = s4 ^ s1;
-    let r1 = q1 ^ s7;
-    let q2 = s3 ^ s0;
-    let r2 = q2 ^ s6;
-    let q3 = s2 ^ s7;
-    let r3 = q3 ^ s5;
-    let q4 = s1 ^ s6;
-    let r4 = q4 ^ s4;
-    let q5 = s0 ^ s5;
-    let r5 = q5 ^ s3;
-    let q6 = s7 ^ s4;
-    let r6 = q6 ^ s2;
-    let q7 = s6 ^ s3;
-    let r7 = q7 ^ s1;
-    Planes {
-        p0: r0,
-        p1: r1,
-        p2: r2,
-        p3: r3,
-        p4: r4,
-        p5: r5,
-        p6: r6,
-        p7: r7,
     }
 }
 

@@ -1,17 +1,24 @@
+use Rattle.std.proofs.Common.{ap, ◌∙◌, bit_xor}
 use Rattle.aes_lanes.specs.Field.{sbox}
 use Rattle.aes_lanes.specs.Rounds.{sub_bytes}
-use Rattle.aes_lanes.proofs.Gates.{IsPlane-gates, block_of-gates, values, sbox_gates, sbox-by_gates, zeros, ones}
+use Rattle.aes_lanes.specs.Laws.Sums.{bit_xor-twice}
+use Rattle.aes_lanes.specs.Planes.{byte_at}
+use Rattle.aes_lanes.specs.PlaneList.{list_of}
+use Rattle.aes_lanes.proofs.PlaneBits.{block_of-map}
+use Rattle.aes_lanes.proofs.Gates.{IsPlane-gates, byte_at-gates, values, gates_63, sum63-by_gates, zeros, ones}
 use Rattle.aes_lanes.proofs.plane_rounds.sub.Goals as goal
 
 pub invariant_of-result : goal.invariant_of-result
-unfolding values sbox_gates zeros ones
+unfolding values gates_63 zeros ones
 invariant_of-result c =
-    let s = c.args.s.now in
-    let plane = IsPlane-gates sbox_gates 2 3 6 7 8 0 1 12 sbox sbox-by_gates s.p0 s.p1 s.p2 s.p3 s.p4 s.p5 s.p6 s.p7 s.plane0 s.plane1 s.plane2 s.plane3 s.plane4 s.plane5 s.plane6 s.plane7 in
-    record { plane0 = plane 2; plane1 = plane 3; plane2 = plane 6; plane3 = plane 7; plane4 = plane 8; plane5 = plane 0; plane6 = plane 1; plane7 = plane 12 }
+    let s = c.gates-g.result in
+    let plane = IsPlane-gates gates_63 3 2 9 8 7 1 0 4 (λ x. bit_xor x 0x63) sum63-by_gates s.p0 s.p1 s.p2 s.p3 s.p4 s.p5 s.p6 s.p7 s.plane0 s.plane1 s.plane2 s.plane3 s.plane4 s.plane5 s.plane6 s.plane7 in
+    record { plane0 = plane 3; plane1 = plane 2; plane2 = plane 9; plane3 = plane 8; plane4 = plane 7; plane5 = plane 1; plane6 = plane 0; plane7 = plane 4 }
 
 pub returns : goal.returns
-unfolding values sbox_gates zeros ones sub_bytes
-returns c k lt =
-    let s = c.args.s.now in
-    block_of-gates sbox_gates 2 3 6 7 8 0 1 12 sbox sbox-by_gates s.p0 s.p1 s.p2 s.p3 s.p4 s.p5 s.p6 s.p7 s.plane0 s.plane1 s.plane2 s.plane3 s.plane4 s.plane5 s.plane6 s.plane7 k lt
+unfolding values gates_63 zeros ones sub_bytes
+returns c k lk =
+    let g = c.gates-g.result in
+    block_of-map sbox _ _ k (λ p lt.
+    byte_at-gates gates_63 3 2 9 8 7 1 0 4 (λ x. bit_xor x 0x63) sum63-by_gates g.p0 g.p1 g.p2 g.p3 g.p4 g.p5 g.p6 g.p7 g.plane0 g.plane1 g.plane2 g.plane3 g.plane4 g.plane5 g.plane6 g.plane7 k p lk lt
+    ∙ ap (λ x. bit_xor x 0x63) (c.gates-g.ensures k p lk lt) ∙ bit_xor-twice (sbox (byte_at (list_of c.args.s.now) k p)) 0x63)

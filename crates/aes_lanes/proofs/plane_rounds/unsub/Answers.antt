@@ -1,17 +1,17 @@
-use Rattle.aes_lanes.specs.Field.{inverse_sbox}
+use Rattle.std.proofs.Common.{ap, ◌∙◌, bit_xor}
+use Rattle.aes_lanes.specs.Field.{inverse_affine_map, inverse_sbox, sbox}
 use Rattle.aes_lanes.specs.Rounds.{inverse_sub_bytes}
-use Rattle.aes_lanes.proofs.Gates.{IsPlane-gates, block_of-gates, values, unsbox_gates, unsbox-by_gates, zeros, ones}
+use Rattle.aes_lanes.specs.Planes.{byte_at}
+use Rattle.aes_lanes.specs.PlaneList.{list_of}
+use Rattle.aes_lanes.proofs.PlaneBits.{block_of-map, byte_at-lt}
+use Rattle.aes_lanes.proofs.Gates.{unsbox-by_sbox}
 use Rattle.aes_lanes.proofs.plane_rounds.unsub.Goals as goal
 
-pub invariant_of-result : goal.invariant_of-result
-unfolding values unsbox_gates zeros ones
-invariant_of-result c =
-    let s = c.args.s.now in
-    let plane = IsPlane-gates unsbox_gates 14 12 10 8 6 4 2 0 inverse_sbox unsbox-by_gates s.p0 s.p1 s.p2 s.p3 s.p4 s.p5 s.p6 s.p7 s.plane0 s.plane1 s.plane2 s.plane3 s.plane4 s.plane5 s.plane6 s.plane7 in
-    record { plane0 = plane 14; plane1 = plane 12; plane2 = plane 10; plane3 = plane 8; plane4 = plane 6; plane5 = plane 4; plane6 = plane 2; plane7 = plane 0 }
-
 pub returns : goal.returns
-unfolding values unsbox_gates zeros ones inverse_sub_bytes
-returns c k lt =
+unfolding inverse_sub_bytes
+returns c k lk =
     let s = c.args.s.now in
-    block_of-gates unsbox_gates 14 12 10 8 6 4 2 0 inverse_sbox unsbox-by_gates s.p0 s.p1 s.p2 s.p3 s.p4 s.p5 s.p6 s.p7 s.plane0 s.plane1 s.plane2 s.plane3 s.plane4 s.plane5 s.plane6 s.plane7 k lt
+    block_of-map inverse_sbox _ _ k (λ p lt.
+    c.linear.ensures k p lk lt
+    ∙ ap (λ x. bit_xor (inverse_affine_map x) 0x05) (c.gates.ensures k p lk lt ∙ ap (λ x. bit_xor (sbox x) 0x63) (c.unmapped.ensures k p lk lt))
+    ∙ unsbox-by_sbox (byte_at (list_of s) k p) (byte_at-lt s.p0 s.p1 s.p2 s.p3 s.p4 s.p5 s.p6 s.p7 k p))

@@ -1,12 +1,12 @@
 -- What is shown at a root and below it, by what happens there and elsewhere.
-use Rattle.std.proofs.Common.{◌≡◌, ◌⊎◌, Bool, false, List, [], ◌∷◌, ◌++◌, Option, Some, None, is_none, is_some, refl, sym, ap, ◌∙◌, inl, inr, append_assoc, IsTrue}
+use Rattle.std.proofs.Common.{◌≡◌, ◌⊎◌, false, List, [], ◌∷◌, ◌++◌, Option, Some, None, is_none, is_some, refl, sym, ap, ◌∙◌, inl, inr, append_assoc, IsTrue}
 use mathlib.Core.Path.{fun_ext}
 use Rattle.folder_spec.specs.Path.{Path, path_eq, below}
 use Rattle.folder_spec.specs.View.{Found, View, AgreeIn}
 use Rattle.folder_spec.specs.Region.{apart_from, at_or_below}
-use Rattle.folder_spec.specs.Seen.{under, put_found, moved_found, moved_view}
+use Rattle.folder_spec.specs.Seen.{under, put_found, moved_view}
 use Rattle.folder_spec.specs.Edit.{Edit, grafted, edited, edit_under, edits_under, view_after, IsOutside}
-use Rattle.folder_spec.proofs.Paths.{path_eq-same, path_eq-apart, one_or_not, below-append, below_is, begins_or_not, not_below, below-both, append-cancel, below-apart}
+use Rattle.folder_spec.proofs.Paths.{path_eq-same, path_eq-apart, one_or_not, below-append, begins_or_not, not_below, below-both, append-cancel, below-apart}
 
 -- a root below a root
 pub under-under : (root more : Path) (v : View) → under more (under root v) ≡ under (root ++ more) v

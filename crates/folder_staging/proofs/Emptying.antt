@@ -1,26 +1,24 @@
 -- The entries of a directory are removed one after the other.
-use Rattle.std.proofs.Common.{◌≡◌, ◌≢◌, ◌⊎◌, ℕ, suc, ◌<◌, ◌≤◌, ◌+◌, true, false, List, [], ◌∷◌, ◌++◌, length, Option, Some, None, Result, Ok, Err, refl, sym, ap, ◌∙◌, subst, inl, inr, arith, append-nil, append_assoc, slice_index_or, AllPairs, Contains, bytes_eq}
+use Rattle.std.proofs.Common.{◌≡◌, ◌≢◌, ◌⊎◌, ℕ, suc, ◌<◌, ◌≤◌, ◌+◌, true, false, List, [], ◌∷◌, ◌++◌, length, Option, Some, None, Ok, Err, refl, sym, ap, ◌∙◌, subst, inl, inr, arith, append_assoc, slice_index_or, Contains, bytes_eq}
 use Rattle.std.specs.Cmp.Lexicographic.{slice_cmp, nat_list_cmp_total}
 use Rattle.std.specs.Ordering.{nat_cmp, ordering_reverse}
-use Rattle.std.specs.declared.cmp.Ordering.{Ordering}
 use Rattle.std.specs.declared.cmp.Ordering.TheVariants.{Less, Greater}
 use Rattle.std.proofs.lemmas.Slice.Eq.{bytes_eq-Decides}
-use Rattle.folder_spec.specs.declared.Kind.{Kind}
 use Rattle.folder_spec.specs.declared.Kind.TheVariants.{Missing, Dir}
 use Rattle.folder_spec.specs.Path.{Part, Path, below, child}
-use Rattle.folder_spec.specs.State.{State, present, IsSound}
+use Rattle.folder_spec.specs.State.{present, IsSound}
 use Rattle.folder_spec.specs.Event.{Told, FromTo}
 use Rattle.folder_spec.specs.View.{Found, NoEntry, Folder, FileOf, Special, View, kind_found}
 use Rattle.folder_spec.specs.Seen.{seen, IsSeen}
 use Rattle.folder_spec.specs.Listing.{Item, IsListing}
 use Rattle.folder_spec.proofs.Paths.{below-append, below-sibling}
-use Rattle.folder_spec.proofs.Tellings.{from_to_more, from_to_on, from_to_same}
+use Rattle.folder_spec.proofs.Tellings.{from_to_more}
 use Rattle.folder_spec.specs.declared.FolderFault.{FolderFault}
 use Rattle.folder_model.specs.Answers.{Answers, Counts}
 use Rattle.folder_model.proofs.Counting.{never_falls, counts_at_fault}
 use Rattle.folder_staging.specs.declared.removal.RemovalFault.{RemovalFault}
 use Rattle.folder_staging.specs.declared.removal.RemovalFault.TheVariants.{Depth}
-use Rattle.folder_staging.specs.Removal.{Reach, from, below_only, IsWithin, IsRemoving, IsBare, RemovesAs, Removes, fault_of}
+use Rattle.folder_staging.specs.Removal.{from, below_only, IsWithin, IsRemoving, IsBare, RemovesAs, Removes, fault_of}
 use Rattle.folder_staging.proofs.Removals.{Removing, removing_so_far, run_none, run_then, run_in, stays_gone, was_seen, bare_below, done_exit, fault_exit, none_from, folder_fault_as, risen_by}
 
 -- Of the directory's items, as they were at a, those before the index are gone at b, and what stands at the others is as it was.

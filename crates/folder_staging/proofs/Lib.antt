@@ -1,6 +1,6 @@
 mod Exits
 mod Pairs
-pub mod Pieces
-pub mod Wholes
+mod Pieces
+mod Wholes
 mod Removals
 mod Emptying

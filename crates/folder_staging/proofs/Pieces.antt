@@ -1,19 +1,16 @@
 -- A file is begun, written and made to last, call by call.
-use Rattle.std.proofs.Common.{◌≡◌, ℕ, ◌≤◌, List, [], ◌∷◌, ◌++◌, Option, Some, None, Result, Ok, Err, OnOk, refl, sym, ap, ◌∙◌, subst, arith}
+use Rattle.std.proofs.Common.{◌≡◌, ℕ, List, [], ◌++◌, Option, Some, None, Result, Ok, Err, refl, sym, ap, ◌∙◌, subst}
 use Rattle.folder_spec.specs.declared.FolderFault.{FolderFault}
 use Rattle.folder_spec.specs.Path.{Path}
 use Rattle.folder_spec.specs.State.{Node, present}
-use Rattle.folder_spec.specs.Event.{Create, Append, Sync, IsFree, Allowed, Told, Changes, FromTo, empty_node}
+use Rattle.folder_spec.specs.Event.{Create, Append, Sync, IsFree, Allowed, Told, Changes, FromTo}
 use Rattle.folder_spec.specs.View.{FileOf, View, found}
 use Rattle.folder_spec.specs.Seen.{seen, IsSeen, ShowsFile}
-use Rattle.folder_spec.specs.Written.{IsFrontOfOne}
 use Rattle.folder_spec.specs.Replace.{IsNewNode, IsNewFile}
 use Rattle.folder_spec.proofs.Tellings.{from_to_both, from_to_more}
 use Rattle.folder_spec.proofs.Seen.{has_file_seen}
 use Rattle.folder_spec.proofs.Stages.{Staging, IsStagedAs, creating_from, created_from, appending_from, appended_from, syncing_from, synced_from, staging_of_none}
-use Rattle.folder_model.specs.Answers.{Counts, CountsAbove}
-use Rattle.folder_model.proofs.Counting.{counts_after}
-use Rattle.folder_staging.specs.Pieces.{Stages, IsWriting, Begins, Adds, Finishes}
+use Rattle.folder_staging.specs.Pieces.{IsWriting, Begins, Adds, Finishes}
 
 as_staged : (files : List (List ℕ)) (at : Path) (bytes : List ℕ) (t u : Option Told) → IsWriting files at bytes t u → FromTo (IsStagedAs files at (record { now = bytes; kept = [] })) t u
 as_staged files at bytes t u h =

@@ -1,14 +1,14 @@
 -- How removals go on, from call to call.
-use Rattle.std.proofs.Common.{◌≡◌, ◌≢◌, ◌⊎◌, ℕ, ◌<◌, ◌≤◌, ◌+◌, List, [], ◌∷◌, ◌++◌, length, Option, Some, None, Result, Ok, Err, OnOk, refl, sym, ap, ◌∙◌, subst, inl, inr, arith, append-nil, append_assoc, length-append}
+use Rattle.std.proofs.Common.{◌≡◌, ◌≢◌, ◌⊎◌, ℕ, ◌<◌, ◌≤◌, List, [], ◌∷◌, ◌++◌, length, Option, Some, None, Result, Ok, Err, refl, sym, ap, ◌∙◌, subst, inl, inr, arith, append-nil}
 use Rattle.port_model.specs.Counts.{CountRose}
 use Rattle.folder_spec.specs.declared.FolderFault.{FolderFault}
 use Rattle.folder_spec.specs.declared.FolderFault.TheVariants as folder
-use Rattle.folder_spec.specs.Path.{Part, Path, child}
+use Rattle.folder_spec.specs.Path.{Part, Path}
 use Rattle.folder_spec.specs.declared.Spot.{Spot}
 use Rattle.folder_spec.specs.declared.Spot.TheVariants.{Nothing, Directory, FileNode, Odd}
-use Rattle.folder_spec.specs.State.{Table, State, present, put, IsTableOf, HasFile, IsSound}
-use Rattle.folder_spec.specs.Event.{Call, MakeDir, Create, Append, Sync, Settle, Rename, RemoveFile, RemoveDir, Outcome, Event, Allowed, with_table, changed, fallen, Told, Steps, Changes, FromTo}
-use Rattle.folder_spec.specs.Moments.{Went, Moments}
+use Rattle.folder_spec.specs.State.{Table, State, present, put, IsTableOf, IsSound}
+use Rattle.folder_spec.specs.Event.{Call, MakeDir, Create, Append, Sync, Settle, Rename, RemoveFile, RemoveDir, Allowed, with_table, changed, fallen, Told, Steps, Changes, FromTo}
+use Rattle.folder_spec.specs.Moments.{Went}
 use Rattle.folder_spec.specs.View.{Found, NoEntry, Folder, FileOf, Special, View, kind_found, found}
 use Rattle.folder_spec.specs.declared.Kind.{Kind}
 use Rattle.folder_spec.specs.declared.Kind.TheVariants.{Missing, Dir, File}

@@ -1,5 +1,5 @@
 -- A folder is begun, gains files, and is published.
-use Rattle.std.proofs.Common.{◌≡◌, ◌≢◌, ◌⊎◌, ℕ, ◌<◌, ◌≤◌, Bool, true, false, cond, bytes_eq, List, [], ◌∷◌, ◌++◌, Option, Some, None, Result, Ok, Err, OnOk, refl, sym, ap, ◌∙◌, subst, inl, inr, arith, append-nil, append_assoc, nat_lt, ltb-true, ltb-false, IsTrue}
+use Rattle.std.proofs.Common.{◌≡◌, ℕ, ◌<◌, ◌≤◌, Bool, true, false, cond, bytes_eq, List, [], ◌∷◌, ◌++◌, Option, Some, None, Result, Ok, Err, OnOk, refl, sym, ap, ◌∙◌, subst, inl, inr, arith, append-nil, append_assoc, nat_lt, ltb-true, ltb-false, IsTrue}
 use Rattle.std.specs.Cmp.{first_so, second_so}
 use Rattle.std.proofs.lemmas.Slice.Eq.{bytes_eq-Decides}
 use Rattle.folder_spec.specs.declared.FolderFault.{FolderFault}
@@ -12,15 +12,15 @@ use Rattle.folder_spec.specs.Moments.{Went}
 use Rattle.folder_spec.specs.Region.{AlikeIn, IsAsBefore, SparesOld, WritesOnlyNew, apart_from, apart_from_both}
 use Rattle.folder_spec.specs.Written.{IsFrontOfOne, HoldFronts}
 use Rattle.folder_spec.specs.Replace.{IsNewFile, IsStaging}
-use Rattle.folder_spec.specs.View.{Found, NoEntry, Folder, FileOf, View, found}
+use Rattle.folder_spec.specs.View.{NoEntry, Folder, FileOf, View, found}
 use Rattle.folder_spec.specs.Seen.{seen, IsSeen, ShowsFree}
-use Rattle.folder_spec.specs.Edit.{file_among, folder_view, folder_edit, IsStagedView, Publishes, HasPublished}
+use Rattle.folder_spec.specs.Edit.{file_among, folder_view, folder_edit, IsStagedView, HasPublished}
 use Rattle.folder_spec.proofs.Paths.{below-append, below-sibling, below-apart, append-cancel, begins_or_not, not_below}
 use Rattle.folder_spec.proofs.Tables.{put-same, put-other, present_is_table, last_of-push}
 use Rattle.folder_spec.proofs.Regions.{as_before, as_before_on}
 use Rattle.folder_spec.proofs.Replaces.{apart-below, apart-not_same, apart-from_below}
 use Rattle.folder_spec.proofs.Moments.{went_on, went_by_call, went_more, went_to}
-use Rattle.folder_spec.proofs.Tellings.{from_to_both, from_to_more, from_to_on, from_to_known}
+use Rattle.folder_spec.proofs.Tellings.{from_to_both, from_to_more, from_to_on}
 use Rattle.folder_spec.proofs.Seen.{free_seen, may_call_allowed}
 use Rattle.folder_spec.proofs.Edits.{nothing_below_file, publishes_nothing, published}
 use Rattle.folder_spec.proofs.Stages.{Staging, spares_within}

@@ -1,4 +1,4 @@
-use Rattle.std.proofs.Common.{rules, eqb-true, vec_len, ◌≡◌, ◌≢◌, ℕ, ◌<◌, ◌≤◌, ◌+◌, ◌-◌, List, ◌∷◌, [], Ok, Err, length, slice_index_or, refl, sym, ap, ◌∙◌, subst, arith}
+use Rattle.std.proofs.Common.{rules, eqb-true, vec_len, ◌≡◌, ◌≢◌, ◌≤◌, Ok, Err, length, refl, sym, ap, ◌∙◌, subst, arith}
 use Rattle.std.proofs.lemmas.Bool.{eqb-false}
 use Rattle.std.proofs.lemmas.Result.{err_from_is_err_and}
 use Rattle.folder_spec.specs.Path.{child}
@@ -8,7 +8,7 @@ use Rattle.folder_model.proofs.Counting.{never_falls}
 use Rattle.folder_spec.proofs.Paths.{child-not_base}
 use Rattle.folder_staging.specs.declared.removal.RemovalFault.TheVariants.{NoMemory}
 use Rattle.folder_staging.specs.Removal.{Removes, from, below_only}
-use Rattle.folder_staging.proofs.Removals.{none_from, fault_exit, exit_after, beneath_within, missing_exit, file_exit, dir_exit, other_exit, no_call_exit}
+use Rattle.folder_staging.proofs.Removals.{none_from, fault_exit, beneath_within, missing_exit, file_exit, dir_exit, no_call_exit}
 use Rattle.folder_staging.proofs.Emptying.{entries_done, entry_kind, one_more_from, entry_fault, none_listed, too_deep, listing_exit, is_folder, any_item, no_items}
 use Rattle.folder_staging.proofs.removal.+removal.Goals as goal
 

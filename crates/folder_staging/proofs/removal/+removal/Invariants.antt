@@ -1,4 +1,4 @@
-use Rattle.std.proofs.Common.{◌≡◌, ℕ, ◌*◌, ◌+◌, ◌≤◌}
+use Rattle.std.proofs.Common.{◌*◌, ◌+◌, ◌≤◌}
 use Rattle.folder_spec.specs.Event.{FromTo}
 use Rattle.folder_staging.proofs.Emptying.{SoFar}
 use Rattle.folder_staging.proofs.removal.+removal.Given as goal

@@ -1,6 +1,5 @@
 use Rattle.std.proofs.Common.{◌∷◌, []}
 use Rattle.folder_spec.proofs.Stages.{one_file, none_of_it}
-use Rattle.folder_model.proofs.Counting.{counts_on}
 use Rattle.folder_staging.proofs.Pieces.{writing_seen}
 use Rattle.folder_staging.proofs.staging.stage_file.Goals as goal
 

@@ -1,0 +1,64 @@
+//! The random bytes of the machine.
+
+ghost use Rattle.std.specs.Prelude.{◌≡◌, None};
+
+use crate::pieces::fill;
+use port_model::{RandomFault, Randoms};
+use std::fs;
+use std::rt::Runtime;
+
+/// The random bytes that the machine gives at `/dev/urandom`, which is opened at the first call. It tells nothing of them.
+#[derive(Drop)]
+pub struct HostRandoms<R: Runtime> {
+    rt: R,
+    file: Option<R::File>,
+    faults: u64,
+}
+
+impl<R: Runtime> HostRandoms<R> {
+    /// A random source that has failed at no call yet. It takes no memory.
+    pub fn new(rt: R) -> HostRandoms<R>
+        ensures { ⟦<HostRandoms<R> as Randoms>⟧.faults result ≡ 0 }
+    {
+        HostRandoms {
+            rt,
+            file: None,
+            faults: 0,
+        }
+    }
+}
+
+impl<R: Runtime> Randoms for HostRandoms<R> {
+    ghost left = { λ r. None };
+
+    ghost faults = { λ r. r.faults };
+
+    fn fill(&mut self, out: &mut [u8]) -> Result<(), RandomFault> {
+        let faults = self.faults;
+        match draw(&self.rt, &mut self.file, out) {
+            Ok(()) => Ok(()),
+            Err(fault) => {
+                self.faults = faults.saturating_add(1);
+                Err(fault)
+            }
+        }
+    }
+}
+
+// Fills `out` with bytes of the file, opened first where it isn't yet.
+fn draw<R: Runtime>(rt: &R, file: &mut Option<R::File>, out: &mut [u8]) -> Result<(), RandomFault> {
+    let mut open = match file.take() {
+        Some(open) => open,
+        None => match fs::open(rt, "/dev/urandom") {
+            Ok(open) => open,
+            Err(_) => return Err(RandomFault),
+        },
+    };
+    match fill(&mut open, out) {
+        Ok(count) if count == out.len() => {
+            *file = Some(open);
+            Ok(())
+        }
+        _ => Err(RandomFault),
+    }
+}

@@ -1,0 +1,51 @@
+//! The entries of a directory of the machine.
+
+ghost use Rattle.std.specs.Prelude.{IsErr, IfOk};
+ghost use Rattle.std.specs.Cmp.Lexicographic.{slice_cmp};
+ghost use Rattle.std.specs.List.Sorted.{IsSortedByKey};
+ghost use Rattle.std.specs.Ordering.{nat_cmp};
+ghost use Rattle.folder_spec.specs.Listing.{Item};
+
+use crate::faults::{fault_of, kind_of};
+use folder_model::{Entry, FolderFault};
+use std::alloc::Global;
+use std::fs::DirEntry;
+use std::rt::Runtime;
+use std::{fs, io};
+
+// The entries of the directory at a text, in byte order of their names.
+pub fn entries_of<R: Runtime>(rt: &R, alloc: Global, text: &str) -> Result<Vec<Entry>, FolderFault>
+    ensures { IfOk result (λ entries. IsSortedByKey (λ (entry : Item). entry.name) (slice_cmp nat_cmp) entries.items) }
+{
+    let found = fs::read_dir(rt, text).map_err(|error| fault_of(&error))?;
+    let mut entries = Vec::new(alloc);
+    for entry in found {
+        add_found::<R>(alloc, &mut entries, entry)?;
+    }
+    sort(entries.as_mut_slice());
+    Ok(entries)
+}
+
+// Adds an entry that was found. A name that isn't UTF-8 is found as an error.
+fn add_found<R: Runtime>(
+    alloc: Global,
+    entries: &mut Vec<Entry>,
+    found: io::Result<DirEntry<R, R::A>>,
+) -> Result<(), FolderFault>
+    ensures { IsErr found → IsErr result }
+{
+    let entry = found.map_err(|error| fault_of(&error))?;
+    let stands = entry.file_type().map_err(|error| fault_of(&error))?;
+    let name = String::from_str(alloc, entry.file_name())?;
+    match entries.push(Entry::new(name, kind_of(stands))) {
+        Ok(()) => Ok(()),
+        Err(_) => Err(FolderFault::NoMemory),
+    }
+}
+
+// Brings entries into byte order of their names.
+fn sort(entries: &mut [Entry])
+    ensures { IsSortedByKey (λ (entry : Item). entry.name) (slice_cmp nat_cmp) entries.new }
+{
+    entries.sort_unstable_by(|x, y| x.name.as_str().cmp(y.name.as_str()));
+}

@@ -12,10 +12,11 @@ ghost use Rattle.host_ports.specs.Unsettled.{IsKept, not_below, noted};
 
 use crate::faults::fault_of;
 use crate::listing::entries_of;
-use crate::pieces::{fill, write_whole};
+use crate::pieces::fill;
 use crate::places::{Place, look, place_of};
 use crate::unsettled::{note, without};
 use folder_model::{Entry, FPath, Folder, FolderFault, Kind};
+use port_model::{Sink, StdSink};
 use std::alloc::{AllocError, Global};
 use std::fs;
 use std::fs::{OpenFile, OpenOptions};
@@ -147,10 +148,11 @@ impl<R: Runtime> HostFolder<R> {
         let text = self.place_of(at, Kind::File)?;
         let mut options = OpenOptions::new();
         options.append(true);
-        let mut file = options
+        let file = options
             .open(&self.rt, text.as_str())
             .map_err(|error| fault_of(&error))?;
-        write_whole(&mut file, piece)
+        let mut sink = StdSink::new(file);
+        sink.put(piece).map_err(|_fault| FolderFault::Failed)
     }
 
     // Syncs what stands at a text.

@@ -1,9 +1,12 @@
 -- How removals go on, from call to call.
-use Rattle.std.proofs.Common.{◌≡◌, ◌≢◌, ◌⊎◌, ℕ, ◌<◌, ◌≤◌, List, [], ◌∷◌, ◌++◌, length, Option, Some, None, Result, Ok, Err, refl, sym, ap, ◌∙◌, subst, inl, inr, arith, append-nil}
+use Rattle.std.proofs.Common.{◌≡◌, ◌≢◌, ◌⊎◌, ℕ, ◌<◌, ◌≤◌, List, [], ◌∷◌, ◌++◌, length, Option, Some, None, Result, Ok, Err, refl, sym, ap, ◌∙◌, subst, inl, inr, arith, append-nil, IsTrue}
 use Rattle.port_model.specs.Counts.{CountRose}
 use Rattle.folder_spec.specs.declared.FolderFault.{FolderFault}
 use Rattle.folder_spec.specs.declared.FolderFault.TheVariants as folder
-use Rattle.folder_spec.specs.Path.{Part, Path}
+use Rattle.folder_spec.specs.Path.{Part, Path, below}
+use Rattle.folder_spec.specs.Region.{AlikeIn, IsAsBefore, SparesOld, apart_from}
+use Rattle.folder_spec.specs.Written.{HoldFronts}
+use Rattle.folder_spec.proofs.Replaces.{apart-below}
 use Rattle.folder_spec.specs.declared.Spot.{Spot}
 use Rattle.folder_spec.specs.declared.Spot.TheVariants.{Nothing, Directory, FileNode, Odd}
 use Rattle.folder_spec.specs.State.{Table, State, present, put, IsTableOf, IsSound}
@@ -14,7 +17,7 @@ use Rattle.folder_spec.specs.declared.Kind.{Kind}
 use Rattle.folder_spec.specs.declared.Kind.TheVariants.{Missing, Dir, File}
 use Rattle.folder_spec.specs.declared.Kind.TheVariants as kind
 use Rattle.folder_spec.specs.Seen.{seen, IsSeen, put_found, seen_after}
-use Rattle.folder_spec.proofs.Paths.{path_eq-same, one_or_not, append-cancel}
+use Rattle.folder_spec.proofs.Paths.{not_below, path_eq-same, one_or_not, append-cancel}
 use Rattle.folder_spec.proofs.Tables.{put-same, put-other, present_is_table, last_of-push, among-push}
 use Rattle.folder_spec.proofs.Moments.{went_nowhere, went_on, went_by_call, went_more, went_to}
 use Rattle.folder_spec.proofs.Tellings.{from_to_more, from_to_on, from_to_same}
@@ -408,3 +411,32 @@ kind_exit r at t u n0 n1 fault same answer counts = record {
   failed = λ e. risen_by n0 n1 fault
       (counts_at_fault Kind (Unit {0}) t n0 n0 n1 (λ v. Unit {0}) (λ v k. k ≡ kind_found (v at)) fault (omega arith) (λ v is. tt) answer counts) (cc e);
 }
+
+-- A removal leaves all else.
+within_not_apart : (r : Reach) (q : Path) → IsWithin r q → IsTrue (apart_from r.at q) → ⊥
+within_not_apart r q within apart = not_below r.at within.rest (ap (below r.at) (sym within.is) ∙ apart-below r.at q apart)
+
+thinned_apart : (r : Reach) (t u : Table) → IsThinned r t u → AlikeIn (apart_from r.at) t u
+thinned_apart r t u thinned q apart = elim (thinned q) [ inl same ↦ same | inr gone ↦ absurd (within_not_apart r q gone.0 apart) ]
+
+pub removing_as_before : (r : Reach) (s0 s : State) → IsRemoving r s0 s → IsAsBefore (apart_from r.at) s0 s
+removing_as_before r s0 s h = record {
+  tables = λ t is_table.
+      let old : (u : Table) × IsTableOf s0 u × IsThinned r t u = h.tables t is_table in (old.0, old.1, thinned_apart r t (old.0) old.2);
+  seen = thinned_apart r (present s) (present s0) h.seen;
+  nodes = λ n less. ap (λ nodes. nodes n) h.nodes;
+  made = omega (arith, h.made);
+}
+
+pub removals_spare : (r : Reach) (s0 s : State) (call : Call) → RemovesWithin r call → SparesOld (apart_from r.at) s0 s call
+removals_spare r s0 s (RemoveFile p) within = (λ q apart e. within_not_apart r q (subst (IsWithin r) e within) apart, tt)
+removals_spare r s0 s (RemoveDir p) within = (λ q apart e. within_not_apart r q (subst (IsWithin r) e within) apart, tt)
+removals_spare r s0 s (MakeDir p) within = absurd within
+removals_spare r s0 s (Create p) within = absurd within
+removals_spare r s0 s (Append p piece) within = absurd within
+removals_spare r s0 s (Sync p) within = absurd within
+removals_spare r s0 s Settle within = absurd within
+removals_spare r s0 s (Rename old new) within = absurd within
+
+pub removing_writes_nothing : (r : Reach) (files : List (List ℕ)) (s0 s : State) → IsRemoving r s0 s → HoldFronts files s0 s
+removing_writes_nothing r files s0 s h n new made = absurd (omega (arith, new, made, h.made))

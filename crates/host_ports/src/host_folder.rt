@@ -8,6 +8,7 @@ ghost use Rattle.folder_spec.specs.Listing.{Item};
 ghost use Rattle.folder_spec.specs.Path.{parent};
 ghost use Rattle.folder_spec.specs.declared.Kind.TheVariants.{File, Missing};
 ghost use Rattle.folder_model.specs.Answers.{Counts, KeepsUnlessRun};
+ghost use Rattle.host_ports.specs.Places.{names_entries};
 ghost use Rattle.host_ports.specs.Unsettled.{IsKept, not_below, noted};
 
 use crate::faults::fault_of;
@@ -75,15 +76,21 @@ impl<R: Runtime> HostFolder<R> {
         answer
     }
 
-    fn look(&self, at: &FPath) -> Result<Place, FolderFault> {
+    fn look(&self, at: &FPath) -> Result<Place, FolderFault>
+        ensures { OnOk result (IsTrue (names_entries at.now)) }
+    {
         look(&self.rt, self.alloc, self.base.as_str(), at)
     }
 
-    fn place_of(&self, at: &FPath, kind: Kind) -> Result<String, FolderFault> {
+    fn place_of(&self, at: &FPath, kind: Kind) -> Result<String, FolderFault>
+        ensures { OnOk result (IsTrue (names_entries at.now)) }
+    {
         place_of(&self.rt, self.alloc, self.base.as_str(), at, kind)
     }
 
-    fn kind_of(&self, at: &FPath) -> Result<Kind, FolderFault> {
+    fn kind_of(&self, at: &FPath) -> Result<Kind, FolderFault>
+        ensures { OnOk result (IsTrue (names_entries at.now)) }
+    {
         match self.look(at)?.kind {
             Some(kind) => Ok(kind),
             None => Ok(Kind::Missing),
@@ -91,13 +98,15 @@ impl<R: Runtime> HostFolder<R> {
     }
 
     fn entries(&self, at: &FPath) -> Result<Vec<Entry>, FolderFault>
-        ensures { IfOk result (λ entries. IsSortedByKey (λ (entry : Item). entry.name) (slice_cmp nat_cmp) entries.items) }
+        ensures names { OnOk result (IsTrue (names_entries at.now)) }
+        ensures sorted { IfOk result (λ entries. IsSortedByKey (λ (entry : Item). entry.name) (slice_cmp nat_cmp) entries.items) }
     {
         let text = self.place_of(at, Kind::Dir)?;
         entries_of(&self.rt, self.alloc, text.as_str())
     }
 
     fn bytes(&self, at: &FPath, start: u64, out: &mut [u8]) -> Result<usize, FolderFault>
+        ensures names { OnOk result (IsTrue (names_entries at.now)) }
         ensures within { IfOk result (λ n. n ≤ length out.old) }
         ensures unread { KeepsUnlessRun result (out.new ≡ out.old) }
     {
@@ -120,6 +129,7 @@ impl<R: Runtime> HostFolder<R> {
     }
 
     fn add_dir(&mut self, at: &FPath) -> Result<(), FolderFault>
+        ensures names { OnOk result (IsTrue (names_entries at.now)) }
         ensures noted { OnOk result (self.new.dirs ≡ noted self.old.dirs (parent at.now)) }
         ensures kept { OnErr result (IsKept self.old.dirs self.new.dirs (parent at.now)) }
         ensures faults { self.new.faults ≡ self.old.faults }
@@ -130,6 +140,7 @@ impl<R: Runtime> HostFolder<R> {
     }
 
     fn add_file(&mut self, at: &FPath) -> Result<(), FolderFault>
+        ensures names { OnOk result (IsTrue (names_entries at.now)) }
         ensures noted { OnOk result (self.new.dirs ≡ noted self.old.dirs (parent at.now)) }
         ensures kept { OnErr result (IsKept self.old.dirs self.new.dirs (parent at.now)) }
         ensures faults { self.new.faults ≡ self.old.faults }
@@ -144,7 +155,9 @@ impl<R: Runtime> HostFolder<R> {
         }
     }
 
-    fn grow(&self, at: &FPath, piece: &[u8]) -> Result<(), FolderFault> {
+    fn grow(&self, at: &FPath, piece: &[u8]) -> Result<(), FolderFault>
+        ensures { OnOk result (IsTrue (names_entries at.now)) }
+    {
         let text = self.place_of(at, Kind::File)?;
         let mut options = OpenOptions::new();
         options.append(true);
@@ -161,7 +174,9 @@ impl<R: Runtime> HostFolder<R> {
         file.sync_all().map_err(|error| fault_of(&error))
     }
 
-    fn sync_file(&self, at: &FPath) -> Result<(), FolderFault> {
+    fn sync_file(&self, at: &FPath) -> Result<(), FolderFault>
+        ensures { OnOk result (IsTrue (names_entries at.now)) }
+    {
         let text = self.place_of(at, Kind::File)?;
         self.sync_at(text.as_str())
     }
@@ -193,6 +208,7 @@ impl<R: Runtime> HostFolder<R> {
 
     // Moves what may move, once the directories that changed at and below it are synced.
     fn rename_now(&mut self, old: &FPath, new: &FPath) -> Result<(), FolderFault>
+        ensures names { OnOk result (IsTrue (names_entries old.now) × IsTrue (names_entries new.now)) }
         ensures noted { OnOk result (self.new.dirs ≡ not_below old.now (noted (noted self.old.dirs (parent old.now)) (parent new.now))) }
         ensures kept { OnErr result (IsKept self.old.dirs self.new.dirs (parent old.now) ⊎ (self.new.dirs ≡ noted (noted self.old.dirs (parent old.now)) (parent new.now))) }
         ensures faults { self.new.faults ≡ self.old.faults }
@@ -214,6 +230,7 @@ impl<R: Runtime> HostFolder<R> {
     }
 
     fn remove_file_now(&mut self, at: &FPath) -> Result<(), FolderFault>
+        ensures names { OnOk result (IsTrue (names_entries at.now)) }
         ensures noted { OnOk result (self.new.dirs ≡ noted self.old.dirs (parent at.now)) }
         ensures kept { OnErr result (IsKept self.old.dirs self.new.dirs (parent at.now)) }
         ensures faults { self.new.faults ≡ self.old.faults }
@@ -224,6 +241,7 @@ impl<R: Runtime> HostFolder<R> {
     }
 
     fn remove_dir_now(&mut self, at: &FPath) -> Result<(), FolderFault>
+        ensures names { OnOk result (IsTrue (names_entries at.now)) }
         ensures noted { OnOk result (self.new.dirs ≡ not_below at.now (noted self.old.dirs (parent at.now))) }
         ensures kept { OnErr result (IsKept self.old.dirs self.new.dirs (parent at.now)) }
         ensures faults { self.new.faults ≡ self.old.faults }
@@ -261,13 +279,18 @@ impl<R: Runtime> Folder for HostFolder<R> {
 
     ghost sound = { λ f a is. absurd (none-some a is) };
 
-    fn kind(&mut self, at: &FPath) -> Result<Kind, FolderFault> {
+    fn kind(&mut self, at: &FPath) -> Result<Kind, FolderFault>
+        ensures counts { Counts None self.old.faults self.new.faults result }
+        ensures names { OnOk result (IsTrue (names_entries at.now)) }
+        ensures kept { self.new.dirs ≡ self.old.dirs }
+    {
         let answer = self.kind_of(at);
         self.counted(answer)
     }
 
     fn list(&mut self, at: &FPath) -> Result<Vec<Entry>, FolderFault>
         ensures counts { Counts None self.old.faults self.new.faults result }
+        ensures names { OnOk result (IsTrue (names_entries at.now)) }
         ensures sorted { IfOk result (λ entries. IsSortedByKey (λ (entry : Item). entry.name) (slice_cmp nat_cmp) entries.items) }
         ensures kept { self.new.dirs ≡ self.old.dirs }
     {
@@ -275,13 +298,20 @@ impl<R: Runtime> Folder for HostFolder<R> {
         self.counted(answer)
     }
 
-    fn read(&mut self, at: &FPath, start: u64, out: &mut [u8]) -> Result<usize, FolderFault> {
+    fn read(&mut self, at: &FPath, start: u64, out: &mut [u8]) -> Result<usize, FolderFault>
+        ensures counts { Counts None self.old.faults self.new.faults result }
+        ensures names { OnOk result (IsTrue (names_entries at.now)) }
+        ensures within { IfOk result (λ n. n ≤ length out.old) }
+        ensures unread { KeepsUnlessRun result (out.new ≡ out.old) }
+        ensures kept { self.new.dirs ≡ self.old.dirs }
+    {
         let answer = self.bytes(at, start, out);
         self.counted(answer)
     }
 
     fn make_dir(&mut self, at: &FPath) -> Result<(), FolderFault>
         ensures counts { Counts None self.old.faults self.new.faults result }
+        ensures names { OnOk result (IsTrue (names_entries at.now)) }
         ensures noted { OnOk result (self.new.dirs ≡ noted self.old.dirs (parent at.now)) }
         ensures kept { OnErr result (IsKept self.old.dirs self.new.dirs (parent at.now)) }
     {
@@ -291,6 +321,7 @@ impl<R: Runtime> Folder for HostFolder<R> {
 
     fn create(&mut self, at: &FPath) -> Result<(), FolderFault>
         ensures counts { Counts None self.old.faults self.new.faults result }
+        ensures names { OnOk result (IsTrue (names_entries at.now)) }
         ensures noted { OnOk result (self.new.dirs ≡ noted self.old.dirs (parent at.now)) }
         ensures kept { OnErr result (IsKept self.old.dirs self.new.dirs (parent at.now)) }
     {
@@ -298,12 +329,20 @@ impl<R: Runtime> Folder for HostFolder<R> {
         self.counted(answer)
     }
 
-    fn append(&mut self, at: &FPath, piece: &[u8]) -> Result<(), FolderFault> {
+    fn append(&mut self, at: &FPath, piece: &[u8]) -> Result<(), FolderFault>
+        ensures counts { Counts None self.old.faults self.new.faults result }
+        ensures names { OnOk result (IsTrue (names_entries at.now)) }
+        ensures kept { self.new.dirs ≡ self.old.dirs }
+    {
         let answer = self.grow(at, piece);
         self.counted(answer)
     }
 
-    fn sync(&mut self, at: &FPath) -> Result<(), FolderFault> {
+    fn sync(&mut self, at: &FPath) -> Result<(), FolderFault>
+        ensures counts { Counts None self.old.faults self.new.faults result }
+        ensures names { OnOk result (IsTrue (names_entries at.now)) }
+        ensures kept { self.new.dirs ≡ self.old.dirs }
+    {
         let answer = self.sync_file(at);
         self.counted(answer)
     }
@@ -319,6 +358,7 @@ impl<R: Runtime> Folder for HostFolder<R> {
 
     fn rename(&mut self, old: &FPath, new: &FPath) -> Result<(), FolderFault>
         ensures counts { Counts None self.old.faults self.new.faults result }
+        ensures names { OnOk result (IsTrue (names_entries old.now) × IsTrue (names_entries new.now)) }
         ensures noted { OnOk result (self.new.dirs ≡ not_below old.now (noted (noted self.old.dirs (parent old.now)) (parent new.now))) }
         ensures kept { OnErr result (IsKept self.old.dirs self.new.dirs (parent old.now) ⊎ (self.new.dirs ≡ noted (noted self.old.dirs (parent old.now)) (parent new.now))) }
     {
@@ -328,6 +368,7 @@ impl<R: Runtime> Folder for HostFolder<R> {
 
     fn remove_file(&mut self, at: &FPath) -> Result<(), FolderFault>
         ensures counts { Counts None self.old.faults self.new.faults result }
+        ensures names { OnOk result (IsTrue (names_entries at.now)) }
         ensures noted { OnOk result (self.new.dirs ≡ noted self.old.dirs (parent at.now)) }
         ensures kept { OnErr result (IsKept self.old.dirs self.new.dirs (parent at.now)) }
     {
@@ -337,6 +378,7 @@ impl<R: Runtime> Folder for HostFolder<R> {
 
     fn remove_dir(&mut self, at: &FPath) -> Result<(), FolderFault>
         ensures counts { Counts None self.old.faults self.new.faults result }
+        ensures names { OnOk result (IsTrue (names_entries at.now)) }
         ensures noted { OnOk result (self.new.dirs ≡ not_below at.now (noted self.old.dirs (parent at.now))) }
         ensures kept { OnErr result (IsKept self.old.dirs self.new.dirs (parent at.now)) }
     {

@@ -11,4 +11,4 @@ pub mod Stages
 mod Views
 pub mod Seen
 pub mod Edits
-pub mod Under
+mod Under

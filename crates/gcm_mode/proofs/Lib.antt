@@ -4,7 +4,7 @@ mod Counters
 mod Halves
 mod Hashes
 mod Linear
-pub mod Modes
+mod Modes
 mod Nibbles
 mod Rows
 mod SealedBytes

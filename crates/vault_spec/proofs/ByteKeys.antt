@@ -1,6 +1,8 @@
 -- Keys of directories are of bytes.
-use Rattle.std.proofs.Common.{◌≡◌, ℕ, zero, suc, ◌&&◌, Bool, true, false, List, [], ◌∷◌, Some, None, cond, refl, arith, nat_lt}
+use Rattle.std.proofs.Common.{◌≡◌, ℕ, zero, suc, ◌&&◌, Bool, true, false, List, [], ◌∷◌, Some, None, cond, refl, arith, nat_lt, ◌++◌, IsTrue, sym, ◌∙◌}
+use Rattle.std.specs.List.{list_all}
 use Rattle.std.proofs.lemmas.Bool.{ltb-true}
+use Rattle.std.proofs.lemmas.List.Folds.{list_all-append}
 use Rattle.aes_lanes.specs.Bytes.{AreBytes}
 use Rattle.vault_spec.specs.Format.{is_bytes}
 
@@ -26,3 +28,11 @@ are_bytes (x ∷ xs) e (suc k) = are_bytes xs (right_true (nat_lt x 256) (is_byt
 pub none_given : {A : Type 0} (b : Bool) (x : A) → cond b None (Some x) ≡ None → b ≡ true
 none_given true x e = refl
 none_given false x e = cc
+
+-- the front of what is of such characters is so too
+pub front_plain : (p : ℕ → Bool) (front rest : List ℕ) → IsTrue (list_all p (front ++ rest)) → IsTrue (list_all p front)
+front_plain p front rest all = left_true (list_all p front) (list_all p rest) (sym (list_all-append p front rest) ∙ all)
+
+-- and so is what follows
+pub right_plain : (p : ℕ → Bool) (front rest : List ℕ) → IsTrue (list_all p (front ++ rest)) → IsTrue (list_all p rest)
+right_plain p front rest all = right_true (list_all p front) (list_all p rest) (sym (list_all-append p front rest) ∙ all)

@@ -16,7 +16,8 @@ use Rattle.vault_spec.specs.Findings.{IsClean, IsLocked}
 use Rattle.vault_spec.specs.Alike.{IsNoItem, HasFolders, IsOrderly}
 use Rattle.vault_spec.proofs.Lawful.{IsLawful}
 use Rattle.vault_spec.proofs.Grafts.{IsEntered, is_entered, reached_right, standing_named, standing_unnamed}
-use Rattle.vault_spec.proofs.Places.{child-both, other_name}
+use Rattle.vault_spec.proofs.PathEnds.{child-both}
+use Rattle.vault_spec.proofs.Places.{other_name}
 
 -- what isn't entered has no key or no folder
 lock_is : (f : Format) (v : View) (at : Path) (key : Option (List ℕ)) (finding : Finding) → directory_with f v at key ≡ Err finding → (finding ≡ NoDirKey) ⊎ (finding ≡ NoFolder)

@@ -17,17 +17,18 @@ use Rattle.vault_spec.specs.Standing.{File, Dir, entry_at, is_file_of, holds, ho
 use Rattle.vault_spec.specs.Opens.{Opened, opened_at, opened_file}
 use Rattle.vault_spec.specs.Opens as opens
 use Rattle.vault_spec.specs.Reached.{Leads}
-use Rattle.vault_spec.specs.Alike.{IsNoItem, HasFolders, IsOrderly, IsLeaf}
+use Rattle.vault_spec.specs.Alike.{HasFolders, IsOrderly, IsLeaf}
 use Rattle.vault_spec.specs.Adding.{OpensAs, ComesAlone, NewItemsComeAlone}
 use Rattle.vault_spec.proofs.Grafts.{reached_right, edited_adds, edited_entry, none_stands}
-use Rattle.vault_spec.proofs.Places.{SparesAll, IsNoEntry, child-both, IsSide, side_opens, brought, brought_there, arrived, IsNew, new_after_side, Arrives, comes_last}
+use Rattle.vault_spec.proofs.PathEnds.{child-both}
+use Rattle.vault_spec.proofs.Places.{SparesAll, IsNoEntry, IsSide, side_opens, brought, brought_there, arrived, IsNew, new_after_side, Arrives, comes_last}
 use Rattle.vault_spec.proofs.CmVault.{CmTexts, cm_lawful}
 
 -- the folder of a reached directory has three parts, and an entry in it four
-three_parts : (vault : CmVault) (texts : CmTexts vault.keys) (v : View) (path : plain.Path) (dir : Directory) → Leads (cm_format vault) v path dir → length dir.folder ≡ 3
+pub three_parts : (vault : CmVault) (texts : CmTexts vault.keys) (v : View) (path : plain.Path) (dir : Directory) → Leads (cm_format vault) v path dir → length dir.folder ≡ 3
 three_parts vault texts v path dir leads = ap length (reached_right (cm_format vault) (cm_lawful vault texts) v path dir leads).form
 
-one_more : (p : Path) (a : Part) → length (child p a) ≡ length p + 1
+pub one_more : (p : Path) (a : Part) → length (child p a) ≡ length p + 1
 one_more p a = length-append p (a ∷ [])
 
 -- a place of two, three or four parts spares what is there
@@ -49,11 +50,11 @@ cm_no_entry vault texts v at not_four path dir name leads named same =
     not_four (ap length (sym same) ∙ one_more dir.folder (cm_stored vault.keys vault.threshold dir.key name).name ∙ ap (λ n. n + 1) (three_parts vault texts v path dir leads))
 
 -- an entry has four parts
-four_parts : (vault : CmVault) (texts : CmTexts vault.keys) (v : View) (front : plain.Path) (dir : Directory) (name : List ℕ) (e : Edit) → IsNew (cm_format vault) v front dir name e → length e.at ≡ 4
+pub four_parts : (vault : CmVault) (texts : CmTexts vault.keys) (v : View) (front : plain.Path) (dir : Directory) (name : List ℕ) (e : Edit) → IsNew (cm_format vault) v front dir name e → length e.at ≡ 4
 four_parts vault texts v front dir name e new =
     ap length (sym new.place) ∙ one_more dir.folder (cm_stored vault.keys vault.threshold dir.key name).name ∙ ap (λ n. n + 1) (three_parts vault texts v front dir new.leads)
 
-entry_spares : (vault : CmVault) (texts : CmTexts vault.keys) (v : View) (front : plain.Path) (dir : Directory) (name : List ℕ) (e : Edit) → IsNew (cm_format vault) v front dir name e
+pub entry_spares : (vault : CmVault) (texts : CmTexts vault.keys) (v : View) (front : plain.Path) (dir : Directory) (name : List ℕ) (e : Edit) → IsNew (cm_format vault) v front dir name e
     → SparesAll (cm_format vault) (cm_lawful vault texts) v e.at
 entry_spares vault texts v front dir name e new =
     cm_spares vault texts v e.at (λ one. apart_from_four 1 (λ z. cc) one) (λ five. apart_from_four 5 (λ z. cc) five)
@@ -62,7 +63,7 @@ entry_spares vault texts v front dir name e new =
     apart_from_four n apart is = apart (sym is ∙ four_parts vault texts v front dir name e new)
 
 -- a long name's text comes with its entry
-text_comes : (vault : CmVault) (u : View) (dir : Directory) (name : List ℕ) (e : Edit) → entry_at (cm_format vault) dir name ≡ e.at
+pub text_comes : (vault : CmVault) (u : View) (dir : Directory) (name : List ℕ) (e : Edit) → entry_at (cm_format vault) dir name ≡ e.at
     → (full : Option (List ℕ)) → (cm_stored vault.keys vault.threshold dir.key name).full ≡ full → ((text : List ℕ) → full ≡ Some text → e.made (full_file ∷ []) ≡ FileOf text)
     → holds_full (cm_format vault) (edited u e) dir (cm_stored vault.keys vault.threshold dir.key name) ≡ true
 text_comes vault u dir name e place None is brings = ap (holds (edited u e) (dir.folder ++ (cm_format vault).full_at (cm_stored vault.keys vault.threshold dir.key name).name)) is
@@ -75,7 +76,7 @@ text_comes vault u dir name e place (Some text) is brings =
     at_full = sym (append_assoc dir.folder ((cm_stored vault.keys vault.threshold dir.key name).name ∷ []) (full_file ∷ [])) ∙ ap (λ p. p ++ full_file ∷ []) place
 
 -- a file arrives by what its edit brings: itself, or a folder with its name and content
-file_arrives : (vault : CmVault) (u : View) (dir : Directory) (name bytes : List ℕ) (full : Option (List ℕ)) → IsTrue (is_name name) → (cm_stored vault.keys vault.threshold dir.key name).full ≡ full
+pub file_arrives : (vault : CmVault) (u : View) (dir : Directory) (name bytes : List ℕ) (full : Option (List ℕ)) → IsTrue (is_name name) → (cm_stored vault.keys vault.threshold dir.key name).full ≡ full
     → Arrives (cm_format vault) u dir name (new_file_edit (entry_at (cm_format vault) dir name) full bytes) (opened_file (cm_format vault).content (Some bytes))
 file_arrives vault u dir name bytes None named is = record {
   full = held;
@@ -110,7 +111,7 @@ file_arrives vault u dir name bytes (Some text) named is = record {
         ∙ ap (λ o. standing_of (cm_format vault) (edited u (folder_edit (entry_at (cm_format vault) dir name) ((full_file, text) ∷ (content_file, bytes) ∷ []))) (entry_at (cm_format vault) dir name) true
         (cm_item (is_some o) (folder_view ((full_file, text) ∷ (content_file, bytes) ∷ [])))) is
 
-entry_free : (v : View) (dir : Directory) (s : Stored) (rest : Option Path) → option_or (taken_entry v dir s) rest ≡ None → (v (child dir.folder s.name) ≡ NoEntry) × (rest ≡ None)
+pub entry_free : (v : View) (dir : Directory) (s : Stored) (rest : Option Path) → option_or (taken_entry v dir s) rest ≡ None → (v (child dir.folder s.name) ≡ NoEntry) × (rest ≡ None)
 entry_free v dir s rest none = by_entry (v (child dir.folder s.name)) refl none
   where
     by_entry : (x : Found) → v (child dir.folder s.name) ≡ x → option_or (taken_at (child dir.folder s.name) x) rest ≡ None → (v (child dir.folder s.name) ≡ NoEntry) × (rest ≡ None)
@@ -119,7 +120,7 @@ entry_free v dir s rest none = by_entry (v (child dir.folder s.name)) refl none
     by_entry (FileOf bytes) is none = cc
     by_entry Special is none = cc
 
-free_at : (v : View) (at : Path) → taken_at at (v at) ≡ None → v at ≡ NoEntry
+pub free_at : (v : View) (at : Path) → taken_at at (v at) ≡ None → v at ≡ NoEntry
 free_at v at none = by_kind (v at) refl none
   where
     by_kind : (x : Found) → v at ≡ x → taken_at at x ≡ None → v at ≡ NoEntry
@@ -128,7 +129,7 @@ free_at v at none = by_kind (v at) refl none
     by_kind (FileOf bytes) is none = cc
     by_kind Special is none = cc
 
-new_file_at : (at : Path) (full : Option (List ℕ)) (bytes : List ℕ) → (new_file_edit at full bytes).at ≡ at
+pub new_file_at : (at : Path) (full : Option (List ℕ)) (bytes : List ℕ) → (new_file_edit at full bytes).at ≡ at
 new_file_at at None bytes = refl
 new_file_at at (Some text) bytes = refl
 
@@ -152,70 +153,117 @@ new_file_alone vault texts v front dir name bytes orderly leads named none =
     }
 
 -- the folder that an id's directory is entered in stands empty
-record HasEmptyFolder (u : View) (folder : Path) : Type 0 where
-  there : u folder ≡ Folder
-  empty : (n : Part) → u (child folder n) ≡ NoEntry
+pub record HasEmptyFolder (u : View) (folder : Path) : Type 0 where
+  pub there : u folder ≡ Folder
+  pub empty : (n : Part) → u (child folder n) ≡ NoEntry
 
--- a directory arrives by the folder that its edit brings with its id
-directory_arrives : (vault : CmVault) (texts : CmTexts vault.keys) (u : View) (front : plain.Path) (dir : Directory) (name id : List ℕ) (e : Edit) → IsNew (cm_format vault) u front dir name e
+-- a directory stands by the folder that its edit brings with its id
+pub directory_stands : (vault : CmVault) (u : View) (front : plain.Path) (dir : Directory) (name id : List ℕ) (e : Edit) → IsNew (cm_format vault) u front dir name e
+    → directory_id id ≡ Some id → HasEmptyFolder u (content_folder vault.keys id)
+    → holds_full (cm_format vault) (edited u e) dir (cm_stored vault.keys vault.threshold dir.key name) ≡ true
+    → cm_item (is_some (cm_stored vault.keys vault.threshold dir.key name).full) e.made ≡ DirectoryItem → e.made (id_file ∷ []) ≡ FileOf id
+    → standing_in (cm_format vault) (edited u e) dir name ≡ Dir e.at (Ok (record { folder = content_folder vault.keys id; key = id }))
+directory_stands vault u front dir name id e new is_id ready held item brings =
+    arrived (cm_format vault) u dir name e new.named (sym new.place) held
+    ∙ ap (standing_of (cm_format vault) (edited u e) e.at true) item
+    ∙ ap (λ k. Dir e.at (directory_with (cm_format vault) (edited u e) e.at k)) key_there
+    ∙ ap (λ x. Dir e.at (cond (is_folder x) (Ok (record { folder = content_folder vault.keys id; key = id })) (Err NoFolder))) folder_there
+  where
+    folder_there : edited u e (content_folder vault.keys id) ≡ Folder
+    folder_there = edited_adds u e new.orderly.folders (ap u (sym new.place) ∙ new.free) (content_folder vault.keys id)
+        (λ none. let there : u (content_folder vault.keys id) ≡ Folder = ready.there in cc) ∙ ready.there
+
+    key_there : key_of (cm_format vault) (under e.at (edited u e)) ≡ Some id
+    key_there = ap (λ x. option_and_then directory_id (file_bytes x)) (brought u e (id_file ∷ []) ∙ brings) ∙ is_id
+
+-- nothing stands in its folder
+pub folder_bare : (vault : CmVault) (u : View) (front : plain.Path) (dir : Directory) (name id : List ℕ) (e : Edit) → IsNew (cm_format vault) u front dir name e
+    → HasEmptyFolder u (content_folder vault.keys id) → dir.folder ≢ content_folder vault.keys id → (n : Part) → edited u e (child (content_folder vault.keys id) n) ≡ NoEntry
+folder_bare vault u front dir name id e new ready apart n =
+    edited_entry u e new.orderly.folders (ap u (sym new.place) ∙ new.free) (content_folder vault.keys id) n
+    (λ none. let there : u (content_folder vault.keys id) ≡ Folder = ready.there in cc) entry_apart ∙ ready.empty n
+  where
+    entry_apart : child (content_folder vault.keys id) n ≢ e.at
+    entry_apart same =
+        let both : (content_folder vault.keys id ≡ dir.folder) × (n ≡ (cm_stored vault.keys vault.threshold dir.key name).name)
+        = child-both (content_folder vault.keys id) dir.folder n (cm_stored vault.keys vault.threshold dir.key name).name (same ∙ sym new.place) in
+        apart (sym both.0)
+
+-- so it arrives
+pub directory_arrives : (vault : CmVault) (texts : CmTexts vault.keys) (u : View) (front : plain.Path) (dir : Directory) (name id : List ℕ) (e : Edit) → IsNew (cm_format vault) u front dir name e
     → directory_id id ≡ Some id → HasEmptyFolder u (content_folder vault.keys id) → dir.folder ≢ content_folder vault.keys id
     → holds_full (cm_format vault) (edited u e) dir (cm_stored vault.keys vault.threshold dir.key name) ≡ true
     → cm_item (is_some (cm_stored vault.keys vault.threshold dir.key name).full) e.made ≡ DirectoryItem → e.made (id_file ∷ []) ≡ FileOf id
     → Arrives (cm_format vault) u dir name e opens.Directory
 directory_arrives vault texts u front dir name id e new is_id ready apart held item brings = record {
   full = held;
-  leaf = subst (IsLeaf (cm_format vault) (edited u e)) (sym stands) empty;
-  opens = ap (opened_at (cm_format vault) (edited u e)) stands;
+  leaf = subst (IsLeaf (cm_format vault) (edited u e)) (sym (directory_stands vault u front dir name id e new is_id ready held item brings)) (λ n.
+      none_stands (cm_format vault) (cm_lawful vault texts) (edited u e) (record { folder = content_folder vault.keys id; key = id }) n
+      (folder_bare vault u front dir name id e new ready apart (cm_stored vault.keys vault.threshold id n).name));
+  opens = ap (opened_at (cm_format vault) (edited u e)) (directory_stands vault u front dir name id e new is_id ready held item brings);
 }
-  where
-    free : u e.at ≡ NoEntry
-    free = ap u (sym new.place) ∙ new.free
-
-    folder_there : edited u e (content_folder vault.keys id) ≡ Folder
-    folder_there = edited_adds u e new.orderly.folders free (content_folder vault.keys id) (λ none. let there : u (content_folder vault.keys id) ≡ Folder = ready.there in cc) ∙ ready.there
-
-    key_there : key_of (cm_format vault) (under e.at (edited u e)) ≡ Some id
-    key_there = ap (λ x. option_and_then directory_id (file_bytes x)) (brought u e (id_file ∷ []) ∙ brings) ∙ is_id
-
-    stands : standing_in (cm_format vault) (edited u e) dir name ≡ Dir e.at (Ok (record { folder = content_folder vault.keys id; key = id }))
-    stands =
-        arrived (cm_format vault) u dir name e new.named (sym new.place) held
-        ∙ ap (standing_of (cm_format vault) (edited u e) e.at true) item
-        ∙ ap (λ k. Dir e.at (directory_with (cm_format vault) (edited u e) e.at k)) key_there
-        ∙ ap (λ x. Dir e.at (cond (is_folder x) (Ok (record { folder = content_folder vault.keys id; key = id })) (Err NoFolder))) folder_there
-
-    entry_apart : (n : Part) → child (content_folder vault.keys id) n ≢ e.at
-    entry_apart n same =
-        let both : (content_folder vault.keys id ≡ dir.folder) × (n ≡ (cm_stored vault.keys vault.threshold dir.key name).name)
-        = child-both (content_folder vault.keys id) dir.folder n (cm_stored vault.keys vault.threshold dir.key name).name (same ∙ sym new.place) in
-        apart (sym both.0)
-
-    empty : (n : List ℕ) → IsNoItem (standing_in (cm_format vault) (edited u e) (record { folder = content_folder vault.keys id; key = id }) n)
-    empty n = none_stands (cm_format vault) (cm_lawful vault texts) (edited u e) (record { folder = content_folder vault.keys id; key = id }) n
-        (edited_entry u e new.orderly.folders free (content_folder vault.keys id) (cm_stored vault.keys vault.threshold id n).name
-        (λ none. let there : u (content_folder vault.keys id) ≡ Folder = ready.there in cc) (entry_apart (cm_stored vault.keys vault.threshold id n).name)
-        ∙ ready.empty (cm_stored vault.keys vault.threshold id n).name)
 
 -- the edit that brings a directory's entry
-abbrev directory_at : CmVault → Directory → List ℕ → List ℕ → Edit
+abbrev pub directory_at : CmVault → Directory → List ℕ → List ℕ → Edit
 directory_at vault dir name id =
     folder_edit (entry_at (cm_format vault) dir name) (full_files (cm_stored vault.keys vault.threshold dir.key name).full ++ (id_file, id) ∷ [])
 
-its_item : (full : Option (List ℕ)) (id : List ℕ) → cm_item (is_some full) (folder_view (full_files full ++ (id_file, id) ∷ [])) ≡ DirectoryItem
+pub its_item : (full : Option (List ℕ)) (id : List ℕ) → cm_item (is_some full) (folder_view (full_files full ++ (id_file, id) ∷ [])) ≡ DirectoryItem
 its_item None id = refl
 its_item (Some text) id = refl
 
-its_id : (full : Option (List ℕ)) (id : List ℕ) → folder_view (full_files full ++ (id_file, id) ∷ []) (id_file ∷ []) ≡ FileOf id
+pub its_id : (full : Option (List ℕ)) (id : List ℕ) → folder_view (full_files full ++ (id_file, id) ∷ []) (id_file ∷ []) ≡ FileOf id
 its_id None id = refl
 its_id (Some text) id = refl
 
-its_text : (full : Option (List ℕ)) (id text : List ℕ) → full ≡ Some text → folder_view (full_files full ++ (id_file, id) ∷ []) (full_file ∷ []) ≡ FileOf text
+pub its_text : (full : Option (List ℕ)) (id text : List ℕ) → full ≡ Some text → folder_view (full_files full ++ (id_file, id) ∷ []) (full_file ∷ []) ≡ FileOf text
 its_text None id text is = cc
 its_text (Some other) id text is = ap FileOf cc
 
-directory_folders : HasFolders directory_view
+pub directory_folders : HasFolders directory_view
 directory_folders [] a there = absurd (there refl)
 directory_folders (b ∷ p) a there = absurd (there refl)
+
+-- the content folder, where the folder of content folders is there
+pub folder_side : (vault : CmVault) (texts : CmTexts vault.keys) (w : View) (id : List ℕ) → IsOrderly (cm_format vault) w
+    → w (shelf_named (cm_folder_of vault.keys id)) ≡ Folder → w (content_folder vault.keys id) ≡ NoEntry
+    → IsSide (cm_format vault) (cm_lawful vault texts) w (directory_edit (content_folder vault.keys id)) (shelf_named (cm_folder_of vault.keys id)) (drop 2 (cm_folder_of vault.keys id))
+folder_side vault texts w id orderly shelf free = record {
+  orderly = orderly;
+  free = free;
+  spares = cm_spares vault texts w (content_folder vault.keys id) (λ z. cc) (λ z. cc);
+  no_entry = cm_no_entry vault texts w (content_folder vault.keys id) (λ z. cc);
+  place = refl;
+  up_there = shelf;
+  made = directory_folders;
+}
+
+pub folder_ready : (vault : CmVault) (w : View) (id : List ℕ) → HasEmptyFolder (edited w (directory_edit (content_folder vault.keys id))) (content_folder vault.keys id)
+folder_ready vault w id = record {
+  there = brought_there w (directory_edit (content_folder vault.keys id));
+  empty = λ n. brought w (directory_edit (content_folder vault.keys id)) (n ∷ []);
+}
+
+-- it is no directory's that is reached
+pub folder_apart : (vault : CmVault) (texts : CmTexts vault.keys) (w : View) (front : plain.Path) (dir : Directory) (id : List ℕ) → Leads (cm_format vault) w front dir
+    → w (content_folder vault.keys id) ≡ NoEntry → dir.folder ≢ content_folder vault.keys id
+folder_apart vault texts w front dir id leads free same =
+    let there : w dir.folder ≡ Folder = (reached_right (cm_format vault) (cm_lawful vault texts) w front dir leads).there in
+    let clash : Folder ≡ NoEntry = sym there ∙ ap w same ∙ free in
+    cc
+
+-- the long name of a directory comes with its entry
+pub its_full : (vault : CmVault) (u : View) (dir : Directory) (name id : List ℕ) → holds_full (cm_format vault) (edited u (directory_at vault dir name id)) dir (cm_stored vault.keys vault.threshold dir.key name) ≡ true
+its_full vault u dir name id = text_comes vault u dir name (directory_at vault dir name id) refl (cm_stored vault.keys vault.threshold dir.key name).full refl
+    (its_text (cm_stored vault.keys vault.threshold dir.key name).full id)
+
+-- once the content folder is there, the entry arrives
+pub arrives_then : (vault : CmVault) (texts : CmTexts vault.keys) (u : View) (front : plain.Path) (dir : Directory) (name id : List ℕ) → IsNew (cm_format vault) u front dir name (directory_at vault dir name id)
+    → directory_id id ≡ Some id → HasEmptyFolder u (content_folder vault.keys id) → dir.folder ≢ content_folder vault.keys id
+    → Arrives (cm_format vault) u dir name (directory_at vault dir name id) opens.Directory
+arrives_then vault texts u front dir name id new is_id ready apart =
+    directory_arrives vault texts u front dir name id (directory_at vault dir name id) new is_id ready apart (its_full vault u dir name id)
+    (its_item (cm_stored vault.keys vault.threshold dir.key name).full id) (its_id (cm_stored vault.keys vault.threshold dir.key name).full id)
 
 -- once the folder of content folders is there, the content folder is made, and then the entry
 after_shelf : (vault : CmVault) (texts : CmTexts vault.keys) (v w : View) (front : plain.Path) (dir : Directory) (name id : List ℕ)
@@ -226,41 +274,16 @@ after_shelf vault texts v w front dir name id as_before new is_id shelf free = (
   opens_then,
   comes_last (cm_format vault) (cm_lawful vault texts) v (edited w (directory_edit (content_folder vault.keys id))) front dir name (directory_at vault dir name id) opens.Directory opens_then new_then
       (entry_spares vault texts (edited w (directory_edit (content_folder vault.keys id))) front dir name (directory_at vault dir name id) new_then)
-      (directory_arrives vault texts (edited w (directory_edit (content_folder vault.keys id))) front dir name id (directory_at vault dir name id) new_then is_id ready apart
-      (text_comes vault (edited w (directory_edit (content_folder vault.keys id))) dir name (directory_at vault dir name id) refl (cm_stored vault.keys vault.threshold dir.key name).full refl
-      (its_text (cm_stored vault.keys vault.threshold dir.key name).full id))
-      (its_item (cm_stored vault.keys vault.threshold dir.key name).full id) (its_id (cm_stored vault.keys vault.threshold dir.key name).full id)),
+      (arrives_then vault texts (edited w (directory_edit (content_folder vault.keys id))) front dir name id new_then is_id (folder_ready vault w id) (folder_apart vault texts w front dir id new.leads free)),
 )
   where
-    side : IsSide (cm_format vault) (cm_lawful vault texts) w (directory_edit (content_folder vault.keys id)) (shelf_named (cm_folder_of vault.keys id)) (drop 2 (cm_folder_of vault.keys id))
-    side = record {
-      orderly = new.orderly;
-      free = free;
-      spares = cm_spares vault texts w (content_folder vault.keys id) (λ z. cc) (λ z. cc);
-      no_entry = cm_no_entry vault texts w (content_folder vault.keys id) (λ z. cc);
-      place = refl;
-      up_there = shelf;
-      made = directory_folders;
-    }
-
     opens_then : OpensAs (cm_format vault) v (edited w (directory_edit (content_folder vault.keys id)))
-    opens_then = side_opens (cm_format vault) (cm_lawful vault texts) w v (directory_edit (content_folder vault.keys id)) (shelf_named (cm_folder_of vault.keys id)) (drop 2 (cm_folder_of vault.keys id)) as_before side
+    opens_then = side_opens (cm_format vault) (cm_lawful vault texts) w v (directory_edit (content_folder vault.keys id)) (shelf_named (cm_folder_of vault.keys id)) (drop 2 (cm_folder_of vault.keys id)) as_before
+        (folder_side vault texts w id new.orderly shelf free)
 
     new_then : IsNew (cm_format vault) (edited w (directory_edit (content_folder vault.keys id))) front dir name (directory_at vault dir name id)
     new_then = new_after_side (cm_format vault) (cm_lawful vault texts) w (directory_edit (content_folder vault.keys id)) (shelf_named (cm_folder_of vault.keys id)) (drop 2 (cm_folder_of vault.keys id))
-        front dir name (directory_at vault dir name id) side new
-
-    ready : HasEmptyFolder (edited w (directory_edit (content_folder vault.keys id))) (content_folder vault.keys id)
-    ready = record {
-      there = brought_there w (directory_edit (content_folder vault.keys id));
-      empty = λ n. brought w (directory_edit (content_folder vault.keys id)) (n ∷ []);
-    }
-
-    apart : dir.folder ≢ content_folder vault.keys id
-    apart same =
-        let there : w dir.folder ≡ Folder = (reached_right (cm_format vault) (cm_lawful vault texts) w front dir new.leads).there in
-        let clash : Folder ≡ NoEntry = sym there ∙ ap w same ∙ free in
-        cc
+        front dir name (directory_at vault dir name id) (folder_side vault texts w id new.orderly shelf free) new
 
 -- a folder of content folders may stand there already
 folders_free : (v : View) (text : List ℕ) → taken_folders v text ≡ None → (v (folder_named text) ≡ NoEntry) × (taken_unless_folder (shelf_named text) (v (shelf_named text)) ≡ None)
@@ -273,28 +296,20 @@ folders_free v text none = by_folder (v (folder_named text)) refl none
     by_folder (FileOf bytes) is none = cc
     by_folder Special is none = cc
 
--- a new directory comes alone
-new_directory_alone : (vault : CmVault) → CmTexts vault.keys → (v : View) (front : plain.Path) (dir : Directory) (name id : List ℕ)
-    → IsOrderly (cm_format vault) v → Leads (cm_format vault) v front dir → IsTrue (is_name name) → directory_id id ≡ Some id
-    → (cm_format vault).taken_for_directory v dir (cm_stored vault.keys vault.threshold dir.key name) id ≡ None
-    → ComesAlone (cm_format vault) v v ((cm_format vault).new_directory v dir (cm_stored vault.keys vault.threshold dir.key name) id) (front ++ name ∷ []) opens.Directory
-new_directory_alone vault texts v front dir name id orderly leads named is_id none = by_shelf (v (shelf_named (cm_folder_of vault.keys id))) refl (folders_free v (cm_folder_of vault.keys id) rest_free).1
+-- the folder of content folders, where nothing stands
+pub shelf_side : (vault : CmVault) (texts : CmTexts vault.keys) (v : View) (front : plain.Path) (dir : Directory) (id : List ℕ) → IsOrderly (cm_format vault) v → Leads (cm_format vault) v front dir
+    → v (shelf_named (cm_folder_of vault.keys id)) ≡ NoEntry
+    → IsSide (cm_format vault) (cm_lawful vault texts) v (directory_edit (shelf_named (cm_folder_of vault.keys id))) (top ∷ []) (take 2 (cm_folder_of vault.keys id))
+shelf_side vault texts v front dir id orderly leads free = record {
+  orderly = orderly;
+  free = free;
+  spares = cm_spares vault texts v (shelf_named (cm_folder_of vault.keys id)) (λ z. cc) (λ z. cc);
+  no_entry = cm_no_entry vault texts v (shelf_named (cm_folder_of vault.keys id)) (λ z. cc);
+  place = refl;
+  up_there = up_there;
+  made = directory_folders;
+}
   where
-    rest_free : taken_folders v (cm_folder_of vault.keys id) ≡ None
-    rest_free = (entry_free v dir (cm_stored vault.keys vault.threshold dir.key name) (taken_folders v (cm_folder_of vault.keys id)) none).1
-
-    folder_free : v (content_folder vault.keys id) ≡ NoEntry
-    folder_free = (folders_free v (cm_folder_of vault.keys id) rest_free).0
-
-    new : IsNew (cm_format vault) v front dir name (directory_at vault dir name id)
-    new = record {
-      orderly = orderly;
-      leads = leads;
-      named = named;
-      place = refl;
-      free = (entry_free v dir (cm_stored vault.keys vault.threshold dir.key name) (taken_folders v (cm_folder_of vault.keys id)) none).0;
-    }
-
     up_there : v (top ∷ []) ≡ Folder
     up_there =
         let there : v dir.folder ≡ Folder = (reached_right (cm_format vault) (cm_lawful vault texts) v front dir leads).there in
@@ -304,32 +319,67 @@ new_directory_alone vault texts v front dir name id orderly leads named is_id no
         = orderly.folders (shelf_named (cm_folder_of vault.keys dir.key)) (drop 2 (cm_folder_of vault.keys dir.key)) (λ z. let clash : Folder ≡ NoEntry = sym folder ∙ z in cc) in
         orderly.folders (top ∷ []) (take 2 (cm_folder_of vault.keys dir.key)) (λ z. let clash : Folder ≡ NoEntry = sym shelf ∙ z in cc)
 
-    side : v (shelf_named (cm_folder_of vault.keys id)) ≡ NoEntry
-        → IsSide (cm_format vault) (cm_lawful vault texts) v (directory_edit (shelf_named (cm_folder_of vault.keys id))) (top ∷ []) (take 2 (cm_folder_of vault.keys id))
-    side is = record {
-      orderly = orderly;
-      free = is;
-      spares = cm_spares vault texts v (shelf_named (cm_folder_of vault.keys id)) (λ z. cc) (λ z. cc);
-      no_entry = cm_no_entry vault texts v (shelf_named (cm_folder_of vault.keys id)) (λ z. cc);
-      place = refl;
-      up_there = up_there;
-      made = directory_folders;
-    }
+-- the edits of a new directory, by whether the folder of content folders is there or comes first
+pub by_shelf : (vault : CmVault) (v : View) (dir : Directory) (name id : List ℕ) (Holds : List Edit → Type 0)
+    → (cm_format vault).taken_for_directory v dir (cm_stored vault.keys vault.threshold dir.key name) id ≡ None
+    → (v (shelf_named (cm_folder_of vault.keys id)) ≡ Folder → v (content_folder vault.keys id) ≡ NoEntry
+    → Holds (directory_edit (content_folder vault.keys id) ∷ directory_at vault dir name id ∷ []))
+    → (v (shelf_named (cm_folder_of vault.keys id)) ≡ NoEntry
+    → Holds (directory_edit (shelf_named (cm_folder_of vault.keys id)) ∷ directory_edit (content_folder vault.keys id) ∷ directory_at vault dir name id ∷ []))
+    → Holds ((cm_format vault).new_directory v dir (cm_stored vault.keys vault.threshold dir.key name) id)
+by_shelf vault v dir name id Holds none there first =
+    by_kind (v (shelf_named (cm_folder_of vault.keys id))) refl (folders_free v (cm_folder_of vault.keys id) rest_free).1
+  where
+    rest_free : taken_folders v (cm_folder_of vault.keys id) ≡ None
+    rest_free = (entry_free v dir (cm_stored vault.keys vault.threshold dir.key name) (taken_folders v (cm_folder_of vault.keys id)) none).1
 
-    by_shelf : (x : Found) → v (shelf_named (cm_folder_of vault.keys id)) ≡ x → taken_unless_folder (shelf_named (cm_folder_of vault.keys id)) x ≡ None
-        → ComesAlone (cm_format vault) v v ((folder_where_free (shelf_named (cm_folder_of vault.keys id)) x ++ directory_edit (content_folder vault.keys id) ∷ []) ++ directory_at vault dir name id ∷ []) (front ++ name ∷ []) opens.Directory
-    by_shelf Folder is none = after_shelf vault texts v v front dir name id (λ path. refl) new is_id is folder_free
-    by_shelf NoEntry is none = (
-      side_opens (cm_format vault) (cm_lawful vault texts) v v (directory_edit (shelf_named (cm_folder_of vault.keys id))) (top ∷ []) (take 2 (cm_folder_of vault.keys id)) (λ path. refl) (side is),
-      after_shelf vault texts v (edited v (directory_edit (shelf_named (cm_folder_of vault.keys id)))) front dir name id
-          (side_opens (cm_format vault) (cm_lawful vault texts) v v (directory_edit (shelf_named (cm_folder_of vault.keys id))) (top ∷ []) (take 2 (cm_folder_of vault.keys id)) (λ path. refl) (side is))
-          (new_after_side (cm_format vault) (cm_lawful vault texts) v (directory_edit (shelf_named (cm_folder_of vault.keys id))) (top ∷ []) (take 2 (cm_folder_of vault.keys id))
-          front dir name (directory_at vault dir name id) (side is) new) is_id
-          (brought_there v (directory_edit (shelf_named (cm_folder_of vault.keys id))))
-          (brought v (directory_edit (shelf_named (cm_folder_of vault.keys id))) (drop 2 (cm_folder_of vault.keys id) ∷ [])),
-    )
-    by_shelf (FileOf bytes) is none = cc
-    by_shelf Special is none = cc
+    by_kind : (x : Found) → v (shelf_named (cm_folder_of vault.keys id)) ≡ x → taken_unless_folder (shelf_named (cm_folder_of vault.keys id)) x ≡ None
+        → Holds ((folder_where_free (shelf_named (cm_folder_of vault.keys id)) x ++ directory_edit (content_folder vault.keys id) ∷ []) ++ directory_at vault dir name id ∷ [])
+    by_kind Folder is none = there is (folders_free v (cm_folder_of vault.keys id) rest_free).0
+    by_kind NoEntry is none = first is
+    by_kind (FileOf bytes) is none = cc
+    by_kind Special is none = cc
+
+pub new_at : (vault : CmVault) (v : View) (front : plain.Path) (dir : Directory) (name id : List ℕ) → IsOrderly (cm_format vault) v → Leads (cm_format vault) v front dir → IsTrue (is_name name)
+    → (cm_format vault).taken_for_directory v dir (cm_stored vault.keys vault.threshold dir.key name) id ≡ None → IsNew (cm_format vault) v front dir name (directory_at vault dir name id)
+new_at vault v front dir name id orderly leads named none = record {
+  orderly = orderly;
+  leads = leads;
+  named = named;
+  place = refl;
+  free = (entry_free v dir (cm_stored vault.keys vault.threshold dir.key name) (taken_folders v (cm_folder_of vault.keys id)) none).0;
+}
+
+-- nothing stands in a folder that comes
+pub folder_free : (vault : CmVault) (v : View) (id : List ℕ) → edited v (directory_edit (shelf_named (cm_folder_of vault.keys id))) (content_folder vault.keys id) ≡ NoEntry
+folder_free vault v id = brought v (directory_edit (shelf_named (cm_folder_of vault.keys id))) (drop 2 (cm_folder_of vault.keys id) ∷ [])
+
+pub new_after_shelf : (vault : CmVault) (texts : CmTexts vault.keys) (v : View) (front : plain.Path) (dir : Directory) (name id : List ℕ) → IsNew (cm_format vault) v front dir name (directory_at vault dir name id)
+    → v (shelf_named (cm_folder_of vault.keys id)) ≡ NoEntry → IsNew (cm_format vault) (edited v (directory_edit (shelf_named (cm_folder_of vault.keys id)))) front dir name (directory_at vault dir name id)
+new_after_shelf vault texts v front dir name id new free =
+    new_after_side (cm_format vault) (cm_lawful vault texts) v (directory_edit (shelf_named (cm_folder_of vault.keys id))) (top ∷ []) (take 2 (cm_folder_of vault.keys id))
+    front dir name (directory_at vault dir name id) (shelf_side vault texts v front dir id new.orderly new.leads free) new
+
+-- a new directory comes alone
+new_directory_alone : (vault : CmVault) → CmTexts vault.keys → (v : View) (front : plain.Path) (dir : Directory) (name id : List ℕ)
+    → IsOrderly (cm_format vault) v → Leads (cm_format vault) v front dir → IsTrue (is_name name) → directory_id id ≡ Some id
+    → (cm_format vault).taken_for_directory v dir (cm_stored vault.keys vault.threshold dir.key name) id ≡ None
+    → ComesAlone (cm_format vault) v v ((cm_format vault).new_directory v dir (cm_stored vault.keys vault.threshold dir.key name) id) (front ++ name ∷ []) opens.Directory
+new_directory_alone vault texts v front dir name id orderly leads named is_id none =
+    by_shelf vault v dir name id (λ edits. ComesAlone (cm_format vault) v v edits (front ++ name ∷ []) opens.Directory) none
+    (after_shelf vault texts v v front dir name id (λ path. refl) new is_id)
+    (λ free. (
+      opens_as free,
+      after_shelf vault texts v (edited v (directory_edit (shelf_named (cm_folder_of vault.keys id)))) front dir name id (opens_as free)
+          (new_after_shelf vault texts v front dir name id new free) is_id (brought_there v (directory_edit (shelf_named (cm_folder_of vault.keys id)))) (folder_free vault v id),
+    ))
+  where
+    new : IsNew (cm_format vault) v front dir name (directory_at vault dir name id)
+    new = new_at vault v front dir name id orderly leads named none
+
+    opens_as : v (shelf_named (cm_folder_of vault.keys id)) ≡ NoEntry → OpensAs (cm_format vault) v (edited v (directory_edit (shelf_named (cm_folder_of vault.keys id))))
+    opens_as free = side_opens (cm_format vault) (cm_lawful vault texts) v v (directory_edit (shelf_named (cm_folder_of vault.keys id))) (top ∷ []) (take 2 (cm_folder_of vault.keys id)) (λ path. refl)
+        (shelf_side vault texts v front dir id orderly leads free)
 
 pub new_items : (vault : CmVault) → CmTexts vault.keys → NewItemsComeAlone (cm_format vault)
 new_items vault texts = record { file = new_file_alone vault texts; directory = new_directory_alone vault texts }

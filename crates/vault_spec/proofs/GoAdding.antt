@@ -25,7 +25,8 @@ use Rattle.vault_spec.specs.Alike.{IsNoItem, HasFolders, IsOrderly, IsLeaf}
 use Rattle.vault_spec.specs.Adding.{OpensAs, OpensWith, ComesAlone, NewItemsComeAlone}
 use Rattle.vault_spec.proofs.ByteKeys.{none_given}
 use Rattle.vault_spec.proofs.Grafts.{reached_right, edited_adds, none_stands, standing_unnamed}
-use Rattle.vault_spec.proofs.Places.{IsSide, side_opens, brought, brought_there, arrived, IsNew, new_after_side, Arrives, comes_last, SparesAll, child-both}
+use Rattle.vault_spec.proofs.PathEnds.{child-both}
+use Rattle.vault_spec.proofs.Places.{IsSide, side_opens, brought, brought_there, arrived, IsNew, new_after_side, Arrives, comes_last, SparesAll}
 use Rattle.vault_spec.proofs.Entries.{long_entry, IsShortOrLong, entry_is}
 use Rattle.vault_spec.proofs.GoNames.{GoTexts, entry_not_key, entry_not_full, full_not_key}
 use Rattle.vault_spec.proofs.GoVault.{go_lawful, is_go_key, key_is, text_plain}
@@ -59,12 +60,12 @@ go_spares texts keys v dir x not_key not_full = record {
         not_key (sym ((bytes_eq-Decides m key_file).0 is) ∙ both.1)
 
 -- what is stored of a name in a directory is of a text without dots
-record IsOfText (s : Stored) : Type 0 where
-  text : List ℕ
-  plain : IsTrue (list_all is_base64url text)
-  is : s ≡ entry_of text
+pub record IsOfText (s : Stored) : Type 0 where
+  pub text : List ℕ
+  pub plain : IsTrue (list_all is_base64url text)
+  pub is : s ≡ entry_of text
 
-text_under : (texts : GoTexts) (keys : GoKeys) (key name : List ℕ) → is_go_key key ≡ true → IsTrue (is_name name) → IsOfText (stored keys.names key name)
+pub text_under : (texts : GoTexts) (keys : GoKeys) (key name : List ℕ) → is_go_key key ≡ true → IsTrue (is_name name) → IsOfText (stored keys.names key name)
 unfolding stored
 text_under texts keys key name is named = record {
   text = go_text keys.names key name;
@@ -72,7 +73,7 @@ text_under texts keys key name is named = record {
   is = refl;
 }
 
-of_text : (texts : GoTexts) (keys : GoKeys) (v : View) (path : plain.Path) (dir : Directory) (name : List ℕ) → Leads (go_format keys) v path dir → IsTrue (is_name name)
+pub of_text : (texts : GoTexts) (keys : GoKeys) (v : View) (path : plain.Path) (dir : Directory) (name : List ℕ) → Leads (go_format keys) v path dir → IsTrue (is_name name)
     → IsOfText (stored keys.names dir.key name)
 unfolding go_lawful
 of_text texts keys v path dir name leads named = text_under texts keys dir.key name (reached_right (go_format keys) (go_lawful texts keys) v path dir leads).is_key named
@@ -81,7 +82,7 @@ name_not_key : GoTexts → (s : Stored) → IsOfText s → key_file ≢ s.name
 name_not_key texts s of same = entry_not_key of.text texts of.plain (ap (λ (t : Stored). t.name) (sym of.is) ∙ sym same)
 
 -- the name of a long entry
-long_is : (s : Stored) → IsOfText s → is_some s.full ≡ true → (text : List ℕ) × (s ≡ long_entry long_name text)
+pub long_is : (s : Stored) → IsOfText s → is_some s.full ≡ true → (text : List ℕ) × (s ≡ long_entry long_name text)
 long_is s of long = by_form (entry_is long_name 255 of.text)
   where
     by_form : IsShortOrLong long_name 255 of.text → (text : List ℕ) × (s ≡ long_entry long_name text)
@@ -95,7 +96,7 @@ name_not_full texts s other of of_other long same =
     (ap (λ (t : Stored). t.name) (sym of.is) ∙ sym same ∙ ap (λ (t : Stored). full_name t.name) is_long.1)
 
 -- the place of an item's entry spares what is there
-entry_spares : (texts : GoTexts) (keys : GoKeys) (u : View) (front : plain.Path) (dir : Directory) (name : List ℕ) (e : Edit) → IsNew (go_format keys) u front dir name e
+pub entry_spares : (texts : GoTexts) (keys : GoKeys) (u : View) (front : plain.Path) (dir : Directory) (name : List ℕ) (e : Edit) → IsNew (go_format keys) u front dir name e
     → SparesAll (go_format keys) (go_lawful texts keys) u e.at
 entry_spares texts keys u front dir name e new =
     subst (SparesAll (go_format keys) (go_lawful texts keys) u) new.place
@@ -114,18 +115,32 @@ file_folders bytes [] a there = absurd (there refl)
 file_folders bytes (b ∷ p) a there = absurd (there refl)
 
 -- the place of an entry, and that of its long-name file
-abbrev full_place : Directory → Stored → Path
+abbrev pub full_place : Directory → Stored → Path
 full_place dir s = child dir.folder (full_name s.name)
 
--- a file that is put there holds the text
-now_held : (w : View) (dir : Directory) (s : Stored) (text : List ℕ) → s.full ≡ Some text → w (child dir.folder (full_name s.name)) ≡ FileOf text → (keys : GoKeys) → holds_full (go_format keys) w dir s ≡ true
-now_held w dir s text is there keys =
-    ap (holds w (child dir.folder (full_name s.name))) is ∙ ap (λ x. is_file_of text (file_bytes x)) there ∙ (bytes_eq-Decides text text).1 refl
-
 -- the item arrives wherever its long-name file holds its text
-abbrev ArrivesAnywhere : GoKeys → Directory → List ℕ → Edit → Opened → Type 0
+abbrev pub ArrivesAnywhere : GoKeys → Directory → List ℕ → Edit → Opened → Type 0
 ArrivesAnywhere keys dir name e item =
     (u : View) → holds_full (go_format keys) (edited u e) dir (stored keys.names dir.key name) ≡ true → Arrives (go_format keys) u dir name e item
+
+-- a long-name file that holds its text does so once the entry comes
+pub still_held : (keys : GoKeys) (v : View) (front : plain.Path) (dir : Directory) (name : List ℕ) (e : Edit) → IsNew (go_format keys) v front dir name e
+    → holds_full (go_format keys) v dir (stored keys.names dir.key name) ≡ true → holds_full (go_format keys) (edited v e) dir (stored keys.names dir.key name) ≡ true
+still_held keys v front dir name e new held = by_full (stored keys.names dir.key name).full held
+  where
+    by_full : (full : Option (List ℕ)) → holds v (full_place dir (stored keys.names dir.key name)) full ≡ true → holds (edited v e) (full_place dir (stored keys.names dir.key name)) full ≡ true
+    by_full None held = refl
+    by_full (Some text) held =
+        ap (λ x. is_file_of text (file_bytes x)) (edited_adds v e new.orderly.folders (ap v (sym new.place) ∙ new.free) (full_place dir (stored keys.names dir.key name))
+        (λ none. let no_file : is_file_of text (file_bytes NoEntry) ≡ true = ap (λ x. is_file_of text (file_bytes x)) (sym none) ∙ held in cc)) ∙ held
+
+-- a file that is put there holds it
+pub now_held : (keys : GoKeys) (v : View) (dir : Directory) (name text : List ℕ) (first : Edit) → (stored keys.names dir.key name).full ≡ Some text
+    → first.at ≡ full_place dir (stored keys.names dir.key name) → first.made ≡ file_view text → holds_full (go_format keys) (edited v first) dir (stored keys.names dir.key name) ≡ true
+now_held keys v dir name text first is place brings =
+    ap (holds (edited v first) (full_place dir (stored keys.names dir.key name))) is
+    ∙ ap (λ x. is_file_of text (file_bytes x)) (ap (edited v first) (sym place) ∙ brought_there v first ∙ ap (λ (m : View). m []) brings)
+    ∙ (bytes_eq-Decides text text).1 refl
 
 -- one edit, where the name is short or its text is there
 alone_at_once : (texts : GoTexts) (keys : GoKeys) (v : View) (front : plain.Path) (dir : Directory) (name : List ℕ) (e : Edit) (item : Opened)
@@ -133,13 +148,7 @@ alone_at_once : (texts : GoTexts) (keys : GoKeys) (v : View) (front : plain.Path
     → OpensWith (go_format keys) v (edited v e) (front ++ name ∷ []) item
 alone_at_once texts keys v front dir name e item new arrives held =
     comes_last (go_format keys) (go_lawful texts keys) v v front dir name e item (λ path. refl) new (entry_spares texts keys v front dir name e new)
-    (arrives v (still_held (stored keys.names dir.key name).full held))
-  where
-    still_held : (full : Option (List ℕ)) → holds v (full_place dir (stored keys.names dir.key name)) full ≡ true → holds (edited v e) (full_place dir (stored keys.names dir.key name)) full ≡ true
-    still_held None held = refl
-    still_held (Some text) held =
-        ap (λ x. is_file_of text (file_bytes x)) (edited_adds v e new.orderly.folders (ap v (sym new.place) ∙ new.free) (full_place dir (stored keys.names dir.key name))
-        (λ none. let no_file : is_file_of text (file_bytes NoEntry) ≡ true = ap (λ x. is_file_of text (file_bytes x)) (sym none) ∙ held in cc)) ∙ held
+    (arrives v (still_held keys v front dir name e new held))
 
 -- once its text is put beside the entry, the item comes
 after_side : (texts : GoTexts) (keys : GoKeys) (v : View) (front : plain.Path) (dir : Directory) (name : List ℕ) (e : Edit) (item : Opened) (text : List ℕ)
@@ -150,7 +159,8 @@ after_side : (texts : GoTexts) (keys : GoKeys) (v : View) (front : plain.Path) (
 after_side texts keys v front dir name e item text new arrives is first place brings side = (
   opens_as,
   comes_last (go_format keys) (go_lawful texts keys) v (edited v first) front dir name e item opens_as new_then
-      (entry_spares texts keys (edited v first) front dir name e new_then) (arrives (edited v first) held),
+      (entry_spares texts keys (edited v first) front dir name e new_then)
+      (arrives (edited v first) (still_held keys (edited v first) front dir name e new_then (now_held keys v dir name text first is place brings))),
 )
   where
     opens_as : OpensAs (go_format keys) v (edited v first)
@@ -159,29 +169,19 @@ after_side texts keys v front dir name e item text new arrives is first place br
     new_then : IsNew (go_format keys) (edited v first) front dir name e
     new_then = new_after_side (go_format keys) (go_lawful texts keys) v first dir.folder (full_name (stored keys.names dir.key name).name) front dir name e side new
 
-    text_put : edited v first (full_place dir (stored keys.names dir.key name)) ≡ FileOf text
-    text_put = ap (edited v first) (sym place) ∙ brought_there v first ∙ ap (λ (m : View). m []) brings
-
-    held : holds_full (go_format keys) (edited (edited v first) e) dir (stored keys.names dir.key name) ≡ true
-    held = now_held (edited (edited v first) e) dir (stored keys.names dir.key name) text is
-        (edited_adds (edited v first) e new_then.orderly.folders (ap (edited v first) (sym new_then.place) ∙ new_then.free)
-        (full_place dir (stored keys.names dir.key name)) (λ none. let put : FileOf text ≡ NoEntry = sym text_put ∙ none in cc) ∙ text_put) keys
-
--- two edits, where its text is put beside the entry first
-alone_in_turn : (texts : GoTexts) (keys : GoKeys) (v : View) (front : plain.Path) (dir : Directory) (name : List ℕ) (e : Edit) (item : Opened) (text : List ℕ)
-    → IsNew (go_format keys) v front dir name e → ArrivesAnywhere keys dir name e item
-    → (stored keys.names dir.key name).full ≡ Some text → v (full_place dir (stored keys.names dir.key name)) ≡ NoEntry
-    → ComesAlone (go_format keys) v v (file_edit (full_place dir (stored keys.names dir.key name)) text ∷ e ∷ []) (front ++ name ∷ []) item
-alone_in_turn texts keys v front dir name e item text new arrives is full_free =
-    after_side texts keys v front dir name e item text new arrives is (file_edit (full_place dir (stored keys.names dir.key name)) text) refl refl (record {
-      orderly = new.orderly;
-      free = full_free;
-      spares = go_spares texts keys v dir (full_name (stored keys.names dir.key name).name) not_key not_full;
-      no_entry = no_entry;
-      place = refl;
-      up_there = (reached_right (go_format keys) (go_lawful texts keys) v front dir new.leads).there;
-      made = file_folders text;
-    })
+-- its text comes beside the entry, and tells nothing of what is there
+pub full_side : (texts : GoTexts) (keys : GoKeys) (v : View) (front : plain.Path) (dir : Directory) (name : List ℕ) (e : Edit) (text : List ℕ)
+    → IsNew (go_format keys) v front dir name e → (stored keys.names dir.key name).full ≡ Some text → v (full_place dir (stored keys.names dir.key name)) ≡ NoEntry
+    → IsSide (go_format keys) (go_lawful texts keys) v (file_edit (full_place dir (stored keys.names dir.key name)) text) dir.folder (full_name (stored keys.names dir.key name).name)
+full_side texts keys v front dir name e text new is full_free = record {
+  orderly = new.orderly;
+  free = full_free;
+  spares = go_spares texts keys v dir (full_name (stored keys.names dir.key name).name) not_key not_full;
+  no_entry = no_entry;
+  place = refl;
+  up_there = (reached_right (go_format keys) (go_lawful texts keys) v front dir new.leads).there;
+  made = file_folders text;
+}
   where
     its_text : IsOfText (stored keys.names dir.key name)
     its_text = of_text texts keys v front dir name new.leads new.named
@@ -208,6 +208,15 @@ alone_in_turn texts keys v front dir name e item text new arrives is full_free =
         = child-both other.folder dir.folder (stored keys.names other.key n).name (full_name (stored keys.names dir.key name).name) same in
         name_not_full texts (stored keys.names other.key n) (stored keys.names dir.key name) (of_text texts keys v path other n leads named) its_text long (sym both.1)
 
+-- two edits, where its text is put beside the entry first
+alone_in_turn : (texts : GoTexts) (keys : GoKeys) (v : View) (front : plain.Path) (dir : Directory) (name : List ℕ) (e : Edit) (item : Opened) (text : List ℕ)
+    → IsNew (go_format keys) v front dir name e → ArrivesAnywhere keys dir name e item
+    → (stored keys.names dir.key name).full ≡ Some text → v (full_place dir (stored keys.names dir.key name)) ≡ NoEntry
+    → ComesAlone (go_format keys) v v (file_edit (full_place dir (stored keys.names dir.key name)) text ∷ e ∷ []) (front ++ name ∷ []) item
+alone_in_turn texts keys v front dir name e item text new arrives is full_free =
+    after_side texts keys v front dir name e item text new arrives is (file_edit (full_place dir (stored keys.names dir.key name)) text) refl refl
+    (full_side texts keys v front dir name e text new is full_free)
+
 -- where no place is taken, the entry is free, and beside it is nothing or the text
 go_free : (v : View) (dir : Directory) (s : Stored) → go_taken v dir s ≡ None
     → (v (child dir.folder s.name) ≡ NoEntry) × (taken_unless (full_place dir s) (v (full_place dir s)) s.full ≡ None)
@@ -220,92 +229,107 @@ go_free v dir s none = by_entry (v (child dir.folder s.name)) refl none
     by_entry (FileOf bytes) is none = cc
     by_entry Special is none = cc
 
+-- the edits of a new item, by whether the long-name file is there or comes first
+pub by_edits : (keys : GoKeys) (v : View) (dir : Directory) (name : List ℕ) (e : Edit) (Holds : List Edit → Type 0) → go_taken v dir (stored keys.names dir.key name) ≡ None
+    → (holds_full (go_format keys) v dir (stored keys.names dir.key name) ≡ true → Holds (e ∷ []))
+    → ((text : List ℕ) → (stored keys.names dir.key name).full ≡ Some text → v (full_place dir (stored keys.names dir.key name)) ≡ NoEntry
+    → Holds (file_edit (full_place dir (stored keys.names dir.key name)) text ∷ e ∷ []))
+    → Holds (full_edits v dir (stored keys.names dir.key name) ++ e ∷ [])
+by_edits keys v dir name e Holds none at_once in_turn =
+    by_full (stored keys.names dir.key name).full refl (v (full_place dir (stored keys.names dir.key name))) refl (go_free v dir (stored keys.names dir.key name) none).1
+  where
+    by_full : (full : Option (List ℕ)) → (stored keys.names dir.key name).full ≡ full → (x : Found) → v (full_place dir (stored keys.names dir.key name)) ≡ x
+        → taken_unless (full_place dir (stored keys.names dir.key name)) x full ≡ None → Holds (full_edits_at (full_place dir (stored keys.names dir.key name)) x full ++ e ∷ [])
+    by_full None is x there none = at_once (ap (holds v (full_place dir (stored keys.names dir.key name))) is)
+    by_full (Some text) is NoEntry there none = in_turn text is there
+    by_full (Some text) is (FileOf bytes) there none =
+        at_once (ap (holds v (full_place dir (stored keys.names dir.key name))) is ∙ ap (λ y. is_file_of text (file_bytes y)) there
+        ∙ none_given (bytes_eq bytes text) (full_place dir (stored keys.names dir.key name)) none)
+    by_full (Some text) is Folder there none = cc
+    by_full (Some text) is Special there none = cc
+
+pub is_new : (keys : GoKeys) (v : View) (front : plain.Path) (dir : Directory) (name : List ℕ) (e : Edit) → IsOrderly (go_format keys) v → Leads (go_format keys) v front dir → IsTrue (is_name name)
+    → entry_at (go_format keys) dir name ≡ e.at → go_taken v dir (stored keys.names dir.key name) ≡ None → IsNew (go_format keys) v front dir name e
+is_new keys v front dir name e orderly leads named place none = record {
+  orderly = orderly;
+  leads = leads;
+  named = named;
+  place = place;
+  free = (go_free v dir (stored keys.names dir.key name) none).0;
+}
+
 -- an item that is new comes alone
 new_alone : (texts : GoTexts) (keys : GoKeys) (v : View) (front : plain.Path) (dir : Directory) (name : List ℕ) (e : Edit) (item : Opened)
     → IsOrderly (go_format keys) v → Leads (go_format keys) v front dir → IsTrue (is_name name) → entry_at (go_format keys) dir name ≡ e.at
     → ArrivesAnywhere keys dir name e item → go_taken v dir (stored keys.names dir.key name) ≡ None
     → ComesAlone (go_format keys) v v (full_edits v dir (stored keys.names dir.key name) ++ e ∷ []) (front ++ name ∷ []) item
 new_alone texts keys v front dir name e item orderly leads named place arrives none =
-    by_full (stored keys.names dir.key name).full refl (v (full_place dir (stored keys.names dir.key name))) refl (go_free v dir (stored keys.names dir.key name) none).1
-  where
-    new : IsNew (go_format keys) v front dir name e
-    new = record {
-      orderly = orderly;
-      leads = leads;
-      named = named;
-      place = place;
-      free = (go_free v dir (stored keys.names dir.key name) none).0;
-    }
-
-    by_full : (full : Option (List ℕ)) → (stored keys.names dir.key name).full ≡ full → (x : Found) → v (full_place dir (stored keys.names dir.key name)) ≡ x
-        → taken_unless (full_place dir (stored keys.names dir.key name)) x full ≡ None
-        → ComesAlone (go_format keys) v v (full_edits_at (full_place dir (stored keys.names dir.key name)) x full ++ e ∷ []) (front ++ name ∷ []) item
-    by_full None is x there none = alone_at_once texts keys v front dir name e item new arrives (ap (holds v (full_place dir (stored keys.names dir.key name))) is)
-    by_full (Some text) is NoEntry there none = alone_in_turn texts keys v front dir name e item text new arrives is there
-    by_full (Some text) is (FileOf bytes) there none =
-        alone_at_once texts keys v front dir name e item new arrives
-        (ap (holds v (full_place dir (stored keys.names dir.key name))) is ∙ ap (λ y. is_file_of text (file_bytes y)) there
-        ∙ none_given (bytes_eq bytes text) (full_place dir (stored keys.names dir.key name)) none)
-    by_full (Some text) is Folder there none = cc
-    by_full (Some text) is Special there none = cc
+    by_edits keys v dir name e (λ edits. ComesAlone (go_format keys) v v edits (front ++ name ∷ []) item) none
+    (alone_at_once texts keys v front dir name e item (is_new keys v front dir name e orderly leads named place none) arrives)
+    (λ text. alone_in_turn texts keys v front dir name e item text (is_new keys v front dir name e orderly leads named place none) arrives)
 
 -- a file arrives
-file_arrives : (keys : GoKeys) (u : View) (dir : Directory) (name bytes : List ℕ) (e : Edit) → IsTrue (is_name name) → e.at ≡ entry_at (go_format keys) dir name → e.made ≡ file_view bytes
+pub file_stands : (keys : GoKeys) (u : View) (dir : Directory) (name bytes : List ℕ) (e : Edit) → IsTrue (is_name name) → e.at ≡ entry_at (go_format keys) dir name → e.made ≡ file_view bytes
+    → holds_full (go_format keys) (edited u e) dir (stored keys.names dir.key name) ≡ true → standing_in (go_format keys) (edited u e) dir name ≡ File (e.at ++ [])
+file_stands keys u dir name bytes e named place made held =
+    arrived (go_format keys) u dir name e named place held ∙ ap (λ (m : View). standing_of (go_format keys) (edited u e) e.at true (go_item (m []))) made
+
+pub file_arrives : (keys : GoKeys) (u : View) (dir : Directory) (name bytes : List ℕ) (e : Edit) → IsTrue (is_name name) → e.at ≡ entry_at (go_format keys) dir name → e.made ≡ file_view bytes
     → holds_full (go_format keys) (edited u e) dir (stored keys.names dir.key name) ≡ true
     → Arrives (go_format keys) u dir name e (opened_file (go_format keys).content (Some bytes))
 file_arrives keys u dir name bytes e named place made held = record {
   full = held;
-  leaf = subst (IsLeaf (go_format keys) (edited u e)) (sym stands) (record {});
-  opens = ap (opened_at (go_format keys) (edited u e)) stands
+  leaf = subst (IsLeaf (go_format keys) (edited u e)) (sym (file_stands keys u dir name bytes e named place made held)) (record {});
+  opens = ap (opened_at (go_format keys) (edited u e)) (file_stands keys u dir name bytes e named place made held)
       ∙ ap (λ x. opened_file (go_format keys).content (file_bytes x)) (brought u e [] ∙ ap (λ (m : View). m []) made);
 }
-  where
-    stands : standing_in (go_format keys) (edited u e) dir name ≡ File (e.at ++ [])
-    stands = arrived (go_format keys) u dir name e named place held ∙ ap (λ (m : View). standing_of (go_format keys) (edited u e) e.at true (go_item (m []))) made
 
 -- a directory with its key arrives
-directory_arrives : (texts : GoTexts) (keys : GoKeys) (u : View) (dir : Directory) (name key : List ℕ) (e : Edit) → IsTrue (is_name name) → e.at ≡ entry_at (go_format keys) dir name
+pub brought_here : (u : View) (e : Edit) (key : List ℕ) → e.made ≡ folder_view ((key_file, key) ∷ []) → (rest : Path) → edited u e (e.at ++ rest) ≡ folder_view ((key_file, key) ∷ []) rest
+brought_here u e key made rest = brought u e rest ∙ ap (λ (m : View). m rest) made
+
+pub directory_stands : (keys : GoKeys) (u : View) (dir : Directory) (name key : List ℕ) (e : Edit) → IsTrue (is_name name) → e.at ≡ entry_at (go_format keys) dir name
+    → e.made ≡ folder_view ((key_file, key) ∷ []) → directory_key key ≡ Some key
+    → holds_full (go_format keys) (edited u e) dir (stored keys.names dir.key name) ≡ true
+    → standing_in (go_format keys) (edited u e) dir name ≡ Dir e.at (Ok (record { folder = e.at; key = key }))
+directory_stands keys u dir name key e named place made is_key held =
+    arrived (go_format keys) u dir name e named place held
+    ∙ ap (λ (m : View). standing_of (go_format keys) (edited u e) e.at true (go_item (m []))) made
+    ∙ ap (λ k. Dir e.at (directory_with (go_format keys) (edited u e) e.at k)) key_there
+    ∙ ap (λ x. Dir e.at (cond (is_folder x) (Ok (record { folder = e.at; key = key })) (Err NoFolder))) folder_there
+  where
+    key_there : key_of (go_format keys) (under e.at (edited u e)) ≡ Some key
+    key_there =
+        ap (λ x. option_and_then directory_key (file_bytes x)) (brought_here u e key made (key_file ∷ []))
+        ∙ ap (λ b. option_and_then directory_key (file_bytes (cond b (FileOf key) NoEntry))) ((bytes_eq-Decides key_file key_file).1 refl) ∙ is_key
+
+    folder_there : edited u e e.at ≡ Folder
+    folder_there = ap (edited u e) (sym (append-nil e.at)) ∙ brought_here u e key made []
+
+-- no name's entry is there
+pub no_entries : (texts : GoTexts) (keys : GoKeys) (u : View) (key : List ℕ) (e : Edit) → e.made ≡ folder_view ((key_file, key) ∷ []) → directory_key key ≡ Some key
+    → (n : List ℕ) → IsTrue (is_name n) → edited u e (entry_at (go_format keys) (record { folder = e.at; key = key }) n) ≡ NoEntry
+no_entries texts keys u key e made is_key n named =
+    brought_here u e key made ((stored keys.names key n).name ∷ [])
+    ∙ ap (λ b. cond b (FileOf key) NoEntry) (differ key_file (stored keys.names key n).name
+    (name_not_key texts (stored keys.names key n) (text_under texts keys key n (key_is (Some key) key is_key) named)))
+
+pub directory_arrives : (texts : GoTexts) (keys : GoKeys) (u : View) (dir : Directory) (name key : List ℕ) (e : Edit) → IsTrue (is_name name) → e.at ≡ entry_at (go_format keys) dir name
     → e.made ≡ folder_view ((key_file, key) ∷ []) → directory_key key ≡ Some key
     → holds_full (go_format keys) (edited u e) dir (stored keys.names dir.key name) ≡ true
     → Arrives (go_format keys) u dir name e opens.Directory
 directory_arrives texts keys u dir name key e named place made is_key held = record {
   full = held;
-  leaf = subst (IsLeaf (go_format keys) (edited u e)) (sym stands) empty;
-  opens = ap (opened_at (go_format keys) (edited u e)) stands;
+  leaf = subst (IsLeaf (go_format keys) (edited u e)) (sym (directory_stands keys u dir name key e named place made is_key held)) empty;
+  opens = ap (opened_at (go_format keys) (edited u e)) (directory_stands keys u dir name key e named place made is_key held);
 }
   where
-    the_directory : Directory
-    the_directory = record { folder = e.at; key = key }
-
-    brought_here : (rest : Path) → edited u e (e.at ++ rest) ≡ folder_view ((key_file, key) ∷ []) rest
-    brought_here rest = brought u e rest ∙ ap (λ (m : View). m rest) made
-
-    key_there : key_of (go_format keys) (under e.at (edited u e)) ≡ Some key
-    key_there =
-        ap (λ x. option_and_then directory_key (file_bytes x)) (brought_here (key_file ∷ []))
-        ∙ ap (λ b. option_and_then directory_key (file_bytes (cond b (FileOf key) NoEntry))) ((bytes_eq-Decides key_file key_file).1 refl) ∙ is_key
-
-    folder_there : edited u e e.at ≡ Folder
-    folder_there = ap (edited u e) (sym (append-nil e.at)) ∙ brought_here []
-
-    stands : standing_in (go_format keys) (edited u e) dir name ≡ Dir e.at (Ok (record { folder = e.at; key = key }))
-    stands =
-        arrived (go_format keys) u dir name e named place held
-        ∙ ap (λ (m : View). standing_of (go_format keys) (edited u e) e.at true (go_item (m []))) made
-        ∙ ap (λ k. Dir e.at (directory_with (go_format keys) (edited u e) e.at k)) key_there
-        ∙ ap (λ x. Dir e.at (cond (is_folder x) (Ok (record { folder = e.at; key = key })) (Err NoFolder))) folder_there
-
-    text_of : (n : List ℕ) → IsTrue (is_name n) → IsOfText (stored keys.names key n)
-    text_of n is = text_under texts keys key n (key_is (Some key) key is_key) is
-
     empty : (n : List ℕ) → IsNoItem (standing_in (go_format keys) (edited u e) (record { folder = e.at; key = key }) n)
     empty n = by_name (is_name n) refl
       where
         by_name : (b : Bool) → is_name n ≡ b → IsNoItem (standing_in (go_format keys) (edited u e) (record { folder = e.at; key = key }) n)
         by_name false is = subst IsNoItem (sym (standing_unnamed (go_format keys) (edited u e) (record { folder = e.at; key = key }) n is)) (record {})
-        by_name true is = none_stands (go_format keys) (go_lawful texts keys) (edited u e) (record { folder = e.at; key = key }) n
-            (brought_here ((stored keys.names key n).name ∷ [])
-            ∙ ap (λ b. cond b (FileOf key) NoEntry) (differ key_file (stored keys.names key n).name (name_not_key texts (stored keys.names key n) (text_of n is))))
+        by_name true is = none_stands (go_format keys) (go_lawful texts keys) (edited u e) (record { folder = e.at; key = key }) n (no_entries texts keys u key e made is_key n is)
 
 -- A new file comes alone, and so does a new directory.
 new_file_alone : GoTexts → (keys : GoKeys) (v : View) (front : plain.Path) (dir : Directory) (name bytes : List ℕ)

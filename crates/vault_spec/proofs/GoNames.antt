@@ -1,29 +1,25 @@
 -- What a gocryptfs vault's format needs of stored names, from the laws of texts.
-use Rattle.std.proofs.Common.{◌≡◌, ◌≢◌, ℕ, ◌+◌, Bool, true, false, List, ◌++◌, refl, sym, ap, ◌∙◌, inl, inr, IsTrue, length, take, codes, arith, length-append, drop, ◌&&◌}
+use Rattle.std.proofs.Common.{◌≡◌, ◌≢◌, ℕ, ◌+◌, ◌-◌, ◌⊎◌, Bool, true, false, List, ◌++◌, refl, sym, ap, ◌∙◌, inl, inr, IsTrue, length, take, codes, arith, length-append, drop, ◌&&◌}
 use Rattle.std.specs.List.{list_all}
-use Rattle.std.proofs.lemmas.List.{take-append-drop}
-use Rattle.std.proofs.lemmas.List.Folds.{list_all-append}
+use Rattle.std.proofs.lemmas.List.{take-append-drop, take-append-le}
+use Rattle.std.proofs.Math.Seq.{drop-append_seam, drop-append-add}
+use Rattle.std.proofs.lemmas.Slice.Eq.{bytes_eq-Decides}
 use Rattle.aes_lanes.specs.Bytes.{IsBlock}
 use Rattle.json_fields.specs.Base64.{is_base64url}
 use Rattle.plain_tree.specs.Names.{is_name}
 use Rattle.vault_names.specs.Gocryptfs.{go_text, long_name, entry_of, IsTextOf}
 use Rattle.vault_names.specs.declared.entry.Stored.{Stored}
+use Rattle.vault_spec.specs.RootFiles.{has_ending}
+use Rattle.vault_spec.proofs.ByteKeys.{front_plain, right_plain}
 use Rattle.vault_spec.proofs.Entries.{IsShortOrLong, entry_is}
-use Rattle.vault_spec.specs.Gocryptfs.{key_file, full_name}
+use Rattle.vault_spec.specs.Gocryptfs.{key_file, full_name, has_long_form, is_full_name}
 
 pub record GoTexts : Type 0 where
   pub one : (key iv text name other : List ℕ) → IsBlock iv → IsTextOf key iv name text → IsTextOf key iv other text → name ≡ other
   pub plain : (key iv name : List ℕ) → IsBlock iv → IsTrue (is_name name) → IsTrue (list_all is_base64url (go_text key iv name))
   pub long_size : (text : List ℕ) → length (long_name text) ≡ 62
   pub long_prefix : (text : List ℕ) → take 19 (long_name text) ≡ codes "gocryptfs.longname."
-
--- the front of what is of such characters is so too
-front_plain : (p : ℕ → Bool) (front rest : List ℕ) → IsTrue (list_all p (front ++ rest)) → IsTrue (list_all p front)
-front_plain p front rest all = left_true (list_all p front) (list_all p rest) (sym (list_all-append p front rest) ∙ all)
-  where
-    left_true : (a b : Bool) → (a && b) ≡ true → a ≡ true
-    left_true true b e = refl
-    left_true false b e = cc
+  pub long_rest : (text : List ℕ) → IsTrue (list_all is_base64url (drop 19 (long_name text)))
 
 -- a text isn't a long entry's name, nor does it begin with one
 pub not_long : (text other rest : List ℕ) → GoTexts → IsTrue (list_all is_base64url text) → text ≢ long_name other ++ rest
@@ -70,3 +66,68 @@ full_not_key text texts e =
     let long_size : length (long_name text) ≡ 62 = texts.long_size text in
     let key_size : length key_file ≡ 15 = refl in
     omega (arith, sizes, long_size, key_size)
+
+-- the long-name file of a long entry has the name of one
+pub full_is_full : (text : List ℕ) → GoTexts → is_full_name (full_name (long_name text)) ≡ true
+full_is_full text texts = ap (λ b. b && has_ending (codes ".name") (full_name (long_name text))) long ∙ ending
+  where
+    size : length (long_name text) ≡ 62
+    size = texts.long_size text
+
+    front : take 19 (full_name (long_name text)) ≡ codes "gocryptfs.longname."
+    front = take-append-le 19 (long_name text) (codes ".name") (omega (arith, size)) ∙ texts.long_prefix text
+
+    long : has_long_form (full_name (long_name text)) ≡ true
+    long = (bytes_eq-Decides (codes "gocryptfs.longname.") (take 19 (full_name (long_name text)))).1 (sym front)
+
+    whole : length (full_name (long_name text)) - 5 ≡ length (long_name text)
+    whole = let sizes : length (full_name (long_name text)) ≡ length (long_name text) + 5 = length-append (long_name text) (codes ".name") in omega (arith, sizes)
+
+    ending : has_ending (codes ".name") (full_name (long_name text)) ≡ true
+    ending = (bytes_eq-Decides (codes ".name") (drop (length (full_name (long_name text)) - 5) (full_name (long_name text)))).1
+        (sym (ap (λ n. drop n (full_name (long_name text))) whole ∙ drop-append_seam (long_name text) (codes ".name")))
+
+-- no entry of a name has the name of a long-name file
+pub name_is_not_full : (text : List ℕ) → GoTexts → IsTrue (list_all is_base64url text) → is_full_name (entry_of text).name ≡ false
+name_is_not_full text texts plain = by_form (entry_is long_name 255 text)
+  where
+    not_so : (b : Bool) → (b ≡ true → ⊥) → b ≡ false
+    not_so true never = absurd (never refl)
+    not_so false never = refl
+
+    both : (a b : Bool) → (a ≡ false) ⊎ (b ≡ false) → (a && b) ≡ false
+    both true b (inl is) = cc
+    both true b (inr is) = is
+    both false b is = refl
+
+    no_form : has_long_form text ≡ true → ⊥
+    no_form is =
+        let same : codes "gocryptfs.longname." ≡ take 19 text = (bytes_eq-Decides (codes "gocryptfs.longname.") (take 19 text)).0 is in
+        let front : IsTrue (list_all is_base64url (take 19 text))
+        = front_plain is_base64url (take 19 text) (drop 19 text) (ap (list_all is_base64url) (take-append-drop 19 text) ∙ plain) in
+        let dotted : IsTrue (list_all is_base64url (codes "gocryptfs.longname.")) = ap (list_all is_base64url) same ∙ front in
+        cc
+
+    behind : drop 57 (long_name text) ≡ drop 38 (drop 19 (long_name text))
+    behind =
+        let size : length (long_name text) ≡ 62 = texts.long_size text in
+        let front : length (take 19 (long_name text)) ≡ 19 = ap length (texts.long_prefix text) in
+        ap (drop 57) (sym (take-append-drop 19 (long_name text))) ∙ ap (λ n. drop n (take 19 (long_name text) ++ drop 19 (long_name text))) (ap (λ n. n + 38) (sym front))
+        ∙ drop-append-add (take 19 (long_name text)) (drop 19 (long_name text)) 38
+
+    rest_plain : IsTrue (list_all is_base64url (drop 38 (drop 19 (long_name text))))
+    rest_plain = right_plain is_base64url (take 38 (drop 19 (long_name text))) (drop 38 (drop 19 (long_name text)))
+        (ap (list_all is_base64url) (take-append-drop 38 (drop 19 (long_name text))) ∙ texts.long_rest text)
+
+    no_ending : has_ending (codes ".name") (long_name text) ≡ true → ⊥
+    no_ending is =
+        let same : codes ".name" ≡ drop (length (long_name text) - 5) (long_name text) = (bytes_eq-Decides (codes ".name") (drop (length (long_name text) - 5) (long_name text))).0 is in
+        let size : length (long_name text) - 5 ≡ 57 = ap (λ n. n - 5) (texts.long_size text) in
+        let dotted : IsTrue (list_all is_base64url (codes ".name"))
+        = ap (list_all is_base64url) (same ∙ ap (λ n. drop n (long_name text)) size ∙ behind) ∙ rest_plain in
+        cc
+
+    by_form : IsShortOrLong long_name 255 text → is_full_name (entry_of text).name ≡ false
+    by_form (inl short) = ap (λ (s : Stored). is_full_name s.name) short ∙ both (has_long_form text) (has_ending (codes ".name") text) (inl (not_so (has_long_form text) no_form))
+    by_form (inr long) = ap (λ (s : Stored). is_full_name s.name) long
+        ∙ both (has_long_form (long_name text)) (has_ending (codes ".name") (long_name text)) (inr (not_so (has_ending (codes ".name") (long_name text)) no_ending))

@@ -1,17 +1,20 @@
 -- gocryptfs's format is lawful, and a new item of it comes alone.
-use Rattle.std.proofs.Common.{◌≡◌, ◌≢◌, ℕ, ◌==◌, Bool, true, false, ◌&&◌, not, List, [], ◌∷◌, refl, sym, ap, ◌∙◌, inl, inr, subst, Some, None, Option, IsTrue, length, append-nil, bytes_eq}
+use Rattle.vault_spec.specs.Findings.{IsFileAt}
+use Rattle.vault_spec.proofs.PathEnds.{child-both}
+use Rattle.vault_names.specs.declared.entry.Stored.{Stored}
+use Rattle.std.proofs.Common.{◌≡◌, ◌≢◌, ℕ, ◌==◌, Bool, true, false, ◌&&◌, not, List, [], ◌∷◌, refl, sym, ap, ◌∙◌, inl, inr, subst, Some, None, Option, IsTrue, length, append-nil, bytes_eq, ◌++◌, ◌⊎◌, is_some}
 use Rattle.std.specs.Option.{option_and_then}
 use Rattle.std.specs.List.{list_all}
 use Rattle.std.proofs.lemmas.Bool.{eqb-true}
 use Rattle.std.proofs.lemmas.Slice.Eq.{bytes_eq-Decides}
 use Rattle.aes_lanes.specs.Bytes.{IsBlock}
 use Rattle.chunk_files.specs.Zeros.{is_all_zero}
-use Rattle.folder_spec.specs.Path.{Path}
-use Rattle.folder_spec.specs.View.{Found, NoEntry, Folder, FileOf, Special, View}
+use Rattle.folder_spec.specs.Path.{Path, child, Part}
+use Rattle.folder_spec.specs.View.{Found, NoEntry, Folder, FileOf, Special, View, kind_found}
 use Rattle.gocrypt_conf.specs.declared.keys.GoKeys.{GoKeys}
 use Rattle.json_fields.specs.Base64.{is_base64url}
 use Rattle.plain_tree.specs.Names.{is_name}
-use Rattle.vault_names.specs.Gocryptfs.{go_text, long_name, stored}
+use Rattle.vault_names.specs.Gocryptfs.{go_text, long_name, stored, entry_of}
 use Rattle.folder_spec.specs.Seen.{under}
 use Rattle.plain_tree.specs.Names as plain
 use Rattle.vault_spec.specs.Reached.{Leads, HaveOwnFolders}
@@ -20,8 +23,8 @@ use Rattle.vault_spec.specs.Format.{Directory, FileItem, is_bytes, file_bytes, k
 use Rattle.vault_spec.specs.Gocryptfs.{key_file, full_name, directory_key, go_item, go_format}
 use Rattle.vault_spec.proofs.Lawful.{IsLawful}
 use Rattle.vault_spec.proofs.ByteKeys.{left_true, right_true, given, are_bytes}
-use Rattle.vault_spec.proofs.Entries.{one_text, same_forms}
-use Rattle.vault_spec.proofs.GoNames.{GoTexts, not_long}
+use Rattle.vault_spec.proofs.Entries.{one_text, same_forms, entry_is, IsShortOrLong}
+use Rattle.vault_spec.proofs.GoNames.{GoTexts, not_long, entry_not_key, entry_not_full}
 
 -- sixteen bytes
 unfoldable pub is_go_key : List ℕ → Bool
@@ -50,11 +53,45 @@ key_is (Some bytes) key e =
 pub text_plain : GoTexts → (keys : GoKeys) (key name : List ℕ) → is_go_key key ≡ true → IsTrue (is_name name) → IsTrue (list_all is_base64url (go_text keys.names key name))
 text_plain texts keys key name is named = texts.plain keys.names key name (is_block key is) named
 
-pub content_is : (x : Found) (rest : Path) → go_item x ≡ FileItem rest → (rest ≡ []) × (x ≢ NoEntry)
+pub content_is : (x : Found) (rest : Path) → go_item x ≡ FileItem rest → (rest ≡ []) × ((bytes : List ℕ) × (x ≡ FileOf bytes))
 content_is NoEntry rest e = cc
-content_is (FileOf bytes) rest e = (cc, λ none. cc)
+content_is (FileOf bytes) rest e = (cc, (bytes, refl))
 content_is Folder rest e = cc
 content_is Special rest e = cc
+
+pub content_or_entry : (x : Found) (rest : Path) → (rest ≡ []) ⊎ (go_item x ≡ FileItem rest) → rest ≡ []
+content_or_entry x rest (inl none) = none
+content_or_entry x rest (inr item) = (content_is x rest item).0
+
+pub item_by_kind : (x y : Found) → kind_found x ≡ kind_found y → go_item x ≡ go_item y
+item_by_kind NoEntry NoEntry e = refl
+item_by_kind Folder Folder e = refl
+item_by_kind (FileOf a) (FileOf b) e = refl
+item_by_kind Special Special e = refl
+item_by_kind NoEntry Folder e = cc
+item_by_kind NoEntry (FileOf b) e = cc
+item_by_kind NoEntry Special e = cc
+item_by_kind Folder NoEntry e = cc
+item_by_kind Folder (FileOf b) e = cc
+item_by_kind Folder Special e = cc
+item_by_kind (FileOf a) NoEntry e = cc
+item_by_kind (FileOf a) Folder e = cc
+item_by_kind (FileOf a) Special e = cc
+item_by_kind Special NoEntry e = cc
+item_by_kind Special Folder e = cc
+item_by_kind Special (FileOf b) e = cc
+
+-- a content is stored at its entry
+pub at_entry : (at : Path) (a : Part) (rest : Path) (x : Found) → go_item x ≡ FileItem rest → child at a ≡ child at a ++ rest
+at_entry at a rest x item = sym (append-nil (child at a)) ∙ ap (λ r. child at a ++ r) (sym (content_is x rest item).0)
+
+-- the entry of a name is no long-name file
+pub entry_not_long : (text other : List ℕ) → GoTexts → IsTrue (list_all is_base64url text) → is_some (entry_of other).full ≡ true → (entry_of text).name ≢ full_name (entry_of other).name
+entry_not_long text other texts plain long = by_form (entry_is long_name 255 other)
+  where
+    by_form : IsShortOrLong long_name 255 other → (entry_of text).name ≢ full_name (entry_of other).name
+    by_form (inl short) same = let clash : true ≡ false = sym long ∙ ap (λ (s : Stored). is_some s.full) short in cc
+    by_form (inr is_long) same = entry_not_full text other texts plain (same ∙ ap (λ (s : Stored). full_name s.name) is_long)
 
 unfoldable pub go_lawful : GoTexts → (keys : GoKeys) → IsLawful (go_format keys)
 unfolding stored
@@ -71,11 +108,30 @@ go_lawful texts keys = record {
       same_forms long_name 255 (go_text keys.names key name) (go_text keys.names key other)
       (λ same. not_long (go_text keys.names key name) (go_text keys.names key other) [] texts (text_plain texts keys key name is named) (same ∙ sym (append-nil (long_name (go_text keys.names key other)))))
       (λ same. not_long (go_text keys.names key other) (go_text keys.names key name) [] texts (text_plain texts keys key other is other_named) (same ∙ sym (append-nil (long_name (go_text keys.names key name))))) e;
-  item_by_marks = λ long v w there marks. ap go_item there;
-  key_by_marks = λ v w marks. ap (λ x. option_and_then directory_key (file_bytes x)) (marks key_file ((bytes_eq-Decides key_file key_file).1 refl));
-  root_by_marks = λ v w marks. ap (λ x. option_and_then directory_key (file_bytes x)) (marks key_file ((bytes_eq-Decides key_file key_file).1 refl));
+  item_by_kinds = λ long v w there marks. item_by_kind (v []) (w []) there;
+  key_is_mark = (bytes_eq-Decides key_file key_file).1 refl;
+  root_by_key = λ v w same. ap (λ x. option_and_then directory_key (file_bytes x)) same;
   none = λ long v free. ap go_item free;
-  content = λ long v rest e. let is : (rest ≡ []) × (v [] ≢ NoEntry) = content_is (v []) rest e in subst (λ r. v r ≢ NoEntry) (sym is.0) is.1;
+  content = λ long v rest e. let is : (rest ≡ []) × ((bytes : List ℕ) × (v [] ≡ FileOf bytes)) = content_is (v []) rest e in subst (IsFileAt v) (sym is.0) is.1;
+  content_entry = λ v w long short one two key other at place a b is_one is_two same.
+      let first : one ≡ [] = content_or_entry (v []) one is_one in
+      let second : two ≡ [] = content_or_entry (w []) two is_two in
+      sym (append-nil (child at a)) ∙ ap (λ r. child at a ++ r) (sym first) ∙ same ∙ ap (λ r. child place b ++ r) second ∙ append-nil (child place b);
+  content_no_key = λ v key other name another rest at place is named item same.
+      entry_not_key (go_text keys.names key name) texts (text_plain texts keys key name is named)
+      (child-both at (child place (stored keys.names other another).name) (stored keys.names key name).name key_file (at_entry at (stored keys.names key name).name rest (v []) item ∙ same)).1;
+  content_no_root_key = λ v key name rest at is named item same.
+      entry_not_key (go_text keys.names key name) texts (text_plain texts keys key name is named)
+      (child-both at [] (stored keys.names key name).name key_file (at_entry at (stored keys.names key name).name rest (v []) item ∙ same)).1;
+  content_no_name = λ v key other name another rest at place is named item long is_other another_named same.
+      entry_not_long (go_text keys.names key name) (go_text keys.names other another) texts (text_plain texts keys key name is named) long
+      (child-both at place (stored keys.names key name).name (full_name (stored keys.names other another).name) (at_entry at (stored keys.names key name).name rest (v []) item ∙ same)).1;
+  unnamed_by_file = λ x a b. refl;
+  role_by_file = λ at a b. refl;
+  inner_role_by_file = λ long item x a b. refl;
+  no_role = λ at. refl;
+  no_inner_role = λ long item x. refl;
+  role_in_nothing = λ long x there. refl;
   full_place = λ entry. inl (full_name entry, refl);
 }
 

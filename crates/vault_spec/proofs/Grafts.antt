@@ -1,7 +1,9 @@
 -- What stands in a vault once something comes to stand at a free place.
+use Rattle.vault_spec.specs.Findings.{IsFileAt}
+use Rattle.std.specs.Option.{option_and_then}
 use Rattle.std.proofs.Common.{◌≡◌, ◌≢◌, ◌⊎◌, ℕ, Bool, true, false, List, [], ◌∷◌, ◌++◌, Ok, Err, Result, cond, refl, sym, ap, ◌∙◌, inl, inr, subst, append_assoc, append-nil, Some, None, Option, IsTrue, is_some}
 use Rattle.folder_spec.specs.Path.{Part, Path, child, below}
-use Rattle.folder_spec.specs.View.{Found, NoEntry, Folder, FileOf, Special, View}
+use Rattle.folder_spec.specs.View.{Found, NoEntry, Folder, FileOf, Special, View, kind_found}
 use Rattle.folder_spec.specs.Seen.{under}
 use Rattle.folder_spec.specs.Edit.{Edit, grafted, edited}
 use Rattle.folder_spec.proofs.Paths.{begins_or_not, child_begins}
@@ -167,7 +169,7 @@ holds_by v w at None same = refl
 holds_by v w at (Some text) same = ap (λ x. is_file_of text (file_bytes x)) (same refl)
 
 -- what stands at an entry by its item, where its directory is the same
-same_standing : (f : Format) (v w : View) (at : Path) (named : Bool) (item : Item)
+pub same_standing : (f : Format) (v w : View) (at : Path) (named : Bool) (item : Item)
     → (item ≡ DirectoryItem → named ≡ true → directory_with f v at (key_of f (under at v)) ≡ directory_with f w at (key_of f (under at w)))
     → standing_of f v at named item ≡ standing_of f w at named item
 same_standing f v w at named Nothing same = refl
@@ -187,36 +189,39 @@ same_directory f v w at (Some key) stays entered = ap by_folder (sym (stays (f.f
     by_folder x = cond (is_folder x) (Ok (record { folder = f.folder_of at key; key = key })) (Err NoFolder)
 
 -- the content of a file that stands is there
-content_there : (f : Format) → IsLawful f → (v : View) (at : Path) (long named : Bool) (item : Item) (file : Path) → f.item long (under at v) ≡ item
-    → standing_of f v at named item ≡ File file → v file ≢ NoEntry
+pub content_there : (f : Format) → IsLawful f → (v : View) (at : Path) (long named : Bool) (item : Item) (file : Path) → f.item long (under at v) ≡ item
+    → standing_of f v at named item ≡ File file → IsFileAt v file
 content_there f lawful v at long named Nothing file is e = cc
 content_there f lawful v at long false (FileItem rest) file is e = cc
 content_there f lawful v at long true (FileItem rest) file is e =
-    let same : at ++ rest ≡ file = cc in subst (λ p. v p ≢ NoEntry) same (lawful.content long (under at v) rest is)
+    let same : at ++ rest ≡ file = cc in subst (IsFileAt v) same (lawful.content long (under at v) rest is)
 content_there f lawful v at long false DirectoryItem file is e = cc
 content_there f lawful v at long true DirectoryItem file is e = cc
 content_there f lawful v at long named (NoItem finding) file is e = cc
 
--- where an entry is there and spared, what stands there stays
-pub stands_on : (f : Format) (lawful : IsLawful f) (v : View) (e : Edit) (path : plain.Path) (dir : Directory) (name : List ℕ)
-    → IsOrderly f v → v e.at ≡ NoEntry → Leads f v path dir → v (entry_at f dir name) ≢ NoEntry → SparesEntry f lawful v e.at dir name
-    → IsSame v (edited v e) (standing_in f v dir name) (standing_in f (edited v e) dir name)
-stands_on f lawful v e path dir name orderly free leads there spared = by_name (is_name name) refl
-  where
-    stays : (q : Path) → v q ≢ NoEntry → edited v e q ≡ v q
-    stays = edited_adds v e orderly.folders free
+-- an entry as it was: what it is, its key, and whether its long-name file is right
+pub record EntryStays (f : Format) (v w : View) (dir : Directory) (name : List ℕ) : Type 0 where
+  pub item : item_at f v dir (f.stored dir.key name) ≡ item_at f w dir (f.stored dir.key name)
+  pub key : key_of f (under (entry_at f dir name) v) ≡ key_of f (under (entry_at f dir name) w)
+  pub full : holds_full f v dir (f.stored dir.key name) ≡ holds_full f w dir (f.stored dir.key name)
 
+-- an entry that is there and spared is as it was
+pub entry_stays : (f : Format) (lawful : IsLawful f) (v : View) (e : Edit) (path : plain.Path) (dir : Directory) (name : List ℕ)
+    → IsOrderly f v → v e.at ≡ NoEntry → Leads f v path dir → v (entry_at f dir name) ≢ NoEntry → SparesEntry f lawful v e.at dir name
+    → EntryStays f v (edited v e) dir name
+entry_stays f lawful v e path dir name orderly free leads there spared = record { item = items; key = keys; full = fulls }
+  where
     entry_same : v (entry_at f dir name ++ []) ≡ edited v e (entry_at f dir name ++ [])
-    entry_same = sym (stays (entry_at f dir name ++ []) (λ none. there (ap v (sym (append-nil (entry_at f dir name))) ∙ none)))
+    entry_same = sym (edited_adds v e orderly.folders free (entry_at f dir name ++ []) (λ none. there (ap v (sym (append-nil (entry_at f dir name))) ∙ none)))
 
     mark_same : (m : Part) → IsTrue (lawful.marks m) → v (child (entry_at f dir name) m) ≡ edited v e (child (entry_at f dir name) m)
     mark_same m is = sym (edited_entry v e orderly.folders free (entry_at f dir name) m there (spared.marks m is))
 
     items : item_at f v dir (f.stored dir.key name) ≡ item_at f (edited v e) dir (f.stored dir.key name)
-    items = lawful.item_by_marks (is_some (f.stored dir.key name).full) (under (entry_at f dir name) v) (under (entry_at f dir name) (edited v e)) entry_same mark_same
+    items = lawful.item_by_kinds (is_some (f.stored dir.key name).full) (under (entry_at f dir name) v) (under (entry_at f dir name) (edited v e)) (ap kind_found entry_same) (λ m is. ap kind_found (mark_same m is))
 
     keys : key_of f (under (entry_at f dir name) v) ≡ key_of f (under (entry_at f dir name) (edited v e))
-    keys = lawful.key_by_marks (under (entry_at f dir name) v) (under (entry_at f dir name) (edited v e)) mark_same
+    keys = ap (λ x. option_and_then f.key_in (file_bytes x)) (mark_same f.key_file lawful.key_is_mark)
 
     full_same : is_some (f.stored dir.key name).full ≡ true → v (dir.folder ++ f.full_at (f.stored dir.key name).name) ≡ edited v e (dir.folder ++ f.full_at (f.stored dir.key name).name)
     full_same long = elim (lawful.full_place (f.stored dir.key name).name) [
@@ -233,6 +238,18 @@ stands_on f lawful v e path dir name orderly free leads there spared = by_name (
     fulls : holds_full f v dir (f.stored dir.key name) ≡ holds_full f (edited v e) dir (f.stored dir.key name)
     fulls = holds_by v (edited v e) (dir.folder ++ f.full_at (f.stored dir.key name).name) (f.stored dir.key name).full full_same
 
+-- where an entry is there and spared, what stands there stays
+pub stands_on : (f : Format) (lawful : IsLawful f) (v : View) (e : Edit) (path : plain.Path) (dir : Directory) (name : List ℕ)
+    → IsOrderly f v → v e.at ≡ NoEntry → Leads f v path dir → v (entry_at f dir name) ≢ NoEntry → SparesEntry f lawful v e.at dir name
+    → IsSame v (edited v e) (standing_in f v dir name) (standing_in f (edited v e) dir name)
+stands_on f lawful v e path dir name orderly free leads there spared = by_name (is_name name) refl
+  where
+    as_was : EntryStays f v (edited v e) dir name
+    as_was = entry_stays f lawful v e path dir name orderly free leads there spared
+
+    stays : (q : Path) → v q ≢ NoEntry → edited v e q ≡ v q
+    stays = edited_adds v e orderly.folders free
+
     stays_entered : is_name name ≡ true → item_at f v dir (f.stored dir.key name) ≡ DirectoryItem → holds_full f v dir (f.stored dir.key name) ≡ true
         → (finding : Finding) → directory_with f v (entry_at f dir name) (key_of f (under (entry_at f dir name) v)) ≢ Err finding
     stays_entered named item holds finding locked = orderly.entered path dir name (entry_at f dir name) finding leads
@@ -245,10 +262,13 @@ stands_on f lawful v e path dir name orderly free leads there spared = by_name (
         ∙ same_standing f v (edited v e) (entry_at f dir name) (holds_full f v dir (f.stored dir.key name)) (item_at f v dir (f.stored dir.key name))
         (λ item holds.
         same_directory f v (edited v e) (entry_at f dir name) (key_of f (under (entry_at f dir name) v)) stays (stays_entered named item holds)
-        ∙ ap (directory_with f (edited v e) (entry_at f dir name)) keys)
-        ∙ ap (λ b. standing_of f (edited v e) (entry_at f dir name) b (item_at f v dir (f.stored dir.key name))) fulls
-        ∙ ap (standing_of f (edited v e) (entry_at f dir name) (holds_full f (edited v e) dir (f.stored dir.key name))) items
+        ∙ ap (directory_with f (edited v e) (entry_at f dir name)) as_was.key)
+        ∙ ap (λ b. standing_of f (edited v e) (entry_at f dir name) b (item_at f v dir (f.stored dir.key name))) as_was.full
+        ∙ ap (standing_of f (edited v e) (entry_at f dir name) (holds_full f (edited v e) dir (f.stored dir.key name))) as_was.item
         ∙ sym (standing_named f (edited v e) dir name named)
+
+    not_none : {q : Path} → IsFileAt v q → v q ≢ NoEntry
+    not_none file none = let clash : FileOf file.0 ≡ NoEntry = sym file.1 ∙ none in cc
 
     by_name : (b : Bool) → is_name name ≡ b → IsSame v (edited v e) (standing_in f v dir name) (standing_in f (edited v e) dir name)
     by_name false is = record {
@@ -257,6 +277,6 @@ stands_on f lawful v e path dir name orderly free leads there spared = by_name (
     }
     by_name true is = record {
       stands = standings is;
-      bytes = λ at file. sym (stays at (content_there f lawful v (entry_at f dir name) (is_some (f.stored dir.key name).full)
-          (holds_full f v dir (f.stored dir.key name)) (item_at f v dir (f.stored dir.key name)) at refl (sym (standing_named f v dir name is) ∙ file)));
+      bytes = λ at file. sym (stays at (not_none (content_there f lawful v (entry_at f dir name) (is_some (f.stored dir.key name).full)
+          (holds_full f v dir (f.stored dir.key name)) (item_at f v dir (f.stored dir.key name)) at refl (sym (standing_named f v dir name is) ∙ file))));
     }

@@ -20,7 +20,7 @@ use Rattle.vault_spec.proofs.Lawful.{IsLawful}
 use Rattle.vault_spec.proofs.Steps.{standing_alike, opened_alike, gained, gained_there}
 use Rattle.vault_spec.proofs.Grafts.{reached_right, edited_elsewhere, edited_adds, edited_entry, none_stands, standing_named, standing_unnamed, same_directory, SparesEntry, stands_on}
 
-none_or_there : (x : Found) → (x ≡ NoEntry) ⊎ (x ≢ NoEntry)
+pub none_or_there : (x : Found) → (x ≡ NoEntry) ⊎ (x ≢ NoEntry)
 none_or_there NoEntry = inl refl
 none_or_there Folder = inr (λ e. cc)
 none_or_there (FileOf bytes) = inr (λ e. cc)
@@ -40,8 +40,8 @@ root_stays : (f : Format) (lawful : IsLawful f) (v : View) (e : Edit) → IsOrde
 root_stays f lawful v e orderly free spares =
     ap (Dir []) (same_directory f v (edited v e) [] (f.root_key v) (edited_adds v e orderly.folders free)
     (λ finding locked. let top : Dir [] (Err finding) ≡ Dir [] (Ok orderly.top) = ap (Dir []) (sym locked) ∙ orderly.root in cc)
-    ∙ ap (directory_with f (edited v e) []) (lawful.root_by_marks v (edited v e)
-    (λ m is. sym (edited_entry v e orderly.folders free [] m (λ none. let there : v [] ≡ Folder = orderly.root_there in cc) (spares.root m is)))))
+    ∙ ap (directory_with f (edited v e) []) (lawful.root_by_key v (edited v e)
+    (sym (edited_entry v e orderly.folders free [] f.key_file (λ none. let there : v [] ≡ Folder = orderly.root_there in cc) (spares.root f.key_file lawful.key_is_mark)))))
 
 -- what stands under a name stays, where its entry isn't at the place
 step_stays : (f : Format) (lawful : IsLawful f) (v : View) (e : Edit) → IsOrderly f v → v e.at ≡ NoEntry → SparesAll f lawful v e.at
@@ -68,7 +68,7 @@ looks_alike f lawful v e orderly free spares no_entry = record {
 }
 
 -- a path leads where it led
-led_back : (f : Format) (v w : View) → LooksAlike f v w → (path : plain.Path) (dir : Directory) → Leads f w path dir → Leads f v path dir
+pub led_back : (f : Format) (v w : View) → LooksAlike f v w → (path : plain.Path) (dir : Directory) → Leads f w path dir → Leads f v path dir
 led_back f v w looks path dir leads = elim (standing_alike f v w looks path) [
   | inl same ↦ record { at = leads.at; stands = same.stands ∙ leads.stands }
   | inr none ↦ absurd (subst IsNoItem leads.stands none.1)
@@ -225,12 +225,6 @@ opens_with f lawful v u e front dir name item as_before brings is = record {
   others = λ path apart. sym (gained f u (edited u e) front name (brings_item f lawful u e front dir name brings) path apart) ∙ as_before path;
   there = gained_there f u (edited u e) front name (brings_item f lawful u e front dir name brings) ∙ is;
 }
-
--- both ends of a path
-pub child-both : (p q : Path) (a b : Part) → child p a ≡ child q b → (p ≡ q) × (a ≡ b)
-child-both p q a b e =
-    let up : p ≡ q = child-injective p q a b e in
-    (up, child-last q a b (ap (λ r. child r a) (sym up) ∙ e))
 
 -- An edit beside the item: at a free place in a folder that is there, which is no entry and tells nothing of what is there.
 pub record IsSide (f : Format) (lawful : IsLawful f) (v : View) (e : Edit) (up : Path) (a : Part) : Type 0 where

@@ -144,24 +144,25 @@ gains_from f v w gain name g front (Dir at (Ok dir)) (n ∷ rest) is apart bytes
           behind_leaf f w (standing_in f w dir n) m more (subst (IsLeaf f w) (sym after) g.leaf),
         )
 
+-- what stands at all paths but the item's
+pub gains_alike : (f : Format) (v w : View) (gain : plain.Path) (name : List ℕ) → GainsItem f v w gain name
+    → (path : plain.Path) → path ≢ gain ++ name ∷ [] → AreAlike v w (standing f v path) (standing f w path)
+gains_alike f v w gain name g path apart =
+    subst (λ r. AreAlike v w (standing f v path) (standing_from f w r path)) g.root (gains_from f v w gain name g [] (root_of f v) path refl apart (λ at e. cc))
+
 -- a view that gains an item opens as the other at all paths but the item's, where there opens what stands there
 pub gained : (f : Format) (v w : View) (gain : plain.Path) (name : List ℕ) → GainsItem f v w gain name
     → (path : plain.Path) → path ≢ gain ++ name ∷ [] → opened f v path ≡ opened f w path
 unfolding opened
-gained f v w gain name g path apart =
-    opens_alike f v w (standing f v path) (standing f w path)
-    (subst (λ r. AreAlike v w (standing f v path) (standing_from f w r path)) g.root
-    (gains_from f v w gain name g [] (root_of f v) path refl apart (λ at e. cc)))
+gained f v w gain name g path apart = opens_alike f v w (standing f v path) (standing f w path) (gains_alike f v w gain name g path apart)
 
 -- the way to the item's directory is as it was
-way_stays : (f : Format) (v w : View) (gain : plain.Path) (name : List ℕ) → (g : GainsItem f v w gain name)
+pub way_stays : (f : Format) (v w : View) (gain : plain.Path) (name : List ℕ) → (g : GainsItem f v w gain name)
     → standing f w gain ≡ Dir g.leads.at (Ok g.dir)
-way_stays f v w gain name g =
-    elim (subst (λ r. AreAlike v w (standing f v gain) (standing_from f w r gain)) g.root
-    (gains_from f v w gain name g [] (root_of f v) gain refl (shorter gain name) (λ at e. cc))) [
-      | inl same ↦ sym same.stands ∙ g.leads.stands
-      | inr none ↦ absurd (subst IsNoItem g.leads.stands none.0)
-    ]
+way_stays f v w gain name g = elim (gains_alike f v w gain name g gain (shorter gain name)) [
+  | inl same ↦ sym same.stands ∙ g.leads.stands
+  | inr none ↦ absurd (subst IsNoItem g.leads.stands none.0)
+]
 
 -- and there opens what now stands
 pub gained_there : (f : Format) (v w : View) (gain : plain.Path) (name : List ℕ) → (g : GainsItem f v w gain name)

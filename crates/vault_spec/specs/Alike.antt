@@ -1,11 +1,11 @@
 -- When two views of a vault open alike, and when one opens just one item more.
-use Rattle.std.specs.Prelude.{◌≡◌, ◌≢◌, ◌⊎◌, ℕ, List, [], ◌∷◌, ◌++◌, Ok, Err, Result}
+use Rattle.std.specs.Prelude.{◌≡◌, ◌≢◌, ◌⊎◌, ℕ, List, [], ◌∷◌, ◌++◌, Ok, Err, Result, Option, Some, None}
 use Rattle.folder_spec.specs.Path.{Part, Path, child}
 use Rattle.folder_spec.specs.View.{View, NoEntry, Folder}
 use Rattle.plain_tree.specs.Names as plain
 use Rattle.vault_spec.specs.declared.Finding.{Finding}
 use Rattle.vault_spec.specs.Format.{Format, Directory}
-use Rattle.vault_spec.specs.Standing.{Standing, Absent, Strange, File, Dir, root_of, standing_in}
+use Rattle.vault_spec.specs.Standing.{Standing, Absent, Strange, File, Dir, root_of, standing_in, standing}
 use Rattle.vault_spec.specs.Reached.{Leads, HaveOwnFolders}
 
 -- no item stands there
@@ -66,3 +66,14 @@ pub record IsOrderly (f : Format) (v : View) : Type 0 where
   pub entered : (path : plain.Path) (dir : Directory) (name : List ℕ) (at : Path) (finding : Finding) → Leads f v path dir → standing_in f v dir name ≢ Dir at (Err finding)
   pub one_path : (path other : plain.Path) (dir : Directory) → Leads f v path dir → Leads f v other dir → path ≡ other
   pub own_folder : HaveOwnFolders f v
+
+-- the place of the content or of the entry of what stands
+abbrev pub place_of : Standing → Option Path
+place_of Absent = None
+place_of (Strange at) = None
+place_of (File at) = Some at
+place_of (Dir at directory) = Some at
+
+-- no two plain paths have their files or directories at one place
+abbrev pub HaveOwnPlaces : Format → View → Type 0
+HaveOwnPlaces f v = (path other : plain.Path) (at : Path) → place_of (standing f v path) ≡ Some at → place_of (standing f v other) ≡ Some at → path ≡ other

@@ -1,13 +1,20 @@
 use Rattle.std.proofs.Common.{subst, sym}
-use Rattle.vault_spec.proofs.CmVault.{cm_lawful}
+use Rattle.vault_spec.proofs.CmVault.{CmTexts, cm_lawful}
 use Rattle.vault_spec.proofs.Lawful.{IsLawful}
 use Rattle.vault_spec.proofs.Clean.{clean_is_orderly}
+use Rattle.vault_spec.proofs.OwnPlaces.{own_places}
 use Rattle.vault_spec.proofs.laws.clean_vaults_of_cryptomator_are_orderly.Goals as goal
 
 pub returns : goal.returns
-returns c combo threshold v f is there folders own clean =
-    clean_is_orderly f (subst IsLawful (sym is) (cm_lawful (record { keys = c.args.keys.now; combo = combo; threshold = threshold }) (record {
+returns c =
+    let texts : CmTexts c.args.keys.now = record {
       one = c.cm_text_has_one_name.ensures;
       plain = c.cm_texts_are_plain.ensures.characters;
       long_plain = c.cm_long_names_are_plain.ensures.characters;
-    }))) v there folders own clean
+    } in
+    record {
+      orderly = λ combo threshold v f is there folders own clean.
+          clean_is_orderly f (subst IsLawful (sym is) (cm_lawful (record { keys = c.args.keys.now; combo = combo; threshold = threshold }) texts)) v there folders own clean;
+      places = λ combo threshold v f is orderly.
+          own_places f (subst IsLawful (sym is) (cm_lawful (record { keys = c.args.keys.now; combo = combo; threshold = threshold }) texts)) v orderly;
+    }

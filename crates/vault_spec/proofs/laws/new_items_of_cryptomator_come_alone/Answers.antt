@@ -1,9 +1,19 @@
+use Rattle.vault_spec.specs.Cryptomator.{cm_format}
+use Rattle.vault_spec.proofs.CmVault.{CmTexts, cm_lawful}
 use Rattle.vault_spec.proofs.CmAdding.{new_items}
+use Rattle.vault_spec.proofs.Replacing.{content_replaced}
 use Rattle.vault_spec.proofs.laws.new_items_of_cryptomator_come_alone.Goals as goal
 
 pub returns : goal.returns
-returns c combo threshold = new_items (record { keys = c.args.keys.now; combo = combo; threshold = threshold }) (record {
-  one = c.cm_text_has_one_name.ensures;
-  plain = c.cm_texts_are_plain.ensures.characters;
-  long_plain = c.cm_long_names_are_plain.ensures.characters;
-})
+returns c =
+    let texts : CmTexts c.args.keys.now = record {
+      one = c.cm_text_has_one_name.ensures;
+      plain = c.cm_texts_are_plain.ensures.characters;
+      long_plain = c.cm_long_names_are_plain.ensures.characters;
+    } in
+    record {
+      new = λ combo threshold. new_items (record { keys = c.args.keys.now; combo = combo; threshold = threshold }) texts;
+      replaced = λ combo threshold.
+          content_replaced (cm_format (record { keys = c.args.keys.now; combo = combo; threshold = threshold }))
+          (cm_lawful (record { keys = c.args.keys.now; combo = combo; threshold = threshold }) texts);
+    }

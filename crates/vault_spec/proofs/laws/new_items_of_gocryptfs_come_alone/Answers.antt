@@ -1,10 +1,17 @@
+use Rattle.vault_spec.specs.Gocryptfs.{go_format}
+use Rattle.vault_spec.proofs.GoNames.{GoTexts}
+use Rattle.vault_spec.proofs.GoVault.{go_lawful}
 use Rattle.vault_spec.proofs.GoAdding.{new_items}
+use Rattle.vault_spec.proofs.Replacing.{content_replaced}
 use Rattle.vault_spec.proofs.laws.new_items_of_gocryptfs_come_alone.Goals as goal
 
 pub returns : goal.returns
-returns c = new_items (record {
-  one = c.text_has_one_name.ensures;
-  plain = c.texts_are_plain.ensures.characters;
-  long_size = c.long_names_are_plain.ensures.size;
-  long_prefix = c.long_names_are_plain.ensures.prefix;
-})
+returns c =
+    let texts : GoTexts = record {
+      one = c.text_has_one_name.ensures;
+      plain = c.texts_are_plain.ensures.characters;
+      long_size = c.long_names_are_plain.ensures.size;
+      long_prefix = c.long_names_are_plain.ensures.prefix;
+      long_rest = c.long_names_are_plain.ensures.characters;
+    } in
+    record { new = new_items texts; replaced = λ keys. content_replaced (go_format keys) (go_lawful texts keys) }

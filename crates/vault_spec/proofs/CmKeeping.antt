@@ -36,12 +36,12 @@ pub record CmFolders (keys : CmKeys) : Type 0 where
   pub rest : (id : List ℕ) → length (drop 2 (cm_folder_of keys id)) ≡ 30
   pub characters : (id : List ℕ) → IsTrue (list_all is_base32 (cm_folder_of keys id))
 
-shelf_text : (keys : CmKeys) → CmFolders keys → (id : List ℕ) → is_base32_text 2 (take 2 (cm_folder_of keys id)) ≡ true
+pub shelf_text : (keys : CmKeys) → CmFolders keys → (id : List ℕ) → is_base32_text 2 (take 2 (cm_folder_of keys id)) ≡ true
 shelf_text keys folders id =
     ap (λ b. b && list_all is_base32 (take 2 (cm_folder_of keys id))) (eq-eqb (length (take 2 (cm_folder_of keys id))) 2 (folders.first id))
     ∙ front_plain is_base32 (take 2 (cm_folder_of keys id)) (drop 2 (cm_folder_of keys id)) (ap (list_all is_base32) (take-append-drop 2 (cm_folder_of keys id)) ∙ folders.characters id)
 
-folder_text : (keys : CmKeys) → CmFolders keys → (id : List ℕ) → is_base32_text 30 (drop 2 (cm_folder_of keys id)) ≡ true
+pub folder_text : (keys : CmKeys) → CmFolders keys → (id : List ℕ) → is_base32_text 30 (drop 2 (cm_folder_of keys id)) ≡ true
 folder_text keys folders id =
     ap (λ b. b && list_all is_base32 (drop 2 (cm_folder_of keys id))) (eq-eqb (length (drop 2 (cm_folder_of keys id))) 30 (folders.rest id))
     ∙ right_plain is_base32 (take 2 (cm_folder_of keys id)) (drop 2 (cm_folder_of keys id)) (ap (list_all is_base32) (take-append-drop 2 (cm_folder_of keys id)) ∙ folders.characters id)

@@ -31,7 +31,7 @@ use Rattle.vault_spec.proofs.Entries.{long_entry, IsShortOrLong, entry_is}
 use Rattle.vault_spec.proofs.GoNames.{GoTexts, entry_not_key, entry_not_full, full_not_key}
 use Rattle.vault_spec.proofs.GoVault.{go_lawful, is_go_key, key_is, text_plain}
 
-differ : (a b : List ℕ) → a ≢ b → bytes_eq a b ≡ false
+pub differ : (a b : List ℕ) → a ≢ b → bytes_eq a b ≡ false
 differ a b apart = elim (bytes_eq a b) as (λ t. bytes_eq a b ≡ t → t ≡ false) [
   | true ↦ λ e. absurd (apart ((bytes_eq-Decides a b).0 e))
   | false ↦ λ e. refl

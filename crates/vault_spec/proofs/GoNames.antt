@@ -30,22 +30,23 @@ not_long text other rest texts plain e =
     let dotted : IsTrue (list_all is_base64url (codes "gocryptfs.longname.")) = ap (list_all is_base64url) (sym (texts.long_prefix other)) ∙ front in
     cc
 
--- no entry of a name is a directory's key file
-pub entry_not_key : (text : List ℕ) → GoTexts → IsTrue (list_all is_base64url text) → (entry_of text).name ≢ key_file
-entry_not_key text texts plain e = by_form (entry_is long_name 255 text)
+-- no entry of a name is a file whose name has a dot, and not as many characters as a long one
+pub entry_not : (x : List ℕ) → list_all is_base64url x ≡ false → length x ≢ 62 → (text : List ℕ) → GoTexts → IsTrue (list_all is_base64url text) → (entry_of text).name ≢ x
+entry_not x dotted short text texts plain e = by_form (entry_is long_name 255 text)
   where
-    not_sizes : {n : ℕ} → n ≡ length key_file → n ≡ 62 → ⊥
-    not_sizes one other = let key_size : length key_file ≡ 15 = refl in omega (arith, one, other, key_size)
-
     by_form : IsShortOrLong long_name 255 text → ⊥
-    by_form (inl short) =
-        let same : text ≡ key_file = ap (λ (s : Stored). s.name) (sym short) ∙ e in
-        let dotted : IsTrue (list_all is_base64url key_file) = ap (list_all is_base64url) (sym same) ∙ plain in
+    by_form (inl is_short) =
+        let same : text ≡ x = ap (λ (s : Stored). s.name) (sym is_short) ∙ e in
+        let clash : true ≡ false = sym plain ∙ ap (list_all is_base64url) same ∙ dotted in
         cc
-    by_form (inr long) =
-        let same : long_name text ≡ key_file = ap (λ (s : Stored). s.name) (sym long) ∙ e in
-        let sizes : length (long_name text) ≡ length key_file = ap length same in
-        not_sizes sizes (texts.long_size text)
+    by_form (inr long) = short (ap length (sym e ∙ ap (λ (s : Stored). s.name) long) ∙ texts.long_size text)
+
+-- so none is a directory's key file
+pub entry_not_key : (text : List ℕ) → GoTexts → IsTrue (list_all is_base64url text) → (entry_of text).name ≢ key_file
+entry_not_key = entry_not key_file refl (λ size. not_sizes size)
+  where
+    not_sizes : length key_file ≡ 62 → ⊥
+    not_sizes size = let is : length key_file ≡ 15 = refl in omega (arith, size, is)
 
 -- no entry of a name is the long-name file of a long one
 pub entry_not_full : (text other : List ℕ) → GoTexts → IsTrue (list_all is_base64url text) → (entry_of text).name ≢ full_name (long_name other)

@@ -9,12 +9,15 @@ mod Keeping
 mod OwnPlaces
 mod Replacing
 mod ReplacedClean
+mod EmptyRoots
 mod ByteKeys
 mod Entries
 mod GoNames
 mod GoVault
 mod GoAdding
 mod GoKeeping
+mod GoNew
 mod CmVault
 mod CmAdding
 mod CmKeeping
+mod CmNew

@@ -140,7 +140,7 @@ unnamed_back f lawful v e keeps finding at u = elim (keeps.back u.reached.0 u.di
 ]
 
 -- where nothing stands at an entry there is no item
-nothing_at : (f : Format) → IsLawful f → (w : View) (dir : Directory) (name : List ℕ) → w (entry_at f dir name) ≡ NoEntry → item_at f w dir (f.stored dir.key name) ≡ Nothing
+pub nothing_at : (f : Format) → IsLawful f → (w : View) (dir : Directory) (name : List ℕ) → w (entry_at f dir name) ≡ NoEntry → item_at f w dir (f.stored dir.key name) ≡ Nothing
 nothing_at f lawful w dir name none = lawful.none (is_some (f.stored dir.key name).full) (under (entry_at f dir name) w) (ap w (append-nil (entry_at f dir name)) ∙ none)
 
 -- what was no item was none

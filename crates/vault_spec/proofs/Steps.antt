@@ -21,7 +21,7 @@ along f v (Strange a) dir at (n ∷ front) name h = cc
 along f v Absent dir at (n ∷ front) name h = cc
 
 -- nothing stands behind what is no item
-behind_no_item : (f : Format) (v : View) (s : Standing) (rest : plain.Path) → IsNoItem s → IsNoItem (standing_from f v s rest)
+pub behind_no_item : (f : Format) (v : View) (s : Standing) (rest : plain.Path) → IsNoItem s → IsNoItem (standing_from f v s rest)
 behind_no_item f v s [] none = none
 behind_no_item f v Absent (n ∷ rest) none = none
 behind_no_item f v (Strange at) (n ∷ rest) none = none
@@ -37,7 +37,7 @@ behind_leaf f w Absent n rest leaf = absurd leaf
 behind_leaf f w (Strange at) n rest leaf = absurd leaf
 
 -- what opens at two standings that are alike
-opens_alike : (f : Format) (v w : View) (s t : Standing) → AreAlike v w s t → opened_at f v s ≡ opened_at f w t
+pub opens_alike : (f : Format) (v w : View) (s t : Standing) → AreAlike v w s t → opened_at f v s ≡ opened_at f w t
 opens_alike f v w Absent t (inl same) = ap (opened_at f w) same.stands
 opens_alike f v w (Strange at) t (inl same) = ap (opened_at f w) same.stands
 opens_alike f v w (File at) t (inl same) = ap (λ x. opened_file f.content (file_bytes x)) (same.bytes at refl) ∙ ap (opened_at f w) same.stands

@@ -13,3 +13,4 @@ pub mod Making
 pub mod NewVault
 pub mod Alike
 pub mod Adding
+pub mod Empty

@@ -1,17 +1,23 @@
 //! Laws of the definitions. Each function gives nothing, and its clauses are the laws.
-ghost use Rattle.std.specs.Prelude.{◌≡◌, ◌≢◌, ◌++◌, ◌∷◌, [], ℕ, List};
+ghost use Rattle.std.specs.Prelude.{◌≡◌, ◌≢◌, ◌++◌, ◌∷◌, [], ℕ, List, Some};
 ghost use Rattle.cryptomator_conf.specs.declared.conf.Combo.{Combo};
+ghost use Rattle.cryptomator_conf.specs.declared.conf.CmDraw.{CmDraw};
+ghost use Rattle.cryptomator_conf.specs.Text.{keys_of};
 ghost use Rattle.folder_spec.specs.Path as folder;
 ghost use Rattle.folder_spec.specs.Seen.{under};
 ghost use Rattle.folder_spec.specs.View.{View, Folder};
+ghost use Rattle.gocrypt_conf.specs.declared.conf.GoDraw.{GoDraw};
 ghost use Rattle.gocrypt_conf.specs.declared.keys.GoKeys.{GoKeys};
+ghost use Rattle.kdf_suite.specs.ScryptCost.{Cost};
 ghost use Rattle.plain_tree.specs.Names.{Path};
 ghost use Rattle.vault_spec.specs.Adding.{NewItemsComeAlone, NewItemsStayClean, ContentsAreReplacedAlone, ReplacedContentsStayClean};
 ghost use Rattle.vault_spec.specs.Alike.{LooksAlike, GainsItem, HasFolders, IsOrderly, HaveOwnPlaces};
 ghost use Rattle.vault_spec.specs.Cryptomator.{cm_format};
+ghost use Rattle.vault_spec.specs.Empty.{IsEmptyVault};
 ghost use Rattle.vault_spec.specs.Findings.{IsClean};
 ghost use Rattle.vault_spec.specs.Format.{Format};
-ghost use Rattle.vault_spec.specs.Gocryptfs.{go_format};
+ghost use Rattle.vault_spec.specs.Gocryptfs.{go_format, directory_key};
+ghost use Rattle.vault_spec.specs.NewVault.{new_go_vault, new_cm_vault};
 ghost use Rattle.vault_spec.specs.Opens.{opened, opened_at, tree};
 ghost use Rattle.vault_spec.specs.Reached.{HaveOwnFolders};
 ghost use Rattle.vault_spec.specs.Standing.{standing, standing_in};
@@ -101,6 +107,27 @@ pub fn new_items_of_gocryptfs_keep_vaults_clean()
 pub fn new_items_of_cryptomator_keep_vaults_clean(keys: &CmKeys)
     ensures replaced { (combo : Combo) (threshold : ℕ) → ReplacedContentsStayClean (cm_format (record { keys = keys.now; combo = combo; threshold = threshold })) }
     ensures new { (combo : Combo) (threshold : ℕ) → NewItemsStayClean (cm_format (record { keys = keys.now; combo = combo; threshold = threshold })) }
+{
+    cm_text_has_one_name(keys);
+    cm_texts_are_plain(keys);
+    cm_long_names_are_plain();
+    cm_folders_are_plain();
+}
+
+/// A new gocryptfs vault is clean, and its root alone opens.
+pub fn new_vaults_of_gocryptfs_are_empty()
+    ensures { (keys : GoKeys) (pass : List ℕ) (cost : Cost) (drawn : GoDraw) (key : List ℕ) → directory_key key ≡ Some key
+        → IsEmptyVault (go_format keys) (new_go_vault pass cost drawn key) }
+{
+    text_has_one_name();
+    texts_are_plain();
+    long_names_are_plain();
+}
+
+/// A new Cryptomator vault is clean under its drawn keys, and its root alone opens.
+pub fn new_vaults_of_cryptomator_are_empty(keys: &CmKeys)
+    ensures { (combo : Combo) (threshold : ℕ) (pass : List ℕ) (cost : Cost) (drawn : CmDraw) → keys.now ≡ keys_of drawn
+        → IsEmptyVault (cm_format (record { keys = keys.now; combo = combo; threshold = threshold })) (new_cm_vault pass cost drawn) }
 {
     cm_text_has_one_name(keys);
     cm_texts_are_plain(keys);

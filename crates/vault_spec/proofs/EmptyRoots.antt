@@ -1,0 +1,40 @@
+-- A vault whose root is entered and holds no item.
+use Rattle.std.proofs.Common.{◌≡◌, ℕ, List, [], ◌∷◌, Ok, Err, sym, ap, ◌∙◌, inr, subst}
+use Rattle.folder_spec.specs.View.{View}
+use Rattle.plain_tree.specs.Names as plain
+use Rattle.vault_spec.specs.Format.{Format, Directory}
+use Rattle.vault_spec.specs.Standing.{Standing, Absent, Strange, File, Dir, root_of, standing_in, standing_from, standing}
+use Rattle.vault_spec.specs.Opens as opens
+use Rattle.vault_spec.specs.Opens.{opened, opened_at}
+use Rattle.vault_spec.specs.Reached.{Leads}
+use Rattle.vault_spec.specs.Alike.{IsNoItem}
+use Rattle.vault_spec.proofs.Steps.{behind_no_item, opens_alike}
+
+pub record HasEmptyRoot (f : Format) (v : View) (top : Directory) : Type 0 where
+  pub root : root_of f v ≡ Dir [] (Ok top)
+  pub empty : (name : List ℕ) → IsNoItem (standing_in f v top name)
+
+pub nothing_stands : (f : Format) (v : View) (top : Directory) → HasEmptyRoot f v top → (name : List ℕ) (rest : plain.Path) → IsNoItem (standing f v (name ∷ rest))
+nothing_stands f v top has name rest =
+    subst (λ s. IsNoItem (standing_from f v s (name ∷ rest))) (sym has.root) (behind_no_item f v (standing_in f v top name) rest (has.empty name))
+
+-- its root alone opens
+pub root_opens : (f : Format) (v : View) (top : Directory) → HasEmptyRoot f v top → opened f v [] ≡ opens.Directory
+unfolding opened
+root_opens f v top has = ap (opened_at f v) has.root
+
+pub nothing_opens : (f : Format) (v : View) (top : Directory) → HasEmptyRoot f v top → (name : List ℕ) (rest : plain.Path) → opened f v (name ∷ rest) ≡ opens.NoItem
+unfolding opened
+nothing_opens f v top has name rest = opens_alike f v v (standing f v (name ∷ rest)) Absent (inr (nothing_stands f v top has name rest, record {}))
+
+-- and its root alone is reached
+pub only_top : (f : Format) (v : View) (top : Directory) → HasEmptyRoot f v top → (path : plain.Path) (dir : Directory) → Leads f v path dir → dir ≡ top
+only_top f v top has [] dir leads = ap (dir_or dir) (sym leads.stands ∙ has.root)
+  where
+    dir_or : Directory → Standing → Directory
+    dir_or d (Dir at (Ok e)) = e
+    dir_or d (Dir at (Err finding)) = d
+    dir_or d (File at) = d
+    dir_or d (Strange at) = d
+    dir_or d Absent = d
+only_top f v top has (name ∷ rest) dir leads = absurd (subst IsNoItem leads.stands (nothing_stands f v top has name rest))

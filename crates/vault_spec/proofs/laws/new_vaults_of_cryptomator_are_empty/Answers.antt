@@ -1,0 +1,27 @@
+use Rattle.std.proofs.Common.{[], subst}
+use Rattle.cryptomator_conf.specs.Text.{made_master, master_text, vault_text, version_bytes, version_mac}
+use Rattle.cryptomator_conf.specs.declared.keys.CmKeys.{CmKeys}
+use Rattle.vault_names.specs.Cryptomator.{cm_folder_of}
+use Rattle.vault_spec.specs.Cryptomator.{cm_format}
+use Rattle.vault_spec.specs.Empty.{IsEmptyVault}
+use Rattle.vault_spec.proofs.CmNew.{new_root, new_is_empty}
+use Rattle.vault_spec.proofs.CmKeeping.{CmFolders}
+use Rattle.vault_spec.proofs.CmVault.{CmTexts}
+use Rattle.vault_spec.proofs.laws.new_vaults_of_cryptomator_are_empty.Goals as goal
+
+pub returns : goal.returns
+returns c combo threshold pass cost drawn same =
+    let texts : CmTexts c.args.keys.now = record {
+      one = c.cm_text_has_one_name.ensures;
+      plain = c.cm_texts_are_plain.ensures.characters;
+      long_plain = c.cm_long_names_are_plain.ensures.characters;
+    } in
+    let folders : CmFolders c.args.keys.now = record {
+      first = λ id. c.cm_folders_are_plain.ensures.first c.args.keys.now id;
+      rest = λ id. c.cm_folders_are_plain.ensures.rest c.args.keys.now id;
+      characters = λ id. c.cm_folders_are_plain.ensures.characters c.args.keys.now id;
+    } in
+    subst (λ (k : CmKeys). IsEmptyVault (cm_format (record { keys = c.args.keys.now; combo = combo; threshold = threshold }))
+    (new_root (master_text (made_master pass cost drawn) (version_mac drawn.mac version_bytes)) (vault_text drawn) (cm_folder_of k []))) same
+    (new_is_empty (record { keys = c.args.keys.now; combo = combo; threshold = threshold }) texts folders
+    (master_text (made_master pass cost drawn) (version_mac drawn.mac version_bytes)) (vault_text drawn))

@@ -14,27 +14,38 @@ pub data Refusal : Type 0 where
   WrongKind : plain.Path → Refusal
   Locked : Path → Finding → Refusal
 
+-- what stands at this part of a path, if an item does
+abbrev pub item_there : plain.Path → Standing → Result Standing Refusal
+item_there front Absent = Err (NotFound front)
+item_there front (Strange at) = Err (WrongKind front)
+item_there front (File at) = Ok (File at)
+item_there front (Dir at directory) = Ok (Dir at directory)
+
+-- the directory that is entered there
+abbrev pub entered : plain.Path → Standing → Result Directory Refusal
+entered front Absent = Err (NotFound front)
+entered front (Strange at) = Err (WrongKind front)
+entered front (File at) = Err (WrongKind front)
+entered front (Dir at (Err finding)) = Err (Locked at finding)
+entered front (Dir at (Ok dir)) = Ok dir
+
+-- what follows in a directory that is entered
+abbrev pub then_in : {A : Type 0} → Result Directory Refusal → (Directory → Result A Refusal) → Result A Refusal
+then_in (Err refusal) next = Err refusal
+then_in (Ok dir) next = next dir
+
 -- what stands at the rest of a path behind what stands at its front, or the first part that doesn't serve
 abbrev pub find_from : Format → View → plain.Path → Standing → plain.Path → Result Standing Refusal
-find_from f v front Absent rest = Err (NotFound front)
-find_from f v front (Strange at) rest = Err (WrongKind front)
-find_from f v front (File at) [] = Ok (File at)
-find_from f v front (File at) (name ∷ rest) = Err (WrongKind front)
-find_from f v front (Dir at directory) [] = Ok (Dir at directory)
-find_from f v front (Dir at (Err finding)) (name ∷ rest) = Err (Locked at finding)
-find_from f v front (Dir at (Ok dir)) (name ∷ rest) = find_from f v (front ++ name ∷ []) (standing_in f v dir name) rest
+find_from f v front here [] = item_there front here
+find_from f v front here (name ∷ rest) = then_in (entered front here) (λ dir. find_from f v (front ++ name ∷ []) (standing_in f v dir name) rest)
 
 unfoldable pub find : Format → View → plain.Path → Result Standing Refusal
 find f v path = find_from f v [] (root_of f v) path
 
--- what stands at a path as a directory that is to be entered
-abbrev pub entered : plain.Path → Result Standing Refusal → Result Directory Refusal
-entered path (Err refusal) = Err refusal
-entered path (Ok (Dir at (Ok dir))) = Ok dir
-entered path (Ok (Dir at (Err finding))) = Err (Locked at finding)
-entered path (Ok (File at)) = Err (WrongKind path)
-entered path (Ok (Strange at)) = Err (WrongKind path)
-entered path (Ok Absent) = Err (NotFound path)
+-- the directory at a path that is to be entered
+abbrev pub enter_from : Format → View → plain.Path → Standing → plain.Path → Result Directory Refusal
+enter_from f v front here [] = entered front here
+enter_from f v front here (name ∷ rest) = then_in (entered front here) (λ dir. enter_from f v (front ++ name ∷ []) (standing_in f v dir name) rest)
 
-abbrev pub enter : Format → View → plain.Path → Result Directory Refusal
-enter f v path = entered path (find f v path)
+unfoldable pub enter : Format → View → plain.Path → Result Directory Refusal
+enter f v path = enter_from f v [] (root_of f v) path

@@ -71,12 +71,14 @@ UnlocksGo conf pass answer =
     ((keys : GoKeys) × gocryptfs.Unlocks conf pass keys × (answer ≡ Ok (Gocryptfs keys)))
     ⊎ (((keys : GoKeys) → ¬ gocryptfs.Unlocks conf pass keys) × (answer ≡ Err WrongPass))
 
--- the tests of a gocryptfs vault: its configuration, and the passphrase
-abbrev pub LoadsGo : View → List ℕ → Answer → Type 0
-LoadsGo v pass answer =
-    OfFile go_conf (v go_conf) answer (λ bytes.
+-- the tests of a gocryptfs vault behind the bytes of its configuration: what they say, and the passphrase
+abbrev pub TestsGo : List ℕ → List ℕ → Answer → Type 0
+TestsGo bytes pass answer =
     (read : Result GoConf GoConfFault) × ReadsAs bytes read
-    × MatchResult read (λ conf. UnlocksGo conf pass answer) (λ fault. answer ≡ Err (GoRefused fault)))
+    × MatchResult read (λ conf. UnlocksGo conf pass answer) (λ fault. answer ≡ Err (GoRefused fault))
+
+abbrev pub LoadsGo : View → List ℕ → Answer → Type 0
+LoadsGo v pass answer = OfFile go_conf (v go_conf) answer (λ bytes. TestsGo bytes pass answer)
 
 abbrev pub cm_vault : CmKeys → VaultFile → CmVault
 cm_vault keys file = record { keys = keys; combo = file.combo; threshold = file.threshold }
@@ -93,15 +95,20 @@ UnlocksCm master file pass answer =
     ((keys : CmKeys) × AreKeys keys × cryptomator.Unlocks master pass keys × Signs keys file answer)
     ⊎ (((keys : CmKeys) → AreKeys keys → ¬ cryptomator.Unlocks master pass keys) × (answer ≡ Err WrongPass))
 
--- the tests of a Cryptomator vault: both files are there; the master key file; the vault's file; the passphrase; the signature
-abbrev pub LoadsCm : View → List ℕ → Answer → Type 0
-LoadsCm v pass answer =
-    OfFile master_file (v master_file) answer (λ master_bytes.
-    OfFile vault_file (v vault_file) answer (λ vault_bytes.
+-- the tests of a Cryptomator vault behind the bytes of its two files: the master key file, the vault's file, the passphrase, the
+-- signature
+abbrev pub TestsCm : List ℕ → List ℕ → List ℕ → Answer → Type 0
+TestsCm master_bytes vault_bytes pass answer =
     (read : Result MasterFile CmConfFault) × ReadsMaster master_bytes read
     × MatchResult read
     (λ master. MatchResult (vault_in vault_bytes) (λ file. UnlocksCm master file pass answer) (λ fault. answer ≡ Err (CmRefused vault_file fault)))
-    (λ fault. answer ≡ Err (CmRefused master_file fault))))
+    (λ fault. answer ≡ Err (CmRefused master_file fault))
+
+-- both files are there first
+abbrev pub LoadsCm : View → List ℕ → Answer → Type 0
+LoadsCm v pass answer =
+    OfFile master_file (v master_file) answer (λ master_bytes.
+    OfFile vault_file (v vault_file) answer (λ vault_bytes. TestsCm master_bytes vault_bytes pass answer))
 
 -- which format's tests count, by what stands at `gocryptfs.conf` and at `vault.cryptomator`
 abbrev pub LoadsBy : Found → Found → View → List ℕ → Answer → Type 0

@@ -1,5 +1,5 @@
 -- A clean vault is orderly.
-use Rattle.std.proofs.Common.{◌≡◌, ◌≢◌, ◌⊎◌, ℕ, zero, suc, ◌+◌, Bool, true, false, List, [], ◌∷◌, ◌++◌, Ok, Err, Result, cond, refl, sym, ap, ◌∙◌, inl, inr, subst, Some, None, Option, length, length-append, arith, bytes_eq}
+use Rattle.std.proofs.Common.{◌≡◌, ◌≢◌, ◌⊎◌, ℕ, zero, suc, ◌+◌, Bool, true, false, List, [], ◌∷◌, ◌++◌, Ok, Err, Result, refl, sym, ap, ◌∙◌, inl, inr, subst, length, length-append, arith, bytes_eq}
 use Rattle.std.proofs.lemmas.Slice.Eq.{bytes_eq-Decides}
 use Rattle.folder_spec.specs.Path.{Part, Path, child}
 use Rattle.folder_spec.specs.View.{Folder, View}
@@ -7,9 +7,10 @@ use Rattle.folder_spec.specs.Seen.{under}
 use Rattle.folder_spec.proofs.Paths.{one_or_not, base_or_child, child-not_base}
 use Rattle.plain_tree.specs.Names as plain
 use Rattle.plain_tree.specs.Names.{is_name}
-use Rattle.vault_spec.specs.declared.Finding.{Finding}
+use Rattle.vault_spec.specs.declared.Lack.{Lack}
 use Rattle.vault_spec.specs.declared.Finding.TheVariants.{NoDirKey, NoFolder, DirIdTwice}
-use Rattle.vault_spec.specs.Format.{Format, Directory, Item, Nothing, FileItem, DirectoryItem, NoItem, is_folder, key_of}
+use Rattle.vault_spec.specs.declared.Lack.TheVariants as lacks
+use Rattle.vault_spec.specs.Format.{Format, Directory, Item, Nothing, FileItem, DirectoryItem, NoItem, key_of}
 use Rattle.vault_spec.specs.Standing.{Standing, Absent, Strange, File, Dir, root_of, directory_with, entry_at, holds_full, item_at, standing_of, standing_in, standing_from}
 use Rattle.vault_spec.specs.Reached.{Leads, HaveOwnFolders}
 use Rattle.vault_spec.specs.Findings.{IsClean, IsLocked}
@@ -19,27 +20,14 @@ use Rattle.vault_spec.proofs.Grafts.{IsEntered, is_entered, reached_right, stand
 use Rattle.vault_spec.proofs.PathEnds.{child-both}
 use Rattle.vault_spec.proofs.Places.{other_name}
 
--- what isn't entered has no key or no folder
-lock_is : (f : Format) (v : View) (at : Path) (key : Option (List ℕ)) (finding : Finding) → directory_with f v at key ≡ Err finding → (finding ≡ NoDirKey) ⊎ (finding ≡ NoFolder)
-lock_is f v at None finding e = inl cc
-lock_is f v at (Some key) finding e =
-    by_folder (is_folder (v (f.folder_of at key))) e
-  where
-    err_is : {x y : Finding} → ◌≡◌ {A = Result Directory Finding} (Err x) (Err y) → x ≡ y
-    err_is e = cc
-
-    by_folder : (b : Bool) → cond {A = Result Directory Finding} b (Ok (record { folder = f.folder_of at key; key = key })) (Err NoFolder) ≡ Err finding → (finding ≡ NoDirKey) ⊎ (finding ≡ NoFolder)
-    by_folder true is = cc
-    by_folder false is = inr (sym (err_is is))
-
 -- how a directory stands under a name
-pub record StandsAs (f : Format) (v : View) (dir : Directory) (name : List ℕ) (at : Path) (x : Result Directory Finding) : Type 0 where
+pub record StandsAs (f : Format) (v : View) (dir : Directory) (name : List ℕ) (at : Path) (x : Result Directory Lack) : Type 0 where
   pub named : is_name name ≡ true
   pub held : holds_full f v dir (f.stored dir.key name) ≡ true
   pub place : at ≡ entry_at f dir name
   pub entered : directory_with f v (entry_at f dir name) (key_of f (under (entry_at f dir name) v)) ≡ x
 
-by_item : (f : Format) (v : View) (at : Path) (held : Bool) (item : Item) (a : Path) (x : Result Directory Finding) → standing_of f v at held item ≡ Dir a x
+by_item : (f : Format) (v : View) (at : Path) (held : Bool) (item : Item) (a : Path) (x : Result Directory Lack) → standing_of f v at held item ≡ Dir a x
     → (held ≡ true) × (a ≡ at) × (directory_with f v at (key_of f (under at v)) ≡ x)
 by_item f v at held Nothing a x e = cc
 by_item f v at false (FileItem rest) a x e = cc
@@ -48,7 +36,7 @@ by_item f v at false DirectoryItem a x e = cc
 by_item f v at true DirectoryItem a x e = (refl, cc, cc)
 by_item f v at held (NoItem finding) a x e = cc
 
-pub stands_as : (f : Format) (v : View) (dir : Directory) (name : List ℕ) (at : Path) (x : Result Directory Finding) → standing_in f v dir name ≡ Dir at x → StandsAs f v dir name at x
+pub stands_as : (f : Format) (v : View) (dir : Directory) (name : List ℕ) (at : Path) (x : Result Directory Lack) → standing_in f v dir name ≡ Dir at x → StandsAs f v dir name at x
 stands_as f v dir name at x e = by_name (is_name name) refl
   where
     by_name : (b : Bool) → is_name name ≡ b → StandsAs f v dir name at x
@@ -80,15 +68,15 @@ goes_through f v (Strange at) (n ∷ front) name a d e = cc
 goes_through f v Absent (n ∷ front) name a d e = cc
 
 -- a directory that a path through another leads to stands there under the last name
-record IsChild (f : Format) (v : View) (path : plain.Path) (name : List ℕ) (d : Directory) : Type 0 where
-  dir : Directory
-  leads : Leads f v path dir
-  at : Path
-  stands : standing_in f v dir name ≡ Dir at (Ok d)
-  how : StandsAs f v dir name at (Ok d)
-  its : IsEntered f v (entry_at f dir name) (key_of f (under (entry_at f dir name) v)) d
+pub record IsChild (f : Format) (v : View) (path : plain.Path) (name : List ℕ) (d : Directory) : Type 0 where
+  pub dir : Directory
+  pub leads : Leads f v path dir
+  pub at : Path
+  pub stands : standing_in f v dir name ≡ Dir at (Ok d)
+  pub how : StandsAs f v dir name at (Ok d)
+  pub its : IsEntered f v (entry_at f dir name) (key_of f (under (entry_at f dir name) v)) d
 
-is_child : (f : Format) (v : View) (path : plain.Path) (name : List ℕ) (d : Directory) → Leads f v (path ++ name ∷ []) d → IsChild f v path name d
+pub is_child : (f : Format) (v : View) (path : plain.Path) (name : List ℕ) (d : Directory) → Leads f v (path ++ name ∷ []) d → IsChild f v path name d
 is_child f v path name d leads =
     let through : GoesThrough f v (root_of f v) path name (Dir leads.at (Ok d)) = goes_through f v (root_of f v) path name leads.at d leads.stands in
     let how : StandsAs f v through.dir name leads.at (Ok d) = stands_as f v through.dir name leads.at (Ok d) through.then in
@@ -190,22 +178,18 @@ clean_is_orderly f lawful v there folders own clean = record {
   top = top.0;
   root = ap (Dir []) top.1;
   folders = folders;
-  entered = λ path dir name at finding leads stands. not_locked dir name at finding (stands_as f v dir name at (Err finding) stands)
-      (inr (record { dir = dir; name = name; reached = (path, leads); stands = stands }));
+  entered = λ path dir name at lack leads stands. no_lock at lack (inr (record { dir = dir; name = name; reached = (path, leads); stands = stands }));
   one_path = λ path other dir leads leads_too. one_path_by f lawful v clean own (length path) path other dir refl leads leads_too;
   own_folder = own;
 }
   where
-    no_lock : (at : Path) (finding : Finding) → (finding ≡ NoDirKey) ⊎ (finding ≡ NoFolder) → IsLocked f v finding at → ⊥
-    no_lock at finding (inl is) locked = clean NoDirKey at refl (subst (λ x. IsLocked f v x at) is locked)
-    no_lock at finding (inr is) locked = clean NoFolder at refl (subst (λ x. IsLocked f v x at) is locked)
+    no_lock : (at : Path) (lack : Lack) → ¬ IsLocked f v lack at
+    no_lock at lacks.NoDirKey locked = clean NoDirKey at refl locked
+    no_lock at lacks.NoFolder locked = clean NoFolder at refl locked
 
-    not_locked : (dir : Directory) (name : List ℕ) (at : Path) (finding : Finding) → StandsAs f v dir name at (Err finding) → IsLocked f v finding at → ⊥
-    not_locked dir name at finding how locked = no_lock at finding (lock_is f v (entry_at f dir name) (key_of f (under (entry_at f dir name) v)) finding how.entered) locked
-
-    by_root : (x : Result Directory Finding) → directory_with f v [] (f.root_key v) ≡ x → (d : Directory) × (directory_with f v [] (f.root_key v) ≡ Ok d)
+    by_root : (x : Result Directory Lack) → directory_with f v [] (f.root_key v) ≡ x → (d : Directory) × (directory_with f v [] (f.root_key v) ≡ Ok d)
     by_root (Ok d) e = (d, e)
-    by_root (Err finding) e = absurd (no_lock [] finding (lock_is f v [] (f.root_key v) finding e) (inl (ap (Dir []) e)))
+    by_root (Err lack) e = absurd (no_lock [] lack (inl (ap (Dir []) e)))
 
     top : (d : Directory) × (directory_with f v [] (f.root_key v) ≡ Ok d)
     top = by_root (directory_with f v [] (f.root_key v)) refl

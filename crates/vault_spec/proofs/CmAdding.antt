@@ -10,7 +10,7 @@ use Rattle.plain_tree.specs.Names as plain
 use Rattle.plain_tree.specs.Names.{is_name}
 use Rattle.vault_names.specs.Cryptomator.{cm_stored, cm_folder_of}
 use Rattle.vault_names.specs.declared.entry.Stored.{Stored}
-use Rattle.vault_spec.specs.declared.Finding.TheVariants.{NoFolder}
+use Rattle.vault_spec.specs.declared.Lack.TheVariants.{NoFolder}
 use Rattle.vault_spec.specs.Format.{Directory, DirectoryItem, file_bytes, is_folder, taken_at, key_of}
 use Rattle.vault_spec.specs.Cryptomator.{CmVault, cm_format, top, id_file, content_file, full_file, directory_id, shelf_named, folder_named, content_folder, cm_item, full_files, new_file_edit, folder_where_free, taken_unless_folder, taken_folders, taken_entry}
 use Rattle.vault_spec.specs.Standing.{File, Dir, entry_at, is_file_of, holds, holds_full, standing_of, standing_in, directory_with}

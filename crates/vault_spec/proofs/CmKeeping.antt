@@ -69,7 +69,7 @@ top_role Folder is = cc
 top_role (FileOf bytes) is = cc
 top_role Special is = cc
 
-shelf_role : (a : Part) (there : Found) → cm_role (top ∷ a ∷ []) there ≢ ContentFolder
+pub shelf_role : (a : Part) (there : Found) → cm_role (top ∷ a ∷ []) there ≢ ContentFolder
 shelf_role a NoEntry is = cc
 shelf_role a Folder is = by_name (is_base32_text 2 a) is
   where
@@ -97,7 +97,13 @@ shelf_place vault texts folders v id = record {
         let clash : Expected ≡ Extra = sym (no_role_of_nothing (shelf_named (cm_folder_of vault.keys id) ++ a ∷ rest))
         ∙ ap (cm_role (shelf_named (cm_folder_of vault.keys id) ++ a ∷ rest)) (sym (brought v (directory_edit (shelf_named (cm_folder_of vault.keys id))) (a ∷ rest))) ∙ is in cc
 
--- and so has a content folder
+-- a content folder is one by its name
+pub folder_is : (vault : CmVault) → CmFolders vault.keys → (id : List ℕ) → cm_role (content_folder vault.keys id) Folder ≡ ContentFolder
+folder_is vault folders id =
+    ap (λ b. cond b (folder_role (is_base32_text 30 (drop 2 (cm_folder_of vault.keys id))) ContentFolder Folder) Expected) (shelf_text vault.keys folders id)
+    ∙ ap (λ b. cond b ContentFolder Extra) (folder_text vault.keys folders id)
+
+-- and has its place
 folder_place : (vault : CmVault) (texts : CmTexts vault.keys) → CmFolders vault.keys → (v : View) (id : List ℕ) → HasPlace (cm_format vault) v (directory_edit (content_folder vault.keys id))
 folder_place vault texts folders v id = record {
   inner = λ path dir name x leads here long item there. absurd (no_inner vault texts v (content_folder vault.keys id) (λ z. cc) path dir name x leads here);
@@ -110,10 +116,7 @@ folder_place vault texts folders v id = record {
   where
     role : (rest : Path) → cm_role (content_folder vault.keys id ++ rest) (edited v (directory_edit (content_folder vault.keys id)) (content_folder vault.keys id ++ rest)) ≢ Extra
     role [] is =
-        let named : cm_role (content_folder vault.keys id) Folder ≡ ContentFolder
-        = ap (λ b. cond b (folder_role (is_base32_text 30 (drop 2 (cm_folder_of vault.keys id))) ContentFolder Folder) Expected) (shelf_text vault.keys folders id)
-        ∙ ap (λ b. cond b ContentFolder Extra) (folder_text vault.keys folders id) in
-        let clash : ContentFolder ≡ Extra = sym named ∙ ap (cm_role (content_folder vault.keys id)) (sym (brought v (directory_edit (content_folder vault.keys id)) [])) ∙ is in cc
+        let clash : ContentFolder ≡ Extra = sym (folder_is vault folders id) ∙ ap (cm_role (content_folder vault.keys id)) (sym (brought v (directory_edit (content_folder vault.keys id)) [])) ∙ is in cc
     role (a ∷ rest) is =
         let clash : Expected ≡ Extra = sym (no_role_of_nothing (content_folder vault.keys id ++ a ∷ rest))
         ∙ ap (cm_role (content_folder vault.keys id ++ a ∷ rest)) (sym (brought v (directory_edit (content_folder vault.keys id)) (a ∷ rest))) ∙ is in cc
@@ -219,7 +222,7 @@ new_file_clean vault texts v front dir name bytes orderly clean leads named none
 
 abbrev parts_of : Directory → Standing → Path × Directory
 parts_of d (Dir at (Ok dir)) = (at, dir)
-parts_of d (Dir at (Err finding)) = (at, d)
+parts_of d (Dir at (Err lack)) = (at, d)
 parts_of d (File at) = (at, d)
 parts_of d (Strange at) = (at, d)
 parts_of d Absent = ([], d)
@@ -234,7 +237,7 @@ directory_whole vault texts u front dir name id new is_id ready apart alone = re
   is_item = λ finding is. cc;
   inside = directory_inside (cm_stored vault.keys vault.threshold dir.key name).full id;
   not_full = refl;
-  unlocked = λ at finding is. let clash : Dir (entry_at (cm_format vault) dir name) (Ok (the_directory id)) ≡ Dir at (Err finding) = sym stands ∙ is in cc;
+  unlocked = λ at lack is. let clash : Dir (entry_at (cm_format vault) dir name) (Ok (the_directory id)) ≡ Dir at (Err lack) = sym stands ∙ is in cc;
   entered = entered;
 }
   where

@@ -9,6 +9,8 @@ use Rattle.plain_tree.specs.Names.{is_name}
 use Rattle.cryptomator_conf.specs.declared.keys.CmKeys.{CmKeys}
 use Rattle.vault_names.specs.Cryptomator.{cm_stored, cm_folder_of}
 use Rattle.vault_spec.specs.declared.Finding.{Finding}
+use Rattle.vault_spec.specs.declared.Lack.{Lack}
+use Rattle.vault_spec.specs.declared.Lack.TheVariants as lacks
 use Rattle.vault_spec.specs.declared.Finding.TheVariants as is
 use Rattle.vault_spec.specs.Format.{Directory, Nothing, NoItem, Expected, Shelf, ContentFolder, Extra, is_folder}
 use Rattle.vault_spec.specs.Cryptomator.{CmVault, cm_format, top, shelf_named, folder_named, content_folder, is_base32_text, is_configuration, cm_role, file_role, folder_role}
@@ -90,8 +92,8 @@ empty_root vault texts m w = record {
   empty = λ n. none_stands (cm_format vault) (cm_lawful vault texts) (new_root m w (cm_folder_of vault.keys [])) (top_of vault) n (in_folder m w (cm_folder_of vault.keys []) (cm_stored vault.keys vault.threshold [] n).name);
 }
   where
-    entered : Found → Result Directory Finding
-    entered x = cond (is_folder x) (Ok (top_of vault)) (Err is.NoFolder)
+    entered : Found → Result Directory Lack
+    entered x = cond (is_folder x) (Ok (top_of vault)) (Err lacks.NoFolder)
 
 -- roles that no path but one has
 no_content_folder : (master vault text : List ℕ) (at : Path) → cm_role at (new_root master vault text at) ≡ ContentFolder → at ≡ folder_named text
@@ -227,13 +229,13 @@ new_clean vault texts folders m w = clean
         let clash : Nothing ≡ NoItem finding = sym (nothing_at (cm_format vault) (cm_lawful vault texts) (new_root m w (cm_folder_of vault.keys [])) u.dir u.name
         (nothing_in u.reached.0 u.dir (cm_stored vault.keys vault.threshold u.dir.key u.name).name u.reached.1)) ∙ u.is in cc
 
-    no_item : (at : Path) (x : Result Directory Finding) → ¬ IsDirectoryItem (cm_format vault) (new_root m w (cm_folder_of vault.keys [])) at x
+    no_item : (at : Path) (x : Result Directory Lack) → ¬ IsDirectoryItem (cm_format vault) (new_root m w (cm_folder_of vault.keys [])) at x
     no_item at x item = subst IsNoItem item.stands (none_stands (cm_format vault) (cm_lawful vault texts) (new_root m w (cm_folder_of vault.keys [])) item.dir item.name
         (nothing_in item.reached.0 item.dir (cm_stored vault.keys vault.threshold item.dir.key item.name).name item.reached.1))
 
-    no_locked : (finding : Finding) (at : Path) → ¬ IsLocked (cm_format vault) (new_root m w (cm_folder_of vault.keys [])) finding at
-    no_locked finding at (inl root) = let clash : Dir [] (Ok (top_of vault)) ≡ Dir at (Err finding) = sym has.root ∙ root in cc
-    no_locked finding at (inr item) = no_item at (Err finding) item
+    no_locked : (lack : Lack) (at : Path) → ¬ IsLocked (cm_format vault) (new_root m w (cm_folder_of vault.keys [])) lack at
+    no_locked lack at (inl root) = let clash : Dir [] (Ok (top_of vault)) ≡ Dir at (Err lack) = sym has.root ∙ root in cc
+    no_locked lack at (inr item) = no_item at (Err lack) item
 
     no_orphan : (at : Path) → ¬ IsOrphanName (cm_format vault) (new_root m w (cm_folder_of vault.keys [])) at
     no_orphan at u = let clash : FileOf u.there.0 ≡ NoEntry = sym u.there.1 ∙ ap (new_root m w (cm_folder_of vault.keys [])) u.place ∙ nothing_in u.reached.0 u.dir u.file u.reached.1 in cc
@@ -250,11 +252,11 @@ new_clean vault texts folders m w = clean
 
     clean : IsClean (cm_format vault) (new_root m w (cm_folder_of vault.keys []))
     clean is.BadStoredName at counts found = no_unnamed is.BadStoredName at found
-    clean is.NoDirKey at counts found = no_locked is.NoDirKey at found
+    clean is.NoDirKey at counts found = no_locked lacks.NoDirKey at found
     clean is.LongNameLost at counts found = no_unnamed is.LongNameLost at found
     clean is.OrphanLongName at counts found = no_orphan at found
     clean is.DirIdTwice at counts found = no_item at found.one found.item
-    clean is.NoFolder at counts found = no_locked is.NoFolder at found
+    clean is.NoFolder at counts found = no_locked lacks.NoFolder at found
     clean is.OrphanFolder at counts found = no_orphan_folder at found
     clean is.SymlinkFound at counts found = no_fault_item is.SymlinkFound at found
     clean is.WrongKind at counts (inl found) = no_unnamed is.WrongKind at found

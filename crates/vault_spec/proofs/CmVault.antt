@@ -134,16 +134,20 @@ item_by_kind long v Special NoEntry e = cc
 item_by_kind long v Special Folder e = cc
 item_by_kind long v Special (FileOf b) e = cc
 
+-- an item is told by the kind of its entry and by which of its marks are files
+pub item_by_marks : (long : Bool) (v w : View) (x : Found) → ((m : Part) → IsTrue (is_mark m) → is_file (v (m ∷ [])) ≡ is_file (w (m ∷ []))) → cm_item_of long v x ≡ cm_item_of long w x
+item_by_marks long v w NoEntry marks = refl
+item_by_marks true v w (FileOf bytes) marks = refl
+item_by_marks false v w (FileOf bytes) marks = refl
+item_by_marks true v w Special marks = refl
+item_by_marks false v w Special marks = refl
+item_by_marks long v w Folder marks =
+    ap (λ b. folder_item long b (has_file v id_file) (has_file v symlink_file)) (marks content_file refl)
+    ∙ ap (λ b. folder_item long (has_file w content_file) b (has_file v symlink_file)) (marks id_file refl)
+    ∙ ap (folder_item long (has_file w content_file) (has_file w id_file)) (marks symlink_file refl)
+
 pub item_stays : (long : Bool) (v w : View) (x : Found) → ((m : Part) → IsTrue (is_mark m) → kind_found (v (m ∷ [])) ≡ kind_found (w (m ∷ []))) → cm_item_of long v x ≡ cm_item_of long w x
-item_stays long v w NoEntry marks = refl
-item_stays true v w (FileOf bytes) marks = refl
-item_stays false v w (FileOf bytes) marks = refl
-item_stays true v w Special marks = refl
-item_stays false v w Special marks = refl
-item_stays long v w Folder marks =
-    ap (λ b. folder_item long b (has_file v id_file) (has_file v symlink_file)) (file_by_kind (v (content_file ∷ [])) (w (content_file ∷ [])) (marks content_file refl))
-    ∙ ap (λ b. folder_item long (has_file w content_file) b (has_file v symlink_file)) (file_by_kind (v (id_file ∷ [])) (w (id_file ∷ [])) (marks id_file refl))
-    ∙ ap (folder_item long (has_file w content_file) (has_file w id_file)) (file_by_kind (v (symlink_file ∷ [])) (w (symlink_file ∷ [])) (marks symlink_file refl))
+item_stays long v w x marks = item_by_marks long v w x (λ m is. file_by_kind (v (m ∷ [])) (w (m ∷ [])) (marks m is))
 
 pub role_of_files : (at : Path) (a b : List ℕ) → cm_role at (FileOf a) ≡ cm_role at (FileOf b)
 role_of_files [] a b = refl

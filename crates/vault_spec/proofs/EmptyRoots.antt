@@ -33,7 +33,7 @@ only_top f v top has [] dir leads = ap (dir_or dir) (sym leads.stands ∙ has.ro
   where
     dir_or : Directory → Standing → Directory
     dir_or d (Dir at (Ok e)) = e
-    dir_or d (Dir at (Err finding)) = d
+    dir_or d (Dir at (Err lack)) = d
     dir_or d (File at) = d
     dir_or d (Strange at) = d
     dir_or d Absent = d

@@ -14,7 +14,7 @@ use Rattle.plain_tree.specs.Names as plain
 use Rattle.plain_tree.specs.Names.{is_name}
 use Rattle.vault_names.specs.Gocryptfs.{go_text, long_name, entry_of, stored}
 use Rattle.vault_names.specs.declared.entry.Stored.{Stored}
-use Rattle.vault_spec.specs.declared.Finding.TheVariants.{NoFolder}
+use Rattle.vault_spec.specs.declared.Lack.TheVariants.{NoFolder}
 use Rattle.vault_spec.specs.Format.{Directory, file_bytes, is_folder, taken_at, key_of}
 use Rattle.vault_spec.specs.Gocryptfs.{key_file, full_name, directory_key, go_item, go_format, full_edits, full_edits_at, taken_unless, go_taken}
 use Rattle.vault_spec.specs.Standing.{File, Dir, entry_at, is_file_of, holds, holds_full, standing_of, standing_in, directory_with}

@@ -138,7 +138,7 @@ directory_whole texts keys dir name key e made is_key u front new held = record 
   is_item = λ finding is. cc;
   inside = λ x extra. cc;
   not_full = name_not_full texts keys u front dir name e new;
-  unlocked = λ at finding is. let clash : Dir e.at (Ok (record { folder = e.at; key = key })) ≡ Dir at (Err finding) = sym stands ∙ is in cc;
+  unlocked = λ at lack is. let clash : Dir e.at (Ok (record { folder = e.at; key = key })) ≡ Dir at (Err lack) = sym stands ∙ is in cc;
   entered = entered;
 }
   where

@@ -9,6 +9,8 @@ use Rattle.plain_tree.specs.Names.{is_name}
 use Rattle.vault_names.specs.Gocryptfs.{stored}
 use Rattle.vault_names.specs.declared.entry.Stored.{Stored}
 use Rattle.vault_spec.specs.declared.Finding.{Finding}
+use Rattle.vault_spec.specs.declared.Lack.{Lack}
+use Rattle.vault_spec.specs.declared.Lack.TheVariants as lacks
 use Rattle.vault_spec.specs.declared.Finding.TheVariants as is
 use Rattle.vault_spec.specs.Format.{Directory, Nothing, NoItem}
 use Rattle.vault_spec.specs.Gocryptfs.{key_file, directory_key, go_format, is_full_name}
@@ -92,14 +94,14 @@ new_clean texts keys text key is_key = clean
         = ap (λ d. new_root text key (entry_at (go_format keys) d u.name)) top ∙ no_entry texts keys text key is_key u.name u.of.named in
         let clash : Nothing ≡ NoItem finding = sym (nothing_at (go_format keys) (go_lawful texts keys) (new_root text key) u.dir u.name free) ∙ u.is in cc
 
-    no_item : (at : Path) (x : Result Directory Finding) → ¬ IsDirectoryItem (go_format keys) (new_root text key) at x
+    no_item : (at : Path) (x : Result Directory Lack) → ¬ IsDirectoryItem (go_format keys) (new_root text key) at x
     no_item at x item =
         let top : item.dir ≡ top_of key = only_top (go_format keys) (new_root text key) (top_of key) has item.reached.0 item.dir item.reached.1 in
         subst IsNoItem (ap (λ d. standing_in (go_format keys) (new_root text key) d item.name) (sym top) ∙ item.stands) (has.empty item.name)
 
-    no_locked : (finding : Finding) (at : Path) → ¬ IsLocked (go_format keys) (new_root text key) finding at
-    no_locked finding at (inl root) = let clash : Dir [] (Ok (top_of key)) ≡ Dir at (Err finding) = sym has.root ∙ root in cc
-    no_locked finding at (inr item) = no_item at (Err finding) item
+    no_locked : (lack : Lack) (at : Path) → ¬ IsLocked (go_format keys) (new_root text key) lack at
+    no_locked lack at (inl root) = let clash : Dir [] (Ok (top_of key)) ≡ Dir at (Err lack) = sym has.root ∙ root in cc
+    no_locked lack at (inr item) = no_item at (Err lack) item
 
     no_orphan : (at : Path) → ¬ IsOrphanName (go_format keys) (new_root text key) at
     no_orphan at u =
@@ -110,11 +112,11 @@ new_clean texts keys text key is_key = clean
 
     clean : IsClean (go_format keys) (new_root text key)
     clean is.BadStoredName at counts found = no_unnamed is.BadStoredName at found
-    clean is.NoDirKey at counts found = no_locked is.NoDirKey at found
+    clean is.NoDirKey at counts found = no_locked lacks.NoDirKey at found
     clean is.LongNameLost at counts found = no_unnamed is.LongNameLost at found
     clean is.OrphanLongName at counts found = no_orphan at found
     clean is.DirIdTwice at counts found = no_item at found.one found.item
-    clean is.NoFolder at counts found = no_locked is.NoFolder at found
+    clean is.NoFolder at counts found = no_locked lacks.NoFolder at found
     clean is.OrphanFolder at counts found = let role : found.loose.folder ≡ found.loose.folder = refl in cc
     clean is.SymlinkFound at counts found = no_fault_item is.SymlinkFound at found
     clean is.WrongKind at counts (inl found) = no_unnamed is.WrongKind at found

@@ -59,6 +59,9 @@ content_is (FileOf bytes) rest e = (cc, (bytes, refl))
 content_is Folder rest e = cc
 content_is Special rest e = cc
 
+pub go_content : (v : View) (rest : Path) → go_item (v []) ≡ FileItem rest → IsFileAt v rest
+go_content v rest e = let is : (rest ≡ []) × ((bytes : List ℕ) × (v [] ≡ FileOf bytes)) = content_is (v []) rest e in subst (IsFileAt v) (sym is.0) is.1
+
 pub content_or_entry : (x : Found) (rest : Path) → (rest ≡ []) ⊎ (go_item x ≡ FileItem rest) → rest ≡ []
 content_or_entry x rest (inl none) = none
 content_or_entry x rest (inr item) = (content_is x rest item).0
@@ -112,7 +115,7 @@ go_lawful texts keys = record {
   key_is_mark = (bytes_eq-Decides key_file key_file).1 refl;
   root_by_key = λ v w same. ap (λ x. option_and_then directory_key (file_bytes x)) same;
   none = λ long v free. ap go_item free;
-  content = λ long v rest e. let is : (rest ≡ []) × ((bytes : List ℕ) × (v [] ≡ FileOf bytes)) = content_is (v []) rest e in subst (IsFileAt v) (sym is.0) is.1;
+  content = λ long v rest e. go_content v rest e;
   content_entry = λ v w long short one two key other at place a b is_one is_two same.
       let first : one ≡ [] = content_or_entry (v []) one is_one in
       let second : two ≡ [] = content_or_entry (w []) two is_two in

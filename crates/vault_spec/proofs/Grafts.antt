@@ -10,8 +10,8 @@ use Rattle.folder_spec.proofs.Paths.{begins_or_not, child_begins}
 use Rattle.plain_tree.specs.Names as plain
 use Rattle.plain_tree.specs.Names.{is_name}
 use Rattle.vault_names.specs.declared.entry.Stored.{Stored}
-use Rattle.vault_spec.specs.declared.Finding.{Finding}
-use Rattle.vault_spec.specs.declared.Finding.TheVariants.{NoDirKey, NoFolder}
+use Rattle.vault_spec.specs.declared.Lack.{Lack}
+use Rattle.vault_spec.specs.declared.Lack.TheVariants.{NoDirKey, NoFolder}
 use Rattle.vault_spec.specs.Format.{Format, Directory, Item, Nothing, FileItem, DirectoryItem, NoItem, is_folder, file_bytes, key_of}
 use Rattle.vault_spec.specs.Standing.{Standing, Absent, Strange, File, Dir, root_of, directory_with, entry_at, is_file_of, holds, holds_full, item_at, standing_of, standing_in, standing_from}
 use Rattle.vault_spec.specs.Reached.{Leads}
@@ -43,7 +43,7 @@ is_entered f v at (Some key) dir e =
     the_directory k = record { folder = f.folder_of at k; key = k }
 
 -- a directory that stands where an entry is, is that of the entry
-standing_directory : (f : Format) (v : View) (at : Path) (named : Bool) (item : Item) (a : Path) (d : Result Directory Finding)
+standing_directory : (f : Format) (v : View) (at : Path) (named : Bool) (item : Item) (a : Path) (d : Result Directory Lack)
     → standing_of f v at named item ≡ Dir a d → directory_with f v at (key_of f (under at v)) ≡ d
 standing_directory f v at named Nothing a d e = cc
 standing_directory f v at false (FileItem rest) a d e = cc
@@ -164,7 +164,7 @@ pub record SparesEntry (f : Format) (lawful : IsLawful f) (v : View) (at : Path)
   pub marks : (m : Part) → IsTrue (lawful.marks m) → child (entry_at f dir name) m ≢ at
   pub full : is_some (f.stored dir.key name).full ≡ true → dir.folder ++ f.full_at (f.stored dir.key name).name ≢ at
 
-holds_by : (v w : View) (at : Path) (full : Option (List ℕ)) → (is_some full ≡ true → v at ≡ w at) → holds v at full ≡ holds w at full
+pub holds_by : (v w : View) (at : Path) (full : Option (List ℕ)) → (is_some full ≡ true → v at ≡ w at) → holds v at full ≡ holds w at full
 holds_by v w at None same = refl
 holds_by v w at (Some text) same = ap (λ x. is_file_of text (file_bytes x)) (same refl)
 
@@ -181,23 +181,23 @@ same_standing f v w at named (NoItem finding) same = refl
 
 -- a directory that is entered is the same where what stands stays
 pub same_directory : (f : Format) (v w : View) (at : Path) (key : Option (List ℕ)) → ((q : Path) → v q ≢ NoEntry → w q ≡ v q)
-    → ((finding : Finding) → directory_with f v at key ≢ Err finding) → directory_with f v at key ≡ directory_with f w at key
+    → ((lack : Lack) → directory_with f v at key ≢ Err lack) → directory_with f v at key ≡ directory_with f w at key
 same_directory f v w at None stays entered = absurd (entered NoDirKey refl)
 same_directory f v w at (Some key) stays entered = ap by_folder (sym (stays (f.folder_of at key) (λ none. entered NoFolder (ap by_folder none))))
   where
-    by_folder : Found → Result Directory Finding
+    by_folder : Found → Result Directory Lack
     by_folder x = cond (is_folder x) (Ok (record { folder = f.folder_of at key; key = key })) (Err NoFolder)
 
--- the content of a file that stands is there
-pub content_there : (f : Format) → IsLawful f → (v : View) (at : Path) (long named : Bool) (item : Item) (file : Path) → f.item long (under at v) ≡ item
+-- the content of a file that stands is there, where that of an item is
+pub content_there : (f : Format) → ((long : Bool) (v : View) (rest : Path) → f.item long v ≡ FileItem rest → IsFileAt v rest) → (v : View) (at : Path) (long named : Bool) (item : Item) (file : Path) → f.item long (under at v) ≡ item
     → standing_of f v at named item ≡ File file → IsFileAt v file
-content_there f lawful v at long named Nothing file is e = cc
-content_there f lawful v at long false (FileItem rest) file is e = cc
-content_there f lawful v at long true (FileItem rest) file is e =
-    let same : at ++ rest ≡ file = cc in subst (IsFileAt v) same (lawful.content long (under at v) rest is)
-content_there f lawful v at long false DirectoryItem file is e = cc
-content_there f lawful v at long true DirectoryItem file is e = cc
-content_there f lawful v at long named (NoItem finding) file is e = cc
+content_there f there v at long named Nothing file is e = cc
+content_there f there v at long false (FileItem rest) file is e = cc
+content_there f there v at long true (FileItem rest) file is e =
+    let same : at ++ rest ≡ file = cc in subst (IsFileAt v) same (there long (under at v) rest is)
+content_there f there v at long false DirectoryItem file is e = cc
+content_there f there v at long true DirectoryItem file is e = cc
+content_there f there v at long named (NoItem finding) file is e = cc
 
 -- an entry as it was: what it is, its key, and whether its long-name file is right
 pub record EntryStays (f : Format) (v w : View) (dir : Directory) (name : List ℕ) : Type 0 where
@@ -251,8 +251,8 @@ stands_on f lawful v e path dir name orderly free leads there spared = by_name (
     stays = edited_adds v e orderly.folders free
 
     stays_entered : is_name name ≡ true → item_at f v dir (f.stored dir.key name) ≡ DirectoryItem → holds_full f v dir (f.stored dir.key name) ≡ true
-        → (finding : Finding) → directory_with f v (entry_at f dir name) (key_of f (under (entry_at f dir name) v)) ≢ Err finding
-    stays_entered named item holds finding locked = orderly.entered path dir name (entry_at f dir name) finding leads
+        → (lack : Lack) → directory_with f v (entry_at f dir name) (key_of f (under (entry_at f dir name) v)) ≢ Err lack
+    stays_entered named item holds lack locked = orderly.entered path dir name (entry_at f dir name) lack leads
         (standing_named f v dir name named ∙ ap (λ b. standing_of f v (entry_at f dir name) b (item_at f v dir (f.stored dir.key name))) holds
         ∙ ap (standing_of f v (entry_at f dir name) true) item ∙ ap (Dir (entry_at f dir name)) locked)
 
@@ -277,6 +277,6 @@ stands_on f lawful v e path dir name orderly free leads there spared = by_name (
     }
     by_name true is = record {
       stands = standings is;
-      bytes = λ at file. sym (stays at (not_none (content_there f lawful v (entry_at f dir name) (is_some (f.stored dir.key name).full)
+      bytes = λ at file. sym (stays at (not_none (content_there f lawful.content v (entry_at f dir name) (is_some (f.stored dir.key name).full)
           (holds_full f v dir (f.stored dir.key name)) (item_at f v dir (f.stored dir.key name)) at refl (sym (standing_named f v dir name is) ∙ file))));
     }

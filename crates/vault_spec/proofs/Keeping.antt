@@ -9,6 +9,7 @@ use Rattle.folder_spec.proofs.Paths.{one_or_not}
 use Rattle.plain_tree.specs.Names as plain
 use Rattle.plain_tree.specs.Names.{is_name}
 use Rattle.vault_spec.specs.declared.Finding.{Finding}
+use Rattle.vault_spec.specs.declared.Lack.{Lack}
 use Rattle.vault_spec.specs.Format.{Format, Directory, Item, FileItem, NoItem, ContentFolder, Extra}
 use Rattle.vault_spec.specs.Standing.{File, Dir, standing_of, root_of, entry_at, holds_full, item_at, standing_in, standing}
 use Rattle.vault_spec.specs.Reached.{Leads}
@@ -57,8 +58,8 @@ side_keeps f lawful v e up a side clean has placed = record {
   back = λ path dir leads. inl (led_back f v (edited v e) looks path dir leads);
   placed = λ path dir x leads here. inl (placed path dir x leads here);
   whole = λ path dir name leads named here held. absurd (side.no_entry path dir name leads named here);
-  unlocked = λ path dir name at finding leads locked. elim (looks.steps path dir name leads) [
-    | inl same ↦ side.orderly.entered path dir name at finding leads (same.stands ∙ locked)
+  unlocked = λ path dir name at lack leads locked. elim (looks.steps path dir name leads) [
+    | inl same ↦ side.orderly.entered path dir name at lack leads (same.stands ∙ locked)
     | inr none ↦ absurd (subst IsNoItem locked none.1)
   ];
   stands = λ path dir name at d leads stands_now. elim (looks.steps path dir name leads) [
@@ -82,7 +83,7 @@ pub record BringsWhole (f : Format) (v : View) (dir : Directory) (name : List �
   pub is_item : (finding : Finding) → item ≢ NoItem finding
   pub inside : (x : Part) → f.inner_role (is_some (f.stored dir.key name).full) item x (e.made (x ∷ [])) ≢ Extra
   pub not_full : f.is_full (f.stored dir.key name).name ≡ false
-  pub unlocked : (at : Path) (finding : Finding) → standing_in f (edited v e) dir name ≢ Dir at (Err finding)
+  pub unlocked : (at : Path) (lack : Lack) → standing_in f (edited v e) dir name ≢ Dir at (Err lack)
   pub entered : (at : Path) (d : Directory) → standing_in f (edited v e) dir name ≡ Dir at (Ok d) → (at ≡ e.at) × IsApart f v d.folder × IsBare f (edited v e) d
 
 pub item_keeps : (f : Format) (lawful : IsLawful f) (v : View) (front : plain.Path) (dir : Directory) (name : List ℕ) (e : Edit) (opened : Opened)
@@ -185,11 +186,11 @@ item_keeps f lawful v front dir name e opened new spares arrives clean has bring
       | inr apart ↦ inl (gains.others path other n leads apart.0)
     ]
 
-    unlocked : (path : plain.Path) (other : Directory) (n : List ℕ) (at : Path) (finding : Finding) → Leads f v path other → standing_in f (edited v e) other n ≢ Dir at (Err finding)
-    unlocked path other n at finding leads locked = elim (step path other n leads) [
-      | inr its ↦ brings.unlocked at finding (sym its ∙ locked)
+    unlocked : (path : plain.Path) (other : Directory) (n : List ℕ) (at : Path) (lack : Lack) → Leads f v path other → standing_in f (edited v e) other n ≢ Dir at (Err lack)
+    unlocked path other n at lack leads locked = elim (step path other n leads) [
+      | inr its ↦ brings.unlocked at lack (sym its ∙ locked)
       | inl alike ↦ elim alike [
-        | inl same ↦ new.orderly.entered path other n at finding leads (same.stands ∙ locked)
+        | inl same ↦ new.orderly.entered path other n at lack leads (same.stands ∙ locked)
         | inr none ↦ absurd (subst IsNoItem locked none.1)
       ]
     ]
@@ -217,7 +218,7 @@ file_brings f v dir name e rest named place held item inside not_full = record {
   is_item = λ finding is. cc;
   inside = inside;
   not_full = not_full;
-  unlocked = λ at finding is. let clash : File (e.at ++ rest) ≡ Dir at (Err finding) = sym stands ∙ is in cc;
+  unlocked = λ at lack is. let clash : File (e.at ++ rest) ≡ Dir at (Err lack) = sym stands ∙ is in cc;
   entered = λ at d is. let clash : File (e.at ++ rest) ≡ Dir at (Ok d) = sym stands ∙ is in cc;
 }
   where

@@ -4,6 +4,8 @@ mod Lawful
 mod Grafts
 mod Places
 mod Clean
+mod Finds
+mod Lists
 mod StaysClean
 mod Keeping
 mod OwnPlaces
@@ -21,3 +23,15 @@ mod CmVault
 mod CmAdding
 mod CmKeeping
 mod CmNew
+mod StrayLaws
+mod Cuts
+mod CutItems
+mod CutOpens
+mod CutFindings
+mod StraysAlone
+mod GoStrays
+mod CmStrays
+mod Mapped
+mod Endings
+mod Plans
+mod VaultPlans

@@ -39,7 +39,7 @@ IsNoEntry f v at = (path : plain.Path) (dir : Directory) (name : List ℕ) → L
 root_stays : (f : Format) (lawful : IsLawful f) (v : View) (e : Edit) → IsOrderly f v → v e.at ≡ NoEntry → SparesAll f lawful v e.at → root_of f v ≡ root_of f (edited v e)
 root_stays f lawful v e orderly free spares =
     ap (Dir []) (same_directory f v (edited v e) [] (f.root_key v) (edited_adds v e orderly.folders free)
-    (λ finding locked. let top : Dir [] (Err finding) ≡ Dir [] (Ok orderly.top) = ap (Dir []) (sym locked) ∙ orderly.root in cc)
+    (λ lack locked. let top : Dir [] (Err lack) ≡ Dir [] (Ok orderly.top) = ap (Dir []) (sym locked) ∙ orderly.root in cc)
     ∙ ap (directory_with f (edited v e) []) (lawful.root_by_key v (edited v e)
     (sym (edited_entry v e orderly.folders free [] f.key_file (λ none. let there : v [] ≡ Folder = orderly.root_there in cc) (spares.root f.key_file lawful.key_is_mark)))))
 
@@ -87,8 +87,8 @@ stays_orderly f v w orderly looks folders root_there = record {
   top = orderly.top;
   root = sym looks.root ∙ orderly.root;
   folders = folders;
-  entered = λ path dir name at finding leads locked. elim (looks.steps path dir name (led_back f v w looks path dir leads)) [
-    | inl same ↦ orderly.entered path dir name at finding (led_back f v w looks path dir leads) (same.stands ∙ locked)
+  entered = λ path dir name at lack leads locked. elim (looks.steps path dir name (led_back f v w looks path dir leads)) [
+    | inl same ↦ orderly.entered path dir name at lack (led_back f v w looks path dir leads) (same.stands ∙ locked)
     | inr none ↦ absurd (subst IsNoItem locked none.1)
   ];
   one_path = λ path other dir one two. orderly.one_path path other dir (led_back f v w looks path dir one) (led_back f v w looks other dir two);
@@ -144,7 +144,7 @@ one_text w at (Some a) (Some b) same one other = by_file (file_bytes (w at)) one
         ap Some (sym first ∙ second)
 
 -- no item stands at an entry without its long-name file
-no_item_unheld : (f : Format) (w : View) (at : Path) (item : Item) → IsNoItem (standing_of f w at false item)
+pub no_item_unheld : (f : Format) (w : View) (at : Path) (item : Item) → IsNoItem (standing_of f w at false item)
 no_item_unheld f w at Nothing = record {}
 no_item_unheld f w at (FileItem rest) = record {}
 no_item_unheld f w at DirectoryItem = record {}

@@ -8,6 +8,8 @@ use Rattle.folder_spec.proofs.Paths.{one_or_not}
 use Rattle.plain_tree.specs.Names as plain
 use Rattle.plain_tree.specs.Names.{is_name}
 use Rattle.vault_spec.specs.declared.Finding.{Finding}
+use Rattle.vault_spec.specs.declared.Lack.{Lack}
+use Rattle.vault_spec.specs.declared.Lack.TheVariants as lacks
 use Rattle.vault_spec.specs.declared.Finding.TheVariants as is
 use Rattle.vault_spec.specs.Format.{Format, Directory, key_of}
 use Rattle.vault_spec.specs.Standing.{File, entry_at, item_at, standing}
@@ -86,7 +88,7 @@ no_item_back f lawful v at old bytes r finding q u =
       is = item_same f lawful v at old bytes r u.dir u.name ∙ u.is;
     }
 
-item_back : (f : Format) (lawful : IsLawful f) (v : View) (at : Path) (old bytes : List ℕ) → IsReplaced f lawful v at old → (q : Path) (x : Result Directory Finding)
+item_back : (f : Format) (lawful : IsLawful f) (v : View) (at : Path) (old bytes : List ℕ) → IsReplaced f lawful v at old → (q : Path) (x : Result Directory Lack)
     → IsDirectoryItem f (edited v (file_edit at bytes)) q x → IsDirectoryItem f v q x
 item_back f lawful v at old bytes r q x item =
     let leads : Leads f v item.reached.0 item.dir = led_back f lawful v at old bytes r item.reached.0 item.dir item.reached.1 in
@@ -97,7 +99,7 @@ item_back f lawful v at old bytes r q x item =
       stands = step_same f lawful v at old bytes r item.reached.0 item.dir item.name leads ∙ item.stands;
     }
 
-key_back : (f : Format) (lawful : IsLawful f) (v : View) (at : Path) (old bytes : List ℕ) → IsReplaced f lawful v at old → (q : Path) (x : Result Directory Finding)
+key_back : (f : Format) (lawful : IsLawful f) (v : View) (at : Path) (old bytes : List ℕ) → IsReplaced f lawful v at old → (q : Path) (x : Result Directory Lack)
     → IsDirectoryItem f (edited v (file_edit at bytes)) q x → key_of f (under q v) ≡ key_of f (under q (edited v (file_edit at bytes)))
 key_back f lawful v at old bytes r q x item =
     let place : q ≡ entry_at f item.dir item.name = (stands_as f (edited v (file_edit at bytes)) item.dir item.name q x item.stands).place in
@@ -105,10 +107,10 @@ key_back f lawful v at old bytes r q x item =
     ∙ key_same f lawful v at old bytes r item.reached.0 item.dir item.name (led_back f lawful v at old bytes r item.reached.0 item.dir item.reached.1)
     ∙ ap (λ p. key_of f (under p (edited v (file_edit at bytes)))) (sym place)
 
-locked_back : (f : Format) (lawful : IsLawful f) (v : View) (at : Path) (old bytes : List ℕ) → IsReplaced f lawful v at old → (finding : Finding) (q : Path)
-    → IsLocked f (edited v (file_edit at bytes)) finding q → IsLocked f v finding q
-locked_back f lawful v at old bytes r finding q (inl root) = inl (root_same f lawful v at old bytes r ∙ root)
-locked_back f lawful v at old bytes r finding q (inr item) = inr (item_back f lawful v at old bytes r q (Err finding) item)
+locked_back : (f : Format) (lawful : IsLawful f) (v : View) (at : Path) (old bytes : List ℕ) → IsReplaced f lawful v at old → (lack : Lack) (q : Path)
+    → IsLocked f (edited v (file_edit at bytes)) lack q → IsLocked f v lack q
+locked_back f lawful v at old bytes r lack q (inl root) = inl (root_same f lawful v at old bytes r ∙ root)
+locked_back f lawful v at old bytes r lack q (inr item) = inr (item_back f lawful v at old bytes r q (Err lack) item)
 
 orphan_back : (f : Format) (lawful : IsLawful f) (v : View) (at : Path) (old bytes : List ℕ) → IsReplaced f lawful v at old → (q : Path) → IsOrphanName f (edited v (file_edit at bytes)) q → IsOrphanName f v q
 orphan_back f lawful v at old bytes r q u =
@@ -172,11 +174,11 @@ extra_back f lawful v at old bytes r q (inl u) =
 
 replaced_clean : (f : Format) (lawful : IsLawful f) (v : View) (at : Path) (old bytes : List ℕ) → IsReplaced f lawful v at old → IsClean f v → IsClean f (edited v (file_edit at bytes))
 replaced_clean f lawful v at old bytes r clean is.BadStoredName q counts found = clean is.BadStoredName q refl (unnamed_back f lawful v at old bytes r is.BadStoredName q found)
-replaced_clean f lawful v at old bytes r clean is.NoDirKey q counts found = clean is.NoDirKey q refl (locked_back f lawful v at old bytes r is.NoDirKey q found)
+replaced_clean f lawful v at old bytes r clean is.NoDirKey q counts found = clean is.NoDirKey q refl (locked_back f lawful v at old bytes r lacks.NoDirKey q found)
 replaced_clean f lawful v at old bytes r clean is.LongNameLost q counts found = clean is.LongNameLost q refl (unnamed_back f lawful v at old bytes r is.LongNameLost q found)
 replaced_clean f lawful v at old bytes r clean is.OrphanLongName q counts found = clean is.OrphanLongName q refl (orphan_back f lawful v at old bytes r q found)
 replaced_clean f lawful v at old bytes r clean is.DirIdTwice q counts found = clean is.DirIdTwice q refl (twice_back f lawful v at old bytes r q found)
-replaced_clean f lawful v at old bytes r clean is.NoFolder q counts found = clean is.NoFolder q refl (locked_back f lawful v at old bytes r is.NoFolder q found)
+replaced_clean f lawful v at old bytes r clean is.NoFolder q counts found = clean is.NoFolder q refl (locked_back f lawful v at old bytes r lacks.NoFolder q found)
 replaced_clean f lawful v at old bytes r clean is.OrphanFolder q counts found = clean is.OrphanFolder q refl (orphan_folder_back f lawful v at old bytes r q found)
 replaced_clean f lawful v at old bytes r clean is.SymlinkFound q counts found = clean is.SymlinkFound q refl (no_item_back f lawful v at old bytes r is.SymlinkFound q found)
 replaced_clean f lawful v at old bytes r clean is.WrongKind q counts (inl found) = clean is.WrongKind q refl (inl (unnamed_back f lawful v at old bytes r is.WrongKind q found))

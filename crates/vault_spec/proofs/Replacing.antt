@@ -9,8 +9,8 @@ use Rattle.folder_spec.specs.Edit.{edited, file_edit}
 use Rattle.folder_spec.proofs.Paths.{one_or_not, begins_or_not, base_or_child}
 use Rattle.plain_tree.specs.Names as plain
 use Rattle.plain_tree.specs.Names.{is_name}
-use Rattle.vault_spec.specs.declared.Finding.{Finding}
-use Rattle.vault_spec.specs.declared.Finding.TheVariants.{NoFolder}
+use Rattle.vault_spec.specs.declared.Lack.{Lack}
+use Rattle.vault_spec.specs.declared.Lack.TheVariants.{NoFolder}
 use Rattle.vault_spec.specs.Format.{Format, Directory, Item, Nothing, FileItem, DirectoryItem, NoItem, is_folder, file_bytes, key_of}
 use Rattle.vault_spec.specs.Standing.{Standing, Absent, Strange, File, Dir, root_of, directory_with, entry_at, is_file_of, holds, holds_full, item_at, standing_of, standing_in, standing_from, standing}
 use Rattle.vault_spec.specs.Opens.{opened, opened_at, opened_file}
@@ -81,7 +81,7 @@ folder_by_kind Special (FileOf b) e = refl
 entered_alike : (f : Format) (v w : View) (at : Path) (key : Option (List ℕ)) → ((q : Path) → kind_found (v q) ≡ kind_found (w q)) → directory_with f v at key ≡ directory_with f w at key
 entered_alike f v w at None kinds = refl
 entered_alike f v w at (Some key) kinds =
-    ap (λ b. cond {A = Result Directory Finding} b (Ok (record { folder = f.folder_of at key; key = key })) (Err NoFolder)) (folder_by_kind (v (f.folder_of at key)) (w (f.folder_of at key)) (kinds (f.folder_of at key)))
+    ap (λ b. cond {A = Result Directory Lack} b (Ok (record { folder = f.folder_of at key; key = key })) (Err NoFolder)) (folder_by_kind (v (f.folder_of at key)) (w (f.folder_of at key)) (kinds (f.folder_of at key)))
 
 -- an entry, its key and its long-name file stay
 pub item_same : (f : Format) (lawful : IsLawful f) (v : View) (at : Path) (old bytes : List ℕ) → IsReplaced f lawful v at old → (dir : Directory) (name : List ℕ)
@@ -188,7 +188,7 @@ file_entry f lawful v dir name at e = by_name (is_name name) refl
           rest = parts.0;
           is = parts.1;
           item = parts.2;
-          file = content_there f lawful v (entry_at f dir name) (is_some (f.stored dir.key name).full) (holds_full f v dir (f.stored dir.key name)) (item_at f v dir (f.stored dir.key name)) at refl stands;
+          file = content_there f lawful.content v (entry_at f dir name) (is_some (f.stored dir.key name).full) (holds_full f v dir (f.stored dir.key name)) (item_at f v dir (f.stored dir.key name)) at refl stands;
         }
 
 is_replaced : (f : Format) (lawful : IsLawful f) (v : View) (path : plain.Path) (dir : Directory) (name : List ℕ) (at : Path) → IsOrderly f v → Leads f v path dir → (entry : IsFileEntry f v dir name at)

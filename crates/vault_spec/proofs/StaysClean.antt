@@ -8,6 +8,8 @@ use Rattle.folder_spec.proofs.Paths.{begins_or_not, child_begins}
 use Rattle.plain_tree.specs.Names as plain
 use Rattle.plain_tree.specs.Names.{is_name}
 use Rattle.vault_spec.specs.declared.Finding.{Finding}
+use Rattle.vault_spec.specs.declared.Lack.{Lack}
+use Rattle.vault_spec.specs.declared.Lack.TheVariants as lacks
 use Rattle.vault_spec.specs.declared.Finding.TheVariants as is
 use Rattle.vault_spec.specs.Format.{Format, Directory, Item, Nothing, NoItem, Expected, ContentFolder, Extra, file_bytes, key_of}
 use Rattle.vault_spec.specs.Standing.{Dir, root_of, directory_with, entry_at, is_file_of, holds, holds_full, item_at, standing_in}
@@ -56,7 +58,7 @@ pub record KeepsClean (f : Format) (lawful : IsLawful f) (v : View) (e : Edit) :
   pub placed : (path : plain.Path) (dir : Directory) (x : Part) → Leads f v path dir → child dir.folder x ≡ e.at → IsSideFile f (edited v e) dir x ⊎ IsNewEntry f (edited v e) dir x
   pub whole : (path : plain.Path) (dir : Directory) (name : List ℕ) → Leads f v path dir → is_name name ≡ true → entry_at f dir name ≡ e.at
       → holds_full f (edited v e) dir (f.stored dir.key name) ≡ true → IsWhole f (edited v e) dir name
-  pub unlocked : (path : plain.Path) (dir : Directory) (name : List ℕ) (at : Path) (finding : Finding) → Leads f v path dir → standing_in f (edited v e) dir name ≢ Dir at (Err finding)
+  pub unlocked : (path : plain.Path) (dir : Directory) (name : List ℕ) (at : Path) (lack : Lack) → Leads f v path dir → standing_in f (edited v e) dir name ≢ Dir at (Err lack)
   pub stands : (path : plain.Path) (dir : Directory) (name : List ℕ) (at : Path) (d : Directory) → Leads f v path dir → standing_in f (edited v e) dir name ≡ Dir at (Ok d)
       → (standing_in f v dir name ≡ Dir at (Ok d)) ⊎ ((at ≡ e.at) × IsApart f v d.folder)
   pub inner : (path : plain.Path) (dir : Directory) (name : List ℕ) (x : Part) → Leads f v path dir → child (entry_at f dir name) x ≡ e.at
@@ -167,16 +169,16 @@ no_item_back f lawful v e keeps finding at u = elim (none_or_there (edited v e (
 ]
 
 -- each directory that stands is entered, and stood so or stands at the place
-record StandsOn (f : Format) (v : View) (e : Edit) (at : Path) (x : Result Directory Finding) : Type 0 where
+record StandsOn (f : Format) (v : View) (e : Edit) (at : Path) (x : Result Directory Lack) : Type 0 where
   d : Directory
   entered : x ≡ Ok d
   its : IsEntered f (edited v e) at (key_of f (under at (edited v e))) d
   before : (IsDirectoryItem f v at (Ok d) × (key_of f (under at v) ≡ Some d.key)) ⊎ ((at ≡ e.at) × IsApart f v d.folder)
 
-stands_on_as : (f : Format) (lawful : IsLawful f) (v : View) (e : Edit) → KeepsClean f lawful v e → (at : Path) (x : Result Directory Finding) → IsDirectoryItem f (edited v e) at x → StandsOn f v e at x
-stands_on_as f lawful v e keeps at (Err finding) item = elim (keeps.back item.reached.0 item.dir item.reached.1) [
-  | inr bare ↦ absurd (subst IsNoItem item.stands (none_stands f lawful (edited v e) item.dir item.name (bare.entries item.name (stands_as f (edited v e) item.dir item.name at (Err finding) item.stands).named)))
-  | inl leads ↦ absurd (keeps.unlocked item.reached.0 item.dir item.name at finding leads item.stands)
+stands_on_as : (f : Format) (lawful : IsLawful f) (v : View) (e : Edit) → KeepsClean f lawful v e → (at : Path) (x : Result Directory Lack) → IsDirectoryItem f (edited v e) at x → StandsOn f v e at x
+stands_on_as f lawful v e keeps at (Err lack) item = elim (keeps.back item.reached.0 item.dir item.reached.1) [
+  | inr bare ↦ absurd (subst IsNoItem item.stands (none_stands f lawful (edited v e) item.dir item.name (bare.entries item.name (stands_as f (edited v e) item.dir item.name at (Err lack) item.stands).named)))
+  | inl leads ↦ absurd (keeps.unlocked item.reached.0 item.dir item.name at lack leads item.stands)
 ]
 stands_on_as f lawful v e keeps at (Ok d) item = elim (keeps.back item.reached.0 item.dir item.reached.1) [
   | inr bare ↦ absurd (subst IsNoItem item.stands (none_stands f lawful (edited v e) item.dir item.name (bare.entries item.name (stands_as f (edited v e) item.dir item.name at (Ok d) item.stands).named)))
@@ -199,11 +201,11 @@ stands_on_as f lawful v e keeps at (Ok d) item = elim (keeps.back item.reached.0
     old_key was_so = (is_entered f v at (key_of f (under at v)) d (ap (λ p. directory_with f v p (key_of f (under p v))) was_so.place ∙ was_so.entered)).its_key
 
 -- a directory without key or folder was so
-locked_back : (f : Format) (lawful : IsLawful f) (v : View) (e : Edit) → KeepsClean f lawful v e → (finding : Finding) (at : Path) → IsLocked f (edited v e) finding at → IsLocked f v finding at
-locked_back f lawful v e keeps finding at (inl root) = inl (keeps.root ∙ root)
-locked_back f lawful v e keeps finding at (inr item) =
-    let on : StandsOn f v e at (Err finding) = stands_on_as f lawful v e keeps at (Err finding) item in
-    let clash : Err finding ≡ Ok on.d = on.entered in cc
+locked_back : (f : Format) (lawful : IsLawful f) (v : View) (e : Edit) → KeepsClean f lawful v e → (lack : Lack) (at : Path) → IsLocked f (edited v e) lack at → IsLocked f v lack at
+locked_back f lawful v e keeps lack at (inl root) = inl (keeps.root ∙ root)
+locked_back f lawful v e keeps lack at (inr item) =
+    let on : StandsOn f v e at (Err lack) = stands_on_as f lawful v e keeps at (Err lack) item in
+    let clash : Err lack ≡ Ok on.d = on.entered in cc
 
 -- a long-name file without its right text was one
 orphan_back : (f : Format) (lawful : IsLawful f) (v : View) (e : Edit) → KeepsClean f lawful v e → (at : Path) → IsOrphanName f (edited v e) at → IsOrphanName f v at
@@ -343,11 +345,11 @@ extra_back f lawful v e keeps at (inr role) = elim (none_or_there (edited v e at
 -- so the vault stays clean
 pub stays_clean : (f : Format) (lawful : IsLawful f) (v : View) (e : Edit) → KeepsClean f lawful v e → IsClean f (edited v e)
 stays_clean f lawful v e keeps is.BadStoredName at counts found = keeps.clean is.BadStoredName at refl (unnamed_back f lawful v e keeps is.BadStoredName at found)
-stays_clean f lawful v e keeps is.NoDirKey at counts found = keeps.clean is.NoDirKey at refl (locked_back f lawful v e keeps is.NoDirKey at found)
+stays_clean f lawful v e keeps is.NoDirKey at counts found = keeps.clean is.NoDirKey at refl (locked_back f lawful v e keeps lacks.NoDirKey at found)
 stays_clean f lawful v e keeps is.LongNameLost at counts found = keeps.clean is.LongNameLost at refl (unnamed_back f lawful v e keeps is.LongNameLost at found)
 stays_clean f lawful v e keeps is.OrphanLongName at counts found = keeps.clean is.OrphanLongName at refl (orphan_back f lawful v e keeps at found)
 stays_clean f lawful v e keeps is.DirIdTwice at counts found = keeps.clean is.DirIdTwice at refl (twice_back f lawful v e keeps at found)
-stays_clean f lawful v e keeps is.NoFolder at counts found = keeps.clean is.NoFolder at refl (locked_back f lawful v e keeps is.NoFolder at found)
+stays_clean f lawful v e keeps is.NoFolder at counts found = keeps.clean is.NoFolder at refl (locked_back f lawful v e keeps lacks.NoFolder at found)
 stays_clean f lawful v e keeps is.OrphanFolder at counts found = keeps.clean is.OrphanFolder at refl (orphan_folder_back f lawful v e keeps at found)
 stays_clean f lawful v e keeps is.SymlinkFound at counts found = keeps.clean is.SymlinkFound at refl (no_item_back f lawful v e keeps is.SymlinkFound at found)
 stays_clean f lawful v e keeps is.WrongKind at counts (inl found) = keeps.clean is.WrongKind at refl (inl (unnamed_back f lawful v e keeps is.WrongKind at found))

@@ -3,7 +3,7 @@ use Rattle.std.specs.Prelude.{◌≡◌, ◌≢◌, ◌⊎◌, ℕ, List, [], �
 use Rattle.folder_spec.specs.Path.{Part, Path, child}
 use Rattle.folder_spec.specs.View.{View, NoEntry, Folder}
 use Rattle.plain_tree.specs.Names as plain
-use Rattle.vault_spec.specs.declared.Finding.{Finding}
+use Rattle.vault_spec.specs.declared.Lack.{Lack}
 use Rattle.vault_spec.specs.Format.{Format, Directory}
 use Rattle.vault_spec.specs.Standing.{Standing, Absent, Strange, File, Dir, root_of, standing_in, standing}
 use Rattle.vault_spec.specs.Reached.{Leads, HaveOwnFolders}
@@ -30,9 +30,9 @@ pub record LooksAlike (f : Format) (v w : View) : Type 0 where
   pub steps : (path : plain.Path) (dir : Directory) (name : List ℕ) → Leads f v path dir → AreAlike v w (standing_in f v dir name) (standing_in f w dir name)
 
 -- no item stands in the directory
-abbrev pub IsEmptyIn : Format → View → Result Directory Finding → Type 0
+abbrev pub IsEmptyIn : Format → View → Result Directory Lack → Type 0
 IsEmptyIn f w (Ok dir) = (name : List ℕ) → IsNoItem (standing_in f w dir name)
-IsEmptyIn f w (Err finding) = Unit {0}
+IsEmptyIn f w (Err lack) = Unit {0}
 
 -- a file, or a directory in which no item stands
 abbrev pub IsLeaf : Format → View → Standing → Type 0
@@ -63,7 +63,7 @@ pub record IsOrderly (f : Format) (v : View) : Type 0 where
   pub top : Directory
   pub root : root_of f v ≡ Dir [] (Ok top)
   pub folders : HasFolders v
-  pub entered : (path : plain.Path) (dir : Directory) (name : List ℕ) (at : Path) (finding : Finding) → Leads f v path dir → standing_in f v dir name ≢ Dir at (Err finding)
+  pub entered : (path : plain.Path) (dir : Directory) (name : List ℕ) (at : Path) (lack : Lack) → Leads f v path dir → standing_in f v dir name ≢ Dir at (Err lack)
   pub one_path : (path other : plain.Path) (dir : Directory) → Leads f v path dir → Leads f v other dir → path ≡ other
   pub own_folder : HaveOwnFolders f v
 

@@ -5,14 +5,14 @@ use Rattle.folder_spec.specs.View.{View}
 use Rattle.plain_tree.specs.Names as plain
 use Rattle.vault_spec.specs.Format.{Format, Directory}
 use Rattle.vault_spec.specs.Standing.{Standing, Absent, Strange, File, Dir, root_of, standing_in}
-use Rattle.vault_spec.specs.declared.Finding.{Finding}
+use Rattle.vault_spec.specs.declared.Lack.{Lack}
 
 -- Nothing stands at this part of the path; or something that is no item, or a file before the path's end; or a directory whose entry is
 -- at this path has no key or no folder.
 pub data Refusal : Type 0 where
   NotFound : plain.Path → Refusal
   WrongKind : plain.Path → Refusal
-  Locked : Path → Finding → Refusal
+  Locked : Path → Lack → Refusal
 
 -- what stands at this part of a path, if an item does
 abbrev pub item_there : plain.Path → Standing → Result Standing Refusal
@@ -26,7 +26,7 @@ abbrev pub entered : plain.Path → Standing → Result Directory Refusal
 entered front Absent = Err (NotFound front)
 entered front (Strange at) = Err (WrongKind front)
 entered front (File at) = Err (WrongKind front)
-entered front (Dir at (Err finding)) = Err (Locked at finding)
+entered front (Dir at (Err lack)) = Err (Locked at lack)
 entered front (Dir at (Ok dir)) = Ok dir
 
 -- what follows in a directory that is entered

@@ -12,7 +12,9 @@ use Rattle.vault_spec.specs.Format.{Format, Directory, NoItem, Shelf, ContentFol
 use Rattle.vault_spec.specs.Standing.{File, Dir, root_of, entry_at, holds_full, item_at, standing_in}
 use Rattle.vault_spec.specs.Reached.{IsReached}
 use Rattle.vault_spec.specs.declared.Finding.{Finding}
+use Rattle.vault_spec.specs.declared.Lack.{Lack}
 use Rattle.vault_spec.specs.declared.Finding.TheVariants as is
+use Rattle.vault_spec.specs.declared.Lack.TheVariants as lacks
 
 -- a file stands there
 abbrev pub IsFileAt : View → Path → Type 0
@@ -50,15 +52,15 @@ pub record IsNoItem (f : Format) (v : View) (finding : Finding) (at : Path) : Ty
   pub is : item_at f v dir (f.stored dir.key name) ≡ NoItem finding
 
 -- a directory item of a reached folder, or the root, with its directory
-pub record IsDirectoryItem (f : Format) (v : View) (at : Path) (directory : Result Directory Finding) : Type 0 where
+pub record IsDirectoryItem (f : Format) (v : View) (at : Path) (directory : Result Directory Lack) : Type 0 where
   pub dir : Directory
   pub name : List ℕ
   pub reached : IsReached f v dir
   pub stands : standing_in f v dir name ≡ Dir at directory
 
 -- 2 and 6: a directory item of a reached folder, or the root, without its key or without its folder
-abbrev pub IsLocked : Format → View → Finding → Path → Type 0
-IsLocked f v finding at = (root_of f v ≡ Dir at (Err finding)) ⊎ IsDirectoryItem f v at (Err finding)
+abbrev pub IsLocked : Format → View → Lack → Path → Type 0
+IsLocked f v lack at = (root_of f v ≡ Dir at (Err lack)) ⊎ IsDirectoryItem f v at (Err lack)
 
 -- 4: a file with the name of a long-name file of gocryptfs in a reached folder, without a text that is right for it
 pub record IsFullTextOf (f : Format) (v : View) (dir : Directory) (file : Part) (entry : Part) : Type 0 where
@@ -80,8 +82,8 @@ pub record IsOrphanName (f : Format) (v : View) (at : Path) : Type 0 where
 pub record IsTwice (f : Format) (v : View) (at : Path) : Type 0 where
   pub other : Path
   pub apart : at ≢ other
-  pub one : Result Directory Finding
-  pub two : Result Directory Finding
+  pub one : Result Directory Lack
+  pub two : Result Directory Lack
   pub item : IsDirectoryItem f v at one
   pub again : IsDirectoryItem f v other two
   pub key : List ℕ
@@ -169,11 +171,11 @@ pub record IsIdleShelf (f : Format) (v : View) (at : Path) : Type 0 where
 -- what each finding says of a path
 abbrev pub IsFinding : Format → View → Finding → Path → Type 0
 IsFinding f v is.BadStoredName at = IsUnnamed f v is.BadStoredName at
-IsFinding f v is.NoDirKey at = IsLocked f v is.NoDirKey at
+IsFinding f v is.NoDirKey at = IsLocked f v lacks.NoDirKey at
 IsFinding f v is.LongNameLost at = IsUnnamed f v is.LongNameLost at
 IsFinding f v is.OrphanLongName at = IsOrphanName f v at
 IsFinding f v is.DirIdTwice at = IsTwice f v at
-IsFinding f v is.NoFolder at = IsLocked f v is.NoFolder at
+IsFinding f v is.NoFolder at = IsLocked f v lacks.NoFolder at
 IsFinding f v is.OrphanFolder at = IsOrphanFolder f v at
 IsFinding f v is.SymlinkFound at = IsNoItem f v is.SymlinkFound at
 IsFinding f v is.WrongKind at = IsUnnamed f v is.WrongKind at ⊎ IsNoItem f v is.WrongKind at

@@ -5,6 +5,7 @@ pub mod Gocryptfs
 pub mod Cryptomator
 pub mod Standing
 pub mod Find
+pub mod Listing
 pub mod Opens
 pub mod Reached
 pub mod Findings
@@ -12,5 +13,7 @@ pub mod Vault
 pub mod Making
 pub mod NewVault
 pub mod Alike
+pub mod Plan
 pub mod Adding
+pub mod Moving
 pub mod Empty

@@ -10,8 +10,8 @@ use Rattle.plain_tree.specs.Names as plain
 use Rattle.plain_tree.specs.Names.{is_name}
 use Rattle.vault_names.specs.declared.entry.Stored.{Stored}
 use Rattle.vault_spec.specs.Format.{Format, Directory, Item, Nothing, FileItem, DirectoryItem, NoItem, is_folder, file_bytes, key_of}
-use Rattle.vault_spec.specs.declared.Finding.{Finding}
-use Rattle.vault_spec.specs.declared.Finding.TheVariants.{NoDirKey, NoFolder}
+use Rattle.vault_spec.specs.declared.Lack.{Lack}
+use Rattle.vault_spec.specs.declared.Lack.TheVariants.{NoDirKey, NoFolder}
 
 -- what stands at a plain path: nothing; an entry that is no item; a file with its content stored at a path; or a directory with its
 -- entry at a path, which is to be entered or has no key or no folder
@@ -19,10 +19,10 @@ pub data Standing : Type 0 where
   Absent : Standing
   Strange : Path → Standing
   File : Path → Standing
-  Dir : Path → Result Directory Finding → Standing
+  Dir : Path → Result Directory Lack → Standing
 
 -- the directory with this key, whose entry is at the path
-abbrev pub directory_with : Format → View → Path → Option (List ℕ) → Result Directory Finding
+abbrev pub directory_with : Format → View → Path → Option (List ℕ) → Result Directory Lack
 directory_with f v at None = Err NoDirKey
 directory_with f v at (Some key) =
     if is_folder (v (f.folder_of at key)) then Ok (record { folder = f.folder_of at key; key = key }) else Err NoFolder
@@ -71,7 +71,7 @@ standing_in f v dir name =
 abbrev pub standing_from : Format → View → Standing → plain.Path → Standing
 standing_from f v here [] = here
 standing_from f v (Dir at (Ok dir)) (name ∷ rest) = standing_from f v (standing_in f v dir name) rest
-standing_from f v (Dir at (Err finding)) (name ∷ rest) = Absent
+standing_from f v (Dir at (Err lack)) (name ∷ rest) = Absent
 standing_from f v (File at) (name ∷ rest) = Absent
 standing_from f v (Strange at) (name ∷ rest) = Absent
 standing_from f v Absent (name ∷ rest) = Absent

@@ -1,5 +1,5 @@
 //! Laws of the definitions. Each function gives nothing, and its clauses are the laws.
-ghost use Rattle.std.specs.Prelude.{◌≡◌, ◌≢◌, ◌++◌, ◌∷◌, [], ℕ, List, Some};
+ghost use Rattle.std.specs.Prelude.{◌≡◌, ◌≢◌, ◌↔◌, ◌++◌, ◌∷◌, [], ℕ, suc, List, Some, Contains, Result, Ok};
 ghost use Rattle.cryptomator_conf.specs.declared.conf.Combo.{Combo};
 ghost use Rattle.cryptomator_conf.specs.declared.conf.CmDraw.{CmDraw};
 ghost use Rattle.cryptomator_conf.specs.Text.{keys_of};
@@ -11,16 +11,22 @@ ghost use Rattle.gocrypt_conf.specs.declared.keys.GoKeys.{GoKeys};
 ghost use Rattle.kdf_suite.specs.ScryptCost.{Cost};
 ghost use Rattle.plain_tree.specs.Names.{Path};
 ghost use Rattle.vault_spec.specs.Adding.{NewItemsComeAlone, NewItemsStayClean, ContentsAreReplacedAlone, ReplacedContentsStayClean};
-ghost use Rattle.vault_spec.specs.Alike.{LooksAlike, GainsItem, HasFolders, IsOrderly, HaveOwnPlaces};
+ghost use Rattle.vault_spec.specs.Alike.{LooksAlike, GainsItem, HasFolders, IsOrderly, HaveOwnPlaces, place_of};
 ghost use Rattle.vault_spec.specs.Cryptomator.{cm_format};
 ghost use Rattle.vault_spec.specs.Empty.{IsEmptyVault};
+ghost use Rattle.vault_spec.specs.Find.{find, enter};
 ghost use Rattle.vault_spec.specs.Findings.{IsClean};
-ghost use Rattle.vault_spec.specs.Format.{Format};
+ghost use Rattle.vault_spec.specs.Format.{Format, Directory};
 ghost use Rattle.vault_spec.specs.Gocryptfs.{go_format, directory_key};
+ghost use Rattle.vault_spec.specs.Listing.{Listed, AreListed, node_of};
+ghost use Rattle.vault_spec.specs.Moving.{StraysGoAlone};
 ghost use Rattle.vault_spec.specs.NewVault.{new_go_vault, new_cm_vault};
-ghost use Rattle.vault_spec.specs.Opens.{opened, opened_at, tree};
-ghost use Rattle.vault_spec.specs.Reached.{HaveOwnFolders};
-ghost use Rattle.vault_spec.specs.Standing.{standing, standing_in};
+ghost use Rattle.vault_spec.specs.Opens.{opened, opened_at, tree, AreItems};
+ghost use Rattle.vault_spec.specs.Plan.{Planned, IsPlan, paths_of, StandsBelow, IsReachedFrom};
+ghost use Rattle.vault_spec.specs.Reached.{Leads, IsReachedIn, HaveOwnFolders};
+ghost use Rattle.vault_spec.specs.Standing.{Standing, File, Dir, standing, standing_in};
+ghost use Rattle.vault_spec.specs.Vault.{Vault, format_of};
+ghost use Rattle.vault_spec.specs.declared.Lack.{Lack};
 
 use cryptomator_conf::CmKeys;
 use vault_names::laws::{
@@ -134,3 +140,55 @@ pub fn new_vaults_of_cryptomator_are_empty(keys: &CmKeys)
     cm_long_names_are_plain();
     cm_folders_are_plain();
 }
+
+/// What is found at a path stands there, and an item that stands there is found. A path is entered exactly where it leads to a
+/// directory.
+pub fn what_is_found_stands()
+    ensures stands { (f : Format) (v : View) (path : Path) (here : Standing) → find f v path ≡ Ok here → standing f v path ≡ here }
+    ensures file { (f : Format) (v : View) (path : Path) (at : folder.Path) → standing f v path ≡ File at → find f v path ≡ Ok (File at) }
+    ensures directory { (f : Format) (v : View) (path : Path) (at : folder.Path) (directory : Result Directory Lack)
+        → standing f v path ≡ Dir at directory → find f v path ≡ Ok (Dir at directory) }
+    ensures enters { (f : Format) (v : View) (path : Path) (dir : Directory) → (enter f v path ≡ Ok dir) ↔ Leads f v path dir }
+{}
+
+/// A directory has one list of its items.
+pub fn directories_have_one_list()
+    ensures { (f : Format) (v : View) (dir : Directory) (items other : List Listed) → AreListed f v dir items → AreListed f v dir other → items ≡ other }
+{}
+
+/// In a gocryptfs vault, clean or not, strays are there, none below another, and where some of them are gone with all below them, all
+/// opens as it did and nothing is found that wasn't, but for notes. No two directories have one folder.
+pub fn strays_of_gocryptfs_go_alone()
+    ensures strays { (keys : GoKeys) → StraysGoAlone (go_format keys) }
+    ensures own { (keys : GoKeys) (v : View) → HaveOwnFolders (go_format keys) v }
+{
+    text_has_one_name();
+    texts_are_plain();
+    long_names_are_plain();
+}
+
+/// In a Cryptomator vault, clean or not, strays are there, none below another, and where some of them are gone with all below them, all
+/// opens as it did and nothing is found that wasn't, but for notes.
+pub fn strays_of_cryptomator_go_alone(keys: &CmKeys)
+    ensures { (combo : Combo) (threshold : ℕ) → StraysGoAlone (cm_format (record { keys = keys.now; combo = combo; threshold = threshold })) }
+{
+    cm_text_has_one_name(keys);
+    cm_texts_are_plain(keys);
+    cm_long_names_are_plain();
+    cm_folders_are_plain();
+}
+
+/// The paths of a vault's plan are the items of its tree.
+pub fn plans_are_the_tree()
+    ensures { (vault : Vault) (v : View) (plan : List Planned) → IsPlan (format_of vault) v plan → AreItems (tree (format_of vault) v) (paths_of plan) }
+{}
+
+/// What stands in a directory stands behind the path to it, and its items with it. What has a place and isn't the root stands in a
+/// directory. A directory that is reached in one step more than another stands in one.
+pub fn what_stands_is_found_step_by_step()
+    ensures behind { (f : Format) (v : View) (front : Path) (dir : Directory) (name : List ℕ) → Leads f v front dir → standing f v (front ++ name ∷ []) ≡ standing_in f v dir name }
+    ensures listed { (f : Format) (v : View) (front : Path) (dir : Directory) (items : List Listed) → Leads f v front dir → AreListed f v dir items
+        → (item : Listed) → Contains items item ↔ (node_of (standing f v (front ++ item.name ∷ [])) ≡ Some item.node) }
+    ensures below { (f : Format) (v : View) (path : Path) (at : folder.Path) → path ≢ [] → place_of (standing f v path) ≡ Some at → StandsBelow f v path }
+    ensures step { (f : Format) (v : View) (steps : ℕ) (dir : Directory) → IsReachedIn f v (suc steps) dir → IsReachedFrom f v steps dir }
+{}

@@ -23,3 +23,10 @@ pub enum Finding {
     ChunkDamaged,
     EmptyOrphan,
 }
+
+/// What keeps a directory that stands from being entered.
+#[derive(Debug, Clone, Copy, PartialEq, Eq, Drop)]
+pub enum Lack {
+    NoDirKey,
+    NoFolder,
+}

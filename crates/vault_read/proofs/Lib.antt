@@ -1,0 +1,14 @@
+mod Counts
+mod Entries
+mod FolderItems
+mod LoadingLemmas
+mod OneAnswer
+mod StillToCome
+mod FoundFiles
+mod WrittenContents
+mod GivenAnswers
+mod Gathering
+mod Keys
+mod Reaching
+mod Sorting
+mod TextForms

@@ -1,0 +1,30 @@
+-- An opened vault as contracts see it, and what its calls ask.
+use Rattle.std.specs.Prelude.{◌≡◌, ℕ, List, length}
+use Rattle.folder_spec.specs.Path.{Path}
+use Rattle.vault_spec.specs.Vault.{Vault, Gocryptfs, Cryptomator}
+use Rattle.vault_read.specs.declared.vault.VaultKeys.{VaultKeys}
+use Rattle.vault_read.specs.declared.vault.VaultKeys.TheVariants as keys
+use Rattle.vault_read.specs.declared.vault.VaultKind.{VaultKind}
+use Rattle.vault_read.specs.declared.vault.VaultKind.TheVariants as kind
+
+-- the root's path, and the vault
+pub record OpenedVault : Type 0 where
+  pub root : Path
+  pub vault : Vault
+
+abbrev pub vault_of : VaultKeys → Vault
+vault_of (keys.Gocryptfs go) = Gocryptfs go
+vault_of (keys.Cryptomator cm) = Cryptomator cm
+
+abbrev pub kind_of : Vault → VaultKind
+kind_of (Gocryptfs go) = kind.Gocryptfs
+kind_of (Cryptomator cm) = kind.Cryptomator
+
+-- the key is of the size that names are stored under
+abbrev pub FitsKey : Vault → List ℕ → Type 0
+FitsKey (Gocryptfs go) key = length key ≡ 16
+FitsKey (Cryptomator cm) key = Unit {0}
+
+abbrev pub IsCryptomator : Vault → Type 0
+IsCryptomator (Gocryptfs go) = ⊥
+IsCryptomator (Cryptomator cm) = Unit {0}

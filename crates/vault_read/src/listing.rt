@@ -1,0 +1,317 @@
+//! The items of a directory.
+ghost use Rattle.std.specs.Prelude.{◌≡◌, ◌≤◌, ◌++◌, ℕ, List, Some, None, OnOk, IfOk, IfErr, IfSome, Ok, Err, IsTrue, length};
+ghost use Rattle.std.specs.Option.{option_to_list};
+ghost use Rattle.std.specs.Str.{IsUtf8};
+ghost use Rattle.folder_spec.specs.View.{View, Folder};
+ghost use Rattle.folder_spec.specs.Seen.{IsSeen, under};
+ghost use Rattle.folder_model.specs.Answers.{CountsAbove};
+ghost use Rattle.port_model.specs.Counts.{CountRose};
+ghost use Rattle.vault_spec.specs.Format.{Directory};
+ghost use Rattle.vault_spec.specs.Find as spec;
+ghost use Rattle.vault_spec.specs.Listing.{Listed, AreListed};
+ghost use Rattle.vault_spec.specs.Vault.{format_of};
+ghost use Rattle.vault_read.specs.Opened.{FitsKey};
+ghost use Rattle.vault_read.specs.Finding.{Refuses};
+ghost use Rattle.vault_read.specs.Items.{item_of};
+ghost use Rattle.vault_read.specs.Listing.{AreSorted, HasItems, IsItemOf, IsNameOf, IsTextAt, TellsNames, has_form, is_entry, is_long, named_item};
+ghost use Rattle.vault_read.specs.declared.looking.SmallFile.TheVariants.{Whole};
+
+use crate::fault::FindFault;
+use crate::finding::enter_at;
+use crate::items::{EntryItem, item_at};
+use crate::looking::{SmallFile, joined, read_under};
+use crate::standing::{Directory, full_path};
+use crate::vault::{Vault, VaultKeys, VaultKind, stored_in};
+use folder_model::{Entry, Folder};
+use folder_spec::FolderFault;
+use plain_tree::{Name, NodeKind, PlainPath};
+use std::alloc::{AllocError, Global};
+use std::marker::Model;
+use text_model::Text;
+use vault_names::laws::{
+    cm_long_names_are_plain, cm_text_has_one_name, cm_texts_are_plain, long_names_are_plain,
+    text_has_one_name, texts_are_plain,
+};
+use vault_names::{NameFault, Stored, cm_read, go_read};
+use vault_spec::laws::what_is_found_stands;
+
+const LONG_START: &str = "gocryptfs.longname.";
+
+const LONG_END: &str = ".c9s";
+
+// The most bytes of a long-name file that are read. No text of a name has more.
+const MAX_TEXT_SIZE: usize = 1_024;
+
+/// An item with its name in its directory.
+#[derive(Debug, Drop)]
+pub struct Item {
+    pub name: Name,
+    pub node: NodeKind,
+}
+
+impl Model for Item {
+    ghost use Rattle.vault_spec.specs.Listing.{Listed};
+
+    ghost Value = { Listed };
+
+    ghost view = { λ item. record { name = item.name; node = item.node } };
+}
+
+/// The items of the directory at a plain path, in byte order of their names. What stands in it and is no item is passed over.
+/// It refuses as `enter` does.
+pub fn list<F: Folder>(
+    alloc: Global,
+    folder: &mut F,
+    vault: &Vault,
+    path: &PlainPath,
+) -> Result<Vec<Item>, FindFault>
+    ensures told { F.told folder.new ≡ F.told folder.old }
+    ensures items { IfOk result (λ items. (v : View) → IsSeen (F.told folder.old) v → (dir : Directory)
+        × (spec.enter (format_of vault.now.vault) (under vault.now.root v) path.now ≡ Ok dir)
+        × AreListed (format_of vault.now.vault) (under vault.now.root v) dir items.items) }
+    ensures fault { IfErr result (λ fault. (v : View) → IsSeen (F.told folder.old) v → Refuses vault.now.root (spec.enter (format_of vault.now.vault) (under vault.now.root v) path.now) fault) }
+    ensures grows { F.faults folder.old ≤ F.faults folder.new }
+    ensures failed { result ≡ Err FindFault.Failed → CountRose (F.faults folder.old) (F.faults folder.new) }
+{
+    what_is_found_stands();
+    let entered = enter_at(alloc, folder, vault, path)?;
+    Ok(items_in(alloc, folder, vault, &entered.dir)?)
+}
+
+// The items of a directory, in byte order of their names.
+fn items_in<F: Folder>(
+    alloc: Global,
+    folder: &mut F,
+    vault: &Vault,
+    dir: &Directory,
+) -> Result<Vec<Item>, FolderFault>
+    requires fits { FitsKey vault.now.vault dir.now.key }
+    requires folder { (v : View) → IsSeen (F.told folder.old) v → under vault.now.root v dir.now.folder ≡ Folder }
+    ensures told { F.told folder.new ≡ F.told folder.old }
+    ensures items { IfOk result (λ items. (v : View) → IsSeen (F.told folder.old) v → AreListed (format_of vault.now.vault) (under vault.now.root v) dir.now items.items) }
+    ensures counts { CountsAbove (F.faults folder.old) (F.faults folder.new) result }
+{
+    texts_tell_names(vault, dir.key.as_slice());
+    let at = joined(alloc, vault.root(), &dir.folder)?;
+    let entries = folder.list(&at)?;
+    let items = items_of(alloc, folder, vault, dir, entries.as_slice())?;
+    Ok(sorted(items))
+}
+
+// The same items in byte order of their names.
+fn sorted(mut items: Vec<Item>) -> Vec<Item>
+    ensures { AreSorted items.items result.items }
+{
+    items.sort_unstable_by(|one, other| one.name.cmp(&other.name));
+    items
+}
+
+// The items of these entries of a directory's folder, in the entries' order.
+fn items_of<F: Folder>(
+    alloc: Global,
+    folder: &mut F,
+    vault: &Vault,
+    dir: &Directory,
+    entries: &[Entry],
+) -> Result<Vec<Item>, FolderFault>
+    requires fits { FitsKey vault.now.vault dir.now.key }
+    requires laws { TellsNames vault.now.vault dir.now.key }
+    ensures told { F.told folder.new ≡ F.told folder.old }
+    ensures items { IfOk result (λ items. (v : View) → IsSeen (F.told folder.old) v → HasItems (format_of vault.now.vault) (under vault.now.root v) dir.now entries.now items.items) }
+    ensures counts { CountsAbove (F.faults folder.old) (F.faults folder.new) result }
+{
+    let mut items = Vec::new(alloc);
+    for entry in entries {
+        let found = entry_item(alloc, folder, vault, dir, entry.name.as_str())?;
+        add(&mut items, found)?;
+    }
+    Ok(items)
+}
+
+// Adds the item, if there is one.
+fn add(items: &mut Vec<Item>, found: Option<Item>) -> Result<(), AllocError>
+    ensures { OnOk result (items.new.items ≡ items.old.items ++ option_to_list found) }
+{
+    if let Some(item) = found {
+        items.push(item)?;
+    }
+    Ok(())
+}
+
+// The item whose entry has this name, if an item stands there.
+fn entry_item<F: Folder>(
+    alloc: Global,
+    folder: &mut F,
+    vault: &Vault,
+    dir: &Directory,
+    entry: &str,
+) -> Result<Option<Item>, FolderFault>
+    requires fits { FitsKey vault.now.vault dir.now.key }
+    requires laws { TellsNames vault.now.vault dir.now.key }
+    ensures told { F.told folder.new ≡ F.told folder.old }
+    ensures item { IfOk result (λ found. (v : View) → IsSeen (F.told folder.old) v → IsItemOf (format_of vault.now.vault) (under vault.now.root v) dir.now entry.now found) }
+    ensures counts { CountsAbove (F.faults folder.old) (F.faults folder.new) result }
+{
+    let long = is_long(vault.kind(), entry);
+    let Some(text) = text_at(alloc, folder, vault, dir, entry, long)? else {
+        return Ok(None);
+    };
+    let Some(name) = entry_name(alloc, vault, dir, entry, long, &text)? else {
+        return Ok(None);
+    };
+    let at = dir.folder.child(entry)?;
+    let item = item_at(alloc, folder, vault, &at, long)?;
+    Ok(named_item(name, item))
+}
+
+// The item with this name, if an item stands at its entry.
+fn named_item(name: Name, item: EntryItem) -> Option<Item>
+    ensures { result ≡ named_item name (item_of item) }
+{
+    match item {
+        EntryItem::EntryFile => Some(Item {
+            name,
+            node: NodeKind::File,
+        }),
+        EntryItem::ContentFile => Some(Item {
+            name,
+            node: NodeKind::File,
+        }),
+        EntryItem::Directory => Some(Item {
+            name,
+            node: NodeKind::Dir,
+        }),
+        EntryItem::Nothing => None,
+        EntryItem::NoItem(_) => None,
+    }
+}
+
+// Whether an entry has the name of a long one.
+fn is_long(kind: VaultKind, entry: &str) -> bool
+    ensures { result ≡ is_long kind entry.now }
+{
+    match kind {
+        VaultKind::Gocryptfs => entry.as_bytes().starts_with(LONG_START.as_bytes()),
+        VaultKind::Cryptomator => entry.as_bytes().ends_with(LONG_END.as_bytes()),
+    }
+}
+
+// The text that an entry stands for: its own name, or what the file of a long one holds.
+fn text_at<F: Folder>(
+    alloc: Global,
+    folder: &mut F,
+    vault: &Vault,
+    dir: &Directory,
+    entry: &str,
+    long: bool,
+) -> Result<Option<Text>, FolderFault>
+    ensures told { F.told folder.new ≡ F.told folder.old }
+    ensures text { IfOk result (λ found. IfSome found (λ text. (v : View) → IsSeen (F.told folder.old) v → IsTextAt (format_of vault.now.vault) (under vault.now.root v) dir.now entry.now long text)) }
+    ensures none { IfOk result (λ found. found ≡ None → (v : View) → IsSeen (F.told folder.old) v → (text : List ℕ) → IsUtf8 text → length text ≤ 1024
+        → ¬ IsTextAt (format_of vault.now.vault) (under vault.now.root v) dir.now entry.now long text) }
+    ensures counts { CountsAbove (F.faults folder.old) (F.faults folder.new) result }
+{
+    if !long {
+        return Ok(Some(Text::copy_of(alloc, entry)?));
+    }
+    let at = full_path(alloc, vault, &dir.folder, entry)?;
+    let file = read_under(alloc, folder, vault.root(), &at, MAX_TEXT_SIZE)?;
+    Ok(text_in(file))
+}
+
+// The text that a file holds.
+fn text_in(file: SmallFile) -> Option<Text>
+    ensures text { IfSome result (λ text. file ≡ Whole text) }
+    ensures none { result ≡ None → (text : List ℕ) → IsUtf8 text → ¬ (file ≡ Whole text) }
+{
+    let SmallFile::Whole(bytes) = file else {
+        return None;
+    };
+    match String::from_utf8(bytes.into_vec()) {
+        Ok(text) => Some(Text::new(text)),
+        Err(_) => None,
+    }
+}
+
+// The name that is stored as this text at this entry of a directory.
+fn entry_name(
+    alloc: Global,
+    vault: &Vault,
+    dir: &Directory,
+    entry: &str,
+    long: bool,
+    text: &Text,
+) -> Result<Option<Name>, AllocError>
+    requires fits { FitsKey vault.now.vault dir.now.key }
+    requires laws { TellsNames vault.now.vault dir.now.key }
+    ensures name { IfOk result (λ found. IfSome found (λ name. IsNameOf vault.now.vault dir.now.key name text.now × IsTrue (is_entry entry.now long ((format_of vault.now.vault).stored dir.now.key name)))) }
+    ensures none { IfOk result (λ found. found ≡ None → (name : List ℕ) → IsNameOf vault.now.vault dir.now.key name text.now
+        → ¬ IsTrue (is_entry entry.now long ((format_of vault.now.vault).stored dir.now.key name))) }
+{
+    let Some(name) = name_of(alloc, vault, dir.key.as_slice(), text.as_str())? else {
+        return Ok(None);
+    };
+    let stored = stored_in(alloc, vault, dir.key.as_slice(), &name)?;
+    if is_entry(entry, long, &stored) {
+        Ok(Some(name))
+    } else {
+        Ok(None)
+    }
+}
+
+// Whether what is stored of a name stands at this entry.
+fn is_entry(entry: &str, long: bool, stored: &Stored) -> bool
+    ensures { result ≡ is_entry entry.now long stored.now }
+{
+    stored.name.as_str() == entry && has_form(long, stored)
+}
+
+// Whether what is stored has a text of its own where its name is long, and only there.
+fn has_form(long: bool, stored: &Stored) -> bool
+    ensures { result ≡ has_form long stored.now.full }
+{
+    match &stored.full {
+        Some(_) => long,
+        None => !long,
+    }
+}
+
+// The name that is stored as a text in the directory with this key.
+fn name_of(alloc: Global, vault: &Vault, key: &[u8], text: &str) -> Result<Option<Name>, AllocError>
+    requires { FitsKey vault.now.vault key.now }
+    ensures name { IfOk result (λ found. IfSome found (λ name. IsNameOf vault.now.vault key.now name text.now)) }
+    ensures none { IfOk result (λ found. found ≡ None → (name : List ℕ) → ¬ IsNameOf vault.now.vault key.now name text.now) }
+{
+    let read = match vault.keys() {
+        VaultKeys::Gocryptfs(keys) => {
+            let mut block = [0; 16];
+            block.copy_from_slice(key);
+            go_read(alloc, keys, &block, text)
+        }
+        VaultKeys::Cryptomator(vault) => cm_read(alloc, &vault.keys, key, text),
+    };
+    match read {
+        Ok(name) => Ok(Some(name)),
+        Err(NameFault::NotStored) => Ok(None),
+        Err(NameFault::NoMemory) => Err(AllocError),
+    }
+}
+
+// A text is that of one name, and an entry tells whether its name is long.
+fn texts_tell_names(vault: &Vault, key: &[u8])
+    requires { FitsKey vault.now.vault key.now }
+    ensures { TellsNames vault.now.vault key.now }
+{
+    match vault.keys() {
+        VaultKeys::Gocryptfs(_) => {
+            text_has_one_name();
+            texts_are_plain();
+            long_names_are_plain();
+        }
+        VaultKeys::Cryptomator(vault) => {
+            cm_text_has_one_name(&vault.keys);
+            cm_texts_are_plain(&vault.keys);
+            cm_long_names_are_plain();
+        }
+    }
+}

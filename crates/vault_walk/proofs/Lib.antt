@@ -1,0 +1,9 @@
+mod Heres
+mod Items
+mod InOrder
+mod Walks
+mod Growing
+mod Gathered
+mod Depths
+mod Counting
+mod Founds

@@ -1,0 +1,6 @@
+-- Plans of vaults and their digests, what is found in one directory, and what a survey of a vault gives.
+pub mod Digest
+pub mod Found
+pub mod Here
+pub mod Survey
+pub mod Walking

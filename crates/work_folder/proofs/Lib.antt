@@ -1,0 +1,7 @@
+mod Looks
+mod Picks
+mod Changed
+mod Steps
+mod Restaged
+mod Passed
+mod Entered

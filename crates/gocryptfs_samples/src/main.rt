@@ -2,7 +2,8 @@
 //! the content that was stored.
 #![tactic(auto)]
 
-use port_model::{MemSink, MemSource};
+use folder_model::MemFolder;
+use port_model::{ListRandoms, MemSink, MemSource};
 use std::alloc::{AllocError, Global};
 use std::rt::Files;
 use std::{fs, io};
@@ -51,9 +52,13 @@ fn compare<R: Files + Print + AllocGlobal>(rt: &R, name: &str, content: &[u8]) -
     let mut source = MemSource::new(input, Vec::new(rt.alloc()));
     let mut out = MemSink::new(rt.alloc(), 10_000, Vec::new(rt.alloc()))?;
     let mut err = MemSink::new(rt.alloc(), 1_000, Vec::new(rt.alloc()))?;
+    let mut folder = MemFolder::new(rt.alloc())?;
+    let mut random = ListRandoms::new(Vec::new(rt.alloc()), Vec::new(rt.alloc()));
     let status = run(
         rt.alloc(),
         words.as_slice(),
+        &mut folder,
+        &mut random,
         &mut source,
         &mut out,
         &mut err,

@@ -1,3 +1,9 @@
+mod Contents
+mod Decryptions
+mod Executions
+mod Listings
+mod NamingLines
 mod Outcomes
-mod RunLemmas
+mod Refusals
+mod Showing
 mod WholeFiles

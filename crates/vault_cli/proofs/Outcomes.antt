@@ -15,8 +15,8 @@ use Rattle.port_model.specs.Told.{AppendsPrefix}
 use Rattle.chunk_files.specs.Reading.{Ending, Reading, Whole, Wanting, Faulty, ends}
 use Rattle.chunk_files.specs.Contents.{read_file}
 use Rattle.chunk_files.specs.Decoding.{Decoding, HasGiven, IsPlaced, MayFollow, chunks_before, left, started, stored_end}
-use Rattle.vault_cli.specs.declared.answer.Answer.{Answer}
-use Rattle.vault_cli.specs.declared.answer.Answer.TheVariants.{Done, BadCommandLine, OutOfMemory, InputFault, OutputFault, Damaged, InputTooLong}
+use Rattle.vault_cli.specs.declared.decrypt.DecryptEnd.{DecryptEnd}
+use Rattle.vault_cli.specs.declared.decrypt.DecryptEnd.TheVariants.{Done, OutOfMemory, InputFault, OutputFault, Damaged, TooLong}
 use Rattle.vault_cli.specs.Inputs.{TakesAtMost, input_limit}
 use Rattle.vault_cli.specs.Decrypts.{TakesNear, end_of_chunks, input_reading}
 use Rattle.vault_cli.specs.Streaming.{AppendsPart, Drains, HasFailed, HasWritten, Outcome, Streams}
@@ -203,15 +203,14 @@ module _ (key : List ℕ) where
     near = λ cause. failed-near input rest taken taken' d f within end _ (all-is input rest taken taken' d f within end);
   }
 
-  pub outcome-answer : (at at' taken taken' : Option (List ℕ)) (answer : Answer) (d : Decoding) → Drains key at at' taken taken' (Some answer) d
+  pub outcome-answer : (at at' taken taken' : Option (List ℕ)) (answer : DecryptEnd) (d : Decoding) → Drains key at at' taken taken' (Some answer) d
       → d.taken ≤ input_limit → (d.ended ≡ true → IsAtEnd at') → Outcome key at at' taken taken' answer
   outcome-answer at at' taken taken' Done d drains within end = outcome-done at at' taken taken' d drains.0 drains.1 drains.2 within end
   outcome-answer at at' taken taken' (Damaged fault) d drains within end = outcome-damaged at at' taken taken' d fault drains.0 drains.1 within end
   outcome-answer at at' taken taken' OutputFault d drains within end = outcome-failed at at' taken taken' d drains within end
-  outcome-answer at at' taken taken' BadCommandLine d drains within end = absurd drains
   outcome-answer at at' taken taken' OutOfMemory d drains within end = absurd drains
   outcome-answer at at' taken taken' InputFault d drains within end = absurd drains
-  outcome-answer at at' taken taken' InputTooLong d drains within end = absurd drains
+  outcome-answer at at' taken taken' TooLong d drains within end = absurd drains
 
   -- the input failed
   pub outcome-input : (at at' taken taken' : Option (List ℕ)) (d : Decoding) → HasWritten key at at' taken taken' d → d.taken ≤ input_limit → d.ended ≡ false
@@ -234,7 +233,7 @@ module _ (key : List ℕ) where
 
   -- the input is longer than the limit
   pub outcome-long : (at mid at' taken taken' : Option (List ℕ)) (d : Decoding) (byte : List ℕ) → HasWritten key at mid taken taken' d → d.taken ≡ input_limit → d.ended ≡ false
-      → left d [] true ≡ ends Wanting → Consumes mid at' byte → length byte ≡ 1 → Outcome key at at' taken taken' InputTooLong
+      → left d [] true ≡ ends Wanting → Consumes mid at' byte → length byte ≡ 1 → Outcome key at at' taken taken' TooLong
   outcome-long None mid at' taken taken' d byte w all on wanting more one = record {
     tells = tt;
     writes = tt;

@@ -1,6 +1,5 @@
 -- A whole file within the limit, and what reading it gives.
-use Rattle.std.proofs.Common.{◌≡◌, ℕ, ◌≤◌, List, length, take, nat_lt, refl, sym, ap, ◌∙◌, inl, inr}
-use Rattle.std.specs.Prelude.{◌⊎◌}
+use Rattle.std.proofs.Common.{◌≡◌, ℕ, ◌≤◌, List, length, take, nat_lt, refl, sym, ap, ◌∙◌}
 use Rattle.std.specs.List.{concat}
 use Rattle.std.proofs.lemmas.Bool.{le-ltb, ltb-false}
 use Rattle.std.proofs.lemmas.List.{take_all}
@@ -9,9 +8,7 @@ use Rattle.chunk_files.specs.Reading.{Whole}
 use Rattle.chunk_files.specs.Contents.{readable}
 use Rattle.chunk_files.specs.FileOf.{FilesAreWhatTheyGive, Gives, IsFileOf, WholeFilesEnd}
 use Rattle.vault_cli.specs.Inputs.{input_limit}
-use Rattle.vault_cli.specs.Answers.{status_of}
 use Rattle.vault_cli.specs.Decrypts.{input_reading}
-use Rattle.vault_cli.specs.Runs.{answer_to}
 
 reading-within : (key bytes : List ℕ) → length bytes ≤ input_limit → input_reading key bytes ≡ readable (go_keys key) bytes
 reading-within key bytes within = rw (take_all input_limit bytes within, le-ltb input_limit (length bytes) within) refl
@@ -24,10 +21,8 @@ whole-content gives ends key bytes whole =
     (gives (go_keys key) bytes (concat (input_reading key bytes).chunks)).1
     (record { whole = ap (λ r. r.ending) (sym same) ∙ whole; joined = ap (λ r. concat r.chunks) same })
 
--- a file within the limit is answered by 0, where its reading decides
-pub decided-whole : FilesAreWhatTheyGive → (key bytes content : List ℕ) (status : ℕ) → length bytes ≤ input_limit → IsFileOf (go_keys key) bytes content
-    → (status ≡ 3) ⊎ (status ≡ status_of (answer_to (input_reading key bytes).ending)) → (status ≡ 3) ⊎ (status ≡ 0)
-decided-whole law key bytes content status within file decided =
+-- a file within the limit is read to its end
+pub within-whole : FilesAreWhatTheyGive → (key bytes content : List ℕ) → length bytes ≤ input_limit → IsFileOf (go_keys key) bytes content → (input_reading key bytes).ending ≡ Whole
+within-whole law key bytes content within file =
     let gives : Gives (go_keys key) bytes content = (law (go_keys key) bytes content).0 file in
-    let whole : (input_reading key bytes).ending ≡ Whole = ap (λ r. r.ending) (reading-within key bytes within) ∙ gives.whole in
-    elim decided [ inl memory ↦ inl memory | inr is ↦ inr (is ∙ ap (λ e. status_of (answer_to e)) whole) ]
+    ap (λ r. r.ending) (reading-within key bytes within) ∙ gives.whole

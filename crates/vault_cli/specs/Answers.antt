@@ -1,34 +1,95 @@
--- How a command ends: its status and its message. Each message is one line on the error stream, and a
--- command that is done writes none.
-use Rattle.std.specs.Prelude.{ℕ, List, [], ◌∷◌, ◌++◌, ◌⊎◌, codes, Option}
+-- How a command ends: its status and its message. Each message is one line on the error stream, and a command that is done writes
+-- none. Paths, and the texts of a configuration, are in their shown form.
+use Rattle.std.specs.Prelude.{ℕ, Bool, true, false, List, [], ◌∷◌, ◌++◌, ◌⊎◌, codes, Option}
 use Rattle.std.specs.Io.KnownBytes.{Appends}
 use Rattle.port_model.specs.Counts.{CountRose}
 use Rattle.port_model.specs.Told.{AppendsPrefix}
 use Rattle.chunk_files.specs.Fault.{fault_text}
+use Rattle.cryptomator_conf.specs.Fault as cryptomator
+use Rattle.gocrypt_conf.specs.Fault as gocryptfs
+use Rattle.plain_tree.specs.Shown.{shown, shown_path}
 use Rattle.vault_cli.specs.declared.answer.Answer.{Answer}
-use Rattle.vault_cli.specs.declared.answer.Answer.TheVariants.{Done, BadCommandLine, OutOfMemory, InputFault, OutputFault, Damaged, InputTooLong}
+use Rattle.vault_cli.specs.declared.answer.Answer.TheVariants.{Done, BadCommandLine, OutOfMemory, FolderFault, InputFault, OutputFault, Refused, WrongPass, NotFound, WrongKind, DamagedInput, Damaged, Limit}
+use Rattle.vault_cli.specs.declared.answer.Named.{Named}
+use Rattle.vault_cli.specs.declared.answer.Named.TheVariants as named
+use Rattle.vault_cli.specs.declared.answer.Refusal.{Refusal}
+use Rattle.vault_cli.specs.declared.answer.Refusal.TheVariants as refusal
+use Rattle.vault_cli.specs.declared.answer.Damage.{Damage}
+use Rattle.vault_cli.specs.declared.answer.Damage.TheVariants as damage
+use Rattle.vault_cli.specs.declared.answer.Limit as limits
+use Rattle.vault_cli.specs.declared.answer.Limit.TheVariants as limit
 
 abbrev pub status_of : Answer → ℕ
 status_of Done = 0
 status_of BadCommandLine = 2
 status_of OutOfMemory = 3
+status_of FolderFault = 4
 status_of InputFault = 5
 status_of OutputFault = 6
-status_of (Damaged fault) = 12
-status_of InputTooLong = 23
+status_of (Refused at why) = 8
+status_of (WrongPass root) = 9
+status_of (NotFound what) = 10
+status_of (WrongKind what) = 11
+status_of (DamagedInput fault) = 12
+status_of (Damaged at how) = 12
+status_of (Limit which) = 23
 
--- a message's line
+abbrev pub named_text : Named → List ℕ
+named_text (named.Folder at) = shown_path at
+named_text (named.Plain path) = shown_path path
+
+abbrev pub refusal_text : Refusal → List ℕ
+refusal_text (refusal.Gocryptfs fault) = shown (gocryptfs.fault_text fault)
+refusal_text (refusal.Cryptomator fault) = shown (cryptomator.fault_text fault)
+refusal_text refusal.Signature = codes "signature"
+
+abbrev pub damage_text : Damage → List ℕ
+damage_text (damage.Content fault) = fault_text fault
+damage_text damage.NoDirKey = codes "no directory key"
+damage_text damage.NoFolder = codes "no folder"
+
+abbrev pub limit_text : limits.Limit → List ℕ
+limit_text limit.Depth = codes "depth"
+limit_text limit.Items = codes "items"
+limit_text (limit.Length at) = codes "length " ++ shown_path at
+limit_text limit.PassFile = codes "pass file"
+limit_text limit.Input = codes "input"
+
+abbrev pub message_of : Answer → List ℕ
+message_of Done = []
+message_of BadCommandLine = codes "bad command line"
+message_of OutOfMemory = codes "out of memory"
+message_of FolderFault = codes "folder fault"
+message_of InputFault = codes "input fault"
+message_of OutputFault = codes "output fault"
+message_of (Refused at why) = codes "configuration refused: " ++ shown_path at ++ codes ": " ++ refusal_text why
+message_of (WrongPass root) = codes "wrong passphrase: " ++ shown_path root
+message_of (NotFound what) = codes "not found: " ++ named_text what
+message_of (WrongKind what) = codes "wrong kind: " ++ named_text what
+message_of (DamagedInput fault) = codes "damaged: input: " ++ fault_text fault
+message_of (Damaged at how) = codes "damaged: " ++ shown_path at ++ codes ": " ++ damage_text how
+message_of (Limit which) = codes "limit: " ++ limit_text which
+
 abbrev pub line : List ℕ → List ℕ
 line text = codes "vaultmove: " ++ text ++ 10 ∷ []
 
+-- the line of a message, where there is one
+abbrev pub line_with : List ℕ → List ℕ
+line_with [] = []
+line_with (byte ∷ text) = line (byte ∷ text)
+
 abbrev pub line_of : Answer → List ℕ
-line_of Done = []
-line_of BadCommandLine = line (codes "bad command line")
-line_of OutOfMemory = line (codes "out of memory")
-line_of InputFault = line (codes "input fault")
-line_of OutputFault = line (codes "output fault")
-line_of (Damaged fault) = line (codes "damaged: input: " ++ fault_text fault)
-line_of InputTooLong = line (codes "limit: input")
+line_of answer = line_with (message_of answer)
+
+-- whether an answer's message names nothing, so that its line takes no memory
+abbrev pub is_plain : Answer → Bool
+is_plain Done = true
+is_plain BadCommandLine = true
+is_plain OutOfMemory = true
+is_plain FolderFault = true
+is_plain InputFault = true
+is_plain OutputFault = true
+is_plain answer = false
 
 -- a stream took this text, or a front part of it where its count of faults rose
 abbrev pub TakesText : Option (List ℕ) → Option (List ℕ) → ℕ → ℕ → List ℕ → Type 0

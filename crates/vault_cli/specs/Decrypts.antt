@@ -1,39 +1,39 @@
 -- What `decrypt-file` makes of its input.
-use Rattle.std.specs.Prelude.{◌≡◌, ℕ, zero, suc, ◌+◌, ◌*◌, ◌≤◌, min, List, ◌++◌, take, length, nat_lt, Option}
+use Rattle.std.specs.Prelude.{◌≡◌, ℕ, zero, suc, ◌+◌, ◌*◌, ◌≤◌, min, List, ◌++◌, take, length, Option}
 use Rattle.std.specs.List.{concat}
-use Rattle.std.specs.Io.KnownBytes.{Appends, Consumes, Keeps}
+use Rattle.std.specs.Io.KnownBytes.{Appends, Consumes}
 use Rattle.port_model.specs.Told.{AppendsPrefix}
 use Rattle.chunk_files.specs.Format.{Format, stored_size}
 use Rattle.chunk_files.specs.Gocryptfs.{go_format}
 use Rattle.chunk_files.specs.Keys.{go_keys}
 use Rattle.chunk_files.specs.Reading.{Reading, Whole, Wanting, Faulty}
-use Rattle.chunk_files.specs.Contents.{read_file}
-use Rattle.vault_cli.specs.Inputs.{input_limit}
-use Rattle.vault_cli.specs.declared.answer.Answer.{Answer}
-use Rattle.vault_cli.specs.declared.answer.Answer.TheVariants.{Done, BadCommandLine, OutOfMemory, InputFault, OutputFault, Damaged, InputTooLong}
+use Rattle.vault_read.specs.Contents.{limited_reading}
+use Rattle.vault_cli.specs.declared.decrypt.DecryptEnd.{DecryptEnd}
+use Rattle.vault_cli.specs.declared.decrypt.DecryptEnd.TheVariants.{Done, OutOfMemory, InputFault, OutputFault, Damaged, TooLong}
 
 -- the input as a content file, up to the limit
 abbrev pub input_reading : List ℕ → List ℕ → Reading
-input_reading key input = read_file (go_keys key) (take input_limit input) (nat_lt input_limit (length input))
+input_reading key input = limited_reading (go_keys key) input
 
 -- The reading that an answer tells of: it ended well, at this fault, or for want of bytes past the limit.
 -- The other answers have other causes.
-abbrev pub TellsOf : Answer → Reading → Type 0
+abbrev pub TellsOf : DecryptEnd → Reading → Type 0
 TellsOf Done reading = reading.ending ≡ Whole
 TellsOf (Damaged fault) reading = reading.ending ≡ Faulty fault
-TellsOf InputTooLong reading = reading.ending ≡ Wanting
-TellsOf _ reading = Unit {0}
+TellsOf TooLong reading = reading.ending ≡ Wanting
+TellsOf OutOfMemory reading = Unit {0}
+TellsOf InputFault reading = Unit {0}
+TellsOf OutputFault reading = Unit {0}
 
 -- What the output took by this answer: all chunks; a front part of them joined where it failed; else
 -- the first chunks, perhaps none.
-abbrev pub Writes : Answer → Reading → Option (List ℕ) → Option (List ℕ) → Type 0
+abbrev pub Writes : DecryptEnd → Reading → Option (List ℕ) → Option (List ℕ) → Type 0
 Writes Done reading taken taken' = Appends taken taken' (concat reading.chunks)
 Writes (Damaged fault) reading taken taken' = Appends taken taken' (concat reading.chunks)
-Writes InputTooLong reading taken taken' = Appends taken taken' (concat reading.chunks)
+Writes TooLong reading taken taken' = Appends taken taken' (concat reading.chunks)
 Writes OutputFault reading taken taken' = AppendsPrefix taken taken' (concat reading.chunks)
 Writes InputFault reading taken taken' = (k : ℕ) × Appends taken taken' (concat (take k reading.chunks))
 Writes OutOfMemory reading taken taken' = (k : ℕ) × Appends taken taken' (concat (take k reading.chunks))
-Writes BadCommandLine reading taken taken' = Keeps taken taken'
 
 -- the stored end of the first so many chunks of an input, and its start before them
 abbrev pub end_of_chunks : Format → List ℕ → ℕ → ℕ

@@ -1,10 +1,11 @@
 -- What is taken of an input.
 use Rattle.std.specs.Prelude.{ℕ, ◌≤◌, List, length, Option}
 use Rattle.std.specs.Io.KnownBytes.{Consumes}
+use Rattle.vault_read.specs.Contents.{content_limit}
 
--- the most bytes that an input may have, 2^40
+-- the most bytes that an input may have
 abbrev pub input_limit : ℕ
-input_limit = 1099511627776
+input_limit = content_limit
 
 -- no more than so many bytes were taken
 abbrev pub TakesAtMost : ℕ → Option (List ℕ) → Option (List ℕ) → Type 0

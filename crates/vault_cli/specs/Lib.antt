@@ -1,6 +1,16 @@
 pub mod Words
+pub mod Commands
 pub mod Answers
+pub mod Faults
+pub mod Shown
+pub mod Opening
+pub mod Refusing
+pub mod Finding
+pub mod Ls
+pub mod Cat
 pub mod Inputs
 pub mod Decrypts
 pub mod Streaming
+pub mod World
+pub mod DecryptFile
 pub mod Runs

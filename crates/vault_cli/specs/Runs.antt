@@ -1,25 +1,38 @@
--- What a run of the program makes of its words and streams.
-use Rattle.std.specs.Prelude.{◌≡◌, ℕ, ◌↔◌, List, Option, Some, IsNone}
+-- What a run of the program makes of its words: each command is a case, with a definition of its own.
+use Rattle.std.specs.Prelude.{◌≡◌, ◌⊎◌, ℕ, List, Option, Some, None}
 use Rattle.std.specs.Io.KnownBytes.{Keeps}
-use Rattle.chunk_files.specs.Reading.{Ending, Whole, Wanting, Faulty}
+use Rattle.vault_cli.specs.Cat.{ShowsContent}
+use Rattle.vault_cli.specs.Commands.{command_of}
+use Rattle.vault_cli.specs.DecryptFile.{DecryptsFile}
+use Rattle.vault_cli.specs.Ls.{ShowsItems}
+use Rattle.vault_cli.specs.Shown.{Reads}
+use Rattle.vault_cli.specs.World.{World}
 use Rattle.vault_cli.specs.declared.answer.Answer.{Answer}
-use Rattle.vault_cli.specs.declared.answer.Answer.TheVariants.{Done, BadCommandLine, Damaged, InputTooLong}
-use Rattle.vault_cli.specs.declared.words.Command.TheVariants.{DecryptFile}
-use Rattle.vault_cli.specs.Words.{command_of}
-use Rattle.vault_cli.specs.Decrypts.{input_reading, TellsOf, Writes}
+use Rattle.vault_cli.specs.declared.answer.Answer.TheVariants.{BadCommandLine, OutOfMemory, FolderFault}
+use Rattle.vault_cli.specs.declared.words.Command.{Command}
+use Rattle.vault_cli.specs.declared.words.Command.TheVariants.{DecryptFile, Ls, Cat}
+use Rattle.vault_cli.specs.declared.words.Target.{Target}
 
--- the answer to a reading that no fault of a stream and no want of memory cut off
-abbrev pub answer_to : Ending → Answer
-answer_to Whole = Done
-answer_to Wanting = InputTooLong
-answer_to (Faulty fault) = Damaged fault
+-- words that make no command, of which nothing comes
+pub record IsNoCommand (answer : Answer) (before after : World) : Type 0 where
+  pub answers : (answer ≡ BadCommandLine) ⊎ (answer ≡ OutOfMemory)
+  pub unchanged : after.told ≡ before.told
+  pub untouched : Keeps before.left after.left
+  pub unwritten : Keeps before.taken after.taken
 
--- The answer to these words over an input that had `left` and an output that had taken `taken`.
-pub record Executes (words : List (List ℕ)) (answer : Answer) (left left' taken taken' : Option (List ℕ)) : Type 0 where
-  -- words that make no command are refused, and no others
-  pub command : (answer ≡ BadCommandLine) ↔ IsNone (command_of words)
-  -- nothing is taken or written then
-  pub refused : answer ≡ BadCommandLine → Keeps left left' × Keeps taken taken'
-  -- the cause of a `decrypt-file`'s answer, and what it wrote
-  pub tells : (key input : List ℕ) → command_of words ≡ Some (DecryptFile key) → left ≡ Some input → TellsOf answer (input_reading key input)
-  pub writes : (key input : List ℕ) → command_of words ≡ Some (DecryptFile key) → left ≡ Some input → Writes answer (input_reading key input) taken taken'
+-- `ls`, which writes nothing before all is known, and takes nothing of the input
+pub record ListsItems (target : Target) (answer : Answer) (before after : World) : Type 0 where
+  pub reads : Reads (ShowsItems target) answer before.told after.told before.taken after.taken
+  pub quiet : answer ≡ FolderFault → Keeps before.taken after.taken
+  pub untouched : Keeps before.left after.left
+
+-- `cat`, which takes nothing of the input
+pub record WritesFile (target : Target) (answer : Answer) (before after : World) : Type 0 where
+  pub reads : Reads (ShowsContent target) answer before.told after.told before.taken after.taken
+  pub untouched : Keeps before.left after.left
+
+abbrev pub Executes : Option Command → Answer → World → World → Type 0
+Executes None answer before after = IsNoCommand answer before after
+Executes (Some (DecryptFile key)) answer before after = DecryptsFile key answer before after
+Executes (Some (Ls target)) answer before after = ListsItems target answer before after
+Executes (Some (Cat target)) answer before after = WritesFile target answer before after

@@ -8,8 +8,8 @@ use Rattle.std.specs.Io.KnownBytes.{Appends, Consumes}
 use Rattle.chunk_files.specs.Keys.{go_keys}
 use Rattle.chunk_files.specs.Reading.{Whole, Wanting, Faulty, ends}
 use Rattle.chunk_files.specs.Decoding.{Decoding, HasGiven, IsPlaced, MayFollow, left, wanted}
-use Rattle.vault_cli.specs.declared.answer.Answer.{Answer}
-use Rattle.vault_cli.specs.declared.answer.Answer.TheVariants.{Done, OutputFault, Damaged}
+use Rattle.vault_cli.specs.declared.decrypt.DecryptEnd.{DecryptEnd}
+use Rattle.vault_cli.specs.declared.decrypt.DecryptEnd.TheVariants.{Done, OutputFault, Damaged}
 
 -- what was taken of the input was fed to the decoder, which gave these chunks, of which the output took this
 pub record Streams (key : List ℕ) (at at' taken taken' : Option (List ℕ)) (d : Decoding) (chunks : List (List ℕ)) (written : List ℕ) : Type 0 where
@@ -40,7 +40,7 @@ pub record HasFailed (key : List ℕ) (at at' taken taken' : Option (List ℕ)) 
   pub streams : Streams key at at' taken taken' d (chunks ++ (last ∷ [])) (concat chunks ++ part)
 
 -- What writing the chunks ended with, up to where the decoder wants more bytes, which is none of the answers.
-abbrev pub Drains : List ℕ → Option (List ℕ) → Option (List ℕ) → Option (List ℕ) → Option (List ℕ) → Option Answer → Decoding → Type 0
+abbrev pub Drains : List ℕ → Option (List ℕ) → Option (List ℕ) → Option (List ℕ) → Option (List ℕ) → Option DecryptEnd → Decoding → Type 0
 Drains key at at' taken taken' None d =
     HasWritten key at at' taken taken' d × (d.ended ≡ false) × (left d [] true ≡ ends Wanting) × (length d.held < wanted d.keys d.header)
 Drains key at at' taken taken' (Some Done) d = HasWritten key at at' taken taken' d × (d.ended ≡ true) × (left d [] false ≡ ends Whole)
@@ -50,7 +50,7 @@ Drains key at at' taken taken' (Some OutputFault) d = HasFailed key at at' taken
 Drains key at at' taken taken' (Some _) d = ⊥
 
 -- What is said of an answer to an input that was told or wasn't.
-pub record Outcome (key : List ℕ) (at at' taken taken' : Option (List ℕ)) (answer : Answer) : Type 0 where
+pub record Outcome (key : List ℕ) (at at' taken taken' : Option (List ℕ)) (answer : DecryptEnd) : Type 0 where
   pub tells : IfSome at (λ input. TellsOf answer (input_reading key input))
   pub writes : IfSome at (λ input. Writes answer (input_reading key input) taken taken')
   pub takes : TakesAtMost (input_limit + 1) at at'

@@ -1,20 +1,74 @@
--- The words of the command line. A list of words is the command that this gives, or no command.
-use Rattle.std.specs.Prelude.{ℕ, List, [], ◌∷◌, codes, if◌then◌else◌, Option, None, option_map}
+-- The words of the command line.
+--
+-- The first word is the command's name. Of the others, before a word `--`, each that begins with `-` and has more characters is an
+-- option: `--name=VALUE`, or `--name` with its value in the next word, which doesn't begin with `-`. All other words there, and each
+-- behind the `--`, are positional, in their order.
+use Rattle.std.specs.Prelude.{ℕ, Bool, false, ◌==◌, ◌&&◌, ◌||◌, not, List, [], ◌∷◌, ◌++◌, nat_lt, length, codes, if◌then◌else◌, Option, None, Some}
+use Rattle.std.specs.List.{before_first, after_first, position_or_len}
 use Rattle.std.specs.Str.{bytes_eq}
-use Rattle.std.specs.Result.{result_ok}
-use Rattle.hex.specs.Hex.{decode_sized}
-use Rattle.vault_cli.specs.declared.words.Command.{Command}
-use Rattle.vault_cli.specs.declared.words.Command.TheVariants.{DecryptFile}
 
--- the 32 bytes that 64 hexadecimal digits of either case write
-abbrev pub key_of : List ℕ → Option (List ℕ)
-key_of text = result_ok (decode_sized text 32)
+abbrev pub begins_with_dash : List ℕ → Bool
+begins_with_dash [] = false
+begins_with_dash (byte ∷ rest) = byte == 45
 
--- the command of this name with this one argument
-abbrev pub named_command : List ℕ → List ℕ → Option Command
-named_command name key = if bytes_eq name (codes "decrypt-file") then option_map DecryptFile (key_of key) else None
+abbrev pub is_option : List ℕ → Bool
+is_option word = begins_with_dash word && nat_lt 1 (length word)
 
--- exactly two words make a command
-abbrev pub command_of : List (List ℕ) → Option Command
-command_of (name ∷ key ∷ []) = named_command name key
-command_of _ = None
+abbrev pub ends_options : List ℕ → Bool
+ends_options word = bytes_eq word (codes "--")
+
+abbrev pub is_equals : ℕ → Bool
+is_equals byte = byte == 61
+
+abbrev pub has_value : List ℕ → Bool
+has_value word = nat_lt (position_or_len is_equals word) (length word)
+
+-- an option of the command line, and its value, if it has one
+pub record Choice : Type 0 where
+  pub name : List ℕ
+  pub value : Option (List ℕ)
+
+-- the next word as an option's value
+abbrev pub value_in : List (List ℕ) → Option (List ℕ)
+value_in [] = None
+value_in (next ∷ rest) = if begins_with_dash next then None else Some next
+
+-- the option that a word is, by the words behind it
+abbrev pub choice_of : List ℕ → List (List ℕ) → Choice
+choice_of word rest =
+    record { name = before_first is_equals word; value = if has_value word then Some (after_first is_equals word) else value_in rest }
+
+-- the options among words, in order
+abbrev pub choices_in : List (List ℕ) → List Choice
+choices_in [] = []
+choices_in (word ∷ rest) = if is_option word then choice_of word rest ∷ choices_in rest else choices_in rest
+
+-- the next word is the value of this one
+abbrev pub takes_next : List ℕ → Bool
+takes_next word = is_option word && not (has_value word)
+
+-- the words that are neither options nor their values; whether the first is the value of the word before it
+abbrev pub positional_in : Bool → List (List ℕ) → List (List ℕ)
+positional_in taken [] = []
+positional_in taken (word ∷ rest) =
+    if taken || is_option word then positional_in (takes_next word) rest else word ∷ positional_in (takes_next word) rest
+
+-- what stands behind a command's name
+pub record Arguments : Type 0 where
+  pub choices : List Choice
+  pub positional : List (List ℕ)
+
+abbrev pub before_end : List (List ℕ) → List (List ℕ)
+before_end words = before_first ends_options words
+
+abbrev pub behind_end : List (List ℕ) → List (List ℕ)
+behind_end words = after_first ends_options words
+
+abbrev pub arguments_of : List (List ℕ) → Arguments
+arguments_of words =
+    record { choices = choices_in (before_end words); positional = positional_in false (before_end words) ++ behind_end words }
+
+-- the value of the only option, if this is its name
+abbrev pub only_value : List ℕ → List Choice → Option (List ℕ)
+only_value name (choice ∷ []) = if bytes_eq choice.name name then choice.value else None
+only_value name _ = None

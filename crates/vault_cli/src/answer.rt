@@ -1,10 +1,56 @@
+//! How commands end.
 ghost use Rattle.std.specs.Prelude.{◌≡◌};
 ghost use Rattle.vault_cli.specs.Answers.{status_of};
 
+use crate::decrypt::DecryptEnd;
 use chunk_files::ChunkFault;
+use cryptomator_conf::CmConfFault;
+use folder_model::FPath;
+use folder_spec::FolderFault;
+use gocrypt_conf::GoConfFault;
+use plain_tree::PlainPath;
+use std::alloc::AllocError;
+use vault_read::{CatFault, FindFault};
+
+/// What a message names: a path of the folder, or one of a vault's plain tree.
+#[derive(Debug, Drop)]
+pub enum Named {
+    Folder(FPath),
+    Plain(PlainPath),
+}
+
+/// Why a configuration is refused.
+#[derive(Debug, Drop)]
+pub enum Refusal {
+    Gocryptfs(GoConfFault),
+    Cryptomator(CmConfFault),
+    /// The signature isn't that of the vault's keys.
+    Signature,
+}
+
+/// What is damaged: a content, or a directory that is to be entered.
+#[derive(Clone, Copy, Debug, PartialEq, Eq)]
+pub enum Damage {
+    Content(ChunkFault),
+    NoDirKey,
+    NoFolder,
+}
+
+/// A limit that is passed.
+#[derive(Debug, Drop)]
+pub enum Limit {
+    /// The depth of a plain path.
+    Depth,
+    /// The number of a vault's items.
+    Items,
+    /// The length of the file at this path.
+    Length(FPath),
+    PassFile,
+    Input,
+}
 
 /// How a command ends.
-#[derive(Clone, Copy, Debug, PartialEq, Eq)]
+#[derive(Debug, Drop)]
 pub enum Answer {
     /// All was done.
     Done,
@@ -12,14 +58,26 @@ pub enum Answer {
     BadCommandLine,
     /// Memory was refused.
     OutOfMemory,
+    /// The folder failed.
+    FolderFault,
     /// The input failed.
     InputFault,
     /// The output failed.
     OutputFault,
-    /// The content has this fault.
-    Damaged(ChunkFault),
-    /// The input is longer than the limit, and has no fault before it.
-    InputTooLong,
+    /// The configuration file at this path is refused.
+    Refused(FPath, Refusal),
+    /// The passphrase unlocks no keys of the vault at this root.
+    WrongPass(FPath),
+    /// Nothing stands there.
+    NotFound(Named),
+    /// Something of another kind stands there.
+    WrongKind(Named),
+    /// The input has this fault.
+    DamagedInput(ChunkFault),
+    /// What stands at this path is damaged so.
+    Damaged(FPath, Damage),
+    /// A limit is passed.
+    Limit(Limit),
 }
 
 impl Answer {
@@ -31,10 +89,112 @@ impl Answer {
             Answer::Done => 0,
             Answer::BadCommandLine => 2,
             Answer::OutOfMemory => 3,
+            Answer::FolderFault => 4,
             Answer::InputFault => 5,
             Answer::OutputFault => 6,
-            Answer::Damaged(_) => 12,
-            Answer::InputTooLong => 23,
+            Answer::Refused(_, _) => 8,
+            Answer::WrongPass(_) => 9,
+            Answer::NotFound(_) => 10,
+            Answer::WrongKind(_) => 11,
+            Answer::DamagedInput(_) => 12,
+            Answer::Damaged(_, _) => 12,
+            Answer::Limit(_) => 23,
+        }
+    }
+}
+
+impl From<AllocError> for Answer {
+    ghost use Rattle.std.specs.Prelude.{◌≡◌};
+    ghost use Rattle.vault_cli.specs.declared.answer.Answer.TheVariants.{OutOfMemory};
+
+    ghost from_gives = { λ _ answer. answer ≡ OutOfMemory };
+
+    fn from(_fault: AllocError) -> Answer {
+        Answer::OutOfMemory
+    }
+}
+
+impl From<FolderFault> for Answer {
+    ghost use Rattle.std.specs.Prelude.{◌≡◌};
+    ghost use Rattle.vault_cli.specs.Faults.{of_folder};
+
+    ghost from_gives = { λ fault answer. answer ≡ of_folder fault };
+
+    fn from(fault: FolderFault) -> Answer {
+        match fault {
+            FolderFault::Failed => Answer::FolderFault,
+            FolderFault::Refused => Answer::FolderFault,
+            FolderFault::NoMemory => Answer::OutOfMemory,
+        }
+    }
+}
+
+impl From<FindFault> for Answer {
+    ghost use Rattle.std.specs.Prelude.{◌≡◌};
+    ghost use Rattle.vault_cli.specs.Faults.{of_find};
+
+    ghost from_gives = { λ fault answer. answer ≡ of_find fault };
+
+    fn from(fault: FindFault) -> Answer {
+        match fault {
+            FindFault::NotFound(path) => Answer::NotFound(Named::Plain(path)),
+            FindFault::WrongKind(path) => Answer::WrongKind(Named::Plain(path)),
+            FindFault::NoDirKey(at) => Answer::Damaged(at, Damage::NoDirKey),
+            FindFault::NoFolder(at) => Answer::Damaged(at, Damage::NoFolder),
+            FindFault::Failed => Answer::FolderFault,
+            FindFault::NoMemory => Answer::OutOfMemory,
+        }
+    }
+}
+
+impl From<vault_read::Limit> for Limit {
+    ghost use Rattle.std.specs.Prelude.{◌≡◌};
+    ghost use Rattle.vault_cli.specs.Faults.{of_limit};
+
+    ghost from_gives = { λ limit result. result ≡ of_limit limit };
+
+    fn from(limit: vault_read::Limit) -> Limit {
+        match limit {
+            vault_read::Limit::Depth => Limit::Depth,
+            vault_read::Limit::Items => Limit::Items,
+            vault_read::Limit::Length(at) => Limit::Length(at),
+            vault_read::Limit::Input => Limit::Input,
+        }
+    }
+}
+
+impl From<CatFault> for Answer {
+    ghost use Rattle.std.specs.Prelude.{◌≡◌};
+    ghost use Rattle.vault_cli.specs.Faults.{of_cat};
+
+    ghost from_gives = { λ fault answer. answer ≡ of_cat fault };
+
+    fn from(fault: CatFault) -> Answer {
+        match fault {
+            CatFault::Find(fault) => Answer::from(fault),
+            CatFault::Damaged(at, fault) => Answer::Damaged(at, Damage::Content(fault)),
+            CatFault::Limit(limit) => Answer::Limit(Limit::from(limit)),
+            CatFault::Sink => Answer::OutputFault,
+            CatFault::Failed => Answer::FolderFault,
+            CatFault::NoMemory => Answer::OutOfMemory,
+        }
+    }
+}
+
+impl From<DecryptEnd> for Answer {
+    ghost use Rattle.std.specs.Prelude.{◌≡◌};
+    ghost use Rattle.vault_cli.specs.DecryptFile.{answer_to_end};
+
+    ghost from_gives = { λ end answer. answer ≡ answer_to_end end };
+
+    fn from(end: DecryptEnd) -> Answer {
+        match end {
+            DecryptEnd::Done => Answer::Done,
+            DecryptEnd::OutOfMemory => Answer::OutOfMemory,
+            DecryptEnd::InputFault => Answer::InputFault,
+            DecryptEnd::OutputFault => Answer::OutputFault,
+            DecryptEnd::Damaged(fault) => Answer::DamagedInput(fault),
+            DecryptEnd::TooLong => Answer::Limit(Limit::Input),
         }
     }
 }

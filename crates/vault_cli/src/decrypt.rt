@@ -7,11 +7,27 @@ ghost use Rattle.vault_cli.specs.Inputs.{TakesAtMost, input_limit};
 ghost use Rattle.vault_cli.specs.Decrypts.{TakesNear, TellsOf, Writes, input_reading};
 ghost use Rattle.vault_cli.specs.Streaming.{Drains, HasWritten, Outcome};
 
-use crate::answer::Answer;
 use chunk_files::laws::given_chunks_come_first;
-use chunk_files::{ChunkBuf, ContentKeys, Decoder, Step};
+use chunk_files::{ChunkBuf, ChunkFault, ContentKeys, Decoder, Step};
 use port_model::{Sink, Source, SourceFault};
 use std::alloc::Global;
+
+/// How `decrypt-file` ends.
+#[derive(Clone, Copy, Debug, PartialEq, Eq)]
+pub enum DecryptEnd {
+    /// The whole input was decrypted.
+    Done,
+    /// Memory was refused.
+    OutOfMemory,
+    /// The input failed.
+    InputFault,
+    /// The output failed.
+    OutputFault,
+    /// The input has this fault.
+    Damaged(ChunkFault),
+    /// The input is longer than the limit, and has no fault before it.
+    TooLong,
+}
 
 const INPUT_LIMIT: u64 = 1_099_511_627_776;
 
@@ -23,28 +39,27 @@ pub fn decrypt_file<I: Source, O: Sink>(
     key: &[u8; 32],
     input: &mut I,
     out: &mut O,
-) -> Answer
+) -> DecryptEnd
     ensures tells { IfSome (I.left input.old) (λ bytes. TellsOf result (input_reading key.now bytes)) }
     ensures writes { IfSome (I.left input.old) (λ bytes. Writes result (input_reading key.now bytes) (O.taken out.old) (O.taken out.new)) }
-    ensures words { result ≡ Answer.BadCommandLine → ⊥ }
 
     ensures takes { TakesAtMost (input_limit + 1) (I.left input.old) (I.left input.new) }
-    ensures near { (result ≡ Answer.OutputFault) ⊎ ((fault : _) × (result ≡ Answer.Damaged fault))
+    ensures near { (result ≡ DecryptEnd.OutputFault) ⊎ ((fault : _) × (result ≡ DecryptEnd.Damaged fault))
         → IfSome (I.left input.old) (λ bytes. TakesNear key.now bytes (I.left input.old) (I.left input.new) (O.taken out.old) (O.taken out.new)) }
-    ensures end { result ≡ Answer.Done → IsTrue (I.ended input.new) × IsAtEnd (I.left input.new) }
+    ensures end { result ≡ DecryptEnd.Done → IsTrue (I.ended input.new) × IsAtEnd (I.left input.new) }
 
-    ensures input_fault { result ≡ Answer.InputFault → CountRose (I.faults input.old) (I.faults input.new) }
-    ensures output_fault { result ≡ Answer.OutputFault → CountRose (O.faults out.old) (O.faults out.new) }
+    ensures input_fault { result ≡ DecryptEnd.InputFault → CountRose (I.faults input.old) (I.faults input.new) }
+    ensures output_fault { result ≡ DecryptEnd.OutputFault → CountRose (O.faults out.old) (O.faults out.new) }
     ensures input_counted { I.faults input.old ≤ I.faults input.new }
     ensures output_counted { O.faults out.old ≤ O.faults out.new }
 {
     let mut decoder = match Decoder::start(alloc, ContentKeys::go(key)) {
         Ok(decoder) => decoder,
-        Err(_) => return Answer::OutOfMemory,
+        Err(_) => return DecryptEnd::OutOfMemory,
     };
     let mut chunk = match ChunkBuf::new(alloc) {
         Ok(chunk) => chunk,
-        Err(_) => return Answer::OutOfMemory,
+        Err(_) => return DecryptEnd::OutOfMemory,
     };
     given_chunks_come_first();
     stream(&mut decoder, &mut chunk, input, out)
@@ -56,15 +71,14 @@ fn stream<I: Source, O: Sink>(
     chunk: &mut ChunkBuf,
     input: &mut I,
     out: &mut O,
-) -> Answer
+) -> DecryptEnd
     requires nothing { decoder.old.taken ≡ 0 }
     requires open { decoder.old.ended ≡ false }
     ensures outcome { (key : List ℕ) → HasWritten key (I.left input.old) (I.left input.old) (O.taken out.old) (O.taken out.old) decoder.old
         → Outcome key (I.left input.old) (I.left input.new) (O.taken out.old) (O.taken out.new) result }
-    ensures words { result ≡ Answer.BadCommandLine → ⊥ }
-    ensures end { result ≡ Answer.Done → IsTrue (I.ended input.new) × IsAtEnd (I.left input.new) }
-    ensures input_fault { result ≡ Answer.InputFault → CountRose (I.faults input.old) (I.faults input.new) }
-    ensures output_fault { result ≡ Answer.OutputFault → CountRose (O.faults out.old) (O.faults out.new) }
+    ensures end { result ≡ DecryptEnd.Done → IsTrue (I.ended input.new) × IsAtEnd (I.left input.new) }
+    ensures input_fault { result ≡ DecryptEnd.InputFault → CountRose (I.faults input.old) (I.faults input.new) }
+    ensures output_fault { result ≡ DecryptEnd.OutputFault → CountRose (O.faults out.old) (O.faults out.new) }
     ensures input_counted { I.faults input.old ≤ I.faults input.new }
     ensures output_counted { O.faults out.old ≤ O.faults out.new }
 {
@@ -77,7 +91,7 @@ fn stream<I: Source, O: Sink>(
         match feed_piece(decoder, input, INPUT_LIMIT - fed) {
             Ok(0) => return write_rest(decoder, chunk, out),
             Ok(count) => fed += count as u64,
-            Err(_) => return Answer::InputFault,
+            Err(_) => return DecryptEnd::InputFault,
         }
     }
     stream_end(decoder, chunk, input, out)
@@ -89,15 +103,14 @@ fn stream_end<I: Source, O: Sink>(
     chunk: &mut ChunkBuf,
     input: &mut I,
     out: &mut O,
-) -> Answer
+) -> DecryptEnd
     requires all { decoder.old.taken ≡ input_limit }
     requires open { decoder.old.ended ≡ false }
     ensures outcome { (key : List ℕ) (at taken : Option (List ℕ)) → HasWritten key at (I.left input.old) taken (O.taken out.old) decoder.old
         → Outcome key at (I.left input.new) taken (O.taken out.new) result }
-    ensures words { result ≡ Answer.BadCommandLine → ⊥ }
-    ensures end { result ≡ Answer.Done → IsTrue (I.ended input.new) × IsAtEnd (I.left input.new) }
-    ensures input_fault { result ≡ Answer.InputFault → CountRose (I.faults input.old) (I.faults input.new) }
-    ensures output_fault { result ≡ Answer.OutputFault → CountRose (O.faults out.old) (O.faults out.new) }
+    ensures end { result ≡ DecryptEnd.Done → IsTrue (I.ended input.new) × IsAtEnd (I.left input.new) }
+    ensures input_fault { result ≡ DecryptEnd.InputFault → CountRose (I.faults input.old) (I.faults input.new) }
+    ensures output_fault { result ≡ DecryptEnd.OutputFault → CountRose (O.faults out.old) (O.faults out.new) }
     ensures input_counted { I.faults input.old ≤ I.faults input.new }
     ensures output_counted { O.faults out.old ≤ O.faults out.new }
 {
@@ -112,8 +125,8 @@ fn stream_end<I: Source, O: Sink>(
             decoder.end();
             write_rest(decoder, chunk, out)
         }
-        Ok(_) => Answer::InputTooLong,
-        Err(_) => Answer::InputFault,
+        Ok(_) => DecryptEnd::TooLong,
+        Err(_) => DecryptEnd::InputFault,
     }
 }
 
@@ -174,33 +187,37 @@ fn feed_from<I: Source>(
 }
 
 // Writes the chunks that are left of an input that has ended.
-fn write_rest<O: Sink>(decoder: &mut Decoder, chunk: &mut ChunkBuf, out: &mut O) -> Answer
+fn write_rest<O: Sink>(decoder: &mut Decoder, chunk: &mut ChunkBuf, out: &mut O) -> DecryptEnd
     requires { decoder.old.ended ≡ true }
     ensures drains { (key : List ℕ) (at at2 taken : Option (List ℕ)) → HasWritten key at at2 taken (O.taken out.old) decoder.old
         → Drains key at at2 taken (O.taken out.new) (Some result) decoder.new }
-    ensures answer { (result ≡ Answer.Done) ⊎ ((result ≡ Answer.OutputFault) ⊎ ((fault : _) × (result ≡ Answer.Damaged fault))) }
+    ensures answer { (result ≡ DecryptEnd.Done) ⊎ ((result ≡ DecryptEnd.OutputFault) ⊎ ((fault : _) × (result ≡ DecryptEnd.Damaged fault))) }
     ensures taken { decoder.new.taken ≡ decoder.old.taken }
     ensures ended { decoder.new.ended ≡ true }
-    ensures output_fault { result ≡ Answer.OutputFault → CountRose (O.faults out.old) (O.faults out.new) }
+    ensures output_fault { result ≡ DecryptEnd.OutputFault → CountRose (O.faults out.old) (O.faults out.new) }
     ensures counted { O.faults out.old ≤ O.faults out.new }
 {
     match write_chunks(decoder, chunk, out) {
         Some(answer) => answer,
-        None => Answer::Done,
+        None => DecryptEnd::Done,
     }
 }
 
 // Writes the chunks that the decoder has to give, and answers where it wants no more bytes.
-fn write_chunks<O: Sink>(decoder: &mut Decoder, chunk: &mut ChunkBuf, out: &mut O) -> Option<Answer>
+fn write_chunks<O: Sink>(
+    decoder: &mut Decoder,
+    chunk: &mut ChunkBuf,
+    out: &mut O,
+) -> Option<DecryptEnd>
     ensures drains { (key : List ℕ) (at at2 taken : Option (List ℕ)) → HasWritten key at at2 taken (O.taken out.old) decoder.old
         → Drains key at at2 taken (O.taken out.new) result decoder.new }
-    ensures answer { IfSome result (λ answer. (answer ≡ Answer.Done) ⊎ ((answer ≡ Answer.OutputFault) ⊎ ((fault : _) × (answer ≡ Answer.Damaged fault)))) }
-    ensures done { result ≡ Some Answer.Done → decoder.old.ended ≡ true }
+    ensures answer { IfSome result (λ answer. (answer ≡ DecryptEnd.Done) ⊎ ((answer ≡ DecryptEnd.OutputFault) ⊎ ((fault : _) × (answer ≡ DecryptEnd.Damaged fault)))) }
+    ensures done { result ≡ Some DecryptEnd.Done → decoder.old.ended ≡ true }
     ensures wanting { result ≡ None → decoder.old.ended ≡ false }
     ensures room { result ≡ None → length decoder.new.held < 32816 }
     ensures taken { decoder.new.taken ≡ decoder.old.taken }
     ensures ended { decoder.new.ended ≡ decoder.old.ended }
-    ensures output_fault { result ≡ Some Answer.OutputFault → CountRose (O.faults out.old) (O.faults out.new) }
+    ensures output_fault { result ≡ Some DecryptEnd.OutputFault → CountRose (O.faults out.old) (O.faults out.new) }
     ensures counted { O.faults out.old ≤ O.faults out.new }
 {
     given_chunks_come_first();
@@ -208,11 +225,11 @@ fn write_chunks<O: Sink>(decoder: &mut Decoder, chunk: &mut ChunkBuf, out: &mut 
         match decoder.next(chunk) {
             Ok(Step::Chunk(size)) => match out.put(&chunk.bytes()[..size]) {
                 Ok(()) => {}
-                Err(_) => return Some(Answer::OutputFault),
+                Err(_) => return Some(DecryptEnd::OutputFault),
             },
             Ok(Step::More) => return None,
-            Ok(Step::End) => return Some(Answer::Done),
-            Err(fault) => return Some(Answer::Damaged(fault)),
+            Ok(Step::End) => return Some(DecryptEnd::Done),
+            Err(fault) => return Some(DecryptEnd::Damaged(fault)),
         }
     }
 }

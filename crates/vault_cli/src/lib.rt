@@ -3,7 +3,11 @@
 #![tactic(auto)]
 
 pub mod answer;
+mod arguments;
+mod cat;
 mod decrypt;
+mod ls;
+mod opening;
 mod reporting;
 mod running;
 pub mod words;
@@ -11,7 +15,11 @@ pub mod words;
 pub use answer::Answer;
 pub use reporting::report;
 pub use running::run;
-pub use words::Command;
+pub use words::{Command, Target};
 
 #[cfg(test)]
+mod samples;
+#[cfg(test)]
 mod tests;
+#[cfg(test)]
+mod vault_tests;

@@ -1,34 +1,50 @@
-ghost use Rattle.std.specs.Prelude.{◌≡◌, ◌⊎◌, ℕ};
-ghost use Rattle.vault_cli.specs.Answers.{TakesText, line_of};
+//! The messages of answers.
+ghost use Rattle.std.specs.Prelude.{◌≡◌, ◌++◌, ◌∷◌, ◌⊎◌, [], false, IfOk, MatchOption, codes, map, string_bytes};
+ghost use Rattle.std.specs.List.{flat_map};
+ghost use Rattle.plain_tree.specs.Shown.{shown, shown_path};
+ghost use Rattle.vault_cli.specs.Answers.{TakesText, damage_text, is_plain, limit_text, line_of, message_of, named_text, refusal_text};
 
-use crate::answer::Answer;
+use crate::answer::{Answer, Damage, Limit, Named, Refusal};
+use folder_model::FPath;
+use plain_tree::shown_text;
 use port_model::Sink;
-use std::alloc::Global;
-
-const OUT_OF_MEMORY: &[u8] = b"vaultmove: out of memory\n";
+use std::alloc::{AllocError, Global};
 
 /// Writes an answer's message to the error stream, as one line; `Done` has none. A fault of that stream
-/// changes nothing. The answer comes back, or `OutOfMemory` where the message of a fault found no memory.
+/// changes nothing. The answer comes back, or `OutOfMemory` where a message that names something found no memory.
 pub fn report<E: Sink>(alloc: Global, answer: Answer, err: &mut E) -> Answer
     ensures line { TakesText (E.taken err.old) (E.taken err.new) (E.faults err.old) (E.faults err.new) (line_of result) }
-    ensures kept { (result ≡ answer) ⊎ ((fault : _) × (answer ≡ Answer.Damaged fault) × (result ≡ Answer.OutOfMemory)) }
+    ensures kept { (result ≡ answer) ⊎ ((result ≡ Answer.OutOfMemory) × (is_plain answer ≡ false)) }
+{
+    if let Some(line) = plain_line(&answer) {
+        put_line(line.as_bytes(), err);
+        return answer;
+    }
+    match naming_line(alloc, &answer) {
+        Ok(line) => {
+            put_line(line.as_bytes(), err);
+            answer
+        }
+        Err(_) => {
+            put_line(b"vaultmove: out of memory\n", err);
+            Answer::OutOfMemory
+        }
+    }
+}
+
+// The line of an answer that names nothing.
+fn plain_line(answer: &Answer) -> Option<&'static str>
+    ensures { MatchOption result (is_plain answer.now ≡ false) (λ line. line.now ≡ line_of answer.now) }
 {
     match answer {
-        Answer::Done => {}
-        Answer::BadCommandLine => put_line(b"vaultmove: bad command line\n", err),
-        Answer::OutOfMemory => put_line(OUT_OF_MEMORY, err),
-        Answer::InputFault => put_line(b"vaultmove: input fault\n", err),
-        Answer::OutputFault => put_line(b"vaultmove: output fault\n", err),
-        Answer::Damaged(fault) => match format!(in alloc; "vaultmove: damaged: input: {fault}\n") {
-            Ok(line) => put_line(line.as_bytes(), err),
-            Err(_) => {
-                put_line(OUT_OF_MEMORY, err);
-                return Answer::OutOfMemory;
-            }
-        },
-        Answer::InputTooLong => put_line(b"vaultmove: limit: input\n", err),
+        Answer::Done => Some(""),
+        Answer::BadCommandLine => Some("vaultmove: bad command line\n"),
+        Answer::OutOfMemory => Some("vaultmove: out of memory\n"),
+        Answer::FolderFault => Some("vaultmove: folder fault\n"),
+        Answer::InputFault => Some("vaultmove: input fault\n"),
+        Answer::OutputFault => Some("vaultmove: output fault\n"),
+        _ => None,
     }
-    answer
 }
 
 // Writes one line, whatever becomes of it.
@@ -36,4 +52,126 @@ fn put_line<E: Sink>(line: &[u8], err: &mut E)
     ensures { TakesText (E.taken err.old) (E.taken err.new) (E.faults err.old) (E.faults err.new) line.now }
 {
     let _ = err.put(line);
+}
+
+// The line of an answer that names something.
+fn naming_line(alloc: Global, answer: &Answer) -> Result<String, AllocError>
+    ensures { is_plain answer.now ≡ false → IfOk result (λ text. string_bytes text ≡ line_of answer.now) }
+{
+    let message = message_of(alloc, answer)?;
+    let mut text = behind(alloc, "vaultmove: ", message.as_str())?;
+    text.push_str("\n")?;
+    Ok(text)
+}
+
+// The message of an answer that names something.
+fn message_of(alloc: Global, answer: &Answer) -> Result<String, AllocError>
+    ensures { is_plain answer.now ≡ false → IfOk result (λ text. string_bytes text ≡ message_of answer.now) }
+{
+    match answer {
+        Answer::Refused(at, why) => at_path(
+            alloc,
+            "configuration refused: ",
+            at,
+            refusal_text(alloc, why)?.as_str(),
+        ),
+        Answer::WrongPass(root) => behind(
+            alloc,
+            "wrong passphrase: ",
+            shown_folder(alloc, root)?.as_str(),
+        ),
+        Answer::NotFound(what) => behind(alloc, "not found: ", named_text(alloc, what)?.as_str()),
+        Answer::WrongKind(what) => behind(alloc, "wrong kind: ", named_text(alloc, what)?.as_str()),
+        Answer::DamagedInput(fault) => format!(in alloc; "damaged: input: {fault}"),
+        Answer::Damaged(at, how) => {
+            at_path(alloc, "damaged: ", at, damage_text(alloc, how)?.as_str())
+        }
+        Answer::Limit(which) => behind(alloc, "limit: ", limit_text(alloc, which)?.as_str()),
+        _ => Ok(String::new(alloc)),
+    }
+}
+
+// One text behind another.
+fn behind(alloc: Global, words: &str, text: &str) -> Result<String, AllocError>
+    ensures { IfOk result (λ whole. string_bytes whole ≡ words.now ++ text.now) }
+{
+    let mut whole = String::from_str(alloc, words)?;
+    whole.push_str(text)?;
+    Ok(whole)
+}
+
+// Words, a path, and what is said of it.
+fn at_path(alloc: Global, words: &str, at: &FPath, text: &str) -> Result<String, AllocError>
+    ensures { IfOk result (λ whole. string_bytes whole ≡ words.now ++ shown_path at.now ++ codes ": " ++ text.now) }
+{
+    let mut whole = behind(alloc, words, shown_folder(alloc, at)?.as_str())?;
+    whole.push_str(": ")?;
+    whole.push_str(text)?;
+    Ok(whole)
+}
+
+fn named_text(alloc: Global, what: &Named) -> Result<String, AllocError>
+    ensures { IfOk result (λ text. string_bytes text ≡ named_text what.now) }
+{
+    match what {
+        Named::Folder(at) => shown_folder(alloc, at),
+        Named::Plain(path) => path.shown(),
+    }
+}
+
+fn refusal_text(alloc: Global, why: &Refusal) -> Result<String, AllocError>
+    ensures { IfOk result (λ text. string_bytes text ≡ refusal_text why.now) }
+{
+    match why {
+        Refusal::Gocryptfs(fault) => shown_text(alloc, format!(in alloc; "{fault}")?.as_bytes()),
+        Refusal::Cryptomator(fault) => shown_text(alloc, format!(in alloc; "{fault}")?.as_bytes()),
+        Refusal::Signature => String::from_str(alloc, "signature"),
+    }
+}
+
+fn damage_text(alloc: Global, how: &Damage) -> Result<String, AllocError>
+    ensures { IfOk result (λ text. string_bytes text ≡ damage_text how.now) }
+{
+    match how {
+        Damage::Content(fault) => format!(in alloc; "{fault}"),
+        Damage::NoDirKey => String::from_str(alloc, "no directory key"),
+        Damage::NoFolder => String::from_str(alloc, "no folder"),
+    }
+}
+
+fn limit_text(alloc: Global, which: &Limit) -> Result<String, AllocError>
+    ensures { IfOk result (λ text. string_bytes text ≡ limit_text which.now) }
+{
+    match which {
+        Limit::Depth => String::from_str(alloc, "depth"),
+        Limit::Items => String::from_str(alloc, "items"),
+        Limit::Length(at) => behind(alloc, "length ", shown_folder(alloc, at)?.as_str()),
+        Limit::PassFile => String::from_str(alloc, "pass file"),
+        Limit::Input => String::from_str(alloc, "input"),
+    }
+}
+
+// The shown form of a path of the folder.
+#[tactic(auto, unfolding(plain_tree::specs::Shown::shown_path))]
+fn shown_folder(alloc: Global, at: &FPath) -> Result<String, AllocError>
+    ensures { IfOk result (λ text. string_bytes text ≡ shown_path at.now) }
+{
+    match at.parts() {
+        [] => Ok(String::new(alloc)),
+        [first, others @ ..] => {
+            let text = shown_text(alloc, first.as_bytes())?;
+            shown_before(alloc, text, others)
+        }
+    }
+}
+
+// The text, and then the shown form of each other part behind a slash.
+fn shown_before(alloc: Global, mut text: String, others: &[String]) -> Result<String, AllocError>
+    ensures { IfOk result (λ whole. string_bytes whole ≡ string_bytes text ++ flat_map (λ part. (47 ∷ []) ++ shown part) (map string_bytes others.now)) }
+{
+    for part in others {
+        text.push('/')?;
+        text.push_str(shown_text(alloc, part.as_bytes())?.as_str())?;
+    }
+    Ok(text)
 }

@@ -2,6 +2,7 @@ ghost use Rattle.std.specs.Prelude.{◌≡◌, ◌+◌, ◌<◌, ◌≤◌, ◌=
 
 use crate::run;
 use chunk_files::{ChunkBuf, ContentKeys, Encoder, Layout};
+use folder_model::MemFolder;
 use port_model::{ListRandoms, MemSink, MemSource, Source, SourceFault};
 use std::alloc::Global;
 use std::test::Fail;
@@ -61,7 +62,17 @@ fn outcome(alloc: Global, words: &[&str], input: &[u8], fails: &Fails) -> Result
     let mut source = MemSource::new(input.to_vec(alloc)?, fails.input.to_vec(alloc)?);
     let mut out = MemSink::new(alloc, 100_000, fails.out.to_vec(alloc)?)?;
     let mut err = MemSink::new(alloc, 1_000, fails.err.to_vec(alloc)?)?;
-    let status = run(alloc, all.as_slice(), &mut source, &mut out, &mut err);
+    let mut folder = MemFolder::new(alloc)?;
+    let mut random = ListRandoms::new(Vec::new(alloc), Vec::new(alloc));
+    let status = run(
+        alloc,
+        all.as_slice(),
+        &mut folder,
+        &mut random,
+        &mut source,
+        &mut out,
+        &mut err,
+    );
     let mut rest = input.to_vec(alloc)?;
     let left = source.take(rest.as_mut_slice())?;
     Ok(Ended {
@@ -134,6 +145,13 @@ fn words_and_headers(rt: HostRuntime) -> Result<(), Fail> {
             "vaultmove: bad command line\n",
         ),
         (none, b"", 2, "vaultmove: bad command line\n"),
+        (["decrypt-file", "--", KEY].as_slice(), b"", 0, ""),
+        (
+            ["decrypt-file", KEY, "--pass=p"].as_slice(),
+            b"",
+            2,
+            "vaultmove: bad command line\n",
+        ),
     ] {
         let outcome = outcome(rt.alloc(), words, input, &NONE)?;
         assert_eq!(rt; outcome.status, status, "at {message}");
@@ -298,7 +316,17 @@ fn a_byte_at_a_time(rt: HostRuntime) -> Result<(), Fail> {
     let mut input = Trickle { source };
     let mut out = MemSink::new(rt.alloc(), 5_000, Vec::new(rt.alloc()))?;
     let mut err = MemSink::new(rt.alloc(), 100, Vec::new(rt.alloc()))?;
-    let status = run(rt.alloc(), words.as_slice(), &mut input, &mut out, &mut err);
+    let mut folder = MemFolder::new(rt.alloc())?;
+    let mut random = ListRandoms::new(Vec::new(rt.alloc()), Vec::new(rt.alloc()));
+    let status = run(
+        rt.alloc(),
+        words.as_slice(),
+        &mut folder,
+        &mut random,
+        &mut input,
+        &mut out,
+        &mut err,
+    );
     assert_eq!(rt; status, 12);
     assert_eq!(rt; out.bytes(), [1; 4096].as_slice());
     assert_eq!(rt;

@@ -1,34 +1,153 @@
-ghost use Rattle.std.specs.Prelude.{◌≡◌, map, string_bytes};
-ghost use Rattle.vault_cli.specs.Words.{command_of, named_command, key_of};
+//! The commands, and the words that make them.
+ghost use Rattle.std.specs.Prelude.{◌≡◌, IfOk, map, string_bytes};
+ghost use Rattle.plain_tree.specs.Reading.{read_path};
+ghost use Rattle.vault_cli.specs.Commands.{cat_by, command_named, command_of, decrypt_file_by, folder_path, key_of, ls_by, only_file, target_of};
+
+use crate::arguments::{Arguments, Choice, only_value};
+use folder_model::{FPath, FPathFault};
+use plain_tree::{PathFault, PlainPath};
+use std::alloc::{AllocError, Global};
+use text_model::Text;
+
+/// A plain path in a vault, and the file that holds the vault's passphrase.
+#[derive(Debug, Drop)]
+pub struct Target {
+    pub vault: FPath,
+    pub path: PlainPath,
+    pub pass: FPath,
+}
 
 /// A command with its arguments.
-#[derive(Clone, Copy, Debug, PartialEq, Eq)]
+#[derive(Debug, Drop)]
 pub enum Command {
     /// `decrypt-file KEYHEX`: decrypts a gocryptfs content file from the input under this content key.
     DecryptFile([u8; 32]),
+    /// `ls VAULT [PATH] --pass FILE`: lists a directory, the root without PATH.
+    Ls(Target),
+    /// `cat VAULT PATH --pass FILE`: writes a file's content.
+    Cat(Target),
 }
 
 impl Command {
-    /// The command that these words make, or `None` where they make none. A content key is written in
-    /// 64 hexadecimal digits of either case.
-    pub fn from_words(words: &[String]) -> Option<Command>
-        ensures { result ≡ command_of (map string_bytes words.now) }
+    /// The command that these words make, or `None` where they make none.
+    pub fn from_words(alloc: Global, words: &[String]) -> Result<Option<Command>, AllocError>
+        ensures { IfOk result (λ command. command ≡ command_of (map string_bytes words.now)) }
     {
-        match words {
-            [name, key] => named(name.as_str(), key.as_str()),
-            _ => None,
-        }
+        let Some((name, rest)) = words.split_first() else {
+            return Ok(None);
+        };
+        let arguments = Arguments::of(alloc, rest)?;
+        named(
+            alloc,
+            name.as_str(),
+            arguments.choices(),
+            arguments.positional(),
+        )
     }
 }
 
-// The command of this name with this one argument.
-fn named(name: &str, key: &str) -> Option<Command>
-    ensures { result ≡ named_command name.now key.now }
+// The command of this name with these arguments.
+fn named(
+    alloc: Global,
+    name: &str,
+    choices: &[Choice],
+    positional: &[Text],
+) -> Result<Option<Command>, AllocError>
+    ensures { IfOk result (λ command. command ≡ command_named name.now (record { choices = choices.now; positional = positional.now })) }
 {
     if name == "decrypt-file" {
-        read_key(key).map(Command::DecryptFile)
+        Ok(decrypt_file(choices, positional))
+    } else if name == "ls" {
+        ls(alloc, choices, positional)
+    } else if name == "cat" {
+        cat(alloc, choices, positional)
     } else {
-        None
+        Ok(None)
+    }
+}
+
+fn decrypt_file(choices: &[Choice], positional: &[Text]) -> Option<Command>
+    ensures { result ≡ decrypt_file_by choices.now positional.now }
+{
+    match (choices, positional) {
+        ([], [key]) => read_key(key.as_str()).map(Command::DecryptFile),
+        _ => None,
+    }
+}
+
+fn ls(alloc: Global, choices: &[Choice], positional: &[Text]) -> Result<Option<Command>, AllocError>
+    ensures { IfOk result (λ command. command ≡ ls_by choices.now positional.now) }
+{
+    let target = match positional {
+        [vault] => read_target(alloc, choices, vault.as_str(), "")?,
+        [vault, path] => read_target(alloc, choices, vault.as_str(), path.as_str())?,
+        _ => None,
+    };
+    Ok(target.map(Command::Ls))
+}
+
+fn cat(
+    alloc: Global,
+    choices: &[Choice],
+    positional: &[Text],
+) -> Result<Option<Command>, AllocError>
+    ensures { IfOk result (λ command. command ≡ cat_by choices.now positional.now) }
+{
+    let target = match positional {
+        [vault, path] => read_target(alloc, choices, vault.as_str(), path.as_str())?,
+        _ => None,
+    };
+    Ok(target.map(Command::Cat))
+}
+
+// What `VAULT PATH --pass FILE` names.
+fn read_target(
+    alloc: Global,
+    choices: &[Choice],
+    vault: &str,
+    path: &str,
+) -> Result<Option<Target>, AllocError>
+    ensures { IfOk result (λ target. target ≡ target_of choices.now vault.now path.now) }
+{
+    let (Some(vault), Some(path), Some(pass)) = (
+        folder_path(alloc, vault)?,
+        plain_path(alloc, path)?,
+        only_file(alloc, choices, "--pass")?,
+    ) else {
+        return Ok(None);
+    };
+    Ok(Some(Target { vault, path, pass }))
+}
+
+// The folder path that is the value of the only option, if this is its name.
+fn only_file(alloc: Global, choices: &[Choice], name: &str) -> Result<Option<FPath>, AllocError>
+    ensures { IfOk result (λ path. path ≡ only_file name.now choices.now) }
+{
+    match only_value(choices, name) {
+        Some(text) => folder_path(alloc, text),
+        None => Ok(None),
+    }
+}
+
+// The folder path that a word writes.
+fn folder_path(alloc: Global, word: &str) -> Result<Option<FPath>, AllocError>
+    ensures { IfOk result (λ path. path ≡ folder_path word.now) }
+{
+    match FPath::parse(alloc, word) {
+        Ok(path) => Ok(Some(path)),
+        Err(FPathFault::BadPath) => Ok(None),
+        Err(FPathFault::NoMemory) => Err(AllocError),
+    }
+}
+
+// The plain path that a word writes.
+fn plain_path(alloc: Global, word: &str) -> Result<Option<PlainPath>, AllocError>
+    ensures { IfOk result (λ path. path ≡ read_path word.now) }
+{
+    match PlainPath::parse(alloc, word) {
+        Ok(path) => Ok(Some(path)),
+        Err(PathFault::BadPath) => Ok(None),
+        Err(PathFault::NoMemory) => Err(AllocError),
     }
 }
 

@@ -1,7 +1,7 @@
-use Rattle.std.proofs.Common.{◌≡◌, sym, ◌∙◌}
-use Rattle.vault_cli.specs.declared.answer.Answer.TheVariants.{InputFault, OutputFault}
-use Rattle.vault_cli.proofs.RunLemmas.{bad_of_status, damaged_of_status, done_of_status, reported-as, decided, Executes-reported}
-use Rattle.vault_cli.proofs.WholeFiles.{whole-content, decided-whole}
+use Rattle.std.proofs.Common.{◌≡◌, sym, ◌∙◌, map, string_bytes, inl, inr}
+use Rattle.vault_cli.specs.Commands.{command_of}
+use Rattle.vault_cli.specs.declared.answer.Answer.TheVariants.{FolderFault, InputFault, OutputFault}
+use Rattle.vault_cli.proofs.Executions.{reported, reported_as, bad_is_none, none_is_bad, folder_of_status, input_of_status, output_of_status}
 use Rattle.vault_cli.proofs.running.run.Goals as goal
 
 pub returns-clause-answer : goal.returns-clause-answer
@@ -9,37 +9,35 @@ returns-clause-answer g c = (
   c.report-answer.result,
   c.status.ensures,
   c.report-answer.ensures.line,
-  Executes-reported _ _ _ _ _ _ _ c.execute-answer.ensures.executes c.report-answer.ensures.kept,
+  reported (command_of (map (λ s. string_bytes s) c.args.words.now)) c.execute-answer.result c.report-answer.result _ _ c.report-answer.ensures.kept c.execute-answer.ensures.executes,
 )
 
-pub returns-clause-damaged : goal.returns-clause-damaged
-returns-clause-damaged g c = λ is key bytes command told.
-    let damaged = damaged_of_status c.report-answer.result (sym c.status.ensures ∙ is) in
-    let executes = Executes-reported _ _ _ _ _ _ _ c.execute-answer.ensures.executes c.report-answer.ensures.kept in
-    (damaged.0, rw damaged.1 at (executes.tells key bytes command told))
+pub returns-clause-folder_fault : goal.returns-clause-folder_fault
+returns-clause-folder_fault g c = λ is.
+    c.execute-answer.ensures.folder_fault (reported_as c.execute-answer.result c.report-answer.result FolderFault c.report-answer.ensures.kept
+    (folder_of_status c.report-answer.result (sym c.status.ensures ∙ is)) (λ same. cc))
 
-pub returns-clause-decrypted : goal.returns-clause-decrypted
-returns-clause-decrypted g c = λ is key bytes command told.
-    let done = done_of_status c.report-answer.result (sym c.status.ensures ∙ is) in
-    let executes = Executes-reported _ _ _ _ _ _ _ c.execute-answer.ensures.executes c.report-answer.ensures.kept in
-    (_, whole-content c.files_are_what_they_give.ensures c.whole_files_end.ensures key bytes (rw done at (executes.tells key bytes command told)), rw done at (executes.writes key bytes command told))
+pub returns-clause-input_fault : goal.returns-clause-input_fault
+returns-clause-input_fault g c = λ is.
+    c.execute-answer.ensures.input_fault (reported_as c.execute-answer.result c.report-answer.result InputFault c.report-answer.ensures.kept
+    (input_of_status c.report-answer.result (sym c.status.ensures ∙ is)) (λ same. cc))
 
-pub returns-clause-decided : goal.returns-clause-decided
-returns-clause-decided g c = λ key bytes command told input output.
-    let executes = Executes-reported _ _ _ _ _ _ _ c.execute-answer.ensures.executes c.report-answer.ensures.kept in
-    let no_input : c.report-answer.result ≡ InputFault → ⊥ = λ is. input (c.execute-answer.ensures.input_fault (reported-as _ _ _ c.report-answer.ensures.kept is (λ same. cc))) in
-    let no_output : c.report-answer.result ≡ OutputFault → ⊥ = λ is. output (c.execute-answer.ensures.output_fault (reported-as _ _ _ c.report-answer.ensures.kept is (λ same. cc))) in
-    rw c.status.ensures (decided _ _ _ _ _ _ key bytes executes command told no_input no_output)
+pub returns-clause-output_fault : goal.returns-clause-output_fault
+returns-clause-output_fault g c = λ is.
+    c.execute-answer.ensures.output_fault (reported_as c.execute-answer.result c.report-answer.result OutputFault c.report-answer.ensures.kept
+    (output_of_status c.report-answer.result (sym c.status.ensures ∙ is)) (λ same. cc))
 
-pub returns-clause-whole_files : goal.returns-clause-whole_files
-returns-clause-whole_files g c = λ key bytes content command told within file input output.
-    let executes = Executes-reported _ _ _ _ _ _ _ c.execute-answer.ensures.executes c.report-answer.ensures.kept in
-    let no_input : c.report-answer.result ≡ InputFault → ⊥ = λ is. input (c.execute-answer.ensures.input_fault (reported-as _ _ _ c.report-answer.ensures.kept is (λ same. cc))) in
-    let no_output : c.report-answer.result ≡ OutputFault → ⊥ = λ is. output (c.execute-answer.ensures.output_fault (reported-as _ _ _ c.report-answer.ensures.kept is (λ same. cc))) in
-    rw c.status.ensures (decided-whole c.files_are_what_they_give.ensures key bytes content _ within file (decided _ _ _ _ _ _ key bytes executes command told no_input no_output))
+pub returns-clause-bad_command_line : goal.returns-clause-bad_command_line
+returns-clause-bad_command_line g c = λ is.
+    let command = command_of (map (λ s. string_bytes s) c.args.words.now) in
+    bad_is_none command c.report-answer.result _ _ (sym c.status.ensures ∙ is)
+    (reported command c.execute-answer.result c.report-answer.result _ _ c.report-answer.ensures.kept c.execute-answer.ensures.executes)
 
-pub returns-clause-untouched : goal.returns-clause-untouched
-returns-clause-untouched g c = λ is.
-    let bad = bad_of_status c.report-answer.result (sym c.status.ensures ∙ is) in
-    let executes = Executes-reported _ _ _ _ _ _ _ c.execute-answer.ensures.executes c.report-answer.ensures.kept in
-    (executes.refused bad).0
+pub returns-clause-no_command : goal.returns-clause-no_command
+returns-clause-no_command g c = λ none.
+    let command = command_of (map (λ s. string_bytes s) c.args.words.now) in
+    elim (none_is_bad command c.report-answer.result _ _ none
+    (reported command c.execute-answer.result c.report-answer.result _ _ c.report-answer.ensures.kept c.execute-answer.ensures.executes)) [
+      | inl bad ↦ inl (c.status.ensures ∙ bad)
+      | inr memory ↦ inr (c.status.ensures ∙ memory)
+    ]

@@ -1,0 +1,166 @@
+-- What a command did where it wasn't begun, and where its message found no memory; and what a status says of the answer.
+use Rattle.std.proofs.Common.{◌≡◌, false, ℕ, List, length, take, Option, Some, None, inl, inr, refl, sym, ap, ◌∙◌, subst, arith}
+use Rattle.std.specs.Prelude.{◌⊎◌, ◌≢◌, IsNone, IsTrue}
+use Rattle.std.specs.List.{concat}
+use Rattle.std.specs.Io.KnownBytes.{Appends}
+use Rattle.std.proofs.KnownBytes.{Keeps-refl}
+use Rattle.std.proofs.Math.Seq.{take-length}
+use Rattle.folder_spec.specs.Event.{Told}
+use Rattle.folder_spec.specs.View.{View}
+use Rattle.vault_cli.specs.Answers.{is_plain, status_of}
+use Rattle.vault_cli.specs.DecryptFile.{answer_to_end}
+use Rattle.vault_cli.specs.declared.decrypt.DecryptEnd.{DecryptEnd}
+use Rattle.vault_cli.specs.declared.decrypt.DecryptEnd.TheVariants as ends
+use Rattle.vault_cli.specs.Runs.{Executes, IsNoCommand, ListsItems, WritesFile}
+use Rattle.vault_cli.specs.Shown.{Shown, TakesAll, TakesSome, Follows, Reads, is_of_reading}
+use Rattle.vault_cli.specs.World.{World}
+use Rattle.vault_cli.specs.declared.answer.Answer.{Answer}
+use Rattle.vault_cli.specs.declared.answer.Answer.TheVariants.{Done, BadCommandLine, OutOfMemory, FolderFault, InputFault, OutputFault, Refused, WrongPass, NotFound, WrongKind, DamagedInput, Damaged, Limit}
+use Rattle.vault_cli.specs.declared.words.Command.{Command}
+use Rattle.vault_cli.specs.declared.words.Command.TheVariants.{DecryptFile, Ls, Cat}
+use Rattle.vault_cli.proofs.Decryptions.{decrypts_nothing, decryption_lost}
+
+-- a command that read nothing, for want of memory
+reads_nothing : (Shows : View → Shown → Type 0) (told : Option Told) (taken : Option (List ℕ)) → Reads Shows OutOfMemory told told taken taken
+reads_nothing Shows told taken = record {
+  unchanged = refl;
+  own = refl;
+  follows = λ v is. inl (Keeps-refl taken);
+  exactly = λ v shown is shows. inr (inr (inr refl));
+}
+
+pub not_begun : (command : Option Command) (w : World) → Executes command OutOfMemory w w
+not_begun None w = record { answers = inr refl; unchanged = refl; untouched = Keeps-refl w.left; unwritten = Keeps-refl w.taken }
+not_begun (Some (DecryptFile key)) w = decrypts_nothing key w
+not_begun (Some (Ls target)) w = record { reads = reads_nothing _ w.told w.taken; quiet = λ failed. cc; untouched = Keeps-refl w.left }
+not_begun (Some (Cat target)) w = record { reads = reads_nothing _ w.told w.taken; untouched = Keeps-refl w.left }
+
+-- all pieces are the first ones
+all_taken : (Shows : Shown → Type 0) (answer : Answer) (taken taken' : Option (List ℕ)) → TakesAll Shows answer taken taken' → TakesSome Shows taken taken'
+all_taken Shows answer taken taken' all =
+    inr (all.0, all.1, length all.0.pieces, subst (λ ps. Appends taken taken' (concat ps)) (sym (take-length all.0.pieces)) all.3)
+
+follows_lost : (Shows : Shown → Type 0) (answer : Answer) (taken taken' : Option (List ℕ)) → is_plain answer ≡ false → Follows Shows answer taken taken' → Follows Shows OutOfMemory taken taken'
+follows_lost Shows Done taken taken' named follows = cc
+follows_lost Shows BadCommandLine taken taken' named follows = cc
+follows_lost Shows OutOfMemory taken taken' named follows = cc
+follows_lost Shows FolderFault taken taken' named follows = cc
+follows_lost Shows InputFault taken taken' named follows = cc
+follows_lost Shows OutputFault taken taken' named follows = cc
+follows_lost Shows (Refused at why) taken taken' named follows = all_taken Shows (Refused at why) taken taken' follows
+follows_lost Shows (WrongPass root) taken taken' named follows = all_taken Shows (WrongPass root) taken taken' follows
+follows_lost Shows (NotFound what) taken taken' named follows = all_taken Shows (NotFound what) taken taken' follows
+follows_lost Shows (WrongKind what) taken taken' named follows = all_taken Shows (WrongKind what) taken taken' follows
+follows_lost Shows (DamagedInput fault) taken taken' named follows = all_taken Shows (DamagedInput fault) taken taken' follows
+follows_lost Shows (Damaged at how) taken taken' named follows = all_taken Shows (Damaged at how) taken taken' follows
+follows_lost Shows (Limit which) taken taken' named follows = all_taken Shows (Limit which) taken taken' follows
+
+reads_lost : (Shows : View → Shown → Type 0) (answer : Answer) (told told' : Option Told) (taken taken' : Option (List ℕ)) → is_plain answer ≡ false
+    → Reads Shows answer told told' taken taken' → Reads Shows OutOfMemory told told' taken taken'
+reads_lost Shows answer told told' taken taken' named reads = record {
+  unchanged = reads.unchanged;
+  own = refl;
+  follows = λ v is. follows_lost (Shows v) answer taken taken' named (reads.follows v is);
+  exactly = λ v shown is shows. inr (inr (inr refl));
+}
+
+lost : (command : Option Command) (answer : Answer) (before after : World) → is_plain answer ≡ false → Executes command answer before after → Executes command OutOfMemory before after
+lost None answer before after named did = record { answers = inr refl; unchanged = did.unchanged; untouched = did.untouched; unwritten = did.unwritten }
+lost (Some (DecryptFile key)) answer before after named did = decryption_lost key answer before after named did
+lost (Some (Ls target)) answer before after named did =
+    record { reads = reads_lost _ answer before.told after.told before.taken after.taken named did.reads; quiet = λ failed. cc; untouched = did.untouched }
+lost (Some (Cat target)) answer before after named did =
+    record { reads = reads_lost _ answer before.told after.told before.taken after.taken named did.reads; untouched = did.untouched }
+
+-- what holds of an answer holds of the one that its report gives back
+pub reported : (command : Option Command) (answer result : Answer) (before after : World) → (result ≡ answer) ⊎ ((result ≡ OutOfMemory) × (is_plain answer ≡ false))
+    → Executes command answer before after → Executes command result before after
+reported command answer result before after (inl same) did = subst (λ a. Executes command a before after) (sym same) did
+reported command answer result before after (inr memory) did = subst (λ a. Executes command a before after) (sym memory.0) (lost command answer before after memory.1 did)
+
+-- a report changes an answer to no other than want of memory
+pub reported_as : (answer result other : Answer) → (result ≡ answer) ⊎ ((result ≡ OutOfMemory) × (is_plain answer ≡ false)) → result ≡ other → (other ≡ OutOfMemory → ⊥) → answer ≡ other
+reported_as answer result other (inl same) is known = sym same ∙ is
+reported_as answer result other (inr memory) is known = absurd (known (sym is ∙ memory.0))
+
+not_of_reading : (answer : Answer) → answer ≡ BadCommandLine → ¬ IsTrue (is_of_reading answer)
+not_of_reading answer bad own = let none : IsTrue (is_of_reading BadCommandLine) = subst (λ a. IsTrue (is_of_reading a)) bad own in cc
+
+pub bad_of_status : (answer : Answer) → status_of answer ≡ 2 → answer ≡ BadCommandLine
+bad_of_status BadCommandLine is = refl
+bad_of_status Done is = absurd (omega (arith, is))
+bad_of_status OutOfMemory is = absurd (omega (arith, is))
+bad_of_status FolderFault is = absurd (omega (arith, is))
+bad_of_status InputFault is = absurd (omega (arith, is))
+bad_of_status OutputFault is = absurd (omega (arith, is))
+bad_of_status (Refused at why) is = absurd (omega (arith, is))
+bad_of_status (WrongPass root) is = absurd (omega (arith, is))
+bad_of_status (NotFound what) is = absurd (omega (arith, is))
+bad_of_status (WrongKind what) is = absurd (omega (arith, is))
+bad_of_status (DamagedInput fault) is = absurd (omega (arith, is))
+bad_of_status (Damaged at how) is = absurd (omega (arith, is))
+bad_of_status (Limit which) is = absurd (omega (arith, is))
+
+pub folder_of_status : (answer : Answer) → status_of answer ≡ 4 → answer ≡ FolderFault
+folder_of_status FolderFault is = refl
+folder_of_status Done is = absurd (omega (arith, is))
+folder_of_status BadCommandLine is = absurd (omega (arith, is))
+folder_of_status OutOfMemory is = absurd (omega (arith, is))
+folder_of_status InputFault is = absurd (omega (arith, is))
+folder_of_status OutputFault is = absurd (omega (arith, is))
+folder_of_status (Refused at why) is = absurd (omega (arith, is))
+folder_of_status (WrongPass root) is = absurd (omega (arith, is))
+folder_of_status (NotFound what) is = absurd (omega (arith, is))
+folder_of_status (WrongKind what) is = absurd (omega (arith, is))
+folder_of_status (DamagedInput fault) is = absurd (omega (arith, is))
+folder_of_status (Damaged at how) is = absurd (omega (arith, is))
+folder_of_status (Limit which) is = absurd (omega (arith, is))
+
+pub input_of_status : (answer : Answer) → status_of answer ≡ 5 → answer ≡ InputFault
+input_of_status InputFault is = refl
+input_of_status Done is = absurd (omega (arith, is))
+input_of_status BadCommandLine is = absurd (omega (arith, is))
+input_of_status OutOfMemory is = absurd (omega (arith, is))
+input_of_status FolderFault is = absurd (omega (arith, is))
+input_of_status OutputFault is = absurd (omega (arith, is))
+input_of_status (Refused at why) is = absurd (omega (arith, is))
+input_of_status (WrongPass root) is = absurd (omega (arith, is))
+input_of_status (NotFound what) is = absurd (omega (arith, is))
+input_of_status (WrongKind what) is = absurd (omega (arith, is))
+input_of_status (DamagedInput fault) is = absurd (omega (arith, is))
+input_of_status (Damaged at how) is = absurd (omega (arith, is))
+input_of_status (Limit which) is = absurd (omega (arith, is))
+
+pub output_of_status : (answer : Answer) → status_of answer ≡ 6 → answer ≡ OutputFault
+output_of_status OutputFault is = refl
+output_of_status Done is = absurd (omega (arith, is))
+output_of_status BadCommandLine is = absurd (omega (arith, is))
+output_of_status OutOfMemory is = absurd (omega (arith, is))
+output_of_status FolderFault is = absurd (omega (arith, is))
+output_of_status InputFault is = absurd (omega (arith, is))
+output_of_status (Refused at why) is = absurd (omega (arith, is))
+output_of_status (WrongPass root) is = absurd (omega (arith, is))
+output_of_status (NotFound what) is = absurd (omega (arith, is))
+output_of_status (WrongKind what) is = absurd (omega (arith, is))
+output_of_status (DamagedInput fault) is = absurd (omega (arith, is))
+output_of_status (Damaged at how) is = absurd (omega (arith, is))
+output_of_status (Limit which) is = absurd (omega (arith, is))
+
+-- no command but none at all is answered as a bad command line
+pub bad_is_none : (command : Option Command) (answer : Answer) (before after : World) → status_of answer ≡ 2 → Executes command answer before after → IsNone command
+bad_is_none None answer before after is did = refl
+bad_is_none (Some (DecryptFile key)) answer before after is did = absurd (no_end did.end (sym (bad_of_status answer is) ∙ did.is))
+  where
+    no_end : (end : DecryptEnd) → BadCommandLine ≢ answer_to_end end
+    no_end ends.Done same = cc
+    no_end ends.OutOfMemory same = cc
+    no_end ends.InputFault same = cc
+    no_end ends.OutputFault same = cc
+    no_end (ends.Damaged fault) same = cc
+    no_end ends.TooLong same = cc
+bad_is_none (Some (Ls target)) answer before after is did = absurd (not_of_reading answer (bad_of_status answer is) did.reads.own)
+bad_is_none (Some (Cat target)) answer before after is did = absurd (not_of_reading answer (bad_of_status answer is) did.reads.own)
+
+pub none_is_bad : (command : Option Command) (answer : Answer) (before after : World) → IsNone command → Executes command answer before after → (status_of answer ≡ 2) ⊎ (status_of answer ≡ 3)
+none_is_bad None answer before after none did = elim did.answers [ inl bad ↦ inl (ap status_of bad) | inr memory ↦ inr (ap status_of memory) ]
+none_is_bad (Some command) answer before after none did = cc

@@ -1,0 +1,21 @@
+-- The line of an answer that names something.
+use Rattle.std.proofs.Common.{◌≡◌, false, List, [], ◌∷◌, ◌++◌, codes, refl}
+use Rattle.vault_cli.specs.Answers.{is_plain, line, line_of, message_of}
+use Rattle.vault_cli.specs.declared.answer.Answer.{Answer}
+use Rattle.vault_cli.specs.declared.answer.Answer.TheVariants.{Done, BadCommandLine, OutOfMemory, FolderFault, InputFault, OutputFault, Refused, WrongPass, NotFound, WrongKind, DamagedInput, Damaged, Limit}
+
+-- it has a message, and so a line
+pub naming_line : (answer : Answer) → is_plain answer ≡ false → line_of answer ≡ line (message_of answer)
+naming_line Done is = cc
+naming_line BadCommandLine is = cc
+naming_line OutOfMemory is = cc
+naming_line FolderFault is = cc
+naming_line InputFault is = cc
+naming_line OutputFault is = cc
+naming_line (Refused at why) is = refl
+naming_line (WrongPass root) is = refl
+naming_line (NotFound what) is = refl
+naming_line (WrongKind what) is = refl
+naming_line (DamagedInput fault) is = refl
+naming_line (Damaged at how) is = refl
+naming_line (Limit which) is = refl

@@ -1,0 +1,97 @@
+-- How output and answer follow from what a command shows.
+use Rattle.std.proofs.Common.{◌≡◌, ◌≢◌, ℕ, zero, Bool, true, List, [], ◌∷◌, take, Option, inl, inr, refl, sym, ap, ◌∙◌, subst}
+use Rattle.std.specs.Prelude.{◌⊎◌, IsTrue}
+use Rattle.std.specs.List.{concat}
+use Rattle.std.specs.Io.KnownBytes.{Appends, Keeps}
+use Rattle.std.proofs.KnownBytes.{Appends-nil, Appends-kept, Keeps-refl}
+use Rattle.port_model.specs.Told.{AppendsPrefix}
+use Rattle.folder_spec.specs.Event.{Told}
+use Rattle.folder_spec.specs.View.{View}
+use Rattle.folder_spec.specs.Seen.{IsSeen}
+use Rattle.vault_cli.specs.declared.answer.Answer.{Answer}
+use Rattle.vault_cli.specs.declared.answer.Answer.TheVariants.{Done, BadCommandLine, OutOfMemory, FolderFault, InputFault, OutputFault, Refused, WrongPass, NotFound, WrongKind, DamagedInput, Damaged, Limit}
+use Rattle.vault_cli.specs.Refusing.{Unless}
+use Rattle.vault_cli.specs.Shown.{Shown, refused, TakesAll, Follows, IsCutShort, Reads, is_of_reading, is_refusal}
+
+-- two things that are shown are one
+abbrev pub IsOne : (Shown → Type 0) → Type 0
+IsOne Shows = (a b : Shown) → Shows a → Shows b → a ≡ b
+
+-- nothing written is no bytes added
+nothing : (taken taken' : Option (List ℕ)) → Keeps taken taken' → Appends taken taken' []
+nothing taken taken' keeps = Appends-kept taken taken taken' [] (Appends-nil taken) keeps
+
+-- a refusal, with nothing written
+follows_refused : (Shows : Shown → Type 0) (answer : Answer) (taken taken' : Option (List ℕ)) → Keeps taken taken' → Shows (refused answer) → Follows Shows answer taken taken'
+follows_refused Shows FolderFault taken taken' keeps shows = inl keeps
+follows_refused Shows OutOfMemory taken taken' keeps shows = inl keeps
+follows_refused Shows OutputFault taken taken' keeps shows = (refused OutputFault, shows, (zero, nothing taken taken' keeps))
+follows_refused Shows Done taken taken' keeps shows = (refused Done, shows, refl, nothing taken taken' keeps)
+follows_refused Shows BadCommandLine taken taken' keeps shows = (refused BadCommandLine, shows, refl, nothing taken taken' keeps)
+follows_refused Shows InputFault taken taken' keeps shows = (refused InputFault, shows, refl, nothing taken taken' keeps)
+follows_refused Shows (Refused at why) taken taken' keeps shows = (refused (Refused at why), shows, refl, nothing taken taken' keeps)
+follows_refused Shows (WrongPass root) taken taken' keeps shows = (refused (WrongPass root), shows, refl, nothing taken taken' keeps)
+follows_refused Shows (NotFound what) taken taken' keeps shows = (refused (NotFound what), shows, refl, nothing taken taken' keeps)
+follows_refused Shows (WrongKind what) taken taken' keeps shows = (refused (WrongKind what), shows, refl, nothing taken taken' keeps)
+follows_refused Shows (DamagedInput fault) taken taken' keeps shows = (refused (DamagedInput fault), shows, refl, nothing taken taken' keeps)
+follows_refused Shows (Damaged at how) taken taken' keeps shows = (refused (Damaged at how), shows, refl, nothing taken taken' keeps)
+follows_refused Shows (Limit which) taken taken' keeps shows = (refused (Limit which), shows, refl, nothing taken taken' keeps)
+
+pub follows_unless : (Shows : Shown → Type 0) (answer : Answer) (taken taken' : Option (List ℕ)) → Keeps taken taken' → Unless answer (Shows (refused answer)) → Follows Shows answer taken taken'
+follows_unless Shows answer taken taken' keeps (inl failed) = subst (λ a. Follows Shows a taken taken') (sym failed) (inl keeps)
+follows_unless Shows answer taken taken' keeps (inr (inl memory)) = subst (λ a. Follows Shows a taken taken') (sym memory) (inl keeps)
+follows_unless Shows answer taken taken' keeps (inr (inr shows)) = follows_refused Shows answer taken taken' keeps shows
+
+-- the answer is what is shown, unless it is cut short
+is_shown : (Shows : Shown → Type 0) (answer : Answer) (taken taken' : Option (List ℕ)) (shown : Shown) → IsOne Shows → Shows shown → TakesAll Shows answer taken taken' → (answer ≡ shown.answer) ⊎ IsCutShort answer
+is_shown Shows answer taken taken' shown one shows all = inl (all.2 ∙ ap (λ s. s.answer) (one all.0 shown all.1 shows))
+
+exactly : (Shows : Shown → Type 0) (answer : Answer) (taken taken' : Option (List ℕ)) (shown : Shown) → IsOne Shows → Shows shown → Follows Shows answer taken taken' → (answer ≡ shown.answer) ⊎ IsCutShort answer
+exactly Shows FolderFault taken taken' shown one shows follows = inr (inl refl)
+exactly Shows OutOfMemory taken taken' shown one shows follows = inr (inr (inr refl))
+exactly Shows OutputFault taken taken' shown one shows follows = inr (inr (inl refl))
+exactly Shows Done taken taken' shown one shows follows = is_shown Shows Done taken taken' shown one shows follows
+exactly Shows BadCommandLine taken taken' shown one shows follows = is_shown Shows BadCommandLine taken taken' shown one shows follows
+exactly Shows InputFault taken taken' shown one shows follows = is_shown Shows InputFault taken taken' shown one shows follows
+exactly Shows (Refused at why) taken taken' shown one shows follows = is_shown Shows (Refused at why) taken taken' shown one shows follows
+exactly Shows (WrongPass root) taken taken' shown one shows follows = is_shown Shows (WrongPass root) taken taken' shown one shows follows
+exactly Shows (NotFound what) taken taken' shown one shows follows = is_shown Shows (NotFound what) taken taken' shown one shows follows
+exactly Shows (WrongKind what) taken taken' shown one shows follows = is_shown Shows (WrongKind what) taken taken' shown one shows follows
+exactly Shows (DamagedInput fault) taken taken' shown one shows follows = is_shown Shows (DamagedInput fault) taken taken' shown one shows follows
+exactly Shows (Damaged at how) taken taken' shown one shows follows = is_shown Shows (Damaged at how) taken taken' shown one shows follows
+exactly Shows (Limit which) taken taken' shown one shows follows = is_shown Shows (Limit which) taken taken' shown one shows follows
+
+-- a command whose output and answer follow from what it shows
+pub reads_by : (Shows : View → Shown → Type 0) (answer : Answer) (told told' : Option Told) (taken taken' : Option (List ℕ)) → ((v : View) → IsOne (Shows v))
+    → told' ≡ told → IsTrue (is_of_reading answer) → ((v : View) → IsSeen told v → Follows (Shows v) answer taken taken') → Reads Shows answer told told' taken taken'
+reads_by Shows answer told told' taken taken' one same own follows = record {
+  unchanged = same;
+  own = own;
+  follows = follows;
+  exactly = λ v shown is shows. exactly (Shows v) answer taken taken' shown (one v) shows (follows v is);
+}
+
+of_reading : (answer : Answer) → IsTrue (is_refusal answer) → IsTrue (is_of_reading answer)
+of_reading Done is = refl
+of_reading OutputFault is = refl
+of_reading BadCommandLine is = is
+of_reading OutOfMemory is = is
+of_reading FolderFault is = is
+of_reading InputFault is = is
+of_reading (Refused at why) is = is
+of_reading (WrongPass root) is = is
+of_reading (NotFound what) is = is
+of_reading (WrongKind what) is = is
+of_reading (DamagedInput fault) is = is
+of_reading (Damaged at how) is = is
+of_reading (Limit which) is = is
+
+-- a refusal is no fault of the output
+pub refusal_is_no_output_fault : (answer : Answer) → IsTrue (is_refusal answer) → answer ≢ OutputFault
+refusal_is_no_output_fault answer is fault = let none : IsTrue (is_refusal OutputFault) = subst (λ a. IsTrue (is_refusal a)) fault is in cc
+
+-- a command that was refused before it wrote anything
+pub reads_refused : (Shows : View → Shown → Type 0) (answer : Answer) (told told' : Option Told) (taken : Option (List ℕ)) → ((v : View) → IsOne (Shows v))
+    → told' ≡ told → IsTrue (is_refusal answer) → ((v : View) → IsSeen told v → Unless answer (Shows v (refused answer))) → Reads Shows answer told told' taken taken
+reads_refused Shows answer told told' taken one same own shows =
+    reads_by Shows answer told told' taken taken one same (of_reading answer own) (λ v is. follows_unless (Shows v) answer taken taken (Keeps-refl taken) (shows v is))

@@ -1,0 +1,12 @@
+use Rattle.vault_cli.specs.Ls.{ShowsItems}
+use Rattle.vault_cli.proofs.Listings.{items_are_one}
+use Rattle.vault_cli.proofs.Showing.{reads_refused, refusal_is_no_output_fault}
+use Rattle.vault_cli.proofs.ls.ls.Goals as goal
+
+pub returns-in-Err-clause-reads : goal.returns-in-Err-clause-reads
+returns-in-Err-clause-reads g c =
+    reads_refused (ShowsItems c.args.target.now) c.in-Err.answer (g.F.Folder.told c.args.folder.now) (g.F.Folder.told c.listing.new.folder) (g.O.Sink.taken c.args.out.now)
+    (items_are_one c.roots_have_one_answer.ensures c.directories_have_one_list.ensures c.args.target.now) c.in-Err.ensures.told c.in-Err.ensures.own c.in-Err.ensures.refused
+
+pub returns-in-Err-clause-output_fault : goal.returns-in-Err-clause-output_fault
+returns-in-Err-clause-output_fault g c = λ fault. absurd (refusal_is_no_output_fault c.in-Err.answer c.in-Err.ensures.own fault)

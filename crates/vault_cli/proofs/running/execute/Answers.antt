@@ -1,0 +1,22 @@
+use Rattle.std.proofs.Common.{Some, refl, sym, ap, ◌∙◌, subst, map, string_bytes}
+use Rattle.vault_cli.specs.Commands.{command_of}
+use Rattle.vault_cli.specs.DecryptFile.{DecryptsFile}
+use Rattle.vault_cli.specs.Runs.{Executes}
+use Rattle.vault_cli.specs.World.{World}
+use Rattle.vault_cli.proofs.Decryptions.{decrypts}
+use Rattle.vault_cli.proofs.Executions.{not_begun}
+use Rattle.vault_cli.proofs.running.execute.Goals as goal
+
+pub returns-in-Err-clause-executes : goal.returns-in-Err-clause-executes
+returns-in-Err-clause-executes g c = not_begun (command_of (map (λ s. string_bytes s) c.args.words.now)) _
+
+pub returns-in-Ok-Some-DecryptFile-clause-executes : goal.returns-in-Ok-Some-DecryptFile-clause-executes
+returns-in-Ok-Some-DecryptFile-clause-executes g c =
+    let arm = c.in-Ok-Some-DecryptFile in
+    let told = g.F.Folder.told c.args.folder.now in
+    let before : World = record { told = told; left = g.I.Source.left c.args.input.now; ended = g.I.Source.ended c.args.input.now; taken = g.O.Sink.taken c.args.out.now } in
+    let after : World = record { told = told; left = g.I.Source.left c.decrypt_file.new.input; ended = g.I.Source.ended c.decrypt_file.new.input; taken = g.O.Sink.taken c.decrypt_file.new.out } in
+    subst (λ command. Executes command c.from.result before after) (ap Some (sym arm.field-0-0-is) ∙ sym arm.field-0-is ∙ arm.ensures)
+    (subst (λ answer. DecryptsFile arm.key answer before after) (sym c.from.ensures)
+    (decrypts c.files_are_what_they_give.ensures c.whole_files_end.ensures arm.key c.decrypt_file.result before after c.decrypt_file.ensures.tells c.decrypt_file.ensures.writes
+    c.decrypt_file.ensures.takes c.decrypt_file.ensures.near c.decrypt_file.ensures.end refl))

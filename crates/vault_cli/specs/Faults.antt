@@ -1,0 +1,42 @@
+-- The answers to the faults of the calls below.
+use Rattle.folder_spec.specs.declared.FolderFault as folders
+use Rattle.folder_spec.specs.declared.FolderFault.TheVariants as folder
+use Rattle.vault_read.specs.declared.fault.CatFault.{CatFault}
+use Rattle.vault_read.specs.declared.fault.CatFault.TheVariants as cat
+use Rattle.vault_read.specs.declared.fault.FindFault.{FindFault}
+use Rattle.vault_read.specs.declared.fault.FindFault.TheVariants as find
+use Rattle.vault_read.specs.declared.fault.Limit as reading
+use Rattle.vault_read.specs.declared.fault.Limit.TheVariants as limited
+use Rattle.vault_cli.specs.declared.answer.Answer.{Answer}
+use Rattle.vault_cli.specs.declared.answer.Answer.TheVariants.{OutOfMemory, FolderFault, OutputFault, NotFound, WrongKind, Damaged, Limit}
+use Rattle.vault_cli.specs.declared.answer.Named.TheVariants as named
+use Rattle.vault_cli.specs.declared.answer.Damage.TheVariants as damage
+use Rattle.vault_cli.specs.declared.answer.Limit as limits
+use Rattle.vault_cli.specs.declared.answer.Limit.TheVariants as limit
+
+abbrev pub of_folder : folders.FolderFault → Answer
+of_folder folder.Failed = FolderFault
+of_folder folder.Refused = FolderFault
+of_folder folder.NoMemory = OutOfMemory
+
+abbrev pub of_find : FindFault → Answer
+of_find (find.NotFound path) = NotFound (named.Plain path)
+of_find (find.WrongKind path) = WrongKind (named.Plain path)
+of_find (find.NoDirKey at) = Damaged at damage.NoDirKey
+of_find (find.NoFolder at) = Damaged at damage.NoFolder
+of_find find.Failed = FolderFault
+of_find find.NoMemory = OutOfMemory
+
+abbrev pub of_limit : reading.Limit → limits.Limit
+of_limit limited.Depth = limit.Depth
+of_limit limited.Items = limit.Items
+of_limit (limited.Length at) = limit.Length at
+of_limit limited.Input = limit.Input
+
+abbrev pub of_cat : CatFault → Answer
+of_cat (cat.Find fault) = of_find fault
+of_cat (cat.Damaged at fault) = Damaged at (damage.Content fault)
+of_cat (cat.Limit which) = Limit (of_limit which)
+of_cat cat.Sink = OutputFault
+of_cat cat.Failed = FolderFault
+of_cat cat.NoMemory = OutOfMemory

@@ -1,0 +1,48 @@
+-- Words of private contracts: why a vault isn't opened for a command.
+use Rattle.std.specs.Prelude.{◌≡◌, ◌⊎◌, ◌≤◌, ◌++◌, ℕ, List, length, Ok}
+use Rattle.folder_spec.specs.Path.{Path}
+use Rattle.folder_spec.specs.View.{Found, FileOf, View}
+use Rattle.folder_spec.specs.Seen.{under}
+use Rattle.vault_read.specs.declared.fault.LoadFault.{LoadFault}
+use Rattle.vault_read.specs.declared.fault.LoadFault.TheVariants as load
+use Rattle.vault_spec.specs.Vault.{Vault, Loads, go_conf, vault_file}
+use Rattle.vault_cli.specs.Opening.{passphrase_in, OfPassFile, OfOpened}
+use Rattle.vault_cli.specs.Shown.{refused}
+use Rattle.vault_cli.specs.declared.answer.Answer.{Answer}
+use Rattle.vault_cli.specs.declared.answer.Answer.TheVariants.{OutOfMemory, FolderFault, Refused, WrongPass, NotFound, WrongKind, Limit}
+use Rattle.vault_cli.specs.declared.answer.Named.TheVariants as named
+use Rattle.vault_cli.specs.declared.answer.Refusal.TheVariants as refusal
+use Rattle.vault_cli.specs.declared.answer.Limit.TheVariants as limit
+
+-- unless the folder failed or memory was refused
+abbrev pub Unless : Answer → Type 0 → Type 0
+Unless answer P = (answer ≡ FolderFault) ⊎ ((answer ≡ OutOfMemory) ⊎ P)
+
+-- the passphrase in the file that is found
+abbrev pub IsPhrase : Found → List ℕ → Type 0
+IsPhrase there phrase = (bytes : List ℕ) × (there ≡ FileOf bytes) × (length bytes ≤ 2048) × (phrase ≡ passphrase_in bytes)
+
+abbrev pub RefusesPass : Path → Found → Answer → Type 0
+RefusesPass at there answer = Unless answer (OfPassFile at there (refused answer) (λ phrase. ⊥))
+
+-- the root and the passphrase in the file are this vault
+abbrev pub Opens : View → Path → Path → Vault → Type 0
+Opens v root pass vault = (phrase : List ℕ) × IsPhrase (v pass) phrase × Loads (under root v) phrase (Ok vault)
+
+abbrev pub RefusesOpening : View → Path → Path → Answer → Type 0
+RefusesOpening v root pass answer = Unless answer (OfOpened v root pass (refused answer) (λ vault. ⊥))
+
+-- the answer to a vault that isn't opened
+abbrev pub of_load : Path → LoadFault → Answer
+of_load root (load.Missing at) = NotFound (named.Folder at)
+of_load root (load.WrongKind at) = WrongKind (named.Folder at)
+of_load root (load.TooLarge at) = Limit (limit.Length at)
+of_load root (load.Go fault) = Refused (root ++ go_conf) (refusal.Gocryptfs fault)
+of_load root (load.Cm at fault) = Refused at (refusal.Cryptomator fault)
+of_load root load.WrongPass = WrongPass root
+of_load root load.BadSignature = Refused (root ++ vault_file) refusal.Signature
+of_load root load.Failed = FolderFault
+of_load root load.NoMemory = OutOfMemory
+
+abbrev pub RefusesLoad : Path → LoadFault → Answer → Type 0
+RefusesLoad root fault answer = (answer ≡ OutOfMemory) ⊎ (answer ≡ of_load root fault)

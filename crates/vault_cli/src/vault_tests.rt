@@ -1,7 +1,8 @@
 //! Runs over vaults that other programs made.
 use crate::run;
 use crate::samples::{
-    C_DIRS, C_FILES, C_MASTER, CHANGED_TOKEN, FORMAT_7_TOKEN, G_DIRS, G_FILES, HS512_TOKEN,
+    C_DIRS, C_FILES, C_MASTER, CHANGED_TOKEN, FORMAT_7_TOKEN, G_CONF_PLAIN, G_CONF_REVERSED,
+    G_DIRS, G_FILES, HS512_TOKEN,
 };
 use folder_model::{FPath, Folder, MemFolder};
 use port_model::{ListRandoms, MemSink, MemSource};
@@ -39,8 +40,10 @@ fn vaults(alloc: Global) -> Result<MemFolder, Fail> {
     put(
         alloc,
         &mut folder,
-        &[],
+        &["flags", "plain"],
         &[
+            ("flags/gocryptfs.conf", G_CONF_REVERSED),
+            ("plain/gocryptfs.conf", G_CONF_PLAIN),
             ("p", b"secret\n".as_slice()),
             ("p2", b"Secret".as_slice()),
             ("p3", long.as_slice()),
@@ -70,7 +73,7 @@ fn tokens(alloc: Global) -> Result<MemFolder, Fail> {
     Ok(folder)
 }
 
-// What a run over some words comes to: its status and what both streams took.
+// Checks what a run over some words comes to: its status and what both streams took.
 fn answers<F: Folder>(
     rt: &impl Abort,
     alloc: Global,
@@ -104,7 +107,7 @@ fn answers<F: Folder>(
 }
 
 const LONG_LINE: &str =
-    "f LLLLLLLLLLLLLLLLLLLLLLLLLLLLLLLLLLLLLLLLLLLLLLLLLLLLLLLLLLLLLLLLLLLLLLLLLLLLLLLLLLLLLLLLLLLLLLLLLLLLLLLLLLLLLLLLLLLLLLLLLLLLLLLLLLLLLLLLLLLLLLLLLLLLLLLLLLLLLLLLLLLLLLLLLLLLLLLLLLLLLLLLLLLL\nd a\nf s\n";
+    "f LLLLLLLLLLLLLLLLLLLLLLLLLLLLLLLLLLLLLLLLLLLLLLLLLLLLLLLLLLLLLLLLLLLLLLLLLLLLLLLLLLLLLLLLLLLLLLLLLLLLLLLLLLLLLLLLLLLLLLLLLLLLLLLLLLLLLLLLLLLLLLLLLLLLLLLLLLLLLLLLLLLLLLLLLLLLLLLLLLLLLLLLLLLLLLLLLLLLLLLL\nd a\nf s\n";
 
 #[test]
 fn gocryptfs_is_read(rt: HostRuntime) -> Result<(), Fail> {
@@ -138,6 +141,18 @@ fn gocryptfs_is_read(rt: HostRuntime) -> Result<(), Fail> {
         ),
         ("ls g -- --pass p", 2, "", "vaultmove: bad command line\n"),
         ("ls g --pass -p", 2, "", "vaultmove: bad command line\n"),
+        (
+            "ls flags --pass p",
+            12,
+            "",
+            "vaultmove: damaged: flags: no directory key\n",
+        ),
+        (
+            "ls plain --pass p",
+            8,
+            "",
+            "vaultmove: configuration refused: plain/gocryptfs.conf: flag PlaintextNames\n",
+        ),
         ("ls g --pass p2", 9, "", "vaultmove: wrong passphrase: g\n"),
         ("ls g --pass p3", 23, "", "vaultmove: limit: pass file\n"),
         ("ls g --pass p4", 9, "", "vaultmove: wrong passphrase: g\n"),
@@ -210,6 +225,88 @@ fn tokens_are_tested(rt: HostRuntime) -> Result<(), Fail> {
         ),
     ] {
         answers(&rt, alloc, &mut folder, words, status, "", err)?;
+    }
+    Ok(())
+}
+
+// The status and the number of bytes written by a run in which these calls of the output fail.
+fn runs<F: Folder>(
+    alloc: Global,
+    folder: &mut F,
+    words: &str,
+    fails: &[u64],
+) -> Result<(u8, usize), Fail> {
+    let mut all = Vec::new(alloc);
+    for word in words.split(' ') {
+        all.push(String::from_str(alloc, word)?)?;
+    }
+    let mut random = ListRandoms::new(Vec::new(alloc), Vec::new(alloc));
+    let mut input = MemSource::new(Vec::new(alloc), Vec::new(alloc));
+    let mut out = MemSink::new(alloc, 20_000, fails.to_vec(alloc)?)?;
+    let mut err = MemSink::new(alloc, 1_000, Vec::new(alloc))?;
+    let status = run(
+        alloc,
+        all.as_slice(),
+        folder,
+        &mut random,
+        &mut input,
+        &mut out,
+        &mut err,
+    );
+    Ok((status, out.bytes().len()))
+}
+
+// A header and three blocks of zeros in the file `e`, which gives 12,288 bytes under any key.
+fn put_holes<F: Folder>(alloc: Global, folder: &mut F) -> Result<(), Fail> {
+    let at = path(alloc, "g/lx0cTR8ggErCtUbZv-Kfxw")?;
+    let header = b"\x00\x02\x00\x01\x02\x03\x04\x05\x06\x07\x08\x09\x0a\x0b\x0c\x0d\x0e\x0f";
+    folder.append(&at, header).ok().ok_or("a file")?;
+    folder.append(&at, &[0; 12_384]).ok().ok_or("a file")?;
+    Ok(())
+}
+
+#[test]
+fn an_output_that_fails(rt: HostRuntime) -> Result<(), Fail> {
+    let alloc = rt.alloc();
+    let mut folder = vaults(alloc)?;
+    put_holes(alloc, &mut folder)?;
+    for (words, fails, status, written) in [
+        ("cat g e --pass p", [].as_slice(), 0, 12_288),
+        ("cat g e --pass p", [2].as_slice(), 6, 4_096),
+        ("ls g --pass p", [1].as_slice(), 6, 0),
+    ] {
+        let ended = runs(alloc, &mut folder, words, fails)?;
+        assert_eq!(rt; ended, (status, written), "at {words}");
+    }
+    Ok(())
+}
+
+// The status of a run in which one call of the folder fails.
+fn fails_at(alloc: Global, words: &str, call: u64) -> Result<u8, Fail> {
+    let mut folder = vaults(alloc)?;
+    folder.fail_at(call)?;
+    let ended = runs(alloc, &mut folder, words, &[])?;
+    Ok(ended.0)
+}
+
+// Each call that fails ends the run so, until there are no more.
+#[test]
+fn a_folder_that_fails(rt: HostRuntime) -> Result<(), Fail> {
+    let alloc = rt.alloc();
+    for words in [
+        "ls g --pass p",
+        "cat g a/x --pass p",
+        "ls c a --pass p",
+        "cat c a/x --pass p",
+    ] {
+        for call in 1..100u64 {
+            let status = fails_at(alloc, words, call)?;
+            if status != 4 {
+                assert_eq!(rt; status, 0, "at {call} of {words}");
+                assert!(rt; call > 10, "at {words}");
+                break;
+            }
+        }
     }
     Ok(())
 }

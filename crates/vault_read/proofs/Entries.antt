@@ -12,6 +12,7 @@ use Rattle.plain_tree.specs.declared.NodeKind.TheVariants as node
 use Rattle.vault_names.specs.Cryptomator.{cm_text, cm_entry_of, cm_long_name, cm_stored}
 use Rattle.vault_names.specs.Gocryptfs.{go_text, entry_of, long_name, stored}
 use Rattle.vault_names.specs.declared.entry.Stored.{Stored}
+use Rattle.vault_spec.specs.Findings.{IsEntryOf}
 use Rattle.vault_spec.specs.Format.{Format, Directory, Item, Nothing, FileItem, DirectoryItem, NoItem, file_bytes}
 use Rattle.vault_spec.specs.Listing.{Listed, node_of}
 use Rattle.vault_spec.specs.Standing.{Standing, Absent, standing_in, standing_of, holds, holds_full, item_at, is_file_of}
@@ -113,6 +114,7 @@ right_form false None e = refl
 right_form true (Some text) e = refl
 right_form false (Some text) e = cc
 
+
 form_tells : (long : Bool) (full : Option (List ℕ)) → has_form long full ≡ true → is_some full ≡ long
 form_tells true None e = cc
 form_tells false None e = refl
@@ -168,33 +170,73 @@ module _ (vault : Vault) (v : View) (dir : Directory) (entry : List ℕ) where
       ∙ ap (λ e. node_by (f.item long (under (child dir.folder e) v))) (same_bytes s.name entry parts.0)
       ∙ ap node_by (sym is_item)
 
-  -- and what stands under a name has a text at its entry
-  text_behind : (long : Bool) (name : List ℕ) (kind : NodeKind) → TellsNames vault dir.key → long ≡ is_long (kind_of vault) entry
-      → node_of (standing_in (format_of vault) v dir name) ≡ Some kind → (kept name).name ≡ entry
+  -- the name of an entry has a text there
+  text_of_entry : (long : Bool) (name : List ℕ) → TellsNames vault dir.key → long ≡ is_long (kind_of vault) entry → IsEntryOf (format_of vault) v dir entry name
       → (text : List ℕ) × IsTextAt (format_of vault) v dir entry long text × IsNameOf vault dir.key name text × IsTrue (is_entry entry long (kept name))
-  unfolding standing_in
-  text_behind long name kind tells form stands at_entry =
-      (text.0, by_form (stored_of vault dir.key name text.0 text.1), text.1, and_from (bytes_eq s.name entry) (has_form long s.full) (bytes_same s.name entry at_entry) (right_form long s.full form_is))
+  text_of_entry long name tells form of_name =
+      (text.0, by_form (stored_of vault dir.key name text.0 text.1), text.1, and_from (bytes_eq s.name entry) (has_form long s.full) (bytes_same s.name entry of_name.stores) (right_form long s.full form_is))
     where
       s : Stored
       s = kept name
 
-      named : (is_name name ≡ true) × (node_of (standing_of (format_of vault) v (child dir.folder s.name) (holds_full (format_of vault) v dir s) (item_at (format_of vault) v dir s)) ≡ Some kind)
-      named = where_named (is_name name) (standing_of (format_of vault) v (child dir.folder s.name) (holds_full (format_of vault) v dir s) (item_at (format_of vault) v dir s)) kind stands
-
-      right : holds v (full_path s.name) s.full ≡ true
-      right = named_where (format_of vault) v (child dir.folder s.name) (holds_full (format_of vault) v dir s) (item_at (format_of vault) v dir s) kind named.1
-
       text : (text : List ℕ) × IsNameOf vault dir.key name text
-      text = text_of vault dir.key name named.0
+      text = text_of vault dir.key name of_name.named
 
       form_is : long ≡ is_some s.full
-      form_is = form ∙ ap (is_long (kind_of vault)) (sym at_entry) ∙ tells.form name named.0
+      form_is = form ∙ ap (is_long (kind_of vault)) (sym of_name.stores) ∙ tells.form name of_name.named
 
       by_form : IsStoredOf text.0 s → IsTextAt (format_of vault) v dir entry long text.0
-      by_form (short is none) = subst (λ b. IsTextAt (format_of vault) v dir entry b text.0) (sym (form_is ∙ ap (λ (x : Option (List ℕ)). is_some x) none)) (sym is ∙ at_entry)
+      by_form (short is none) = subst (λ b. IsTextAt (format_of vault) v dir entry b text.0) (sym (form_is ∙ ap (λ (x : Option (List ℕ)). is_some x) none)) (sym is ∙ of_name.stores)
       by_form (long_one is) = subst (λ b. IsTextAt (format_of vault) v dir entry b text.0) (sym (form_is ∙ ap (λ (x : Option (List ℕ)). is_some x) is))
-          (ap (λ e. v (full_path e)) (sym at_entry) ∙ held_back v (full_path s.name) text.0 s.full is right)
+          (ap (λ e. v (full_path e)) (sym of_name.stores) ∙ held_back v (full_path s.name) text.0 s.full is of_name.full)
+
+  -- what stands under a name is at its entry
+  entry_behind : (name : List ℕ) (kind : NodeKind) → node_of (standing_in (format_of vault) v dir name) ≡ Some kind → (kept name).name ≡ entry → IsEntryOf (format_of vault) v dir entry name
+  unfolding standing_in
+  entry_behind name kind stands at_entry =
+      let f = format_of vault in
+      let s = kept name in
+      let place = child dir.folder s.name in
+      let named = where_named (is_name name) (standing_of f v place (holds_full f v dir s) (item_at f v dir s)) kind stands in
+      record { named = named.0; stores = at_entry; full = named_where f v place (holds_full f v dir s) (item_at f v dir s) kind named.1 }
+
+  -- and has a text there
+  text_behind : (long : Bool) (name : List ℕ) (kind : NodeKind) → TellsNames vault dir.key → long ≡ is_long (kind_of vault) entry
+      → node_of (standing_in (format_of vault) v dir name) ≡ Some kind → (kept name).name ≡ entry
+      → (text : List ℕ) × IsTextAt (format_of vault) v dir entry long text × IsNameOf vault dir.key name text × IsTrue (is_entry entry long (kept name))
+  text_behind long name kind tells form stands at_entry = text_of_entry long name tells form (entry_behind name kind stands at_entry)
+
+  -- the entry is that of the name that is found
+  pub entry_found : (long : Bool) (name text : List ℕ) → IsTextAt (format_of vault) v dir entry long text → IsNameOf vault dir.key name text
+      → IsTrue (is_entry entry long (kept name)) → IsEntryOf (format_of vault) v dir entry name
+  entry_found long name text at name_of right = record {
+    named = name_is vault dir.key name text name_of;
+    stores = same_bytes (kept name).name entry (and_parts (bytes_eq (kept name).name entry) (has_form long (kept name).full) right).0;
+    full = holds_at long name text at name_of right;
+  }
+
+  -- and of no other
+  pub one_name : (long : Bool) (name text : List ℕ) → TellsNames vault dir.key → long ≡ is_long (kind_of vault) entry → IsTextAt (format_of vault) v dir entry long text
+      → IsNameOf vault dir.key name text → (other : List ℕ) → IsEntryOf (format_of vault) v dir entry other → other ≡ name
+  one_name long name text tells form at name_of other of_other =
+      let behind = text_of_entry long other tells form of_other in
+      tells.one other name text (subst (IsNameOf vault dir.key other) (texts_alike (format_of vault) v dir entry long behind.0 text behind.1 at) behind.2) name_of
+
+  -- it is that of none where it has no text
+  pub no_entry_text : (long : Bool) → TellsNames vault dir.key → long ≡ is_long (kind_of vault) entry
+      → ((text : List ℕ) → IsUtf8 text → length text ≤ 1024 → ¬ IsTextAt (format_of vault) v dir entry long text)
+      → (name : List ℕ) → ¬ IsEntryOf (format_of vault) v dir entry name
+  no_entry_text long tells form none name of_name =
+      let behind = text_of_entry long name tells form of_name in
+      none behind.0 (tells.utf8 name behind.0 behind.2) (tells.short name behind.0 behind.2) behind.1
+
+  -- nor where its text is no name's
+  pub no_entry_name : (long : Bool) (text : List ℕ) → TellsNames vault dir.key → long ≡ is_long (kind_of vault) entry → IsTextAt (format_of vault) v dir entry long text
+      → ((name : List ℕ) → IsNameOf vault dir.key name text → ¬ IsTrue (is_entry entry long (kept name)))
+      → (name : List ℕ) → ¬ IsEntryOf (format_of vault) v dir entry name
+  no_entry_name long text tells form at none name of_name =
+      let behind = text_of_entry long name tells form of_name in
+      none name (subst (IsNameOf vault dir.key name) (texts_alike (format_of vault) v dir entry long behind.0 text behind.1 at) behind.2) behind.3
 
   -- the item of the name that is found
   pub found_item : (long : Bool) (name text : List ℕ) (item : Item) → TellsNames vault dir.key → long ≡ is_long (kind_of vault) entry

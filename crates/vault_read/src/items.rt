@@ -18,7 +18,7 @@ use std::alloc::Global;
 use vault_spec::Finding;
 
 /// The file in a Cryptomator entry that holds a content.
-pub(crate) const CONTENT_FILE: &str = "contents.c9r";
+pub const CONTENT_FILE: &str = "contents.c9r";
 
 /// The file in a Cryptomator entry that holds a directory's id.
 pub(crate) const ID_FILE: &str = "dir.c9r";
@@ -27,7 +27,7 @@ const SYMLINK_FILE: &str = "symlink.c9r";
 
 /// What an entry is, if its name is right.
 #[derive(Clone, Copy, Debug, PartialEq, Eq)]
-pub(crate) enum EntryItem {
+pub enum EntryItem {
     Nothing,
     /// A file whose content the entry stores.
     EntryFile,
@@ -37,8 +37,8 @@ pub(crate) enum EntryItem {
     NoItem(Finding),
 }
 
-// What the entry at a path is, by whether its name is long. Paths begin at the vault's root.
-pub(crate) fn item_at<F: Folder>(
+/// What the entry at a path is, by whether its name is long. Paths begin at the vault's root.
+pub fn item_at<F: Folder>(
     alloc: Global,
     folder: &mut F,
     vault: &Vault,

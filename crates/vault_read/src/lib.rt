@@ -7,22 +7,24 @@
 pub mod content;
 pub mod fault;
 pub mod finding;
-mod items;
+pub mod items;
 pub mod laws;
 pub mod listing;
 pub mod loading;
 pub mod looking;
 pub mod reader;
-mod standing;
+pub mod standing;
 pub mod vault;
 
 pub use content::cat;
 pub use fault::{CatFault, FindFault, Limit, LoadFault};
 pub use finding::{DirPlace, Place, enter, find};
-pub use listing::{Item, list};
-pub use looking::{SmallFile, read_small};
+pub use items::{EntryItem, item_at};
+pub use listing::{Item, NameAt, list, name_at};
+pub use looking::{SmallFile, joined, kind_under, read_small};
 pub use reader::ContentReader;
-pub use vault::{Vault, VaultKind, content_folder, stored_in};
+pub use standing::{Directory, Standing, key_at, root_standing};
+pub use vault::{CmVault, Vault, VaultKeys, VaultKind, content_folder, folder_of, stored_in};
 
 #[cfg(test)]
 mod listing_tests;

@@ -1,5 +1,5 @@
 //! The items of a directory.
-ghost use Rattle.std.specs.Prelude.{◌≡◌, ◌≤◌, ◌++◌, ℕ, List, Some, None, OnOk, IfOk, IfErr, IfSome, Ok, Err, IsTrue, length};
+ghost use Rattle.std.specs.Prelude.{◌≡◌, ◌≤◌, ◌++◌, ℕ, List, Some, None, OnOk, IfOk, IfErr, IfSome, Ok, Err, IsTrue, is_some, length};
 ghost use Rattle.std.specs.Option.{option_to_list};
 ghost use Rattle.std.specs.Str.{IsUtf8};
 ghost use Rattle.folder_spec.specs.View.{View, Folder};
@@ -8,6 +8,7 @@ ghost use Rattle.folder_model.specs.Answers.{CountsAbove};
 ghost use Rattle.port_model.specs.Counts.{CountRose};
 ghost use Rattle.vault_spec.specs.Format.{Directory};
 ghost use Rattle.vault_spec.specs.Find as spec;
+ghost use Rattle.vault_spec.specs.Findings.{IsEntryOf};
 ghost use Rattle.vault_spec.specs.Listing.{Listed, AreListed};
 ghost use Rattle.vault_spec.specs.Vault.{format_of};
 ghost use Rattle.vault_read.specs.Opened.{FitsKey};
@@ -76,6 +77,42 @@ pub fn list<F: Folder>(
     what_is_found_stands();
     let entered = enter_at(alloc, folder, vault, path)?;
     Ok(items_in(alloc, folder, vault, &entered.dir)?)
+}
+
+/// The name that an entry stands for, and whether it is long: whether its text stands in a file of its own.
+#[derive(Debug, Drop)]
+pub struct NameAt {
+    pub name: Name,
+    pub long: bool,
+}
+
+/// The name whose entry this is in a directory, if it is one's.
+pub fn name_at<F: Folder>(
+    alloc: Global,
+    folder: &mut F,
+    vault: &Vault,
+    dir: &Directory,
+    entry: &str,
+) -> Result<Option<NameAt>, FolderFault>
+    requires { FitsKey vault.now.vault dir.now.key }
+    ensures told { F.told folder.new ≡ F.told folder.old }
+    ensures name { IfOk result (λ found. IfSome found (λ at. (v : View) → IsSeen (F.told folder.old) v → IsEntryOf (format_of vault.now.vault) (under vault.now.root v) dir.now entry.now at.name)) }
+    ensures one { IfOk result (λ found. IfSome found (λ at. (v : View) → IsSeen (F.told folder.old) v → (name : List ℕ)
+        → IsEntryOf (format_of vault.now.vault) (under vault.now.root v) dir.now entry.now name → name ≡ at.name)) }
+    ensures long { IfOk result (λ found. IfSome found (λ at. at.long ≡ is_some ((format_of vault.now.vault).stored dir.now.key at.name).full)) }
+    ensures none { IfOk result (λ found. found ≡ None → (v : View) → IsSeen (F.told folder.old) v → (name : List ℕ)
+        → ¬ IsEntryOf (format_of vault.now.vault) (under vault.now.root v) dir.now entry.now name) }
+    ensures counts { CountsAbove (F.faults folder.old) (F.faults folder.new) result }
+{
+    texts_tell_names(vault, dir.key.as_slice());
+    let long = is_long(vault.kind(), entry);
+    let Some(text) = text_at(alloc, folder, vault, dir, entry, long)? else {
+        return Ok(None);
+    };
+    let Some(name) = entry_name(alloc, vault, dir, entry, long, &text)? else {
+        return Ok(None);
+    };
+    Ok(Some(NameAt { name, long }))
 }
 
 // The items of a directory, in byte order of their names.

@@ -31,8 +31,8 @@ fn push_parts(alloc: Global, parts: &mut Vec<String>, more: &[String]) -> Result
     Ok(())
 }
 
-// One path behind another.
-pub(crate) fn joined(alloc: Global, root: &FPath, rest: &FPath) -> Result<FPath, AllocError>
+/// One path behind another.
+pub fn joined(alloc: Global, root: &FPath, rest: &FPath) -> Result<FPath, AllocError>
     ensures { IfOk result (λ at. at ≡ root.now ++ rest.now) }
 {
     let mut parts = root.copy()?.into_parts();
@@ -40,8 +40,8 @@ pub(crate) fn joined(alloc: Global, root: &FPath, rest: &FPath) -> Result<FPath,
     Ok(FPath::from_parts(parts))
 }
 
-// What stands at a path behind a root.
-pub(crate) fn kind_under<F: Folder>(
+/// What stands at a path behind a root.
+pub fn kind_under<F: Folder>(
     alloc: Global,
     folder: &mut F,
     root: &FPath,

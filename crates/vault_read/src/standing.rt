@@ -28,9 +28,9 @@ const KEY_FILE: &str = "gocryptfs.diriv";
 
 /// A directory: the folder that holds its entries, and the key that their names are stored under.
 #[derive(Drop)]
-pub(crate) struct Directory {
-    pub(crate) folder: FPath,
-    pub(crate) key: Bytes,
+pub struct Directory {
+    pub folder: FPath,
+    pub key: Bytes,
 }
 
 impl Model for Directory {
@@ -43,7 +43,7 @@ impl Model for Directory {
 
 /// What stands at a plain path.
 #[derive(Drop)]
-pub(crate) enum Standing {
+pub enum Standing {
     Absent,
     /// An entry that is no item.
     Strange(FPath),
@@ -53,8 +53,8 @@ pub(crate) enum Standing {
     Dir(FPath, Result<Directory, Lack>),
 }
 
-// What stands at the root.
-pub(crate) fn root_standing<F: Folder>(
+/// What stands at the root of a vault.
+pub fn root_standing<F: Folder>(
     alloc: Global,
     folder: &mut F,
     vault: &Vault,
@@ -191,8 +191,8 @@ fn root_key<F: Folder>(
     }
 }
 
-// The key of the directory whose entry is at a path.
-fn key_at<F: Folder>(
+/// The key of the directory whose entry is at a path, if it has one. Paths begin at the vault's root.
+pub fn key_at<F: Folder>(
     alloc: Global,
     folder: &mut F,
     vault: &Vault,

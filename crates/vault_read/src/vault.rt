@@ -30,9 +30,10 @@ pub enum VaultKind {
 /// What the files of an opened Cryptomator vault say.
 #[derive(Drop)]
 pub struct CmVault {
-    pub(crate) keys: CmKeys,
-    pub(crate) combo: Combo,
-    pub(crate) threshold: u32,
+    pub keys: CmKeys,
+    pub combo: Combo,
+    /// The characters of the longest short name.
+    pub threshold: u32,
 }
 
 impl Model for CmVault {
@@ -45,7 +46,7 @@ impl Model for CmVault {
 
 /// The keys of an opened vault, of either format.
 #[derive(Drop)]
-pub(crate) enum VaultKeys {
+pub enum VaultKeys {
     Gocryptfs(GoKeys),
     Cryptomator(CmVault),
 }
@@ -68,8 +69,8 @@ impl Model for Vault {
 }
 
 impl Vault {
-    // The vault with these keys at a root.
-    pub(crate) fn new(root: FPath, keys: VaultKeys) -> Vault
+    /// The vault with these keys at a root.
+    pub fn new(root: FPath, keys: VaultKeys) -> Vault
         ensures root { result.root ≡ root }
         ensures vault { result.vault ≡ vault_of keys }
     {
@@ -155,8 +156,8 @@ pub fn content_folder(alloc: Global, vault: &Vault, id: &[u8]) -> Result<FPath, 
     joined(alloc, &vault.root, &folder)
 }
 
-// The folder of the directory with this key, whose entry is at a path. Paths begin at the vault's root.
-pub(crate) fn folder_of(
+/// The folder of the directory with this key, whose entry is at a path. Paths begin at the vault's root.
+pub fn folder_of(
     alloc: Global,
     vault: &Vault,
     at: &FPath,

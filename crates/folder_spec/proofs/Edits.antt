@@ -6,8 +6,8 @@ use Rattle.folder_spec.specs.Path.{Part, Path, below}
 use Rattle.folder_spec.specs.State.{Spot, Nothing, Directory, FileNode, Odd, Table, Node, State, last_of, present, put, moved, IsAmong, IsTableOf, IsClean, IsSoundTable, IsSound}
 use Rattle.folder_spec.specs.Event.{Call, MakeDir, Create, Append, Sync, Settle, Rename, RemoveFile, RemoveDir, IsFree, Allowed, with_table, with_file, grown, synced, changed}
 use Rattle.folder_spec.specs.View.{FileOf, View, found, Shows, ShowsAmong}
-use Rattle.folder_spec.specs.Region.{AlikeIn, IsAsBefore, OnlyAdds, apart_from}
-use Rattle.folder_spec.specs.Edit.{Edit, grafted, edited, directory_view, directory_edit, views_after, view_after, IsOutside, IsStagedView, Publishes, HasPublished, HasSettled}
+use Rattle.folder_spec.specs.Region.{AlikeIn, IsAsBefore, OnlyAdds}
+use Rattle.folder_spec.specs.Edit.{Edit, grafted, edited, directory_view, directory_edit, views_after, view_after, IsPartOf, IsStagedView, PublishesIn, HasPublishedIn, HasSettledIn}
 use Rattle.folder_spec.proofs.Paths.{one_or_not, begins_or_not, below-append}
 use Rattle.folder_spec.proofs.Sound.{above_is_directory}
 use Rattle.folder_spec.proofs.Tables.{put-same, put-other, moved-new, moved-other, present_is_table, among-push, last_of-push}
@@ -36,87 +36,87 @@ pub among_more : (region : Path → Bool) (s : State) (views more : List View) �
 among_more region s views more shown t is_table =
     let there : (v : View) × Contains views v × Shows region s t v = shown t is_table in (there.0, Contains-append_left views more there.0 there.1, there.2)
 
--- while a stage alone is written, whatever was shown outside it is shown
-pub staging_shows : (stage : Path) (region : Path → Bool) (s0 s : State) (views : List View) → IsSound s0 → IsOutside stage region → IsAsBefore (apart_from stage) s0 s
+-- while a region is left as it was, whatever was shown in it is shown
+pub unchanged_shows : (whole : Path → Bool) (region : Path → Bool) (s0 s : State) (views : List View) → IsSound s0 → IsPartOf region whole → IsAsBefore whole s0 s
     → ShowsAmong region s0 views → ShowsAmong region s views
-staging_shows stage region s0 s views sound outside as_was shown t is_table =
-    let old : (u : Table) × IsTableOf s0 u × AlikeIn (apart_from stage) t u = as_was.tables t is_table in
+unchanged_shows whole region s0 s views sound within_whole as_was shown t is_table =
+    let old : (u : Table) × IsTableOf s0 u × AlikeIn whole t u = as_was.tables t is_table in
     let there : (v : View) × Contains views v × Shows region s0 old.0 v = shown old.0 old.1 in (
       there.0,
       there.1,
-      shows_as_before region s0 s t old.0 there.0 (sound.tables old.0 old.1) (alike_within region (apart_from stage) t old.0 outside old.2) as_was.nodes there.2,
+      shows_as_before region s0 s t old.0 there.0 (sound.tables old.0 old.1) (alike_within region whole t old.0 within_whole old.2) as_was.nodes there.2,
     )
 
-pub staging_present : (stage : Path) (region : Path → Bool) (s0 s : State) (v : View) → IsSound s0 → IsOutside stage region → IsAsBefore (apart_from stage) s0 s
+pub unchanged_present : (whole : Path → Bool) (region : Path → Bool) (s0 s : State) (v : View) → IsSound s0 → IsPartOf region whole → IsAsBefore whole s0 s
     → Shows region s0 (present s0) v → Shows region s (present s) v
-staging_present stage region s0 s v sound outside as_was shows =
+unchanged_present whole region s0 s v sound within_whole as_was shows =
     shows_as_before region s0 s (present s) (present s0) v (sound.tables (present s0) (present_is_table s0))
-    (alike_within region (apart_from stage) (present s) (present s0) outside as_was.seen) as_was.nodes shows
+    (alike_within region whole (present s) (present s0) within_whole as_was.seen) as_was.nodes shows
 
 -- so nothing is published yet
-pub publishes_nothing : (stage : Path) (edits : List Edit) (s0 s : State) → IsSound s0 → IsAsBefore (apart_from stage) s0 s → Publishes stage edits s0 s
-publishes_nothing stage edits s0 s sound as_was region views v outside shown now =
-    among_more region s views (views_after v edits) (staging_shows stage region s0 s views sound outside as_was shown)
+pub publishes_nothing : (whole : Path → Bool) (edits : List Edit) (s0 s : State) → IsSound s0 → IsAsBefore whole s0 s → PublishesIn whole edits s0 s
+publishes_nothing whole edits s0 s sound as_was region views v within_whole shown now =
+    among_more region s views (views_after v edits) (unchanged_shows whole region s0 s views sound within_whole as_was shown)
 
 -- A call makes a table that shows an edit.
-module _ (stage : Path) (e : Edit) (s0 s : State) (u : Table) (sound : IsSound s0) (as_was : IsAsBefore (apart_from stage) s0 s)
-    (edits : (region : Path → Bool) (v : View) → IsOutside stage region → Shows region s (present s) v → Shows region s u (edited v e)) where
+module _ (whole : Path → Bool) (e : Edit) (s0 s : State) (u : Table) (sound : IsSound s0) (as_was : IsAsBefore whole s0 s)
+    (edits : (region : Path → Bool) (v : View) → IsPartOf region whole → Shows region s (present s) v → Shows region s u (edited v e)) where
   same_nodes : (region : Path → Bool) (t : Table) (v : View) → Shows region s t v → Shows region (with_table s u) t v
   same_nodes region t v shows = record { agrees = shows.agrees; clean = shows.clean }
 
-  new_shown : (region : Path → Bool) (v : View) → IsOutside stage region → Shows region s0 (present s0) v → Shows region (with_table s u) u (edited v e)
-  new_shown region v outside now = same_nodes region u (edited v e) (edits region v outside (staging_present stage region s0 s v sound outside as_was now))
+  new_shown : (region : Path → Bool) (v : View) → IsPartOf region whole → Shows region s0 (present s0) v → Shows region (with_table s u) u (edited v e)
+  new_shown region v within_whole now = same_nodes region u (edited v e) (edits region v within_whole (unchanged_present whole region s0 s v sound within_whole as_was now))
 
-  old_shown : (region : Path → Bool) (views : List View) (v : View) → IsOutside stage region → ShowsAmong region s0 views → (t : Table) → IsTableOf s t
+  old_shown : (region : Path → Bool) (views : List View) (v : View) → IsPartOf region whole → ShowsAmong region s0 views → (t : Table) → IsTableOf s t
       → (w : View) × Contains (views ++ edited v e ∷ []) w × Shows region (with_table s u) t w
-  old_shown region views v outside shown t is_table =
-      let there : (w : View) × Contains views w × Shows region s t w = staging_shows stage region s0 s views sound outside as_was shown t is_table in
+  old_shown region views v within_whole shown t is_table =
+      let there : (w : View) × Contains views w × Shows region s t w = unchanged_shows whole region s0 s views sound within_whole as_was shown t is_table in
       (there.0, Contains-append_left views (edited v e ∷ []) there.0 there.1, same_nodes region t there.0 there.2)
 
-  pub table_published : HasPublished stage (e ∷ []) s0 (with_table s u)
+  pub table_published : HasPublishedIn whole (e ∷ []) s0 (with_table s u)
   table_published = record {
-    publishes = λ region views v outside shown now t is_table. elim is_table as (λ _. (w : View) × Contains (views ++ edited v e ∷ []) w × Shows region (with_table s u) t w) [
-      | inl same ↦ old_shown region views v outside shown t (inl same)
+    publishes = λ region views v within_whole shown now t is_table. elim is_table as (λ _. (w : View) × Contains (views ++ edited v e ∷ []) w × Shows region (with_table s u) t w) [
+      | inl same ↦ old_shown region views v within_whole shown t (inl same)
       | inr more ↦ elim (among-push t u s.later more) as (λ _. (w : View) × Contains (views ++ edited v e ∷ []) w × Shows region (with_table s u) t w) [
-        | inl before ↦ old_shown region views v outside shown t (inr before)
+        | inl before ↦ old_shown region views v within_whole shown t (inr before)
         | inr new ↦ (
           edited v e,
           Contains-append_right views (edited v e ∷ []) (edited v e) (0, omega arith, refl),
-          subst (λ w. Shows region (with_table s u) w (edited v e)) (sym new) (new_shown region v outside now),
+          subst (λ w. Shows region (with_table s u) w (edited v e)) (sym new) (new_shown region v within_whole now),
         )
       ]
     ];
-    shows = λ region v outside now.
-        subst (λ w. Shows region (with_table s u) w (edited v e)) (sym (last_of-push s.kept s.later u)) (new_shown region v outside now);
+    shows = λ region v within_whole now.
+        subst (λ w. Shows region (with_table s u) w (edited v e)) (sym (last_of-push s.kept s.later u)) (new_shown region v within_whole now);
   }
 
-at_edit : (v : View) (e : Edit) (q rest : Path) → q ≡ e.at ++ rest → edited v e q ≡ e.made rest
+pub at_edit : (v : View) (e : Edit) (q rest : Path) → q ≡ e.at ++ rest → edited v e q ≡ e.made rest
 at_edit v e q rest is = ap (grafted v e q) (ap (below e.at) is ∙ below-append e.at rest)
 
-off_edit : (v : View) (e : Edit) (q : Path) → below e.at q ≡ None → edited v e q ≡ v q
+pub off_edit : (v : View) (e : Edit) (q : Path) → below e.at q ≡ None → edited v e q ≡ v q
 off_edit v e q none = ap (grafted v e q) none
 
--- A rename from the stage puts it in its place.
-module _ (stage p : Path) (e : Edit) (s0 s : State) (sound : IsSound s0) (as_was : IsAsBefore (apart_from stage) s0 s)
-    (below_stage : (q : Path) → IsTrue (apart_from stage q) → below p q ≡ None) (staged : IsStagedView s (present s) p e.made) where
-  shows_edited : (region : Path → Bool) (v : View) → IsOutside stage region → Shows region s (present s) v → Shows region s (moved (present s) p e.at) (edited v e)
-  shows_edited region v outside shows = record {
+-- A rename from within_whole the region puts it in its place.
+module _ (whole : Path → Bool) (p : Path) (e : Edit) (s0 s : State) (sound : IsSound s0) (as_was : IsAsBefore whole s0 s)
+    (apart_ : (q : Path) → IsTrue (whole q) → below p q ≡ None) (staged : IsStagedView s (present s) p e.made) where
+  shows_edited : (region : Path → Bool) (v : View) → IsPartOf region whole → Shows region s (present s) v → Shows region s (moved (present s) p e.at) (edited v e)
+  shows_edited region v within_whole shows = record {
     agrees = λ q inside. elim (begins_or_not e.at q) as (λ _. found (λ n. (s.nodes n).now) (moved (present s) p e.at q) ≡ edited v e q) [
       | inl k ↦
           ap (found (λ n. (s.nodes n).now)) (ap (moved (present s) p e.at) k.1 ∙ moved-new (present s) p e.at k.0) ∙ staged.shown k.0
           ∙ sym (at_edit v e q k.0 k.1)
       | inr none ↦
-          ap (found (λ n. (s.nodes n).now)) (moved-other (present s) p e.at q none (below_stage q (outside q inside))) ∙ shows.agrees q inside
+          ap (found (λ n. (s.nodes n).now)) (moved-other (present s) p e.at q none (apart_ q (within_whole q inside))) ∙ shows.agrees q inside
           ∙ sym (off_edit v e q none)
     ];
     clean = λ q n inside here. elim (begins_or_not e.at q) as (λ _. IsClean (s.nodes n)) [
       | inl k ↦ staged.clean k.0 n (sym (ap (moved (present s) p e.at) k.1 ∙ moved-new (present s) p e.at k.0) ∙ here)
-      | inr none ↦ shows.clean q n inside (sym (moved-other (present s) p e.at q none (below_stage q (outside q inside))) ∙ here)
+      | inr none ↦ shows.clean q n inside (sym (moved-other (present s) p e.at q none (apart_ q (within_whole q inside))) ∙ here)
     ];
   }
 
-  pub published : HasPublished stage (e ∷ []) s0 (changed s (Rename p e.at))
-  published = table_published stage e s0 s (moved (present s) p e.at) sound as_was shows_edited
+  pub published : HasPublishedIn whole (e ∷ []) s0 (changed s (Rename p e.at))
+  published = table_published whole e s0 s (moved (present s) p e.at) sound as_was shows_edited
 
 -- nothing stands below what is no directory
 pub nothing_below_file : (made : ℕ) (t : Table) → IsSoundTable made t → (w : Path) (b : Part) (rest : Path) → t w ≢ Directory → t (w ++ b ∷ rest) ≡ Nothing
@@ -135,10 +135,10 @@ nothing_below : (made : ℕ) (t : Table) → IsSoundTable made t → (w : Path) 
 nothing_below made t sound w b rest none = nothing_below_file made t sound w b rest (λ directory. cc)
 
 -- A directory is made in its place.
-module _ (stage at : Path) (s0 s : State) (sound : IsSound s0) (sound_now : IsSound s) (as_was : IsAsBefore (apart_from stage) s0 s) (free : IsFree (present s) at) where
-  shows_directory : (region : Path → Bool) (v : View) → IsOutside stage region → Shows region s (present s) v
+module _ (whole : Path → Bool) (at : Path) (s0 s : State) (sound : IsSound s0) (sound_now : IsSound s) (as_was : IsAsBefore whole s0 s) (free : IsFree (present s) at) where
+  shows_directory : (region : Path → Bool) (v : View) → IsPartOf region whole → Shows region s (present s) v
       → Shows region s (put (present s) at Directory) (edited v (directory_edit at))
-  shows_directory region v outside shows = record {
+  shows_directory region v within_whole shows = record {
     agrees = λ q inside. elim (begins_or_not at q) as (λ _. found (λ n. (s.nodes n).now) (put (present s) at Directory q) ≡ edited v (directory_edit at) q) [
       | inl k ↦ ap (λ r. found (λ n. (s.nodes n).now) (put (present s) at Directory r)) k.1 ∙ at_rest k.0 ∙ sym (at_edit v (directory_edit at) q k.0 k.1)
       | inr none ↦ ap (found (λ n. (s.nodes n).now)) (put-other (present s) at Directory q (apart q none)) ∙ shows.agrees q inside ∙ sym (off_edit v (directory_edit at) q none)
@@ -164,15 +164,15 @@ module _ (stage at : Path) (s0 s : State) (sound : IsSound s0) (sound_now : IsSo
               let none : below at at ≡ Some [] = ap (below at) (sym (append-nil at)) ∙ below-append at [] in
               cc
 
-  pub directory_published : HasPublished stage (directory_edit at ∷ []) s0 (changed s (MakeDir at))
-  directory_published = table_published stage (directory_edit at) s0 s (put (present s) at Directory) sound as_was shows_directory
+  pub directory_published : HasPublishedIn whole (directory_edit at ∷ []) s0 (changed s (MakeDir at))
+  directory_published = table_published whole (directory_edit at) s0 s (put (present s) at Directory) sound as_was shows_directory
 
 -- a settle leaves one table
-pub settle_publishes : (stage : Path) (edits : List Edit) (s0 s : State) → Publishes stage edits s0 s → Publishes stage edits s0 (changed s Settle)
-settle_publishes stage edits s0 s publishes region views v outside shown now t is_table = elim is_table [
+pub settle_publishes : (whole : Path → Bool) (edits : List Edit) (s0 s : State) → PublishesIn whole edits s0 s → PublishesIn whole edits s0 (changed s Settle)
+settle_publishes whole edits s0 s publishes region views v within_whole shown now t is_table = elim is_table [
   | inl same ↦
       let there : (w : View) × Contains (views ++ views_after v edits) w × Shows region s (present s) w =
-      publishes region views v outside shown now (present s) (present_is_table s) in (
+      publishes region views v within_whole shown now (present s) (present_is_table s) in (
         there.0,
         there.1,
         subst (λ u. Shows region (changed s Settle) u there.0) (sym same) (record { agrees = there.2.agrees; clean = there.2.clean }),
@@ -180,23 +180,23 @@ settle_publishes stage edits s0 s publishes region views v outside shown now t i
   | inr none ↦ absurd none
 ]
 
-pub settled : (stage : Path) (edits : List Edit) (s0 s : State) → HasPublished stage edits s0 s → HasSettled stage edits s0 (changed s Settle)
-settled stage edits s0 s published = record {
+pub settled : (whole : Path → Bool) (edits : List Edit) (s0 s : State) → HasPublishedIn whole edits s0 s → HasSettledIn whole edits s0 (changed s Settle)
+settled whole edits s0 s published = record {
   published = record {
-    publishes = settle_publishes stage edits s0 s published.publishes;
-    shows = λ region v outside now. (let there : Shows region s (present s) (view_after v edits) = published.shows region v outside now in
+    publishes = settle_publishes whole edits s0 s published.publishes;
+    shows = λ region v within_whole now. (let there : Shows region s (present s) (view_after v edits) = published.shows region v within_whole now in
         record { agrees = there.agrees; clean = there.clean });
   };
   settled = refl;
 }
 
 -- then the last view is shown alone
-pub settled_alone : (stage : Path) (edits : List Edit) (s0 s : State) → HasSettled stage edits s0 s → (region : Path → Bool) (v : View) → IsOutside stage region
+pub settled_alone : (whole : Path → Bool) (edits : List Edit) (s0 s : State) → HasSettledIn whole edits s0 s → (region : Path → Bool) (v : View) → IsPartOf region whole
     → Shows region s0 (present s0) v → ShowsAmong region s (view_after v edits ∷ [])
-settled_alone stage edits s0 s h region v outside now t is_table = (
+settled_alone whole edits s0 s h region v within_whole now t is_table = (
   view_after v edits,
   (0, omega arith, refl),
-  subst (λ u. Shows region s u (view_after v edits)) (sym (only t (subst (λ us. IsAmong t (s.kept ∷ us)) h.settled is_table))) (h.published.shows region v outside now),
+  subst (λ u. Shows region s u (view_after v edits)) (sym (only t (subst (λ us. IsAmong t (s.kept ∷ us)) h.settled is_table))) (h.published.shows region v within_whole now),
 )
   where
     only : (t : Table) → IsAmong t (s.kept ∷ []) → t ≡ present s
@@ -215,24 +215,39 @@ view_joined v [] more = refl
 view_joined v (e ∷ edits) more = view_joined (edited v e) edits more
 
 -- more edits may come
-pub publishes_more : (stage : Path) (edits more : List Edit) (s0 s : State) → Publishes stage edits s0 s → Publishes stage (edits ++ more) s0 s
-publishes_more stage edits more s0 s publishes region views v outside shown now =
+pub publishes_more : (whole : Path → Bool) (edits more : List Edit) (s0 s : State) → PublishesIn whole edits s0 s → PublishesIn whole (edits ++ more) s0 s
+publishes_more whole edits more s0 s publishes region views v within_whole shown now =
     subst (ShowsAmong region s)
     (append_assoc views (views_after v edits) (views_after (view_after v edits) more) ∙ ap (λ after. views ++ after) (sym (views_joined v edits more)))
-    (among_more region s (views ++ views_after v edits) (views_after (view_after v edits) more) (publishes region views v outside shown now))
+    (among_more region s (views ++ views_after v edits) (views_after (view_after v edits) more) (publishes region views v within_whole shown now))
 
-pub publishes_joined : (stage : Path) (edits more : List Edit) (s0 s1 s : State) → HasPublished stage edits s0 s1 → Publishes stage more s1 s → Publishes stage (edits ++ more) s0 s
-publishes_joined stage edits more s0 s1 s first then_ region views v outside shown now =
+pub publishes_joined : (whole : Path → Bool) (edits more : List Edit) (s0 s1 s : State) → HasPublishedIn whole edits s0 s1 → PublishesIn whole more s1 s → PublishesIn whole (edits ++ more) s0 s
+publishes_joined whole edits more s0 s1 s first then_ region views v within_whole shown now =
     subst (ShowsAmong region s)
     (append_assoc views (views_after v edits) (views_after (view_after v edits) more) ∙ ap (λ after. views ++ after) (sym (views_joined v edits more)))
-    (then_ region (views ++ views_after v edits) (view_after v edits) outside (first.publishes region views v outside shown now) (first.shows region v outside now))
+    (then_ region (views ++ views_after v edits) (view_after v edits) within_whole (first.publishes region views v within_whole shown now) (first.shows region v within_whole now))
 
-pub published_joined : (stage : Path) (edits more : List Edit) (s0 s1 s : State) → HasPublished stage edits s0 s1 → HasPublished stage more s1 s → HasPublished stage (edits ++ more) s0 s
-published_joined stage edits more s0 s1 s first then_ = record {
-  publishes = publishes_joined stage edits more s0 s1 s first then_.publishes;
-  shows = λ region v outside now.
-      subst (Shows region s (present s)) (sym (view_joined v edits more)) (then_.shows region (view_after v edits) outside (first.shows region v outside now));
+pub published_joined : (whole : Path → Bool) (edits more : List Edit) (s0 s1 s : State) → HasPublishedIn whole edits s0 s1 → HasPublishedIn whole more s1 s → HasPublishedIn whole (edits ++ more) s0 s
+published_joined whole edits more s0 s1 s first then_ = record {
+  publishes = publishes_joined whole edits more s0 s1 s first then_.publishes;
+  shows = λ region v within_whole now.
+      subst (Shows region s (present s)) (sym (view_joined v edits more)) (then_.shows region (view_after v edits) within_whole (first.shows region v within_whole now));
 }
+
+-- what is published in a region is published in each part of it
+pub publishes_in_part : (whole part : Path → Bool) (edits : List Edit) (s0 s : State) → IsPartOf part whole → PublishesIn whole edits s0 s → PublishesIn part edits s0 s
+publishes_in_part whole part edits s0 s within publishes region views v inside shown now =
+    publishes region views v (λ q in_region. within q (inside q in_region)) shown now
+
+pub published_in_part : (whole part : Path → Bool) (edits : List Edit) (s0 s : State) → IsPartOf part whole → HasPublishedIn whole edits s0 s → HasPublishedIn part edits s0 s
+published_in_part whole part edits s0 s within published = record {
+  publishes = publishes_in_part whole part edits s0 s within published.publishes;
+  shows = λ region v inside now. published.shows region v (λ q in_region. within q (inside q in_region)) now;
+}
+
+pub settled_in_part : (whole part : Path → Bool) (edits : List Edit) (s0 s : State) → IsPartOf part whole → HasSettledIn whole edits s0 s → HasSettledIn part edits s0 s
+settled_in_part whole part edits s0 s within settled =
+    record { published = published_in_part whole part edits s0 s within settled.published; settled = settled.settled }
 
 -- what stands in a region to which a call only adds stays
 pub additions_keep : (region : Path → Bool) (s : State) (call : Call) → IsSound s → Allowed s call → OnlyAdds region s call → (q : Path) → IsTrue (region q)

@@ -68,7 +68,7 @@ pub record MayStage (files : List (List ℕ)) (p : Path) (made : ℕ) (s : State
   pub puts : PutsOnlyFiles p call
   pub fronts : WritesFronts files s call
 
-staging_so_far : (files : List (List ℕ)) (p : Path) (a0 a : Told) → Staging files p a0 a → IsStaging files p a0.state a.state
+pub staging_so_far : (files : List (List ℕ)) (p : Path) (a0 a : Told) → Staging files p a0 a → IsStaging files p a0.state a.state
 staging_so_far files p a0 a went = went_to (IsStaging files p a0.state) (λ s e. SparesOld (apart_from p) a0.state s e.call) a0 a went
 
 is_staging_on : (files : List (List ℕ)) (p : Path) (s0 s : State) (call : Call) → MayStage files p s0.made s call → IsStaging files p s0 s → IsStaging files p s0 (changed s call)
@@ -197,12 +197,34 @@ spares_within small large within (Rename old new) h = λ q inside. h q (within q
 spares_within small large within (RemoveFile p) h = λ q inside. h q (within q inside)
 spares_within small large within (RemoveDir p) h = λ q inside. h q (within q inside)
 
+-- what stands where a file was written is the file, and nothing below it
+pub new_file_view : (staged : Path) (bytes : List ℕ) (s0 s : State) → IsSound s → IsNewFile bytes s0 s (present s staged) → IsStagedView s (present s) staged (file_view bytes)
+new_file_view staged bytes s0 s sound new = record {
+  shown = λ rest. shown rest;
+  clean = λ rest n here. clean rest n here;
+}
+  where
+    is_file : present s (staged ++ []) ≡ FileNode new.number
+    is_file = ap (present s) (append-nil staged) ∙ new.is
+
+    none_below : (a : Part) (rest : Path) → present s (staged ++ a ∷ rest) ≡ Nothing
+    none_below a rest =
+        nothing_below_file s.made (present s) (sound.tables (present s) (present_is_table s)) staged a rest (λ directory. (let file : present s staged ≡ FileNode new.number = new.is in cc))
+
+    shown : (rest : Path) → found (λ n. (s.nodes n).now) (present s (staged ++ rest)) ≡ file_view bytes rest
+    shown [] = ap (found (λ n. (s.nodes n).now)) is_file ∙ ap (λ (node : Node). FileOf node.now) new.holds
+    shown (a ∷ rest) = ap (found (λ n. (s.nodes n).now)) (none_below a rest)
+
+    clean : (rest : Path) (n : ℕ) → present s (staged ++ rest) ≡ FileNode n → IsClean (s.nodes n)
+    clean [] n here = let one : new.number ≡ n = (let file : present s (staged ++ []) ≡ FileNode new.number = is_file in cc) in subst (λ k. IsClean (s.nodes k)) one (subst IsClean (sym new.holds) refl)
+    clean (a ∷ rest) n here = absurd (let none : present s (staged ++ a ∷ rest) ≡ Nothing = none_below a rest in cc)
+
 -- The file of these bytes is written at the one path, then renamed onto the other. Neither path is below the other.
 module _ (staged at : Path) (bytes : List ℕ) (apart : below staged at ≡ None) where
   replacing_of_staging : (s0 s : State) → IsSound s0 → IsStaging (bytes ∷ []) staged s0 s → IsReplacing staged at bytes s0 s
   replacing_of_staging s0 s sound h = record {
     change = old_or_new_so_far staged at bytes s0 s apart h.others;
-    publishes = publishes_nothing staged (file_edit at bytes ∷ []) s0 s sound h.others;
+    publishes = publishes_nothing (apart_from staged) (file_edit at bytes ∷ []) s0 s sound h.others;
     place = h.place;
     fronts = h.fronts;
   }
@@ -226,34 +248,12 @@ module _ (staged at : Path) (bytes : List ℕ) (apart : below staged at ≡ None
       let here : P a.state = went_to P Q a0 a so_far in
       went_on P Q a0 a b so_far (went_by_call P Q call a b result here (λ allowed. done here) (λ added allowed. subst P (sym (fell added)) here) (λ outcome. (spares, new)) steps)
 
-  -- what stands where it was written is the file, and nothing below it
-  staged_view : (s0 s : State) → IsSound s → IsNewFile bytes s0 s (present s staged) → IsStagedView s (present s) staged (file_view bytes)
-  staged_view s0 s sound new = record {
-    shown = λ rest. shown rest;
-    clean = λ rest n here. clean rest n here;
-  }
-    where
-      is_file : present s (staged ++ []) ≡ FileNode new.number
-      is_file = ap (present s) (append-nil staged) ∙ new.is
-
-      none_below : (a : Part) (rest : Path) → present s (staged ++ a ∷ rest) ≡ Nothing
-      none_below a rest =
-          nothing_below_file s.made (present s) (sound.tables (present s) (present_is_table s)) staged a rest (λ directory. (let file : present s staged ≡ FileNode new.number = new.is in cc))
-
-      shown : (rest : Path) → found (λ n. (s.nodes n).now) (present s (staged ++ rest)) ≡ file_view bytes rest
-      shown [] = ap (found (λ n. (s.nodes n).now)) is_file ∙ ap (λ (node : Node). FileOf node.now) new.holds
-      shown (a ∷ rest) = ap (found (λ n. (s.nodes n).now)) (none_below a rest)
-
-      clean : (rest : Path) (n : ℕ) → present s (staged ++ rest) ≡ FileNode n → IsClean (s.nodes n)
-      clean [] n here = let one : new.number ≡ n = (let file : present s (staged ++ []) ≡ FileNode new.number = is_file in cc) in subst (λ k. IsClean (s.nodes k)) one (subst IsClean (sym new.holds) refl)
-      clean (a ∷ rest) n here = absurd (let none : present s (staged ++ a ∷ rest) ≡ Nothing = none_below a rest in cc)
-
   pub published_on : (a0 a b : Told) → IsSound a0.state → IsSound a.state → IsStagedAs (bytes ∷ []) staged (record { now = bytes; kept = bytes }) a0 a
       → HasPublished staged (file_edit at bytes ∷ []) a0.state (changed a.state (Rename staged at))
   published_on a0 a b sound sound_now so_far =
       let here : IsStaging (bytes ∷ []) staged a0.state a.state = staging_so_far (bytes ∷ []) staged a0 a so_far.0 in
-      published staged staged (file_edit at bytes) a0.state a.state sound here.others (λ q inside. apart-below staged q inside)
-      (staged_view a0.state a.state sound_now so_far.1)
+      published (apart_from staged) staged (file_edit at bytes) a0.state a.state sound here.others (λ q inside. apart-below staged q inside)
+      (new_file_view staged bytes a0.state a.state sound_now so_far.1)
 
   pub renamed_on : (a0 a b : Told) (result : Result (Unit {0}) FolderFault) → below at staged ≡ None → IsSound a0.state → IsSound a.state
       → IsStagedAs (bytes ∷ []) staged (record { now = bytes; kept = bytes }) a0 a → Steps (Rename staged at) a b result → Replacing staged at bytes a0 b
@@ -290,7 +290,7 @@ module _ (staged at : Path) (bytes : List ℕ) (apart : below staged at ≡ None
       replacing_call Settle a0 a b result tt tt
       (λ here. record {
         change = (replaced_by_settle (apart_from_both staged at) at bytes a0.state a.state here.change new).change;
-        publishes = settle_publishes staged (file_edit at bytes ∷ []) a0.state a.state here.publishes;
+        publishes = settle_publishes (apart_from staged) (file_edit at bytes ∷ []) a0.state a.state here.publishes;
         place = old_or_file_on staged a0.state a.state here.place Settle tt;
         fronts = fronts_on (bytes ∷ []) a0.state a.state Settle tt here.fronts;
       }) (λ added. refl) so_far steps
@@ -303,7 +303,7 @@ module _ (staged at : Path) (bytes : List ℕ) (apart : below staged at ≡ None
       subst (λ (c : Told). HasReplaced staged at bytes a0.state c.state) (sym steps.1)
       (record {
         replaced = replaced_by_settle (apart_from_both staged at) at bytes a0.state a.state here.change new;
-        published = settled staged (file_edit at bytes ∷ []) a0.state a.state shown;
+        published = settled (apart_from staged) (file_edit at bytes ∷ []) a0.state a.state shown;
         gone = gone;
       })
 
@@ -316,21 +316,6 @@ module _ (staged at : Path) (bytes : List ℕ) (apart : below staged at ≡ None
         | inl free ↦ inl (here ∙ free.0, above ∙ free.1)
         | inr file ↦ inr (file.0, here ∙ file.1)
       ]
-
-  -- so it may be renamed
-  pub may_be_renamed : (a0 a : Told) → staged ≢ [] → IsFilePlace (present a0.state) at
-      → IsStagedAs (bytes ∷ []) staged (record { now = bytes; kept = bytes }) a0 a → Allowed a.state (Rename staged at)
-  may_be_renamed a0 a some place so_far =
-      let here : IsStaging (bytes ∷ []) staged a0.state a.state = staging_so_far (bytes ∷ []) staged a0 a so_far.0 in
-      let file : present a.state staged ≡ FileNode so_far.1.number = so_far.1.is in (
-        some,
-        λ none. (cc (file, none)),
-        apart,
-        elim (place_stays a0.state a.state here.others place) as (λ _. IsFree (present a.state) at ⊎ (HasFile (present a.state) staged × HasFile (present a.state) at)) [
-          | inl free ↦ inl free
-          | inr there ↦ inr ((so_far.1.number, file), there)
-        ],
-      )
 
 -- The same of a folder that may tell nothing.
 
@@ -435,15 +420,6 @@ module _ (staged at : Path) (bytes : List ℕ) (apart : below staged at ≡ None
       from_to_on (λ a b. IsStagedFile staged bytes a b × IsSound a.state × IsSound b.state) (λ a b. Steps (Rename staged at) a b result) (Replacing staged at bytes) t0 t1 t2
       (λ a0 a b h steps. renamed_on staged at bytes apart a0 a b result beside h.1 h.2 h.0 steps)
       (from_to_known (IsStagedFile staged bytes) (λ a. IsSound a.state) t0 t1 sound sound_now so_far) changes
-
-  pub may_rename_from : (t0 t1 : Option Told) → staged ≢ [] → ((a : Told) → t0 ≡ Some a → IsFilePlace (present a.state) at)
-      → FromTo (IsStagedFile staged bytes) t0 t1 → (a : Told) → t1 ≡ Some a → Allowed a.state (Rename staged at)
-  may_rename_from (Some a0) (Some b) some place so_far a is =
-      let same : b ≡ a = cc is in
-      subst (λ (c : Told). Allowed c.state (Rename staged at)) same (may_be_renamed staged at bytes apart a0 b some (place a0 refl) so_far)
-  may_rename_from None None some place so_far a is = cc is
-  may_rename_from (Some a0) None some place so_far a is = absurd so_far
-  may_rename_from None (Some b) some place so_far a is = absurd so_far
 
 -- renamed, and not yet settled
 pub record IsRenamed (staged at : Path) (bytes : List ℕ) (a0 a : Told) : Type 0 where

@@ -70,28 +70,42 @@ abbrev pub view_after : View → List Edit → View
 view_after v [] = v
 view_after v (e ∷ edits) = view_after (edited v e) edits
 
+-- the first region is a part of the second
+abbrev pub IsPartOf : (Path → Bool) → (Path → Bool) → Type 0
+IsPartOf part whole = (q : Path) → IsTrue (part q) → IsTrue (whole q)
+
 -- the region has nothing at the path or below it
 abbrev pub IsOutside : Path → (Path → Bool) → Type 0
-IsOutside stage region = (q : Path) → IsTrue (region q) → IsTrue (apart_from stage q)
+IsOutside stage region = IsPartOf region (apart_from stage)
 
 -- What stands at a path shows this view, and its files are clean.
 pub record IsStagedView (s : State) (t : Table) (p : Path) (made : View) : Type 0 where
   pub shown : (rest : Path) → found (λ n. (s.nodes n).now) (t (p ++ rest)) ≡ made rest
   pub clean : (rest : Path) (n : ℕ) → t (p ++ rest) ≡ FileNode n → IsClean (s.nodes n)
 
--- Since s0 these edits are being published, some of them so far, from a stage. Whatever the tables showed in a region outside
--- the stage, each now shows one of those views or what the present one showed after the first edits.
-abbrev pub Publishes : Path → List Edit → State → State → Type 0
-Publishes stage edits s0 s =
-    (region : Path → Bool) (views : List View) (v : View) → IsOutside stage region → ShowsAmong region s0 views → Shows region s0 (present s0) v
+-- Since s0 these edits are being published in a region, some of them so far. Whatever the tables showed in a part of it, each now
+-- shows one of those views or what the present one showed after the first edits.
+abbrev pub PublishesIn : (Path → Bool) → List Edit → State → State → Type 0
+PublishesIn whole edits s0 s =
+    (region : Path → Bool) (views : List View) (v : View) → IsPartOf region whole → ShowsAmong region s0 views → Shows region s0 (present s0) v
     → ShowsAmong region s (views ++ views_after v edits)
 
 -- Since s0 they have been published.
-pub record HasPublished (stage : Path) (edits : List Edit) (s0 s : State) : Type 0 where
-  pub publishes : Publishes stage edits s0 s
-  pub shows : (region : Path → Bool) (v : View) → IsOutside stage region → Shows region s0 (present s0) v → Shows region s (present s) (view_after v edits)
+pub record HasPublishedIn (whole : Path → Bool) (edits : List Edit) (s0 s : State) : Type 0 where
+  pub publishes : PublishesIn whole edits s0 s
+  pub shows : (region : Path → Bool) (v : View) → IsPartOf region whole → Shows region s0 (present s0) v → Shows region s (present s) (view_after v edits)
 
 -- And settled: no directory change is pending.
-pub record HasSettled (stage : Path) (edits : List Edit) (s0 s : State) : Type 0 where
-  pub published : HasPublished stage edits s0 s
+pub record HasSettledIn (whole : Path → Bool) (edits : List Edit) (s0 s : State) : Type 0 where
+  pub published : HasPublishedIn whole edits s0 s
   pub settled : s.later ≡ []
+
+-- the same from a stage, outside of which all is published
+abbrev pub Publishes : Path → List Edit → State → State → Type 0
+Publishes stage edits s0 s = PublishesIn (apart_from stage) edits s0 s
+
+abbrev pub HasPublished : Path → List Edit → State → State → Type 0
+HasPublished stage edits s0 s = HasPublishedIn (apart_from stage) edits s0 s
+
+abbrev pub HasSettled : Path → List Edit → State → State → Type 0
+HasSettled stage edits s0 s = HasSettledIn (apart_from stage) edits s0 s

@@ -8,8 +8,8 @@ ghost use Rattle.folder_spec.specs.declared.Spot.TheVariants.{Nothing, Odd};
 ghost use Rattle.folder_spec.specs.Replace.{IsOldOrNew, IsReplaced, ShowsOldOrNew, IsCleanAt};
 ghost use Rattle.folder_spec.specs.View.{FileOf, View, view_of, AgreeIn, Shows, ShowsAmong};
 ghost use Rattle.folder_spec.specs.Seen.{under, moved_view, seen, seen_after, MayCall};
-ghost use Rattle.folder_spec.specs.Edit.{Edit, directory_edit, edited, edits_under, view_after, IsOutside, IsStagedView, Publishes, HasPublished, HasSettled};
-ghost use Rattle.folder_spec.specs.Region.{Spares, WritesOnlyNew, IsAsBefore, HasOldOrFile, PutsOnlyFiles, OnlyAdds, apart_from, at_or_below};
+ghost use Rattle.folder_spec.specs.Edit.{Edit, directory_edit, edited, edits_under, view_after, IsPartOf, IsOutside, IsStagedView, PublishesIn, HasPublishedIn, HasSettledIn};
+ghost use Rattle.folder_spec.specs.Region.{Spares, WritesOnlyNew, IsAsBefore, HasOldOrFile, PutsOnlyFiles, OnlyAdds, at_or_below};
 ghost use Rattle.folder_spec.specs.Written.{HoldFronts, WritesFronts};
 
 /// A call that is allowed keeps a state sound, whether it is done or fails.
@@ -89,21 +89,30 @@ pub fn additions_keep_what_stands()
     ensures { (region : Path → Bool) (s : State) (call : Call) → IsSound s → Allowed s call → OnlyAdds region s call → (q : Path) → IsTrue (region q) → present s q ≢ Nothing → present (changed s call) q ≡ present s q }
 {}
 
-/// Calls that stage an edit publish nothing. A rename from the stage publishes what was staged, and so
-/// is a directory made in its place. More edits may come. After a settle the last view is shown alone.
+/// Calls that leave a region as it was publish nothing there. A rename from outside it publishes what
+/// was staged, and so is a directory made in its place. More edits may come. After a settle the last view
+/// is shown alone.
 pub fn edits_are_published()
-    ensures staged { (stage : Path) (edits : List Edit) (s0 s : State) → IsSound s0 → IsAsBefore (apart_from stage) s0 s → Publishes stage edits s0 s }
-    ensures renamed { (stage p : Path) (e : Edit) (s0 s : State) → IsSound s0 → IsAsBefore (apart_from stage) s0 s → ((q : Path) → IsTrue (apart_from stage q) → below p q ≡ None) → IsStagedView s (present s) p e.made → HasPublished stage (e ∷ []) s0 (changed s (Rename p e.at)) }
-    ensures directory { (stage at : Path) (s0 s : State) → IsSound s0 → IsSound s → IsAsBefore (apart_from stage) s0 s → IsFree (present s) at → HasPublished stage (directory_edit at ∷ []) s0 (changed s (MakeDir at)) }
-    ensures more { (stage : Path) (edits more : List Edit) (s0 s : State) → Publishes stage edits s0 s → Publishes stage (edits ++ more) s0 s }
-    ensures settle { (stage : Path) (edits : List Edit) (s0 s : State) → HasPublished stage edits s0 s → HasSettled stage edits s0 (changed s Settle) }
-    ensures alone { (stage : Path) (edits : List Edit) (s0 s : State) → HasSettled stage edits s0 s → (region : Path → Bool) (v : View) → IsOutside stage region → Shows region s0 (present s0) v → ShowsAmong region s (view_after v edits ∷ []) }
+    ensures staged { (whole : Path → Bool) (edits : List Edit) (s0 s : State) → IsSound s0 → IsAsBefore whole s0 s → PublishesIn whole edits s0 s }
+    ensures renamed { (whole : Path → Bool) (p : Path) (e : Edit) (s0 s : State) → IsSound s0 → IsAsBefore whole s0 s → ((q : Path) → IsTrue (whole q) → below p q ≡ None) → IsStagedView s (present s) p e.made → HasPublishedIn whole (e ∷ []) s0 (changed s (Rename p e.at)) }
+    ensures directory { (whole : Path → Bool) (at : Path) (s0 s : State) → IsSound s0 → IsSound s → IsAsBefore whole s0 s → IsFree (present s) at → HasPublishedIn whole (directory_edit at ∷ []) s0 (changed s (MakeDir at)) }
+    ensures more { (whole : Path → Bool) (edits more : List Edit) (s0 s : State) → PublishesIn whole edits s0 s → PublishesIn whole (edits ++ more) s0 s }
+    ensures settle { (whole : Path → Bool) (edits : List Edit) (s0 s : State) → HasPublishedIn whole edits s0 s → HasSettledIn whole edits s0 (changed s Settle) }
+    ensures alone { (whole : Path → Bool) (edits : List Edit) (s0 s : State) → HasSettledIn whole edits s0 s → (region : Path → Bool) (v : View) → IsPartOf region whole → Shows region s0 (present s0) v → ShowsAmong region s (view_after v edits ∷ []) }
 {}
 
 /// Calls that publish edits one after the other publish all of them in order.
 pub fn edits_join()
-    ensures publishes { (stage : Path) (edits more : List Edit) (s0 s1 s : State) → HasPublished stage edits s0 s1 → Publishes stage more s1 s → Publishes stage (edits ++ more) s0 s }
-    ensures published { (stage : Path) (edits more : List Edit) (s0 s1 s : State) → HasPublished stage edits s0 s1 → HasPublished stage more s1 s → HasPublished stage (edits ++ more) s0 s }
+    ensures publishes { (whole : Path → Bool) (edits more : List Edit) (s0 s1 s : State) → HasPublishedIn whole edits s0 s1 → PublishesIn whole more s1 s → PublishesIn whole (edits ++ more) s0 s }
+    ensures published { (whole : Path → Bool) (edits more : List Edit) (s0 s1 s : State) → HasPublishedIn whole edits s0 s1 → HasPublishedIn whole more s1 s → HasPublishedIn whole (edits ++ more) s0 s }
+{}
+
+/// What is published in a region is published in each part of it. So edits that come from several stages
+/// join in a region outside all of these.
+pub fn edits_hold_in_parts()
+    ensures publishes { (whole part : Path → Bool) (edits : List Edit) (s0 s : State) → IsPartOf part whole → PublishesIn whole edits s0 s → PublishesIn part edits s0 s }
+    ensures published { (whole part : Path → Bool) (edits : List Edit) (s0 s : State) → IsPartOf part whole → HasPublishedIn whole edits s0 s → HasPublishedIn part edits s0 s }
+    ensures settled { (whole part : Path → Bool) (edits : List Edit) (s0 s : State) → IsPartOf part whole → HasSettledIn whole edits s0 s → HasSettledIn part edits s0 s }
 {}
 
 /// What is shown at a root and below it: edits there are edits of that, and what happens elsewhere

@@ -8,7 +8,7 @@ use Rattle.folder_spec.specs.declared.Kind.{Kind}
 use Rattle.folder_spec.specs.declared.Kind.TheVariants.{Missing, File}
 use Rattle.folder_spec.specs.Path.{Part, Path, below, parent, child}
 use Rattle.folder_spec.specs.State.{Nothing, Directory, FileNode, Table, Node, State, present, put, moved, put_node, kind_of, HasFile, IsClean, IsSound, IsSoundTable}
-use Rattle.folder_spec.specs.Event.{Call, MakeDir, Create, Append, Sync, Settle, Rename, RemoveFile, RemoveDir, Event, IsFree, IsFilePlace, Allowed, with_file, grown, synced, empty_node, changed, fallen, Told, Steps, Changes, FromTo}
+use Rattle.folder_spec.specs.Event.{Call, MakeDir, Create, Append, Sync, Settle, Rename, RemoveFile, RemoveDir, Event, IsFree, IsFilePlace, with_file, grown, synced, empty_node, changed, fallen, Told, Steps, Changes, FromTo}
 use Rattle.folder_spec.specs.Moments.{Went}
 use Rattle.folder_spec.specs.Region.{Spares, WritesOnlyNew, SparesOld, IsAsBefore, PutsOnlyFiles, apart_from, apart_from_both}
 use Rattle.folder_spec.specs.Written.{IsFrontOfOne, WritesFronts}

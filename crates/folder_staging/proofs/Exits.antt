@@ -1,18 +1,21 @@
 -- What each exit of a call that stages and publishes says.
-use Rattle.std.proofs.Common.{◌≡◌, ◌≢◌, ℕ, List, Option, Some, None, Result, Ok, Err, OnOk, refl, sym, ap, ◌∙◌, subst, inl, inr}
+use Rattle.std.proofs.Common.{◌≡◌, ◌≢◌, ◌⊎◌, ℕ, List, [], ◌∷◌, Option, Some, None, Result, Ok, Err, OnOk, IfSome, refl, sym, ap, ◌∙◌, subst, inl, inr}
 use Rattle.folder_spec.specs.declared.Kind.{Kind}
 use Rattle.folder_spec.specs.declared.Kind.TheVariants.{File}
 use Rattle.folder_spec.specs.declared.FolderFault.{FolderFault}
 use Rattle.folder_spec.specs.Path.{Path, below}
 use Rattle.folder_spec.specs.State.{present, HasFile, IsSound}
-use Rattle.folder_spec.specs.Event.{Rename, IsFree, Told, Changes, FromTo}
+use Rattle.folder_spec.specs.Event.{Rename, IsFree, IsFilePlace, Allowed, Told, Changes, FromTo}
 use Rattle.folder_spec.specs.View.{Found, NoEntry, Folder, FileOf, Special, View, kind_found}
-use Rattle.folder_spec.specs.Seen.{seen, IsSeen, ShowsFilePlace}
-use Rattle.folder_spec.proofs.Seen.{free_seen, has_file_seen}
+use Rattle.folder_spec.specs.Seen.{seen, IsSeen, ShowsFile, ShowsFree, ShowsFilePlace}
+use Rattle.folder_spec.proofs.Seen.{free_seen, has_file_seen, file_place_seen, file_place_shown, may_call_allowed}
+use Rattle.folder_spec.specs.Replace.{IsNewFile}
 use Rattle.folder_spec.proofs.Tellings.{from_to_both, from_to_more}
-use Rattle.folder_spec.proofs.Stages.{IsStagedFile, Replacing, IsRenamed, renamed_from}
+use Rattle.folder_spec.proofs.Stages.{Staging, IsStagedFile, Replacing, IsRenamed, staging_so_far, place_stays, renaming_from, renamed_from}
 use Rattle.folder_model.specs.Answers.{Answers}
-use Rattle.folder_staging.specs.Published.{IsPublished}
+use Rattle.folder_staging.specs.Places.{ArePlacesApart, MayPublish, MayPublishStaged}
+use Rattle.folder_staging.specs.Published.{IsPublished, PublishesStaged}
+use Rattle.folder_staging.proofs.Pieces.{new_file_seen}
 
 -- what stands where a call found a file, or none
 pub found_file : (t u : Option Told) (at : Path) (kind : Kind) → kind ≡ File → u ≡ t → Answers t (λ v. Unit {0}) (λ v k. k ≡ kind_found (v at)) (Ok kind)
@@ -37,8 +40,39 @@ found_free (Some a) u at kind apart same answer place =
       | inr file ↦ absurd (apart ((answer (seen a.state) refl).1 ∙ ap kind_found file.1))
     ])
 
+-- A staged file is published.
+pub staged_allowed : (t : Option Told) (staged at : Path) → MayPublishStaged t staged at → (a : Told) → t ≡ Some a → Allowed a.state (Rename staged at)
+staged_allowed t staged at may a is =
+    let shown : IsSeen t (seen a.state) = subst (λ o. IsSeen o (seen a.state)) (sym is) refl in
+    let file : ShowsFile (seen a.state) staged = may.there (seen a.state) shown in
+    may_call_allowed a.state (Rename staged at) (
+      may.below_base,
+      λ none. (let both : NoEntry ≡ FileOf (file.0) = sym none ∙ file.1 in cc),
+      may.apart.apart,
+      elim (may.place (seen a.state) shown) as (λ _. ShowsFree (seen a.state) at ⊎ (ShowsFile (seen a.state) staged × ShowsFile (seen a.state) at)) [
+        | inl free ↦ inl free
+        | inr there ↦ inr (file, there)
+      ],
+    )
+
+-- as it may be, once it is staged
+pub may_publish_staged : (staged at : Path) (bytes : List ℕ) (t0 t1 : Option Told) → MayPublish t0 staged at → FromTo (Staging (bytes ∷ []) staged) t0 t1
+    → FromTo (λ a b. IsNewFile bytes a.state b.state (present b.state staged)) t0 t1 → MayPublishStaged t1 staged at
+may_publish_staged staged at bytes t0 t1 may stages new = record {
+  below_base = may.stage.below_base;
+  there = λ v is. (bytes, new_file_seen staged (record { now = bytes; kept = bytes }) t0 t1 new v is);
+  place = file_place_shown t1 at (kept t0 t1 stages (file_place_seen t0 at may.place));
+  apart = may.apart;
+}
+  where
+    kept : (t0 t1 : Option Told) → FromTo (Staging (bytes ∷ []) staged) t0 t1 → IfSome t0 (λ a. IsFilePlace (present a.state) at) → IfSome t1 (λ a. IsFilePlace (present a.state) at)
+    kept None None stages place = tt
+    kept (Some a) (Some b) stages place = place_stays staged at bytes may.apart.apart a.state b.state (staging_so_far (bytes ∷ []) staged a b stages).others place
+    kept None (Some b) stages place = absurd stages
+    kept (Some a) None stages place = absurd stages
+
 module _ (staged at : Path) (bytes : List ℕ) (apart : below staged at ≡ None) where
-  pub published_from : (t0 t1 t2 : Option Told) (result : Result (Unit {0}) FolderFault) → below at staged ≡ None
+  published_from : (t0 t1 t2 : Option Told) (result : Result (Unit {0}) FolderFault) → below at staged ≡ None
       → ((a : Told) → t0 ≡ Some a → IsSound a.state) → ((a : Told) → t1 ≡ Some a → IsSound a.state)
       → FromTo (IsStagedFile staged bytes) t0 t1 → Changes (Rename staged at) t1 t2 result
       → OnOk result (FromTo (λ a b. IsPublished staged at bytes a.state b.state) t0 t2)
@@ -54,3 +88,12 @@ module _ (staged at : Path) (bytes : List ℕ) (apart : below staged at ≡ None
       from_to_more (λ a b. Replacing staged at bytes a b × IsPublished staged at bytes a.state b.state) (IsRenamed staged at bytes) t0 t1
       (λ a b is h. record { went = h.0; published = h.1.published; new = h.1.new; gone = h.1.gone })
       (from_to_both (Replacing staged at bytes) (λ a b. IsPublished staged at bytes a.state b.state) t0 t1 went published)
+
+pub publishes_staged : (staged at : Path) (t u : Option Told) (result : Result (Unit {0}) FolderFault) → ArePlacesApart staged at → ((a : Told) → t ≡ Some a → IsSound a.state)
+    → Changes (Rename staged at) t u result → PublishesStaged staged at t u result
+publishes_staged staged at t u result apart sound_now changes before bytes sound stages new =
+    let so_far : FromTo (IsStagedFile staged bytes) before t =
+    from_to_both (Staging (bytes ∷ []) staged) (λ a b. IsNewFile bytes a.state b.state (present b.state staged)) before t stages new in (
+      renaming_from staged at bytes apart.apart before t u result apart.beside sound sound_now so_far changes,
+      published_from staged at bytes apart.apart before t u result apart.beside sound sound_now so_far changes,
+    )

@@ -1,6 +1,6 @@
+mod Pieces
 mod Exits
 mod Pairs
-mod Pieces
 mod Wholes
 mod Removals
 mod Emptying

@@ -6,7 +6,7 @@ use Rattle.folder_spec.specs.Path.{Part, Path, below, parent, child}
 use Rattle.folder_spec.specs.State.{State, present, IsSound}
 use Rattle.folder_spec.specs.Event.{IsFilePlace, Told, FromTo}
 use Rattle.folder_spec.specs.Moments.{Went}
-use Rattle.folder_spec.specs.Region.{apart_from_both, SparesOld}
+use Rattle.folder_spec.specs.Region.{apart_from, apart_from_both, SparesOld}
 use Rattle.folder_spec.specs.Replace.{IsReplacing, HasReplaced}
 use Rattle.folder_spec.specs.Edit.{file_edit, Publishes, HasSettled}
 use Rattle.folder_spec.proofs.Paths.{below-parent, child_of_parent, begins_or_not}
@@ -64,14 +64,14 @@ module _ (staged side : Path) (side_bytes : List ℕ) (at : Path) (bytes : List 
   first_leg a0 a went =
       went_more (IsReplacing staged side side_bytes a0.state) (Publishes staged (side_and_file side side_bytes at bytes) a0.state)
       (λ s e. SparesOld (apart_from_both staged side) a0.state s e.call) (λ s e. Unit {0}) a0 a
-      (λ s h. publishes_more staged (file_edit side side_bytes ∷ []) (file_edit at bytes ∷ []) a0.state s h.publishes) (λ s e h. tt) went
+      (λ s h. publishes_more (apart_from staged) (file_edit side side_bytes ∷ []) (file_edit at bytes ∷ []) a0.state s h.publishes) (λ s e h. tt) went
 
   second_leg : (a0 a1 a : Told) → IsPublished staged side side_bytes a0.state a1.state → Replacing staged at bytes a1 a
       → Went (Publishes staged (side_and_file side side_bytes at bytes) a0.state) (λ s e. Unit {0}) a1 a
   second_leg a0 a1 a first went =
       went_more (IsReplacing staged at bytes a1.state) (Publishes staged (side_and_file side side_bytes at bytes) a0.state)
       (λ s e. SparesOld (apart_from_both staged at) a1.state s e.call) (λ s e. Unit {0}) a1 a
-      (λ s h. publishes_joined staged (file_edit side side_bytes ∷ []) (file_edit at bytes ∷ []) a0.state a1.state s first.published h.publishes) (λ s e h. tt) went
+      (λ s h. publishes_joined (apart_from staged) (file_edit side side_bytes ∷ []) (file_edit at bytes ∷ []) a0.state a1.state s first.published h.publishes) (λ s e h. tt) went
 
   pub pair_first : (t0 t1 : Option Told) → FromTo (Replacing staged side side_bytes) t0 t1 → FromTo Pairing t0 t1
   pair_first t0 t1 went = from_to_more (Replacing staged side side_bytes) Pairing t0 t1 (λ a b is. first_leg a b) went
@@ -91,7 +91,7 @@ module _ (staged side : Path) (side_bytes : List ℕ) (at : Path) (bytes : List 
       from_to_on (λ a b. IsPublished staged side side_bytes a.state b.state) (λ a b. HasReplaced staged at bytes a.state b.state)
       (λ a b. HasSettled staged (side_and_file side side_bytes at bytes) a.state b.state) t0 t1 t2
       (λ a0 a1 a h then_. record {
-        published = published_joined staged (file_edit side side_bytes ∷ []) (file_edit at bytes ∷ []) a0.state a1.state a.state h.published then_.published.published;
+        published = published_joined (apart_from staged) (file_edit side side_bytes ∷ []) (file_edit at bytes ∷ []) a0.state a1.state a.state h.published then_.published.published;
         settled = then_.published.settled;
       }) first second
 

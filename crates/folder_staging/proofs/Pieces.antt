@@ -53,15 +53,16 @@ finishes_from at t u (Ok done) changes before files bytes h = (
       (synced_from files at before t u (record { now = bytes; kept = [] }) (as_staged files at bytes before t h) changes),
 )
 
--- a file that is being written is seen
+-- a new file is seen
+pub new_file_seen : (at : Path) (node : Node) (before now : Option Told) → FromTo (λ a b. IsNewNode node a.state b.state (present b.state at)) before now
+    → (v : View) → IsSeen now v → v at ≡ FileOf node.now
+new_file_seen at node (Some a) (Some b) file v is =
+    ap (λ w. w at) is ∙ ap (found (λ n. (b.state.nodes n).now)) file.is ∙ ap (λ (x : Node). FileOf x.now) file.holds
+new_file_seen at node None (Some b) file v is = absurd file
+new_file_seen at node before None file v is = absurd is
+
 pub writing_seen : (files : List (List ℕ)) (at : Path) (bytes : List ℕ) (before now : Option Told) → IsWriting files at bytes before now → (v : View) → IsSeen now v → v at ≡ FileOf bytes
-writing_seen files at bytes before now h v is = at_now before now h.file is
-  where
-    at_now : (before now : Option Told) → FromTo (λ a b. IsNewNode (record { now = bytes; kept = [] }) a.state b.state (present b.state at)) before now → IsSeen now v → v at ≡ FileOf bytes
-    at_now (Some a) (Some b) file is =
-        ap (λ w. w at) is ∙ ap (found (λ n. (b.state.nodes n).now)) file.is ∙ ap (λ (node : Node). FileOf node.now) file.holds
-    at_now None (Some b) file is = absurd file
-    at_now before None file is = absurd is
+writing_seen files at bytes before now h v is = new_file_seen at (record { now = bytes; kept = [] }) before now h.file v is
 
 -- so a call on it is allowed
 pub file_allowed : (t : Option Told) (at : Path) → ((v : View) → IsSeen t v → ShowsFile v at) → (a : Told) → t ≡ Some a → Allowed a.state (Sync at)

@@ -1,7 +1,7 @@
--- A folder is begun, gains files, and is published.
+-- A folder is begun, gains files and directories, and is published.
+use mathlib.Core.Path.{fun_ext}
 use Rattle.std.proofs.Common.{◌≡◌, ℕ, ◌<◌, ◌≤◌, Bool, true, false, cond, bytes_eq, List, [], ◌∷◌, ◌++◌, Option, Some, None, Result, Ok, Err, OnOk, refl, sym, ap, ◌∙◌, subst, inl, inr, arith, append-nil, append_assoc, nat_lt, ltb-true, ltb-false, IsTrue}
 use Rattle.std.specs.Cmp.{first_so, second_so}
-use Rattle.std.proofs.lemmas.Slice.Eq.{bytes_eq-Decides}
 use Rattle.folder_spec.specs.declared.FolderFault.{FolderFault}
 use Rattle.folder_spec.specs.declared.Spot.{Spot}
 use Rattle.folder_spec.specs.declared.Spot.TheVariants.{Nothing, Directory, FileNode, Odd}
@@ -14,18 +14,18 @@ use Rattle.folder_spec.specs.Written.{IsFrontOfOne, HoldFronts}
 use Rattle.folder_spec.specs.Replace.{IsNewFile, IsStaging}
 use Rattle.folder_spec.specs.View.{NoEntry, Folder, FileOf, View, found}
 use Rattle.folder_spec.specs.Seen.{seen, IsSeen, ShowsFree}
-use Rattle.folder_spec.specs.Edit.{file_among, folder_view, folder_edit, IsStagedView, HasPublished}
-use Rattle.folder_spec.proofs.Paths.{below-append, below-sibling, below-apart, append-cancel, begins_or_not, not_below}
+use Rattle.folder_spec.specs.Edit.{Edit, grafted, edited, directory_view, directory_edit, file_among, file_view, file_edit, folder_view, IsStagedView, HasPublished}
+use Rattle.folder_spec.proofs.Paths.{below-append, below-both, begins_or_not, not_below}
 use Rattle.folder_spec.proofs.Tables.{put-same, put-other, present_is_table, last_of-push}
 use Rattle.folder_spec.proofs.Regions.{as_before, as_before_on}
 use Rattle.folder_spec.proofs.Replaces.{apart-below, apart-not_same, apart-from_below}
 use Rattle.folder_spec.proofs.Moments.{went_on, went_by_call, went_more, went_to}
 use Rattle.folder_spec.proofs.Tellings.{from_to_both, from_to_more, from_to_on}
 use Rattle.folder_spec.proofs.Seen.{free_seen, may_call_allowed}
-use Rattle.folder_spec.proofs.Edits.{nothing_below_file, publishes_nothing, published}
-use Rattle.folder_spec.proofs.Stages.{Staging, spares_within}
+use Rattle.folder_spec.proofs.Edits.{nothing_below_file, publishes_nothing, published, at_edit, off_edit}
+use Rattle.folder_spec.proofs.Stages.{Staging, spares_within, new_file_view}
 use Rattle.folder_staging.specs.Pieces.{Stages}
-use Rattle.folder_staging.specs.Folders.{IsStagingFolder, StagesFolder, IsStagedFolder, BeginsFolder, MayPublishFolder, IsPublishingFolder, PublishesFolder}
+use Rattle.folder_staging.specs.Folders.{IsStagingFolder, StagesFolder, HasStaged, IsStagedFolder, BeginsFolder, MayPublishFolder, IsPublishingFolder, PublishesFolder}
 
 abbrev StagingFolder : List (List ℕ) → Path → Told → Told → Type 0
 StagingFolder fronts at a b = Went (IsStagingFolder fronts at a.state) (λ s e. SparesOld (apart_from at) a.state s e.call) a b
@@ -86,10 +86,10 @@ begins_folder at t u (Ok done) sound changes fronts =
       },
     )
 
--- A file is staged in it.
-inside_apart : (at : Path) (name : Part) (q : Path) → IsTrue (apart_from at q) → IsTrue (apart_from (child at name) q)
-inside_apart at name q apart = apart-from_below (child at name) q (elim (begins_or_not (child at name) q) as (λ _. below (child at name) q ≡ None) [
-  | inl k ↦ absurd (not_below at (name ∷ k.0) (ap (below at) (sym (append_assoc at (name ∷ []) k.0)) ∙ ap (below at) (sym k.1) ∙ apart-below at q apart))
+-- Something is staged in it.
+inside_apart : (at rest q : Path) → IsTrue (apart_from at q) → IsTrue (apart_from (at ++ rest) q)
+inside_apart at rest q apart = apart-from_below (at ++ rest) q (elim (begins_or_not (at ++ rest) q) as (λ _. below (at ++ rest) q ≡ None) [
+  | inl k ↦ absurd (not_below at (rest ++ k.0) (ap (below at) (sym (k.1 ∙ append_assoc at rest k.0)) ∙ apart-below at q apart))
   | inr none ↦ none
 ])
 
@@ -113,10 +113,10 @@ fronts_then files s0 s1 s first second stay n new made = elim (nat_lt n s1.made)
   | false ↦ λ e. second n (ltb-false n s1.made e) made
 ] refl
 
-staging_then : (fronts : List (List ℕ)) (at : Path) (name : Part) (s0 s1 s : State) → IsStagingFolder fronts at s0 s1 → IsStaging fronts (child at name) s1 s
+staging_then : (fronts : List (List ℕ)) (at rest : Path) (s0 s1 s : State) → IsStagingFolder fronts at s0 s1 → IsStagingFolder fronts (at ++ rest) s1 s
     → IsStagingFolder fronts at s0 s
-staging_then fronts at name s0 s1 s first second = record {
-  others = as_before_then (apart_from at) (apart_from (child at name)) s0 s1 s (inside_apart at name) first.others second.others;
+staging_then fronts at rest s0 s1 s first second = record {
+  others = as_before_then (apart_from at) (apart_from (at ++ rest)) s0 s1 s (inside_apart at rest) first.others second.others;
   fronts = fronts_then fronts s0 s1 s first.fronts second.fronts second.others.nodes;
 }
 
@@ -130,164 +130,187 @@ new_of_more made more s (Rename old new) le h = tt
 new_of_more made more s (RemoveFile p) le h = tt
 new_of_more made more s (RemoveDir p) le h = tt
 
-gains_run : (fronts : List (List ℕ)) (at : Path) (name : Part) (a b c : Told) → StagingFolder fronts at a b → Staging fronts (child at name) b c → StagingFolder fronts at a c
-gains_run fronts at name a b c first second =
+gains_run : (fronts : List (List ℕ)) (at rest : Path) (a b c : Told) → StagingFolder fronts at a b → StagingFolder fronts (at ++ rest) b c → StagingFolder fronts at a c
+gains_run fronts at rest a b c first second =
     let so_far : IsStagingFolder fronts at a.state b.state = went_to (IsStagingFolder fronts at a.state) (λ s e. SparesOld (apart_from at) a.state s e.call) a b first in
     went_on (IsStagingFolder fronts at a.state) (λ s e. SparesOld (apart_from at) a.state s e.call) a b c first
-    (went_more (IsStaging fronts (child at name) b.state) (IsStagingFolder fronts at a.state) (λ s e. SparesOld (apart_from (child at name)) b.state s e.call)
-    (λ s e. SparesOld (apart_from at) a.state s e.call) b c (λ s h. staging_then fronts at name a.state b.state s so_far h)
+    (went_more (IsStagingFolder fronts (at ++ rest) b.state) (IsStagingFolder fronts at a.state) (λ s e. SparesOld (apart_from (at ++ rest)) b.state s e.call)
+    (λ s e. SparesOld (apart_from at) a.state s e.call) b c (λ s h. staging_then fronts at rest a.state b.state s so_far h)
     (λ s e h. (
-      spares_within (apart_from at) (apart_from (child at name)) (inside_apart at name) e.call h.0,
+      spares_within (apart_from at) (apart_from (at ++ rest)) (inside_apart at rest) e.call h.0,
       new_of_more a.state.made b.state.made s e.call so_far.others.made h.1,
     )) second)
 
+-- a file is
+pub file_in_folder : (fronts : List (List ℕ)) (at : Path) (before now : Option Told) → Stages fronts at before now → StagesFolder fronts at before now
+file_in_folder fronts at before now stages =
+    from_to_more (Staging fronts at) (StagingFolder fronts at) before now
+    (λ a b is went. went_more (IsStaging fronts at a.state) (IsStagingFolder fronts at a.state) (λ s e. SparesOld (apart_from at) a.state s e.call)
+    (λ s e. SparesOld (apart_from at) a.state s e.call) a b (λ s h. record { others = h.others; fronts = h.fronts }) (λ s e h. h) went) stages
+
 -- What stands elsewhere in it is as it was.
-module _ (fronts : List (List ℕ)) (at : Path) (name : Part) (bytes : List ℕ) (files : List (Part × List ℕ)) (s1 s : State) (sound1 : IsSound s1) (sound : IsSound s)
-    (before : IsStagedView s1 (present s1) at (folder_view files)) (staging : IsStaging fronts (child at name) s1 s)
-    (file : IsNewFile bytes s1 s (present s (child at name))) where
+module _ (at rest : Path) (made inner : View) (s1 s : State) (sound1 : IsSound s1) (before : IsStagedView s1 (present s1) at made)
+    (others : IsAsBefore (apart_from (at ++ rest)) s1 s) (staged : IsStagedView s (present s) (at ++ rest) inner) where
   spot_seen : (x : Spot) → ((n : ℕ) → x ≡ FileNode n → n < s1.made) → found (λ n. (s.nodes n).now) x ≡ found (λ n. (s1.nodes n).now) x
-  spot_seen Nothing made = refl
-  spot_seen Directory made = refl
-  spot_seen Odd made = refl
-  spot_seen (FileNode n) made = ap (λ (node : Node). FileOf node.now) (staging.others.nodes n (made n refl))
+  spot_seen Nothing made_ = refl
+  spot_seen Directory made_ = refl
+  spot_seen Odd made_ = refl
+  spot_seen (FileNode n) made_ = ap (λ (node : Node). FileOf node.now) (others.nodes n (made_ n refl))
 
   was_made : (q : Path) (n : ℕ) → present s1 q ≡ FileNode n → n < s1.made
   was_made q n here = (sound1.tables (present s1) (present_is_table s1)).is_made q n here
 
-  elsewhere : (q : Path) → below (child at name) q ≡ None → found (λ n. (s.nodes n).now) (present s q) ≡ found (λ n. (s1.nodes n).now) (present s1 q)
-  elsewhere q apart =
-      ap (found (λ n. (s.nodes n).now)) (staging.others.seen q (apart-from_below (child at name) q apart)) ∙ spot_seen (present s1 q) (was_made q)
+  alike : (q : Path) → below rest q ≡ None → present s (at ++ q) ≡ present s1 (at ++ q)
+  alike q apart = others.seen (at ++ q) (apart-from_below (at ++ rest) (at ++ q) (below-both at rest q ∙ apart))
 
-  clean_elsewhere : (rest : Path) (n : ℕ) → below (child at name) (at ++ rest) ≡ None → present s (at ++ rest) ≡ FileNode n → IsClean (s.nodes n)
-  clean_elsewhere rest n apart here =
-      let was : present s1 (at ++ rest) ≡ FileNode n = sym (staging.others.seen (at ++ rest) (apart-from_below (child at name) (at ++ rest) apart)) ∙ here in
-      subst IsClean (sym (staging.others.nodes n (was_made (at ++ rest) n was))) (before.clean rest n was)
+  there : (q k : Path) → q ≡ rest ++ k → present s (at ++ q) ≡ present s ((at ++ rest) ++ k)
+  there q k is = ap (present s) (ap (λ r. at ++ r) is ∙ sym (append_assoc at rest k))
 
-  itself_apart : below (child at name) (at ++ []) ≡ None
-  itself_apart = elim (begins_or_not (child at name) (at ++ [])) [
-    | inl k ↦ absurd (
-        let longer : at ++ [] ≡ at ++ (name ∷ k.0) = k.1 ∙ append_assoc at (name ∷ []) k.0 in
-        let same : [] ≡ name ∷ k.0 = append-cancel at [] (name ∷ k.0) longer in
-        cc)
-    | inr none ↦ none
-  ]
+  abbrev grafted_on : Edit
+  grafted_on = record { at = rest; made = inner }
 
-  other_apart : (a : Part) (rest : Path) → bytes_eq name a ≡ false → bytes_eq a name ≡ false → below (child at name) (at ++ a ∷ rest) ≡ None
-  other_apart a rest e e' =
-      ap (below (child at name)) (sym (append_assoc at (a ∷ []) rest))
-      ∙ below-apart (child at name) (child at a) rest (below-sibling at name a e) (below-sibling at a name e')
+  gains_view : IsStagedView s (present s) at (edited made grafted_on)
+  gains_view = record {
+    shown = λ q. elim (begins_or_not rest q) as (λ _. found (λ n. (s.nodes n).now) (present s (at ++ q)) ≡ edited made grafted_on q) [
+      | inl k ↦ ap (found (λ n. (s.nodes n).now)) (there q k.0 k.1) ∙ staged.shown k.0 ∙ sym (at_edit made grafted_on q k.0 k.1)
+      | inr none ↦
+          ap (found (λ n. (s.nodes n).now)) (alike q none) ∙ spot_seen (present s1 (at ++ q)) (was_made (at ++ q)) ∙ before.shown q ∙ sym (off_edit made grafted_on q none)
+    ];
+    clean = λ q n here. elim (begins_or_not rest q) as (λ _. IsClean (s.nodes n)) [
+      | inl k ↦ staged.clean k.0 n (sym (there q k.0 k.1) ∙ here)
+      | inr none ↦
+          let was : present s1 (at ++ q) ≡ FileNode n = sym (alike q none) ∙ here in
+          subst IsClean (sym (others.nodes n (was_made (at ++ q) n was))) (before.clean q n was)
+    ];
+  }
 
-  flipped : (a : Part) → bytes_eq name a ≡ false → bytes_eq a name ≡ false
-  flipped a e = elim (bytes_eq a name) as (λ b. bytes_eq a name ≡ b → b ≡ false) [
-    | true ↦ λ same.
-        let one : name ≡ a = sym ((bytes_eq-Decides a name).0 same) in
-        let yes_ : bytes_eq name a ≡ true = (bytes_eq-Decides name a).1 one in
-        sym yes_ ∙ e
-    | false ↦ λ e'. refl
-  ] refl
-
-  new_seen : found (λ n. (s.nodes n).now) (present s (child at name)) ≡ FileOf bytes
-  new_seen = ap (found (λ n. (s.nodes n).now)) file.is ∙ ap (λ (node : Node). FileOf node.now) file.holds
-
-  none_below : (b : Part) (rest : Path) → present s (child at name ++ b ∷ rest) ≡ Nothing
-  none_below b rest =
-      nothing_below_file s.made (present s) (sound.tables (present s) (present_is_table s)) (child at name) b rest
-      (λ dir. let both : FileNode file.number ≡ Directory = sym file.is ∙ dir in cc)
-
-  there : (a : Part) (rest : Path) → a ≡ name → found (λ n. (s.nodes n).now) (present s (at ++ a ∷ rest)) ≡ folder_view ((name, bytes) ∷ files) (a ∷ rest)
-  there a [] same =
-      ap (λ b. found (λ n. (s.nodes n).now) (present s (child at b))) same ∙ new_seen
-      ∙ sym (ap (λ b. cond b (FileOf bytes) (file_among files a)) ((bytes_eq-Decides name a).1 (sym same)))
-  there a (b ∷ rest) same =
-      ap (found (λ n. (s.nodes n).now)) (ap (present s) (ap (λ c. at ++ c ∷ b ∷ rest) same ∙ sym (append_assoc at (name ∷ []) (b ∷ rest))) ∙ none_below b rest)
-
-  others_view : (a : Part) (rest : Path) → bytes_eq name a ≡ false → folder_view files (a ∷ rest) ≡ folder_view ((name, bytes) ∷ files) (a ∷ rest)
-  others_view a [] e = sym (ap (λ b. cond b (FileOf bytes) (file_among files a)) e)
-  others_view a (b ∷ rest) e = refl
-
-  shown : (rest : Path) → found (λ n. (s.nodes n).now) (present s (at ++ rest)) ≡ folder_view ((name, bytes) ∷ files) rest
-  shown [] = elsewhere (at ++ []) itself_apart ∙ before.shown []
-  shown (a ∷ rest) = elim (bytes_eq name a) as (λ b. bytes_eq name a ≡ b → found (λ n. (s.nodes n).now) (present s (at ++ a ∷ rest)) ≡ folder_view ((name, bytes) ∷ files) (a ∷ rest)) [
-    | true ↦ λ e. there a rest (sym ((bytes_eq-Decides name a).0 e))
-    | false ↦ λ e. elsewhere (at ++ a ∷ rest) (other_apart a rest e (flipped a e)) ∙ before.shown (a ∷ rest) ∙ others_view a rest e
-  ] refl
-
-  clean_there : (rest : Path) (n : ℕ) → present s (child at name ++ rest) ≡ FileNode n → IsClean (s.nodes n)
-  clean_there [] n here =
-      let one : FileNode file.number ≡ FileNode n = sym file.is ∙ ap (present s) (sym (append-nil (child at name))) ∙ here in
-      let same : file.number ≡ n = cc one in
-      subst (λ k. IsClean (s.nodes k)) same (subst IsClean (sym file.holds) refl)
-  clean_there (b ∷ rest) n here = absurd (let both : Nothing ≡ FileNode n = sym (none_below b rest) ∙ here in cc)
-
-  clean : (rest : Path) (n : ℕ) → present s (at ++ rest) ≡ FileNode n → IsClean (s.nodes n)
-  clean [] n here = clean_elsewhere [] n itself_apart here
-  clean (a ∷ rest) n here = elim (bytes_eq name a) as (λ b. bytes_eq name a ≡ b → IsClean (s.nodes n)) [
-    | true ↦ λ e.
-        let same : a ≡ name = sym ((bytes_eq-Decides name a).0 e) in
-        clean_there rest n (ap (present s) (append_assoc at (name ∷ []) rest ∙ sym (ap (λ c. at ++ c ∷ rest) same)) ∙ here)
-    | false ↦ λ e. clean_elsewhere (a ∷ rest) n (other_apart a rest e (flipped a e)) here
-  ] refl
-
-  gains_view : IsStagedView s (present s) at (folder_view ((name, bytes) ∷ files))
-  gains_view = record { shown = shown; clean = clean }
-
--- while a file is staged in it
-pub folder_with_file : (fronts : List (List ℕ)) (at : Path) (name : Part) (files : List (Part × List ℕ)) (before mid now : Option Told) → IsStagedFolder fronts at files before mid
-    → Stages fronts (child at name) mid now → StagesFolder fronts at before now
-folder_with_file fronts at name files before mid now h stages =
-    from_to_on (StagingFolder fronts at) (Staging fronts (child at name)) (StagingFolder fronts at) before mid now (gains_run fronts at name) h.stages stages
+-- while it is staged
+pub folder_with : (fronts : List (List ℕ)) (at rest : Path) (made : View) (before mid now : Option Told) → HasStaged fronts at made before mid
+    → StagesFolder fronts (at ++ rest) mid now → StagesFolder fronts at before now
+folder_with fronts at rest made before mid now h stages =
+    from_to_on (StagingFolder fronts at) (StagingFolder fronts (at ++ rest)) (StagingFolder fronts at) before mid now (gains_run fronts at rest) h.stages stages
 
 -- and once it is there
-pub folder_gains_file : (fronts : List (List ℕ)) (at : Path) (name : Part) (bytes : List ℕ) (files : List (Part × List ℕ)) (before mid now : Option Told)
+pub folder_gains : (fronts : List (List ℕ)) (at rest : Path) (made inner : View) (before mid now : Option Told) → ((a : Told) → mid ≡ Some a → IsSound a.state)
+    → HasStaged fronts at made before mid → HasStaged fronts (at ++ rest) inner mid now → HasStaged fronts at (edited made (record { at = rest; made = inner })) before now
+folder_gains fronts at rest made inner before mid now sound h then_ = record {
+  stages = folder_with fronts at rest made before mid now h then_.stages;
+  whole = from_to_on (λ a b. IsStagedView b.state (present b.state) at made × IsSound b.state)
+      (λ a b. StagingFolder fronts (at ++ rest) a b × IsStagedView b.state (present b.state) (at ++ rest) inner)
+      (λ a b. IsStagedView b.state (present b.state) at (edited made (record { at = rest; made = inner }))) before mid now
+      (λ a b c k l. gains_view at rest made inner b.state c.state k.1 k.0
+      (went_to (IsStagingFolder fronts (at ++ rest) b.state) (λ s e. SparesOld (apart_from (at ++ rest)) b.state s e.call) b c l.0).others l.1)
+      (sound_after before mid sound h.whole)
+      (from_to_both (StagingFolder fronts (at ++ rest)) (λ a b. IsStagedView b.state (present b.state) (at ++ rest) inner) mid now then_.stages then_.whole);
+}
+  where
+    sound_after : (before mid : Option Told) → ((a : Told) → mid ≡ Some a → IsSound a.state) → FromTo (λ a b. IsStagedView b.state (present b.state) at made) before mid
+        → FromTo (λ a b. IsStagedView b.state (present b.state) at made × IsSound b.state) before mid
+    sound_after None None sound view = tt
+    sound_after (Some a) (Some b) sound view = (view, sound b refl)
+    sound_after None (Some b) sound view = absurd view
+    sound_after (Some a) None sound view = absurd view
+
+-- a file
+file_staged : (fronts : List (List ℕ)) (at : Path) (bytes : List ℕ) (before now : Option Told) → ((a : Told) → now ≡ Some a → IsSound a.state) → Stages fronts at before now
+    → FromTo (λ a b. IsNewFile bytes a.state b.state (present b.state at)) before now → HasStaged fronts at (file_view bytes) before now
+file_staged fronts at bytes before now sound stages file = record {
+  stages = file_in_folder fronts at before now stages;
+  whole = view before now sound file;
+}
+  where
+    view : (before now : Option Told) → ((a : Told) → now ≡ Some a → IsSound a.state) → FromTo (λ a b. IsNewFile bytes a.state b.state (present b.state at)) before now
+        → FromTo (λ a b. IsStagedView b.state (present b.state) at (file_view bytes)) before now
+    view None None sound file = tt
+    view (Some a) (Some b) sound file = new_file_view at bytes a.state b.state (sound b refl) file
+    view None (Some b) sound file = absurd file
+    view (Some a) None sound file = absurd file
+
+pub folder_gains_file : (fronts : List (List ℕ)) (at rest : Path) (bytes : List ℕ) (made : View) (before mid now : Option Told)
+    → ((a : Told) → mid ≡ Some a → IsSound a.state) → ((a : Told) → now ≡ Some a → IsSound a.state) → HasStaged fronts at made before mid
+    → Stages fronts (at ++ rest) mid now → FromTo (λ a b. IsNewFile bytes a.state b.state (present b.state (at ++ rest))) mid now
+    → HasStaged fronts at (edited made (file_edit rest bytes)) before now
+folder_gains_file fronts at rest bytes made before mid now sound_mid sound_now h stages file =
+    folder_gains fronts at rest made (file_view bytes) before mid now sound_mid h (file_staged fronts (at ++ rest) bytes mid now sound_now stages file)
+
+-- under a name of its own
+named_file : (files : List (Part × List ℕ)) (name : Part) (bytes : List ℕ) → edited (folder_view files) (file_edit (name ∷ []) bytes) ≡ folder_view ((name, bytes) ∷ files)
+named_file files name bytes = fun_ext at
+  where
+    one : (x : Bool) (a : Part) → grafted (folder_view files) (file_edit (name ∷ []) bytes) (a ∷ []) (cond x (Some []) None) ≡ cond x (FileOf bytes) (file_among files a)
+    one true a = refl
+    one false a = refl
+
+    more : (x : Bool) (a b : Part) (q : Path) → grafted (folder_view files) (file_edit (name ∷ []) bytes) (a ∷ b ∷ q) (cond x (Some (b ∷ q)) None) ≡ NoEntry
+    more true a b q = refl
+    more false a b q = refl
+
+    at : (q : Path) → edited (folder_view files) (file_edit (name ∷ []) bytes) q ≡ folder_view ((name, bytes) ∷ files) q
+    at [] = refl
+    at (a ∷ []) = one (bytes_eq name a) a
+    at (a ∷ b ∷ q) = more (bytes_eq name a) a b q
+
+pub folder_gains_named_file : (fronts : List (List ℕ)) (at : Path) (name : Part) (bytes : List ℕ) (files : List (Part × List ℕ)) (before mid now : Option Told)
     → ((a : Told) → mid ≡ Some a → IsSound a.state) → ((a : Told) → now ≡ Some a → IsSound a.state) → IsStagedFolder fronts at files before mid
     → Stages fronts (child at name) mid now → FromTo (λ a b. IsNewFile bytes a.state b.state (present b.state (child at name))) mid now
     → IsStagedFolder fronts at ((name, bytes) ∷ files) before now
-folder_gains_file fronts at name bytes files before mid now sound_mid sound_now h stages file = record {
-  stages = folder_with_file fronts at name files before mid now h stages;
-  whole = whole before mid now sound_mid sound_now h.whole stages file;
-}
+folder_gains_named_file fronts at name bytes files before mid now sound_mid sound_now h stages file =
+    subst (λ view. HasStaged fronts at view before now) (named_file files name bytes)
+    (folder_gains_file fronts at (name ∷ []) bytes (folder_view files) before mid now sound_mid sound_now h stages file)
+
+-- a directory
+pub folder_gains_directory : (fronts : List (List ℕ)) (at rest : Path) (made : View) (before mid now : Option Told) → ((a : Told) → mid ≡ Some a → IsSound a.state)
+    → HasStaged fronts at made before mid → IsStagedFolder fronts (at ++ rest) [] mid now → HasStaged fronts at (edited made (directory_edit rest)) before now
+folder_gains_directory fronts at rest made before mid now sound h then_ =
+    folder_gains fronts at rest made directory_view before mid now sound h (subst (λ view. HasStaged fronts (at ++ rest) view mid now) (fun_ext no_files) then_)
   where
-    whole : (before mid now : Option Told) → ((a : Told) → mid ≡ Some a → IsSound a.state) → ((a : Told) → now ≡ Some a → IsSound a.state)
-        → FromTo (λ a b. IsStagedView b.state (present b.state) at (folder_view files)) before mid → FromTo (Staging fronts (child at name)) mid now
-        → FromTo (λ a b. IsNewFile bytes a.state b.state (present b.state (child at name))) mid now
-        → FromTo (λ a b. IsStagedView b.state (present b.state) at (folder_view ((name, bytes) ∷ files))) before now
-    whole (Some a) (Some b) (Some c) sound_mid sound_now view went file =
-        gains_view fronts at name bytes files b.state c.state (sound_mid b refl) (sound_now c refl) view
-        (went_to (IsStaging fronts (child at name) b.state) (λ s e. SparesOld (apart_from (child at name)) b.state s e.call) b c went) file
-    whole None None None sound_mid sound_now view went file = tt
-    whole None None (Some c) sound_mid sound_now view went file = absurd went
-    whole None (Some b) now sound_mid sound_now view went file = absurd view
-    whole (Some a) None now sound_mid sound_now view went file = absurd view
-    whole (Some a) (Some b) None sound_mid sound_now view went file = absurd went
+    no_files : (q : Path) → folder_view [] q ≡ directory_view q
+    no_files [] = refl
+    no_files (a ∷ []) = refl
+    no_files (a ∷ b ∷ q) = refl
+
+-- what is staged is seen
+pub staged_seen : (fronts : List (List ℕ)) (at : Path) (made : View) (before now : Option Told) → HasStaged fronts at made before now → (v : View) → IsSeen now v → (rest : Path)
+    → v (at ++ rest) ≡ made rest
+staged_seen fronts at made before now h v is rest = at_now before now h.whole is
+  where
+    at_now : (before now : Option Told) → FromTo (λ a b. IsStagedView b.state (present b.state) at made) before now → IsSeen now v → v (at ++ rest) ≡ made rest
+    at_now (Some a) (Some b) view is = ap (λ w. w (at ++ rest)) is ∙ view.shown rest
+    at_now None (Some b) view is = absurd view
+    at_now before None view is = absurd is
 
 -- It is published.
-module _ (fronts : List (List ℕ)) (staged at : Path) (files : List (Part × List ℕ)) (apart : below staged at ≡ None) where
+module _ (fronts : List (List ℕ)) (staged at : Path) (made : View) (apart : below staged at ≡ None) where
+  abbrev comes : Edit
+  comes = record { at = at; made = made }
+
   abbrev PublishingFolder : Told → Told → Type 0
-  PublishingFolder a b = Went (IsPublishingFolder fronts staged at files a.state) (λ s e. SparesOld (apart_from_both staged at) a.state s e.call) a b
+  PublishingFolder a b = Went (IsPublishingFolder fronts staged comes a.state) (λ s e. SparesOld (apart_from_both staged at) a.state s e.call) a b
+
+  abbrev StagedFolder : Told → Told → Type 0
+  StagedFolder a b = StagingFolder fronts staged a b × IsStagedView b.state (present b.state) staged made
 
   so_far_published : (a b : Told) → IsSound a.state → StagingFolder fronts staged a b → PublishingFolder a b
   so_far_published a b sound went =
-      went_more (IsStagingFolder fronts staged a.state) (IsPublishingFolder fronts staged at files a.state) (λ s e. SparesOld (apart_from staged) a.state s e.call)
+      went_more (IsStagingFolder fronts staged a.state) (IsPublishingFolder fronts staged comes a.state) (λ s e. SparesOld (apart_from staged) a.state s e.call)
       (λ s e. SparesOld (apart_from_both staged at) a.state s e.call) a b
-      (λ s h. record { publishes = publishes_nothing staged (folder_edit at files ∷ []) a.state s sound h.others; fronts = h.fronts })
+      (λ s h. record { publishes = publishes_nothing (apart_from staged) (comes ∷ []) a.state s sound h.others; fronts = h.fronts })
       (λ s e h. (spares_within (apart_from_both staged at) (apart_from staged) (λ q inside. first_so (apart_from staged q) (apart_from at q) inside) e.call h.0, h.1)) went
 
-  has_published : (a b : Told) → IsSound a.state → StagingFolder fronts staged a b → IsStagedView b.state (present b.state) staged (folder_view files)
-      → HasPublished staged (folder_edit at files ∷ []) a.state (changed b.state (Rename staged at))
-  has_published a b sound went view =
-      published staged staged (folder_edit at files) a.state b.state sound
-      (went_to (IsStagingFolder fronts staged a.state) (λ s e. SparesOld (apart_from staged) a.state s e.call) a b went).others (apart-below staged) view
+  has_published : (a b : Told) → IsSound a.state → StagedFolder a b → HasPublished staged (comes ∷ []) a.state (changed b.state (Rename staged at))
+  has_published a b sound h =
+      published (apart_from staged) staged comes a.state b.state sound
+      (went_to (IsStagingFolder fronts staged a.state) (λ s e. SparesOld (apart_from staged) a.state s e.call) a b h.0).others (apart-below staged) h.1
 
-  publish_run : (a b c : Told) (result : Result (Unit {0}) FolderFault) → IsSound a.state → StagingFolder fronts staged a b
-      → IsStagedView b.state (present b.state) staged (folder_view files) → Steps (Rename staged at) b c result → PublishingFolder a c
-  publish_run a b c result sound went view steps =
-      let P : State → Type 0 = IsPublishingFolder fronts staged at files a.state in
+  publish_run : (a b c : Told) (result : Result (Unit {0}) FolderFault) → IsSound a.state → StagedFolder a b → Steps (Rename staged at) b c result → PublishingFolder a c
+  publish_run a b c result sound h steps =
+      let P : State → Type 0 = IsPublishingFolder fronts staged comes a.state in
       let Q : State → Event → Type 0 = λ s e. SparesOld (apart_from_both staged at) a.state s e.call in
-      let first : PublishingFolder a b = so_far_published a b sound went in
+      let first : PublishingFolder a b = so_far_published a b sound h.0 in
       let here : P b.state = went_to P Q a b first in
       went_on P Q a b c first
       (went_by_call P Q (Rename staged at) b c result here
-      (λ allowed. record { publishes = (has_published a b sound went view).publishes; fronts = here.fronts }) (λ added allowed. here)
+      (λ allowed. record { publishes = (has_published a b sound h).publishes; fronts = here.fronts }) (λ added allowed. here)
       (λ outcome. (
         λ q inside. (
           apart-below at q (second_so (apart_from staged q) (apart_from at q) inside),
@@ -298,28 +321,26 @@ module _ (fronts : List (List ℕ)) (staged at : Path) (files : List (Part × Li
 
 pub publishes_folder : (staged at : Path) (t u : Option Told) (result : Result (Unit {0}) FolderFault) → below staged at ≡ None → Changes (Rename staged at) t u result
     → PublishesFolder staged at t u result
-publishes_folder staged at t u result apart changes before fronts files sound h = (
-  from_to_on (λ a b. (StagingFolder fronts staged a b × IsStagedView b.state (present b.state) staged (folder_view files)) × IsSound a.state)
-      (λ a b. Steps (Rename staged at) a b result) (PublishingFolder fronts staged at files apart) before t u
-      (λ a b c k steps. publish_run fronts staged at files apart a b c result k.1 k.0.0 k.0.1 steps) known changes,
+publishes_folder staged at t u result apart changes before fronts made sound h = (
+  from_to_on (λ a b. StagedFolder fronts staged at made apart a b × IsSound a.state) (λ a b. Steps (Rename staged at) a b result)
+      (PublishingFolder fronts staged at made apart) before t u
+      (λ a b c k steps. publish_run fronts staged at made apart a b c result k.1 k.0 steps) known changes,
   by_result result changes,
 )
   where
-    known : FromTo (λ a b. (StagingFolder fronts staged a b × IsStagedView b.state (present b.state) staged (folder_view files)) × IsSound a.state) before t
+    known : FromTo (λ a b. StagedFolder fronts staged at made apart a b × IsSound a.state) before t
     known =
-        from_to_more (λ a b. StagingFolder fronts staged a b × IsStagedView b.state (present b.state) staged (folder_view files))
-        (λ a b. (StagingFolder fronts staged a b × IsStagedView b.state (present b.state) staged (folder_view files)) × IsSound a.state) before t
-        (λ a b is k. (k, sound a is))
-        (from_to_both (StagingFolder fronts staged) (λ a b. IsStagedView b.state (present b.state) staged (folder_view files)) before t h.stages h.whole)
+        from_to_more (StagedFolder fronts staged at made apart) (λ a b. StagedFolder fronts staged at made apart a b × IsSound a.state) before t (λ a b is k. (k, sound a is))
+        (from_to_both (StagingFolder fronts staged) (λ a b. IsStagedView b.state (present b.state) staged made) before t h.stages h.whole)
 
     by_result : (result : Result (Unit {0}) FolderFault) → Changes (Rename staged at) t u result
-        → OnOk result (FromTo (λ a b. HasPublished staged (folder_edit at files ∷ []) a.state b.state) before u)
+        → OnOk result (FromTo (λ a b. HasPublished staged (record { at = at; made = made } ∷ []) a.state b.state) before u)
     by_result (Err fault) changes = tt
     by_result (Ok done) changes =
-        from_to_on (λ a b. (StagingFolder fronts staged a b × IsStagedView b.state (present b.state) staged (folder_view files)) × IsSound a.state)
-        (λ a b. Steps (Rename staged at) a b (Ok done)) (λ a b. HasPublished staged (folder_edit at files ∷ []) a.state b.state) before t u
-        (λ a b c k steps. subst (λ (d : Told). HasPublished staged (folder_edit at files ∷ []) a.state d.state) (sym steps.1)
-        (has_published fronts staged at files apart a b k.1 k.0.0 k.0.1)) known changes
+        from_to_on (λ a b. StagedFolder fronts staged at made apart a b × IsSound a.state) (λ a b. Steps (Rename staged at) a b (Ok done))
+        (λ a b. HasPublished staged (record { at = at; made = made } ∷ []) a.state b.state) before t u
+        (λ a b c k steps. subst (λ (d : Told). HasPublished staged (record { at = at; made = made } ∷ []) a.state d.state) (sym steps.1)
+        (has_published fronts staged at made apart a b k.1 k.0)) known changes
 
 -- the two calls are allowed
 pub free_place : (t : Option Told) (at : Path) → ((v : View) → IsSeen t v → ShowsFree v at) → (a : Told) → t ≡ Some a → Allowed a.state (MakeDir at)

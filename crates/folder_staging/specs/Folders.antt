@@ -1,4 +1,4 @@
--- A folder that is staged whole: a directory, and files in it.
+-- A folder that is staged whole: a directory, with files and directories in it.
 use Rattle.std.specs.Prelude.{◌≡◌, ◌≢◌, ℕ, List, [], ◌∷◌, Option, Some, Result, OnOk}
 use Rattle.folder_spec.specs.declared.FolderFault.{FolderFault}
 use Rattle.folder_spec.specs.Path.{Part, Path}
@@ -9,7 +9,7 @@ use Rattle.folder_spec.specs.Region.{IsAsBefore, SparesOld, apart_from, apart_fr
 use Rattle.folder_spec.specs.Written.{HoldFronts}
 use Rattle.folder_spec.specs.View.{Folder, View}
 use Rattle.folder_spec.specs.Seen.{IsSeen, ShowsFree}
-use Rattle.folder_spec.specs.Edit.{folder_edit, folder_view, IsStagedView, Publishes, HasPublished}
+use Rattle.folder_spec.specs.Edit.{Edit, folder_view, IsStagedView, Publishes, HasPublished}
 use Rattle.folder_staging.specs.Places.{ArePlacesApart}
 
 -- Since s0 a folder is being staged at the path: all else is as it was, and each file that was made holds a front part of one of
@@ -21,10 +21,14 @@ pub record IsStagingFolder (contents : List (List ℕ)) (at : Path) (s0 s : Stat
 abbrev pub StagesFolder : List (List ℕ) → Path → Option Told → Option Told → Type 0
 StagesFolder contents at = Moments (IsStagingFolder contents at) (λ s0 s e. SparesOld (apart_from at) s0 s e.call)
 
--- So far, it has these files, which last through a crash.
-pub record IsStagedFolder (contents : List (List ℕ)) (at : Path) (files : List (Part × List ℕ)) (before now : Option Told) : Type 0 where
+-- So far, what stands there shows this view, and its files last through a crash.
+pub record HasStaged (contents : List (List ℕ)) (at : Path) (made : View) (before now : Option Told) : Type 0 where
   pub stages : StagesFolder contents at before now
-  pub whole : FromTo (λ a b. IsStagedView b.state (present b.state) at (folder_view files)) before now
+  pub whole : FromTo (λ a b. IsStagedView b.state (present b.state) at made) before now
+
+-- a directory with these files
+abbrev pub IsStagedFolder : List (List ℕ) → Path → List (Part × List ℕ) → Option Told → Option Told → Type 0
+IsStagedFolder contents at files before now = HasStaged contents at (folder_view files) before now
 
 -- a call begins one, without files
 abbrev pub BeginsFolder : Path → Option Told → Option Told → Result (Unit {0}) FolderFault → Type 0
@@ -37,15 +41,15 @@ pub record MayPublishFolder (told : Option Told) (staged at : Path) : Type 0 whe
   pub there : (v : View) → IsSeen told v → v staged ≡ Folder
   pub free : (v : View) → IsSeen told v → ShowsFree v at
 
--- Since s0 a folder of these files is being published.
-pub record IsPublishingFolder (contents : List (List ℕ)) (staged at : Path) (files : List (Part × List ℕ)) (s0 s : State) : Type 0 where
-  pub publishes : Publishes staged (folder_edit at files ∷ []) s0 s
+-- Since s0 what was staged is being published by this edit.
+pub record IsPublishingFolder (contents : List (List ℕ)) (staged : Path) (e : Edit) (s0 s : State) : Type 0 where
+  pub publishes : Publishes staged (e ∷ []) s0 s
   pub fronts : HoldFronts contents s0 s
 
--- A call puts it there at once, since whenever it has been staged.
+-- A call puts it there at once, whatever it shows, since whenever it has been staged.
 abbrev pub PublishesFolder : Path → Path → Option Told → Option Told → Result (Unit {0}) FolderFault → Type 0
 PublishesFolder staged at old new result =
-    (before : Option Told) (contents : List (List ℕ)) (files : List (Part × List ℕ)) → ((a : Told) → before ≡ Some a → IsSound a.state)
-    → IsStagedFolder contents staged files before old
-    → Moments (IsPublishingFolder contents staged at files) (λ s0 s e. SparesOld (apart_from_both staged at) s0 s e.call) before new
-    × OnOk result (FromTo (λ a b. HasPublished staged (folder_edit at files ∷ []) a.state b.state) before new)
+    (before : Option Told) (contents : List (List ℕ)) (made : View) → ((a : Told) → before ≡ Some a → IsSound a.state)
+    → HasStaged contents staged made before old
+    → Moments (IsPublishingFolder contents staged (record { at = at; made = made })) (λ s0 s e. SparesOld (apart_from_both staged at) s0 s e.call) before new
+    × OnOk result (FromTo (λ a b. HasPublished staged (record { at = at; made = made } ∷ []) a.state b.state) before new)

@@ -1,5 +1,5 @@
 pub mod Places
-pub mod Published
-pub mod Removal
 pub mod Pieces
+pub mod Published
 pub mod Folders
+pub mod Removal

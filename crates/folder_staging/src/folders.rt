@@ -8,7 +8,8 @@ ghost use Rattle.folder_staging.specs.Folders.{BeginsFolder, MayPublishFolder, P
 use folder_model::{FPath, Folder};
 use folder_spec::FolderFault;
 
-/// Begins a folder at a free place where nothing else looks. Its files are staged in it one by one.
+/// Begins a folder at a free place where nothing else looks, or in a folder that is being staged. Its
+/// files and directories are staged in it one by one.
 pub fn begin_folder<F: Folder>(folder: &mut F, at: &FPath) -> Result<(), FolderFault>
     requires { (v : View) → IsSeen (F.told folder.old) v → ShowsFree v at.now }
     ensures begun { BeginsFolder at.now (F.told folder.old) (F.told folder.new) result }
@@ -17,7 +18,7 @@ pub fn begin_folder<F: Folder>(folder: &mut F, at: &FPath) -> Result<(), FolderF
     folder.make_dir(at)
 }
 
-/// Puts a staged folder at a free place, with all its files at once. The change is still pending
+/// Puts a staged folder at a free place, with all that is in it at once. The change is still pending
 /// afterwards.
 pub fn publish_folder<F: Folder>(
     folder: &mut F,

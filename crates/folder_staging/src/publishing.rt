@@ -6,12 +6,26 @@ ghost use Rattle.folder_spec.specs.Moments.{Moments};
 ghost use Rattle.folder_spec.specs.Replace.{HasReplaced};
 ghost use Rattle.folder_spec.specs.Edit.{Publishes, HasSettled};
 ghost use Rattle.folder_model.specs.Answers.{CountsAbove};
-ghost use Rattle.folder_staging.specs.Places.{MayPublish};
-ghost use Rattle.folder_staging.specs.Published.{Publishing, IsPublished, side_and_file};
+ghost use Rattle.folder_staging.specs.Places.{MayPublish, MayPublishStaged};
+ghost use Rattle.folder_staging.specs.Published.{Publishing, IsPublished, PublishesStaged, side_and_file};
 
 use crate::staging::stage_file;
 use folder_model::{FPath, Folder};
 use folder_spec::FolderFault;
+
+/// Puts a staged file at the path, where nothing or a file stands, at once. The change is still pending
+/// afterwards.
+pub fn publish_staged_file<F: Folder>(
+    folder: &mut F,
+    staged: &FPath,
+    at: &FPath,
+) -> Result<(), FolderFault>
+    requires { MayPublishStaged (F.told folder.old) staged.now at.now }
+    ensures published { PublishesStaged staged.now at.now (F.told folder.old) (F.told folder.new) result }
+    ensures counts { CountsAbove (F.faults folder.old) (F.faults folder.new) result }
+{
+    folder.rename(staged, at)
+}
 
 /// Puts a file with these bytes at the path, where nothing or a file stands. It is staged at the other
 /// path first. The change is still pending afterwards.
@@ -27,7 +41,7 @@ pub fn publish_file<F: Folder>(
     ensures counts { CountsAbove (F.faults folder.old) (F.faults folder.new) result }
 {
     stage_file(folder, staged, bytes)?;
-    folder.rename(staged, at)
+    publish_staged_file(folder, staged, at)
 }
 
 /// Puts a file with these bytes at the path so that it lasts through a crash: published and settled.

@@ -24,16 +24,17 @@ use Rattle.vault_spec.proofs.Places.{other_name}
 pub record StandsAs (f : Format) (v : View) (dir : Directory) (name : List ℕ) (at : Path) (x : Result Directory Lack) : Type 0 where
   pub named : is_name name ≡ true
   pub held : holds_full f v dir (f.stored dir.key name) ≡ true
+  pub item : item_at f v dir (f.stored dir.key name) ≡ DirectoryItem
   pub place : at ≡ entry_at f dir name
   pub entered : directory_with f v (entry_at f dir name) (key_of f (under (entry_at f dir name) v)) ≡ x
 
 by_item : (f : Format) (v : View) (at : Path) (held : Bool) (item : Item) (a : Path) (x : Result Directory Lack) → standing_of f v at held item ≡ Dir a x
-    → (held ≡ true) × (a ≡ at) × (directory_with f v at (key_of f (under at v)) ≡ x)
+    → (held ≡ true) × (item ≡ DirectoryItem) × (a ≡ at) × (directory_with f v at (key_of f (under at v)) ≡ x)
 by_item f v at held Nothing a x e = cc
 by_item f v at false (FileItem rest) a x e = cc
 by_item f v at true (FileItem rest) a x e = cc
 by_item f v at false DirectoryItem a x e = cc
-by_item f v at true DirectoryItem a x e = (refl, cc, cc)
+by_item f v at true DirectoryItem a x e = (refl, refl, cc, cc)
 by_item f v at held (NoItem finding) a x e = cc
 
 pub stands_as : (f : Format) (v : View) (dir : Directory) (name : List ℕ) (at : Path) (x : Result Directory Lack) → standing_in f v dir name ≡ Dir at x → StandsAs f v dir name at x
@@ -42,9 +43,9 @@ stands_as f v dir name at x e = by_name (is_name name) refl
     by_name : (b : Bool) → is_name name ≡ b → StandsAs f v dir name at x
     by_name false is = let absent : Absent ≡ Dir at x = sym (standing_unnamed f v dir name is) ∙ e in cc
     by_name true is =
-        let parts : (holds_full f v dir (f.stored dir.key name) ≡ true) × (at ≡ entry_at f dir name) × (directory_with f v (entry_at f dir name) (key_of f (under (entry_at f dir name) v)) ≡ x)
+        let parts : (holds_full f v dir (f.stored dir.key name) ≡ true) × (item_at f v dir (f.stored dir.key name) ≡ DirectoryItem) × (at ≡ entry_at f dir name) × (directory_with f v (entry_at f dir name) (key_of f (under (entry_at f dir name) v)) ≡ x)
         = by_item f v (entry_at f dir name) (holds_full f v dir (f.stored dir.key name)) (item_at f v dir (f.stored dir.key name)) at x (sym (standing_named f v dir name is) ∙ e) in
-        record { named = is; held = parts.0; place = parts.1; entered = parts.2 }
+        record { named = is; held = parts.0; item = parts.1; place = parts.2; entered = parts.3 }
 
 -- a path to a directory goes through its parent
 record GoesThrough (f : Format) (v : View) (here : Standing) (front : plain.Path) (name : List ℕ) (s : Standing) : Type 0 where

@@ -1,4 +1,4 @@
--- A new item of Cryptomator comes alone: a file by its entry, and a directory after its folders.
+-- A new item of Cryptomator is made: a file by its entry, and a directory after its folders.
 use Rattle.std.proofs.Common.{◌≡◌, ◌≢◌, ℕ, ◌+◌, true, List, [], ◌∷◌, ◌++◌, Ok, Err, cond, refl, sym, ap, ◌∙◌, subst, Some, None, Option, IsTrue, is_some, length, take, drop, length-append, append_assoc}
 use Rattle.std.specs.Option.{option_or, option_and_then}
 use Rattle.std.proofs.lemmas.Slice.Eq.{bytes_eq-Decides}
@@ -17,11 +17,12 @@ use Rattle.vault_spec.specs.Standing.{File, Dir, entry_at, is_file_of, holds, ho
 use Rattle.vault_spec.specs.Opens.{Opened, opened_at, opened_file}
 use Rattle.vault_spec.specs.Opens as opens
 use Rattle.vault_spec.specs.Reached.{Leads}
-use Rattle.vault_spec.specs.Alike.{HasFolders, IsOrderly, IsLeaf}
-use Rattle.vault_spec.specs.Adding.{OpensAs, ComesAlone, NewItemsComeAlone}
-use Rattle.vault_spec.proofs.Grafts.{reached_right, edited_adds, edited_entry, none_stands}
+use Rattle.vault_spec.specs.Alike.{HasFolders, IsLeaf}
+use Rattle.vault_spec.proofs.Lawful.{SparesConfiguration}
+use Rattle.vault_spec.proofs.Grafts.{reached_right, nothing_below, edited_adds, edited_entry, none_stands}
 use Rattle.vault_spec.proofs.PathEnds.{child-both}
-use Rattle.vault_spec.proofs.Places.{SparesAll, IsNoEntry, IsSide, side_opens, brought, brought_there, arrived, IsNew, new_after_side, Arrives, comes_last}
+use Rattle.vault_spec.proofs.Places.{SparesAll, IsNoEntry, IsRooted, leads_from_root, IsSide, brought, brought_there, arrived, IsNew, new_after_side, Arrives, file_folders, folder_folders}
+use Rattle.vault_spec.proofs.MadeItems.{HasOwnFolder, IsMade, MakesItems}
 use Rattle.vault_spec.proofs.CmVault.{CmTexts, cm_lawful}
 
 -- the folder of a reached directory has three parts, and an entry in it four
@@ -75,41 +76,42 @@ text_comes vault u dir name e place (Some text) is brings =
     at_full : dir.folder ++ (cm_stored vault.keys vault.threshold dir.key name).name ∷ full_file ∷ [] ≡ e.at ++ full_file ∷ []
     at_full = sym (append_assoc dir.folder ((cm_stored vault.keys vault.threshold dir.key name).name ∷ []) (full_file ∷ [])) ∙ ap (λ p. p ++ full_file ∷ []) place
 
--- a file arrives by what its edit brings: itself, or a folder with its name and content
+-- a file stands by what its edit brings: itself, or a folder with its name and content
+file_held : (vault : CmVault) (u : View) (dir : Directory) (name bytes : List ℕ) (full : Option (List ℕ)) → (cm_stored vault.keys vault.threshold dir.key name).full ≡ full
+    → holds_full (cm_format vault) (edited u (new_file_edit (entry_at (cm_format vault) dir name) full bytes)) dir (cm_stored vault.keys vault.threshold dir.key name) ≡ true
+file_held vault u dir name bytes None is = text_comes vault u dir name (file_edit (entry_at (cm_format vault) dir name) bytes) refl None is (λ text none. cc)
+file_held vault u dir name bytes (Some text) is =
+    text_comes vault u dir name (folder_edit (entry_at (cm_format vault) dir name) ((full_file, text) ∷ (content_file, bytes) ∷ [])) refl (Some text) is (λ other same. ap FileOf cc)
+
+file_stands : (vault : CmVault) (u : View) (dir : Directory) (name bytes : List ℕ) → IsTrue (is_name name) → (cm_stored vault.keys vault.threshold dir.key name).full ≡ None
+    → standing_in (cm_format vault) (edited u (file_edit (entry_at (cm_format vault) dir name) bytes)) dir name ≡ File (entry_at (cm_format vault) dir name ++ [])
+file_stands vault u dir name bytes named is =
+    arrived (cm_format vault) u dir name (file_edit (entry_at (cm_format vault) dir name) bytes) named refl (file_held vault u dir name bytes None is)
+    ∙ ap (λ o. standing_of (cm_format vault) (edited u (file_edit (entry_at (cm_format vault) dir name) bytes)) (entry_at (cm_format vault) dir name) true (cm_item (is_some o) (file_view bytes))) is
+
+long_file_stands : (vault : CmVault) (u : View) (dir : Directory) (name bytes text : List ℕ) → IsTrue (is_name name) → (cm_stored vault.keys vault.threshold dir.key name).full ≡ Some text
+    → standing_in (cm_format vault) (edited u (folder_edit (entry_at (cm_format vault) dir name) ((full_file, text) ∷ (content_file, bytes) ∷ []))) dir name
+    ≡ File (entry_at (cm_format vault) dir name ++ content_file ∷ [])
+long_file_stands vault u dir name bytes text named is =
+    arrived (cm_format vault) u dir name (folder_edit (entry_at (cm_format vault) dir name) ((full_file, text) ∷ (content_file, bytes) ∷ [])) named refl (file_held vault u dir name bytes (Some text) is)
+    ∙ ap (λ o. standing_of (cm_format vault) (edited u (folder_edit (entry_at (cm_format vault) dir name) ((full_file, text) ∷ (content_file, bytes) ∷ []))) (entry_at (cm_format vault) dir name) true
+    (cm_item (is_some o) (folder_view ((full_file, text) ∷ (content_file, bytes) ∷ [])))) is
+
 pub file_arrives : (vault : CmVault) (u : View) (dir : Directory) (name bytes : List ℕ) (full : Option (List ℕ)) → IsTrue (is_name name) → (cm_stored vault.keys vault.threshold dir.key name).full ≡ full
     → Arrives (cm_format vault) u dir name (new_file_edit (entry_at (cm_format vault) dir name) full bytes) (opened_file (cm_format vault).content (Some bytes))
 file_arrives vault u dir name bytes None named is = record {
-  full = held;
-  leaf = subst (IsLeaf (cm_format vault) (edited u e)) (sym stands) (record {});
-  opens = ap (opened_at (cm_format vault) (edited u e)) stands ∙ ap (λ x. opened_file (cm_format vault).content (file_bytes x)) (brought u e []);
+  full = file_held vault u dir name bytes None is;
+  leaf = subst (IsLeaf (cm_format vault) (edited u (file_edit (entry_at (cm_format vault) dir name) bytes))) (sym (file_stands vault u dir name bytes named is)) (record {});
+  opens = ap (opened_at (cm_format vault) (edited u (file_edit (entry_at (cm_format vault) dir name) bytes))) (file_stands vault u dir name bytes named is)
+      ∙ ap (λ x. opened_file (cm_format vault).content (file_bytes x)) (brought u (file_edit (entry_at (cm_format vault) dir name) bytes) []);
 }
-  where
-    e : Edit
-    e = file_edit (entry_at (cm_format vault) dir name) bytes
-
-    held : holds_full (cm_format vault) (edited u (file_edit (entry_at (cm_format vault) dir name) bytes)) dir (cm_stored vault.keys vault.threshold dir.key name) ≡ true
-    held = text_comes vault u dir name (file_edit (entry_at (cm_format vault) dir name) bytes) refl None is (λ text none. cc)
-
-    stands : standing_in (cm_format vault) (edited u (file_edit (entry_at (cm_format vault) dir name) bytes)) dir name ≡ File (entry_at (cm_format vault) dir name ++ [])
-    stands = arrived (cm_format vault) u dir name (file_edit (entry_at (cm_format vault) dir name) bytes) named refl held
-        ∙ ap (λ o. standing_of (cm_format vault) (edited u (file_edit (entry_at (cm_format vault) dir name) bytes)) (entry_at (cm_format vault) dir name) true (cm_item (is_some o) (file_view bytes))) is
 file_arrives vault u dir name bytes (Some text) named is = record {
-  full = held;
-  leaf = subst (IsLeaf (cm_format vault) (edited u e)) (sym stands) (record {});
-  opens = ap (opened_at (cm_format vault) (edited u e)) stands ∙ ap (λ x. opened_file (cm_format vault).content (file_bytes x)) (brought u e (content_file ∷ []));
+  full = file_held vault u dir name bytes (Some text) is;
+  leaf = subst (IsLeaf (cm_format vault) (edited u (folder_edit (entry_at (cm_format vault) dir name) ((full_file, text) ∷ (content_file, bytes) ∷ []))))
+      (sym (long_file_stands vault u dir name bytes text named is)) (record {});
+  opens = ap (opened_at (cm_format vault) (edited u (folder_edit (entry_at (cm_format vault) dir name) ((full_file, text) ∷ (content_file, bytes) ∷ [])))) (long_file_stands vault u dir name bytes text named is)
+      ∙ ap (λ x. opened_file (cm_format vault).content (file_bytes x)) (brought u (folder_edit (entry_at (cm_format vault) dir name) ((full_file, text) ∷ (content_file, bytes) ∷ [])) (content_file ∷ []));
 }
-  where
-    e : Edit
-    e = folder_edit (entry_at (cm_format vault) dir name) ((full_file, text) ∷ (content_file, bytes) ∷ [])
-
-    held : holds_full (cm_format vault) (edited u (folder_edit (entry_at (cm_format vault) dir name) ((full_file, text) ∷ (content_file, bytes) ∷ []))) dir (cm_stored vault.keys vault.threshold dir.key name) ≡ true
-    held = text_comes vault u dir name (folder_edit (entry_at (cm_format vault) dir name) ((full_file, text) ∷ (content_file, bytes) ∷ [])) refl (Some text) is (λ other same. ap FileOf cc)
-
-    stands : standing_in (cm_format vault) (edited u (folder_edit (entry_at (cm_format vault) dir name) ((full_file, text) ∷ (content_file, bytes) ∷ []))) dir name
-        ≡ File (entry_at (cm_format vault) dir name ++ content_file ∷ [])
-    stands = arrived (cm_format vault) u dir name (folder_edit (entry_at (cm_format vault) dir name) ((full_file, text) ∷ (content_file, bytes) ∷ [])) named refl held
-        ∙ ap (λ o. standing_of (cm_format vault) (edited u (folder_edit (entry_at (cm_format vault) dir name) ((full_file, text) ∷ (content_file, bytes) ∷ []))) (entry_at (cm_format vault) dir name) true
-        (cm_item (is_some o) (folder_view ((full_file, text) ∷ (content_file, bytes) ∷ [])))) is
 
 pub entry_free : (v : View) (dir : Directory) (s : Stored) (rest : Option Path) → option_or (taken_entry v dir s) rest ≡ None → (v (child dir.folder s.name) ≡ NoEntry) × (rest ≡ None)
 entry_free v dir s rest none = by_entry (v (child dir.folder s.name)) refl none
@@ -133,24 +135,51 @@ pub new_file_at : (at : Path) (full : Option (List ℕ)) (bytes : List ℕ) → 
 new_file_at at None bytes = refl
 new_file_at at (Some text) bytes = refl
 
--- a new file comes alone
-new_file_alone : (vault : CmVault) → CmTexts vault.keys → (v : View) (front : plain.Path) (dir : Directory) (name bytes : List ℕ)
-    → IsOrderly (cm_format vault) v → Leads (cm_format vault) v front dir → IsTrue (is_name name) → taken_entry v dir (cm_stored vault.keys vault.threshold dir.key name) ≡ None
-    → ComesAlone (cm_format vault) v v ((cm_format vault).new_file v dir (cm_stored vault.keys vault.threshold dir.key name) bytes) (front ++ name ∷ []) (opened_file (cm_format vault).content (Some bytes))
-new_file_alone vault texts v front dir name bytes orderly leads named none =
-    comes_last (cm_format vault) (cm_lawful vault texts) v v front dir name (new_file_edit (entry_at (cm_format vault) dir name) (cm_stored vault.keys vault.threshold dir.key name).full bytes)
-    (opened_file (cm_format vault).content (Some bytes)) (λ path. refl) new
-    (entry_spares vault texts v front dir name (new_file_edit (entry_at (cm_format vault) dir name) (cm_stored vault.keys vault.threshold dir.key name).full bytes) new)
-    (file_arrives vault v dir name bytes (cm_stored vault.keys vault.threshold dir.key name).full named refl)
+pub new_file_comes : (vault : CmVault) (texts : CmTexts vault.keys) (v : View) (front : plain.Path) (dir : Directory) (name bytes : List ℕ)
+    → HasFolders v → Leads (cm_format vault) v front dir → IsTrue (is_name name) → taken_entry v dir (cm_stored vault.keys vault.threshold dir.key name) ≡ None
+    → IsNew (cm_format vault) v front dir name (new_file_edit (entry_at (cm_format vault) dir name) (cm_stored vault.keys vault.threshold dir.key name).full bytes)
+new_file_comes vault texts v front dir name bytes folders leads named none = record {
+  rooted = leads_from_root (cm_format vault) (cm_lawful vault texts) v folders front dir leads;
+  leads = leads;
+  named = named;
+  place = sym (new_file_at (entry_at (cm_format vault) dir name) (cm_stored vault.keys vault.threshold dir.key name).full bytes);
+  free = free_at v (entry_at (cm_format vault) dir name) none;
+}
+
+new_file_folders : (at : Path) (full : Option (List ℕ)) (bytes : List ℕ) → HasFolders (new_file_edit at full bytes).made
+new_file_folders at None bytes = file_folders bytes
+new_file_folders at (Some text) bytes = folder_folders ((full_file, text) ∷ (content_file, bytes) ∷ [])
+
+-- no configuration has as many parts as an entry
+entry_spares_configuration : (vault : CmVault) (texts : CmTexts vault.keys) (v : View) (front : plain.Path) (dir : Directory) (name : List ℕ) (e : Edit)
+    → IsNew (cm_format vault) v front dir name e → SparesConfiguration e.at
+entry_spares_configuration vault texts v front dir name e new = record { gocryptfs = λ same. not_one (ap length same); master = λ same. not_one (ap length same); vault = λ same. not_one (ap length same) }
+  where
+    not_one : 1 ≡ length e.at → ⊥
+    not_one one = let four : length e.at ≡ 4 = four_parts vault texts v front dir name e new in let clash : ◌≡◌ {A = ℕ} 1 4 = one ∙ four in cc
+
+file_own : (vault : CmVault) (first u : View) (dir : Directory) (name bytes : List ℕ) (full : Option (List ℕ)) → IsTrue (is_name name) → (cm_stored vault.keys vault.threshold dir.key name).full ≡ full
+    → HasOwnFolder (cm_format vault) first (standing_in (cm_format vault) (edited u (new_file_edit (entry_at (cm_format vault) dir name) full bytes)) dir name)
+file_own vault first u dir name bytes None named is =
+    subst (HasOwnFolder (cm_format vault) first) (sym (file_stands vault u dir name bytes named is)) (record {})
+file_own vault first u dir name bytes (Some text) named is =
+    subst (HasOwnFolder (cm_format vault) first) (sym (long_file_stands vault u dir name bytes text named is)) (record {})
+
+-- a new file is made by its entry
+file_made : (vault : CmVault) (texts : CmTexts vault.keys) (v : View) (front : plain.Path) (dir : Directory) (name bytes : List ℕ)
+    → HasFolders v → Leads (cm_format vault) v front dir → IsTrue (is_name name) → taken_entry v dir (cm_stored vault.keys vault.threshold dir.key name) ≡ None
+    → IsMade (cm_format vault) (cm_lawful vault texts) v v front dir name (opened_file (cm_format vault).content (Some bytes)) ((cm_format vault).new_file v dir (cm_stored vault.keys vault.threshold dir.key name) bytes)
+file_made vault texts v front dir name bytes folders leads named none = record {
+  new = new;
+  spares = entry_spares vault texts v front dir name (new_file_edit (entry_at (cm_format vault) dir name) (cm_stored vault.keys vault.threshold dir.key name).full bytes) new;
+  arrives = file_arrives vault v dir name bytes (cm_stored vault.keys vault.threshold dir.key name).full named refl;
+  made = new_file_folders (entry_at (cm_format vault) dir name) (cm_stored vault.keys vault.threshold dir.key name).full bytes;
+  own = file_own vault v v dir name bytes (cm_stored vault.keys vault.threshold dir.key name).full named refl;
+  no_configuration = entry_spares_configuration vault texts v front dir name (new_file_edit (entry_at (cm_format vault) dir name) (cm_stored vault.keys vault.threshold dir.key name).full bytes) new;
+}
   where
     new : IsNew (cm_format vault) v front dir name (new_file_edit (entry_at (cm_format vault) dir name) (cm_stored vault.keys vault.threshold dir.key name).full bytes)
-    new = record {
-      orderly = orderly;
-      leads = leads;
-      named = named;
-      place = sym (new_file_at (entry_at (cm_format vault) dir name) (cm_stored vault.keys vault.threshold dir.key name).full bytes);
-      free = free_at v (entry_at (cm_format vault) dir name) none;
-    }
+    new = new_file_comes vault texts v front dir name bytes folders leads named none
 
 -- the folder that an id's directory is entered in stands empty
 pub record HasEmptyFolder (u : View) (folder : Path) : Type 0 where
@@ -170,7 +199,7 @@ directory_stands vault u front dir name id e new is_id ready held item brings =
     ∙ ap (λ x. Dir e.at (cond (is_folder x) (Ok (record { folder = content_folder vault.keys id; key = id })) (Err NoFolder))) folder_there
   where
     folder_there : edited u e (content_folder vault.keys id) ≡ Folder
-    folder_there = edited_adds u e new.orderly.folders (ap u (sym new.place) ∙ new.free) (content_folder vault.keys id)
+    folder_there = edited_adds u e new.rooted.folders (ap u (sym new.place) ∙ new.free) (content_folder vault.keys id)
         (λ none. let there : u (content_folder vault.keys id) ≡ Folder = ready.there in cc) ∙ ready.there
 
     key_there : key_of (cm_format vault) (under e.at (edited u e)) ≡ Some id
@@ -180,7 +209,7 @@ directory_stands vault u front dir name id e new is_id ready held item brings =
 pub folder_bare : (vault : CmVault) (u : View) (front : plain.Path) (dir : Directory) (name id : List ℕ) (e : Edit) → IsNew (cm_format vault) u front dir name e
     → HasEmptyFolder u (content_folder vault.keys id) → dir.folder ≢ content_folder vault.keys id → (n : Part) → edited u e (child (content_folder vault.keys id) n) ≡ NoEntry
 folder_bare vault u front dir name id e new ready apart n =
-    edited_entry u e new.orderly.folders (ap u (sym new.place) ∙ new.free) (content_folder vault.keys id) n
+    edited_entry u e new.rooted.folders (ap u (sym new.place) ∙ new.free) (content_folder vault.keys id) n
     (λ none. let there : u (content_folder vault.keys id) ≡ Folder = ready.there in cc) entry_apart ∙ ready.empty n
   where
     entry_apart : child (content_folder vault.keys id) n ≢ e.at
@@ -220,22 +249,26 @@ pub its_text : (full : Option (List ℕ)) (id text : List ℕ) → full ≡ Some
 its_text None id text is = cc
 its_text (Some other) id text is = ap FileOf cc
 
-pub directory_folders : HasFolders directory_view
-directory_folders [] a there = absurd (there refl)
-directory_folders (b ∷ p) a there = absurd (there refl)
+-- nothing stands in a folder that is alone
+directory_alone : (p : Path) (a : Part) → directory_view (child p a) ≡ NoEntry
+directory_alone [] a = refl
+directory_alone (b ∷ p) a = refl
 
 -- the content folder, where the folder of content folders is there
-pub folder_side : (vault : CmVault) (texts : CmTexts vault.keys) (w : View) (id : List ℕ) → IsOrderly (cm_format vault) w
+pub folder_side : (vault : CmVault) (texts : CmTexts vault.keys) (w : View) (id : List ℕ) → IsRooted (cm_format vault) w
     → w (shelf_named (cm_folder_of vault.keys id)) ≡ Folder → w (content_folder vault.keys id) ≡ NoEntry
-    → IsSide (cm_format vault) (cm_lawful vault texts) w (directory_edit (content_folder vault.keys id)) (shelf_named (cm_folder_of vault.keys id)) (drop 2 (cm_folder_of vault.keys id))
-folder_side vault texts w id orderly shelf free = record {
-  orderly = orderly;
+    → IsSide (cm_format vault) (cm_lawful vault texts) w (directory_edit (content_folder vault.keys id))
+folder_side vault texts w id rooted shelf free = record {
+  rooted = rooted;
   free = free;
   spares = cm_spares vault texts w (content_folder vault.keys id) (λ z. cc) (λ z. cc);
   no_entry = cm_no_entry vault texts w (content_folder vault.keys id) (λ z. cc);
+  up = shelf_named (cm_folder_of vault.keys id);
+  last = drop 2 (cm_folder_of vault.keys id);
   place = refl;
   up_there = shelf;
-  made = directory_folders;
+  alone = directory_alone;
+  no_configuration = record { gocryptfs = λ same. cc; master = λ same. cc; vault = λ same. cc };
 }
 
 pub folder_ready : (vault : CmVault) (w : View) (id : List ℕ) → HasEmptyFolder (edited w (directory_edit (content_folder vault.keys id))) (content_folder vault.keys id)
@@ -265,25 +298,38 @@ arrives_then vault texts u front dir name id new is_id ready apart =
     directory_arrives vault texts u front dir name id (directory_at vault dir name id) new is_id ready apart (its_full vault u dir name id)
     (its_item (cm_stored vault.keys vault.threshold dir.key name).full id) (its_id (cm_stored vault.keys vault.threshold dir.key name).full id)
 
+-- its folder is no other's of a view that hasn't it
+directory_own : (vault : CmVault) (texts : CmTexts vault.keys) (first u : View) (front : plain.Path) (dir : Directory) (name id : List ℕ) → IsNew (cm_format vault) u front dir name (directory_at vault dir name id)
+    → directory_id id ≡ Some id → HasEmptyFolder u (content_folder vault.keys id) → first (content_folder vault.keys id) ≡ NoEntry
+    → HasOwnFolder (cm_format vault) first (standing_in (cm_format vault) (edited u (directory_at vault dir name id)) dir name)
+directory_own vault texts first u front dir name id new is_id ready free =
+    subst (HasOwnFolder (cm_format vault) first)
+    (sym (directory_stands vault u front dir name id (directory_at vault dir name id) new is_id ready (its_full vault u dir name id)
+    (its_item (cm_stored vault.keys vault.threshold dir.key name).full id) (its_id (cm_stored vault.keys vault.threshold dir.key name).full id))) own
+  where
+    own : (path : plain.Path) (other : Directory) → Leads (cm_format vault) first path other → content_folder vault.keys id ≢ other.folder
+    own path other leads same = folder_apart vault texts first path other id leads free (sym same)
+
 -- once the folder of content folders is there, the content folder is made, and then the entry
-after_shelf : (vault : CmVault) (texts : CmTexts vault.keys) (v w : View) (front : plain.Path) (dir : Directory) (name id : List ℕ)
-    → OpensAs (cm_format vault) v w → IsNew (cm_format vault) w front dir name (directory_at vault dir name id) → directory_id id ≡ Some id
-    → w (shelf_named (cm_folder_of vault.keys id)) ≡ Folder → w (content_folder vault.keys id) ≡ NoEntry
-    → ComesAlone (cm_format vault) v w (directory_edit (content_folder vault.keys id) ∷ directory_at vault dir name id ∷ []) (front ++ name ∷ []) opens.Directory
-after_shelf vault texts v w front dir name id as_before new is_id shelf free = (
-  opens_then,
-  comes_last (cm_format vault) (cm_lawful vault texts) v (edited w (directory_edit (content_folder vault.keys id))) front dir name (directory_at vault dir name id) opens.Directory opens_then new_then
-      (entry_spares vault texts (edited w (directory_edit (content_folder vault.keys id))) front dir name (directory_at vault dir name id) new_then)
-      (arrives_then vault texts (edited w (directory_edit (content_folder vault.keys id))) front dir name id new_then is_id (folder_ready vault w id) (folder_apart vault texts w front dir id new.leads free)),
+after_shelf : (vault : CmVault) (texts : CmTexts vault.keys) (first w : View) (front : plain.Path) (dir : Directory) (name id : List ℕ)
+    → IsNew (cm_format vault) w front dir name (directory_at vault dir name id) → directory_id id ≡ Some id
+    → w (shelf_named (cm_folder_of vault.keys id)) ≡ Folder → w (content_folder vault.keys id) ≡ NoEntry → first (content_folder vault.keys id) ≡ NoEntry
+    → IsMade (cm_format vault) (cm_lawful vault texts) first w front dir name opens.Directory (directory_edit (content_folder vault.keys id) ∷ directory_at vault dir name id ∷ [])
+after_shelf vault texts first w front dir name id new is_id shelf free free_first = (
+  folder_side vault texts w id new.rooted shelf free,
+  record {
+    new = new_then;
+    spares = entry_spares vault texts (edited w (directory_edit (content_folder vault.keys id))) front dir name (directory_at vault dir name id) new_then;
+    arrives = arrives_then vault texts (edited w (directory_edit (content_folder vault.keys id))) front dir name id new_then is_id (folder_ready vault w id) (folder_apart vault texts w front dir id new.leads free);
+    made = folder_folders (full_files (cm_stored vault.keys vault.threshold dir.key name).full ++ (id_file, id) ∷ []);
+    own = directory_own vault texts first (edited w (directory_edit (content_folder vault.keys id))) front dir name id new_then is_id (folder_ready vault w id) free_first;
+    no_configuration = entry_spares_configuration vault texts (edited w (directory_edit (content_folder vault.keys id))) front dir name (directory_at vault dir name id) new_then;
+  },
 )
   where
-    opens_then : OpensAs (cm_format vault) v (edited w (directory_edit (content_folder vault.keys id)))
-    opens_then = side_opens (cm_format vault) (cm_lawful vault texts) w v (directory_edit (content_folder vault.keys id)) (shelf_named (cm_folder_of vault.keys id)) (drop 2 (cm_folder_of vault.keys id)) as_before
-        (folder_side vault texts w id new.orderly shelf free)
-
     new_then : IsNew (cm_format vault) (edited w (directory_edit (content_folder vault.keys id))) front dir name (directory_at vault dir name id)
-    new_then = new_after_side (cm_format vault) (cm_lawful vault texts) w (directory_edit (content_folder vault.keys id)) (shelf_named (cm_folder_of vault.keys id)) (drop 2 (cm_folder_of vault.keys id))
-        front dir name (directory_at vault dir name id) (folder_side vault texts w id new.orderly shelf free) new
+    new_then = new_after_side (cm_format vault) (cm_lawful vault texts) w (directory_edit (content_folder vault.keys id)) front dir name (directory_at vault dir name id)
+        (folder_side vault texts w id new.rooted shelf free) new
 
 -- a folder of content folders may stand there already
 folders_free : (v : View) (text : List ℕ) → taken_folders v text ≡ None → (v (folder_named text) ≡ NoEntry) × (taken_unless_folder (shelf_named text) (v (shelf_named text)) ≡ None)
@@ -297,17 +343,20 @@ folders_free v text none = by_folder (v (folder_named text)) refl none
     by_folder Special is none = cc
 
 -- the folder of content folders, where nothing stands
-pub shelf_side : (vault : CmVault) (texts : CmTexts vault.keys) (v : View) (front : plain.Path) (dir : Directory) (id : List ℕ) → IsOrderly (cm_format vault) v → Leads (cm_format vault) v front dir
+pub shelf_side : (vault : CmVault) (texts : CmTexts vault.keys) (v : View) (front : plain.Path) (dir : Directory) (id : List ℕ) → IsRooted (cm_format vault) v → Leads (cm_format vault) v front dir
     → v (shelf_named (cm_folder_of vault.keys id)) ≡ NoEntry
-    → IsSide (cm_format vault) (cm_lawful vault texts) v (directory_edit (shelf_named (cm_folder_of vault.keys id))) (top ∷ []) (take 2 (cm_folder_of vault.keys id))
-shelf_side vault texts v front dir id orderly leads free = record {
-  orderly = orderly;
+    → IsSide (cm_format vault) (cm_lawful vault texts) v (directory_edit (shelf_named (cm_folder_of vault.keys id)))
+shelf_side vault texts v front dir id rooted leads free = record {
+  rooted = rooted;
   free = free;
   spares = cm_spares vault texts v (shelf_named (cm_folder_of vault.keys id)) (λ z. cc) (λ z. cc);
   no_entry = cm_no_entry vault texts v (shelf_named (cm_folder_of vault.keys id)) (λ z. cc);
+  up = top ∷ [];
+  last = take 2 (cm_folder_of vault.keys id);
   place = refl;
   up_there = up_there;
-  made = directory_folders;
+  alone = directory_alone;
+  no_configuration = record { gocryptfs = λ same. cc; master = λ same. cc; vault = λ same. cc };
 }
   where
     up_there : v (top ∷ []) ≡ Folder
@@ -316,8 +365,8 @@ shelf_side vault texts v front dir id orderly leads free = record {
         let form : dir.folder ≡ content_folder vault.keys dir.key = (reached_right (cm_format vault) (cm_lawful vault texts) v front dir leads).form in
         let folder : v (content_folder vault.keys dir.key) ≡ Folder = ap v (sym form) ∙ there in
         let shelf : v (shelf_named (cm_folder_of vault.keys dir.key)) ≡ Folder
-        = orderly.folders (shelf_named (cm_folder_of vault.keys dir.key)) (drop 2 (cm_folder_of vault.keys dir.key)) (λ z. let clash : Folder ≡ NoEntry = sym folder ∙ z in cc) in
-        orderly.folders (top ∷ []) (take 2 (cm_folder_of vault.keys dir.key)) (λ z. let clash : Folder ≡ NoEntry = sym shelf ∙ z in cc)
+        = rooted.folders (shelf_named (cm_folder_of vault.keys dir.key)) (drop 2 (cm_folder_of vault.keys dir.key)) (λ z. let clash : Folder ≡ NoEntry = sym folder ∙ z in cc) in
+        rooted.folders (top ∷ []) (take 2 (cm_folder_of vault.keys dir.key)) (λ z. let clash : Folder ≡ NoEntry = sym shelf ∙ z in cc)
 
 -- the edits of a new directory, by whether the folder of content folders is there or comes first
 pub by_shelf : (vault : CmVault) (v : View) (dir : Directory) (name id : List ℕ) (Holds : List Edit → Type 0)
@@ -340,10 +389,10 @@ by_shelf vault v dir name id Holds none there first =
     by_kind (FileOf bytes) is none = cc
     by_kind Special is none = cc
 
-pub new_at : (vault : CmVault) (v : View) (front : plain.Path) (dir : Directory) (name id : List ℕ) → IsOrderly (cm_format vault) v → Leads (cm_format vault) v front dir → IsTrue (is_name name)
+pub new_at : (vault : CmVault) (texts : CmTexts vault.keys) (v : View) (front : plain.Path) (dir : Directory) (name id : List ℕ) → HasFolders v → Leads (cm_format vault) v front dir → IsTrue (is_name name)
     → (cm_format vault).taken_for_directory v dir (cm_stored vault.keys vault.threshold dir.key name) id ≡ None → IsNew (cm_format vault) v front dir name (directory_at vault dir name id)
-new_at vault v front dir name id orderly leads named none = record {
-  orderly = orderly;
+new_at vault texts v front dir name id folders leads named none = record {
+  rooted = leads_from_root (cm_format vault) (cm_lawful vault texts) v folders front dir leads;
   leads = leads;
   named = named;
   place = refl;
@@ -357,29 +406,26 @@ folder_free vault v id = brought v (directory_edit (shelf_named (cm_folder_of va
 pub new_after_shelf : (vault : CmVault) (texts : CmTexts vault.keys) (v : View) (front : plain.Path) (dir : Directory) (name id : List ℕ) → IsNew (cm_format vault) v front dir name (directory_at vault dir name id)
     → v (shelf_named (cm_folder_of vault.keys id)) ≡ NoEntry → IsNew (cm_format vault) (edited v (directory_edit (shelf_named (cm_folder_of vault.keys id)))) front dir name (directory_at vault dir name id)
 new_after_shelf vault texts v front dir name id new free =
-    new_after_side (cm_format vault) (cm_lawful vault texts) v (directory_edit (shelf_named (cm_folder_of vault.keys id))) (top ∷ []) (take 2 (cm_folder_of vault.keys id))
-    front dir name (directory_at vault dir name id) (shelf_side vault texts v front dir id new.orderly new.leads free) new
+    new_after_side (cm_format vault) (cm_lawful vault texts) v (directory_edit (shelf_named (cm_folder_of vault.keys id)))
+    front dir name (directory_at vault dir name id) (shelf_side vault texts v front dir id new.rooted new.leads free) new
 
--- a new directory comes alone
-new_directory_alone : (vault : CmVault) → CmTexts vault.keys → (v : View) (front : plain.Path) (dir : Directory) (name id : List ℕ)
-    → IsOrderly (cm_format vault) v → Leads (cm_format vault) v front dir → IsTrue (is_name name) → directory_id id ≡ Some id
+-- a new directory is made after its folders
+directory_made : (vault : CmVault) (texts : CmTexts vault.keys) (v : View) (front : plain.Path) (dir : Directory) (name id : List ℕ)
+    → HasFolders v → Leads (cm_format vault) v front dir → IsTrue (is_name name) → directory_id id ≡ Some id
     → (cm_format vault).taken_for_directory v dir (cm_stored vault.keys vault.threshold dir.key name) id ≡ None
-    → ComesAlone (cm_format vault) v v ((cm_format vault).new_directory v dir (cm_stored vault.keys vault.threshold dir.key name) id) (front ++ name ∷ []) opens.Directory
-new_directory_alone vault texts v front dir name id orderly leads named is_id none =
-    by_shelf vault v dir name id (λ edits. ComesAlone (cm_format vault) v v edits (front ++ name ∷ []) opens.Directory) none
-    (after_shelf vault texts v v front dir name id (λ path. refl) new is_id)
+    → IsMade (cm_format vault) (cm_lawful vault texts) v v front dir name opens.Directory ((cm_format vault).new_directory v dir (cm_stored vault.keys vault.threshold dir.key name) id)
+directory_made vault texts v front dir name id folders leads named is_id none =
+    by_shelf vault v dir name id (IsMade (cm_format vault) (cm_lawful vault texts) v v front dir name opens.Directory) none
+    (λ shelf free. after_shelf vault texts v v front dir name id new is_id shelf free free)
     (λ free. (
-      opens_as free,
-      after_shelf vault texts v (edited v (directory_edit (shelf_named (cm_folder_of vault.keys id)))) front dir name id (opens_as free)
-          (new_after_shelf vault texts v front dir name id new free) is_id (brought_there v (directory_edit (shelf_named (cm_folder_of vault.keys id)))) (folder_free vault v id),
+      shelf_side vault texts v front dir id new.rooted leads free,
+      after_shelf vault texts v (edited v (directory_edit (shelf_named (cm_folder_of vault.keys id)))) front dir name id
+          (new_after_shelf vault texts v front dir name id new free) is_id (brought_there v (directory_edit (shelf_named (cm_folder_of vault.keys id)))) (folder_free vault v id)
+          (nothing_below v folders (shelf_named (cm_folder_of vault.keys id)) (drop 2 (cm_folder_of vault.keys id) ∷ []) free),
     ))
   where
     new : IsNew (cm_format vault) v front dir name (directory_at vault dir name id)
-    new = new_at vault v front dir name id orderly leads named none
+    new = new_at vault texts v front dir name id folders leads named none
 
-    opens_as : v (shelf_named (cm_folder_of vault.keys id)) ≡ NoEntry → OpensAs (cm_format vault) v (edited v (directory_edit (shelf_named (cm_folder_of vault.keys id))))
-    opens_as free = side_opens (cm_format vault) (cm_lawful vault texts) v v (directory_edit (shelf_named (cm_folder_of vault.keys id))) (top ∷ []) (take 2 (cm_folder_of vault.keys id)) (λ path. refl)
-        (shelf_side vault texts v front dir id orderly leads free)
-
-pub new_items : (vault : CmVault) → CmTexts vault.keys → NewItemsComeAlone (cm_format vault)
-new_items vault texts = record { file = new_file_alone vault texts; directory = new_directory_alone vault texts }
+pub cm_makes : (vault : CmVault) (texts : CmTexts vault.keys) → MakesItems (cm_format vault) (cm_lawful vault texts)
+cm_makes vault texts = record { file = file_made vault texts; directory = directory_made vault texts }

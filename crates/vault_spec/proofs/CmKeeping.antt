@@ -24,11 +24,11 @@ use Rattle.vault_spec.specs.Alike.{IsOrderly}
 use Rattle.vault_spec.specs.Adding.{StaysClean, NewItemsStayClean}
 use Rattle.vault_spec.proofs.ByteKeys.{front_plain, right_plain}
 use Rattle.vault_spec.proofs.Grafts.{reached_right}
-use Rattle.vault_spec.proofs.Places.{IsSide, side_looks, brought, brought_there, IsNew, new_after_side}
+use Rattle.vault_spec.proofs.Places.{orderly_is_rooted, IsSide, side_looks, side_orderly, brought, brought_there, IsNew, new_after_side}
 use Rattle.vault_spec.proofs.StaysClean.{IsBare, IsApart, stays_clean}
 use Rattle.vault_spec.proofs.Keeping.{free_is_apart, apart_on, HasPlace, side_keeps, BringsWhole, item_keeps, file_brings}
 use Rattle.vault_spec.proofs.CmVault.{CmTexts, cm_lawful, no_role_of_nothing}
-use Rattle.vault_spec.proofs.CmAdding.{three_parts, one_more, four_parts, entry_spares, file_arrives, free_at, new_file_at, directory_at, its_item, its_full, its_id, arrives_then, directory_stands, folder_bare, HasEmptyFolder, folder_side, folder_ready, folder_apart, shelf_side, by_shelf, new_at, folder_free, new_after_shelf}
+use Rattle.vault_spec.proofs.CmAdding.{three_parts, one_more, four_parts, entry_spares, file_arrives, new_file_comes, directory_at, its_item, its_full, its_id, arrives_then, directory_stands, folder_bare, HasEmptyFolder, folder_side, folder_ready, folder_apart, shelf_side, by_shelf, new_at, folder_free, new_after_shelf}
 
 -- the laws of the texts of folders
 pub record CmFolders (keys : CmKeys) : Type 0 where
@@ -203,7 +203,7 @@ new_file_clean : (vault : CmVault) (texts : CmTexts vault.keys) (v : View) (fron
 new_file_clean vault texts v front dir name bytes orderly clean leads named none = (
   stays_clean (cm_format vault) (cm_lawful vault texts) v (new_file_edit (entry_at (cm_format vault) dir name) (cm_stored vault.keys vault.threshold dir.key name).full bytes)
       (item_keeps (cm_format vault) (cm_lawful vault texts) v front dir name (new_file_edit (entry_at (cm_format vault) dir name) (cm_stored vault.keys vault.threshold dir.key name).full bytes)
-      (opened_file (cm_format vault).content (Some bytes)) new
+      (opened_file (cm_format vault).content (Some bytes)) orderly new
       (entry_spares vault texts v front dir name (new_file_edit (entry_at (cm_format vault) dir name) (cm_stored vault.keys vault.threshold dir.key name).full bytes) new)
       (file_arrives vault v dir name bytes (cm_stored vault.keys vault.threshold dir.key name).full named refl) clean
       (entry_place vault texts v front dir name (new_file_edit (entry_at (cm_format vault) dir name) (cm_stored vault.keys vault.threshold dir.key name).full bytes) new)
@@ -212,13 +212,7 @@ new_file_clean vault texts v front dir name bytes orderly clean leads named none
 )
   where
     new : IsNew (cm_format vault) v front dir name (new_file_edit (entry_at (cm_format vault) dir name) (cm_stored vault.keys vault.threshold dir.key name).full bytes)
-    new = record {
-      orderly = orderly;
-      leads = leads;
-      named = named;
-      place = sym (new_file_at (entry_at (cm_format vault) dir name) (cm_stored vault.keys vault.threshold dir.key name).full bytes);
-      free = free_at v (entry_at (cm_format vault) dir name) none;
-    }
+    new = new_file_comes vault texts v front dir name bytes orderly.folders leads named none
 
 abbrev parts_of : Directory → Standing → Path × Directory
 parts_of d (Dir at (Ok dir)) = (at, dir)
@@ -266,59 +260,63 @@ directory_whole vault texts u front dir name id new is_id ready apart alone = re
 
 -- the content folder and the entry, where the folder of content folders is there
 clean_after_shelf : (vault : CmVault) (texts : CmTexts vault.keys) → CmFolders vault.keys → (w : View) (front : plain.Path) (dir : Directory) (name id : List ℕ)
-    → IsClean (cm_format vault) w → IsNew (cm_format vault) w front dir name (directory_at vault dir name id) → directory_id id ≡ Some id
+    → IsOrderly (cm_format vault) w → IsClean (cm_format vault) w → IsNew (cm_format vault) w front dir name (directory_at vault dir name id) → directory_id id ≡ Some id
     → w (shelf_named (cm_folder_of vault.keys id)) ≡ Folder → w (content_folder vault.keys id) ≡ NoEntry
     → StaysClean (cm_format vault) w (directory_edit (content_folder vault.keys id) ∷ directory_at vault dir name id ∷ [])
-clean_after_shelf vault texts folders w front dir name id clean new is_id shelf free = (
+clean_after_shelf vault texts folders w front dir name id orderly clean new is_id shelf free = (
   clean_then,
   (
     stays_clean (cm_format vault) (cm_lawful vault texts) (edited w (directory_edit (content_folder vault.keys id))) (directory_at vault dir name id)
-        (item_keeps (cm_format vault) (cm_lawful vault texts) (edited w (directory_edit (content_folder vault.keys id))) front dir name (directory_at vault dir name id) opens.Directory new_then
+        (item_keeps (cm_format vault) (cm_lawful vault texts) (edited w (directory_edit (content_folder vault.keys id))) front dir name (directory_at vault dir name id) opens.Directory
+        (side_orderly (cm_format vault) (cm_lawful vault texts) w (directory_edit (content_folder vault.keys id)) orderly side) new_then
         (entry_spares vault texts (edited w (directory_edit (content_folder vault.keys id))) front dir name (directory_at vault dir name id) new_then)
         (arrives_then vault texts (edited w (directory_edit (content_folder vault.keys id))) front dir name id new_then is_id (folder_ready vault w id) apart) clean_then
         (entry_place vault texts (edited w (directory_edit (content_folder vault.keys id))) front dir name (directory_at vault dir name id) new_then)
         (directory_whole vault texts (edited w (directory_edit (content_folder vault.keys id))) front dir name id new_then is_id (folder_ready vault w id) apart
         (apart_on (cm_format vault) w (edited w (directory_edit (content_folder vault.keys id))) (content_folder vault.keys id)
-        (side_looks (cm_format vault) (cm_lawful vault texts) w (directory_edit (content_folder vault.keys id)) (shelf_named (cm_folder_of vault.keys id)) (drop 2 (cm_folder_of vault.keys id)) side)
+        (side_looks (cm_format vault) (cm_lawful vault texts) w (directory_edit (content_folder vault.keys id)) orderly side)
         (free_is_apart (cm_format vault) w (content_folder vault.keys id) free)))),
     record {},
   ),
 )
   where
-    side : IsSide (cm_format vault) (cm_lawful vault texts) w (directory_edit (content_folder vault.keys id)) (shelf_named (cm_folder_of vault.keys id)) (drop 2 (cm_folder_of vault.keys id))
-    side = folder_side vault texts w id new.orderly shelf free
+    side : IsSide (cm_format vault) (cm_lawful vault texts) w (directory_edit (content_folder vault.keys id))
+    side = folder_side vault texts w id new.rooted shelf free
 
     apart : dir.folder ≢ content_folder vault.keys id
     apart = folder_apart vault texts w front dir id new.leads free
 
     clean_then : IsClean (cm_format vault) (edited w (directory_edit (content_folder vault.keys id)))
     clean_then = stays_clean (cm_format vault) (cm_lawful vault texts) w (directory_edit (content_folder vault.keys id))
-        (side_keeps (cm_format vault) (cm_lawful vault texts) w (directory_edit (content_folder vault.keys id)) (shelf_named (cm_folder_of vault.keys id)) (drop 2 (cm_folder_of vault.keys id)) side clean
+        (side_keeps (cm_format vault) (cm_lawful vault texts) w (directory_edit (content_folder vault.keys id)) orderly side clean
         (folder_place vault texts folders w id) (λ path other x leads here. absurd (no_child vault texts w (content_folder vault.keys id) (λ z. cc) path other x leads here)))
 
     new_then : IsNew (cm_format vault) (edited w (directory_edit (content_folder vault.keys id))) front dir name (directory_at vault dir name id)
-    new_then = new_after_side (cm_format vault) (cm_lawful vault texts) w (directory_edit (content_folder vault.keys id)) (shelf_named (cm_folder_of vault.keys id)) (drop 2 (cm_folder_of vault.keys id))
-        front dir name (directory_at vault dir name id) side new
+    new_then = new_after_side (cm_format vault) (cm_lawful vault texts) w (directory_edit (content_folder vault.keys id)) front dir name (directory_at vault dir name id) side new
 
 new_directory_clean : (vault : CmVault) (texts : CmTexts vault.keys) → CmFolders vault.keys → (v : View) (front : plain.Path) (dir : Directory) (name id : List ℕ)
     → IsOrderly (cm_format vault) v → IsClean (cm_format vault) v → Leads (cm_format vault) v front dir → IsTrue (is_name name) → directory_id id ≡ Some id
     → (cm_format vault).taken_for_directory v dir (cm_stored vault.keys vault.threshold dir.key name) id ≡ None
     → StaysClean (cm_format vault) v ((cm_format vault).new_directory v dir (cm_stored vault.keys vault.threshold dir.key name) id)
 new_directory_clean vault texts folders v front dir name id orderly clean leads named is_id none =
-    by_shelf vault v dir name id (StaysClean (cm_format vault) v) none (clean_after_shelf vault texts folders v front dir name id clean new is_id)
+    by_shelf vault v dir name id (StaysClean (cm_format vault) v) none (clean_after_shelf vault texts folders v front dir name id orderly clean new is_id)
     (λ free. (
       clean_shelf free,
-      clean_after_shelf vault texts folders (edited v (directory_edit (shelf_named (cm_folder_of vault.keys id)))) front dir name id (clean_shelf free)
+      clean_after_shelf vault texts folders (edited v (directory_edit (shelf_named (cm_folder_of vault.keys id)))) front dir name id
+          (side_orderly (cm_format vault) (cm_lawful vault texts) v (directory_edit (shelf_named (cm_folder_of vault.keys id))) orderly (side free)) (clean_shelf free)
           (new_after_shelf vault texts v front dir name id new free) is_id (brought_there v (directory_edit (shelf_named (cm_folder_of vault.keys id)))) (folder_free vault v id),
     ))
   where
     new : IsNew (cm_format vault) v front dir name (directory_at vault dir name id)
-    new = new_at vault v front dir name id orderly leads named none
+    new = new_at vault texts v front dir name id orderly.folders leads named none
+
+    side : v (shelf_named (cm_folder_of vault.keys id)) ≡ NoEntry → IsSide (cm_format vault) (cm_lawful vault texts) v (directory_edit (shelf_named (cm_folder_of vault.keys id)))
+    side = shelf_side vault texts v front dir id (orderly_is_rooted (cm_format vault) v orderly) leads
 
     clean_shelf : v (shelf_named (cm_folder_of vault.keys id)) ≡ NoEntry → IsClean (cm_format vault) (edited v (directory_edit (shelf_named (cm_folder_of vault.keys id))))
     clean_shelf free = stays_clean (cm_format vault) (cm_lawful vault texts) v (directory_edit (shelf_named (cm_folder_of vault.keys id)))
-        (side_keeps (cm_format vault) (cm_lawful vault texts) v (directory_edit (shelf_named (cm_folder_of vault.keys id))) (top ∷ []) (take 2 (cm_folder_of vault.keys id))
-        (shelf_side vault texts v front dir id orderly leads free) clean (shelf_place vault texts folders v id)
+        (side_keeps (cm_format vault) (cm_lawful vault texts) v (directory_edit (shelf_named (cm_folder_of vault.keys id))) orderly
+        (shelf_side vault texts v front dir id (orderly_is_rooted (cm_format vault) v orderly) leads free) clean (shelf_place vault texts folders v id)
         (λ path other x leads_too here. absurd (no_child vault texts v (shelf_named (cm_folder_of vault.keys id)) (λ z. cc) path other x leads_too here)))
 
 pub new_items_clean : (vault : CmVault) → CmTexts vault.keys → CmFolders vault.keys → NewItemsStayClean (cm_format vault)

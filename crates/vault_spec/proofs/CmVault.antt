@@ -251,6 +251,11 @@ cm_lawful vault texts = record {
       content_apart (content_folder vault.keys key) (cm_stored vault.keys vault.threshold key name).name rest (content_folder vault.keys other) (cm_stored vault.keys vault.threshold other another).name id_file
       (content_or_entry (is_some (cm_stored vault.keys vault.threshold key name).full) v rest (inr item)) refl refl (λ same. cc);
   content_no_root_key = λ v key name rest at is named item. content_below (content_folder vault.keys key) (cm_stored vault.keys vault.threshold key name).name rest id_file refl;
+  content_no_configuration = λ v key name rest at is named item. record {
+    gocryptfs = λ same. content_below (content_folder vault.keys key) (cm_stored vault.keys vault.threshold key name).name rest (codes "gocryptfs.conf") refl (sym same);
+    master = λ same. content_below (content_folder vault.keys key) (cm_stored vault.keys vault.threshold key name).name rest (codes "masterkey.cryptomator") refl (sym same);
+    vault = λ same. content_below (content_folder vault.keys key) (cm_stored vault.keys vault.threshold key name).name rest (codes "vault.cryptomator") refl (sym same);
+  };
   content_no_name = λ v key other name another rest at place is named item long is_other another_named same.
       content_apart (content_folder vault.keys key) (cm_stored vault.keys vault.threshold key name).name rest (content_folder vault.keys other) (cm_stored vault.keys vault.threshold other another).name full_file
       (content_or_entry (is_some (cm_stored vault.keys vault.threshold key name).full) v rest (inr item)) refl refl (λ clash. cc) same;

@@ -1,5 +1,5 @@
--- A new item of gocryptfs comes alone: its long-name file first, where there is to be one, and then its entry.
-use Rattle.std.proofs.Common.{◌≡◌, ◌≢◌, ℕ, Bool, true, false, List, [], ◌∷◌, ◌++◌, Ok, Err, cond, refl, sym, ap, ◌∙◌, inl, inr, subst, Some, None, Option, IsTrue, is_some, codes, append-nil, bytes_eq}
+-- A new item of gocryptfs is made by its long-name file, where there is to be one, and then its entry.
+use Rattle.std.proofs.Common.{◌≡◌, ◌≢◌, ℕ, Bool, true, false, List, [], ◌∷◌, ◌++◌, Ok, Err, cond, refl, sym, ap, ◌∙◌, inl, inr, subst, Some, None, Option, IsTrue, is_some, codes, append-nil, bytes_eq, length, length-append, ◌+◌}
 use Rattle.std.specs.Option.{option_or, option_and_then}
 use Rattle.std.specs.List.{list_all}
 use Rattle.std.proofs.lemmas.List.{append_cancel_right}
@@ -21,15 +21,16 @@ use Rattle.vault_spec.specs.Standing.{File, Dir, entry_at, is_file_of, holds, ho
 use Rattle.vault_spec.specs.Opens.{Opened, Content, opened_at, opened_file}
 use Rattle.vault_spec.specs.Opens as opens
 use Rattle.vault_spec.specs.Reached.{Leads}
-use Rattle.vault_spec.specs.Alike.{IsNoItem, HasFolders, IsOrderly, IsLeaf}
-use Rattle.vault_spec.specs.Adding.{OpensAs, OpensWith, ComesAlone, NewItemsComeAlone}
+use Rattle.vault_spec.specs.Alike.{IsNoItem, HasFolders, IsLeaf}
 use Rattle.vault_spec.proofs.ByteKeys.{none_given}
 use Rattle.vault_spec.proofs.Grafts.{reached_right, edited_adds, none_stands, standing_unnamed}
 use Rattle.vault_spec.proofs.PathEnds.{child-both}
-use Rattle.vault_spec.proofs.Places.{IsSide, side_opens, brought, brought_there, arrived, IsNew, new_after_side, Arrives, comes_last, SparesAll}
+use Rattle.vault_spec.proofs.Lawful.{SparesConfiguration}
+use Rattle.vault_spec.proofs.Places.{IsSide, brought, brought_there, arrived, IsNew, new_after_side, Arrives, SparesAll, leads_from_root, file_alone, file_folders, folder_folders}
+use Rattle.vault_spec.proofs.MadeItems.{HasOwnFolder, IsLast, IsMade, MakesItems}
 use Rattle.vault_spec.proofs.Entries.{long_entry, IsShortOrLong, entry_is}
 use Rattle.vault_spec.proofs.GoNames.{GoTexts, entry_not_key, entry_not_full, full_not_key}
-use Rattle.vault_spec.proofs.GoVault.{go_lawful, is_go_key, key_is, text_plain}
+use Rattle.vault_spec.proofs.GoVault.{go_lawful, is_go_key, key_is, text_plain, entry_spares_configuration}
 
 pub differ : (a b : List ℕ) → a ≢ b → bytes_eq a b ≡ false
 differ a b apart = elim (bytes_eq a b) as (λ t. bytes_eq a b ≡ t → t ≡ false) [
@@ -110,9 +111,22 @@ entry_spares texts keys u front dir name e new =
     not_full path other n leads named there long folders =
         name_not_full texts (stored keys.names dir.key name) (stored keys.names other.key n) its_text (of_text texts keys u path other n leads named) long
 
-file_folders : (bytes : List ℕ) → HasFolders (file_view bytes)
-file_folders bytes [] a there = absurd (there refl)
-file_folders bytes (b ∷ p) a there = absurd (there refl)
+-- the long-name file of an entry is no configuration
+full_spares : GoTexts → (s : Stored) → IsOfText s → is_some s.full ≡ true → (at : Path) → SparesConfiguration (child at (full_name s.name))
+full_spares texts s of long at = record {
+  gocryptfs = λ same. not_short (codes "gocryptfs.conf") (λ size. cc) same;
+  master = λ same. not_short (codes "masterkey.cryptomator") (λ size. cc) same;
+  vault = λ same. not_short (codes "vault.cryptomator") (λ size. cc) same;
+}
+  where
+    is_long : (text : List ℕ) × (s ≡ long_entry long_name text)
+    is_long = long_is s of long
+
+    size : length (full_name s.name) ≡ 67
+    size = ap (λ (t : Stored). length (full_name t.name)) is_long.1 ∙ length-append (long_name is_long.0) (codes ".name") ∙ ap (λ n. n + 5) (texts.long_size is_long.0)
+
+    not_short : (x : Part) → length x ≢ 67 → x ∷ [] ≢ child at (full_name s.name)
+    not_short x short same = short (ap length (child-both [] at x (full_name s.name) same).1 ∙ size)
 
 -- the place of an entry, and that of its long-name file
 abbrev pub full_place : Directory → Stored → Path
@@ -131,7 +145,7 @@ still_held keys v front dir name e new held = by_full (stored keys.names dir.key
     by_full : (full : Option (List ℕ)) → holds v (full_place dir (stored keys.names dir.key name)) full ≡ true → holds (edited v e) (full_place dir (stored keys.names dir.key name)) full ≡ true
     by_full None held = refl
     by_full (Some text) held =
-        ap (λ x. is_file_of text (file_bytes x)) (edited_adds v e new.orderly.folders (ap v (sym new.place) ∙ new.free) (full_place dir (stored keys.names dir.key name))
+        ap (λ x. is_file_of text (file_bytes x)) (edited_adds v e new.rooted.folders (ap v (sym new.place) ∙ new.free) (full_place dir (stored keys.names dir.key name))
         (λ none. let no_file : is_file_of text (file_bytes NoEntry) ≡ true = ap (λ x. is_file_of text (file_bytes x)) (sym none) ∙ held in cc)) ∙ held
 
 -- a file that is put there holds it
@@ -142,45 +156,21 @@ now_held keys v dir name text first is place brings =
     ∙ ap (λ x. is_file_of text (file_bytes x)) (ap (edited v first) (sym place) ∙ brought_there v first ∙ ap (λ (m : View). m []) brings)
     ∙ (bytes_eq-Decides text text).1 refl
 
--- one edit, where the name is short or its text is there
-alone_at_once : (texts : GoTexts) (keys : GoKeys) (v : View) (front : plain.Path) (dir : Directory) (name : List ℕ) (e : Edit) (item : Opened)
-    → IsNew (go_format keys) v front dir name e → ArrivesAnywhere keys dir name e item → holds_full (go_format keys) v dir (stored keys.names dir.key name) ≡ true
-    → OpensWith (go_format keys) v (edited v e) (front ++ name ∷ []) item
-alone_at_once texts keys v front dir name e item new arrives held =
-    comes_last (go_format keys) (go_lawful texts keys) v v front dir name e item (λ path. refl) new (entry_spares texts keys v front dir name e new)
-    (arrives v (still_held keys v front dir name e new held))
-
--- once its text is put beside the entry, the item comes
-after_side : (texts : GoTexts) (keys : GoKeys) (v : View) (front : plain.Path) (dir : Directory) (name : List ℕ) (e : Edit) (item : Opened) (text : List ℕ)
-    → IsNew (go_format keys) v front dir name e → ArrivesAnywhere keys dir name e item → (stored keys.names dir.key name).full ≡ Some text
-    → (first : Edit) → first.at ≡ full_place dir (stored keys.names dir.key name) → first.made ≡ file_view text
-    → IsSide (go_format keys) (go_lawful texts keys) v first dir.folder (full_name (stored keys.names dir.key name).name)
-    → ComesAlone (go_format keys) v v (first ∷ e ∷ []) (front ++ name ∷ []) item
-after_side texts keys v front dir name e item text new arrives is first place brings side = (
-  opens_as,
-  comes_last (go_format keys) (go_lawful texts keys) v (edited v first) front dir name e item opens_as new_then
-      (entry_spares texts keys (edited v first) front dir name e new_then)
-      (arrives (edited v first) (still_held keys (edited v first) front dir name e new_then (now_held keys v dir name text first is place brings))),
-)
-  where
-    opens_as : OpensAs (go_format keys) v (edited v first)
-    opens_as = side_opens (go_format keys) (go_lawful texts keys) v v first dir.folder (full_name (stored keys.names dir.key name).name) (λ path. refl) side
-
-    new_then : IsNew (go_format keys) (edited v first) front dir name e
-    new_then = new_after_side (go_format keys) (go_lawful texts keys) v first dir.folder (full_name (stored keys.names dir.key name).name) front dir name e side new
-
 -- its text comes beside the entry, and tells nothing of what is there
 pub full_side : (texts : GoTexts) (keys : GoKeys) (v : View) (front : plain.Path) (dir : Directory) (name : List ℕ) (e : Edit) (text : List ℕ)
     → IsNew (go_format keys) v front dir name e → (stored keys.names dir.key name).full ≡ Some text → v (full_place dir (stored keys.names dir.key name)) ≡ NoEntry
-    → IsSide (go_format keys) (go_lawful texts keys) v (file_edit (full_place dir (stored keys.names dir.key name)) text) dir.folder (full_name (stored keys.names dir.key name).name)
+    → IsSide (go_format keys) (go_lawful texts keys) v (file_edit (full_place dir (stored keys.names dir.key name)) text)
 full_side texts keys v front dir name e text new is full_free = record {
-  orderly = new.orderly;
+  rooted = new.rooted;
   free = full_free;
   spares = go_spares texts keys v dir (full_name (stored keys.names dir.key name).name) not_key not_full;
   no_entry = no_entry;
+  up = dir.folder;
+  last = full_name (stored keys.names dir.key name).name;
   place = refl;
   up_there = (reached_right (go_format keys) (go_lawful texts keys) v front dir new.leads).there;
-  made = file_folders text;
+  alone = file_alone text;
+  no_configuration = full_spares texts (stored keys.names dir.key name) its_text long dir.folder;
 }
   where
     its_text : IsOfText (stored keys.names dir.key name)
@@ -207,15 +197,6 @@ full_side texts keys v front dir name e text new is full_free = record {
         let both : (other.folder ≡ dir.folder) × ((stored keys.names other.key n).name ≡ full_name (stored keys.names dir.key name).name)
         = child-both other.folder dir.folder (stored keys.names other.key n).name (full_name (stored keys.names dir.key name).name) same in
         name_not_full texts (stored keys.names other.key n) (stored keys.names dir.key name) (of_text texts keys v path other n leads named) its_text long (sym both.1)
-
--- two edits, where its text is put beside the entry first
-alone_in_turn : (texts : GoTexts) (keys : GoKeys) (v : View) (front : plain.Path) (dir : Directory) (name : List ℕ) (e : Edit) (item : Opened) (text : List ℕ)
-    → IsNew (go_format keys) v front dir name e → ArrivesAnywhere keys dir name e item
-    → (stored keys.names dir.key name).full ≡ Some text → v (full_place dir (stored keys.names dir.key name)) ≡ NoEntry
-    → ComesAlone (go_format keys) v v (file_edit (full_place dir (stored keys.names dir.key name)) text ∷ e ∷ []) (front ++ name ∷ []) item
-alone_in_turn texts keys v front dir name e item text new arrives is full_free =
-    after_side texts keys v front dir name e item text new arrives is (file_edit (full_place dir (stored keys.names dir.key name)) text) refl refl
-    (full_side texts keys v front dir name e text new is full_free)
 
 -- where no place is taken, the entry is free, and beside it is nothing or the text
 go_free : (v : View) (dir : Directory) (s : Stored) → go_taken v dir s ≡ None
@@ -248,25 +229,58 @@ by_edits keys v dir name e Holds none at_once in_turn =
     by_full (Some text) is Folder there none = cc
     by_full (Some text) is Special there none = cc
 
-pub is_new : (keys : GoKeys) (v : View) (front : plain.Path) (dir : Directory) (name : List ℕ) (e : Edit) → IsOrderly (go_format keys) v → Leads (go_format keys) v front dir → IsTrue (is_name name)
+pub is_new : (texts : GoTexts) (keys : GoKeys) (v : View) (front : plain.Path) (dir : Directory) (name : List ℕ) (e : Edit) → HasFolders v → Leads (go_format keys) v front dir → IsTrue (is_name name)
     → entry_at (go_format keys) dir name ≡ e.at → go_taken v dir (stored keys.names dir.key name) ≡ None → IsNew (go_format keys) v front dir name e
-is_new keys v front dir name e orderly leads named place none = record {
-  orderly = orderly;
+is_new texts keys v front dir name e folders leads named place none = record {
+  rooted = leads_from_root (go_format keys) (go_lawful texts keys) v folders front dir leads;
   leads = leads;
   named = named;
   place = place;
   free = (go_free v dir (stored keys.names dir.key name) none).0;
 }
 
--- an item that is new comes alone
-new_alone : (texts : GoTexts) (keys : GoKeys) (v : View) (front : plain.Path) (dir : Directory) (name : List ℕ) (e : Edit) (item : Opened)
-    → IsOrderly (go_format keys) v → Leads (go_format keys) v front dir → IsTrue (is_name name) → entry_at (go_format keys) dir name ≡ e.at
-    → ArrivesAnywhere keys dir name e item → go_taken v dir (stored keys.names dir.key name) ≡ None
-    → ComesAlone (go_format keys) v v (full_edits v dir (stored keys.names dir.key name) ++ e ∷ []) (front ++ name ∷ []) item
-new_alone texts keys v front dir name e item orderly leads named place arrives none =
-    by_edits keys v dir name e (λ edits. ComesAlone (go_format keys) v v edits (front ++ name ∷ []) item) none
-    (alone_at_once texts keys v front dir name e item (is_new keys v front dir name e orderly leads named place none) arrives)
-    (λ text. alone_in_turn texts keys v front dir name e item text (is_new keys v front dir name e orderly leads named place none) arrives)
+-- what its last edit brings, wherever its long-name file holds its text
+record ComesAnywhere (keys : GoKeys) (first : View) (dir : Directory) (name : List ℕ) (item : Opened) (e : Edit) : Type 0 where
+  place : entry_at (go_format keys) dir name ≡ e.at
+  made : HasFolders e.made
+  arrives : ArrivesAnywhere keys dir name e item
+  own : (u : View) → holds_full (go_format keys) (edited u e) dir (stored keys.names dir.key name) ≡ true → HasOwnFolder (go_format keys) first (standing_in (go_format keys) (edited u e) dir name)
+
+comes_at_end : (texts : GoTexts) (keys : GoKeys) (first u : View) (front : plain.Path) (dir : Directory) (name : List ℕ) (item : Opened) (e : Edit)
+    → IsNew (go_format keys) u front dir name e → ComesAnywhere keys first dir name item e → holds_full (go_format keys) u dir (stored keys.names dir.key name) ≡ true
+    → IsLast (go_format keys) (go_lawful texts keys) first u front dir name item e
+comes_at_end texts keys first u front dir name item e new comes held = record {
+  new = new;
+  spares = entry_spares texts keys u front dir name e new;
+  arrives = comes.arrives u (still_held keys u front dir name e new held);
+  made = comes.made;
+  own = comes.own u (still_held keys u front dir name e new held);
+  no_configuration = subst SparesConfiguration new.place
+      (ap_stored (entry_spares_configuration texts dir.folder its_text.text its_text.plain));
+}
+  where
+    its_text : IsOfText (stored keys.names dir.key name)
+    its_text = of_text texts keys u front dir name new.leads new.named
+
+    ap_stored : SparesConfiguration (child dir.folder (entry_of its_text.text).name) → SparesConfiguration (entry_at (go_format keys) dir name)
+    ap_stored = subst (λ (s : Stored). SparesConfiguration (child dir.folder s.name)) (sym its_text.is)
+
+-- an item is made by its entry, or by its long name's text and then its entry
+new_made : (texts : GoTexts) (keys : GoKeys) (v : View) (front : plain.Path) (dir : Directory) (name : List ℕ) (item : Opened) (e : Edit)
+    → HasFolders v → Leads (go_format keys) v front dir → IsTrue (is_name name) → ComesAnywhere keys v dir name item e → go_taken v dir (stored keys.names dir.key name) ≡ None
+    → IsMade (go_format keys) (go_lawful texts keys) v v front dir name item (full_edits v dir (stored keys.names dir.key name) ++ e ∷ [])
+new_made texts keys v front dir name item e folders leads named comes none =
+    by_edits keys v dir name e (IsMade (go_format keys) (go_lawful texts keys) v v front dir name item) none
+    (comes_at_end texts keys v v front dir name item e new comes)
+    (λ text is free. (
+      full_side texts keys v front dir name e text new is free,
+      comes_at_end texts keys v (edited v (file_edit (full_place dir (stored keys.names dir.key name)) text)) front dir name item e
+          (new_after_side (go_format keys) (go_lawful texts keys) v (file_edit (full_place dir (stored keys.names dir.key name)) text) front dir name e (full_side texts keys v front dir name e text new is free) new)
+          comes (now_held keys v dir name text (file_edit (full_place dir (stored keys.names dir.key name)) text) is refl refl),
+    ))
+  where
+    new : IsNew (go_format keys) v front dir name e
+    new = is_new texts keys v front dir name e folders leads named comes.place none
 
 -- a file arrives
 pub file_stands : (keys : GoKeys) (u : View) (dir : Directory) (name bytes : List ℕ) (e : Edit) → IsTrue (is_name name) → e.at ≡ entry_at (go_format keys) dir name → e.made ≡ file_view bytes
@@ -331,20 +345,34 @@ directory_arrives texts keys u dir name key e named place made is_key held = rec
         by_name false is = subst IsNoItem (sym (standing_unnamed (go_format keys) (edited u e) (record { folder = e.at; key = key }) n is)) (record {})
         by_name true is = none_stands (go_format keys) (go_lawful texts keys) (edited u e) (record { folder = e.at; key = key }) n (no_entries texts keys u key e made is_key n is)
 
--- A new file comes alone, and so does a new directory.
-new_file_alone : GoTexts → (keys : GoKeys) (v : View) (front : plain.Path) (dir : Directory) (name bytes : List ℕ)
-    → IsOrderly (go_format keys) v → Leads (go_format keys) v front dir → IsTrue (is_name name) → go_taken v dir (stored keys.names dir.key name) ≡ None
-    → ComesAlone (go_format keys) v v ((go_format keys).new_file v dir (stored keys.names dir.key name) bytes) (front ++ name ∷ []) (opened_file (go_format keys).content (Some bytes))
-new_file_alone texts keys v front dir name bytes orderly leads named none =
-    new_alone texts keys v front dir name (file_edit (entry_at (go_format keys) dir name) bytes) (opened_file (go_format keys).content (Some bytes)) orderly leads named refl
-    (λ u held. file_arrives keys u dir name bytes (file_edit (entry_at (go_format keys) dir name) bytes) named refl refl held) none
+-- a new file is made so, and so is a new directory
+file_made : (texts : GoTexts) (keys : GoKeys) (v : View) (front : plain.Path) (dir : Directory) (name bytes : List ℕ)
+    → HasFolders v → Leads (go_format keys) v front dir → IsTrue (is_name name) → go_taken v dir (stored keys.names dir.key name) ≡ None
+    → IsMade (go_format keys) (go_lawful texts keys) v v front dir name (opened_file (go_format keys).content (Some bytes)) ((go_format keys).new_file v dir (stored keys.names dir.key name) bytes)
+file_made texts keys v front dir name bytes folders leads named none =
+    new_made texts keys v front dir name (opened_file (go_format keys).content (Some bytes)) (file_edit (entry_at (go_format keys) dir name) bytes) folders leads named (record {
+      place = refl;
+      made = file_folders bytes;
+      arrives = λ u held. file_arrives keys u dir name bytes (file_edit (entry_at (go_format keys) dir name) bytes) named refl refl held;
+      own = λ u held. subst (HasOwnFolder (go_format keys) v) (sym (file_stands keys u dir name bytes (file_edit (entry_at (go_format keys) dir name) bytes) named refl refl held)) (record {});
+    }) none
 
-new_directory_alone : GoTexts → (keys : GoKeys) (v : View) (front : plain.Path) (dir : Directory) (name key : List ℕ)
-    → IsOrderly (go_format keys) v → Leads (go_format keys) v front dir → IsTrue (is_name name) → directory_key key ≡ Some key → go_taken v dir (stored keys.names dir.key name) ≡ None
-    → ComesAlone (go_format keys) v v ((go_format keys).new_directory v dir (stored keys.names dir.key name) key) (front ++ name ∷ []) opens.Directory
-new_directory_alone texts keys v front dir name key orderly leads named is_key none =
-    new_alone texts keys v front dir name (folder_edit (entry_at (go_format keys) dir name) ((key_file, key) ∷ [])) opens.Directory orderly leads named refl
-    (λ u held. directory_arrives texts keys u dir name key (folder_edit (entry_at (go_format keys) dir name) ((key_file, key) ∷ [])) named refl refl is_key held) none
+directory_made : (texts : GoTexts) (keys : GoKeys) (v : View) (front : plain.Path) (dir : Directory) (name key : List ℕ)
+    → HasFolders v → Leads (go_format keys) v front dir → IsTrue (is_name name) → directory_key key ≡ Some key → go_taken v dir (stored keys.names dir.key name) ≡ None
+    → IsMade (go_format keys) (go_lawful texts keys) v v front dir name opens.Directory ((go_format keys).new_directory v dir (stored keys.names dir.key name) key)
+directory_made texts keys v front dir name key folders leads named is_key none =
+    new_made texts keys v front dir name opens.Directory (folder_edit (entry_at (go_format keys) dir name) ((key_file, key) ∷ [])) folders leads named (record {
+      place = refl;
+      made = folder_folders ((key_file, key) ∷ []);
+      arrives = λ u held. directory_arrives texts keys u dir name key (folder_edit (entry_at (go_format keys) dir name) ((key_file, key) ∷ [])) named refl refl is_key held;
+      own = λ u held. subst (HasOwnFolder (go_format keys) v) (sym (directory_stands keys u dir name key (folder_edit (entry_at (go_format keys) dir name) ((key_file, key) ∷ [])) named refl refl is_key held)) own;
+    }) none
+  where
+    own : (path : plain.Path) (other : Directory) → Leads (go_format keys) v path other → entry_at (go_format keys) dir name ≢ other.folder
+    own path other leads_too same =
+        let there : v other.folder ≡ Folder = (reached_right (go_format keys) (go_lawful texts keys) v path other leads_too).there in
+        let clash : Folder ≡ NoEntry = sym there ∙ ap v (sym same) ∙ (go_free v dir (stored keys.names dir.key name) none).0 in
+        cc
 
-pub new_items : GoTexts → (keys : GoKeys) → NewItemsComeAlone (go_format keys)
-new_items texts keys = record { file = new_file_alone texts keys; directory = new_directory_alone texts keys }
+pub go_makes : (texts : GoTexts) (keys : GoKeys) → MakesItems (go_format keys) (go_lawful texts keys)
+go_makes texts keys = record { file = file_made texts keys; directory = directory_made texts keys }

@@ -20,7 +20,7 @@ use Rattle.vault_spec.specs.Alike.{IsOrderly}
 use Rattle.vault_spec.specs.Adding.{StaysClean, NewItemsStayClean}
 use Rattle.vault_spec.proofs.Entries.{long_entry}
 use Rattle.vault_spec.proofs.PathEnds.{child-both}
-use Rattle.vault_spec.proofs.Places.{brought_there, IsSide, IsNew, new_after_side}
+use Rattle.vault_spec.proofs.Places.{brought_there, IsSide, side_orderly, IsNew, new_after_side}
 use Rattle.vault_spec.proofs.StaysClean.{IsBare, IsSideFile, IsApart, stays_clean}
 use Rattle.vault_spec.proofs.Keeping.{free_is_apart, HasPlace, side_keeps, BringsWhole, item_keeps, file_brings}
 use Rattle.vault_spec.proofs.GoNames.{GoTexts, full_is_full, name_is_not_full}
@@ -77,30 +77,31 @@ new_clean : (texts : GoTexts) (keys : GoKeys) (v : View) (front : plain.Path) (d
     → ArrivesAnywhere keys dir name e item → WholeAnywhere keys dir name e → go_taken v dir (stored keys.names dir.key name) ≡ None
     → StaysClean (go_format keys) v (full_edits v dir (stored keys.names dir.key name) ++ e ∷ [])
 new_clean texts keys v front dir name e item orderly clean leads named place arrives whole none =
-    by_edits keys v dir name e (StaysClean (go_format keys) v) none (λ held. (last v new clean (still_held keys v front dir name e new held), record {})) in_turn
+    by_edits keys v dir name e (StaysClean (go_format keys) v) none (λ held. (last v orderly new clean (still_held keys v front dir name e new held), record {})) in_turn
   where
     new : IsNew (go_format keys) v front dir name e
-    new = is_new keys v front dir name e orderly leads named place none
+    new = is_new texts keys v front dir name e orderly.folders leads named place none
 
-    last : (u : View) → IsNew (go_format keys) u front dir name e → IsClean (go_format keys) u → holds_full (go_format keys) (edited u e) dir (stored keys.names dir.key name) ≡ true
+    last : (u : View) → IsOrderly (go_format keys) u → IsNew (go_format keys) u front dir name e → IsClean (go_format keys) u → holds_full (go_format keys) (edited u e) dir (stored keys.names dir.key name) ≡ true
         → IsClean (go_format keys) (edited u e)
-    last u is_so clean held = stays_clean (go_format keys) (go_lawful texts keys) u e
-        (item_keeps (go_format keys) (go_lawful texts keys) u front dir name e item is_so (entry_spares texts keys u front dir name e is_so) (arrives u held) clean (go_place keys u e) (whole u front is_so held))
+    last u orderly_so is_so clean held = stays_clean (go_format keys) (go_lawful texts keys) u e
+        (item_keeps (go_format keys) (go_lawful texts keys) u front dir name e item orderly_so is_so (entry_spares texts keys u front dir name e is_so) (arrives u held) clean (go_place keys u e) (whole u front is_so held))
 
     in_turn : (text : List ℕ) → (stored keys.names dir.key name).full ≡ Some text → v (full_place dir (stored keys.names dir.key name)) ≡ NoEntry
         → StaysClean (go_format keys) v (file_edit (full_place dir (stored keys.names dir.key name)) text ∷ e ∷ [])
     in_turn text is free =
-        let side : IsSide (go_format keys) (go_lawful texts keys) v (file_edit (full_place dir (stored keys.names dir.key name)) text) dir.folder (full_name (stored keys.names dir.key name).name)
+        let side : IsSide (go_format keys) (go_lawful texts keys) v (file_edit (full_place dir (stored keys.names dir.key name)) text)
         = full_side texts keys v front dir name e text new is free in
         let clean_then : IsClean (go_format keys) (edited v (file_edit (full_place dir (stored keys.names dir.key name)) text))
         = stays_clean (go_format keys) (go_lawful texts keys) v (file_edit (full_place dir (stored keys.names dir.key name)) text)
-        (side_keeps (go_format keys) (go_lawful texts keys) v (file_edit (full_place dir (stored keys.names dir.key name)) text) dir.folder (full_name (stored keys.names dir.key name).name) side clean
+        (side_keeps (go_format keys) (go_lawful texts keys) v (file_edit (full_place dir (stored keys.names dir.key name)) text) orderly side clean
         (go_place keys v (file_edit (full_place dir (stored keys.names dir.key name)) text)) (placed text is)) in
         let new_then : IsNew (go_format keys) (edited v (file_edit (full_place dir (stored keys.names dir.key name)) text)) front dir name e
-        = new_after_side (go_format keys) (go_lawful texts keys) v (file_edit (full_place dir (stored keys.names dir.key name)) text) dir.folder (full_name (stored keys.names dir.key name).name) front dir name e side new in (
+        = new_after_side (go_format keys) (go_lawful texts keys) v (file_edit (full_place dir (stored keys.names dir.key name)) text) front dir name e side new in (
           clean_then,
           (
-            last (edited v (file_edit (full_place dir (stored keys.names dir.key name)) text)) new_then clean_then
+            last (edited v (file_edit (full_place dir (stored keys.names dir.key name)) text))
+                (side_orderly (go_format keys) (go_lawful texts keys) v (file_edit (full_place dir (stored keys.names dir.key name)) text) orderly side) new_then clean_then
                 (still_held keys (edited v (file_edit (full_place dir (stored keys.names dir.key name)) text)) front dir name e new_then
                 (now_held keys v dir name text (file_edit (full_place dir (stored keys.names dir.key name)) text) is refl refl)),
             record {},

@@ -2,7 +2,7 @@
 use Rattle.vault_spec.specs.Findings.{IsFileAt}
 use Rattle.vault_spec.proofs.PathEnds.{child-both}
 use Rattle.vault_names.specs.declared.entry.Stored.{Stored}
-use Rattle.std.proofs.Common.{◌≡◌, ◌≢◌, ℕ, ◌==◌, Bool, true, false, ◌&&◌, not, List, [], ◌∷◌, refl, sym, ap, ◌∙◌, inl, inr, subst, Some, None, Option, IsTrue, length, append-nil, bytes_eq, ◌++◌, ◌⊎◌, is_some}
+use Rattle.std.proofs.Common.{◌≡◌, ◌≢◌, ℕ, ◌==◌, Bool, true, false, ◌&&◌, not, List, [], ◌∷◌, refl, sym, ap, ◌∙◌, inl, inr, subst, Some, None, Option, IsTrue, length, append-nil, bytes_eq, ◌++◌, ◌⊎◌, is_some, codes}
 use Rattle.std.specs.Option.{option_and_then}
 use Rattle.std.specs.List.{list_all}
 use Rattle.std.proofs.lemmas.Bool.{eqb-true}
@@ -21,10 +21,10 @@ use Rattle.vault_spec.specs.Reached.{Leads, HaveOwnFolders}
 use Rattle.vault_spec.proofs.Grafts.{IsRight, reached_right}
 use Rattle.vault_spec.specs.Format.{Directory, FileItem, is_bytes, file_bytes, key_of}
 use Rattle.vault_spec.specs.Gocryptfs.{key_file, full_name, directory_key, go_item, go_format}
-use Rattle.vault_spec.proofs.Lawful.{IsLawful}
+use Rattle.vault_spec.proofs.Lawful.{IsLawful, SparesConfiguration}
 use Rattle.vault_spec.proofs.ByteKeys.{left_true, right_true, given, are_bytes}
 use Rattle.vault_spec.proofs.Entries.{one_text, same_forms, entry_is, IsShortOrLong}
-use Rattle.vault_spec.proofs.GoNames.{GoTexts, not_long, entry_not_key, entry_not_full}
+use Rattle.vault_spec.proofs.GoNames.{GoTexts, not_long, entry_not, entry_not_key, entry_not_full}
 
 -- sixteen bytes
 unfoldable pub is_go_key : List ℕ → Bool
@@ -96,6 +96,17 @@ entry_not_long text other texts plain long = by_form (entry_is long_name 255 oth
     by_form (inl short) same = let clash : true ≡ false = sym long ∙ ap (λ (s : Stored). is_some s.full) short in cc
     by_form (inr is_long) same = entry_not_full text other texts plain (same ∙ ap (λ (s : Stored). full_name s.name) is_long)
 
+-- nor a configuration of a vault
+pub entry_spares_configuration : GoTexts → (at : Path) (text : List ℕ) → IsTrue (list_all is_base64url text) → SparesConfiguration (child at (entry_of text).name)
+entry_spares_configuration texts at text plain = record {
+  gocryptfs = λ same. entry_not (codes "gocryptfs.conf") refl (λ size. cc) text texts plain (name_is (codes "gocryptfs.conf") same);
+  master = λ same. entry_not (codes "masterkey.cryptomator") refl (λ size. cc) text texts plain (name_is (codes "masterkey.cryptomator") same);
+  vault = λ same. entry_not (codes "vault.cryptomator") refl (λ size. cc) text texts plain (name_is (codes "vault.cryptomator") same);
+}
+  where
+    name_is : (x : Part) → x ∷ [] ≡ child at (entry_of text).name → (entry_of text).name ≡ x
+    name_is x same = sym (child-both [] at x (entry_of text).name same).1
+
 unfoldable pub go_lawful : GoTexts → (keys : GoKeys) → IsLawful (go_format keys)
 unfolding stored
 go_lawful texts keys = record {
@@ -126,6 +137,9 @@ go_lawful texts keys = record {
   content_no_root_key = λ v key name rest at is named item same.
       entry_not_key (go_text keys.names key name) texts (text_plain texts keys key name is named)
       (child-both at [] (stored keys.names key name).name key_file (at_entry at (stored keys.names key name).name rest (v []) item ∙ same)).1;
+  content_no_configuration = λ v key name rest at is named item.
+      subst SparesConfiguration (at_entry at (stored keys.names key name).name rest (v []) item)
+      (entry_spares_configuration texts at (go_text keys.names key name) (text_plain texts keys key name is named));
   content_no_name = λ v key other name another rest at place is named item long is_other another_named same.
       entry_not_long (go_text keys.names key name) (go_text keys.names other another) texts (text_plain texts keys key name is named) long
       (child-both at place (stored keys.names key name).name (full_name (stored keys.names other another).name) (at_entry at (stored keys.names key name).name rest (v []) item ∙ same)).1;

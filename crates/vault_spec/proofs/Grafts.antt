@@ -15,7 +15,7 @@ use Rattle.vault_spec.specs.declared.Lack.TheVariants.{NoDirKey, NoFolder}
 use Rattle.vault_spec.specs.Format.{Format, Directory, Item, Nothing, FileItem, DirectoryItem, NoItem, is_folder, file_bytes, key_of}
 use Rattle.vault_spec.specs.Standing.{Standing, Absent, Strange, File, Dir, root_of, directory_with, entry_at, is_file_of, holds, holds_full, item_at, standing_of, standing_in, standing_from}
 use Rattle.vault_spec.specs.Reached.{Leads}
-use Rattle.vault_spec.specs.Alike.{IsNoItem, IsSame, HasFolders, IsOrderly}
+use Rattle.vault_spec.specs.Alike.{IsNoItem, IsSame, HasFolders}
 use Rattle.vault_spec.proofs.Lawful.{IsLawful}
 
 is_folder_there : (x : Found) → is_folder x ≡ true → x ≡ Folder
@@ -207,15 +207,15 @@ pub record EntryStays (f : Format) (v w : View) (dir : Directory) (name : List �
 
 -- an entry that is there and spared is as it was
 pub entry_stays : (f : Format) (lawful : IsLawful f) (v : View) (e : Edit) (path : plain.Path) (dir : Directory) (name : List ℕ)
-    → IsOrderly f v → v e.at ≡ NoEntry → Leads f v path dir → v (entry_at f dir name) ≢ NoEntry → SparesEntry f lawful v e.at dir name
+    → HasFolders v → v e.at ≡ NoEntry → Leads f v path dir → v (entry_at f dir name) ≢ NoEntry → SparesEntry f lawful v e.at dir name
     → EntryStays f v (edited v e) dir name
-entry_stays f lawful v e path dir name orderly free leads there spared = record { item = items; key = keys; full = fulls }
+entry_stays f lawful v e path dir name folders free leads there spared = record { item = items; key = keys; full = fulls }
   where
     entry_same : v (entry_at f dir name ++ []) ≡ edited v e (entry_at f dir name ++ [])
-    entry_same = sym (edited_adds v e orderly.folders free (entry_at f dir name ++ []) (λ none. there (ap v (sym (append-nil (entry_at f dir name))) ∙ none)))
+    entry_same = sym (edited_adds v e folders free (entry_at f dir name ++ []) (λ none. there (ap v (sym (append-nil (entry_at f dir name))) ∙ none)))
 
     mark_same : (m : Part) → IsTrue (lawful.marks m) → v (child (entry_at f dir name) m) ≡ edited v e (child (entry_at f dir name) m)
-    mark_same m is = sym (edited_entry v e orderly.folders free (entry_at f dir name) m there (spared.marks m is))
+    mark_same m is = sym (edited_entry v e folders free (entry_at f dir name) m there (spared.marks m is))
 
     items : item_at f v dir (f.stored dir.key name) ≡ item_at f (edited v e) dir (f.stored dir.key name)
     items = lawful.item_by_kinds (is_some (f.stored dir.key name).full) (under (entry_at f dir name) v) (under (entry_at f dir name) (edited v e)) (ap kind_found entry_same) (λ m is. ap kind_found (mark_same m is))
@@ -227,32 +227,32 @@ entry_stays f lawful v e path dir name orderly free leads there spared = record 
     full_same long = elim (lawful.full_place (f.stored dir.key name).name) [
       | inl beside ↦
           let is : dir.folder ++ f.full_at (f.stored dir.key name).name ≡ child dir.folder beside.0 = ap (λ r. dir.folder ++ r) beside.1 in
-          subst (λ p. v p ≡ edited v e p) (sym is) (sym (edited_entry v e orderly.folders free dir.folder beside.0
+          subst (λ p. v p ≡ edited v e p) (sym is) (sym (edited_entry v e folders free dir.folder beside.0
           (λ none. let folder : v dir.folder ≡ Folder = (reached_right f lawful v path dir leads).there in cc) (λ z. spared.full long (is ∙ z))))
       | inr inside ↦
           let is : dir.folder ++ f.full_at (f.stored dir.key name).name ≡ child (entry_at f dir name) inside.0
           = ap (λ r. dir.folder ++ r) inside.1 ∙ sym (append_assoc dir.folder ((f.stored dir.key name).name ∷ []) (inside.0 ∷ [])) in
-          subst (λ p. v p ≡ edited v e p) (sym is) (sym (edited_entry v e orderly.folders free (entry_at f dir name) inside.0 there (λ z. spared.full long (is ∙ z))))
+          subst (λ p. v p ≡ edited v e p) (sym is) (sym (edited_entry v e folders free (entry_at f dir name) inside.0 there (λ z. spared.full long (is ∙ z))))
     ]
 
     fulls : holds_full f v dir (f.stored dir.key name) ≡ holds_full f (edited v e) dir (f.stored dir.key name)
     fulls = holds_by v (edited v e) (dir.folder ++ f.full_at (f.stored dir.key name).name) (f.stored dir.key name).full full_same
 
--- where an entry is there and spared, what stands there stays
+-- where an entry is there and spared, what stands there stays, unless it is a directory that can't be entered
 pub stands_on : (f : Format) (lawful : IsLawful f) (v : View) (e : Edit) (path : plain.Path) (dir : Directory) (name : List ℕ)
-    → IsOrderly f v → v e.at ≡ NoEntry → Leads f v path dir → v (entry_at f dir name) ≢ NoEntry → SparesEntry f lawful v e.at dir name
+    → HasFolders v → ((at : Path) (lack : Lack) → standing_in f v dir name ≢ Dir at (Err lack)) → v e.at ≡ NoEntry → Leads f v path dir → v (entry_at f dir name) ≢ NoEntry → SparesEntry f lawful v e.at dir name
     → IsSame v (edited v e) (standing_in f v dir name) (standing_in f (edited v e) dir name)
-stands_on f lawful v e path dir name orderly free leads there spared = by_name (is_name name) refl
+stands_on f lawful v e path dir name folders entered free leads there spared = by_name (is_name name) refl
   where
     as_was : EntryStays f v (edited v e) dir name
-    as_was = entry_stays f lawful v e path dir name orderly free leads there spared
+    as_was = entry_stays f lawful v e path dir name folders free leads there spared
 
     stays : (q : Path) → v q ≢ NoEntry → edited v e q ≡ v q
-    stays = edited_adds v e orderly.folders free
+    stays = edited_adds v e folders free
 
     stays_entered : is_name name ≡ true → item_at f v dir (f.stored dir.key name) ≡ DirectoryItem → holds_full f v dir (f.stored dir.key name) ≡ true
         → (lack : Lack) → directory_with f v (entry_at f dir name) (key_of f (under (entry_at f dir name) v)) ≢ Err lack
-    stays_entered named item holds lack locked = orderly.entered path dir name (entry_at f dir name) lack leads
+    stays_entered named item holds lack locked = entered (entry_at f dir name) lack
         (standing_named f v dir name named ∙ ap (λ b. standing_of f v (entry_at f dir name) b (item_at f v dir (f.stored dir.key name))) holds
         ∙ ap (standing_of f v (entry_at f dir name) true) item ∙ ap (Dir (entry_at f dir name)) locked)
 

@@ -14,7 +14,7 @@ use Rattle.vault_spec.specs.Format.{Format, Directory, Item, FileItem, NoItem, C
 use Rattle.vault_spec.specs.Standing.{File, Dir, standing_of, root_of, entry_at, holds_full, item_at, standing_in, standing}
 use Rattle.vault_spec.specs.Reached.{Leads}
 use Rattle.vault_spec.specs.Findings.{IsClean}
-use Rattle.vault_spec.specs.Alike.{IsNoItem, AreAlike, LooksAlike, GainsItem}
+use Rattle.vault_spec.specs.Alike.{IsNoItem, AreAlike, LooksAlike, GainsItem, IsOrderly}
 use Rattle.vault_spec.specs.Opens.{Opened}
 use Rattle.vault_spec.proofs.Lawful.{IsLawful}
 use Rattle.vault_spec.proofs.Steps.{along, gains_alike}
@@ -46,10 +46,10 @@ pub record HasPlace (f : Format) (v : View) (e : Edit) : Type 0 where
   pub empty : (rest : Path) (x : Part) → f.role (e.at ++ rest) (edited v e (e.at ++ rest)) ≡ ContentFolder → edited v e (child (e.at ++ rest) x) ≡ NoEntry
   pub folder : (at : Path) (x : Part) → f.role at (v at) ≡ ContentFolder → child at x ≡ e.at → (path : plain.Path) × (dir : Directory) × Leads f v path dir × (dir.folder ≡ at)
 
-pub side_keeps : (f : Format) (lawful : IsLawful f) (v : View) (e : Edit) (up : Path) (a : Part) → IsSide f lawful v e up a → IsClean f v → HasPlace f v e
+pub side_keeps : (f : Format) (lawful : IsLawful f) (v : View) (e : Edit) → IsOrderly f v → IsSide f lawful v e → IsClean f v → HasPlace f v e
     → ((path : plain.Path) (dir : Directory) (x : Part) → Leads f v path dir → child dir.folder x ≡ e.at → IsSideFile f (edited v e) dir x) → KeepsClean f lawful v e
-side_keeps f lawful v e up a side clean has placed = record {
-  orderly = side.orderly;
+side_keeps f lawful v e orderly side clean has placed = record {
+  orderly = orderly;
   clean = clean;
   free = side.free;
   spares = side.spares;
@@ -59,7 +59,7 @@ side_keeps f lawful v e up a side clean has placed = record {
   placed = λ path dir x leads here. inl (placed path dir x leads here);
   whole = λ path dir name leads named here held. absurd (side.no_entry path dir name leads named here);
   unlocked = λ path dir name at lack leads locked. elim (looks.steps path dir name leads) [
-    | inl same ↦ side.orderly.entered path dir name at lack leads (same.stands ∙ locked)
+    | inl same ↦ orderly.entered path dir name at lack leads (same.stands ∙ locked)
     | inr none ↦ absurd (subst IsNoItem locked none.1)
   ];
   stands = λ path dir name at d leads stands_now. elim (looks.steps path dir name leads) [
@@ -73,7 +73,7 @@ side_keeps f lawful v e up a side clean has placed = record {
 }
   where
     looks : LooksAlike f v (edited v e)
-    looks = side_looks f lawful v e up a side
+    looks = side_looks f lawful v e orderly side
 
 -- What the last edit of an item brings: an item that holds nothing without a place, and where it is a directory, one that is entered,
 -- that holds nothing but what belongs there, and whose folder no other has.
@@ -87,9 +87,9 @@ pub record BringsWhole (f : Format) (v : View) (dir : Directory) (name : List �
   pub entered : (at : Path) (d : Directory) → standing_in f (edited v e) dir name ≡ Dir at (Ok d) → (at ≡ e.at) × IsApart f v d.folder × IsBare f (edited v e) d
 
 pub item_keeps : (f : Format) (lawful : IsLawful f) (v : View) (front : plain.Path) (dir : Directory) (name : List ℕ) (e : Edit) (opened : Opened)
-    → IsNew f v front dir name e → SparesAll f lawful v e.at → Arrives f v dir name e opened → IsClean f v → HasPlace f v e → BringsWhole f v dir name e → KeepsClean f lawful v e
-item_keeps f lawful v front dir name e opened new spares arrives clean has brings = record {
-  orderly = new.orderly;
+    → IsOrderly f v → IsNew f v front dir name e → SparesAll f lawful v e.at → Arrives f v dir name e opened → IsClean f v → HasPlace f v e → BringsWhole f v dir name e → KeepsClean f lawful v e
+item_keeps f lawful v front dir name e opened orderly new spares arrives clean has brings = record {
+  orderly = orderly;
   clean = clean;
   free = ap v (sym new.place) ∙ new.free;
   spares = spares;
@@ -108,7 +108,7 @@ item_keeps f lawful v front dir name e opened new spares arrives clean has bring
   where
     gains : GainsItem f v (edited v e) front name
     gains = brings_item f lawful v e front dir name (record {
-      orderly = new.orderly;
+      orderly = orderly;
       free = ap v (sym new.place) ∙ new.free;
       spares = spares;
       leads = new.leads;
@@ -142,7 +142,7 @@ item_keeps f lawful v front dir name e opened new spares arrives clean has bring
     same_place : (path : plain.Path) (other : Directory) (x : Part) → Leads f v path other → child other.folder x ≡ e.at → (other ≡ dir) × (x ≡ (f.stored dir.key name).name)
     same_place path other x leads here =
         let both : (other.folder ≡ dir.folder) × (x ≡ (f.stored dir.key name).name) = child-both other.folder dir.folder x (f.stored dir.key name).name (here ∙ sym new.place) in
-        (new.orderly.own_folder other dir (path, leads) (front, new.leads) both.0, both.1)
+        (orderly.own_folder other dir (path, leads) (front, new.leads) both.0, both.1)
 
     placed : (path : plain.Path) (other : Directory) (x : Part) → Leads f v path other → child other.folder x ≡ e.at → IsSideFile f (edited v e) other x ⊎ IsNewEntry f (edited v e) other x
     placed path other x leads here =
@@ -190,7 +190,7 @@ item_keeps f lawful v front dir name e opened new spares arrives clean has bring
     unlocked path other n at lack leads locked = elim (step path other n leads) [
       | inr its ↦ brings.unlocked at lack (sym its ∙ locked)
       | inl alike ↦ elim alike [
-        | inl same ↦ new.orderly.entered path other n at lack leads (same.stands ∙ locked)
+        | inl same ↦ orderly.entered path other n at lack leads (same.stands ∙ locked)
         | inr none ↦ absurd (subst IsNoItem locked none.1)
       ]
     ]

@@ -5,6 +5,13 @@ use Rattle.folder_spec.specs.Path.{Part, Path, child}
 use Rattle.folder_spec.specs.View.{Found, View, NoEntry, kind_found, FileOf}
 use Rattle.plain_tree.specs.Names.{is_name}
 use Rattle.vault_spec.specs.Format.{Format, Item, Nothing, FileItem, Expected, key_of}
+use Rattle.vault_spec.specs.Vault.{go_conf, master_file, vault_file}
+
+-- no configuration of a vault is at the place
+pub record SparesConfiguration (at : Path) : Type 0 where
+  pub gocryptfs : go_conf ≢ at
+  pub master : master_file ≢ at
+  pub vault : vault_file ≢ at
 
 -- `marks` are the names of the entries of an item's folder that tell what it is, and `is_key` says which keys there are.
 pub record IsLawful (f : Format) : Type 0 where
@@ -31,11 +38,13 @@ pub record IsLawful (f : Format) : Type 0 where
   -- what is stored at one place, an entry or a content, is of one entry
   pub content_entry : (v w : View) (long short : Bool) (one two : Path) (key other : List ℕ) (at place : Path) (a b : Part) → (one ≡ []) ⊎ (f.item long v ≡ FileItem one) → (two ≡ []) ⊎ (f.item short w ≡ FileItem two)
       → child (f.folder_of at key) a ++ one ≡ child (f.folder_of place other) b ++ two → child (f.folder_of at key) a ≡ child (f.folder_of place other) b
-  -- no content stands where a key or a long name does
+  -- no content stands where a key, a configuration or a long name does
   pub content_no_key : (v : View) (key other name another : List ℕ) (rest at place : Path) → IsTrue (is_key key) → IsTrue (is_name name) → f.item (is_some (f.stored key name).full) v ≡ FileItem rest
       → child (f.folder_of at key) (f.stored key name).name ++ rest ≢ child (child (f.folder_of place other) (f.stored other another).name) f.key_file
   pub content_no_root_key : (v : View) (key name : List ℕ) (rest at : Path) → IsTrue (is_key key) → IsTrue (is_name name) → f.item (is_some (f.stored key name).full) v ≡ FileItem rest
       → child (f.folder_of at key) (f.stored key name).name ++ rest ≢ f.key_file ∷ []
+  pub content_no_configuration : (v : View) (key name : List ℕ) (rest at : Path) → IsTrue (is_key key) → IsTrue (is_name name) → f.item (is_some (f.stored key name).full) v ≡ FileItem rest
+      → SparesConfiguration (child (f.folder_of at key) (f.stored key name).name ++ rest)
   pub content_no_name : (v : View) (key other name another : List ℕ) (rest at place : Path) → IsTrue (is_key key) → IsTrue (is_name name) → f.item (is_some (f.stored key name).full) v ≡ FileItem rest
       → is_some (f.stored other another).full ≡ true → IsTrue (is_key other) → IsTrue (is_name another)
       → child (f.folder_of at key) (f.stored key name).name ++ rest ≢ f.folder_of place other ++ f.full_at (f.stored other another).name

@@ -6,10 +6,14 @@ mod Places
 mod Clean
 mod Finds
 mod Lists
+mod Sides
+mod Loading
+mod MadeItems
 mod StaysClean
 mod Keeping
 mod OwnPlaces
 mod Replacing
+mod ReplacedVaults
 mod ReplacedClean
 mod EmptyRoots
 mod ByteKeys

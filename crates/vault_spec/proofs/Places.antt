@@ -5,20 +5,20 @@ use Rattle.folder_spec.specs.Seen.{under}
 use Rattle.std.proofs.lemmas.Slice.Eq.{bytes_eq-Decides}
 use Rattle.folder_spec.specs.Path.{Part, Path, child, below}
 use Rattle.folder_spec.specs.View.{Found, NoEntry, Folder, FileOf, Special, View}
-use Rattle.folder_spec.specs.Edit.{Edit, grafted, edited}
+use Rattle.folder_spec.specs.Edit.{Edit, grafted, edited, file_view, folder_view}
 use Rattle.folder_spec.proofs.Paths.{one_or_not, begins_or_not, below-append, below-above, child_begins, child-injective, child-last}
 use Rattle.plain_tree.specs.Names as plain
 use Rattle.plain_tree.specs.Names.{is_name}
 use Rattle.vault_names.specs.declared.entry.Stored.{Stored}
 use Rattle.vault_spec.specs.Format.{Format, Directory, Item, Nothing, FileItem, DirectoryItem, NoItem, file_bytes}
-use Rattle.vault_spec.specs.Standing.{Dir, root_of, directory_with, entry_at, is_file_of, holds, holds_full, item_at, standing_of, standing_in}
+use Rattle.vault_spec.specs.Standing.{Standing, Absent, Strange, File, Dir, root_of, directory_with, standing, standing_from, entry_at, is_file_of, holds, holds_full, item_at, standing_of, standing_in}
 use Rattle.vault_spec.specs.Opens.{Opened, opened_at}
 use Rattle.vault_spec.specs.Adding.{OpensAs, OpensWith}
 use Rattle.vault_spec.specs.Reached.{Leads}
 use Rattle.vault_spec.specs.Alike.{IsNoItem, AreAlike, LooksAlike, IsLeaf, GainsItem, HasFolders, IsOrderly}
-use Rattle.vault_spec.proofs.Lawful.{IsLawful}
-use Rattle.vault_spec.proofs.Steps.{standing_alike, opened_alike, gained, gained_there}
-use Rattle.vault_spec.proofs.Grafts.{reached_right, edited_elsewhere, edited_adds, edited_entry, none_stands, standing_named, standing_unnamed, same_directory, SparesEntry, stands_on}
+use Rattle.vault_spec.proofs.Lawful.{IsLawful, SparesConfiguration}
+use Rattle.vault_spec.proofs.Steps.{along, standing_alike, gained, gained_there}
+use Rattle.vault_spec.proofs.Grafts.{reached_right, nothing_below, edited_elsewhere, edited_adds, edited_entry, none_stands, standing_named, standing_unnamed, same_directory, SparesEntry, stands_on}
 
 pub none_or_there : (x : Found) → (x ≡ NoEntry) ⊎ (x ≢ NoEntry)
 none_or_there NoEntry = inl refl
@@ -35,13 +35,90 @@ pub record SparesAll (f : Format) (lawful : IsLawful f) (v : View) (at : Path) :
 abbrev pub IsNoEntry : Format → View → Path → Type 0
 IsNoEntry f v at = (path : plain.Path) (dir : Directory) (name : List ℕ) → Leads f v path dir → is_name name ≡ true → entry_at f dir name ≢ at
 
+-- whatever stands has a folder above it, and the root is entered
+pub record IsRooted (f : Format) (v : View) : Type 0 where
+  pub folders : HasFolders v
+  pub there : v [] ≡ Folder
+  pub top : Directory
+  pub root : root_of f v ≡ Dir [] (Ok top)
+
+pub orderly_is_rooted : (f : Format) (v : View) → IsOrderly f v → IsRooted f v
+orderly_is_rooted f v orderly = record { folders = orderly.folders; there = orderly.root_there; top = orderly.top; root = orderly.root }
+
+-- where a directory is entered at a path, one is entered at each front of it
+entered_here : (f : Format) (v : View) (here : Standing) (rest : plain.Path) (at : Path) (dir : Directory) → standing_from f v here rest ≡ Dir at (Ok dir) → (place : Path) × (d : Directory) × (here ≡ Dir place (Ok d))
+entered_here f v here [] at dir e = (at, dir, e)
+entered_here f v (Dir place (Ok d)) (n ∷ rest) at dir e = (place, d, refl)
+entered_here f v (Dir place (Err lack)) (n ∷ rest) at dir e = cc
+entered_here f v (File place) (n ∷ rest) at dir e = cc
+entered_here f v (Strange place) (n ∷ rest) at dir e = cc
+entered_here f v Absent (n ∷ rest) at dir e = cc
+
+-- so it is at the root
+pub leads_from_root : (f : Format) (lawful : IsLawful f) (v : View) → HasFolders v → (path : plain.Path) (dir : Directory) → Leads f v path dir → IsRooted f v
+leads_from_root f lawful v folders path dir leads = record { folders = folders; there = there dir.folder refl; top = first.1; root = root }
+  where
+    first : (place : Path) × (d : Directory) × (root_of f v ≡ Dir place (Ok d))
+    first = entered_here f v (root_of f v) path leads.at dir leads.stands
+
+    root : root_of f v ≡ Dir [] (Ok first.1)
+    root = let top : [] ≡ first.0 = ap place_or first.2 in first.2 ∙ ap (λ p. Dir p (Ok first.1)) (sym top)
+      where
+        place_or : Standing → Path
+        place_or (Dir place directory) = place
+        place_or (File place) = place
+        place_or (Strange place) = place
+        place_or Absent = []
+
+    folder_there : v dir.folder ≡ Folder
+    folder_there = (reached_right f lawful v path dir leads).there
+
+    there : (folder : Path) → dir.folder ≡ folder → v [] ≡ Folder
+    there [] is = ap v (sym is) ∙ folder_there
+    there (a ∷ rest) is = folders [] a (λ none.
+        let nothing : v dir.folder ≡ NoEntry = ap v is ∙ nothing_below v folders (a ∷ []) rest none in
+        let clash : Folder ≡ NoEntry = sym folder_there ∙ nothing in cc)
+
 -- the root stays
-root_stays : (f : Format) (lawful : IsLawful f) (v : View) (e : Edit) → IsOrderly f v → v e.at ≡ NoEntry → SparesAll f lawful v e.at → root_of f v ≡ root_of f (edited v e)
-root_stays f lawful v e orderly free spares =
-    ap (Dir []) (same_directory f v (edited v e) [] (f.root_key v) (edited_adds v e orderly.folders free)
-    (λ lack locked. let top : Dir [] (Err lack) ≡ Dir [] (Ok orderly.top) = ap (Dir []) (sym locked) ∙ orderly.root in cc)
+pub root_stays : (f : Format) (lawful : IsLawful f) (v : View) (e : Edit) → IsRooted f v → v e.at ≡ NoEntry → SparesAll f lawful v e.at → root_of f v ≡ root_of f (edited v e)
+root_stays f lawful v e rooted free spares =
+    ap (Dir []) (same_directory f v (edited v e) [] (f.root_key v) (edited_adds v e rooted.folders free)
+    (λ lack locked. let top : Dir [] (Err lack) ≡ Dir [] (Ok rooted.top) = ap (Dir []) (sym locked) ∙ rooted.root in cc)
     ∙ ap (directory_with f (edited v e) []) (lawful.root_by_key v (edited v e)
-    (sym (edited_entry v e orderly.folders free [] f.key_file (λ none. let there : v [] ≡ Folder = orderly.root_there in cc) (spares.root f.key_file lawful.key_is_mark)))))
+    (sym (edited_entry v e rooted.folders free [] f.key_file (λ none. let there : v [] ≡ Folder = rooted.there in cc) (spares.root f.key_file lawful.key_is_mark)))))
+
+-- a directory that is entered stays, and so does the way to it
+step_leads : (f : Format) (lawful : IsLawful f) (v : View) (e : Edit) → IsRooted f v → v e.at ≡ NoEntry → SparesAll f lawful v e.at
+    → (path : plain.Path) (dir : Directory) (name : List ℕ) (at : Path) (d : Directory) → Leads f v path dir → standing_in f v dir name ≡ Dir at (Ok d) → standing_in f (edited v e) dir name ≡ Dir at (Ok d)
+step_leads f lawful v e rooted free spares path dir name at d leads stands = by_name (is_name name) refl
+  where
+    by_name : (b : Bool) → is_name name ≡ b → standing_in f (edited v e) dir name ≡ Dir at (Ok d)
+    by_name false is = let clash : Absent ≡ Dir at (Ok d) = sym (standing_unnamed f v dir name is) ∙ stands in cc
+    by_name true is = elim (none_or_there (v (entry_at f dir name))) [
+      | inl none ↦ absurd (subst IsNoItem stands (none_stands f lawful v dir name none))
+      | inr there ↦ sym (stands_on f lawful v e path dir name rooted.folders (λ a lack locked. let clash : Dir at (Ok d) ≡ Dir a (Err lack) = sym stands ∙ locked in cc)
+          free leads there (spares.entries path dir name leads is there)).stands ∙ stands
+    ]
+
+way_from : (f : Format) (lawful : IsLawful f) (v : View) (e : Edit) → IsRooted f v → v e.at ≡ NoEntry → SparesAll f lawful v e.at
+    → (front : plain.Path) (here : Standing) (rest : plain.Path) (at : Path) (dir : Directory) → standing f v front ≡ here → standing_from f v here rest ≡ Dir at (Ok dir) → standing_from f (edited v e) here rest ≡ Dir at (Ok dir)
+way_from f lawful v e rooted free spares front here [] at dir is leads = leads
+way_from f lawful v e rooted free spares front (Dir a (Ok d)) (n ∷ rest) at dir is leads =
+    let next : (place : Path) × (x : Directory) × (standing_in f v d n ≡ Dir place (Ok x)) = entered_here f v (standing_in f v d n) rest at dir leads in
+    ap (λ s. standing_from f (edited v e) s rest) (step_leads f lawful v e rooted free spares front d n next.0 next.1 (record { at = a; stands = is }) next.2 ∙ sym next.2)
+    ∙ way_from f lawful v e rooted free spares (front ++ n ∷ []) (standing_in f v d n) rest at dir (along f v (root_of f v) d a front n is) leads
+way_from f lawful v e rooted free spares front (Dir a (Err lack)) (n ∷ rest) at dir is leads = cc
+way_from f lawful v e rooted free spares front (File a) (n ∷ rest) at dir is leads = cc
+way_from f lawful v e rooted free spares front (Strange a) (n ∷ rest) at dir is leads = cc
+way_from f lawful v e rooted free spares front Absent (n ∷ rest) at dir is leads = cc
+
+pub still_leads : (f : Format) (lawful : IsLawful f) (v : View) (e : Edit) → IsRooted f v → v e.at ≡ NoEntry → SparesAll f lawful v e.at
+    → (path : plain.Path) (dir : Directory) → Leads f v path dir → Leads f (edited v e) path dir
+still_leads f lawful v e rooted free spares path dir leads = record {
+  at = leads.at;
+  stands = ap (λ s. standing_from f (edited v e) s path) (sym (root_stays f lawful v e rooted free spares))
+      ∙ way_from f lawful v e rooted free spares [] (root_of f v) path leads.at dir refl leads.stands;
+}
 
 -- what stands under a name stays, where its entry isn't at the place
 step_stays : (f : Format) (lawful : IsLawful f) (v : View) (e : Edit) → IsOrderly f v → v e.at ≡ NoEntry → SparesAll f lawful v e.at
@@ -57,13 +134,13 @@ step_stays f lawful v e orderly free spares path dir name leads apart = by_name 
         none_stands f lawful (edited v e) dir name
             (edited_entry v e orderly.folders free dir.folder (f.stored dir.key name).name (λ z. let folder : v dir.folder ≡ Folder = (reached_right f lawful v path dir leads).there in cc) (apart is) ∙ none),
       )
-      | inr there ↦ inl (stands_on f lawful v e path dir name orderly free leads there (spares.entries path dir name leads is there))
+      | inr there ↦ inl (stands_on f lawful v e path dir name orderly.folders (λ at lack. orderly.entered path dir name at lack leads) free leads there (spares.entries path dir name leads is there))
     ]
 
 -- where no entry is at the place, the vault looks alike
 pub looks_alike : (f : Format) (lawful : IsLawful f) (v : View) (e : Edit) → IsOrderly f v → v e.at ≡ NoEntry → SparesAll f lawful v e.at → IsNoEntry f v e.at → LooksAlike f v (edited v e)
 looks_alike f lawful v e orderly free spares no_entry = record {
-  root = root_stays f lawful v e orderly free spares;
+  root = root_stays f lawful v e (orderly_is_rooted f v orderly) free spares;
   steps = λ path dir name leads. step_stays f lawful v e orderly free spares path dir name leads (no_entry path dir name leads);
 }
 
@@ -115,6 +192,20 @@ edited_folders v e up a folders is there made = λ p b there_now. elim (begins_o
     none_above : (up : Path) (a : Part) → below (child up a) up ≡ None
     none_above [] a = refl
     none_above (b ∷ up) a = rw ((bytes_eq-Decides b b).1 refl) (none_above up a)
+
+-- nothing stands below a file
+pub file_alone : (bytes : List ℕ) (p : Path) (a : Part) → file_view bytes (child p a) ≡ NoEntry
+file_alone bytes [] a = refl
+file_alone bytes (b ∷ p) a = refl
+
+pub file_folders : (bytes : List ℕ) → HasFolders (file_view bytes)
+file_folders bytes p a there = absurd (there (file_alone bytes p a))
+
+-- folders of files have nothing below these
+pub folder_folders : (files : List (Part × List ℕ)) → HasFolders (folder_view files)
+folder_folders files [] a there = refl
+folder_folders files (b ∷ []) a there = absurd (there refl)
+folder_folders files (b ∷ c ∷ p) a there = absurd (there refl)
 
 -- A new item: its entry's place is free, nothing that is there is told by it, and it is the entry of a name in a directory that a path
 -- leads to. Then a file stands there, or a directory in which no item stands.
@@ -181,7 +272,7 @@ other_name f lawful w dir name other key named other_named same held apart =
 -- the vault gains the item
 pub brings_item : (f : Format) (lawful : IsLawful f) (v : View) (e : Edit) (front : plain.Path) (dir : Directory) (name : List ℕ) → BringsItem f lawful v e front dir name → GainsItem f v (edited v e) front name
 brings_item f lawful v e front dir name b = record {
-  root = root_stays f lawful v e b.orderly b.free b.spares;
+  root = root_stays f lawful v e (orderly_is_rooted f v b.orderly) b.free b.spares;
   dir = dir;
   leads = b.leads;
   free = none_stands f lawful v dir name (ap v b.place ∙ b.free);
@@ -226,33 +317,47 @@ opens_with f lawful v u e front dir name item as_before brings is = record {
   there = gained_there f u (edited u e) front name (brings_item f lawful u e front dir name brings) ∙ is;
 }
 
--- An edit beside the item: at a free place in a folder that is there, which is no entry and tells nothing of what is there.
-pub record IsSide (f : Format) (lawful : IsLawful f) (v : View) (e : Edit) (up : Path) (a : Part) : Type 0 where
-  pub orderly : IsOrderly f v
+-- An edit beside the item: at a free place in a folder that is there, which is no entry and tells nothing of what is there. Nothing
+-- comes to stand below the place.
+pub record IsSide (f : Format) (lawful : IsLawful f) (v : View) (e : Edit) : Type 0 where
+  pub rooted : IsRooted f v
   pub free : v e.at ≡ NoEntry
   pub spares : SparesAll f lawful v e.at
   pub no_entry : IsNoEntry f v e.at
-  pub place : e.at ≡ child up a
+  pub up : Path
+  pub last : Part
+  pub place : e.at ≡ child up last
   pub up_there : v up ≡ Folder
-  pub made : HasFolders e.made
+  pub alone : (rest : Path) (a : Part) → e.made (child rest a) ≡ NoEntry
+  pub no_configuration : SparesConfiguration e.at
 
-pub side_looks : (f : Format) (lawful : IsLawful f) (v : View) (e : Edit) (up : Path) (a : Part) → IsSide f lawful v e up a → LooksAlike f v (edited v e)
-side_looks f lawful v e up a side = looks_alike f lawful v e side.orderly side.free side.spares side.no_entry
+pub side_looks : (f : Format) (lawful : IsLawful f) (v : View) (e : Edit) → IsOrderly f v → IsSide f lawful v e → LooksAlike f v (edited v e)
+side_looks f lawful v e orderly side = looks_alike f lawful v e orderly side.free side.spares side.no_entry
 
-pub side_orderly : (f : Format) (lawful : IsLawful f) (v : View) (e : Edit) (up : Path) (a : Part) → IsSide f lawful v e up a → IsOrderly f (edited v e)
-side_orderly f lawful v e up a side = stays_orderly f v (edited v e) side.orderly (side_looks f lawful v e up a side)
-    (edited_folders v e up a side.orderly.folders side.place side.up_there side.made)
-    (edited_adds v e side.orderly.folders side.free [] (λ none. let there : v [] ≡ Folder = side.orderly.root_there in cc) ∙ side.orderly.root_there)
+side_folders : (f : Format) (lawful : IsLawful f) (v : View) (e : Edit) → IsSide f lawful v e → HasFolders (edited v e)
+side_folders f lawful v e side = edited_folders v e side.up side.last side.rooted.folders side.place side.up_there (λ p a there. absurd (there (side.alone p a)))
 
--- all opens as it opened
-pub side_opens : (f : Format) (lawful : IsLawful f) (v w : View) (e : Edit) (up : Path) (a : Part) → OpensAs f w v → IsSide f lawful v e up a → OpensAs f w (edited v e)
-side_opens f lawful v w e up a as_before side path = sym (opened_alike f v (edited v e) (side_looks f lawful v e up a side) path) ∙ as_before path
+-- the root stays where it is
+pub top_stays : (f : Format) (v : View) (e : Edit) → IsRooted f v → v e.at ≡ NoEntry → edited v e [] ≡ Folder
+top_stays f v e rooted free = edited_adds v e rooted.folders free [] (λ none. let there : v [] ≡ Folder = rooted.there in cc) ∙ rooted.there
+
+side_rooted : (f : Format) (lawful : IsLawful f) (v : View) (e : Edit) → IsSide f lawful v e → IsRooted f (edited v e)
+side_rooted f lawful v e side = record {
+  folders = side_folders f lawful v e side;
+  there = top_stays f v e side.rooted side.free;
+  top = side.rooted.top;
+  root = sym (root_stays f lawful v e side.rooted side.free side.spares) ∙ side.rooted.root;
+}
+
+pub side_orderly : (f : Format) (lawful : IsLawful f) (v : View) (e : Edit) → IsOrderly f v → IsSide f lawful v e → IsOrderly f (edited v e)
+side_orderly f lawful v e orderly side = stays_orderly f v (edited v e) orderly (side_looks f lawful v e orderly side)
+    (side_folders f lawful v e side) (top_stays f v e side.rooted side.free)
 
 -- an entry that was free stays so
-pub side_leaves : (f : Format) (lawful : IsLawful f) (v : View) (e : Edit) (up : Path) (a : Part) → IsSide f lawful v e up a
+side_leaves : (f : Format) (lawful : IsLawful f) (v : View) (e : Edit) → IsSide f lawful v e
     → (path : plain.Path) (dir : Directory) (name : List ℕ) → Leads f v path dir → is_name name ≡ true → v (entry_at f dir name) ≡ NoEntry → edited v e (entry_at f dir name) ≡ NoEntry
-side_leaves f lawful v e up a side path dir name leads named free =
-    edited_entry v e side.orderly.folders side.free dir.folder (f.stored dir.key name).name
+side_leaves f lawful v e side path dir name leads named free =
+    edited_entry v e side.rooted.folders side.free dir.folder (f.stored dir.key name).name
     (λ none. let folder : v dir.folder ≡ Folder = (reached_right f lawful v path dir leads).there in cc) (side.no_entry path dir name leads named) ∙ free
 
 -- what an edit brings is seen at its place and below it
@@ -274,21 +379,21 @@ arrived f u dir name e named place held =
 
 -- An item that is new at its entry, where its last edit is made.
 pub record IsNew (f : Format) (v : View) (front : plain.Path) (dir : Directory) (name : List ℕ) (e : Edit) : Type 0 where
-  pub orderly : IsOrderly f v
+  pub rooted : IsRooted f v
   pub leads : Leads f v front dir
   pub named : IsTrue (is_name name)
   pub place : entry_at f dir name ≡ e.at
   pub free : v (entry_at f dir name) ≡ NoEntry
 
 -- an edit beside it leaves it new
-pub new_after_side : (f : Format) (lawful : IsLawful f) (v : View) (side : Edit) (up : Path) (a : Part) (front : plain.Path) (dir : Directory) (name : List ℕ) (e : Edit)
-    → IsSide f lawful v side up a → IsNew f v front dir name e → IsNew f (edited v side) front dir name e
-new_after_side f lawful v side up a front dir name e is new = record {
-  orderly = side_orderly f lawful v side up a is;
-  leads = led_on f v (edited v side) (side_looks f lawful v side up a is) front dir new.leads;
+pub new_after_side : (f : Format) (lawful : IsLawful f) (v : View) (side : Edit) (front : plain.Path) (dir : Directory) (name : List ℕ) (e : Edit)
+    → IsSide f lawful v side → IsNew f v front dir name e → IsNew f (edited v side) front dir name e
+new_after_side f lawful v side front dir name e is new = record {
+  rooted = side_rooted f lawful v side is;
+  leads = still_leads f lawful v side is.rooted is.free is.spares front dir new.leads;
   named = new.named;
   place = new.place;
-  free = side_leaves f lawful v side up a is front dir name new.leads new.named new.free;
+  free = side_leaves f lawful v side is front dir name new.leads new.named new.free;
 }
 
 -- what stands at its entry once the last edit is made, and opens there
@@ -299,10 +404,10 @@ pub record Arrives (f : Format) (u : View) (dir : Directory) (name : List ℕ) (
 
 -- the last edit, in a view that opens as one did
 pub comes_last : (f : Format) (lawful : IsLawful f) (v u : View) (front : plain.Path) (dir : Directory) (name : List ℕ) (e : Edit) (item : Opened)
-    → OpensAs f v u → IsNew f u front dir name e → SparesAll f lawful u e.at → Arrives f u dir name e item → OpensWith f v (edited u e) (front ++ name ∷ []) item
-comes_last f lawful v u front dir name e item as_before new spares arrives =
+    → OpensAs f v u → IsOrderly f u → IsNew f u front dir name e → SparesAll f lawful u e.at → Arrives f u dir name e item → OpensWith f v (edited u e) (front ++ name ∷ []) item
+comes_last f lawful v u front dir name e item as_before orderly new spares arrives =
     opens_with f lawful v u e front dir name item as_before (record {
-      orderly = new.orderly;
+      orderly = orderly;
       free = ap u (sym new.place) ∙ new.free;
       spares = spares;
       leads = new.leads;

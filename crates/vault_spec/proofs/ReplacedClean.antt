@@ -42,13 +42,13 @@ file_on f lawful v at old bytes r q file = elim (one_or_not q at) [
   | inr apart ↦ (file.0, replaced_elsewhere f lawful v at old bytes r q apart.0 ∙ file.1)
 ]
 
-there_back : (f : Format) (lawful : IsLawful f) (v : View) (at : Path) (old bytes : List ℕ) → IsReplaced f lawful v at old → (q : Path) → edited v (file_edit at bytes) q ≢ NoEntry → v q ≢ NoEntry
+pub there_back : (f : Format) (lawful : IsLawful f) (v : View) (at : Path) (old bytes : List ℕ) → IsReplaced f lawful v at old → (q : Path) → edited v (file_edit at bytes) q ≢ NoEntry → v q ≢ NoEntry
 there_back f lawful v at old bytes r q there none = elim (one_or_not q at) [
   | inl here ↦ let clash : FileOf old ≡ NoEntry = sym r.file ∙ ap v (sym here) ∙ none in cc
   | inr apart ↦ there (replaced_elsewhere f lawful v at old bytes r q apart.0 ∙ none)
 ]
 
-led_back : (f : Format) (lawful : IsLawful f) (v : View) (at : Path) (old bytes : List ℕ) → IsReplaced f lawful v at old → (path : plain.Path) (dir : Directory) → Leads f (edited v (file_edit at bytes)) path dir → Leads f v path dir
+pub led_back : (f : Format) (lawful : IsLawful f) (v : View) (at : Path) (old bytes : List ℕ) → IsReplaced f lawful v at old → (path : plain.Path) (dir : Directory) → Leads f (edited v (file_edit at bytes)) path dir → Leads f v path dir
 led_back f lawful v at old bytes r path dir leads = record { at = leads.at; stands = stands_same f lawful v at old bytes r path ∙ leads.stands }
 
 led_on : (f : Format) (lawful : IsLawful f) (v : View) (at : Path) (old bytes : List ℕ) → IsReplaced f lawful v at old → (path : plain.Path) (dir : Directory) → Leads f v path dir → Leads f (edited v (file_edit at bytes)) path dir
@@ -192,4 +192,4 @@ replaced_clean f lawful v at old bytes r clean is.EmptyOrphan q counts found = c
 -- so it does where a file stands
 pub content_clean : (f : Format) → IsLawful f → (v : View) (p : plain.Path) (at : Path) (bytes : List ℕ) → IsOrderly f v → standing f v p ≡ File at → IsClean f v → IsClean f (edited v (file_edit at bytes))
 content_clean f lawful v p at bytes orderly stands clean =
-    where_file_stands f lawful v p at (IsClean f (edited v (file_edit at bytes))) orderly stands (λ old r. replaced_clean f lawful v at old bytes r clean)
+    where_file_stands f lawful v p at (IsClean f (edited v (file_edit at bytes))) orderly.folders stands (λ old r. replaced_clean f lawful v at old bytes r clean)

@@ -1,6 +1,6 @@
 -- A file's content that is replaced: just that content changes.
 use Rattle.vault_spec.specs.Findings.{IsFileAt}
-use Rattle.std.proofs.Common.{◌≡◌, ◌≢◌, ◌⊎◌, ℕ, Bool, true, false, List, [], ◌∷◌, ◌++◌, Ok, Err, Result, cond, refl, sym, ap, ◌∙◌, inl, inr, append-nil, append_assoc, Some, None, Option, is_some}
+use Rattle.std.proofs.Common.{◌≡◌, ◌≢◌, ◌⊎◌, ℕ, Bool, true, false, List, [], ◌∷◌, ◌++◌, Ok, Err, Result, cond, refl, sym, ap, ◌∙◌, inl, inr, subst, append-nil, append_assoc, Some, None, Option, is_some}
 use Rattle.std.specs.Option.{option_and_then}
 use Rattle.folder_spec.specs.Path.{Part, Path, child}
 use Rattle.folder_spec.specs.View.{Found, NoEntry, Folder, FileOf, Special, View, kind_found}
@@ -15,9 +15,10 @@ use Rattle.vault_spec.specs.Format.{Format, Directory, Item, Nothing, FileItem, 
 use Rattle.vault_spec.specs.Standing.{Standing, Absent, Strange, File, Dir, root_of, directory_with, entry_at, is_file_of, holds, holds_full, item_at, standing_of, standing_in, standing_from, standing}
 use Rattle.vault_spec.specs.Opens.{opened, opened_at, opened_file}
 use Rattle.vault_spec.specs.Reached.{Leads}
-use Rattle.vault_spec.specs.Alike.{IsOrderly, HasFolders, place_of}
-use Rattle.vault_spec.specs.Adding.{OpensWith}
-use Rattle.vault_spec.proofs.Lawful.{IsLawful}
+use Rattle.vault_spec.specs.Alike.{HasFolders, place_of}
+use Rattle.vault_spec.specs.Adding.{ContentsAreReplacedAlone}
+use Rattle.vault_spec.specs.Anywhere.{OpensAnew, ContentsOpenAnew}
+use Rattle.vault_spec.proofs.Lawful.{IsLawful, SparesConfiguration}
 use Rattle.vault_spec.proofs.Steps.{along}
 use Rattle.vault_spec.proofs.Grafts.{IsRight, reached_right, nothing_below, edited_elsewhere, same_standing, content_there, standing_named, standing_unnamed}
 use Rattle.vault_spec.proofs.Places.{brought_there, brought}
@@ -35,10 +36,11 @@ below_file v folders at bytes file a rest = ap v (sym (append_assoc at (a ∷ []
 
 -- A file whose content is replaced.
 pub record IsReplaced (f : Format) (lawful : IsLawful f) (v : View) (at : Path) (old : List ℕ) : Type 0 where
-  pub orderly : IsOrderly f v
+  pub folders : HasFolders v
   pub file : v at ≡ FileOf old
   pub no_key : (path : plain.Path) (dir : Directory) (name : List ℕ) → Leads f v path dir → child (entry_at f dir name) f.key_file ≢ at
   pub no_root_key : f.key_file ∷ [] ≢ at
+  pub no_configuration : SparesConfiguration at
   pub no_name : (path : plain.Path) (dir : Directory) (name : List ℕ) → Leads f v path dir → is_name name ≡ true → is_some (f.stored dir.key name).full ≡ true
       → dir.folder ++ f.full_at (f.stored dir.key name).name ≢ at
 
@@ -51,7 +53,7 @@ replaced_elsewhere f lawful v at old bytes r q apart = elim (begins_or_not at q)
   where
     by_rest : (rest : Path) → q ≡ at ++ rest → edited v (file_edit at bytes) q ≡ v q
     by_rest [] is = absurd (apart (is ∙ append-nil at))
-    by_rest (a ∷ rest) is = ap (edited v (file_edit at bytes)) is ∙ brought v (file_edit at bytes) (a ∷ rest) ∙ sym (below_file v r.orderly.folders at old r.file a rest) ∙ ap v (sym is)
+    by_rest (a ∷ rest) is = ap (edited v (file_edit at bytes)) is ∙ brought v (file_edit at bytes) (a ∷ rest) ∙ sym (below_file v r.folders at old r.file a rest) ∙ ap v (sym is)
 
 pub replaced_kind : (f : Format) (lawful : IsLawful f) (v : View) (at : Path) (old bytes : List ℕ) → IsReplaced f lawful v at old → (q : Path) → kind_found (v q) ≡ kind_found (edited v (file_edit at bytes) q)
 replaced_kind f lawful v at old bytes r q = elim (one_or_not q at) [
@@ -141,22 +143,21 @@ stands_same f lawful v at old bytes r path =
     same_from f v (edited v (file_edit at bytes)) (step_same f lawful v at old bytes r) [] (root_of f v) path refl
     ∙ ap (λ s. standing_from f (edited v (file_edit at bytes)) s path) (root_same f lawful v at old bytes r)
 
--- the file is that of one path alone, which opens as the new content
-replaced_opens : (f : Format) (lawful : IsLawful f) (v : View) (at : Path) (old bytes : List ℕ) (p : plain.Path) → IsReplaced f lawful v at old → standing f v p ≡ File at
-    → OpensWith f v (edited v (file_edit at bytes)) p (opened_file f.content (Some bytes))
+-- each path of the file opens as the new content, and all else as before
+replaced_opens : (f : Format) (lawful : IsLawful f) (v : View) (at : Path) (old bytes : List ℕ) → IsReplaced f lawful v at old
+    → OpensAnew f v (edited v (file_edit at bytes)) at (opened_file f.content (Some bytes))
 unfolding opened
-replaced_opens f lawful v at old bytes p r file = record {
+replaced_opens f lawful v at old bytes r = record {
   others = λ path apart. ap (opened_at f (edited v (file_edit at bytes))) (sym (stands_same f lawful v at old bytes r path)) ∙ by_standing path apart (standing f v path) refl;
-  there = ap (opened_at f (edited v (file_edit at bytes))) (sym (stands_same f lawful v at old bytes r p) ∙ file) ∙ ap (λ x. opened_file f.content (file_bytes x)) (brought_there v (file_edit at bytes));
+  there = λ path file. ap (opened_at f (edited v (file_edit at bytes))) (sym (stands_same f lawful v at old bytes r path) ∙ file) ∙ ap (λ x. opened_file f.content (file_bytes x)) (brought_there v (file_edit at bytes));
 }
   where
-    by_standing : (path : plain.Path) → path ≢ p → (s : Standing) → standing f v path ≡ s → opened_at f (edited v (file_edit at bytes)) (standing f v path) ≡ opened_at f v (standing f v path)
+    by_standing : (path : plain.Path) → standing f v path ≢ File at → (s : Standing) → standing f v path ≡ s → opened_at f (edited v (file_edit at bytes)) (standing f v path) ≡ opened_at f v (standing f v path)
     by_standing path apart Absent is = ap (opened_at f (edited v (file_edit at bytes))) is ∙ sym (ap (opened_at f v) is)
     by_standing path apart (Strange q) is = ap (opened_at f (edited v (file_edit at bytes))) is ∙ sym (ap (opened_at f v) is)
     by_standing path apart (Dir q d) is = ap (opened_at f (edited v (file_edit at bytes))) is ∙ sym (ap (opened_at f v) is)
     by_standing path apart (File q) is = ap (opened_at f (edited v (file_edit at bytes))) is
-        ∙ ap (λ x. opened_file f.content (file_bytes x)) (replaced_elsewhere f lawful v at old bytes r q
-        (λ here. apart (own_places f lawful v r.orderly path p q (ap place_of is) (ap place_of file ∙ ap Some (sym here))))) ∙ sym (ap (opened_at f v) is)
+        ∙ ap (λ x. opened_file f.content (file_bytes x)) (replaced_elsewhere f lawful v at old bytes r q (λ here. apart (is ∙ ap File here))) ∙ sym (ap (opened_at f v) is)
 
 -- a file that stands is replaced at its place
 record IsFileEntry (f : Format) (v : View) (dir : Directory) (name : List ℕ) (at : Path) : Type 0 where
@@ -191,16 +192,17 @@ file_entry f lawful v dir name at e = by_name (is_name name) refl
           file = content_there f lawful.content v (entry_at f dir name) (is_some (f.stored dir.key name).full) (holds_full f v dir (f.stored dir.key name)) (item_at f v dir (f.stored dir.key name)) at refl stands;
         }
 
-is_replaced : (f : Format) (lawful : IsLawful f) (v : View) (path : plain.Path) (dir : Directory) (name : List ℕ) (at : Path) → IsOrderly f v → Leads f v path dir → (entry : IsFileEntry f v dir name at)
+is_replaced : (f : Format) (lawful : IsLawful f) (v : View) (path : plain.Path) (dir : Directory) (name : List ℕ) (at : Path) → HasFolders v → Leads f v path dir → (entry : IsFileEntry f v dir name at)
     → IsReplaced f lawful v at entry.file.0
-is_replaced f lawful v path dir name at orderly leads entry = record {
-  orderly = orderly;
+is_replaced f lawful v path dir name at folders leads entry = record {
+  folders = folders;
   file = entry.file.1;
   no_key = λ other_path other n leads_too same.
       let right_too : IsRight f lawful v other = reached_right f lawful v other_path other leads_too in
       lawful.content_no_key (under (entry_at f dir name) v) dir.key other.key name n entry.rest right.at right_too.at right.is_key entry.named entry.item
       (at_form ∙ sym same ∙ ap (λ p. child (child p (f.stored other.key n).name) f.key_file) right_too.form);
   no_root_key = λ same. lawful.content_no_root_key (under (entry_at f dir name) v) dir.key name entry.rest right.at right.is_key entry.named entry.item (at_form ∙ sym same);
+  no_configuration = subst SparesConfiguration at_form (lawful.content_no_configuration (under (entry_at f dir name) v) dir.key name entry.rest right.at right.is_key entry.named entry.item);
   no_name = λ other_path other n leads_too named long same.
       let right_too : IsRight f lawful v other = reached_right f lawful v other_path other leads_too in
       lawful.content_no_name (under (entry_at f dir name) v) dir.key other.key name n entry.rest right.at right_too.at right.is_key entry.named entry.item long right_too.is_key named
@@ -214,15 +216,15 @@ is_replaced f lawful v path dir name at orderly leads entry = record {
     at_form = ap (λ p. child p (f.stored dir.key name).name ++ entry.rest) (sym (reached_right f lawful v path dir leads).form) ∙ sym entry.is
 
 -- what holds where a file's content is replaced holds where a file stands
-pub where_file_stands : (f : Format) (lawful : IsLawful f) (v : View) (p : plain.Path) (at : Path) (Holds : Type 0) → IsOrderly f v → standing f v p ≡ File at → ((old : List ℕ) → IsReplaced f lawful v at old → Holds) → Holds
-where_file_stands f lawful v p at Holds orderly stands holds_so = by_end (base_or_child p)
+pub where_file_stands : (f : Format) (lawful : IsLawful f) (v : View) (p : plain.Path) (at : Path) (Holds : Type 0) → HasFolders v → standing f v p ≡ File at → ((old : List ℕ) → IsReplaced f lawful v at old → Holds) → Holds
+where_file_stands f lawful v p at Holds folders stands holds_so = by_end (base_or_child p)
   where
     by_last : (q : Path) (a : Part) → StandsUnder f v (root_of f v) q a at → standing f v (child q a) ≡ File at → Holds
     by_last q a under_one stands_there =
         let leads : Leads f v q under_one.dir = record { at = under_one.at; stands = under_one.before } in
         let entry : IsFileEntry f v under_one.dir a at
         = file_entry f lawful v under_one.dir a at (sym (along f v (root_of f v) under_one.dir under_one.at q a under_one.before) ∙ stands_there) in
-        holds_so entry.file.0 (is_replaced f lawful v q under_one.dir a at orderly leads entry)
+        holds_so entry.file.0 (is_replaced f lawful v q under_one.dir a at folders leads entry)
 
     by_end : (p ≡ []) ⊎ ((q : Path) × (a : Part) × (p ≡ child q a)) → Holds
     by_end (inl none) = let clash : root_of f v ≡ File at = ap (standing f v) (sym none) ∙ stands in cc
@@ -230,9 +232,16 @@ where_file_stands f lawful v p at Holds orderly stands holds_so = by_end (base_o
         let there : standing f v (child last.0 last.1) ≡ File at = ap (standing f v) (sym last.2) ∙ stands in
         by_last last.0 last.1 (stands_under f v (root_of f v) last.0 last.1 at (ap place_of there)) there
 
--- the content of a file that stands is replaced, and nothing else changes
-pub content_replaced : (f : Format) → IsLawful f → (v : View) (p : plain.Path) (at : Path) (bytes : List ℕ) → IsOrderly f v → standing f v p ≡ File at
-    → OpensWith f v (edited v (file_edit at bytes)) p (opened_file f.content (Some bytes))
+pub opens_anew : (f : Format) → IsLawful f → ContentsOpenAnew f
+opens_anew f lawful v p at bytes folders stands =
+    where_file_stands f lawful v p at (OpensAnew f v (edited v (file_edit at bytes)) at (opened_file f.content (Some bytes))) folders stands
+    (λ old r. replaced_opens f lawful v at old bytes r)
+
+-- in an orderly vault the file is that of one path alone
+pub content_replaced : (f : Format) → IsLawful f → ContentsAreReplacedAlone f
 content_replaced f lawful v p at bytes orderly stands =
-    where_file_stands f lawful v p at (OpensWith f v (edited v (file_edit at bytes)) p (opened_file f.content (Some bytes))) orderly stands
-    (λ old r. replaced_opens f lawful v at old bytes p r stands)
+    let anew : OpensAnew f v (edited v (file_edit at bytes)) at (opened_file f.content (Some bytes)) = opens_anew f lawful v p at bytes orderly.folders stands in
+    record {
+      there = anew.there p stands;
+      others = λ path apart. anew.others path (λ file. apart (own_places f lawful v orderly path p at (ap place_of file) (ap place_of stands)));
+    }

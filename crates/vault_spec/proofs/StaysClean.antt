@@ -154,7 +154,7 @@ no_item_back f lawful v e keeps finding at u = elim (none_or_there (edited v e (
     | inl leads ↦ elim (was_below f lawful v e keeps u.dir.folder (f.stored u.dir.key u.name).name (folder_stands f lawful v u.reached.0 u.dir leads) there) [
       | inl old ↦
           let as_was : EntryStays f v (edited v e) u.dir u.name
-          = entry_stays f lawful v e u.reached.0 u.dir u.name keeps.orderly keeps.free leads old (keeps.spares.entries u.reached.0 u.dir u.name leads u.of.named old) in
+          = entry_stays f lawful v e u.reached.0 u.dir u.name keeps.orderly.folders keeps.free leads old (keeps.spares.entries u.reached.0 u.dir u.name leads u.of.named old) in
           record {
             dir = u.dir;
             name = u.name;
@@ -318,7 +318,7 @@ inside_back f lawful v e keeps at u = elim (none_or_there (edited v e (entry_at 
           (item_at f (edited v e) u.dir (f.stored u.dir.key u.name)) (edited v e at) u.extra)
       | inl old ↦
           let as_was : EntryStays f v (edited v e) u.dir u.name
-          = entry_stays f lawful v e u.reached.0 u.dir u.name keeps.orderly keeps.free leads entry_old (keeps.spares.entries u.reached.0 u.dir u.name leads u.of.named entry_old) in
+          = entry_stays f lawful v e u.reached.0 u.dir u.name keeps.orderly.folders keeps.free leads entry_old (keeps.spares.entries u.reached.0 u.dir u.name leads u.of.named entry_old) in
           record {
             dir = u.dir;
             name = u.name;

@@ -15,5 +15,7 @@ pub mod NewVault
 pub mod Alike
 pub mod Plan
 pub mod Adding
+pub mod Anywhere
+pub mod Staying
 pub mod Moving
 pub mod Empty

@@ -11,6 +11,7 @@ ghost use Rattle.gocrypt_conf.specs.declared.keys.GoKeys.{GoKeys};
 ghost use Rattle.kdf_suite.specs.ScryptCost.{Cost};
 ghost use Rattle.plain_tree.specs.Names.{Path};
 ghost use Rattle.vault_spec.specs.Adding.{NewItemsComeAlone, NewItemsStayClean, ContentsAreReplacedAlone, ReplacedContentsStayClean};
+ghost use Rattle.vault_spec.specs.Anywhere.{NewItemsComeAtLast, ContentsOpenAnew};
 ghost use Rattle.vault_spec.specs.Alike.{LooksAlike, GainsItem, HasFolders, IsOrderly, HaveOwnPlaces, place_of};
 ghost use Rattle.vault_spec.specs.Cryptomator.{cm_format};
 ghost use Rattle.vault_spec.specs.Empty.{IsEmptyVault};
@@ -25,6 +26,7 @@ ghost use Rattle.vault_spec.specs.Opens.{opened, opened_at, tree, AreItems};
 ghost use Rattle.vault_spec.specs.Plan.{Planned, IsPlan, paths_of, StandsBelow, IsReachedFrom};
 ghost use Rattle.vault_spec.specs.Reached.{Leads, IsReachedIn, HaveOwnFolders};
 ghost use Rattle.vault_spec.specs.Standing.{Standing, File, Dir, standing, standing_in};
+ghost use Rattle.vault_spec.specs.Staying.{NewItemsStayVaults, ReplacedContentsStayVaults};
 ghost use Rattle.vault_spec.specs.Vault.{Vault, format_of};
 ghost use Rattle.vault_spec.specs.declared.Lack.{Lack};
 
@@ -118,6 +120,50 @@ pub fn new_items_of_cryptomator_keep_vaults_clean(keys: &CmKeys)
     cm_texts_are_plain(keys);
     cm_long_names_are_plain();
     cm_folders_are_plain();
+}
+
+/// While an item of gocryptfs is made where no place is taken, an orderly vault stays orderly at each edit, and each passphrase opens it
+/// as it did. So it is where a content is replaced.
+pub fn new_items_of_gocryptfs_keep_the_vault()
+    ensures new { (keys : GoKeys) → NewItemsStayVaults (go_format keys) }
+    ensures replaced { (keys : GoKeys) → ReplacedContentsStayVaults (go_format keys) }
+{
+    text_has_one_name();
+    texts_are_plain();
+    long_names_are_plain();
+}
+
+/// While an item of Cryptomator is made where no place is taken, an orderly vault stays orderly at each edit, and each passphrase opens
+/// it as it did. So it is where a content is replaced.
+pub fn new_items_of_cryptomator_keep_the_vault(keys: &CmKeys)
+    ensures replaced { (combo : Combo) (threshold : ℕ) → ReplacedContentsStayVaults (cm_format (record { keys = keys.now; combo = combo; threshold = threshold })) }
+    ensures new { (combo : Combo) (threshold : ℕ) → NewItemsStayVaults (cm_format (record { keys = keys.now; combo = combo; threshold = threshold })) }
+{
+    cm_text_has_one_name(keys);
+    cm_texts_are_plain(keys);
+    cm_long_names_are_plain();
+}
+
+/// In any gocryptfs vault, orderly or not, the edits that make an item where no place is taken leave what opens, until the item opens at
+/// its path after the last. A content that is replaced opens at each of its paths, and all else as before.
+pub fn new_items_of_gocryptfs_open_in_any_vault()
+    ensures new { (keys : GoKeys) → NewItemsComeAtLast (go_format keys) }
+    ensures replaced { (keys : GoKeys) → ContentsOpenAnew (go_format keys) }
+{
+    text_has_one_name();
+    texts_are_plain();
+    long_names_are_plain();
+}
+
+/// In any Cryptomator vault, orderly or not, the edits that make an item where no place is taken leave what opens, until the item opens at
+/// its path after the last. A content that is replaced opens at each of its paths, and all else as before.
+pub fn new_items_of_cryptomator_open_in_any_vault(keys: &CmKeys)
+    ensures replaced { (combo : Combo) (threshold : ℕ) → ContentsOpenAnew (cm_format (record { keys = keys.now; combo = combo; threshold = threshold })) }
+    ensures new { (combo : Combo) (threshold : ℕ) → NewItemsComeAtLast (cm_format (record { keys = keys.now; combo = combo; threshold = threshold })) }
+{
+    cm_text_has_one_name(keys);
+    cm_texts_are_plain(keys);
+    cm_long_names_are_plain();
 }
 
 /// A new gocryptfs vault is clean, and its root alone opens.

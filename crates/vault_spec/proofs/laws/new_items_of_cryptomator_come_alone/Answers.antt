@@ -1,6 +1,7 @@
 use Rattle.vault_spec.specs.Cryptomator.{cm_format}
 use Rattle.vault_spec.proofs.CmVault.{CmTexts, cm_lawful}
-use Rattle.vault_spec.proofs.CmAdding.{new_items}
+use Rattle.vault_spec.proofs.CmAdding.{cm_makes}
+use Rattle.vault_spec.proofs.MadeItems.{new_items_alone}
 use Rattle.vault_spec.proofs.Replacing.{content_replaced}
 use Rattle.vault_spec.proofs.laws.new_items_of_cryptomator_come_alone.Goals as goal
 
@@ -12,7 +13,10 @@ returns c =
       long_plain = c.cm_long_names_are_plain.ensures.characters;
     } in
     record {
-      new = λ combo threshold. new_items (record { keys = c.args.keys.now; combo = combo; threshold = threshold }) texts;
+      new = λ combo threshold.
+          new_items_alone (cm_format (record { keys = c.args.keys.now; combo = combo; threshold = threshold }))
+          (cm_lawful (record { keys = c.args.keys.now; combo = combo; threshold = threshold }) texts)
+          (cm_makes (record { keys = c.args.keys.now; combo = combo; threshold = threshold }) texts);
       replaced = λ combo threshold.
           content_replaced (cm_format (record { keys = c.args.keys.now; combo = combo; threshold = threshold }))
           (cm_lawful (record { keys = c.args.keys.now; combo = combo; threshold = threshold }) texts);

@@ -1,7 +1,8 @@
 use Rattle.vault_spec.specs.Gocryptfs.{go_format}
 use Rattle.vault_spec.proofs.GoNames.{GoTexts}
 use Rattle.vault_spec.proofs.GoVault.{go_lawful}
-use Rattle.vault_spec.proofs.GoAdding.{new_items}
+use Rattle.vault_spec.proofs.GoAdding.{go_makes}
+use Rattle.vault_spec.proofs.MadeItems.{new_items_alone}
 use Rattle.vault_spec.proofs.Replacing.{content_replaced}
 use Rattle.vault_spec.proofs.laws.new_items_of_gocryptfs_come_alone.Goals as goal
 
@@ -14,4 +15,7 @@ returns c =
       long_prefix = c.long_names_are_plain.ensures.prefix;
       long_rest = c.long_names_are_plain.ensures.characters;
     } in
-    record { new = new_items texts; replaced = λ keys. content_replaced (go_format keys) (go_lawful texts keys) }
+    record {
+      new = λ keys. new_items_alone (go_format keys) (go_lawful texts keys) (go_makes texts keys);
+      replaced = λ keys. content_replaced (go_format keys) (go_lawful texts keys);
+    }

@@ -114,7 +114,6 @@ right_form false None e = refl
 right_form true (Some text) e = refl
 right_form false (Some text) e = cc
 
-
 form_tells : (long : Bool) (full : Option (List ℕ)) → has_form long full ≡ true → is_some full ≡ long
 form_tells true None e = cc
 form_tells false None e = refl

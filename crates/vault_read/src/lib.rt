@@ -27,6 +27,4 @@ pub use standing::{Directory, Standing, key_at, root_standing};
 pub use vault::{CmVault, Vault, VaultKeys, VaultKind, content_folder, folder_of, stored_in};
 
 #[cfg(test)]
-mod listing_tests;
-#[cfg(test)]
 mod tests;

@@ -157,12 +157,7 @@ pub fn content_folder(alloc: Global, vault: &Vault, id: &[u8]) -> Result<FPath, 
 }
 
 /// The folder of the directory with this key, whose entry is at a path. Paths begin at the vault's root.
-pub fn folder_of(
-    alloc: Global,
-    vault: &Vault,
-    at: &FPath,
-    key: &[u8],
-) -> Result<FPath, AllocError>
+pub fn folder_of(alloc: Global, vault: &Vault, at: &FPath, key: &[u8]) -> Result<FPath, AllocError>
     ensures { IfOk result (λ folder. folder ≡ (format_of vault.now.vault).folder_of at.now key.now) }
 {
     match &vault.keys {

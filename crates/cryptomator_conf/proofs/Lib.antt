@@ -3,6 +3,7 @@ mod IdText
 mod OneAnswer
 mod Passphrase
 mod ReadBack
+mod Sizes
 mod Trimmed
 mod VaultReadBack
 mod Written

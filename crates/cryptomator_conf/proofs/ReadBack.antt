@@ -57,11 +57,11 @@ decimal-utf8 : (n : ℕ) → n < 2 ^ 64 → IsUtf8 (decimal n)
 decimal-utf8 n small = IsUtf8-from_ascii _ (IsAscii-decimal n small)
 
 -- scrypt's numbers fit 64 bits
-record Fits (n r : ℕ) : Type 0 where
-  n_fits : n < 2 ^ 64
-  r_fits : r < 2 ^ 64
+pub record Fits (n r : ℕ) : Type 0 where
+  pub n_fits : n < 2 ^ 64
+  pub r_fits : r < 2 ^ 64
 
-cost_fits : (cost : Cost) → IsCost cost → Fits cost.n cost.r
+pub cost_fits : (cost : Cost) → IsCost cost → Fits cost.n cost.r
 cost_fits cost is =
     let n : cost.n ≤ cost.n * cost.r = le-mul_of_pos_right cost.n is.some_block in
     let r : cost.r ≤ cost.r * cost.p = le-mul_of_pos_right cost.r is.some_part in

@@ -1,5 +1,5 @@
 -- Laws of the configuration.
-use Rattle.std.specs.Prelude.{◌≡◌, ℕ, List, length, Result, Ok}
+use Rattle.std.specs.Prelude.{◌≡◌, ℕ, ◌≤◌, List, length, Result, Ok}
 use Rattle.base64.specs.GeneralPurpose.{IsBytes}
 use Rattle.kdf_suite.specs.ScryptCost.{Cost, IsCost}
 use Rattle.key_wrap.specs.Wrap.{IsKey}
@@ -46,8 +46,11 @@ made_vault drawn =
       signature = signature_of Hs256 (keys_of drawn) signed;
     }
 
--- the texts of new files read as the files; the passphrase unlocks the drawn keys, and the signature is theirs
+-- the texts of new files are short, the first with a salt of eight bytes, and read as the files; the passphrase unlocks the drawn keys,
+-- and the signature is theirs
 pub record Return (pass : List ℕ) (cost : Cost) (drawn : CmDraw) : Type 0 where
+  pub short_master : length drawn.salt ≡ 8 → length (master_text (made_master pass cost drawn) (version_mac drawn.mac version_bytes)) ≤ 65536
+  pub short_vault : length (vault_text drawn) ≤ 65536
   pub master : ReadsMaster (master_text (made_master pass cost drawn) (version_mac drawn.mac version_bytes)) (Ok (made_master pass cost drawn))
   pub vault : vault_in (vault_text drawn) ≡ Ok (made_vault drawn)
   pub unlocked : Unlocks (made_master pass cost drawn) pass (keys_of drawn)

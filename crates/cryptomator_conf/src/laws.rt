@@ -2,17 +2,18 @@
 
 ghost use Rattle.cryptomator_conf.specs.Laws.{HaveOneAnswer, UnlocksOnePair, MadeFilesReturn};
 
-use json_fields::laws::{base64_is_plain, base64url_is_of_its_alphabet};
+use json_fields::laws::{base64_has_its_size, base64_is_plain, base64url_is_of_its_alphabet};
 use kdf_suite::laws::digests_are_bytes;
 use key_wrap::laws::{unwraps_to_one_key, wrapped_keys_are_bytes};
 
-/// Reading the texts of new files gives what they say, unlocking the first with its passphrase the drawn keys, and the
+/// The texts of new files are of at most 65,536 bytes. Reading them gives what they say, unlocking the first with its passphrase the drawn keys, and the
 /// signature of the second is theirs.
 pub fn made_files_give_back_their_keys()
     ensures { MadeFilesReturn }
 {
     wrapped_keys_are_bytes();
     base64_is_plain();
+    base64_has_its_size();
     base64url_is_of_its_alphabet();
     digests_are_bytes();
 }

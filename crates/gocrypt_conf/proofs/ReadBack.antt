@@ -1,8 +1,8 @@
 -- The text of a configuration reads as the configuration.
-use Rattle.std.proofs.Common.{◌≡◌, ℕ, ◌^◌, ◌*◌, ◌<◌, ◌≤◌, List, [], ◌∷◌, ◌++◌, length, codes, decimal, Option, Some, Result, Ok, Err, MatchResult, option_and_then, refl, sym, ap, subst, ◌∙◌, arith, lit<, append-nil}
+use Rattle.std.proofs.Common.{◌≡◌, ℕ, ◌+◌, ◌^◌, ◌*◌, ◌/◌, ◌<◌, ◌≤◌, List, [], ◌∷◌, ◌++◌, length, codes, decimal, Option, Some, Result, Ok, Err, MatchResult, option_and_then, refl, sym, ap, subst, ◌∙◌, arith, lit<, append-nil, length-append}
 use Rattle.std.specs.Str.{IsUtf8}
 use Rattle.std.proofs.lemmas.Str.{IsUtf8-append, IsUtf8-from_ascii}
-use Rattle.std.proofs.lemmas.Fmt.{IsAscii-decimal}
+use Rattle.std.proofs.lemmas.Fmt.{IsAscii-decimal, length-decimal-le}
 use Rattle.std.proofs.Math.Nat.{le-mul_of_pos_right}
 use Rattle.json.specs.Lex.{tokens}
 use Rattle.json.specs.Token.{Token}
@@ -140,12 +140,32 @@ conf_reads_back is_plain conf cost size sealed_bytes salt_bytes =
     let fields = fields_of-conf_data sealed salt conf.sealed conf.salt conf.cost.n conf.cost.r conf.cost.p (decoded-encoded conf.sealed sealed_bytes) (decoded-encoded conf.salt salt_bytes) in
     reads_on (conf_text conf) _ (Ok conf) (object_on (conf_text conf) _ object ∙ fields) (all_passed _ refl refl cost size refl)
 
-pub made_returns : HasTags → HasTexts → IsPlain → MadeTextReturns
-made_returns tags texts is_plain pass cost drawn is_cost drawn_bytes =
+-- base64 of some bytes is of so many characters
+abbrev pub HasSize : Type 0
+HasSize = (bytes : List ℕ) → length (encode_of standard bytes) ≡ (length bytes + 2) / 3 * 4
+
+-- the text is short
+short_with : (sealed salt : List ℕ) (n r p : ℕ) → length sealed ≡ 88 → length salt ≡ 44 → Fits n r p → length (text_with sealed salt n r p) ≤ 65536
+unfolding text_with
+short_with sealed salt n r p sealed_size salt_size fits =
+    let n_size : length (decimal n) ≤ 20 = length-decimal-le 20 n (omega arith) (omega (arith, fits.n_fits)) fits.n_fits in
+    let r_size : length (decimal r) ≤ 20 = length-decimal-le 20 r (omega arith) (omega (arith, fits.r_fits)) fits.r_fits in
+    let p_size : length (decimal p) ≤ 20 = length-decimal-le 20 p (omega arith) (omega (arith, fits.p_fits)) fits.p_fits in
+    simp length-append (omega (arith, sealed_size, salt_size, n_size, r_size, p_size))
+
+short_text : HasSize → (sealed salt : List ℕ) (n r p : ℕ) → length sealed ≡ 64 → length salt ≡ 32 → Fits n r p
+    → length (text_with (encode_of standard sealed) (encode_of standard salt) n r p) ≤ 65536
+short_text size sealed salt n r p sealed_size salt_size fits =
+    short_with (encode_of standard sealed) (encode_of standard salt) n r p (size sealed ∙ ap (λ k. (k + 2) / 3 * 4) sealed_size) (size salt ∙ ap (λ k. (k + 2) / 3 * 4) salt_size) fits
+
+pub made_returns : HasTags → HasTexts → IsPlain → HasSize → MadeTextReturns
+made_returns tags texts is_plain size pass cost drawn is_cost drawn_bytes =
     let key : List ℕ = unlocking_key pass drawn.salt cost in
+    let sealed_size : length (sealed_key key drawn.nonce drawn.master) ≡ 64 = length-sealed_key tags texts key drawn.nonce drawn.master drawn_bytes.nonce_size drawn_bytes.master_size in
     record {
+      short = short_text size (sealed_key key drawn.nonce drawn.master) drawn.salt cost.n cost.r cost.p sealed_size drawn_bytes.salt_size (cost_fits cost is_cost);
       read =
-          conf_reads_back is_plain (made_conf pass cost drawn) is_cost (length-sealed_key tags texts key drawn.nonce drawn.master drawn_bytes.nonce_size drawn_bytes.master_size)
+          conf_reads_back is_plain (made_conf pass cost drawn) is_cost sealed_size
           (bytes-sealed_key texts key drawn.nonce drawn.master drawn_bytes.nonce_bytes drawn_bytes.master_bytes) drawn_bytes.salt_bytes;
       unlocked = record {
         master = drawn.master;

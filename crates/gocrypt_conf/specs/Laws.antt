@@ -1,5 +1,5 @@
 -- Laws of configurations.
-use Rattle.std.specs.Prelude.{◌≡◌, ℕ, List, length, Ok}
+use Rattle.std.specs.Prelude.{◌≡◌, ℕ, ◌≤◌, List, length, Ok}
 use Rattle.base64.specs.GeneralPurpose.{IsBytes}
 use Rattle.kdf_suite.specs.ScryptCost.{Cost, IsCost}
 use Rattle.gocrypt_conf.specs.declared.conf.GoConf.{GoConf}
@@ -28,9 +28,10 @@ pub record IsDrawn (drawn : GoDraw) : Type 0 where
   pub nonce_size : length drawn.nonce ≡ 16
   pub nonce_bytes : IsBytes drawn.nonce
 
--- the text of a new configuration reads as the configuration, and its passphrase unlocks the keys of
--- the drawn master key
+-- the text of a new configuration is short and reads as the configuration, and its passphrase unlocks the keys of the drawn
+-- master key
 pub record Returns (pass : List ℕ) (cost : Cost) (drawn : GoDraw) : Type 0 where
+  pub short : length (conf_text (made_conf pass cost drawn)) ≤ 65536
   pub read : ReadsAs (conf_text (made_conf pass cost drawn)) (Ok (made_conf pass cost drawn))
   pub unlocked : Unlocks (made_conf pass cost drawn) pass (keys_of drawn.master)
 

@@ -3,14 +3,16 @@
 ghost use Rattle.gocrypt_conf.specs.Laws.{HaveOneAnswer, UnlocksOnePair, MadeTextReturns};
 
 use gcm_mode::laws::{opens_to_one_text, sealed_texts_are_bytes};
-use json_fields::laws::base64_is_plain;
+use json_fields::laws::{base64_has_its_size, base64_is_plain};
 
-/// Reading and unlocking the text of a new configuration gives the keys of the drawn master key.
+/// Reading and unlocking the text of a new configuration, which is of at most 65,536 bytes, gives the keys of the drawn
+/// master key.
 pub fn made_texts_give_back_their_keys()
     ensures { MadeTextReturns }
 {
     sealed_texts_are_bytes();
     base64_is_plain();
+    base64_has_its_size();
 }
 
 /// No bytes read as two answers.

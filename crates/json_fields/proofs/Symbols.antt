@@ -1,13 +1,14 @@
--- The characters of base64 for URLs.
-use Rattle.std.proofs.Common.{◌≡◌, ℕ, suc, ◌+◌, ◌*◌, ◌/◌, ◌%◌, ◌<◌, true, false, List, [], ◌∷◌, length, slice_index, inl, inr, refl, ap, ◌∙◌, arith, append-nil}
+-- The characters of base64 for URLs, and how many there are of base64.
+use Rattle.std.proofs.Common.{◌≡◌, ℕ, suc, ◌+◌, ◌*◌, ◌/◌, ◌%◌, ◌<◌, true, false, List, [], ◌∷◌, length, replicate, slice_index, inl, inr, refl, ap, ◌∙◌, arith, append-nil, length-append}
+use Rattle.std.proofs.lemmas.List.{length-replicate}
 use Rattle.std.specs.List.{list_all}
 use Rattle.std.proofs.lemmas.Bool.{and_from, cases_Bool}
 use Rattle.std.proofs.lemmas.List.Folds.{list_all_at}
-use Rattle.base64.specs.Engines.{url_safe_no_pad}
+use Rattle.base64.specs.Engines.{standard, url_safe_no_pad}
 use Rattle.base64.specs.GeneralPurpose.{IsBytes}
-use Rattle.base64.specs.Rfc4648.{encode_symbols}
+use Rattle.base64.specs.Rfc4648.{encode_symbols, padding_len}
 use Rattle.base64.proofs.RoundTrip.{length-encode_symbols}
-use Rattle.json_fields.specs.declared.base64_text.Alphabet.TheVariants.{UrlSafe}
+use Rattle.json_fields.specs.declared.base64_text.Alphabet.TheVariants.{Standard, UrlSafe}
 use Rattle.json_fields.specs.Base64.{encoded_by, is_base64url}
 
 -- the alphabet of base64url
@@ -48,3 +49,13 @@ are_base64url bytes are = ap (list_all is_base64url) (append-nil (encode_symbols
 
 pub length-base64url : (bytes : List ℕ) → length (encoded_by UrlSafe bytes) ≡ (4 * length bytes + 2) / 3
 length-base64url bytes = ap length (append-nil (encode_symbols symbols bytes)) ∙ length-encode_symbols symbols bytes
+
+-- with padding
+pub length-base64 : (bytes : List ℕ) → length (encoded_by Standard bytes) ≡ (length bytes + 2) / 3 * 4
+length-base64 bytes =
+    let n : ℕ = length bytes in
+    let parts : length (encoded_by Standard bytes) ≡ length (encode_symbols (standard.encode_table) bytes) + length (replicate (padding_len n) 61) =
+    length-append (encode_symbols (standard.encode_table) bytes) (replicate (padding_len n) 61) in
+    let size : length (encode_symbols (standard.encode_table) bytes) ≡ (4 * n + 2) / 3 = length-encode_symbols (standard.encode_table) bytes in
+    let padding : length (replicate (padding_len n) 61) ≡ padding_len n = length-replicate {A = ℕ} (padding_len n) 61 in
+    omega (arith, parts, size, padding)

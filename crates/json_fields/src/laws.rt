@@ -22,3 +22,8 @@ pub fn base64url_is_of_its_alphabet()
 pub fn base64_is_plain()
     ensures { (bytes : List ℕ) → IsBytes bytes → escape (encoded_by Alphabet.Standard bytes) ≡ encoded_by Alphabet.Standard bytes }
 {}
+
+/// Base64 with padding is of four characters for three bytes, and for what is left of three at the end.
+pub fn base64_has_its_size()
+    ensures { (bytes : List ℕ) → length (encoded_by Alphabet.Standard bytes) ≡ (length bytes + 2) / 3 * 4 }
+{}

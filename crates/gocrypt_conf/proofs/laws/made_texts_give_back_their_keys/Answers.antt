@@ -5,3 +5,4 @@ pub returns : goal.returns
 returns c =
     let sealed = c.sealed_texts_are_bytes.ensures in
     made_returns sealed.sixteen (record { text = sealed.text; as_long = sealed.as_long; tag = sealed.tag }) c.base64_is_plain.ensures
+    c.base64_has_its_size.ensures

@@ -1,6 +1,6 @@
 -- A new file: made, written and synced where no name table showed a file of then.
-use Rattle.std.proofs.Common.{◌≡◌, ◌≢◌, ◌⊎◌, ℕ, ◌<◌, ◌≤◌, Bool, List, [], ◌∷◌, ◌++◌, Option, Some, None, Result, Ok, Err, OnOk, take, refl, sym, ap, ◌∙◌, subst, inl, inr, IsTrue, append-nil, arith}
-use Rattle.std.specs.Prelude.{Contains}
+use Rattle.std.proofs.Common.{◌≡◌, ◌≢◌, ◌⊎◌, ℕ, ◌<◌, ◌≤◌, List, [], ◌∷◌, ◌++◌, Option, Some, None, Result, Ok, Err, OnOk, take, refl, sym, ap, ◌∙◌, subst, inl, inr, IsTrue, append-nil, arith}
+use Rattle.std.specs.Prelude.{Contains, true, is_none, is_some}
 use Rattle.std.proofs.lemmas.Bool.{eq-eqb}
 use Rattle.std.specs.Cmp.{first_so, second_so}
 use Rattle.folder_spec.specs.declared.FolderFault.{FolderFault}
@@ -8,21 +8,21 @@ use Rattle.folder_spec.specs.declared.Kind.{Kind}
 use Rattle.folder_spec.specs.declared.Kind.TheVariants.{Missing, File}
 use Rattle.folder_spec.specs.Path.{Part, Path, below, parent, child}
 use Rattle.folder_spec.specs.State.{Nothing, Directory, FileNode, Table, Node, State, present, put, moved, put_node, kind_of, HasFile, IsClean, IsSound, IsSoundTable}
-use Rattle.folder_spec.specs.Event.{Call, MakeDir, Create, Append, Sync, Settle, Rename, RemoveFile, RemoveDir, Event, IsFree, IsFilePlace, with_file, grown, synced, empty_node, changed, fallen, Told, Steps, Changes, FromTo}
+use Rattle.folder_spec.specs.Event.{Call, MakeDir, Create, Append, Sync, Settle, Rename, RemoveFile, RemoveDir, Event, IsFree, IsFilePlace, Allowed, with_file, grown, synced, empty_node, changed, fallen, Told, Steps, Changes, FromTo}
 use Rattle.folder_spec.specs.Moments.{Went}
-use Rattle.folder_spec.specs.Region.{Spares, WritesOnlyNew, SparesOld, IsAsBefore, PutsOnlyFiles, apart_from, apart_from_both}
+use Rattle.folder_spec.specs.Region.{Spares, WritesOnlyNew, SparesOld, WorksAt, StagesAt, StagesOrPuts, IsAsBefore, PutsOnlyFiles, apart_from, apart_from_both, at_or_below}
 use Rattle.folder_spec.specs.Written.{IsFrontOfOne, WritesFronts}
 use Rattle.folder_spec.specs.Replace.{IsNewNode, IsNewFile, IsStaging, IsReplacing, HasReplaced}
-use Rattle.folder_spec.proofs.Paths.{below-parent, parent-apart, parent-child, child_of_parent}
+use Rattle.folder_spec.proofs.Paths.{below-append, below-parent, parent-apart, parent-child, child_of_parent}
 use Rattle.folder_spec.proofs.Tables.{put-same, put-other, moved-old, last_of-push, present_is_table}
 use Rattle.folder_spec.proofs.Moments.{went_nowhere, went_on, went_by_call, went_more, went_to}
-use Rattle.folder_spec.proofs.Tellings.{from_to_on, from_to_more, from_to_same, from_to_known}
+use Rattle.folder_spec.proofs.Tellings.{from_to_on, from_to_more, from_to_same, from_to_known, from_to_then}
 use Rattle.folder_spec.specs.View.{FileOf, found}
 use Rattle.folder_spec.specs.Edit.{file_view, file_edit, IsStagedView, HasPublished}
 use Rattle.folder_spec.proofs.Edits.{nothing_below_file, publishes_nothing, published, settle_publishes, settled}
 use Rattle.folder_spec.proofs.Regions.{as_before, as_before_on, old_or_file_on, old_or_file_at_first}
 use Rattle.folder_spec.proofs.Written.{shorter_piece, fronts_on, fronts_of_none, fronts_of_more}
-use Rattle.folder_spec.proofs.Replaces.{apart-below, apart-not_same, apart-from_below, old_or_new_so_far, old_or_new_renamed, new_renamed, replaced_by_settle}
+use Rattle.folder_spec.proofs.Replaces.{apart-below, apart-from_below, old_or_new_so_far, old_or_new_renamed, new_renamed, replaced_by_settle}
 
 put_node-same : (nodes : ℕ → Node) (n : ℕ) (node : Node) → put_node nodes n node n ≡ node
 put_node-same nodes n node = rw (eq-eqb n n refl) refl
@@ -57,23 +57,47 @@ synced_new s0 s p node new = with_file_new s0 s p node synced new
 pub writes_new : (node : Node) (s0 s : State) (p : Path) → IsNewNode node s0 s (present s p) → (n : ℕ) → present s p ≡ FileNode n → s0.made ≤ n
 writes_new node s0 s p new n here = let one : new.number ≡ n = cc (new.is, here) in subst (λ k. s0.made ≤ k) one new.new
 
--- Writing it: the calls so far spared all other paths, and wrote new files alone.
+-- What works at a path spares all others.
+pub at_itself : (p : Path) → IsTrue (at_or_below p p)
+at_itself p = ap is_some (ap (below p) (sym (append-nil p)) ∙ below-append p [])
+
+outside : (p r : Path) → IsTrue (at_or_below p r) → (q : Path) → IsTrue (apart_from p q) → r ≢ q
+outside p r at q apart e = neither (below p q) (subst (λ x. IsTrue (at_or_below p x)) e at) apart
+  where
+    neither : (o : Option Path) → is_some o ≡ true → is_none o ≡ true → ⊥
+    neither None some none = cc
+    neither (Some rest) some none = cc
+
+works_spare : (p : Path) (call : Call) → WorksAt p call → Spares (apart_from p) call
+works_spare p (MakeDir r) at = outside p r at
+works_spare p (Create r) at = outside p r at
+works_spare p (Append r piece) at = tt
+works_spare p (Sync r) at = tt
+works_spare p Settle at = tt
+works_spare p (Rename old new) at = absurd at
+works_spare p (RemoveFile r) at = outside p r at
+works_spare p (RemoveDir r) at = outside p r at
+
+pub stages_spare : (p : Path) (s0 s : State) (call : Call) → StagesAt p s0 s call → SparesOld (apart_from p) s0 s call
+stages_spare p s0 s call h = (works_spare p call h.0, h.1)
+
+-- Writing it: the calls so far worked at the path alone, and wrote new files alone.
 abbrev pub Staging : List (List ℕ) → Path → Told → Told → Type 0
-Staging files p a0 a = Went (IsStaging files p a0.state) (λ s e. SparesOld (apart_from p) a0.state s e.call) a0 a
+Staging files p a0 a = Went (IsStaging files p a0.state) (λ s e. StagesAt p a0.state s e.call) a0 a
 
 -- what a call may do meanwhile
 pub record MayStage (files : List (List ℕ)) (p : Path) (made : ℕ) (s : State) (call : Call) : Type 0 where
-  pub spares : Spares (apart_from p) call
+  pub works : WorksAt p call
   pub new : WritesOnlyNew made s call
   pub puts : PutsOnlyFiles p call
   pub fronts : WritesFronts files s call
 
 pub staging_so_far : (files : List (List ℕ)) (p : Path) (a0 a : Told) → Staging files p a0 a → IsStaging files p a0.state a.state
-staging_so_far files p a0 a went = went_to (IsStaging files p a0.state) (λ s e. SparesOld (apart_from p) a0.state s e.call) a0 a went
+staging_so_far files p a0 a went = went_to (IsStaging files p a0.state) (λ s e. StagesAt p a0.state s e.call) a0 a went
 
 is_staging_on : (files : List (List ℕ)) (p : Path) (s0 s : State) (call : Call) → MayStage files p s0.made s call → IsStaging files p s0 s → IsStaging files p s0 (changed s call)
 is_staging_on files p s0 s call may so_far = record {
-  others = as_before_on (apart_from p) s0 s call may.spares may.new so_far.others;
+  others = as_before_on (apart_from p) s0 s call (works_spare p call may.works) may.new so_far.others;
   place = old_or_file_on p s0 s so_far.place call may.puts;
   fronts = fronts_on files s0 s call may.fronts so_far.fronts;
 }
@@ -83,7 +107,7 @@ staging_fallen : (files : List (List ℕ)) (p : Path) (s0 s : State) (call : Cal
     → IsStaging files p s0 (fallen s call added)
 staging_fallen files p s0 s (Append q piece) added may so_far =
     is_staging_on files p s0 s (Append q (take added piece))
-    (record { spares = tt; new = may.new; puts = tt; fronts = λ n is. shorter_piece files (s.nodes n).now piece added (may.fronts n is) }) so_far
+    (record { works = may.works; new = may.new; puts = tt; fronts = λ n is. shorter_piece files (s.nodes n).now piece added (may.fronts n is) }) so_far
 staging_fallen files p s0 s (MakeDir q) added may so_far = so_far
 staging_fallen files p s0 s (Create q) added may so_far = so_far
 staging_fallen files p s0 s (Sync q) added may so_far = so_far
@@ -96,42 +120,39 @@ staging_call : (files : List (List ℕ)) (p : Path) (call : Call) (a0 a b : Told
     → Staging files p a0 a → Steps call a b result → Staging files p a0 b
 staging_call files p call a0 a b result may so_far steps =
     let P : State → Type 0 = IsStaging files p a0.state in
-    let Q : State → Event → Type 0 = λ s e. SparesOld (apart_from p) a0.state s e.call in
+    let Q : State → Event → Type 0 = λ s e. StagesAt p a0.state s e.call in
     let here : P a.state = staging_so_far files p a0 a so_far in
     went_on P Q a0 a b so_far
     (went_by_call P Q call a b result here (λ allowed. is_staging_on files p a0.state a.state call may here)
-    (λ added allowed. staging_fallen files p a0.state a.state call added may here) (λ outcome. (may.spares, may.new)) steps)
+    (λ added allowed. staging_fallen files p a0.state a.state call added may here) (λ outcome. (may.works, may.new)) steps)
 
 -- no call yet
 pub staging_none : (files : List (List ℕ)) (p : Path) (a : Told) → Staging files p a a
 staging_none files p a =
-    went_nowhere (IsStaging files p a.state) (λ s e. SparesOld (apart_from p) a.state s e.call) a
+    went_nowhere (IsStaging files p a.state) (λ s e. StagesAt p a.state s e.call) a
     (record { others = as_before (apart_from p) a.state; place = old_or_file_at_first p a.state; fronts = fronts_of_none files a.state })
 
 -- more files may be written
 pub staging_more : (files more : List (List ℕ)) (p : Path) (a0 a : Told) → ((file : List ℕ) → Contains files file → Contains more file) → Staging files p a0 a → Staging more p a0 a
 staging_more files more p a0 a within so_far =
-    went_more (IsStaging files p a0.state) (IsStaging more p a0.state) (λ s e. SparesOld (apart_from p) a0.state s e.call)
-    (λ s e. SparesOld (apart_from p) a0.state s e.call) a0 a
+    went_more (IsStaging files p a0.state) (IsStaging more p a0.state) (λ s e. StagesAt p a0.state s e.call)
+    (λ s e. StagesAt p a0.state s e.call) a0 a
     (λ s h. record { others = h.others; place = h.place; fronts = fronts_of_more files more a0.state s within h.fronts }) (λ s e h. h) so_far
 
 -- the new file stands there
 abbrev pub IsStagedAs : List (List ℕ) → Path → Node → Told → Told → Type 0
 IsStagedAs files p node a0 a = Staging files p a0 a × IsNewNode node a0.state a.state (present a.state p)
 
-spares_itself : (p q : Path) → IsTrue (apart_from p q) → p ≢ q
-spares_itself p q inside = apart-not_same p q inside
-
 pub may_remove : (files : List (List ℕ)) (p : Path) (made : ℕ) (s : State) → MayStage files p made s (RemoveFile p)
-may_remove files p made s = record { spares = spares_itself p; new = tt; puts = tt; fronts = tt }
+may_remove files p made s = record { works = at_itself p; new = tt; puts = tt; fronts = tt }
 
 pub may_create : (files : List (List ℕ)) (p : Path) (made : ℕ) (s : State) → IsFrontOfOne files [] → MayStage files p made s (Create p)
-may_create files p made s empty = record { spares = spares_itself p; new = tt; puts = tt; fronts = empty }
+may_create files p made s empty = record { works = at_itself p; new = tt; puts = tt; fronts = empty }
 
 pub may_append : (files : List (List ℕ)) (p : Path) (piece : List ℕ) (node : Node) (s0 s : State) → IsNewNode node s0 s (present s p) → IsFrontOfOne files (node.now ++ piece)
     → MayStage files p s0.made s (Append p piece)
 may_append files p piece node s0 s new front = record {
-  spares = tt;
+  works = at_itself p;
   new = writes_new node s0 s p new;
   puts = tt;
   fronts = λ n is.
@@ -140,7 +161,7 @@ may_append files p piece node s0 s new front = record {
 }
 
 pub may_sync : (files : List (List ℕ)) (p : Path) (node : Node) (s0 s : State) → IsNewNode node s0 s (present s p) → MayStage files p s0.made s (Sync p)
-may_sync files p node s0 s new = record { spares = tt; new = writes_new node s0 s p new; puts = tt; fronts = tt }
+may_sync files p node s0 s new = record { works = at_itself p; new = writes_new node s0 s p new; puts = tt; fronts = tt }
 
 pub removed_on : (files : List (List ℕ)) (p : Path) (a0 a b : Told) → p ≢ [] → IsSound a.state → Staging files p a0 a → Steps (RemoveFile p) a b (Ok tt)
     → Staging files p a0 b × IsFree (present b.state) p
@@ -185,17 +206,49 @@ free_or_file t p kind is place = elim place as (λ _. (kind ≡ File → HasFile
 
 -- Publishing it: renaming it onto its place, and settling.
 abbrev pub Replacing : Path → Path → List ℕ → Told → Told → Type 0
-Replacing staged at bytes a0 a = Went (IsReplacing staged at bytes a0.state) (λ s e. SparesOld (apart_from_both staged at) a0.state s e.call) a0 a
+Replacing staged at bytes a0 a = Went (IsReplacing staged at bytes a0.state) (λ s e. StagesOrPuts staged at a0.state s e.call) a0 a
 
-pub spares_within : (small large : Path → Bool) → ((q : Path) → IsTrue (small q) → IsTrue (large q)) → (call : Call) → Spares large call → Spares small call
-spares_within small large within (MakeDir p) h = λ q inside. h q (within q inside)
-spares_within small large within (Create p) h = λ q inside. h q (within q inside)
-spares_within small large within (Append p piece) h = tt
-spares_within small large within (Sync p) h = tt
-spares_within small large within Settle h = tt
-spares_within small large within (Rename old new) h = λ q inside. h q (within q inside)
-spares_within small large within (RemoveFile p) h = λ q inside. h q (within q inside)
-spares_within small large within (RemoveDir p) h = λ q inside. h q (within q inside)
+pub stages_or_puts : (staged at : Path) (s0 s : State) (call : Call) → StagesAt staged s0 s call → StagesOrPuts staged at s0 s call
+stages_or_puts staged at s0 s (MakeDir p) h = h
+stages_or_puts staged at s0 s (Create p) h = h
+stages_or_puts staged at s0 s (Append p piece) h = h
+stages_or_puts staged at s0 s (Sync p) h = h
+stages_or_puts staged at s0 s Settle h = tt
+stages_or_puts staged at s0 s (Rename old new) h = absurd h.0
+stages_or_puts staged at s0 s (RemoveFile p) h = h
+stages_or_puts staged at s0 s (RemoveDir p) h = h
+
+spares_both : (staged at : Path) (s0 s : State) (call : Call) → SparesOld (apart_from staged) s0 s call → SparesOld (apart_from_both staged at) s0 s call
+spares_both staged at s0 s call h = (by_call call h.0, h.1)
+  where
+    within : (q : Path) → IsTrue (apart_from_both staged at q) → IsTrue (apart_from staged q)
+    within q inside = first_so (apart_from staged q) (apart_from at q) inside
+
+    by_call : (call : Call) → Spares (apart_from staged) call → Spares (apart_from_both staged at) call
+    by_call (MakeDir p) h = λ q inside. h q (within q inside)
+    by_call (Create p) h = λ q inside. h q (within q inside)
+    by_call (Append p piece) h = tt
+    by_call (Sync p) h = tt
+    by_call Settle h = tt
+    by_call (Rename old new) h = λ q inside. h q (within q inside)
+    by_call (RemoveFile p) h = λ q inside. h q (within q inside)
+    by_call (RemoveDir p) h = λ q inside. h q (within q inside)
+
+pub puts_spare : (staged at : Path) (s0 s : State) (call : Call) → StagesOrPuts staged at s0 s call → SparesOld (apart_from_both staged at) s0 s call
+puts_spare staged at s0 s (Rename old new) h = (
+  λ q inside. (
+    ap (λ p. below p q) h.1 ∙ apart-below at q (second_so (apart_from staged q) (apart_from at q) inside),
+    ap (λ p. below p q) h.0 ∙ apart-below staged q (first_so (apart_from staged q) (apart_from at q) inside),
+  ),
+  tt,
+)
+puts_spare staged at s0 s Settle h = (tt, tt)
+puts_spare staged at s0 s (MakeDir p) h = spares_both staged at s0 s (MakeDir p) (stages_spare staged s0 s (MakeDir p) h)
+puts_spare staged at s0 s (Create p) h = spares_both staged at s0 s (Create p) (stages_spare staged s0 s (Create p) h)
+puts_spare staged at s0 s (Append p piece) h = spares_both staged at s0 s (Append p piece) (stages_spare staged s0 s (Append p piece) h)
+puts_spare staged at s0 s (Sync p) h = spares_both staged at s0 s (Sync p) (stages_spare staged s0 s (Sync p) h)
+puts_spare staged at s0 s (RemoveFile p) h = spares_both staged at s0 s (RemoveFile p) (stages_spare staged s0 s (RemoveFile p) h)
+puts_spare staged at s0 s (RemoveDir p) h = spares_both staged at s0 s (RemoveDir p) (stages_spare staged s0 s (RemoveDir p) h)
 
 -- what stands where a file was written is the file, and nothing below it
 pub new_file_view : (staged : Path) (bytes : List ℕ) (s0 s : State) → IsSound s → IsNewFile bytes s0 s (present s staged) → IsStagedView s (present s) staged (file_view bytes)
@@ -233,20 +286,20 @@ module _ (staged at : Path) (bytes : List ℕ) (apart : below staged at ≡ None
   pub replacing_so_far : (a0 a : Told) → IsSound a0.state → Staging (bytes ∷ []) staged a0 a → Replacing staged at bytes a0 a
   replacing_so_far a0 a sound so_far =
       went_more (IsStaging (bytes ∷ []) staged a0.state) (IsReplacing staged at bytes a0.state)
-      (λ s e. SparesOld (apart_from staged) a0.state s e.call) (λ s e. SparesOld (apart_from_both staged at) a0.state s e.call) a0 a
+      (λ s e. StagesAt staged a0.state s e.call) (λ s e. StagesOrPuts staged at a0.state s e.call) a0 a
       (λ s h. replacing_of_staging a0.state s sound h)
-      (λ s e h. (spares_within (apart_from_both staged at) (apart_from staged) (λ q inside. first_so (apart_from staged q) (apart_from at q) inside) e.call h.0, h.1)) so_far
+      (λ s e h. stages_or_puts staged at a0.state s e.call h) so_far
 
   replacing_call : (call : Call) (a0 a b : Told) (result : Result (Unit {0}) FolderFault)
-      → Spares (apart_from_both staged at) call → WritesOnlyNew a0.state.made a.state call
+      → StagesOrPuts staged at a0.state a.state call
       → (IsReplacing staged at bytes a0.state a.state → IsReplacing staged at bytes a0.state (changed a.state call))
       → ((added : ℕ) → fallen a.state call added ≡ a.state)
       → Replacing staged at bytes a0 a → Steps call a b result → Replacing staged at bytes a0 b
-  replacing_call call a0 a b result spares new done fell so_far steps =
+  replacing_call call a0 a b result event done fell so_far steps =
       let P : State → Type 0 = IsReplacing staged at bytes a0.state in
-      let Q : State → Event → Type 0 = λ s e. SparesOld (apart_from_both staged at) a0.state s e.call in
+      let Q : State → Event → Type 0 = λ s e. StagesOrPuts staged at a0.state s e.call in
       let here : P a.state = went_to P Q a0 a so_far in
-      went_on P Q a0 a b so_far (went_by_call P Q call a b result here (λ allowed. done here) (λ added allowed. subst P (sym (fell added)) here) (λ outcome. (spares, new)) steps)
+      went_on P Q a0 a b so_far (went_by_call P Q call a b result here (λ allowed. done here) (λ added allowed. subst P (sym (fell added)) here) (λ outcome. event) steps)
 
   pub published_on : (a0 a b : Told) → IsSound a0.state → IsSound a.state → IsStagedAs (bytes ∷ []) staged (record { now = bytes; kept = bytes }) a0 a
       → HasPublished staged (file_edit at bytes ∷ []) a0.state (changed a.state (Rename staged at))
@@ -255,12 +308,11 @@ module _ (staged at : Path) (bytes : List ℕ) (apart : below staged at ≡ None
       published (apart_from staged) staged (file_edit at bytes) a0.state a.state sound here.others (λ q inside. apart-below staged q inside)
       (new_file_view staged bytes a0.state a.state sound_now so_far.1)
 
-  pub renamed_on : (a0 a b : Told) (result : Result (Unit {0}) FolderFault) → below at staged ≡ None → IsSound a0.state → IsSound a.state
+  pub renamed_on : (a0 a b : Told) (result : Result (Unit {0}) FolderFault) → below at staged ≡ None → IsSound a0.state → IsSound a.state → Allowed a.state (Rename staged at)
       → IsStagedAs (bytes ∷ []) staged (record { now = bytes; kept = bytes }) a0 a → Steps (Rename staged at) a b result → Replacing staged at bytes a0 b
-  renamed_on a0 a b result beside sound sound_now so_far steps =
+  renamed_on a0 a b result beside sound sound_now allowed so_far steps =
       let here : IsStaging (bytes ∷ []) staged a0.state a.state = staging_so_far (bytes ∷ []) staged a0 a so_far.0 in
-      replacing_call (Rename staged at) a0 a b result
-      (λ q inside. (apart-below at q (second_so (apart_from staged q) (apart_from at q) inside), apart-below staged q (first_so (apart_from staged q) (apart_from at q) inside))) tt
+      replacing_call (Rename staged at) a0 a b result (refl, refl, here.others, allowed)
       (λ so_far_. record {
         change = old_or_new_renamed staged at bytes a0.state a.state apart here.others so_far.1;
         publishes = (published_on a0 a b sound sound_now so_far).publishes;
@@ -287,7 +339,7 @@ module _ (staged at : Path) (bytes : List ℕ) (apart : below staged at ≡ None
   pub settled_on : (a0 a b : Told) (result : Result (Unit {0}) FolderFault) → Replacing staged at bytes a0 a
       → IsNewFile bytes a0.state a.state (present a.state at) → Steps Settle a b result → Replacing staged at bytes a0 b
   settled_on a0 a b result so_far new steps =
-      replacing_call Settle a0 a b result tt tt
+      replacing_call Settle a0 a b result tt
       (λ here. record {
         change = (replaced_by_settle (apart_from_both staged at) at bytes a0.state a.state here.change new).change;
         publishes = settle_publishes (apart_from staged) (file_edit at bytes ∷ []) a0.state a.state here.publishes;
@@ -299,7 +351,7 @@ module _ (staged at : Path) (bytes : List ℕ) (apart : below staged at ≡ None
       → IsNewFile bytes a0.state a.state (present a.state at) → Steps Settle a b (Ok tt) → HasReplaced staged at bytes a0.state b.state
   replaced_on a0 a b so_far shown gone new steps =
       let P : State → Type 0 = IsReplacing staged at bytes a0.state in
-      let here : P a.state = went_to P (λ s e. SparesOld (apart_from_both staged at) a0.state s e.call) a0 a so_far in
+      let here : P a.state = went_to P (λ s e. StagesOrPuts staged at a0.state s e.call) a0 a so_far in
       subst (λ (c : Told). HasReplaced staged at bytes a0.state c.state) (sym steps.1)
       (record {
         replaced = replaced_by_settle (apart_from_both staged at) at bytes a0.state a.state here.change new;
@@ -413,13 +465,22 @@ module _ (staged at : Path) (bytes : List ℕ) (apart : below staged at ≡ None
   replacing_none t sound =
       replacing_from t t sound (from_to_same (Staging (bytes ∷ []) staged) t t refl (staging_none (bytes ∷ []) staged))
 
+  -- what is known before the rename
+  abbrev MayPut : Told → Told → Type 0
+  MayPut a b = (IsStagedFile staged bytes a b × IsSound a.state × IsSound b.state) × Allowed b.state (Rename staged at)
+
+  may_put : (t0 t1 : Option Told) → ((a : Told) → t0 ≡ Some a → IsSound a.state) → ((a : Told) → t1 ≡ Some a → IsSound a.state)
+      → ((a : Told) → t1 ≡ Some a → Allowed a.state (Rename staged at)) → FromTo (IsStagedFile staged bytes) t0 t1 → FromTo MayPut t0 t1
+  may_put t0 t1 sound sound_now allowed so_far =
+      from_to_then (λ a b. IsStagedFile staged bytes a b × IsSound a.state × IsSound b.state) (λ b. Allowed b.state (Rename staged at)) t0 t1 allowed
+      (from_to_known (IsStagedFile staged bytes) (λ a. IsSound a.state) t0 t1 sound sound_now so_far)
+
   pub renaming_from : (t0 t1 t2 : Option Told) (result : Result (Unit {0}) FolderFault) → below at staged ≡ None
-      → ((a : Told) → t0 ≡ Some a → IsSound a.state) → ((a : Told) → t1 ≡ Some a → IsSound a.state)
+      → ((a : Told) → t0 ≡ Some a → IsSound a.state) → ((a : Told) → t1 ≡ Some a → IsSound a.state) → ((a : Told) → t1 ≡ Some a → Allowed a.state (Rename staged at))
       → FromTo (IsStagedFile staged bytes) t0 t1 → Changes (Rename staged at) t1 t2 result → FromTo (Replacing staged at bytes) t0 t2
-  renaming_from t0 t1 t2 result beside sound sound_now so_far changes =
-      from_to_on (λ a b. IsStagedFile staged bytes a b × IsSound a.state × IsSound b.state) (λ a b. Steps (Rename staged at) a b result) (Replacing staged at bytes) t0 t1 t2
-      (λ a0 a b h steps. renamed_on staged at bytes apart a0 a b result beside h.1 h.2 h.0 steps)
-      (from_to_known (IsStagedFile staged bytes) (λ a. IsSound a.state) t0 t1 sound sound_now so_far) changes
+  renaming_from t0 t1 t2 result beside sound sound_now allowed so_far changes =
+      from_to_on MayPut (λ a b. Steps (Rename staged at) a b result) (Replacing staged at bytes) t0 t1 t2
+      (λ a0 a b h steps. renamed_on staged at bytes apart a0 a b result beside h.0.1 h.0.2 h.1 h.0.0 steps) (may_put t0 t1 sound sound_now allowed so_far) changes
 
 -- renamed, and not yet settled
 pub record IsRenamed (staged at : Path) (bytes : List ℕ) (a0 a : Told) : Type 0 where
@@ -430,16 +491,16 @@ pub record IsRenamed (staged at : Path) (bytes : List ℕ) (a0 a : Told) : Type 
 
 module _ (staged at : Path) (bytes : List ℕ) (apart : below staged at ≡ None) where
   pub renamed_from : (t0 t1 t2 : Option Told) → below at staged ≡ None
-      → ((a : Told) → t0 ≡ Some a → IsSound a.state) → ((a : Told) → t1 ≡ Some a → IsSound a.state)
+      → ((a : Told) → t0 ≡ Some a → IsSound a.state) → ((a : Told) → t1 ≡ Some a → IsSound a.state) → ((a : Told) → t1 ≡ Some a → Allowed a.state (Rename staged at))
       → FromTo (IsStagedFile staged bytes) t0 t1 → Changes (Rename staged at) t1 t2 (Ok tt) → FromTo (IsRenamed staged at bytes) t0 t2
-  renamed_from t0 t1 t2 beside sound sound_now so_far changes =
-      from_to_on (λ a b. IsStagedFile staged bytes a b × IsSound a.state × IsSound b.state) (λ a b. Steps (Rename staged at) a b (Ok tt)) (IsRenamed staged at bytes) t0 t1 t2
+  renamed_from t0 t1 t2 beside sound sound_now allowed so_far changes =
+      from_to_on (MayPut staged at bytes apart) (λ a b. Steps (Rename staged at) a b (Ok tt)) (IsRenamed staged at bytes) t0 t1 t2
       (λ a0 a b h steps. record {
-        went = renamed_on staged at bytes apart a0 a b (Ok tt) beside h.1 h.2 h.0 steps;
-        published = subst (λ (c : Told). HasPublished staged (file_edit at bytes ∷ []) a0.state c.state) (sym steps.1) (published_on staged at bytes apart a0 a b h.1 h.2 h.0);
-        new = new_renamed_on staged at bytes apart a0 a b h.0 steps;
+        went = renamed_on staged at bytes apart a0 a b (Ok tt) beside h.0.1 h.0.2 h.1 h.0.0 steps;
+        published = subst (λ (c : Told). HasPublished staged (file_edit at bytes ∷ []) a0.state c.state) (sym steps.1) (published_on staged at bytes apart a0 a b h.0.1 h.0.2 h.0.0);
+        new = new_renamed_on staged at bytes apart a0 a b h.0.0 steps;
         gone = gone_renamed_on staged at bytes apart a b beside steps;
-      }) (from_to_known (IsStagedFile staged bytes) (λ a. IsSound a.state) t0 t1 sound sound_now so_far) changes
+      }) (may_put staged at bytes apart t0 t1 sound sound_now allowed so_far) changes
 
   pub settling_from : (t0 t1 t2 : Option Told) (result : Result (Unit {0}) FolderFault)
       → FromTo (IsRenamed staged at bytes) t0 t1 → Changes Settle t1 t2 result → FromTo (Replacing staged at bytes) t0 t2

@@ -45,3 +45,10 @@ from_to_known R X None None before after h = tt
 from_to_known R X (Some a) (Some b) before after h = (h, before a refl, after b refl)
 from_to_known R X None (Some b) before after h = absurd h
 from_to_known R X (Some a) None before after h = absurd h
+
+-- what holds of all that is told holds afterwards
+pub from_to_then : (R : Told → Told → Type 0) (X : Told → Type 0) (t u : Option Told) → ((a : Told) → u ≡ Some a → X a) → FromTo R t u → FromTo (λ a b. R a b × X b) t u
+from_to_then R X None None after h = tt
+from_to_then R X (Some a) (Some b) after h = (h, after b refl)
+from_to_then R X None (Some b) after h = absurd h
+from_to_then R X (Some a) None after h = absurd h

@@ -3,7 +3,7 @@ use Rattle.std.specs.Prelude.{◌≡◌, ◌≢◌, ℕ, ◌<◌, ◌≤◌, ◌
 use Rattle.folder_spec.specs.declared.Spot.TheVariants.{FileNode}
 use Rattle.folder_spec.specs.Path.{Path, below}
 use Rattle.folder_spec.specs.State.{Table, State, present, IsTableOf, IsNothingOrFile}
-use Rattle.folder_spec.specs.Event.{Call, IsFree, MakeDir, Create, Append, Sync, Settle, Rename, RemoveFile, RemoveDir}
+use Rattle.folder_spec.specs.Event.{Call, IsFree, Allowed, MakeDir, Create, Append, Sync, Settle, Rename, RemoveFile, RemoveDir}
 
 -- the paths that do not begin with w
 abbrev pub apart_from : Path → Path → Bool
@@ -54,6 +54,32 @@ WritesOnlyNew made s (RemoveDir p) = Unit {0}
 -- the call spares the region, and all files of then
 abbrev pub SparesOld : (Path → Bool) → State → State → Call → Type 0
 SparesOld region s0 s call = Spares region call × WritesOnlyNew s0.made s call
+
+-- the call makes, writes or removes at the path or below it
+abbrev pub WorksAt : Path → Call → Type 0
+WorksAt at (MakeDir p) = IsTrue (at_or_below at p)
+WorksAt at (Create p) = IsTrue (at_or_below at p)
+WorksAt at (Append p piece) = IsTrue (at_or_below at p)
+WorksAt at (Sync p) = IsTrue (at_or_below at p)
+WorksAt at Settle = ⊥
+WorksAt at (Rename old new) = ⊥
+WorksAt at (RemoveFile p) = IsTrue (at_or_below at p)
+WorksAt at (RemoveDir p) = IsTrue (at_or_below at p)
+
+-- and writes no file of then
+abbrev pub StagesAt : Path → State → State → Call → Type 0
+StagesAt at s0 s call = WorksAt at call × WritesOnlyNew s0.made s call
+
+-- The call stages at the one path, or puts what was staged in its place at once, while all else is still as it was; or it settles.
+abbrev pub StagesOrPuts : Path → Path → State → State → Call → Type 0
+StagesOrPuts staged at s0 s (Rename old new) = (old ≡ staged) × (new ≡ at) × IsAsBefore (apart_from staged) s0 s × Allowed s (Rename old new)
+StagesOrPuts staged at s0 s Settle = Unit {0}
+StagesOrPuts staged at s0 s (MakeDir p) = StagesAt staged s0 s (MakeDir p)
+StagesOrPuts staged at s0 s (Create p) = StagesAt staged s0 s (Create p)
+StagesOrPuts staged at s0 s (Append p piece) = StagesAt staged s0 s (Append p piece)
+StagesOrPuts staged at s0 s (Sync p) = StagesAt staged s0 s (Sync p)
+StagesOrPuts staged at s0 s (RemoveFile p) = StagesAt staged s0 s (RemoveFile p)
+StagesOrPuts staged at s0 s (RemoveDir p) = StagesAt staged s0 s (RemoveDir p)
 
 -- what a path may come to have, beside what it had: each table has there what a table of s0 had, or nothing, or a file
 abbrev pub HasOldOrFile : Path → State → State → Type 0

@@ -9,7 +9,7 @@ ghost use Rattle.folder_spec.specs.Replace.{IsOldOrNew, IsReplaced, ShowsOldOrNe
 ghost use Rattle.folder_spec.specs.View.{FileOf, View, view_of, AgreeIn, Shows, ShowsAmong};
 ghost use Rattle.folder_spec.specs.Seen.{under, moved_view, seen, seen_after, MayCall};
 ghost use Rattle.folder_spec.specs.Edit.{Edit, directory_edit, edited, edits_under, view_after, IsPartOf, IsOutside, IsStagedView, PublishesIn, HasPublishedIn, HasSettledIn};
-ghost use Rattle.folder_spec.specs.Region.{Spares, WritesOnlyNew, IsAsBefore, HasOldOrFile, PutsOnlyFiles, OnlyAdds, at_or_below};
+ghost use Rattle.folder_spec.specs.Region.{Spares, WritesOnlyNew, SparesOld, StagesAt, StagesOrPuts, IsAsBefore, HasOldOrFile, PutsOnlyFiles, OnlyAdds, apart_from, apart_from_both, at_or_below};
 ghost use Rattle.folder_spec.specs.Written.{HoldFronts, WritesFronts};
 
 /// A call that is allowed keeps a state sound, whether it is done or fails.
@@ -37,6 +37,13 @@ pub fn syncs_narrow_images()
 pub fn spared_regions_stay()
     ensures one_call { (region : Path → Bool) (s0 s : State) (call : Call) → Spares region call → WritesOnlyNew s0.made s call → IsAsBefore region s0 s → IsAsBefore region s0 (changed s call) }
     ensures images { (region : Path → Bool) (s0 s : State) → IsSound s0 → IsAsBefore region s0 s → (image : Image) → IsImage s image → (old : Image) × IsImage s0 old × AgreeIn region (view_of image) (view_of old) }
+{}
+
+/// What works at a path leaves all other paths alone, and so do calls that put something in its place, all
+/// but that place.
+pub fn stagings_spare_the_rest()
+    ensures staged { (at : Path) (s0 s : State) (call : Call) → StagesAt at s0 s call → SparesOld (apart_from at) s0 s call }
+    ensures put { (staged at : Path) (s0 s : State) (call : Call) → StagesOrPuts staged at s0 s call → SparesOld (apart_from_both staged at) s0 s call }
 {}
 
 /// Where calls write only front parts of some files, the files made since then hold such, also after

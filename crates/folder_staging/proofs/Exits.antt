@@ -73,14 +73,14 @@ may_publish_staged staged at bytes t0 t1 may stages new = record {
 
 module _ (staged at : Path) (bytes : List ℕ) (apart : below staged at ≡ None) where
   published_from : (t0 t1 t2 : Option Told) (result : Result (Unit {0}) FolderFault) → below at staged ≡ None
-      → ((a : Told) → t0 ≡ Some a → IsSound a.state) → ((a : Told) → t1 ≡ Some a → IsSound a.state)
+      → ((a : Told) → t0 ≡ Some a → IsSound a.state) → ((a : Told) → t1 ≡ Some a → IsSound a.state) → ((a : Told) → t1 ≡ Some a → Allowed a.state (Rename staged at))
       → FromTo (IsStagedFile staged bytes) t0 t1 → Changes (Rename staged at) t1 t2 result
       → OnOk result (FromTo (λ a b. IsPublished staged at bytes a.state b.state) t0 t2)
-  published_from t0 t1 t2 (Err fault) beside sound sound_now so_far changes = tt
-  published_from t0 t1 t2 (Ok done) beside sound sound_now so_far changes =
+  published_from t0 t1 t2 (Err fault) beside sound sound_now allowed so_far changes = tt
+  published_from t0 t1 t2 (Ok done) beside sound sound_now allowed so_far changes =
       from_to_more (IsRenamed staged at bytes) (λ a b. IsPublished staged at bytes a.state b.state) t0 t2
       (λ a b is h. record { published = h.published; new = h.new; gone = h.gone })
-      (renamed_from staged at bytes apart t0 t1 t2 beside sound sound_now so_far changes)
+      (renamed_from staged at bytes apart t0 t1 t2 beside sound sound_now allowed so_far changes)
 
   pub renamed_of : (t0 t1 : Option Told) → FromTo (Replacing staged at bytes) t0 t1 → FromTo (λ a b. IsPublished staged at bytes a.state b.state) t0 t1
       → FromTo (IsRenamed staged at bytes) t0 t1
@@ -90,10 +90,10 @@ module _ (staged at : Path) (bytes : List ℕ) (apart : below staged at ≡ None
       (from_to_both (Replacing staged at bytes) (λ a b. IsPublished staged at bytes a.state b.state) t0 t1 went published)
 
 pub publishes_staged : (staged at : Path) (t u : Option Told) (result : Result (Unit {0}) FolderFault) → ArePlacesApart staged at → ((a : Told) → t ≡ Some a → IsSound a.state)
-    → Changes (Rename staged at) t u result → PublishesStaged staged at t u result
-publishes_staged staged at t u result apart sound_now changes before bytes sound stages new =
+    → ((a : Told) → t ≡ Some a → Allowed a.state (Rename staged at)) → Changes (Rename staged at) t u result → PublishesStaged staged at t u result
+publishes_staged staged at t u result apart sound_now allowed changes before bytes sound stages new =
     let so_far : FromTo (IsStagedFile staged bytes) before t =
     from_to_both (Staging (bytes ∷ []) staged) (λ a b. IsNewFile bytes a.state b.state (present b.state staged)) before t stages new in (
-      renaming_from staged at bytes apart.apart before t u result apart.beside sound sound_now so_far changes,
-      published_from staged at bytes apart.apart before t u result apart.beside sound sound_now so_far changes,
+      renaming_from staged at bytes apart.apart before t u result apart.beside sound sound_now allowed so_far changes,
+      published_from staged at bytes apart.apart before t u result apart.beside sound sound_now allowed so_far changes,
     )

@@ -6,7 +6,7 @@ use Rattle.folder_spec.specs.Path.{Part, Path, below, parent, child}
 use Rattle.folder_spec.specs.State.{State, present, IsSound}
 use Rattle.folder_spec.specs.Event.{IsFilePlace, Told, FromTo}
 use Rattle.folder_spec.specs.Moments.{Went}
-use Rattle.folder_spec.specs.Region.{apart_from, apart_from_both, SparesOld}
+use Rattle.folder_spec.specs.Region.{apart_from, apart_from_both, StagesOrPuts}
 use Rattle.folder_spec.specs.Replace.{IsReplacing, HasReplaced}
 use Rattle.folder_spec.specs.Edit.{file_edit, Publishes, HasSettled}
 use Rattle.folder_spec.proofs.Paths.{below-parent, child_of_parent, begins_or_not}
@@ -63,14 +63,14 @@ module _ (staged side : Path) (side_bytes : List ℕ) (at : Path) (bytes : List 
   first_leg : (a0 a : Told) → Replacing staged side side_bytes a0 a → Pairing a0 a
   first_leg a0 a went =
       went_more (IsReplacing staged side side_bytes a0.state) (Publishes staged (side_and_file side side_bytes at bytes) a0.state)
-      (λ s e. SparesOld (apart_from_both staged side) a0.state s e.call) (λ s e. Unit {0}) a0 a
+      (λ s e. StagesOrPuts staged side a0.state s e.call) (λ s e. Unit {0}) a0 a
       (λ s h. publishes_more (apart_from staged) (file_edit side side_bytes ∷ []) (file_edit at bytes ∷ []) a0.state s h.publishes) (λ s e h. tt) went
 
   second_leg : (a0 a1 a : Told) → IsPublished staged side side_bytes a0.state a1.state → Replacing staged at bytes a1 a
       → Went (Publishes staged (side_and_file side side_bytes at bytes) a0.state) (λ s e. Unit {0}) a1 a
   second_leg a0 a1 a first went =
       went_more (IsReplacing staged at bytes a1.state) (Publishes staged (side_and_file side side_bytes at bytes) a0.state)
-      (λ s e. SparesOld (apart_from_both staged at) a1.state s e.call) (λ s e. Unit {0}) a1 a
+      (λ s e. StagesOrPuts staged at a1.state s e.call) (λ s e. Unit {0}) a1 a
       (λ s h. publishes_joined (apart_from staged) (file_edit side side_bytes ∷ []) (file_edit at bytes ∷ []) a0.state a1.state s first.published h.publishes) (λ s e h. tt) went
 
   pub pair_first : (t0 t1 : Option Told) → FromTo (Replacing staged side side_bytes) t0 t1 → FromTo Pairing t0 t1
@@ -101,7 +101,7 @@ place_kept : (staged side : Path) (side_bytes : List ℕ) (at : Path) (t0 t1 : O
 place_kept staged side side_bytes at None None apart others went place = tt
 place_kept staged side side_bytes at (Some a) (Some b) apart others went place =
     place_after staged side side_bytes a.state b.state
-    (went_to (IsReplacing staged side side_bytes a.state) (λ s e. SparesOld (apart_from_both staged side) a.state s e.call) a b went) at apart others place
+    (went_to (IsReplacing staged side side_bytes a.state) (λ s e. StagesOrPuts staged side a.state s e.call) a b went) at apart others place
 place_kept staged side side_bytes at None (Some b) apart others went place = absurd went
 place_kept staged side side_bytes at (Some a) None apart others went place = absurd went
 
@@ -111,7 +111,7 @@ stage_kept : (staged side : Path) (side_bytes : List ℕ) (t0 t1 : Option Told) 
 stage_kept staged side side_bytes None None some beside sound went published place = tt
 stage_kept staged side side_bytes (Some a) (Some b) some beside sound went published place =
     stage_after staged side side_bytes a.state b.state
-    (went_to (IsReplacing staged side side_bytes a.state) (λ s e. SparesOld (apart_from_both staged side) a.state s e.call) a b went)
+    (went_to (IsReplacing staged side side_bytes a.state) (λ s e. StagesOrPuts staged side a.state s e.call) a b went)
     (sound a refl) some beside published.gone place
 stage_kept staged side side_bytes None (Some b) some beside sound went published place = absurd went
 stage_kept staged side side_bytes (Some a) None some beside sound went published place = absurd went

@@ -1,7 +1,8 @@
 -- A folder is begun, gains files and directories, and is published.
 use mathlib.Core.Path.{fun_ext}
 use Rattle.std.proofs.Common.{◌≡◌, ℕ, ◌<◌, ◌≤◌, Bool, true, false, cond, bytes_eq, List, [], ◌∷◌, ◌++◌, Option, Some, None, Result, Ok, Err, OnOk, refl, sym, ap, ◌∙◌, subst, inl, inr, arith, append-nil, append_assoc, nat_lt, ltb-true, ltb-false, IsTrue}
-use Rattle.std.specs.Cmp.{first_so, second_so}
+use Rattle.std.specs.Prelude.{is_some}
+use Rattle.std.specs.Cmp.{first_so}
 use Rattle.folder_spec.specs.declared.FolderFault.{FolderFault}
 use Rattle.folder_spec.specs.declared.Spot.{Spot}
 use Rattle.folder_spec.specs.declared.Spot.TheVariants.{Nothing, Directory, FileNode, Odd}
@@ -9,7 +10,7 @@ use Rattle.folder_spec.specs.Path.{Part, Path, below, child}
 use Rattle.folder_spec.specs.State.{Table, Node, State, present, put, IsTableOf, IsClean, IsSound}
 use Rattle.folder_spec.specs.Event.{Call, MakeDir, Create, Append, Sync, Settle, Rename, RemoveFile, RemoveDir, IsFree, Allowed, Event, Told, Steps, Changes, FromTo, changed}
 use Rattle.folder_spec.specs.Moments.{Went}
-use Rattle.folder_spec.specs.Region.{AlikeIn, IsAsBefore, SparesOld, WritesOnlyNew, apart_from, apart_from_both}
+use Rattle.folder_spec.specs.Region.{AlikeIn, IsAsBefore, WorksAt, StagesAt, StagesOrPuts, WritesOnlyNew, apart_from, apart_from_both, at_or_below}
 use Rattle.folder_spec.specs.Written.{IsFrontOfOne, HoldFronts}
 use Rattle.folder_spec.specs.Replace.{IsNewFile, IsStaging}
 use Rattle.folder_spec.specs.View.{NoEntry, Folder, FileOf, View, found}
@@ -20,22 +21,22 @@ use Rattle.folder_spec.proofs.Tables.{put-same, put-other, present_is_table, las
 use Rattle.folder_spec.proofs.Regions.{as_before, as_before_on}
 use Rattle.folder_spec.proofs.Replaces.{apart-below, apart-not_same, apart-from_below}
 use Rattle.folder_spec.proofs.Moments.{went_on, went_by_call, went_more, went_to}
-use Rattle.folder_spec.proofs.Tellings.{from_to_both, from_to_more, from_to_on}
+use Rattle.folder_spec.proofs.Tellings.{from_to_both, from_to_more, from_to_on, from_to_then}
 use Rattle.folder_spec.proofs.Seen.{free_seen, may_call_allowed}
-use Rattle.folder_spec.proofs.Edits.{nothing_below_file, publishes_nothing, published, at_edit, off_edit}
-use Rattle.folder_spec.proofs.Stages.{Staging, spares_within, new_file_view}
+use Rattle.folder_spec.proofs.Edits.{nothing_below_file, publishes_nothing, published, settle_publishes, settled, at_edit, off_edit}
+use Rattle.folder_spec.proofs.Stages.{Staging, at_itself, stages_or_puts, puts_spare, gone_renamed_on, new_file_view}
 use Rattle.folder_staging.specs.Pieces.{Stages}
-use Rattle.folder_staging.specs.Folders.{IsStagingFolder, StagesFolder, HasStaged, IsStagedFolder, BeginsFolder, MayPublishFolder, IsPublishingFolder, PublishesFolder}
+use Rattle.folder_staging.specs.Folders.{IsStagingFolder, StagesFolder, HasStaged, IsStagedFolder, BeginsFolder, MayPublishFolder, IsPublishingFolder, PublishingFolder, HasPublishedFolder, HasPlacedFolder, PublishesFolder, PlacesFolder}
 
 abbrev StagingFolder : List (List ℕ) → Path → Told → Told → Type 0
-StagingFolder fronts at a b = Went (IsStagingFolder fronts at a.state) (λ s e. SparesOld (apart_from at) a.state s e.call) a b
+StagingFolder fronts at a b = Went (IsStagingFolder fronts at a.state) (λ s e. StagesAt at a.state s e.call) a b
 
 -- A directory is made.
 begun_run : (fronts : List (List ℕ)) (at : Path) (a b : Told) (result : Result (Unit {0}) FolderFault) → Steps (MakeDir at) a b result → StagingFolder fronts at a b
 begun_run fronts at a b result steps =
-    went_by_call (IsStagingFolder fronts at a.state) (λ s e. SparesOld (apart_from at) a.state s e.call) (MakeDir at) a b result here
+    went_by_call (IsStagingFolder fronts at a.state) (λ s e. StagesAt at a.state s e.call) (MakeDir at) a b result here
     (λ allowed. record { others = as_before_on (apart_from at) a.state a.state (MakeDir at) (apart-not_same at) tt (as_before (apart_from at) a.state); fronts = no_files })
-    (λ added allowed. here) (λ outcome. (apart-not_same at, tt)) steps
+    (λ added allowed. here) (λ outcome. (at_itself at, tt)) steps
   where
     no_files : HoldFronts fronts a.state a.state
     no_files n new made = absurd (omega (arith, new, made))
@@ -130,14 +131,31 @@ new_of_more made more s (Rename old new) le h = tt
 new_of_more made more s (RemoveFile p) le h = tt
 new_of_more made more s (RemoveDir p) le h = tt
 
+-- what works below a path works at it
+at_above : (at rest q : Path) → IsTrue (at_or_below (at ++ rest) q) → IsTrue (at_or_below at q)
+at_above at rest q h = elim (begins_or_not (at ++ rest) q) as (λ _. IsTrue (at_or_below at q)) [
+  | inl k ↦ ap is_some (ap (below at) (k.1 ∙ append_assoc at rest k.0) ∙ below-append at (rest ++ k.0))
+  | inr none ↦ absurd (let no_ : false ≡ true = sym (ap is_some none) ∙ h in cc)
+]
+
+works_above : (at rest : Path) (call : Call) → WorksAt (at ++ rest) call → WorksAt at call
+works_above at rest (MakeDir p) h = at_above at rest p h
+works_above at rest (Create p) h = at_above at rest p h
+works_above at rest (Append p piece) h = at_above at rest p h
+works_above at rest (Sync p) h = at_above at rest p h
+works_above at rest Settle h = h
+works_above at rest (Rename old new) h = h
+works_above at rest (RemoveFile p) h = at_above at rest p h
+works_above at rest (RemoveDir p) h = at_above at rest p h
+
 gains_run : (fronts : List (List ℕ)) (at rest : Path) (a b c : Told) → StagingFolder fronts at a b → StagingFolder fronts (at ++ rest) b c → StagingFolder fronts at a c
 gains_run fronts at rest a b c first second =
-    let so_far : IsStagingFolder fronts at a.state b.state = went_to (IsStagingFolder fronts at a.state) (λ s e. SparesOld (apart_from at) a.state s e.call) a b first in
-    went_on (IsStagingFolder fronts at a.state) (λ s e. SparesOld (apart_from at) a.state s e.call) a b c first
-    (went_more (IsStagingFolder fronts (at ++ rest) b.state) (IsStagingFolder fronts at a.state) (λ s e. SparesOld (apart_from (at ++ rest)) b.state s e.call)
-    (λ s e. SparesOld (apart_from at) a.state s e.call) b c (λ s h. staging_then fronts at rest a.state b.state s so_far h)
+    let so_far : IsStagingFolder fronts at a.state b.state = went_to (IsStagingFolder fronts at a.state) (λ s e. StagesAt at a.state s e.call) a b first in
+    went_on (IsStagingFolder fronts at a.state) (λ s e. StagesAt at a.state s e.call) a b c first
+    (went_more (IsStagingFolder fronts (at ++ rest) b.state) (IsStagingFolder fronts at a.state) (λ s e. StagesAt (at ++ rest) b.state s e.call)
+    (λ s e. StagesAt at a.state s e.call) b c (λ s h. staging_then fronts at rest a.state b.state s so_far h)
     (λ s e h. (
-      spares_within (apart_from at) (apart_from (at ++ rest)) (inside_apart at rest) e.call h.0,
+      works_above at rest e.call h.0,
       new_of_more a.state.made b.state.made s e.call so_far.others.made h.1,
     )) second)
 
@@ -145,8 +163,8 @@ gains_run fronts at rest a b c first second =
 pub file_in_folder : (fronts : List (List ℕ)) (at : Path) (before now : Option Told) → Stages fronts at before now → StagesFolder fronts at before now
 file_in_folder fronts at before now stages =
     from_to_more (Staging fronts at) (StagingFolder fronts at) before now
-    (λ a b is went. went_more (IsStaging fronts at a.state) (IsStagingFolder fronts at a.state) (λ s e. SparesOld (apart_from at) a.state s e.call)
-    (λ s e. SparesOld (apart_from at) a.state s e.call) a b (λ s h. record { others = h.others; fronts = h.fronts }) (λ s e h. h) went) stages
+    (λ a b is went. went_more (IsStaging fronts at a.state) (IsStagingFolder fronts at a.state) (λ s e. StagesAt at a.state s e.call)
+    (λ s e. StagesAt at a.state s e.call) a b (λ s h. record { others = h.others; fronts = h.fronts }) (λ s e h. h) went) stages
 
 -- What stands elsewhere in it is as it was.
 module _ (at rest : Path) (made inner : View) (s1 s : State) (sound1 : IsSound s1) (before : IsStagedView s1 (present s1) at made)
@@ -199,17 +217,10 @@ folder_gains fronts at rest made inner before mid now sound h then_ = record {
       (λ a b. StagingFolder fronts (at ++ rest) a b × IsStagedView b.state (present b.state) (at ++ rest) inner)
       (λ a b. IsStagedView b.state (present b.state) at (edited made (record { at = rest; made = inner }))) before mid now
       (λ a b c k l. gains_view at rest made inner b.state c.state k.1 k.0
-      (went_to (IsStagingFolder fronts (at ++ rest) b.state) (λ s e. SparesOld (apart_from (at ++ rest)) b.state s e.call) b c l.0).others l.1)
-      (sound_after before mid sound h.whole)
+      (went_to (IsStagingFolder fronts (at ++ rest) b.state) (λ s e. StagesAt (at ++ rest) b.state s e.call) b c l.0).others l.1)
+      (from_to_then (λ a b. IsStagedView b.state (present b.state) at made) (λ b. IsSound b.state) before mid sound h.whole)
       (from_to_both (StagingFolder fronts (at ++ rest)) (λ a b. IsStagedView b.state (present b.state) (at ++ rest) inner) mid now then_.stages then_.whole);
 }
-  where
-    sound_after : (before mid : Option Told) → ((a : Told) → mid ≡ Some a → IsSound a.state) → FromTo (λ a b. IsStagedView b.state (present b.state) at made) before mid
-        → FromTo (λ a b. IsStagedView b.state (present b.state) at made × IsSound b.state) before mid
-    sound_after None None sound view = tt
-    sound_after (Some a) (Some b) sound view = (view, sound b refl)
-    sound_after None (Some b) sound view = absurd view
-    sound_after (Some a) None sound view = absurd view
 
 -- a file
 file_staged : (fronts : List (List ℕ)) (at : Path) (bytes : List ℕ) (before now : Option Told) → ((a : Told) → now ≡ Some a → IsSound a.state) → Stages fronts at before now
@@ -284,63 +295,113 @@ module _ (fronts : List (List ℕ)) (staged at : Path) (made : View) (apart : be
   abbrev comes : Edit
   comes = record { at = at; made = made }
 
-  abbrev PublishingFolder : Told → Told → Type 0
-  PublishingFolder a b = Went (IsPublishingFolder fronts staged comes a.state) (λ s e. SparesOld (apart_from_both staged at) a.state s e.call) a b
+  abbrev Publishing : Told → Told → Type 0
+  Publishing a b = Went (IsPublishingFolder fronts staged comes a.state) (λ s e. StagesOrPuts staged at a.state s e.call) a b
 
   abbrev StagedFolder : Told → Told → Type 0
   StagedFolder a b = StagingFolder fronts staged a b × IsStagedView b.state (present b.state) staged made
 
-  so_far_published : (a b : Told) → IsSound a.state → StagingFolder fronts staged a b → PublishingFolder a b
+  abbrev Known : Told → Told → Type 0
+  Known a b = StagedFolder a b × IsSound a.state
+
+  so_far_as_before : (s0 s : State) → IsAsBefore (apart_from staged) s0 s → IsAsBefore (apart_from_both staged at) s0 s
+  so_far_as_before s0 s h =
+      as_before_then (apart_from_both staged at) (apart_from staged) s0 s0 s (λ q inside. first_so (apart_from staged q) (apart_from at q) inside)
+      (as_before (apart_from_both staged at) s0) h
+
+  so_far_published : (a b : Told) → IsSound a.state → StagingFolder fronts staged a b → Publishing a b
   so_far_published a b sound went =
-      went_more (IsStagingFolder fronts staged a.state) (IsPublishingFolder fronts staged comes a.state) (λ s e. SparesOld (apart_from staged) a.state s e.call)
-      (λ s e. SparesOld (apart_from_both staged at) a.state s e.call) a b
-      (λ s h. record { publishes = publishes_nothing (apart_from staged) (comes ∷ []) a.state s sound h.others; fronts = h.fronts })
-      (λ s e h. (spares_within (apart_from_both staged at) (apart_from staged) (λ q inside. first_so (apart_from staged q) (apart_from at q) inside) e.call h.0, h.1)) went
+      went_more (IsStagingFolder fronts staged a.state) (IsPublishingFolder fronts staged comes a.state) (λ s e. StagesAt staged a.state s e.call)
+      (λ s e. StagesOrPuts staged at a.state s e.call) a b
+      (λ s h. record {
+        others = so_far_as_before a.state s h.others;
+        publishes = publishes_nothing (apart_from staged) (comes ∷ []) a.state s sound h.others;
+        fronts = h.fronts;
+      }) (λ s e h. stages_or_puts staged at a.state s e.call h) went
+
+  staged_others : (a b : Told) → StagedFolder a b → IsAsBefore (apart_from staged) a.state b.state
+  staged_others a b h = (went_to (IsStagingFolder fronts staged a.state) (λ s e. StagesAt staged a.state s e.call) a b h.0).others
 
   has_published : (a b : Told) → IsSound a.state → StagedFolder a b → HasPublished staged (comes ∷ []) a.state (changed b.state (Rename staged at))
-  has_published a b sound h =
-      published (apart_from staged) staged comes a.state b.state sound
-      (went_to (IsStagingFolder fronts staged a.state) (λ s e. SparesOld (apart_from staged) a.state s e.call) a b h.0).others (apart-below staged) h.1
+  has_published a b sound h = published (apart_from staged) staged comes a.state b.state sound (staged_others a b h) (apart-below staged) h.1
 
-  publish_run : (a b c : Told) (result : Result (Unit {0}) FolderFault) → IsSound a.state → StagedFolder a b → Steps (Rename staged at) b c result → PublishingFolder a c
-  publish_run a b c result sound h steps =
+  publish_run : (a b c : Told) (result : Result (Unit {0}) FolderFault) → IsSound a.state → Allowed b.state (Rename staged at) → StagedFolder a b
+      → Steps (Rename staged at) b c result → Publishing a c
+  publish_run a b c result sound allowed h steps =
       let P : State → Type 0 = IsPublishingFolder fronts staged comes a.state in
-      let Q : State → Event → Type 0 = λ s e. SparesOld (apart_from_both staged at) a.state s e.call in
-      let first : PublishingFolder a b = so_far_published a b sound h.0 in
+      let Q : State → Event → Type 0 = λ s e. StagesOrPuts staged at a.state s e.call in
+      let first : Publishing a b = so_far_published a b sound h.0 in
       let here : P b.state = went_to P Q a b first in
+      let puts : StagesOrPuts staged at a.state b.state (Rename staged at) = (refl, refl, staged_others a b h, allowed) in
       went_on P Q a b c first
       (went_by_call P Q (Rename staged at) b c result here
-      (λ allowed. record { publishes = (has_published a b sound h).publishes; fronts = here.fronts }) (λ added allowed. here)
-      (λ outcome. (
-        λ q inside. (
-          apart-below at q (second_so (apart_from staged q) (apart_from at q) inside),
-          apart-below staged q (first_so (apart_from staged q) (apart_from at q) inside),
-        ),
-        tt,
-      )) steps)
+      (λ _. record {
+        others = as_before_on (apart_from_both staged at) a.state b.state (Rename staged at) (puts_spare staged at a.state b.state (Rename staged at) puts).0 tt here.others;
+        publishes = (has_published a b sound h).publishes;
+        fronts = here.fronts;
+      }) (λ added _. here) (λ outcome. puts) steps)
 
-pub publishes_folder : (staged at : Path) (t u : Option Told) (result : Result (Unit {0}) FolderFault) → below staged at ≡ None → Changes (Rename staged at) t u result
-    → PublishesFolder staged at t u result
-publishes_folder staged at t u result apart changes before fronts made sound h = (
-  from_to_on (λ a b. StagedFolder fronts staged at made apart a b × IsSound a.state) (λ a b. Steps (Rename staged at) a b result)
-      (PublishingFolder fronts staged at made apart) before t u
-      (λ a b c k steps. publish_run fronts staged at made apart a b c result k.1 k.0 steps) known changes,
+  settle_run : (a b c : Told) (result : Result (Unit {0}) FolderFault) → Publishing a b → Steps Settle b c result → Publishing a c
+  settle_run a b c result first steps =
+      let P : State → Type 0 = IsPublishingFolder fronts staged comes a.state in
+      let Q : State → Event → Type 0 = λ s e. StagesOrPuts staged at a.state s e.call in
+      let here : P b.state = went_to P Q a b first in
+      went_on P Q a b c first
+      (went_by_call P Q Settle b c result here
+      (λ _. record {
+        others = as_before_on (apart_from_both staged at) a.state b.state Settle tt tt here.others;
+        publishes = settle_publishes (apart_from staged) (comes ∷ []) a.state b.state here.publishes;
+        fronts = here.fronts;
+      }) (λ added _. here) (λ outcome. tt) steps)
+
+pub publishes_folder : (staged at : Path) (t u : Option Told) (result : Result (Unit {0}) FolderFault) → below staged at ≡ None → below at staged ≡ None
+    → ((a : Told) → t ≡ Some a → Allowed a.state (Rename staged at)) → Changes (Rename staged at) t u result → PublishesFolder staged at t u result
+publishes_folder staged at t u result apart beside allowed changes before fronts made sound h = (
+  from_to_on (λ a b. Known fronts staged at made apart a b × Allowed b.state (Rename staged at)) (λ a b. Steps (Rename staged at) a b result)
+      (Publishing fronts staged at made apart) before t u
+      (λ a b c k steps. publish_run fronts staged at made apart a b c result k.0.1 k.1 k.0.0 steps)
+      (from_to_then (Known fronts staged at made apart) (λ b. Allowed b.state (Rename staged at)) before t allowed known) changes,
   by_result result changes,
 )
   where
-    known : FromTo (λ a b. StagedFolder fronts staged at made apart a b × IsSound a.state) before t
+    known : FromTo (Known fronts staged at made apart) before t
     known =
-        from_to_more (StagedFolder fronts staged at made apart) (λ a b. StagedFolder fronts staged at made apart a b × IsSound a.state) before t (λ a b is k. (k, sound a is))
+        from_to_more (StagedFolder fronts staged at made apart) (Known fronts staged at made apart) before t (λ a b is k. (k, sound a is))
         (from_to_both (StagingFolder fronts staged) (λ a b. IsStagedView b.state (present b.state) staged made) before t h.stages h.whole)
 
     by_result : (result : Result (Unit {0}) FolderFault) → Changes (Rename staged at) t u result
-        → OnOk result (FromTo (λ a b. HasPublished staged (record { at = at; made = made } ∷ []) a.state b.state) before u)
+        → OnOk result (FromTo (λ a b. HasPublishedFolder staged (record { at = at; made = made }) a.state b.state) before u)
     by_result (Err fault) changes = tt
     by_result (Ok done) changes =
-        from_to_on (λ a b. StagedFolder fronts staged at made apart a b × IsSound a.state) (λ a b. Steps (Rename staged at) a b (Ok done))
-        (λ a b. HasPublished staged (record { at = at; made = made } ∷ []) a.state b.state) before t u
-        (λ a b c k steps. subst (λ (d : Told). HasPublished staged (record { at = at; made = made } ∷ []) a.state d.state) (sym steps.1)
-        (has_published fronts staged at made apart a b k.1 k.0)) known changes
+        from_to_on (Known fronts staged at made apart) (λ a b. Steps (Rename staged at) a b (Ok done))
+        (λ a b. HasPublishedFolder staged (record { at = at; made = made }) a.state b.state) before t u
+        (λ a b c k steps. record {
+          published = subst (λ (d : Told). HasPublished staged (record { at = at; made = made } ∷ []) a.state d.state) (sym steps.1)
+              (has_published fronts staged at made apart a b k.1 k.0);
+          gone = gone_renamed_on staged at [] apart b c beside steps;
+        }) known changes
+
+-- and settled
+pub places_folder : (staged at : Path) (t u v : Option Told) (result : Result (Unit {0}) FolderFault) → below staged at ≡ None → PublishesFolder staged at t u (Ok tt)
+    → Changes Settle u v result → PlacesFolder staged at t v result
+places_folder staged at t u v result apart publishes changes before fronts made sound h = (
+  from_to_on (Publishing fronts staged at made apart) (λ a b. Steps Settle a b result) (Publishing fronts staged at made apart) before u v
+      (λ a b c k steps. settle_run fronts staged at made apart a b c result k steps) first.0 changes,
+  by_result result changes,
+)
+  where
+    first : PublishingFolder fronts staged (record { at = at; made = made }) before u
+        × FromTo (λ a b. HasPublishedFolder staged (record { at = at; made = made }) a.state b.state) before u
+    first = publishes before fronts made sound h
+
+    by_result : (result : Result (Unit {0}) FolderFault) → Changes Settle u v result
+        → OnOk result (FromTo (λ a b. HasPlacedFolder staged (record { at = at; made = made }) a.state b.state) before v)
+    by_result (Err fault) changes = tt
+    by_result (Ok done) changes =
+        from_to_on (λ a b. HasPublishedFolder staged (record { at = at; made = made }) a.state b.state) (λ a b. Steps Settle a b (Ok done))
+        (λ a b. HasPlacedFolder staged (record { at = at; made = made }) a.state b.state) before u v
+        (λ a b c k steps. subst (λ (d : Told). HasPlacedFolder staged (record { at = at; made = made }) a.state d.state) (sym steps.1)
+        (record { settled = settled (apart_from staged) (record { at = at; made = made } ∷ []) a.state b.state k.published; gone = k.gone })) first.1 changes
 
 -- the two calls are allowed
 pub free_place : (t : Option Told) (at : Path) → ((v : View) → IsSeen t v → ShowsFree v at) → (a : Told) → t ≡ Some a → Allowed a.state (MakeDir at)

@@ -5,13 +5,13 @@ use Rattle.folder_spec.specs.Path.{Path}
 use Rattle.folder_spec.specs.State.{present}
 use Rattle.folder_spec.specs.Event.{Told, FromTo}
 use Rattle.folder_spec.specs.Moments.{Moments}
-use Rattle.folder_spec.specs.Region.{SparesOld, apart_from}
+use Rattle.folder_spec.specs.Region.{StagesAt}
 use Rattle.folder_spec.specs.Written.{IsFrontOfOne}
 use Rattle.folder_spec.specs.Replace.{IsNewNode, IsNewFile, IsStaging}
 
--- While one of these files is staged at the path: each call spares all other paths and the files of then.
+-- While one of these files is staged at the path: each call works there alone, and writes no file of then.
 abbrev pub Stages : List (List ℕ) → Path → Option Told → Option Told → Type 0
-Stages files at = Moments (IsStaging files at) (λ s0 s e. SparesOld (apart_from at) s0 s e.call)
+Stages files at = Moments (IsStaging files at) (λ s0 s e. StagesAt at s0 s e.call)
 
 -- So far, it has these bytes, which are not yet synced.
 pub record IsWriting (files : List (List ℕ)) (at : Path) (bytes : List ℕ) (before now : Option Told) : Type 0 where

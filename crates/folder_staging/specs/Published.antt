@@ -7,7 +7,7 @@ use Rattle.folder_spec.specs.State.{State, present, IsSound}
 use Rattle.folder_spec.specs.Edit.{Edit, file_edit, HasPublished}
 use Rattle.folder_spec.specs.Event.{Told, FromTo}
 use Rattle.folder_spec.specs.Moments.{Moments}
-use Rattle.folder_spec.specs.Region.{SparesOld, apart_from_both}
+use Rattle.folder_spec.specs.Region.{StagesOrPuts}
 use Rattle.folder_spec.specs.Replace.{IsNewFile, IsReplacing}
 use Rattle.folder_staging.specs.Pieces.{Stages}
 
@@ -17,9 +17,9 @@ pub record IsPublished (staged at : Path) (bytes : List ℕ) (s0 s : State) : Ty
   pub new : IsNewFile bytes s0 s (present s at)
   pub gone : present s staged ≡ Nothing
 
--- While a file is put in its place: at each moment it is being replaced, and each call spares all other paths and the files of then.
+-- While a file is put in its place: at each moment it is being replaced, and each call stages it, puts it there or settles.
 abbrev pub Publishing : Path → Path → List ℕ → Option Told → Option Told → Type 0
-Publishing staged at bytes = Moments (IsReplacing staged at bytes) (λ s0 s e. SparesOld (apart_from_both staged at) s0 s e.call)
+Publishing staged at bytes = Moments (IsReplacing staged at bytes) (λ s0 s e. StagesOrPuts staged at s0 s e.call)
 
 -- A call puts a file there at once, since whenever it has been staged.
 abbrev pub PublishesStaged : Path → Path → Option Told → Option Told → Result (Unit {0}) FolderFault → Type 0

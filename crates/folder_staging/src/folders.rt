@@ -3,7 +3,7 @@ ghost use Rattle.std.specs.Prelude.{◌≢◌, []};
 ghost use Rattle.folder_spec.specs.View.{View};
 ghost use Rattle.folder_spec.specs.Seen.{IsSeen, ShowsFree};
 ghost use Rattle.folder_model.specs.Answers.{CountsAbove};
-ghost use Rattle.folder_staging.specs.Folders.{BeginsFolder, MayPublishFolder, PublishesFolder};
+ghost use Rattle.folder_staging.specs.Folders.{BeginsFolder, MayPublishFolder, PublishesFolder, PlacesFolder};
 
 use folder_model::{FPath, Folder};
 use folder_spec::FolderFault;
@@ -30,4 +30,19 @@ pub fn publish_folder<F: Folder>(
     ensures counts { CountsAbove (F.faults folder.old) (F.faults folder.new) result }
 {
     folder.rename(staged, at)
+}
+
+/// Puts a staged folder at a free place, with all that is in it at once, so that it lasts: published and
+/// settled.
+pub fn place_folder<F: Folder>(
+    folder: &mut F,
+    staged: &FPath,
+    at: &FPath,
+) -> Result<(), FolderFault>
+    requires { MayPublishFolder (F.told folder.old) staged.now at.now }
+    ensures placed { PlacesFolder staged.now at.now (F.told folder.old) (F.told folder.new) result }
+    ensures counts { CountsAbove (F.faults folder.old) (F.faults folder.new) result }
+{
+    publish_folder(folder, staged, at)?;
+    folder.settle()
 }

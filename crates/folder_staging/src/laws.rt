@@ -1,5 +1,5 @@
 //! Laws of the definitions. Each function does nothing, and its clause is the law.
-ghost use Rattle.std.specs.Prelude.{◌≡◌, ◌∷◌, ◌++◌, [], ℕ, List, Option, Some};
+ghost use Rattle.std.specs.Prelude.{◌≡◌, ◌∷◌, ◌++◌, [], ℕ, List, Contains, Option, Some};
 ghost use Rattle.folder_spec.specs.Path.{Part, Path, child};
 ghost use Rattle.folder_spec.specs.State.{State, present, IsSound};
 ghost use Rattle.folder_spec.specs.Event.{Call, Told, FromTo};
@@ -16,6 +16,11 @@ ghost use Rattle.folder_staging.specs.Folders.{StagesFolder, HasStaged, IsStaged
 /// A file that is being written is seen, with the bytes that it has so far.
 pub fn written_files_are_seen()
     ensures { (files : List (List ℕ)) (at : Path) (bytes : List ℕ) (before now : Option Told) → IsWriting files at bytes before now → (v : View) → IsSeen now v → v at ≡ FileOf bytes }
+{}
+
+/// A file that is staged may be one of more files.
+pub fn stagings_are_of_more_files()
+    ensures { (files more : List (List ℕ)) (at : Path) (before now : Option Told) → ((file : List ℕ) → Contains files file → Contains more file) → Stages files at before now → Stages more at before now }
 {}
 
 /// While something is staged in a staged folder, the folder is; once it is there, the folder has it: a

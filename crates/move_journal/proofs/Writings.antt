@@ -6,13 +6,13 @@ use Rattle.folder_spec.specs.declared.FolderFault.{FolderFault}
 use Rattle.folder_spec.specs.Event.{Told, FromTo}
 use Rattle.folder_spec.specs.View.{Folder, FileOf, View, found, view_of}
 use Rattle.folder_spec.specs.Seen.{seen, IsSeen, ShowsNothingOrFile, ShowsFilePlace}
-use Rattle.folder_spec.specs.Region.{SparesOld}
+use Rattle.folder_spec.specs.Region.{SparesOld, StagesOrPuts}
 use Rattle.folder_spec.specs.Image.{Image, IsImage}
 use Rattle.folder_spec.specs.Replace.{IsNewFile, IsReplacing, HasReplaced, IsOldOrNew, IsReplaced, ShowsOldOrNew, IsCleanAt}
 use Rattle.folder_spec.proofs.Paths.{parent-child, child-not_base, below-sibling}
 use Rattle.folder_spec.proofs.Moments.{went_more}
 use Rattle.folder_spec.proofs.Tellings.{from_to_more}
-use Rattle.folder_spec.proofs.Stages.{Replacing, replacing_none}
+use Rattle.folder_spec.proofs.Stages.{Replacing, puts_spare, replacing_none}
 use Rattle.folder_staging.specs.Places.{MayPublish}
 use Rattle.move_journal.specs.declared.journal.Journal.{Journal}
 use Rattle.move_journal.specs.Journal.{journal_text}
@@ -57,8 +57,8 @@ writes_from : (law : ReplacedFiles) (work : Path) (journal : Journal) (t u : Opt
 writes_from law work journal t u sound moments =
     from_to_more (Replacing (new_journal_path work) (journal_path work) (journal_text journal)) _ t u
     (λ a b is went. went_more (IsReplacing (new_journal_path work) (journal_path work) (journal_text journal) a.state) (IsWriting work (journal_text journal) a.state)
-    (λ s e. SparesOld (elsewhere work) a.state s e.call) (λ s e. SparesOld (elsewhere work) a.state s e.call) a b
-    (λ s h. is_writing law work (journal_text journal) a.state s (sound a is) h) (λ s e h. h) went) moments
+    (λ s e. StagesOrPuts (new_journal_path work) (journal_path work) a.state s e.call) (λ s e. SparesOld (elsewhere work) a.state s e.call) a b
+    (λ s h. is_writing law work (journal_text journal) a.state s (sound a is) h) (λ s e h. puts_spare (new_journal_path work) (journal_path work) a.state s e.call h) went) moments
 
 -- no call yet
 pub writes_none : (law : ReplacedFiles) (work : Path) (journal : Journal) (t : Option Told) → ((a : Told) → t ≡ Some a → IsSound a.state) → Writes work journal t t

@@ -6,8 +6,8 @@ use Rattle.folder_staging.proofs.folders.publish_folder.Goals as goal
 
 pub returns-clause-published : goal.returns-clause-published
 returns-clause-published g c =
-    publishes_folder c.args.staged.now c.args.at.now (g.F.Folder.told c.args.folder.now) (g.F.Folder.told c.rename.new.self) c.rename.result c.requires.apart.apart
-    c.rename.ensures.changes
+    publishes_folder c.args.staged.now c.args.at.now (g.F.Folder.told c.args.folder.now) (g.F.Folder.told c.rename.new.self) c.rename.result c.requires.apart.apart c.requires.apart.beside
+    (folder_allowed (g.F.Folder.told c.args.folder.now) c.args.staged.now c.args.at.now c.requires) c.rename.ensures.changes
 
 pub returns-clause-counts : goal.returns-clause-counts
 returns-clause-counts g c =

@@ -7,7 +7,8 @@ use Rattle.folder_staging.proofs.publishing.publish_staged_file.Goals as goal
 pub returns-clause-published : goal.returns-clause-published
 returns-clause-published g c =
     publishes_staged c.args.staged.now c.args.at.now (g.F.Folder.told c.args.folder.now) (g.F.Folder.told c.rename.new.self) c.rename.result c.requires.apart
-    (g.met.F.Folder.sound c.args.folder.now) c.rename.ensures.changes
+    (g.met.F.Folder.sound c.args.folder.now) (staged_allowed (g.F.Folder.told c.args.folder.now) c.args.staged.now c.args.at.now c.requires)
+    c.rename.ensures.changes
 
 pub returns-clause-counts : goal.returns-clause-counts
 returns-clause-counts g c =

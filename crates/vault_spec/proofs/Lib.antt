@@ -5,6 +5,7 @@ mod Grafts
 mod Places
 mod Clean
 mod Finds
+mod EnteredFolders
 mod Lists
 mod Sides
 mod Loading

@@ -188,13 +188,14 @@ pub fn new_vaults_of_cryptomator_are_empty(keys: &CmKeys)
 }
 
 /// What is found at a path stands there, and an item that stands there is found. A path is entered exactly where it leads to a
-/// directory.
+/// directory, whose folder stands then.
 pub fn what_is_found_stands()
     ensures stands { (f : Format) (v : View) (path : Path) (here : Standing) → find f v path ≡ Ok here → standing f v path ≡ here }
     ensures file { (f : Format) (v : View) (path : Path) (at : folder.Path) → standing f v path ≡ File at → find f v path ≡ Ok (File at) }
     ensures directory { (f : Format) (v : View) (path : Path) (at : folder.Path) (directory : Result Directory Lack)
         → standing f v path ≡ Dir at directory → find f v path ≡ Ok (Dir at directory) }
     ensures enters { (f : Format) (v : View) (path : Path) (dir : Directory) → (enter f v path ≡ Ok dir) ↔ Leads f v path dir }
+    ensures folder { (f : Format) (v : View) (path : Path) (dir : Directory) → Leads f v path dir → v dir.folder ≡ Folder }
 {}
 
 /// A directory has one list of its items.

@@ -12,3 +12,4 @@ mod Keys
 mod Reaching
 mod Sorting
 mod TextForms
+mod OrderlyVaults

@@ -40,7 +40,7 @@ none_contained : (way : Way) → Contains [] way → ⊥
 none_contained way a = let none : a.0 < 0 = a.1 in omega (arith, none)
 
 -- a directory leads on
-leads_on : StandBehind → (f : Format) (v : View) (path : plain.Path) (parent dir : Directory) (name : List ℕ) (at : Path) → Leads f v path parent → standing_in f v parent name ≡ Dir at (Ok dir) → Leads f v (path ++ name ∷ []) dir
+pub leads_on : StandBehind → (f : Format) (v : View) (path : plain.Path) (parent dir : Directory) (name : List ℕ) (at : Path) → Leads f v path parent → standing_in f v parent name ≡ Dir at (Ok dir) → Leads f v (path ++ name ∷ []) dir
 leads_on behind f v path parent dir name at leads stands = record { at = at; stands = behind f v path parent name leads ∙ stands }
 
 one_more : (path : plain.Path) (name : List ℕ) → length (path ++ name ∷ []) ≡ length path + 1

@@ -4,3 +4,11 @@ pub mod Found
 pub mod Here
 pub mod Survey
 pub mod Walking
+pub mod Answers
+pub mod Names
+pub mod Nodes
+pub mod Report
+pub mod Extras
+pub mod Surveyed
+pub mod Levels
+pub mod Apart

@@ -7,7 +7,7 @@ use Rattle.folder_spec.specs.View.{View}
 use Rattle.plain_tree.specs.Names as plain
 use Rattle.plain_tree.specs.Order.{path_cmp}
 use Rattle.plain_tree.specs.declared.NodeKind.{NodeKind}
-use Rattle.vault_spec.specs.Findings.{IsFinding, IsClean, is_fault_of_structure, number_of}
+use Rattle.vault_spec.specs.Findings.{IsFinding, is_fault_of_structure, number_of}
 use Rattle.vault_spec.specs.Format.{Format, Directory}
 use Rattle.vault_spec.specs.Listing.{node_of}
 use Rattle.vault_spec.specs.Plan.{Planned, IsPlanned}
@@ -68,7 +68,7 @@ pub record AreNotes (f : Format) (v : View) (notes : List Path) : Type 0 where
 
 pub record IsSurvey (f : Format) (v : View) (plan : List Planned) (found : List FoundAt) (notes : List Path) : Type 0 where
   pub once : HasEachOnce f v plan
-  pub ordered : IsClean f v → IsOrdered plan
+  pub ordered : IsOrdered plan
   pub findings : AreFindings f v found
   pub notes_are : AreNotes f v notes
 

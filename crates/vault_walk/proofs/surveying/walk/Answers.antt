@@ -1,0 +1,24 @@
+use Rattle.std.proofs.Common.{◌≡◌, ◌∷◌, [], refl, sym, ap, ◌∙◌, subst}
+use Rattle.folder_spec.specs.Seen.{under}
+use Rattle.vault_spec.specs.Vault.{format_of}
+use Rattle.vault_walk.specs.Surveyed.{IsFirstFinding}
+use Rattle.vault_walk.specs.declared.fault.Finding.{Finding}
+use Rattle.vault_walk.proofs.FirstFindings.{clean_where, first_finding}
+use Rattle.vault_walk.proofs.surveying.walk.Goals as goal
+
+pub returns-in-Some-clause-not_clean : goal.returns-in-Some-clause-not_clean
+returns-in-Some-clause-not_clean g c finding same v is =
+    let root = c.args.vault.now.root in
+    let f = format_of c.args.vault.now.vault in
+    let more = c.in-Some.ensures in
+    let its : c.in-Some.first ≡ finding = cc in
+    subst (IsFirstFinding root f (under root v)) its (first_finding root f (under root v) c.in_ok-plan.field-0 (c.in_ok-plan.ensures.survey v is) c.in-Some.first more.0 more.1)
+
+pub returns-in-None-clause-clean : goal.returns-in-None-clause-clean
+returns-in-None-clause-clean g c v is =
+    clean_where c.args.vault.now.root (format_of c.args.vault.now.vault) (under c.args.vault.now.root v) c.in_ok-plan.field-0 (c.in_ok-plan.ensures.survey v is) c.in-None.ensures
+
+pub returns-in-None-clause-plan : goal.returns-in-None-clause-plan
+returns-in-None-clause-plan g c v is own =
+    c.in_ok-plan.ensures.plan v is
+    (clean_where c.args.vault.now.root (format_of c.args.vault.now.vault) (under c.args.vault.now.root v) c.in_ok-plan.field-0 (c.in_ok-plan.ensures.survey v is) c.in-None.ensures) own

@@ -1,0 +1,168 @@
+-- How many bytes a content's file draws, and that what was made so far is a front part of it.
+use Rattle.std.proofs.Common.{◌≡◌, ℕ, zero, suc, ◌+◌, ◌*◌, ◌<◌, ◌≤◌, Bool, true, false, List, [], ◌∷◌, ◌++◌, length, take, drop, refl, sym, ap, ◌∙◌, subst, inl, inr, append_assoc, length-append, length-drop, arith}
+use Rattle.std.proofs.lemmas.List.{append-nil}
+use Rattle.std.proofs.lemmas.Bool.Decides.{eqb_tells}
+use Rattle.std.proofs.Math.Nat.{mul-le-mul_left}
+use Rattle.chunk_files.specs.declared.keys.Layout.{Layout}
+use Rattle.chunk_files.specs.declared.keys.Layout.TheVariants.{Go, CmGcm}
+use Rattle.chunk_files.specs.Encoding.{Encoding, HasMade, IsFrontOf, GoesOn, MadeIsAFront, one_chunk_later}
+use Rattle.chunk_files.specs.Encrypt.{IsEncrypted, draws, encrypt, has_no_bytes}
+use Rattle.chunk_files.specs.Format.{Format}
+use Rattle.chunk_files.specs.Keys.{Keys, format_of, format_by, full_size}
+use Rattle.chunk_files.specs.Pieces.{first_pieces, pieces}
+use Rattle.content_writing.specs.Writing.{WereAccepted}
+use Rattle.content_writing.specs.Streaming.{IsMadeFor, IsNextChunk, GoesOnWith}
+
+-- ---- formats
+
+header_by : (layout : Layout) (key : List ℕ) → 0 < (format_by layout key).header_draw
+header_by Go key = omega arith
+header_by CmGcm key = omega arith
+
+-- a header draws some bytes
+pub some_header : (keys : Keys) → 0 < (format_of keys).header_draw
+some_header keys = header_by keys.layout keys.key
+
+some_full_by : (layout : Layout) (key : List ℕ) → 0 < (format_by layout key).full_size
+some_full_by Go key = omega arith
+some_full_by CmGcm key = omega arith
+
+pub some_full : (keys : Keys) → 0 < (format_of keys).full_size
+some_full keys = some_full_by keys.layout keys.key
+
+full_by : (layout : Layout) (key : List ℕ) → full_size layout ≡ (format_by layout key).full_size
+full_by Go key = refl
+full_by CmGcm key = refl
+
+pub full_is : (keys : Keys) → full_size keys.layout ≡ (format_of keys).full_size
+full_is keys = full_by keys.layout keys.key
+
+few_full_by : (layout : Layout) (key : List ℕ) → (format_by layout key).full_size ≤ 32768
+few_full_by Go key = omega arith
+few_full_by CmGcm key = omega arith
+
+pub few_full : (keys : Keys) → (format_of keys).full_size ≤ 32768
+few_full keys = few_full_by keys.layout keys.key
+
+nonce_sealed_by : (layout : Layout) (key : List ℕ) → (format_by layout key).nonce_size ≤ (format_by layout key).seal_size
+nonce_sealed_by Go key = omega arith
+nonce_sealed_by CmGcm key = omega arith
+
+-- a sealed chunk begins with its nonce
+pub nonce_sealed : (keys : Keys) → (format_of keys).nonce_size ≤ (format_of keys).seal_size
+nonce_sealed keys = nonce_sealed_by keys.layout keys.key
+
+zeros_by : (layout : Layout) (key : List ℕ) → (format_by layout key).refuses_zeros ≡ true → (16 ≤ (format_by layout key).nonce_size) × (16 ≤ (format_by layout key).header_draw)
+zeros_by Go key refuses = (omega arith, omega arith)
+zeros_by CmGcm key refuses = cc
+
+-- where zeros are refused, as many as are drawn for a header and for a nonce
+pub zeros_drawn : (keys : Keys) → (format_of keys).refuses_zeros ≡ true → (16 ≤ (format_of keys).nonce_size) × (16 ≤ (format_of keys).header_draw)
+zeros_drawn keys refuses = zeros_by keys.layout keys.key refuses
+
+-- ---- pieces
+
+-- there are more pieces than full ones before the last byte
+pieces_beyond : (most n size : ℕ) (bytes : List ℕ) → 0 < size → length bytes ≤ most → size * n < length bytes → n < length (first_pieces most size bytes)
+unfolding first_pieces
+pieces_beyond zero n size bytes some within more = absurd (omega arith)
+pieces_beyond (suc most) n size [] some within more = absurd (omega arith)
+pieces_beyond (suc most) zero size (x ∷ xs) some within more = omega arith
+pieces_beyond (suc most) (suc n) size (x ∷ xs) some within more =
+    let e : length (drop size (x ∷ xs)) + size ≡ length (x ∷ xs) = omega (arith, length-drop size (x ∷ xs), more) in
+    let on : n < length (first_pieces most size (drop size (x ∷ xs))) = pieces_beyond most n size (drop size (x ∷ xs)) some (omega (arith, e, some, within)) (omega (arith, e, more)) in
+    omega (arith, on)
+
+pub pieces_more : (n size : ℕ) (bytes : List ℕ) → 0 < size → size * n < length bytes → n < length (pieces size bytes)
+unfolding pieces
+pieces_more n size bytes some more = pieces_beyond (length bytes) n size bytes some (omega arith) more
+
+-- ---- what is drawn
+
+pub has_bytes : (f : Format) (content : List ℕ) → 0 < length content → has_no_bytes f content ≡ false
+has_bytes f content some = elim (eqb_tells (length content) 0) [ inl none ↦ absurd (omega (arith, none.1, some)) | inr more ↦ rw more.0 refl ]
+
+-- as many bytes as the header and so many chunks draw, and perhaps a nonce more
+pub drawn_enough : (f : Format) (n : ℕ) (drawn extra content : List ℕ) → 0 < f.full_size → length drawn ≡ f.header_draw + f.nonce_size * n → length extra ≤ f.nonce_size
+    → f.full_size * n < length content → length (drawn ++ extra) ≤ draws f content
+drawn_enough f n drawn extra content some size few more =
+    let many : n < length (pieces f.full_size content) = pieces_more n f.full_size content some more in
+    let most : f.nonce_size * (n + 1) ≤ f.nonce_size * length (pieces f.full_size content) = mul-le-mul_left f.nonce_size (omega (arith, many)) in
+    rw (has_bytes f content (omega (arith, more))) (omega (arith, length-append drawn extra, size, few, most))
+
+pub header_enough : (f : Format) (drawn content : List ℕ) → has_no_bytes f content ≡ false → length drawn ≤ f.header_draw → length drawn ≤ draws f content
+header_enough f drawn content some few = rw some (omega (arith, few))
+
+pub none_accepted : (keys : Keys) → WereAccepted keys []
+none_accepted keys = λ long. absurd (omega (arith, some_header keys, long))
+
+-- what is encrypted was accepted
+pub encrypted_accepted : (keys : Keys) (drawn content file : List ℕ) → IsEncrypted keys drawn content file → WereAccepted keys drawn
+encrypted_accepted keys drawn content file e = by_test (has_no_bytes (format_of keys) content) refl
+  where
+    by_test : (b : Bool) → has_no_bytes (format_of keys) content ≡ b → WereAccepted keys drawn
+    by_test false is = λ long. e.accepted is
+    by_test true is = λ long. (let none : length drawn ≡ 0 = rw is at e.enough in absurd (omega (arith, some_header keys, long, none)))
+
+-- ---- fronts
+
+pub none_in_front : (whole : List ℕ) → IsFrontOf [] whole
+none_in_front whole = record { behind = whole; is = refl }
+
+pub all_in_front : (file whole : List ℕ) → file ≡ whole → IsFrontOf file whole
+all_in_front file whole is = record { behind = []; is = sym is ∙ sym (append-nil file) }
+
+-- what is encrypted is made for its content
+pub whole_made : (keys : Keys) (drawn content file : List ℕ) → IsEncrypted keys drawn content file → IsMadeFor keys drawn content file
+whole_made keys drawn content file e = record { enough = omega (arith, e.enough); front = all_in_front file (encrypt keys drawn content) e.is }
+
+module _ (law : MadeIsAFront) (e : Encoding) (drawn content file : List ℕ) (made : HasMade e drawn content file) where
+  abbrev f : Format
+  f = format_of e.keys
+
+  -- made so far, and then perhaps a nonce was drawn in vain
+  pub front_made : (extra rest : List ℕ) → length extra ≤ f.nonce_size → 0 < length rest → IsMadeFor e.keys (drawn ++ extra) (content ++ rest) file
+  front_made extra rest few some = record {
+    enough = drawn_enough f e.number drawn extra (content ++ rest) (some_full e.keys) made.drawn_so_far few (omega (arith, length-append content rest, made.full, some));
+    front = law e drawn extra content rest file made (has_bytes f (content ++ rest) (omega (arith, length-append content rest, some)));
+  }
+
+  -- made so far, where only a header was drawn
+  pub header_made : (rest : List ℕ) → e.number ≡ 0 → has_no_bytes f (content ++ rest) ≡ false → IsMadeFor e.keys drawn (content ++ rest) file
+  header_made rest first some = record {
+    enough = header_enough f drawn (content ++ rest) some (let none : f.nonce_size * e.number ≡ 0 = rw first (omega arith) in omega (arith, made.drawn_so_far, none));
+    front = subst (λ (d : List ℕ). IsFrontOf file (encrypt e.keys d (content ++ rest))) (append-nil drawn) (law e drawn [] content rest file made some);
+  }
+
+-- The next chunk: what is made then.
+module _ (law : MadeIsAFront) (e e' : Encoding) (chunk stored : List ℕ) (goes_on : GoesOn e e' chunk stored) (next : e' ≡ one_chunk_later e) (some : 0 < length chunk) where
+  abbrev nonce : List ℕ
+  nonce = take (format_of e.keys).nonce_size stored
+
+  same-keys : e'.keys ≡ e.keys
+  same-keys = ap (λ (x : Encoding). x.keys) next
+
+  pub next_made : (drawn content file rest : List ℕ) → HasMade e drawn content file → length nonce ≤ (format_of e.keys).nonce_size → IsNextChunk e.keys chunk rest
+      → IsMadeFor e.keys (drawn ++ nonce) ((content ++ chunk) ++ rest) (file ++ stored)
+  next_made drawn content file rest made few (inr last) =
+      let same : content ++ chunk ≡ (content ++ chunk) ++ rest = sym (append-nil (content ++ chunk)) ∙ ap (λ (x : List ℕ). (content ++ chunk) ++ x) (sym last) in
+      subst (λ (c : List ℕ). IsMadeFor e.keys (drawn ++ nonce) c (file ++ stored)) same (whole_made e.keys (drawn ++ nonce) (content ++ chunk) (file ++ stored) (goes_on drawn content file made).0)
+  next_made drawn content file rest made few (inl full) =
+      let after : HasMade e' (drawn ++ nonce) (content ++ chunk) (file ++ stored) = (goes_on drawn content file made).1 full in
+      let bytes : 0 < length ((content ++ chunk) ++ rest) = omega (arith, length-append (content ++ chunk) rest, length-append content chunk, some) in
+      let sized : 0 < length (content ++ (chunk ++ rest)) = omega (arith, bytes, ap length (append_assoc content chunk rest)) in
+      let front : IsFrontOf (file ++ stored) (encrypt e'.keys ((drawn ++ nonce) ++ []) ((content ++ chunk) ++ rest)) =
+      law e' (drawn ++ nonce) [] (content ++ chunk) rest (file ++ stored) after (has_bytes (format_of e'.keys) ((content ++ chunk) ++ rest) bytes) in
+      record {
+        enough = drawn_enough (format_of e.keys) e.number drawn nonce ((content ++ chunk) ++ rest) (some_full e.keys) made.drawn_so_far few
+            (omega (arith, length-append (content ++ chunk) rest, length-append content chunk, made.full, some));
+        front = subst (λ (k : Keys). IsFrontOf (file ++ stored) (encrypt k (drawn ++ nonce) ((content ++ chunk) ++ rest))) same-keys
+            (subst (λ (d : List ℕ). IsFrontOf (file ++ stored) (encrypt e'.keys d ((content ++ chunk) ++ rest))) (append-nil (drawn ++ nonce)) front);
+      }
+
+  pub next_goes_on : GoesOnWith e e' chunk nonce stored
+  next_goes_on = record {
+    same_keys = same-keys;
+    whole = λ drawn content file made. (goes_on drawn content file made).0;
+    goes_on = λ drawn content file made full. (goes_on drawn content file made).1 full;
+  }

@@ -1,0 +1,9 @@
+mod Sourced
+mod Comings
+mod Drawing
+mod Standing
+mod Exits
+mod StoredParts
+mod Refills
+mod Underway
+mod Lengths

@@ -1,0 +1,57 @@
+use Rattle.std.proofs.Common.{◌≡◌, ◌≤◌, ◌+◌, ◌-◌, ◌++◌, ℕ, List, length, take, Err, Ok, sym, ap, subst, ◌∙◌, arith}
+use Rattle.std.proofs.lemmas.List.{length-append, length-take-le}
+use Rattle.std.proofs.lemmas.Result.{err_from_is_err_and}
+use Rattle.content_writing.specs.Content.{Gave, still_coming}
+use Rattle.content_writing.proofs.Comings.{gives_still, piece_fails, piece_more, piece_last}
+use Rattle.content_writing.proofs.gathering.gather.Goals as goal
+
+pub returns-in_err-size-clause-gathered : goal.returns-in_err-size-clause-gathered
+returns-in_err-size-clause-gathered g c =
+    let i = c.pieces.invariant in
+    let e = c.in_err-size.ensures in
+    let still = still_coming (g.C.Content.reads c.args.content.now) (g.F.Folder.told c.args.folder.now) in
+    let p = err_from_is_err_and c.from_residual.result c.from_residual.ensures.1 in
+    let gives = gives_still (g.C.Content.reads c.pieces.content) (g.C.Content.reads c.args.content.now) (g.F.Folder.told c.pieces.folder) (g.F.Folder.told c.args.folder.now)
+    (Err c.in_err-size.field-0.0) c.piece.new.out (g.C.Content.coming c.pieces.content) (g.C.Content.coming c.piece.new.self) i.reads i.told e.gives in
+    rw (p.1, p.2)
+    (piece_fails c.args.full c.pieces.plain c.piece.new.out (still (g.C.Content.coming c.args.content.now)) (still (g.C.Content.coming c.pieces.content)) (still (g.C.Content.coming c.piece.new.self))
+    i.gave c.in_err-size.field-0.0 e.fault gives)
+
+pub returns-then-size-eq0-clause-gathered : goal.returns-then-size-eq0-clause-gathered
+returns-then-size-eq0-clause-gathered g c =
+    let i = c.pieces.invariant in
+    let e = c.in_ok-size.ensures in
+    let still = still_coming (g.C.Content.reads c.args.content.now) (g.F.Folder.told c.args.folder.now) in
+    let gives = gives_still (g.C.Content.reads c.pieces.content) (g.C.Content.reads c.args.content.now) (g.F.Folder.told c.pieces.folder) (g.F.Folder.told c.args.folder.now)
+    (Ok c.in_ok-size.size) c.piece.new.out (g.C.Content.coming c.pieces.content) (g.C.Content.coming c.piece.new.self) i.reads i.told e.gives in
+    piece_last c.args.full c.pieces.plain c.piece.new.out (still (g.C.Content.coming c.args.content.now)) (still (g.C.Content.coming c.pieces.content)) (still (g.C.Content.coming c.piece.new.self))
+    i.gave c.in_ok-size.size c.if-size-eq0.true gives
+
+pub pieces-preserved : goal.pieces-preserved
+pieces-preserved g c =
+    let i = c.pieces.invariant in
+    let e = c.in_ok-size.ensures in
+    let n : ℕ = c.in_ok-size.size in
+    let still = still_coming (g.C.Content.reads c.args.content.now) (g.F.Folder.told c.args.folder.now) in
+    let gives = gives_still (g.C.Content.reads c.pieces.content) (g.C.Content.reads c.args.content.now) (g.F.Folder.told c.pieces.folder) (g.F.Folder.told c.args.folder.now)
+    (Ok n) c.piece.new.out (g.C.Content.coming c.pieces.content) (g.C.Content.coming c.piece.new.self) i.reads i.told e.gives in
+    let within : n ≤ c.args.full - c.len-in-pieces.result = e.size in
+    let few : c.args.full ≤ 32768 = c.requires.full in
+    let all : length c.piece.new.out ≡ 32816 = ap length (sym c.bytes.ensures.value) ∙ c.bytes.ensures.size in
+    let added : c.push.new.self ≡ c.pieces.plain ++ take n c.piece.new.out = c.push.ensures ∙ ap (λ (b : List ℕ). c.pieces.plain ++ take n b) c.bytes.ensures.value in
+    let taken : length (take n c.piece.new.out) ≡ n = length-take-le n c.piece.new.out (omega (arith, within, few, all)) in
+    let size : length c.push.new.self ≡ length c.pieces.plain + n = ap length added ∙ length-append c.pieces.plain (take n c.piece.new.out) ∙ ap (λ (k : ℕ). length c.pieces.plain + k) taken in
+    let held : c.len-in-pieces.result ≡ length c.pieces.plain = c.len-in-pieces.ensures.size in
+    record {
+      told = e.told ∙ i.told;
+      reads = e.reads ∙ i.reads;
+      ready = e.ready;
+      lender = e.lender ∙ i.lender;
+      gave = subst (λ (xs : List ℕ). Gave xs (still (g.C.Content.coming c.args.content.now)) (still (g.C.Content.coming c.piece.new.self))) (sym added)
+          (piece_more c.args.full c.pieces.plain c.piece.new.out (still (g.C.Content.coming c.args.content.now)) (still (g.C.Content.coming c.pieces.content)) (still (g.C.Content.coming c.piece.new.self))
+          i.gave n gives);
+      size = omega (arith, size, within, held, i.size);
+      room = omega (arith, size, e.room, i.room);
+      failed = omega (arith, i.failed, e.grows);
+      source = omega (arith, i.source, e.counted);
+    }

@@ -1,0 +1,224 @@
+use Rattle.std.proofs.Common.{◌≡◌, ◌<◌, ◌++◌, ℕ, List, [], length, Option, Result, Err, Ok, sym, ap, ◌∙◌, subst, arith}
+use Rattle.std.proofs.lemmas.List.{nil_from_length}
+use Rattle.std.proofs.lemmas.Result.{err_from_is_err_and}
+use Rattle.chunk_files.specs.declared.keys.Layout.{Layout}
+use Rattle.chunk_files.specs.Keys.{Keys, format_of, full_size}
+use Rattle.folder_spec.specs.Event.{Told}
+use Rattle.folder_spec.specs.Path.{Path}
+use Rattle.folder_spec.specs.View.{Found}
+use Rattle.content_writing.specs.Content.{Coming, IsReady, still_coming}
+use Rattle.content_writing.specs.Streaming.{Gathers, IsStaged, StoresChunk, Start}
+use Rattle.content_writing.specs.declared.fault.PutFault.{PutFault}
+use Rattle.content_writing.proofs.Drawing.{full_is, some_full}
+use Rattle.content_writing.proofs.Standing.{IsStill, staged_still, still_same, ready_now, ready_before}
+use Rattle.content_writing.proofs.Underway.{first_fails, begin_fails, has_begun, store_fails, next_fails, next_underway, finish_fails, is_written, staged_seen}
+use Rattle.content_writing.proofs.writing.write_chunks.Goals as goal
+
+full_at : (keys : Keys) (layout : Layout) (full : ℕ) → layout ≡ keys.layout → full ≡ full_size layout → full ≡ (format_of keys).full_size
+full_at keys layout full same is = is ∙ ap full_size same ∙ full_is keys
+
+gathers_at : (reads reads0 : Option Path) (told told0 : Option Told) (full : ℕ) (more : List ℕ) (f g : Found → Option Coming) (result : Result (Unit {0}) PutFault) → reads ≡ reads0
+    → IsStill reads0 told0 told → Gathers full more (still_coming reads told f) (still_coming reads told g) result → Gathers full more (still_coming reads0 told0 f) (still_coming reads0 told0 g) result
+gathers_at reads reads0 told told0 full more f g result same still h =
+    subst (λ (a : Option Coming). Gathers full more a (still_coming reads0 told0 g) result) (still_same reads0 told0 told still f)
+    (subst (λ (b : Option Coming). Gathers full more (still_coming reads0 told f) b result) (still_same reads0 told0 told still g)
+    (subst (λ (r : Option Path). Gathers full more (still_coming r told f) (still_coming r told g) result) same h))
+
+pub returns-in_err-gather-clause-written : goal.returns-in_err-gather-clause-written
+returns-in_err-gather-clause-written g c =
+    let told = g.F.Folder.told c.args.folder.now in
+    let stream = g.R.Randoms.left c.args.random.now in
+    let still = still_coming (g.C.Content.reads c.args.content.now) told in
+    let w : Start = record { keys = c.args.keys; at = c.args.staged.now; told = told; stream = stream; coming = still (g.C.Content.coming c.args.content.now) } in
+    let full : c.full-full.result ≡ (format_of c.args.keys).full_size = full_at c.args.keys c.layout.result c.full-full.result c.layout.ensures c.full-full.ensures in
+    let p = err_from_is_err_and c.from_residual.result c.from_residual.ensures.1 in
+    rw (p.1, p.2)
+    (first_fails w c.gather.new.plain (still (g.C.Content.coming c.gather.new.content)) (g.F.Folder.told c.gather.new.folder) c.in_err-gather.field-0.0 (c.draws_compose.ensures.none stream)
+    c.in_err-gather.ensures.told
+    (subst (λ (n : ℕ). Gathers n c.gather.new.plain w.coming (still (g.C.Content.coming c.gather.new.content)) (Err c.in_err-gather.field-0.0)) full c.in_err-gather.ensures.gathered))
+
+pub returns-in_err-encoder-clause-written : goal.returns-in_err-encoder-clause-written
+returns-in_err-encoder-clause-written g c =
+    let told = g.F.Folder.told c.args.folder.now in
+    let stream = g.R.Randoms.left c.args.random.now in
+    let still = still_coming (g.C.Content.reads c.args.content.now) told in
+    let w : Start = record { keys = c.args.keys; at = c.args.staged.now; told = told; stream = stream; coming = still (g.C.Content.coming c.args.content.now) } in
+    let full : c.full-full.result ≡ (format_of c.args.keys).full_size = full_at c.args.keys c.layout.result c.full-full.result c.layout.ensures c.full-full.ensures in
+    let h : Gathers (format_of c.args.keys).full_size c.gather.new.plain w.coming (still (g.C.Content.coming c.gather.new.content)) (Ok c.in_ok-gather.field-0) =
+    subst (λ (n : ℕ). Gathers n c.gather.new.plain w.coming (still (g.C.Content.coming c.gather.new.content)) (Ok c.in_ok-gather.field-0)) full c.in_ok-gather.ensures.gathered in
+    let p = err_from_is_err_and c.from_residual-in_err-encoder.result c.from_residual-in_err-encoder.ensures.1 in
+    rw (p.1, p.2)
+    (begin_fails w (some_full c.args.keys) c.gather.new.plain (still (g.C.Content.coming c.gather.new.content)) (g.F.Folder.told c.gather.new.folder) (g.F.Folder.told c.begin_content.new.folder)
+    (g.R.Randoms.left c.begin_content.new.random) c.len.result c.len.ensures.size c.in_ok-gather.ensures.told h c.in_err-encoder.field-0.0 c.in_err-encoder.ensures.begun)
+
+pub chunks-init : goal.chunks-init
+chunks-init g c =
+    let told = g.F.Folder.told c.args.folder.now in
+    let stream = g.R.Randoms.left c.args.random.now in
+    let still = still_coming (g.C.Content.reads c.args.content.now) told in
+    let w : Start = record { keys = c.args.keys; at = c.args.staged.now; told = told; stream = stream; coming = still (g.C.Content.coming c.args.content.now) } in
+    let full : c.full-full.result ≡ (format_of c.args.keys).full_size = full_at c.args.keys c.layout.result c.full-full.result c.layout.ensures c.full-full.ensures in
+    let h : Gathers (format_of c.args.keys).full_size c.gather.new.plain w.coming (still (g.C.Content.coming c.gather.new.content)) (Ok c.in_ok-gather.field-0) =
+    subst (λ (n : ℕ). Gathers n c.gather.new.plain w.coming (still (g.C.Content.coming c.gather.new.content)) (Ok c.in_ok-gather.field-0)) full c.in_ok-gather.ensures.gathered in
+    let e = c.in_ok-gather.ensures in
+    let begun = c.in_ok-encoder.ensures in
+    let first : c.in_ok-encoder.encoder.number ≡ 0 = begun.begun.ends.first in
+    record {
+      underway = has_begun w (some_full c.args.keys) c.gather.new.plain (still (g.C.Content.coming c.gather.new.content)) (g.F.Folder.told c.gather.new.folder) (g.F.Folder.told c.begin_content.new.folder)
+          (g.R.Randoms.left c.begin_content.new.random) c.len.result c.len.ensures.size e.told h c.in_ok-encoder.encoder (omega (arith, e.size, full)) begun.begun;
+      reads = e.reads;
+      ready = subst (λ (r : Option Path). IsReady r told (g.C.Content.coming c.gather.new.content)) e.reads
+          (subst (λ (t : Option Told). IsReady (g.C.Content.reads c.gather.new.content) t (g.C.Content.coming c.gather.new.content)) e.told e.ready);
+      lender = e.lender;
+      room = e.room;
+      few = omega (arith, first, e.room, g.met.C.Content.fits c.args.content.now);
+      failed = omega (arith, e.failed.0, begun.failed.0);
+      source = e.source.0;
+      random = begun.random.0;
+    }
+
+pub store_chunk-requires-clause-file : goal.store_chunk-requires-clause-file
+store_chunk-requires-clause-file g c =
+    let told = g.F.Folder.told c.args.folder.now in
+    let stream = g.R.Randoms.left c.args.random.now in
+    let still = still_coming (g.C.Content.reads c.args.content.now) told in
+    let w : Start = record { keys = c.args.keys; at = c.args.staged.now; told = told; stream = stream; coming = still (g.C.Content.coming c.args.content.now) } in
+    let i = c.chunks.invariant.underway in
+    staged_seen w i.made (g.F.Folder.told c.chunks.folder) c.written_files_are_seen.ensures i.staged
+
+pub returns-in_err-store_chunk-clause-written : goal.returns-in_err-store_chunk-clause-written
+returns-in_err-store_chunk-clause-written g c =
+    let told = g.F.Folder.told c.args.folder.now in
+    let stream = g.R.Randoms.left c.args.random.now in
+    let still = still_coming (g.C.Content.reads c.args.content.now) told in
+    let w : Start = record { keys = c.args.keys; at = c.args.staged.now; told = told; stream = stream; coming = still (g.C.Content.coming c.args.content.now) } in
+    let i = c.chunks.invariant in
+    let left = still (g.C.Content.coming c.chunks.content) in
+    let told0 = g.F.Folder.told c.chunks.folder in
+    let stream0 = g.R.Randoms.left c.chunks.random in
+    let some : 0 < length c.chunks.plain = omega (arith, c.len-in-chunks.ensures.size, c.chunks-test.true) in
+    let told1 = g.F.Folder.told c.store_chunk.new.folder in
+    let stream1 = g.R.Randoms.left c.store_chunk.new.random in
+    let s : StoresChunk c.chunks.encoder c.store_chunk.new.encoder c.chunks.plain c.args.staged.now stream0 stream1 told0 told1 (Err c.in_err-store_chunk.field-0.0) =
+    subst (λ (b : List ℕ). StoresChunk c.chunks.encoder c.store_chunk.new.encoder b c.args.staged.now stream0 stream1 told0 told1 (Err c.in_err-store_chunk.field-0.0)) c.bytes.ensures c.in_err-store_chunk.ensures.stored in
+    let p = err_from_is_err_and c.from_residual-in_err-store_chunk.result c.from_residual-in_err-store_chunk.ensures.1 in
+    rw (p.1, p.2)
+    (store_fails w c.chunks.encoder c.store_chunk.new.encoder c.chunks.plain told0 told1 stream0 stream1 left c.draws_compose.ensures.composed i.underway some c.in_err-store_chunk.field-0.0 s)
+
+pub gather_next-requires-clause-ready : goal.gather_next-requires-clause-ready
+gather_next-requires-clause-ready g c =
+    let told = g.F.Folder.told c.args.folder.now in
+    let stream = g.R.Randoms.left c.args.random.now in
+    let still = still_coming (g.C.Content.reads c.args.content.now) told in
+    let w : Start = record { keys = c.args.keys; at = c.args.staged.now; told = told; stream = stream; coming = still (g.C.Content.coming c.args.content.now) } in
+    let i = c.chunks.invariant in
+    let s = c.in_ok-store_chunk.ensures.stored in
+    let now = g.F.Folder.told c.store_chunk.new.folder in
+    let kept = staged_still (g.C.Content.reads c.args.content.now) c.args.staged.now (i.underway.made ++ s.piece) told now (g.met.F.Folder.sound c.args.folder.now) c.requires.apart
+    (s.staged told i.underway.made i.underway.staged) in
+    subst (λ (r : Option Path). IsReady r now (g.C.Content.coming c.chunks.content)) (sym i.reads)
+    (ready_now (g.C.Content.reads c.args.content.now) told now kept (g.C.Content.coming c.chunks.content) i.ready)
+
+pub chunks-preserved : goal.chunks-preserved
+chunks-preserved g c =
+    let told = g.F.Folder.told c.args.folder.now in
+    let stream = g.R.Randoms.left c.args.random.now in
+    let still = still_coming (g.C.Content.reads c.args.content.now) told in
+    let w : Start = record { keys = c.args.keys; at = c.args.staged.now; told = told; stream = stream; coming = still (g.C.Content.coming c.args.content.now) } in
+    let full : c.full-full.result ≡ (format_of c.args.keys).full_size = full_at c.args.keys c.layout.result c.full-full.result c.layout.ensures c.full-full.ensures in
+    let i = c.chunks.invariant in
+    let left = still (g.C.Content.coming c.chunks.content) in
+    let told0 = g.F.Folder.told c.chunks.folder in
+    let stream0 = g.R.Randoms.left c.chunks.random in
+    let some : 0 < length c.chunks.plain = omega (arith, c.len-in-chunks.ensures.size, c.chunks-test.true) in
+    let told1 = g.F.Folder.told c.store_chunk.new.folder in
+    let stream1 = g.R.Randoms.left c.store_chunk.new.random in
+    let s : StoresChunk c.chunks.encoder c.store_chunk.new.encoder c.chunks.plain c.args.staged.now stream0 stream1 told0 told1 (Ok c.in_ok-store_chunk.field-0) =
+    subst (λ (b : List ℕ). StoresChunk c.chunks.encoder c.store_chunk.new.encoder b c.args.staged.now stream0 stream1 told0 told1 (Ok c.in_ok-store_chunk.field-0)) c.bytes.ensures c.in_ok-store_chunk.ensures.stored in
+    let e = c.in_ok-gather_next.ensures in
+    let left' = still (g.C.Content.coming c.gather_next.new.content) in
+    let told2 = g.F.Folder.told c.gather_next.new.folder in
+    let kept = staged_still (g.C.Content.reads c.args.content.now) c.args.staged.now (i.underway.made ++ s.piece) told told2 (g.met.F.Folder.sound c.args.folder.now) c.requires.apart
+    (subst (λ (t : Option Told). IsStaged c.args.staged.now (i.underway.made ++ s.piece) told t) (sym e.told) (s.staged told i.underway.made i.underway.staged)) in
+    let same_reads : g.C.Content.reads c.gather_next.new.content ≡ g.C.Content.reads c.args.content.now = e.reads ∙ i.reads in
+    record {
+      underway = next_underway w c.chunks.encoder c.store_chunk.new.encoder c.chunks.plain told0 told1 stream0 stream1 left c.draws_compose.ensures.composed i.underway some s c.gather_next.new.plain left' told2 e.told c.full-full.result full
+          (λ short. ((e.short short).0, ap (λ (x : _). still (g.C.Content.coming x)) (e.short short).1))
+          (λ long. gathers_at (g.C.Content.reads c.chunks.content) (g.C.Content.reads c.args.content.now) told1 told c.full-full.result c.gather_next.new.plain (g.C.Content.coming c.chunks.content)
+          (g.C.Content.coming c.gather_next.new.content) (Ok c.in_ok-gather_next.field-0) i.reads (staged_still (g.C.Content.reads c.args.content.now) c.args.staged.now (i.underway.made ++ s.piece) told told1 (g.met.F.Folder.sound c.args.folder.now) c.requires.apart
+          (s.staged told i.underway.made i.underway.staged)) (e.gathered long))
+          e.size;
+      reads = same_reads;
+      ready = ready_before (g.C.Content.reads c.args.content.now) told told2 kept (g.C.Content.coming c.gather_next.new.content)
+          (subst (λ (r : Option Path). IsReady r told2 (g.C.Content.coming c.gather_next.new.content)) same_reads e.ready);
+      lender = e.lender ∙ i.lender;
+      room = omega (arith, e.room, i.room);
+      few = omega (arith, e.room, i.few, some, c.in_ok-store_chunk.ensures.number);
+      failed = omega (arith, i.failed, c.in_ok-store_chunk.ensures.failed.0, e.failed.0);
+      source = omega (arith, i.source, e.source.0);
+      random = omega (arith, i.random, c.in_ok-store_chunk.ensures.random.0);
+    }
+
+pub returns-in_err-gather_next-clause-written : goal.returns-in_err-gather_next-clause-written
+returns-in_err-gather_next-clause-written g c =
+    let told = g.F.Folder.told c.args.folder.now in
+    let stream = g.R.Randoms.left c.args.random.now in
+    let still = still_coming (g.C.Content.reads c.args.content.now) told in
+    let w : Start = record { keys = c.args.keys; at = c.args.staged.now; told = told; stream = stream; coming = still (g.C.Content.coming c.args.content.now) } in
+    let full : c.full-full.result ≡ (format_of c.args.keys).full_size = full_at c.args.keys c.layout.result c.full-full.result c.layout.ensures c.full-full.ensures in
+    let i = c.chunks.invariant in
+    let left = still (g.C.Content.coming c.chunks.content) in
+    let told0 = g.F.Folder.told c.chunks.folder in
+    let stream0 = g.R.Randoms.left c.chunks.random in
+    let some : 0 < length c.chunks.plain = omega (arith, c.len-in-chunks.ensures.size, c.chunks-test.true) in
+    let told1 = g.F.Folder.told c.store_chunk.new.folder in
+    let stream1 = g.R.Randoms.left c.store_chunk.new.random in
+    let s : StoresChunk c.chunks.encoder c.store_chunk.new.encoder c.chunks.plain c.args.staged.now stream0 stream1 told0 told1 (Ok c.in_ok-store_chunk.field-0) =
+    subst (λ (b : List ℕ). StoresChunk c.chunks.encoder c.store_chunk.new.encoder b c.args.staged.now stream0 stream1 told0 told1 (Ok c.in_ok-store_chunk.field-0)) c.bytes.ensures c.in_ok-store_chunk.ensures.stored in
+    let e = c.in_err-gather_next.ensures in
+    let left' = still (g.C.Content.coming c.gather_next.new.content) in
+    let p = err_from_is_err_and c.from_residual-in_err-gather_next.result c.from_residual-in_err-gather_next.ensures.1 in
+    rw (p.1, p.2)
+    (next_fails w c.chunks.encoder c.store_chunk.new.encoder c.chunks.plain told0 told1 stream0 stream1 left c.draws_compose.ensures.composed i.underway some s c.gather_next.new.plain left' (g.F.Folder.told c.gather_next.new.folder) e.told c.in_err-gather_next.field-0.0 (omega (arith, e.went_on, full))
+    (subst (λ (n : ℕ). Gathers n c.gather_next.new.plain left left' (Err c.in_err-gather_next.field-0.0)) full (gathers_at (g.C.Content.reads c.chunks.content) (g.C.Content.reads c.args.content.now) told1 told c.full-full.result c.gather_next.new.plain (g.C.Content.coming c.chunks.content)
+    (g.C.Content.coming c.gather_next.new.content) (Err c.in_err-gather_next.field-0.0) i.reads (staged_still (g.C.Content.reads c.args.content.now) c.args.staged.now (i.underway.made ++ s.piece) told told1 (g.met.F.Folder.sound c.args.folder.now) c.requires.apart
+    (s.staged told i.underway.made i.underway.staged)) (e.gathered e.went_on))))
+
+pub finish_file-requires : goal.finish_file-requires
+finish_file-requires g c =
+    let told = g.F.Folder.told c.args.folder.now in
+    let stream = g.R.Randoms.left c.args.random.now in
+    let still = still_coming (g.C.Content.reads c.args.content.now) told in
+    let w : Start = record { keys = c.args.keys; at = c.args.staged.now; told = told; stream = stream; coming = still (g.C.Content.coming c.args.content.now) } in
+    let i = c.chunks.invariant.underway in
+    staged_seen w i.made (g.F.Folder.told c.chunks.folder) c.written_files_are_seen.ensures i.staged
+
+pub returns-in_err-finish_file-clause-written : goal.returns-in_err-finish_file-clause-written
+returns-in_err-finish_file-clause-written g c =
+    let told = g.F.Folder.told c.args.folder.now in
+    let stream = g.R.Randoms.left c.args.random.now in
+    let still = still_coming (g.C.Content.reads c.args.content.now) told in
+    let w : Start = record { keys = c.args.keys; at = c.args.staged.now; told = told; stream = stream; coming = still (g.C.Content.coming c.args.content.now) } in
+    let i = c.chunks.invariant in
+    let left = still (g.C.Content.coming c.chunks.content) in
+    let told0 = g.F.Folder.told c.chunks.folder in
+    let stream0 = g.R.Randoms.left c.chunks.random in
+    let none : c.chunks.plain ≡ [] = nil_from_length c.chunks.plain (omega (arith, c.len-in-chunks.ensures.size, c.chunks-test.false)) in
+    let p = err_from_is_err_and c.from_residual-in_err-finish_file.result c.from_residual-in_err-finish_file.ensures.1 in
+    rw (p.1, p.2)
+    (finish_fails w (some_full c.args.keys) c.chunks.encoder c.chunks.plain told0 (g.F.Folder.told c.finish_file.new.folder) stream0 left i.underway none c.in_err-finish_file.field-0.0
+    c.in_err-finish_file.ensures.finished)
+
+pub returns-clause-written : goal.returns-clause-written
+returns-clause-written g c =
+    let told = g.F.Folder.told c.args.folder.now in
+    let stream = g.R.Randoms.left c.args.random.now in
+    let still = still_coming (g.C.Content.reads c.args.content.now) told in
+    let w : Start = record { keys = c.args.keys; at = c.args.staged.now; told = told; stream = stream; coming = still (g.C.Content.coming c.args.content.now) } in
+    let i = c.chunks.invariant in
+    let left = still (g.C.Content.coming c.chunks.content) in
+    let told0 = g.F.Folder.told c.chunks.folder in
+    let stream0 = g.R.Randoms.left c.chunks.random in
+    let none : c.chunks.plain ≡ [] = nil_from_length c.chunks.plain (omega (arith, c.len-in-chunks.ensures.size, c.chunks-test.false)) in
+    is_written w (some_full c.args.keys) c.chunks.encoder c.chunks.plain told0 (g.F.Folder.told c.finish_file.new.folder) stream0 left i.underway none c.in_ok-finish_file.field-0
+    c.in_ok-finish_file.ensures.finished

@@ -1,0 +1,152 @@
+-- A content that is given piece by piece: what of it is still to come, and how that ends.
+--
+-- A content reads at most one file of the folder, at a path that it names. What is still to come is a function of what stands
+-- there, so that a change elsewhere leaves it.
+use Rattle.std.specs.Prelude.{◌≡◌, ℕ, Bool, zero, suc, nat_le, List, [], ◌++◌, take, length, Option, Some, None, Result, Ok, Err, ◌&&◌, ◌||◌, not, if◌then◌else◌}
+use Rattle.std.specs.List.{concat}
+use Rattle.chunk_files.specs.Decoding.{Decoding}
+use Rattle.chunk_files.specs.Reading.{Reading}
+use Rattle.chunk_files.specs.Reading as reading
+use Rattle.chunk_files.specs.declared.fault.ChunkFault.{ChunkFault}
+use Rattle.folder_spec.specs.Path.{Path}
+use Rattle.folder_spec.specs.Event.{Told}
+use Rattle.folder_spec.specs.View.{Found, NoEntry, Folder, FileOf, Special, View}
+use Rattle.folder_spec.specs.Seen.{IsSeen, seen}
+use Rattle.vault_read.specs.declared.fault.Limit.{Limit}
+use Rattle.vault_read.specs.declared.fault.Limit.TheVariants.{Input, Length}
+use Rattle.vault_read.specs.Contents.{Reader, still}
+use Rattle.content_writing.specs.declared.fault.PutFault.{PutFault}
+use Rattle.content_writing.specs.declared.fault.PutFault.TheVariants as puts
+
+-- the most bytes that a content has, 2^40
+abbrev pub content_limit : ℕ
+content_limit = 1099511627776
+
+-- a content ends, or at a fault of its file, or where it passes a limit
+pub data Ending : Type 0 where
+  Whole : Ending
+  Damaged : Path → ChunkFault → Ending
+  TooLong : Limit → Ending
+
+-- the bytes that are still to come, and how they end
+pub record Coming : Type 0 where
+  pub bytes : List ℕ
+  pub ending : Ending
+
+-- no more bytes
+abbrev pub ends : Ending → Coming
+ends ending = record { bytes = []; ending = ending }
+
+-- these bytes, and then that
+abbrev pub bytes_before : List ℕ → Coming → Coming
+bytes_before bytes c = record { bytes = bytes ++ c.bytes; ending = c.ending }
+
+-- what stands at the path that a content reads, where the folder tells it; one that reads no path has nothing there
+abbrev pub Stands : Option Path → Option Told → Found → Type 0
+Stands None told found = found ≡ NoEntry
+Stands (Some at) told found = (v : View) × IsSeen told v × (found ≡ v at)
+
+-- what is still to come as the folder stands, where the folder and the content tell it
+abbrev pub still_coming : Option Path → Option Told → (Found → Option Coming) → Option Coming
+still_coming None told coming = coming NoEntry
+still_coming (Some at) None coming = None
+still_coming (Some at) (Some a) coming = coming (seen a.state at)
+
+abbrev pub IsTold : Option Coming → Type 0
+IsTold None = ⊥
+IsTold (Some c) = Unit {0}
+
+-- A content can be read on: the file at its path, if it reads one, is there, and has the bytes that were read of it.
+abbrev pub IsReady : Option Path → Option Told → (Found → Option Coming) → Type 0
+IsReady None told coming = Unit {0}
+IsReady (Some at) told coming = (v : View) → IsSeen told v → IsTold (coming (v at))
+
+-- What a piece gives of what was still to come, and what is still to come then. Nothing is given only at the end. Where the
+-- source or the folder failed, or memory was refused, no bytes are lost.
+abbrev pub Steps : Result ℕ PutFault → List ℕ → Coming → Coming → Type 0
+Steps (Ok zero) out before after = (before ≡ ends Whole) × (after ≡ before)
+Steps (Ok (suc n)) out before after = before ≡ bytes_before (take (suc n) out) after
+Steps (Err (puts.Damaged at fault)) out before after = (before ≡ ends (Damaged at fault)) × (after ≡ before)
+Steps (Err (puts.Limit limit)) out before after = (before ≡ ends (TooLong limit)) × (after ≡ before)
+Steps (Err puts.Source) out before after = after ≡ before
+Steps (Err puts.Failed) out before after = after ≡ before
+Steps (Err puts.NoMemory) out before after = after ≡ before
+Steps (Err (puts.Find fault)) out before after = ⊥
+Steps (Err (puts.NotAllowed path)) out before after = ⊥
+Steps (Err (puts.Taken at)) out before after = ⊥
+Steps (Err puts.ZeroRandom) out before after = ⊥
+Steps (Err puts.Random) out before after = ⊥
+
+-- the same of a content that may tell nothing; one that tells before tells after
+abbrev pub Gives : Result ℕ PutFault → List ℕ → Option Coming → Option Coming → Type 0
+Gives result out None after = Unit {0}
+Gives result out (Some before) None = ⊥
+Gives result out (Some before) (Some after) = Steps result out before after
+
+-- a fault that a content may answer
+abbrev pub IsContentFault : PutFault → Type 0
+IsContentFault (puts.Damaged at fault) = Unit {0}
+IsContentFault (puts.Limit limit) = Unit {0}
+IsContentFault puts.Source = Unit {0}
+IsContentFault puts.Failed = Unit {0}
+IsContentFault puts.NoMemory = Unit {0}
+IsContentFault (puts.Find fault) = ⊥
+IsContentFault (puts.NotAllowed path) = ⊥
+IsContentFault (puts.Taken at) = ⊥
+IsContentFault puts.ZeroRandom = ⊥
+IsContentFault puts.Random = ⊥
+
+-- these bytes were given of what was to come, and the rest is still to come; what was told stays told
+abbrev pub Gave : List ℕ → Option Coming → Option Coming → Type 0
+Gave given None after = Unit {0}
+Gave given (Some before) None = ⊥
+Gave given (Some before) (Some after) = before ≡ bytes_before given after
+
+-- no more bytes of what was to come are left, and the content ends so
+abbrev pub HasEnded : Ending → Option Coming → Option Coming → Type 0
+HasEnded ending None left = Unit {0}
+HasEnded ending (Some before) left = left ≡ Some (ends ending)
+
+-- ---- the content of a source
+
+-- so many of the bytes are the content; where there are more, it passes the limit of an input
+abbrev pub within : ℕ → List ℕ → Coming
+within room bytes = if nat_le (length bytes) room then record { bytes = bytes; ending = Whole } else record { bytes = take room bytes; ending = TooLong Input }
+
+-- what is to come of the bytes that a source has left, by the room left, and by whether the limit was passed
+abbrev pub coming_from : ℕ → Bool → Option (List ℕ) → Option Coming
+coming_from room passed None = None
+coming_from room passed (Some bytes) = Some (if passed then ends (TooLong Input) else within room bytes)
+
+-- ---- the content of a file of a vault
+
+-- how the reading of the file at a path ends
+abbrev pub ending_of : Path → reading.Ending → Ending
+ending_of at reading.Whole = Whole
+ending_of at (reading.Faulty fault) = Damaged at fault
+ending_of at reading.Wanting = TooLong (Length at)
+
+-- the bytes held, and what a reading gives behind them
+abbrev pub held_before : Path → List ℕ → Reading → Coming
+held_before at held r = record { bytes = held ++ concat r.chunks; ending = ending_of at r.ending }
+
+-- whether a file with these bytes has as many as were read of it, and no more where its end was told
+abbrev pub suits : Decoding → List ℕ → Bool
+suits d bytes = nat_le d.taken (length bytes) && (not d.ended || nat_le (length bytes) d.taken)
+
+-- this is to come, where there is room for its bytes
+abbrev pub fitting : ℕ → Coming → Option Coming
+fitting room c = if nat_le (length c.bytes) room then Some c else None
+
+-- What is to come of a reader's file, by what stands at its path, behind the bytes held. As much as a file gives from its start on
+-- has room in the limit.
+abbrev pub coming_read : Reader → ℕ → List ℕ → Found → Option Coming
+coming_read reader room held (FileOf bytes) = if suits reader.decoding bytes then fitting room (held_before reader.at held (still reader.decoding bytes)) else None
+coming_read reader room held NoEntry = None
+coming_read reader room held Folder = None
+coming_read reader room held Special = None
+
+-- the bytes held, if a buffer was taken
+abbrev pub held_in : Option (List ℕ) → List ℕ
+held_in None = []
+held_in (Some held) = held

@@ -1,0 +1,8 @@
+-- Contents that are given piece by piece, and written as content files.
+pub mod Faults
+pub mod Content
+pub mod Laws
+pub mod Writing
+pub mod Streaming
+pub mod Refilling
+pub mod VaultContents

@@ -1,0 +1,137 @@
+-- Words of private contracts: how far the writing of a content has come.
+use Rattle.std.specs.Prelude.{◌≡◌, ◌≢◌, ◌≤◌, ◌<◌, ℕ, ◌==◌, ◌⊎◌, Bool, true, false, List, [], ◌++◌, length, replicate, Option, Result, Ok, Err, OnOk}
+use Rattle.port_model.specs.Draws.{ByteStream, Draws}
+use Rattle.chunk_files.specs.Encoding.{Encoding, HasMade, IsFrontOf}
+use Rattle.chunk_files.specs.Encrypt.{AreAccepted, IsEncrypted, draws, encrypt}
+use Rattle.chunk_files.specs.Keys.{Keys, format_of}
+use Rattle.folder_spec.specs.Path.{Path}
+use Rattle.folder_spec.specs.Event.{Told}
+use Rattle.folder_spec.specs.Written.{IsFrontOfOne}
+use Rattle.folder_staging.specs.Pieces.{IsWriting, Stages}
+use Rattle.content_writing.specs.Content.{Coming, Whole, Damaged, TooLong, Gave, HasEnded}
+use Rattle.content_writing.specs.Writing.{WereAccepted}
+use Rattle.content_writing.specs.declared.fault.PutFault.{PutFault}
+use Rattle.content_writing.specs.declared.fault.PutFault.TheVariants as puts
+
+-- ---- gathering a chunk
+
+-- a full chunk was gathered, or a shorter one at the content's end; or a fault came, behind what was gathered
+abbrev pub EndsGathering : ℕ → List ℕ → Option Coming → Option Coming → Result (Unit {0}) PutFault → Type 0
+EndsGathering full gathered coming left (Ok _) = length gathered < full → HasEnded Whole coming left
+EndsGathering full gathered coming left (Err (puts.Damaged at fault)) = HasEnded (Damaged at fault) coming left
+EndsGathering full gathered coming left (Err (puts.Limit limit)) = HasEnded (TooLong limit) coming left
+EndsGathering full gathered coming left (Err puts.Source) = Unit {0}
+EndsGathering full gathered coming left (Err puts.Failed) = Unit {0}
+EndsGathering full gathered coming left (Err puts.NoMemory) = Unit {0}
+EndsGathering full gathered coming left (Err puts.ZeroRandom) = ⊥
+EndsGathering full gathered coming left (Err puts.Random) = ⊥
+EndsGathering full gathered coming left (Err (puts.Find fault)) = ⊥
+EndsGathering full gathered coming left (Err (puts.NotAllowed path)) = ⊥
+EndsGathering full gathered coming left (Err (puts.Taken at)) = ⊥
+
+-- what a call gathers of what was to come
+pub record Gathers (full : ℕ) (gathered : List ℕ) (coming left : Option Coming) (result : Result (Unit {0}) PutFault) : Type 0 where
+  pub gave : Gave gathered coming left
+  pub ends : EndsGathering full gathered coming left result
+
+-- ---- storing a header and chunks
+
+-- these bytes are a front part of the content's file under the bytes drawn, and no more bytes were drawn than it draws
+pub record IsMadeFor (keys : Keys) (drawn content made : List ℕ) : Type 0 where
+  pub enough : length drawn ≤ draws (format_of keys) content
+  pub front : IsFrontOf made (encrypt keys drawn content)
+
+-- since then nothing but these bytes was staged, or a front part of them
+abbrev pub StagesFront : Path → List ℕ → Option Told → Option Told → Type 0
+StagesFront at made before now = (files : List (List ℕ)) → IsFrontOfOne files made → Stages files at before now
+
+-- so far, the staged file has these bytes
+abbrev pub IsStaged : Path → List ℕ → Option Told → Option Told → Type 0
+IsStaged at made before now = (files : List (List ℕ)) → IsFrontOfOne files made → IsWriting files at made before now
+
+-- why a header or a chunk wasn't stored: sixteen zero bytes were drawn, where these are refused; or an object failed
+abbrev pub FailsToStore : Keys → List ℕ → PutFault → Type 0
+FailsToStore keys drawn puts.ZeroRandom = ((format_of keys).refuses_zeros ≡ true) × (drawn ≡ replicate 16 0)
+FailsToStore keys drawn puts.Random = Unit {0}
+FailsToStore keys drawn puts.Failed = Unit {0}
+FailsToStore keys drawn puts.NoMemory = Unit {0}
+FailsToStore keys drawn puts.Source = ⊥
+FailsToStore keys drawn (puts.Damaged at fault) = ⊥
+FailsToStore keys drawn (puts.Limit limit) = ⊥
+FailsToStore keys drawn (puts.Find fault) = ⊥
+FailsToStore keys drawn (puts.NotAllowed path) = ⊥
+FailsToStore keys drawn (puts.Taken at) = ⊥
+
+-- a file was begun, whole if its content is empty
+pub record HasBegunFile (keys : Keys) (empty : Bool) (at : Path) (drawn made : List ℕ) (before after : Option Told) (e : Encoding) : Type 0 where
+  pub same_keys : e.keys ≡ keys
+  pub first : e.number ≡ 0
+  pub staged : IsStaged at made before after
+  pub whole : empty ≡ true → IsEncrypted keys drawn [] made
+  pub goes_on : empty ≡ false → HasMade e drawn [] made
+
+abbrev pub BeginsBy : Keys → Bool → Path → List ℕ → List ℕ → Option Told → Option Told → Result Encoding PutFault → Type 0
+BeginsBy keys empty at drawn made before after (Ok e) = HasBegunFile keys empty at drawn made before after e
+BeginsBy keys empty at drawn made before after (Err fault) = FailsToStore keys drawn fault
+
+-- A call begins the file of a content, of which it knows whether that is empty.
+pub record BeginsContent (keys : Keys) (empty : Bool) (at : Path) (stream stream' : Option ByteStream) (before after : Option Told) (result : Result Encoding PutFault) : Type 0 where
+  pub drawn : List ℕ
+  pub made : List ℕ
+  pub were_drawn : Draws stream stream' drawn
+  pub fits : (content : List ℕ) → (length content == 0) ≡ empty → IsMadeFor keys drawn content made
+  pub accepted : result ≢ Err puts.ZeroRandom → WereAccepted keys drawn
+  pub stages : StagesFront at made before after
+  pub ends : BeginsBy keys empty at drawn made before after result
+
+-- The chunk is the last one, or full, where more may follow.
+abbrev pub IsNextChunk : Keys → List ℕ → List ℕ → Type 0
+IsNextChunk keys chunk rest = (length chunk ≡ (format_of keys).full_size) ⊎ (rest ≡ [])
+
+-- what was made ends the file of the content with this chunk; where that is full, more may follow
+pub record GoesOnWith (e e' : Encoding) (chunk drawn piece : List ℕ) : Type 0 where
+  pub same_keys : e'.keys ≡ e.keys
+  pub whole : (drawn0 content file : List ℕ) → HasMade e drawn0 content file → IsEncrypted e.keys (drawn0 ++ drawn) (content ++ chunk) (file ++ piece)
+  pub goes_on : (drawn0 content file : List ℕ) → HasMade e drawn0 content file → length chunk ≡ (format_of e.keys).full_size
+      → HasMade e' (drawn0 ++ drawn) (content ++ chunk) (file ++ piece)
+
+abbrev pub StoresBy : Encoding → Encoding → List ℕ → List ℕ → List ℕ → Result (Unit {0}) PutFault → Type 0
+StoresBy e e' chunk drawn piece (Ok _) = GoesOnWith e e' chunk drawn piece
+StoresBy e e' chunk drawn piece (Err fault) = FailsToStore e.keys drawn fault
+
+-- A call stores the next chunk of a content.
+pub record StoresChunk (e e' : Encoding) (chunk : List ℕ) (at : Path) (stream stream' : Option ByteStream) (old new : Option Told) (result : Result (Unit {0}) PutFault) : Type 0 where
+  pub drawn : List ℕ
+  pub piece : List ℕ
+  pub were_drawn : Draws stream stream' drawn
+  pub fits : (drawn0 content file rest : List ℕ) → HasMade e drawn0 content file → IsNextChunk e.keys chunk rest
+      → IsMadeFor e.keys (drawn0 ++ drawn) ((content ++ chunk) ++ rest) (file ++ piece)
+  pub accepted : (drawn0 content file : List ℕ) → HasMade e drawn0 content file → result ≢ Err puts.ZeroRandom → AreAccepted (format_of e.keys) (drawn0 ++ drawn)
+  pub stages : (before : Option Told) (made : List ℕ) → IsStaged at made before old → StagesFront at (made ++ piece) before new
+  pub staged : OnOk result ((before : Option Told) (made : List ℕ) → IsStaged at made before old → IsStaged at (made ++ piece) before new)
+  pub ends : StoresBy e e' chunk drawn piece result
+
+-- ---- the whole
+
+-- a content that is to be written, where that began
+pub record Start : Type 0 where
+  pub keys : Keys
+  pub at : Path
+  pub told : Option Told
+  pub stream : Option ByteStream
+  pub coming : Option Coming
+
+-- So far the file of a front part of the content was made, of full chunks, and the next chunk was gathered. Where no bytes were,
+-- the file is whole.
+pub record IsUnderway (w : Start) (e : Encoding) (gathered : List ℕ) (told : Option Told) (stream : Option ByteStream) (left : Option Coming) : Type 0 where
+  pub drawn : List ℕ
+  pub content : List ℕ
+  pub made : List ℕ
+  pub same_keys : e.keys ≡ w.keys
+  pub were_drawn : Draws w.stream stream drawn
+  pub gave : Gave (content ++ gathered) w.coming left
+  pub staged : IsStaged w.at made w.told told
+  pub whole : gathered ≡ [] → IsEncrypted w.keys drawn content made
+  pub goes_on : 0 < length gathered → HasMade e drawn content made
+  pub size : length gathered ≤ (format_of w.keys).full_size
+  pub last : length gathered < (format_of w.keys).full_size → HasEnded Whole w.coming left

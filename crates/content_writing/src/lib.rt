@@ -1,0 +1,22 @@
+//! Contents that are given piece by piece, and written as content files.
+#![tactic(auto)]
+
+pub mod content;
+pub mod fault;
+mod gathered;
+mod gathering;
+mod held;
+pub mod laws;
+mod room;
+pub mod source_content;
+mod storing;
+#[cfg(test)]
+mod tests;
+pub mod vault_content;
+pub mod writing;
+
+pub use content::Content;
+pub use fault::PutFault;
+pub use source_content::SourceContent;
+pub use vault_content::VaultContent;
+pub use writing::{Buffers, write_content};

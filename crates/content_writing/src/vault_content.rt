@@ -1,0 +1,89 @@
+//! The content of a file of a vault.
+ghost use Rattle.std.specs.Prelude.{◌≡◌, ◌≤◌, [], Some, None, IfOk, IfErr};
+ghost use Rattle.folder_spec.specs.View.{Found};
+ghost use Rattle.content_writing.specs.Content.{content_limit, coming_read, held_in};
+
+use crate::content::Content;
+use crate::fault::PutFault;
+use crate::held::Held;
+use chunk_files::ChunkBuf;
+use folder_model::Folder;
+use std::alloc::{AllocError, Global};
+use vault_read::ContentReader;
+
+// The most bytes of a content, 2^40.
+const CONTENT_LIMIT: u64 = 1_099_511_627_776;
+
+/// What a reader of a vault's file still gives, as the content of another file.
+#[derive(Drop)]
+pub struct VaultContent {
+    alloc: Global,
+    reader: ContentReader,
+    held: Option<Held>,
+    room: u64,
+    ghost fits: { room ≤ 1099511627776 },
+}
+
+impl VaultContent {
+    ghost use Rattle.content_writing.specs.VaultContents.{path_of, coming_of};
+
+    /// The content that a reader still gives. It takes no memory; its buffer is taken by the first piece.
+    pub fn new(alloc: Global, reader: ContentReader) -> VaultContent
+        ensures reads { path_of result ≡ Some reader.at }
+        ensures coming { (found : Found) → coming_of result found ≡ coming_read reader content_limit [] found }
+    {
+        VaultContent {
+            alloc,
+            reader,
+            held: None,
+            room: CONTENT_LIMIT,
+        }
+    }
+
+    // The buffer, taken if there is none yet.
+    fn take_held(&mut self) -> Result<Held, AllocError>
+        ensures held { IfOk result (λ held. held ≡ held_in self.old.held) }
+        ensures none { self.new.held ≡ None }
+        ensures kept { IfErr result (λ fault. self.old.held ≡ None) }
+        ensures reader { self.new.reader ≡ self.old.reader }
+        ensures room { self.new.room ≡ self.old.room }
+    {
+        match self.held.take() {
+            Some(held) => Ok(held),
+            None => Held::new(self.alloc),
+        }
+    }
+}
+
+impl<F: Folder> Content<F> for VaultContent {
+    ghost use Rattle.content_writing.specs.Laws.{vault_contents_fit};
+    ghost use Rattle.content_writing.specs.VaultContents.{path_of, coming_of};
+
+    ghost reads = { λ c. path_of c };
+
+    ghost coming = { λ c found. coming_of c found };
+
+    ghost room = { λ c. c.room };
+
+    ghost faults = { λ _. 0 };
+
+    ghost lender = { λ _. 0 };
+
+    fn piece(
+        &mut self,
+        folder: &mut F,
+        out: &mut ChunkBuf,
+        most: usize,
+    ) -> Result<usize, PutFault> {
+        let mut held = self.take_held()?;
+        let filled = held.refill(&mut self.reader, folder);
+        let most = (most as u64).min(self.room) as usize;
+        let count = held.give(out, most);
+        self.room -= count as u64;
+        self.held = Some(held);
+        filled?;
+        Ok(count)
+    }
+
+    ghost fits = { λ c. vault_contents_fit c };
+}

@@ -1,0 +1,107 @@
+//! Writing a content as a content file, one chunk at a time.
+ghost use Rattle.std.specs.Prelude.{◌≡◌, ◌≤◌};
+ghost use Rattle.folder_staging.specs.Places.{IsStage};
+ghost use Rattle.content_writing.specs.Content.{IsReady, still_coming};
+ghost use Rattle.content_writing.specs.Writing.{Blames, ReadsApart, WritesContent};
+
+use crate::content::Content;
+use crate::fault::PutFault;
+use crate::gathered::Gathered;
+use crate::gathering::{gather, gather_next};
+use crate::storing::{begin_content, store_chunk};
+use chunk_files::{ChunkBuf, ContentKeys};
+use folder_model::{FPath, Folder};
+use folder_staging::finish_file;
+use folder_staging::laws::written_files_are_seen;
+use port_model::Randoms;
+use port_model::laws::draws_compose;
+use std::alloc::{AllocError, Global};
+
+/// What writing a content takes: room for a piece of it, for a chunk, and for what is stored of one.
+#[derive(Drop)]
+pub struct Buffers {
+    piece: ChunkBuf,
+    plain: Gathered,
+    stored: ChunkBuf,
+}
+
+impl Buffers {
+    /// Takes three buffers of 32,816 bytes.
+    pub fn new(alloc: Global) -> Result<Buffers, AllocError> {
+        Ok(Buffers {
+            piece: ChunkBuf::new(alloc)?,
+            plain: Gathered::new(alloc)?,
+            stored: ChunkBuf::new(alloc)?,
+        })
+    }
+}
+
+/// Writes a content as a new file at a staged path, so that it lasts through a crash.
+///
+/// The content is taken a chunk at a time. Drawn are the bytes for the header, and then for each chunk. At every moment all other
+/// paths are as they were, and the file holds a front part of the content's file.
+pub fn write_content<F: Folder, R: Randoms, C: Content<F>>(
+    folder: &mut F,
+    staged: &FPath,
+    keys: ContentKeys,
+    content: &mut C,
+    random: &mut R,
+    buffers: &mut Buffers,
+) -> Result<(), PutFault>
+    requires stage { IsStage (F.told folder.old) staged.now }
+    requires ready { IsReady (C.reads content.old) (F.told folder.old) (C.coming content.old) }
+    requires apart { ReadsApart (C.reads content.old) staged.now }
+    ensures written { WritesContent keys staged.now (still_coming (C.reads content.old) (F.told folder.old) (C.coming content.old)) (still_coming (C.reads content.old) (F.told folder.old) (C.coming content.new))
+        (R.left random.old) (R.left random.new) (F.told folder.old) (F.told folder.new) result }
+    ensures reads { C.reads content.new ≡ C.reads content.old }
+    ensures room { C.room content.new ≤ C.room content.old }
+    ensures lender { C.lender content.new ≡ C.lender content.old }
+    ensures failed { Blames result PutFault.Failed (F.faults folder.old) (F.faults folder.new) }
+    ensures source { Blames result PutFault.Source (C.faults content.old) (C.faults content.new) }
+    ensures random { Blames result PutFault.Random (R.faults random.old) (R.faults random.new) }
+{
+    write_chunks(
+        folder,
+        staged,
+        keys,
+        content,
+        random,
+        &mut buffers.piece,
+        &mut buffers.plain,
+        &mut buffers.stored,
+    )
+}
+
+fn write_chunks<F: Folder, R: Randoms, C: Content<F>>(
+    folder: &mut F,
+    staged: &FPath,
+    keys: ContentKeys,
+    content: &mut C,
+    random: &mut R,
+    piece: &mut ChunkBuf,
+    plain: &mut Gathered,
+    stored: &mut ChunkBuf,
+) -> Result<(), PutFault>
+    requires stage { IsStage (F.told folder.old) staged.now }
+    requires ready { IsReady (C.reads content.old) (F.told folder.old) (C.coming content.old) }
+    requires apart { ReadsApart (C.reads content.old) staged.now }
+    ensures written { WritesContent keys staged.now (still_coming (C.reads content.old) (F.told folder.old) (C.coming content.old)) (still_coming (C.reads content.old) (F.told folder.old) (C.coming content.new))
+        (R.left random.old) (R.left random.new) (F.told folder.old) (F.told folder.new) result }
+    ensures reads { C.reads content.new ≡ C.reads content.old }
+    ensures room { C.room content.new ≤ C.room content.old }
+    ensures lender { C.lender content.new ≡ C.lender content.old }
+    ensures failed { Blames result PutFault.Failed (F.faults folder.old) (F.faults folder.new) }
+    ensures source { Blames result PutFault.Source (C.faults content.old) (C.faults content.new) }
+    ensures random { Blames result PutFault.Random (R.faults random.old) (R.faults random.new) }
+{
+    draws_compose();
+    written_files_are_seen();
+    let full = keys.layout().full();
+    gather(folder, content, piece, plain, full)?;
+    let mut encoder = begin_content(folder, staged, keys, random, plain.len() == 0, stored)?;
+    'chunks: while plain.len() > 0 {
+        store_chunk(folder, staged, &mut encoder, random, plain.bytes(), stored)?;
+        gather_next(folder, content, piece, plain, full)?;
+    }
+    Ok(finish_file(folder, staged)?)
+}

@@ -1,0 +1,6 @@
+mod Stages
+mod Founded
+mod Drawn
+mod Staged
+mod NewVaults
+mod NewFounded

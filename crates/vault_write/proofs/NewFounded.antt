@@ -1,0 +1,212 @@
+-- What each exit of a call that makes a vault says.
+use Rattle.std.proofs.Common.{◌≡◌, ◌⊎◌, ℕ, List, [], ◌∷◌, Option, Some, Result, Ok, Err, ap, ◌∙◌, subst, inl, inr, codes}
+use Rattle.content_writing.specs.declared.fault.PutFault.{PutFault}
+use Rattle.content_writing.specs.declared.fault.PutFault.TheVariants as puts
+use Rattle.content_writing.specs.Faults.{of_folder}
+use Rattle.cryptomator_conf.specs.declared.conf.CmDraw.{CmDraw}
+use Rattle.cryptomator_conf.specs.declared.conf.Combo.TheVariants.{SivGcm}
+use Rattle.cryptomator_conf.specs.Laws as cm
+use Rattle.cryptomator_conf.specs.Text.{keys_of, made_master, master_text, vault_text, version_bytes, version_mac}
+use Rattle.folder_spec.specs.declared.FolderFault.{FolderFault}
+use Rattle.folder_spec.specs.declared.FolderFault.TheVariants as folder
+use Rattle.folder_spec.specs.Path.{Path}
+use Rattle.folder_spec.specs.State.{IsSound}
+use Rattle.folder_spec.specs.Edit.{folder_view}
+use Rattle.folder_spec.specs.Event.{Told}
+use Rattle.folder_spec.specs.View.{View}
+use Rattle.gocrypt_conf.specs.declared.conf.GoDraw.{GoDraw}
+use Rattle.gocrypt_conf.specs.Laws as go
+use Rattle.gocrypt_conf.specs.Text.{conf_text, made_conf}
+use Rattle.kdf_suite.specs.ScryptCost.{Cost, IsCost}
+use Rattle.port_model.specs.Draws.{ByteStream}
+use Rattle.vault_names.specs.Cryptomator.{cm_folder_of}
+use Rattle.vault_spec.specs.Cryptomator.{cm_format}
+use Rattle.vault_spec.specs.Empty.{IsEmptyVault}
+use Rattle.vault_spec.specs.Gocryptfs.{key_file}
+use Rattle.vault_spec.specs.NewVault.{go_files, cm_files, new_go_vault, new_cm_vault}
+use Rattle.vault_write.specs.declared.drawing.GoParts.{GoParts}
+use Rattle.vault_write.specs.Founding.{MayFound, Founds, FoundsGo, FoundsCm, GoDrew, CmDrew, DrewGo, DrawsGo, DrawsCm, with_home}
+use Rattle.vault_write.proofs.Founded.{founds_none}
+use Rattle.vault_write.proofs.NewVaults.{GoEmpty, go_is_new, cm_is_new}
+
+-- the same, with another fault or answer
+as_fault : (work at : Path) (made : View) (files : List (List ℕ × List ℕ)) (t u : Option Told) (refused : FolderFault) (fault : PutFault)
+    → Founds {E = FolderFault} work at made files t u (Err refused) → Founds {E = PutFault} work at made files t u (Err fault)
+as_fault work at made files t u refused fault h = record { moments = h.moments; done = tt; ready = tt }
+
+as_done : (work at : Path) (made : View) (files : List (List ℕ × List ℕ)) (t u : Option Told)
+    → Founds {E = FolderFault} work at made files t u (Ok tt) → Founds {E = PutFault} work at made files t u (Ok tt)
+as_done work at made files t u h = record { moments = h.moments; done = h.done; ready = h.ready }
+
+-- drawing doesn't fail as a folder does
+pub not_failed : (fault : PutFault) (r : Result (Unit {0}) PutFault) → (fault ≡ puts.ZeroRandom) ⊎ (fault ≡ puts.Random) → r ≡ Err fault → r ≡ Err puts.Failed → ⊥
+not_failed fault r h one two = elim h as (λ _. ⊥) [
+  | inl e ↦ cc
+  | inr e ↦ cc
+]
+
+-- ---- gocryptfs
+
+go_drew : (d : GoDraw) (key drawn : List ℕ) (fault : PutFault) → GoDrew {T = GoParts} d key drawn (Err fault) → GoDrew {T = Unit {0}} d key drawn (Err fault)
+go_drew d key drawn puts.ZeroRandom k = k
+go_drew d key drawn puts.Random k = k
+go_drew d key drawn puts.Failed k = k
+go_drew d key drawn puts.NoMemory k = k
+go_drew d key drawn (puts.Find f) k = absurd k
+go_drew d key drawn (puts.NotAllowed path) k = absurd k
+go_drew d key drawn (puts.Taken at) k = absurd k
+go_drew d key drawn (puts.Damaged at f) k = absurd k
+go_drew d key drawn (puts.Limit limit) k = absurd k
+go_drew d key drawn puts.Source k = absurd k
+
+go_all : (d : GoDraw) (key drawn : List ℕ) (fault : FolderFault) → DrewGo d key drawn → GoDrew {T = Unit {0}} d key drawn (Err (of_folder fault))
+go_all d key drawn folder.Failed h = h
+go_all d key drawn folder.Refused h = h
+go_all d key drawn folder.NoMemory h = h
+
+abbrev pub go_two : List ℕ → List ℕ → List (List ℕ × List ℕ)
+go_two conf key = (codes "gocryptfs.conf", conf) ∷ (key_file, key) ∷ []
+
+module _ (work at : Path) (pass : List ℕ) (cost : Cost) (s s' : Option ByteStream) (t : Option Told) (sound : (a : Told) → t ≡ Some a → IsSound a.state) (may : MayFound t work at) where
+  pub go_undrawn : (fault : PutFault) → DrawsGo s s' (Err fault) → FoundsGo work at pass cost s s' t t (Err fault)
+  go_undrawn fault h = record {
+    draw = h.draw;
+    key = h.key;
+    drawn = h.drawn;
+    sizes = h.sizes;
+    were_drawn = h.were_drawn;
+    drew = go_drew h.draw h.key h.drawn fault h.drew;
+    founds = founds_none work at (new_go_vault pass cost h.draw h.key) (go_files pass cost h.draw h.key) t fault sound may;
+    vault = tt;
+  }
+
+  module _ (parts : GoParts) (h : DrawsGo s s' (Ok parts)) where
+    pub go_unmade : FoundsGo work at pass cost s s' t t (Err puts.NoMemory)
+    go_unmade = record {
+      draw = h.draw;
+      key = h.key;
+      drawn = h.drawn;
+      sizes = h.sizes;
+      were_drawn = h.were_drawn;
+      drew = h.drew;
+      founds = founds_none work at (new_go_vault pass cost h.draw h.key) (go_files pass cost h.draw h.key) t puts.NoMemory sound may;
+      vault = tt;
+    }
+
+    module _ (conf : List ℕ) (is_conf : conf ≡ conf_text (made_conf pass cost parts.draw)) (u : Option Told) where
+      at_these : (result : Result (Unit {0}) FolderFault) → Founds work at (folder_view (go_two conf parts.key)) (go_two conf parts.key) t u result
+          → Founds work at (new_go_vault pass cost h.draw h.key) (go_files pass cost h.draw h.key) t u result
+      at_these result f =
+          let same_conf : conf ≡ conf_text (made_conf pass cost h.draw) = is_conf ∙ ap (λ (p : GoParts). conf_text (made_conf pass cost p.draw)) h.is in
+          let same_key : parts.key ≡ h.key = ap (λ (p : GoParts). p.key) h.is in
+          subst (λ k. Founds work at (folder_view (go_two (conf_text (made_conf pass cost h.draw)) k)) (go_two (conf_text (made_conf pass cost h.draw)) k) t u result) same_key
+          (subst (λ x. Founds work at (folder_view (go_two x parts.key)) (go_two x parts.key) t u result) same_conf f)
+
+      pub go_failed : (fault : FolderFault) → Founds work at (folder_view (go_two conf parts.key)) (go_two conf parts.key) t u (Err fault)
+          → FoundsGo work at pass cost s s' t u (Err (of_folder fault))
+      go_failed fault f = record {
+        draw = h.draw;
+        key = h.key;
+        drawn = h.drawn;
+        sizes = h.sizes;
+        were_drawn = h.were_drawn;
+        drew = go_all h.draw h.key h.drawn fault h.drew;
+        founds = as_fault work at (new_go_vault pass cost h.draw h.key) (go_files pass cost h.draw h.key) t u fault (of_folder fault) (at_these (Err fault) f);
+        vault = tt;
+      }
+
+      pub go_done : go.MadeTextReturns → GoEmpty → IsCost cost → Founds {E = FolderFault} work at (folder_view (go_two conf parts.key)) (go_two conf parts.key) t u (Ok tt)
+          → FoundsGo work at pass cost s s' t u (Ok tt)
+      go_done returns empty is_cost f = record {
+        draw = h.draw;
+        key = h.key;
+        drawn = h.drawn;
+        sizes = h.sizes;
+        were_drawn = h.were_drawn;
+        drew = h.drew;
+        founds = as_done work at (new_go_vault pass cost h.draw h.key) (go_files pass cost h.draw h.key) t u (at_these (Ok tt) f);
+        vault = go_is_new returns empty pass cost h.draw h.key is_cost h.sizes h.drew.root;
+      }
+
+-- ---- Cryptomator
+
+cm_drew : (d : CmDraw) (drawn : List ℕ) (fault : PutFault) → CmDrew {T = CmDraw} d drawn (Err fault) → CmDrew {T = Unit {0}} d drawn (Err fault)
+cm_drew d drawn puts.Random k = k
+cm_drew d drawn puts.Failed k = k
+cm_drew d drawn puts.NoMemory k = k
+cm_drew d drawn puts.ZeroRandom k = absurd k
+cm_drew d drawn (puts.Find f) k = absurd k
+cm_drew d drawn (puts.NotAllowed path) k = absurd k
+cm_drew d drawn (puts.Taken at) k = absurd k
+cm_drew d drawn (puts.Damaged at f) k = absurd k
+cm_drew d drawn (puts.Limit limit) k = absurd k
+cm_drew d drawn puts.Source k = absurd k
+
+cm_all : (d : CmDraw) (drawn all : List ℕ) (fault : FolderFault) → CmDrew {T = Unit {0}} d drawn (Ok tt) → CmDrew {T = Unit {0}} d drawn (Err (of_folder fault))
+cm_all d drawn all folder.Failed h = h
+cm_all d drawn all folder.Refused h = h
+cm_all d drawn all folder.NoMemory h = h
+
+abbrev pub cm_two : List ℕ → List ℕ → List (List ℕ × List ℕ)
+cm_two master vault = (codes "masterkey.cryptomator", master) ∷ (codes "vault.cryptomator", vault) ∷ []
+
+module _ (work at : Path) (pass : List ℕ) (cost : Cost) (s s' : Option ByteStream) (t : Option Told) (sound : (a : Told) → t ≡ Some a → IsSound a.state) (may : MayFound t work at) where
+  pub cm_undrawn : (fault : PutFault) → DrawsCm s s' (Err fault) → FoundsCm work at pass cost s s' t t (Err fault)
+  cm_undrawn fault h = record {
+    draw = h.draw;
+    drawn = h.drawn;
+    sizes = h.sizes;
+    were_drawn = h.were_drawn;
+    drew = cm_drew h.draw h.drawn fault h.drew;
+    founds = founds_none work at (new_cm_vault pass cost h.draw) (cm_files pass cost h.draw) t fault sound may;
+    vault = tt;
+  }
+
+  module _ (d : CmDraw) (h : DrawsCm s s' (Ok d)) where
+    pub cm_unmade : FoundsCm work at pass cost s s' t t (Err puts.NoMemory)
+    cm_unmade = record {
+      draw = h.draw;
+      drawn = h.drawn;
+      sizes = h.sizes;
+      were_drawn = h.were_drawn;
+      drew = h.drew;
+      founds = founds_none work at (new_cm_vault pass cost h.draw) (cm_files pass cost h.draw) t puts.NoMemory sound may;
+      vault = tt;
+    }
+
+    module _ (master vault home : List ℕ) (is_master : master ≡ master_text (made_master pass cost d) (version_mac d.mac version_bytes)) (is_vault : vault ≡ vault_text d)
+        (is_home : home ≡ cm_folder_of (keys_of d) []) (u : Option Told) where
+      abbrev Made : List ℕ → List ℕ → List ℕ → Result (Unit {0}) FolderFault → Type 0
+      Made m v x result = Founds work at (with_home x (folder_view (cm_two m v))) (cm_two m v) t u result
+
+      cm_at_these : (result : Result (Unit {0}) FolderFault) → Made master vault home result → Founds work at (new_cm_vault pass cost h.draw) (cm_files pass cost h.draw) t u result
+      cm_at_these result f =
+          subst (λ (e : CmDraw). Made (master_text (made_master pass cost e) (version_mac e.mac version_bytes)) (vault_text e) (cm_folder_of (keys_of e) []) result) h.is
+          (subst (λ x. Made (master_text (made_master pass cost d) (version_mac d.mac version_bytes)) (vault_text d) x result) is_home
+          (subst (λ v. Made (master_text (made_master pass cost d) (version_mac d.mac version_bytes)) v home result) is_vault
+          (subst (λ m. Made m vault home result) is_master f)))
+
+      pub cm_failed : (fault : FolderFault) → Made master vault home (Err fault) → FoundsCm work at pass cost s s' t u (Err (of_folder fault))
+      cm_failed fault f = record {
+        draw = h.draw;
+        drawn = h.drawn;
+        sizes = h.sizes;
+        were_drawn = h.were_drawn;
+        drew = cm_all h.draw h.drawn [] fault h.drew;
+        founds = as_fault work at (new_cm_vault pass cost h.draw) (cm_files pass cost h.draw) t u fault (of_folder fault) (cm_at_these (Err fault) f);
+        vault = tt;
+      }
+
+      pub cm_done : cm.MadeFilesReturn → IsCost cost
+          → IsEmptyVault (cm_format (record { keys = keys_of d; combo = SivGcm; threshold = 220 })) (new_cm_vault pass cost d) → Made master vault home (Ok tt)
+          → FoundsCm work at pass cost s s' t u (Ok tt)
+      cm_done returns is_cost empty f = record {
+        draw = h.draw;
+        drawn = h.drawn;
+        sizes = h.sizes;
+        were_drawn = h.were_drawn;
+        drew = h.drew;
+        founds = as_done work at (new_cm_vault pass cost h.draw) (cm_files pass cost h.draw) t u (cm_at_these (Ok tt) f);
+        vault = cm_is_new returns pass cost h.draw is_cost h.sizes
+            (subst (λ (e : CmDraw). IsEmptyVault (cm_format (record { keys = keys_of e; combo = SivGcm; threshold = 220 })) (new_cm_vault pass cost e)) h.is empty);
+      }

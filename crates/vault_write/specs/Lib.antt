@@ -1,0 +1,4 @@
+pub mod Trees
+pub mod Making
+pub mod Placing
+pub mod Founding

@@ -1,0 +1,8 @@
+mod Contained
+mod Mapped
+mod MovedStates
+mod MovedTables
+mod Opening
+mod Repaired
+mod StraysFound
+mod StraysGathered

@@ -1,0 +1,10 @@
+use Rattle.std.proofs.Common.{◌≤◌}
+use Rattle.folder_spec.specs.Event.{FromTo}
+use Rattle.vault_check.proofs.MovedStates.{HasGone}
+use Rattle.vault_check.proofs.repairing.move_each.Given as goal
+
+abbrev pub invariant-loop-k : goal.invariant-loop-k
+invariant-loop-k g l = record {
+  goes : FromTo (HasGone l.lost l.strays l.k) (g.F.Folder.told l.initial.folder) (g.F.Folder.told l.folder);
+  grows : g.F.Folder.faults l.initial.folder ≤ g.F.Folder.faults l.folder;
+}

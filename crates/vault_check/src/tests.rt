@@ -1,0 +1,111 @@
+//! A small vault of gocryptfs, built by calls of a folder in memory, and repaired.
+ghost use Rattle.std.specs.Prelude.{◌≡◌, IsTrue};
+ghost use Rattle.folder_spec.specs.Seen.{IsSeen};
+ghost use Rattle.folder_spec.specs.View.{View, NoEntry, Folder};
+ghost use Rattle.vault_check.specs.Repairing.{AreApart, MayMoveTo};
+
+use crate::repair;
+use folder_model::{FPath, Folder, Kind, MemFolder};
+use gocrypt_conf::GoKeys;
+use std::alloc::Global;
+use std::test::Fail;
+use vault_read::{Vault, VaultKeys};
+
+const GO_KEYS: GoKeys = GoKeys {
+    content: [3; 32],
+    names: [4; 32],
+};
+
+const ROOT_IV: [u8; 16] = [7; 16];
+
+fn add_file<F: Folder>(folder: &mut F, at: &FPath, bytes: &[u8]) -> Result<(), Fail> {
+    folder.create(at)?;
+    folder.append(at, bytes)?;
+    Ok(())
+}
+
+// An empty vault at `g` with a stray file and a stray folder, which has a file in it.
+fn vault_in<F: Folder>(alloc: Global, folder: &mut F) -> Result<Vault, Fail> {
+    let root = FPath::parse(alloc, "g")?;
+    folder.make_dir(&root)?;
+    add_file(folder, &root.child("gocryptfs.diriv")?, &ROOT_IV)?;
+    add_file(folder, &root.child("gocryptfs.conf")?, b"")?;
+    add_file(folder, &root.child(".DS_Store")?, b"one")?;
+    folder.make_dir(&root.child("other")?)?;
+    add_file(folder, &root.child("other")?.child("inner")?, b"two")?;
+    Ok(Vault::new(root, VaultKeys::Gocryptfs(GO_KEYS)))
+}
+
+fn are_apart(one: &FPath, other: &FPath) -> bool
+    ensures { IsTrue result → AreApart one.now other.now }
+{
+    if other.starts_with(one) || one.starts_with(other) {
+        return false;
+    }
+    true
+}
+
+fn is_missing<F: Folder>(folder: &mut F, at: &FPath) -> bool
+    ensures told { F.told folder.new ≡ F.told folder.old }
+    ensures missing { IsTrue result → (v : View) → IsSeen (F.told folder.old) v → v at.now ≡ NoEntry }
+{
+    match folder.kind(at) {
+        Ok(Kind::Missing) => true,
+        _ => false,
+    }
+}
+
+fn is_directory<F: Folder>(folder: &mut F, at: &FPath) -> bool
+    ensures told { F.told folder.new ≡ F.told folder.old }
+    ensures directory { IsTrue result → (v : View) → IsSeen (F.told folder.old) v → v at.now ≡ Folder }
+{
+    match folder.kind(at) {
+        Ok(Kind::Dir) => true,
+        _ => false,
+    }
+}
+
+// How many strays are moved out of a vault, where they can be.
+fn moved<F: Folder>(
+    alloc: Global,
+    folder: &mut F,
+    vault: &Vault,
+    lost: &FPath,
+) -> Result<usize, Fail> {
+    let above = lost.parent()?;
+    if !are_apart(vault.root(), lost) {
+        return Err(Fail::from("a place beside the vault"));
+    }
+    if !is_missing(folder, lost) || !is_directory(folder, &above) {
+        return Err(Fail::from("a free place"));
+    }
+    Ok(
+        repair(alloc, folder, vault, lost)
+            .ok()
+            .ok_or("a repair")?
+            .len(),
+    )
+}
+
+fn kind_at<F: Folder>(alloc: Global, folder: &mut F, at: &str) -> Result<Kind, Fail> {
+    Ok(folder.kind(&FPath::parse(alloc, at)?)?)
+}
+
+// The strays of a vault are moved, and then there is none left to move.
+fn moves_once<F: Folder>(alloc: Global, folder: &mut F) -> Result<bool, Fail> {
+    let vault = vault_in(alloc, folder)?;
+    let first = moved(alloc, folder, &vault, &FPath::parse(alloc, "lost")?)?;
+    let second = moved(alloc, folder, &vault, &FPath::parse(alloc, "more")?)?;
+    Ok(first == 2 && second == 0)
+}
+
+#[test]
+fn strays_are_moved_once(rt: HostRuntime) -> Result<(), Fail> {
+    let alloc = rt.alloc();
+    let mut folder = MemFolder::new(alloc)?;
+    assert!(rt; moves_once(alloc, &mut folder)?);
+    assert!(rt; kind_at(alloc, &mut folder, "lost/1")? == Kind::File);
+    assert!(rt; kind_at(alloc, &mut folder, "lost/2/inner")? == Kind::File);
+    assert!(rt; kind_at(alloc, &mut folder, "more")? == Kind::Missing);
+    Ok(())
+}

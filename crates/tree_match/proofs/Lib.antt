@@ -1,0 +1,12 @@
+mod Guards
+mod Along
+mod Kept
+mod Placing
+mod Sounds
+mod Settling
+mod Entering
+mod Journals
+mod Fronts
+mod ReadAhead
+mod Merging
+mod Differing

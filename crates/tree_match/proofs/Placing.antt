@@ -1,0 +1,237 @@
+-- That a migration stays guarded while items of the source are made in the target.
+use Rattle.std.specs.Prelude.{Contains, OnOk}
+use Rattle.std.proofs.Common.{◌≡◌, ◌≢◌, ◌⊎◌, ◌<◌, ℕ, zero, suc, Bool, true, false, ◌&&◌, not, List, [], ◌∷◌, ◌++◌, Option, Some, None, Result, Ok, Err, refl, sym, ap, ◌∙◌, inl, inr, subst, arith, append_assoc, append-nil, codes, IsTrue, is_none}
+use Rattle.content_writing.specs.declared.fault.PutFault.{PutFault}
+use Rattle.folder_spec.proofs.Moments.{went_nowhere, went_on, went_to}
+use Rattle.folder_spec.proofs.Paths.{one_or_not, begins_or_not, below-apart}
+use Rattle.folder_spec.proofs.Tables.{present_is_table}
+use Rattle.folder_spec.specs.Path.{Part, Path, below, child}
+use Rattle.folder_spec.specs.declared.Spot.{Spot}
+use Rattle.folder_spec.specs.declared.Spot.TheVariants.{Odd}
+use Rattle.folder_spec.specs.State.{Table, State, IsTableOf, kind_of}
+use Rattle.folder_spec.specs.Event.{Told}
+use Rattle.folder_spec.specs.Moments.{Went}
+use Rattle.folder_spec.specs.Region.{AlikeIn, apart_from}
+use Rattle.folder_spec.specs.Seen.{seen, under}
+use Rattle.folder_spec.specs.View.{View, Shows, ShowsAmong}
+use Rattle.folder_spec.specs.declared.Kind.{Kind}
+use Rattle.folder_spec.specs.declared.Kind.TheVariants as kind
+use Rattle.plain_tree.specs.Names as plain
+use Rattle.tree_match.proofs.Along.{NoOdd, none_along, both_along, nothing_each}
+use Rattle.tree_match.proofs.Guards.{in_target, RootsAreAlike, ImagesShow, ShowsCase, guarded_by, source_alike, journal_alike, kinds_of}
+use Rattle.tree_match.proofs.Kept.{apart_below, staged_in, not_staged, entry_inside, other_is_odd, only_shown, table_work, kept_is}
+use Rattle.tree_match.specs.Alone.{Begun, IsAlone, StaysGuarded}
+use Rattle.tree_match.specs.Guard.{Migration, IsSeparate, IsWhole, IsPartOf, IsBuilding, Building, IsWork, is_kept, Guarded, tree_at, old_path}
+use Rattle.tree_match.specs.Placed.{ItemAt, path_of, placing_of, IsHeld, Places, PlaceEach, ArePlaced}
+use Rattle.vault_spec.specs.Adding.{OpensAs, OpensWith}
+use Rattle.vault_spec.specs.Making.{NewItem, NewDirectory, NewFile}
+use Rattle.vault_spec.specs.Opens.{NoItem, tree}
+use Rattle.vault_spec.specs.Vault.{format_of}
+use Rattle.vault_write.specs.Making.{Placing, Making, is_inside, is_staged, is_elsewhere, StagesOrPlaces}
+use Rattle.vault_write.specs.Placing.{HasVault, ShowsOne, IsMaking, making_at}
+use Rattle.vault_write.specs.Trees.{KeepsVault, KeepsTree, GainsItem, opens_as}
+use Rattle.work_folder.specs.Entries.{journal_path, is_foreign}
+
+-- ---- the region of both vaults and the journal
+
+has_vault : (g : Migration) (x : ItemAt) → IsSeparate g → HasVault (placing_of g x) (is_kept g)
+has_vault g x separate = record { vault = in_target g; unstaged = λ q kept staged. clash (staged_kept q (kept_is g separate q kept)) staged }
+  where
+    clash : {b : Bool} → b ≡ false → b ≡ true → ⊥
+    clash isnt is = cc (isnt, is)
+
+    staged_kept : (q : Path) → (journal_path g.work ≡ q) ⊎ (below g.work q ≡ None) → is_staged g.work q ≡ false
+    staged_kept q (inl journal) = ap (is_staged g.work) (sym journal) ∙ staged_in g.work (codes "journal" ∷ []) ∙ entry_inside (codes "journal")
+    staged_kept q (inr apart) = not_staged g.work q apart
+
+-- all of the work folder but what is staged is elsewhere
+elsewhere_in_work : (g : Migration) (x : ItemAt) → IsSeparate g → (rest : Path) → is_inside (below (codes "stage" ∷ []) rest) ≡ false → IsTrue (is_elsewhere (placing_of g x) (g.work ++ rest))
+elsewhere_in_work g x separate rest unstaged =
+    both (is_staged g.work (g.work ++ rest)) (apart_from g.target.root (g.work ++ rest)) (staged_in g.work rest ∙ unstaged)
+    (ap is_none (below-apart g.target.root g.work rest separate.target.one separate.target.other))
+  where
+    both : (a b : Bool) → a ≡ false → b ≡ true → (not a && b) ≡ true
+    both a b isnt is = rw (isnt, is) refl
+
+-- ---- the work folder of each table
+
+-- one table's work folder is as another's but for what is staged
+work_alike : (g : Migration) (x : ItemAt) (t u : Table) → IsSeparate g → AlikeIn (is_elsewhere (placing_of g x)) t u
+    → ((q : Path) → IsTrue (is_staged g.work q) → t q ≢ Odd) → IsWork false (kinds_of u) g.work → IsWork false (kinds_of t) g.work
+work_alike g x t u separate alike staged is = record {
+  folder = elim is.folder [
+    | inl missing ↦ inl (root ∙ missing)
+    | inr there ↦ inr (root ∙ there.0, λ name. subst (λ k. ¬ IsTrue (is_foreign false name k)) (sym (entry name)) (there.1 name))
+  ];
+  staged = λ q inside e. staged q inside (other_is_odd (t q) e);
+  moved = λ q inside. subst (λ k. k ≢ kind.Other) (sym (old q inside)) (is.moved q inside);
+}
+  where
+    at : (rest : Path) → is_inside (below (codes "stage" ∷ []) rest) ≡ false → t (g.work ++ rest) ≡ u (g.work ++ rest)
+    at rest unstaged = alike (g.work ++ rest) (elsewhere_in_work g x separate rest unstaged)
+
+    root : kinds_of t g.work ≡ kinds_of u g.work
+    root = ap kind_of (subst (λ q. t q ≡ u q) (append-nil g.work) (at [] refl))
+
+    entry : (name : Part) → kinds_of t (child g.work name) ≡ kinds_of u (child g.work name)
+    entry name = ap kind_of (at (name ∷ []) (entry_inside name))
+
+    old : (q : Path) → IsTrue (is_inside (below (old_path g.work) q)) → kinds_of t q ≡ kinds_of u q
+    old q inside = elim (begins_or_not (old_path g.work) q) [
+      | inl there ↦ subst (λ z. kinds_of t z ≡ kinds_of u z) (sym (there.1 ∙ append_assoc g.work (codes "old" ∷ []) there.0)) (ap kind_of (at (codes "old" ∷ there.0) refl))
+      | inr none ↦ absurd (clash (sym (ap is_inside none) ∙ inside))
+    ]
+      where
+        clash : false ≡ true → ⊥
+        clash e = cc e
+
+-- ---- the case of each view
+
+whole_item : (item : NewItem) → IsWhole (opens_as item)
+whole_item NewDirectory = tt
+whole_item (NewFile content) = tt
+
+-- the target's vault is kept, and each of its items is one that the source held
+builds_on : RootsAreAlike → (g : Migration) (v w : View) → IsSeparate g → IsBuilding g v → KeepsVault (format_of g.target.vault) g.target.root v w
+    → IsPartOf (tree_at g.target w) g.held → IsBuilding g w
+builds_on alike g v w separate is keeps part = record {
+  source = source_alike g w v (sym (alike g.source.root w v (λ q inside. keeps.elsewhere q (beside q (apart_below g.source.root g.target.root q separate.vaults inside))))) is.source;
+  journal = journal_alike g _ w v (keeps.elsewhere (journal_path g.work) (beside (journal_path g.work) (below-apart g.target.root g.work (codes "journal" ∷ []) separate.target.one separate.target.other))) is.journal;
+  target = record { loads = keeps.loads g.target.pass g.target.vault is.target.loads; good = keeps.good };
+  part = part;
+  allowed = is.allowed;
+}
+  where
+    beside : (q : Path) → below g.target.root q ≡ None → IsTrue (apart_from g.target.root q)
+    beside q none = ap is_none none
+
+abbrev pub OldOrNew : Migration → ItemAt → View → View → Type 0
+OldOrNew g x v w = KeepsTree (format_of g.target.vault) g.target.root v w ⊎ GainsItem (format_of g.target.vault) g.target.root (path_of x) (opens_as x.item) v w
+
+kept_part : (g : Migration) (v w : View) → OpensAs (format_of g.target.vault) (under g.target.root v) (under g.target.root w) → IsPartOf (tree_at g.target v) g.held → IsPartOf (tree_at g.target w) g.held
+kept_part g v w opens part path named there =
+    subst (λ o. (o ≡ g.held path) × IsWhole o) (sym (opens path)) (part path named (subst (λ o. o ≢ NoItem) (opens path) there))
+
+gained_part : (g : Migration) (x : ItemAt) (v w : View) → IsHeld g x → OpensWith (format_of g.target.vault) (under g.target.root v) (under g.target.root w) (path_of x) (opens_as x.item)
+    → IsPartOf (tree_at g.target v) g.held → IsPartOf (tree_at g.target w) g.held
+gained_part g x v w held opens part path named there = elim (one_or_not path (path_of x)) [
+  | inl is ↦ subst (λ p. (tree_at g.target w p ≡ g.held p) × IsWhole (tree_at g.target w p)) (sym is)
+      (opens.there ∙ held, subst IsWhole (sym opens.there) (whole_item x.item))
+  | inr other ↦ subst (λ o. (o ≡ g.held path) × IsWhole o) (sym (opens.others path other.0)) (part path named (subst (λ o. o ≢ NoItem) (opens.others path other.0) there))
+]
+
+builds : RootsAreAlike → (g : Migration) (x : ItemAt) (v w : View) → IsSeparate g → IsHeld g x → IsBuilding g v → OldOrNew g x v w → IsBuilding g w
+builds alike g x v w separate held is (inl keeps) = builds_on alike g v w separate is keeps.vault (kept_part g v w keeps.opens is.part)
+builds alike g x v w separate held is (inr gains) = builds_on alike g v w separate is gains.vault (gained_part g x v w held gains.opens is.part)
+
+-- ---- at each moment
+
+shows_one : (g : Migration) (x : ItemAt) (s : State) (b : IsAlone g Begun s) → ShowsOne (placing_of g x) (is_kept g) s b.view
+shows_one g x s b = record { has = has_vault g x b.guarded.separate; alone = b.alone; good = b.holds.target.good }
+
+guarded_at : RootsAreAlike → ImagesShow → (g : Migration) (x : ItemAt) (m : Making) (s0 s : State) → IsAlone g Begun s0 → IsHeld g x
+    → IsMaking (placing_of g x) m s0 s → NoOdd g.work s → Guarded g s
+guarded_at alike shown g x m s0 s b held making none = guarded_by alike shown g s b.guarded.separate shows
+  where
+    shows : (t : Table) → IsTableOf s t → ShowsCase g s t
+    shows t is =
+        let there : (w : View) × Shows (is_kept g) s t w × OldOrNew g x b.view w = making.trees (is_kept g) b.view (shows_one g x s0 b) t is in
+        let before : (u : Table) × IsTableOf s0 u × AlikeIn (is_elsewhere (placing_of g x)) t u = making.others.tables t is in
+        record {
+          view = there.0;
+          shows = there.1;
+          case = Building (builds alike g x b.view there.0 b.guarded.separate held b.holds there.2);
+          work = work_alike g x t before.0 b.guarded.separate before.2 (λ q staged. none t q is staged) (table_work g Begun s0 b before.0 before.1);
+        }
+
+none_at_first : (g : Migration) (s : State) → IsAlone g Begun s → NoOdd g.work s
+none_at_first g s b t q is staged odd = (table_work g Begun s b t is).staged q staged (ap kind_of odd)
+
+pub one_stays : RootsAreAlike → ImagesShow → (g : Migration) (x : ItemAt) (a b : Told) (result : Result (Unit {0}) PutFault) → IsAlone g Begun a.state → Places g x a b result → StaysGuarded g a b
+one_stays alike shown g x a b result at places = record {
+  events = went.events;
+  log = went.log;
+  state = went.state;
+  states = both_along (IsMaking p m a.state) (NoOdd g.work) (Guarded g) a.state went.events (λ s making none. guarded_at alike shown g x m a.state s at places.held making none)
+      went.states (none_along g.work m a.state went.events (none_at_first g a.state at) went.each);
+  each = nothing_each a.state went.events;
+  allowed = went.allowed;
+}
+  where
+    p : Placing
+    p = placing_of g x
+
+    m : Making
+    m = making_at p places.making a.state
+
+    went : Went (IsMaking p m a.state) (λ s e. StagesOrPlaces g.work m s e.call) a b
+    went = places.makes.moments
+
+-- ---- after Ok
+
+made_view : (g : Migration) (x : ItemAt) (a b : Told) (at : IsAlone g Begun a.state) → Places g x a b (Ok tt)
+    → (w : View) × ShowsAmong (is_kept g) b.state (w ∷ []) × GainsItem (format_of g.target.vault) g.target.root (path_of x) (opens_as x.item) at.view w
+made_view g x a b at places = places.makes.done.tree (is_kept g) at.view (shows_one g x a.state at)
+
+pub next_may_follow : RootsAreAlike → ImagesShow → (g : Migration) (x : ItemAt) (a b : Told) → IsAlone g Begun a.state → Places g x a b (Ok tt) → IsAlone g Begun b.state
+next_may_follow alike shown g x a b at places =
+    let made : (w : View) × ShowsAmong (is_kept g) b.state (w ∷ []) × GainsItem (format_of g.target.vault) g.target.root (path_of x) (opens_as x.item) at.view w = made_view g x a b at places in
+    record {
+      sound = places.sound;
+      guarded = went_to (Guarded g) (λ s e. Unit {0}) a b (one_stays alike shown g x a b (Ok tt) at places);
+      view = made.0;
+      alone = made.1;
+      holds = builds alike g x at.view made.0 at.guarded.separate places.held at.holds (inr made.2);
+    }
+
+pub each_stays : RootsAreAlike → ImagesShow → (g : Migration) (items : List ItemAt) (a b : Told) → IsAlone g Begun a.state → PlaceEach g items a b → StaysGuarded g a b
+each_stays alike shown g [] a b at placed = subst (StaysGuarded g a) (sym placed) (went_nowhere (Guarded g) (λ s e. Unit {0}) a at.guarded)
+each_stays alike shown g (x ∷ items) a b at placed =
+    went_on (Guarded g) (λ s e. Unit {0}) a placed.0 b (one_stays alike shown g x a placed.0 (Ok tt) at placed.1)
+    (each_stays alike shown g items placed.0 b (next_may_follow alike shown g x a placed.0 at placed.1) placed.2)
+
+pub last_may_follow : RootsAreAlike → ImagesShow → (g : Migration) (items : List ItemAt) (a b : Told) → IsAlone g Begun a.state → PlaceEach g items a b → IsAlone g Begun b.state
+last_may_follow alike shown g [] a b at placed = subst (λ (c : Told). IsAlone g Begun c.state) (sym placed) at
+last_may_follow alike shown g (x ∷ items) a b at placed = last_may_follow alike shown g items placed.0 b (next_may_follow alike shown g x a placed.0 at placed.1) placed.2
+
+-- ---- what opens then
+
+-- what is seen of the target is what is shown
+seen_target : RootsAreAlike → (g : Migration) (s : State) (v : View) → ShowsAmong (is_kept g) s (v ∷ []) → under g.target.root (seen s) ≡ under g.target.root v
+seen_target alike g s v alone = alike g.target.root (seen s) v (λ q inside. (only_shown (is_kept g) s v alone _ (present_is_table s)).agrees q (in_target g q inside))
+
+seen_tree : RootsAreAlike → (g : Migration) (s : State) (v : View) → ShowsAmong (is_kept g) s (v ∷ []) → (path : plain.Path) → tree_at g.target (seen s) path ≡ tree_at g.target v path
+seen_tree alike g s v alone path = ap (λ u. tree (format_of g.target.vault) u path) (seen_target alike g s v alone)
+
+item_opens : RootsAreAlike → (g : Migration) (x : ItemAt) (a b : Told) → IsAlone g Begun a.state → Places g x a b (Ok tt) → tree_at g.target (seen b.state) (path_of x) ≡ g.held (path_of x)
+item_opens alike g x a b at places =
+    let made : (w : View) × ShowsAmong (is_kept g) b.state (w ∷ []) × GainsItem (format_of g.target.vault) g.target.root (path_of x) (opens_as x.item) at.view w = made_view g x a b at places in
+    seen_tree alike g b.state made.0 made.1 (path_of x) ∙ made.2.opens.there ∙ places.held
+
+-- what opens as the source held it goes on to
+one_opens_on : RootsAreAlike → (g : Migration) (x : ItemAt) (a b : Told) → IsAlone g Begun a.state → Places g x a b (Ok tt)
+    → (path : plain.Path) → tree_at g.target (seen a.state) path ≡ g.held path → tree_at g.target (seen b.state) path ≡ g.held path
+one_opens_on alike g x a b at places path opens = elim (one_or_not path (path_of x)) [
+  | inl is ↦ subst (λ p. tree_at g.target (seen b.state) p ≡ g.held p) (sym is) (item_opens alike g x a b at places)
+  | inr other ↦
+      let made : (w : View) × ShowsAmong (is_kept g) b.state (w ∷ []) × GainsItem (format_of g.target.vault) g.target.root (path_of x) (opens_as x.item) at.view w = made_view g x a b at places in
+      seen_tree alike g b.state made.0 made.1 path ∙ made.2.opens.others path other.0 ∙ sym (seen_tree alike g a.state at.view at.alone path) ∙ opens
+]
+
+opens_on : RootsAreAlike → ImagesShow → (g : Migration) (items : List ItemAt) (a b : Told) → IsAlone g Begun a.state → PlaceEach g items a b
+    → (path : plain.Path) → tree_at g.target (seen a.state) path ≡ g.held path → tree_at g.target (seen b.state) path ≡ g.held path
+opens_on alike shown g [] a b at placed path opens = subst (λ (c : Told). tree_at g.target (seen c.state) path ≡ g.held path) (sym placed) opens
+opens_on alike shown g (x ∷ items) a b at placed path opens =
+    opens_on alike shown g items placed.0 b (next_may_follow alike shown g x a placed.0 at placed.1) placed.2 path (one_opens_on alike g x a placed.0 at placed.1 path opens)
+
+pub all_are_placed : RootsAreAlike → ImagesShow → (g : Migration) (items : List ItemAt) (a b : Told) → IsAlone g Begun a.state → PlaceEach g items a b → ArePlaced g items b.state
+all_are_placed alike shown g [] a b at placed x among = absurd (omega (arith, among.1))
+all_are_placed alike shown g (y ∷ items) a b at placed x among =
+    let next : IsAlone g Begun placed.0.state = next_may_follow alike shown g y a placed.0 at placed.1 in
+    let first : tree_at g.target (seen b.state) (path_of y) ≡ opens_as y.item =
+    opens_on alike shown g items placed.0 b next placed.2 (path_of y) (item_opens alike g y a placed.0 at placed.1) ∙ sym placed.1.held in
+    by_place first (all_are_placed alike shown g items placed.0 b next placed.2) among
+  where
+    by_place : tree_at g.target (seen b.state) (path_of y) ≡ opens_as y.item → ArePlaced g items b.state → Contains (y ∷ items) x → tree_at g.target (seen b.state) (path_of x) ≡ opens_as x.item
+    by_place first others (zero, lt, is) = subst (λ (z : ItemAt). tree_at g.target (seen b.state) (path_of z) ≡ opens_as z.item) is first
+    by_place first others (suc k, lt, is) = others x (k, omega (arith, lt), is)

@@ -1,0 +1,16 @@
+use Rattle.tree_match.proofs.Journals.{writes_on, written_on, begun_at, finished_at}
+use Rattle.tree_match.specs.Alone.{Unbegun, Begun, Finished}
+use Rattle.tree_match.proofs.laws.journals_keep_migrations_guarded.Goals as goal
+
+pub returns : goal.returns
+returns c =
+    let alike = c.roots_show_their_own.ensures.alike in
+    let elsewhere = c.roots_show_their_own.ensures.edited_elsewhere in
+    let shown = c.images_show_views.ensures.one in
+    let settled = c.edits_are_published.ensures.alone in
+    record {
+      begins = λ g j a b at allows journal phase tells. writes_on alike shown g Unbegun Begun j a b at (begun_at elsewhere g j a.state at allows journal phase tells);
+      begun = λ g j a b at allows journal phase tells. written_on alike shown settled g Unbegun Begun j a b at (begun_at elsewhere g j a.state at allows journal phase tells);
+      finishes = λ g j a b at all journal phase tells. writes_on alike shown g Begun Finished j a b at (finished_at alike elsewhere g j a.state at all journal phase tells);
+      finished = λ g j a b at all journal phase tells. written_on alike shown settled g Begun Finished j a b at (finished_at alike elsewhere g j a.state at all journal phase tells);
+    }

@@ -1,0 +1,46 @@
+-- Items of the source that are placed in the target, one after the other.
+use Rattle.std.specs.Prelude.{◌≡◌, ℕ, List, [], ◌∷◌, ◌++◌, Some, Ok, Result, Contains}
+use Rattle.folder_spec.specs.Event.{Told}
+use Rattle.folder_spec.specs.Seen.{seen}
+use Rattle.folder_spec.specs.State.{State, IsSound}
+use Rattle.folder_spec.specs.View.{View}
+use Rattle.plain_tree.specs.Names as plain
+use Rattle.content_writing.specs.declared.fault.PutFault.{PutFault}
+use Rattle.tree_match.specs.Guard.{Migration, tree_at}
+use Rattle.vault_spec.specs.Making.{NewItem}
+use Rattle.vault_write.specs.Making.{Placing, Making}
+use Rattle.vault_write.specs.Placing.{Makes}
+use Rattle.vault_write.specs.Trees.{opens_as}
+
+-- an item with its path
+pub record ItemAt : Type 0 where
+  pub front : plain.Path
+  pub name : List ℕ
+  pub item : NewItem
+
+abbrev pub path_of : ItemAt → plain.Path
+path_of x = x.front ++ x.name ∷ []
+
+-- it is made in the target, from the work folder
+abbrev pub placing_of : Migration → ItemAt → Placing
+placing_of g x = record { vault = record { root = g.target.root; vault = g.target.vault }; work = g.work; front = x.front; name = x.name; item = x.item }
+
+-- the source held it
+abbrev pub IsHeld : Migration → ItemAt → Type 0
+IsHeld g x = opens_as x.item ≡ g.held (path_of x)
+
+-- a call makes the item
+pub record Places (g : Migration) (x : ItemAt) (a b : Told) (result : Result (Unit {0}) PutFault) : Type 0 where
+  pub held : IsHeld g x
+  pub making : View → Making
+  pub makes : Makes (placing_of g x) making (Some a) (Some b) result
+  pub sound : IsSound b.state
+
+-- calls make these items one after the other
+abbrev pub PlaceEach : Migration → List ItemAt → Told → Told → Type 0
+PlaceEach g [] a b = b ≡ a
+PlaceEach g (x ∷ items) a b = (c : Told) × Places g x a c (Ok tt) × PlaceEach g items c b
+
+-- what was placed opens in the target
+abbrev pub ArePlaced : Migration → List ItemAt → State → Type 0
+ArePlaced g items s = (x : ItemAt) → Contains items x → tree_at g.target (seen s) (path_of x) ≡ opens_as x.item

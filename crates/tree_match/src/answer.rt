@@ -1,0 +1,85 @@
+//! What comparing two vaults answers.
+use chunk_files::ChunkFault;
+use folder_model::FPath;
+use plain_tree::PlainPath;
+use std::alloc::AllocError;
+use vault_read::{CatFault, Limit};
+
+/// Either vault of a migration.
+#[derive(Clone, Copy, Debug, PartialEq, Eq)]
+pub enum Side {
+    Source,
+    Target,
+}
+
+/// How an item of a vault differs from what another holds.
+#[derive(Clone, Copy, Debug, PartialEq, Eq)]
+pub enum How {
+    /// No item there has its path.
+    Missing,
+    /// One is a directory and the other a file.
+    Kind,
+    /// Both are files, and their contents differ.
+    Content,
+}
+
+/// How two vaults differ at a path.
+#[derive(Clone, Copy, Debug, PartialEq, Eq)]
+pub enum Where {
+    Missing,
+    Kind,
+    Content,
+    /// Only the vault that is to hold the other has an item there.
+    Extra,
+}
+
+/// Whether a vault holds all items of another.
+#[derive(Debug, Drop)]
+pub enum Match {
+    /// It does, and it holds no other items.
+    Same,
+    /// It does, and the item at this path is its first further one.
+    Contained(PlainPath),
+    /// It doesn't: the item at this path is the first that differs.
+    Differs(PlainPath, How),
+}
+
+/// Why two vaults aren't compared to the end.
+#[derive(Debug, Drop)]
+pub enum MatchFault {
+    /// The content file at this path has this fault.
+    Damaged(FPath, ChunkFault),
+    /// The content file at the limit's path has more bytes than are read.
+    Limit(Limit),
+    /// The folder failed.
+    Failed,
+    NoMemory,
+}
+
+impl From<AllocError> for MatchFault {
+    ghost use Rattle.std.specs.Prelude.{◌≡◌};
+    ghost use Rattle.tree_match.specs.declared.answer.MatchFault.TheVariants.{NoMemory};
+
+    ghost from_gives = { λ _ fault. fault ≡ NoMemory };
+
+    fn from(_fault: AllocError) -> MatchFault {
+        MatchFault::NoMemory
+    }
+}
+
+impl From<CatFault> for MatchFault {
+    ghost use Rattle.std.specs.Prelude.{◌≡◌};
+    ghost use Rattle.tree_match.specs.Pieces.{of_reader};
+
+    ghost from_gives = { λ fault result. result ≡ of_reader fault };
+
+    fn from(fault: CatFault) -> MatchFault {
+        match fault {
+            CatFault::Damaged(at, fault) => MatchFault::Damaged(at, fault),
+            CatFault::Limit(limit) => MatchFault::Limit(limit),
+            CatFault::NoMemory => MatchFault::NoMemory,
+            // a reader looks for no path and writes nothing
+            CatFault::Find(_) | CatFault::Sink | CatFault::Failed => MatchFault::Failed,
+        }
+    }
+}

@@ -1,0 +1,13 @@
+//! Two vaults of a migration: when it is guarded, and that it stays so; and whether one holds all that the other does.
+#![tactic(auto)]
+
+pub mod answer;
+mod comparing;
+pub mod laws;
+pub mod matching;
+
+pub use answer::{How, Match, MatchFault, Side, Where};
+pub use matching::holds_all;
+
+#[cfg(test)]
+mod tests;

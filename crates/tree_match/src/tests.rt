@@ -1,0 +1,5 @@
+//! Vaults that are compared over folders of files.
+mod contents;
+mod files;
+mod plans;
+mod vaults;

@@ -1,5 +1,4 @@
 mod Contained
-mod Mapped
 mod MovedStates
 mod MovedTables
 mod Opening

@@ -10,6 +10,7 @@ mod GivenAnswers
 mod Gathering
 mod Keys
 mod Reaching
-mod Sorting
+pub mod Sorting
+mod ListedOrder
 mod TextForms
 mod OrderlyVaults

@@ -40,3 +40,4 @@ mod Mapped
 mod Endings
 mod Plans
 mod VaultPlans
+mod Accounted

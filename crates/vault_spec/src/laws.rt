@@ -5,7 +5,7 @@ ghost use Rattle.cryptomator_conf.specs.declared.conf.CmDraw.{CmDraw};
 ghost use Rattle.cryptomator_conf.specs.Text.{keys_of};
 ghost use Rattle.folder_spec.specs.Path as folder;
 ghost use Rattle.folder_spec.specs.Seen.{under};
-ghost use Rattle.folder_spec.specs.View.{View, Folder};
+ghost use Rattle.folder_spec.specs.View.{View, Folder, NoEntry};
 ghost use Rattle.gocrypt_conf.specs.declared.conf.GoDraw.{GoDraw};
 ghost use Rattle.gocrypt_conf.specs.declared.keys.GoKeys.{GoKeys};
 ghost use Rattle.kdf_suite.specs.ScryptCost.{Cost};
@@ -16,7 +16,7 @@ ghost use Rattle.vault_spec.specs.Alike.{LooksAlike, GainsItem, HasFolders, IsOr
 ghost use Rattle.vault_spec.specs.Cryptomator.{cm_format};
 ghost use Rattle.vault_spec.specs.Empty.{IsEmptyVault};
 ghost use Rattle.vault_spec.specs.Find.{find, enter};
-ghost use Rattle.vault_spec.specs.Findings.{IsClean};
+ghost use Rattle.vault_spec.specs.Findings.{IsClean, Belongs, IsEntryOf};
 ghost use Rattle.vault_spec.specs.Format.{Format, Directory};
 ghost use Rattle.vault_spec.specs.Gocryptfs.{go_format, directory_key};
 ghost use Rattle.vault_spec.specs.Listing.{Listed, AreListed, node_of};
@@ -24,7 +24,7 @@ ghost use Rattle.vault_spec.specs.Moving.{StraysGoAlone};
 ghost use Rattle.vault_spec.specs.NewVault.{new_go_vault, new_cm_vault};
 ghost use Rattle.vault_spec.specs.Opens.{opened, opened_at, tree, AreItems};
 ghost use Rattle.vault_spec.specs.Plan.{Planned, IsPlan, paths_of, StandsBelow, IsReachedFrom};
-ghost use Rattle.vault_spec.specs.Reached.{Leads, IsReachedIn, HaveOwnFolders};
+ghost use Rattle.vault_spec.specs.Reached.{Leads, IsReached, IsReachedIn, HaveOwnFolders};
 ghost use Rattle.vault_spec.specs.Standing.{Standing, File, Dir, standing, standing_in};
 ghost use Rattle.vault_spec.specs.Staying.{NewItemsStayVaults, ReplacedContentsStayVaults};
 ghost use Rattle.vault_spec.specs.Vault.{Vault, format_of};
@@ -196,6 +196,13 @@ pub fn what_is_found_stands()
         → standing f v path ≡ Dir at directory → find f v path ≡ Ok (Dir at directory) }
     ensures enters { (f : Format) (v : View) (path : Path) (dir : Directory) → (enter f v path ≡ Ok dir) ↔ Leads f v path dir }
     ensures folder { (f : Format) (v : View) (path : Path) (dir : Directory) → Leads f v path dir → v dir.folder ≡ Folder }
+{}
+
+/// In a clean vault each entry in the folder of a reached directory is accounted for: it belongs there as a file of its name, or it isn't so
+/// that no name is stored there.
+pub fn entries_of_clean_vaults_are_accounted_for()
+    ensures { (vault : Vault) (v : View) (dir : Directory) (entry : folder.Part) → IsClean (format_of vault) v → IsReached (format_of vault) v dir
+        → v (folder.child dir.folder entry) ≢ NoEntry → ¬ Belongs (format_of vault) v dir entry → ¬ ((name : List ℕ) → ¬ IsEntryOf (format_of vault) v dir entry name) }
 {}
 
 /// A directory has one list of its items.

@@ -25,7 +25,7 @@ mod Aparts
 mod RolePlaces
 mod NodeOrders
 mod Gains
-mod Mapped
+pub mod Mapped
 mod Visits
 mod LevelSteps
 mod PlanOrder

@@ -1,11 +1,11 @@
 -- That nothing but files and directories is staged while an item is made.
-use Rattle.std.proofs.Common.{◌≡◌, ◌≢◌, ◌⊎◌, ℕ, Bool, true, false, List, [], ◌∷◌, ◌++◌, Option, Some, None, refl, sym, ap, ◌∙◌, inl, inr, subst, append_assoc, take, if◌then◌else◌, IsTrue}
+use Rattle.std.proofs.Common.{◌≡◌, ◌≢◌, ℕ, Bool, true, false, List, [], ◌∷◌, ◌++◌, Option, Some, None, refl, sym, ap, ◌∙◌, inl, inr, subst, append_assoc, take, if◌then◌else◌, IsTrue}
 use Rattle.folder_spec.proofs.Paths.{below-append, below_is}
 use Rattle.folder_spec.proofs.Tables.{among-push, present_is_table}
 use Rattle.folder_spec.specs.Path.{Path, path_eq, below}
 use Rattle.folder_spec.specs.declared.Spot.{Spot}
 use Rattle.folder_spec.specs.declared.Spot.TheVariants.{Nothing, Directory, FileNode, Odd}
-use Rattle.folder_spec.specs.State.{Node, Table, State, IsAmong, IsTableOf, present, put, moved, moved_spot}
+use Rattle.folder_spec.specs.State.{Node, Table, State, IsAmong, present, put, moved, moved_spot}
 use Rattle.folder_spec.specs.Event.{Call, MakeDir, Create, Append, Sync, Settle, Rename, RemoveFile, RemoveDir, Outcome, Done, Fell, Denied, Event, with_file, grown, synced, changed, fallen, outcome_state, after}
 use Rattle.folder_spec.specs.Moments.{EachState, EachEvent}
 use Rattle.vault_write.specs.Making.{Making, is_inside, is_staged, StagesOrPlaces}

@@ -1,7 +1,5 @@
 -- The first item that differs, and the first further one.
-use Rattle.std.proofs.Common.{◌≡◌, Bool, List, ◌∷◌, [], Option, Some, None, refl, ap, ◌∙◌}
-use Rattle.chunk_files.specs.Reading.{Ending}
-use Rattle.folder_spec.specs.Path.{Path}
+use Rattle.std.proofs.Common.{◌≡◌, List, ◌∷◌, [], Option, Some, None, refl, ap, ◌∙◌}
 use Rattle.vault_spec.specs.Plan.{Planned}
 use Rattle.tree_match.specs.Comparing.{Outcome, Is, Stops, IsFault}
 use Rattle.tree_match.specs.Matching.{by_item, by_other, first_differing, first_further, item_with}

@@ -1,13 +1,11 @@
 -- That a migration stays as it is while its work folder is made ready.
-use Rattle.std.proofs.Common.{◌≡◌, ◌≢◌, ◌⊎◌, ℕ, Bool, true, false, not, ◌||◌, List, [], ◌∷◌, ◌++◌, Option, Some, None, refl, sym, ap, ◌∙◌, inl, inr, subst, append_assoc, append-nil, codes, bytes_eq, IsTrue}
+use Rattle.std.proofs.Common.{◌≡◌, ◌≢◌, ◌⊎◌, ℕ, Bool, true, false, [], ◌∷◌, ◌++◌, Some, None, refl, sym, ap, ◌∙◌, inl, inr, subst, append_assoc, append-nil, codes, bytes_eq, IsTrue}
 use Rattle.folder_spec.proofs.Paths.{below-append, append-cancel, child-apart, child-last}
 use Rattle.folder_spec.specs.Path.{Part, Path, below, child}
-use Rattle.folder_spec.specs.declared.Spot.{Spot}
-use Rattle.folder_spec.specs.declared.Spot.TheVariants.{Nothing, Directory, FileNode, Odd}
 use Rattle.folder_spec.specs.State.{Node, Table, State, IsTableOf, IsSound, IsSoundTable, IsClean, kind_of, present}
 use Rattle.folder_spec.specs.Event.{Event, Told}
 use Rattle.folder_spec.specs.Moments.{Went}
-use Rattle.folder_spec.specs.View.{View, Shows, found}
+use Rattle.folder_spec.specs.View.{Shows, found}
 use Rattle.folder_spec.specs.declared.Kind.TheVariants as kind
 use Rattle.tree_match.proofs.Along.{both_along, nothing_each}
 use Rattle.tree_match.proofs.Guards.{RootsAreAlike, ImagesShow, kinds_of}
@@ -15,9 +13,9 @@ use Rattle.tree_match.proofs.Kept.{only_shown, table_work, kept_is, alone_by, no
 use Rattle.tree_match.proofs.Sounds.{KeepSound, sound_along}
 use Rattle.tree_match.specs.Alone.{Progress, IsAlone, StaysAlone}
 use Rattle.tree_match.specs.Guard.{Migration, IsSeparate, IsWork, is_kept}
-use Rattle.work_folder.specs.Changing.{IsChanged, IsChanging, IsChangingAt, ChangesAt}
+use Rattle.work_folder.specs.Changing.{IsChanged, IsChanging}
 use Rattle.work_folder.specs.Entering.{IsStage, IsBelowStage, IsWorkOrStage, IsLeftOver}
-use Rattle.work_folder.specs.Entries.{journal_path, new_journal_path, stage_path, is_foreign}
+use Rattle.work_folder.specs.Entries.{journal_path, is_foreign}
 
 -- ---- what comes and goes is in the work folder, and not the journal
 

@@ -1,5 +1,5 @@
 -- A case of a migration follows from what stands in both vaults and at the journal; and each case is safe.
-use Rattle.std.proofs.Common.{◌≡◌, ◌≢◌, ◌⊎◌, ℕ, Bool, true, false, ◌||◌, List, [], ◌∷◌, ◌++◌, Option, Some, None, refl, sym, ap, ◌∙◌, inl, inr, subst, append-nil, IsTrue, is_some}
+use Rattle.std.proofs.Common.{◌≡◌, ◌⊎◌, ℕ, Bool, true, false, ◌||◌, List, [], refl, sym, ap, ◌∙◌, inl, inr, subst, append-nil, IsTrue, is_some}
 use Rattle.std.proofs.Math.Path.{fun_ext}
 use Rattle.folder_spec.proofs.Paths.{path_eq-same, below-append}
 use Rattle.folder_spec.specs.Path.{Path, path_eq, below}
@@ -9,7 +9,7 @@ use Rattle.folder_spec.specs.State.{Table, State, IsTableOf, kind_of}
 use Rattle.folder_spec.specs.Image.{Image, IsImage, state_of}
 use Rattle.folder_spec.specs.Region.{at_or_below}
 use Rattle.folder_spec.specs.Seen.{under}
-use Rattle.folder_spec.specs.View.{View, NoEntry, AgreeIn, Shows, found, kind_found, view_of}
+use Rattle.folder_spec.specs.View.{View, AgreeIn, Shows, found, kind_found, view_of}
 use Rattle.folder_spec.specs.declared.Kind.{Kind}
 use Rattle.move_journal.specs.declared.journal.Phase.{Phase}
 use Rattle.move_journal.specs.declared.journal.Phase.TheVariants as phase
@@ -17,7 +17,7 @@ use Rattle.plain_tree.specs.Names as plain
 use Rattle.tree_match.specs.Guard.{VaultAt, Migration, IsSeparate, IsThere, HoldsSource, HoldsTarget, HasJournal, Case, NotBegun, Building, Done, Retired, LastJournal, Stands, Gone, has_old, has_old_by, IsWork, kinds_in, IsGuarded, IsPartOf, is_kept, Guarded, IsSafe, tree_at}
 use Rattle.vault_spec.specs.Alike.{IsOrderly}
 use Rattle.vault_spec.specs.Findings.{IsClean}
-use Rattle.vault_spec.specs.Opens.{Content, tree}
+use Rattle.vault_spec.specs.Opens.{tree}
 use Rattle.vault_spec.specs.Vault.{IsVault, format_of}
 use Rattle.work_folder.specs.Entries.{journal_path}
 

@@ -1,31 +1,29 @@
 -- That a migration stays guarded while its journal is written, and has then gone on.
 use Rattle.std.specs.Prelude.{Contains}
-use Rattle.std.proofs.Common.{◌≡◌, ◌≢◌, ◌⊎◌, ◌<◌, ℕ, zero, suc, Bool, true, false, ◌&&◌, ◌||◌, not, List, [], ◌∷◌, ◌++◌, Option, Some, None, refl, sym, ap, ◌∙◌, inl, inr, subst, arith, append_assoc, append-nil, codes, bytes_eq, if◌then◌else◌, IsTrue, is_none}
+use Rattle.std.proofs.Common.{◌≡◌, ◌≢◌, ◌⊎◌, ℕ, zero, suc, Bool, true, false, ◌&&◌, List, [], ◌∷◌, ◌++◌, Option, Some, None, refl, sym, ap, ◌∙◌, inl, inr, subst, arith, append_assoc, append-nil, codes, bytes_eq, if◌then◌else◌, IsTrue, is_none}
 use Rattle.std.proofs.lemmas.Slice.Eq.{bytes_eq-Decides}
 use Rattle.folder_spec.proofs.Paths.{begins_or_not, below-both, below-apart, below-append}
 use Rattle.folder_spec.proofs.Tables.{present_is_table}
 use Rattle.folder_spec.specs.Path.{Part, Path, below, child}
 use Rattle.folder_spec.specs.declared.Spot.{Spot}
-use Rattle.folder_spec.specs.declared.Spot.TheVariants.{Nothing, Directory, FileNode, Odd}
-use Rattle.folder_spec.specs.State.{Table, State, IsTableOf, IsSound, HasFile, IsNothingOrFile, kind_of, present}
+use Rattle.folder_spec.specs.State.{Table, State, IsTableOf, IsSound, IsNothingOrFile, kind_of, present}
 use Rattle.folder_spec.specs.Edit.{Edit, file_edit, edited, grafted, view_after, HasSettled, IsOutside}
-use Rattle.folder_spec.specs.Event.{Event, Told, after, changed, Settle}
-use Rattle.folder_spec.specs.Moments.{run, EachState, EachEvent, Went}
-use Rattle.folder_spec.specs.Region.{AlikeIn, apart_from, apart_from_both, at_or_below}
+use Rattle.folder_spec.specs.Event.{Event, Told, after}
+use Rattle.folder_spec.specs.Moments.{run, EachState}
+use Rattle.folder_spec.specs.Region.{AlikeIn}
 use Rattle.folder_spec.specs.Replace.{IsNewFile}
 use Rattle.folder_spec.specs.Seen.{seen, under}
-use Rattle.folder_spec.specs.View.{View, NoEntry, FileOf, Shows, ShowsAmong}
-use Rattle.folder_spec.specs.declared.Kind.{Kind}
+use Rattle.folder_spec.specs.View.{View, FileOf, Shows, ShowsAmong}
 use Rattle.folder_spec.specs.declared.Kind.TheVariants as kind
 use Rattle.move_journal.specs.Journal.{IsJournal, journal_text}
-use Rattle.move_journal.specs.Writing.{IsWriting, IsWritten, elsewhere, Writes, HasWritten}
+use Rattle.move_journal.specs.Writing.{IsWriting, elsewhere, Writes, HasWritten}
 use Rattle.move_journal.specs.declared.journal.Journal.{Journal}
 use Rattle.move_journal.specs.declared.journal.Phase.TheVariants as phase
 use Rattle.tree_match.proofs.Along.{each_on, nothing_each}
 use Rattle.tree_match.proofs.Guards.{RootsAreAlike, ImagesShow, ShowsCase, guarded_by, kinds_of, source_alike, there_alike, in_target}
-use Rattle.tree_match.proofs.Kept.{apart_below, behind_none, only_shown, table_work, kept_is, alone_by, case_in, none_foreign}
+use Rattle.tree_match.proofs.Kept.{behind_none, only_shown, table_work, kept_is, alone_by, case_in, none_foreign}
 use Rattle.tree_match.specs.Alone.{Progress, Unbegun, Begun, Finished, IsIn, IsAlone, StaysGuarded}
-use Rattle.tree_match.specs.Guard.{VaultAt, Migration, AreApart, IsSeparate, IsThere, HoldsSource, HoldsTarget, HasNoBroken, HoldsAll, IsNotBegun, IsBuilding, IsDone, HasJournal, Tells, AllowsTree, Case, has_old, IsWork, is_kept, Guarded, tree_at, old_path}
+use Rattle.tree_match.specs.Guard.{Migration, AreApart, IsSeparate, IsThere, HoldsSource, HasNoBroken, HoldsAll, IsNotBegun, IsBuilding, HasJournal, Tells, AllowsTree, IsWork, is_kept, Guarded, tree_at, old_path}
 use Rattle.plain_tree.specs.Names as plain
 use Rattle.vault_spec.specs.Opens.{tree}
 use Rattle.vault_spec.specs.Vault.{format_of}

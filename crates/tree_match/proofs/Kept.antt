@@ -1,6 +1,6 @@
 -- What is shown while one view alone is shown, and the work folder of each table.
 use Rattle.std.specs.Prelude.{Contains}
-use Rattle.std.proofs.Common.{◌≡◌, ◌≢◌, ◌⊎◌, ◌<◌, ℕ, zero, suc, Bool, true, false, ◌||◌, List, [], ◌∷◌, ◌++◌, Option, Some, None, refl, sym, ap, ◌∙◌, inl, inr, subst, arith, append_assoc, append-nil, codes, bytes_eq, if◌then◌else◌, IsTrue, is_some}
+use Rattle.std.proofs.Common.{◌≡◌, ◌≢◌, ◌⊎◌, ℕ, zero, suc, Bool, true, false, ◌||◌, [], ◌∷◌, ◌++◌, Some, None, refl, sym, ap, ◌∙◌, inl, inr, subst, arith, append_assoc, append-nil, codes, bytes_eq, if◌then◌else◌, IsTrue}
 use Rattle.folder_spec.proofs.Paths.{one_or_not, below-append, begins_or_not, below-both, below-apart}
 use Rattle.folder_spec.specs.Path.{Part, Path, path_eq, below, child}
 use Rattle.folder_spec.specs.declared.Spot.{Spot}
@@ -8,14 +8,13 @@ use Rattle.folder_spec.specs.declared.Spot.TheVariants.{Nothing, Directory, File
 use Rattle.folder_spec.specs.State.{Table, State, IsTableOf, IsSound, IsSoundTable, kind_of}
 use Rattle.folder_spec.specs.Image.{Image, IsImage}
 use Rattle.folder_spec.specs.Region.{at_or_below}
-use Rattle.folder_spec.specs.View.{View, Folder, NoEntry, AgreeIn, Shows, ShowsAmong, view_in, view_of}
-use Rattle.folder_spec.specs.declared.Kind.{Kind}
+use Rattle.folder_spec.specs.View.{View, Folder, NoEntry, Shows, ShowsAmong, view_in, view_of}
 use Rattle.folder_spec.specs.declared.Kind.TheVariants as kind
 use Rattle.tree_match.proofs.Guards.{or_cases, in_source, at_root, RootsAreAlike, ImagesShow, guarded_by, kinds_of, kinds_of_image}
 use Rattle.tree_match.specs.Alone.{Progress, Unbegun, Begun, Finished, IsIn, IsAlone}
 use Rattle.tree_match.specs.Guard.{Migration, AreApart, IsSeparate, HoldsSource, Case, NotBegun, Building, Done, Retired, has_old, IsWork, kinds_in, IsGuarded, Guarded, is_kept}
 use Rattle.vault_write.specs.Making.{is_inside, is_staged}
-use Rattle.work_folder.specs.Entries.{journal_path, stage_path, is_foreign}
+use Rattle.work_folder.specs.Entries.{journal_path, is_foreign}
 
 -- ---- paths
 

@@ -1,12 +1,11 @@
 -- That a migration stays guarded while items of the source are made in the target.
-use Rattle.std.specs.Prelude.{Contains, OnOk}
-use Rattle.std.proofs.Common.{◌≡◌, ◌≢◌, ◌⊎◌, ◌<◌, ℕ, zero, suc, Bool, true, false, ◌&&◌, not, List, [], ◌∷◌, ◌++◌, Option, Some, None, Result, Ok, Err, refl, sym, ap, ◌∙◌, inl, inr, subst, arith, append_assoc, append-nil, codes, IsTrue, is_none}
+use Rattle.std.specs.Prelude.{Contains}
+use Rattle.std.proofs.Common.{◌≡◌, ◌≢◌, ◌⊎◌, zero, suc, Bool, true, false, ◌&&◌, not, List, [], ◌∷◌, ◌++◌, None, Result, Ok, refl, sym, ap, ◌∙◌, inl, inr, subst, arith, append_assoc, append-nil, codes, IsTrue, is_none}
 use Rattle.content_writing.specs.declared.fault.PutFault.{PutFault}
 use Rattle.folder_spec.proofs.Moments.{went_nowhere, went_on, went_to}
 use Rattle.folder_spec.proofs.Paths.{one_or_not, begins_or_not, below-apart}
 use Rattle.folder_spec.proofs.Tables.{present_is_table}
 use Rattle.folder_spec.specs.Path.{Part, Path, below, child}
-use Rattle.folder_spec.specs.declared.Spot.{Spot}
 use Rattle.folder_spec.specs.declared.Spot.TheVariants.{Odd}
 use Rattle.folder_spec.specs.State.{Table, State, IsTableOf, kind_of}
 use Rattle.folder_spec.specs.Event.{Told}
@@ -14,7 +13,6 @@ use Rattle.folder_spec.specs.Moments.{Went}
 use Rattle.folder_spec.specs.Region.{AlikeIn, apart_from}
 use Rattle.folder_spec.specs.Seen.{seen, under}
 use Rattle.folder_spec.specs.View.{View, Shows, ShowsAmong}
-use Rattle.folder_spec.specs.declared.Kind.{Kind}
 use Rattle.folder_spec.specs.declared.Kind.TheVariants as kind
 use Rattle.plain_tree.specs.Names as plain
 use Rattle.tree_match.proofs.Along.{NoOdd, none_along, both_along, nothing_each}

@@ -1,14 +1,14 @@
 -- What a reader gives of a content that is compared.
-use Rattle.std.proofs.Common.{◌≡◌, ℕ, zero, suc, ◌+◌, ◌-◌, ◌*◌, ◌<◌, ◌≤◌, List, [], ◌∷◌, ◌++◌, replicate, length, take, drop, Ok, Err, refl, sym, ap, ◌∙◌, arith}
+use Rattle.std.proofs.Common.{◌≡◌, ℕ, zero, suc, ◌+◌, ◌-◌, ◌≤◌, List, [], ◌∷◌, ◌++◌, replicate, length, take, drop, Err, refl, sym, ap, ◌∙◌, arith}
 use Rattle.std.specs.List.{concat}
 use Rattle.std.proofs.lemmas.List.{length-take-le, length-take, length-drop, nil_from_length, drop-take, drop-drop}
-use Rattle.chunk_files.specs.Reading.{Ending, Reading, Whole, Wanting, Faulty, ends}
+use Rattle.chunk_files.specs.Reading.{Reading, Whole, Wanting, Faulty, ends}
 use Rattle.folder_spec.specs.Path.{Path}
 use Rattle.vault_read.specs.Contents.{Passes, GivesBytes, Gives}
 use Rattle.vault_read.specs.declared.fault.Limit.TheVariants.{Depth, Items, Length, Input}
 use Rattle.vault_read.specs.declared.fault.CatFault.{CatFault}
 use Rattle.vault_read.specs.declared.fault.CatFault.TheVariants as cat
-use Rattle.tree_match.specs.Comparing.{Content, IsFault, content_of}
+use Rattle.tree_match.specs.Comparing.{IsFault, content_of}
 use Rattle.tree_match.specs.Pieces.{Opened, nothing_before, of_reader, uncompared}
 use Rattle.tree_match.proofs.Fronts.{front}
 

@@ -1,12 +1,11 @@
 -- That a migration stays guarded through a settle, and what is shown then; and that it begins so.
-use Rattle.std.proofs.Common.{◌≡◌, ◌⊎◌, ℕ, true, false, List, [], ◌∷◌, refl, sym, ap, ◌∙◌, inl, inr, subst}
+use Rattle.std.proofs.Common.{◌≡◌, false, List, [], ◌∷◌, refl, sym, inl, inr, subst}
 use Rattle.folder_spec.proofs.Tables.{present_is_table}
-use Rattle.folder_spec.specs.Path.{Path}
 use Rattle.folder_spec.specs.State.{Table, State, IsTableOf, IsAmong, IsSound, HasNothingPending, last_of, present}
 use Rattle.folder_spec.specs.Event.{Settle, changed}
 use Rattle.folder_spec.specs.Image.{Image, IsImage}
 use Rattle.folder_spec.specs.Seen.{seen}
-use Rattle.folder_spec.specs.View.{View, Shows, view_in, view_of}
+use Rattle.folder_spec.specs.View.{Shows}
 use Rattle.tree_match.proofs.Guards.{RootsAreAlike, ImagesShow, kinds_of, kind_of_found}
 use Rattle.tree_match.proofs.Kept.{alone_by, source_work, source_there}
 use Rattle.tree_match.proofs.Sounds.{KeepSound}

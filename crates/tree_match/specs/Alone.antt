@@ -1,5 +1,5 @@
 -- A migration between its steps: how far it has come, where no change is pending of what stands in both vaults and at the journal.
-use Rattle.std.specs.Prelude.{List, [], ◌∷◌}
+use Rattle.std.specs.Prelude.{[], ◌∷◌}
 use Rattle.folder_spec.specs.Event.{Told}
 use Rattle.folder_spec.specs.Moments.{Went}
 use Rattle.folder_spec.specs.State.{State, IsSound}

@@ -1,6 +1,6 @@
 -- A migration of one vault into another: the four cases of what a folder shows of it, the states in which it is guarded, and the
 -- views in which it is safe.
-use Rattle.std.specs.Prelude.{◌≡◌, ◌≢◌, ◌⊎◌, ℕ, Bool, true, false, ◌||◌, List, [], ◌∷◌, length, codes, Option, Some, None, IsTrue, Contains}
+use Rattle.std.specs.Prelude.{◌≡◌, ◌≢◌, ◌⊎◌, ℕ, Bool, true, false, ◌||◌, List, [], length, codes, Option, Some, None, IsTrue, Contains}
 use Rattle.folder_spec.specs.Path.{Part, Path, path_eq, below, child}
 use Rattle.folder_spec.specs.declared.Spot.TheVariants.{FileNode}
 use Rattle.folder_spec.specs.State.{Table, State, IsTableOf, kind_of}
@@ -19,7 +19,7 @@ use Rattle.plain_tree.specs.Names as plain
 use Rattle.plain_tree.specs.declared.NodeKind.{NodeKind}
 use Rattle.plain_tree.specs.declared.NodeKind.TheVariants as node
 use Rattle.vault_spec.specs.Making.{Allows}
-use Rattle.vault_spec.specs.Opens.{Opened, NoItem, Directory, Content, Broken, Tree, tree, opened, AreItems}
+use Rattle.vault_spec.specs.Opens.{Opened, NoItem, Directory, Content, Broken, Tree, tree, AreItems}
 use Rattle.vault_spec.specs.Plan.{Planned, paths_of}
 use Rattle.vault_spec.specs.Vault.{Vault, format_of, IsVault}
 use Rattle.vault_walk.specs.Digest.{plan_digest}

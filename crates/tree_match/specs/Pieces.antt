@@ -1,5 +1,5 @@
 -- Words of private contracts: contents that are compared piece by piece, and plans of which the front was passed.
-use Rattle.std.specs.Prelude.{◌≡◌, ℕ, ◌+◌, ◌-◌, ◌*◌, List, [], ◌∷◌, ◌++◌, length, if◌then◌else◌, Option, Some, None}
+use Rattle.std.specs.Prelude.{ℕ, ◌+◌, ◌-◌, ◌*◌, List, [], ◌∷◌, ◌++◌, length, if◌then◌else◌, Option, Some, None}
 use Rattle.std.specs.List.{concat}
 use Rattle.std.specs.Ordering.{match_ordering}
 use Rattle.chunk_files.specs.Decoding.{Decoding}

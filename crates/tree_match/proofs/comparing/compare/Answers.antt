@@ -1,10 +1,9 @@
 use Rattle.std.proofs.Common.{◌≡◌, ◌∙◌, ◌≤◌, ℕ, List, length, take, min, eqb, sym, ap, ap₂, subst, arith}
 use Rattle.std.proofs.lemmas.Bool.{false≢true}
 use Rattle.std.proofs.lemmas.Result.{err_from_is_err_and}
-use Rattle.folder_spec.specs.Path.{Path}
 use Rattle.folder_spec.specs.Seen.{IsSeen}
-use Rattle.vault_read.specs.Contents.{IsBeingRead, still}
-use Rattle.tree_match.specs.Comparing.{Content, Is, compared, content_of}
+use Rattle.vault_read.specs.Contents.{still}
+use Rattle.tree_match.specs.Comparing.{Is, compared, content_of}
 use Rattle.tree_match.specs.Pieces.{uncompared}
 use Rattle.tree_match.proofs.Fronts.{ended, go_on, part, passed, stops_first, stops_second}
 use Rattle.tree_match.proofs.comparing.compare.Goals as goal

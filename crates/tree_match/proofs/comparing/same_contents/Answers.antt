@@ -1,9 +1,8 @@
-use Rattle.std.proofs.Common.{◌≡◌, ◌∙◌, ℕ, List, sym, ap, ap₂, subst}
-use Rattle.folder_spec.specs.Path.{Path}
-use Rattle.folder_spec.specs.View.{Found, FileOf}
+use Rattle.std.proofs.Common.{◌∙◌, sym, ap, ap₂, subst}
+use Rattle.folder_spec.specs.View.{Found}
 use Rattle.vault_spec.specs.Vault.{format_of}
 use Rattle.vault_read.specs.Contents.{limited_reading}
-use Rattle.tree_match.specs.Comparing.{Answers, Content, bytes_found, compared, content_of}
+use Rattle.tree_match.specs.Comparing.{Answers, bytes_found, compared, content_of}
 use Rattle.tree_match.proofs.comparing.same_contents.Goals as goal
 
 pub returns-clause-compares : goal.returns-clause-compares

@@ -1,4 +1,4 @@
-use Rattle.std.proofs.Common.{◌≡◌, ◌∙◌, ◌+◌, List, drop, sym, ap, refl, not, option_copied}
+use Rattle.std.proofs.Common.{◌∙◌, ◌+◌, drop, sym, ap, refl, not, option_copied}
 use Rattle.std.proofs.lemmas.List.{drop_all}
 use Rattle.vault_spec.specs.Plan.{Planned}
 use Rattle.tree_match.specs.Matching.{first_further}

@@ -1,4 +1,4 @@
-use Rattle.std.proofs.Common.{◌≡◌, ◌∙◌, ◌≤◌, ◌+◌, length, drop, ap, arith}
+use Rattle.std.proofs.Common.{◌∙◌, ◌≤◌, ◌+◌, length, drop, ap, arith}
 use Rattle.tree_match.specs.Pieces.{Opened}
 use Rattle.tree_match.proofs.ReadAhead.{between_passed, length_between}
 use Rattle.tree_match.proofs.comparing.Opened.pass.Goals as goal

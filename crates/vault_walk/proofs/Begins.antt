@@ -1,22 +1,19 @@
 -- How a walk begins.
-use Rattle.std.proofs.Common.{◌≡◌, ◌≢◌, ◌⊎◌, ◌↔◌, inl, inr, ℕ, ◌<◌, List, [], ◌∷◌, ◌++◌, Result, Ok, Err, refl, sym, ap, ◌∙◌, subst, arith, append-nil}
-use Rattle.std.specs.Prelude.{IsTrue, AllPairs, Contains}
+use Rattle.std.proofs.Common.{◌≡◌, ◌↔◌, inl, inr, ℕ, List, [], ◌∷◌, ◌++◌, Result, Ok, Err, sym, ap, ◌∙◌, subst, arith, append-nil}
+use Rattle.std.specs.Prelude.{Contains}
 use Rattle.std.specs.BTreeSet.{BTreeSet, contains}
 use Rattle.folder_spec.specs.Path.{Path}
 use Rattle.folder_spec.specs.View.{View}
 use Rattle.vault_spec.specs.Findings.{number_of}
 use Rattle.vault_spec.specs.Format.{Format, Directory}
-use Rattle.vault_spec.specs.Plan.{Planned}
-use Rattle.vault_spec.specs.Standing.{Standing, Absent, Strange, File, Dir, root_of}
+use Rattle.vault_spec.specs.Standing.{Dir, root_of}
 use Rattle.vault_spec.specs.declared.Lack.{Lack}
-use Rattle.vault_spec.specs.declared.Lack.TheVariants as lacks
 use Rattle.vault_walk.specs.Levels.{finding_of, Knows, HasGained, HasGathered, HasJoined, HasStayed, HasWalked, IsMet, IsRootLack, IsTargetAmong}
 use Rattle.vault_walk.specs.Nodes.{node_cmp, node_of}
-use Rattle.vault_walk.specs.Walking.{Way, AreGathered, IsAmong, IsItemOf, IsWalked}
+use Rattle.vault_walk.specs.Walking.{Way, AreGathered, IsAmong, IsWalked}
 use Rattle.vault_walk.specs.declared.found.Found.{Found}
 use Rattle.vault_walk.specs.declared.key.Node.{Node}
 use Rattle.vault_walk.specs.declared.levels.Walk.{Walk}
-use Rattle.vault_walk.specs.declared.twice.Target.{Target}
 use Rattle.vault_walk.proofs.Flats.{none_within, only_one}
 use Rattle.vault_walk.proofs.Walks.{walk_begins, walk_never_begins}
 

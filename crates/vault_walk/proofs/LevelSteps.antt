@@ -1,30 +1,25 @@
 -- A walk through one level.
-use Rattle.std.proofs.Common.{◌≡◌, true, false, nat_eq, nat_le, vec_len, ◌≢◌, ◌⊎◌, ◌↔◌, inl, inr, ℕ, suc, ◌+◌, ◌<◌, ◌≤◌, List, [], ◌∷◌, ◌++◌, map, Ok, refl, sym, ap, ◌∙◌, subst, arith, append-nil, append_assoc, length, length-append, get_or, ⊎_elim}
-use Rattle.std.specs.Prelude.{IsTrue, AllPairs, Contains}
+use Rattle.std.proofs.Common.{◌≡◌, true, false, nat_eq, nat_le, vec_len, ◌≢◌, ◌⊎◌, ◌↔◌, inl, inr, ℕ, suc, ◌+◌, ◌<◌, List, [], ◌∷◌, ◌++◌, map, Ok, refl, sym, ap, ◌∙◌, subst, arith, append-nil, append_assoc, length, length-append, get_or, ⊎_elim}
+use Rattle.std.specs.Prelude.{Contains}
 use Rattle.std.specs.List.{flat_map}
-use Rattle.std.specs.BTreeSet.{BTreeSet, contains}
 use Rattle.std.proofs.lemmas.List.{length-map, get_or_append_left, get_or-append-add, get_or_default}
-use Rattle.std.proofs.lemmas.List.Elements.{Contains-append_left, Contains-append_right, Contains-append_cases, Contains-push, Contains-push_cases, Contains-get_or}
+use Rattle.std.proofs.lemmas.List.Elements.{Contains-append_left, Contains-append_right, Contains-append_cases, Contains-push}
 use Rattle.std.proofs.lemmas.Bool.Decides.{nat_tests}
-use Rattle.std.proofs.Math.Seq.{get_or-append_seam}
 use Rattle.folder_spec.specs.Path.{Path}
 use Rattle.folder_spec.specs.View.{View}
 use Rattle.plain_tree.specs.Names as plain
 use Rattle.plain_tree.specs.declared.NodeKind.TheVariants as node
 use Rattle.vault_spec.specs.Format.{Format, Directory}
 use Rattle.vault_spec.specs.Listing.{node_of}
-use Rattle.vault_spec.specs.Plan.{Planned}
 use Rattle.vault_spec.specs.Reached.{Leads}
 use Rattle.vault_spec.specs.Standing.{Dir, standing_in}
 use Rattle.vault_spec.specs.Vault.{Vault}
 use Rattle.vault_read.specs.Opened.{FitsKey}
-use Rattle.vault_walk.specs.Levels.{item_by, targets_by, ways_by, ways_of, ways_to, kind_by, Knows, HasGained, HasGainedMembers, HasJoined, HasSettled, HasVisited, HasGathered, HasWalked, IsAtLevel, IsMet, IsPastLimit, IsTargetAmong, WaysFit}
-use Rattle.vault_walk.specs.Nodes as nodes
-use Rattle.vault_walk.specs.Report.{lead_of, standing_by, FitMembers, FitsLead, FitsWhat, IsMember, IsReport}
-use Rattle.vault_walk.specs.Survey.{depth_limit, item_limit, HasTooMany, IsTooDeep}
-use Rattle.vault_walk.specs.Walking.{Way, AreApart, AreGathered, AreItemsOf, HasGrown, HoldsItem, IsAmong, IsLeast, IsWalked}
+use Rattle.vault_walk.specs.Levels.{item_by, ways_by, ways_of, kind_by, Knows, HasGainedMembers, HasJoined, HasSettled, HasVisited, HasGathered, HasWalked, IsAtLevel, IsMet, IsPastLimit, IsTargetAmong, WaysFit}
+use Rattle.vault_walk.specs.Report.{standing_by, FitMembers, FitsWhat, IsMember, IsReport}
+use Rattle.vault_walk.specs.Survey.{depth_limit, item_limit, HasTooMany}
+use Rattle.vault_walk.specs.Walking.{Way, AreApart, AreGathered, HasGrown, HoldsItem, IsAmong, IsLeast, IsWalked}
 use Rattle.vault_walk.specs.declared.levels.Walk.{Walk}
-use Rattle.vault_walk.specs.declared.report.Lead.{Lead}
 use Rattle.vault_walk.specs.declared.report.Lead.TheVariants as lead
 use Rattle.vault_walk.specs.declared.report.Member.{Member}
 use Rattle.vault_walk.specs.declared.report.Report.{Report}

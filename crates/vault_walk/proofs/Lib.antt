@@ -1,6 +1,6 @@
 mod Heres
 mod Items
-mod InOrder
+pub mod InOrder
 mod Walks
 mod Growing
 mod Gathered
@@ -23,7 +23,8 @@ mod DirectoryReports
 mod Shared
 mod Aparts
 mod RolePlaces
-mod NodeOrders
+pub mod NodeOrders
+pub mod Numbers
 mod Gains
 pub mod Mapped
 mod Visits

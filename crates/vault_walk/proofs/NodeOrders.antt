@@ -1,8 +1,7 @@
 -- The orders of folder paths and of nodes tell them apart.
-use Rattle.std.proofs.Common.{◌≡◌, ◌⊎◌, inl, inr, Bool, true, false, List, [], ◌∷◌, ℕ, refl, sym, ap, ◌∙◌}
+use Rattle.std.proofs.Common.{◌≡◌, true, List, [], ◌∷◌, ℕ, refl, ap, ◌∙◌}
 use Rattle.std.proofs.lemmas.Cmp.{tied_itself}
 use Rattle.std.proofs.lemmas.Map.Lookups.{CmpEqualImpliesEq, exact_bytes}
-use Rattle.std.specs.Cmp.{IsTotalOrder}
 use Rattle.std.specs.Cmp.Lexicographic.{nat_list_cmp_total, slice_cmp}
 use Rattle.std.specs.Ordering.{is_eq, ordering_then}
 use Rattle.std.specs.declared.cmp.Ordering.{Ordering}
@@ -12,9 +11,8 @@ use Rattle.folder_spec.specs.Path.{Path}
 use Rattle.plain_tree.specs.Order.{name_cmp}
 use Rattle.vault_spec.specs.Format.{Directory}
 use Rattle.vault_walk.specs.Nodes.{node_cmp, node_of}
-use Rattle.vault_walk.specs.declared.key.Node.{Node}
 
-both_equal : (a b : Ordering) → ordering_then a b ≡ Equal → (a ≡ Equal) × (b ≡ Equal)
+pub both_equal : (a b : Ordering) → ordering_then a b ≡ Equal → (a ≡ Equal) × (b ≡ Equal)
 both_equal Less b e = cc
 both_equal Equal b e = (refl, e)
 both_equal Greater b e = cc

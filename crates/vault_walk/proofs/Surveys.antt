@@ -1,36 +1,36 @@
 -- A survey tells all that is found in a vault, and each item once.
-use Rattle.std.proofs.Common.{◌≡◌, ◌≢◌, ◌⊎◌, ◌↔◌, inl, inr, ℕ, zero, suc, ◌+◌, ◌<◌, ◌≤◌, Bool, true, false, cond, nat_le, nat_eq, nat_lt, List, [], ◌∷◌, ◌++◌, map, None, Result, Ok, Err, refl, sym, ap, ◌∙◌, subst, arith, append-nil, append_assoc, length, get_or, ⊎_elim}
+use Rattle.std.proofs.Common.{◌≡◌, ◌≢◌, ◌⊎◌, ◌↔◌, inl, inr, ℕ, suc, ◌<◌, Bool, true, false, cond, nat_le, nat_eq, nat_lt, List, [], ◌∷◌, ◌++◌, map, None, Err, refl, sym, ap, ◌∙◌, subst, arith, length, get_or, ⊎_elim}
 use Rattle.std.specs.Prelude.{IsTrue, AllPairs, Contains}
 use Rattle.std.specs.BTreeSet.{BTreeSet, contains}
-use Rattle.std.specs.List.{All, filter}
-use Rattle.std.specs.List.Sorted.{IsPermutation, IsStrictlySortedBy}
+use Rattle.std.specs.List.{filter}
+use Rattle.std.specs.List.Sorted.{IsStrictlySortedBy}
 use Rattle.std.specs.Ordering.{nat_cmp, ordering_then}
 use Rattle.std.specs.declared.cmp.Ordering.{Ordering}
 use Rattle.std.specs.declared.cmp.Ordering.TheVariants.{Less, Equal, Greater}
 use Rattle.std.proofs.lemmas.Bool.Decides.{nat_tests}
-use Rattle.std.proofs.lemmas.List.Elements.{All-from_recursion, Contains-append_left, Contains-append_right, Contains-append_cases, Contains-push, Contains-push_cases, Contains-get_or}
+use Rattle.std.proofs.lemmas.List.Elements.{All-from_recursion, Contains-append_left, Contains-append_right, Contains-append_cases, Contains-push, Contains-get_or}
 use Rattle.std.proofs.lemmas.List.Kept.{AllPairs-cons, IsStrictlySortedBy-filter}
 use Rattle.std.proofs.lemmas.List.Sorted.{Contains-permutation, IsPermutation-sym, length_permutation}
 use Rattle.folder_model.specs.Order.{path_cmp}
 use Rattle.folder_spec.specs.Path.{Path}
 use Rattle.folder_spec.specs.View.{View}
-use Rattle.vault_spec.specs.Findings.{IsFinding, IsClean, is_fault_of_structure, number_of}
+use Rattle.vault_spec.specs.Findings.{IsFinding, is_fault_of_structure, number_of}
 use Rattle.vault_spec.specs.Format.{Format, Directory}
 use Rattle.vault_spec.specs.Plan.{Planned}
-use Rattle.vault_spec.specs.Reached.{IsReached}
 use Rattle.vault_spec.specs.Standing.{Dir, root_of, standing_in}
 use Rattle.vault_spec.specs.declared.Finding.{Finding}
 use Rattle.vault_spec.specs.declared.Finding.TheVariants as is
 use Rattle.vault_spec.specs.declared.Lack.{Lack}
 use Rattle.vault_spec.specs.declared.Lack.TheVariants as lacks
-use Rattle.vault_walk.specs.Apart.{is_apart, AreFoundApart, AreReachedFolders, AreTargets, AreTwice, IsFoundApart, IsReachedFolder, IsTarget}
+use Rattle.vault_walk.specs.Apart.{is_apart, AreFoundApart, AreReachedFolders, AreTargets, AreTwice, IsFoundApart, IsTarget}
+use Rattle.vault_walk.proofs.Numbers.{numbered, by_number, number_less}
 use Rattle.vault_walk.specs.Found.{found_cmp}
 use Rattle.vault_walk.specs.Here.{IsFindingApart}
-use Rattle.vault_walk.specs.Levels.{finding_of, HasEnded, IsMet, IsRootLack, IsTargetAmong, IsTargetIn}
-use Rattle.vault_walk.specs.Report.{is_told, IsFoundHere}
-use Rattle.vault_walk.specs.Survey.{depth_limit, AreFindings, AreNotes, FoundAt, HasEachOnce, IsOrdered, IsSurvey, Precedes, ByPath, ByNumber}
+use Rattle.vault_walk.specs.Levels.{finding_of, HasEnded, IsMet, IsTargetAmong}
+use Rattle.vault_walk.specs.Report.{is_told}
+use Rattle.vault_walk.specs.Survey.{depth_limit, AreFindings, AreNotes, FoundAt, HasEachOnce, Precedes, ByPath, ByNumber}
 use Rattle.vault_walk.specs.Surveyed.{finding_behind, findings_behind, is_note, is_structural, notes_behind, placed, told, AreInOrder, ArePlaced, AreTold, AreVisits, HaveMet, IsSurveyed, IsTold}
-use Rattle.vault_walk.specs.Walking.{Way, AreGathered, IsAmong, IsFoundAmong, IsWalked}
+use Rattle.vault_walk.specs.Walking.{Way, AreGathered, IsFoundAmong}
 use Rattle.vault_walk.specs.declared.fault.Finding as answer
 use Rattle.vault_walk.specs.declared.levels.Walk.{Walk}
 use Rattle.std.proofs.lemmas.List.{length-map}
@@ -88,30 +88,6 @@ pub strict_pairs : {X : Type 0} (c : X → X → Ordering) (xs : List X) → IsS
 unfolding IsStrictlySortedBy
 strict_pairs c [] up = λ i j d below less. absurd (omega (arith, less))
 strict_pairs c (x ∷ xs) up = AllPairs-cons (λ y z. c y z ≡ Less) x xs (All-from_recursion (λ y. c x y ≡ Less) xs up.0) (strict_pairs c xs up.1)
-
--- the finding of a number
-abbrev numbered : ℕ → Finding
-numbered n =
-    cond (nat_eq n 1) is.BadStoredName (cond (nat_eq n 2) is.NoDirKey (cond (nat_eq n 3) is.LongNameLost (cond (nat_eq n 4) is.OrphanLongName
-    (cond (nat_eq n 5) is.DirIdTwice (cond (nat_eq n 6) is.NoFolder (cond (nat_eq n 7) is.OrphanFolder (cond (nat_eq n 8) is.SymlinkFound
-    (cond (nat_eq n 9) is.WrongKind (cond (nat_eq n 10) is.ExtraEntry (cond (nat_eq n 11) is.TwoKinds (cond (nat_eq n 12) is.HeaderDamaged
-    (cond (nat_eq n 13) is.ChunkDamaged is.EmptyOrphan))))))))))))
-
-by_number : (finding : Finding) → numbered (number_of finding) ≡ finding
-by_number is.BadStoredName = refl
-by_number is.NoDirKey = refl
-by_number is.LongNameLost = refl
-by_number is.OrphanLongName = refl
-by_number is.DirIdTwice = refl
-by_number is.NoFolder = refl
-by_number is.OrphanFolder = refl
-by_number is.SymlinkFound = refl
-by_number is.WrongKind = refl
-by_number is.ExtraEntry = refl
-by_number is.TwoKinds = refl
-by_number is.HeaderDamaged = refl
-by_number is.ChunkDamaged = refl
-by_number is.EmptyOrphan = refl
 
 structural : (finding : Finding) → nat_le (number_of finding) 11 ≡ is_fault_of_structure finding
 structural is.BadStoredName = refl
@@ -265,16 +241,6 @@ pair_less : (a b : Ordering) → ordering_then a b ≡ Less → (a ≡ Less) ⊎
 pair_less Less b e = inl refl
 pair_less Equal b e = inr (refl, e)
 pair_less Greater b e = cc
-
-number_less : (m n : ℕ) → nat_cmp m n ≡ Less → m < n
-number_less m n e = by_test (nat_lt m n) refl (nat_eq m n) refl
-  where
-    by_test : (a : Bool) → nat_lt m n ≡ a → (b : Bool) → nat_eq m n ≡ b → m < n
-    by_test true less b same = grind (arith, nat_tests)
-    by_test false less true same =
-        let clash : Equal ≡ Less = ap (λ b. cond false Less (cond b Equal Greater)) (sym same) ∙ ap (λ a. cond a Less (cond (nat_eq m n) Equal Greater)) (sym less) ∙ e in cc
-    by_test false less false same =
-        let clash : Greater ≡ Less = ap (λ b. cond false Less (cond b Equal Greater)) (sym same) ∙ ap (λ a. cond a Less (cond (nat_eq m n) Equal Greater)) (sym less) ∙ e in cc
 
 same_number : (n : ℕ) → nat_cmp n n ≡ Equal
 same_number n = by_test (nat_lt n n) refl (nat_eq n n) refl

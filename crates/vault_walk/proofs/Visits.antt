@@ -1,9 +1,9 @@
 -- What a walk has gathered, with one directory more.
-use Rattle.std.proofs.Common.{◌≡◌, ◌≢◌, ◌⊎◌, ◌↔◌, inl, inr, ℕ, ◌+◌, ◌<◌, List, [], ◌∷◌, ◌++◌, map, Option, Some, None, Result, Ok, Err, refl, sym, ap, ◌∙◌, subst, arith, append-nil, append_assoc, length, length-append, get_or, ⊎_elim}
-use Rattle.std.specs.Prelude.{IsTrue, AllPairs, Contains}
+use Rattle.std.proofs.Common.{◌≡◌, ◌≢◌, ◌⊎◌, ◌↔◌, inl, inr, ℕ, ◌+◌, ◌<◌, List, [], ◌∷◌, ◌++◌, map, Option, Some, None, Result, Ok, Err, refl, sym, ap, ◌∙◌, subst, arith, length, length-append, get_or, ⊎_elim}
+use Rattle.std.specs.Prelude.{AllPairs, Contains}
 use Rattle.std.specs.List.{flat_map}
 use Rattle.std.specs.Option.{option_map}
-use Rattle.std.proofs.lemmas.List.Elements.{Contains-append_left, Contains-append_right, Contains-append_cases, Contains-push, Contains-push_cases, Contains-get_or}
+use Rattle.std.proofs.lemmas.List.Elements.{Contains-append_left, Contains-append_right, Contains-append_cases, Contains-push, Contains-push_cases}
 use Rattle.std.proofs.lemmas.List.{get_or_append_left}
 use Rattle.std.proofs.Math.Seq.{get_or-append_seam}
 use Rattle.folder_spec.specs.Path.{Path}
@@ -18,12 +18,12 @@ use Rattle.vault_spec.specs.Format.{Format, Directory, key_of}
 use Rattle.vault_spec.specs.Listing.{node_of}
 use Rattle.vault_spec.specs.Plan.{Planned}
 use Rattle.vault_spec.specs.Reached.{Leads}
-use Rattle.vault_spec.specs.Standing.{Standing, File, Dir, standing_in}
+use Rattle.vault_spec.specs.Standing.{Dir, standing_in}
 use Rattle.vault_spec.specs.declared.Lack.{Lack}
 use Rattle.vault_spec.specs.declared.Lack.TheVariants as lacks
 use Rattle.vault_walk.specs.Levels.{item_by, kind_by, target_at, targets_by, targets_of, targets_to, IsMet, IsTargetAmong, IsTargetIn}
 use Rattle.vault_walk.specs.Report.{lead_of, target_of, standing_by, IsFoundHere, IsLeadOf, IsMember, IsReport, LeadsRight}
-use Rattle.vault_walk.specs.Walking.{Way, AreApart, AreGathered, AreItemsOf, IsItemOf}
+use Rattle.vault_walk.specs.Walking.{Way, AreApart, AreGathered, IsItemOf}
 use Rattle.vault_walk.specs.declared.found.Found.{Found}
 use Rattle.vault_walk.specs.declared.report.Lead.{Lead}
 use Rattle.vault_walk.specs.declared.report.Lead.TheVariants as lead

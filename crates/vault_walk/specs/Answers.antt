@@ -1,5 +1,4 @@
 -- How a walk answers.
-use Rattle.std.specs.Prelude.{◌≡◌, ℕ}
 use Rattle.folder_spec.specs.declared.FolderFault.{FolderFault}
 use Rattle.folder_spec.specs.declared.FolderFault.TheVariants as folder
 use Rattle.vault_walk.specs.declared.fault.WalkFault.{WalkFault}

@@ -21,7 +21,7 @@ use Rattle.vault_spec.specs.declared.Finding.TheVariants as is
 use Rattle.vault_spec.specs.declared.Lack.{Lack}
 use Rattle.vault_spec.specs.declared.Lack.TheVariants as lacks
 use Rattle.vault_walk.specs.Nodes.{node_cmp, node_of}
-use Rattle.vault_walk.specs.Report.{IsFoundHere, IsReport}
+use Rattle.vault_walk.specs.Report.{IsFoundHere}
 use Rattle.vault_walk.specs.Survey.{depth_limit, item_limit}
 use Rattle.vault_walk.specs.Walking.{Way, AreApart, AreGathered, HasGrown, IsAmong, IsWalked}
 use Rattle.vault_walk.specs.declared.fault.WalkFault.{WalkFault}

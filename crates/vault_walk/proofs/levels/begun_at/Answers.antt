@@ -5,7 +5,7 @@ use Rattle.vault_read.specs.Stands.{FitsDirectory}
 use Rattle.vault_spec.specs.Standing.{Dir}
 use Rattle.vault_walk.specs.Levels.{HasGained}
 use Rattle.vault_walk.specs.Walking.{Way}
-use Rattle.vault_walk.proofs.Begins.{root_waits, root_lacks}
+use Rattle.vault_walk.proofs.Begins.{root_waits}
 use Rattle.vault_walk.proofs.Flats.{only_one}
 use Rattle.vault_walk.proofs.levels.begun_at.Goals as goal
 

@@ -1,5 +1,4 @@
-use Rattle.std.proofs.Common.{◌≡◌, ◌∷◌, [], ◌++◌, true, cond, sym, ap, ◌∙◌, subst, take}
-use Rattle.std.specs.BTreeSet.{contains}
+use Rattle.std.proofs.Common.{◌∷◌, [], ◌++◌, sym, ap, ◌∙◌, subst, take}
 use Rattle.std.proofs.lemmas.List.{take_more, take_all}
 use Rattle.vault_walk.specs.declared.levels.Way.TheInside.{Inside}
 use Rattle.vault_walk.specs.Walking.{Way}

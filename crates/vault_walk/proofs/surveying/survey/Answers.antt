@@ -1,13 +1,9 @@
-use Rattle.std.proofs.Common.{◌≡◌, ◌≤◌, ◌++◌, List, Vec, Global, length, refl, sym, ap, ◌∙◌, subst}
+use Rattle.std.proofs.Common.{◌≡◌, ◌≤◌, ◌++◌, refl, sym, ap, ◌∙◌, subst}
 use Rattle.folder_spec.specs.Path.{Path}
 use Rattle.folder_spec.specs.Seen.{IsSeen, under}
-use Rattle.vault_spec.specs.Plan.{Planned}
 use Rattle.vault_spec.specs.Vault.{format_of}
 use Rattle.vault_walk.specs.Survey.{item_limit}
 use Rattle.vault_walk.specs.Surveyed.{findings_behind, notes_behind, ArePlaced}
-use Rattle.vault_walk.specs.Walking.{Way}
-use Rattle.vault_walk.specs.declared.found.Found.{Found}
-use Rattle.vault_walk.specs.declared.twice.Target.{Target}
 use Rattle.vault_walk.proofs.FilesStand.{placed_behind, survey_files}
 use Rattle.vault_walk.proofs.Folders.{folders_under, seen_folders}
 use Rattle.vault_walk.proofs.Surveys.{met_by, placed_size, surveyed_is}

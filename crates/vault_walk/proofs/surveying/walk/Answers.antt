@@ -1,8 +1,7 @@
-use Rattle.std.proofs.Common.{◌≡◌, ◌∷◌, [], refl, sym, ap, ◌∙◌, subst}
+use Rattle.std.proofs.Common.{◌≡◌, subst}
 use Rattle.folder_spec.specs.Seen.{under}
 use Rattle.vault_spec.specs.Vault.{format_of}
 use Rattle.vault_walk.specs.Surveyed.{IsFirstFinding}
-use Rattle.vault_walk.specs.declared.fault.Finding.{Finding}
 use Rattle.vault_walk.proofs.FirstFindings.{clean_where, first_finding}
 use Rattle.vault_walk.proofs.surveying.walk.Goals as goal
 

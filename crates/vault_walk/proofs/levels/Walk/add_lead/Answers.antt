@@ -1,4 +1,4 @@
-use Rattle.std.proofs.Common.{◌≡◌, ◌∷◌, [], OnOk, sym, subst}
+use Rattle.std.proofs.Common.{◌∷◌, [], OnOk, sym, subst}
 use Rattle.vault_spec.specs.Format.{Directory}
 use Rattle.vault_walk.specs.Levels.{target_at, targets_to, ways_to, HasGained}
 use Rattle.vault_walk.specs.Walking.{Way}

@@ -1,8 +1,7 @@
-use Rattle.std.proofs.Common.{◌≡◌, ◌∷◌, [], ◌++◌, OnOk, sym, ap, ◌∙◌, subst}
+use Rattle.std.proofs.Common.{◌∷◌, [], ◌++◌, OnOk, sym, subst}
 use Rattle.plain_tree.specs.Names as plain
 use Rattle.vault_spec.specs.Plan.{Planned}
-use Rattle.vault_walk.specs.Levels.{item_by, kind_by, targets_by, targets_of, targets_to, ways_by, ways_of, ways_to, HasGained}
-use Rattle.vault_walk.specs.Walking.{Way}
+use Rattle.vault_walk.specs.Levels.{kind_by, targets_of, targets_to, ways_of, ways_to, HasGained}
 use Rattle.vault_walk.specs.declared.report.What.{What}
 use Rattle.vault_walk.specs.declared.report.What.TheVariants as what
 use Rattle.vault_walk.proofs.Gains.{gained_item, on_more}

@@ -1,10 +1,9 @@
-use Rattle.std.proofs.Common.{◌≡◌, ◌∷◌, [], ◌++◌, ℕ, List, Vec, Global, refl, sym, ap, ◌∙◌, subst, arith}
+use Rattle.std.proofs.Common.{[], ℕ, refl, sym, ◌∙◌, subst, arith}
 use Rattle.std.specs.Prelude.{Contains}
 use Rattle.std.proofs.lemmas.Result.{err_from_is_err_and}
 use Rattle.folder_spec.specs.Seen.{IsSeen, under}
 use Rattle.vault_spec.specs.Vault.{format_of}
 use Rattle.vault_walk.specs.Levels.{IsAtLevel}
-use Rattle.vault_walk.specs.Walking.{Way}
 use Rattle.vault_walk.proofs.Answering.{answers_on}
 use Rattle.vault_walk.proofs.Flats.{none_within}
 use Rattle.vault_walk.proofs.LevelSteps.{level_begins, level_ends, level_past, level_visited, split_among}

@@ -1,11 +1,8 @@
-use Rattle.std.proofs.Common.{◌≡◌, ◌+◌, ◌<◌, ◌++◌, List, false, length, nat_le, sym, ap, ◌∙◌, subst, arith}
-use Rattle.std.proofs.lemmas.Bool.Decides.{nat_tests}
-use Rattle.folder_spec.specs.Seen.{IsSeen, under}
-use Rattle.folder_spec.specs.View.{View}
+use Rattle.std.proofs.Common.{sym, ap, ◌∙◌, subst}
+use Rattle.folder_spec.specs.Seen.{under}
 use Rattle.vault_spec.specs.Vault.{format_of}
-use Rattle.vault_walk.specs.Levels.{HasGainedMembers, HasVisited, IsPastLimit}
+use Rattle.vault_walk.specs.Levels.{HasGainedMembers}
 use Rattle.vault_walk.specs.Report.{IsReport}
-use Rattle.vault_walk.specs.Survey.{item_limit}
 use Rattle.vault_walk.specs.Walking.{Way}
 use Rattle.vault_walk.proofs.LevelSteps.{fits_more, past_room}
 use Rattle.vault_walk.proofs.levels.Walk.visit.Goals as goal

@@ -1,7 +1,13 @@
 mod Contained
+mod Damages
+mod Endings
+mod FindingOrders
 mod MovedStates
 mod MovedTables
 mod Opening
+mod Planned
+mod ReadFronts
 mod Repaired
+mod Reports
 mod StraysFound
 mod StraysGathered

@@ -1,14 +1,13 @@
 -- The states of a folder while strays are moved.
-use Rattle.std.proofs.Common.{◌≡◌, ◌≢◌, ◌⊎◌, inl, inr, ℕ, suc, ◌+◌, ◌<◌, ◌≤◌, ◌^◌, List, [], ◌∷◌, ◌++◌, length, take, get_or, Option, Some, None, IfSome, Result, Ok, Err, OnOk, Contains, get_or-take, refl, sym, ap, ◌∙◌, subst, append-nil, arith}
-use Rattle.std.specs.Prelude.{AllPairs}
+use Rattle.std.proofs.Common.{◌≡◌, ◌⊎◌, inl, inr, ℕ, suc, ◌+◌, ◌<◌, ◌≤◌, ◌^◌, List, [], ◌∷◌, ◌++◌, length, take, get_or, Option, Some, None, IfSome, Result, Ok, Err, OnOk, Contains, get_or-take, refl, sym, ap, ◌∙◌, subst, arith}
 use Rattle.std.proofs.Math.Seq.{take-length, take-suc}
 use Rattle.std.proofs.lemmas.List.Elements.{Contains-get_or}
 use Rattle.std.proofs.lemmas.List.{get_or_default, length-take, length-take-le}
 use Rattle.folder_spec.specs.declared.FolderFault.{FolderFault}
-use Rattle.folder_spec.specs.declared.Spot.TheVariants.{Nothing, Directory}
-use Rattle.folder_spec.specs.Path.{Path, below, parent, child}
+use Rattle.folder_spec.specs.declared.Spot.TheVariants.{Directory}
+use Rattle.folder_spec.specs.Path.{Path}
 use Rattle.folder_spec.specs.State.{Table, State, present, moved, put, IsTableOf, IsSound}
-use Rattle.folder_spec.specs.Event.{Call, MakeDir, Rename, Settle, Allowed, IsFree, changed, fallen, with_table, Told, Steps, Changes, FromTo}
+use Rattle.folder_spec.specs.Event.{Call, MakeDir, Rename, Settle, Allowed, IsFree, changed, with_table, Told, Steps, Changes, FromTo}
 use Rattle.folder_spec.specs.Moments.{Went}
 use Rattle.folder_spec.proofs.Tables.{present_is_table, last_of-push, among-push}
 use Rattle.folder_spec.proofs.Moments.{went_nowhere, went_on, went_by_call, went_more, went_to}

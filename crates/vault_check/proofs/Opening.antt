@@ -1,26 +1,26 @@
 -- What opens while strays are moved out of a vault.
-use Rattle.std.proofs.Common.{◌≡◌, ◌≢◌, ◌⊎◌, inl, inr, ℕ, Bool, true, false, ◌||◌, cond, List, [], ◌∷◌, ◌++◌, map, length, take, Some, None, is_some, IsTrue, Contains, refl, sym, ap, ◌∙◌, subst, append_assoc, append-nil, arith}
+use Rattle.std.proofs.Common.{◌≡◌, ◌≢◌, ◌⊎◌, inl, inr, ℕ, Bool, true, false, ◌||◌, cond, List, [], ◌∷◌, ◌++◌, take, None, is_some, IsTrue, Contains, refl, sym, ap, ◌∙◌, subst, append_assoc, append-nil, arith}
 use mathlib.Core.Path.{fun_ext}
 use Rattle.folder_spec.specs.declared.Spot.{Spot}
 use Rattle.folder_spec.specs.declared.Spot.TheVariants.{Nothing, Directory, FileNode, Odd}
 use Rattle.folder_spec.specs.Event.{Told}
 use Rattle.folder_spec.specs.Image.{Image, IsImage}
-use Rattle.folder_spec.specs.Path.{Part, Path, below, child}
+use Rattle.folder_spec.specs.Path.{Path, below, child}
 use Rattle.folder_spec.specs.Seen.{seen, under}
 use Rattle.folder_spec.specs.State.{HasNothingPending, IsAmong, IsClean, IsSound, Node, State, Table, last_of, present, IsTableOf}
-use Rattle.folder_spec.specs.View.{Found, NoEntry, Folder, View, found, view_of}
+use Rattle.folder_spec.specs.View.{NoEntry, View, found, view_of}
 use Rattle.folder_spec.proofs.Paths.{begins_or_not, below-append, below-apart, below-both}
 use Rattle.folder_spec.proofs.Tables.{present_is_table}
 use Rattle.vault_spec.specs.Adding.{OpensAs}
 use Rattle.vault_spec.specs.Alike.{HasFolders}
 use Rattle.vault_spec.specs.Format.{Format}
-use Rattle.vault_spec.specs.Moving.{IsStray, StraysGoAlone, AreStrays, GoesWith, HasOwnFolders, cut}
+use Rattle.vault_spec.specs.Moving.{IsStray, StraysGoAlone, AreStrays, HasOwnFolders, cut}
 use Rattle.vault_spec.specs.Reached.{HaveOwnFolders}
 use Rattle.gocrypt_conf.specs.declared.keys.GoKeys.{GoKeys}
 use Rattle.vault_spec.specs.Gocryptfs.{go_format}
 use Rattle.vault_spec.specs.Vault.{Vault, Gocryptfs, Cryptomator, format_of}
 use Rattle.vault_read.specs.Laws as read
-use Rattle.vault_check.specs.Repairing.{AreApart, AreMoved, AreStraysBehind, HasMoved, HasMovedSome, IsMoving, IsRepairing, Unchanged, Moving, behind, is_gone}
+use Rattle.vault_check.specs.Repairing.{AreApart, AreMoved, AreStraysBehind, HasMoved, HasMovedSome, IsRepairing, Unchanged, Moving, behind, is_gone}
 use Rattle.vault_check.proofs.Contained.{first_or_later, further, none_within}
 use Rattle.vault_check.proofs.MovedTables.{apart_by}
 

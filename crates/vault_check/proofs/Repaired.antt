@@ -1,13 +1,12 @@
 -- A repair: that strays may be moved, and what is told of their moving.
-use Rattle.std.proofs.Common.{◌≡◌, ◌≢◌, ◌⊎◌, inl, inr, ℕ, List, [], ◌∷◌, ◌++◌, map, length, get_or, Option, Some, None, IfSome, Result, Ok, Err, OnOk, Contains, AllPairs, refl, sym, ap, ◌∙◌, subst, append_assoc, append-nil, arith}
+use Rattle.std.proofs.Common.{◌≡◌, ◌≢◌, inl, inr, List, [], ◌∷◌, ◌++◌, get_or, Option, Some, None, IfSome, Contains, AllPairs, refl, sym, ap, ◌∙◌, subst, append_assoc, append-nil, arith}
 use Rattle.std.specs.declared.cmp.Ordering.TheVariants.{Less, Equal}
 use Rattle.std.specs.Cmp.Lexicographic.{lists_total, nat_list_cmp_total}
 use Rattle.std.proofs.lemmas.Cmp.{tied_itself}
 use Rattle.std.specs.Ordering.{ordering_reverse}
 use Rattle.std.proofs.lemmas.List.Elements.{Contains-get_or}
 use Rattle.folder_model.specs.Order.{path_cmp}
-use Rattle.folder_spec.specs.declared.Spot.TheVariants.{Nothing}
-use Rattle.folder_spec.specs.Path.{Part, Path, below}
+use Rattle.folder_spec.specs.Path.{Path, below}
 use Rattle.folder_spec.specs.State.{State, present}
 use Rattle.folder_spec.specs.Event.{IsFree, Told, FromTo}
 use Rattle.folder_spec.specs.Moments.{Went}
@@ -19,8 +18,7 @@ use Rattle.folder_spec.proofs.Seen.{free_seen}
 use Rattle.folder_spec.proofs.Tellings.{from_to_both, from_to_more, from_to_same}
 use Rattle.vault_spec.specs.Format.{Format}
 use Rattle.vault_spec.specs.Moving.{IsStray, StraysGoAlone}
-use Rattle.vault_check.specs.Repairing.{AreApart, AreMovable, AreMoved, AreStraysBehind, HasRepaired, IsMoving, IsRepairing, Unchanged, Moving, MayMoveTo, Moves, MovesInto, RepairsAt, behind}
-use Rattle.vault_check.specs.Strays.{AreOuterStrays}
+use Rattle.vault_check.specs.Repairing.{AreApart, AreMovable, AreMoved, AreStraysBehind, HasRepaired, IsMoving, IsRepairing, Unchanged, Moving, MayMoveTo, Moves, MovesInto, RepairsAt}
 use Rattle.vault_walk.proofs.Mapped.{all_pairs_mapped, mapped_from}
 
 none_or : (w q : Path) → ((rest : Path) → q ≡ w ++ rest → ⊥) → below w q ≡ None

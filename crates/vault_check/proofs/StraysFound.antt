@@ -1,11 +1,11 @@
 -- The strays of a vault, by the findings of a survey.
-use Rattle.std.proofs.Common.{◌≡◌, ◌⊎◌, ◌↔◌, inl, inr, ℕ, Bool, true, List, [], ◌∷◌, ◌++◌, map, IsTrue, Contains, AllPairs, refl, sym, ap, ◌∙◌, subst, append_assoc, append-nil}
+use Rattle.std.proofs.Common.{◌≡◌, inl, inr, List, [], ◌∷◌, ◌++◌, map, IsTrue, Contains, AllPairs, refl, sym, ap, ◌∙◌, subst, append_assoc, append-nil}
 use Rattle.std.specs.Cmp.Lexicographic.{nat_list_cmp_total}
 use Rattle.std.specs.Ordering.{ordering_then}
 use Rattle.std.specs.declared.cmp.Ordering.TheVariants.{Less}
 use Rattle.std.proofs.lemmas.Cmp.{tied_itself}
 use Rattle.folder_model.specs.Order.{path_cmp}
-use Rattle.folder_spec.specs.Path.{Part, Path}
+use Rattle.folder_spec.specs.Path.{Path}
 use Rattle.folder_spec.specs.View.{View}
 use Rattle.folder_spec.proofs.Paths.{append-cancel}
 use Rattle.vault_spec.specs.Findings.{IsFinding, is_fault_of_structure, number_of}
@@ -16,7 +16,7 @@ use Rattle.vault_spec.specs.declared.Finding.TheVariants as is
 use Rattle.vault_walk.specs.Survey.{FoundAt, Precedes, ByPath, ByNumber, AreFindings}
 use Rattle.vault_walk.specs.Surveyed.{told}
 use Rattle.vault_walk.specs.declared.fault.Finding.{Finding}
-use Rattle.vault_check.specs.Repairing.{AreStraysBehind, behind}
+use Rattle.vault_check.specs.Repairing.{AreStraysBehind}
 use Rattle.vault_check.specs.Strays.{AreOuterStrays, IsOuterStray, moves_number, strays_after}
 use Rattle.vault_check.proofs.Contained.{pairs_from_mapped, preimages}
 use Rattle.vault_walk.proofs.Mapped.{all_pairs_mapped, contains_mapped, mapped_from}

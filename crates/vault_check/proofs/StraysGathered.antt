@@ -1,7 +1,7 @@
 -- Of findings in order, the paths of strays that are below no other.
-use Rattle.std.proofs.Common.{◌≡◌, ◌≢◌, ◌⊎◌, ◌↔◌, inl, inr, ℕ, zero, suc, ◌<◌, ◌-◌, Bool, true, false, ◌&&◌, not, cond, List, [], ◌∷◌, ◌++◌, map, length, get_or, Option, Some, None, is_some, slice_get, IsTrue, Contains, AllPairs, refl, sym, ap, ◌∙◌, subst, length-append, append_assoc, append-nil, arith}
-use Rattle.std.specs.Cmp.Lexicographic.{lists_total, nat_list_cmp_total, slice_cmp}
-use Rattle.std.specs.Ordering.{is_eq, nat_cmp, ordering_reverse, ordering_then}
+use Rattle.std.proofs.Common.{◌≡◌, ◌⊎◌, inl, inr, ◌<◌, ◌-◌, Bool, true, false, ◌&&◌, not, cond, List, [], ◌∷◌, ◌++◌, length, get_or, Some, is_some, IsTrue, Contains, AllPairs, refl, sym, ap, ◌∙◌, subst, length-append, append_assoc, append-nil, arith}
+use Rattle.std.specs.Cmp.Lexicographic.{lists_total, nat_list_cmp_total}
+use Rattle.std.specs.Ordering.{ordering_reverse, ordering_then}
 use Rattle.std.specs.declared.cmp.Ordering.{Ordering}
 use Rattle.std.specs.declared.cmp.Ordering.TheVariants.{Less, Equal, Greater}
 use Rattle.std.proofs.lemmas.Cmp.{tied_itself}
@@ -12,8 +12,7 @@ use Rattle.std.proofs.lemmas.List.Quantifiers.{all_pairs_push}
 use Rattle.std.proofs.lemmas.Map.Lookups.{exact_bytes}
 use Rattle.folder_model.specs.Order.{part_cmp, path_cmp}
 use Rattle.folder_spec.specs.Path.{Part, Path, below}
-use Rattle.folder_spec.specs.View.{View}
-use Rattle.folder_spec.proofs.Paths.{begins_or_not, below-append, below-both, not_below}
+use Rattle.folder_spec.proofs.Paths.{begins_or_not, below-append}
 use Rattle.vault_check.specs.Strays.{is_covered, last_path, moves_number, strays_after, with_stray}
 use Rattle.vault_walk.specs.declared.fault.Finding.{Finding}
 use Rattle.vault_check.proofs.Contained.{further, head_pairs, none_within, tail_pairs}

@@ -1,5 +1,5 @@
 -- The strays of a vault that a repair moves: those that are below no other.
-use Rattle.std.specs.Prelude.{◌≡◌, ◌↔◌, ◌&&◌, ◌-◌, not, length, slice_get, ℕ, Bool, true, false, List, [], ◌∷◌, ◌++◌, nat_eq, ◌||◌, Option, Some, None, is_some, if◌then◌else◌, AllPairs, Contains}
+use Rattle.std.specs.Prelude.{◌≡◌, ◌↔◌, ◌&&◌, ◌-◌, not, length, slice_get, ℕ, Bool, false, List, [], ◌∷◌, ◌++◌, nat_eq, ◌||◌, Option, Some, None, is_some, if◌then◌else◌, AllPairs, Contains}
 use Rattle.std.specs.declared.cmp.Ordering.TheVariants.{Less}
 use Rattle.folder_model.specs.Order.{path_cmp}
 use Rattle.folder_spec.specs.Path.{Part, Path, below}

@@ -1,13 +1,13 @@
-//! Why a vault isn't repaired.
+//! Why a vault isn't checked, or isn't repaired.
 use folder_spec::FolderFault;
 use std::alloc::AllocError;
 use vault_read::Limit;
 use vault_walk::WalkFault;
 
-/// Why a vault isn't repaired.
+/// Why a vault isn't checked, or isn't repaired.
 #[derive(Debug, Drop)]
 pub enum CheckFault {
-    /// The vault is too deep or has too many items.
+    /// The vault is too deep or has too many items, or the content file at a path is too long.
     Limit(Limit),
     /// The folder failed.
     Failed,

@@ -1,12 +1,16 @@
-//! The moving of strays out of vaults of both formats.
+//! Checks of vaults of both formats, structure and contents, and the moving of strays out of them.
 #![tactic(auto)]
 
+pub mod checking;
+mod contents;
 pub mod fault;
 pub mod laws;
+mod order;
 pub mod repairing;
 mod strays;
 #[cfg(test)]
 mod tests;
 
+pub use checking::{Report, check};
 pub use fault::CheckFault;
 pub use repairing::repair;

@@ -1,10 +1,10 @@
-//! A small vault of gocryptfs, built by calls of a folder in memory, and repaired.
+//! A small vault of gocryptfs, built by calls of a folder in memory, checked and repaired.
 ghost use Rattle.std.specs.Prelude.{◌≡◌, IsTrue};
 ghost use Rattle.folder_spec.specs.Seen.{IsSeen};
 ghost use Rattle.folder_spec.specs.View.{View, NoEntry, Folder};
 ghost use Rattle.vault_check.specs.Repairing.{AreApart, MayMoveTo};
 
-use crate::repair;
+use crate::{check, repair};
 use folder_model::{FPath, Folder, Kind, MemFolder};
 use gocrypt_conf::GoKeys;
 use std::alloc::Global;
@@ -91,12 +91,24 @@ fn kind_at<F: Folder>(alloc: Global, folder: &mut F, at: &str) -> Result<Kind, F
     Ok(folder.kind(&FPath::parse(alloc, at)?)?)
 }
 
-// The strays of a vault are moved, and then there is none left to move.
+// The numbers of what a check finds, without notes.
+fn found<F: Folder>(alloc: Global, folder: &mut F, vault: &Vault) -> Result<Vec<u8>, Fail> {
+    let report = check(alloc, folder, vault).ok().ok_or("a report")?;
+    let mut numbers = Vec::new(alloc);
+    for finding in report.findings.as_slice() {
+        numbers.push(finding.number)?;
+    }
+    Ok(numbers)
+}
+
+// The strays of a vault are found and moved, and then there is none left to find or to move.
 fn moves_once<F: Folder>(alloc: Global, folder: &mut F) -> Result<bool, Fail> {
     let vault = vault_in(alloc, folder)?;
+    let before = found(alloc, folder, &vault)?;
     let first = moved(alloc, folder, &vault, &FPath::parse(alloc, "lost")?)?;
+    let after = found(alloc, folder, &vault)?;
     let second = moved(alloc, folder, &vault, &FPath::parse(alloc, "more")?)?;
-    Ok(first == 2 && second == 0)
+    Ok(before.as_slice() == [1, 1].as_slice() && first == 2 && after.is_empty() && second == 0)
 }
 
 #[test]

@@ -1,4 +1,4 @@
-use Rattle.std.proofs.Common.{◌≡◌, ◌≤◌, ◌<◌, ◌^◌, ◌∙◌, [], Ok, Err, get_or, refl, sym, ap, subst, subst₂, arith, rules}
+use Rattle.std.proofs.Common.{◌≡◌, ◌≤◌, ◌<◌, ◌^◌, ◌∙◌, [], Ok, Err, get_or, subst₂, arith, rules}
 use Rattle.std.proofs.lemmas.List.{get_or_default}
 use Rattle.folder_model.proofs.Counting.{counts_after, never_falls}
 use Rattle.folder_spec.specs.Event.{Changes, Rename}

@@ -1,12 +1,10 @@
-use Rattle.std.proofs.Common.{◌≡◌, ◌≤◌, ◌∙◌, Ok, Err, List, subst, sym, ap, arith}
-use Rattle.std.proofs.lemmas.Result.{err_from_is_err_and}
-use Rattle.folder_spec.specs.Path.{Path}
+use Rattle.std.proofs.Common.{subst, sym}
 use Rattle.folder_spec.specs.Seen.{IsSeen, under}
 use Rattle.folder_spec.specs.View.{View}
 use Rattle.vault_spec.specs.Vault.{format_of}
 use Rattle.folder_spec.specs.Event.{FromTo}
 use Rattle.vault_check.specs.Repairing.{AreMoved, AreStraysBehind}
-use Rattle.vault_check.proofs.Repaired.{all_movable, is_free, repairs_none, repairs_by, repaired_by}
+use Rattle.vault_check.proofs.Repaired.{all_movable, is_free, repairs_by, repaired_by}
 use Rattle.vault_check.proofs.repairing.repair.Goals as goal
 
 pub move_any-requires : goal.move_any-requires

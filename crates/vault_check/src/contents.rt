@@ -1,0 +1,129 @@
+//! Reading the contents of a vault for their faults.
+ghost use Rattle.std.specs.Prelude.{◌≡◌, ◌≤◌, ◌++◌, IfOk, IfErr, OnOk, Err, Contains, option_to_list};
+ghost use Rattle.chunk_files.specs.Reading.{Wanting};
+ghost use Rattle.folder_spec.specs.Path.{Path};
+ghost use Rattle.folder_spec.specs.Seen.{IsSeen, ShowsFile};
+ghost use Rattle.folder_spec.specs.View.{View};
+ghost use Rattle.port_model.specs.Counts.{CountRose};
+ghost use Rattle.vault_read.specs.declared.fault.Limit.TheVariants.{Length};
+ghost use Rattle.vault_spec.specs.Findings.{finding_of, number_of};
+ghost use Rattle.vault_spec.specs.Vault.{format_of};
+ghost use Rattle.vault_check.specs.Contents.{AreContentsOf, EndsAs, HasRead, IsContentFault, content_of, ending_of, told_damage};
+
+use crate::fault::CheckFault;
+use crate::order::paths_in_order;
+use chunk_files::{ChunkBuf, ChunkFault};
+use folder_model::{FPath, Folder};
+use plain_tree::NodeKind;
+use std::alloc::{AllocError, Global};
+use vault_read::{CatFault, ContentReader, Vault};
+use vault_walk::{Finding, PlanItem};
+
+// The paths of the files' contents in order, each once.
+pub(crate) fn contents_of(alloc: Global, items: &[PlanItem]) -> Result<Vec<FPath>, AllocError>
+    ensures { IfOk result (λ contents. AreContentsOf items.now contents.items) }
+{
+    let mut contents = Vec::new(alloc);
+    for item in items {
+        add_content(&mut contents, item)?;
+    }
+    Ok(paths_in_order(contents))
+}
+
+// Adds the path of an item's content, if it is a file.
+fn add_content(contents: &mut Vec<FPath>, item: &PlanItem) -> Result<(), AllocError>
+    ensures { OnOk result (contents.new.items ≡ contents.old.items ++ option_to_list (content_of item.now)) }
+{
+    match item.node {
+        NodeKind::File => contents.push(item.at.copy()?)?,
+        NodeKind::Dir => {}
+    }
+    Ok(())
+}
+
+// Of these contents each that is damaged, with its first fault.
+pub(crate) fn damaged_contents<F: Folder>(
+    alloc: Global,
+    folder: &mut F,
+    vault: &Vault,
+    contents: &[FPath],
+) -> Result<Vec<Finding>, CheckFault>
+    requires { (v : View) → IsSeen (F.told folder.old) v → (at : Path) → Contains contents.now at → ShowsFile v at }
+    ensures told { F.told folder.new ≡ F.told folder.old }
+    ensures damaged { IfOk result (λ damaged. HasRead (F.told folder.old) (format_of vault.now.vault) contents.now damaged.items) }
+    ensures length { (named : Path) → result ≡ Err (CheckFault.Limit (Length named)) → Contains contents.now named
+        × ((v : View) → IsSeen (F.told folder.old) v → EndsAs (format_of vault.now.vault) v named Wanting) }
+    ensures fault { IfErr result (λ fault. IsContentFault fault) }
+    ensures grows { F.faults folder.old ≤ F.faults folder.new }
+    ensures failed { result ≡ Err CheckFault.Failed → CountRose (F.faults folder.old) (F.faults folder.new) }
+{
+    let mut chunk = ChunkBuf::new(alloc)?;
+    let mut damaged = Vec::new(alloc);
+    for at in contents {
+        let fault = fault_of(alloc, folder, vault, at, &mut chunk)?;
+        add_damage(&mut damaged, at, fault)?;
+    }
+    Ok(damaged)
+}
+
+// Adds the finding of a content, if it is damaged.
+fn add_damage(
+    damaged: &mut Vec<Finding>,
+    at: &FPath,
+    fault: Option<ChunkFault>,
+) -> Result<(), AllocError>
+    ensures { OnOk result (damaged.new.items ≡ damaged.old.items ++ told_damage at.now fault) }
+{
+    match fault {
+        Some(fault) => damaged.push(Finding {
+            at: at.copy()?,
+            number: number_of(fault),
+            fault: Some(fault),
+        })?,
+        None => {}
+    }
+    Ok(())
+}
+
+// 12 where the fault is the header's, and else 13.
+fn number_of(fault: ChunkFault) -> u8
+    ensures { result ≡ number_of (finding_of fault) }
+{
+    match fault {
+        ChunkFault::NoHeader
+        | ChunkFault::HeaderVersion(_)
+        | ChunkFault::ZeroId
+        | ChunkFault::HeaderTag => 12,
+        ChunkFault::ShortChunk(_) | ChunkFault::ZeroNonce(_) | ChunkFault::ChunkTag(_) => 13,
+    }
+}
+
+// The first fault of a content file, if it has one.
+fn fault_of<F: Folder>(
+    alloc: Global,
+    folder: &mut F,
+    vault: &Vault,
+    at: &FPath,
+    chunk: &mut ChunkBuf,
+) -> Result<Option<ChunkFault>, CheckFault>
+    requires { (v : View) → IsSeen (F.told folder.old) v → ShowsFile v at.now }
+    ensures told { F.told folder.new ≡ F.told folder.old }
+    ensures ending { IfOk result (λ fault. (v : View) → IsSeen (F.told folder.old) v → EndsAs (format_of vault.now.vault) v at.now (ending_of fault)) }
+    ensures length { (named : Path) → result ≡ Err (CheckFault.Limit (Length named)) → (named ≡ at.now)
+        × ((v : View) → IsSeen (F.told folder.old) v → EndsAs (format_of vault.now.vault) v at.now Wanting) }
+    ensures fault { IfErr result (λ fault. IsContentFault fault) }
+    ensures grows { F.faults folder.old ≤ F.faults folder.new }
+    ensures failed { result ≡ Err CheckFault.Failed → CountRose (F.faults folder.old) (F.faults folder.new) }
+{
+    let mut reader = ContentReader::start(alloc, vault, at)?;
+    'chunks: loop {
+        match reader.next(folder, chunk) {
+            Ok(0) => return Ok(None),
+            Ok(_) => {}
+            Err(CatFault::Damaged(_, fault)) => return Ok(Some(fault)),
+            Err(CatFault::Limit(limit)) => return Err(CheckFault::Limit(limit)),
+            Err(CatFault::Failed) => return Err(CheckFault::Failed),
+            Err(_) => return Err(CheckFault::NoMemory),
+        }
+    }
+}

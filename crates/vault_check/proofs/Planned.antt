@@ -16,7 +16,7 @@ use Rattle.vault_walk.specs.Survey.{Spot, HasEachOnce}
 use Rattle.vault_walk.specs.Surveyed.{placed}
 use Rattle.vault_check.specs.Contents.{content_of, content_place}
 use Rattle.vault_check.proofs.Contained.{filter_mapped, filter_mapped_from}
-use Rattle.vault_walk.proofs.Mapped.{contains_mapped, mapped_from}
+use Rattle.vault_spec.proofs.Mapped.{contains_mapped, mapped_from}
 
 -- a file of a reached directory has its content there
 pub record IsContentIn (f : Format) (v : View) (at : Path) : Type 0 where

@@ -19,7 +19,7 @@ use Rattle.folder_spec.proofs.Tellings.{from_to_both, from_to_more, from_to_same
 use Rattle.vault_spec.specs.Format.{Format}
 use Rattle.vault_spec.specs.Moving.{IsStray, StraysGoAlone}
 use Rattle.vault_check.specs.Repairing.{AreApart, AreMovable, AreMoved, AreStraysBehind, HasRepaired, IsMoving, IsRepairing, Unchanged, Moving, MayMoveTo, Moves, MovesInto, RepairsAt}
-use Rattle.vault_walk.proofs.Mapped.{all_pairs_mapped, mapped_from}
+use Rattle.vault_spec.proofs.Mapped.{all_pairs_mapped, mapped_from}
 
 none_or : (w q : Path) → ((rest : Path) → q ≡ w ++ rest → ⊥) → below w q ≡ None
 none_or w q apart = elim (begins_or_not w q) as (λ _. below w q ≡ None) [ inl k ↦ absurd (apart k.0 k.1) | inr none ↦ none ]

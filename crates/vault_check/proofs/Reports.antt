@@ -20,7 +20,7 @@ use Rattle.vault_read.specs.Contents.{limited_reading}
 use Rattle.vault_spec.specs.Findings.{IsDamaged, finding_of, is_fault_of_structure, number_of}
 use Rattle.vault_spec.specs.Format.{Format}
 use Rattle.vault_spec.specs.declared.Finding as spec
-use Rattle.vault_walk.proofs.Mapped.{all_pairs_mapped, contains_mapped, mapped_from, pairs_append}
+use Rattle.vault_spec.proofs.Mapped.{all_pairs_mapped, contains_mapped, mapped_from, pairs_append}
 use Rattle.vault_walk.proofs.NodeOrders.{exact_paths, path_tied}
 use Rattle.vault_walk.proofs.Numbers.{number_less, one_number}
 use Rattle.vault_walk.specs.Survey.{FoundAt, Precedes, ByPath, ByNumber, AreFindings}

@@ -19,7 +19,7 @@ use Rattle.vault_walk.specs.declared.fault.Finding.{Finding}
 use Rattle.vault_check.specs.Repairing.{AreStraysBehind}
 use Rattle.vault_check.specs.Strays.{AreOuterStrays, IsOuterStray, moves_number, strays_after}
 use Rattle.vault_check.proofs.Contained.{pairs_from_mapped, preimages}
-use Rattle.vault_walk.proofs.Mapped.{all_pairs_mapped, contains_mapped, mapped_from}
+use Rattle.vault_spec.proofs.Mapped.{all_pairs_mapped, contains_mapped, mapped_from}
 use Rattle.vault_check.proofs.StraysGathered.{Gathered, IsMovedFinding, IsUpTo, gathered_all}
 
 pub path_cmp-behind : (root p q : Path) → path_cmp (root ++ p) (root ++ q) ≡ path_cmp p q

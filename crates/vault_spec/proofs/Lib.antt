@@ -36,7 +36,7 @@ mod CutFindings
 mod StraysAlone
 mod GoStrays
 mod CmStrays
-mod Mapped
+pub mod Mapped
 mod Endings
 mod Plans
 mod VaultPlans

@@ -17,7 +17,7 @@ use Rattle.vault_spec.specs.Standing.{Standing, Absent, Strange, File, Dir, hold
 use Rattle.vault_spec.specs.Vault.{Vault, Gocryptfs, Cryptomator, format_of}
 use Rattle.vault_walk.specs.Surveyed.{placed, ArePlaced, IsSurveyed}
 use Rattle.vault_walk.specs.declared.surveying.Surveyed.{Surveyed}
-use Rattle.vault_walk.proofs.Mapped.{mapped_from}
+use Rattle.vault_spec.proofs.Mapped.{mapped_from}
 use Rattle.vault_walk.proofs.Walks.{StandBelow}
 
 go_file : (x : Found) (rest : Path) → go_item x ≡ FileItem rest → (rest ≡ []) × (bytes : List ℕ) × (x ≡ FileOf bytes)

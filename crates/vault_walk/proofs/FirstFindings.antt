@@ -15,7 +15,7 @@ use Rattle.vault_walk.specs.Surveyed.{told, IsFirstFinding, IsSurveyed}
 use Rattle.vault_walk.specs.declared.fault.Finding as answer
 use Rattle.vault_walk.specs.declared.surveying.Surveyed.{Surveyed}
 use Rattle.vault_walk.proofs.Flats.{none_within}
-use Rattle.vault_walk.proofs.Mapped.{contains_mapped}
+use Rattle.vault_spec.proofs.Mapped.{contains_mapped}
 use Rattle.vault_walk.proofs.NodeOrders.{path_tied}
 
 -- without findings it is clean

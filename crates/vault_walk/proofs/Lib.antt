@@ -26,7 +26,6 @@ mod RolePlaces
 pub mod NodeOrders
 pub mod Numbers
 mod Gains
-pub mod Mapped
 mod Visits
 mod LevelSteps
 mod PlanOrder

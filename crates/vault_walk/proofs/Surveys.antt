@@ -40,7 +40,7 @@ use Rattle.vault_walk.specs.declared.twice.Target.{Target}
 use Rattle.vault_walk.proofs.Depths.{found_among, visited_is_reached}
 use Rattle.vault_walk.proofs.Flats.{none_within, only_one}
 use Rattle.vault_walk.proofs.Gathered.{each_once}
-use Rattle.vault_walk.proofs.Mapped.{contains_mapped, mapped_from, all_pairs_mapped}
+use Rattle.vault_spec.proofs.Mapped.{contains_mapped, mapped_from, all_pairs_mapped}
 use Rattle.vault_walk.proofs.NodeOrders.{exact_paths, path_tied}
 use Rattle.vault_walk.proofs.Walks.{StandBehind, LeadThrough}
 

@@ -34,7 +34,7 @@ use Rattle.vault_walk.specs.declared.report.What.TheVariants as what
 use Rattle.vault_walk.specs.declared.twice.Target.{Target}
 use Rattle.vault_walk.proofs.Flats.{flat_on, flat_back, none_within, only_one}
 use Rattle.vault_walk.proofs.Gathered.{one_directory}
-use Rattle.vault_walk.proofs.Mapped.{contains_mapped, mapped_from, all_pairs_mapped, pairs_append}
+use Rattle.vault_spec.proofs.Mapped.{contains_mapped, mapped_from, all_pairs_mapped, pairs_append}
 
 pub kind_of_member : (at : Path) (w : What) → node_of (standing_by at w) ≡ Some (kind_by w)
 kind_of_member at what.File = refl

@@ -1,3 +1,17 @@
+mod TreesShown
+mod Runs
+mod Edited
+mod Adding
+mod Directories
+mod Placed
+mod ItemMade
+mod Counted
+mod Found
+mod Begun
+mod GoBegun
+mod Folders
+mod CmBegun
+mod DirectoryPlaced
 mod Stages
 mod Founded
 mod Drawn

@@ -36,7 +36,7 @@ are_bytes : (bytes : List ℕ) → ((place : ℕ) → slice_index bytes place < 
 are_bytes [] small = refl
 are_bytes (b ∷ bytes) small = rw (lt-ltb b 256 (small 0)) (are_bytes bytes (λ place. small (suc place)))
 
-is_key : (key : List ℕ) → AreBytes 16 key → is_all_zero key ≡ false → directory_key key ≡ Some key
+pub is_key : (key : List ℕ) → AreBytes 16 key → is_all_zero key ≡ false → directory_key key ≡ Some key
 is_key key sizes some = rw (are_bytes key sizes.small, eq-eqb (length key) 16 sizes.size, some) refl
 
 abbrev pub GoEmpty : Type 0

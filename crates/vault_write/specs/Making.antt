@@ -102,8 +102,8 @@ abbrev pub MayCome : Bool → State → Path → Path → Type 0
 MayCome false s staged at = IsFree (present s) at
 MayCome true s staged at = HasFile (present s) staged × HasFile (present s) at
 
--- The call changes what is staged, or makes a directory at the place of an edit, or brings there what was staged. It takes nothing
--- away from the vault but a file that is replaced.
+-- The call works below the stage, or makes a directory at the place of an edit, or brings there what was staged. It writes no file but
+-- those that are staged, and takes nothing away from the vault but a file that is replaced.
 abbrev pub StagesOrPlaces : Path → Making → State → Call → Type 0
 StagesOrPlaces work m s (MakeDir at) = IsTrue (is_staged work at) ⊎ IsPlace m.edits at
 StagesOrPlaces work m s (Create at) = IsTrue (is_staged work at)

@@ -14,6 +14,7 @@ use Rattle.vault_spec.specs.Alike.{IsOrderly}
 use Rattle.vault_spec.specs.Opens.{opened}
 use Rattle.vault_write.specs.Making.{Placing, Making, format, path_of, is_staged, is_elsewhere, StagesOrPlaces}
 use Rattle.vault_write.specs.Trees.{ShowsVault, KeepsTree, GainsItem, opens_as}
+use Rattle.content_writing.specs.Content.{Ending, Whole}
 use Rattle.content_writing.specs.declared.fault.PutFault.{PutFault}
 use Rattle.content_writing.specs.declared.fault.PutFault.TheVariants as puts
 
@@ -34,13 +35,13 @@ pub record ShowsOne (p : Placing) (region : Path → Bool) (s : State) (v : View
   pub alone : ShowsAmong region s (v ∷ [])
   pub good : ShowsVault (format p) p.vault.root v
 
--- The old tree or the new one: where a region showed one view alone at first, each table now shows there that view, or one that
--- differs in the vault alone, which is in good order, with the old tree or with the item.
-abbrev pub ShowsOldOrNewTree : Placing → State → State → Type 0
-ShowsOldOrNewTree p s0 s =
+-- The old tree or, of a content that comes whole, the new one: where a region showed one view alone at first, each table now shows
+-- there that view, or one that differs in the vault alone, which is in good order, with the old tree or with the item.
+abbrev pub ShowsOldOrNewTree : Placing → Ending → State → State → Type 0
+ShowsOldOrNewTree p ending s0 s =
     (region : Path → Bool) (v : View) → ShowsOne p region s0 v
     → (t : Table) → IsTableOf s t
-    → (w : View) × Shows region s t w × (KeepsTree (format p) p.vault.root v w ⊎ GainsItem (format p) p.vault.root (path_of p) (opens_as p.item) v w)
+    → (w : View) × Shows region s t w × (KeepsTree (format p) p.vault.root v w ⊎ ((ending ≡ Whole) × GainsItem (format p) p.vault.root (path_of p) (opens_as p.item) v w))
 
 -- The new tree: no directory change is pending, and the region shows one view alone again, with the item.
 pub record ShowsNewTree (p : Placing) (s0 s : State) : Type 0 where
@@ -50,9 +51,9 @@ pub record ShowsNewTree (p : Placing) (s0 s : State) : Type 0 where
 
 -- Since s0 the item is being made: all but what is staged and what stands in the vault is as it was, the tree is the old one or the
 -- new one, and each file that was made holds a front part of one of the item's files.
-pub record IsMaking (p : Placing) (m : Making) (s0 s : State) : Type 0 where
+pub record IsMaking (p : Placing) (ending : Ending) (m : Making) (s0 s : State) : Type 0 where
   pub others : IsAsBefore (is_elsewhere p) s0 s
-  pub trees : ShowsOldOrNewTree p s0 s
+  pub trees : ShowsOldOrNewTree p ending s0 s
   pub fronts : HoldFronts m.files s0 s
 
 -- how the item is made, by what the vault showed at a state
@@ -74,9 +75,10 @@ EndsAs p v w (Err puts.ZeroRandom) = OpensAs (format p) v w
 EndsAs p v w (Err puts.Source) = OpensAs (format p) v w
 EndsAs p v w (Err puts.Random) = OpensAs (format p) v w
 
--- A call makes the item, from what a folder told before to what it tells afterwards. After Ok the stage is ready again.
-pub record Makes (p : Placing) (making : View → Making) (before after : Option Told) (result : Result (Unit {0}) PutFault) : Type 0 where
-  pub moments : Moments (λ s0 s. IsMaking p (making_at p making s0) s0 s) (λ s0 s e. StagesOrPlaces p.work (making_at p making s0) s e.call) before after
+-- A call makes the item of a content that ends so, from what a folder told before to what it tells afterwards. After Ok the stage is
+-- ready again.
+pub record Makes (p : Placing) (ending : Ending) (making : View → Making) (before after : Option Told) (result : Result (Unit {0}) PutFault) : Type 0 where
+  pub moments : Moments (λ s0 s. IsMaking p ending (making_at p making s0) s0 s) (λ s0 s e. StagesOrPlaces p.work (making_at p making s0) s e.call) before after
   pub done : OnOk result (FromTo (λ a b. ShowsNewTree p a.state b.state) before after)
   pub ready : OnOk result ((v : View) → IsSeen after v → IsReady v p.work)
   pub ends : (v w : View) → IsSeen before v → IsSeen after w → EndsAs p (under p.vault.root v) (under p.vault.root w) result

@@ -1,6 +1,5 @@
 -- What views of a folder show while one item is made in a vault: the old tree, or the new one. Here nothing is said of chunks, of
 -- tables or of a format's files.
-use Rattle.std.specs.Prelude.{ℕ, List}
 use Rattle.folder_spec.specs.Path.{Path}
 use Rattle.folder_spec.specs.View.{View, AgreeIn}
 use Rattle.folder_spec.specs.Region.{apart_from}
@@ -12,16 +11,12 @@ use Rattle.vault_spec.specs.Findings.{IsClean}
 use Rattle.vault_spec.specs.Format.{Format}
 use Rattle.vault_spec.specs.Making.{NewItem, NewDirectory, NewFile}
 use Rattle.vault_spec.specs.Opens.{Opened, Directory, Content}
-use Rattle.vault_spec.specs.Vault.{Vault, IsVault}
+use Rattle.vault_spec.specs.Staying.{LoadsAlike}
 
 -- the view shows a vault in good order at the root: nothing is found in it, and it is orderly
 pub record ShowsVault (f : Format) (root : Path) (v : View) : Type 0 where
   pub clean : IsClean f (under root v)
   pub orderly : IsOrderly f (under root v)
-
--- a root that a passphrase opens as a vault is opened so by it
-abbrev pub LoadsAlike : View → View → Type 0
-LoadsAlike v w = (pass : List ℕ) (vault : Vault) → IsVault v pass vault → IsVault w pass vault
 
 -- All is the same but what stands at the root and below it. There the same vault stands, in good order.
 pub record KeepsVault (f : Format) (root : Path) (v w : View) : Type 0 where

@@ -1,15 +1,18 @@
 //! Bytes that are drawn for keys and ids.
-ghost use Rattle.std.specs.Prelude.{◌≡◌, ◌⊎◌, ◌<◌, ℕ, false, [], Err, length, slice_index, IfOk, IfErr, OnErr};
+ghost use Rattle.std.specs.Prelude.{◌≡◌, ◌⊎◌, ◌<◌, ℕ, false, [], Err, length, slice_index, string_bytes, IfOk, IfErr, OnErr};
 ghost use Rattle.port_model.specs.Counts.{CountRose, IsCounted};
 ghost use Rattle.port_model.specs.Draws.{Draws};
 ghost use Rattle.chunk_files.specs.Zeros.{is_all_zero};
 ghost use Rattle.vault_write.specs.Founding.{DrawsSome, DrawsGo, DrawsCm};
+ghost use Rattle.vault_write.specs.Slots.{DrewAtMost, DrewId};
 
 use content_writing::PutFault;
 use cryptomator_conf::CmDraw;
 use gocrypt_conf::GoDraw;
 use port_model::Randoms;
 use port_model::laws::draws_compose;
+use std::alloc::Global;
+use vault_names::new_dir_id;
 
 /// What a gocryptfs vault draws: what its configuration is made of, and the key of its root.
 #[derive(Clone, Copy)]
@@ -58,6 +61,18 @@ pub(crate) fn draw_some<R: Randoms>(random: &mut R) -> Result<[u8; 16], PutFault
         return Err(PutFault::ZeroRandom);
     }
     Ok(bytes)
+}
+
+// Draws the id of a new directory of Cryptomator.
+pub(crate) fn draw_id<R: Randoms>(alloc: Global, random: &mut R) -> Result<String, PutFault>
+    ensures drawn { IfOk result (λ id. DrewId (R.left random.old) (R.left random.new) (string_bytes id)) }
+    ensures few { OnErr result (DrewAtMost 16 (R.left random.old) (R.left random.new)) }
+    ensures fault { IfErr result (λ fault. (fault ≡ PutFault.Random) ⊎ (fault ≡ PutFault.NoMemory)) }
+    ensures cause { result ≡ Err PutFault.Random → CountRose (R.faults random.old) (R.faults random.new) }
+    ensures counted { IsCounted (R.faults random.old) (R.faults random.new) }
+{
+    let bytes = draw::<16, R>(random)?;
+    Ok(new_dir_id(alloc, &bytes)?)
 }
 
 fn are_zeros(bytes: &[u8]) -> bool

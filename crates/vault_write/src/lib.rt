@@ -1,13 +1,18 @@
-//! Making vaults so that a crash at any moment leaves nothing at their place or the whole vault.
+//! Making vaults and directories so that a crash at any moment leaves the old tree or the new one.
 //!
-//! What is written is staged in a work folder, made to last, and renamed onto its place.
+//! What is written is staged in a work folder, made to last, and renamed onto its place. What a place needs beside it comes first: the
+//! file of a long name, and the content folder of a new directory.
 #![tactic(auto)]
 
+pub mod directory;
 mod drawing;
 pub mod init;
+pub mod laws;
+mod slot;
 mod stage;
 #[cfg(test)]
 mod tests;
 
 pub use content_writing::PutFault;
+pub use directory::place_dir;
 pub use init::{init_cm, init_go};

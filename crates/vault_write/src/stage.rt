@@ -1,10 +1,23 @@
-//! Staging an item's files, and putting them in their places.
-ghost use Rattle.std.specs.Prelude.{◌≡◌, IfOk};
-ghost use Rattle.folder_spec.specs.Path.{child};
+//! Staging what an item consists of, and putting it in its places.
+ghost use Rattle.std.specs.Prelude.{codes, ◌≢◌, ◌≡◌, ◌∷◌, ◌++◌, [], true, List, ℕ, IfOk, Contains, OnOk, Option};
+ghost use Rattle.folder_spec.specs.Path.{Path, Part, child};
+ghost use Rattle.folder_spec.specs.Edit.{directory_edit, file_edit, folder_edit};
+ghost use Rattle.folder_spec.specs.Event.{FromTo};
+ghost use Rattle.folder_spec.specs.Seen.{seen, IsSeen, ShowsFree, put_found};
+ghost use Rattle.folder_spec.specs.View.{View, Folder};
+ghost use Rattle.folder_model.specs.Answers.{CountsAbove};
+ghost use Rattle.folder_staging.specs.Folders.{StagesFolder, IsStagedFolder};
 ghost use Rattle.work_folder.specs.Entries.{stage_path};
+ghost use Rattle.vault_spec.specs.Cryptomator.{full_file, full_files};
+ghost use Rattle.vault_spec.specs.Making.{full_texts};
+ghost use Rattle.vault_write.specs.Editing.{AddsEdits, AddsName, MayCome, side_edits};
 
-use folder_model::FPath;
+use folder_model::{FPath, Folder};
+use folder_spec::FolderFault;
+use folder_staging::laws::{staged_folders_are_seen, staged_folders_gain_files};
+use folder_staging::{begin_folder, stage_file};
 use std::alloc::AllocError;
+use text_model::Text;
 use work_folder::Work;
 
 // A place in the stage.
@@ -12,4 +25,110 @@ pub(crate) fn staged_at(work: &Work, name: &str) -> Result<FPath, AllocError>
     ensures { IfOk result (λ at. at ≡ child (stage_path work.now) name.now) }
 {
     work.at().child("stage")?.child(name)
+}
+
+// Makes a directory at its place.
+pub(crate) fn make_folder<F: Folder>(folder: &mut F, at: &FPath) -> Result<(), FolderFault>
+    requires { (v : View) → IsSeen (F.told folder.old) v → ShowsFree v at.now }
+    ensures made { (work : Path) → AddsEdits work (directory_edit at.now ∷ []) [] (F.told folder.old) (F.told folder.new) result }
+    ensures shown { OnOk result (FromTo (λ a b. seen b.state ≡ put_found (seen a.state) at.now Folder) (F.told folder.old) (F.told folder.new)) }
+    ensures counts { CountsAbove (F.faults folder.old) (F.faults folder.new) result }
+{
+    folder.make_dir(at)
+}
+
+// Puts a file with these bytes at its place.
+pub(crate) fn publish_bytes<F: Folder>(
+    folder: &mut F,
+    work: &Work,
+    at: &FPath,
+    bytes: &[u8],
+) -> Result<(), FolderFault>
+    requires { (v : View) → IsSeen (F.told folder.old) v → MayCome v work.now at.now }
+    ensures made { AddsEdits work.now (file_edit at.now bytes.now ∷ []) (bytes.now ∷ []) (F.told folder.old) (F.told folder.new) result }
+    ensures counts { CountsAbove (F.faults folder.old) (F.faults folder.new) result }
+{
+    let staged = staged_at(work, "n")?;
+    stage_file(folder, &staged, bytes)?;
+    folder.rename(&staged, at)
+}
+
+// Puts the text of a long name beside the entry that is to come, where it is wanted.
+pub(crate) fn publish_side<F: Folder>(
+    folder: &mut F,
+    work: &Work,
+    at: &FPath,
+    full: &Option<Text>,
+    wants: bool,
+) -> Result<(), FolderFault>
+    requires { (v : View) → IsSeen (F.told folder.old) v → wants ≡ true → MayCome v work.now at.now }
+    ensures made { AddsEdits work.now (side_edits wants at.now full.now) (full_texts full.now) (F.told folder.old) (F.told folder.new) result }
+    ensures counts { CountsAbove (F.faults folder.old) (F.faults folder.new) result }
+{
+    if !wants {
+        return Ok(());
+    }
+    match full {
+        None => Ok(()),
+        Some(text) => publish_bytes(folder, work, at, text.as_str().as_bytes()),
+    }
+}
+
+// Stages a directory with its key file.
+fn stage_directory<F: Folder>(
+    folder: &mut F,
+    staged: &FPath,
+    key_name: &str,
+    key: &[u8],
+) -> Result<(), FolderFault>
+    requires { (v : View) → IsSeen (F.told folder.old) v → ShowsFree v staged.now }
+    ensures staged { (files : List (List ℕ)) → Contains files key.now → StagesFolder files staged.now (F.told folder.old) (F.told folder.new) × OnOk result (IsStagedFolder files staged.now ((key_name.now, key.now) ∷ []) (F.told folder.old) (F.told folder.new)) }
+    ensures counts { CountsAbove (F.faults folder.old) (F.faults folder.new) result }
+{
+    staged_folders_gain_files();
+    staged_folders_are_seen();
+    begin_folder(folder, staged)?;
+    let at = staged.child(key_name)?;
+    stage_file(folder, &at, key)
+}
+
+// Adds the text of a long name to a directory that is being staged.
+pub(crate) fn stage_name<F: Folder>(
+    folder: &mut F,
+    staged: &FPath,
+    full: &Option<Text>,
+) -> Result<(), FolderFault>
+    requires { (v : View) → IsSeen (F.told folder.old) v → ShowsFree v (child staged.now full_file) }
+    ensures staged { AddsName staged.now full.now (F.told folder.old) (F.told folder.new) result }
+    ensures counts { CountsAbove (F.faults folder.old) (F.faults folder.new) result }
+{
+    staged_folders_gain_files();
+    match full {
+        None => Ok(()),
+        Some(text) => {
+            let at = staged.child("name.c9s")?;
+            stage_file(folder, &at, text.as_str().as_bytes())
+        }
+    }
+}
+
+// Puts a directory with its key file at its place, and with the text of a long name where it has that inside.
+pub(crate) fn publish_directory<F: Folder>(
+    folder: &mut F,
+    work: &Work,
+    at: &FPath,
+    key_name: &str,
+    key: &[u8],
+    full: &Option<Text>,
+) -> Result<(), FolderFault>
+    requires may { (v : View) → IsSeen (F.told folder.old) v → MayCome v work.now at.now }
+    requires name { key_name.now ≢ full_file }
+    ensures made { AddsEdits work.now (folder_edit at.now (full_files full.now ++ (key_name.now, key.now) ∷ []) ∷ []) (full_texts full.now ++ key.now ∷ []) (F.told folder.old) (F.told folder.new) result }
+    ensures counts { CountsAbove (F.faults folder.old) (F.faults folder.new) result }
+{
+    staged_folders_are_seen();
+    let staged = staged_at(work, "f")?;
+    stage_directory(folder, &staged, key_name, key)?;
+    stage_name(folder, &staged, full)?;
+    folder.rename(&staged, at)
 }

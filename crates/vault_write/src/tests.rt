@@ -4,13 +4,14 @@ ghost use Rattle.folder_spec.specs.Path.{below};
 ghost use Rattle.folder_spec.specs.Seen.{IsSeen, ShowsFree};
 ghost use Rattle.folder_spec.specs.View.{View, NoEntry, Folder};
 
-use crate::{PutFault, init_cm, init_go};
+use crate::{PutFault, init_cm, init_go, place_dir};
 use folder_model::{FPath, Folder, Kind, MemFolder};
 use kdf_suite::ScryptCost;
+use plain_tree::PlainPath;
 use port_model::ListRandoms;
 use std::alloc::Global;
 use std::test::Fail;
-use vault_read::{Vault, VaultKind};
+use vault_read::{Vault, VaultKind, enter};
 use work_folder::Work;
 
 fn is_missing<F: Folder>(folder: &mut F, at: &FPath) -> bool
@@ -97,5 +98,51 @@ fn new_vaults_open(rt: HostRuntime) -> Result<(), Fail> {
     assert!(rt; opens(alloc, VaultKind::Cryptomator, 88)?);
     assert!(rt; !opens(alloc, VaultKind::Gocryptfs, 95)?);
     assert!(rt; !opens(alloc, VaultKind::Cryptomator, 87)?);
+    Ok(())
+}
+
+// Makes a directory with a name in the root of the vault at `v`, from the work folder `w`, and enters it.
+fn makes_directory<F: Folder>(alloc: Global, folder: &mut F, name: &str) -> Result<bool, Fail> {
+    let place = FPath::parse(alloc, "w")?;
+    let Ok(path) = PlainPath::parse(alloc, name) else {
+        return Err(Fail::from("a plain path"));
+    };
+    let Ok(vault) = Vault::load(alloc, folder, &FPath::parse(alloc, "v")?, b"pass") else {
+        return Err(Fail::from("a vault"));
+    };
+    let Ok(work) = Work::enter(folder, &place) else {
+        return Err(Fail::from("a work folder"));
+    };
+    if !is_not_below(&place, vault.root()) || !is_not_below(vault.root(), &place) {
+        return Err(Fail::from("a vault beside the work folder"));
+    }
+    let mut random = ListRandoms::new(vec![in alloc; 7u8; 16]?, Vec::new(alloc));
+    if place_dir(alloc, folder, &work, &vault, &path, &mut random).is_err() {
+        return Ok(false);
+    }
+    Ok(enter(alloc, folder, &vault, &path).is_ok())
+}
+
+// A directory is made in a new vault, and not a second time.
+fn makes_once(alloc: Global, kind: VaultKind, name: &str) -> Result<bool, Fail> {
+    let mut folder = MemFolder::new(alloc)?;
+    if founded(alloc, &mut folder, kind, 96)?.is_err() {
+        return Ok(false);
+    }
+    if !makes_directory(alloc, &mut folder, name)? {
+        return Ok(false);
+    }
+    Ok(!makes_directory(alloc, &mut folder, name)?)
+}
+
+#[test]
+fn new_directories_are_entered(rt: HostRuntime) -> Result<(), Fail> {
+    let alloc = rt.alloc();
+    let long =
+        "long-long-long-long-long-long-long-long-long-long-long-long-long-long-long-long-long-long-long-long-long-long-long-long-long-long-long-long-long-long-long-long-long-long-long-long-long-long-long-long-";
+    assert!(rt; makes_once(alloc, VaultKind::Gocryptfs, "a")?);
+    assert!(rt; makes_once(alloc, VaultKind::Gocryptfs, long)?);
+    assert!(rt; makes_once(alloc, VaultKind::Cryptomator, "a")?);
+    assert!(rt; makes_once(alloc, VaultKind::Cryptomator, long)?);
     Ok(())
 }

@@ -1,0 +1,111 @@
+-- A directory of gocryptfs is begun: what its edits are, and that they make it.
+use Rattle.std.specs.Option.{option_or}
+use Rattle.std.proofs.Common.{arith, true, false, Bool, ◌≡◌, ℕ, List, [], ◌∷◌, ◌++◌, length, Option, Some, None, refl, sym, ap, ◌∙◌, cond, bytes_eq, codes, ◌+◌, length-append, IsTrue}
+use Rattle.folder_spec.specs.Path.{Part, Path, below, child}
+use Rattle.folder_spec.proofs.Paths.{below-both, below-sibling}
+use Rattle.std.proofs.lemmas.Slice.Eq.{bytes_eq-Decides}
+use Rattle.work_folder.specs.Entering.{IsReady}
+use Rattle.folder_spec.specs.State.{IsSound}
+use Rattle.folder_spec.specs.Edit.{edits_under, folder_edit}
+use Rattle.folder_spec.specs.Event.{Told}
+use Rattle.folder_spec.specs.Seen.{seen, under}
+use Rattle.folder_spec.specs.View.{Found, NoEntry, Folder, FileOf, Special, View}
+use Rattle.gocrypt_conf.specs.declared.keys.GoKeys.{GoKeys}
+use Rattle.plain_tree.specs.Names as plain
+use Rattle.plain_tree.specs.Names.{is_name}
+use Rattle.vault_read.specs.Laws.{KeepsVaults}
+use Rattle.vault_spec.specs.Format.{taken_at}
+use Rattle.vault_spec.specs.Gocryptfs.{key_file, full_name, directory_key, go_format, full_edits_at, taken_unless, go_taken}
+use Rattle.vault_spec.specs.Making.{NewDirectory, edits}
+use Rattle.vault_spec.specs.Standing.{entry_at}
+use Rattle.vault_spec.specs.Vault.{Gocryptfs}
+use Rattle.vault_write.specs.Editing.{side_edits, go_making, GoPlaces}
+use Rattle.vault_write.specs.Slots.{IsSlot, wants_text, placing}
+use Rattle.vault_write.proofs.Found.{Enters}
+use Rattle.vault_write.proofs.Begun.{FoldersStand, directory_begun, may_come_in, entry_comes}
+use Rattle.vault_write.proofs.ItemMade.{IsBegun}
+
+-- the edits, by what is stored of the name and by what stands at its long-name file
+edits_are : (root side at : Path) (full : Option (List ℕ)) (there : Found) (entries : List (Part × List ℕ))
+    → edits_under root (full_edits_at side there full ++ folder_edit at entries ∷ []) ≡ side_edits (wants_text there full) (root ++ side) full ++ folder_edit (root ++ at) entries ∷ []
+edits_are root side at None there entries = refl
+edits_are root side at (Some text) NoEntry entries = refl
+edits_are root side at (Some text) (FileOf bytes) entries = refl
+edits_are root side at (Some text) Folder entries = refl
+edits_are root side at (Some text) Special entries = refl
+
+module _ (enters : Enters) (keys : GoKeys) (laws : KeepsVaults (go_format keys)) (root work : Path) (front : plain.Path) (name key : List ℕ) (named : IsTrue (is_name name)) (is_key : directory_key key ≡ Some key) (sixteen : length key ≡ 16)
+    (a : Told) (at side : Path) (full : Option (List ℕ)) (wants : Bool) (sound : IsSound a.state)
+    (slot : IsSlot (record { root = root; vault = Gocryptfs keys }) (go_format keys) front name (under root (seen a.state)) at side full)
+    (wants_is : wants ≡ wants_text (seen a.state side) full) (side_free : taken_unless side (seen a.state side) full ≡ None)
+    (apart : below work root ≡ None) (beside : below root work ≡ None) where
+  -- nothing stands there, or the text
+  untaken : (place : Path) (there : Found) (o : Option (List ℕ)) (other : Path) → taken_unless place there o ≡ None → taken_unless other there o ≡ None
+  untaken place there None other none = refl
+  untaken place NoEntry (Some text) other none = refl
+  untaken place (FileOf bytes) (Some text) other none = by_text (bytes_eq bytes text) none
+    where
+      by_text : (b : Bool) → cond b None (Some place) ≡ None → cond b None (Some other) ≡ None
+      by_text true e = refl
+      by_text false e = cc
+  untaken place Folder (Some text) other none = cc
+  untaken place Special (Some text) other none = cc
+
+  free : go_taken (under root (seen a.state)) slot.dir ((go_format keys).stored slot.dir.key name) ≡ None
+  free =
+      ap (λ x. option_or (taken_at (entry_at (go_format keys) slot.dir name) x) (taken_unless (child slot.dir.folder (full_name ((go_format keys).stored slot.dir.key name).name))
+      (under root (seen a.state) (child slot.dir.folder (full_name ((go_format keys).stored slot.dir.key name).name))) ((go_format keys).stored slot.dir.key name).full)) slot.free
+      ∙ untaken side (under root (seen a.state) (child slot.dir.folder (full_name ((go_format keys).stored slot.dir.key name).name))) ((go_format keys).stored slot.dir.key name).full
+      (child slot.dir.folder (full_name ((go_format keys).stored slot.dir.key name).name))
+      (ap (λ o. taken_unless side (seen a.state (root ++ child slot.dir.folder (full_name ((go_format keys).stored slot.dir.key name).name))) o) (sym slot.full_is)
+      ∙ ap (λ q. taken_unless side (seen a.state q) full) (sym slot.side_is) ∙ side_free)
+
+  are : side_edits wants side full ++ folder_edit at ((key_file, key) ∷ []) ∷ [] ≡ edits_under root (edits (go_format keys) (under root (seen a.state)) slot.dir name NewDirectory key)
+  are =
+      ap (λ b. side_edits b side full ++ folder_edit at ((key_file, key) ∷ []) ∷ []) wants_is
+      ∙ ap (λ q. side_edits (wants_text (seen a.state q) full) q full ++ folder_edit at ((key_file, key) ∷ []) ∷ []) slot.side_is
+      ∙ ap (λ o. side_edits (wants_text (seen a.state (root ++ child slot.dir.folder (full_name ((go_format keys).stored slot.dir.key name).name))) o)
+      (root ++ child slot.dir.folder (full_name ((go_format keys).stored slot.dir.key name).name)) o ++ folder_edit at ((key_file, key) ∷ []) ∷ []) slot.full_is
+      ∙ ap (λ q. side_edits (wants_text (seen a.state (root ++ child slot.dir.folder (full_name ((go_format keys).stored slot.dir.key name).name))) ((go_format keys).stored slot.dir.key name).full)
+      (root ++ child slot.dir.folder (full_name ((go_format keys).stored slot.dir.key name).name)) ((go_format keys).stored slot.dir.key name).full ++ folder_edit q ((key_file, key) ∷ []) ∷ []) slot.at_is
+      ∙ sym (edits_are root (child slot.dir.folder (full_name ((go_format keys).stored slot.dir.key name).name)) (entry_at (go_format keys) slot.dir name) ((go_format keys).stored slot.dir.key name).full
+      (seen a.state (root ++ child slot.dir.folder (full_name ((go_format keys).stored slot.dir.key name).name))) ((key_file, key) ∷ []))
+
+  pub go_begun : IsBegun (placing (record { root = root; vault = Gocryptfs keys }) work front name NewDirectory) key (go_making wants side at full key) a
+  go_begun = directory_begun enters (record { root = root; vault = Gocryptfs keys }) laws work front name key named (go_making wants side at full key) refl a sound at side full slot apart beside
+      is_key free are sixteen refl
+
+-- ---- where its parts come to stand
+
+not_its_text : (n : Part) → bytes_eq (full_name n) n ≡ false
+not_its_text n = by_eq (bytes_eq (full_name n) n) refl
+  where
+    longer : full_name n ≡ n → ⊥
+    longer same =
+        let sizes : length n + 5 ≡ length n = sym (length-append n (codes ".name")) ∙ ap length same in
+        omega (arith, sizes)
+
+    by_eq : (b : Bool) → bytes_eq (full_name n) n ≡ b → b ≡ false
+    by_eq false e = refl
+    by_eq true e = absurd (longer ((bytes_eq-Decides (full_name n) n).0 e))
+
+wanted_free : (x : Found) (full : Option (List ℕ)) → wants_text x full ≡ true → x ≡ NoEntry
+wanted_free x None e = cc
+wanted_free NoEntry (Some text) e = refl
+wanted_free Folder (Some text) e = cc
+wanted_free (FileOf bytes) (Some text) e = cc
+wanted_free Special (Some text) e = cc
+
+pub go_places : Enters → FoldersStand → (keys : GoKeys) (root work : Path) (front : plain.Path) (name : List ℕ) (v : View) (at side : Path) (full : Option (List ℕ)) (wants : Bool) → IsReady v work
+    → below work root ≡ None → below root work ≡ None → IsSlot (record { root = root; vault = Gocryptfs keys }) (go_format keys) front name (under root v) at side full → wants ≡ wants_text (v side) full
+    → GoPlaces v work wants side at
+go_places enters folders keys root work front name v at side full wants ready apart beside slot wants_is = record {
+  entry = entry_comes enters folders (record { root = root; vault = Gocryptfs keys }) work front name v at side full ready apart beside slot;
+  side_comes = λ is_wanted. may_come_in enters folders (record { root = root; vault = Gocryptfs keys }) work front name v at side full ready apart beside slot
+      side (full_name ((go_format keys).stored slot.dir.key name).name) slot.side_is (wanted_free (v side) full (sym wants_is ∙ is_wanted));
+  others = ap (λ q. below q at) slot.side_is
+      ∙ ap (below (root ++ child slot.dir.folder (full_name ((go_format keys).stored slot.dir.key name).name))) slot.at_is
+      ∙ below-both root (child slot.dir.folder (full_name ((go_format keys).stored slot.dir.key name).name)) (entry_at (go_format keys) slot.dir name)
+      ∙ below-sibling slot.dir.folder (full_name ((go_format keys).stored slot.dir.key name).name) ((go_format keys).stored slot.dir.key name).name
+      (not_its_text ((go_format keys).stored slot.dir.key name).name);
+}

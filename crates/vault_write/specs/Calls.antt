@@ -1,0 +1,72 @@
+-- The calls that make an item at a plain path: under which bytes drawn, of which content, and all that follows of these.
+use Rattle.std.specs.Prelude.{◌≡◌, ◌≤◌, ℕ, List, [], ◌∷◌, ◌++◌, length, Option, Some, None, Result, OnOk}
+use Rattle.port_model.specs.Draws.{ByteStream, Draws}
+use Rattle.folder_spec.specs.Path.{Path, below}
+use Rattle.folder_spec.specs.Event.{Told}
+use Rattle.folder_spec.specs.Seen.{IsSeen, under}
+use Rattle.folder_spec.specs.View.{Found, View}
+use Rattle.plain_tree.specs.Names as plain
+use Rattle.vault_read.specs.Opened.{OpenedVault}
+use Rattle.vault_spec.specs.Making.{NewItem, NewDirectory, NewFile, draws}
+use Rattle.content_writing.specs.Content.{Coming, Ending, Whole, Stands, bytes_before, ends}
+use Rattle.vault_write.specs.Making.{Placing, Making, format, new_item, put_item}
+use Rattle.vault_write.specs.Placing.{Makes}
+use Rattle.vault_write.specs.Refusing.{Answers, AnswersPut, TakesRoot, PutsRoot}
+use Rattle.content_writing.specs.declared.fault.PutFault.{PutFault}
+
+-- an item that is new, or one that may come in the place of a file
+pub data How : Type 0 where
+  New : How
+  InPlace : How
+
+abbrev pub making_by : How → Placing → List ℕ → View → Making
+making_by New p drawn = new_item p drawn
+making_by InPlace p drawn = put_item p drawn
+
+abbrev pub AnswersBy : How → Placing → List ℕ → Ending → View → Result (Unit {0}) PutFault → Type 0
+AnswersBy New = Answers
+AnswersBy InPlace = AnswersPut
+
+abbrev pub AnswersRoot : How → Path → Result (Unit {0}) PutFault → Type 0
+AnswersRoot New root result = TakesRoot root result
+AnswersRoot InPlace root result = PutsRoot result
+
+-- A call makes an item under a name, with these bytes drawn: no more than the item draws.
+pub record MakesOne (how : How) (p : Placing) (ending : Ending) (drawn : List ℕ) (before after : Option Told) (result : Result (Unit {0}) PutFault) : Type 0 where
+  pub enough : length drawn ≤ draws (format p) p.item
+  pub makes : Makes p ending (making_by how p drawn) before after result
+  pub answer : (v : View) → IsSeen before v → AnswersBy how p drawn ending (under p.vault.root v) result
+
+-- at a plain path; the root isn't made
+pub record MakesAt (how : How) (vault : OpenedVault) (work : Path) (path : plain.Path) (item : NewItem) (ending : Ending) (drawn : List ℕ) (before after : Option Told) (result : Result (Unit {0}) PutFault) : Type 0 where
+  pub named : (front : plain.Path) (name : List ℕ) → path ≡ front ++ name ∷ []
+      → MakesOne how (record { vault = vault; work = work; front = front; name = name; item = item }) ending drawn before after result
+  pub root : path ≡ [] → (after ≡ before) × (drawn ≡ []) × AnswersRoot how vault.root result
+
+-- a new directory
+pub record MakesDirectory (vault : OpenedVault) (work : Path) (path : plain.Path) (stream stream' : Option ByteStream) (before after : Option Told) (result : Result (Unit {0}) PutFault) : Type 0 where
+  pub drawn : List ℕ
+  pub were_drawn : Draws stream stream' drawn
+  pub makes : MakesAt New vault work path NewDirectory Whole drawn before after result
+
+-- what was to come of a content was given from the front on; after Ok all of it
+pub record Gave (result : Result (Unit {0}) PutFault) (coming coming' : Option Coming) : Type 0 where
+  pub given : List ℕ
+  pub front : (c : Coming) → coming ≡ Some c → (c' : Coming) × (coming' ≡ Some c') × (c ≡ bytes_before given c')
+  pub all : OnOk result ((c : Coming) → coming ≡ Some c → coming' ≡ Some (ends Whole))
+
+-- A file of a content, that is this one where the content tells it.
+pub record MakesFile (how : How) (vault : OpenedVault) (work : Path) (path : plain.Path) (coming coming' : Found → Option Coming) (reads : Option Path)
+    (stream stream' : Option ByteStream) (before after : Option Told) (result : Result (Unit {0}) PutFault) : Type 0 where
+  pub drawn : List ℕ
+  pub content : List ℕ
+  pub ending : Ending
+  pub were_drawn : Draws stream stream' drawn
+  pub told : (found : Found) (c : Coming) → Stands reads before found → coming found ≡ Some c → (c.bytes ≡ content) × (c.ending ≡ ending)
+  pub gave : (found : Found) → Stands reads before found → Gave result (coming found) (coming' found)
+  pub makes : MakesAt how vault work path (NewFile content) ending drawn before after result
+
+-- the path that a content reads, if any, is neither in the work folder nor in the vault that is written
+abbrev pub ReadsElsewhere : Option Path → Path → Path → Type 0
+ReadsElsewhere None work root = Unit {0}
+ReadsElsewhere (Some at) work root = (below work at ≡ None) × (below root at ≡ None)

@@ -1,0 +1,30 @@
+-- Which faults the calls answer.
+use Rattle.content_writing.specs.declared.fault.PutFault.{PutFault}
+use Rattle.content_writing.specs.declared.fault.PutFault.TheVariants as puts
+use Rattle.content_writing.specs.declared.fault.PutFault.TheVariants.{Find, Damaged, Limit, ZeroRandom, Random, Failed, NoMemory}
+
+-- the answers of `place_dir`
+abbrev pub IsDirectoryFault : PutFault → Type 0
+IsDirectoryFault (Find fault) = Unit {0}
+IsDirectoryFault (puts.NotAllowed path) = Unit {0}
+IsDirectoryFault (puts.Taken at) = Unit {0}
+IsDirectoryFault (Damaged at fault) = ⊥
+IsDirectoryFault (Limit limit) = ⊥
+IsDirectoryFault ZeroRandom = Unit {0}
+IsDirectoryFault puts.Source = ⊥
+IsDirectoryFault Random = Unit {0}
+IsDirectoryFault Failed = Unit {0}
+IsDirectoryFault NoMemory = Unit {0}
+
+-- the answers of looking for the places of an item
+abbrev pub IsPlaceFault : PutFault → Type 0
+IsPlaceFault (Find fault) = Unit {0}
+IsPlaceFault (puts.NotAllowed path) = Unit {0}
+IsPlaceFault (puts.Taken at) = Unit {0}
+IsPlaceFault (Damaged at fault) = ⊥
+IsPlaceFault (Limit limit) = ⊥
+IsPlaceFault ZeroRandom = ⊥
+IsPlaceFault puts.Source = ⊥
+IsPlaceFault Random = ⊥
+IsPlaceFault Failed = Unit {0}
+IsPlaceFault NoMemory = Unit {0}

@@ -29,7 +29,7 @@ use Rattle.vault_write.proofs.Found.{Enters}
 use Rattle.vault_write.proofs.ItemMade.{IsBegun, at_itself}
 use Rattle.vault_write.proofs.Stages.{root_below}
 
-all_below : (root : Path) (list : List Edit) (e : Edit) → Contains (edits_under root list) e → IsTrue (at_or_below root e.at)
+pub all_below : (root : Path) (list : List Edit) (e : Edit) → Contains (edits_under root list) e → IsTrue (at_or_below root e.at)
 all_below root [] e (k, lt, is) = absurd (omega (arith, lt))
 all_below root (x ∷ list) e (zero, lt, is) = subst (λ (y : Edit). IsTrue (at_or_below root y.at)) is (at_itself root x.at)
 all_below root (x ∷ list) e (suc k, lt, is) = all_below root list e (k, omega (arith, lt), is)

@@ -57,13 +57,13 @@ all_opens f v w (e ∷ []) at item comes = comes
 all_opens f v w (e ∷ next ∷ edits) at item comes = all_opens f v (edited w e) (next ∷ edits) at item comes.1
 
 -- the first of some edits below a root are the first of these, below the root
-record IsSplit (root : Path) (edits done more : List Edit) : Type 0 where
-  first : List Edit
-  rest : List Edit
-  is : edits ≡ first ++ rest
-  done_is : done ≡ edits_under root first
+pub record IsSplit (root : Path) (edits done more : List Edit) : Type 0 where
+  pub first : List Edit
+  pub rest : List Edit
+  pub is : edits ≡ first ++ rest
+  pub done_is : done ≡ edits_under root first
 
-split : (root : Path) (edits done more : List Edit) → edits_under root edits ≡ done ++ more → IsSplit root edits done more
+pub split : (root : Path) (edits done more : List Edit) → edits_under root edits ≡ done ++ more → IsSplit root edits done more
 split root edits [] more e = record { first = []; rest = edits; is = refl; done_is = refl }
 split root (x ∷ edits) (d ∷ done) more e =
     let heads : edit_under root x ≡ d = ap (head_or (edit_under root x)) e in

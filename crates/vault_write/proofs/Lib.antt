@@ -18,3 +18,6 @@ mod Drawn
 mod Staged
 mod NewVaults
 mod NewFounded
+mod Filing
+mod FileBegun
+mod FileMade

@@ -17,8 +17,8 @@ use Rattle.content_writing.specs.Content.{Ending, Whole}
 use Rattle.vault_write.specs.Making.{Placing, format, path_of, is_staged, is_unstaged}
 use Rattle.vault_write.specs.Placing.{HasVault, ShowsOne, ShowsOldOrNewTree, ShowsNewTree}
 use Rattle.vault_spec.specs.Staying.{LoadsAlike, StaysVault}
-use Rattle.vault_write.specs.Showing.{MakeItem, MakeItemAt}
-use Rattle.vault_write.specs.Trees.{KeepsTree, GainsItem, opens_as}
+use Rattle.vault_write.specs.Showing.{MakeItem, MakeItemAt, MakesAlone}
+use Rattle.vault_write.specs.Trees.{ShowsVault, KeepsVault, KeepsTree, GainsItem, opens_as}
 
 -- edits below a root are edits of what it shows
 abbrev pub RootsShowEdits : Type 0
@@ -158,11 +158,11 @@ seen_shown region s v alone =
 seen_vault : RootsAreAlike → (p : Placing) (region : Path → Bool) (s : State) (v : View) → ShowsOne p region s v → under p.vault.root (seen s) ≡ under p.vault.root v
 seen_vault alike p region s v one = alike p.vault.root (seen s) v (λ q in_vault. (seen_shown region s v one.alone).agrees q (one.has.vault q in_vault))
 
-made_item : RootsAreAlike → (p : Placing) (edits : List Edit) (region : Path → Bool) (s : State) (v : View) → ShowsOne p region s v → MakeItemAt p edits s
-    → MakeItem (format p) (under p.vault.root v) (path_of p) (opens_as p.item) edits
-made_item alike p edits region s v one at =
+made_item : RootsAreAlike → (p : Placing) (item : Opened) (edits : List Edit) (region : Path → Bool) (s : State) (v : View) → ShowsOne p region s v → MakesAlone p item edits s
+    → MakeItem (format p) (under p.vault.root v) (path_of p) item edits
+made_item alike p item edits region s v one at =
     let same : under p.vault.root (seen s) ≡ under p.vault.root v = seen_vault alike p region s v one in
-    subst (λ u. MakeItem (format p) u (path_of p) (opens_as p.item) edits) same
+    subst (λ u. MakeItem (format p) u (path_of p) item edits) same
     (at (record { clean = subst (IsClean (format p)) (sym same) one.good.clean; orderly = subst (IsOrderly (format p)) (sym same) one.good.orderly }))
 
 outside : (p : Placing) (region : Path → Bool) → HasVault p region → IsPartOf region (is_unstaged p.work)
@@ -188,7 +188,7 @@ shown_after alike p edits s0 s publishes region v one t is_table =
 pub old_or_new : RootsShowEdits → RootsAreAlike → (p : Placing) (edits : List Edit) (s0 s : State) → MakeItemAt p edits s0
     → PublishesIn (is_unstaged p.work) (edits_under p.vault.root edits) s0 s → ShowsOldOrNewTree p Whole s0 s
 old_or_new shows alike p edits s0 s at publishes region v one t is_table =
-    let made : MakeItem (format p) (under p.vault.root v) (path_of p) (opens_as p.item) edits = made_item alike p edits region s0 v one at in
+    let made : MakeItem (format p) (under p.vault.root v) (path_of p) (opens_as p.item) edits = made_item alike p (opens_as p.item) edits region s0 v one at in
     let there : (w : View) × Shows region s t w × ((w ≡ v) ⊎ Contains (views_after v (edits_under p.vault.root edits)) w) = shown_after alike p edits s0 s publishes region v one t is_table in (
       there.0,
       there.1,
@@ -198,16 +198,16 @@ old_or_new shows alike p edits s0 s at publishes region v one t is_table =
       ],
     )
 
-pub old_before_last : RootsShowEdits → RootsAreAlike → (p : Placing) (ending : Ending) (edits : List Edit) (last : Edit) (s0 s : State) → MakeItemAt p (edits ++ last ∷ []) s0
+pub old_before_last : RootsShowEdits → RootsAreAlike → (p : Placing) (ending : Ending) (item : Opened) (edits : List Edit) (last : Edit) (s0 s : State) → MakesAlone p item (edits ++ last ∷ []) s0
     → PublishesIn (is_unstaged p.work) (edits_under p.vault.root edits) s0 s → ShowsOldOrNewTree p ending s0 s
-old_before_last shows alike p ending edits last s0 s at publishes region v one t is_table =
-    let made : MakeItem (format p) (under p.vault.root v) (path_of p) (opens_as p.item) (edits ++ last ∷ []) = made_item alike p (edits ++ last ∷ []) region s0 v one at in
+old_before_last shows alike p ending item edits last s0 s at publishes region v one t is_table =
+    let made : MakeItem (format p) (under p.vault.root v) (path_of p) item (edits ++ last ∷ []) = made_item alike p item (edits ++ last ∷ []) region s0 v one at in
     let there : (w : View) × Shows region s t w × ((w ≡ v) ⊎ Contains (views_after v (edits_under p.vault.root edits)) w) = shown_after alike p edits s0 s publishes region v one t is_table in (
       there.0,
       there.1,
       inl (elim there.2 [
         | inl is ↦ subst (KeepsTree (format p) p.vault.root v) (sym is) (same_tree p region s0 v one)
-        | inr later ↦ before_last (format p) p.vault.root (path_of p) (opens_as p.item) v v edits last shows (λ q apart. refl) made.alone made.clean made.vault there.0 later
+        | inr later ↦ before_last (format p) p.vault.root (path_of p) item v v edits last shows (λ q apart. refl) made.alone made.clean made.vault there.0 later
       ]),
     )
 
@@ -230,7 +230,7 @@ pub new_alone : RootsShowEdits → RootsAreAlike
 new_alone shows alike alone p edits s0 s at settled = record {
   settled = settled.settled;
   tree = λ region v one.
-      let made : MakeItem (format p) (under p.vault.root v) (path_of p) (opens_as p.item) edits = made_item alike p edits region s0 v one at in (
+      let made : MakeItem (format p) (under p.vault.root v) (path_of p) (opens_as p.item) edits = made_item alike p (opens_as p.item) edits region s0 v one at in (
         view_after v (edits_under p.vault.root edits),
         alone (is_unstaged p.work) (edits_under p.vault.root edits) s0 s settled region v (outside p region one.has) (seen_shown region s0 v one.alone),
         after_all (format p) p.vault.root (path_of p) (opens_as p.item) v v edits shows (λ q apart. refl) made.alone made.clean made.vault,

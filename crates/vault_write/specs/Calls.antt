@@ -1,18 +1,22 @@
 -- The calls that make an item at a plain path: under which bytes drawn, of which content, and all that follows of these.
-use Rattle.std.specs.Prelude.{◌≡◌, ◌≤◌, ℕ, List, [], ◌∷◌, ◌++◌, length, Option, Some, None, Result, OnOk}
+use Rattle.std.specs.Prelude.{◌≡◌, ◌≢◌, ◌≤◌, ℕ, List, [], ◌∷◌, ◌++◌, length, Option, Some, None, Result, Ok, Err, OnOk}
+use Rattle.chunk_files.specs.Keys.{Keys}
 use Rattle.port_model.specs.Draws.{ByteStream, Draws}
 use Rattle.folder_spec.specs.Path.{Path, below}
 use Rattle.folder_spec.specs.Event.{Told}
 use Rattle.folder_spec.specs.Seen.{IsSeen, under}
-use Rattle.folder_spec.specs.View.{Found, View}
+use Rattle.folder_spec.specs.View.{View}
 use Rattle.plain_tree.specs.Names as plain
 use Rattle.vault_read.specs.Opened.{OpenedVault}
 use Rattle.vault_spec.specs.Making.{NewItem, NewDirectory, NewFile, draws}
-use Rattle.content_writing.specs.Content.{Coming, Ending, Whole, Stands, bytes_before, ends}
+use Rattle.vault_spec.specs.Vault.{format_of}
+use Rattle.content_writing.specs.Content.{Coming, Ending, Whole, Gave, HasEnded}
+use Rattle.content_writing.specs.Writing.{WereAccepted}
 use Rattle.vault_write.specs.Making.{Placing, Making, format, new_item, put_item}
 use Rattle.vault_write.specs.Placing.{Makes}
 use Rattle.vault_write.specs.Refusing.{Answers, AnswersPut, TakesRoot, PutsRoot}
 use Rattle.content_writing.specs.declared.fault.PutFault.{PutFault}
+use Rattle.content_writing.specs.declared.fault.PutFault.TheVariants as puts
 
 -- an item that is new, or one that may come in the place of a file
 pub data How : Type 0 where
@@ -49,22 +53,28 @@ pub record MakesDirectory (vault : OpenedVault) (work : Path) (path : plain.Path
   pub were_drawn : Draws stream stream' drawn
   pub makes : MakesAt New vault work path NewDirectory Whole drawn before after result
 
--- what was to come of a content was given from the front on; after Ok all of it
-pub record Gave (result : Result (Unit {0}) PutFault) (coming coming' : Option Coming) : Type 0 where
-  pub given : List ℕ
-  pub front : (c : Coming) → coming ≡ Some c → (c' : Coming) × (coming' ≡ Some c') × (c ≡ bytes_before given c')
-  pub all : OnOk result ((c : Coming) → coming ≡ Some c → coming' ≡ Some (ends Whole))
-
--- A file of a content, that is this one where the content tells it.
-pub record MakesFile (how : How) (vault : OpenedVault) (work : Path) (path : plain.Path) (coming coming' : Found → Option Coming) (reads : Option Path)
-    (stream stream' : Option ByteStream) (before after : Option Told) (result : Result (Unit {0}) PutFault) : Type 0 where
+-- a content that ends so, the bytes that were given of it, and those that were drawn for it
+pub record Writing : Type 0 where
   pub drawn : List ℕ
   pub content : List ℕ
+  pub given : List ℕ
   pub ending : Ending
-  pub were_drawn : Draws stream stream' drawn
-  pub told : (found : Found) (c : Coming) → Stands reads before found → coming found ≡ Some c → (c.bytes ≡ content) × (c.ending ≡ ending)
-  pub gave : (found : Found) → Stands reads before found → Gave result (coming found) (coming' found)
-  pub makes : MakesAt how vault work path (NewFile content) ending drawn before after result
+
+-- What is drawn for a content and given of it: it is this one, which ends so, where the content tells that. Zeros that are refused
+-- were drawn only at last, and after Ok nothing is left of the content.
+pub record TakesContent (keys : Keys) (w : Writing) (coming left : Option Coming) (stream stream' : Option ByteStream) (result : Result (Unit {0}) PutFault) : Type 0 where
+  pub were_drawn : Draws stream stream' w.drawn
+  pub accepted : result ≢ Err puts.ZeroRandom → WereAccepted keys w.drawn
+  pub told : (c : Coming) → coming ≡ Some c → c ≡ record { bytes = w.content; ending = w.ending }
+  pub gave : Gave w.given coming left
+  pub ended : OnOk result (HasEnded Whole coming left)
+
+-- A file of a content.
+pub record MakesFile (how : How) (vault : OpenedVault) (work : Path) (path : plain.Path) (coming left : Option Coming) (stream stream' : Option ByteStream)
+    (before after : Option Told) (result : Result (Unit {0}) PutFault) : Type 0 where
+  pub writing : Writing
+  pub takes : TakesContent (format_of vault.vault).content writing coming left stream stream' result
+  pub makes : MakesAt how vault work path (NewFile writing.content) writing.ending writing.drawn before after result
 
 -- the path that a content reads, if any, is neither in the work folder nor in the vault that is written
 abbrev pub ReadsElsewhere : Option Path → Path → Path → Type 0

@@ -7,5 +7,6 @@ pub mod Refusing
 pub mod Editing
 pub mod Calls
 pub mod Slots
+pub mod Filing
 pub mod Showing
 pub mod Founding

@@ -20,17 +20,21 @@ pub record MakeItem (f : Format) (u : View) (path : plain.Path) (item : Opened) 
   pub clean : StaysClean f u edits
   pub vault : StaysVault f u u edits
 
--- what the edits are to be, where the vault as it was seen is in good order
+-- something comes so, where the vault as it was seen is in good order
+abbrev pub MakesAlone : Placing → Opened → List Edit → State → Type 0
+MakesAlone p item edits s0 = ShowsVault (format p) p.vault.root (seen s0) → MakeItem (format p) (under p.vault.root (seen s0)) (path_of p) item edits
+
+-- the item does
 abbrev pub MakeItemAt : Placing → List Edit → State → Type 0
-MakeItemAt p edits s0 = ShowsVault (format p) p.vault.root (seen s0) → MakeItem (format p) (under p.vault.root (seen s0)) (path_of p) (opens_as p.item) edits
+MakeItemAt p edits s0 = MakesAlone p (opens_as p.item) edits s0
 
 abbrev pub EditsShowTrees : Type 0
 EditsShowTrees = (p : Placing) (edits : List Edit) (s0 s : State) → MakeItemAt p edits s0
     → PublishesIn (is_unstaged p.work) (edits_under p.vault.root edits) s0 s → ShowsOldOrNewTree p Whole s0 s
 
--- while all but the last are published, the old tree alone, however the content ends
+-- while all but the last are published, the old tree alone, however the content ends and whatever the last brings
 abbrev pub EditsBeforeTheLastKeepTrees : Type 0
-EditsBeforeTheLastKeepTrees = (p : Placing) (ending : Ending) (edits : List Edit) (last : Edit) (s0 s : State) → MakeItemAt p (edits ++ last ∷ []) s0
+EditsBeforeTheLastKeepTrees = (p : Placing) (ending : Ending) (item : Opened) (edits : List Edit) (last : Edit) (s0 s : State) → MakesAlone p item (edits ++ last ∷ []) s0
     → PublishesIn (is_unstaged p.work) (edits_under p.vault.root edits) s0 s → ShowsOldOrNewTree p ending s0 s
 
 abbrev pub SettledEditsShowTrees : Type 0

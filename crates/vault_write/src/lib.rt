@@ -1,4 +1,4 @@
-//! Making vaults and directories so that a crash at any moment leaves the old tree or the new one.
+//! Making vaults, directories and files so that a crash at any moment leaves the old tree or the new one.
 //!
 //! What is written is staged in a work folder, made to last, and renamed onto its place. What a place needs beside it comes first: the
 //! file of a long name, and the content folder of a new directory.
@@ -6,6 +6,7 @@
 
 pub mod directory;
 mod drawing;
+pub mod file;
 pub mod init;
 pub mod laws;
 mod slot;
@@ -13,6 +14,7 @@ mod stage;
 #[cfg(test)]
 mod tests;
 
-pub use content_writing::PutFault;
+pub use content_writing::{Content, PutFault, SourceContent, VaultContent};
 pub use directory::place_dir;
+pub use file::place_file;
 pub use init::{init_cm, init_go};

@@ -1,0 +1,309 @@
+-- A file is begun: what its edits are, and that they make it where its content comes whole.
+use Rattle.std.specs.Prelude.{Contains}
+use Rattle.std.specs.Option.{option_or}
+use Rattle.std.proofs.Common.{arith, true, false, Bool, ◌≡◌, ◌≢◌, ◌⊎◌, ℕ, List, [], ◌∷◌, ◌++◌, Option, Some, None, Ok, Err, refl, sym, ap, ◌∙◌, inl, inr, subst, cond, bytes_eq, IsTrue}
+use Rattle.std.specs.List.{concat}
+use Rattle.chunk_files.specs.Encrypt.{IsEncrypted, encrypt}
+use Rattle.chunk_files.specs.FileOf.{FilesAreWhatTheyGive, EncryptedFilesAreFiles, Gives}
+use Rattle.chunk_files.specs.Keys.{Keys}
+use Rattle.chunk_files.specs.Reading as reading
+use Rattle.chunk_files.specs.Contents.{readable}
+use Rattle.folder_spec.specs.Path.{Path, below, child}
+use Rattle.folder_spec.specs.State.{IsSound}
+use Rattle.folder_spec.specs.Edit.{Edit, edit_under, edits_under, file_edit, file_view}
+use Rattle.folder_spec.specs.Event.{Told}
+use Rattle.folder_spec.specs.Seen.{seen, IsSeen, under}
+use Rattle.folder_spec.specs.View.{Found, NoEntry, Folder, FileOf, Special, View}
+use Rattle.gocrypt_conf.specs.declared.keys.GoKeys.{GoKeys}
+use Rattle.plain_tree.specs.Names as plain
+use Rattle.plain_tree.specs.Names.{is_name}
+use Rattle.vault_read.specs.Laws.{KeepsVaults}
+use Rattle.vault_read.specs.Opened.{OpenedVault, kind_of}
+use Rattle.vault_read.specs.declared.vault.VaultKind.TheVariants as kind
+use Rattle.vault_spec.specs.Adding.{ComesAlone, StaysClean}
+use Rattle.vault_spec.specs.Staying.{StaysVault}
+use Rattle.vault_spec.specs.Alike.{IsOrderly}
+use Rattle.vault_spec.specs.Anywhere.{ComesAtLast}
+use Rattle.vault_spec.specs.Cryptomator.{CmVault, cm_format, new_file_edit, taken_entry}
+use Rattle.vault_spec.specs.Find.{enter}
+use Rattle.vault_spec.specs.Format as format
+use Rattle.vault_spec.specs.Format.{taken_at}
+use Rattle.vault_spec.specs.Gocryptfs.{full_name, go_format, full_edits, full_edits_at, taken_unless, go_taken}
+use Rattle.vault_spec.specs.Making.{NewItem, NewDirectory, NewFile, edits, files, full_texts, taken}
+use Rattle.vault_spec.specs.Opens.{Opened, Content, opened_by, opened_file}
+use Rattle.vault_spec.specs.Reached.{Leads}
+use Rattle.vault_spec.specs.Standing.{entry_at}
+use Rattle.vault_spec.specs.Vault.{Vault, Gocryptfs, Cryptomator, format_of}
+use Rattle.content_writing.specs.Content.{Ending}
+use Rattle.content_writing.specs.declared.fault.PutFault.{PutFault}
+use Rattle.content_writing.specs.declared.fault.PutFault.TheVariants as puts
+use Rattle.vault_write.specs.Editing.{GoPlaces, MayCome, side_edits}
+use Rattle.vault_write.specs.Filing.{entry_edit}
+use Rattle.vault_write.specs.Making.{Placing, Making, format, making_in, new_item, path_of}
+use Rattle.vault_write.specs.Placing.{MayMake, making_at}
+use Rattle.vault_write.specs.Refusing.{Answers, HasTaken}
+use Rattle.vault_write.specs.Showing.{MakesAlone}
+use Rattle.vault_write.specs.Slots.{IsSlot, IsSideTaken, RefusesItem, placing, wants_text}
+use Rattle.vault_write.specs.Trees.{opens_as}
+use Rattle.vault_write.proofs.Begun.{FoldersStand, entry_comes, folders_seen}
+use Rattle.vault_write.proofs.Found.{Enters}
+use Rattle.vault_write.proofs.GoBegun.{go_places}
+use Rattle.vault_write.proofs.ItemMade.{IsBegun}
+
+-- these edits, the item itself by the last one
+abbrev pub file_making : List Edit → Edit → List (List ℕ) → Making
+file_making firsts e some_files = record { edits = firsts ++ e ∷ []; files = some_files; replaces = false }
+
+-- The last of its edits brings something that opens so, and all before leaves what opens.
+pub record IsFiled (p : Placing) (opens : Opened) (drawn : List ℕ) (firsts : List Edit) (e : Edit) (some_files : List (List ℕ)) (a : Told) : Type 0 where
+  pub before : List Edit
+  pub at_last : Edit
+  pub making : making_at p (new_item p drawn) a.state ≡ file_making firsts e some_files
+  pub are : firsts ≡ edits_under p.vault.root before
+  pub last_is : e ≡ edit_under p.vault.root at_last
+  pub item : MakesAlone p opens (before ++ at_last ∷ []) a.state
+  pub last : ComesAtLast (format p) (under p.vault.root (seen a.state)) (under p.vault.root (seen a.state)) (before ++ at_last ∷ []) (path_of p) opens
+  pub alone : IsOrderly (format p) (under p.vault.root (seen a.state)) → ComesAlone (format p) (under p.vault.root (seen a.state)) (under p.vault.root (seen a.state)) (before ++ at_last ∷ []) (path_of p) opens
+  pub taken : HasTaken p drawn (under p.vault.root (seen a.state)) None
+  pub apart : below p.work p.vault.root ≡ None
+  pub beside : below p.vault.root p.work ≡ None
+
+edits_under-append : (root : Path) (some more : List Edit) → edits_under root (some ++ more) ≡ edits_under root some ++ edits_under root more
+edits_under-append root [] more = refl
+edits_under-append root (x ∷ some) more = ap (λ es. edit_under root x ∷ es) (edits_under-append root some more)
+
+pub all_are : (root : Path) (firsts before : List Edit) (e at_last : Edit) → firsts ≡ edits_under root before → e ≡ edit_under root at_last → firsts ++ e ∷ [] ≡ edits_under root (before ++ at_last ∷ [])
+all_are root firsts before e at_last are is = ap (λ es. es ++ e ∷ []) are ∙ ap (λ x. edits_under root before ++ x ∷ []) is ∙ sym (edits_under-append root before (at_last ∷ []))
+
+-- where it opens as the item, the item is begun
+pub is_begun : (p : Placing) (opens : Opened) (drawn : List ℕ) (firsts : List Edit) (e : Edit) (some_files : List (List ℕ)) (a : Told) → opens ≡ opens_as p.item → IsFiled p opens drawn firsts e some_files a
+    → IsBegun p drawn (file_making firsts e some_files) a
+is_begun p opens drawn firsts e some_files a same k = record {
+  edits = k.before ++ k.at_last ∷ [];
+  making = k.making;
+  are = all_are p.vault.root firsts k.before e k.at_last k.are k.last_is;
+  item = subst (λ x. MakesAlone p x (k.before ++ k.at_last ∷ []) a.state) same k.item;
+  last = subst (λ x. ComesAtLast (format p) (under p.vault.root (seen a.state)) (under p.vault.root (seen a.state)) (k.before ++ k.at_last ∷ []) (path_of p) x) same k.last;
+  alone = λ orderly. subst (λ x. ComesAlone (format p) (under p.vault.root (seen a.state)) (under p.vault.root (seen a.state)) (k.before ++ k.at_last ∷ []) (path_of p) x) same (k.alone orderly);
+  taken = k.taken;
+  apart = k.apart;
+  beside = k.beside;
+}
+
+-- what is encrypted under just the bytes that it draws opens as its content
+pub opens_whole : FilesAreWhatTheyGive → EncryptedFilesAreFiles → (keys : Keys) (drawn content : List ℕ) → IsEncrypted keys drawn content (encrypt keys drawn content)
+    → opened_file keys (Some (encrypt keys drawn content)) ≡ Content content
+opens_whole gives are keys drawn content encrypted =
+    let k : Gives keys (encrypt keys drawn content) content = (gives keys (encrypt keys drawn content) content).0 (are keys drawn content (encrypt keys drawn content) encrypted) in
+    ap (λ e. opened_by (readable keys (encrypt keys drawn content)).chunks e) k.whole ∙ ap Content (sym k.joined)
+
+abbrev making_of : List Edit → List (List ℕ) → Bool → Making
+making_of some_edits some_files replaces = record { edits = some_edits; files = some_files; replaces = replaces }
+
+same_making : (some other : Making) → some.edits ≡ other.edits → some.files ≡ other.files → some.replaces ≡ other.replaces → some ≡ other
+same_making some other one two three =
+    ap (λ (e : List Edit). making_of e some.files some.replaces) one ∙ ap (λ (f : List (List ℕ)). making_of other.edits f some.replaces) two ∙ ap (λ (r : Bool). making_of other.edits other.files r) three
+
+-- ---- in an opened vault, by the laws of its format
+
+module _ (enters : Enters) (vault : OpenedVault) (laws : KeepsVaults (format_of vault.vault)) (work : Path) (front : plain.Path) (name content drawn : List ℕ) (named : IsTrue (is_name name))
+    (a : Told) (sound : IsSound a.state) (at side : Path) (full : Option (List ℕ)) (slot : IsSlot vault (format_of vault.vault) front name (under vault.root (seen a.state)) at side full)
+    (apart : below work vault.root ≡ None) (beside : below vault.root work ≡ None) where
+  abbrev bytes : List ℕ
+  bytes = encrypt (format_of vault.vault).content drawn content
+
+  leads : Leads (format_of vault.vault) (under vault.root (seen a.state)) front slot.dir
+  leads = (enters (format_of vault.vault) (under vault.root (seen a.state)) front slot.dir).0 slot.entered
+
+  pub filed : (firsts before : List Edit) (e at_last : Edit)
+      → (format_of vault.vault).taken_for_file (under vault.root (seen a.state)) slot.dir ((format_of vault.vault).stored slot.dir.key name) ≡ None
+      → (format_of vault.vault).new_file (under vault.root (seen a.state)) slot.dir ((format_of vault.vault).stored slot.dir.key name) bytes ≡ before ++ at_last ∷ []
+      → firsts ≡ edits_under vault.root before → e ≡ edit_under vault.root at_last
+      → IsFiled (placing vault work front name (NewFile content)) (opened_file (format_of vault.vault).content (Some bytes)) drawn firsts e (full_texts full ++ bytes ∷ []) a
+  filed firsts before e at_last free makes are last_is = record {
+    before = before;
+    at_last = at_last;
+    making = ap (making_in (placing vault work front name (NewFile content)) (under vault.root (seen a.state)) drawn) slot.entered
+        ∙ same_making _ _ (ap (edits_under vault.root) makes ∙ sym (all_are vault.root firsts before e at_last are last_is)) (ap (λ o. full_texts o ++ bytes ∷ []) (sym slot.full_is)) refl;
+    are = are;
+    last_is = last_is;
+    item = λ good. record {
+      alone = subst (λ es. ComesAlone (format_of vault.vault) (under vault.root (seen a.state)) (under vault.root (seen a.state)) es (front ++ name ∷ []) (opened_file (format_of vault.vault).content (Some bytes))) makes
+          (laws.alone.file (under vault.root (seen a.state)) front slot.dir name bytes good.orderly leads named free);
+      clean = subst (λ es. StaysClean (format_of vault.vault) (under vault.root (seen a.state)) es) makes (laws.clean.file (under vault.root (seen a.state)) front slot.dir name bytes good.orderly good.clean leads named free);
+      vault = subst (λ es. StaysVault (format_of vault.vault) (under vault.root (seen a.state)) (under vault.root (seen a.state)) es) makes
+          (laws.stay.file (under vault.root (seen a.state)) front slot.dir name bytes good.orderly leads named free);
+    };
+    last = subst (λ es. ComesAtLast (format_of vault.vault) (under vault.root (seen a.state)) (under vault.root (seen a.state)) es (front ++ name ∷ []) (opened_file (format_of vault.vault).content (Some bytes))) makes
+        (laws.last.file (under vault.root (seen a.state)) front slot.dir name bytes (folders_seen vault.root a.state sound) leads named free);
+    alone = λ orderly. subst (λ es. ComesAlone (format_of vault.vault) (under vault.root (seen a.state)) (under vault.root (seen a.state)) es (front ++ name ∷ []) (opened_file (format_of vault.vault).content (Some bytes))) makes
+        (laws.alone.file (under vault.root (seen a.state)) front slot.dir name bytes orderly leads named free);
+    taken = record { dir = slot.dir; there = record { entered = slot.entered; allowed = slot.allowed }; is = free };
+    apart = apart;
+    beside = beside;
+  }
+
+-- ---- in gocryptfs
+
+sides_are : (root side : Path) (full : Option (List ℕ)) (there : Found) → side_edits (wants_text there full) (root ++ side) full ≡ edits_under root (full_edits_at side there full)
+sides_are root side None there = refl
+sides_are root side (Some text) NoEntry = refl
+sides_are root side (Some text) (FileOf there) = refl
+sides_are root side (Some text) Folder = refl
+sides_are root side (Some text) Special = refl
+
+-- nothing stands there, or the text
+free_so : (place : Path) (there : Found) (o : Option (List ℕ)) (other : Path) → taken_unless place there o ≡ None → taken_unless other there o ≡ None
+free_so place there None other none = refl
+free_so place NoEntry (Some text) other none = refl
+free_so place (FileOf bytes) (Some text) other none = by_text (bytes_eq bytes text) none
+  where
+    by_text : (b : Bool) → cond b None (Some place) ≡ None → cond b None (Some other) ≡ None
+    by_text true e = refl
+    by_text false e = cc
+free_so place Folder (Some text) other none = cc
+free_so place Special (Some text) other none = cc
+
+-- something else stands there
+taken_so : (place : Path) (there : Found) (o : Option (List ℕ)) (other : Path) → taken_unless place there o ≡ Some place → taken_unless other there o ≡ Some other
+taken_so place there None other none = cc
+taken_so place NoEntry (Some text) other none = cc
+taken_so place (FileOf bytes) (Some text) other none = by_text (bytes_eq bytes text) none
+  where
+    by_text : (b : Bool) → cond b None (Some place) ≡ Some place → cond b None (Some other) ≡ Some other
+    by_text true e = cc
+    by_text false e = refl
+taken_so place Folder (Some text) other none = refl
+taken_so place Special (Some text) other none = refl
+
+module _ (keys : GoKeys) (root : Path) (front : plain.Path) (name : List ℕ) (v : View) (at side : Path) (full : Option (List ℕ))
+    (slot : IsSlot (record { root = root; vault = Gocryptfs keys }) (go_format keys) front name (under root v) at side full) where
+  abbrev side_at : Path
+  side_at = child slot.dir.folder (full_name ((go_format keys).stored slot.dir.key name).name)
+
+  -- what is taken, by what stands at the long name's file
+  beside_is : {X : Type 0} (f : Found → Option (List ℕ) → X) → f (v side) full ≡ f (under root v side_at) ((go_format keys).stored slot.dir.key name).full
+  beside_is f = ap (λ o. f (v side) o) slot.full_is ∙ ap (λ q. f (v q) ((go_format keys).stored slot.dir.key name).full) slot.side_is
+
+  taken_is : go_taken (under root v) slot.dir ((go_format keys).stored slot.dir.key name) ≡ taken_unless side_at (under root v side_at) ((go_format keys).stored slot.dir.key name).full
+  taken_is = ap (λ x. option_or (taken_at (entry_at (go_format keys) slot.dir name) x) (taken_unless side_at (under root v side_at) ((go_format keys).stored slot.dir.key name).full)) slot.free
+
+  pub go_free : taken_unless side (v side) full ≡ None → go_taken (under root v) slot.dir ((go_format keys).stored slot.dir.key name) ≡ None
+  go_free none = taken_is ∙ free_so side (under root v side_at) ((go_format keys).stored slot.dir.key name).full side_at (sym (beside_is (taken_unless side)) ∙ none)
+
+  pub go_side : taken_unless side (v side) full ≡ Some side → go_taken (under root v) slot.dir ((go_format keys).stored slot.dir.key name) ≡ Some side_at
+  go_side is = taken_is ∙ taken_so side (under root v side_at) ((go_format keys).stored slot.dir.key name).full side_at (sym (beside_is (taken_unless side)) ∙ is)
+
+  sides_under : (wants : Bool) → wants ≡ wants_text (v side) full → side_edits wants side full ≡ edits_under root (full_edits (under root v) slot.dir ((go_format keys).stored slot.dir.key name))
+  sides_under wants is =
+      ap (λ b. side_edits b side full) is
+      ∙ ap (λ o. side_edits (wants_text (v side) o) side o) slot.full_is
+      ∙ ap (λ q. side_edits (wants_text (v q) ((go_format keys).stored slot.dir.key name).full) q ((go_format keys).stored slot.dir.key name).full) slot.side_is
+      ∙ sides_are root side_at ((go_format keys).stored slot.dir.key name).full (under root v side_at)
+
+  entry_under : (bytes : List ℕ) → entry_edit at None bytes ≡ edit_under root (file_edit (child slot.dir.folder ((go_format keys).stored slot.dir.key name).name) bytes)
+  entry_under bytes = ap (λ q. entry_edit q None bytes) slot.at_is
+
+pub go_filed : Enters → (keys : GoKeys) → KeepsVaults (go_format keys) → (root work : Path) (front : plain.Path) (name content drawn : List ℕ) → IsTrue (is_name name) → (a : Told) → IsSound a.state
+    → (at side : Path) (full : Option (List ℕ)) (wants : Bool) → IsSlot (record { root = root; vault = Gocryptfs keys }) (go_format keys) front name (under root (seen a.state)) at side full
+    → wants ≡ wants_text (seen a.state side) full → taken_unless side (seen a.state side) full ≡ None → below work root ≡ None → below root work ≡ None
+    → IsFiled (placing (record { root = root; vault = Gocryptfs keys }) work front name (NewFile content)) (opened_file (go_format keys).content (Some (encrypt (go_format keys).content drawn content))) drawn
+    (side_edits wants side full) (entry_edit at None (encrypt (go_format keys).content drawn content)) (full_texts full ++ encrypt (go_format keys).content drawn content ∷ []) a
+go_filed enters keys laws root work front name content drawn named a sound at side full wants slot wants_is side_free apart beside =
+    filed enters (record { root = root; vault = Gocryptfs keys }) laws work front name content drawn named a sound at side full slot apart beside
+    (side_edits wants side full) (full_edits (under root (seen a.state)) slot.dir ((go_format keys).stored slot.dir.key name))
+    (entry_edit at None (encrypt (go_format keys).content drawn content)) (file_edit (child slot.dir.folder ((go_format keys).stored slot.dir.key name).name) (encrypt (go_format keys).content drawn content))
+    (go_free keys root front name (seen a.state) at side full slot side_free) refl (sides_under keys root front name (seen a.state) at side full slot wants wants_is)
+    (entry_under keys root front name (seen a.state) at side full slot (encrypt (go_format keys).content drawn content))
+
+-- the long name's file is taken
+pub side_taken : (keys : GoKeys) (root : Path) (front : plain.Path) (name : List ℕ) (content : List ℕ) (t : Option Told) (at side : Path) (full : Option (List ℕ)) (fault : PutFault)
+    → ((v : View) → IsSeen t v → IsSlot (record { root = root; vault = Gocryptfs keys }) (go_format keys) front name (under root v) at side full)
+    → IsSideTaken side full t fault → RefusesItem (record { root = root; vault = Gocryptfs keys }) front name (NewFile content) [] t fault
+side_taken keys root front name content t at side full fault slots (inl failed) work ending v s =
+    subst (λ x. Answers (placing (record { root = root; vault = Gocryptfs keys }) work front name (NewFile content)) [] ending (under root v) (Err x)) (sym failed) tt
+side_taken keys root front name content t at side full fault slots (inr (inl memory)) work ending v s =
+    subst (λ x. Answers (placing (record { root = root; vault = Gocryptfs keys }) work front name (NewFile content)) [] ending (under root v) (Err x)) (sym memory) tt
+side_taken keys root front name content t at side full fault slots (inr (inr is_taken)) work ending v s =
+    subst (λ x. Answers (placing (record { root = root; vault = Gocryptfs keys }) work front name (NewFile content)) [] ending (under root v) (Err x)) (sym is_taken.0) (
+      child (slots v s).dir.folder (full_name ((go_format keys).stored (slots v s).dir.key name).name),
+      (slots v s).side_is,
+      record {
+        dir = (slots v s).dir;
+        there = record { entered = (slots v s).entered; allowed = (slots v s).allowed };
+        is = go_side keys root front name v at side full (slots v s) (is_taken.1 v s);
+      },
+    )
+
+-- ---- in Cryptomator
+
+cm_entry_under : (root at : Path) (full : Option (List ℕ)) (file : List ℕ) → entry_edit (root ++ at) full file ≡ edit_under root (new_file_edit at full file)
+cm_entry_under root at None file = refl
+cm_entry_under root at (Some text) file = refl
+
+pub cm_filed : Enters → (cm : CmVault) → KeepsVaults (cm_format cm) → (root work : Path) (front : plain.Path) (name content drawn : List ℕ) → IsTrue (is_name name) → (a : Told) → IsSound a.state
+    → (at side : Path) (full : Option (List ℕ)) → IsSlot (record { root = root; vault = Cryptomator cm }) (cm_format cm) front name (under root (seen a.state)) at side full
+    → below work root ≡ None → below root work ≡ None
+    → IsFiled (placing (record { root = root; vault = Cryptomator cm }) work front name (NewFile content)) (opened_file (cm_format cm).content (Some (encrypt (cm_format cm).content drawn content))) drawn
+    [] (entry_edit at full (encrypt (cm_format cm).content drawn content)) (full_texts full ++ encrypt (cm_format cm).content drawn content ∷ []) a
+cm_filed enters cm laws root work front name content drawn named a sound at side full slot apart beside =
+    filed enters (record { root = root; vault = Cryptomator cm }) laws work front name content drawn named a sound at side full slot apart beside
+    [] [] (entry_edit at full (encrypt (cm_format cm).content drawn content))
+    (new_file_edit (child slot.dir.folder ((cm_format cm).stored slot.dir.key name).name) ((cm_format cm).stored slot.dir.key name).full (encrypt (cm_format cm).content drawn content))
+    (ap (λ x. taken_at (entry_at (cm_format cm) slot.dir name) x) slot.free) refl refl
+    (ap (λ q. entry_edit q full (encrypt (cm_format cm).content drawn content)) slot.at_is
+    ∙ ap (λ o. entry_edit (root ++ entry_at (cm_format cm) slot.dir name) o (encrypt (cm_format cm).content drawn content)) slot.full_is
+    ∙ cm_entry_under root (entry_at (cm_format cm) slot.dir name) ((cm_format cm).stored slot.dir.key name).full (encrypt (cm_format cm).content drawn content))
+
+-- ---- by the kind of the vault
+
+abbrev pub IsFiledIn : OpenedVault → Path → plain.Path → List ℕ → List ℕ → List ℕ → List Edit → Path → Option (List ℕ) → Option (List ℕ) → Told → Type 0
+IsFiledIn vault work front name content drawn firsts at inside full a =
+    IsFiled (placing vault work front name (NewFile content)) (opened_file (format_of vault.vault).content (Some (encrypt (format_of vault.vault).content drawn content))) drawn
+    firsts (entry_edit at inside (encrypt (format_of vault.vault).content drawn content)) (full_texts full ++ encrypt (format_of vault.vault).content drawn content ∷ []) a
+
+abbrev pub SlotAt : Path → Vault → plain.Path → List ℕ → Option Told → Path → Path → Option (List ℕ) → Type 0
+SlotAt root vault front name t at side full = (v : View) → IsSeen t v → IsSlot (record { root = root; vault = vault }) (format_of vault) front name (under root v) at side full
+
+shown_at : (t : Option Told) (a : Told) → t ≡ Some a → IsSeen t (seen a.state)
+shown_at t a is = subst (λ o. IsSeen o (seen a.state)) (sym is) refl
+
+no_go : kind.Cryptomator ≡ kind.Gocryptfs → ⊥
+no_go is = cc
+
+no_cm : kind.Gocryptfs ≡ kind.Cryptomator → ⊥
+no_cm is = cc
+
+pub filed_in_go : Enters → (root : Path) (vault : Vault) → kind_of vault ≡ kind.Gocryptfs → KeepsVaults (format_of vault) → (work : Path) (front : plain.Path) (name : List ℕ) → IsTrue (is_name name) → (t : Option Told)
+    → ((a : Told) → t ≡ Some a → IsSound a.state) → MayMake t work root → (at side : Path) (full : Option (List ℕ)) (wants : Bool) → SlotAt root vault front name t at side full
+    → ((v : View) → IsSeen t v → (wants ≡ wants_text (v side) full) × (taken_unless side (v side) full ≡ None))
+    → (content drawn : List ℕ) (a : Told) → t ≡ Some a → IsFiledIn (record { root = root; vault = vault }) work front name content drawn (side_edits wants side full) at None full a
+filed_in_go enters root (Gocryptfs keys) is laws work front name named t sound may at side full wants slot side_is content drawn a told =
+    go_filed enters keys laws root work front name content drawn named a (sound a told) at side full wants (slot (seen a.state) (shown_at t a told)) (side_is (seen a.state) (shown_at t a told)).0
+    (side_is (seen a.state) (shown_at t a told)).1 may.apart may.beside
+filed_in_go enters root (Cryptomator cm) is laws work front name named t sound may at side full wants slot side_is content drawn a told = absurd (no_go is)
+
+pub filed_in_cm : Enters → (root : Path) (vault : Vault) → kind_of vault ≡ kind.Cryptomator → KeepsVaults (format_of vault) → (work : Path) (front : plain.Path) (name : List ℕ) → IsTrue (is_name name) → (t : Option Told)
+    → ((a : Told) → t ≡ Some a → IsSound a.state) → MayMake t work root → (at side : Path) (full : Option (List ℕ)) → SlotAt root vault front name t at side full
+    → (content drawn : List ℕ) (a : Told) → t ≡ Some a → IsFiledIn (record { root = root; vault = vault }) work front name content drawn [] at full full a
+filed_in_cm enters root (Cryptomator cm) is laws work front name named t sound may at side full slot content drawn a told =
+    cm_filed enters cm laws root work front name content drawn named a (sound a told) at side full (slot (seen a.state) (shown_at t a told)) may.apart may.beside
+filed_in_cm enters root (Gocryptfs keys) is laws work front name named t sound may at side full slot content drawn a told = absurd (no_cm is)
+
+pub side_refused : (root : Path) (vault : Vault) → kind_of vault ≡ kind.Gocryptfs → (front : plain.Path) (name content : List ℕ) (t : Option Told) (at side : Path) (full : Option (List ℕ)) (fault : PutFault)
+    → SlotAt root vault front name t at side full → IsSideTaken side full t fault → RefusesItem (record { root = root; vault = vault }) front name (NewFile content) [] t fault
+side_refused root (Gocryptfs keys) is front name content t at side full fault slot stands = side_taken keys root front name content t at side full fault slot stands
+side_refused root (Cryptomator cm) is front name content t at side full fault slot stands = absurd (no_go is)
+
+-- where its parts come to stand
+pub file_places : Enters → FoldersStand → (root : Path) (vault : Vault) → kind_of vault ≡ kind.Gocryptfs → (work : Path) (front : plain.Path) (name : List ℕ) (t : Option Told) → MayMake t work root
+    → (at side : Path) (full : Option (List ℕ)) (wants : Bool) → SlotAt root vault front name t at side full
+    → ((v : View) → IsSeen t v → (wants ≡ wants_text (v side) full) × (taken_unless side (v side) full ≡ None)) → (v : View) → IsSeen t v → GoPlaces v work wants side at
+file_places enters folders root (Gocryptfs keys) is work front name t may at side full wants slot side_is v seen_so =
+    go_places enters folders keys root work front name v at side full wants (may.ready v seen_so) may.apart may.beside (slot v seen_so) (side_is v seen_so).0
+file_places enters folders root (Cryptomator cm) is work front name t may at side full wants slot side_is v seen_so = absurd (no_go is)
+
+pub cm_entry_comes : Enters → FoldersStand → (vault : OpenedVault) (work : Path) (front : plain.Path) (name : List ℕ) (t : Option Told) → MayMake t work vault.root
+    → (at side : Path) (full : Option (List ℕ)) → SlotAt vault.root vault.vault front name t at side full → (v : View) → IsSeen t v → MayCome v work at
+cm_entry_comes enters folders vault work front name t may at side full slot v seen_so =
+    entry_comes enters folders vault work front name v at side full (may.ready v seen_so) may.apart may.beside (slot v seen_so)

@@ -1,0 +1,368 @@
+-- What a call promises that made a file's edits, or some of them.
+use Rattle.std.specs.Prelude.{Contains}
+use Rattle.std.proofs.Common.{arith, true, false, Bool, ◌≡◌, ◌≢◌, ◌⊎◌, ℕ, ◌≤◌, zero, suc, List, [], ◌∷◌, ◌++◌, length, Option, Some, None, Result, Ok, Err, OnOk, refl, sym, ap, ◌∙◌, inl, inr, subst, append-nil, append_assoc, IsTrue}
+use Rattle.std.proofs.lemmas.List.Elements.{Contains-append_left, Contains-append_right}
+use Rattle.std.proofs.Math.Path.{fun_ext}
+use Rattle.chunk_files.specs.Encrypt.{draws, encrypt}
+use Rattle.chunk_files.specs.FileOf.{FilesAreWhatTheyGive, EncryptedFilesAreFiles}
+use Rattle.chunk_files.specs.Keys as contents
+use Rattle.chunk_files.specs.Keys.{Keys}
+use Rattle.port_model.specs.Draws.{ByteStream}
+use Rattle.folder_spec.specs.declared.FolderFault.{FolderFault}
+use Rattle.folder_spec.specs.declared.FolderFault.TheVariants as folder
+use Rattle.folder_spec.specs.Path.{Path, below}
+use Rattle.folder_spec.specs.State.{State, IsSound}
+use Rattle.folder_spec.specs.Edit.{Edit, edited, edits_under, view_after, PublishesIn}
+use Rattle.folder_spec.specs.Event.{Call, MakeDir, Create, Append, Sync, Settle, Rename, RemoveFile, RemoveDir, Event, Told, FromTo}
+use Rattle.folder_spec.specs.Moments.{Went}
+use Rattle.folder_spec.specs.Region.{at_or_below}
+use Rattle.folder_spec.specs.Seen.{seen, IsSeen, under}
+use Rattle.folder_spec.specs.View.{Found, View}
+use Rattle.folder_spec.proofs.Moments.{went_more, went_to}
+use Rattle.folder_spec.proofs.Paths.{child-injective, child-last, child-not_base}
+use Rattle.folder_spec.proofs.Tellings.{from_to_more}
+use Rattle.plain_tree.specs.Names as plain
+use Rattle.plain_tree.specs.Names.{is_name}
+use Rattle.vault_read.specs.Laws.{KeepsVaults}
+use Rattle.vault_read.specs.Opened.{OpenedVault, kind_of}
+use Rattle.vault_read.specs.declared.vault.VaultKind.TheVariants as kind
+use Rattle.vault_spec.specs.Adding.{OpensAs}
+use Rattle.vault_spec.specs.Anywhere.{ComesAtLast}
+use Rattle.vault_spec.specs.Format.{Format}
+use Rattle.vault_spec.specs.Gocryptfs.{taken_unless}
+use Rattle.vault_spec.specs.Making as making
+use Rattle.vault_spec.specs.Making.{NewFile, full_texts}
+use Rattle.vault_spec.specs.Opens.{Opened, opened_file}
+use Rattle.vault_spec.specs.Vault.{format_of}
+use Rattle.content_writing.specs.Content.{Coming, Ending, IsReady, still_coming}
+use Rattle.content_writing.specs.Faults.{of_folder}
+use Rattle.content_writing.specs.declared.fault.PutFault.{PutFault}
+use Rattle.content_writing.specs.declared.fault.PutFault.TheVariants as puts
+use Rattle.vault_write.specs.Calls.{AnswersRoot, How, MakesFile, MakesOne, New, ReadsElsewhere, TakesContent, Writing}
+use Rattle.vault_write.specs.Editing.{AddsEdits, Edits, HasBegun, HasEdited, HasFinished, IsEditing, MayCome, SeesSome, side_edits}
+use Rattle.vault_write.specs.Filing.{DoesLast, IsWhole, OnlyStages, PlacesEntry, PlacesBy, PlacesFile, StopsBy, entry_edit, entry_files, file_of}
+use Rattle.vault_write.specs.Making.{Placing, Making, format, path_of, new_item, is_unstaged, StagesOrPlaces}
+use Rattle.vault_write.specs.Placing.{IsMaking, MayMake, making_at, EndsAs}
+use Rattle.vault_write.specs.Refusing.{Answers, HasTaken}
+use Rattle.vault_write.specs.Showing.{EditsShowTrees, EditsBeforeTheLastKeepTrees, SettledEditsShowTrees}
+use Rattle.vault_write.specs.Slots.{RefusesItem, placing, wants_text}
+use Rattle.vault_write.proofs.Adding.{adds_none}
+use Rattle.vault_write.proofs.Begun.{FoldersStand, all_below}
+use Rattle.vault_write.proofs.Edited.{begun}
+use Rattle.vault_write.proofs.FileBegun.{IsFiled, SlotAt, all_are, file_making, file_places, filed_in_cm, filed_in_go, is_begun, opens_whole}
+use Rattle.vault_write.proofs.Filing.{IsStill, edits_still, placed_still, ready_still, still_same, stops_folder, takes_none, untaken}
+use Rattle.vault_write.proofs.Found.{Enters}
+use Rattle.vault_write.proofs.ItemMade.{IsBegun, IsSplit, RootsShow, at_itself, one_failed, one_ok, one_refused, split}
+use Rattle.vault_write.proofs.Placed.{doing_first, entry_may, none_among}
+use Rattle.vault_write.proofs.Stages.{root_unstaged}
+
+-- its edits but the last
+abbrev pub stopped_making : List Edit → List (List ℕ) → Making
+stopped_making firsts some_files = record { edits = firsts; files = some_files; replaces = false }
+
+places_more : (work : Path) (firsts : List Edit) (e : Edit) (some_files : List (List ℕ)) (s : State) (call : Call) → StagesOrPlaces work (stopped_making firsts some_files) s call → StagesOrPlaces work (file_making firsts e some_files) s call
+places_more work firsts e some_files s (MakeDir at) (inl staged) = inl staged
+places_more work firsts e some_files s (MakeDir at) (inr place) = inr (place.0, Contains-append_left firsts (e ∷ []) place.0 place.1, place.2)
+places_more work firsts e some_files s (Create at) h = h
+places_more work firsts e some_files s (Append at piece) h = h
+places_more work firsts e some_files s (Sync at) h = h
+places_more work firsts e some_files s Settle h = h
+places_more work firsts e some_files s (Rename staged at) h = (h.0, (h.1.0, Contains-append_left firsts (e ∷ []) h.1.0 h.1.1, h.1.2), h.2)
+places_more work firsts e some_files s (RemoveFile at) h = h
+places_more work firsts e some_files s (RemoveDir at) h = h
+
+-- until the last of some edits, what opens stays
+fronts_keep : (f : Format) (v w : View) (first rest : List Edit) (e : Edit) (at : plain.Path) (item : Opened) → OpensAs f v w → ComesAtLast f v w ((first ++ rest) ++ e ∷ []) at item → OpensAs f v (view_after w first)
+fronts_keep f v w [] rest e at item same comes = same
+fronts_keep f v w (x ∷ []) [] e at item same comes = comes.0
+fronts_keep f v w (x ∷ []) (y ∷ rest) e at item same comes = comes.0
+fronts_keep f v w (x ∷ y ∷ first) rest e at item same comes = fronts_keep f v (edited w x) (y ∷ first) rest e at item comes.0 comes.1
+
+-- what is seen at the root after the first of some edits below it
+pub first_shown : RootsShow → (p : Placing) → below p.work p.vault.root ≡ None → below p.vault.root p.work ≡ None → (a b : Told) (first done : List Edit) → done ≡ edits_under p.vault.root first
+    → ((q : Path) → IsTrue (is_unstaged p.work q) → seen b.state q ≡ view_after (seen a.state) done q) → under p.vault.root (seen b.state) ≡ view_after (under p.vault.root (seen a.state)) first
+first_shown roots p apart beside a b first done is views =
+    fun_ext (λ rest. views (p.vault.root ++ rest) (root_unstaged p.work p.vault.root (p.vault.root ++ rest) apart beside (at_itself p.vault.root rest)))
+    ∙ ap (λ es. under p.vault.root (view_after (seen a.state) es)) is ∙ roots p.vault.root (seen a.state) first
+
+pub ends_stopped : (p : Placing) (fault : PutFault) (u v : View) → OpensAs (format p) u v → EndsAs p u v (Err fault)
+ends_stopped p puts.Failed u v same = λ orderly. inl same
+ends_stopped p puts.NoMemory u v same = λ orderly. inl same
+ends_stopped p (puts.Find fault) u v same = same
+ends_stopped p (puts.NotAllowed at) u v same = same
+ends_stopped p (puts.Taken at) u v same = same
+ends_stopped p (puts.Damaged at fault) u v same = same
+ends_stopped p (puts.Limit limit) u v same = same
+ends_stopped p puts.ZeroRandom u v same = same
+ends_stopped p puts.Source u v same = same
+ends_stopped p puts.Random u v same = same
+
+module _ (keeps : EditsBeforeTheLastKeepTrees) (roots : RootsShow) (p : Placing) (opens : Opened) (drawn : List ℕ) (firsts : List Edit) (e : Edit) (some_files : List (List ℕ)) where
+  module _ (ending : Ending) (a b : Told) (filed : IsFiled p opens drawn firsts e some_files a) where
+    stopped_is : (s : State) → IsEditing p.work p.vault.root (stopped_making firsts some_files) a.state s → IsMaking p ending (file_making firsts e some_files) a.state s
+    stopped_is s k = record {
+      others = k.others;
+      trees = keeps p ending opens filed.before filed.at_last a.state s filed.item (subst (λ es. PublishesIn (is_unstaged p.work) es a.state s) filed.are k.publishes);
+      fronts = k.fronts;
+    }
+
+    went_stopped : Edits p.work p.vault.root (stopped_making firsts some_files) a b
+        → Went (IsMaking p ending (making_at p (new_item p drawn) a.state) a.state) (λ s k. StagesOrPlaces p.work (making_at p (new_item p drawn) a.state) s k.call) a b
+    went_stopped went = subst (λ n. Went (IsMaking p ending n a.state) (λ s k. StagesOrPlaces p.work n s k.call) a b) (sym filed.making)
+        (went_more (IsEditing p.work p.vault.root (stopped_making firsts some_files) a.state) (IsMaking p ending (file_making firsts e some_files) a.state)
+        (λ s k. StagesOrPlaces p.work (stopped_making firsts some_files) s k.call) (λ s k. StagesOrPlaces p.work (file_making firsts e some_files) s k.call) a b stopped_is
+        (λ s k h. places_more p.work firsts e some_files s k.call h) went)
+
+  module _ (a b : Told) (filed : IsFiled p opens drawn firsts e some_files a) where
+    opens_still : Edits p.work p.vault.root (stopped_making firsts some_files) a b → OpensAs (format p) (under p.vault.root (seen a.state)) (under p.vault.root (seen b.state))
+    opens_still went =
+        let now : SeesSome p.work firsts a.state b.state =
+        (went_to (IsEditing p.work p.vault.root (stopped_making firsts some_files) a.state) (λ s k. StagesOrPlaces p.work (stopped_making firsts some_files) s k.call) a b went).sees in
+        let parts : IsSplit p.vault.root filed.before now.done now.more = split p.vault.root filed.before now.done now.more (sym filed.are ∙ now.is) in
+        subst (λ w. OpensAs (format p) (under p.vault.root (seen a.state)) w) (sym (first_shown roots p filed.apart filed.beside a b parts.first now.done parts.done_is now.views))
+        (fronts_keep (format p) (under p.vault.root (seen a.state)) (under p.vault.root (seen a.state)) parts.first parts.rest filed.at_last (path_of p) opens (λ path. refl)
+        (subst (λ es. ComesAtLast (format p) (under p.vault.root (seen a.state)) (under p.vault.root (seen a.state)) (es ++ filed.at_last ∷ []) (path_of p) opens) parts.is filed.last))
+
+  module _ (t w : Option Told) (filed : (a : Told) → t ≡ Some a → IsFiled p opens drawn firsts e some_files a) where
+    ends_so : (t w : Option Told) → ((a : Told) → t ≡ Some a → IsFiled p opens drawn firsts e some_files a) → (fault : PutFault) → FromTo (Edits p.work p.vault.root (stopped_making firsts some_files)) t w
+        → (u v : View) → IsSeen t u → IsSeen w v → EndsAs p (under p.vault.root u) (under p.vault.root v) (Err fault)
+    ends_so (Some a) (Some b) filed_at fault k u v is_u is_v =
+        subst (λ x. EndsAs p (under p.vault.root x) (under p.vault.root v) (Err fault)) (sym is_u)
+        (subst (λ y. EndsAs p (under p.vault.root (seen a.state)) (under p.vault.root y) (Err fault)) (sym is_v)
+        (ends_stopped p fault (under p.vault.root (seen a.state)) (under p.vault.root (seen b.state)) (opens_still a b (filed_at a refl) k)))
+    ends_so None (Some b) filed_at fault k u v is_u is_v = absurd k
+    ends_so t None filed_at fault k u v is_u is_v = absurd is_v
+
+    pub one_stopped : (ending : Ending) (fault : PutFault) → length drawn ≤ making.draws (format p) p.item → FromTo (Edits p.work p.vault.root (stopped_making firsts some_files)) t w
+        → ((v : View) → IsSeen t v → Answers p drawn ending (under p.vault.root v) (Err fault)) → MakesOne New p ending drawn t w (Err fault)
+    one_stopped ending fault enough went answer = record {
+      enough = enough;
+      makes = record {
+        moments = from_to_more (Edits p.work p.vault.root (stopped_making firsts some_files))
+            (λ a b. Went (IsMaking p ending (making_at p (new_item p drawn) a.state) a.state) (λ s k. StagesOrPlaces p.work (making_at p (new_item p drawn) a.state) s k.call) a b) t w
+            (λ a b is k. went_stopped ending a b (filed a is) k) went;
+        done = tt;
+        ready = tt;
+        ends = ends_so t w filed fault went;
+      };
+      answer = answer;
+    }
+
+-- ---- what is answered
+
+answers_stopped : (p : Placing) (w : Writing) (u : View) (fault : PutFault) → HasTaken p w.drawn u None → StopsBy (format p).content w fault → Answers p w.drawn w.ending u (Err fault)
+answers_stopped p w u (puts.Damaged at fault) free stops = (free, stops)
+answers_stopped p w u (puts.Limit limit) free stops = (free, stops)
+answers_stopped p w u puts.ZeroRandom free stops = record { refused = stops.refused; before = stops.before; zeros = stops.zeros }
+answers_stopped p w u puts.Source free stops = tt
+answers_stopped p w u puts.Random free stops = tt
+answers_stopped p w u puts.Failed free stops = tt
+answers_stopped p w u puts.NoMemory free stops = tt
+answers_stopped p w u (puts.Find fault) free stops = absurd stops
+answers_stopped p w u (puts.NotAllowed path) free stops = absurd stops
+answers_stopped p w u (puts.Taken at) free stops = absurd stops
+
+-- ---- under a name
+
+-- refused before anything was changed
+pub file_refused : (vault : OpenedVault) (work : Path) (front : plain.Path) (name : List ℕ) (coming : Option Coming) (stream : Option ByteStream) (t : Option Told) (fault : PutFault)
+    → ((content : List ℕ) → RefusesItem vault front name (NewFile content) [] t fault) → PlacesFile New vault work front name coming coming stream stream t t (Err fault)
+file_refused vault work front name coming stream t fault refuses = record {
+  writing = untaken coming;
+  takes = takes_none (format_of vault.vault).content coming stream fault;
+  one = one_refused (placing vault work front name (NewFile (untaken coming).content)) (untaken coming).ending [] t fault (omega arith)
+      (λ v is. refuses (untaken coming).content work (untaken coming).ending v is);
+}
+
+pub memory_refused : (vault : OpenedVault) (front : plain.Path) (name content : List ℕ) (t : Option Told) (fault : FolderFault) → RefusesItem vault front name (NewFile content) [] t (of_folder fault)
+memory_refused vault front name content t folder.Failed work ending v is = tt
+memory_refused vault front name content t folder.Refused work ending v is = tt
+memory_refused vault front name content t folder.NoMemory work ending v is = tt
+
+-- a making of edits at a root may begin
+pub begins_at : (work root : Path) (m : Making) (t : Option Told) → m.replaces ≡ false → ((a : Told) → t ≡ Some a → (relative : List Edit) × (m.edits ≡ edits_under root relative)) → MayMake t work root
+    → ((a : Told) → t ≡ Some a → IsSound a.state) → HasBegun work root m t
+begins_at work root m None new relative may sound = tt
+begins_at work root m (Some a) new relative may sound =
+    begun work root m a (sound a refl) (may.ready (seen a.state) refl) may.apart may.beside
+    (λ e among. all_below root (relative a refl).0 e (subst (λ es. Contains es e) (relative a refl).1 among)) new
+
+module _ (shows : EditsShowTrees) (keeps : EditsBeforeTheLastKeepTrees) (settles : SettledEditsShowTrees) (roots : RootsShow) (gives : FilesAreWhatTheyGive) (are : EncryptedFilesAreFiles)
+    (vault : OpenedVault) (work : Path) (front : plain.Path) (name : List ℕ) (at : Path) (inside full : Option (List ℕ)) (firsts : List Edit) (first_files : List (List ℕ)) where
+  abbrev keys : Keys
+  keys = (format_of vault.vault).content
+
+  abbrev place : List ℕ → Placing
+  place content = placing vault work front name (NewFile content)
+
+  abbrev last_edit : List ℕ → List ℕ → Edit
+  last_edit content drawn = entry_edit at inside (encrypt keys drawn content)
+
+  abbrev all_files : List ℕ → List ℕ → List (List ℕ)
+  all_files content drawn = full_texts full ++ encrypt keys drawn content ∷ []
+
+  abbrev opens_so : List ℕ → List ℕ → Opened
+  opens_so content drawn = opened_file keys (Some (encrypt keys drawn content))
+
+  abbrev Filed : Option Told → Type 0
+  Filed t = (content drawn : List ℕ) (a : Told) → t ≡ Some a → IsFiled (place content) (opens_so content drawn) drawn firsts (last_edit content drawn) (all_files content drawn) a
+
+  module _ (t u : Option Told) (may : MayMake t work vault.root) (sound : (a : Told) → t ≡ Some a → IsSound a.state) (filed : Filed t)
+      (first_within : (bytes file : List ℕ) → Contains first_files file → Contains (full_texts full ++ bytes ∷ []) file)
+      (entry_within : (bytes file : List ℕ) → Contains (entry_files inside bytes) file → Contains (full_texts full ++ bytes ∷ []) file) where
+    begins_some : (content drawn : List ℕ) → HasBegun work vault.root (stopped_making firsts (all_files content drawn)) t
+    begins_some content drawn = begins_at work vault.root (stopped_making firsts (all_files content drawn)) t refl (λ a is. ((filed content drawn a is).before, (filed content drawn a is).are)) may sound
+
+    begins_all : (content drawn : List ℕ) → HasBegun work vault.root (file_making firsts (last_edit content drawn) (all_files content drawn)) t
+    begins_all content drawn = begins_at work vault.root (file_making firsts (last_edit content drawn) (all_files content drawn)) t refl
+        (λ a is. (
+          (filed content drawn a is).before ++ (filed content drawn a is).at_last ∷ [],
+          all_are vault.root firsts (filed content drawn a is).before (last_edit content drawn) (filed content drawn a is).at_last (filed content drawn a is).are (filed content drawn a is).last_is,
+        )) may sound
+
+    -- nothing of it stood in the way
+    free_at : (t : Option Told) → Filed t → (content drawn : List ℕ) → (v : View) → IsSeen t v → HasTaken (place content) drawn (under vault.root v) None
+    free_at (Some a) filed_at content drawn v is = subst (λ x. HasTaken (place content) drawn (under vault.root x) None) (sym is) (filed_at content drawn a refl).taken
+    free_at None filed_at content drawn v is = absurd is
+
+    some_done : (result : Result (Unit {0}) FolderFault) → AddsEdits work firsts first_files t u result → (content drawn : List ℕ)
+        → FromTo (Edits work vault.root (stopped_making firsts (all_files content drawn))) t u × OnOk result (FromTo (HasEdited work vault.root (stopped_making firsts (all_files content drawn)) firsts []) t u)
+    some_done result adds content drawn =
+        doing_first work vault.root (stopped_making firsts (all_files content drawn)) firsts [] first_files t u result (sym (append-nil firsts)) (first_within (encrypt keys drawn content)) (begins_some content drawn) adds
+
+    pub firsts_done : AddsEdits work firsts first_files t u (Ok tt) → FromTo (HasEdited work vault.root (stopped_making firsts (all_files [] [])) firsts []) t u
+    firsts_done adds = (some_done (Ok tt) adds [] []).1
+
+    pub firsts_failed : (coming : Option Coming) (stream : Option ByteStream) (fault : FolderFault) → AddsEdits work firsts first_files t u (Err fault)
+        → PlacesFile New vault work front name coming coming stream stream t u (Err (of_folder fault))
+    firsts_failed coming stream fault adds = record {
+      writing = untaken coming;
+      takes = takes_none keys coming stream (of_folder fault);
+      one = one_stopped keeps roots (place (untaken coming).content) (opens_so (untaken coming).content []) [] firsts (last_edit (untaken coming).content []) (all_files (untaken coming).content []) t u
+          (filed (untaken coming).content []) (untaken coming).ending (of_folder fault) (omega arith) (some_done (Err fault) adds (untaken coming).content []).0
+          (λ v is. answers_stopped (place (untaken coming).content) (untaken coming) (under vault.root v) (of_folder fault) (free_at t filed (untaken coming).content [] v is) (stops_folder keys (untaken coming) fault));
+    }
+
+    module _ (s : Option Told) (w : Writing) (adds : AddsEdits work firsts first_files t u (Ok tt)) (enough : length w.drawn ≤ draws (contents.format_of keys) w.content) where
+      last_done : (result : Result (Unit {0}) FolderFault) → DoesLast work (last_edit w.content w.drawn) (entry_files inside (encrypt keys w.drawn w.content)) u s result
+          → FromTo (Edits work vault.root (file_making firsts (last_edit w.content w.drawn) (all_files w.content w.drawn))) t s
+          × OnOk result (FromTo (HasFinished work vault.root (file_making firsts (last_edit w.content w.drawn) (all_files w.content w.drawn))) t s)
+      last_done result does = does vault.root (file_making firsts (last_edit w.content w.drawn) (all_files w.content w.drawn)) firsts t (entry_within (encrypt keys w.drawn w.content))
+          (doing_first work vault.root (file_making firsts (last_edit w.content w.drawn) (all_files w.content w.drawn)) firsts (last_edit w.content w.drawn ∷ []) first_files t u (Ok tt) refl
+          (first_within (encrypt keys w.drawn w.content)) (begins_all w.content w.drawn) adds).1
+
+      begun_at : IsWhole keys w → (a : Told) → t ≡ Some a → IsBegun (place w.content) w.drawn (file_making firsts (last_edit w.content w.drawn) (all_files w.content w.drawn)) a
+      begun_at whole a is = is_begun (place w.content) (opens_so w.content w.drawn) w.drawn firsts (last_edit w.content w.drawn) (all_files w.content w.drawn) a
+          (opens_whole gives are keys w.drawn w.content whole.encrypted) (filed w.content w.drawn a is)
+
+      -- it only was staged
+      stopped_one : (fault : PutFault) → StopsBy keys w fault → OnlyStages work (entry_files inside (encrypt keys w.drawn w.content)) u s → MakesOne New (place w.content) w.ending w.drawn t s (Err fault)
+      stopped_one fault stops stages =
+          one_stopped keeps roots (place w.content) (opens_so w.content w.drawn) w.drawn firsts (last_edit w.content w.drawn) (all_files w.content w.drawn) t s (filed w.content w.drawn) w.ending fault enough
+          (stages vault.root (stopped_making firsts (all_files w.content w.drawn)) firsts [] t (entry_within (encrypt keys w.drawn w.content)) (some_done (Ok tt) adds w.content w.drawn).1).0
+          (λ v is. answers_stopped (place w.content) w (under vault.root v) fault (free_at t filed w.content w.drawn v is) stops)
+
+      placed_one : (result : Result (Unit {0}) PutFault) → PlacesBy keys w (DoesLast work (last_edit w.content w.drawn) (entry_files inside (encrypt keys w.drawn w.content)) u s) (OnlyStages work (entry_files inside (encrypt keys w.drawn w.content)) u s) result
+          → MakesOne New (place w.content) w.ending w.drawn t s result
+      placed_one (Ok value) (whole, does) =
+          subst (λ x. MakesOne New (place w.content) x w.drawn t s (Ok tt)) (sym whole.whole)
+          (one_ok shows settles roots (place w.content) w.drawn (file_making firsts (last_edit w.content w.drawn) (all_files w.content w.drawn)) t s (begun_at whole) whole.encrypted.enough
+          (last_done (Ok tt) does).0 (last_done (Ok tt) does).1)
+      placed_one (Err fault) (stops, inl stages) = stopped_one fault stops stages
+      placed_one (Err fault) (stops, inr (failed, is, whole, does)) =
+          subst (λ x. MakesOne New (place w.content) w.ending w.drawn t s (Err x)) (sym is)
+          (subst (λ x. MakesOne New (place w.content) x w.drawn t s (Err (of_folder failed))) (sym whole.whole)
+          (one_failed shows settles roots (place w.content) w.drawn (file_making firsts (last_edit w.content w.drawn) (all_files w.content w.drawn)) t s (begun_at whole) whole.encrypted.enough failed
+          (last_done (Err failed) does).0))
+
+    pub file_placed : (coming left : Option Coming) (stream stream' : Option ByteStream) (s : Option Told) (result : Result (Unit {0}) PutFault) → AddsEdits work firsts first_files t u (Ok tt)
+        → PlacesEntry keys work at inside coming left stream stream' u s result → PlacesFile New vault work front name coming left stream stream' t s result
+    file_placed coming left stream stream' s result adds k = record { writing = k.writing; takes = k.takes; one = placed_one s k.writing adds k.enough result k.ends }
+
+-- ---- the calls by format
+
+none_first : (full : Option (List ℕ)) (bytes file : List ℕ) → Contains {X = List ℕ} [] file → Contains (full_texts full ++ bytes ∷ []) file
+none_first full bytes file among = none_among (full_texts full ++ bytes ∷ []) file among
+
+module _ (shows : EditsShowTrees) (keeps : EditsBeforeTheLastKeepTrees) (settles : SettledEditsShowTrees) (roots : RootsShow) (gives : FilesAreWhatTheyGive) (are : EncryptedFilesAreFiles)
+    (enters : Enters) (vault : OpenedVault) (laws : KeepsVaults (format_of vault.vault)) (work : Path) (front : plain.Path) (name : List ℕ) (named : IsTrue (is_name name))
+    (at side : Path) (full : Option (List ℕ)) (t : Option Told) (sound : (a : Told) → t ≡ Some a → IsSound a.state) (may : MayMake t work vault.root) (slot : SlotAt vault.root vault.vault front name t at side full) where
+  pub cm_placed : kind_of vault.vault ≡ kind.Cryptomator → (coming left : Option Coming) (stream stream' : Option ByteStream) (s : Option Told) (result : Result (Unit {0}) PutFault)
+      → PlacesEntry (format_of vault.vault).content work at full coming left stream stream' t s result → PlacesFile New vault work front name coming left stream stream' t s result
+  cm_placed is coming left stream stream' s result k =
+      file_placed shows keeps settles roots gives are vault work front name at full full [] [] t t may sound
+      (filed_in_cm enters vault.root vault.vault is laws work front name named t sound may at side full slot) (none_first full) (λ bytes file among. among)
+      coming left stream stream' s result (adds_none work [] t) k
+
+  module _ (is : kind_of vault.vault ≡ kind.Gocryptfs) (wants : Bool) (side_is : (v : View) → IsSeen t v → (wants ≡ wants_text (v side) full) × (taken_unless side (v side) full ≡ None)) (u : Option Told) where
+    go_filed_at : Filed shows keeps settles roots gives are vault work front name at None full (side_edits wants side full) (full_texts full) t
+    go_filed_at = filed_in_go enters vault.root vault.vault is laws work front name named t sound may at side full wants slot side_is
+
+    side_first : (bytes file : List ℕ) → Contains (full_texts full) file → Contains (full_texts full ++ bytes ∷ []) file
+    side_first bytes file among = Contains-append_left (full_texts full) (bytes ∷ []) file among
+
+    entry_last : (bytes file : List ℕ) → Contains (bytes ∷ []) file → Contains (full_texts full ++ bytes ∷ []) file
+    entry_last bytes file among = Contains-append_right (full_texts full) (bytes ∷ []) file among
+
+    pub go_failed : (coming : Option Coming) (stream : Option ByteStream) (fault : FolderFault) → AddsEdits work (side_edits wants side full) (full_texts full) t u (Err fault)
+        → PlacesFile New vault work front name coming coming stream stream t u (Err (of_folder fault))
+    go_failed coming stream fault adds =
+        firsts_failed shows keeps settles roots gives are vault work front name at None full (side_edits wants side full) (full_texts full) t u may sound go_filed_at side_first entry_last coming stream fault adds
+
+    module _ (adds : AddsEdits work (side_edits wants side full) (full_texts full) t u (Ok tt)) where
+      side_done : FromTo (HasEdited work vault.root (stopped_making (side_edits wants side full) (full_texts full ++ encrypt (format_of vault.vault).content [] [] ∷ [])) (side_edits wants side full) []) t u
+      side_done = firsts_done shows keeps settles roots gives are vault work front name at None full (side_edits wants side full) (full_texts full) t u may sound go_filed_at side_first entry_last adds
+
+      pub go_may : FoldersStand → (v : View) → IsSeen u v → MayCome v work at
+      go_may folders = entry_may work vault.root (stopped_making (side_edits wants side full) (full_texts full ++ encrypt (format_of vault.vault).content [] [] ∷ [])) wants side at full [] t u side_done
+          (file_places enters folders vault.root vault.vault is work front name t may at side full wants slot side_is)
+
+      module _ (reads : Option Path) (elsewhere : ReadsElsewhere reads work vault.root) (f : Found → Option Coming) where
+        still : IsStill reads t u
+        still = edits_still reads work vault.root (stopped_making (side_edits wants side full) (full_texts full ++ encrypt (format_of vault.vault).content [] [] ∷ [])) (side_edits wants side full) [] t u elsewhere side_done
+
+        pub go_ready : IsReady reads t f → IsReady reads u f
+        go_ready ready = ready_still reads t u still f ready
+
+        pub go_placed : (f' : Found → Option Coming) (stream stream' : Option ByteStream) (s : Option Told) (result : Result (Unit {0}) PutFault)
+            → PlacesEntry (format_of vault.vault).content work at None (still_coming reads u f) (still_coming reads u f') stream stream' u s result
+            → PlacesFile New vault work front name (still_coming reads t f) (still_coming reads t f') stream stream' t s result
+        go_placed f' stream stream' s result k =
+            file_placed shows keeps settles roots gives are vault work front name at None full (side_edits wants side full) (full_texts full) t u may sound go_filed_at side_first entry_last
+            (still_coming reads t f) (still_coming reads t f') stream stream' s result adds
+            (placed_still (format_of vault.vault).content work at None (still_coming reads u f) (still_coming reads t f) (still_coming reads u f') (still_coming reads t f') stream stream' u s result
+            (still_same reads t u still f) (still_same reads t u still f') k)
+
+-- ---- at a plain path
+
+pub placed_at : (how : How) (vault : OpenedVault) (work : Path) (front : plain.Path) (name : List ℕ) (reads : Option Path) (f f' : Found → Option Coming) (stream stream' : Option ByteStream) (t t' u : Option Told)
+    (result : Result (Unit {0}) PutFault) → t' ≡ t → PlacesFile how vault work front name (still_coming reads t' f) (still_coming reads t' f') stream stream' t' u result
+    → PlacesFile how vault work front name (still_coming reads t f) (still_coming reads t f') stream stream' t u result
+placed_at how vault work front name reads f f' stream stream' t t' u result same k =
+    subst (λ o. PlacesFile how vault work front name (still_coming reads o f) (still_coming reads o f') stream stream' o u result) same k
+
+pub named_file : (how : How) (vault : OpenedVault) (work : Path) (path front : plain.Path) (name : List ℕ) (coming left : Option Coming) (stream stream' : Option ByteStream) (t u : Option Told) (result : Result (Unit {0}) PutFault)
+    → path ≡ front ++ name ∷ [] → PlacesFile how vault work front name coming left stream stream' t u result → MakesFile how vault work path coming left stream stream' t u result
+named_file how vault work path front name coming left stream stream' t u result is k = record {
+  writing = k.writing;
+  takes = k.takes;
+  makes = record {
+    named = λ front' name' also.
+        let up : front ≡ front' = child-injective front front' name name' (sym is ∙ also) in
+        let last : name ≡ name' = child-last front name name' (sym is ∙ also ∙ ap (λ p. p ++ name' ∷ []) (sym up)) in
+        subst (λ p. MakesOne how (placing vault work p name' (NewFile k.writing.content)) k.writing.ending k.writing.drawn t u result) up
+        (subst (λ n. MakesOne how (placing vault work front n (NewFile k.writing.content)) k.writing.ending k.writing.drawn t u result) last k.one);
+    root = λ none. absurd (child-not_base front name (sym is ∙ none));
+  };
+}
+
+pub root_file : (how : How) (vault : OpenedVault) (work : Path) (path : plain.Path) (coming : Option Coming) (stream : Option ByteStream) (t : Option Told) (fault : PutFault) → path ≡ []
+    → AnswersRoot how vault.root (Err fault) → MakesFile how vault work path coming coming stream stream t t (Err fault)
+root_file how vault work path coming stream t fault none answer = record {
+  writing = untaken coming;
+  takes = takes_none (format_of vault.vault).content coming stream fault;
+  makes = record {
+    named = λ front name is. absurd (child-not_base front name (sym is ∙ none));
+    root = λ none_. (refl, refl, answer);
+  };
+}

@@ -1,0 +1,46 @@
+use Rattle.std.proofs.Common.{◌∙◌, sym, codes}
+use Rattle.folder_spec.proofs.Paths.{child-not_base}
+use Rattle.work_folder.specs.Entries.{stage_path}
+use Rattle.content_writing.specs.Content.{still_coming}
+use Rattle.content_writing.specs.Faults.{of_folder}
+use Rattle.content_writing.specs.declared.fault.PutFault.TheVariants as puts
+use Rattle.vault_write.specs.Filing.{PlacesEntry, entry_files, file_of}
+use Rattle.vault_write.proofs.Directories.{directory_free}
+use Rattle.vault_write.proofs.Filing.{at_fault, entry_allowed, entry_failed, entry_none, entry_placed, entry_stopped, reads_apart}
+use Rattle.vault_write.proofs.file.place_entry.Goals as goal
+
+pub returns-in_err-staged-clause-made : goal.returns-in_err-staged-clause-made
+returns-in_err-staged-clause-made g c =
+    at_fault (PlacesEntry c.args.keys c.args.work.now c.args.at.now c.args.inside.now (still_coming (g.C.Content.reads c.args.content.now) (g.F.Folder.told c.args.folder.now) (g.C.Content.coming c.args.content.now)) (still_coming (g.C.Content.reads c.args.content.now) (g.F.Folder.told c.args.folder.now) (g.C.Content.coming c.args.content.now)) (g.R.Randoms.left c.args.random.now) (g.R.Randoms.left c.args.random.now) (g.F.Folder.told c.args.folder.now) (g.F.Folder.told c.args.folder.now)) c.from_residual.result puts.NoMemory c.from_residual.ensures.1
+    (entry_none c.args.keys c.args.work.now c.args.at.now c.args.inside.now (still_coming (g.C.Content.reads c.args.content.now) (g.F.Folder.told c.args.folder.now) (g.C.Content.coming c.args.content.now)) (g.R.Randoms.left c.args.random.now) (g.F.Folder.told c.args.folder.now) puts.NoMemory tt)
+
+pub stage_entry-requires-clause-free : goal.stage_entry-requires-clause-free
+stage_entry-requires-clause-free g c = directory_free c.args.work.now (codes "f") c.in_ok-staged.staged c.args.at.now (g.F.Folder.told c.args.folder.now) c.in_ok-staged.ensures c.requires.may
+
+pub stage_entry-requires-clause-below_base : goal.stage_entry-requires-clause-below_base
+stage_entry-requires-clause-below_base g c = λ base. child-not_base (stage_path c.args.work.now) (codes "f") (sym c.in_ok-staged.ensures ∙ base)
+
+pub stage_entry-requires-clause-apart : goal.stage_entry-requires-clause-apart
+stage_entry-requires-clause-apart g c = reads_apart (g.C.Content.reads c.args.content.now) c.args.work.now c.in_ok-staged.staged (codes "f") c.in_ok-staged.ensures c.requires.outside
+
+pub returns-in_err-stage_entry-clause-made : goal.returns-in_err-stage_entry-clause-made
+returns-in_err-stage_entry-clause-made g c =
+    at_fault (PlacesEntry c.args.keys c.args.work.now c.args.at.now c.args.inside.now (still_coming (g.C.Content.reads c.args.content.now) (g.F.Folder.told c.args.folder.now) (g.C.Content.coming c.args.content.now)) (still_coming (g.C.Content.reads c.args.content.now) (g.F.Folder.told c.args.folder.now) (g.C.Content.coming c.stage_entry.new.content)) (g.R.Randoms.left c.args.random.now) (g.R.Randoms.left c.stage_entry.new.random) (g.F.Folder.told c.args.folder.now) (g.F.Folder.told c.stage_entry.new.folder)) c.from_residual-in_err-stage_entry.result c.in_err-stage_entry.field-0.0 c.from_residual-in_err-stage_entry.ensures.1
+    (entry_stopped c.args.keys c.args.work.now c.args.at.now (codes "f") c.in_ok-staged.staged c.args.inside.now (still_coming (g.C.Content.reads c.args.content.now) (g.F.Folder.told c.args.folder.now) (g.C.Content.coming c.args.content.now)) (still_coming (g.C.Content.reads c.args.content.now) (g.F.Folder.told c.args.folder.now) (g.C.Content.coming c.stage_entry.new.content)) (g.R.Randoms.left c.args.random.now) (g.R.Randoms.left c.stage_entry.new.random) (g.F.Folder.told c.args.folder.now) (g.F.Folder.told c.stage_entry.new.folder)
+    c.in_err-stage_entry.field-0.0 c.in_ok-staged.ensures c.in_err-stage_entry.ensures.staged)
+
+pub publish_entry-requires : goal.publish_entry-requires
+publish_entry-requires g c =
+    entry_allowed c.args.work.now (codes "f") c.in_ok-staged.staged c.args.at.now c.args.inside.now (file_of c.args.keys c.in_ok-stage_entry.ensures.staged.writing)
+    (entry_files c.args.inside.now (file_of c.args.keys c.in_ok-stage_entry.ensures.staged.writing)) (g.F.Folder.told c.args.folder.now) (g.F.Folder.told c.stage_entry.new.folder) c.in_ok-staged.ensures
+    (g.met.F.Folder.sound c.args.folder.now) (g.met.F.Folder.sound c.stage_entry.new.folder) c.requires.may c.in_ok-stage_entry.ensures.staged.ends.1
+
+pub returns-in_err-publish_entry-clause-made : goal.returns-in_err-publish_entry-clause-made
+returns-in_err-publish_entry-clause-made g c =
+    at_fault (PlacesEntry c.args.keys c.args.work.now c.args.at.now c.args.inside.now (still_coming (g.C.Content.reads c.args.content.now) (g.F.Folder.told c.args.folder.now) (g.C.Content.coming c.args.content.now)) (still_coming (g.C.Content.reads c.args.content.now) (g.F.Folder.told c.args.folder.now) (g.C.Content.coming c.stage_entry.new.content)) (g.R.Randoms.left c.args.random.now) (g.R.Randoms.left c.stage_entry.new.random) (g.F.Folder.told c.args.folder.now) (g.F.Folder.told c.publish_entry.new.folder)) c.from_residual-in_err-publish_entry.result (of_folder c.in_err-publish_entry.field-0.0) c.from_residual-in_err-publish_entry.ensures.1
+    (entry_failed c.args.keys c.args.work.now c.args.at.now c.in_ok-staged.staged c.args.inside.now (still_coming (g.C.Content.reads c.args.content.now) (g.F.Folder.told c.args.folder.now) (g.C.Content.coming c.args.content.now)) (still_coming (g.C.Content.reads c.args.content.now) (g.F.Folder.told c.args.folder.now) (g.C.Content.coming c.stage_entry.new.content)) (g.R.Randoms.left c.args.random.now) (g.R.Randoms.left c.stage_entry.new.random) (g.F.Folder.told c.args.folder.now) (g.F.Folder.told c.stage_entry.new.folder) (g.F.Folder.told c.publish_entry.new.folder)
+    c.in_ok-staged.ensures c.requires.may c.in_ok-stage_entry.ensures.staged c.in_err-publish_entry.field-0.0 c.in_err-publish_entry.ensures.published)
+
+pub returns-clause-made : goal.returns-clause-made
+returns-clause-made g c = entry_placed c.args.keys c.args.work.now c.args.at.now c.in_ok-staged.staged c.args.inside.now (still_coming (g.C.Content.reads c.args.content.now) (g.F.Folder.told c.args.folder.now) (g.C.Content.coming c.args.content.now)) (still_coming (g.C.Content.reads c.args.content.now) (g.F.Folder.told c.args.folder.now) (g.C.Content.coming c.stage_entry.new.content)) (g.R.Randoms.left c.args.random.now) (g.R.Randoms.left c.stage_entry.new.random) (g.F.Folder.told c.args.folder.now) (g.F.Folder.told c.stage_entry.new.folder) (g.F.Folder.told c.publish_entry.new.folder)
+    c.in_ok-staged.ensures c.requires.may c.in_ok-stage_entry.ensures.staged c.in_ok-publish_entry.ensures.published

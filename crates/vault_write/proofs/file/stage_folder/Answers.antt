@@ -1,0 +1,62 @@
+use Rattle.std.proofs.Common.{[], refl}
+use Rattle.content_writing.specs.Content.{still_coming}
+use Rattle.content_writing.specs.Faults.{of_folder}
+use Rattle.content_writing.specs.declared.fault.PutFault.TheVariants as puts
+use Rattle.vault_spec.specs.Cryptomator.{content_file}
+use Rattle.vault_write.specs.Filing.{StagesEntry}
+use Rattle.vault_write.proofs.Directories.{place_in}
+use Rattle.vault_write.proofs.Filing.{at_fault, inner_failed, inner_staged, inner_stopped, name_in_place, reads_apart_in, stages_none, still_ready, stops_folder, untaken}
+use Rattle.vault_write.proofs.file.stage_folder.Goals as goal
+
+pub returns-in_err-begin_folder-clause-staged : goal.returns-in_err-begin_folder-clause-staged
+returns-in_err-begin_folder-clause-staged g c =
+    at_fault (StagesEntry c.args.keys c.args.full.now c.args.staged.now (still_coming (g.C.Content.reads c.args.content.now) (g.F.Folder.told c.args.folder.now) (g.C.Content.coming c.args.content.now)) (still_coming (g.C.Content.reads c.args.content.now) (g.F.Folder.told c.args.folder.now) (g.C.Content.coming c.args.content.now)) (g.R.Randoms.left c.args.random.now) (g.R.Randoms.left c.args.random.now) (g.F.Folder.told c.args.folder.now) (g.F.Folder.told c.begin_folder.new.folder)) c.from_residual.result (of_folder c.in_err-begin_folder.field-0.0) c.from_residual.ensures.1
+    (stages_none c.args.keys c.args.full.now c.args.staged.now (still_coming (g.C.Content.reads c.args.content.now) (g.F.Folder.told c.args.folder.now) (g.C.Content.coming c.args.content.now)) (g.R.Randoms.left c.args.random.now) (g.F.Folder.told c.args.folder.now) (g.F.Folder.told c.begin_folder.new.folder) (of_folder c.in_err-begin_folder.field-0.0)
+    (stops_folder c.args.keys (untaken (still_coming (g.C.Content.reads c.args.content.now) (g.F.Folder.told c.args.folder.now) (g.C.Content.coming c.args.content.now))) c.in_err-begin_folder.field-0.0) (λ files. (c.in_err-begin_folder.ensures.begun files).0))
+
+pub returns-in_err-file-clause-staged : goal.returns-in_err-file-clause-staged
+returns-in_err-file-clause-staged g c =
+    at_fault (StagesEntry c.args.keys c.args.full.now c.args.staged.now (still_coming (g.C.Content.reads c.args.content.now) (g.F.Folder.told c.args.folder.now) (g.C.Content.coming c.args.content.now)) (still_coming (g.C.Content.reads c.args.content.now) (g.F.Folder.told c.args.folder.now) (g.C.Content.coming c.args.content.now)) (g.R.Randoms.left c.args.random.now) (g.R.Randoms.left c.args.random.now) (g.F.Folder.told c.args.folder.now) (g.F.Folder.told c.begin_folder.new.folder)) c.from_residual-in_err-file.result puts.NoMemory c.from_residual-in_err-file.ensures.1
+    (stages_none c.args.keys c.args.full.now c.args.staged.now (still_coming (g.C.Content.reads c.args.content.now) (g.F.Folder.told c.args.folder.now) (g.C.Content.coming c.args.content.now)) (g.R.Randoms.left c.args.random.now) (g.F.Folder.told c.args.folder.now) (g.F.Folder.told c.begin_folder.new.folder) puts.NoMemory tt (λ files. (c.in_ok-begin_folder.ensures.begun files).0))
+
+pub write_content-requires-clause-stage : goal.write_content-requires-clause-stage
+write_content-requires-clause-stage g c =
+    place_in c.staged_folders_are_seen.ensures c.args.staged.now c.in_ok-file.file content_file (g.F.Folder.told c.args.folder.now) (g.F.Folder.told c.begin_folder.new.folder) c.in_ok-file.ensures
+    (c.in_ok-begin_folder.ensures.begun []).1
+
+pub write_content-requires-clause-ready : goal.write_content-requires-clause-ready
+write_content-requires-clause-ready g c =
+    still_ready (g.C.Content.reads c.args.content.now) c.args.staged.now (g.C.Content.coming c.args.content.now) (g.F.Folder.told c.args.folder.now) (g.F.Folder.told c.begin_folder.new.folder) (g.met.F.Folder.sound c.args.folder.now) c.requires.apart (c.in_ok-begin_folder.ensures.begun []).0 c.requires.ready
+
+pub write_content-requires-clause-apart : goal.write_content-requires-clause-apart
+write_content-requires-clause-apart g c = reads_apart_in (g.C.Content.reads c.args.content.now) c.args.staged.now c.in_ok-file.file content_file c.in_ok-file.ensures c.requires.apart
+
+pub returns-in_err-write_content-clause-staged : goal.returns-in_err-write_content-clause-staged
+returns-in_err-write_content-clause-staged g c =
+    at_fault (StagesEntry c.args.keys c.args.full.now c.args.staged.now (still_coming (g.C.Content.reads c.args.content.now) (g.F.Folder.told c.args.folder.now) (g.C.Content.coming c.args.content.now)) (still_coming (g.C.Content.reads c.args.content.now) (g.F.Folder.told c.args.folder.now) (g.C.Content.coming c.write_content.new.content)) (g.R.Randoms.left c.args.random.now) (g.R.Randoms.left c.write_content.new.random) (g.F.Folder.told c.args.folder.now) (g.F.Folder.told c.write_content.new.folder)) c.from_residual-in_err-write_content.result c.in_err-write_content.field-0.0 c.from_residual-in_err-write_content.ensures.1
+    (inner_stopped c.staged_folders_gain_files.ensures.during c.staged_folders_gain_files.ensures.gained c.staged_folders_are_seen.ensures c.args.keys c.args.full.now c.requires.long.0 c.requires.long.1
+    (g.C.Content.reads c.args.content.now) c.args.staged.now c.in_ok-file.file (g.C.Content.coming c.args.content.now) (g.C.Content.coming c.write_content.new.content) (g.R.Randoms.left c.args.random.now) (g.R.Randoms.left c.write_content.new.random) (g.F.Folder.told c.args.folder.now) (g.F.Folder.told c.begin_folder.new.folder) (g.F.Folder.told c.write_content.new.folder) c.in_ok-file.ensures
+    (g.met.F.Folder.sound c.args.folder.now) (g.met.F.Folder.sound c.begin_folder.new.folder) (g.met.F.Folder.sound c.write_content.new.folder) c.requires.apart c.in_ok-begin_folder.ensures.begun
+    c.in_err-write_content.field-0.0 c.in_err-write_content.ensures.written)
+
+pub stage_name-requires : goal.stage_name-requires
+stage_name-requires g c =
+    name_in_place c.staged_folders_gain_files.ensures.during c.staged_folders_gain_files.ensures.gained c.staged_folders_are_seen.ensures c.args.keys c.args.full.now c.requires.long.0 c.requires.long.1
+    (g.C.Content.reads c.args.content.now) c.args.staged.now c.in_ok-file.file (g.C.Content.coming c.args.content.now) (g.C.Content.coming c.write_content.new.content) (g.R.Randoms.left c.args.random.now) (g.R.Randoms.left c.write_content.new.random) (g.F.Folder.told c.args.folder.now) (g.F.Folder.told c.begin_folder.new.folder) (g.F.Folder.told c.write_content.new.folder) c.in_ok-file.ensures
+    (g.met.F.Folder.sound c.args.folder.now) (g.met.F.Folder.sound c.begin_folder.new.folder) (g.met.F.Folder.sound c.write_content.new.folder) c.requires.apart c.in_ok-begin_folder.ensures.begun
+    c.in_ok-write_content.ensures.written
+
+pub returns-in_err-stage_name-clause-staged : goal.returns-in_err-stage_name-clause-staged
+returns-in_err-stage_name-clause-staged g c =
+    at_fault (StagesEntry c.args.keys c.args.full.now c.args.staged.now (still_coming (g.C.Content.reads c.args.content.now) (g.F.Folder.told c.args.folder.now) (g.C.Content.coming c.args.content.now)) (still_coming (g.C.Content.reads c.args.content.now) (g.F.Folder.told c.args.folder.now) (g.C.Content.coming c.write_content.new.content)) (g.R.Randoms.left c.args.random.now) (g.R.Randoms.left c.write_content.new.random) (g.F.Folder.told c.args.folder.now) (g.F.Folder.told c.stage_name.new.folder)) c.from_residual-in_err-stage_name.result (of_folder c.in_err-stage_name.field-0.0) c.from_residual-in_err-stage_name.ensures.1
+    (inner_failed c.staged_folders_gain_files.ensures.during c.staged_folders_gain_files.ensures.gained c.staged_folders_are_seen.ensures c.args.keys c.args.full.now c.requires.long.0 c.requires.long.1
+    (g.C.Content.reads c.args.content.now) c.args.staged.now c.in_ok-file.file (g.C.Content.coming c.args.content.now) (g.C.Content.coming c.write_content.new.content) (g.R.Randoms.left c.args.random.now) (g.R.Randoms.left c.write_content.new.random) (g.F.Folder.told c.args.folder.now) (g.F.Folder.told c.begin_folder.new.folder) (g.F.Folder.told c.write_content.new.folder) c.in_ok-file.ensures
+    (g.met.F.Folder.sound c.args.folder.now) (g.met.F.Folder.sound c.begin_folder.new.folder) (g.met.F.Folder.sound c.write_content.new.folder) c.requires.apart c.in_ok-begin_folder.ensures.begun
+    c.in_ok-write_content.ensures.written (g.F.Folder.told c.stage_name.new.folder) c.in_err-stage_name.field-0.0 c.in_err-stage_name.ensures.staged)
+
+pub returns-clause-staged : goal.returns-clause-staged
+returns-clause-staged g c =
+    inner_staged c.staged_folders_gain_files.ensures.during c.staged_folders_gain_files.ensures.gained c.staged_folders_are_seen.ensures c.args.keys c.args.full.now c.requires.long.0 c.requires.long.1
+    (g.C.Content.reads c.args.content.now) c.args.staged.now c.in_ok-file.file (g.C.Content.coming c.args.content.now) (g.C.Content.coming c.write_content.new.content) (g.R.Randoms.left c.args.random.now) (g.R.Randoms.left c.write_content.new.random) (g.F.Folder.told c.args.folder.now) (g.F.Folder.told c.begin_folder.new.folder) (g.F.Folder.told c.write_content.new.folder) c.in_ok-file.ensures
+    (g.met.F.Folder.sound c.args.folder.now) (g.met.F.Folder.sound c.begin_folder.new.folder) (g.met.F.Folder.sound c.write_content.new.folder) c.requires.apart c.in_ok-begin_folder.ensures.begun
+    c.in_ok-write_content.ensures.written (g.F.Folder.told c.stage_name.new.folder) c.in_ok-stage_name.ensures.staged

@@ -1,0 +1,374 @@
+//! Making files.
+ghost use Rattle.std.specs.Prelude.{◌≡◌, ◌≢◌, ◌≤◌, ◌∷◌, ◌++◌, [], None, Some, Option, List, ℕ, IsTrue};
+ghost use Rattle.folder_spec.specs.Event.{Told, Allowed, Rename};
+ghost use Rattle.folder_model.specs.Answers.{CountsAbove};
+ghost use Rattle.folder_spec.specs.Seen.{IsSeen, ShowsFree, under};
+ghost use Rattle.folder_spec.specs.View.{View};
+ghost use Rattle.plain_tree.specs.Names.{is_name};
+ghost use Rattle.vault_read.specs.Opened.{kind_of};
+ghost use Rattle.vault_spec.specs.Vault.{format_of};
+ghost use Rattle.content_writing.specs.Content.{IsReady, still_coming};
+ghost use Rattle.content_writing.specs.Writing.{Blames, ReadsApart};
+ghost use Rattle.vault_write.specs.Calls.{MakesFile, New, ReadsElsewhere};
+ghost use Rattle.vault_write.specs.Editing.{MayCome};
+ghost use Rattle.vault_write.specs.Filing.{StagesEntry, PlacesEntry, PlacesFile, PublishesEntry};
+ghost use Rattle.vault_write.specs.Placing.{MayMake};
+ghost use Rattle.vault_write.specs.Slots.{IsSlot};
+
+use crate::laws::edits_show_trees;
+use crate::slot::{Slot, slot_at, wants_side};
+use crate::stage::{publish_side, stage_name, staged_entry};
+use chunk_files::ContentKeys;
+use chunk_files::laws::{encrypted_files_are_files, files_are_what_they_give};
+use content_writing::{Buffers, Content, PutFault, write_content};
+use folder_model::{FPath, Folder};
+use folder_spec::FolderFault;
+use folder_spec::laws::roots_show_their_own;
+use folder_staging::begin_folder;
+use folder_staging::laws::{staged_folders_are_seen, staged_folders_gain_files};
+use plain_tree::{Name, PlainPath};
+use port_model::Randoms;
+use std::alloc::Global;
+use text_model::Text;
+use vault_read::laws::items_keep_vaults;
+use vault_read::{Vault, VaultKind};
+use vault_spec::laws::what_is_found_stands;
+use work_folder::Work;
+
+/// Makes a new file at a plain path.
+///
+/// At every moment a crash leaves the old tree or the one with the file. The directory that is to have it is entered, then the name is
+/// tested, and then its place. Its buffers are taken before anything is read.
+pub fn place_file<F: Folder, R: Randoms, C: Content<F>>(
+    alloc: Global,
+    folder: &mut F,
+    work: &Work,
+    vault: &Vault,
+    path: &PlainPath,
+    content: &mut C,
+    random: &mut R,
+) -> Result<(), PutFault>
+    requires may { MayMake (F.told folder.old) work.now vault.now.root }
+    requires ready { IsReady (C.reads content.old) (F.told folder.old) (C.coming content.old) }
+    requires elsewhere { ReadsElsewhere (C.reads content.old) work.now vault.now.root }
+    ensures made { MakesFile New vault.now work.now path.now (still_coming (C.reads content.old) (F.told folder.old) (C.coming content.old)) (still_coming (C.reads content.old) (F.told folder.old) (C.coming content.new))
+        (R.left random.old) (R.left random.new) (F.told folder.old) (F.told folder.new) result }
+    ensures reads { C.reads content.new ≡ C.reads content.old }
+    ensures room { C.room content.new ≤ C.room content.old }
+    ensures lender { C.lender content.new ≡ C.lender content.old }
+    ensures failed { Blames result PutFault.Failed (F.faults folder.old) (F.faults folder.new) }
+    ensures source { Blames result PutFault.Source (C.faults content.old) (C.faults content.new) }
+    ensures random { Blames result PutFault.Random (R.faults random.old) (R.faults random.new) }
+{
+    match path.names() {
+        [] => Err(PutFault::Taken(vault.root().copy()?)),
+        [front @ .., name] => {
+            place_named(
+                alloc, folder, work, vault, path, front, name, content, random,
+            )
+        }
+    }
+}
+
+// Makes a new file under a name in the directory at the front of a path.
+fn place_named<F: Folder, R: Randoms, C: Content<F>>(
+    alloc: Global,
+    folder: &mut F,
+    work: &Work,
+    vault: &Vault,
+    path: &PlainPath,
+    front: &[Name],
+    name: &Name,
+    content: &mut C,
+    random: &mut R,
+) -> Result<(), PutFault>
+    requires path { path.now ≡ front.now ++ name.now ∷ [] }
+    requires may { MayMake (F.told folder.old) work.now vault.now.root }
+    requires ready { IsReady (C.reads content.old) (F.told folder.old) (C.coming content.old) }
+    requires elsewhere { ReadsElsewhere (C.reads content.old) work.now vault.now.root }
+    ensures made { PlacesFile New vault.now work.now front.now name.now (still_coming (C.reads content.old) (F.told folder.old) (C.coming content.old)) (still_coming (C.reads content.old) (F.told folder.old) (C.coming content.new))
+        (R.left random.old) (R.left random.new) (F.told folder.old) (F.told folder.new) result }
+    ensures reads { C.reads content.new ≡ C.reads content.old }
+    ensures room { C.room content.new ≤ C.room content.old }
+    ensures lender { C.lender content.new ≡ C.lender content.old }
+    ensures failed { Blames result PutFault.Failed (F.faults folder.old) (F.faults folder.new) }
+    ensures source { Blames result PutFault.Source (C.faults content.old) (C.faults content.new) }
+    ensures random { Blames result PutFault.Random (R.faults random.old) (R.faults random.new) }
+{
+    let slot = slot_at(alloc, folder, vault, path, front, name)?;
+    let _named = name.bytes();
+    place_in(
+        alloc, folder, work, vault, &slot, front, name, content, random,
+    )
+}
+
+// Makes a new file where nothing stands.
+fn place_in<F: Folder, R: Randoms, C: Content<F>>(
+    alloc: Global,
+    folder: &mut F,
+    work: &Work,
+    vault: &Vault,
+    slot: &Slot,
+    front: &[Name],
+    name: &Name,
+    content: &mut C,
+    random: &mut R,
+) -> Result<(), PutFault>
+    requires named { IsTrue (is_name name.now) }
+    requires may { MayMake (F.told folder.old) work.now vault.now.root }
+    requires slot { (v : View) → IsSeen (F.told folder.old) v → IsSlot vault.now (format_of vault.now.vault) front.now name.now (under vault.now.root v) slot.now.at slot.now.side slot.now.full }
+    requires ready { IsReady (C.reads content.old) (F.told folder.old) (C.coming content.old) }
+    requires elsewhere { ReadsElsewhere (C.reads content.old) work.now vault.now.root }
+    ensures made { PlacesFile New vault.now work.now front.now name.now (still_coming (C.reads content.old) (F.told folder.old) (C.coming content.old)) (still_coming (C.reads content.old) (F.told folder.old) (C.coming content.new))
+        (R.left random.old) (R.left random.new) (F.told folder.old) (F.told folder.new) result }
+    ensures reads { C.reads content.new ≡ C.reads content.old }
+    ensures room { C.room content.new ≤ C.room content.old }
+    ensures lender { C.lender content.new ≡ C.lender content.old }
+    ensures failed { Blames result PutFault.Failed (F.faults folder.old) (F.faults folder.new) }
+    ensures source { Blames result PutFault.Source (C.faults content.old) (C.faults content.new) }
+    ensures random { Blames result PutFault.Random (R.faults random.old) (R.faults random.new) }
+{
+    let mut buffers = Buffers::new(alloc)?;
+    match vault.kind() {
+        VaultKind::Gocryptfs => place_go(
+            alloc,
+            folder,
+            work,
+            vault,
+            slot,
+            front,
+            name,
+            content,
+            random,
+            &mut buffers,
+        ),
+        VaultKind::Cryptomator => place_cm(
+            folder,
+            work,
+            vault,
+            slot,
+            front,
+            name,
+            content,
+            random,
+            &mut buffers,
+        ),
+    }
+}
+
+// In gocryptfs a long name's file comes first, and then the content file.
+fn place_go<F: Folder, R: Randoms, C: Content<F>>(
+    alloc: Global,
+    folder: &mut F,
+    work: &Work,
+    vault: &Vault,
+    slot: &Slot,
+    front: &[Name],
+    name: &Name,
+    content: &mut C,
+    random: &mut R,
+    buffers: &mut Buffers,
+) -> Result<(), PutFault>
+    requires kind { kind_of vault.now.vault ≡ VaultKind.Gocryptfs }
+    requires named { IsTrue (is_name name.now) }
+    requires may { MayMake (F.told folder.old) work.now vault.now.root }
+    requires slot { (v : View) → IsSeen (F.told folder.old) v → IsSlot vault.now (format_of vault.now.vault) front.now name.now (under vault.now.root v) slot.now.at slot.now.side slot.now.full }
+    requires ready { IsReady (C.reads content.old) (F.told folder.old) (C.coming content.old) }
+    requires elsewhere { ReadsElsewhere (C.reads content.old) work.now vault.now.root }
+    ensures made { PlacesFile New vault.now work.now front.now name.now (still_coming (C.reads content.old) (F.told folder.old) (C.coming content.old)) (still_coming (C.reads content.old) (F.told folder.old) (C.coming content.new))
+        (R.left random.old) (R.left random.new) (F.told folder.old) (F.told folder.new) result }
+    ensures reads { C.reads content.new ≡ C.reads content.old }
+    ensures room { C.room content.new ≤ C.room content.old }
+    ensures lender { C.lender content.new ≡ C.lender content.old }
+    ensures failed { Blames result PutFault.Failed (F.faults folder.old) (F.faults folder.new) }
+    ensures source { Blames result PutFault.Source (C.faults content.old) (C.faults content.new) }
+    ensures random { Blames result PutFault.Random (R.faults random.old) (R.faults random.new) }
+{
+    edits_show_trees();
+    roots_show_their_own();
+    what_is_found_stands();
+    items_keep_vaults(vault);
+    files_are_what_they_give();
+    encrypted_files_are_files();
+    let none: Option<Text> = None;
+    let wants = wants_side(alloc, folder, &slot.side, &slot.full)?;
+    publish_side(folder, work, &slot.side, &slot.full, wants)?;
+    place_entry(
+        folder,
+        work,
+        vault.content_keys(),
+        &slot.at,
+        &none,
+        content,
+        random,
+        buffers,
+    )
+}
+
+// In Cryptomator the content file comes alone, or in a folder with the text of its long name.
+fn place_cm<F: Folder, R: Randoms, C: Content<F>>(
+    folder: &mut F,
+    work: &Work,
+    vault: &Vault,
+    slot: &Slot,
+    front: &[Name],
+    name: &Name,
+    content: &mut C,
+    random: &mut R,
+    buffers: &mut Buffers,
+) -> Result<(), PutFault>
+    requires kind { kind_of vault.now.vault ≡ VaultKind.Cryptomator }
+    requires named { IsTrue (is_name name.now) }
+    requires may { MayMake (F.told folder.old) work.now vault.now.root }
+    requires slot { (v : View) → IsSeen (F.told folder.old) v → IsSlot vault.now (format_of vault.now.vault) front.now name.now (under vault.now.root v) slot.now.at slot.now.side slot.now.full }
+    requires ready { IsReady (C.reads content.old) (F.told folder.old) (C.coming content.old) }
+    requires elsewhere { ReadsElsewhere (C.reads content.old) work.now vault.now.root }
+    ensures made { PlacesFile New vault.now work.now front.now name.now (still_coming (C.reads content.old) (F.told folder.old) (C.coming content.old)) (still_coming (C.reads content.old) (F.told folder.old) (C.coming content.new))
+        (R.left random.old) (R.left random.new) (F.told folder.old) (F.told folder.new) result }
+    ensures reads { C.reads content.new ≡ C.reads content.old }
+    ensures room { C.room content.new ≤ C.room content.old }
+    ensures lender { C.lender content.new ≡ C.lender content.old }
+    ensures failed { Blames result PutFault.Failed (F.faults folder.old) (F.faults folder.new) }
+    ensures source { Blames result PutFault.Source (C.faults content.old) (C.faults content.new) }
+    ensures random { Blames result PutFault.Random (R.faults random.old) (R.faults random.new) }
+{
+    edits_show_trees();
+    roots_show_their_own();
+    what_is_found_stands();
+    items_keep_vaults(vault);
+    files_are_what_they_give();
+    encrypted_files_are_files();
+    place_entry(
+        folder,
+        work,
+        vault.content_keys(),
+        &slot.at,
+        &slot.full,
+        content,
+        random,
+        buffers,
+    )
+}
+
+// Stages the entry of a content, and puts it in its place so that it lasts.
+fn place_entry<F: Folder, R: Randoms, C: Content<F>>(
+    folder: &mut F,
+    work: &Work,
+    keys: ContentKeys,
+    at: &FPath,
+    inside: &Option<Text>,
+    content: &mut C,
+    random: &mut R,
+    buffers: &mut Buffers,
+) -> Result<(), PutFault>
+    requires may { (v : View) → IsSeen (F.told folder.old) v → MayCome v work.now at.now }
+    requires ready { IsReady (C.reads content.old) (F.told folder.old) (C.coming content.old) }
+    requires outside { ReadsApart (C.reads content.old) work.now }
+    ensures made { PlacesEntry keys work.now at.now inside.now (still_coming (C.reads content.old) (F.told folder.old) (C.coming content.old)) (still_coming (C.reads content.old) (F.told folder.old) (C.coming content.new))
+        (R.left random.old) (R.left random.new) (F.told folder.old) (F.told folder.new) result }
+    ensures reads { C.reads content.new ≡ C.reads content.old }
+    ensures room { C.room content.new ≤ C.room content.old }
+    ensures lender { C.lender content.new ≡ C.lender content.old }
+    ensures failed { Blames result PutFault.Failed (F.faults folder.old) (F.faults folder.new) }
+    ensures source { Blames result PutFault.Source (C.faults content.old) (C.faults content.new) }
+    ensures random { Blames result PutFault.Random (R.faults random.old) (R.faults random.new) }
+{
+    let staged = staged_entry(work)?;
+    stage_entry(folder, &staged, keys, inside, content, random, buffers)?;
+    Ok(publish_entry(folder, &staged, at)?)
+}
+
+// Puts what was staged at its place, so that it lasts.
+fn publish_entry<F: Folder>(folder: &mut F, staged: &FPath, at: &FPath) -> Result<(), FolderFault>
+    requires { (a : Told) → F.told folder.old ≡ Some a → Allowed a.state (Rename staged.now at.now) }
+    ensures published { PublishesEntry staged.now at.now (F.told folder.old) (F.told folder.new) result }
+    ensures counts { CountsAbove (F.faults folder.old) (F.faults folder.new) result }
+{
+    folder.rename(staged, at)?;
+    folder.settle()
+}
+
+// Stages the entry of a content: its file, or a folder with that and the text of a long name.
+fn stage_entry<F: Folder, R: Randoms, C: Content<F>>(
+    folder: &mut F,
+    staged: &FPath,
+    keys: ContentKeys,
+    inside: &Option<Text>,
+    content: &mut C,
+    random: &mut R,
+    buffers: &mut Buffers,
+) -> Result<(), PutFault>
+    requires free { (v : View) → IsSeen (F.told folder.old) v → ShowsFree v staged.now }
+    requires below_base { staged.now ≢ [] }
+    requires ready { IsReady (C.reads content.old) (F.told folder.old) (C.coming content.old) }
+    requires apart { ReadsApart (C.reads content.old) staged.now }
+    ensures staged { StagesEntry keys inside.now staged.now (still_coming (C.reads content.old) (F.told folder.old) (C.coming content.old)) (still_coming (C.reads content.old) (F.told folder.old) (C.coming content.new))
+        (R.left random.old) (R.left random.new) (F.told folder.old) (F.told folder.new) result }
+    ensures reads { C.reads content.new ≡ C.reads content.old }
+    ensures room { C.room content.new ≤ C.room content.old }
+    ensures lender { C.lender content.new ≡ C.lender content.old }
+    ensures failed { Blames result PutFault.Failed (F.faults folder.old) (F.faults folder.new) }
+    ensures source { Blames result PutFault.Source (C.faults content.old) (C.faults content.new) }
+    ensures random { Blames result PutFault.Random (R.faults random.old) (R.faults random.new) }
+{
+    match inside {
+        None => stage_alone(folder, staged, keys, content, random, buffers),
+        Some(_) => stage_folder(folder, staged, keys, inside, content, random, buffers),
+    }
+}
+
+// Stages a content file.
+fn stage_alone<F: Folder, R: Randoms, C: Content<F>>(
+    folder: &mut F,
+    staged: &FPath,
+    keys: ContentKeys,
+    content: &mut C,
+    random: &mut R,
+    buffers: &mut Buffers,
+) -> Result<(), PutFault>
+    requires free { (v : View) → IsSeen (F.told folder.old) v → ShowsFree v staged.now }
+    requires below_base { staged.now ≢ [] }
+    requires ready { IsReady (C.reads content.old) (F.told folder.old) (C.coming content.old) }
+    requires apart { ReadsApart (C.reads content.old) staged.now }
+    ensures staged { StagesEntry keys None staged.now (still_coming (C.reads content.old) (F.told folder.old) (C.coming content.old)) (still_coming (C.reads content.old) (F.told folder.old) (C.coming content.new))
+        (R.left random.old) (R.left random.new) (F.told folder.old) (F.told folder.new) result }
+    ensures reads { C.reads content.new ≡ C.reads content.old }
+    ensures room { C.room content.new ≤ C.room content.old }
+    ensures lender { C.lender content.new ≡ C.lender content.old }
+    ensures failed { Blames result PutFault.Failed (F.faults folder.old) (F.faults folder.new) }
+    ensures source { Blames result PutFault.Source (C.faults content.old) (C.faults content.new) }
+    ensures random { Blames result PutFault.Random (R.faults random.old) (R.faults random.new) }
+{
+    write_content(folder, staged, keys, content, random, buffers)
+}
+
+// Stages a folder with a content file and the text of a long name.
+fn stage_folder<F: Folder, R: Randoms, C: Content<F>>(
+    folder: &mut F,
+    staged: &FPath,
+    keys: ContentKeys,
+    full: &Option<Text>,
+    content: &mut C,
+    random: &mut R,
+    buffers: &mut Buffers,
+) -> Result<(), PutFault>
+    requires long { (text : List ℕ) × (full.now ≡ Some text) }
+    requires free { (v : View) → IsSeen (F.told folder.old) v → ShowsFree v staged.now }
+    requires ready { IsReady (C.reads content.old) (F.told folder.old) (C.coming content.old) }
+    requires apart { ReadsApart (C.reads content.old) staged.now }
+    ensures staged { StagesEntry keys full.now staged.now (still_coming (C.reads content.old) (F.told folder.old) (C.coming content.old)) (still_coming (C.reads content.old) (F.told folder.old) (C.coming content.new))
+        (R.left random.old) (R.left random.new) (F.told folder.old) (F.told folder.new) result }
+    ensures reads { C.reads content.new ≡ C.reads content.old }
+    ensures room { C.room content.new ≤ C.room content.old }
+    ensures lender { C.lender content.new ≡ C.lender content.old }
+    ensures failed { Blames result PutFault.Failed (F.faults folder.old) (F.faults folder.new) }
+    ensures source { Blames result PutFault.Source (C.faults content.old) (C.faults content.new) }
+    ensures random { Blames result PutFault.Random (R.faults random.old) (R.faults random.new) }
+{
+    staged_folders_gain_files();
+    staged_folders_are_seen();
+    begin_folder(folder, staged)?;
+    let file = staged.child("contents.c9r")?;
+    write_content(folder, &file, keys, content, random, buffers)?;
+    Ok(stage_name(folder, staged, full)?)
+}

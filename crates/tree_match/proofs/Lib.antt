@@ -10,3 +10,5 @@ mod Fronts
 mod ReadAhead
 mod Merging
 mod Differing
+mod WholeContents
+mod HeldTrees

@@ -1,6 +1,7 @@
 -- That a migration stays guarded while items of the source are made in the target.
 use Rattle.std.specs.Prelude.{Contains}
 use Rattle.std.proofs.Common.{◌≡◌, ◌≢◌, ◌⊎◌, zero, suc, Bool, true, false, ◌&&◌, not, List, [], ◌∷◌, ◌++◌, None, Result, Ok, refl, sym, ap, ◌∙◌, inl, inr, subst, arith, append_assoc, append-nil, codes, IsTrue, is_none}
+use Rattle.content_writing.specs.Content.{Ending, Whole}
 use Rattle.content_writing.specs.declared.fault.PutFault.{PutFault}
 use Rattle.folder_spec.proofs.Moments.{went_nowhere, went_on, went_to}
 use Rattle.folder_spec.proofs.Paths.{one_or_not, begins_or_not, below-apart}
@@ -103,8 +104,8 @@ builds_on alike g v w separate is keeps part = record {
     beside : (q : Path) → below g.target.root q ≡ None → IsTrue (apart_from g.target.root q)
     beside q none = ap is_none none
 
-abbrev pub OldOrNew : Migration → ItemAt → View → View → Type 0
-OldOrNew g x v w = KeepsTree (format_of g.target.vault) g.target.root v w ⊎ GainsItem (format_of g.target.vault) g.target.root (path_of x) (opens_as x.item) v w
+abbrev pub OldOrNew : Migration → ItemAt → Ending → View → View → Type 0
+OldOrNew g x ending v w = KeepsTree (format_of g.target.vault) g.target.root v w ⊎ ((ending ≡ Whole) × GainsItem (format_of g.target.vault) g.target.root (path_of x) (opens_as x.item) v w)
 
 kept_part : (g : Migration) (v w : View) → OpensAs (format_of g.target.vault) (under g.target.root v) (under g.target.root w) → IsPartOf (tree_at g.target v) g.held → IsPartOf (tree_at g.target w) g.held
 kept_part g v w opens part path named there =
@@ -118,27 +119,27 @@ gained_part g x v w held opens part path named there = elim (one_or_not path (pa
   | inr other ↦ subst (λ o. (o ≡ g.held path) × IsWhole o) (sym (opens.others path other.0)) (part path named (subst (λ o. o ≢ NoItem) (opens.others path other.0) there))
 ]
 
-builds : RootsAreAlike → (g : Migration) (x : ItemAt) (v w : View) → IsSeparate g → IsHeld g x → IsBuilding g v → OldOrNew g x v w → IsBuilding g w
-builds alike g x v w separate held is (inl keeps) = builds_on alike g v w separate is keeps.vault (kept_part g v w keeps.opens is.part)
-builds alike g x v w separate held is (inr gains) = builds_on alike g v w separate is gains.vault (gained_part g x v w held gains.opens is.part)
+builds : RootsAreAlike → (g : Migration) (x : ItemAt) (ending : Ending) (v w : View) → IsSeparate g → (ending ≡ Whole → IsHeld g x) → IsBuilding g v → OldOrNew g x ending v w → IsBuilding g w
+builds alike g x ending v w separate held is (inl keeps) = builds_on alike g v w separate is keeps.vault (kept_part g v w keeps.opens is.part)
+builds alike g x ending v w separate held is (inr (whole, gains)) = builds_on alike g v w separate is gains.vault (gained_part g x v w (held whole) gains.opens is.part)
 
 -- ---- at each moment
 
 shows_one : (g : Migration) (x : ItemAt) (s : State) (b : IsAlone g Begun s) → ShowsOne (placing_of g x) (is_kept g) s b.view
 shows_one g x s b = record { has = has_vault g x b.guarded.separate; alone = b.alone; good = b.holds.target.good }
 
-guarded_at : RootsAreAlike → ImagesShow → (g : Migration) (x : ItemAt) (m : Making) (s0 s : State) → IsAlone g Begun s0 → IsHeld g x
-    → IsMaking (placing_of g x) m s0 s → NoOdd g.work s → Guarded g s
-guarded_at alike shown g x m s0 s b held making none = guarded_by alike shown g s b.guarded.separate shows
+guarded_at : RootsAreAlike → ImagesShow → (g : Migration) (x : ItemAt) (ending : Ending) (m : Making) (s0 s : State) → IsAlone g Begun s0 → (ending ≡ Whole → IsHeld g x)
+    → IsMaking (placing_of g x) ending m s0 s → NoOdd g.work s → Guarded g s
+guarded_at alike shown g x ending m s0 s b held making none = guarded_by alike shown g s b.guarded.separate shows
   where
     shows : (t : Table) → IsTableOf s t → ShowsCase g s t
     shows t is =
-        let there : (w : View) × Shows (is_kept g) s t w × OldOrNew g x b.view w = making.trees (is_kept g) b.view (shows_one g x s0 b) t is in
+        let there : (w : View) × Shows (is_kept g) s t w × OldOrNew g x ending b.view w = making.trees (is_kept g) b.view (shows_one g x s0 b) t is in
         let before : (u : Table) × IsTableOf s0 u × AlikeIn (is_elsewhere (placing_of g x)) t u = making.others.tables t is in
         record {
           view = there.0;
           shows = there.1;
-          case = Building (builds alike g x b.view there.0 b.guarded.separate held b.holds there.2);
+          case = Building (builds alike g x ending b.view there.0 b.guarded.separate held b.holds there.2);
           work = work_alike g x t before.0 b.guarded.separate before.2 (λ q staged. none t q is staged) (table_work g Begun s0 b before.0 before.1);
         }
 
@@ -150,7 +151,7 @@ one_stays alike shown g x a b result at places = record {
   events = went.events;
   log = went.log;
   state = went.state;
-  states = both_along (IsMaking p m a.state) (NoOdd g.work) (Guarded g) a.state went.events (λ s making none. guarded_at alike shown g x m a.state s at places.held making none)
+  states = both_along (IsMaking p places.ending m a.state) (NoOdd g.work) (Guarded g) a.state went.events (λ s making none. guarded_at alike shown g x places.ending m a.state s at places.held making none)
       went.states (none_along g.work m a.state went.events (none_at_first g a.state at) went.each);
   each = nothing_each a.state went.events;
   allowed = went.allowed;
@@ -162,7 +163,7 @@ one_stays alike shown g x a b result at places = record {
     m : Making
     m = making_at p places.making a.state
 
-    went : Went (IsMaking p m a.state) (λ s e. StagesOrPlaces g.work m s e.call) a b
+    went : Went (IsMaking p places.ending m a.state) (λ s e. StagesOrPlaces g.work m s e.call) a b
     went = places.makes.moments
 
 -- ---- after Ok
@@ -179,7 +180,7 @@ next_may_follow alike shown g x a b at places =
       guarded = went_to (Guarded g) (λ s e. Unit {0}) a b (one_stays alike shown g x a b (Ok tt) at places);
       view = made.0;
       alone = made.1;
-      holds = builds alike g x at.view made.0 at.guarded.separate places.held at.holds (inr made.2);
+      holds = builds alike g x places.ending at.view made.0 at.guarded.separate places.held at.holds (inr (places.whole, made.2));
     }
 
 pub each_stays : RootsAreAlike → ImagesShow → (g : Migration) (items : List ItemAt) (a b : Told) → IsAlone g Begun a.state → PlaceEach g items a b → StaysGuarded g a b
@@ -204,7 +205,7 @@ seen_tree alike g s v alone path = ap (λ u. tree (format_of g.target.vault) u p
 item_opens : RootsAreAlike → (g : Migration) (x : ItemAt) (a b : Told) → IsAlone g Begun a.state → Places g x a b (Ok tt) → tree_at g.target (seen b.state) (path_of x) ≡ g.held (path_of x)
 item_opens alike g x a b at places =
     let made : (w : View) × ShowsAmong (is_kept g) b.state (w ∷ []) × GainsItem (format_of g.target.vault) g.target.root (path_of x) (opens_as x.item) at.view w = made_view g x a b at places in
-    seen_tree alike g b.state made.0 made.1 (path_of x) ∙ made.2.opens.there ∙ places.held
+    seen_tree alike g b.state made.0 made.1 (path_of x) ∙ made.2.opens.there ∙ places.held places.whole
 
 -- what opens as the source held it goes on to
 one_opens_on : RootsAreAlike → (g : Migration) (x : ItemAt) (a b : Told) → IsAlone g Begun a.state → Places g x a b (Ok tt)
@@ -227,7 +228,7 @@ all_are_placed alike shown g [] a b at placed x among = absurd (omega (arith, am
 all_are_placed alike shown g (y ∷ items) a b at placed x among =
     let next : IsAlone g Begun placed.0.state = next_may_follow alike shown g y a placed.0 at placed.1 in
     let first : tree_at g.target (seen b.state) (path_of y) ≡ opens_as y.item =
-    opens_on alike shown g items placed.0 b next placed.2 (path_of y) (item_opens alike g y a placed.0 at placed.1) ∙ sym placed.1.held in
+    opens_on alike shown g items placed.0 b next placed.2 (path_of y) (item_opens alike g y a placed.0 at placed.1) ∙ sym (placed.1.held placed.1.whole) in
     by_place first (all_are_placed alike shown g items placed.0 b next placed.2) among
   where
     by_place : tree_at g.target (seen b.state) (path_of y) ≡ opens_as y.item → ArePlaced g items b.state → Contains (y ∷ items) x → tree_at g.target (seen b.state) (path_of x) ≡ opens_as x.item

@@ -6,3 +6,4 @@ pub mod Placed
 pub mod Comparing
 pub mod Matching
 pub mod Pieces
+pub mod Trees

@@ -1,10 +1,11 @@
 -- Items of the source that are placed in the target, one after the other.
-use Rattle.std.specs.Prelude.{◌≡◌, ℕ, List, [], ◌∷◌, ◌++◌, Some, Ok, Result, Contains}
+use Rattle.std.specs.Prelude.{◌≡◌, ℕ, List, [], ◌∷◌, ◌++◌, Some, Ok, Result, OnOk, Contains}
 use Rattle.folder_spec.specs.Event.{Told}
 use Rattle.folder_spec.specs.Seen.{seen}
 use Rattle.folder_spec.specs.State.{State, IsSound}
 use Rattle.folder_spec.specs.View.{View}
 use Rattle.plain_tree.specs.Names as plain
+use Rattle.content_writing.specs.Content.{Ending, Whole}
 use Rattle.content_writing.specs.declared.fault.PutFault.{PutFault}
 use Rattle.tree_match.specs.Guard.{Migration, tree_at}
 use Rattle.vault_spec.specs.Making.{NewItem}
@@ -29,11 +30,13 @@ placing_of g x = record { vault = record { root = g.target.root; vault = g.targe
 abbrev pub IsHeld : Migration → ItemAt → Type 0
 IsHeld g x = opens_as x.item ≡ g.held (path_of x)
 
--- a call makes the item
+-- A call makes the item, of a content that ends so. The source held it, unless it ends at a fault or a limit; and then it isn't made.
 pub record Places (g : Migration) (x : ItemAt) (a b : Told) (result : Result (Unit {0}) PutFault) : Type 0 where
-  pub held : IsHeld g x
+  pub ending : Ending
+  pub held : ending ≡ Whole → IsHeld g x
+  pub whole : OnOk result (ending ≡ Whole)
   pub making : View → Making
-  pub makes : Makes (placing_of g x) making (Some a) (Some b) result
+  pub makes : Makes (placing_of g x) ending making (Some a) (Some b) result
   pub sound : IsSound b.state
 
 -- calls make these items one after the other

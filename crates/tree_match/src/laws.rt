@@ -5,22 +5,29 @@ ghost use Rattle.folder_spec.specs.Event.{Told, Settle, changed};
 ghost use Rattle.folder_spec.specs.Image.{Image, IsImage, state_of};
 ghost use Rattle.folder_spec.specs.Seen.{seen};
 ghost use Rattle.folder_spec.specs.State.{State, IsSound, HasNothingPending};
-ghost use Rattle.folder_spec.specs.View.{view_of};
+ghost use Rattle.folder_spec.specs.View.{View, view_of};
 ghost use Rattle.tree_match.specs.Guard.{Migration, Guarded, IsSafe, IsSeparate, IsNotBegun, IsWork, AllowsTree, HoldsAll, Tells, kinds_in};
 ghost use Rattle.move_journal.specs.Journal.{IsJournal};
 ghost use Rattle.move_journal.specs.Writing.{Writes, HasWritten};
 ghost use Rattle.move_journal.specs.declared.journal.Journal.{Journal};
 ghost use Rattle.move_journal.specs.declared.journal.Phase.TheVariants.{Building, Done};
 ghost use Rattle.tree_match.specs.Alone.{Progress, Unbegun, Begun, Finished, IsIn, IsAlone, StaysGuarded, StaysAlone};
+ghost use Rattle.tree_match.specs.Comparing.{Is};
+ghost use Rattle.tree_match.specs.Matching.{IsMatchable};
 ghost use Rattle.tree_match.specs.Placed.{ItemAt, Places, PlaceEach, ArePlaced};
+ghost use Rattle.tree_match.specs.Trees.{Side, IsWalkOf, HoldsAllBy, IsPartIn, match_of};
+ghost use Rattle.tree_match.specs.declared.answer.Match.TheVariants.{Same};
 ghost use Rattle.work_folder.specs.Changing.{ChangesAt};
 ghost use Rattle.work_folder.specs.Entering.{IsStage, IsBelowStage, IsWorkOrStage, IsLeftOver};
 ghost use Rattle.work_folder.specs.Entries.{stage_path};
 
+use chunk_files::laws::whole_files_end;
 use folder_spec::laws::{
     calls_keep_states_sound, edits_are_published, images_are_states, images_show_views,
     roots_show_their_own, syncs_narrow_images,
 };
+use vault_read::laws::files_have_their_contents;
+use vault_spec::laws::plans_are_the_tree;
 
 /// What a crash leaves of a guarded migration is guarded, and in it each file that the source held when the migration began opens with
 /// its content in the source or at its path in the target.
@@ -74,4 +81,16 @@ pub fn journals_keep_migrations_guarded()
     edits_are_published();
     images_show_views();
     roots_show_their_own();
+}
+
+/// Plans that walks answer can be compared. Where the second vault has all items of the first, the tree of the first is part of the
+/// second's, with no broken file; and where that has no further ones, its tree is part of the first's too.
+pub fn what_is_held_opens_the_same()
+    ensures matchable { (v : View) (a : Side) → IsWalkOf v a → IsMatchable v a.items }
+    ensures held { (v : View) (a b : Side) → IsWalkOf v a → IsWalkOf v b → HoldsAllBy (match_of v a b) → IsPartIn v a b }
+    ensures same { (v : View) (a b : Side) → IsWalkOf v a → IsWalkOf v b → match_of v a b ≡ Is Same → IsPartIn v b a }
+{
+    files_have_their_contents();
+    plans_are_the_tree();
+    whole_files_end();
 }

@@ -132,3 +132,10 @@ pub(crate) fn publish_directory<F: Folder>(
     stage_name(folder, &staged, full)?;
     folder.rename(&staged, at)
 }
+
+// Where an item's entry is staged.
+pub(crate) fn staged_entry(work: &Work) -> Result<FPath, AllocError>
+    ensures { IfOk result (λ at. at ≡ child (stage_path work.now) (codes "f")) }
+{
+    staged_at(work, "f")
+}

@@ -27,7 +27,8 @@ use Rattle.vault_spec.specs.declared.Lack.TheVariants as lacks
 use Rattle.vault_cli.specs.Cat.{ShowsContent, ShowsFile, shown_reading, answer_to_ending}
 use Rattle.vault_cli.specs.Faults.{of_cat, of_find}
 use Rattle.vault_cli.specs.Finding.{answer_to_finding}
-use Rattle.vault_cli.specs.Refusing.{Opens, Unless}
+use Rattle.vault_cli.specs.Opening.{Opens}
+use Rattle.vault_cli.specs.Refusing.{Unless}
 use Rattle.vault_cli.specs.Shown.{Shown, refused, Follows, Reads, is_of_reading}
 use Rattle.vault_cli.specs.declared.answer.Answer.{Answer}
 use Rattle.vault_cli.specs.declared.answer.Answer.TheVariants.{Done, OutOfMemory, FolderFault, OutputFault, NotFound, WrongKind, Damaged, Limit}

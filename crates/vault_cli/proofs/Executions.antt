@@ -11,13 +11,14 @@ use Rattle.vault_cli.specs.Answers.{is_plain, status_of}
 use Rattle.vault_cli.specs.DecryptFile.{answer_to_end}
 use Rattle.vault_cli.specs.declared.decrypt.DecryptEnd.{DecryptEnd}
 use Rattle.vault_cli.specs.declared.decrypt.DecryptEnd.TheVariants as ends
+use Rattle.vault_cli.specs.Fsck.{ChecksVault, is_of_checking}
 use Rattle.vault_cli.specs.Runs.{Executes, IsNoCommand, ListsItems, WritesFile}
 use Rattle.vault_cli.specs.Shown.{Shown, TakesAll, TakesSome, Follows, Reads, is_of_reading}
 use Rattle.vault_cli.specs.World.{World}
 use Rattle.vault_cli.specs.declared.answer.Answer.{Answer}
-use Rattle.vault_cli.specs.declared.answer.Answer.TheVariants.{Done, BadCommandLine, OutOfMemory, FolderFault, InputFault, OutputFault, Refused, WrongPass, NotFound, WrongKind, DamagedInput, Damaged, Limit}
+use Rattle.vault_cli.specs.declared.answer.Answer.TheVariants.{Done, Findings, BadCommandLine, OutOfMemory, FolderFault, InputFault, OutputFault, Refused, WrongPass, NotFound, WrongKind, DamagedInput, Damaged, Overlap, NotEmpty, Limit}
 use Rattle.vault_cli.specs.declared.words.Command.{Command}
-use Rattle.vault_cli.specs.declared.words.Command.TheVariants.{DecryptFile, Ls, Cat}
+use Rattle.vault_cli.specs.declared.words.Command.TheVariants.{DecryptFile, Ls, Cat, Fsck}
 use Rattle.vault_cli.proofs.Decryptions.{decrypts_nothing, decryption_lost}
 
 -- a command that read nothing, for want of memory
@@ -34,6 +35,15 @@ not_begun None w = record { answers = inr refl; unchanged = refl; untouched = Ke
 not_begun (Some (DecryptFile key)) w = decrypts_nothing key w
 not_begun (Some (Ls target)) w = record { reads = reads_nothing _ w.told w.taken; quiet = λ failed. cc; untouched = Keeps-refl w.left }
 not_begun (Some (Cat target)) w = record { reads = reads_nothing _ w.told w.taken; untouched = Keeps-refl w.left }
+not_begun (Some (Fsck target)) w = record {
+  unchanged = refl;
+  own = refl;
+  follows = λ v is. inl (Keeps-refl w.taken);
+  exactly = λ v shown is shows. inr (inr (inr refl));
+  complete = λ v vault is opens. inr (inr (inr refl));
+  quiet = λ failed. cc;
+  untouched = Keeps-refl w.left;
+}
 
 -- all pieces are the first ones
 all_taken : (Shows : Shown → Type 0) (answer : Answer) (taken taken' : Option (List ℕ)) → TakesAll Shows answer taken taken' → TakesSome Shows taken taken'
@@ -42,6 +52,7 @@ all_taken Shows answer taken taken' all =
 
 follows_lost : (Shows : Shown → Type 0) (answer : Answer) (taken taken' : Option (List ℕ)) → is_plain answer ≡ false → Follows Shows answer taken taken' → Follows Shows OutOfMemory taken taken'
 follows_lost Shows Done taken taken' named follows = cc
+follows_lost Shows Findings taken taken' named follows = cc
 follows_lost Shows BadCommandLine taken taken' named follows = cc
 follows_lost Shows OutOfMemory taken taken' named follows = cc
 follows_lost Shows FolderFault taken taken' named follows = cc
@@ -53,6 +64,8 @@ follows_lost Shows (NotFound what) taken taken' named follows = all_taken Shows 
 follows_lost Shows (WrongKind what) taken taken' named follows = all_taken Shows (WrongKind what) taken taken' follows
 follows_lost Shows (DamagedInput fault) taken taken' named follows = all_taken Shows (DamagedInput fault) taken taken' follows
 follows_lost Shows (Damaged at how) taken taken' named follows = all_taken Shows (Damaged at how) taken taken' follows
+follows_lost Shows (Overlap first second) taken taken' named follows = all_taken Shows (Overlap first second) taken taken' follows
+follows_lost Shows (NotEmpty at) taken taken' named follows = all_taken Shows (NotEmpty at) taken taken' follows
 follows_lost Shows (Limit which) taken taken' named follows = all_taken Shows (Limit which) taken taken' follows
 
 reads_lost : (Shows : View → Shown → Type 0) (answer : Answer) (told told' : Option Told) (taken taken' : Option (List ℕ)) → is_plain answer ≡ false
@@ -71,6 +84,15 @@ lost (Some (Ls target)) answer before after named did =
     record { reads = reads_lost _ answer before.told after.told before.taken after.taken named did.reads; quiet = λ failed. cc; untouched = did.untouched }
 lost (Some (Cat target)) answer before after named did =
     record { reads = reads_lost _ answer before.told after.told before.taken after.taken named did.reads; untouched = did.untouched }
+lost (Some (Fsck target)) answer before after named did = record {
+  unchanged = did.unchanged;
+  own = refl;
+  follows = λ v is. follows_lost _ answer before.taken after.taken named (did.follows v is);
+  exactly = λ v shown is shows. inr (inr (inr refl));
+  complete = λ v vault is opens. inr (inr (inr refl));
+  quiet = λ failed. cc;
+  untouched = did.untouched;
+}
 
 -- what holds of an answer holds of the one that its report gives back
 pub reported : (command : Option Command) (answer result : Answer) (before after : World) → (result ≡ answer) ⊎ ((result ≡ OutOfMemory) × (is_plain answer ≡ false))
@@ -86,9 +108,13 @@ reported_as answer result other (inr memory) is known = absurd (known (sym is �
 not_of_reading : (answer : Answer) → answer ≡ BadCommandLine → ¬ IsTrue (is_of_reading answer)
 not_of_reading answer bad own = let none : IsTrue (is_of_reading BadCommandLine) = subst (λ a. IsTrue (is_of_reading a)) bad own in cc
 
+not_of_checking : (answer : Answer) → answer ≡ BadCommandLine → ¬ IsTrue (is_of_checking answer)
+not_of_checking answer bad own = let none : IsTrue (is_of_checking BadCommandLine) = subst (λ a. IsTrue (is_of_checking a)) bad own in cc
+
 pub bad_of_status : (answer : Answer) → status_of answer ≡ 2 → answer ≡ BadCommandLine
 bad_of_status BadCommandLine is = refl
 bad_of_status Done is = absurd (omega (arith, is))
+bad_of_status Findings is = absurd (omega (arith, is))
 bad_of_status OutOfMemory is = absurd (omega (arith, is))
 bad_of_status FolderFault is = absurd (omega (arith, is))
 bad_of_status InputFault is = absurd (omega (arith, is))
@@ -99,11 +125,14 @@ bad_of_status (NotFound what) is = absurd (omega (arith, is))
 bad_of_status (WrongKind what) is = absurd (omega (arith, is))
 bad_of_status (DamagedInput fault) is = absurd (omega (arith, is))
 bad_of_status (Damaged at how) is = absurd (omega (arith, is))
+bad_of_status (Overlap first second) is = absurd (omega (arith, is))
+bad_of_status (NotEmpty at) is = absurd (omega (arith, is))
 bad_of_status (Limit which) is = absurd (omega (arith, is))
 
 pub folder_of_status : (answer : Answer) → status_of answer ≡ 4 → answer ≡ FolderFault
 folder_of_status FolderFault is = refl
 folder_of_status Done is = absurd (omega (arith, is))
+folder_of_status Findings is = absurd (omega (arith, is))
 folder_of_status BadCommandLine is = absurd (omega (arith, is))
 folder_of_status OutOfMemory is = absurd (omega (arith, is))
 folder_of_status InputFault is = absurd (omega (arith, is))
@@ -114,11 +143,14 @@ folder_of_status (NotFound what) is = absurd (omega (arith, is))
 folder_of_status (WrongKind what) is = absurd (omega (arith, is))
 folder_of_status (DamagedInput fault) is = absurd (omega (arith, is))
 folder_of_status (Damaged at how) is = absurd (omega (arith, is))
+folder_of_status (Overlap first second) is = absurd (omega (arith, is))
+folder_of_status (NotEmpty at) is = absurd (omega (arith, is))
 folder_of_status (Limit which) is = absurd (omega (arith, is))
 
 pub input_of_status : (answer : Answer) → status_of answer ≡ 5 → answer ≡ InputFault
 input_of_status InputFault is = refl
 input_of_status Done is = absurd (omega (arith, is))
+input_of_status Findings is = absurd (omega (arith, is))
 input_of_status BadCommandLine is = absurd (omega (arith, is))
 input_of_status OutOfMemory is = absurd (omega (arith, is))
 input_of_status FolderFault is = absurd (omega (arith, is))
@@ -129,11 +161,14 @@ input_of_status (NotFound what) is = absurd (omega (arith, is))
 input_of_status (WrongKind what) is = absurd (omega (arith, is))
 input_of_status (DamagedInput fault) is = absurd (omega (arith, is))
 input_of_status (Damaged at how) is = absurd (omega (arith, is))
+input_of_status (Overlap first second) is = absurd (omega (arith, is))
+input_of_status (NotEmpty at) is = absurd (omega (arith, is))
 input_of_status (Limit which) is = absurd (omega (arith, is))
 
 pub output_of_status : (answer : Answer) → status_of answer ≡ 6 → answer ≡ OutputFault
 output_of_status OutputFault is = refl
 output_of_status Done is = absurd (omega (arith, is))
+output_of_status Findings is = absurd (omega (arith, is))
 output_of_status BadCommandLine is = absurd (omega (arith, is))
 output_of_status OutOfMemory is = absurd (omega (arith, is))
 output_of_status FolderFault is = absurd (omega (arith, is))
@@ -144,6 +179,8 @@ output_of_status (NotFound what) is = absurd (omega (arith, is))
 output_of_status (WrongKind what) is = absurd (omega (arith, is))
 output_of_status (DamagedInput fault) is = absurd (omega (arith, is))
 output_of_status (Damaged at how) is = absurd (omega (arith, is))
+output_of_status (Overlap first second) is = absurd (omega (arith, is))
+output_of_status (NotEmpty at) is = absurd (omega (arith, is))
 output_of_status (Limit which) is = absurd (omega (arith, is))
 
 -- no command but none at all is answered as a bad command line
@@ -160,6 +197,7 @@ bad_is_none (Some (DecryptFile key)) answer before after is did = absurd (no_end
     no_end ends.TooLong same = cc
 bad_is_none (Some (Ls target)) answer before after is did = absurd (not_of_reading answer (bad_of_status answer is) did.reads.own)
 bad_is_none (Some (Cat target)) answer before after is did = absurd (not_of_reading answer (bad_of_status answer is) did.reads.own)
+bad_is_none (Some (Fsck target)) answer before after is did = absurd (not_of_checking answer (bad_of_status answer is) did.own)
 
 pub none_is_bad : (command : Option Command) (answer : Answer) (before after : World) → IsNone command → Executes command answer before after → (status_of answer ≡ 2) ⊎ (status_of answer ≡ 3)
 none_is_bad None answer before after none did = elim did.answers [ inl bad ↦ inl (ap status_of bad) | inr memory ↦ inr (ap status_of memory) ]

@@ -1,3 +1,4 @@
+mod Checks
 mod Contents
 mod Decryptions
 mod Executions

@@ -2,11 +2,12 @@
 use Rattle.std.proofs.Common.{◌≡◌, false, List, [], ◌∷◌, ◌++◌, codes, refl}
 use Rattle.vault_cli.specs.Answers.{is_plain, line, line_of, message_of}
 use Rattle.vault_cli.specs.declared.answer.Answer.{Answer}
-use Rattle.vault_cli.specs.declared.answer.Answer.TheVariants.{Done, BadCommandLine, OutOfMemory, FolderFault, InputFault, OutputFault, Refused, WrongPass, NotFound, WrongKind, DamagedInput, Damaged, Limit}
+use Rattle.vault_cli.specs.declared.answer.Answer.TheVariants.{Done, Findings, BadCommandLine, OutOfMemory, FolderFault, InputFault, OutputFault, Refused, WrongPass, NotFound, WrongKind, DamagedInput, Damaged, Overlap, NotEmpty, Limit}
 
 -- it has a message, and so a line
 pub naming_line : (answer : Answer) → is_plain answer ≡ false → line_of answer ≡ line (message_of answer)
 naming_line Done is = cc
+naming_line Findings is = cc
 naming_line BadCommandLine is = cc
 naming_line OutOfMemory is = cc
 naming_line FolderFault is = cc
@@ -18,4 +19,6 @@ naming_line (NotFound what) is = refl
 naming_line (WrongKind what) is = refl
 naming_line (DamagedInput fault) is = refl
 naming_line (Damaged at how) is = refl
+naming_line (Overlap first second) is = refl
+naming_line (NotEmpty at) is = refl
 naming_line (Limit which) is = refl

@@ -13,8 +13,8 @@ use Rattle.vault_read.specs.Loading.{Refuses}
 use Rattle.vault_read.specs.Laws.{HaveOneAnswer}
 use Rattle.vault_spec.specs.Vault.{Vault, LoadRefusal, Loads, Either}
 use Rattle.vault_spec.specs.Vault as vault
-use Rattle.vault_cli.specs.Opening.{passphrase_in, OfPassFile, OfVault, OfOpened, answer_to_refusal}
-use Rattle.vault_cli.specs.Refusing.{Unless, IsPhrase, Opens, RefusesPass, RefusesOpening, of_load}
+use Rattle.vault_cli.specs.Opening.{IsPhrase, Opens, passphrase_in, OfPassFile, OfVault, OfOpened, answer_to_refusal}
+use Rattle.vault_cli.specs.Refusing.{Unless, RefusesPass, RefusesOpening, of_load}
 use Rattle.vault_cli.specs.Shown.{Shown, refused, is_of_reading}
 use Rattle.vault_cli.specs.declared.answer.Answer.{Answer}
 use Rattle.vault_cli.specs.declared.answer.Answer.TheVariants.{Done, OutOfMemory, FolderFault, Refused, WrongPass, NotFound, WrongKind, Limit}
@@ -141,25 +141,43 @@ load_refused root pass v phrase fault answer is refuses (inr same) =
 
 -- ---- one answer
 
-pass_one : (at : Path) (there : Found) (a b : Shown) (P Q : List ℕ → Type 0) → ((phrase : List ℕ) → P phrase → Q phrase → a ≡ b) → OfPassFile at there a P → OfPassFile at there b Q → a ≡ b
-pass_one at NoEntry a b P Q f x y = x ∙ sym y
-pass_one at Folder a b P Q f x y = x ∙ sym y
-pass_one at Special a b P Q f x y = x ∙ sym y
-pass_one at (FileOf bytes) a b P Q f x y = by (nat_le (length bytes) 2048) x y
-  where
-    by : (t : Bool) → Either t (P (passphrase_in bytes)) (a ≡ refused (Limit limit.PassFile)) → Either t (Q (passphrase_in bytes)) (b ≡ refused (Limit limit.PassFile)) → a ≡ b
-    by true x y = f (passphrase_in bytes) x y
-    by false x y = x ∙ sym y
+module _ (R : Shown → Shown → Type 0) (of_one : (a b : Shown) → a ≡ b → R a b) where
+  pass_alike : (at : Path) (there : Found) (a b : Shown) (P Q : List ℕ → Type 0) → ((phrase : List ℕ) → P phrase → Q phrase → R a b) → OfPassFile at there a P → OfPassFile at there b Q → R a b
+  pass_alike at NoEntry a b P Q f x y = of_one a b (x ∙ sym y)
+  pass_alike at Folder a b P Q f x y = of_one a b (x ∙ sym y)
+  pass_alike at Special a b P Q f x y = of_one a b (x ∙ sym y)
+  pass_alike at (FileOf bytes) a b P Q f x y = by (nat_le (length bytes) 2048) x y
+    where
+      by : (t : Bool) → Either t (P (passphrase_in bytes)) (a ≡ refused (Limit limit.PassFile)) → Either t (Q (passphrase_in bytes)) (b ≡ refused (Limit limit.PassFile)) → R a b
+      by true x y = f (passphrase_in bytes) x y
+      by false x y = of_one a b (x ∙ sym y)
 
-vault_one : (root : Path) (a b : Shown) (P Q : Vault → Type 0) (loaded : vault.Answer) → ((vault : Vault) → P vault → Q vault → a ≡ b)
-    → MatchResult loaded P (λ refusal. a ≡ refused (answer_to_refusal root refusal)) → MatchResult loaded Q (λ refusal. b ≡ refused (answer_to_refusal root refusal)) → a ≡ b
-vault_one root a b P Q (Ok vault) f x y = f vault x y
-vault_one root a b P Q (Err refusal) f x y = x ∙ sym y
+  vault_alike : (root : Path) (a b : Shown) (P Q : Vault → Type 0) (loaded : vault.Answer) → ((vault : Vault) → P vault → Q vault → R a b)
+      → MatchResult loaded P (λ refusal. a ≡ refused (answer_to_refusal root refusal)) → MatchResult loaded Q (λ refusal. b ≡ refused (answer_to_refusal root refusal)) → R a b
+  vault_alike root a b P Q (Ok vault) f x y = f vault x y
+  vault_alike root a b P Q (Err refusal) f x y = of_one a b (x ∙ sym y)
 
--- what follows of the opened vault decides
+  -- what follows of the opened vault decides
+  pub opened_alike : HaveOneAnswer → (v : View) (root pass : Path) (a b : Shown) (P Q : Vault → Type 0) → ((vault : Vault) → P vault → Q vault → R a b)
+      → OfOpened v root pass a P → OfOpened v root pass b Q → R a b
+  opened_alike law v root pass a b P Q f =
+      pass_alike pass (v pass) a b (λ phrase. OfVault v root phrase a P) (λ phrase. OfVault v root phrase b Q)
+      (λ phrase x y. vault_alike root a b P Q x.0 f x.2
+      (subst (λ l. MatchResult l Q (λ refusal. b ≡ refused (answer_to_refusal root refusal))) (law (under root v) phrase y.0 x.0 y.1 x.1) y.2))
+
 pub opened_one : HaveOneAnswer → (v : View) (root pass : Path) (a b : Shown) (P Q : Vault → Type 0) → ((vault : Vault) → P vault → Q vault → a ≡ b)
     → OfOpened v root pass a P → OfOpened v root pass b Q → a ≡ b
-opened_one law v root pass a b P Q f =
-    pass_one pass (v pass) a b (λ phrase. OfVault v root phrase a P) (λ phrase. OfVault v root phrase b Q)
-    (λ phrase x y. vault_one root a b P Q x.0 f x.2
-    (subst (λ l. MatchResult l Q (λ refusal. b ≡ refused (answer_to_refusal root refusal))) (law (under root v) phrase y.0 x.0 y.1 x.1) y.2))
+opened_one = opened_alike (λ a b. a ≡ b) (λ a b is. is)
+
+either_by : (P Q : Type 0) (b : Bool) → b ≡ true → Either b P Q → P
+either_by P Q true is x = x
+either_by P Q false is x = cc
+
+-- what follows is said of the vault that is opened
+pub opened_is : HaveOneAnswer → (v : View) (root pass : Path) (shown : Shown) (P : Vault → Type 0) (vault : Vault) → Opens v root pass vault → OfOpened v root pass shown P → P vault
+opened_is law v root pass shown P vault opens of =
+    let phrase = opens.1 in
+    let there : OfPassFile pass (FileOf phrase.0) shown (λ p. OfVault v root p shown P) = subst (λ x. OfPassFile pass x shown (λ p. OfVault v root p shown P)) phrase.1 of in
+    let loaded : OfVault v root (passphrase_in phrase.0) shown P = either_by (OfVault v root (passphrase_in phrase.0) shown P) (shown ≡ refused (Limit limit.PassFile)) (nat_le (length phrase.0) 2048) (le-leb (length phrase.0) 2048 phrase.2) there in
+    subst (λ l. MatchResult l P (λ refusal. shown ≡ refused (answer_to_refusal root refusal)))
+    (law (under root v) (passphrase_in phrase.0) loaded.0 (Ok vault) loaded.1 (subst (λ p. Loads (under root v) p (Ok vault)) phrase.3 opens.2)) loaded.2

@@ -9,9 +9,9 @@ use Rattle.folder_spec.specs.Event.{Told}
 use Rattle.folder_spec.specs.View.{View}
 use Rattle.folder_spec.specs.Seen.{IsSeen}
 use Rattle.vault_cli.specs.declared.answer.Answer.{Answer}
-use Rattle.vault_cli.specs.declared.answer.Answer.TheVariants.{Done, BadCommandLine, OutOfMemory, FolderFault, InputFault, OutputFault, Refused, WrongPass, NotFound, WrongKind, DamagedInput, Damaged, Limit}
+use Rattle.vault_cli.specs.declared.answer.Answer.TheVariants.{Done, Findings, BadCommandLine, OutOfMemory, FolderFault, InputFault, OutputFault, Refused, WrongPass, NotFound, WrongKind, DamagedInput, Damaged, Overlap, NotEmpty, Limit}
 use Rattle.vault_cli.specs.Refusing.{Unless}
-use Rattle.vault_cli.specs.Shown.{Shown, refused, TakesAll, Follows, IsCutShort, Reads, is_of_reading, is_refusal}
+use Rattle.vault_cli.specs.Shown.{Shown, refused, TakesAll, Follows, IsCutShort, Reads, is_of_opening, is_of_reading, is_refusal}
 
 -- two things that are shown are one
 abbrev pub IsOne : (Shown → Type 0) → Type 0
@@ -27,6 +27,7 @@ follows_refused Shows FolderFault taken taken' keeps shows = inl keeps
 follows_refused Shows OutOfMemory taken taken' keeps shows = inl keeps
 follows_refused Shows OutputFault taken taken' keeps shows = (refused OutputFault, shows, (zero, nothing taken taken' keeps))
 follows_refused Shows Done taken taken' keeps shows = (refused Done, shows, refl, nothing taken taken' keeps)
+follows_refused Shows Findings taken taken' keeps shows = (refused Findings, shows, refl, nothing taken taken' keeps)
 follows_refused Shows BadCommandLine taken taken' keeps shows = (refused BadCommandLine, shows, refl, nothing taken taken' keeps)
 follows_refused Shows InputFault taken taken' keeps shows = (refused InputFault, shows, refl, nothing taken taken' keeps)
 follows_refused Shows (Refused at why) taken taken' keeps shows = (refused (Refused at why), shows, refl, nothing taken taken' keeps)
@@ -35,6 +36,8 @@ follows_refused Shows (NotFound what) taken taken' keeps shows = (refused (NotFo
 follows_refused Shows (WrongKind what) taken taken' keeps shows = (refused (WrongKind what), shows, refl, nothing taken taken' keeps)
 follows_refused Shows (DamagedInput fault) taken taken' keeps shows = (refused (DamagedInput fault), shows, refl, nothing taken taken' keeps)
 follows_refused Shows (Damaged at how) taken taken' keeps shows = (refused (Damaged at how), shows, refl, nothing taken taken' keeps)
+follows_refused Shows (Overlap first second) taken taken' keeps shows = (refused (Overlap first second), shows, refl, nothing taken taken' keeps)
+follows_refused Shows (NotEmpty at) taken taken' keeps shows = (refused (NotEmpty at), shows, refl, nothing taken taken' keeps)
 follows_refused Shows (Limit which) taken taken' keeps shows = (refused (Limit which), shows, refl, nothing taken taken' keeps)
 
 pub follows_unless : (Shows : Shown → Type 0) (answer : Answer) (taken taken' : Option (List ℕ)) → Keeps taken taken' → Unless answer (Shows (refused answer)) → Follows Shows answer taken taken'
@@ -42,24 +45,31 @@ follows_unless Shows answer taken taken' keeps (inl failed) = subst (λ a. Follo
 follows_unless Shows answer taken taken' keeps (inr (inl memory)) = subst (λ a. Follows Shows a taken taken') (sym memory) (inl keeps)
 follows_unless Shows answer taken taken' keeps (inr (inr shows)) = follows_refused Shows answer taken taken' keeps shows
 
--- the answer is what is shown, unless it is cut short
-is_shown : (Shows : Shown → Type 0) (answer : Answer) (taken taken' : Option (List ℕ)) (shown : Shown) → IsOne Shows → Shows shown → TakesAll Shows answer taken taken' → (answer ≡ shown.answer) ⊎ IsCutShort answer
-is_shown Shows answer taken taken' shown one shows all = inl (all.2 ∙ ap (λ s. s.answer) (one all.0 shown all.1 shows))
+-- the output took all that is shown, unless the command is cut short
+pub all_or_cut : (Shows : Shown → Type 0) (answer : Answer) (taken taken' : Option (List ℕ)) → Follows Shows answer taken taken' → TakesAll Shows answer taken taken' ⊎ IsCutShort answer
+all_or_cut Shows FolderFault taken taken' follows = inr (inl refl)
+all_or_cut Shows OutOfMemory taken taken' follows = inr (inr (inr refl))
+all_or_cut Shows OutputFault taken taken' follows = inr (inr (inl refl))
+all_or_cut Shows Done taken taken' follows = inl follows
+all_or_cut Shows Findings taken taken' follows = inl follows
+all_or_cut Shows BadCommandLine taken taken' follows = inl follows
+all_or_cut Shows InputFault taken taken' follows = inl follows
+all_or_cut Shows (Refused at why) taken taken' follows = inl follows
+all_or_cut Shows (WrongPass root) taken taken' follows = inl follows
+all_or_cut Shows (NotFound what) taken taken' follows = inl follows
+all_or_cut Shows (WrongKind what) taken taken' follows = inl follows
+all_or_cut Shows (DamagedInput fault) taken taken' follows = inl follows
+all_or_cut Shows (Damaged at how) taken taken' follows = inl follows
+all_or_cut Shows (Overlap first second) taken taken' follows = inl follows
+all_or_cut Shows (NotEmpty at) taken taken' follows = inl follows
+all_or_cut Shows (Limit which) taken taken' follows = inl follows
 
+-- the answer is what is shown, unless it is cut short
 exactly : (Shows : Shown → Type 0) (answer : Answer) (taken taken' : Option (List ℕ)) (shown : Shown) → IsOne Shows → Shows shown → Follows Shows answer taken taken' → (answer ≡ shown.answer) ⊎ IsCutShort answer
-exactly Shows FolderFault taken taken' shown one shows follows = inr (inl refl)
-exactly Shows OutOfMemory taken taken' shown one shows follows = inr (inr (inr refl))
-exactly Shows OutputFault taken taken' shown one shows follows = inr (inr (inl refl))
-exactly Shows Done taken taken' shown one shows follows = is_shown Shows Done taken taken' shown one shows follows
-exactly Shows BadCommandLine taken taken' shown one shows follows = is_shown Shows BadCommandLine taken taken' shown one shows follows
-exactly Shows InputFault taken taken' shown one shows follows = is_shown Shows InputFault taken taken' shown one shows follows
-exactly Shows (Refused at why) taken taken' shown one shows follows = is_shown Shows (Refused at why) taken taken' shown one shows follows
-exactly Shows (WrongPass root) taken taken' shown one shows follows = is_shown Shows (WrongPass root) taken taken' shown one shows follows
-exactly Shows (NotFound what) taken taken' shown one shows follows = is_shown Shows (NotFound what) taken taken' shown one shows follows
-exactly Shows (WrongKind what) taken taken' shown one shows follows = is_shown Shows (WrongKind what) taken taken' shown one shows follows
-exactly Shows (DamagedInput fault) taken taken' shown one shows follows = is_shown Shows (DamagedInput fault) taken taken' shown one shows follows
-exactly Shows (Damaged at how) taken taken' shown one shows follows = is_shown Shows (Damaged at how) taken taken' shown one shows follows
-exactly Shows (Limit which) taken taken' shown one shows follows = is_shown Shows (Limit which) taken taken' shown one shows follows
+exactly Shows answer taken taken' shown one shows follows = elim (all_or_cut Shows answer taken taken' follows) [
+  | inl all ↦ inl (all.2 ∙ ap (λ s. s.answer) (one all.0 shown all.1 shows))
+  | inr cut ↦ inr cut
+]
 
 -- a command whose output and answer follow from what it shows
 pub reads_by : (Shows : View → Shown → Type 0) (answer : Answer) (told told' : Option Told) (taken taken' : Option (List ℕ)) → ((v : View) → IsOne (Shows v))
@@ -73,6 +83,7 @@ reads_by Shows answer told told' taken taken' one same own follows = record {
 
 of_reading : (answer : Answer) → IsTrue (is_refusal answer) → IsTrue (is_of_reading answer)
 of_reading Done is = refl
+of_reading Findings is = is
 of_reading OutputFault is = refl
 of_reading BadCommandLine is = is
 of_reading OutOfMemory is = is
@@ -84,7 +95,28 @@ of_reading (NotFound what) is = is
 of_reading (WrongKind what) is = is
 of_reading (DamagedInput fault) is = is
 of_reading (Damaged at how) is = is
+of_reading (Overlap first second) is = is
+of_reading (NotEmpty at) is = is
 of_reading (Limit which) is = is
+
+-- a vault that isn't opened is a refusal
+pub opening_refuses : (answer : Answer) → IsTrue (is_of_opening answer) → IsTrue (is_refusal answer)
+opening_refuses Done is = is
+opening_refuses Findings is = is
+opening_refuses BadCommandLine is = is
+opening_refuses OutOfMemory is = is
+opening_refuses FolderFault is = is
+opening_refuses InputFault is = is
+opening_refuses OutputFault is = is
+opening_refuses (Refused at why) is = is
+opening_refuses (WrongPass root) is = is
+opening_refuses (NotFound what) is = is
+opening_refuses (WrongKind what) is = is
+opening_refuses (DamagedInput fault) is = is
+opening_refuses (Damaged at how) is = refl
+opening_refuses (Overlap first second) is = is
+opening_refuses (NotEmpty at) is = is
+opening_refuses (Limit which) is = is
 
 -- a refusal is no fault of the output
 pub refusal_is_no_output_fault : (answer : Answer) → IsTrue (is_refusal answer) → answer ≢ OutputFault

@@ -1,5 +1,5 @@
 -- How a command ends: its status and its message. Each message is one line on the error stream, and a command that is done writes
--- none. Paths, and the texts of a configuration, are in their shown form.
+-- none, nor does a check that has findings. Paths, and the texts of a configuration, are in their shown form.
 use Rattle.std.specs.Prelude.{ℕ, Bool, true, false, List, [], ◌∷◌, ◌++◌, ◌⊎◌, codes, Option}
 use Rattle.std.specs.Io.KnownBytes.{Appends}
 use Rattle.port_model.specs.Counts.{CountRose}
@@ -9,7 +9,7 @@ use Rattle.cryptomator_conf.specs.Fault as cryptomator
 use Rattle.gocrypt_conf.specs.Fault as gocryptfs
 use Rattle.plain_tree.specs.Shown.{shown, shown_path}
 use Rattle.vault_cli.specs.declared.answer.Answer.{Answer}
-use Rattle.vault_cli.specs.declared.answer.Answer.TheVariants.{Done, BadCommandLine, OutOfMemory, FolderFault, InputFault, OutputFault, Refused, WrongPass, NotFound, WrongKind, DamagedInput, Damaged, Limit}
+use Rattle.vault_cli.specs.declared.answer.Answer.TheVariants.{Done, Findings, BadCommandLine, OutOfMemory, FolderFault, InputFault, OutputFault, Refused, WrongPass, NotFound, WrongKind, DamagedInput, Damaged, Overlap, NotEmpty, Limit}
 use Rattle.vault_cli.specs.declared.answer.Named.{Named}
 use Rattle.vault_cli.specs.declared.answer.Named.TheVariants as named
 use Rattle.vault_cli.specs.declared.answer.Refusal.{Refusal}
@@ -21,6 +21,7 @@ use Rattle.vault_cli.specs.declared.answer.Limit.TheVariants as limit
 
 abbrev pub status_of : Answer → ℕ
 status_of Done = 0
+status_of Findings = 1
 status_of BadCommandLine = 2
 status_of OutOfMemory = 3
 status_of FolderFault = 4
@@ -32,6 +33,8 @@ status_of (NotFound what) = 10
 status_of (WrongKind what) = 11
 status_of (DamagedInput fault) = 12
 status_of (Damaged at how) = 12
+status_of (Overlap first second) = 15
+status_of (NotEmpty at) = 16
 status_of (Limit which) = 23
 
 abbrev pub named_text : Named → List ℕ
@@ -57,6 +60,7 @@ limit_text limit.Input = codes "input"
 
 abbrev pub message_of : Answer → List ℕ
 message_of Done = []
+message_of Findings = []
 message_of BadCommandLine = codes "bad command line"
 message_of OutOfMemory = codes "out of memory"
 message_of FolderFault = codes "folder fault"
@@ -68,6 +72,8 @@ message_of (NotFound what) = codes "not found: " ++ named_text what
 message_of (WrongKind what) = codes "wrong kind: " ++ named_text what
 message_of (DamagedInput fault) = codes "damaged: input: " ++ fault_text fault
 message_of (Damaged at how) = codes "damaged: " ++ shown_path at ++ codes ": " ++ damage_text how
+message_of (Overlap first second) = codes "folders overlap: " ++ shown_path first ++ codes " " ++ shown_path second
+message_of (NotEmpty at) = codes "not empty: " ++ shown_path at
 message_of (Limit which) = codes "limit: " ++ limit_text which
 
 abbrev pub line : List ℕ → List ℕ
@@ -84,6 +90,7 @@ line_of answer = line_with (message_of answer)
 -- whether an answer's message names nothing, so that its line takes no memory
 abbrev pub is_plain : Answer → Bool
 is_plain Done = true
+is_plain Findings = true
 is_plain BadCommandLine = true
 is_plain OutOfMemory = true
 is_plain FolderFault = true

@@ -10,7 +10,8 @@ use Rattle.plain_tree.specs.Names as plain
 use Rattle.plain_tree.specs.Reading.{read_path}
 use Rattle.vault_cli.specs.Words.{Choice, Arguments, arguments_of, only_value}
 use Rattle.vault_cli.specs.declared.words.Command.{Command}
-use Rattle.vault_cli.specs.declared.words.Command.TheVariants.{DecryptFile, Ls, Cat}
+use Rattle.vault_cli.specs.declared.words.Command.TheVariants.{DecryptFile, Ls, Cat, Fsck}
+use Rattle.vault_cli.specs.declared.words.Checking.{Checking}
 use Rattle.vault_cli.specs.declared.words.Target.{Target}
 
 -- the folder path that a word writes
@@ -49,12 +50,26 @@ abbrev pub cat_by : List Choice → List (List ℕ) → Option Command
 cat_by choices (vault ∷ path ∷ []) = option_map Cat (target_of choices vault path)
 cat_by choices _ = None
 
+abbrev pub checking_by : Option Path → Option Path → Option Checking
+checking_by (Some vault) (Some pass) = Some (record { vault = vault; pass = pass })
+checking_by _ _ = None
+
+-- `VAULT --pass FILE`
+abbrev pub checking_of : List Choice → List ℕ → Option Checking
+checking_of choices vault = checking_by (folder_path vault) (only_file (codes "--pass") choices)
+
+-- `fsck VAULT --pass FILE`
+abbrev pub fsck_by : List Choice → List (List ℕ) → Option Command
+fsck_by choices (vault ∷ []) = option_map Fsck (checking_of choices vault)
+fsck_by choices _ = None
+
 -- the command of a name with its arguments
 abbrev pub command_named : List ℕ → Arguments → Option Command
 command_named name arguments =
     if bytes_eq name (codes "decrypt-file") then decrypt_file_by arguments.choices arguments.positional
     else if bytes_eq name (codes "ls") then ls_by arguments.choices arguments.positional
     else if bytes_eq name (codes "cat") then cat_by arguments.choices arguments.positional
+    else if bytes_eq name (codes "fsck") then fsck_by arguments.choices arguments.positional
     else None
 
 abbrev pub command_of : List (List ℕ) → Option Command

@@ -7,6 +7,8 @@ use Rattle.vault_read.specs.declared.fault.FindFault.{FindFault}
 use Rattle.vault_read.specs.declared.fault.FindFault.TheVariants as find
 use Rattle.vault_read.specs.declared.fault.Limit as reading
 use Rattle.vault_read.specs.declared.fault.Limit.TheVariants as limited
+use Rattle.vault_check.specs.declared.fault.CheckFault.{CheckFault}
+use Rattle.vault_check.specs.declared.fault.CheckFault.TheVariants as check
 use Rattle.vault_cli.specs.declared.answer.Answer.{Answer}
 use Rattle.vault_cli.specs.declared.answer.Answer.TheVariants.{OutOfMemory, FolderFault, OutputFault, NotFound, WrongKind, Damaged, Limit}
 use Rattle.vault_cli.specs.declared.answer.Named.TheVariants as named
@@ -40,3 +42,8 @@ of_cat (cat.Limit which) = Limit (of_limit which)
 of_cat cat.Sink = OutputFault
 of_cat cat.Failed = FolderFault
 of_cat cat.NoMemory = OutOfMemory
+
+abbrev pub of_check : CheckFault → Answer
+of_check (check.Limit which) = Limit (of_limit which)
+of_check check.Failed = FolderFault
+of_check check.NoMemory = OutOfMemory

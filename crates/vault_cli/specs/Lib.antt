@@ -8,6 +8,8 @@ pub mod Refusing
 pub mod Finding
 pub mod Ls
 pub mod Cat
+pub mod Fsck
+pub mod Lines
 pub mod Inputs
 pub mod Decrypts
 pub mod Streaming

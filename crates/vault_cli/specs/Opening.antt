@@ -1,5 +1,5 @@
 -- Opening a vault for a command: the passphrase in its file, and then the tests of the vault. The first test that fails is the answer.
-use Rattle.std.specs.Prelude.{◌≡◌, ℕ, Bool, true, false, ◌==◌, List, [], ◌∷◌, ◌++◌, length, nat_le, MatchResult}
+use Rattle.std.specs.Prelude.{◌≡◌, ◌≤◌, ℕ, Bool, true, false, ◌==◌, List, [], ◌∷◌, ◌++◌, length, nat_le, Ok, MatchResult}
 use Rattle.std.specs.List.{before_first}
 use Rattle.folder_spec.specs.Path.{Path}
 use Rattle.folder_spec.specs.View.{Found, NoEntry, Folder, FileOf, Special, View}
@@ -46,3 +46,11 @@ OfVault v root pass shown next =
 -- what follows of the vault that the root and the passphrase in a file are
 abbrev pub OfOpened : View → Path → Path → Shown → (Vault → Type 0) → Type 0
 OfOpened v root pass shown next = OfPassFile pass (v pass) shown (λ phrase. OfVault v root phrase shown next)
+
+-- the passphrase in the file that is found
+abbrev pub IsPhrase : Found → List ℕ → Type 0
+IsPhrase there phrase = (bytes : List ℕ) × (there ≡ FileOf bytes) × (length bytes ≤ 2048) × (phrase ≡ passphrase_in bytes)
+
+-- the root and the passphrase in the file are this vault
+abbrev pub Opens : View → Path → Path → Vault → Type 0
+Opens v root pass vault = (phrase : List ℕ) × IsPhrase (v pass) phrase × Loads (under root v) phrase (Ok vault)

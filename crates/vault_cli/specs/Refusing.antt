@@ -18,16 +18,8 @@ use Rattle.vault_cli.specs.declared.answer.Limit.TheVariants as limit
 abbrev pub Unless : Answer → Type 0 → Type 0
 Unless answer P = (answer ≡ FolderFault) ⊎ ((answer ≡ OutOfMemory) ⊎ P)
 
--- the passphrase in the file that is found
-abbrev pub IsPhrase : Found → List ℕ → Type 0
-IsPhrase there phrase = (bytes : List ℕ) × (there ≡ FileOf bytes) × (length bytes ≤ 2048) × (phrase ≡ passphrase_in bytes)
-
 abbrev pub RefusesPass : Path → Found → Answer → Type 0
 RefusesPass at there answer = Unless answer (OfPassFile at there (refused answer) (λ phrase. ⊥))
-
--- the root and the passphrase in the file are this vault
-abbrev pub Opens : View → Path → Path → Vault → Type 0
-Opens v root pass vault = (phrase : List ℕ) × IsPhrase (v pass) phrase × Loads (under root v) phrase (Ok vault)
 
 abbrev pub RefusesOpening : View → Path → Path → Answer → Type 0
 RefusesOpening v root pass answer = Unless answer (OfOpened v root pass (refused answer) (λ vault. ⊥))

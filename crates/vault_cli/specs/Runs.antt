@@ -4,13 +4,14 @@ use Rattle.std.specs.Io.KnownBytes.{Keeps}
 use Rattle.vault_cli.specs.Cat.{ShowsContent}
 use Rattle.vault_cli.specs.Commands.{command_of}
 use Rattle.vault_cli.specs.DecryptFile.{DecryptsFile}
+use Rattle.vault_cli.specs.Fsck.{ChecksVault}
 use Rattle.vault_cli.specs.Ls.{ShowsItems}
 use Rattle.vault_cli.specs.Shown.{Reads}
 use Rattle.vault_cli.specs.World.{World}
 use Rattle.vault_cli.specs.declared.answer.Answer.{Answer}
 use Rattle.vault_cli.specs.declared.answer.Answer.TheVariants.{BadCommandLine, OutOfMemory, FolderFault}
 use Rattle.vault_cli.specs.declared.words.Command.{Command}
-use Rattle.vault_cli.specs.declared.words.Command.TheVariants.{DecryptFile, Ls, Cat}
+use Rattle.vault_cli.specs.declared.words.Command.TheVariants.{DecryptFile, Ls, Cat, Fsck}
 use Rattle.vault_cli.specs.declared.words.Target.{Target}
 
 -- words that make no command, of which nothing comes
@@ -36,3 +37,4 @@ Executes None answer before after = IsNoCommand answer before after
 Executes (Some (DecryptFile key)) answer before after = DecryptsFile key answer before after
 Executes (Some (Ls target)) answer before after = ListsItems target answer before after
 Executes (Some (Cat target)) answer before after = WritesFile target answer before after
+Executes (Some (Fsck target)) answer before after = ChecksVault target answer before after

@@ -7,7 +7,7 @@ use Rattle.folder_spec.specs.Event.{Told}
 use Rattle.folder_spec.specs.View.{View}
 use Rattle.folder_spec.specs.Seen.{IsSeen}
 use Rattle.vault_cli.specs.declared.answer.Answer.{Answer}
-use Rattle.vault_cli.specs.declared.answer.Answer.TheVariants.{Done, BadCommandLine, OutOfMemory, FolderFault, InputFault, OutputFault, Refused, WrongPass, NotFound, WrongKind, DamagedInput, Damaged, Limit}
+use Rattle.vault_cli.specs.declared.answer.Answer.TheVariants.{Done, Findings, OutOfMemory, FolderFault, OutputFault, Refused, WrongPass, NotFound, WrongKind, Damaged, Limit}
 
 -- the pieces of an output, in order, and the answer behind them
 pub record Shown : Type 0 where
@@ -42,18 +42,27 @@ Follows Shows answer taken taken' = TakesAll Shows answer taken taken'
 abbrev pub IsCutShort : Answer → Type 0
 IsCutShort answer = (answer ≡ FolderFault) ⊎ ((answer ≡ OutputFault) ⊎ (answer ≡ OutOfMemory))
 
--- whether a command that only reads a vault may answer so
-abbrev pub is_of_reading : Answer → Bool
-is_of_reading BadCommandLine = false
-is_of_reading InputFault = false
-is_of_reading (DamagedInput fault) = false
-is_of_reading answer = true
+-- whether a vault that isn't opened may be answered so
+abbrev pub is_of_opening : Answer → Bool
+is_of_opening OutOfMemory = true
+is_of_opening FolderFault = true
+is_of_opening (Refused at why) = true
+is_of_opening (WrongPass root) = true
+is_of_opening (NotFound what) = true
+is_of_opening (WrongKind what) = true
+is_of_opening (Limit which) = true
+is_of_opening answer = false
 
--- whether it may do so before it writes anything
+-- whether a command that looks for a plain path may answer so before it writes anything
 abbrev pub is_refusal : Answer → Bool
-is_refusal Done = false
-is_refusal OutputFault = false
-is_refusal answer = is_of_reading answer
+is_refusal (Damaged at how) = true
+is_refusal answer = is_of_opening answer
+
+-- and whether it may do so at all
+abbrev pub is_of_reading : Answer → Bool
+is_of_reading Done = true
+is_of_reading OutputFault = true
+is_of_reading answer = is_refusal answer
 
 -- A command answers and writes what this shows of the folder, and changes nothing there. What is shown is the answer, unless it is
 -- cut short.

@@ -10,6 +10,7 @@ use folder_spec::FolderFault;
 use gocrypt_conf::GoConfFault;
 use plain_tree::PlainPath;
 use std::alloc::AllocError;
+use vault_check::CheckFault;
 use vault_read::{CatFault, FindFault};
 
 /// What a message names: a path of the folder, or one of a vault's plain tree.
@@ -54,6 +55,8 @@ pub enum Limit {
 pub enum Answer {
     /// All was done.
     Done,
+    /// All was done, and a check has findings.
+    Findings,
     /// The words make no command.
     BadCommandLine,
     /// Memory was refused.
@@ -76,6 +79,10 @@ pub enum Answer {
     DamagedInput(ChunkFault),
     /// What stands at this path is damaged so.
     Damaged(FPath, Damage),
+    /// One of these folders is the other, or is in it.
+    Overlap(FPath, FPath),
+    /// Something stands at this path that is to be free.
+    NotEmpty(FPath),
     /// A limit is passed.
     Limit(Limit),
 }
@@ -87,6 +94,7 @@ impl Answer {
     {
         match self {
             Answer::Done => 0,
+            Answer::Findings => 1,
             Answer::BadCommandLine => 2,
             Answer::OutOfMemory => 3,
             Answer::FolderFault => 4,
@@ -98,6 +106,8 @@ impl Answer {
             Answer::WrongKind(_) => 11,
             Answer::DamagedInput(_) => 12,
             Answer::Damaged(_, _) => 12,
+            Answer::Overlap(_, _) => 15,
+            Answer::NotEmpty(_) => 16,
             Answer::Limit(_) => 23,
         }
     }
@@ -177,6 +187,21 @@ impl From<CatFault> for Answer {
             CatFault::Sink => Answer::OutputFault,
             CatFault::Failed => Answer::FolderFault,
             CatFault::NoMemory => Answer::OutOfMemory,
+        }
+    }
+}
+
+impl From<CheckFault> for Answer {
+    ghost use Rattle.std.specs.Prelude.{◌≡◌};
+    ghost use Rattle.vault_cli.specs.Faults.{of_check};
+
+    ghost from_gives = { λ fault answer. answer ≡ of_check fault };
+
+    fn from(fault: CheckFault) -> Answer {
+        match fault {
+            CheckFault::Limit(limit) => Answer::Limit(Limit::from(limit)),
+            CheckFault::Failed => Answer::FolderFault,
+            CheckFault::NoMemory => Answer::OutOfMemory,
         }
     }
 }

@@ -6,6 +6,7 @@ pub mod answer;
 mod arguments;
 mod cat;
 mod decrypt;
+mod fsck;
 mod ls;
 mod opening;
 mod reporting;
@@ -15,7 +16,7 @@ pub mod words;
 pub use answer::Answer;
 pub use reporting::report;
 pub use running::run;
-pub use words::{Command, Target};
+pub use words::{Checking, Command, Target};
 
 #[cfg(test)]
 mod samples;

@@ -5,9 +5,9 @@ ghost use Rattle.folder_spec.specs.Seen.{IsSeen};
 ghost use Rattle.port_model.specs.Counts.{CountRose};
 ghost use Rattle.std.specs.List.{position_or_len};
 ghost use Rattle.folder_spec.specs.Path.{child};
-ghost use Rattle.vault_cli.specs.Opening.{is_newline, passphrase_in};
-ghost use Rattle.vault_cli.specs.Refusing.{IsPhrase, Opens, RefusesLoad, RefusesOpening, RefusesPass};
-ghost use Rattle.vault_cli.specs.Shown.{is_refusal};
+ghost use Rattle.vault_cli.specs.Opening.{IsPhrase, Opens, is_newline, passphrase_in};
+ghost use Rattle.vault_cli.specs.Refusing.{RefusesLoad, RefusesOpening, RefusesPass};
+ghost use Rattle.vault_cli.specs.Shown.{is_of_opening};
 
 use crate::answer::{Answer, Limit, Named, Refusal};
 use folder_model::{FPath, Folder};
@@ -31,7 +31,7 @@ pub(crate) fn open<F: Folder>(
     ensures refused { IfErr result (λ answer. (v : View) → IsSeen (F.told folder.old) v → RefusesOpening v root.now pass.now answer) }
     ensures grows { F.faults folder.old ≤ F.faults folder.new }
     ensures failed { result ≡ Err Answer.FolderFault → CountRose (F.faults folder.old) (F.faults folder.new) }
-    ensures own { IfErr result (λ answer. IsTrue (is_refusal answer)) }
+    ensures own { IfErr result (λ answer. IsTrue (is_of_opening answer)) }
 {
     let phrase = read_pass(alloc, folder, pass)?;
     match Vault::load(alloc, folder, root, phrase.as_slice()) {
@@ -47,7 +47,7 @@ fn read_pass<F: Folder>(alloc: Global, folder: &mut F, at: &FPath) -> Result<Byt
     ensures refused { IfErr result (λ answer. (v : View) → IsSeen (F.told folder.old) v → RefusesPass at.now (v at.now) answer) }
     ensures grows { F.faults folder.old ≤ F.faults folder.new }
     ensures failed { result ≡ Err Answer.FolderFault → CountRose (F.faults folder.old) (F.faults folder.new) }
-    ensures own { IfErr result (λ answer. IsTrue (is_refusal answer)) }
+    ensures own { IfErr result (λ answer. IsTrue (is_of_opening answer)) }
 {
     match read_small(alloc, folder, at, MAX_SIZE)? {
         SmallFile::Missing => Err(Answer::NotFound(Named::Folder(at.copy()?))),
@@ -82,7 +82,7 @@ fn line_end(bytes: &[u8]) -> usize
 fn answer_to(root: &FPath, fault: LoadFault) -> Answer
     ensures refuses { RefusesLoad root.now fault result }
     ensures failed { result ≡ Answer.FolderFault → fault ≡ LoadFault.Failed }
-    ensures own { IsTrue (is_refusal result) }
+    ensures own { IsTrue (is_of_opening result) }
 {
     match fault {
         LoadFault::Missing(at) => Answer::NotFound(Named::Folder(at)),

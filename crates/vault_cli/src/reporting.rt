@@ -10,7 +10,7 @@ use plain_tree::shown_text;
 use port_model::Sink;
 use std::alloc::{AllocError, Global};
 
-/// Writes an answer's message to the error stream, as one line; `Done` has none. A fault of that stream
+/// Writes an answer's message to the error stream, as one line; `Done` and `Findings` have none. A fault of that stream
 /// changes nothing. The answer comes back, or `OutOfMemory` where a message that names something found no memory.
 pub fn report<E: Sink>(alloc: Global, answer: Answer, err: &mut E) -> Answer
     ensures line { TakesText (E.taken err.old) (E.taken err.new) (E.faults err.old) (E.faults err.new) (line_of result) }
@@ -38,6 +38,7 @@ fn plain_line(answer: &Answer) -> Option<&'static str>
 {
     match answer {
         Answer::Done => Some(""),
+        Answer::Findings => Some(""),
         Answer::BadCommandLine => Some("vaultmove: bad command line\n"),
         Answer::OutOfMemory => Some("vaultmove: out of memory\n"),
         Answer::FolderFault => Some("vaultmove: folder fault\n"),
@@ -86,6 +87,8 @@ fn message_of(alloc: Global, answer: &Answer) -> Result<String, AllocError>
         Answer::Damaged(at, how) => {
             at_path(alloc, "damaged: ", at, damage_text(alloc, how)?.as_str())
         }
+        Answer::Overlap(first, second) => both_paths(alloc, "folders overlap: ", first, second),
+        Answer::NotEmpty(at) => behind(alloc, "not empty: ", shown_folder(alloc, at)?.as_str()),
         Answer::Limit(which) => behind(alloc, "limit: ", limit_text(alloc, which)?.as_str()),
         _ => Ok(String::new(alloc)),
     }
@@ -108,6 +111,21 @@ fn at_path(alloc: Global, words: &str, at: &FPath, text: &str) -> Result<String,
     whole.push_str(": ")?;
     whole.push_str(text)?;
     Ok(whole)
+}
+
+// Words, and two paths.
+fn both_paths(
+    alloc: Global,
+    words: &str,
+    first: &FPath,
+    second: &FPath,
+) -> Result<String, AllocError>
+    ensures { IfOk result (λ text. string_bytes text ≡ words.now ++ shown_path first.now ++ codes " " ++ shown_path second.now) }
+{
+    let mut text = behind(alloc, words, shown_folder(alloc, first)?.as_str())?;
+    text.push_str(" ")?;
+    text.push_str(shown_folder(alloc, second)?.as_str())?;
+    Ok(text)
 }
 
 fn named_text(alloc: Global, what: &Named) -> Result<String, AllocError>
@@ -151,9 +169,9 @@ fn limit_text(alloc: Global, which: &Limit) -> Result<String, AllocError>
     }
 }
 
-// The shown form of a path of the folder.
+/// The shown form of a path of the folder.
 #[tactic(auto, unfolding(plain_tree::specs::Shown::shown_path))]
-fn shown_folder(alloc: Global, at: &FPath) -> Result<String, AllocError>
+pub(crate) fn shown_folder(alloc: Global, at: &FPath) -> Result<String, AllocError>
     ensures { IfOk result (λ text. string_bytes text ≡ shown_path at.now) }
 {
     match at.parts() {

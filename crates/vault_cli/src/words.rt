@@ -1,7 +1,7 @@
 //! The commands, and the words that make them.
 ghost use Rattle.std.specs.Prelude.{◌≡◌, IfOk, map, string_bytes};
 ghost use Rattle.plain_tree.specs.Reading.{read_path};
-ghost use Rattle.vault_cli.specs.Commands.{cat_by, command_named, command_of, decrypt_file_by, folder_path, key_of, ls_by, only_file, target_of};
+ghost use Rattle.vault_cli.specs.Commands.{cat_by, checking_of, command_named, command_of, decrypt_file_by, folder_path, fsck_by, key_of, ls_by, only_file, target_of};
 
 use crate::arguments::{Arguments, Choice, only_value};
 use folder_model::{FPath, FPathFault};
@@ -17,6 +17,13 @@ pub struct Target {
     pub pass: FPath,
 }
 
+/// A vault that is checked, and the file that holds its passphrase.
+#[derive(Debug, Drop)]
+pub struct Checking {
+    pub vault: FPath,
+    pub pass: FPath,
+}
+
 /// A command with its arguments.
 #[derive(Debug, Drop)]
 pub enum Command {
@@ -26,6 +33,8 @@ pub enum Command {
     Ls(Target),
     /// `cat VAULT PATH --pass FILE`: writes a file's content.
     Cat(Target),
+    /// `fsck VAULT --pass FILE`: tells what is found in a vault.
+    Fsck(Checking),
 }
 
 impl Command {
@@ -61,6 +70,8 @@ fn named(
         ls(alloc, choices, positional)
     } else if name == "cat" {
         cat(alloc, choices, positional)
+    } else if name == "fsck" {
+        fsck(alloc, choices, positional)
     } else {
         Ok(None)
     }
@@ -98,6 +109,37 @@ fn cat(
         _ => None,
     };
     Ok(target.map(Command::Cat))
+}
+
+fn fsck(
+    alloc: Global,
+    choices: &[Choice],
+    positional: &[Text],
+) -> Result<Option<Command>, AllocError>
+    ensures { IfOk result (λ command. command ≡ fsck_by choices.now positional.now) }
+{
+    let checking = match positional {
+        [vault] => read_checking(alloc, choices, vault.as_str())?,
+        _ => None,
+    };
+    Ok(checking.map(Command::Fsck))
+}
+
+// What `VAULT --pass FILE` names.
+fn read_checking(
+    alloc: Global,
+    choices: &[Choice],
+    vault: &str,
+) -> Result<Option<Checking>, AllocError>
+    ensures { IfOk result (λ checking. checking ≡ checking_of choices.now vault.now) }
+{
+    let (Some(vault), Some(pass)) = (
+        folder_path(alloc, vault)?,
+        only_file(alloc, choices, "--pass")?,
+    ) else {
+        return Ok(None);
+    };
+    Ok(Some(Checking { vault, pass }))
 }
 
 // What `VAULT PATH --pass FILE` names.

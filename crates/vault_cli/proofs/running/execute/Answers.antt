@@ -1,8 +1,10 @@
 use Rattle.std.proofs.Common.{Some, refl, sym, ap, ◌∙◌, subst, map, string_bytes}
+use Rattle.std.proofs.KnownBytes.{Keeps-refl}
 use Rattle.vault_cli.specs.Commands.{command_of}
 use Rattle.vault_cli.specs.DecryptFile.{DecryptsFile}
 use Rattle.vault_cli.specs.Runs.{Executes}
 use Rattle.vault_cli.specs.World.{World}
+use Rattle.vault_cli.proofs.Checks.{checks}
 use Rattle.vault_cli.proofs.Decryptions.{decrypts}
 use Rattle.vault_cli.proofs.Executions.{not_begun}
 use Rattle.vault_cli.proofs.running.execute.Goals as goal
@@ -20,3 +22,13 @@ returns-in-Ok-Some-DecryptFile-clause-executes g c =
     (subst (λ answer. DecryptsFile arm.key answer before after) (sym c.from.ensures)
     (decrypts c.files_are_what_they_give.ensures c.whole_files_end.ensures arm.key c.decrypt_file.result before after c.decrypt_file.ensures.tells c.decrypt_file.ensures.writes
     c.decrypt_file.ensures.takes c.decrypt_file.ensures.near c.decrypt_file.ensures.end refl))
+
+pub returns-in-Ok-Some-Fsck-clause-executes : goal.returns-in-Ok-Some-Fsck-clause-executes
+returns-in-Ok-Some-Fsck-clause-executes g c =
+    let arm = c.in-Ok-Some-Fsck in
+    let left = g.I.Source.left c.args.input.now in
+    let ended = g.I.Source.ended c.args.input.now in
+    let before : World = record { told = g.F.Folder.told c.args.folder.now; left = left; ended = ended; taken = g.O.Sink.taken c.args.out.now } in
+    let after : World = record { told = g.F.Folder.told c.fsck.new.folder; left = left; ended = ended; taken = g.O.Sink.taken c.fsck.new.out } in
+    subst (λ command. Executes command c.fsck.result before after) (ap Some (sym arm.field-0-0-is) ∙ sym arm.field-0-is ∙ arm.ensures)
+    (checks c.roots_have_one_answer.ensures arm.target c.fsck.result before after c.fsck.ensures.told c.fsck.ensures.own c.fsck.ensures.follows c.fsck.ensures.quiet (Keeps-refl left))

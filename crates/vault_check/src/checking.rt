@@ -41,6 +41,7 @@ pub fn check<F: Folder>(alloc: Global, folder: &mut F, vault: &Vault) -> Result<
     ensures depth { result ≡ Err (CheckFault.Limit Depth) → (v : View) → IsSeen (F.told folder.old) v → IsOnlyTooDeep (format_of vault.now.vault) (under vault.now.root v) }
     ensures length { (at : Path) → result ≡ Err (CheckFault.Limit (Length at)) → (v : View) → IsSeen (F.told folder.old) v
         → NamesTooLong vault.now.root (format_of vault.now.vault) (under vault.now.root v) at }
+    ensures limits_first { (at : Path) → result ≡ Err (CheckFault.Limit (Length at)) → (v : View) → IsSeen (F.told folder.old) v → IsWithin (format_of vault.now.vault) (under vault.now.root v) }
     ensures fault { IfErr result (λ fault. IsCheckFault fault) }
     ensures grows { F.faults folder.old ≤ F.faults folder.new }
     ensures failed { result ≡ Err CheckFault.Failed → CountRose (F.faults folder.old) (F.faults folder.new) }

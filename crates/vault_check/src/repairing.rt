@@ -11,7 +11,7 @@ ghost use Rattle.vault_read.specs.declared.fault.Limit.TheVariants.{Depth, Items
 ghost use Rattle.vault_spec.specs.Moving.{IsStray};
 ghost use Rattle.vault_spec.specs.Vault.{format_of};
 ghost use Rattle.vault_walk.specs.Survey.{HasTooMany};
-ghost use Rattle.vault_walk.specs.Surveyed.{IsOnlyTooDeep};
+ghost use Rattle.vault_walk.specs.Surveyed.{IsOnlyTooDeep, IsWithin};
 ghost use Rattle.vault_check.specs.Answers.{IsRepairFault};
 ghost use Rattle.vault_check.specs.Repairing.{AreMovable, AreMoved, AreStraysBehind, HasMoved, HasRepaired, MayMoveTo, Moves, RepairsAt, place_of};
 
@@ -38,6 +38,7 @@ pub fn repair<F: Folder>(
     ensures moments { RepairsAt vault.now.root (format_of vault.now.vault) lost.now (F.told folder.old) (F.told folder.new) }
     ensures moved { IfOk result (λ moved. FromTo (λ a b. AreMoved vault.now.root (format_of vault.now.vault) lost.now moved.items a b) (F.told folder.old) (F.told folder.new)) }
     ensures nothing { IfOk result (λ moved. moved.items ≡ [] → F.told folder.new ≡ F.told folder.old) }
+    ensures within { IfOk result (λ moved. (v : View) → IsSeen (F.told folder.old) v → IsWithin (format_of vault.now.vault) (under vault.now.root v)) }
     ensures items { result ≡ Err (CheckFault.Limit Items) → (v : View) → IsSeen (F.told folder.old) v → HasTooMany (format_of vault.now.vault) (under vault.now.root v) }
     ensures depth { result ≡ Err (CheckFault.Limit Depth) → (v : View) → IsSeen (F.told folder.old) v → IsOnlyTooDeep (format_of vault.now.vault) (under vault.now.root v) }
     ensures fault { IfErr result (λ fault. IsRepairFault fault) }
@@ -58,6 +59,7 @@ fn found_strays<F: Folder>(
 ) -> Result<Vec<FPath>, CheckFault>
     ensures told { F.told folder.new ≡ F.told folder.old }
     ensures strays { IfOk result (λ strays. (v : View) → IsSeen (F.told folder.old) v → AreStraysBehind vault.now.root (format_of vault.now.vault) (under vault.now.root v) strays.items) }
+    ensures within { IfOk result (λ strays. (v : View) → IsSeen (F.told folder.old) v → IsWithin (format_of vault.now.vault) (under vault.now.root v)) }
     ensures items { result ≡ Err (CheckFault.Limit Items) → (v : View) → IsSeen (F.told folder.old) v → HasTooMany (format_of vault.now.vault) (under vault.now.root v) }
     ensures depth { result ≡ Err (CheckFault.Limit Depth) → (v : View) → IsSeen (F.told folder.old) v → IsOnlyTooDeep (format_of vault.now.vault) (under vault.now.root v) }
     ensures fault { IfErr result (λ fault. IsRepairFault fault) }

@@ -116,7 +116,7 @@ report_told target root vault v report same opens r within short =
 -- a limit, or the folder, or memory
 pub check_refused : (target : Checking) (root : Path) (vault : Vault) (v : View) (fault : CheckFault) → root ≡ target.vault → Opens v target.vault target.pass vault → IsCheckFault fault
     → (fault ≡ check.Limit limited.Items → HasTooMany (format_of vault) (under root v)) → (fault ≡ check.Limit limited.Depth → IsOnlyTooDeep (format_of vault) (under root v))
-    → ((at : Path) → fault ≡ check.Limit (limited.Length at) → NamesTooLong root (format_of vault) (under root v) at)
+    → ((at : Path) → fault ≡ check.Limit (limited.Length at) → NamesTooLong root (format_of vault) (under root v) at × IsWithin (format_of vault) (under root v))
     → Unless (of_check fault) (ShowsReport target v (refused (of_check fault)))
 check_refused target root vault v fault same opens is items depth length = by fault is items depth length
   where
@@ -127,11 +127,11 @@ check_refused target root vault v fault same opens is items depth length = by fa
 
     by : (fault : CheckFault) → IsCheckFault fault
         → (fault ≡ check.Limit limited.Items → HasTooMany (format_of vault) (under root v)) → (fault ≡ check.Limit limited.Depth → IsOnlyTooDeep (format_of vault) (under root v))
-        → ((at : Path) → fault ≡ check.Limit (limited.Length at) → NamesTooLong root (format_of vault) (under root v) at)
+        → ((at : Path) → fault ≡ check.Limit (limited.Length at) → NamesTooLong root (format_of vault) (under root v) at × IsWithin (format_of vault) (under root v))
         → Unless (of_check fault) (ShowsReport target v (refused (of_check fault)))
     by (check.Limit limited.Items) is items depth length = inr (inr (shows _ (TooMany (items refl) refl)))
     by (check.Limit limited.Depth) is items depth length = inr (inr (shows _ (TooDeep (depth refl) refl)))
-    by (check.Limit (limited.Length at)) is items depth length = inr (inr (shows _ (TooLong at (length at refl) refl)))
+    by (check.Limit (limited.Length at)) is items depth length = inr (inr (shows _ (TooLong at (length at refl).0 (length at refl).1 refl)))
     by (check.Limit limited.Input) is items depth length = absurd is
     by check.Failed is items depth length = inl refl
     by check.NoMemory is items depth length = inr (inl refl)
@@ -183,7 +183,7 @@ whole_or_past : (root : Path) (f : Format) (v : View) (shown : Shown) → ShowsV
 whole_or_past root f v shown (Whole report) = inl report
 whole_or_past root f v shown (TooMany items is) = inr (ap (λ s. status_of s.answer) is, λ within short. within.items items)
 whole_or_past root f v shown (TooDeep deep is) = inr (ap (λ s. status_of s.answer) is, λ within short. within.depth deep.deep)
-whole_or_past root f v shown (TooLong at long is) = inr (ap (λ s. status_of s.answer) is, λ within short. short long.at long.is)
+whole_or_past root f v shown (TooLong at long inside is) = inr (ap (λ s. status_of s.answer) is, λ within short. short long.at long.is)
 
 both_found : (root : Path) (f : Format) (v : View) (a b : Shown) → IsReportOf root f v a → IsReportOf root f v b → status_of a.answer ≡ status_of b.answer
 both_found root f v a b x y = elim x.answers [

@@ -77,7 +77,7 @@ pub data ShowsVault (root : Path) (f : Format) (v : View) (shown : Shown) : Type
   Whole : IsReportOf root f v shown → ShowsVault root f v shown
   TooMany : HasTooMany f v → shown ≡ refused (Limit limit.Items) → ShowsVault root f v shown
   TooDeep : IsOnlyTooDeep f v → shown ≡ refused (Limit limit.Depth) → ShowsVault root f v shown
-  TooLong : (at : Path) → NamesTooLong root f v at → shown ≡ refused (Limit (limit.Length at)) → ShowsVault root f v shown
+  TooLong : (at : Path) → NamesTooLong root f v at → IsWithin f v → shown ≡ refused (Limit (limit.Length at)) → ShowsVault root f v shown
 
 -- what `fsck` shows
 abbrev pub ShowsReport : Checking → View → Shown → Type 0

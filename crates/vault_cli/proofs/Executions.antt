@@ -1,5 +1,5 @@
 -- What a command did where it wasn't begun, and where its message found no memory; and what a status says of the answer.
-use Rattle.std.proofs.Common.{◌≡◌, false, ℕ, List, length, take, Option, Some, None, inl, inr, refl, sym, ap, ◌∙◌, subst, arith}
+use Rattle.std.proofs.Common.{◌≡◌, Bool, true, false, ℕ, List, length, take, Option, Some, None, inl, inr, refl, sym, ap, ◌∙◌, subst, arith}
 use Rattle.std.specs.Prelude.{◌⊎◌, ◌≢◌, IsNone, IsTrue}
 use Rattle.std.specs.List.{concat}
 use Rattle.std.specs.Io.KnownBytes.{Appends}
@@ -12,14 +12,21 @@ use Rattle.vault_cli.specs.DecryptFile.{answer_to_end}
 use Rattle.vault_cli.specs.declared.decrypt.DecryptEnd.{DecryptEnd}
 use Rattle.vault_cli.specs.declared.decrypt.DecryptEnd.TheVariants as ends
 use Rattle.vault_cli.specs.Fsck.{ChecksVault, is_of_checking}
+use Rattle.vault_cli.specs.Repair.{RefusesOverlap, RepairsApart, RepairsVault, PrintsMoved, is_of_repairing, is_of_test, overlap}
 use Rattle.vault_cli.specs.Runs.{Executes, IsNoCommand, ListsItems, WritesFile}
 use Rattle.vault_cli.specs.Shown.{Shown, TakesAll, TakesSome, Follows, Reads, is_of_reading}
 use Rattle.vault_cli.specs.World.{World}
+use Rattle.vault_spec.specs.Vault.{Either}
 use Rattle.vault_cli.specs.declared.answer.Answer.{Answer}
 use Rattle.vault_cli.specs.declared.answer.Answer.TheVariants.{Done, Findings, BadCommandLine, OutOfMemory, FolderFault, InputFault, OutputFault, Refused, WrongPass, NotFound, WrongKind, DamagedInput, Damaged, Overlap, NotEmpty, Limit}
 use Rattle.vault_cli.specs.declared.words.Command.{Command}
-use Rattle.vault_cli.specs.declared.words.Command.TheVariants.{DecryptFile, Ls, Cat, Fsck}
+use Rattle.vault_cli.specs.declared.words.Repairing.{Repairing}
+use Rattle.vault_cli.specs.declared.words.Command.TheVariants.{DecryptFile, Ls, Cat, Fsck, Repair}
 use Rattle.vault_cli.proofs.Decryptions.{decrypts_nothing, decryption_lost}
+
+either_of : {P Q : Type 0} (b : Bool) → P → Q → Either b P Q
+either_of true p q = p
+either_of false p q = q
 
 -- a command that read nothing, for want of memory
 reads_nothing : (Shows : View → Shown → Type 0) (told : Option Told) (taken : Option (List ℕ)) → Reads Shows OutOfMemory told told taken taken
@@ -44,6 +51,14 @@ not_begun (Some (Fsck target)) w = record {
   quiet = λ failed. cc;
   untouched = Keeps-refl w.left;
 }
+
+not_begun (Some (Repair target)) w = record { apart = either_of (overlap target.vault target.lost) refuses repairs; untouched = Keeps-refl w.left }
+  where
+    refuses : RefusesOverlap target.vault target.lost OutOfMemory w.told w.told w.taken w.taken
+    refuses = record { answers = inr refl; unchanged = refl; unwritten = Keeps-refl w.taken }
+
+    repairs : RepairsApart target OutOfMemory w.told w.told w.taken w.taken
+    repairs = record { own = refl; cause = λ v is. inl (inr (inr refl)); tested = λ is. cc; moves = inl refl; prints = Keeps-refl w.taken }
 
 -- all pieces are the first ones
 all_taken : (Shows : Shown → Type 0) (answer : Answer) (taken taken' : Option (List ℕ)) → TakesAll Shows answer taken taken' → TakesSome Shows taken taken'
@@ -77,6 +92,26 @@ reads_lost Shows answer told told' taken taken' named reads = record {
   exactly = λ v shown is shows. inr (inr (inr refl));
 }
 
+-- an answer that names something printed nothing
+print_lost : (target : Repairing) (answer : Answer) (told told' : Option Told) (taken taken' : Option (List ℕ)) → is_plain answer ≡ false → PrintsMoved target answer told told' taken taken'
+    → PrintsMoved target OutOfMemory told told' taken taken'
+print_lost target Done told told' taken taken' named prints = cc
+print_lost target Findings told told' taken taken' named prints = cc
+print_lost target BadCommandLine told told' taken taken' named prints = cc
+print_lost target OutOfMemory told told' taken taken' named prints = cc
+print_lost target FolderFault told told' taken taken' named prints = cc
+print_lost target InputFault told told' taken taken' named prints = cc
+print_lost target OutputFault told told' taken taken' named prints = cc
+print_lost target (Refused at why) told told' taken taken' named prints = prints
+print_lost target (WrongPass root) told told' taken taken' named prints = prints
+print_lost target (NotFound what) told told' taken taken' named prints = prints
+print_lost target (WrongKind what) told told' taken taken' named prints = prints
+print_lost target (DamagedInput fault) told told' taken taken' named prints = prints
+print_lost target (Damaged at how) told told' taken taken' named prints = prints
+print_lost target (Overlap first second) told told' taken taken' named prints = prints
+print_lost target (NotEmpty at) told told' taken taken' named prints = prints
+print_lost target (Limit which) told told' taken taken' named prints = prints
+
 lost : (command : Option Command) (answer : Answer) (before after : World) → is_plain answer ≡ false → Executes command answer before after → Executes command OutOfMemory before after
 lost None answer before after named did = record { answers = inr refl; unchanged = did.unchanged; untouched = did.untouched; unwritten = did.unwritten }
 lost (Some (DecryptFile key)) answer before after named did = decryption_lost key answer before after named did
@@ -93,6 +128,20 @@ lost (Some (Fsck target)) answer before after named did = record {
   quiet = λ failed. cc;
   untouched = did.untouched;
 }
+
+lost (Some (Repair target)) answer before after named did =
+    record { apart = by (overlap target.vault target.lost) did.apart; untouched = did.untouched }
+  where
+    by : (b : Bool) → Either b (RefusesOverlap target.vault target.lost answer before.told after.told before.taken after.taken) (RepairsApart target answer before.told after.told before.taken after.taken)
+        → Either b (RefusesOverlap target.vault target.lost OutOfMemory before.told after.told before.taken after.taken) (RepairsApart target OutOfMemory before.told after.told before.taken after.taken)
+    by true refuses = record { answers = inr refl; unchanged = refuses.unchanged; unwritten = refuses.unwritten }
+    by false repairs = record {
+      own = refl;
+      cause = λ v is. inl (inr (inr refl));
+      tested = λ is. cc;
+      moves = repairs.moves;
+      prints = print_lost target answer before.told after.told before.taken after.taken named repairs.prints;
+    }
 
 -- what holds of an answer holds of the one that its report gives back
 pub reported : (command : Option Command) (answer result : Answer) (before after : World) → (result ≡ answer) ⊎ ((result ≡ OutOfMemory) × (is_plain answer ≡ false))
@@ -198,6 +247,12 @@ bad_is_none (Some (DecryptFile key)) answer before after is did = absurd (no_end
 bad_is_none (Some (Ls target)) answer before after is did = absurd (not_of_reading answer (bad_of_status answer is) did.reads.own)
 bad_is_none (Some (Cat target)) answer before after is did = absurd (not_of_reading answer (bad_of_status answer is) did.reads.own)
 bad_is_none (Some (Fsck target)) answer before after is did = absurd (not_of_checking answer (bad_of_status answer is) did.own)
+
+bad_is_none (Some (Repair target)) answer before after is did = absurd (by (overlap target.vault target.lost) did.apart)
+  where
+    by : (b : Bool) → Either b (RefusesOverlap target.vault target.lost answer before.told after.told before.taken after.taken) (RepairsApart target answer before.told after.told before.taken after.taken) → ⊥
+    by true refuses = elim refuses.answers [ inl overlaps ↦ let no = sym (bad_of_status answer is) ∙ overlaps in cc | inr memory ↦ let no = sym (bad_of_status answer is) ∙ memory in cc ]
+    by false repairs = let none : IsTrue (is_of_repairing BadCommandLine) = subst (λ a. IsTrue (is_of_repairing a)) (bad_of_status answer is) repairs.own in cc
 
 pub none_is_bad : (command : Option Command) (answer : Answer) (before after : World) → IsNone command → Executes command answer before after → (status_of answer ≡ 2) ⊎ (status_of answer ≡ 3)
 none_is_bad None answer before after none did = elim did.answers [ inl bad ↦ inl (ap status_of bad) | inr memory ↦ inr (ap status_of memory) ]

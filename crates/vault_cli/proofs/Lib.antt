@@ -6,5 +6,6 @@ mod Listings
 mod NamingLines
 mod Outcomes
 mod Refusals
+mod Repairs
 mod Showing
 mod WholeFiles

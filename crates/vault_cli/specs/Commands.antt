@@ -10,8 +10,9 @@ use Rattle.plain_tree.specs.Names as plain
 use Rattle.plain_tree.specs.Reading.{read_path}
 use Rattle.vault_cli.specs.Words.{Choice, Arguments, arguments_of, only_value}
 use Rattle.vault_cli.specs.declared.words.Command.{Command}
-use Rattle.vault_cli.specs.declared.words.Command.TheVariants.{DecryptFile, Ls, Cat, Fsck}
+use Rattle.vault_cli.specs.declared.words.Command.TheVariants.{DecryptFile, Ls, Cat, Fsck, Repair}
 use Rattle.vault_cli.specs.declared.words.Checking.{Checking}
+use Rattle.vault_cli.specs.declared.words.Repairing.{Repairing}
 use Rattle.vault_cli.specs.declared.words.Target.{Target}
 
 -- the folder path that a word writes
@@ -63,6 +64,19 @@ abbrev pub fsck_by : List Choice → List (List ℕ) → Option Command
 fsck_by choices (vault ∷ []) = option_map Fsck (checking_of choices vault)
 fsck_by choices _ = None
 
+abbrev pub repairing_by : Option Path → Option Path → Option Path → Option Repairing
+repairing_by (Some vault) (Some lost) (Some pass) = Some (record { vault = vault; lost = lost; pass = pass })
+repairing_by _ _ _ = None
+
+-- `VAULT LOST --pass FILE`
+abbrev pub repairing_of : List Choice → List ℕ → List ℕ → Option Repairing
+repairing_of choices vault lost = repairing_by (folder_path vault) (folder_path lost) (only_file (codes "--pass") choices)
+
+-- `repair VAULT LOST --pass FILE`
+abbrev pub repair_by : List Choice → List (List ℕ) → Option Command
+repair_by choices (vault ∷ lost ∷ []) = option_map Repair (repairing_of choices vault lost)
+repair_by choices _ = None
+
 -- the command of a name with its arguments
 abbrev pub command_named : List ℕ → Arguments → Option Command
 command_named name arguments =
@@ -70,6 +84,7 @@ command_named name arguments =
     else if bytes_eq name (codes "ls") then ls_by arguments.choices arguments.positional
     else if bytes_eq name (codes "cat") then cat_by arguments.choices arguments.positional
     else if bytes_eq name (codes "fsck") then fsck_by arguments.choices arguments.positional
+    else if bytes_eq name (codes "repair") then repair_by arguments.choices arguments.positional
     else None
 
 abbrev pub command_of : List (List ℕ) → Option Command

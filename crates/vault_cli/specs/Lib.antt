@@ -9,6 +9,7 @@ pub mod Finding
 pub mod Ls
 pub mod Cat
 pub mod Fsck
+pub mod Repair
 pub mod Lines
 pub mod Inputs
 pub mod Decrypts

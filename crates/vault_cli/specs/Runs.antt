@@ -6,12 +6,13 @@ use Rattle.vault_cli.specs.Commands.{command_of}
 use Rattle.vault_cli.specs.DecryptFile.{DecryptsFile}
 use Rattle.vault_cli.specs.Fsck.{ChecksVault}
 use Rattle.vault_cli.specs.Ls.{ShowsItems}
+use Rattle.vault_cli.specs.Repair.{RepairsVault}
 use Rattle.vault_cli.specs.Shown.{Reads}
 use Rattle.vault_cli.specs.World.{World}
 use Rattle.vault_cli.specs.declared.answer.Answer.{Answer}
 use Rattle.vault_cli.specs.declared.answer.Answer.TheVariants.{BadCommandLine, OutOfMemory, FolderFault}
 use Rattle.vault_cli.specs.declared.words.Command.{Command}
-use Rattle.vault_cli.specs.declared.words.Command.TheVariants.{DecryptFile, Ls, Cat, Fsck}
+use Rattle.vault_cli.specs.declared.words.Command.TheVariants.{DecryptFile, Ls, Cat, Fsck, Repair}
 use Rattle.vault_cli.specs.declared.words.Target.{Target}
 
 -- words that make no command, of which nothing comes
@@ -38,3 +39,4 @@ Executes (Some (DecryptFile key)) answer before after = DecryptsFile key answer 
 Executes (Some (Ls target)) answer before after = ListsItems target answer before after
 Executes (Some (Cat target)) answer before after = WritesFile target answer before after
 Executes (Some (Fsck target)) answer before after = ChecksVault target answer before after
+Executes (Some (Repair target)) answer before after = RepairsVault target answer before after

@@ -9,6 +9,7 @@ mod decrypt;
 mod fsck;
 mod ls;
 mod opening;
+mod repair;
 mod reporting;
 mod running;
 pub mod words;
@@ -16,7 +17,7 @@ pub mod words;
 pub use answer::Answer;
 pub use reporting::report;
 pub use running::run;
-pub use words::{Checking, Command, Target};
+pub use words::{Checking, Command, Repairing, Target};
 
 #[cfg(test)]
 mod samples;

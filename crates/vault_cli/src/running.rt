@@ -12,6 +12,7 @@ use crate::cat::cat;
 use crate::decrypt::decrypt_file;
 use crate::fsck::fsck;
 use crate::ls::ls;
+use crate::repair::repair;
 use crate::reporting::report;
 use crate::words::Command;
 use chunk_files::laws::{files_are_what_they_give, whole_files_end};
@@ -22,7 +23,8 @@ use vault_read::laws::roots_have_one_answer;
 
 /// Does what the words after the program's name ask for, and answers the status to end with. Every status but 0 and 1 writes its line
 /// to `err`: 1 a check has findings, 2 no command, 3 no memory, 4 the folder failed, 5 the input, 6 the output, 8 a configuration is refused, 9 the passphrase,
-/// 10 something isn't there, 11 it is of another kind, 12 it is damaged, 23 a limit is passed.
+/// 10 something isn't there, 11 it is of another kind, 12 it is damaged, 15 folders overlap, 16 a place isn't free,
+/// 23 a limit is passed.
 pub fn run<F: Folder, R: Randoms, I: Source, O: Sink, E: Sink>(
     alloc: Global,
     words: &[String],
@@ -81,5 +83,6 @@ fn execute<F: Folder, R: Randoms, I: Source, O: Sink>(
         Ok(Some(Command::Ls(target))) => ls(alloc, &target, folder, out),
         Ok(Some(Command::Cat(target))) => cat(alloc, &target, folder, out),
         Ok(Some(Command::Fsck(target))) => fsck(alloc, &target, folder, out),
+        Ok(Some(Command::Repair(target))) => repair(alloc, &target, folder, out),
     }
 }

@@ -1,7 +1,7 @@
 //! The commands, and the words that make them.
 ghost use Rattle.std.specs.Prelude.{◌≡◌, IfOk, map, string_bytes};
 ghost use Rattle.plain_tree.specs.Reading.{read_path};
-ghost use Rattle.vault_cli.specs.Commands.{cat_by, checking_of, command_named, command_of, decrypt_file_by, folder_path, fsck_by, key_of, ls_by, only_file, target_of};
+ghost use Rattle.vault_cli.specs.Commands.{cat_by, checking_of, command_named, command_of, decrypt_file_by, folder_path, fsck_by, key_of, ls_by, only_file, repair_by, repairing_of, target_of};
 
 use crate::arguments::{Arguments, Choice, only_value};
 use folder_model::{FPath, FPathFault};
@@ -24,6 +24,14 @@ pub struct Checking {
     pub pass: FPath,
 }
 
+/// A vault that is repaired, the folder for what is lost, and the file that holds the vault's passphrase.
+#[derive(Debug, Drop)]
+pub struct Repairing {
+    pub vault: FPath,
+    pub lost: FPath,
+    pub pass: FPath,
+}
+
 /// A command with its arguments.
 #[derive(Debug, Drop)]
 pub enum Command {
@@ -35,6 +43,8 @@ pub enum Command {
     Cat(Target),
     /// `fsck VAULT --pass FILE`: tells what is found in a vault.
     Fsck(Checking),
+    /// `repair VAULT LOST --pass FILE`: moves the strays of a vault into a new folder.
+    Repair(Repairing),
 }
 
 impl Command {
@@ -72,6 +82,8 @@ fn named(
         cat(alloc, choices, positional)
     } else if name == "fsck" {
         fsck(alloc, choices, positional)
+    } else if name == "repair" {
+        repair(alloc, choices, positional)
     } else {
         Ok(None)
     }
@@ -123,6 +135,39 @@ fn fsck(
         _ => None,
     };
     Ok(checking.map(Command::Fsck))
+}
+
+fn repair(
+    alloc: Global,
+    choices: &[Choice],
+    positional: &[Text],
+) -> Result<Option<Command>, AllocError>
+    ensures { IfOk result (λ command. command ≡ repair_by choices.now positional.now) }
+{
+    let repairing = match positional {
+        [vault, lost] => read_repairing(alloc, choices, vault.as_str(), lost.as_str())?,
+        _ => None,
+    };
+    Ok(repairing.map(Command::Repair))
+}
+
+// What `VAULT LOST --pass FILE` names.
+fn read_repairing(
+    alloc: Global,
+    choices: &[Choice],
+    vault: &str,
+    lost: &str,
+) -> Result<Option<Repairing>, AllocError>
+    ensures { IfOk result (λ repairing. repairing ≡ repairing_of choices.now vault.now lost.now) }
+{
+    let (Some(vault), Some(lost), Some(pass)) = (
+        folder_path(alloc, vault)?,
+        folder_path(alloc, lost)?,
+        only_file(alloc, choices, "--pass")?,
+    ) else {
+        return Ok(None);
+    };
+    Ok(Some(Repairing { vault, lost, pass }))
 }
 
 // What `VAULT --pass FILE` names.

@@ -2,6 +2,7 @@ use Rattle.std.proofs.Common.{Some, refl, sym, ap, ◌∙◌, subst, map, string
 use Rattle.std.proofs.KnownBytes.{Keeps-refl}
 use Rattle.vault_cli.specs.Commands.{command_of}
 use Rattle.vault_cli.specs.DecryptFile.{DecryptsFile}
+use Rattle.vault_cli.specs.Repair.{RepairsVault}
 use Rattle.vault_cli.specs.Runs.{Executes}
 use Rattle.vault_cli.specs.World.{World}
 use Rattle.vault_cli.proofs.Checks.{checks}
@@ -32,3 +33,13 @@ returns-in-Ok-Some-Fsck-clause-executes g c =
     let after : World = record { told = g.F.Folder.told c.fsck.new.folder; left = left; ended = ended; taken = g.O.Sink.taken c.fsck.new.out } in
     subst (λ command. Executes command c.fsck.result before after) (ap Some (sym arm.field-0-0-is) ∙ sym arm.field-0-is ∙ arm.ensures)
     (checks c.roots_have_one_answer.ensures arm.target c.fsck.result before after c.fsck.ensures.told c.fsck.ensures.own c.fsck.ensures.follows c.fsck.ensures.quiet (Keeps-refl left))
+
+pub returns-in-Ok-Some-Repair-clause-executes : goal.returns-in-Ok-Some-Repair-clause-executes
+returns-in-Ok-Some-Repair-clause-executes g c =
+    let arm = c.in-Ok-Some-Repair in
+    let left = g.I.Source.left c.args.input.now in
+    let ended = g.I.Source.ended c.args.input.now in
+    let before : World = record { told = g.F.Folder.told c.args.folder.now; left = left; ended = ended; taken = g.O.Sink.taken c.args.out.now } in
+    let after : World = record { told = g.F.Folder.told c.repair.new.folder; left = left; ended = ended; taken = g.O.Sink.taken c.repair.new.out } in
+    let did : RepairsVault arm.target c.repair.result before after = record { apart = c.repair.ensures.apart; untouched = Keeps-refl left } in
+    subst (λ command. Executes command c.repair.result before after) (ap Some (sym arm.field-0-0-is) ∙ sym arm.field-0-is ∙ arm.ensures) did

@@ -1,0 +1,252 @@
+-- What `repair` did, from what its parts say.
+use Rattle.std.proofs.Common.{◌≡◌, ◌≢◌, ℕ, Bool, true, false, List, [], Option, Some, None, Result, Ok, Err, inl, inr, refl, sym, ap, ◌∙◌, subst}
+use Rattle.std.specs.Prelude.{◌⊎◌, IsTrue, is_some}
+use Rattle.std.specs.Io.KnownBytes.{Keeps}
+use Rattle.std.proofs.KnownBytes.{Keeps-refl}
+use Rattle.std.proofs.lemmas.Bool.{or_parts}
+use Rattle.port_model.specs.Counts.{CountRose}
+use Rattle.folder_model.specs.Answers.{Answers, Counts}
+use Rattle.folder_spec.specs.declared.FolderFault as folders
+use Rattle.folder_spec.specs.declared.FolderFault.TheVariants as folder
+use Rattle.folder_spec.specs.declared.Kind.{Kind}
+use Rattle.folder_spec.specs.Path.{Path, below, parent}
+use Rattle.folder_spec.specs.Event.{Told, FromTo}
+use Rattle.folder_spec.specs.Image.{Image, IsImage}
+use Rattle.folder_spec.specs.Seen.{IsSeen, ShowsFree, seen, under}
+use Rattle.folder_spec.specs.State.{HasNothingPending, IsSound, State}
+use Rattle.folder_spec.specs.View.{Found, NoEntry, Folder, FileOf, Special, View, kind_found, view_of}
+use Rattle.vault_read.specs.Laws.{HasOwnFolders}
+use Rattle.vault_spec.specs.Adding.{OpensAs}
+use Rattle.vault_spec.specs.Moving.{IsStray}
+use Rattle.vault_read.specs.declared.fault.Limit.TheVariants as limited
+use Rattle.vault_spec.specs.Vault.{Vault, Either, format_of}
+use Rattle.vault_walk.specs.Survey.{HasTooMany}
+use Rattle.vault_walk.specs.Surveyed.{IsOnlyTooDeep}
+use Rattle.vault_check.specs.Answers.{IsRepairFault}
+use Rattle.vault_check.specs.Repairing.{AreApart, AreMoved, IsRepairing, MayMoveTo, RepairsAt}
+use Rattle.vault_check.specs.declared.fault.CheckFault.{CheckFault}
+use Rattle.vault_check.specs.declared.fault.CheckFault.TheVariants as check
+use Rattle.vault_cli.specs.Faults.{of_check, of_folder}
+use Rattle.vault_cli.specs.Opening.{Opens}
+use Rattle.vault_cli.specs.Refusing.{Unless, RefusesOpening}
+use Rattle.vault_cli.specs.Repair.{OfDirectory, OfMissing, OfFree, IsOfMoving, Moved, TooMany, TooDeep, OfRepairing, MovesStrays, HasMovedStrays, Prints, PrintsMoved, RefusesOverlap, RepairsApart, is_of_moving, is_of_repairing, is_of_test, overlap}
+use Rattle.vault_cli.specs.Shown.{IsCutShort, is_of_opening, refused}
+use Rattle.vault_cli.specs.declared.answer.Answer.{Answer}
+use Rattle.vault_cli.specs.declared.answer.Answer.TheVariants.{Done, Findings, BadCommandLine, OutOfMemory, FolderFault, InputFault, OutputFault, Refused, WrongPass, NotFound, WrongKind, DamagedInput, Damaged, Overlap, NotEmpty, Limit}
+use Rattle.vault_cli.specs.declared.words.Repairing.{Repairing}
+use Rattle.vault_cli.proofs.Refusals.{opened_gives, unless_opened}
+
+-- ---- the tests
+
+none_of : {X : Type 0} (o : Option X) → is_some o ≡ false → o ≡ None
+none_of None is = refl
+none_of (Some x) is = cc
+
+pub apart_by : (one other : Path) → overlap one other ≡ false → AreApart one other
+apart_by one other is =
+    let parts = or_parts (is_some (below one other)) (is_some (below other one)) is in
+    record { apart = none_of (below one other) parts.0; beside = none_of (below other one) parts.1 }
+
+-- looking at a path names the folder as its cause only where the folder's count rose
+pub kind_failed : (t : Option Told) (before after : ℕ) (at : Path) (fault : folders.FolderFault) (answer : Answer)
+    → Answers {T = Kind} t (λ v. Unit {0}) (λ v kind. kind ≡ kind_found (v at)) (Err fault) → Counts {T = Kind} t before after (Err fault) → answer ≡ of_folder fault → answer ≡ FolderFault → CountRose before after
+kind_failed t before after at folder.Failed answer answers counts is named = counts.1
+kind_failed None before after at folder.Refused answer answers counts is named = counts.1
+kind_failed (Some a) before after at folder.Refused answer answers counts is named = absurd (answers (seen a.state) refl tt)
+kind_failed t before after at folder.NoMemory answer answers counts is named = let no = sym is ∙ named in cc
+
+missing_then : (at : Path) (there : Found) (answer : Answer) (P Q : Type 0) → (P → Q) → OfMissing at there answer P → OfMissing at there answer Q
+missing_then at NoEntry answer P Q f x = f x
+missing_then at Folder answer P Q f x = x
+missing_then at (FileOf bytes) answer P Q f x = x
+missing_then at Special answer P Q f x = x
+
+directory_then : (at : Path) (there : Found) (answer : Answer) (P Q : Type 0) → (P → Q) → OfDirectory at there answer P → OfDirectory at there answer Q
+directory_then at NoEntry answer P Q f x = x
+directory_then at Folder answer P Q f x = f x
+directory_then at (FileOf bytes) answer P Q f x = x
+directory_then at Special answer P Q f x = x
+
+free_then : (v : View) (at : Path) (answer : Answer) (P Q : Type 0) → (P → Q) → OfFree v at answer P → OfFree v at answer Q
+free_then v at answer P Q f =
+    directory_then (parent at) (v (parent at)) answer (OfMissing at (v at) answer P) (OfMissing at (v at) answer Q) (missing_then at (v at) answer P Q f)
+
+free_gives : (v : View) (at : Path) (answer : Answer) (P : Type 0) → ShowsFree v at → P → OfFree v at answer P
+free_gives v at answer P free holds =
+    subst (λ x. OfDirectory (parent at) x answer (OfMissing at (v at) answer P)) (sym free.1) (subst (λ x. OfMissing at x answer P) (sym free.0) holds)
+
+-- ---- the moving
+
+module _ (target : Repairing) (v : View) where
+  abbrev Next : Answer → Vault → Type 0
+  Next answer vault = OfFree v target.lost answer (IsOfMoving (format_of vault) (under target.vault v) answer)
+
+  pub not_opened : (answer : Answer) → RefusesOpening v target.vault target.pass answer → Unless answer (OfRepairing target v answer)
+  not_opened answer = unless_opened v target.vault target.pass answer (Next answer)
+
+  pub not_free : (vault : Vault) (answer : Answer) → Opens v target.vault target.pass vault → Unless answer (OfFree v target.lost answer ⊥) → Unless answer (OfRepairing target v answer)
+  not_free vault answer opens (inl failed) = inl failed
+  not_free vault answer opens (inr (inl memory)) = inr (inl memory)
+  not_free vault answer opens (inr (inr free)) =
+      inr (inr (opened_gives v target.vault target.pass (refused answer) (Next answer) vault opens
+      (free_then v target.lost answer ⊥ (IsOfMoving (format_of vault) (under target.vault v) answer) (λ none. absurd none) free)))
+
+  pub moving : (vault : Vault) (answer : Answer) → Opens v target.vault target.pass vault → ShowsFree v target.lost → IsOfMoving (format_of vault) (under target.vault v) answer → OfRepairing target v answer
+  moving vault answer opens free is =
+      opened_gives v target.vault target.pass (refused answer) (Next answer) vault opens
+      (free_gives v target.lost answer (IsOfMoving (format_of vault) (under target.vault v) answer) free is)
+
+  -- a limit, or the folder, or memory
+  pub not_moved : (vault : Vault) (fault : CheckFault) → Opens v target.vault target.pass vault → ShowsFree v target.lost → IsRepairFault fault
+      → (fault ≡ check.Limit limited.Items → HasTooMany (format_of vault) (under target.vault v)) → (fault ≡ check.Limit limited.Depth → IsOnlyTooDeep (format_of vault) (under target.vault v))
+      → Unless (of_check fault) (OfRepairing target v (of_check fault))
+  not_moved vault (check.Limit limited.Items) opens free is items depth = inr (inr (moving vault _ opens free (TooMany refl (items refl))))
+  not_moved vault (check.Limit limited.Depth) opens free is items depth = inr (inr (moving vault _ opens free (TooDeep refl (depth refl))))
+  not_moved vault (check.Limit (limited.Length at)) opens free is items depth = absurd is
+  not_moved vault (check.Limit limited.Input) opens free is items depth = absurd is
+  not_moved vault check.Failed opens free is items depth = inl refl
+  not_moved vault check.NoMemory opens free is items depth = inr (inl refl)
+
+-- what a repair of the opened vault says, of what was told before the vault was opened
+module _ (target : Repairing) (root : Path) (vault : Vault) (told entered told' : Option Told) (same : root ≡ target.vault) (still : entered ≡ told)
+    (opens : (v : View) → IsSeen told v → Opens v target.vault target.pass vault) (apart : overlap target.vault target.lost ≡ false) where
+  pub has_moved : (moved : List Path) → FromTo (λ a b. AreMoved root (format_of vault) target.lost moved a b) entered told' → (moved ≡ [] → told' ≡ entered)
+      → ((root lost : Path) (moved : List Path) (a b : Told) → IsSound a.state → AreApart root lost → HasOwnFolders vault (under root (seen a.state)) → AreMoved root (format_of vault) lost moved a b
+      → OpensAs (format_of vault) (under root (seen a.state)) (under root (seen b.state)) × ((at : Path) → ¬ IsStray (format_of vault) (under root (seen b.state)) at))
+      → HasMovedStrays target moved told told'
+  has_moved moved are nothing law = record {
+    vault = vault;
+    opens = opens;
+    are = subst (λ t. FromTo (λ a b. AreMoved target.vault (format_of vault) target.lost moved a b) t told') still
+        (subst (λ p. FromTo (λ a b. AreMoved p (format_of vault) target.lost moved a b) entered told') same are);
+    nothing = λ none. nothing none ∙ still;
+    leaves = λ a b sound own moves. law target.vault target.lost moved a b sound (apart_by target.vault target.lost apart) own moves;
+  }
+
+  pub moves_strays : RepairsAt root (format_of vault) target.lost entered told'
+      → ((root lost : Path) (s0 s : State) (image : Image) → IsSound s0 → HasNothingPending s0 → AreApart root lost → HasOwnFolders vault (under root (seen s0))
+      → IsRepairing root (format_of vault) lost s0 s → IsImage s image → OpensAs (format_of vault) (under root (seen s0)) (under root (view_of image)))
+      → MovesStrays target told told'
+  moves_strays moments law = record {
+    vault = vault;
+    opens = opens;
+    apart = apart_by target.vault target.lost apart;
+    moments = subst (λ t. RepairsAt target.vault (format_of vault) target.lost t told') still (subst (λ p. RepairsAt p (format_of vault) target.lost entered told') same moments);
+    keeps = λ s0 s image sound settled own repairing is. law target.vault target.lost s0 s image sound settled (apart_by target.vault target.lost apart) own repairing is;
+  }
+
+pub no_test : (fault : CheckFault) → ¬ IsTrue (is_of_test (of_check fault))
+no_test (check.Limit limit) is = cc
+no_test check.Failed is = cc
+no_test check.NoMemory is = cc
+
+pub of_moving : (fault : CheckFault) → IsTrue (is_of_moving (of_check fault))
+of_moving (check.Limit limit) = refl
+of_moving check.Failed = refl
+of_moving check.NoMemory = refl
+
+pub opening_moves : (answer : Answer) → IsTrue (is_of_opening answer) → IsTrue (is_of_moving answer)
+opening_moves Done is = is
+opening_moves Findings is = is
+opening_moves OutputFault is = is
+opening_moves BadCommandLine is = is
+opening_moves OutOfMemory is = is
+opening_moves FolderFault is = is
+opening_moves InputFault is = is
+opening_moves (Refused at why) is = is
+opening_moves (WrongPass root) is = is
+opening_moves (NotFound what) is = is
+opening_moves (WrongKind what) is = is
+opening_moves (DamagedInput fault) is = is
+opening_moves (Damaged at how) is = is
+opening_moves (Overlap first second) is = is
+opening_moves (NotEmpty at) is = refl
+opening_moves (Limit which) is = is
+
+-- ---- the whole
+
+of_repairing : (answer : Answer) → IsTrue (is_of_moving answer) → IsTrue (is_of_repairing answer)
+of_repairing Done is = refl
+of_repairing Findings is = is
+of_repairing OutputFault is = refl
+of_repairing BadCommandLine is = is
+of_repairing OutOfMemory is = is
+of_repairing FolderFault is = is
+of_repairing InputFault is = is
+of_repairing (Refused at why) is = is
+of_repairing (WrongPass root) is = is
+of_repairing (NotFound what) is = is
+of_repairing (WrongKind what) is = is
+of_repairing (DamagedInput fault) is = is
+of_repairing (Damaged at how) is = is
+of_repairing (Overlap first second) is = is
+of_repairing (NotEmpty at) is = is
+of_repairing (Limit which) is = is
+
+cut_or : (answer : Answer) (P : Type 0) → Unless answer P → IsCutShort answer ⊎ P
+cut_or answer P (inl failed) = inl (inl failed)
+cut_or answer P (inr (inl memory)) = inl (inr (inr memory))
+cut_or answer P (inr (inr holds)) = inr holds
+
+-- nothing is written where nothing was printed
+unprinted : (target : Repairing) (answer : Answer) (told told' : Option Told) (taken : Option (List ℕ)) → IsTrue (is_of_moving answer) → PrintsMoved target answer told told' taken taken
+unprinted target Done told told' taken is = cc
+unprinted target OutputFault told told' taken is = cc
+unprinted target Findings told told' taken is = Keeps-refl taken
+unprinted target BadCommandLine told told' taken is = Keeps-refl taken
+unprinted target OutOfMemory told told' taken is = Keeps-refl taken
+unprinted target FolderFault told told' taken is = Keeps-refl taken
+unprinted target InputFault told told' taken is = Keeps-refl taken
+unprinted target (Refused at why) told told' taken is = Keeps-refl taken
+unprinted target (WrongPass root) told told' taken is = Keeps-refl taken
+unprinted target (NotFound what) told told' taken is = Keeps-refl taken
+unprinted target (WrongKind what) told told' taken is = Keeps-refl taken
+unprinted target (DamagedInput fault) told told' taken is = Keeps-refl taken
+unprinted target (Damaged at how) told told' taken is = Keeps-refl taken
+unprinted target (Overlap first second) told told' taken is = Keeps-refl taken
+unprinted target (NotEmpty at) told told' taken is = Keeps-refl taken
+unprinted target (Limit which) told told' taken is = Keeps-refl taken
+
+pub repair_refused : (target : Repairing) (answer : Answer) (told told' : Option Told) (taken : Option (List ℕ)) → IsTrue (is_of_moving answer)
+    → ((v : View) → IsSeen told v → Unless answer (OfRepairing target v answer)) → (IsTrue (is_of_test answer) → told' ≡ told) → (told' ≡ told) ⊎ MovesStrays target told told'
+    → RepairsApart target answer told told' taken taken
+repair_refused target answer told told' taken own cause tested moves = record {
+  own = of_repairing answer own;
+  cause = λ v is. cut_or answer (OfRepairing target v answer) (cause v is);
+  tested = tested;
+  moves = moves;
+  prints = unprinted target answer told told' taken own;
+}
+
+pub refused_apart : (target : Repairing) (answer : Answer) (told told' : Option Told) (taken : Option (List ℕ)) → overlap target.vault target.lost ≡ false → RepairsApart target answer told told' taken taken
+    → Either (overlap target.vault target.lost) (RefusesOverlap target.vault target.lost answer told told' taken taken) (RepairsApart target answer told told' taken taken)
+refused_apart target answer told told' taken apart repairs =
+    subst (λ b. Either b (RefusesOverlap target.vault target.lost answer told told' taken taken) (RepairsApart target answer told told' taken taken)) (sym apart) repairs
+
+pub repair_printed : (target : Repairing) (moved : List Path) (answer : Answer) (told told' : Option Told) (taken taken' : Option (List ℕ)) → HasMovedStrays target moved told told'
+    → ((v : View) → IsSeen told v → OfRepairing target v Done) → (told' ≡ told) ⊎ MovesStrays target told told' → Prints moved answer taken taken'
+    → (answer ≡ Done) ⊎ ((answer ≡ OutputFault) ⊎ (answer ≡ OutOfMemory)) → RepairsApart target answer told told' taken taken'
+repair_printed target moved answer told told' taken taken' has passed moves prints (inl done) =
+    subst (λ a. RepairsApart target a told told' taken taken') (sym done) (record {
+      own = refl;
+      cause = λ v is. inr (passed v is);
+      tested = λ is. cc;
+      moves = moves;
+      prints = (moved, has, subst (λ a. Prints moved a taken taken') done prints);
+    })
+repair_printed target moved answer told told' taken taken' has passed moves prints (inr (inl output)) =
+    subst (λ a. RepairsApart target a told told' taken taken') (sym output) (record {
+      own = refl;
+      cause = λ v is. inl (inr (inl refl));
+      tested = λ is. cc;
+      moves = moves;
+      prints = (moved, has, subst (λ a. Prints moved a taken taken') output prints);
+    })
+repair_printed target moved answer told told' taken taken' has passed moves prints (inr (inr memory)) =
+    subst (λ a. RepairsApart target a told told' taken taken') (sym memory) (record {
+      own = refl;
+      cause = λ v is. inl (inr (inr refl));
+      tested = λ is. cc;
+      moves = moves;
+      prints = subst (λ a. Prints moved a taken taken') memory prints;
+    })

@@ -1,0 +1,147 @@
+-- `repair`: moving the strays of a vault into a folder of lost ones, where nothing stands.
+use Rattle.std.specs.Prelude.{◌≡◌, ◌⊎◌, ◌||◌, ℕ, Bool, true, false, List, [], ◌∷◌, ◌++◌, codes, is_some, Option, IsTrue}
+use Rattle.std.specs.Io.KnownBytes.{Appends, Keeps}
+use Rattle.std.specs.List.{flat_map}
+use Rattle.port_model.specs.Told.{AppendsPrefix}
+use Rattle.folder_spec.specs.Path.{Path, below, parent}
+use Rattle.folder_spec.specs.Event.{Told, FromTo}
+use Rattle.folder_spec.specs.Image.{Image, IsImage}
+use Rattle.folder_spec.specs.Seen.{IsSeen, seen, under}
+use Rattle.folder_spec.specs.State.{HasNothingPending, IsSound, State}
+use Rattle.folder_spec.specs.View.{Found, NoEntry, Folder, FileOf, Special, View, view_of}
+use Rattle.plain_tree.specs.Shown.{shown_path}
+use Rattle.vault_read.specs.Laws.{HasOwnFolders}
+use Rattle.vault_spec.specs.Adding.{OpensAs}
+use Rattle.vault_spec.specs.Format.{Format}
+use Rattle.vault_spec.specs.Moving.{IsStray}
+use Rattle.vault_spec.specs.Vault.{Vault, Either, format_of}
+use Rattle.vault_walk.specs.Survey.{HasTooMany}
+use Rattle.vault_walk.specs.Surveyed.{IsOnlyTooDeep}
+use Rattle.vault_check.specs.Repairing.{AreApart, AreMoved, IsRepairing, RepairsAt}
+use Rattle.vault_cli.specs.Opening.{Opens, OfOpened}
+use Rattle.vault_cli.specs.Shown.{IsCutShort, is_of_opening, refused}
+use Rattle.vault_cli.specs.World.{World}
+use Rattle.vault_cli.specs.declared.answer.Answer.{Answer}
+use Rattle.vault_cli.specs.declared.answer.Answer.TheVariants.{Done, OutOfMemory, OutputFault, Refused, WrongPass, NotFound, WrongKind, Overlap, NotEmpty, Limit}
+use Rattle.vault_cli.specs.declared.answer.Named.TheVariants as named
+use Rattle.vault_cli.specs.declared.answer.Limit.TheVariants as limit
+use Rattle.vault_cli.specs.declared.words.Repairing.{Repairing}
+
+-- one of the paths begins with the other
+abbrev pub overlap : Path → Path → Bool
+overlap one other = is_some (below one other) || is_some (below other one)
+
+-- what follows where a directory stands at a path
+abbrev pub OfDirectory : Path → Found → Answer → Type 0 → Type 0
+OfDirectory at NoEntry answer next = answer ≡ NotFound (named.Folder at)
+OfDirectory at Folder answer next = next
+OfDirectory at (FileOf bytes) answer next = answer ≡ WrongKind (named.Folder at)
+OfDirectory at Special answer next = answer ≡ WrongKind (named.Folder at)
+
+-- what follows where nothing stands at a path
+abbrev pub OfMissing : Path → Found → Answer → Type 0 → Type 0
+OfMissing at NoEntry answer next = next
+OfMissing at Folder answer next = answer ≡ NotEmpty at
+OfMissing at (FileOf bytes) answer next = answer ≡ NotEmpty at
+OfMissing at Special answer next = answer ≡ NotEmpty at
+
+-- what follows where nothing stands at a path, and a directory above it
+abbrev pub OfFree : View → Path → Answer → Type 0 → Type 0
+OfFree v at answer next = OfDirectory (parent at) (v (parent at)) answer (OfMissing at (v at) answer next)
+
+-- where all tests pass, the strays are moved, unless the vault passes a limit
+pub data IsOfMoving (f : Format) (v : View) (answer : Answer) : Type 0 where
+  Moved : answer ≡ Done → IsOfMoving f v answer
+  TooMany : answer ≡ Limit limit.Items → HasTooMany f v → IsOfMoving f v answer
+  TooDeep : answer ≡ Limit limit.Depth → IsOnlyTooDeep f v → IsOfMoving f v answer
+
+-- the answer by what is seen at first; the first test that fails decides
+abbrev pub OfRepairing : Repairing → View → Answer → Type 0
+OfRepairing target v answer =
+    OfOpened v target.vault target.pass (refused answer) (λ vault. OfFree v target.lost answer (IsOfMoving (format_of vault) (under target.vault v) answer))
+
+-- whether it may be the answer of a test that fails
+abbrev pub is_of_test : Answer → Bool
+is_of_test (Refused at why) = true
+is_of_test (WrongPass root) = true
+is_of_test (NotFound what) = true
+is_of_test (WrongKind what) = true
+is_of_test (NotEmpty at) = true
+is_of_test answer = false
+
+-- whether `repair` may answer so before it prints
+abbrev pub is_of_moving : Answer → Bool
+is_of_moving (NotEmpty at) = true
+is_of_moving answer = is_of_opening answer
+
+-- and whether it may do so at all, where the folders don't overlap
+abbrev pub is_of_repairing : Answer → Bool
+is_of_repairing Done = true
+is_of_repairing OutputFault = true
+is_of_repairing answer = is_of_moving answer
+
+-- in a state in which strays of this vault are being moved, each image opens at each plain path what opened before, where nothing was
+-- pending then
+abbrev pub KeepsWhatOpens : Vault → Path → Path → Type 0
+KeepsWhatOpens vault root lost =
+    (s0 s : State) (image : Image) → IsSound s0 → HasNothingPending s0 → HasOwnFolders vault (under root (seen s0))
+    → IsRepairing root (format_of vault) lost s0 s → IsImage s image → OpensAs (format_of vault) (under root (seen s0)) (under root (view_of image))
+
+-- the strays of the opened vault are being moved, at every moment, and what opened opens; the vault and the folder of lost ones are apart
+pub record MovesStrays (target : Repairing) (told told' : Option Told) : Type 0 where
+  pub vault : Vault
+  pub opens : (v : View) → IsSeen told v → Opens v target.vault target.pass vault
+  pub apart : AreApart target.vault target.lost
+  pub moments : RepairsAt target.vault (format_of vault) target.lost told told'
+  pub keeps : KeepsWhatOpens vault target.vault target.lost
+
+-- where all strays of this vault are moved, the same opens at each plain path as before, and there are no strays
+abbrev pub LeavesNoStrays : Vault → Path → Path → List Path → Type 0
+LeavesNoStrays vault root lost moved =
+    (a b : Told) → IsSound a.state → HasOwnFolders vault (under root (seen a.state)) → AreMoved root (format_of vault) lost moved a b
+    → OpensAs (format_of vault) (under root (seen a.state)) (under root (seen b.state)) × ((at : Path) → ¬ IsStray (format_of vault) (under root (seen b.state)) at)
+
+-- all strays of the opened vault are moved, and these are their old paths; where there are none, nothing is changed
+pub record HasMovedStrays (target : Repairing) (moved : List Path) (told told' : Option Told) : Type 0 where
+  pub vault : Vault
+  pub opens : (v : View) → IsSeen told v → Opens v target.vault target.pass vault
+  pub are : FromTo (λ a b. AreMoved target.vault (format_of vault) target.lost moved a b) told told'
+  pub nothing : moved ≡ [] → told' ≡ told
+  pub leaves : LeavesNoStrays vault target.vault target.lost moved
+
+abbrev pub moved_line : Path → List ℕ
+moved_line at = codes "moved " ++ shown_path at ++ 10 ∷ []
+
+abbrev pub moved_text : List Path → List ℕ
+moved_text moved = flat_map moved_line moved
+
+-- what the output took of these paths' lines: all, or where it failed a front part
+abbrev pub Prints : List Path → Answer → Option (List ℕ) → Option (List ℕ) → Type 0
+Prints moved Done taken taken' = Appends taken taken' (moved_text moved)
+Prints moved OutputFault taken taken' = AppendsPrefix taken taken' (moved_text moved)
+Prints moved answer taken taken' = Keeps taken taken'
+
+-- nothing is written before all strays are moved
+abbrev pub PrintsMoved : Repairing → Answer → Option Told → Option Told → Option (List ℕ) → Option (List ℕ) → Type 0
+PrintsMoved target Done told told' taken taken' = (moved : List Path) × HasMovedStrays target moved told told' × Prints moved Done taken taken'
+PrintsMoved target OutputFault told told' taken taken' = (moved : List Path) × HasMovedStrays target moved told told' × Prints moved OutputFault taken taken'
+PrintsMoved target answer told told' taken taken' = Keeps taken taken'
+
+-- overlapping folders are refused by the words alone
+pub record RefusesOverlap (one other : Path) (answer : Answer) (told told' : Option Told) (taken taken' : Option (List ℕ)) : Type 0 where
+  pub answers : (answer ≡ Overlap one other) ⊎ (answer ≡ OutOfMemory)
+  pub unchanged : told' ≡ told
+  pub unwritten : Keeps taken taken'
+
+pub record RepairsApart (target : Repairing) (answer : Answer) (told told' : Option Told) (taken taken' : Option (List ℕ)) : Type 0 where
+  pub own : IsTrue (is_of_repairing answer)
+  pub cause : (v : View) → IsSeen told v → IsCutShort answer ⊎ OfRepairing target v answer
+  pub tested : IsTrue (is_of_test answer) → told' ≡ told
+  pub moves : (told' ≡ told) ⊎ MovesStrays target told told'
+  pub prints : PrintsMoved target answer told told' taken taken'
+
+-- `repair`, which takes nothing of the input
+pub record RepairsVault (target : Repairing) (answer : Answer) (before after : World) : Type 0 where
+  pub apart : Either (overlap target.vault target.lost) (RefusesOverlap target.vault target.lost answer before.told after.told before.taken after.taken)
+      (RepairsApart target answer before.told after.told before.taken after.taken)
+  pub untouched : Keeps before.left after.left

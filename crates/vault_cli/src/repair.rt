@@ -1,0 +1,148 @@
+//! `repair`: moves the strays of a vault into a folder of lost ones.
+ghost use Rattle.std.specs.Prelude.{◌≡◌, ◌⊎◌, ◌≤◌, ◌++◌, false, Err, IfErr, IfOk, IsTrue, OnOk, string_bytes};
+ghost use Rattle.folder_spec.specs.Seen.{IsSeen, ShowsFree};
+ghost use Rattle.folder_spec.specs.View.{NoEntry, View};
+ghost use Rattle.port_model.specs.Counts.{CountRose};
+ghost use Rattle.vault_spec.specs.Vault.{Either};
+ghost use Rattle.vault_cli.specs.Refusing.{Unless};
+ghost use Rattle.vault_cli.specs.Repair.{HasMovedStrays, MovesStrays, OfFree, OfMissing, OfRepairing, Prints, RefusesOverlap, RepairsApart, is_of_moving, is_of_test, moved_line, moved_text, overlap};
+
+use crate::answer::{Answer, Named};
+use crate::opening::open;
+use crate::reporting::shown_folder;
+use crate::words::Repairing;
+use folder_model::{FPath, Folder, Kind};
+use port_model::Sink;
+use std::alloc::{AllocError, Global};
+use vault_check::laws::{repaired_vaults_have_no_strays, repairs_keep_what_opens};
+
+/// Moves the strays of a vault, and then writes their old paths, one a line.
+pub(crate) fn repair<F: Folder, O: Sink>(
+    alloc: Global,
+    target: &Repairing,
+    folder: &mut F,
+    out: &mut O,
+) -> Answer
+    ensures apart { Either (overlap target.now.vault target.now.lost)
+        (RefusesOverlap target.now.vault target.now.lost result (F.told folder.old) (F.told folder.new) (O.taken out.old) (O.taken out.new))
+        (RepairsApart target.now result (F.told folder.old) (F.told folder.new) (O.taken out.old) (O.taken out.new)) }
+    ensures folder_fault { result ≡ Answer.FolderFault → CountRose (F.faults folder.old) (F.faults folder.new) }
+    ensures output_fault { result ≡ Answer.OutputFault → CountRose (O.faults out.old) (O.faults out.new) }
+{
+    if do_overlap(&target.vault, &target.lost) {
+        return overlapping(&target.vault, &target.lost);
+    }
+    match move_strays(alloc, target, folder) {
+        Ok(moved) => print(alloc, moved.as_slice(), out),
+        Err(answer) => answer,
+    }
+}
+
+// Whether one of the paths begins with the other.
+fn do_overlap(one: &FPath, other: &FPath) -> bool
+    ensures { result ≡ overlap one.now other.now }
+{
+    other.starts_with(one) || one.starts_with(other)
+}
+
+// That these paths overlap.
+fn overlapping(one: &FPath, other: &FPath) -> Answer
+    ensures { (result ≡ Answer.Overlap one.now other.now) ⊎ (result ≡ Answer.OutOfMemory) }
+{
+    let (Ok(one), Ok(other)) = (one.copy(), other.copy()) else {
+        return Answer::OutOfMemory;
+    };
+    Answer::Overlap(one, other)
+}
+
+// Opens the vault, tests the place of lost ones and moves the strays there. It gives their old paths.
+fn move_strays<F: Folder>(
+    alloc: Global,
+    target: &Repairing,
+    folder: &mut F,
+) -> Result<Vec<FPath>, Answer>
+    requires { overlap target.now.vault target.now.lost ≡ false }
+    ensures moved { IfOk result (λ moved. HasMovedStrays target.now moved.items (F.told folder.old) (F.told folder.new)) }
+    ensures passed { IfOk result (λ moved. (v : View) → IsSeen (F.told folder.old) v → OfRepairing target.now v Answer.Done) }
+    ensures cause { IfErr result (λ answer. (v : View) → IsSeen (F.told folder.old) v → Unless answer (OfRepairing target.now v answer)) }
+    ensures tested { IfErr result (λ answer. IsTrue (is_of_test answer) → F.told folder.new ≡ F.told folder.old) }
+    ensures moves { (F.told folder.new ≡ F.told folder.old) ⊎ MovesStrays target.now (F.told folder.old) (F.told folder.new) }
+    ensures own { IfErr result (λ answer. IsTrue (is_of_moving answer)) }
+    ensures failed { result ≡ Err Answer.FolderFault → CountRose (F.faults folder.old) (F.faults folder.new) }
+{
+    let vault = open(alloc, folder, &target.vault, &target.pass)?;
+    test_free(folder, &target.lost)?;
+    repairs_keep_what_opens(&vault);
+    repaired_vaults_have_no_strays(&vault);
+    match vault_check::repair(alloc, folder, &vault, &target.lost) {
+        Ok(moved) => Ok(moved),
+        Err(fault) => Err(Answer::from(fault)),
+    }
+}
+
+// Nothing stands at a path, and a directory above it.
+fn test_free<F: Folder>(folder: &mut F, at: &FPath) -> Result<(), Answer>
+    ensures told { F.told folder.new ≡ F.told folder.old }
+    ensures free { OnOk result ((v : View) → IsSeen (F.told folder.old) v → ShowsFree v at.now) }
+    ensures refused { IfErr result (λ answer. (v : View) → IsSeen (F.told folder.old) v → Unless answer (OfFree v at.now answer ⊥)) }
+    ensures own { IfErr result (λ answer. IsTrue (is_of_moving answer)) }
+    ensures grows { F.faults folder.old ≤ F.faults folder.new }
+    ensures failed { result ≡ Err Answer.FolderFault → CountRose (F.faults folder.old) (F.faults folder.new) }
+{
+    let above = at.parent()?;
+    match folder.kind(&above)? {
+        Kind::Missing => Err(Answer::NotFound(Named::Folder(above))),
+        Kind::Dir => test_missing(folder, at),
+        _ => Err(Answer::WrongKind(Named::Folder(above))),
+    }
+}
+
+// Nothing stands at a path.
+fn test_missing<F: Folder>(folder: &mut F, at: &FPath) -> Result<(), Answer>
+    ensures told { F.told folder.new ≡ F.told folder.old }
+    ensures free { OnOk result ((v : View) → IsSeen (F.told folder.old) v → v at.now ≡ NoEntry) }
+    ensures refused { IfErr result (λ answer. (v : View) → IsSeen (F.told folder.old) v → Unless answer (OfMissing at.now (v at.now) answer ⊥)) }
+    ensures own { IfErr result (λ answer. IsTrue (is_of_moving answer)) }
+    ensures grows { F.faults folder.old ≤ F.faults folder.new }
+    ensures failed { result ≡ Err Answer.FolderFault → CountRose (F.faults folder.old) (F.faults folder.new) }
+{
+    match folder.kind(at)? {
+        Kind::Missing => Ok(()),
+        _ => Err(Answer::NotEmpty(at.copy()?)),
+    }
+}
+
+// Writes a line for each path.
+fn print<O: Sink>(alloc: Global, moved: &[FPath], out: &mut O) -> Answer
+    ensures prints { Prints moved.now result (O.taken out.old) (O.taken out.new) }
+    ensures answers { (result ≡ Answer.Done) ⊎ ((result ≡ Answer.OutputFault) ⊎ (result ≡ Answer.OutOfMemory)) }
+    ensures output_fault { result ≡ Answer.OutputFault → CountRose (O.faults out.old) (O.faults out.new) }
+{
+    let text = match text_of(alloc, moved) {
+        Ok(text) => text,
+        Err(_) => return Answer::OutOfMemory,
+    };
+    match out.put(text.as_bytes()) {
+        Ok(()) => Answer::Done,
+        Err(_) => Answer::OutputFault,
+    }
+}
+
+fn text_of(alloc: Global, moved: &[FPath]) -> Result<String, AllocError>
+    ensures { IfOk result (λ text. string_bytes text ≡ moved_text moved.now) }
+{
+    let mut text = String::new(alloc);
+    for at in moved {
+        push_moved(alloc, &mut text, at)?;
+    }
+    Ok(text)
+}
+
+// Adds a path's line.
+fn push_moved(alloc: Global, text: &mut String, at: &FPath) -> Result<(), AllocError>
+    ensures { OnOk result (string_bytes text.new ≡ string_bytes text.old ++ moved_line at.now) }
+{
+    text.push_str("moved ")?;
+    text.push_str(shown_folder(alloc, at)?.as_str())?;
+    text.push('\n')
+}

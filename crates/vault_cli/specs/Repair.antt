@@ -16,7 +16,7 @@ use Rattle.vault_spec.specs.Format.{Format}
 use Rattle.vault_spec.specs.Moving.{IsStray}
 use Rattle.vault_spec.specs.Vault.{Vault, Either, format_of}
 use Rattle.vault_walk.specs.Survey.{HasTooMany}
-use Rattle.vault_walk.specs.Surveyed.{IsOnlyTooDeep}
+use Rattle.vault_walk.specs.Surveyed.{IsOnlyTooDeep, IsWithin}
 use Rattle.vault_check.specs.Repairing.{AreApart, AreMoved, IsRepairing, RepairsAt}
 use Rattle.vault_cli.specs.Opening.{Opens, OfOpened}
 use Rattle.vault_cli.specs.Shown.{IsCutShort, is_of_opening, refused}
@@ -49,9 +49,9 @@ OfMissing at Special answer next = answer ≡ NotEmpty at
 abbrev pub OfFree : View → Path → Answer → Type 0 → Type 0
 OfFree v at answer next = OfDirectory (parent at) (v (parent at)) answer (OfMissing at (v at) answer next)
 
--- where all tests pass, the strays are moved, unless the vault passes a limit
+-- where all tests pass, the strays are moved of a vault that passes no limit
 pub data IsOfMoving (f : Format) (v : View) (answer : Answer) : Type 0 where
-  Moved : answer ≡ Done → IsOfMoving f v answer
+  Moved : answer ≡ Done → IsWithin f v → IsOfMoving f v answer
   TooMany : answer ≡ Limit limit.Items → HasTooMany f v → IsOfMoving f v answer
   TooDeep : answer ≡ Limit limit.Depth → IsOnlyTooDeep f v → IsOfMoving f v answer
 

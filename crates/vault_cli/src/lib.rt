@@ -20,6 +20,12 @@ pub use running::run;
 pub use words::{Checking, Command, Repairing, Target};
 
 #[cfg(test)]
+mod check_samples;
+#[cfg(test)]
+mod check_tests;
+#[cfg(test)]
+mod repair_tests;
+#[cfg(test)]
 mod samples;
 #[cfg(test)]
 mod tests;

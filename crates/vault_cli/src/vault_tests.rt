@@ -10,11 +10,11 @@ use std::alloc::Global;
 use std::process::Abort;
 use std::test::Fail;
 
-fn path(alloc: Global, text: &str) -> Result<FPath, Fail> {
+pub(crate) fn path(alloc: Global, text: &str) -> Result<FPath, Fail> {
     Ok(FPath::parse(alloc, text).ok().ok_or("a path")?)
 }
 
-fn put<F: Folder>(
+pub(crate) fn put<F: Folder>(
     alloc: Global,
     folder: &mut F,
     dirs: &[&str],
@@ -27,6 +27,7 @@ fn put<F: Folder>(
         let at = path(alloc, at)?;
         folder.create(&at).ok().ok_or("a place")?;
         folder.append(&at, bytes).ok().ok_or("a file")?;
+        folder.sync(&at).ok().ok_or("a file")?;
     }
     Ok(())
 }
@@ -74,7 +75,7 @@ fn tokens(alloc: Global) -> Result<MemFolder, Fail> {
 }
 
 // Checks what a run over some words comes to: its status and what both streams took.
-fn answers<F: Folder>(
+pub(crate) fn answers<F: Folder>(
     rt: &impl Abort,
     alloc: Global,
     folder: &mut F,
@@ -230,7 +231,7 @@ fn tokens_are_tested(rt: HostRuntime) -> Result<(), Fail> {
 }
 
 // The status and the number of bytes written by a run in which these calls of the output fail.
-fn runs<F: Folder>(
+pub(crate) fn runs<F: Folder>(
     alloc: Global,
     folder: &mut F,
     words: &str,

@@ -1,5 +1,5 @@
 -- What `fsck` shows: its lines, and how its answer follows from them.
-use Rattle.std.proofs.Common.{◌≡◌, ◌∷◌, ◌++◌, ◌<◌, ℕ, zero, suc, List, [], length, codes, map, Option, Err, inl, inr, refl, sym, ap, ◌∙◌, subst, append-nil, arith}
+use Rattle.std.proofs.Common.{◌≡◌, ◌∷◌, ◌++◌, ℕ, zero, List, [], length, map, Option, inl, inr, refl, sym, ap, ◌∙◌, subst, append-nil, arith}
 use Rattle.std.specs.Prelude.{◌≢◌, ◌⊎◌, ◌↔◌, Contains, IsTrue}
 use Rattle.std.specs.Fmt.{decimal}
 use Rattle.std.specs.List.{flat_map}
@@ -29,7 +29,7 @@ use Rattle.vault_cli.specs.Fsck.{IsReportOf, ShowsVault, Whole, TooMany, TooDeep
 use Rattle.vault_cli.specs.Lines.{answer_to_found, found_line, name_numbered, noted_line, told_text}
 use Rattle.vault_cli.specs.Opening.{Opens}
 use Rattle.vault_cli.specs.Refusing.{Unless}
-use Rattle.vault_cli.specs.Shown.{Shown, Follows, IsCutShort, is_of_opening, refused}
+use Rattle.vault_cli.specs.Shown.{Shown, Follows, is_of_opening, refused}
 use Rattle.vault_cli.specs.World.{World}
 use Rattle.vault_cli.specs.declared.answer.Answer.{Answer}
 use Rattle.vault_cli.specs.declared.answer.Answer.TheVariants.{Done, Findings, BadCommandLine, OutOfMemory, FolderFault, InputFault, OutputFault, Refused, WrongPass, NotFound, WrongKind, DamagedInput, Damaged, Overlap, NotEmpty, Limit}

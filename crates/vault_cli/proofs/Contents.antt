@@ -1,12 +1,11 @@
 -- What `cat` shows, and how its output and answer follow.
-use Rattle.std.proofs.Common.{◌≡◌, ℕ, ◌≤◌, List, [], ◌++◌, length, take, arith, Option, Some, None, Result, Ok, Err, inl, inr, refl, sym, ap, ◌∙◌, subst}
+use Rattle.std.proofs.Common.{◌≡◌, ℕ, ◌≤◌, List, ◌++◌, arith, Option, Some, None, Result, Ok, Err, inl, inr, refl, sym, ap, ◌∙◌, subst}
 use Rattle.std.specs.Prelude.{◌⊎◌, MatchResult, IsTrue}
-use Rattle.std.specs.List.{concat}
 use Rattle.chunk_files.specs.Keys.{Keys}
 use Rattle.chunk_files.specs.Reading.{Reading}
 use Rattle.folder_spec.specs.Event.{Told}
 use Rattle.folder_spec.specs.Path.{Path}
-use Rattle.folder_spec.specs.View.{FileOf, View}
+use Rattle.folder_spec.specs.View.{View}
 use Rattle.plain_tree.specs.Names as plain
 use Rattle.port_model.specs.Counts.{CountRose}
 use Rattle.vault_read.specs.Contents.{file_found, content_at, IsContent, WritesContent, Cats}
@@ -31,7 +30,7 @@ use Rattle.vault_cli.specs.Opening.{Opens}
 use Rattle.vault_cli.specs.Refusing.{Unless}
 use Rattle.vault_cli.specs.Shown.{Shown, refused, Follows, Reads, is_of_reading}
 use Rattle.vault_cli.specs.declared.answer.Answer.{Answer}
-use Rattle.vault_cli.specs.declared.answer.Answer.TheVariants.{Done, OutOfMemory, FolderFault, OutputFault, NotFound, WrongKind, Damaged, Limit}
+use Rattle.vault_cli.specs.declared.answer.Answer.TheVariants.{Done, FolderFault, Damaged, Limit}
 use Rattle.vault_cli.specs.declared.answer.Damage.TheVariants as damage
 use Rattle.vault_cli.specs.declared.answer.Limit.TheVariants as limit
 use Rattle.vault_cli.specs.declared.words.Target.{Target}

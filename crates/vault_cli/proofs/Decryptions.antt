@@ -1,13 +1,12 @@
 -- What `decrypt-file` did, from what its parts say.
-use Rattle.std.proofs.Common.{◌≡◌, ℕ, zero, ◌+◌, ◌≤◌, false, List, [], length, take, Some, inl, inr, refl, sym, ap, ◌∙◌, subst, arith}
+use Rattle.std.proofs.Common.{◌≡◌, ℕ, zero, ◌+◌, false, List, [], length, take, Some, inl, inr, refl, sym, ap, ◌∙◌, subst, arith}
 use Rattle.std.specs.Prelude.{◌⊎◌, IfSome, IsTrue, Option}
 use Rattle.std.specs.List.{concat}
 use Rattle.std.specs.Io.KnownBytes.{Appends, IsAtEnd}
 use Rattle.std.proofs.KnownBytes.{Appends-nil, Consumes-nil}
 use Rattle.std.proofs.Math.Seq.{take-length}
-use Rattle.chunk_files.specs.FileOf.{FilesAreWhatTheyGive, WholeFilesEnd, IsFileOf}
-use Rattle.chunk_files.specs.Keys.{go_keys}
-use Rattle.chunk_files.specs.Reading.{Reading, Whole}
+use Rattle.chunk_files.specs.FileOf.{FilesAreWhatTheyGive, WholeFilesEnd}
+use Rattle.chunk_files.specs.Reading.{Reading}
 use Rattle.chunk_files.specs.declared.fault.ChunkFault.{ChunkFault}
 use Rattle.vault_cli.specs.Answers.{is_plain}
 use Rattle.vault_cli.specs.DecryptFile.{DecryptsFile, IsCutOff, answer_to_end, end_of}

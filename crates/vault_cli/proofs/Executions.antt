@@ -1,5 +1,5 @@
 -- What a command did where it wasn't begun, and where its message found no memory; and what a status says of the answer.
-use Rattle.std.proofs.Common.{◌≡◌, Bool, true, false, ℕ, List, length, take, Option, Some, None, inl, inr, refl, sym, ap, ◌∙◌, subst, arith}
+use Rattle.std.proofs.Common.{◌≡◌, Bool, true, false, ℕ, List, length, Option, Some, None, inl, inr, refl, sym, ap, ◌∙◌, subst, arith}
 use Rattle.std.specs.Prelude.{◌⊎◌, ◌≢◌, IsNone, IsTrue}
 use Rattle.std.specs.List.{concat}
 use Rattle.std.specs.Io.KnownBytes.{Appends}
@@ -11,9 +11,9 @@ use Rattle.vault_cli.specs.Answers.{is_plain, status_of}
 use Rattle.vault_cli.specs.DecryptFile.{answer_to_end}
 use Rattle.vault_cli.specs.declared.decrypt.DecryptEnd.{DecryptEnd}
 use Rattle.vault_cli.specs.declared.decrypt.DecryptEnd.TheVariants as ends
-use Rattle.vault_cli.specs.Fsck.{ChecksVault, is_of_checking}
-use Rattle.vault_cli.specs.Repair.{RefusesOverlap, RepairsApart, RepairsVault, PrintsMoved, is_of_repairing, is_of_test, overlap}
-use Rattle.vault_cli.specs.Runs.{Executes, IsNoCommand, ListsItems, WritesFile}
+use Rattle.vault_cli.specs.Fsck.{is_of_checking}
+use Rattle.vault_cli.specs.Repair.{RefusesOverlap, RepairsApart, PrintsMoved, is_of_repairing, overlap}
+use Rattle.vault_cli.specs.Runs.{Executes}
 use Rattle.vault_cli.specs.Shown.{Shown, TakesAll, TakesSome, Follows, Reads, is_of_reading}
 use Rattle.vault_cli.specs.World.{World}
 use Rattle.vault_spec.specs.Vault.{Either}
@@ -51,7 +51,6 @@ not_begun (Some (Fsck target)) w = record {
   quiet = λ failed. cc;
   untouched = Keeps-refl w.left;
 }
-
 not_begun (Some (Repair target)) w = record { apart = either_of (overlap target.vault target.lost) refuses repairs; untouched = Keeps-refl w.left }
   where
     refuses : RefusesOverlap target.vault target.lost OutOfMemory w.told w.told w.taken w.taken
@@ -128,7 +127,6 @@ lost (Some (Fsck target)) answer before after named did = record {
   quiet = λ failed. cc;
   untouched = did.untouched;
 }
-
 lost (Some (Repair target)) answer before after named did =
     record { apart = by (overlap target.vault target.lost) did.apart; untouched = did.untouched }
   where
@@ -247,7 +245,6 @@ bad_is_none (Some (DecryptFile key)) answer before after is did = absurd (no_end
 bad_is_none (Some (Ls target)) answer before after is did = absurd (not_of_reading answer (bad_of_status answer is) did.reads.own)
 bad_is_none (Some (Cat target)) answer before after is did = absurd (not_of_reading answer (bad_of_status answer is) did.reads.own)
 bad_is_none (Some (Fsck target)) answer before after is did = absurd (not_of_checking answer (bad_of_status answer is) did.own)
-
 bad_is_none (Some (Repair target)) answer before after is did = absurd (by (overlap target.vault target.lost) did.apart)
   where
     by : (b : Bool) → Either b (RefusesOverlap target.vault target.lost answer before.told after.told before.taken after.taken) (RepairsApart target answer before.told after.told before.taken after.taken) → ⊥

@@ -1,6 +1,6 @@
 -- Why a vault isn't opened for a command, and that there is one answer.
-use Rattle.std.proofs.Common.{◌≡◌, ◌≢◌, ℕ, ◌≤◌, Bool, true, false, List, [], ◌∷◌, ◌++◌, length, Result, Ok, Err, nat_le, cond, inl, inr, refl, sym, ap, ◌∙◌, subst}
-use Rattle.std.specs.Prelude.{◌⊎◌, MatchResult, IsTrue}
+use Rattle.std.proofs.Common.{◌≡◌, ◌≢◌, ℕ, Bool, true, false, List, length, Ok, Err, nat_le, cond, inl, inr, refl, sym, ap, ◌∙◌, subst}
+use Rattle.std.specs.Prelude.{◌⊎◌, MatchResult}
 use Rattle.std.proofs.lemmas.Bool.{leb-true, le-leb}
 use Rattle.folder_spec.specs.Path.{Path}
 use Rattle.folder_spec.specs.View.{Found, NoEntry, Folder, FileOf, Special, View}
@@ -15,9 +15,9 @@ use Rattle.vault_spec.specs.Vault.{Vault, LoadRefusal, Loads, Either}
 use Rattle.vault_spec.specs.Vault as vault
 use Rattle.vault_cli.specs.Opening.{IsPhrase, Opens, passphrase_in, OfPassFile, OfVault, OfOpened, answer_to_refusal}
 use Rattle.vault_cli.specs.Refusing.{Unless, RefusesPass, RefusesOpening, of_load}
-use Rattle.vault_cli.specs.Shown.{Shown, refused, is_of_reading}
+use Rattle.vault_cli.specs.Shown.{Shown, refused}
 use Rattle.vault_cli.specs.declared.answer.Answer.{Answer}
-use Rattle.vault_cli.specs.declared.answer.Answer.TheVariants.{Done, OutOfMemory, FolderFault, Refused, WrongPass, NotFound, WrongKind, Limit}
+use Rattle.vault_cli.specs.declared.answer.Answer.TheVariants.{OutOfMemory, Refused, NotFound, WrongKind, Limit}
 use Rattle.vault_cli.specs.declared.answer.Named.TheVariants as named
 use Rattle.vault_cli.specs.declared.answer.Refusal.TheVariants as refusal
 use Rattle.vault_cli.specs.declared.answer.Limit.TheVariants as limit

@@ -1,7 +1,6 @@
 -- What `repair` did, from what its parts say.
-use Rattle.std.proofs.Common.{◌≡◌, ◌≢◌, ℕ, Bool, true, false, List, [], Option, Some, None, Result, Ok, Err, inl, inr, refl, sym, ap, ◌∙◌, subst}
+use Rattle.std.proofs.Common.{◌≡◌, ℕ, false, List, [], Option, Some, None, Err, inl, inr, refl, sym, ◌∙◌, subst}
 use Rattle.std.specs.Prelude.{◌⊎◌, IsTrue, is_some}
-use Rattle.std.specs.Io.KnownBytes.{Keeps}
 use Rattle.std.proofs.KnownBytes.{Keeps-refl}
 use Rattle.std.proofs.lemmas.Bool.{or_parts}
 use Rattle.port_model.specs.Counts.{CountRose}
@@ -23,13 +22,13 @@ use Rattle.vault_spec.specs.Vault.{Vault, Either, format_of}
 use Rattle.vault_walk.specs.Survey.{HasTooMany}
 use Rattle.vault_walk.specs.Surveyed.{IsOnlyTooDeep}
 use Rattle.vault_check.specs.Answers.{IsRepairFault}
-use Rattle.vault_check.specs.Repairing.{AreApart, AreMoved, IsRepairing, MayMoveTo, RepairsAt}
+use Rattle.vault_check.specs.Repairing.{AreApart, AreMoved, IsRepairing, RepairsAt}
 use Rattle.vault_check.specs.declared.fault.CheckFault.{CheckFault}
 use Rattle.vault_check.specs.declared.fault.CheckFault.TheVariants as check
 use Rattle.vault_cli.specs.Faults.{of_check, of_folder}
 use Rattle.vault_cli.specs.Opening.{Opens}
 use Rattle.vault_cli.specs.Refusing.{Unless, RefusesOpening}
-use Rattle.vault_cli.specs.Repair.{OfDirectory, OfMissing, OfFree, IsOfMoving, Moved, TooMany, TooDeep, OfRepairing, MovesStrays, HasMovedStrays, Prints, PrintsMoved, RefusesOverlap, RepairsApart, is_of_moving, is_of_repairing, is_of_test, overlap}
+use Rattle.vault_cli.specs.Repair.{OfDirectory, OfMissing, OfFree, IsOfMoving, TooMany, TooDeep, OfRepairing, MovesStrays, HasMovedStrays, Prints, PrintsMoved, RefusesOverlap, RepairsApart, is_of_moving, is_of_repairing, is_of_test, overlap}
 use Rattle.vault_cli.specs.Shown.{IsCutShort, is_of_opening, refused}
 use Rattle.vault_cli.specs.declared.answer.Answer.{Answer}
 use Rattle.vault_cli.specs.declared.answer.Answer.TheVariants.{Done, Findings, BadCommandLine, OutOfMemory, FolderFault, InputFault, OutputFault, Refused, WrongPass, NotFound, WrongKind, DamagedInput, Damaged, Overlap, NotEmpty, Limit}

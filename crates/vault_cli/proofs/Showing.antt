@@ -1,10 +1,8 @@
 -- How output and answer follow from what a command shows.
-use Rattle.std.proofs.Common.{◌≡◌, ◌≢◌, ℕ, zero, Bool, true, List, [], ◌∷◌, take, Option, inl, inr, refl, sym, ap, ◌∙◌, subst}
+use Rattle.std.proofs.Common.{◌≡◌, ◌≢◌, ℕ, zero, List, [], Option, inl, inr, refl, sym, ap, ◌∙◌, subst}
 use Rattle.std.specs.Prelude.{◌⊎◌, IsTrue}
-use Rattle.std.specs.List.{concat}
 use Rattle.std.specs.Io.KnownBytes.{Appends, Keeps}
 use Rattle.std.proofs.KnownBytes.{Appends-nil, Appends-kept, Keeps-refl}
-use Rattle.port_model.specs.Told.{AppendsPrefix}
 use Rattle.folder_spec.specs.Event.{Told}
 use Rattle.folder_spec.specs.View.{View}
 use Rattle.folder_spec.specs.Seen.{IsSeen}

@@ -1,5 +1,5 @@
 -- Opening a vault for a command: the passphrase in its file, and then the tests of the vault. The first test that fails is the answer.
-use Rattle.std.specs.Prelude.{◌≡◌, ◌≤◌, ℕ, Bool, true, false, ◌==◌, List, [], ◌∷◌, ◌++◌, length, nat_le, Ok, MatchResult}
+use Rattle.std.specs.Prelude.{◌≡◌, ◌≤◌, ℕ, Bool, ◌==◌, List, ◌++◌, length, nat_le, Ok, MatchResult}
 use Rattle.std.specs.List.{before_first}
 use Rattle.folder_spec.specs.Path.{Path}
 use Rattle.folder_spec.specs.View.{Found, NoEntry, Folder, FileOf, Special, View}

@@ -1,12 +1,11 @@
 -- Words of private contracts: why a vault isn't opened for a command.
-use Rattle.std.specs.Prelude.{◌≡◌, ◌⊎◌, ◌≤◌, ◌++◌, ℕ, List, length, Ok}
+use Rattle.std.specs.Prelude.{◌≡◌, ◌⊎◌, ◌++◌}
 use Rattle.folder_spec.specs.Path.{Path}
-use Rattle.folder_spec.specs.View.{Found, FileOf, View}
-use Rattle.folder_spec.specs.Seen.{under}
+use Rattle.folder_spec.specs.View.{Found, View}
 use Rattle.vault_read.specs.declared.fault.LoadFault.{LoadFault}
 use Rattle.vault_read.specs.declared.fault.LoadFault.TheVariants as load
-use Rattle.vault_spec.specs.Vault.{Vault, Loads, go_conf, vault_file}
-use Rattle.vault_cli.specs.Opening.{passphrase_in, OfPassFile, OfOpened}
+use Rattle.vault_spec.specs.Vault.{go_conf, vault_file}
+use Rattle.vault_cli.specs.Opening.{OfPassFile, OfOpened}
 use Rattle.vault_cli.specs.Shown.{refused}
 use Rattle.vault_cli.specs.declared.answer.Answer.{Answer}
 use Rattle.vault_cli.specs.declared.answer.Answer.TheVariants.{OutOfMemory, FolderFault, Refused, WrongPass, NotFound, WrongKind, Limit}

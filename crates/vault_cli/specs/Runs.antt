@@ -1,8 +1,7 @@
 -- What a run of the program makes of its words: each command is a case, with a definition of its own.
-use Rattle.std.specs.Prelude.{◌≡◌, ◌⊎◌, ℕ, List, Option, Some, None}
+use Rattle.std.specs.Prelude.{◌≡◌, ◌⊎◌, Option, Some, None}
 use Rattle.std.specs.Io.KnownBytes.{Keeps}
 use Rattle.vault_cli.specs.Cat.{ShowsContent}
-use Rattle.vault_cli.specs.Commands.{command_of}
 use Rattle.vault_cli.specs.DecryptFile.{DecryptsFile}
 use Rattle.vault_cli.specs.Fsck.{ChecksVault}
 use Rattle.vault_cli.specs.Ls.{ShowsItems}

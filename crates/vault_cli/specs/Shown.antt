@@ -7,7 +7,7 @@ use Rattle.folder_spec.specs.Event.{Told}
 use Rattle.folder_spec.specs.View.{View}
 use Rattle.folder_spec.specs.Seen.{IsSeen}
 use Rattle.vault_cli.specs.declared.answer.Answer.{Answer}
-use Rattle.vault_cli.specs.declared.answer.Answer.TheVariants.{Done, Findings, OutOfMemory, FolderFault, OutputFault, Refused, WrongPass, NotFound, WrongKind, Damaged, Limit}
+use Rattle.vault_cli.specs.declared.answer.Answer.TheVariants.{Done, OutOfMemory, FolderFault, OutputFault, Refused, WrongPass, NotFound, WrongKind, Damaged, Limit}
 
 -- the pieces of an output, in order, and the answer behind them
 pub record Shown : Type 0 where

@@ -128,11 +128,7 @@ fn gocryptfs_is_checked(rt: HostRuntime) -> Result<(), Fail> {
             1,
             "4 OrphanLongName g/gocryptfs.longname.q.name\n",
         ),
-        (
-            "gone ?;file ? short",
-            1,
-            "12 HeaderDamaged ? no header\n",
-        ),
+        ("gone ?;file ? short", 1, "12 HeaderDamaged ? no header\n"),
         (
             "gone ?;file ? \x00\x03aaaaaaaaaaaaaaaa",
             1,
@@ -198,11 +194,7 @@ fn cryptomator_is_checked(rt: HostRuntime) -> Result<(), Fail> {
             1,
             "5 DirIdTwice ^\n5 DirIdTwice =\n5 DirIdTwice *\n5 DirIdTwice #\n",
         ),
-        (
-            "empty +",
-            1,
-            "6 NoFolder *\n14 EmptyOrphan c/d/M5\n",
-        ),
+        ("empty +", 1, "6 NoFolder *\n14 EmptyOrphan c/d/M5\n"),
         (
             "gone #/dir.c9r;file #/symlink.c9r x",
             1,

@@ -31,3 +31,5 @@ mod samples;
 mod tests;
 #[cfg(test)]
 mod vault_tests;
+#[cfg(test)]
+mod whole_vault_tests;

@@ -76,7 +76,11 @@ fn repairs_are_refused(rt: HostRuntime) -> Result<(), Fail> {
             15,
             "vaultmove: folders overlap: g/lost g\n",
         ),
-        ("repair g g --pass p", 15, "vaultmove: folders overlap: g g\n"),
+        (
+            "repair g g --pass p",
+            15,
+            "vaultmove: folders overlap: g g\n",
+        ),
         (
             "repair nothing a/lost --pass nofile",
             10,
@@ -107,8 +111,25 @@ fn a_repaired_vault_has_no_strays(rt: HostRuntime) -> Result<(), Fail> {
     let mut folder = MemFolder::new(alloc)?;
     let stray = "1 BadStoredName g/.DS_Store\n";
     let (check, repair) = ("fsck g --pass p", "repair g lost --pass p");
-    says(&rt, alloc, &mut folder, check, "file g/.DS_Store x", 1, stray, "")?;
-    answers(&rt, alloc, &mut folder, repair, 0, "moved g/.DS_Store\n", "")?;
+    says(
+        &rt,
+        alloc,
+        &mut folder,
+        check,
+        "file g/.DS_Store x",
+        1,
+        stray,
+        "",
+    )?;
+    answers(
+        &rt,
+        alloc,
+        &mut folder,
+        repair,
+        0,
+        "moved g/.DS_Store\n",
+        "",
+    )?;
     assert!(rt; kind_at(alloc, &mut folder, "lost/1")? == Kind::File);
     assert!(rt; kind_at(alloc, &mut folder, "g/.DS_Store")? == Kind::Missing);
     answers(&rt, alloc, &mut folder, check, 0, "", "")

@@ -90,8 +90,8 @@ pub(crate) fn answers<F: Folder>(
     }
     let mut random = ListRandoms::new(Vec::new(alloc), Vec::new(alloc));
     let mut input = MemSource::new(Vec::new(alloc), Vec::new(alloc));
-    let mut taken = MemSink::new(alloc, 1_000, Vec::new(alloc))?;
-    let mut line = MemSink::new(alloc, 1_000, Vec::new(alloc))?;
+    let mut taken = MemSink::new(alloc, 10_000, Vec::new(alloc))?;
+    let mut line = MemSink::new(alloc, 10_000, Vec::new(alloc))?;
     let ended = run(
         alloc,
         all.as_slice(),

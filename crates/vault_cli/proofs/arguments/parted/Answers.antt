@@ -1,4 +1,4 @@
-use Rattle.std.proofs.Common.{◌≡◌, ℕ, ◌+◌, ◌-◌, List, length, map, take, drop, length-drop, sym, ap, ◌∙◌, arith, string_bytes}
+use Rattle.std.proofs.Common.{◌+◌, map, take, drop, length-drop, sym, ap, ◌∙◌, arith, string_bytes}
 use Rattle.std.proofs.lemmas.List.{take-map, drop-map, take_all}
 use Rattle.vault_cli.proofs.arguments.parted.Goals as goal
 

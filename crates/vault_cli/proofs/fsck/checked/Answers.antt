@@ -1,4 +1,4 @@
-use Rattle.std.proofs.Common.{◌≡◌, Err, sym, ap, subst}
+use Rattle.std.proofs.Common.{Err, sym, ap, subst}
 use Rattle.folder_spec.specs.Seen.{IsSeen}
 use Rattle.vault_cli.specs.Fsck.{ShowsReport}
 use Rattle.vault_cli.specs.Refusing.{Unless}

@@ -1,4 +1,4 @@
-use Rattle.std.proofs.Common.{sym, ap, arith, length}
+use Rattle.std.proofs.Common.{sym, ap, arith}
 use Rattle.std.proofs.lemmas.List.Sums.{position_or_len_is}
 use Rattle.vault_cli.specs.Opening.{is_newline}
 use Rattle.vault_cli.proofs.opening.line_end.Goals as goal

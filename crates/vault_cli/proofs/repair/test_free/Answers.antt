@@ -1,5 +1,4 @@
-use Rattle.vault_cli.proofs.Executions.{reported}
-use Rattle.std.proofs.Common.{◌≡◌, Err, sym, ◌∙◌}
+use Rattle.std.proofs.Common.{sym, ◌∙◌}
 use Rattle.std.proofs.lemmas.Result.{err_from_is_err_and}
 use Rattle.vault_cli.proofs.Repairs.{kind_failed}
 use Rattle.vault_cli.proofs.repair.test_free.Goals as goal

@@ -1,4 +1,4 @@
-use Rattle.std.proofs.Common.{◌≡◌, sym, ◌∙◌, map, string_bytes, inl, inr}
+use Rattle.std.proofs.Common.{sym, ◌∙◌, map, string_bytes, inl, inr}
 use Rattle.vault_cli.specs.Commands.{command_of}
 use Rattle.vault_cli.specs.declared.answer.Answer.TheVariants.{FolderFault, InputFault, OutputFault}
 use Rattle.vault_cli.proofs.Executions.{reported, reported_as, bad_is_none, none_is_bad, folder_of_status, input_of_status, output_of_status}

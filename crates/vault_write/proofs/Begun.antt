@@ -3,7 +3,7 @@ use Rattle.std.specs.Prelude.{Contains}
 use Rattle.std.proofs.Common.{arith, Bool, cond, nat_lt, length, ◌≡◌, zero, suc, false, ℕ, List, [], ◌∷◌, ◌++◌, Option, Some, None, refl, sym, ap, ◌∙◌, subst, IsTrue, append_assoc}
 use Rattle.folder_spec.specs.Path.{Part, Path, below, child, parent}
 use Rattle.folder_spec.specs.State.{State, present, IsSound}
-use Rattle.folder_spec.specs.Edit.{Edit, edits_under}
+use Rattle.folder_spec.specs.Edit.{Edit, edit_under, edits_under}
 use Rattle.folder_spec.specs.Event.{Told}
 use Rattle.folder_spec.specs.Region.{at_or_below}
 use Rattle.folder_spec.specs.Seen.{seen, under, ShowsFree}
@@ -51,6 +51,18 @@ folders_seen root s sound p a there =
 abbrev making_of : List Edit → List (List ℕ) → Bool → Making
 making_of some_edits some_files replaces = record { edits = some_edits; files = some_files; replaces = replaces }
 
+pub same_making : (some other : Making) → some.edits ≡ other.edits → some.files ≡ other.files → some.replaces ≡ other.replaces → some ≡ other
+same_making some other one two three =
+    ap (λ (e : List Edit). making_of e some.files some.replaces) one ∙ ap (λ (f : List (List ℕ)). making_of other.edits f some.replaces) two ∙ ap (λ (r : Bool). making_of other.edits other.files r) three
+
+-- edits below a root, with one more at last
+edits_under-append : (root : Path) (some more : List Edit) → edits_under root (some ++ more) ≡ edits_under root some ++ edits_under root more
+edits_under-append root [] more = refl
+edits_under-append root (x ∷ some) more = ap (λ es. edit_under root x ∷ es) (edits_under-append root some more)
+
+pub all_are : (root : Path) (firsts before : List Edit) (e at_last : Edit) → firsts ≡ edits_under root before → e ≡ edit_under root at_last → firsts ++ e ∷ [] ≡ edits_under root (before ++ at_last ∷ [])
+all_are root firsts before e at_last are is = ap (λ es. es ++ e ∷ []) are ∙ ap (λ x. edits_under root before ++ x ∷ []) is ∙ sym (edits_under-append root before (at_last ∷ []))
+
 -- a new directory in an opened vault, by the laws of its format
 module _ (enters : Enters) (vault : OpenedVault) (laws : KeepsVaults (format_of vault.vault)) (work : Path) (front : plain.Path) (name drawn : List ℕ) (named : IsTrue (is_name name))
     (m : Making) (new : m.replaces ≡ false) (a : Told) (sound : IsSound a.state) (at side : Path) (full : Option (List ℕ))
@@ -73,7 +85,7 @@ module _ (enters : Enters) (vault : OpenedVault) (laws : KeepsVaults (format_of 
   directory_begun = record {
     edits = edits (format_of vault.vault) (under vault.root (seen a.state)) slot.dir name NewDirectory drawn;
     making = ap (making_in (placing vault work front name NewDirectory) (under vault.root (seen a.state)) drawn) slot.entered
-        ∙ ap (λ es. making_of es (files (format_of vault.vault) slot.dir name NewDirectory drawn) false) (sym are) ∙ ap (λ fs. making_of m.edits fs false) (sym files_are) ∙ ap (making_of m.edits m.files) (sym new);
+        ∙ same_making _ m (sym are) (sym files_are) (sym new);
     are = are;
     item = λ good. record {
       alone = laws.alone.directory (under vault.root (seen a.state)) front slot.dir name ((format_of vault.vault).new_key drawn) good.orderly leads named is_key free;

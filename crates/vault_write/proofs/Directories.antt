@@ -92,7 +92,7 @@ name_place seen_law staged contents key_name key t u apart whole v is_seen =
     not_same true never = absurd (never refl)
     not_same false never = refl
 
-whole_staged : (files : List (List ℕ)) (staged : Path) (made : View) (t u : Option Told) → ((a : Told) → u ≡ Some a → IsSound a.state) → HasStaged files staged made t u → FromTo (IsStagedWhole files staged made) t u
+pub whole_staged : (files : List (List ℕ)) (staged : Path) (made : View) (t u : Option Told) → ((a : Told) → u ≡ Some a → IsSound a.state) → HasStaged files staged made t u → FromTo (IsStagedWhole files staged made) t u
 whole_staged files staged made t u sound whole =
     from_to_more (λ a b. (StagingAt files staged a b × IsStagedView b.state (present b.state) staged made) × IsSound b.state) (IsStagedWhole files staged made) t u (λ a b is k. (k.0.0, k.0.1, k.1))
     (sound_after (λ a b. StagingAt files staged a b × IsStagedView b.state (present b.state) staged made) t u sound

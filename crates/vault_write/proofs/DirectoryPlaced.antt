@@ -3,7 +3,7 @@ use Rattle.std.specs.Option.{option_or}
 use Rattle.std.specs.List.{list_all}
 use Rattle.std.proofs.lemmas.Bool.{le-leb, eqb-true}
 use Rattle.std.proofs.lemmas.Bool.Decides.{leb_tells, eqb_tells}
-use Rattle.std.proofs.Common.{arith, true, false, Bool, ◌&&◌, nat_lt, nat_le, nat_eq, ◌≡◌, ◌⊎◌, ◌<◌, ℕ, ◌≤◌, zero, suc, List, [], ◌∷◌, ◌++◌, length, replicate, cond, Option, Some, None, Result, Ok, Err, refl, sym, ap, ◌∙◌, inl, inr, subst, IsTrue}
+use Rattle.std.proofs.Common.{arith, true, false, Bool, nat_lt, nat_le, nat_eq, ◌≡◌, ◌⊎◌, ◌<◌, ℕ, ◌≤◌, zero, suc, List, [], ◌∷◌, ◌++◌, length, replicate, cond, Option, Some, None, Result, Ok, Err, refl, sym, ap, ◌∙◌, inl, inr, subst, IsTrue}
 use Rattle.chunk_files.specs.Keys as contents
 use Rattle.chunk_files.specs.Zeros.{is_all_zero}
 use Rattle.content_writing.specs.Content.{Whole}
@@ -45,6 +45,7 @@ use Rattle.vault_write.proofs.CmBegun.{cm_begun, cm_places, shelf_above}
 use Rattle.vault_write.proofs.Found.{Enters, taken_there}
 use Rattle.vault_write.proofs.GoBegun.{go_begun, go_places}
 use Rattle.vault_write.proofs.NewVaults.{is_key}
+use Rattle.vault_write.proofs.Stages.{left_true, right_true}
 use Rattle.vault_write.proofs.ItemMade.{IsBegun, RootsShow, one_ok, one_failed, one_refused}
 
 abbrev Stream : Type 0
@@ -97,14 +98,6 @@ go_may enters folders root (Cryptomator cm) is laws work front name named t may 
 
 pub drew_key : (s s' : Stream) (key : List ℕ) → DrawsSome s s' (Ok key) → directory_key key ≡ Some key
 drew_key s s' key h = subst (λ x. directory_key x ≡ Some x) (sym h.drew.0) (is_key h.bytes h.sizes h.drew.2)
-
-left_true : (a b : Bool) → (a && b) ≡ true → a ≡ true
-left_true true b e = refl
-left_true false b e = cc
-
-right_true : (a b : Bool) → (a && b) ≡ true → b ≡ true
-right_true true b e = e
-right_true false b e = cc
 
 zeros_are : (n : ℕ) (bytes : List ℕ) → length bytes ≡ n → is_all_zero bytes ≡ true → bytes ≡ replicate n 0
 zeros_are zero [] size e = refl

@@ -1,16 +1,13 @@
 -- A file is begun: what its edits are, and that they make it where its content comes whole.
-use Rattle.std.specs.Prelude.{Contains}
 use Rattle.std.specs.Option.{option_or}
-use Rattle.std.proofs.Common.{arith, true, false, Bool, ◌≡◌, ◌≢◌, ◌⊎◌, ℕ, List, [], ◌∷◌, ◌++◌, Option, Some, None, Ok, Err, refl, sym, ap, ◌∙◌, inl, inr, subst, cond, bytes_eq, IsTrue}
-use Rattle.std.specs.List.{concat}
+use Rattle.std.proofs.Common.{true, false, Bool, ◌≡◌, ℕ, List, [], ◌∷◌, ◌++◌, Option, Some, None, Err, refl, sym, ap, ◌∙◌, inl, inr, subst, cond, bytes_eq, IsTrue}
 use Rattle.chunk_files.specs.Encrypt.{IsEncrypted, encrypt}
 use Rattle.chunk_files.specs.FileOf.{FilesAreWhatTheyGive, EncryptedFilesAreFiles, Gives}
 use Rattle.chunk_files.specs.Keys.{Keys}
-use Rattle.chunk_files.specs.Reading as reading
 use Rattle.chunk_files.specs.Contents.{readable}
 use Rattle.folder_spec.specs.Path.{Path, below, child}
 use Rattle.folder_spec.specs.State.{IsSound}
-use Rattle.folder_spec.specs.Edit.{Edit, edit_under, edits_under, file_edit, file_view}
+use Rattle.folder_spec.specs.Edit.{Edit, edit_under, edits_under, file_edit}
 use Rattle.folder_spec.specs.Event.{Told}
 use Rattle.folder_spec.specs.Seen.{seen, IsSeen, under}
 use Rattle.folder_spec.specs.View.{Found, NoEntry, Folder, FileOf, Special, View}
@@ -24,19 +21,15 @@ use Rattle.vault_spec.specs.Adding.{ComesAlone, StaysClean}
 use Rattle.vault_spec.specs.Staying.{StaysVault}
 use Rattle.vault_spec.specs.Alike.{IsOrderly}
 use Rattle.vault_spec.specs.Anywhere.{ComesAtLast}
-use Rattle.vault_spec.specs.Cryptomator.{CmVault, cm_format, new_file_edit, taken_entry}
-use Rattle.vault_spec.specs.Find.{enter}
-use Rattle.vault_spec.specs.Format as format
+use Rattle.vault_spec.specs.Cryptomator.{CmVault, cm_format, new_file_edit}
 use Rattle.vault_spec.specs.Format.{taken_at}
-use Rattle.vault_spec.specs.Gocryptfs.{full_name, go_format, full_edits, full_edits_at, taken_unless, go_taken}
-use Rattle.vault_spec.specs.Making.{NewItem, NewDirectory, NewFile, edits, files, full_texts, taken}
+use Rattle.vault_spec.specs.Gocryptfs.{full_name, go_format, full_edits, taken_unless, go_taken}
+use Rattle.vault_spec.specs.Making.{NewFile, full_texts}
 use Rattle.vault_spec.specs.Opens.{Opened, Content, opened_by, opened_file}
 use Rattle.vault_spec.specs.Reached.{Leads}
 use Rattle.vault_spec.specs.Standing.{entry_at}
 use Rattle.vault_spec.specs.Vault.{Vault, Gocryptfs, Cryptomator, format_of}
-use Rattle.content_writing.specs.Content.{Ending}
 use Rattle.content_writing.specs.declared.fault.PutFault.{PutFault}
-use Rattle.content_writing.specs.declared.fault.PutFault.TheVariants as puts
 use Rattle.vault_write.specs.Editing.{GoPlaces, MayCome, side_edits}
 use Rattle.vault_write.specs.Filing.{entry_edit}
 use Rattle.vault_write.specs.Making.{Placing, Making, format, making_in, new_item, path_of}
@@ -45,9 +38,9 @@ use Rattle.vault_write.specs.Refusing.{Answers, HasTaken}
 use Rattle.vault_write.specs.Showing.{MakesAlone}
 use Rattle.vault_write.specs.Slots.{IsSlot, IsSideTaken, RefusesItem, placing, wants_text}
 use Rattle.vault_write.specs.Trees.{opens_as}
-use Rattle.vault_write.proofs.Begun.{FoldersStand, entry_comes, folders_seen}
+use Rattle.vault_write.proofs.Begun.{FoldersStand, all_are, entry_comes, folders_seen, same_making}
 use Rattle.vault_write.proofs.Found.{Enters}
-use Rattle.vault_write.proofs.GoBegun.{go_places}
+use Rattle.vault_write.proofs.GoBegun.{go_places, sides_are, untaken}
 use Rattle.vault_write.proofs.ItemMade.{IsBegun}
 
 -- these edits, the item itself by the last one
@@ -67,13 +60,6 @@ pub record IsFiled (p : Placing) (opens : Opened) (drawn : List ℕ) (firsts : L
   pub taken : HasTaken p drawn (under p.vault.root (seen a.state)) None
   pub apart : below p.work p.vault.root ≡ None
   pub beside : below p.vault.root p.work ≡ None
-
-edits_under-append : (root : Path) (some more : List Edit) → edits_under root (some ++ more) ≡ edits_under root some ++ edits_under root more
-edits_under-append root [] more = refl
-edits_under-append root (x ∷ some) more = ap (λ es. edit_under root x ∷ es) (edits_under-append root some more)
-
-pub all_are : (root : Path) (firsts before : List Edit) (e at_last : Edit) → firsts ≡ edits_under root before → e ≡ edit_under root at_last → firsts ++ e ∷ [] ≡ edits_under root (before ++ at_last ∷ [])
-all_are root firsts before e at_last are is = ap (λ es. es ++ e ∷ []) are ∙ ap (λ x. edits_under root before ++ x ∷ []) is ∙ sym (edits_under-append root before (at_last ∷ []))
 
 -- where it opens as the item, the item is begun
 pub is_begun : (p : Placing) (opens : Opened) (drawn : List ℕ) (firsts : List Edit) (e : Edit) (some_files : List (List ℕ)) (a : Told) → opens ≡ opens_as p.item → IsFiled p opens drawn firsts e some_files a
@@ -96,13 +82,6 @@ pub opens_whole : FilesAreWhatTheyGive → EncryptedFilesAreFiles → (keys : Ke
 opens_whole gives are keys drawn content encrypted =
     let k : Gives keys (encrypt keys drawn content) content = (gives keys (encrypt keys drawn content) content).0 (are keys drawn content (encrypt keys drawn content) encrypted) in
     ap (λ e. opened_by (readable keys (encrypt keys drawn content)).chunks e) k.whole ∙ ap Content (sym k.joined)
-
-abbrev making_of : List Edit → List (List ℕ) → Bool → Making
-making_of some_edits some_files replaces = record { edits = some_edits; files = some_files; replaces = replaces }
-
-same_making : (some other : Making) → some.edits ≡ other.edits → some.files ≡ other.files → some.replaces ≡ other.replaces → some ≡ other
-same_making some other one two three =
-    ap (λ (e : List Edit). making_of e some.files some.replaces) one ∙ ap (λ (f : List (List ℕ)). making_of other.edits f some.replaces) two ∙ ap (λ (r : Bool). making_of other.edits other.files r) three
 
 -- ---- in an opened vault, by the laws of its format
 
@@ -145,25 +124,6 @@ module _ (enters : Enters) (vault : OpenedVault) (laws : KeepsVaults (format_of 
 
 -- ---- in gocryptfs
 
-sides_are : (root side : Path) (full : Option (List ℕ)) (there : Found) → side_edits (wants_text there full) (root ++ side) full ≡ edits_under root (full_edits_at side there full)
-sides_are root side None there = refl
-sides_are root side (Some text) NoEntry = refl
-sides_are root side (Some text) (FileOf there) = refl
-sides_are root side (Some text) Folder = refl
-sides_are root side (Some text) Special = refl
-
--- nothing stands there, or the text
-free_so : (place : Path) (there : Found) (o : Option (List ℕ)) (other : Path) → taken_unless place there o ≡ None → taken_unless other there o ≡ None
-free_so place there None other none = refl
-free_so place NoEntry (Some text) other none = refl
-free_so place (FileOf bytes) (Some text) other none = by_text (bytes_eq bytes text) none
-  where
-    by_text : (b : Bool) → cond b None (Some place) ≡ None → cond b None (Some other) ≡ None
-    by_text true e = refl
-    by_text false e = cc
-free_so place Folder (Some text) other none = cc
-free_so place Special (Some text) other none = cc
-
 -- something else stands there
 taken_so : (place : Path) (there : Found) (o : Option (List ℕ)) (other : Path) → taken_unless place there o ≡ Some place → taken_unless other there o ≡ Some other
 taken_so place there None other none = cc
@@ -189,7 +149,7 @@ module _ (keys : GoKeys) (root : Path) (front : plain.Path) (name : List ℕ) (v
   taken_is = ap (λ x. option_or (taken_at (entry_at (go_format keys) slot.dir name) x) (taken_unless side_at (under root v side_at) ((go_format keys).stored slot.dir.key name).full)) slot.free
 
   pub go_free : taken_unless side (v side) full ≡ None → go_taken (under root v) slot.dir ((go_format keys).stored slot.dir.key name) ≡ None
-  go_free none = taken_is ∙ free_so side (under root v side_at) ((go_format keys).stored slot.dir.key name).full side_at (sym (beside_is (taken_unless side)) ∙ none)
+  go_free none = taken_is ∙ untaken side (under root v side_at) ((go_format keys).stored slot.dir.key name).full side_at (sym (beside_is (taken_unless side)) ∙ none)
 
   pub go_side : taken_unless side (v side) full ≡ Some side → go_taken (under root v) slot.dir ((go_format keys).stored slot.dir.key name) ≡ Some side_at
   go_side is = taken_is ∙ taken_so side (under root v side_at) ((go_format keys).stored slot.dir.key name).full side_at (sym (beside_is (taken_unless side)) ∙ is)

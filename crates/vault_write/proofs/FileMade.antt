@@ -1,6 +1,6 @@
 -- What a call promises that made a file's edits, or some of them.
 use Rattle.std.specs.Prelude.{Contains}
-use Rattle.std.proofs.Common.{arith, true, false, Bool, ◌≡◌, ◌≢◌, ◌⊎◌, ℕ, ◌≤◌, zero, suc, List, [], ◌∷◌, ◌++◌, length, Option, Some, None, Result, Ok, Err, OnOk, refl, sym, ap, ◌∙◌, inl, inr, subst, append-nil, append_assoc, IsTrue}
+use Rattle.std.proofs.Common.{arith, false, Bool, ◌≡◌, ℕ, ◌≤◌, List, [], ◌∷◌, ◌++◌, length, Option, Some, None, Result, Ok, Err, OnOk, refl, sym, ap, ◌∙◌, inl, inr, subst, append-nil, IsTrue}
 use Rattle.std.proofs.lemmas.List.Elements.{Contains-append_left, Contains-append_right}
 use Rattle.std.proofs.Math.Path.{fun_ext}
 use Rattle.chunk_files.specs.Encrypt.{draws, encrypt}
@@ -13,9 +13,8 @@ use Rattle.folder_spec.specs.declared.FolderFault.TheVariants as folder
 use Rattle.folder_spec.specs.Path.{Path, below}
 use Rattle.folder_spec.specs.State.{State, IsSound}
 use Rattle.folder_spec.specs.Edit.{Edit, edited, edits_under, view_after, PublishesIn}
-use Rattle.folder_spec.specs.Event.{Call, MakeDir, Create, Append, Sync, Settle, Rename, RemoveFile, RemoveDir, Event, Told, FromTo}
+use Rattle.folder_spec.specs.Event.{Call, MakeDir, Create, Append, Sync, Settle, Rename, RemoveFile, RemoveDir, Told, FromTo}
 use Rattle.folder_spec.specs.Moments.{Went}
-use Rattle.folder_spec.specs.Region.{at_or_below}
 use Rattle.folder_spec.specs.Seen.{seen, IsSeen, under}
 use Rattle.folder_spec.specs.View.{Found, View}
 use Rattle.folder_spec.proofs.Moments.{went_more, went_to}
@@ -38,18 +37,18 @@ use Rattle.content_writing.specs.Content.{Coming, Ending, IsReady, still_coming}
 use Rattle.content_writing.specs.Faults.{of_folder}
 use Rattle.content_writing.specs.declared.fault.PutFault.{PutFault}
 use Rattle.content_writing.specs.declared.fault.PutFault.TheVariants as puts
-use Rattle.vault_write.specs.Calls.{AnswersRoot, How, MakesFile, MakesOne, New, ReadsElsewhere, TakesContent, Writing}
+use Rattle.vault_write.specs.Calls.{AnswersRoot, How, MakesFile, MakesOne, New, ReadsElsewhere, Writing}
 use Rattle.vault_write.specs.Editing.{AddsEdits, Edits, HasBegun, HasEdited, HasFinished, IsEditing, MayCome, SeesSome, side_edits}
-use Rattle.vault_write.specs.Filing.{DoesLast, IsWhole, OnlyStages, PlacesEntry, PlacesBy, PlacesFile, StopsBy, entry_edit, entry_files, file_of}
+use Rattle.vault_write.specs.Filing.{DoesLast, IsWhole, OnlyStages, PlacesEntry, PlacesBy, PlacesFile, StopsBy, entry_edit, entry_files}
 use Rattle.vault_write.specs.Making.{Placing, Making, format, path_of, new_item, is_unstaged, StagesOrPlaces}
 use Rattle.vault_write.specs.Placing.{IsMaking, MayMake, making_at, EndsAs}
 use Rattle.vault_write.specs.Refusing.{Answers, HasTaken}
 use Rattle.vault_write.specs.Showing.{EditsShowTrees, EditsBeforeTheLastKeepTrees, SettledEditsShowTrees}
 use Rattle.vault_write.specs.Slots.{RefusesItem, placing, wants_text}
 use Rattle.vault_write.proofs.Adding.{adds_none}
-use Rattle.vault_write.proofs.Begun.{FoldersStand, all_below}
+use Rattle.vault_write.proofs.Begun.{FoldersStand, all_are, all_below}
 use Rattle.vault_write.proofs.Edited.{begun}
-use Rattle.vault_write.proofs.FileBegun.{IsFiled, SlotAt, all_are, file_making, file_places, filed_in_cm, filed_in_go, is_begun, opens_whole}
+use Rattle.vault_write.proofs.FileBegun.{IsFiled, SlotAt, file_making, file_places, filed_in_cm, filed_in_go, is_begun, opens_whole}
 use Rattle.vault_write.proofs.Filing.{IsStill, edits_still, placed_still, ready_still, still_same, stops_folder, takes_none, untaken}
 use Rattle.vault_write.proofs.Found.{Enters}
 use Rattle.vault_write.proofs.ItemMade.{IsBegun, IsSplit, RootsShow, at_itself, one_failed, one_ok, one_refused, split}

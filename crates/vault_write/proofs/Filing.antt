@@ -1,9 +1,9 @@
 -- The entry of a content is staged whole, renamed, and settled.
 use Rattle.std.specs.Prelude.{Contains, IsErrAnd}
 use Rattle.std.specs.Result.{IsErr}
-use Rattle.std.proofs.Common.{arith, true, false, Bool, not, zero, suc, ◌<◌, ◌≡◌, ◌≢◌, ◌⊎◌, ℕ, ◌≤◌, List, [], ◌∷◌, ◌++◌, length, Option, Some, None, Result, Ok, Err, OnOk, refl, sym, ap, ◌∙◌, inl, inr, subst, append-nil, append_assoc, IsTrue, codes}
+use Rattle.std.proofs.Common.{arith, true, false, not, zero, suc, ◌≡◌, ◌≢◌, ℕ, ◌≤◌, List, [], ◌∷◌, ◌++◌, length, Option, Some, None, Result, Ok, Err, OnOk, refl, sym, ap, ◌∙◌, inl, inr, subst, append-nil, append_assoc, IsTrue, codes}
 use Rattle.std.proofs.lemmas.List.Elements.{Contains-append_left, Contains-append_right}
-use Rattle.chunk_files.specs.Encrypt.{draws, encrypt}
+use Rattle.chunk_files.specs.Encrypt.{encrypt}
 use Rattle.chunk_files.specs.Keys as contents
 use Rattle.chunk_files.specs.Keys.{Keys}
 use Rattle.chunk_files.specs.declared.keys.Layout.{Layout}
@@ -12,8 +12,8 @@ use Rattle.port_model.specs.Draws.{ByteStream, Draws}
 use Rattle.folder_spec.specs.declared.FolderFault.{FolderFault}
 use Rattle.folder_spec.specs.declared.FolderFault.TheVariants as folder
 use Rattle.folder_spec.specs.Path.{Part, Path, below, child}
-use Rattle.folder_spec.specs.State.{State, present, IsSound}
-use Rattle.folder_spec.specs.Edit.{Edit, edited, file_view, folder_view, view_after, IsStagedView}
+use Rattle.folder_spec.specs.State.{present, IsSound}
+use Rattle.folder_spec.specs.Edit.{Edit, edited, file_view, view_after, IsStagedView}
 use Rattle.folder_spec.specs.Event.{Allowed, Settle, Rename, Told, Changes, FromTo}
 use Rattle.folder_spec.specs.Region.{apart_from, at_or_below}
 use Rattle.folder_spec.specs.Replace.{IsNewFile}
@@ -24,22 +24,22 @@ use Rattle.folder_spec.proofs.Paths.{begins_or_not, not_below}
 use Rattle.folder_spec.proofs.Moments.{went_to}
 use Rattle.folder_spec.proofs.Replaces.{apart-from_below}
 use Rattle.folder_spec.proofs.Stages.{Staging}
-use Rattle.folder_spec.proofs.Tellings.{from_to_more, from_to_both}
+use Rattle.folder_spec.proofs.Tellings.{from_to_more}
 use Rattle.folder_staging.specs.Folders.{BeginsFolder, IsStagingFolder, StagesFolder, HasStaged, IsStagedFolder}
 use Rattle.folder_staging.specs.Pieces.{Stages}
 use Rattle.work_folder.specs.Entries.{stage_path}
 use Rattle.vault_spec.specs.Cryptomator.{content_file, full_file}
-use Rattle.content_writing.specs.Content.{Coming, Ending, Whole, Gave, HasEnded, IsReady, IsTold, ends, still_coming}
+use Rattle.content_writing.specs.Content.{Coming, Whole, Gave, IsReady, IsTold, ends, still_coming}
 use Rattle.content_writing.specs.Faults.{of_folder}
 use Rattle.content_writing.specs.Writing.{EndsBy, ReadsApart, WereAccepted, WritesContent}
 use Rattle.content_writing.specs.declared.fault.PutFault.{PutFault}
 use Rattle.content_writing.specs.declared.fault.PutFault.TheVariants as puts
 use Rattle.vault_write.specs.Calls.{ReadsElsewhere, TakesContent, Writing}
-use Rattle.vault_write.specs.Editing.{AddsEdits, AddsName, Edits, HasEdited, HasFinished, MayCome}
-use Rattle.vault_write.specs.Filing.{DoesLast, IsWhole, OnlyStages, PlacesEntry, PublishesEntry, StagesBy, StagesEntry, StopsBy, entry_edit, entry_files, entry_view, file_of}
+use Rattle.vault_write.specs.Editing.{AddsEdits, AddsName, HasEdited, MayCome}
+use Rattle.vault_write.specs.Filing.{DoesLast, IsWhole, OnlyStages, PlacesEntry, PublishesEntry, StagesEntry, StopsBy, entry_edit, entry_files, entry_view, file_of}
 use Rattle.vault_write.specs.Making.{Making, is_inside, is_unstaged}
-use Rattle.vault_write.proofs.Adding.{adds_nothing, adds_renamed, adds_staging, file_staged, file_staging, finishes, IsStagedWhole, renames_allowed, sound_after, staged_below}
-use Rattle.vault_write.proofs.Directories.{Are, AreSeen, Gain, gains, name_place}
+use Rattle.vault_write.proofs.Adding.{adds_nothing, adds_renamed, adds_staging, file_staged, file_staging, finishes, IsStagedWhole, renames_allowed, staged_below}
+use Rattle.vault_write.proofs.Directories.{Are, AreSeen, Gain, gains, name_place, whole_staged}
 use Rattle.vault_write.proofs.Edited.{StagingAt}
 use Rattle.vault_write.proofs.Runs.{seen_as_before}
 use Rattle.vault_write.proofs.Stages.{at_root}
@@ -291,17 +291,11 @@ module _ (are : Are) (gain : Gain) (keys : Keys) (text : List ℕ) (staged file 
 
 -- ---- and put in its place
 
-pub entry_whole : (files : List (List ℕ)) (staged : Path) (made : View) (t u : Option Told) → ((a : Told) → u ≡ Some a → IsSound a.state) → HasStaged files staged made t u → FromTo (IsStagedWhole files staged made) t u
-entry_whole files staged made t u sound whole =
-    from_to_more (λ a b. (StagingAt files staged a b × IsStagedView b.state (present b.state) staged made) × IsSound b.state) (IsStagedWhole files staged made) t u (λ a b is k. (k.0.0, k.0.1, k.1))
-    (sound_after (λ a b. StagingAt files staged a b × IsStagedView b.state (present b.state) staged made) t u sound
-    (from_to_both (StagingAt files staged) (λ a b. IsStagedView b.state (present b.state) staged made) t u whole.stages whole.whole))
-
 module _ (work : Path) (x : Part) (staged at : Path) (made : View) (files : List (List ℕ)) (t u : Option Told) (is : staged ≡ child (stage_path work) x)
     (sound : (a : Told) → u ≡ Some a → IsSound a.state) (free : (v : View) → IsSeen t v → ShowsFree v at) (whole : HasStaged files staged made t u) where
   renamed_adds : (v : Option Told) (result : Result (Unit {0}) FolderFault) → Changes (Rename staged at) u v result → AddsEdits work (record { at = at; made = made } ∷ []) files t v result
   renamed_adds v result changes = adds_renamed work x (record { at = at; made = made }) files t u v result
-      (subst (λ p. FromTo (IsStagedWhole files p made) t u) is (entry_whole files staged made t u sound whole)) free (subst (λ p. Changes (Rename p at) u v result) is changes)
+      (subst (λ p. FromTo (IsStagedWhole files p made) t u) is (whole_staged files staged made t u sound whole)) free (subst (λ p. Changes (Rename p at) u v result) is changes)
 
   pub rename_failed : (v : Option Told) (fault : FolderFault) → Changes (Rename staged at) u v (Err fault) → DoesLast work (record { at = at; made = made }) files t v (Err fault)
   rename_failed v fault changes root m done before within h = (((renamed_adds v (Err fault) changes) root m done [] before within h).0, tt)
@@ -336,7 +330,7 @@ pub entry_allowed : (work : Path) (x : Part) (staged at : Path) (inside : Option
 entry_allowed work x staged at inside bytes files t u is sound sound_now may whole b there =
     subst (λ p. Allowed b.state (Rename p at)) (sym is)
     (renames_allowed work at x files (entry_view inside bytes) t u sound may (something inside bytes)
-    (subst (λ p. FromTo (IsStagedWhole files p (entry_view inside bytes)) t u) is (entry_whole files staged (entry_view inside bytes) t u sound_now whole)) b there)
+    (subst (λ p. FromTo (IsStagedWhole files p (entry_view inside bytes)) t u) is (whole_staged files staged (entry_view inside bytes) t u sound_now whole)) b there)
 
 -- nothing was staged
 pub entry_none : (keys : Keys) (work at : Path) (inside : Option (List ℕ)) (coming : Option Coming) (stream : Option ByteStream) (t : Option Told) (fault : PutFault) → StopsBy keys (untaken coming) fault

@@ -22,35 +22,34 @@ use Rattle.vault_spec.specs.Vault.{Gocryptfs}
 use Rattle.vault_write.specs.Editing.{side_edits, go_making, GoPlaces}
 use Rattle.vault_write.specs.Slots.{IsSlot, wants_text, placing}
 use Rattle.vault_write.proofs.Found.{Enters}
-use Rattle.vault_write.proofs.Begun.{FoldersStand, directory_begun, may_come_in, entry_comes}
+use Rattle.vault_write.proofs.Begun.{FoldersStand, all_are, directory_begun, may_come_in, entry_comes}
 use Rattle.vault_write.proofs.ItemMade.{IsBegun}
 
--- the edits, by what is stored of the name and by what stands at its long-name file
-edits_are : (root side at : Path) (full : Option (List ℕ)) (there : Found) (entries : List (Part × List ℕ))
-    → edits_under root (full_edits_at side there full ++ folder_edit at entries ∷ []) ≡ side_edits (wants_text there full) (root ++ side) full ++ folder_edit (root ++ at) entries ∷ []
-edits_are root side at None there entries = refl
-edits_are root side at (Some text) NoEntry entries = refl
-edits_are root side at (Some text) (FileOf bytes) entries = refl
-edits_are root side at (Some text) Folder entries = refl
-edits_are root side at (Some text) Special entries = refl
+-- the edits of a long name, by what is stored of it and by what stands at its file
+pub sides_are : (root side : Path) (full : Option (List ℕ)) (there : Found) → side_edits (wants_text there full) (root ++ side) full ≡ edits_under root (full_edits_at side there full)
+sides_are root side None there = refl
+sides_are root side (Some text) NoEntry = refl
+sides_are root side (Some text) (FileOf bytes) = refl
+sides_are root side (Some text) Folder = refl
+sides_are root side (Some text) Special = refl
+
+-- nothing stands there, or the text
+pub untaken : (place : Path) (there : Found) (o : Option (List ℕ)) (other : Path) → taken_unless place there o ≡ None → taken_unless other there o ≡ None
+untaken place there None other none = refl
+untaken place NoEntry (Some text) other none = refl
+untaken place (FileOf bytes) (Some text) other none = by_text (bytes_eq bytes text) none
+  where
+    by_text : (b : Bool) → cond b None (Some place) ≡ None → cond b None (Some other) ≡ None
+    by_text true e = refl
+    by_text false e = cc
+untaken place Folder (Some text) other none = cc
+untaken place Special (Some text) other none = cc
 
 module _ (enters : Enters) (keys : GoKeys) (laws : KeepsVaults (go_format keys)) (root work : Path) (front : plain.Path) (name key : List ℕ) (named : IsTrue (is_name name)) (is_key : directory_key key ≡ Some key) (sixteen : length key ≡ 16)
     (a : Told) (at side : Path) (full : Option (List ℕ)) (wants : Bool) (sound : IsSound a.state)
     (slot : IsSlot (record { root = root; vault = Gocryptfs keys }) (go_format keys) front name (under root (seen a.state)) at side full)
     (wants_is : wants ≡ wants_text (seen a.state side) full) (side_free : taken_unless side (seen a.state side) full ≡ None)
     (apart : below work root ≡ None) (beside : below root work ≡ None) where
-  -- nothing stands there, or the text
-  untaken : (place : Path) (there : Found) (o : Option (List ℕ)) (other : Path) → taken_unless place there o ≡ None → taken_unless other there o ≡ None
-  untaken place there None other none = refl
-  untaken place NoEntry (Some text) other none = refl
-  untaken place (FileOf bytes) (Some text) other none = by_text (bytes_eq bytes text) none
-    where
-      by_text : (b : Bool) → cond b None (Some place) ≡ None → cond b None (Some other) ≡ None
-      by_text true e = refl
-      by_text false e = cc
-  untaken place Folder (Some text) other none = cc
-  untaken place Special (Some text) other none = cc
-
   free : go_taken (under root (seen a.state)) slot.dir ((go_format keys).stored slot.dir.key name) ≡ None
   free =
       ap (λ x. option_or (taken_at (entry_at (go_format keys) slot.dir name) x) (taken_unless (child slot.dir.folder (full_name ((go_format keys).stored slot.dir.key name).name))
@@ -68,8 +67,10 @@ module _ (enters : Enters) (keys : GoKeys) (laws : KeepsVaults (go_format keys))
       (root ++ child slot.dir.folder (full_name ((go_format keys).stored slot.dir.key name).name)) o ++ folder_edit at ((key_file, key) ∷ []) ∷ []) slot.full_is
       ∙ ap (λ q. side_edits (wants_text (seen a.state (root ++ child slot.dir.folder (full_name ((go_format keys).stored slot.dir.key name).name))) ((go_format keys).stored slot.dir.key name).full)
       (root ++ child slot.dir.folder (full_name ((go_format keys).stored slot.dir.key name).name)) ((go_format keys).stored slot.dir.key name).full ++ folder_edit q ((key_file, key) ∷ []) ∷ []) slot.at_is
-      ∙ sym (edits_are root (child slot.dir.folder (full_name ((go_format keys).stored slot.dir.key name).name)) (entry_at (go_format keys) slot.dir name) ((go_format keys).stored slot.dir.key name).full
-      (seen a.state (root ++ child slot.dir.folder (full_name ((go_format keys).stored slot.dir.key name).name))) ((key_file, key) ∷ []))
+      ∙ all_are root (side_edits (wants_text (seen a.state (root ++ (child slot.dir.folder (full_name ((go_format keys).stored slot.dir.key name).name)))) ((go_format keys).stored slot.dir.key name).full) (root ++ (child slot.dir.folder (full_name ((go_format keys).stored slot.dir.key name).name))) ((go_format keys).stored slot.dir.key name).full)
+      (full_edits_at (child slot.dir.folder (full_name ((go_format keys).stored slot.dir.key name).name)) (seen a.state (root ++ (child slot.dir.folder (full_name ((go_format keys).stored slot.dir.key name).name)))) ((go_format keys).stored slot.dir.key name).full)
+      (folder_edit (root ++ entry_at (go_format keys) slot.dir name) ((key_file, key) ∷ [])) (folder_edit (entry_at (go_format keys) slot.dir name) ((key_file, key) ∷ []))
+      (sides_are root (child slot.dir.folder (full_name ((go_format keys).stored slot.dir.key name).name)) ((go_format keys).stored slot.dir.key name).full (seen a.state (root ++ (child slot.dir.folder (full_name ((go_format keys).stored slot.dir.key name).name))))) refl
 
   pub go_begun : IsBegun (placing (record { root = root; vault = Gocryptfs keys }) work front name NewDirectory) key (go_making wants side at full key) a
   go_begun = directory_begun enters (record { root = root; vault = Gocryptfs keys }) laws work front name key named (go_making wants side at full key) refl a sound at side full slot apart beside

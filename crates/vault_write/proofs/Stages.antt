@@ -24,11 +24,11 @@ unstaged_below work x q unstaged = elim (begins_or_not (child (stage_path work) 
 pub unstaged_apart : (work : Path) (x : Part) (q : Path) → IsTrue (is_unstaged work q) → IsTrue (apart_from (child (stage_path work) x) q)
 unstaged_apart work x q unstaged = apart-from_below (child (stage_path work) x) q (unstaged_below work x q unstaged)
 
-left_true : (a b : Bool) → IsTrue (a && b) → IsTrue a
+pub left_true : (a b : Bool) → IsTrue (a && b) → IsTrue a
 left_true true b is = refl
 left_true false b is = cc
 
-right_true : (a b : Bool) → IsTrue (a && b) → IsTrue b
+pub right_true : (a b : Bool) → IsTrue (a && b) → IsTrue b
 right_true true b is = is
 right_true false b is = cc
 

@@ -18,7 +18,7 @@ use Rattle.vault_write.specs.Making.{Placing, format, path_of, is_staged, is_uns
 use Rattle.vault_write.specs.Placing.{HasVault, ShowsOne, ShowsOldOrNewTree, ShowsNewTree}
 use Rattle.vault_spec.specs.Staying.{LoadsAlike, StaysVault}
 use Rattle.vault_write.specs.Showing.{MakeItem, MakeItemAt, MakesAlone}
-use Rattle.vault_write.specs.Trees.{ShowsVault, KeepsVault, KeepsTree, GainsItem, opens_as}
+use Rattle.vault_write.specs.Trees.{KeepsTree, GainsItem, opens_as}
 
 -- edits below a root are edits of what it shows
 abbrev pub RootsShowEdits : Type 0

@@ -1,5 +1,5 @@
 -- The calls that make an item at a plain path: under which bytes drawn, of which content, and all that follows of these.
-use Rattle.std.specs.Prelude.{◌≡◌, ◌≢◌, ◌≤◌, ℕ, List, [], ◌∷◌, ◌++◌, length, Option, Some, None, Result, Ok, Err, OnOk}
+use Rattle.std.specs.Prelude.{◌≡◌, ◌≢◌, ◌≤◌, ℕ, List, [], ◌∷◌, ◌++◌, length, Option, Some, None, Result, Err, OnOk}
 use Rattle.chunk_files.specs.Keys.{Keys}
 use Rattle.port_model.specs.Draws.{ByteStream, Draws}
 use Rattle.folder_spec.specs.Path.{Path, below}

@@ -1,30 +1,24 @@
 -- Putting a content in its place: its entry is staged whole, renamed, and settled (private contracts only).
-use Rattle.std.specs.Prelude.{◌≡◌, ◌≤◌, ◌⊎◌, ℕ, true, IsTrue, List, [], ◌∷◌, ◌++◌, length, codes, Contains, Option, Some, None, Result, Ok, Err, OnOk}
+use Rattle.std.specs.Prelude.{◌≡◌, ◌≤◌, ◌⊎◌, ℕ, List, [], ◌∷◌, ◌++◌, length, codes, Contains, Option, Some, None, Result, Ok, Err, OnOk}
 use Rattle.chunk_files.specs.Encrypt.{IsEncrypted, draws, encrypt}
 use Rattle.chunk_files.specs.Keys as contents
 use Rattle.chunk_files.specs.Keys.{Keys}
 use Rattle.port_model.specs.Draws.{ByteStream}
 use Rattle.folder_spec.specs.declared.FolderFault.{FolderFault}
 use Rattle.folder_spec.specs.declared.FolderFault.TheVariants as folder
-use Rattle.folder_spec.specs.Edit.{Edit, file_edit, file_view, folder_view}
+use Rattle.folder_spec.specs.Edit.{Edit, file_view, folder_view}
 use Rattle.folder_spec.specs.Event.{Told, FromTo}
-use Rattle.folder_spec.specs.Path.{Path, below, child}
-use Rattle.folder_spec.specs.Region.{at_or_below}
-use Rattle.folder_spec.specs.Seen.{seen, IsSeen, ShowsFile, ShowsFree, under}
-use Rattle.folder_spec.specs.State.{IsSound}
-use Rattle.folder_spec.specs.View.{NoEntry, View}
+use Rattle.folder_spec.specs.Path.{Path, child}
+use Rattle.folder_spec.specs.Seen.{IsSeen, ShowsFree}
+use Rattle.folder_spec.specs.View.{View}
 use Rattle.folder_staging.specs.Folders.{StagesFolder, HasStaged}
 use Rattle.plain_tree.specs.Names as plain
-use Rattle.work_folder.specs.Entering.{IsReady}
 use Rattle.work_folder.specs.Entries.{stage_path}
 use Rattle.vault_read.specs.Opened.{OpenedVault}
-use Rattle.vault_read.specs.declared.fault.FindFault.TheVariants as finds
 use Rattle.vault_spec.specs.Cryptomator.{content_file, full_file}
-use Rattle.vault_spec.specs.Making.{NewItem, NewFile, Allows, full_texts}
-use Rattle.vault_spec.specs.Find.{Refusal, enter}
-use Rattle.vault_spec.specs.Standing.{Standing, Absent, Strange, File, Dir, standing}
+use Rattle.vault_spec.specs.Making.{NewFile, full_texts}
 use Rattle.vault_spec.specs.Vault.{format_of}
-use Rattle.content_writing.specs.Content.{Coming, Ending, Whole, Damaged, TooLong}
+use Rattle.content_writing.specs.Content.{Coming, Whole, Damaged, TooLong}
 use Rattle.content_writing.specs.Faults.{of_folder}
 use Rattle.content_writing.specs.Writing.{DrewZeros}
 use Rattle.content_writing.specs.declared.fault.PutFault.{PutFault}
@@ -32,7 +26,7 @@ use Rattle.content_writing.specs.declared.fault.PutFault.TheVariants as puts
 use Rattle.vault_write.specs.Calls.{How, MakesOne, TakesContent, Writing}
 use Rattle.vault_write.specs.Editing.{AddsEdits, Edits, HasEdited, HasFinished}
 use Rattle.vault_write.specs.Making.{Making}
-use Rattle.vault_write.specs.Slots.{IsSlot, IsTakenAt, RefusesItem, placing}
+use Rattle.vault_write.specs.Slots.{placing}
 
 -- what an entry shows that has these bytes: a file of them, or a folder with that and the text of a long name
 abbrev pub entry_view : Option (List ℕ) → List ℕ → View

@@ -1,5 +1,5 @@
 -- A call that makes one item so that a crash at any moment leaves the old tree or the new one.
-use Rattle.std.specs.Prelude.{◌≡◌, ◌⊎◌, ℕ, Bool, List, [], ◌∷◌, None, Option, Result, Ok, Err, OnOk, IsTrue}
+use Rattle.std.specs.Prelude.{◌≡◌, ◌⊎◌, Bool, [], ◌∷◌, None, Option, Result, Ok, Err, OnOk, IsTrue}
 use Rattle.folder_spec.specs.Path.{Path, below}
 use Rattle.folder_spec.specs.State.{Table, State, IsTableOf}
 use Rattle.folder_spec.specs.Event.{Told, FromTo}

@@ -1,4 +1,4 @@
-use Rattle.std.proofs.Common.{arith, ◌≡◌, ◌<◌, [], ◌∷◌, ℕ, List, length, Err, sym, subst, refl, ap, ◌∙◌}
+use Rattle.std.proofs.Common.{arith, ◌≡◌, ◌<◌, [], ◌∷◌, length, Err, sym, refl, ap, ◌∙◌}
 use Rattle.plain_tree.specs.Names as plain
 use Rattle.content_writing.specs.Content.{still_coming}
 use Rattle.content_writing.specs.declared.fault.PutFault.TheVariants as puts

@@ -1,4 +1,3 @@
-use Rattle.std.proofs.Common.{sym, ◌∙◌}
 use Rattle.folder_spec.specs.declared.FolderFault.TheVariants as folder
 use Rattle.content_writing.specs.Content.{still_coming}
 use Rattle.content_writing.specs.declared.fault.PutFault.TheVariants as puts

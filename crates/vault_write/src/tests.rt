@@ -4,15 +4,19 @@ ghost use Rattle.folder_spec.specs.Path.{below};
 ghost use Rattle.folder_spec.specs.Seen.{IsSeen, ShowsFree};
 ghost use Rattle.folder_spec.specs.View.{View, NoEntry, Folder};
 
-use crate::{PutFault, init_cm, init_go, place_dir};
+use crate::{PutFault, SourceContent, init_cm, init_go, place_dir, place_file};
 use folder_model::{FPath, Folder, Kind, MemFolder};
 use kdf_suite::ScryptCost;
-use plain_tree::PlainPath;
-use port_model::ListRandoms;
+use plain_tree::{NodeKind, PlainPath};
+use port_model::{ListRandoms, MemSink, MemSource, Source};
 use std::alloc::Global;
 use std::test::Fail;
-use vault_read::{Vault, VaultKind, enter};
+use vault_read::{Vault, VaultKind, cat, list};
 use work_folder::Work;
+
+// 200 bytes.
+const LONG: &str =
+    "long-long-long-long-long-long-long-long-long-long-long-long-long-long-long-long-long-long-long-long-long-long-long-long-long-long-long-long-long-long-long-long-long-long-long-long-long-long-long-long-";
 
 fn is_missing<F: Folder>(folder: &mut F, at: &FPath) -> bool
     ensures told { F.told folder.new ≡ F.told folder.old }
@@ -50,7 +54,7 @@ fn founded<F: Folder>(
     kind: VaultKind,
     count: usize,
 ) -> Result<Result<(), PutFault>, Fail> {
-    let cost = ScryptCost::new(1024, 8, 1).ok().ok_or("a cost")?;
+    let cost = ScryptCost::new(16, 1, 1).ok().ok_or("a cost")?;
     let mut random = ListRandoms::new(vec![in alloc; 7u8; count]?, Vec::new(alloc));
     let at = FPath::parse(alloc, "v")?;
     let above = at.parent()?;
@@ -101,10 +105,16 @@ fn new_vaults_open(rt: HostRuntime) -> Result<(), Fail> {
     Ok(())
 }
 
-// Makes a directory with a name in the root of the vault at `v`, from the work folder `w`, and enters it.
-fn makes_directory<F: Folder>(alloc: Global, folder: &mut F, name: &str) -> Result<bool, Fail> {
+// Makes what is told at a path in the vault at `v`, from the work folder `w`: a directory, or a file of what a source has left.
+fn placed<F: Folder, I: Source>(
+    alloc: Global,
+    folder: &mut F,
+    made: NodeKind,
+    path: &str,
+    source: &mut I,
+) -> Result<&'static str, Fail> {
     let place = FPath::parse(alloc, "w")?;
-    let Ok(path) = PlainPath::parse(alloc, name) else {
+    let Ok(path) = PlainPath::parse(alloc, path) else {
         return Err(Fail::from("a plain path"));
     };
     let Ok(vault) = Vault::load(alloc, folder, &FPath::parse(alloc, "v")?, b"pass") else {
@@ -116,33 +126,130 @@ fn makes_directory<F: Folder>(alloc: Global, folder: &mut F, name: &str) -> Resu
     if !is_not_below(&place, vault.root()) || !is_not_below(vault.root(), &place) {
         return Err(Fail::from("a vault beside the work folder"));
     }
-    let mut random = ListRandoms::new(vec![in alloc; 7u8; 16]?, Vec::new(alloc));
-    if place_dir(alloc, folder, &work, &vault, &path, &mut random).is_err() {
-        return Ok(false);
+    let mut random = ListRandoms::new(vec![in alloc; 7u8; 1_000]?, Vec::new(alloc));
+    match made {
+        NodeKind::Dir => Ok(told(place_dir(alloc, folder, &work, &vault, &path, &mut random))),
+        NodeKind::File => {
+            let mut content = SourceContent::new(source);
+            Ok(told(place_file(
+                alloc,
+                folder,
+                &work,
+                &vault,
+                &path,
+                &mut content,
+                &mut random,
+            )))
+        }
     }
-    Ok(enter(alloc, folder, &vault, &path).is_ok())
 }
 
-// A directory is made in a new vault, and not a second time.
-fn makes_once(alloc: Global, kind: VaultKind, name: &str) -> Result<bool, Fail> {
+fn told(answer: Result<(), PutFault>) -> &'static str {
+    match answer {
+        Ok(()) => "made",
+        Err(PutFault::Taken(_)) => "taken",
+        Err(PutFault::NotAllowed(_)) => "not allowed",
+        Err(PutFault::Source) => "source",
+        Err(_) => "another fault",
+    }
+}
+
+// Whether a file gives so many bytes of 1.
+fn gives<F: Folder>(alloc: Global, folder: &mut F, path: &str, size: usize) -> Result<bool, Fail> {
+    let Ok(path) = PlainPath::parse(alloc, path) else {
+        return Err(Fail::from("a plain path"));
+    };
+    let Ok(vault) = Vault::load(alloc, folder, &FPath::parse(alloc, "v")?, b"pass") else {
+        return Err(Fail::from("a vault"));
+    };
+    let mut out = MemSink::new(alloc, size, Vec::new(alloc))?;
+    if cat(alloc, folder, &vault, &path, &mut out).is_err() {
+        return Ok(false);
+    }
+    Ok(out.bytes() == vec![in alloc; 1u8; size]?.as_slice())
+}
+
+// How many items the root of the vault has.
+fn count_items<F: Folder>(alloc: Global, folder: &mut F) -> Result<usize, Fail> {
+    let Ok(vault) = Vault::load(alloc, folder, &FPath::parse(alloc, "v")?, b"pass") else {
+        return Err(Fail::from("a vault"));
+    };
+    match list(alloc, folder, &vault, &PlainPath::root(alloc)) {
+        Ok(items) => Ok(items.len()),
+        Err(_) => Err(Fail::from("a list")),
+    }
+}
+
+// A folder in memory with a new vault.
+fn new_vault(alloc: Global, kind: VaultKind) -> Result<MemFolder, Fail> {
     let mut folder = MemFolder::new(alloc)?;
     if founded(alloc, &mut folder, kind, 96)?.is_err() {
-        return Ok(false);
+        return Err(Fail::from("a vault"));
     }
-    if !makes_directory(alloc, &mut folder, name)? {
-        return Ok(false);
-    }
-    Ok(!makes_directory(alloc, &mut folder, name)?)
+    Ok(folder)
+}
+
+// What is answered for a directory in a new vault, for a file in it, and for the file again; and whether it gives its content.
+fn made(
+    alloc: Global,
+    kind: VaultKind,
+    name: &str,
+    size: usize,
+) -> Result<([&'static str; 3], bool), Fail> {
+    let mut folder = new_vault(alloc, kind)?;
+    let file = format!(in alloc; "{name}/{name}")?;
+    let mut source = MemSource::new(vec![in alloc; 1u8; size]?, Vec::new(alloc));
+    let answers = [
+        placed(alloc, &mut folder, NodeKind::Dir, name, &mut source)?,
+        placed(alloc, &mut folder, NodeKind::File, &file, &mut source)?,
+        placed(alloc, &mut folder, NodeKind::File, &file, &mut source)?,
+    ];
+    Ok((answers, gives(alloc, &mut folder, &file, size)?))
 }
 
 #[test]
-fn new_directories_are_entered(rt: HostRuntime) -> Result<(), Fail> {
+fn new_items_of_gocryptfs_are_read_back(rt: HostRuntime) -> Result<(), Fail> {
     let alloc = rt.alloc();
-    let long =
-        "long-long-long-long-long-long-long-long-long-long-long-long-long-long-long-long-long-long-long-long-long-long-long-long-long-long-long-long-long-long-long-long-long-long-long-long-long-long-long-long-";
-    assert!(rt; makes_once(alloc, VaultKind::Gocryptfs, "a")?);
-    assert!(rt; makes_once(alloc, VaultKind::Gocryptfs, long)?);
-    assert!(rt; makes_once(alloc, VaultKind::Cryptomator, "a")?);
-    assert!(rt; makes_once(alloc, VaultKind::Cryptomator, long)?);
+    for (name, size) in [("a", 0), (LONG, 1), ("a", 4_096), (LONG, 70_000)] {
+        let answers = made(alloc, VaultKind::Gocryptfs, name, size)?;
+        assert_eq!(rt; answers, (["made", "made", "taken"], true), "{name} {size}");
+    }
+    Ok(())
+}
+
+#[test]
+fn new_items_of_cryptomator_are_read_back(rt: HostRuntime) -> Result<(), Fail> {
+    let alloc = rt.alloc();
+    for (name, size) in [("a", 0), (LONG, 1), ("a", 70_000)] {
+        let answers = made(alloc, VaultKind::Cryptomator, name, size)?;
+        assert_eq!(rt; answers, (["made", "made", "taken"], true), "{name} {size}");
+    }
+    Ok(())
+}
+
+// What is answered for a file in the root of a new vault, whose source fails at one call; and how many items are there then.
+fn made_or_not(
+    alloc: Global,
+    kind: VaultKind,
+    name: &str,
+    fail: u64,
+) -> Result<(&'static str, usize), Fail> {
+    let mut folder = new_vault(alloc, kind)?;
+    let mut source = MemSource::new(vec![in alloc; 1u8; 70_000]?, vec![in alloc; fail; 1]?);
+    let answer = placed(alloc, &mut folder, NodeKind::File, name, &mut source)?;
+    Ok((answer, count_items(alloc, &mut folder)?))
+}
+
+#[test]
+fn refused_files_leave_the_tree(rt: HostRuntime) -> Result<(), Fail> {
+    let alloc = rt.alloc();
+    for (kind, name, fail, answer) in [
+        (VaultKind::Gocryptfs, "a", 3, ("source", 0)),
+        (VaultKind::Cryptomator, "a", 2, ("source", 0)),
+        (VaultKind::Cryptomator, "e\u{301}", 99, ("not allowed", 0)),
+        (VaultKind::Gocryptfs, "e\u{301}", 99, ("made", 1)),
+    ] {
+        assert_eq!(rt; made_or_not(alloc, kind, name, fail)?, answer, "{name}");
+    }
     Ok(())
 }

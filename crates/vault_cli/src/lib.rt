@@ -24,6 +24,8 @@ mod check_samples;
 #[cfg(test)]
 mod check_tests;
 #[cfg(test)]
+mod link_tests;
+#[cfg(test)]
 mod repair_tests;
 #[cfg(test)]
 mod samples;

@@ -14,6 +14,7 @@ use Rattle.folder_spec.specs.declared.Kind.{Kind}
 use Rattle.move_journal.specs.declared.journal.Phase.{Phase}
 use Rattle.move_journal.specs.declared.journal.Phase.TheVariants as phase
 use Rattle.plain_tree.specs.Names as plain
+use Rattle.tree_match.specs.Alone.{Progress, Unbegun, Begun, Finished, IsIn}
 use Rattle.tree_match.specs.Guard.{VaultAt, Migration, IsSeparate, IsThere, HoldsSource, HoldsTarget, HasJournal, Case, NotBegun, Building, Done, Retired, LastJournal, Stands, Gone, has_old, has_old_by, IsWork, kinds_in, IsGuarded, IsPartOf, is_kept, Guarded, IsSafe, tree_at}
 use Rattle.vault_spec.specs.Alike.{IsOrderly}
 use Rattle.vault_spec.specs.Findings.{IsClean}
@@ -81,60 +82,59 @@ journal_alike g phase v w same h = record { journal = h.journal; is = h.is; in_p
 abbrev pub SameCase : (g : Migration) (v w : View) → Case g w → Type 0
 SameCase g v w c = (d : Case g v) × (has_old g v d ≡ has_old g w c)
 
+-- what stands in both vaults and at the journal of two views
+record AreAlike (g : Migration) (v w : View) : Type 0 where
+  pub source : under g.source.root w ≡ under g.source.root v
+  pub target : under g.target.root w ≡ under g.target.root v
+  pub journal : v (journal_path g.work) ≡ w (journal_path g.work)
+
+are_alike : RootsAreAlike → (g : Migration) (v w : View) → AgreeIn (is_kept g) v w → AreAlike g v w
+are_alike alike g v w agree = record {
+  source = sym (alike g.source.root v w (λ q is. agree q (in_source g q is)));
+  target = sym (alike g.target.root v w (λ q is. agree q (in_target g q is)));
+  journal = agree (journal_path g.work) (at_journal g);
+}
+
+-- how far a migration has come follows
+pub in_alike : RootsAreAlike → (g : Migration) (p : Progress) (v w : View) → AgreeIn (is_kept g) v w → IsIn g p w → IsIn g p v
+in_alike alike g Unbegun v w agree is = let x = are_alike alike g v w agree in record {
+  source = source_alike g v w x.source is.source;
+  journal = x.journal ∙ is.journal;
+  target = there_alike g.target v w x.target is.target;
+  empty = λ path named. tree_alike g.target v w x.target path ∙ is.empty path named;
+}
+in_alike alike g Begun v w agree is = let x = are_alike alike g v w agree in record {
+  source = source_alike g v w x.source is.source;
+  journal = journal_alike g _ v w x.journal is.journal;
+  target = there_alike g.target v w x.target is.target;
+  part = subst (λ u. IsPartOf (tree (format_of g.target.vault) u) g.held) x.target is.part;
+  allowed = is.allowed;
+}
+in_alike alike g Finished v w agree is = let x = are_alike alike g v w agree in record {
+  source = source_alike g v w x.source is.source;
+  journal = journal_alike g _ v w x.journal is.journal;
+  target = target_alike g v w x.target is.target;
+  allowed = is.allowed;
+}
+
+last_journal_alike : (g : Migration) (v w : View) → v (journal_path g.work) ≡ w (journal_path g.work) → (j : LastJournal g w) → (k : LastJournal g v) × (has_old_by g v k ≡ has_old_by g w j)
+last_journal_alike g v w same (Stands h) = (Stands (journal_alike g phase.Done v w same h), refl)
+last_journal_alike g v w same (Gone none) = (Gone (same ∙ none), refl)
+
 case_alike : RootsAreAlike → (g : Migration) (v w : View) → AgreeIn (is_kept g) v w → (c : Case g w) → SameCase g v w c
-case_alike alike g v w agree c = by_case c
-  where
-    source : under g.source.root w ≡ under g.source.root v
-    source = sym (alike g.source.root v w (λ q is. agree q (in_source g q is)))
-
-    target : under g.target.root w ≡ under g.target.root v
-    target = sym (alike g.target.root v w (λ q is. agree q (in_target g q is)))
-
-    journal : v (journal_path g.work) ≡ w (journal_path g.work)
-    journal = agree (journal_path g.work) (at_journal g)
-
-    same_journal : (j : LastJournal g w) → (k : LastJournal g v) × (has_old_by g v k ≡ has_old_by g w j)
-    same_journal (Stands h) = (Stands (journal_alike g phase.Done v w journal h), refl)
-    same_journal (Gone none) = (Gone (journal ∙ none), refl)
-
-    by_case : (c : Case g w) → SameCase g v w c
-    by_case (NotBegun is) = (
-      NotBegun (record {
-        source = source_alike g v w source is.source;
-        journal = journal ∙ is.journal;
-        target = there_alike g.target v w target is.target;
-        empty = λ path named. tree_alike g.target v w target path ∙ is.empty path named;
+case_alike alike g v w agree (NotBegun is) = (NotBegun (in_alike alike g Unbegun v w agree is), refl)
+case_alike alike g v w agree (Building is) = (Building (in_alike alike g Begun v w agree is), refl)
+case_alike alike g v w agree (Done is) = (Done (in_alike alike g Finished v w agree is), refl)
+case_alike alike g v w agree (Retired is) =
+    let x = are_alike alike g v w agree in
+    let same : (k : LastJournal g v) × (has_old_by g v k ≡ has_old_by g w is.journal) = last_journal_alike g v w x.journal is.journal in (
+      Retired (record {
+        gone = agree g.source.root (in_source g g.source.root (at_root g.source.root)) ∙ is.gone;
+        journal = same.0;
+        target = target_alike g v w x.target is.target;
       }),
-      refl,
+      same.1,
     )
-    by_case (Building is) = (
-      Building (record {
-        source = source_alike g v w source is.source;
-        journal = journal_alike g _ v w journal is.journal;
-        target = there_alike g.target v w target is.target;
-        part = subst (λ u. IsPartOf (tree (format_of g.target.vault) u) g.held) target is.part;
-        allowed = is.allowed;
-      }),
-      refl,
-    )
-    by_case (Done is) = (
-      Done (record {
-        source = source_alike g v w source is.source;
-        journal = journal_alike g _ v w journal is.journal;
-        target = target_alike g v w target is.target;
-        allowed = is.allowed;
-      }),
-      refl,
-    )
-    by_case (Retired is) =
-        let same : (k : LastJournal g v) × (has_old_by g v k ≡ has_old_by g w is.journal) = same_journal is.journal in (
-          Retired (record {
-            gone = agree g.source.root (in_source g g.source.root (at_root g.source.root)) ∙ is.gone;
-            journal = same.0;
-            target = target_alike g v w target is.target;
-          }),
-          same.1,
-        )
 
 -- ---- guarded by what tables show
 

@@ -1,7 +1,6 @@
 -- That a vault has the items of another, where comparing their plans tells so.
 use Rattle.std.proofs.Common.{◌≡◌, ◌≢◌, ◌⊎◌, inl, inr, ℕ, zero, suc, ◌<◌, List, [], ◌∷◌, ◌++◌, length, map, Bool, true, false, if◌then◌else◌, Option, Some, None, refl, sym, ap, subst, ◌∙◌, arith, Contains}
 use Rattle.std.specs.List.{concat}
-use Rattle.std.specs.declared.cmp.Ordering.TheVariants.{Less}
 use Rattle.std.specs.Cmp.Lexicographic.{pointwise_decides, bytes_decides}
 use Rattle.chunk_files.specs.Contents.{readable}
 use Rattle.chunk_files.specs.FileOf.{WholeFilesEnd}
@@ -11,11 +10,11 @@ use Rattle.folder_spec.specs.Path as folder
 use Rattle.folder_spec.specs.Seen.{ShowsFile, under}
 use Rattle.folder_spec.specs.View.{View, FileOf}
 use Rattle.plain_tree.specs.Names as plain
-use Rattle.plain_tree.specs.Order.{path_cmp, path_eq}
+use Rattle.plain_tree.specs.Order.{path_eq}
 use Rattle.plain_tree.specs.declared.NodeKind.{NodeKind}
 use Rattle.plain_tree.specs.declared.NodeKind.TheVariants as node
 use Rattle.vault_read.specs.Contents.{content_limit, limited_reading}
-use Rattle.vault_spec.proofs.Mapped.{all_pairs_mapped, contains_mapped, mapped_from}
+use Rattle.vault_spec.proofs.Mapped.{contains_mapped, mapped_from}
 use Rattle.vault_spec.specs.Alike.{place_of}
 use Rattle.vault_spec.specs.Format.{Format, file_bytes}
 use Rattle.vault_spec.specs.Listing.{node_of}
@@ -23,7 +22,7 @@ use Rattle.vault_spec.specs.Opens.{Opened, NoItem, Directory, Content, Tree, tre
 use Rattle.vault_spec.specs.Plan.{Planned, IsPlan, IsPlanned, paths_of}
 use Rattle.vault_spec.specs.Standing.{Standing, Absent, Strange, File, Dir, standing}
 use Rattle.vault_spec.specs.Vault.{Vault, format_of}
-use Rattle.vault_walk.specs.Survey.{IsOrdered}
+use Rattle.vault_walk.proofs.PlanOrder.{placed_in_order}
 use Rattle.vault_walk.specs.Surveyed.{IsPlanOf, placed}
 use Rattle.tree_match.proofs.Differing.{holds_none, holds_one, differs_one, further_found, further_none}
 use Rattle.tree_match.proofs.WholeContents.{AreWhole, read_whole, whole_and_same}
@@ -160,7 +159,7 @@ file_there files v a walk x among is_file =
 
 pub can_match : FilesAreThere → (v : View) (a : Side) → IsWalkOf v a → IsMatchable v a.items
 can_match files v a walk = record {
-  ordered = subst IsOrdered (sym walk.items_are) (all_pairs_mapped (λ (x y : Planned). path_cmp x.path y.path ≡ Less) (placed a.root) walk.plan walk.is.ordered);
+  ordered = placed_in_order a.root walk.plan a.items walk.items_are walk.is.ordered;
   files = file_there files v a walk;
 }
 

@@ -6,7 +6,7 @@ ghost use Rattle.folder_spec.specs.Image.{Image, IsImage, state_of};
 ghost use Rattle.folder_spec.specs.Seen.{seen};
 ghost use Rattle.folder_spec.specs.State.{State, IsSound, HasNothingPending};
 ghost use Rattle.folder_spec.specs.View.{View, view_of};
-ghost use Rattle.tree_match.specs.Guard.{Migration, Guarded, IsSafe, IsSeparate, IsNotBegun, IsWork, AllowsTree, HoldsAll, Tells, kinds_in};
+ghost use Rattle.tree_match.specs.Guard.{Migration, Guarded, IsGuarded, IsSafe, IsSeparate, IsNotBegun, IsWork, AllowsTree, HoldsAll, Tells, kinds_in};
 ghost use Rattle.move_journal.specs.Journal.{IsJournal};
 ghost use Rattle.move_journal.specs.Writing.{Writes, HasWritten};
 ghost use Rattle.move_journal.specs.declared.journal.Journal.{Journal};
@@ -36,6 +36,15 @@ pub fn guarded_migrations_are_safe()
     ensures safe { (g : Migration) (s : State) (image : Image) → Guarded g s → IsImage s image → IsSafe g (view_of image) }
 {
     images_are_states();
+}
+
+/// A reader of a guarded migration finds one of the four cases; and where one view alone is shown, how far the migration has come.
+pub fn guarded_migrations_are_seen()
+    ensures case { (g : Migration) (s : State) → IsSound s → Guarded g s → IsGuarded g (seen s) }
+    ensures alone { (g : Migration) (p : Progress) (s : State) → IsAlone g p s → IsIn g p (seen s) }
+{
+    images_are_states();
+    roots_show_their_own();
 }
 
 /// While an item that the source held is made in the target, a migration stays guarded at each moment, whatever the call answers.

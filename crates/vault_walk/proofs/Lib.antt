@@ -28,7 +28,7 @@ pub mod Numbers
 mod Gains
 mod Visits
 mod LevelSteps
-mod PlanOrder
+pub mod PlanOrder
 mod Begins
 mod Turns
 mod Answering

@@ -16,7 +16,7 @@ ghost use Rattle.vault_spec.specs.Findings.{IsClean, IsFileAt};
 ghost use Rattle.vault_spec.specs.Plan.{Planned};
 ghost use Rattle.vault_spec.specs.Vault.{format_of};
 ghost use Rattle.vault_walk.specs.Found.{found_cmp};
-ghost use Rattle.vault_walk.specs.Survey.{HasTooMany, item_limit};
+ghost use Rattle.vault_walk.specs.Survey.{HasTooMany, IsOrdered, item_limit};
 ghost use Rattle.vault_walk.specs.Surveyed.{findings_behind, is_note, is_structural, notes_behind, placed, AreInOrder, ArePlaced, AreTold, HaveMet, IsFirstFinding, IsOnlyTooDeep, IsPlanOf, IsSurveyed, IsSurveyFault, IsWalkFault, IsWithin};
 ghost use Rattle.vault_walk.specs.Walking as walking;
 
@@ -86,6 +86,7 @@ pub fn walk<F: Folder>(alloc: Global, folder: &mut F, vault: &Vault) -> Result<P
     ensures clean { IfOk result (λ plan. (v : View) → IsSeen (F.told folder.old) v → IsClean (format_of vault.now.vault) (under vault.now.root v)) }
     ensures plan { IfOk result (λ plan. (v : View) → IsSeen (F.told folder.old) v → HasOwnFolders vault.now.vault (under vault.now.root v)
         → IsPlanOf vault.now.root (format_of vault.now.vault) (under vault.now.root v) plan.items) }
+    ensures ordered { IfOk result (λ plan. (v : View) → IsSeen (F.told folder.old) v → IsOrdered plan.items) }
     ensures files { IfOk result (λ plan. (v : View) → IsSeen (F.told folder.old) v → (item : Planned) → Contains plan.items item → item.node ≡ node.File → IsFileAt v item.at) }
     ensures behind { IfOk result (λ plan. (item : Planned) → Contains plan.items item → (rest : Path) × (item.at ≡ vault.now.root ++ rest)) }
     ensures size { IfOk result (λ plan. length plan.items ≤ item_limit) }

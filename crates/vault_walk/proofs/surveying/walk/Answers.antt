@@ -3,6 +3,7 @@ use Rattle.folder_spec.specs.Seen.{under}
 use Rattle.vault_spec.specs.Vault.{format_of}
 use Rattle.vault_walk.specs.Surveyed.{IsFirstFinding}
 use Rattle.vault_walk.proofs.FirstFindings.{clean_where, first_finding}
+use Rattle.vault_walk.proofs.PlanOrder.{placed_in_order}
 use Rattle.vault_walk.proofs.surveying.walk.Goals as goal
 
 pub returns-in-Some-clause-not_clean : goal.returns-in-Some-clause-not_clean
@@ -21,3 +22,6 @@ pub returns-in-None-clause-plan : goal.returns-in-None-clause-plan
 returns-in-None-clause-plan g c v is own =
     c.in_ok-plan.ensures.plan v is
     (clean_where c.args.vault.now.root (format_of c.args.vault.now.vault) (under c.args.vault.now.root v) c.in_ok-plan.field-0 (c.in_ok-plan.ensures.survey v is) c.in-None.ensures) own
+
+pub returns-in-None-clause-ordered : goal.returns-in-None-clause-ordered
+returns-in-None-clause-ordered g c v is = placed_in_order c.args.vault.now.root (c.in_ok-plan.ensures.survey v is).plan c.in_ok-plan.field-0.plan.items (c.in_ok-plan.ensures.survey v is).items_are (c.in_ok-plan.ensures.survey v is).is.ordered

@@ -1,11 +1,12 @@
 -- That a vault has the items of another, where comparing their plans tells so.
 use Rattle.std.proofs.Common.{◌≡◌, ◌≢◌, ◌⊎◌, inl, inr, ℕ, zero, suc, ◌<◌, List, [], ◌∷◌, ◌++◌, length, map, Bool, true, false, if◌then◌else◌, Option, Some, None, refl, sym, ap, subst, ◌∙◌, arith, Contains}
+use Rattle.std.proofs.lemmas.Simd.{map-map}
 use Rattle.std.specs.List.{concat}
 use Rattle.std.specs.Cmp.Lexicographic.{pointwise_decides, bytes_decides}
 use Rattle.chunk_files.specs.Contents.{readable}
 use Rattle.chunk_files.specs.FileOf.{WholeFilesEnd}
 use Rattle.chunk_files.specs.Keys.{Keys}
-use Rattle.chunk_files.specs.Reading.{Ending, Reading, Whole}
+use Rattle.chunk_files.specs.Reading.{Ending, Reading, Whole, Wanting, Faulty}
 use Rattle.folder_spec.specs.Path as folder
 use Rattle.folder_spec.specs.Seen.{ShowsFile, under}
 use Rattle.folder_spec.specs.View.{View, FileOf}
@@ -18,7 +19,7 @@ use Rattle.vault_spec.proofs.Mapped.{contains_mapped, mapped_from}
 use Rattle.vault_spec.specs.Alike.{place_of}
 use Rattle.vault_spec.specs.Format.{Format, file_bytes}
 use Rattle.vault_spec.specs.Listing.{node_of}
-use Rattle.vault_spec.specs.Opens.{Opened, NoItem, Directory, Content, Tree, tree, AreItems, opened, opened_at, opened_by, opened_file}
+use Rattle.vault_spec.specs.Opens.{Opened, NoItem, Directory, Content, Broken, Tree, tree, AreItems, opened, opened_at, opened_by, opened_file}
 use Rattle.vault_spec.specs.Plan.{Planned, IsPlan, IsPlanned, paths_of}
 use Rattle.vault_spec.specs.Standing.{Standing, Absent, Strange, File, Dir, standing}
 use Rattle.vault_spec.specs.Vault.{Vault, format_of}
@@ -28,6 +29,7 @@ use Rattle.tree_match.proofs.Differing.{holds_none, holds_one, differs_one, furt
 use Rattle.tree_match.proofs.WholeContents.{AreWhole, read_whole, whole_and_same}
 use Rattle.tree_match.specs.Comparing.{Outcome, Is, Stops, compared, content_at, content_of, bytes_found}
 use Rattle.tree_match.specs.Guard.{IsPartOf, IsWhole}
+use Rattle.tree_match.specs.Guard as guard
 use Rattle.tree_match.specs.Matching.{IsMatchable, by_item, content_held, first_differing, first_further, held_as, held_by, item_with, matched}
 use Rattle.tree_match.specs.Trees.{Side, IsWalkOf, HoldsAllBy, AsSame, AndFurther, IsPartIn, match_of}
 use Rattle.tree_match.specs.declared.answer.How.{How}
@@ -173,7 +175,7 @@ same_content (Is false) e = cc e
 same_content (Stops at ending) e = cc e
 
 module _ (ends : WholeFilesEnd) (files : FilesAreThere) (plans : PlansAreTheTree) (v : View) (a b : Side) (walk_a : IsWalkOf v a) (walk_b : IsWalkOf v b) where
-  opens_content : (c : Side) → IsWalkOf v c → (x : Planned) → Contains c.items x → x.node ≡ node.File → (content_at (format_of c.vault).content v x.at).ending ≡ Whole
+  pub opens_content : (c : Side) → IsWalkOf v c → (x : Planned) → Contains c.items x → x.node ≡ node.File → (content_at (format_of c.vault).content v x.at).ending ≡ Whole
       → tree (format_of c.vault) (under c.root v) x.path ≡ Content (content_at (format_of c.vault).content v x.at).bytes
   opens_content c walk x among is_file whole =
       let p : (y : Planned) × (placed c.root y ≡ x) × IsPlanned (format_of c.vault) (under c.root v) y = planned v c walk x among in
@@ -183,7 +185,7 @@ module _ (ends : WholeFilesEnd) (files : FilesAreThere) (plans : PlansAreTheTree
       let there : ShowsFile (under c.root v) p.0.at = files c.vault (under c.root v) p.0.path p.0.at stands in
       file_opens ends (format_of c.vault) (under c.root v) p.0.path p.0.at there.0 stands there.1 whole) is_file whole
 
-  opens_directory : (c : Side) → IsWalkOf v c → (x : Planned) → Contains c.items x → x.node ≡ node.Dir → tree (format_of c.vault) (under c.root v) x.path ≡ Directory
+  pub opens_directory : (c : Side) → IsWalkOf v c → (x : Planned) → Contains c.items x → x.node ≡ node.Dir → tree (format_of c.vault) (under c.root v) x.path ≡ Directory
   opens_directory c walk x among is_dir =
       let p : (y : Planned) × (placed c.root y ≡ x) × IsPlanned (format_of c.vault) (under c.root v) y = planned v c walk x among in
       subst (λ (z : Planned). z.node ≡ node.Dir → tree (format_of c.vault) (under c.root v) z.path ≡ Directory) p.1
@@ -239,3 +241,45 @@ module _ (ends : WholeFilesEnd) (files : FilesAreThere) (plans : PlansAreTheTree
       let x : Contains a.items found.0 × (found.0.path ≡ o.0.path) = found_with o.0.path a.items found.0 found.1 in
       let alike : OpenAlike v a b path = subst (OpenAlike v a b) (x.1 ∙ o.2) (item_held found.0 x.0 (all.each found.0 x.0)) in
       (sym alike.0, subst IsWhole alike.0 alike.1)
+
+-- ---- one vault
+
+-- a file that stands opens, whole or broken
+node_opens : (f : Format) (u : View) (x : Planned) → node_of (standing f u x.path) ≡ Some x.node → opened f u x.path ≢ NoItem → guard.node_of (opened f u x.path) ≡ Some x.node
+unfolding opened
+node_opens f u x is there = by (standing f u x.path) is there
+  where
+    some_file : (o : Opened) (s : folder.Path) → o ≢ NoItem → o ≢ Directory → guard.node_of o ≡ Some node.File
+    some_file NoItem s none dir = absurd (none refl)
+    some_file Directory s none dir = absurd (dir refl)
+    some_file (Content bytes) s none dir = refl
+    some_file (Broken chunks fault) s none dir = refl
+
+    no_directory : (chunks : List (List ℕ)) (ending : Ending) → opened_by chunks ending ≢ Directory
+    no_directory chunks Whole = λ e. cc e
+    no_directory chunks (Faulty fault) = λ e. cc e
+    no_directory chunks Wanting = λ e. cc e
+
+    no_file_directory : (keys : Keys) (bytes : Option (List ℕ)) → opened_file keys bytes ≢ Directory
+    no_file_directory keys None = λ e. cc e
+    no_file_directory keys (Some bytes) = no_directory (readable keys bytes).chunks (readable keys bytes).ending
+
+    by : (s : Standing) → node_of s ≡ Some x.node → opened_at f u s ≢ NoItem → guard.node_of (opened_at f u s) ≡ Some x.node
+    by Absent e some = cc e
+    by (Strange at) e some = cc e
+    by (File at) e some = some_file (opened_file f.content (file_bytes (u at))) at some (no_file_directory f.content (file_bytes (u at))) ∙ e
+    by (Dir at directory) e some = e
+
+-- a walk tells the tree
+pub tells_tree : PlansAreTheTree → (v : View) (a : Side) → IsWalkOf v a → guard.IsPlanOf (tree (format_of a.vault) (under a.root v)) a.items
+tells_tree plans v a walk = record {
+  items = items;
+  nodes = λ x among.
+      let p : (y : Planned) × (placed a.root y ≡ x) × IsPlanned (format_of a.vault) (under a.root v) y = planned v a walk x among in
+      subst (λ (z : Planned). guard.node_of (tree (format_of a.vault) (under a.root v) z.path) ≡ Some z.node) p.1
+      (node_opens (format_of a.vault) (under a.root v) p.0 p.2.node (λ none.
+          ((items.items x.path).0 (contains_mapped (λ (item : Planned). item.path) a.items x among)).1 (ap (λ (z : Planned). tree (format_of a.vault) (under a.root v) z.path) (sym p.1) ∙ none)));
+}
+  where
+    items : AreItems (tree (format_of a.vault) (under a.root v)) (paths_of a.items)
+    items = subst (AreItems (tree (format_of a.vault) (under a.root v))) (sym (ap paths_of walk.items_are ∙ map-map (λ (item : Planned). item.path) (placed a.root) walk.plan)) (plans a.vault (under a.root v) walk.plan walk.is)

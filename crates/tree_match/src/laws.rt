@@ -1,18 +1,23 @@
 //! Laws of the definitions. Each function does nothing, and its clauses are the laws.
-ghost use Rattle.std.specs.Prelude.{◌≡◌, false, List, Ok, Result, Some};
+ghost use Rattle.std.specs.Prelude.{◌≡◌, false, Contains, List, Ok, Result, Some};
+ghost use Rattle.chunk_files.specs.Reading.{Whole};
 ghost use Rattle.content_writing.specs.declared.fault.PutFault.{PutFault};
 ghost use Rattle.folder_spec.specs.Event.{Told, Settle, changed};
 ghost use Rattle.folder_spec.specs.Image.{Image, IsImage, state_of};
-ghost use Rattle.folder_spec.specs.Seen.{seen};
+ghost use Rattle.folder_spec.specs.Seen.{seen, under};
 ghost use Rattle.folder_spec.specs.State.{State, IsSound, HasNothingPending};
 ghost use Rattle.folder_spec.specs.View.{View, view_of};
-ghost use Rattle.tree_match.specs.Guard.{Migration, Guarded, IsGuarded, IsSafe, IsSeparate, IsNotBegun, IsWork, AllowsTree, HoldsAll, Tells, kinds_in};
+ghost use Rattle.tree_match.specs.Guard.{Migration, Guarded, IsGuarded, IsSafe, IsSeparate, IsNotBegun, IsWork, AllowsTree, HoldsAll, IsPlanOf, Tells, kinds_in};
 ghost use Rattle.move_journal.specs.Journal.{IsJournal};
 ghost use Rattle.move_journal.specs.Writing.{Writes, HasWritten};
 ghost use Rattle.move_journal.specs.declared.journal.Journal.{Journal};
 ghost use Rattle.move_journal.specs.declared.journal.Phase.TheVariants.{Building, Done};
 ghost use Rattle.tree_match.specs.Alone.{Progress, Unbegun, Begun, Finished, IsIn, IsAlone, StaysGuarded, StaysAlone};
-ghost use Rattle.tree_match.specs.Comparing.{Is};
+ghost use Rattle.plain_tree.specs.declared.NodeKind.TheVariants.{Dir, File};
+ghost use Rattle.vault_spec.specs.Opens.{Content, Directory, tree};
+ghost use Rattle.vault_spec.specs.Plan.{Planned};
+ghost use Rattle.vault_spec.specs.Vault.{format_of};
+ghost use Rattle.tree_match.specs.Comparing.{Is, content_at};
 ghost use Rattle.tree_match.specs.Matching.{IsMatchable};
 ghost use Rattle.tree_match.specs.Placed.{ItemAt, Places, PlaceEach, ArePlaced};
 ghost use Rattle.tree_match.specs.Trees.{Side, IsWalkOf, HoldsAllBy, IsPartIn, match_of};
@@ -98,6 +103,18 @@ pub fn what_is_held_opens_the_same()
     ensures matchable { (v : View) (a : Side) → IsWalkOf v a → IsMatchable v a.items }
     ensures held { (v : View) (a b : Side) → IsWalkOf v a → IsWalkOf v b → HoldsAllBy (match_of v a b) → IsPartIn v a b }
     ensures same { (v : View) (a b : Side) → IsWalkOf v a → IsWalkOf v b → match_of v a b ≡ Is Same → IsPartIn v b a }
+{
+    files_have_their_contents();
+    plans_are_the_tree();
+    whole_files_end();
+}
+
+/// A walk tells the tree: it has each item with its kind; a directory opens, and so does a file whose content comes whole, with that.
+pub fn walks_tell_the_tree()
+    ensures plan { (v : View) (a : Side) → IsWalkOf v a → IsPlanOf (tree (format_of a.vault) (under a.root v)) a.items }
+    ensures directory { (v : View) (a : Side) (item : Planned) → IsWalkOf v a → Contains a.items item → item.node ≡ Dir → tree (format_of a.vault) (under a.root v) item.path ≡ Directory }
+    ensures file { (v : View) (a : Side) (item : Planned) → IsWalkOf v a → Contains a.items item → item.node ≡ File → (content_at (format_of a.vault).content v item.at).ending ≡ Whole
+        → tree (format_of a.vault) (under a.root v) item.path ≡ Content (content_at (format_of a.vault).content v item.at).bytes }
 {
     files_have_their_contents();
     plans_are_the_tree();

@@ -1,5 +1,5 @@
 mod TreesShown
-mod Runs
+pub mod Runs
 mod Edited
 mod Adding
 mod Directories

@@ -1,6 +1,6 @@
 mod Guards
 mod Along
-mod Kept
+pub mod Kept
 mod Placing
 mod Sounds
 mod Settling

@@ -32,7 +32,7 @@ use Rattle.vault_cli.specs.Refusing.{Unless}
 use Rattle.vault_cli.specs.Shown.{Shown, Follows, is_of_opening, refused}
 use Rattle.vault_cli.specs.World.{World}
 use Rattle.vault_cli.specs.declared.answer.Answer.{Answer}
-use Rattle.vault_cli.specs.declared.answer.Answer.TheVariants.{Done, Findings, BadCommandLine, OutOfMemory, FolderFault, InputFault, OutputFault, Refused, WrongPass, NotFound, WrongKind, DamagedInput, Damaged, Overlap, NotEmpty, Limit}
+use Rattle.vault_cli.specs.declared.answer.Answer.TheVariants.{Done, Findings, BadCommandLine, OutOfMemory, FolderFault, InputFault, OutputFault, RandomFault, Refused, WrongPass, NotFound, WrongKind, DamagedInput, Damaged, NotAllowed, Overlap, NotEmpty, Begun, ZeroRandom, Taken, Limit}
 use Rattle.vault_cli.specs.declared.words.Checking.{Checking}
 use Rattle.vault_cli.proofs.Refusals.{opened_alike, opened_gives, opened_is}
 use Rattle.vault_cli.proofs.Showing.{all_or_cut}
@@ -155,6 +155,11 @@ of_checking (Damaged at how) is = is
 of_checking (Overlap first second) is = is
 of_checking (NotEmpty at) is = is
 of_checking (Limit which) is = is
+of_checking RandomFault is = is
+of_checking (NotAllowed path) is = is
+of_checking (Begun work) is = is
+of_checking ZeroRandom is = is
+of_checking (Taken at) is = is
 
 pub of_report : (found : List walk.Finding) → IsTrue (is_of_checking (answer_to_found found)) × (answer_to_found found ≢ FolderFault) × (answer_to_found found ≢ OutputFault)
 of_report [] = (refl, λ is. cc, λ is. cc)

@@ -1,6 +1,6 @@
 -- What a command did where it wasn't begun, and where its message found no memory; and what a status says of the answer.
 use Rattle.std.proofs.Common.{◌≡◌, Bool, true, false, ℕ, List, length, Option, Some, None, inl, inr, refl, sym, ap, ◌∙◌, subst, arith}
-use Rattle.std.specs.Prelude.{◌⊎◌, ◌≢◌, IsNone, IsTrue}
+use Rattle.std.specs.Prelude.{◌⊎◌, ◌≢◌, ◌≤◌, nat_eq, if◌then◌else◌, IsNone, IsTrue}
 use Rattle.std.specs.List.{concat}
 use Rattle.std.specs.Io.KnownBytes.{Appends}
 use Rattle.std.proofs.KnownBytes.{Keeps-refl}
@@ -12,17 +12,19 @@ use Rattle.vault_cli.specs.DecryptFile.{answer_to_end}
 use Rattle.vault_cli.specs.declared.decrypt.DecryptEnd.{DecryptEnd}
 use Rattle.vault_cli.specs.declared.decrypt.DecryptEnd.TheVariants as ends
 use Rattle.vault_cli.specs.Fsck.{is_of_checking}
-use Rattle.vault_cli.specs.Repair.{RefusesOverlap, RepairsApart, PrintsMoved, is_of_repairing, overlap}
+use Rattle.vault_cli.specs.Places.{overlap}
+use Rattle.vault_cli.specs.Repair.{RefusesOverlap, RepairsApart, PrintsMoved, is_of_repairing}
 use Rattle.vault_cli.specs.Runs.{Executes}
 use Rattle.vault_cli.specs.Shown.{Shown, TakesAll, TakesSome, Follows, Reads, is_of_reading}
 use Rattle.vault_cli.specs.World.{World}
 use Rattle.vault_spec.specs.Vault.{Either}
 use Rattle.vault_cli.specs.declared.answer.Answer.{Answer}
-use Rattle.vault_cli.specs.declared.answer.Answer.TheVariants.{Done, Findings, BadCommandLine, OutOfMemory, FolderFault, InputFault, OutputFault, Refused, WrongPass, NotFound, WrongKind, DamagedInput, Damaged, Overlap, NotEmpty, Limit}
+use Rattle.vault_cli.specs.declared.answer.Answer.TheVariants.{Done, Findings, BadCommandLine, OutOfMemory, FolderFault, InputFault, OutputFault, RandomFault, Refused, WrongPass, NotFound, WrongKind, DamagedInput, Damaged, NotAllowed, Overlap, NotEmpty, Begun, ZeroRandom, Taken, Limit}
 use Rattle.vault_cli.specs.declared.words.Command.{Command}
 use Rattle.vault_cli.specs.declared.words.Repairing.{Repairing}
-use Rattle.vault_cli.specs.declared.words.Command.TheVariants.{DecryptFile, Ls, Cat, Fsck, Repair}
+use Rattle.vault_cli.specs.declared.words.Command.TheVariants.{DecryptFile, Init, Ls, Cat, Fsck, Repair}
 use Rattle.vault_cli.proofs.Decryptions.{decrypts_nothing, decryption_lost}
+use Rattle.vault_cli.proofs.MadeVaults.{makes_no_vault, vault_lost, no_bad_vault}
 
 either_of : {P Q : Type 0} (b : Bool) → P → Q → Either b P Q
 either_of true p q = p
@@ -58,6 +60,7 @@ not_begun (Some (Repair target)) w = record { apart = either_of (overlap target.
 
     repairs : RepairsApart target OutOfMemory w.told w.told w.taken w.taken
     repairs = record { own = refl; cause = λ v is. inl (inr (inr refl)); tested = λ is. cc; moves = inl refl; prints = Keeps-refl w.taken }
+not_begun (Some (Init new)) w = makes_no_vault new w
 
 -- all pieces are the first ones
 all_taken : (Shows : Shown → Type 0) (answer : Answer) (taken taken' : Option (List ℕ)) → TakesAll Shows answer taken taken' → TakesSome Shows taken taken'
@@ -81,6 +84,11 @@ follows_lost Shows (Damaged at how) taken taken' named follows = all_taken Shows
 follows_lost Shows (Overlap first second) taken taken' named follows = all_taken Shows (Overlap first second) taken taken' follows
 follows_lost Shows (NotEmpty at) taken taken' named follows = all_taken Shows (NotEmpty at) taken taken' follows
 follows_lost Shows (Limit which) taken taken' named follows = all_taken Shows (Limit which) taken taken' follows
+follows_lost Shows RandomFault taken taken' named follows = cc
+follows_lost Shows (NotAllowed path) taken taken' named follows = all_taken Shows (NotAllowed path) taken taken' follows
+follows_lost Shows (Begun work) taken taken' named follows = all_taken Shows (Begun work) taken taken' follows
+follows_lost Shows ZeroRandom taken taken' named follows = cc
+follows_lost Shows (Taken at) taken taken' named follows = all_taken Shows (Taken at) taken taken' follows
 
 reads_lost : (Shows : View → Shown → Type 0) (answer : Answer) (told told' : Option Told) (taken taken' : Option (List ℕ)) → is_plain answer ≡ false
     → Reads Shows answer told told' taken taken' → Reads Shows OutOfMemory told told' taken taken'
@@ -101,6 +109,11 @@ print_lost target OutOfMemory told told' taken taken' named prints = cc
 print_lost target FolderFault told told' taken taken' named prints = cc
 print_lost target InputFault told told' taken taken' named prints = cc
 print_lost target OutputFault told told' taken taken' named prints = cc
+print_lost target RandomFault told told' taken taken' named prints = cc
+print_lost target ZeroRandom told told' taken taken' named prints = cc
+print_lost target (NotAllowed path) told told' taken taken' named prints = prints
+print_lost target (Begun work) told told' taken taken' named prints = prints
+print_lost target (Taken at) told told' taken taken' named prints = prints
 print_lost target (Refused at why) told told' taken taken' named prints = prints
 print_lost target (WrongPass root) told told' taken taken' named prints = prints
 print_lost target (NotFound what) told told' taken taken' named prints = prints
@@ -140,6 +153,7 @@ lost (Some (Repair target)) answer before after named did =
       moves = repairs.moves;
       prints = print_lost target answer before.told after.told before.taken after.taken named repairs.prints;
     }
+lost (Some (Init new)) answer before after named did = vault_lost new answer before after named did
 
 -- what holds of an answer holds of the one that its report gives back
 pub reported : (command : Option Command) (answer result : Answer) (before after : World) → (result ≡ answer) ⊎ ((result ≡ OutOfMemory) × (is_plain answer ≡ false))
@@ -158,77 +172,40 @@ not_of_reading answer bad own = let none : IsTrue (is_of_reading BadCommandLine)
 not_of_checking : (answer : Answer) → answer ≡ BadCommandLine → ¬ IsTrue (is_of_checking answer)
 not_of_checking answer bad own = let none : IsTrue (is_of_checking BadCommandLine) = subst (λ a. IsTrue (is_of_checking a)) bad own in cc
 
-pub bad_of_status : (answer : Answer) → status_of answer ≡ 2 → answer ≡ BadCommandLine
-bad_of_status BadCommandLine is = refl
-bad_of_status Done is = absurd (omega (arith, is))
-bad_of_status Findings is = absurd (omega (arith, is))
-bad_of_status OutOfMemory is = absurd (omega (arith, is))
-bad_of_status FolderFault is = absurd (omega (arith, is))
-bad_of_status InputFault is = absurd (omega (arith, is))
-bad_of_status OutputFault is = absurd (omega (arith, is))
-bad_of_status (Refused at why) is = absurd (omega (arith, is))
-bad_of_status (WrongPass root) is = absurd (omega (arith, is))
-bad_of_status (NotFound what) is = absurd (omega (arith, is))
-bad_of_status (WrongKind what) is = absurd (omega (arith, is))
-bad_of_status (DamagedInput fault) is = absurd (omega (arith, is))
-bad_of_status (Damaged at how) is = absurd (omega (arith, is))
-bad_of_status (Overlap first second) is = absurd (omega (arith, is))
-bad_of_status (NotEmpty at) is = absurd (omega (arith, is))
-bad_of_status (Limit which) is = absurd (omega (arith, is))
+-- the answer of a status up to 7
+abbrev pub answer_of : ℕ → Answer
+answer_of n =
+    if nat_eq n 1 then Findings else if nat_eq n 2 then BadCommandLine else if nat_eq n 3 then OutOfMemory else if nat_eq n 4 then FolderFault
+    else if nat_eq n 5 then InputFault else if nat_eq n 6 then OutputFault else if nat_eq n 7 then RandomFault else Done
 
-pub folder_of_status : (answer : Answer) → status_of answer ≡ 4 → answer ≡ FolderFault
-folder_of_status FolderFault is = refl
-folder_of_status Done is = absurd (omega (arith, is))
-folder_of_status Findings is = absurd (omega (arith, is))
-folder_of_status BadCommandLine is = absurd (omega (arith, is))
-folder_of_status OutOfMemory is = absurd (omega (arith, is))
-folder_of_status InputFault is = absurd (omega (arith, is))
-folder_of_status OutputFault is = absurd (omega (arith, is))
-folder_of_status (Refused at why) is = absurd (omega (arith, is))
-folder_of_status (WrongPass root) is = absurd (omega (arith, is))
-folder_of_status (NotFound what) is = absurd (omega (arith, is))
-folder_of_status (WrongKind what) is = absurd (omega (arith, is))
-folder_of_status (DamagedInput fault) is = absurd (omega (arith, is))
-folder_of_status (Damaged at how) is = absurd (omega (arith, is))
-folder_of_status (Overlap first second) is = absurd (omega (arith, is))
-folder_of_status (NotEmpty at) is = absurd (omega (arith, is))
-folder_of_status (Limit which) is = absurd (omega (arith, is))
+is_answer_of : (answer : Answer) → status_of answer ≤ 7 → answer ≡ answer_of (status_of answer)
+is_answer_of Done few = refl
+is_answer_of Findings few = refl
+is_answer_of BadCommandLine few = refl
+is_answer_of OutOfMemory few = refl
+is_answer_of FolderFault few = refl
+is_answer_of InputFault few = refl
+is_answer_of OutputFault few = refl
+is_answer_of RandomFault few = refl
+is_answer_of (Refused at why) few = absurd (omega (arith, few))
+is_answer_of (WrongPass root) few = absurd (omega (arith, few))
+is_answer_of (NotFound what) few = absurd (omega (arith, few))
+is_answer_of (WrongKind what) few = absurd (omega (arith, few))
+is_answer_of (DamagedInput fault) few = absurd (omega (arith, few))
+is_answer_of (Damaged at how) few = absurd (omega (arith, few))
+is_answer_of (NotAllowed path) few = absurd (omega (arith, few))
+is_answer_of (Overlap first second) few = absurd (omega (arith, few))
+is_answer_of (NotEmpty at) few = absurd (omega (arith, few))
+is_answer_of (Begun work) few = absurd (omega (arith, few))
+is_answer_of ZeroRandom few = absurd (omega (arith, few))
+is_answer_of (Taken at) few = absurd (omega (arith, few))
+is_answer_of (Limit which) few = absurd (omega (arith, few))
 
-pub input_of_status : (answer : Answer) → status_of answer ≡ 5 → answer ≡ InputFault
-input_of_status InputFault is = refl
-input_of_status Done is = absurd (omega (arith, is))
-input_of_status Findings is = absurd (omega (arith, is))
-input_of_status BadCommandLine is = absurd (omega (arith, is))
-input_of_status OutOfMemory is = absurd (omega (arith, is))
-input_of_status FolderFault is = absurd (omega (arith, is))
-input_of_status OutputFault is = absurd (omega (arith, is))
-input_of_status (Refused at why) is = absurd (omega (arith, is))
-input_of_status (WrongPass root) is = absurd (omega (arith, is))
-input_of_status (NotFound what) is = absurd (omega (arith, is))
-input_of_status (WrongKind what) is = absurd (omega (arith, is))
-input_of_status (DamagedInput fault) is = absurd (omega (arith, is))
-input_of_status (Damaged at how) is = absurd (omega (arith, is))
-input_of_status (Overlap first second) is = absurd (omega (arith, is))
-input_of_status (NotEmpty at) is = absurd (omega (arith, is))
-input_of_status (Limit which) is = absurd (omega (arith, is))
+pub with_status : (answer : Answer) (status : ℕ) → status ≤ 7 → status_of answer ≡ status → answer ≡ answer_of status
+with_status answer status few is = is_answer_of answer (omega (arith, few, is)) ∙ ap answer_of is
 
-pub output_of_status : (answer : Answer) → status_of answer ≡ 6 → answer ≡ OutputFault
-output_of_status OutputFault is = refl
-output_of_status Done is = absurd (omega (arith, is))
-output_of_status Findings is = absurd (omega (arith, is))
-output_of_status BadCommandLine is = absurd (omega (arith, is))
-output_of_status OutOfMemory is = absurd (omega (arith, is))
-output_of_status FolderFault is = absurd (omega (arith, is))
-output_of_status InputFault is = absurd (omega (arith, is))
-output_of_status (Refused at why) is = absurd (omega (arith, is))
-output_of_status (WrongPass root) is = absurd (omega (arith, is))
-output_of_status (NotFound what) is = absurd (omega (arith, is))
-output_of_status (WrongKind what) is = absurd (omega (arith, is))
-output_of_status (DamagedInput fault) is = absurd (omega (arith, is))
-output_of_status (Damaged at how) is = absurd (omega (arith, is))
-output_of_status (Overlap first second) is = absurd (omega (arith, is))
-output_of_status (NotEmpty at) is = absurd (omega (arith, is))
-output_of_status (Limit which) is = absurd (omega (arith, is))
+bad_of_status : (answer : Answer) → status_of answer ≡ 2 → answer ≡ BadCommandLine
+bad_of_status answer is = with_status answer 2 (omega arith) is
 
 -- no command but none at all is answered as a bad command line
 pub bad_is_none : (command : Option Command) (answer : Answer) (before after : World) → status_of answer ≡ 2 → Executes command answer before after → IsNone command
@@ -250,6 +227,7 @@ bad_is_none (Some (Repair target)) answer before after is did = absurd (by (over
     by : (b : Bool) → Either b (RefusesOverlap target.vault target.lost answer before.told after.told before.taken after.taken) (RepairsApart target answer before.told after.told before.taken after.taken) → ⊥
     by true refuses = elim refuses.answers [ inl overlaps ↦ let no = sym (bad_of_status answer is) ∙ overlaps in cc | inr memory ↦ let no = sym (bad_of_status answer is) ∙ memory in cc ]
     by false repairs = let none : IsTrue (is_of_repairing BadCommandLine) = subst (λ a. IsTrue (is_of_repairing a)) (bad_of_status answer is) repairs.own in cc
+bad_is_none (Some (Init new)) answer before after is did = absurd (no_bad_vault new answer before after (bad_of_status answer is) did)
 
 pub none_is_bad : (command : Option Command) (answer : Answer) (before after : World) → IsNone command → Executes command answer before after → (status_of answer ≡ 2) ⊎ (status_of answer ≡ 3)
 none_is_bad None answer before after none did = elim did.answers [ inl bad ↦ inl (ap status_of bad) | inr memory ↦ inr (ap status_of memory) ]

@@ -1,8 +1,11 @@
+mod Beginnings
 mod Checks
 mod Contents
 mod Decryptions
 mod Executions
+mod Founding
 mod Listings
+mod MadeVaults
 mod NamingLines
 mod Outcomes
 mod Refusals

@@ -2,7 +2,7 @@
 use Rattle.std.proofs.Common.{◌≡◌, false, refl}
 use Rattle.vault_cli.specs.Answers.{is_plain, line, line_of, message_of}
 use Rattle.vault_cli.specs.declared.answer.Answer.{Answer}
-use Rattle.vault_cli.specs.declared.answer.Answer.TheVariants.{Done, Findings, BadCommandLine, OutOfMemory, FolderFault, InputFault, OutputFault, Refused, WrongPass, NotFound, WrongKind, DamagedInput, Damaged, Overlap, NotEmpty, Limit}
+use Rattle.vault_cli.specs.declared.answer.Answer.TheVariants.{Done, Findings, BadCommandLine, OutOfMemory, FolderFault, InputFault, OutputFault, RandomFault, Refused, WrongPass, NotFound, WrongKind, DamagedInput, Damaged, NotAllowed, Overlap, NotEmpty, Begun, ZeroRandom, Taken, Limit}
 
 -- it has a message, and so a line
 pub naming_line : (answer : Answer) → is_plain answer ≡ false → line_of answer ≡ line (message_of answer)
@@ -22,3 +22,8 @@ naming_line (Damaged at how) is = refl
 naming_line (Overlap first second) is = refl
 naming_line (NotEmpty at) is = refl
 naming_line (Limit which) is = refl
+naming_line RandomFault is = cc
+naming_line (NotAllowed path) is = refl
+naming_line (Begun work) is = refl
+naming_line ZeroRandom is = cc
+naming_line (Taken at) is = refl

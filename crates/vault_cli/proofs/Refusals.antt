@@ -13,6 +13,9 @@ use Rattle.vault_read.specs.Loading.{Refuses}
 use Rattle.vault_read.specs.Laws.{HaveOneAnswer}
 use Rattle.vault_spec.specs.Vault.{Vault, LoadRefusal, Loads, Either}
 use Rattle.vault_spec.specs.Vault as vault
+use Rattle.work_folder.specs.Looking as work
+use Rattle.vault_cli.specs.Beginning.{OfWork}
+use Rattle.vault_cli.specs.Faults.{of_work}
 use Rattle.vault_cli.specs.Opening.{IsPhrase, Opens, passphrase_in, OfPassFile, OfVault, OfOpened, answer_to_refusal}
 use Rattle.vault_cli.specs.Refusing.{Unless, RefusesPass, RefusesOpening, of_load}
 use Rattle.vault_cli.specs.Shown.{Shown, refused}
@@ -73,7 +76,7 @@ either : (P P' Q : Type 0) (b : Bool) → (P → P') → Either b P Q → Either
 either P P' Q true f x = f x
 either P P' Q false f x = x
 
-pass_then : (at : Path) (there : Found) (shown : Shown) (P Q : List ℕ → Type 0) → ((phrase : List ℕ) → P phrase → Q phrase) → OfPassFile at there shown P → OfPassFile at there shown Q
+pub pass_then : (at : Path) (there : Found) (shown : Shown) (P Q : List ℕ → Type 0) → ((phrase : List ℕ) → P phrase → Q phrase) → OfPassFile at there shown P → OfPassFile at there shown Q
 pass_then at NoEntry shown P Q f x = x
 pass_then at Folder shown P Q f x = x
 pass_then at Special shown P Q f x = x
@@ -90,7 +93,14 @@ opened_then v root pass shown P Q f x =
     pass_then pass (v pass) shown (λ phrase. OfVault v root phrase shown P) (λ phrase. OfVault v root phrase shown Q)
     (λ phrase of. (of.0, of.1, vault_by root shown P Q of.0 f of.2)) x
 
-pass_gives : (at : Path) (there : Found) (shown : Shown) (P : List ℕ → Type 0) (phrase : List ℕ) → IsPhrase there phrase → P phrase → OfPassFile at there shown P
+work_by : (at : Path) (answer : Answer) (P Q : Type 0) (entered : work.Answer) → (P → Q) → MatchResult entered (λ done. P) (λ fault. answer ≡ of_work at fault) → MatchResult entered (λ done. Q) (λ fault. answer ≡ of_work at fault)
+work_by at answer P Q (Ok done) f x = f x
+work_by at answer P Q (Err fault) f x = x
+
+pub work_then : (v : View) (at : Path) (answer : Answer) (P Q : Type 0) → (P → Q) → OfWork v at answer P → OfWork v at answer Q
+work_then v at answer P Q f of = (of.0, of.1, work_by at answer P Q of.0 f of.2)
+
+pub pass_gives : (at : Path) (there : Found) (shown : Shown) (P : List ℕ → Type 0) (phrase : List ℕ) → IsPhrase there phrase → P phrase → OfPassFile at there shown P
 pass_gives at there shown P phrase is holds =
     subst (λ x. OfPassFile at x shown P) (sym is.1)
     (subst (λ b. Either b (P (passphrase_in is.0)) (shown ≡ refused (Limit limit.PassFile))) (sym (le-leb (length is.0) 2048 is.2)) (subst P is.3 holds))

@@ -28,10 +28,11 @@ use Rattle.vault_check.specs.declared.fault.CheckFault.TheVariants as check
 use Rattle.vault_cli.specs.Faults.{of_check, of_folder}
 use Rattle.vault_cli.specs.Opening.{Opens}
 use Rattle.vault_cli.specs.Refusing.{Unless, RefusesOpening}
-use Rattle.vault_cli.specs.Repair.{OfDirectory, OfMissing, OfFree, IsOfMoving, TooMany, TooDeep, OfRepairing, MovesStrays, HasMovedStrays, Prints, PrintsMoved, RefusesOverlap, RepairsApart, is_of_moving, is_of_repairing, is_of_test, overlap}
+use Rattle.vault_cli.specs.Places.{OfDirectory, OfMissing, OfFree, overlap}
+use Rattle.vault_cli.specs.Repair.{IsOfMoving, TooMany, TooDeep, OfRepairing, MovesStrays, HasMovedStrays, Prints, PrintsMoved, RefusesOverlap, RepairsApart, is_of_moving, is_of_repairing, is_of_test}
 use Rattle.vault_cli.specs.Shown.{IsCutShort, is_of_opening, refused}
 use Rattle.vault_cli.specs.declared.answer.Answer.{Answer}
-use Rattle.vault_cli.specs.declared.answer.Answer.TheVariants.{Done, Findings, BadCommandLine, OutOfMemory, FolderFault, InputFault, OutputFault, Refused, WrongPass, NotFound, WrongKind, DamagedInput, Damaged, Overlap, NotEmpty, Limit}
+use Rattle.vault_cli.specs.declared.answer.Answer.TheVariants.{Done, Findings, BadCommandLine, OutOfMemory, FolderFault, InputFault, OutputFault, RandomFault, Refused, WrongPass, NotFound, WrongKind, DamagedInput, Damaged, NotAllowed, Overlap, NotEmpty, Begun, ZeroRandom, Taken, Limit}
 use Rattle.vault_cli.specs.declared.words.Repairing.{Repairing}
 use Rattle.vault_cli.proofs.Refusals.{opened_gives, unless_opened}
 
@@ -161,6 +162,11 @@ opening_moves (Damaged at how) is = is
 opening_moves (Overlap first second) is = is
 opening_moves (NotEmpty at) is = refl
 opening_moves (Limit which) is = is
+opening_moves RandomFault is = is
+opening_moves (NotAllowed path) is = is
+opening_moves (Begun work) is = is
+opening_moves ZeroRandom is = is
+opening_moves (Taken at) is = is
 
 -- ---- the whole
 
@@ -181,6 +187,11 @@ of_repairing (Damaged at how) is = is
 of_repairing (Overlap first second) is = is
 of_repairing (NotEmpty at) is = is
 of_repairing (Limit which) is = is
+of_repairing RandomFault is = is
+of_repairing (NotAllowed path) is = is
+of_repairing (Begun work) is = is
+of_repairing ZeroRandom is = is
+of_repairing (Taken at) is = is
 
 cut_or : (answer : Answer) (P : Type 0) → Unless answer P → IsCutShort answer ⊎ P
 cut_or answer P (inl failed) = inl (inl failed)
@@ -205,6 +216,11 @@ unprinted target (Damaged at how) told told' taken is = Keeps-refl taken
 unprinted target (Overlap first second) told told' taken is = Keeps-refl taken
 unprinted target (NotEmpty at) told told' taken is = Keeps-refl taken
 unprinted target (Limit which) told told' taken is = Keeps-refl taken
+unprinted target RandomFault told told' taken is = Keeps-refl taken
+unprinted target (NotAllowed path) told told' taken is = Keeps-refl taken
+unprinted target (Begun work) told told' taken is = Keeps-refl taken
+unprinted target ZeroRandom told told' taken is = Keeps-refl taken
+unprinted target (Taken at) told told' taken is = Keeps-refl taken
 
 pub repair_refused : (target : Repairing) (answer : Answer) (told told' : Option Told) (taken : Option (List ℕ)) → IsTrue (is_of_moving answer)
     → ((v : View) → IsSeen told v → Unless answer (OfRepairing target v answer)) → (IsTrue (is_of_test answer) → told' ≡ told) → (told' ≡ told) ⊎ MovesStrays target told told'

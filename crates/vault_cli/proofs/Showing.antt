@@ -7,7 +7,7 @@ use Rattle.folder_spec.specs.Event.{Told}
 use Rattle.folder_spec.specs.View.{View}
 use Rattle.folder_spec.specs.Seen.{IsSeen}
 use Rattle.vault_cli.specs.declared.answer.Answer.{Answer}
-use Rattle.vault_cli.specs.declared.answer.Answer.TheVariants.{Done, Findings, BadCommandLine, OutOfMemory, FolderFault, InputFault, OutputFault, Refused, WrongPass, NotFound, WrongKind, DamagedInput, Damaged, Overlap, NotEmpty, Limit}
+use Rattle.vault_cli.specs.declared.answer.Answer.TheVariants.{Done, Findings, BadCommandLine, OutOfMemory, FolderFault, InputFault, OutputFault, RandomFault, Refused, WrongPass, NotFound, WrongKind, DamagedInput, Damaged, NotAllowed, Overlap, NotEmpty, Begun, ZeroRandom, Taken, Limit}
 use Rattle.vault_cli.specs.Refusing.{Unless}
 use Rattle.vault_cli.specs.Shown.{Shown, refused, TakesAll, Follows, IsCutShort, Reads, is_of_opening, is_of_reading, is_refusal}
 
@@ -37,6 +37,11 @@ follows_refused Shows (Damaged at how) taken taken' keeps shows = (refused (Dama
 follows_refused Shows (Overlap first second) taken taken' keeps shows = (refused (Overlap first second), shows, refl, nothing taken taken' keeps)
 follows_refused Shows (NotEmpty at) taken taken' keeps shows = (refused (NotEmpty at), shows, refl, nothing taken taken' keeps)
 follows_refused Shows (Limit which) taken taken' keeps shows = (refused (Limit which), shows, refl, nothing taken taken' keeps)
+follows_refused Shows RandomFault taken taken' keeps shows = (refused RandomFault, shows, refl, nothing taken taken' keeps)
+follows_refused Shows (NotAllowed path) taken taken' keeps shows = (refused (NotAllowed path), shows, refl, nothing taken taken' keeps)
+follows_refused Shows (Begun work) taken taken' keeps shows = (refused (Begun work), shows, refl, nothing taken taken' keeps)
+follows_refused Shows ZeroRandom taken taken' keeps shows = (refused ZeroRandom, shows, refl, nothing taken taken' keeps)
+follows_refused Shows (Taken at) taken taken' keeps shows = (refused (Taken at), shows, refl, nothing taken taken' keeps)
 
 pub follows_unless : (Shows : Shown → Type 0) (answer : Answer) (taken taken' : Option (List ℕ)) → Keeps taken taken' → Unless answer (Shows (refused answer)) → Follows Shows answer taken taken'
 follows_unless Shows answer taken taken' keeps (inl failed) = subst (λ a. Follows Shows a taken taken') (sym failed) (inl keeps)
@@ -61,6 +66,11 @@ all_or_cut Shows (Damaged at how) taken taken' follows = inl follows
 all_or_cut Shows (Overlap first second) taken taken' follows = inl follows
 all_or_cut Shows (NotEmpty at) taken taken' follows = inl follows
 all_or_cut Shows (Limit which) taken taken' follows = inl follows
+all_or_cut Shows RandomFault taken taken' follows = inl follows
+all_or_cut Shows (NotAllowed path) taken taken' follows = inl follows
+all_or_cut Shows (Begun work) taken taken' follows = inl follows
+all_or_cut Shows ZeroRandom taken taken' follows = inl follows
+all_or_cut Shows (Taken at) taken taken' follows = inl follows
 
 -- the answer is what is shown, unless it is cut short
 exactly : (Shows : Shown → Type 0) (answer : Answer) (taken taken' : Option (List ℕ)) (shown : Shown) → IsOne Shows → Shows shown → Follows Shows answer taken taken' → (answer ≡ shown.answer) ⊎ IsCutShort answer
@@ -96,6 +106,11 @@ of_reading (Damaged at how) is = is
 of_reading (Overlap first second) is = is
 of_reading (NotEmpty at) is = is
 of_reading (Limit which) is = is
+of_reading RandomFault is = is
+of_reading (NotAllowed path) is = is
+of_reading (Begun work) is = is
+of_reading ZeroRandom is = is
+of_reading (Taken at) is = is
 
 -- a vault that isn't opened is a refusal
 pub opening_refuses : (answer : Answer) → IsTrue (is_of_opening answer) → IsTrue (is_refusal answer)
@@ -115,6 +130,11 @@ opening_refuses (Damaged at how) is = refl
 opening_refuses (Overlap first second) is = is
 opening_refuses (NotEmpty at) is = is
 opening_refuses (Limit which) is = is
+opening_refuses RandomFault is = is
+opening_refuses (NotAllowed path) is = is
+opening_refuses (Begun work) is = is
+opening_refuses ZeroRandom is = is
+opening_refuses (Taken at) is = is
 
 -- a refusal is no fault of the output
 pub refusal_is_no_output_fault : (answer : Answer) → IsTrue (is_refusal answer) → answer ≢ OutputFault

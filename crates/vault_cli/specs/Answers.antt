@@ -9,7 +9,7 @@ use Rattle.cryptomator_conf.specs.Fault as cryptomator
 use Rattle.gocrypt_conf.specs.Fault as gocryptfs
 use Rattle.plain_tree.specs.Shown.{shown, shown_path}
 use Rattle.vault_cli.specs.declared.answer.Answer.{Answer}
-use Rattle.vault_cli.specs.declared.answer.Answer.TheVariants.{Done, Findings, BadCommandLine, OutOfMemory, FolderFault, InputFault, OutputFault, Refused, WrongPass, NotFound, WrongKind, DamagedInput, Damaged, Overlap, NotEmpty, Limit}
+use Rattle.vault_cli.specs.declared.answer.Answer.TheVariants.{Done, Findings, BadCommandLine, OutOfMemory, FolderFault, InputFault, OutputFault, RandomFault, Refused, WrongPass, NotFound, WrongKind, DamagedInput, Damaged, NotAllowed, Overlap, NotEmpty, Begun, ZeroRandom, Taken, Limit}
 use Rattle.vault_cli.specs.declared.answer.Named.{Named}
 use Rattle.vault_cli.specs.declared.answer.Named.TheVariants as named
 use Rattle.vault_cli.specs.declared.answer.Refusal.{Refusal}
@@ -27,14 +27,19 @@ status_of OutOfMemory = 3
 status_of FolderFault = 4
 status_of InputFault = 5
 status_of OutputFault = 6
+status_of RandomFault = 7
 status_of (Refused at why) = 8
 status_of (WrongPass root) = 9
 status_of (NotFound what) = 10
 status_of (WrongKind what) = 11
 status_of (DamagedInput fault) = 12
 status_of (Damaged at how) = 12
+status_of (NotAllowed path) = 13
 status_of (Overlap first second) = 15
 status_of (NotEmpty at) = 16
+status_of (Begun work) = 17
+status_of ZeroRandom = 21
+status_of (Taken at) = 22
 status_of (Limit which) = 23
 
 abbrev pub named_text : Named → List ℕ
@@ -57,6 +62,7 @@ limit_text limit.Items = codes "items"
 limit_text (limit.Length at) = codes "length " ++ shown_path at
 limit_text limit.PassFile = codes "pass file"
 limit_text limit.Input = codes "input"
+limit_text limit.Removal = codes "removal"
 
 abbrev pub message_of : Answer → List ℕ
 message_of Done = []
@@ -66,14 +72,19 @@ message_of OutOfMemory = codes "out of memory"
 message_of FolderFault = codes "folder fault"
 message_of InputFault = codes "input fault"
 message_of OutputFault = codes "output fault"
+message_of RandomFault = codes "random fault"
 message_of (Refused at why) = codes "configuration refused: " ++ shown_path at ++ codes ": " ++ refusal_text why
 message_of (WrongPass root) = codes "wrong passphrase: " ++ shown_path root
 message_of (NotFound what) = codes "not found: " ++ named_text what
 message_of (WrongKind what) = codes "wrong kind: " ++ named_text what
 message_of (DamagedInput fault) = codes "damaged: input: " ++ fault_text fault
 message_of (Damaged at how) = codes "damaged: " ++ shown_path at ++ codes ": " ++ damage_text how
+message_of (NotAllowed path) = codes "name not allowed: " ++ shown_path path
 message_of (Overlap first second) = codes "folders overlap: " ++ shown_path first ++ codes " " ++ shown_path second
 message_of (NotEmpty at) = codes "not empty: " ++ shown_path at
+message_of (Begun work) = codes "already begun: " ++ shown_path work
+message_of ZeroRandom = codes "zero random bytes"
+message_of (Taken at) = codes "place taken: " ++ shown_path at
 message_of (Limit which) = codes "limit: " ++ limit_text which
 
 abbrev pub line : List ℕ → List ℕ
@@ -96,6 +107,8 @@ is_plain OutOfMemory = true
 is_plain FolderFault = true
 is_plain InputFault = true
 is_plain OutputFault = true
+is_plain RandomFault = true
+is_plain ZeroRandom = true
 is_plain answer = false
 
 -- a stream took this text, or a front part of it where its count of faults rose

@@ -8,11 +8,14 @@ use Rattle.folder_spec.specs.Path.{Path}
 use Rattle.hex.specs.Hex.{decode_sized}
 use Rattle.plain_tree.specs.Names as plain
 use Rattle.plain_tree.specs.Reading.{read_path}
-use Rattle.vault_cli.specs.Words.{Choice, Arguments, arguments_of, only_value}
+use Rattle.vault_read.specs.declared.vault.VaultKind.{VaultKind}
+use Rattle.vault_read.specs.declared.vault.VaultKind.TheVariants.{Gocryptfs, Cryptomator}
+use Rattle.vault_cli.specs.Words.{Choice, Arguments, arguments_of, are_just, value_of}
 use Rattle.vault_cli.specs.declared.words.Command.{Command}
-use Rattle.vault_cli.specs.declared.words.Command.TheVariants.{DecryptFile, Ls, Cat, Fsck, Repair}
+use Rattle.vault_cli.specs.declared.words.Command.TheVariants.{DecryptFile, Init, Ls, Cat, Fsck, Repair}
 use Rattle.vault_cli.specs.declared.words.Checking.{Checking}
 use Rattle.vault_cli.specs.declared.words.Repairing.{Repairing}
+use Rattle.vault_cli.specs.declared.words.NewVault.{NewVault}
 use Rattle.vault_cli.specs.declared.words.Target.{Target}
 
 -- the folder path that a word writes
@@ -28,9 +31,19 @@ abbrev pub decrypt_file_by : List Choice → List (List ℕ) → Option Command
 decrypt_file_by [] (key ∷ []) = option_map DecryptFile (key_of key)
 decrypt_file_by _ _ = None
 
--- the folder path that is the value of the only option, if this is its name
-abbrev pub only_file : List ℕ → List Choice → Option Path
-only_file name choices = option_and_then folder_path (only_value name choices)
+-- the folder path that is the value of an option
+abbrev pub file_of : List ℕ → List Choice → Option Path
+file_of name choices = option_and_then folder_path (value_of name choices)
+
+abbrev pub pass_alone : List (List ℕ)
+pass_alone = codes "--pass" ∷ []
+
+abbrev pub pass_and_work : List (List ℕ)
+pass_and_work = codes "--pass" ∷ codes "--work" ∷ []
+
+-- this, where the options are exactly these names, each once
+abbrev pub with_just : {T : Type 0} → List (List ℕ) → List Choice → Option T → Option T
+with_just names choices value = if are_just names choices then value else None
 
 abbrev pub target_by : Option Path → Option plain.Path → Option Path → Option Target
 target_by (Some vault) (Some path) (Some pass) = Some (record { vault = vault; path = path; pass = pass })
@@ -38,18 +51,44 @@ target_by _ _ _ = None
 
 -- `VAULT PATH --pass FILE`
 abbrev pub target_of : List Choice → List ℕ → List ℕ → Option Target
-target_of choices vault path = target_by (folder_path vault) (read_path path) (only_file (codes "--pass") choices)
+target_of choices vault path = target_by (folder_path vault) (read_path path) (file_of (codes "--pass") choices)
+
+-- the format of vaults that a word names
+abbrev pub kind_of : List ℕ → Option VaultKind
+kind_of word = if bytes_eq word (codes "gocryptfs") then Some Gocryptfs else if bytes_eq word (codes "cryptomator") then Some Cryptomator else None
+
+abbrev pub new_vault_by : Option VaultKind → Option Path → Option Path → Option Path → Option NewVault
+new_vault_by (Some kind) (Some vault) (Some pass) (Some work) = Some (record { kind = kind; vault = vault; pass = pass; work = work })
+new_vault_by _ _ _ _ = None
+
+-- `KIND VAULT --pass FILE --work WORK`
+abbrev pub new_vault_of : List Choice → List ℕ → List ℕ → Option NewVault
+new_vault_of choices kind vault = new_vault_by (kind_of kind) (folder_path vault) (file_of (codes "--pass") choices) (file_of (codes "--work") choices)
+
+abbrev pub new_vault_at : List Choice → List (List ℕ) → Option NewVault
+new_vault_at choices (kind ∷ vault ∷ []) = new_vault_of choices kind vault
+new_vault_at choices _ = None
+
+-- `init KIND VAULT --pass FILE --work WORK`
+abbrev pub init_by : List Choice → List (List ℕ) → Option Command
+init_by choices positional = with_just pass_and_work choices (option_map Init (new_vault_at choices positional))
 
 -- `ls VAULT [PATH] --pass FILE`; without PATH it is the root, which the empty text writes
+abbrev pub directory_at : List Choice → List (List ℕ) → Option Target
+directory_at choices (vault ∷ []) = target_of choices vault []
+directory_at choices (vault ∷ path ∷ []) = target_of choices vault path
+directory_at choices _ = None
+
 abbrev pub ls_by : List Choice → List (List ℕ) → Option Command
-ls_by choices (vault ∷ []) = option_map Ls (target_of choices vault [])
-ls_by choices (vault ∷ path ∷ []) = option_map Ls (target_of choices vault path)
-ls_by choices _ = None
+ls_by choices positional = with_just pass_alone choices (option_map Ls (directory_at choices positional))
 
 -- `cat VAULT PATH --pass FILE`
+abbrev pub file_at : List Choice → List (List ℕ) → Option Target
+file_at choices (vault ∷ path ∷ []) = target_of choices vault path
+file_at choices _ = None
+
 abbrev pub cat_by : List Choice → List (List ℕ) → Option Command
-cat_by choices (vault ∷ path ∷ []) = option_map Cat (target_of choices vault path)
-cat_by choices _ = None
+cat_by choices positional = with_just pass_alone choices (option_map Cat (file_at choices positional))
 
 abbrev pub checking_by : Option Path → Option Path → Option Checking
 checking_by (Some vault) (Some pass) = Some (record { vault = vault; pass = pass })
@@ -57,12 +96,15 @@ checking_by _ _ = None
 
 -- `VAULT --pass FILE`
 abbrev pub checking_of : List Choice → List ℕ → Option Checking
-checking_of choices vault = checking_by (folder_path vault) (only_file (codes "--pass") choices)
+checking_of choices vault = checking_by (folder_path vault) (file_of (codes "--pass") choices)
 
 -- `fsck VAULT --pass FILE`
+abbrev pub checking_at : List Choice → List (List ℕ) → Option Checking
+checking_at choices (vault ∷ []) = checking_of choices vault
+checking_at choices _ = None
+
 abbrev pub fsck_by : List Choice → List (List ℕ) → Option Command
-fsck_by choices (vault ∷ []) = option_map Fsck (checking_of choices vault)
-fsck_by choices _ = None
+fsck_by choices positional = with_just pass_alone choices (option_map Fsck (checking_at choices positional))
 
 abbrev pub repairing_by : Option Path → Option Path → Option Path → Option Repairing
 repairing_by (Some vault) (Some lost) (Some pass) = Some (record { vault = vault; lost = lost; pass = pass })
@@ -70,17 +112,21 @@ repairing_by _ _ _ = None
 
 -- `VAULT LOST --pass FILE`
 abbrev pub repairing_of : List Choice → List ℕ → List ℕ → Option Repairing
-repairing_of choices vault lost = repairing_by (folder_path vault) (folder_path lost) (only_file (codes "--pass") choices)
+repairing_of choices vault lost = repairing_by (folder_path vault) (folder_path lost) (file_of (codes "--pass") choices)
 
 -- `repair VAULT LOST --pass FILE`
+abbrev pub repairing_at : List Choice → List (List ℕ) → Option Repairing
+repairing_at choices (vault ∷ lost ∷ []) = repairing_of choices vault lost
+repairing_at choices _ = None
+
 abbrev pub repair_by : List Choice → List (List ℕ) → Option Command
-repair_by choices (vault ∷ lost ∷ []) = option_map Repair (repairing_of choices vault lost)
-repair_by choices _ = None
+repair_by choices positional = with_just pass_alone choices (option_map Repair (repairing_at choices positional))
 
 -- the command of a name with its arguments
 abbrev pub command_named : List ℕ → Arguments → Option Command
 command_named name arguments =
     if bytes_eq name (codes "decrypt-file") then decrypt_file_by arguments.choices arguments.positional
+    else if bytes_eq name (codes "init") then init_by arguments.choices arguments.positional
     else if bytes_eq name (codes "ls") then ls_by arguments.choices arguments.positional
     else if bytes_eq name (codes "cat") then cat_by arguments.choices arguments.positional
     else if bytes_eq name (codes "fsck") then fsck_by arguments.choices arguments.positional

@@ -4,6 +4,7 @@ pub mod Answers
 pub mod Faults
 pub mod Shown
 pub mod Opening
+pub mod Places
 pub mod Refusing
 pub mod Finding
 pub mod Ls
@@ -16,4 +17,6 @@ pub mod Decrypts
 pub mod Streaming
 pub mod World
 pub mod DecryptFile
+pub mod Beginning
+pub mod Init
 pub mod Runs

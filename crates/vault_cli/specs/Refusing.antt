@@ -1,11 +1,12 @@
 -- Words of private contracts: why a vault isn't opened for a command.
-use Rattle.std.specs.Prelude.{◌≡◌, ◌⊎◌, ◌++◌}
+use Rattle.std.specs.Prelude.{◌≡◌, ◌⊎◌, ◌++◌, ℕ, List}
 use Rattle.folder_spec.specs.Path.{Path}
 use Rattle.folder_spec.specs.View.{Found, View}
 use Rattle.vault_read.specs.declared.fault.LoadFault.{LoadFault}
 use Rattle.vault_read.specs.declared.fault.LoadFault.TheVariants as load
 use Rattle.vault_spec.specs.Vault.{go_conf, vault_file}
-use Rattle.vault_cli.specs.Opening.{OfPassFile, OfOpened}
+use Rattle.vault_cli.specs.Beginning.{OfWork}
+use Rattle.vault_cli.specs.Opening.{OfPassFile, OfVault, OfOpened}
 use Rattle.vault_cli.specs.Shown.{refused}
 use Rattle.vault_cli.specs.declared.answer.Answer.{Answer}
 use Rattle.vault_cli.specs.declared.answer.Answer.TheVariants.{OutOfMemory, FolderFault, Refused, WrongPass, NotFound, WrongKind, Limit}
@@ -23,6 +24,9 @@ RefusesPass at there answer = Unless answer (OfPassFile at there (refused answer
 abbrev pub RefusesOpening : View → Path → Path → Answer → Type 0
 RefusesOpening v root pass answer = Unless answer (OfOpened v root pass (refused answer) (λ vault. ⊥))
 
+abbrev pub RefusesVault : View → Path → List ℕ → Answer → Type 0
+RefusesVault v root phrase answer = Unless answer (OfVault v root phrase (refused answer) (λ vault. ⊥))
+
 -- the answer to a vault that isn't opened
 abbrev pub of_load : Path → LoadFault → Answer
 of_load root (load.Missing at) = NotFound (named.Folder at)
@@ -37,3 +41,7 @@ of_load root load.NoMemory = OutOfMemory
 
 abbrev pub RefusesLoad : Path → LoadFault → Answer → Type 0
 RefusesLoad root fault answer = (answer ≡ OutOfMemory) ⊎ (answer ≡ of_load root fault)
+
+-- why a work folder isn't made ready
+abbrev pub RefusesWork : View → Path → Answer → Type 0
+RefusesWork v at answer = Unless answer (OfWork v at answer ⊥)

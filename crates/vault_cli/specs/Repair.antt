@@ -19,6 +19,7 @@ use Rattle.vault_walk.specs.Survey.{HasTooMany}
 use Rattle.vault_walk.specs.Surveyed.{IsOnlyTooDeep, IsWithin}
 use Rattle.vault_check.specs.Repairing.{AreApart, AreMoved, IsRepairing, RepairsAt}
 use Rattle.vault_cli.specs.Opening.{Opens, OfOpened}
+use Rattle.vault_cli.specs.Places.{OfFree, overlap}
 use Rattle.vault_cli.specs.Shown.{IsCutShort, is_of_opening, refused}
 use Rattle.vault_cli.specs.World.{World}
 use Rattle.vault_cli.specs.declared.answer.Answer.{Answer}
@@ -26,28 +27,6 @@ use Rattle.vault_cli.specs.declared.answer.Answer.TheVariants.{Done, OutOfMemory
 use Rattle.vault_cli.specs.declared.answer.Named.TheVariants as named
 use Rattle.vault_cli.specs.declared.answer.Limit.TheVariants as limit
 use Rattle.vault_cli.specs.declared.words.Repairing.{Repairing}
-
--- one of the paths begins with the other
-abbrev pub overlap : Path → Path → Bool
-overlap one other = is_some (below one other) || is_some (below other one)
-
--- what follows where a directory stands at a path
-abbrev pub OfDirectory : Path → Found → Answer → Type 0 → Type 0
-OfDirectory at NoEntry answer next = answer ≡ NotFound (named.Folder at)
-OfDirectory at Folder answer next = next
-OfDirectory at (FileOf bytes) answer next = answer ≡ WrongKind (named.Folder at)
-OfDirectory at Special answer next = answer ≡ WrongKind (named.Folder at)
-
--- what follows where nothing stands at a path
-abbrev pub OfMissing : Path → Found → Answer → Type 0 → Type 0
-OfMissing at NoEntry answer next = next
-OfMissing at Folder answer next = answer ≡ NotEmpty at
-OfMissing at (FileOf bytes) answer next = answer ≡ NotEmpty at
-OfMissing at Special answer next = answer ≡ NotEmpty at
-
--- what follows where nothing stands at a path, and a directory above it
-abbrev pub OfFree : View → Path → Answer → Type 0 → Type 0
-OfFree v at answer next = OfDirectory (parent at) (v (parent at)) answer (OfMissing at (v at) answer next)
 
 -- where all tests pass, the strays are moved of a vault that passes no limit
 pub data IsOfMoving (f : Format) (v : View) (answer : Answer) : Type 0 where

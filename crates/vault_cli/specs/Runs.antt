@@ -4,6 +4,7 @@ use Rattle.std.specs.Io.KnownBytes.{Keeps}
 use Rattle.vault_cli.specs.Cat.{ShowsContent}
 use Rattle.vault_cli.specs.DecryptFile.{DecryptsFile}
 use Rattle.vault_cli.specs.Fsck.{ChecksVault}
+use Rattle.vault_cli.specs.Init.{MakesVault}
 use Rattle.vault_cli.specs.Ls.{ShowsItems}
 use Rattle.vault_cli.specs.Repair.{RepairsVault}
 use Rattle.vault_cli.specs.Shown.{Reads}
@@ -11,7 +12,7 @@ use Rattle.vault_cli.specs.World.{World}
 use Rattle.vault_cli.specs.declared.answer.Answer.{Answer}
 use Rattle.vault_cli.specs.declared.answer.Answer.TheVariants.{BadCommandLine, OutOfMemory, FolderFault}
 use Rattle.vault_cli.specs.declared.words.Command.{Command}
-use Rattle.vault_cli.specs.declared.words.Command.TheVariants.{DecryptFile, Ls, Cat, Fsck, Repair}
+use Rattle.vault_cli.specs.declared.words.Command.TheVariants.{DecryptFile, Init, Ls, Cat, Fsck, Repair}
 use Rattle.vault_cli.specs.declared.words.Target.{Target}
 
 -- words that make no command, of which nothing comes
@@ -35,6 +36,7 @@ pub record WritesFile (target : Target) (answer : Answer) (before after : World)
 abbrev pub Executes : Option Command → Answer → World → World → Type 0
 Executes None answer before after = IsNoCommand answer before after
 Executes (Some (DecryptFile key)) answer before after = DecryptsFile key answer before after
+Executes (Some (Init new)) answer before after = MakesVault new answer before after
 Executes (Some (Ls target)) answer before after = ListsItems target answer before after
 Executes (Some (Cat target)) answer before after = WritesFile target answer before after
 Executes (Some (Fsck target)) answer before after = ChecksVault target answer before after

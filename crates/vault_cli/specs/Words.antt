@@ -4,7 +4,7 @@
 -- option: `--name=VALUE`, or `--name` with its value in the next word, which doesn't begin with `-`. All other words there, and each
 -- behind the `--`, are positional, in their order.
 use Rattle.std.specs.Prelude.{ℕ, Bool, false, ◌==◌, ◌&&◌, ◌||◌, not, List, [], ◌∷◌, ◌++◌, nat_lt, length, codes, if◌then◌else◌, Option, None, Some}
-use Rattle.std.specs.List.{before_first, after_first, position_or_len}
+use Rattle.std.specs.List.{before_first, after_first, list_all, list_any, position_or_len}
 use Rattle.std.specs.Str.{bytes_eq}
 
 abbrev pub begins_with_dash : List ℕ → Bool
@@ -68,7 +68,15 @@ abbrev pub arguments_of : List (List ℕ) → Arguments
 arguments_of words =
     record { choices = choices_in (before_end words); positional = positional_in false (before_end words) ++ behind_end words }
 
--- the value of the only option, if this is its name
-abbrev pub only_value : List ℕ → List Choice → Option (List ℕ)
-only_value name (choice ∷ []) = if bytes_eq choice.name name then choice.value else None
-only_value name _ = None
+-- an option of this name is among them
+abbrev pub has_option : List ℕ → List Choice → Bool
+has_option name choices = list_any (λ choice. bytes_eq choice.name name) choices
+
+-- the options are exactly these different names, each once: there are as many, and each of the names is among them
+abbrev pub are_just : List (List ℕ) → List Choice → Bool
+are_just names choices = (length choices == length names) && list_all (λ name. has_option name choices) names
+
+-- the value of the first option of this name, if it has one
+abbrev pub value_of : List ℕ → List Choice → Option (List ℕ)
+value_of name [] = None
+value_of name (choice ∷ choices) = if bytes_eq choice.name name then choice.value else value_of name choices

@@ -1,6 +1,7 @@
 //! How commands end.
 ghost use Rattle.std.specs.Prelude.{◌≡◌};
 ghost use Rattle.vault_cli.specs.Answers.{status_of};
+ghost use Rattle.vault_cli.specs.Faults.{answer_to_making};
 
 use crate::decrypt::DecryptEnd;
 use chunk_files::ChunkFault;
@@ -12,6 +13,7 @@ use plain_tree::PlainPath;
 use std::alloc::AllocError;
 use vault_check::CheckFault;
 use vault_read::{CatFault, FindFault};
+use vault_write::PutFault;
 
 /// What a message names: a path of the folder, or one of a vault's plain tree.
 #[derive(Debug, Drop)]
@@ -48,6 +50,8 @@ pub enum Limit {
     Length(FPath),
     PassFile,
     Input,
+    /// The depth of what is to be removed.
+    Removal,
 }
 
 /// How a command ends.
@@ -67,6 +71,8 @@ pub enum Answer {
     InputFault,
     /// The output failed.
     OutputFault,
+    /// The random source failed.
+    RandomFault,
     /// The configuration file at this path is refused.
     Refused(FPath, Refusal),
     /// The passphrase unlocks no keys of the vault at this root.
@@ -79,10 +85,18 @@ pub enum Answer {
     DamagedInput(ChunkFault),
     /// What stands at this path is damaged so.
     Damaged(FPath, Damage),
+    /// The vault allows no such name.
+    NotAllowed(PlainPath),
     /// One of these folders is the other, or is in it.
     Overlap(FPath, FPath),
     /// Something stands at this path that is to be free.
     NotEmpty(FPath),
+    /// This work folder has a journal.
+    Begun(FPath),
+    /// Sixteen zero bytes were drawn, where these are refused.
+    ZeroRandom,
+    /// Something stands where a new item is to have its place.
+    Taken(FPath),
     /// A limit is passed.
     Limit(Limit),
 }
@@ -100,14 +114,19 @@ impl Answer {
             Answer::FolderFault => 4,
             Answer::InputFault => 5,
             Answer::OutputFault => 6,
+            Answer::RandomFault => 7,
             Answer::Refused(_, _) => 8,
             Answer::WrongPass(_) => 9,
             Answer::NotFound(_) => 10,
             Answer::WrongKind(_) => 11,
             Answer::DamagedInput(_) => 12,
             Answer::Damaged(_, _) => 12,
+            Answer::NotAllowed(_) => 13,
             Answer::Overlap(_, _) => 15,
             Answer::NotEmpty(_) => 16,
+            Answer::Begun(_) => 17,
+            Answer::ZeroRandom => 21,
+            Answer::Taken(_) => 22,
             Answer::Limit(_) => 23,
         }
     }
@@ -203,6 +222,38 @@ impl From<CheckFault> for Answer {
             CheckFault::Failed => Answer::FolderFault,
             CheckFault::NoMemory => Answer::OutOfMemory,
         }
+    }
+}
+
+impl From<PutFault> for Answer {
+    ghost use Rattle.std.specs.Prelude.{◌≡◌};
+    ghost use Rattle.vault_cli.specs.Faults.{of_put};
+
+    ghost from_gives = { λ fault answer. answer ≡ of_put fault };
+
+    fn from(fault: PutFault) -> Answer {
+        match fault {
+            PutFault::Find(fault) => Answer::from(fault),
+            PutFault::NotAllowed(path) => Answer::NotAllowed(path),
+            PutFault::Taken(at) => Answer::Taken(at),
+            PutFault::Damaged(at, fault) => Answer::Damaged(at, Damage::Content(fault)),
+            PutFault::Limit(limit) => Answer::Limit(Limit::from(limit)),
+            PutFault::ZeroRandom => Answer::ZeroRandom,
+            PutFault::Source => Answer::InputFault,
+            PutFault::Random => Answer::RandomFault,
+            PutFault::Failed => Answer::FolderFault,
+            PutFault::NoMemory => Answer::OutOfMemory,
+        }
+    }
+}
+
+// The answer to a call that makes something.
+pub(crate) fn answer_to_making(made: Result<(), PutFault>) -> Answer
+    ensures { result ≡ answer_to_making made }
+{
+    match made {
+        Ok(()) => Answer::Done,
+        Err(fault) => Answer::from(fault),
     }
 }
 

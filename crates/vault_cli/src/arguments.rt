@@ -1,5 +1,5 @@
 //! The words behind a command's name: its options and its positional words.
-ghost use Rattle.std.specs.List.{position_or_len};
+ghost use Rattle.std.specs.List.{list_all, position_or_len};
 ghost use Rattle.std.specs.Prelude.{◌≡◌, ◌++◌, false, IfOk, OnOk, map, option_map, string_bytes};
 ghost use Rattle.vault_cli.specs.Words as spec;
 ghost use Rattle.vault_cli.specs.Words.{
@@ -78,17 +78,50 @@ impl Arguments {
     }
 }
 
-/// The value of the only option, if this is its name.
-pub(crate) fn only_value<'a>(choices: &'a [Choice], name: &str) -> Option<&'a str>
-    ensures { option_map (λ text. text.now) result ≡ spec.only_value name.now choices.now }
+/// Whether the options are exactly these different names, each once.
+pub(crate) fn are_just(choices: &[Choice], names: &[&str]) -> bool
+    ensures { result ≡ spec.are_just (map (λ name. name.now) names.now) choices.now }
 {
-    match choices {
-        [choice] if choice.name.as_str() == name => match &choice.value {
-            Some(value) => Some(value.as_str()),
-            None => None,
-        },
-        _ => None,
+    choices.len() == names.len() && has_all(choices, names)
+}
+
+// Whether each of these names is among the options.
+fn has_all(choices: &[Choice], names: &[&str]) -> bool
+    ensures { result ≡ list_all (λ name. spec.has_option name choices.now) (map (λ name. name.now) names.now) }
+{
+    for name in names {
+        if !has_option(choices, name) {
+            return false;
+        }
     }
+    true
+}
+
+// Whether this name is among the options.
+fn has_option(choices: &[Choice], name: &str) -> bool
+    ensures { result ≡ spec.has_option name.now choices.now }
+{
+    for choice in choices {
+        if choice.name.as_str() == name {
+            return true;
+        }
+    }
+    false
+}
+
+/// The value of the first option of this name, if it has one.
+pub(crate) fn value_of<'a>(choices: &'a [Choice], name: &str) -> Option<&'a str>
+    ensures { option_map (λ text. text.now) result ≡ spec.value_of name.now choices.now }
+{
+    for choice in choices {
+        if choice.name.as_str() == name {
+            return match &choice.value {
+                Some(value) => Some(value.as_str()),
+                None => None,
+            };
+        }
+    }
+    None
 }
 
 // The words before the first `--`, and those behind it.

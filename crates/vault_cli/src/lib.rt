@@ -4,11 +4,14 @@
 
 pub mod answer;
 mod arguments;
+mod beginning;
 mod cat;
 mod decrypt;
 mod fsck;
+mod init;
 mod ls;
 mod opening;
+mod places;
 mod repair;
 mod reporting;
 mod running;
@@ -17,7 +20,7 @@ pub mod words;
 pub use answer::Answer;
 pub use reporting::report;
 pub use running::run;
-pub use words::{Checking, Command, Repairing, Target};
+pub use words::{Checking, Command, NewVault, Repairing, Target};
 
 #[cfg(test)]
 mod check_samples;
@@ -25,6 +28,8 @@ mod check_samples;
 mod check_tests;
 #[cfg(test)]
 mod link_tests;
+#[cfg(test)]
+mod making_tests;
 #[cfg(test)]
 mod repair_tests;
 #[cfg(test)]

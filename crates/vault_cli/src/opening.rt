@@ -1,13 +1,15 @@
 //! Opening a vault for a command.
-ghost use Rattle.std.specs.Prelude.{◌≡◌, ◌⊎◌, ◌≤◌, Err, IfErr, IfOk, IsTrue};
+ghost use Rattle.std.specs.Prelude.{◌≡◌, ◌⊎◌, ◌≤◌, Ok, Err, IfErr, IfOk, IsTrue};
 ghost use Rattle.folder_spec.specs.View.{View};
-ghost use Rattle.folder_spec.specs.Seen.{IsSeen};
+ghost use Rattle.folder_spec.specs.Seen.{IsSeen, under};
 ghost use Rattle.port_model.specs.Counts.{CountRose};
 ghost use Rattle.std.specs.List.{position_or_len};
 ghost use Rattle.folder_spec.specs.Path.{child};
+ghost use Rattle.vault_cli.specs.Beginning.{is_of_beginning};
 ghost use Rattle.vault_cli.specs.Opening.{IsPhrase, Opens, is_newline, passphrase_in};
-ghost use Rattle.vault_cli.specs.Refusing.{RefusesLoad, RefusesOpening, RefusesPass};
+ghost use Rattle.vault_cli.specs.Refusing.{RefusesLoad, RefusesOpening, RefusesPass, RefusesVault};
 ghost use Rattle.vault_cli.specs.Shown.{is_of_opening};
+ghost use Rattle.vault_spec.specs.Vault.{Loads};
 
 use crate::answer::{Answer, Limit, Named, Refusal};
 use folder_model::{FPath, Folder};
@@ -34,20 +36,44 @@ pub(crate) fn open<F: Folder>(
     ensures own { IfErr result (λ answer. IsTrue (is_of_opening answer)) }
 {
     let phrase = read_pass(alloc, folder, pass)?;
-    match Vault::load(alloc, folder, root, phrase.as_slice()) {
+    load(alloc, folder, root, phrase.as_slice())
+}
+
+/// The vault that a root and a passphrase are.
+pub(crate) fn load<F: Folder>(
+    alloc: Global,
+    folder: &mut F,
+    root: &FPath,
+    phrase: &[u8],
+) -> Result<Vault, Answer>
+    ensures told { F.told folder.new ≡ F.told folder.old }
+    ensures root { IfOk result (λ vault. vault.root ≡ root.now) }
+    ensures opened { IfOk result (λ vault. (v : View) → IsSeen (F.told folder.old) v → Loads (under root.now v) phrase.now (Ok vault.vault)) }
+    ensures refused { IfErr result (λ answer. (v : View) → IsSeen (F.told folder.old) v → RefusesVault v root.now phrase.now answer) }
+    ensures grows { F.faults folder.old ≤ F.faults folder.new }
+    ensures failed { result ≡ Err Answer.FolderFault → CountRose (F.faults folder.old) (F.faults folder.new) }
+    ensures own { IfErr result (λ answer. IsTrue (is_of_opening answer)) }
+    ensures beginning { IfErr result (λ answer. IsTrue (is_of_beginning answer)) }
+{
+    match Vault::load(alloc, folder, root, phrase) {
         Ok(vault) => Ok(vault),
         Err(fault) => Err(answer_to(root, fault)),
     }
 }
 
-// The passphrase in the file at a path.
-fn read_pass<F: Folder>(alloc: Global, folder: &mut F, at: &FPath) -> Result<Bytes, Answer>
+/// The passphrase in the file at a path.
+pub(crate) fn read_pass<F: Folder>(
+    alloc: Global,
+    folder: &mut F,
+    at: &FPath,
+) -> Result<Bytes, Answer>
     ensures told { F.told folder.new ≡ F.told folder.old }
     ensures phrase { IfOk result (λ phrase. (v : View) → IsSeen (F.told folder.old) v → IsPhrase (v at.now) phrase) }
     ensures refused { IfErr result (λ answer. (v : View) → IsSeen (F.told folder.old) v → RefusesPass at.now (v at.now) answer) }
     ensures grows { F.faults folder.old ≤ F.faults folder.new }
     ensures failed { result ≡ Err Answer.FolderFault → CountRose (F.faults folder.old) (F.faults folder.new) }
     ensures own { IfErr result (λ answer. IsTrue (is_of_opening answer)) }
+    ensures beginning { IfErr result (λ answer. IsTrue (is_of_beginning answer)) }
 {
     match read_small(alloc, folder, at, MAX_SIZE)? {
         SmallFile::Missing => Err(Answer::NotFound(Named::Folder(at.copy()?))),
@@ -83,6 +109,7 @@ fn answer_to(root: &FPath, fault: LoadFault) -> Answer
     ensures refuses { RefusesLoad root.now fault result }
     ensures failed { result ≡ Answer.FolderFault → fault ≡ LoadFault.Failed }
     ensures own { IsTrue (is_of_opening result) }
+    ensures beginning { IsTrue (is_of_beginning result) }
 {
     match fault {
         LoadFault::Missing(at) => Answer::NotFound(Named::Folder(at)),

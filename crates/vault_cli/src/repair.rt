@@ -1,17 +1,19 @@
 //! `repair`: moves the strays of a vault into a folder of lost ones.
-ghost use Rattle.std.specs.Prelude.{◌≡◌, ◌⊎◌, ◌≤◌, ◌++◌, false, Err, IfErr, IfOk, IsTrue, OnOk, string_bytes};
-ghost use Rattle.folder_spec.specs.Seen.{IsSeen, ShowsFree};
-ghost use Rattle.folder_spec.specs.View.{NoEntry, View};
+ghost use Rattle.std.specs.Prelude.{◌≡◌, ◌⊎◌, ◌++◌, false, Err, IfErr, IfOk, IsTrue, OnOk, string_bytes};
+ghost use Rattle.folder_spec.specs.Seen.{IsSeen};
+ghost use Rattle.folder_spec.specs.View.{View};
 ghost use Rattle.port_model.specs.Counts.{CountRose};
 ghost use Rattle.vault_spec.specs.Vault.{Either};
+ghost use Rattle.vault_cli.specs.Places.{overlap};
 ghost use Rattle.vault_cli.specs.Refusing.{Unless};
-ghost use Rattle.vault_cli.specs.Repair.{HasMovedStrays, MovesStrays, OfFree, OfMissing, OfRepairing, Prints, RefusesOverlap, RepairsApart, is_of_moving, is_of_test, moved_line, moved_text, overlap};
+ghost use Rattle.vault_cli.specs.Repair.{HasMovedStrays, MovesStrays, OfRepairing, Prints, RefusesOverlap, RepairsApart, is_of_moving, is_of_test, moved_line, moved_text};
 
-use crate::answer::{Answer, Named};
+use crate::answer::Answer;
 use crate::opening::open;
+use crate::places::{do_overlap, overlapping, test_free};
 use crate::reporting::shown_folder;
 use crate::words::Repairing;
-use folder_model::{FPath, Folder, Kind};
+use folder_model::{FPath, Folder};
 use port_model::Sink;
 use std::alloc::{AllocError, Global};
 use vault_check::laws::{repaired_vaults_have_no_strays, repairs_keep_what_opens};
@@ -38,23 +40,6 @@ pub(crate) fn repair<F: Folder, O: Sink>(
     }
 }
 
-// Whether one of the paths begins with the other.
-fn do_overlap(one: &FPath, other: &FPath) -> bool
-    ensures { result ≡ overlap one.now other.now }
-{
-    other.starts_with(one) || one.starts_with(other)
-}
-
-// That these paths overlap.
-fn overlapping(one: &FPath, other: &FPath) -> Answer
-    ensures { (result ≡ Answer.Overlap one.now other.now) ⊎ (result ≡ Answer.OutOfMemory) }
-{
-    let (Ok(one), Ok(other)) = (one.copy(), other.copy()) else {
-        return Answer::OutOfMemory;
-    };
-    Answer::Overlap(one, other)
-}
-
 // Opens the vault, tests the place of lost ones and moves the strays there. It gives their old paths.
 fn move_strays<F: Folder>(
     alloc: Global,
@@ -77,38 +62,6 @@ fn move_strays<F: Folder>(
     match vault_check::repair(alloc, folder, &vault, &target.lost) {
         Ok(moved) => Ok(moved),
         Err(fault) => Err(Answer::from(fault)),
-    }
-}
-
-// Nothing stands at a path, and a directory above it.
-fn test_free<F: Folder>(folder: &mut F, at: &FPath) -> Result<(), Answer>
-    ensures told { F.told folder.new ≡ F.told folder.old }
-    ensures free { OnOk result ((v : View) → IsSeen (F.told folder.old) v → ShowsFree v at.now) }
-    ensures refused { IfErr result (λ answer. (v : View) → IsSeen (F.told folder.old) v → Unless answer (OfFree v at.now answer ⊥)) }
-    ensures own { IfErr result (λ answer. IsTrue (is_of_moving answer)) }
-    ensures grows { F.faults folder.old ≤ F.faults folder.new }
-    ensures failed { result ≡ Err Answer.FolderFault → CountRose (F.faults folder.old) (F.faults folder.new) }
-{
-    let above = at.parent()?;
-    match folder.kind(&above)? {
-        Kind::Missing => Err(Answer::NotFound(Named::Folder(above))),
-        Kind::Dir => test_missing(folder, at),
-        _ => Err(Answer::WrongKind(Named::Folder(above))),
-    }
-}
-
-// Nothing stands at a path.
-fn test_missing<F: Folder>(folder: &mut F, at: &FPath) -> Result<(), Answer>
-    ensures told { F.told folder.new ≡ F.told folder.old }
-    ensures free { OnOk result ((v : View) → IsSeen (F.told folder.old) v → v at.now ≡ NoEntry) }
-    ensures refused { IfErr result (λ answer. (v : View) → IsSeen (F.told folder.old) v → Unless answer (OfMissing at.now (v at.now) answer ⊥)) }
-    ensures own { IfErr result (λ answer. IsTrue (is_of_moving answer)) }
-    ensures grows { F.faults folder.old ≤ F.faults folder.new }
-    ensures failed { result ≡ Err Answer.FolderFault → CountRose (F.faults folder.old) (F.faults folder.new) }
-{
-    match folder.kind(at)? {
-        Kind::Missing => Ok(()),
-        _ => Err(Answer::NotEmpty(at.copy()?)),
     }
 }
 

@@ -44,6 +44,8 @@ fn plain_line(answer: &Answer) -> Option<&'static str>
         Answer::FolderFault => Some("vaultmove: folder fault\n"),
         Answer::InputFault => Some("vaultmove: input fault\n"),
         Answer::OutputFault => Some("vaultmove: output fault\n"),
+        Answer::RandomFault => Some("vaultmove: random fault\n"),
+        Answer::ZeroRandom => Some("vaultmove: zero random bytes\n"),
         _ => None,
     }
 }
@@ -87,8 +89,15 @@ fn message_of(alloc: Global, answer: &Answer) -> Result<String, AllocError>
         Answer::Damaged(at, how) => {
             at_path(alloc, "damaged: ", at, damage_text(alloc, how)?.as_str())
         }
+        Answer::NotAllowed(path) => behind(alloc, "name not allowed: ", path.shown()?.as_str()),
         Answer::Overlap(first, second) => both_paths(alloc, "folders overlap: ", first, second),
         Answer::NotEmpty(at) => behind(alloc, "not empty: ", shown_folder(alloc, at)?.as_str()),
+        Answer::Begun(work) => behind(
+            alloc,
+            "already begun: ",
+            shown_folder(alloc, work)?.as_str(),
+        ),
+        Answer::Taken(at) => behind(alloc, "place taken: ", shown_folder(alloc, at)?.as_str()),
         Answer::Limit(which) => behind(alloc, "limit: ", limit_text(alloc, which)?.as_str()),
         _ => Ok(String::new(alloc)),
     }
@@ -166,6 +175,7 @@ fn limit_text(alloc: Global, which: &Limit) -> Result<String, AllocError>
         Limit::Length(at) => behind(alloc, "length ", shown_folder(alloc, at)?.as_str()),
         Limit::PassFile => String::from_str(alloc, "pass file"),
         Limit::Input => String::from_str(alloc, "input"),
+        Limit::Removal => String::from_str(alloc, "removal"),
     }
 }
 

@@ -11,6 +11,7 @@ use crate::answer::Answer;
 use crate::cat::cat;
 use crate::decrypt::decrypt_file;
 use crate::fsck::fsck;
+use crate::init::init;
 use crate::ls::ls;
 use crate::repair::repair;
 use crate::reporting::report;
@@ -22,9 +23,10 @@ use std::alloc::Global;
 use vault_read::laws::roots_have_one_answer;
 
 /// Does what the words after the program's name ask for, and answers the status to end with. Every status but 0 and 1 writes its line
-/// to `err`: 1 a check has findings, 2 no command, 3 no memory, 4 the folder failed, 5 the input, 6 the output, 8 a configuration is refused, 9 the passphrase,
-/// 10 something isn't there, 11 it is of another kind, 12 it is damaged, 15 folders overlap, 16 a place isn't free,
-/// 23 a limit is passed.
+/// to `err`: 1 a check has findings, 2 no command, 3 no memory, 4 the folder failed, 5 the input, 6 the output, 7 the random source,
+/// 8 a configuration is refused, 9 the passphrase, 10 something isn't there, 11 it is of another kind, 12 it is damaged, 13 a name isn't
+/// allowed, 15 folders overlap, 16 a place isn't free, 17 a journal is there, 21 zero random bytes, 22 a place is taken, 23 a limit is
+/// passed.
 pub fn run<F: Folder, R: Randoms, I: Source, O: Sink, E: Sink>(
     alloc: Global,
     words: &[String],
@@ -38,13 +40,14 @@ pub fn run<F: Folder, R: Randoms, I: Source, O: Sink, E: Sink>(
     ensures answer { (answer : Answer) × (result ≡ status_of answer)
         × TakesText (E.taken err.old) (E.taken err.new) (E.faults err.old) (E.faults err.new) (line_of answer)
         × Executes (command_of (map string_bytes words.now)) answer
-        (record { told = F.told folder.old; left = I.left input.old; ended = I.ended input.old; taken = O.taken out.old })
-        (record { told = F.told folder.new; left = I.left input.new; ended = I.ended input.new; taken = O.taken out.new }) }
+        (record { told = F.told folder.old; left = I.left input.old; ended = I.ended input.old; taken = O.taken out.old; random = R.left random.old })
+        (record { told = F.told folder.new; left = I.left input.new; ended = I.ended input.new; taken = O.taken out.new; random = R.left random.new }) }
 
     // What was handed in is named only where its count of faults rose.
     ensures folder_fault { result ≡ 4 → CountRose (F.faults folder.old) (F.faults folder.new) }
     ensures input_fault { result ≡ 5 → CountRose (I.faults input.old) (I.faults input.new) }
     ensures output_fault { result ≡ 6 → CountRose (O.faults out.old) (O.faults out.new) }
+    ensures random_fault { result ≡ 7 → CountRose (R.faults random.old) (R.faults random.new) }
 
     // Words that make no command are refused, unless memory is, and no others.
     ensures bad_command_line { result ≡ 2 → IsNone (command_of (map string_bytes words.now)) }
@@ -60,16 +63,17 @@ fn execute<F: Folder, R: Randoms, I: Source, O: Sink>(
     alloc: Global,
     words: &[String],
     folder: &mut F,
-    _random: &mut R,
+    random: &mut R,
     input: &mut I,
     out: &mut O,
 ) -> Answer
     ensures executes { Executes (command_of (map string_bytes words.now)) result
-        (record { told = F.told folder.old; left = I.left input.old; ended = I.ended input.old; taken = O.taken out.old })
-        (record { told = F.told folder.new; left = I.left input.new; ended = I.ended input.new; taken = O.taken out.new }) }
+        (record { told = F.told folder.old; left = I.left input.old; ended = I.ended input.old; taken = O.taken out.old; random = R.left random.old })
+        (record { told = F.told folder.new; left = I.left input.new; ended = I.ended input.new; taken = O.taken out.new; random = R.left random.new }) }
     ensures folder_fault { result ≡ Answer.FolderFault → CountRose (F.faults folder.old) (F.faults folder.new) }
     ensures input_fault { result ≡ Answer.InputFault → CountRose (I.faults input.old) (I.faults input.new) }
     ensures output_fault { result ≡ Answer.OutputFault → CountRose (O.faults out.old) (O.faults out.new) }
+    ensures random_fault { result ≡ Answer.RandomFault → CountRose (R.faults random.old) (R.faults random.new) }
 {
     files_are_what_they_give();
     whole_files_end();
@@ -80,6 +84,7 @@ fn execute<F: Folder, R: Randoms, I: Source, O: Sink>(
         Ok(Some(Command::DecryptFile(key))) => {
             Answer::from(decrypt_file(alloc, &key, input, out))
         }
+        Ok(Some(Command::Init(new))) => init(alloc, &new, folder, random),
         Ok(Some(Command::Ls(target))) => ls(alloc, &target, folder, out),
         Ok(Some(Command::Cat(target))) => cat(alloc, &target, folder, out),
         Ok(Some(Command::Fsck(target))) => fsck(alloc, &target, folder, out),

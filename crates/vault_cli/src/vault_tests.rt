@@ -84,11 +84,25 @@ pub(crate) fn answers<F: Folder>(
     out: &str,
     err: &str,
 ) -> Result<(), Fail> {
+    answers_drawing(rt, alloc, folder, words, &[], status, out, err)
+}
+
+// The same of a run that may draw these bytes.
+pub(crate) fn answers_drawing<F: Folder>(
+    rt: &impl Abort,
+    alloc: Global,
+    folder: &mut F,
+    words: &str,
+    drawn: &[u8],
+    status: u8,
+    out: &str,
+    err: &str,
+) -> Result<(), Fail> {
     let mut all = Vec::new(alloc);
     for word in words.split(' ') {
         all.push(String::from_str(alloc, word)?)?;
     }
-    let mut random = ListRandoms::new(Vec::new(alloc), Vec::new(alloc));
+    let mut random = ListRandoms::new(drawn.to_vec(alloc)?, Vec::new(alloc));
     let mut input = MemSource::new(Vec::new(alloc), Vec::new(alloc));
     let mut taken = MemSink::new(alloc, 10_000, Vec::new(alloc))?;
     let mut line = MemSink::new(alloc, 10_000, Vec::new(alloc))?;

@@ -1,13 +1,14 @@
 //! The commands, and the words that make them.
 ghost use Rattle.std.specs.Prelude.{◌≡◌, IfOk, map, string_bytes};
 ghost use Rattle.plain_tree.specs.Reading.{read_path};
-ghost use Rattle.vault_cli.specs.Commands.{cat_by, checking_of, command_named, command_of, decrypt_file_by, folder_path, fsck_by, key_of, ls_by, only_file, repair_by, repairing_of, target_of};
+ghost use Rattle.vault_cli.specs.Commands.{cat_by, checking_of, command_named, command_of, decrypt_file_by, file_of, folder_path, fsck_by, init_by, key_of, kind_of, ls_by, new_vault_of, repair_by, repairing_of, target_of};
 
-use crate::arguments::{Arguments, Choice, only_value};
+use crate::arguments::{Arguments, Choice, are_just, value_of};
 use folder_model::{FPath, FPathFault};
 use plain_tree::{PathFault, PlainPath};
 use std::alloc::{AllocError, Global};
 use text_model::Text;
+use vault_read::VaultKind;
 
 /// A plain path in a vault, and the file that holds the vault's passphrase.
 #[derive(Debug, Drop)]
@@ -32,11 +33,22 @@ pub struct Repairing {
     pub pass: FPath,
 }
 
+/// A vault that is to be made: its format, its root, the file that holds its passphrase, and a work folder.
+#[derive(Debug, Drop)]
+pub struct NewVault {
+    pub kind: VaultKind,
+    pub vault: FPath,
+    pub pass: FPath,
+    pub work: FPath,
+}
+
 /// A command with its arguments.
 #[derive(Debug, Drop)]
 pub enum Command {
     /// `decrypt-file KEYHEX`: decrypts a gocryptfs content file from the input under this content key.
     DecryptFile([u8; 32]),
+    /// `init KIND VAULT --pass FILE --work WORK`: makes a vault.
+    Init(NewVault),
     /// `ls VAULT [PATH] --pass FILE`: lists a directory, the root without PATH.
     Ls(Target),
     /// `cat VAULT PATH --pass FILE`: writes a file's content.
@@ -76,6 +88,8 @@ fn named(
 {
     if name == "decrypt-file" {
         Ok(decrypt_file(choices, positional))
+    } else if name == "init" {
+        init(alloc, choices, positional)
     } else if name == "ls" {
         ls(alloc, choices, positional)
     } else if name == "cat" {
@@ -98,9 +112,29 @@ fn decrypt_file(choices: &[Choice], positional: &[Text]) -> Option<Command>
     }
 }
 
+fn init(
+    alloc: Global,
+    choices: &[Choice],
+    positional: &[Text],
+) -> Result<Option<Command>, AllocError>
+    ensures { IfOk result (λ command. command ≡ init_by choices.now positional.now) }
+{
+    if !are_just(choices, &["--pass", "--work"]) {
+        return Ok(None);
+    }
+    let new = match positional {
+        [kind, vault] => read_new_vault(alloc, choices, kind.as_str(), vault.as_str())?,
+        _ => None,
+    };
+    Ok(new.map(Command::Init))
+}
+
 fn ls(alloc: Global, choices: &[Choice], positional: &[Text]) -> Result<Option<Command>, AllocError>
     ensures { IfOk result (λ command. command ≡ ls_by choices.now positional.now) }
 {
+    if !are_just(choices, &["--pass"]) {
+        return Ok(None);
+    }
     let target = match positional {
         [vault] => read_target(alloc, choices, vault.as_str(), "")?,
         [vault, path] => read_target(alloc, choices, vault.as_str(), path.as_str())?,
@@ -116,6 +150,9 @@ fn cat(
 ) -> Result<Option<Command>, AllocError>
     ensures { IfOk result (λ command. command ≡ cat_by choices.now positional.now) }
 {
+    if !are_just(choices, &["--pass"]) {
+        return Ok(None);
+    }
     let target = match positional {
         [vault, path] => read_target(alloc, choices, vault.as_str(), path.as_str())?,
         _ => None,
@@ -130,6 +167,9 @@ fn fsck(
 ) -> Result<Option<Command>, AllocError>
     ensures { IfOk result (λ command. command ≡ fsck_by choices.now positional.now) }
 {
+    if !are_just(choices, &["--pass"]) {
+        return Ok(None);
+    }
     let checking = match positional {
         [vault] => read_checking(alloc, choices, vault.as_str())?,
         _ => None,
@@ -144,6 +184,9 @@ fn repair(
 ) -> Result<Option<Command>, AllocError>
     ensures { IfOk result (λ command. command ≡ repair_by choices.now positional.now) }
 {
+    if !are_just(choices, &["--pass"]) {
+        return Ok(None);
+    }
     let repairing = match positional {
         [vault, lost] => read_repairing(alloc, choices, vault.as_str(), lost.as_str())?,
         _ => None,
@@ -163,7 +206,7 @@ fn read_repairing(
     let (Some(vault), Some(lost), Some(pass)) = (
         folder_path(alloc, vault)?,
         folder_path(alloc, lost)?,
-        only_file(alloc, choices, "--pass")?,
+        file_of(alloc, choices, "--pass")?,
     ) else {
         return Ok(None);
     };
@@ -180,11 +223,49 @@ fn read_checking(
 {
     let (Some(vault), Some(pass)) = (
         folder_path(alloc, vault)?,
-        only_file(alloc, choices, "--pass")?,
+        file_of(alloc, choices, "--pass")?,
     ) else {
         return Ok(None);
     };
     Ok(Some(Checking { vault, pass }))
+}
+
+// What `KIND VAULT --pass FILE --work WORK` names.
+fn read_new_vault(
+    alloc: Global,
+    choices: &[Choice],
+    kind: &str,
+    vault: &str,
+) -> Result<Option<NewVault>, AllocError>
+    ensures { IfOk result (λ new. new ≡ new_vault_of choices.now kind.now vault.now) }
+{
+    let (Some(kind), Some(vault), Some(pass), Some(work)) = (
+        kind_of(kind),
+        folder_path(alloc, vault)?,
+        file_of(alloc, choices, "--pass")?,
+        file_of(alloc, choices, "--work")?,
+    ) else {
+        return Ok(None);
+    };
+    Ok(Some(NewVault {
+        kind,
+        vault,
+        pass,
+        work,
+    }))
+}
+
+// The format of vaults that a word names.
+fn kind_of(word: &str) -> Option<VaultKind>
+    ensures { result ≡ kind_of word.now }
+{
+    if word == "gocryptfs" {
+        Some(VaultKind::Gocryptfs)
+    } else if word == "cryptomator" {
+        Some(VaultKind::Cryptomator)
+    } else {
+        None
+    }
 }
 
 // What `VAULT PATH --pass FILE` names.
@@ -199,18 +280,18 @@ fn read_target(
     let (Some(vault), Some(path), Some(pass)) = (
         folder_path(alloc, vault)?,
         plain_path(alloc, path)?,
-        only_file(alloc, choices, "--pass")?,
+        file_of(alloc, choices, "--pass")?,
     ) else {
         return Ok(None);
     };
     Ok(Some(Target { vault, path, pass }))
 }
 
-// The folder path that is the value of the only option, if this is its name.
-fn only_file(alloc: Global, choices: &[Choice], name: &str) -> Result<Option<FPath>, AllocError>
-    ensures { IfOk result (λ path. path ≡ only_file name.now choices.now) }
+// The folder path that is the value of an option.
+fn file_of(alloc: Global, choices: &[Choice], name: &str) -> Result<Option<FPath>, AllocError>
+    ensures { IfOk result (λ path. path ≡ file_of name.now choices.now) }
 {
-    match only_value(choices, name) {
+    match value_of(choices, name) {
         Some(text) => folder_path(alloc, text),
         None => Ok(None),
     }

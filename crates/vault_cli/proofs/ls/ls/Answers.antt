@@ -1,6 +1,10 @@
+use Rattle.std.proofs.Common.{[], ◌∷◌, ◌∙◌, refl, string_bytes, subst, sym}
+use Rattle.std.specs.Io.KnownBytes.{Appends}
+use Rattle.std.proofs.lemmas.List.{append-nil}
 use Rattle.vault_cli.specs.Ls.{ShowsItems}
 use Rattle.vault_cli.proofs.Listings.{items_are_one}
-use Rattle.vault_cli.proofs.Showing.{reads_refused, refusal_is_no_output_fault}
+use Rattle.vault_cli.specs.declared.answer.Answer.TheVariants.{Done}
+use Rattle.vault_cli.proofs.Showing.{reads_by, reads_refused, refusal_is_no_output_fault}
 use Rattle.vault_cli.proofs.ls.ls.Goals as goal
 
 pub returns-in-Err-clause-reads : goal.returns-in-Err-clause-reads
@@ -10,3 +14,14 @@ returns-in-Err-clause-reads g c =
 
 pub returns-in-Err-clause-output_fault : goal.returns-in-Err-clause-output_fault
 returns-in-Err-clause-output_fault g c = λ fault. absurd (refusal_is_no_output_fault c.in-Err.answer c.in-Err.ensures.own fault)
+
+pub returns-in-Ok-put-clause-reads : goal.returns-in-Ok-put-clause-reads
+returns-in-Ok-put-clause-reads g c =
+    reads_by (ShowsItems c.args.target.now) Done (g.F.Folder.told c.args.folder.now) (g.F.Folder.told c.listing.new.folder) (g.O.Sink.taken c.args.out.now) (g.O.Sink.taken c.put.new.self)
+    (items_are_one c.roots_have_one_answer.ensures c.directories_have_one_list.ensures c.args.target.now) c.in-Ok.ensures.told refl
+    (λ v is. (
+      record { pieces = string_bytes c.in-Ok.text ∷ []; answer = Done },
+      c.in-Ok.ensures.text v is,
+      refl,
+      subst (Appends (g.O.Sink.taken c.args.out.now) (g.O.Sink.taken c.put.new.self)) (c.as_bytes.ensures.value ∙ sym (append-nil (string_bytes c.in-Ok.text))) c.in-Ok-put.ensures.whole,
+    ))

@@ -1,7 +1,7 @@
-use Rattle.std.proofs.Common.{sym, ◌∙◌, map, string_bytes, inl, inr}
+use Rattle.std.proofs.Common.{arith, sym, ◌∙◌, map, string_bytes, inl, inr}
 use Rattle.vault_cli.specs.Commands.{command_of}
-use Rattle.vault_cli.specs.declared.answer.Answer.TheVariants.{FolderFault, InputFault, OutputFault}
-use Rattle.vault_cli.proofs.Executions.{reported, reported_as, bad_is_none, none_is_bad, folder_of_status, input_of_status, output_of_status}
+use Rattle.vault_cli.specs.declared.answer.Answer.TheVariants.{FolderFault, InputFault, OutputFault, RandomFault}
+use Rattle.vault_cli.proofs.Executions.{reported, reported_as, bad_is_none, none_is_bad, with_status}
 use Rattle.vault_cli.proofs.running.run.Goals as goal
 
 pub returns-clause-answer : goal.returns-clause-answer
@@ -15,17 +15,22 @@ returns-clause-answer g c = (
 pub returns-clause-folder_fault : goal.returns-clause-folder_fault
 returns-clause-folder_fault g c = λ is.
     c.execute-answer.ensures.folder_fault (reported_as c.execute-answer.result c.report-answer.result FolderFault c.report-answer.ensures.kept
-    (folder_of_status c.report-answer.result (sym c.status.ensures ∙ is)) (λ same. cc))
+    (with_status c.report-answer.result 4 (omega arith) (sym c.status.ensures ∙ is)) (λ same. cc))
 
 pub returns-clause-input_fault : goal.returns-clause-input_fault
 returns-clause-input_fault g c = λ is.
     c.execute-answer.ensures.input_fault (reported_as c.execute-answer.result c.report-answer.result InputFault c.report-answer.ensures.kept
-    (input_of_status c.report-answer.result (sym c.status.ensures ∙ is)) (λ same. cc))
+    (with_status c.report-answer.result 5 (omega arith) (sym c.status.ensures ∙ is)) (λ same. cc))
 
 pub returns-clause-output_fault : goal.returns-clause-output_fault
 returns-clause-output_fault g c = λ is.
     c.execute-answer.ensures.output_fault (reported_as c.execute-answer.result c.report-answer.result OutputFault c.report-answer.ensures.kept
-    (output_of_status c.report-answer.result (sym c.status.ensures ∙ is)) (λ same. cc))
+    (with_status c.report-answer.result 6 (omega arith) (sym c.status.ensures ∙ is)) (λ same. cc))
+
+pub returns-clause-random_fault : goal.returns-clause-random_fault
+returns-clause-random_fault g c = λ is.
+    c.execute-answer.ensures.random_fault (reported_as c.execute-answer.result c.report-answer.result RandomFault c.report-answer.ensures.kept
+    (with_status c.report-answer.result 7 (omega arith) (sym c.status.ensures ∙ is)) (λ same. cc))
 
 pub returns-clause-bad_command_line : goal.returns-clause-bad_command_line
 returns-clause-bad_command_line g c = λ is.

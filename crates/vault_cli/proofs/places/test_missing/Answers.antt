@@ -1,7 +1,7 @@
 use Rattle.std.proofs.Common.{sym, ◌∙◌}
 use Rattle.std.proofs.lemmas.Result.{err_from_is_err_and}
 use Rattle.vault_cli.proofs.Repairs.{kind_failed}
-use Rattle.vault_cli.proofs.repair.test_missing.Goals as goal
+use Rattle.vault_cli.proofs.places.test_missing.Goals as goal
 
 pub returns-in_err-kind-clause-failed : goal.returns-in_err-kind-clause-failed
 returns-in_err-kind-clause-failed g c = λ is.

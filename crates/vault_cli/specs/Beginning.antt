@@ -1,0 +1,58 @@
+-- How a command that changes a vault begins: the vault and the work folder don't overlap, the passphrase is read, the folder is
+-- settled, and the work folder is made ready. The first test that fails is the answer.
+use Rattle.std.specs.Prelude.{◌≡◌, ◌⊎◌, ◌||◌, ℕ, Bool, true, false, List, [], IsTrue, Option, is_some, MatchResult}
+use Rattle.std.specs.Io.KnownBytes.{Keeps}
+use Rattle.folder_spec.specs.Path.{Path, below}
+use Rattle.folder_spec.specs.State.{State}
+use Rattle.folder_spec.specs.Event.{Event, Told}
+use Rattle.folder_spec.specs.Moments.{Moments}
+use Rattle.folder_spec.specs.Region.{IsAsBefore, Spares, apart_from}
+use Rattle.folder_spec.specs.View.{View}
+use Rattle.port_model.specs.Draws.{ByteStream, Draws}
+use Rattle.work_folder.specs.Entering.{EntersAs}
+use Rattle.work_folder.specs.Looking as work
+use Rattle.vault_cli.specs.Faults.{of_work}
+use Rattle.vault_cli.specs.declared.answer.Answer.{Answer}
+use Rattle.vault_cli.specs.declared.answer.Answer.TheVariants.{Done, BadCommandLine, OutOfMemory, FolderFault, InputFault, OutputFault, RandomFault, Refused, WrongPass, NotFound, WrongKind, DamagedInput, Damaged, NotAllowed, Overlap, NotEmpty, Begun, ZeroRandom, Taken, Limit}
+
+-- overlapping folders are refused, and nothing comes of the call
+pub record RefusesOverlapping (vault work : Path) (answer : Answer) (told told' : Option Told) (stream stream' : Option ByteStream) : Type 0 where
+  pub answers : (answer ≡ Overlap vault work) ⊎ (answer ≡ OutOfMemory)
+  pub unchanged : told' ≡ told
+  pub undrawn : Draws stream stream' []
+
+-- what follows where the work folder can be made ready, and else the answer is why it can't
+abbrev pub OfWork : View → Path → Answer → Type 0 → Type 0
+OfWork v at answer next = (entered : work.Answer) × EntersAs v at entered × MatchResult entered (λ done. next) (λ fault. answer ≡ of_work at fault)
+
+-- whether a command may answer so before it makes anything outside the work folder
+abbrev pub is_of_beginning : Answer → Bool
+is_of_beginning FolderFault = true
+is_of_beginning OutOfMemory = true
+is_of_beginning (Refused at why) = true
+is_of_beginning (WrongPass root) = true
+is_of_beginning (NotFound what) = true
+is_of_beginning (WrongKind what) = true
+is_of_beginning (NotEmpty at) = true
+is_of_beginning (Begun work) = true
+is_of_beginning (Limit which) = true
+is_of_beginning answer = false
+
+-- Nothing but the work folder is changed, at every moment, and nothing is drawn.
+pub record ChangesWorkAlone (work : Path) (told told' : Option Told) (stream stream' : Option ByteStream) : Type 0 where
+  pub moments : Moments (IsAsBefore (apart_from work)) (λ s0 s e. Spares (apart_from work) e.call) told told'
+  pub undrawn : Draws stream stream' []
+
+-- the call ended before it came to the making
+pub record EndsBefore (work : Path) (answer : Answer) (told told' : Option Told) (stream stream' : Option ByteStream) : Type 0 where
+  pub own : IsTrue (is_of_beginning answer)
+  pub changes : ChangesWorkAlone work told told' stream stream'
+
+-- Since s0 no file was made, and nothing but the work folder is changed (private contracts only).
+pub record IsBeginning (work : Path) (s0 s : State) : Type 0 where
+  pub others : IsAsBefore (apart_from work) s0 s
+  pub nodes : s.nodes ≡ s0.nodes
+  pub made : s.made ≡ s0.made
+
+abbrev pub ChangesWork : Path → Option Told → Option Told → Type 0
+ChangesWork work before after = Moments (IsBeginning work) (λ s0 s e. Spares (apart_from work) e.call) before after

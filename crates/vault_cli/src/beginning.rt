@@ -1,0 +1,80 @@
+//! How a command that changes a vault begins.
+ghost use Rattle.std.specs.Prelude.{◌≡◌, ◌⊎◌, ◌≤◌, true, false, Ok, Err, IfErr, IfOk, IsTrue};
+ghost use Rattle.folder_spec.specs.View.{View};
+ghost use Rattle.folder_spec.specs.Seen.{IsSeen};
+ghost use Rattle.port_model.specs.Counts.{CountRose};
+ghost use Rattle.work_folder.specs.Entering.{EntersAs, IsReady};
+ghost use Rattle.vault_cli.specs.Beginning.{is_of_beginning, ChangesWork};
+ghost use Rattle.vault_cli.specs.Places.{overlap};
+ghost use Rattle.vault_cli.specs.Faults.{of_work};
+ghost use Rattle.vault_cli.specs.Opening.{IsPhrase};
+ghost use Rattle.vault_cli.specs.Refusing.{RefusesPass, RefusesWork};
+
+use crate::answer::{Answer, Limit, Named};
+use crate::opening::read_pass;
+use crate::places::{do_overlap, overlapping};
+use folder_model::{FPath, Folder};
+use std::alloc::Global;
+use text_model::Bytes;
+use work_folder::{Work, WorkFault};
+
+/// The passphrase in a file, for a vault and a work folder that don't overlap.
+pub(crate) fn read_apart<F: Folder>(
+    alloc: Global,
+    folder: &mut F,
+    vault: &FPath,
+    work: &FPath,
+    pass: &FPath,
+) -> Result<Bytes, Answer>
+    ensures told { F.told folder.new ≡ F.told folder.old }
+    ensures apart { IfOk result (λ phrase. overlap vault.now work.now ≡ false) }
+    ensures phrase { IfOk result (λ phrase. (v : View) → IsSeen (F.told folder.old) v → IsPhrase (v pass.now) phrase) }
+    ensures overlapping { IfErr result (λ answer. overlap vault.now work.now ≡ true → (answer ≡ Answer.Overlap vault.now work.now) ⊎ (answer ≡ Answer.OutOfMemory)) }
+    ensures refused { IfErr result (λ answer. overlap vault.now work.now ≡ false → (v : View) → IsSeen (F.told folder.old) v → RefusesPass pass.now (v pass.now) answer) }
+    ensures own { IfErr result (λ answer. overlap vault.now work.now ≡ false → IsTrue (is_of_beginning answer)) }
+    ensures grows { F.faults folder.old ≤ F.faults folder.new }
+    ensures failed { result ≡ Err Answer.FolderFault → CountRose (F.faults folder.old) (F.faults folder.new) }
+{
+    if do_overlap(vault, work) {
+        return Err(overlapping(vault, work));
+    }
+    read_pass(alloc, folder, pass)
+}
+
+/// Settles the folder, and makes the work folder ready.
+pub(crate) fn enter_settled<F: Folder>(folder: &mut F, work: &FPath) -> Result<Work, Answer>
+    ensures path { IfOk result (λ entered. entered ≡ work.now) }
+    ensures ready { IfOk result (λ entered. (v : View) → IsSeen (F.told folder.new) v → IsReady v work.now) }
+    ensures entered { IfOk result (λ entered. (v : View) → IsSeen (F.told folder.old) v → EntersAs v work.now (Ok tt)) }
+    ensures refused { IfErr result (λ answer. (v : View) → IsSeen (F.told folder.old) v → RefusesWork v work.now answer) }
+    ensures own { IfErr result (λ answer. IsTrue (is_of_beginning answer)) }
+    ensures moments { ChangesWork work.now (F.told folder.old) (F.told folder.new) }
+    ensures grows { F.faults folder.old ≤ F.faults folder.new }
+    ensures failed { result ≡ Err Answer.FolderFault → CountRose (F.faults folder.old) (F.faults folder.new) }
+{
+    folder.settle()?;
+    match Work::enter(folder, work) {
+        Ok(work) => Ok(work),
+        Err(fault) => Err(answer_to(work, fault)),
+    }
+}
+
+// The answer to a work folder that isn't ready.
+fn answer_to(work: &FPath, fault: WorkFault) -> Answer
+    ensures answers { (result ≡ Answer.OutOfMemory) ⊎ (result ≡ of_work work.now fault) }
+    ensures failed { result ≡ Answer.FolderFault → fault ≡ WorkFault.Failed }
+    ensures own { IsTrue (is_of_beginning result) }
+{
+    match fault {
+        WorkFault::NoParent(above) => Answer::NotFound(Named::Folder(above)),
+        WorkFault::WrongKind(there) => Answer::WrongKind(Named::Folder(there)),
+        WorkFault::Foreign(entry) => Answer::NotEmpty(entry),
+        WorkFault::Begun => match work.copy() {
+            Ok(work) => Answer::Begun(work),
+            Err(_) => Answer::OutOfMemory,
+        },
+        WorkFault::Depth => Answer::Limit(Limit::Removal),
+        WorkFault::Failed => Answer::FolderFault,
+        WorkFault::NoMemory => Answer::OutOfMemory,
+    }
+}

@@ -21,3 +21,6 @@ mod NewFounded
 mod Filing
 mod FileBegun
 mod FileMade
+mod Replacing
+mod ReplacedMade
+mod PutMade

@@ -1,22 +1,28 @@
 -- Putting a content in its place: its entry is staged whole, renamed, and settled (private contracts only).
-use Rattle.std.specs.Prelude.{◌≡◌, ◌≤◌, ◌⊎◌, ℕ, List, [], ◌∷◌, ◌++◌, length, codes, Contains, Option, Some, None, Result, Ok, Err, OnOk}
+use Rattle.std.specs.Prelude.{true, ◌≡◌, ◌≤◌, ◌⊎◌, ℕ, List, [], ◌∷◌, ◌++◌, length, codes, Contains, Option, Some, None, Result, Ok, Err, OnOk, IsTrue}
 use Rattle.chunk_files.specs.Encrypt.{IsEncrypted, draws, encrypt}
 use Rattle.chunk_files.specs.Keys as contents
 use Rattle.chunk_files.specs.Keys.{Keys}
 use Rattle.port_model.specs.Draws.{ByteStream}
 use Rattle.folder_spec.specs.declared.FolderFault.{FolderFault}
 use Rattle.folder_spec.specs.declared.FolderFault.TheVariants as folder
-use Rattle.folder_spec.specs.Edit.{Edit, file_view, folder_view}
+use Rattle.folder_spec.specs.Edit.{Edit, file_edit, file_view, folder_view}
 use Rattle.folder_spec.specs.Event.{Told, FromTo}
-use Rattle.folder_spec.specs.Path.{Path, child}
-use Rattle.folder_spec.specs.Seen.{IsSeen, ShowsFree}
-use Rattle.folder_spec.specs.View.{View}
+use Rattle.folder_spec.specs.Path.{Path, below, child}
+use Rattle.folder_spec.specs.Region.{at_or_below}
+use Rattle.folder_spec.specs.Seen.{seen, under, IsSeen, ShowsFile, ShowsFree}
+use Rattle.folder_spec.specs.State.{IsSound}
+use Rattle.folder_spec.specs.View.{NoEntry, View}
 use Rattle.folder_staging.specs.Folders.{StagesFolder, HasStaged}
 use Rattle.plain_tree.specs.Names as plain
+use Rattle.work_folder.specs.Entering.{IsReady}
 use Rattle.work_folder.specs.Entries.{stage_path}
 use Rattle.vault_read.specs.Opened.{OpenedVault}
+use Rattle.vault_read.specs.declared.fault.FindFault.TheVariants as finds
 use Rattle.vault_spec.specs.Cryptomator.{content_file, full_file}
-use Rattle.vault_spec.specs.Making.{NewFile, full_texts}
+use Rattle.vault_spec.specs.Find.{Refusal, enter}
+use Rattle.vault_spec.specs.Making.{Allows, NewFile, NewItem, full_texts}
+use Rattle.vault_spec.specs.Standing.{Standing, Absent, Strange, File, Dir, standing}
 use Rattle.vault_spec.specs.Vault.{format_of}
 use Rattle.content_writing.specs.Content.{Coming, Whole, Damaged, TooLong}
 use Rattle.content_writing.specs.Faults.{of_folder}
@@ -26,7 +32,7 @@ use Rattle.content_writing.specs.declared.fault.PutFault.TheVariants as puts
 use Rattle.vault_write.specs.Calls.{How, MakesOne, TakesContent, Writing}
 use Rattle.vault_write.specs.Editing.{AddsEdits, Edits, HasEdited, HasFinished}
 use Rattle.vault_write.specs.Making.{Making}
-use Rattle.vault_write.specs.Slots.{placing}
+use Rattle.vault_write.specs.Slots.{IsSlot, IsTakenAt, RefusesItem, placing}
 
 -- what an entry shows that has these bytes: a file of them, or a folder with that and the text of a long name
 abbrev pub entry_view : Option (List ℕ) → List ℕ → View
@@ -111,6 +117,38 @@ pub record PlacesEntry (keys : Keys) (work at : Path) (inside : Option (List ℕ
   pub takes : TakesContent keys writing coming left stream stream' result
   pub ends : PlacesBy keys writing (DoesLast work (entry_edit at inside (file_of keys writing)) (entry_files inside (file_of keys writing)) old new) (OnlyStages work (entry_files inside (file_of keys writing)) old new) result
 
+-- ---- in the place of another content
+
+-- the making of a content that is replaced
+abbrev pub replace_making : Path → List ℕ → Making
+replace_making at bytes = record { edits = file_edit at bytes ∷ []; files = bytes ∷ []; replaces = true }
+
+-- what is known where it begins
+pub record MayReplace (work root at : Path) (a : Told) : Type 0 where
+  pub sound : IsSound a.state
+  pub ready : IsReady (seen a.state) work
+  pub apart : below work root ≡ None
+  pub beside : below root work ≡ None
+  pub inside : IsTrue (at_or_below root at)
+  pub file : ShowsFile (seen a.state) at
+
+abbrev pub DoesReplace : Path → Path → Path → List ℕ → Option Told → Option Told → Result (Unit {0}) FolderFault → Type 0
+DoesReplace work root at bytes old new result =
+    FromTo (Edits work root (replace_making at bytes)) old new × OnOk result (FromTo (HasFinished work root (replace_making at bytes)) old new)
+
+-- A call puts there at once the file that was staged, in the place of another, and settles.
+abbrev pub ReplacesEntry : Path → Path → Option Told → Option Told → Result (Unit {0}) FolderFault → Type 0
+ReplacesEntry staged at old new result =
+    (work root : Path) (bytes : List ℕ) (before : Option Told) → staged ≡ child (stage_path work) (codes "f") → ((a : Told) → before ≡ Some a → MayReplace work root at a)
+    → HasStaged (bytes ∷ []) staged (file_view bytes) before old → DoesReplace work root at bytes before new result
+
+-- A call stages a content, and puts it in the place of another.
+pub record ReplacesContent (keys : Keys) (work root at : Path) (coming left : Option Coming) (stream stream' : Option ByteStream) (old new : Option Told) (result : Result (Unit {0}) PutFault) : Type 0 where
+  pub writing : Writing
+  pub enough : length writing.drawn ≤ draws (contents.format_of keys) writing.content
+  pub takes : TakesContent keys writing coming left stream stream' result
+  pub ends : PlacesBy keys writing (DoesReplace work root at (file_of keys writing) old new) (OnlyStages work (file_of keys writing ∷ []) old new) result
+
 -- ---- under a name
 
 -- A call makes one file under a name, of a content.
@@ -119,3 +157,49 @@ pub record PlacesFile (how : How) (vault : OpenedVault) (work : Path) (front : p
   pub writing : Writing
   pub takes : TakesContent (format_of vault.vault).content writing coming left stream stream' result
   pub one : MakesOne how (placing vault work front name (NewFile writing.content)) writing.ending writing.drawn before after result
+
+-- ---- by what stands there
+
+-- The name is allowed. Where nothing stands at its entry, it is a slot, and else that is taken.
+pub record IsSlotOver (vault : OpenedVault) (front : plain.Path) (name : List ℕ) (told : Option Told) (at side : Path) (full : Option (List ℕ)) : Type 0 where
+  pub allowed : Allows (format_of vault.vault) name
+  pub free : ((v : View) → IsSeen told v → v at ≡ NoEntry) → (v : View) → IsSeen told v → IsSlot vault (format_of vault.vault) front name (under vault.root v) at side full
+  pub taken : (item : NewItem) (fault : PutFault) → IsTakenAt at told fault → RefusesItem vault front name item [] told fault
+
+-- why the place under a name isn't found: the directory isn't entered, the name isn't allowed, or the folder or memory failed
+abbrev pub IsOverFault : OpenedVault → plain.Path → Option Told → PutFault → Type 0
+IsOverFault vault front told (puts.Find fault) = (v : View) → IsSeen told v → (refusal : Refusal) × (enter (format_of vault.vault) (under vault.root v) front ≡ Err refusal)
+IsOverFault vault front told (puts.NotAllowed path) = Unit {0}
+IsOverFault vault front told puts.Failed = Unit {0}
+IsOverFault vault front told puts.NoMemory = Unit {0}
+IsOverFault vault front told (puts.Taken at) = ⊥
+IsOverFault vault front told (puts.Damaged at fault) = ⊥
+IsOverFault vault front told (puts.Limit limit) = ⊥
+IsOverFault vault front told puts.ZeroRandom = ⊥
+IsOverFault vault front told puts.Source = ⊥
+IsOverFault vault front told puts.Random = ⊥
+
+-- what stands there as a file, if anything stands there as an item
+abbrev pub StandsAs : Path → Standing → Option Path → Type 0
+StandsAs root (File at) (Some place) = place ≡ root ++ at
+StandsAs root (File at) None = ⊥
+StandsAs root Absent (Some place) = ⊥
+StandsAs root Absent None = Unit {0}
+StandsAs root (Strange at) (Some place) = ⊥
+StandsAs root (Strange at) None = Unit {0}
+StandsAs root (Dir at directory) place = ⊥
+
+abbrev pub IsDir : Standing → Type 0
+IsDir (Dir at directory) = Unit {0}
+IsDir (File at) = ⊥
+IsDir Absent = ⊥
+IsDir (Strange at) = ⊥
+
+-- a directory stands there, where the folder and memory serve
+abbrev pub IsAtDirectory : OpenedVault → plain.Path → Option Told → PutFault → Type 0
+IsAtDirectory vault path told fault =
+    (fault ≡ puts.Failed) ⊎ ((fault ≡ puts.NoMemory) ⊎ ((fault ≡ puts.Find (finds.WrongKind path)) × ((v : View) → IsSeen told v → IsDir (standing (format_of vault.vault) (under vault.root v) path))))
+
+-- a file stands there with its content at this path
+abbrev pub StandsUnder : OpenedVault → plain.Path → List ℕ → Option Told → Path → Type 0
+StandsUnder vault front name told at = (v : View) → IsSeen told v → StandsAs vault.root (standing (format_of vault.vault) (under vault.root v) (front ++ name ∷ [])) (Some at)

@@ -1,5 +1,5 @@
-//! Making files.
-ghost use Rattle.std.specs.Prelude.{◌≡◌, ◌≢◌, ◌≤◌, ◌∷◌, ◌++◌, [], None, Some, Option, List, ℕ, IsTrue};
+//! Making files, and replacing their contents.
+ghost use Rattle.std.specs.Prelude.{◌≡◌, ◌≢◌, ◌⊎◌, ◌≤◌, ◌∷◌, ◌++◌, [], None, Some, Option, List, ℕ, IsTrue, IfOk, IfErr, OnOk};
 ghost use Rattle.folder_spec.specs.Event.{Told, Allowed, Rename};
 ghost use Rattle.folder_model.specs.Answers.{CountsAbove};
 ghost use Rattle.folder_spec.specs.Seen.{IsSeen, ShowsFree, under};
@@ -9,14 +9,16 @@ ghost use Rattle.vault_read.specs.Opened.{kind_of};
 ghost use Rattle.vault_spec.specs.Vault.{format_of};
 ghost use Rattle.content_writing.specs.Content.{IsReady, still_coming};
 ghost use Rattle.content_writing.specs.Writing.{Blames, ReadsApart};
-ghost use Rattle.vault_write.specs.Calls.{MakesFile, New, ReadsElsewhere};
+ghost use Rattle.vault_write.specs.Calls.{MakesFile, New, InPlace, ReadsElsewhere};
 ghost use Rattle.vault_write.specs.Editing.{MayCome};
-ghost use Rattle.vault_write.specs.Filing.{StagesEntry, PlacesEntry, PlacesFile, PublishesEntry};
+ghost use Rattle.vault_write.specs.Filing.{StagesEntry, PlacesEntry, PlacesFile, PublishesEntry, MayReplace, ReplacesEntry, ReplacesContent, IsSlotOver, StandsAs, StandsUnder, IsAtDirectory};
 ghost use Rattle.vault_write.specs.Placing.{MayMake};
-ghost use Rattle.vault_write.specs.Slots.{IsSlot};
+ghost use Rattle.vault_spec.specs.Making.{Allows};
+ghost use Rattle.vault_spec.specs.Standing.{standing};
+ghost use Rattle.vault_write.specs.Slots.{IsSlot, CountsFailed};
 
 use crate::laws::edits_show_trees;
-use crate::slot::{Slot, slot_at, wants_side};
+use crate::slot::{Slot, is_free, slot_at, slot_over, wants_side};
 use crate::stage::{publish_side, stage_name, staged_entry};
 use chunk_files::ContentKeys;
 use chunk_files::laws::{encrypted_files_are_files, files_are_what_they_give};
@@ -26,12 +28,12 @@ use folder_spec::FolderFault;
 use folder_spec::laws::roots_show_their_own;
 use folder_staging::begin_folder;
 use folder_staging::laws::{staged_folders_are_seen, staged_folders_gain_files};
-use plain_tree::{Name, PlainPath};
+use plain_tree::{Name, NodeKind, PlainPath};
 use port_model::Randoms;
 use std::alloc::Global;
 use text_model::Text;
-use vault_read::laws::items_keep_vaults;
-use vault_read::{Vault, VaultKind};
+use vault_read::laws::{files_have_their_contents, items_keep_vaults};
+use vault_read::{FindFault, Place, Vault, VaultKind, find};
 use vault_spec::laws::what_is_found_stands;
 use work_folder::Work;
 
@@ -68,6 +70,228 @@ pub fn place_file<F: Folder, R: Randoms, C: Content<F>>(
             )
         }
     }
+}
+
+/// Replaces the content of a file that stands at a plain path, and makes a new file where no item stands.
+///
+/// At every moment a crash leaves the old tree or the one with the content. The directory that is to have the file is entered, then the
+/// name is tested, and then what stands under it.
+pub fn put<F: Folder, R: Randoms, C: Content<F>>(
+    alloc: Global,
+    folder: &mut F,
+    work: &Work,
+    vault: &Vault,
+    path: &PlainPath,
+    content: &mut C,
+    random: &mut R,
+) -> Result<(), PutFault>
+    requires may { MayMake (F.told folder.old) work.now vault.now.root }
+    requires ready { IsReady (C.reads content.old) (F.told folder.old) (C.coming content.old) }
+    requires elsewhere { ReadsElsewhere (C.reads content.old) work.now vault.now.root }
+    ensures made { MakesFile InPlace vault.now work.now path.now (still_coming (C.reads content.old) (F.told folder.old) (C.coming content.old)) (still_coming (C.reads content.old) (F.told folder.old) (C.coming content.new))
+        (R.left random.old) (R.left random.new) (F.told folder.old) (F.told folder.new) result }
+    ensures reads { C.reads content.new ≡ C.reads content.old }
+    ensures room { C.room content.new ≤ C.room content.old }
+    ensures lender { C.lender content.new ≡ C.lender content.old }
+    ensures failed { Blames result PutFault.Failed (F.faults folder.old) (F.faults folder.new) }
+    ensures source { Blames result PutFault.Source (C.faults content.old) (C.faults content.new) }
+    ensures random { Blames result PutFault.Random (R.faults random.old) (R.faults random.new) }
+{
+    match path.names() {
+        [] => Err(PutFault::Find(FindFault::WrongKind(path.copy()?))),
+        [front @ .., name] => {
+            put_named(
+                alloc, folder, work, vault, path, front, name, content, random,
+            )
+        }
+    }
+}
+
+// Puts a content under a name in the directory at the front of a path.
+fn put_named<F: Folder, R: Randoms, C: Content<F>>(
+    alloc: Global,
+    folder: &mut F,
+    work: &Work,
+    vault: &Vault,
+    path: &PlainPath,
+    front: &[Name],
+    name: &Name,
+    content: &mut C,
+    random: &mut R,
+) -> Result<(), PutFault>
+    requires path { path.now ≡ front.now ++ name.now ∷ [] }
+    requires may { MayMake (F.told folder.old) work.now vault.now.root }
+    requires ready { IsReady (C.reads content.old) (F.told folder.old) (C.coming content.old) }
+    requires elsewhere { ReadsElsewhere (C.reads content.old) work.now vault.now.root }
+    ensures made { PlacesFile InPlace vault.now work.now front.now name.now (still_coming (C.reads content.old) (F.told folder.old) (C.coming content.old)) (still_coming (C.reads content.old) (F.told folder.old) (C.coming content.new))
+        (R.left random.old) (R.left random.new) (F.told folder.old) (F.told folder.new) result }
+    ensures reads { C.reads content.new ≡ C.reads content.old }
+    ensures room { C.room content.new ≤ C.room content.old }
+    ensures lender { C.lender content.new ≡ C.lender content.old }
+    ensures failed { Blames result PutFault.Failed (F.faults folder.old) (F.faults folder.new) }
+    ensures source { Blames result PutFault.Source (C.faults content.old) (C.faults content.new) }
+    ensures random { Blames result PutFault.Random (R.faults random.old) (R.faults random.new) }
+{
+    what_is_found_stands();
+    let slot = slot_over(alloc, folder, vault, path, front, name)?;
+    let _named = name.bytes();
+    match standing_file(alloc, folder, vault, path)? {
+        Some(at) => replace(
+            alloc, folder, work, vault, &at, front, name, content, random,
+        ),
+        None => place_over(
+            alloc, folder, work, vault, &slot, front, name, content, random,
+        ),
+    }
+}
+
+// The content file of the file that stands at a path, or none where no item stands.
+fn standing_file<F: Folder>(
+    alloc: Global,
+    folder: &mut F,
+    vault: &Vault,
+    path: &PlainPath,
+) -> Result<Option<FPath>, PutFault>
+    ensures told { F.told folder.new ≡ F.told folder.old }
+    ensures file { IfOk result (λ file. (v : View) → IsSeen (F.told folder.old) v → StandsAs vault.now.root (standing (format_of vault.now.vault) (under vault.now.root v) path.now) file) }
+    ensures fault { IfErr result (λ fault. IsAtDirectory vault.now path.now (F.told folder.old) fault) }
+    ensures counts { CountsFailed PutFault.Failed (F.faults folder.old) (F.faults folder.new) result }
+{
+    what_is_found_stands();
+    match find(alloc, folder, vault, path) {
+        Ok(place) => Ok(Some(content_file(path, place)?)),
+        Err(fault) => {
+            unless_failed(fault)?;
+            Ok(None)
+        }
+    }
+}
+
+// The content file at a place, which a directory hasn't.
+fn content_file(path: &PlainPath, place: Place) -> Result<FPath, PutFault>
+    ensures file { IfOk result (λ at. (place.node ≡ NodeKind.File) × (at ≡ place.at)) }
+    ensures directory { IfErr result (λ fault. (fault ≡ PutFault.NoMemory) ⊎ ((fault ≡ PutFault.Find (FindFault.WrongKind path.now)) × (place.node ≡ NodeKind.Dir))) }
+{
+    match place.node {
+        NodeKind::File => Ok(place.at),
+        NodeKind::Dir => Err(PutFault::Find(FindFault::WrongKind(path.copy()?))),
+    }
+}
+
+// Looking for a path was refused, where neither the folder nor memory failed.
+fn unless_failed(fault: FindFault) -> Result<(), PutFault>
+    ensures refused { OnOk result ((fault ≢ FindFault.Failed) × (fault ≢ FindFault.NoMemory)) }
+    ensures failed { IfErr result (λ told. ((told ≡ PutFault.Failed) × (fault ≡ FindFault.Failed)) ⊎ (told ≡ PutFault.NoMemory)) }
+{
+    match fault {
+        FindFault::Failed => Err(PutFault::Failed),
+        FindFault::NoMemory => Err(PutFault::NoMemory),
+        _ => Ok(()),
+    }
+}
+
+// Puts a new content in the place of the content file of a file that stands.
+fn replace<F: Folder, R: Randoms, C: Content<F>>(
+    alloc: Global,
+    folder: &mut F,
+    work: &Work,
+    vault: &Vault,
+    at: &FPath,
+    front: &[Name],
+    name: &Name,
+    content: &mut C,
+    random: &mut R,
+) -> Result<(), PutFault>
+    requires may { MayMake (F.told folder.old) work.now vault.now.root }
+    requires allowed { Allows (format_of vault.now.vault) name.now }
+    requires stands { StandsUnder vault.now front.now name.now (F.told folder.old) at.now }
+    requires ready { IsReady (C.reads content.old) (F.told folder.old) (C.coming content.old) }
+    requires elsewhere { ReadsElsewhere (C.reads content.old) work.now vault.now.root }
+    ensures made { PlacesFile InPlace vault.now work.now front.now name.now (still_coming (C.reads content.old) (F.told folder.old) (C.coming content.old)) (still_coming (C.reads content.old) (F.told folder.old) (C.coming content.new))
+        (R.left random.old) (R.left random.new) (F.told folder.old) (F.told folder.new) result }
+    ensures reads { C.reads content.new ≡ C.reads content.old }
+    ensures room { C.room content.new ≤ C.room content.old }
+    ensures lender { C.lender content.new ≡ C.lender content.old }
+    ensures failed { Blames result PutFault.Failed (F.faults folder.old) (F.faults folder.new) }
+    ensures source { Blames result PutFault.Source (C.faults content.old) (C.faults content.new) }
+    ensures random { Blames result PutFault.Random (R.faults random.old) (R.faults random.new) }
+{
+    edits_show_trees();
+    roots_show_their_own();
+    items_keep_vaults(vault);
+    files_have_their_contents();
+    files_are_what_they_give();
+    encrypted_files_are_files();
+    let mut buffers = Buffers::new(alloc)?;
+    replace_entry(folder, work, vault, at, content, random, &mut buffers)
+}
+
+// Stages a content, and puts it in the place of a content file.
+fn replace_entry<F: Folder, R: Randoms, C: Content<F>>(
+    folder: &mut F,
+    work: &Work,
+    vault: &Vault,
+    at: &FPath,
+    content: &mut C,
+    random: &mut R,
+    buffers: &mut Buffers,
+) -> Result<(), PutFault>
+    requires may { (a : Told) → F.told folder.old ≡ Some a → MayReplace work.now vault.now.root at.now a }
+    requires ready { IsReady (C.reads content.old) (F.told folder.old) (C.coming content.old) }
+    requires outside { ReadsApart (C.reads content.old) work.now }
+    ensures made { ReplacesContent (format_of vault.now.vault).content work.now vault.now.root at.now (still_coming (C.reads content.old) (F.told folder.old) (C.coming content.old)) (still_coming (C.reads content.old) (F.told folder.old) (C.coming content.new))
+        (R.left random.old) (R.left random.new) (F.told folder.old) (F.told folder.new) result }
+    ensures reads { C.reads content.new ≡ C.reads content.old }
+    ensures room { C.room content.new ≤ C.room content.old }
+    ensures lender { C.lender content.new ≡ C.lender content.old }
+    ensures failed { Blames result PutFault.Failed (F.faults folder.old) (F.faults folder.new) }
+    ensures source { Blames result PutFault.Source (C.faults content.old) (C.faults content.new) }
+    ensures random { Blames result PutFault.Random (R.faults random.old) (R.faults random.new) }
+{
+    let inside: Option<Text> = None;
+    let staged = staged_entry(work)?;
+    stage_entry(
+        folder,
+        &staged,
+        vault.content_keys(),
+        &inside,
+        content,
+        random,
+        buffers,
+    )?;
+    Ok(publish_entry(folder, &staged, at)?)
+}
+
+// Makes a new file where no item stands.
+fn place_over<F: Folder, R: Randoms, C: Content<F>>(
+    alloc: Global,
+    folder: &mut F,
+    work: &Work,
+    vault: &Vault,
+    slot: &Slot,
+    front: &[Name],
+    name: &Name,
+    content: &mut C,
+    random: &mut R,
+) -> Result<(), PutFault>
+    requires named { IsTrue (is_name name.now) }
+    requires may { MayMake (F.told folder.old) work.now vault.now.root }
+    requires slot { IsSlotOver vault.now front.now name.now (F.told folder.old) slot.now.at slot.now.side slot.now.full }
+    requires ready { IsReady (C.reads content.old) (F.told folder.old) (C.coming content.old) }
+    requires elsewhere { ReadsElsewhere (C.reads content.old) work.now vault.now.root }
+    ensures made { PlacesFile New vault.now work.now front.now name.now (still_coming (C.reads content.old) (F.told folder.old) (C.coming content.old)) (still_coming (C.reads content.old) (F.told folder.old) (C.coming content.new))
+        (R.left random.old) (R.left random.new) (F.told folder.old) (F.told folder.new) result }
+    ensures reads { C.reads content.new ≡ C.reads content.old }
+    ensures room { C.room content.new ≤ C.room content.old }
+    ensures lender { C.lender content.new ≡ C.lender content.old }
+    ensures failed { Blames result PutFault.Failed (F.faults folder.old) (F.faults folder.new) }
+    ensures source { Blames result PutFault.Source (C.faults content.old) (C.faults content.new) }
+    ensures random { Blames result PutFault.Random (R.faults random.old) (R.faults random.new) }
+{
+    is_free(folder, &slot.at)?;
+    place_in(
+        alloc, folder, work, vault, slot, front, name, content, random,
+    )
 }
 
 // Makes a new file under a name in the directory at the front of a path.
@@ -282,6 +506,7 @@ fn place_entry<F: Folder, R: Randoms, C: Content<F>>(
 fn publish_entry<F: Folder>(folder: &mut F, staged: &FPath, at: &FPath) -> Result<(), FolderFault>
     requires { (a : Told) → F.told folder.old ≡ Some a → Allowed a.state (Rename staged.now at.now) }
     ensures published { PublishesEntry staged.now at.now (F.told folder.old) (F.told folder.new) result }
+    ensures replaced { ReplacesEntry staged.now at.now (F.told folder.old) (F.told folder.new) result }
     ensures counts { CountsAbove (F.faults folder.old) (F.faults folder.new) result }
 {
     folder.rename(staged, at)?;

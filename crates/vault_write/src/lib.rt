@@ -16,5 +16,5 @@ mod tests;
 
 pub use content_writing::{Content, PutFault, SourceContent, VaultContent};
 pub use directory::place_dir;
-pub use file::place_file;
+pub use file::{place_file, put};
 pub use init::{init_cm, init_go};

@@ -11,6 +11,7 @@ ghost use Rattle.vault_spec.specs.Gocryptfs.{full_name, taken_unless};
 ghost use Rattle.vault_spec.specs.Making.{NewItem, Allows};
 ghost use Rattle.vault_spec.specs.Vault.{format_of};
 ghost use Rattle.vault_write.specs.Faults.{IsPlaceFault};
+ghost use Rattle.vault_write.specs.Filing.{IsOverFault, IsSlotOver};
 ghost use Rattle.vault_write.specs.Slots.{IsSlot, IsTakenAt, IsSideTaken, IsShelfTaken, IsHomeTaken, RefusesItem, CountsFailed, wants_text};
 
 use content_writing::PutFault;
@@ -63,6 +64,7 @@ fn entered<F: Folder>(
     ensures place { IfOk result (λ place. (v : View) → IsSeen (F.told folder.old) v → IsDirPlace vault.now.root (format_of vault.now.vault) (under vault.now.root v) front.now place) }
     ensures key { IfOk result (λ place. FitsKey vault.now.vault place.key) }
     ensures refused { IfErr result (λ fault. (name : List ℕ) (item : NewItem) → RefusesItem vault.now front.now name item [] (F.told folder.old) fault) }
+    ensures over { IfErr result (λ fault. IsOverFault vault.now front.now (F.told folder.old) fault) }
     ensures kind { IfErr result (λ fault. IsPlaceFault fault) }
     ensures counts { CountsFailed PutFault.Failed (F.faults folder.old) (F.faults folder.new) result }
 {
@@ -241,4 +243,28 @@ fn wants_shelf<F: Folder>(folder: &mut F, shelf: &FPath) -> Result<bool, PutFaul
         Kind::Dir => Ok(false),
         _ => Err(PutFault::Taken(shelf.copy()?)),
     }
+}
+
+// The place under the last name of a path, whatever stands there. The directory that has it is entered first, and then the name is
+// tested.
+pub(crate) fn slot_over<F: Folder>(
+    alloc: Global,
+    folder: &mut F,
+    vault: &Vault,
+    path: &PlainPath,
+    front: &[Name],
+    name: &Name,
+) -> Result<Slot, PutFault>
+    requires { path.now ≡ front.now ++ name.now ∷ [] }
+    ensures told { F.told folder.new ≡ F.told folder.old }
+    ensures slot { IfOk result (λ slot. IsSlotOver vault.now front.now name.now (F.told folder.old) slot.at slot.side slot.full) }
+    ensures refused { IfErr result (λ fault. (item : NewItem) → RefusesItem vault.now front.now name.now item [] (F.told folder.old) fault) }
+    ensures over { IfErr result (λ fault. IsOverFault vault.now front.now (F.told folder.old) fault) }
+    ensures kind { IfErr result (λ fault. IsPlaceFault fault) }
+    ensures counts { CountsFailed PutFault.Failed (F.faults folder.old) (F.faults folder.new) result }
+{
+    what_is_found_stands();
+    let dir = entered(alloc, folder, vault, front)?;
+    allow(vault, path, name)?;
+    Ok(slot_in(alloc, vault, &dir, name)?)
 }

@@ -4,14 +4,14 @@ ghost use Rattle.folder_spec.specs.Path.{below};
 ghost use Rattle.folder_spec.specs.Seen.{IsSeen, ShowsFree};
 ghost use Rattle.folder_spec.specs.View.{View, NoEntry, Folder};
 
-use crate::{PutFault, SourceContent, init_cm, init_go, place_dir, place_file};
+use crate::{PutFault, SourceContent, init_cm, init_go, place_dir, place_file, put};
 use folder_model::{FPath, Folder, Kind, MemFolder};
 use kdf_suite::ScryptCost;
-use plain_tree::{NodeKind, PlainPath};
+use plain_tree::PlainPath;
 use port_model::{ListRandoms, MemSink, MemSource, Source};
 use std::alloc::Global;
 use std::test::Fail;
-use vault_read::{Vault, VaultKind, cat, list};
+use vault_read::{FindFault, Vault, VaultKind, cat, list};
 use work_folder::Work;
 
 // 200 bytes.
@@ -105,11 +105,18 @@ fn new_vaults_open(rt: HostRuntime) -> Result<(), Fail> {
     Ok(())
 }
 
-// Makes what is told at a path in the vault at `v`, from the work folder `w`: a directory, or a file of what a source has left.
+#[derive(Clone, Copy)]
+enum Call {
+    PlaceDir,
+    PlaceFile,
+    Put,
+}
+
+// Calls this at a path in the vault at `v`, from the work folder `w`; the content of a file is what a source has left.
 fn placed<F: Folder, I: Source>(
     alloc: Global,
     folder: &mut F,
-    made: NodeKind,
+    call: Call,
     path: &str,
     source: &mut I,
 ) -> Result<&'static str, Fail> {
@@ -127,11 +134,23 @@ fn placed<F: Folder, I: Source>(
         return Err(Fail::from("a vault beside the work folder"));
     }
     let mut random = ListRandoms::new(vec![in alloc; 7u8; 1_000]?, Vec::new(alloc));
-    match made {
-        NodeKind::Dir => Ok(told(place_dir(alloc, folder, &work, &vault, &path, &mut random))),
-        NodeKind::File => {
+    match call {
+        Call::PlaceDir => Ok(told(place_dir(alloc, folder, &work, &vault, &path, &mut random))),
+        Call::PlaceFile => {
             let mut content = SourceContent::new(source);
             Ok(told(place_file(
+                alloc,
+                folder,
+                &work,
+                &vault,
+                &path,
+                &mut content,
+                &mut random,
+            )))
+        }
+        Call::Put => {
+            let mut content = SourceContent::new(source);
+            Ok(told(put(
                 alloc,
                 folder,
                 &work,
@@ -149,6 +168,7 @@ fn told(answer: Result<(), PutFault>) -> &'static str {
         Ok(()) => "made",
         Err(PutFault::Taken(_)) => "taken",
         Err(PutFault::NotAllowed(_)) => "not allowed",
+        Err(PutFault::Find(FindFault::WrongKind(_))) => "wrong kind",
         Err(PutFault::Source) => "source",
         Err(_) => "another fault",
     }
@@ -189,30 +209,51 @@ fn new_vault(alloc: Global, kind: VaultKind) -> Result<MemFolder, Fail> {
     Ok(folder)
 }
 
-// What is answered for a directory in a new vault, for a file in it, and for the file again; and whether it gives its content.
+// Whether a content of so many bytes is put at a path and read back.
+fn puts<F: Folder>(alloc: Global, folder: &mut F, path: &str, size: usize) -> Result<bool, Fail> {
+    let mut source = MemSource::new(vec![in alloc; 1u8; size]?, Vec::new(alloc));
+    let answer = placed(alloc, folder, Call::Put, path, &mut source)?;
+    Ok(answer == "made" && gives(alloc, folder, path, size)?)
+}
+
+// What is answered for a directory in a new vault, for a file in it, for the file again, and where a content is put at the directory;
+// and whether the file gives its content, and then another that is put over it and put beside it.
 fn made(
     alloc: Global,
     kind: VaultKind,
     name: &str,
     size: usize,
-) -> Result<([&'static str; 3], bool), Fail> {
+    other: usize,
+) -> Result<([&'static str; 4], bool), Fail> {
     let mut folder = new_vault(alloc, kind)?;
     let file = format!(in alloc; "{name}/{name}")?;
+    let beside = format!(in alloc; "{name}/beside")?;
     let mut source = MemSource::new(vec![in alloc; 1u8; size]?, Vec::new(alloc));
     let answers = [
-        placed(alloc, &mut folder, NodeKind::Dir, name, &mut source)?,
-        placed(alloc, &mut folder, NodeKind::File, &file, &mut source)?,
-        placed(alloc, &mut folder, NodeKind::File, &file, &mut source)?,
+        placed(alloc, &mut folder, Call::PlaceDir, name, &mut source)?,
+        placed(alloc, &mut folder, Call::PlaceFile, &file, &mut source)?,
+        placed(alloc, &mut folder, Call::PlaceFile, &file, &mut source)?,
+        placed(alloc, &mut folder, Call::Put, name, &mut source)?,
     ];
-    Ok((answers, gives(alloc, &mut folder, &file, size)?))
+    let gives = gives(alloc, &mut folder, &file, size)?
+        && puts(alloc, &mut folder, &file, other)?
+        && puts(alloc, &mut folder, &beside, other)?;
+    Ok((answers, gives))
 }
+
+const ANSWERS: [&str; 4] = ["made", "made", "taken", "wrong kind"];
 
 #[test]
 fn new_items_of_gocryptfs_are_read_back(rt: HostRuntime) -> Result<(), Fail> {
     let alloc = rt.alloc();
-    for (name, size) in [("a", 0), (LONG, 1), ("a", 4_096), (LONG, 70_000)] {
-        let answers = made(alloc, VaultKind::Gocryptfs, name, size)?;
-        assert_eq!(rt; answers, (["made", "made", "taken"], true), "{name} {size}");
+    for (name, size, other) in [
+        ("a", 0, 70),
+        (LONG, 1, 4_097),
+        ("a", 4_096, 1),
+        (LONG, 70_000, 0),
+    ] {
+        let answers = made(alloc, VaultKind::Gocryptfs, name, size, other)?;
+        assert_eq!(rt; answers, (ANSWERS, true), "{name} {size} {other}");
     }
     Ok(())
 }
@@ -220,9 +261,9 @@ fn new_items_of_gocryptfs_are_read_back(rt: HostRuntime) -> Result<(), Fail> {
 #[test]
 fn new_items_of_cryptomator_are_read_back(rt: HostRuntime) -> Result<(), Fail> {
     let alloc = rt.alloc();
-    for (name, size) in [("a", 0), (LONG, 1), ("a", 70_000)] {
-        let answers = made(alloc, VaultKind::Cryptomator, name, size)?;
-        assert_eq!(rt; answers, (["made", "made", "taken"], true), "{name} {size}");
+    for (name, size, other) in [("a", 0, 4_097), (LONG, 1, 0), ("a", 70_000, 70)] {
+        let answers = made(alloc, VaultKind::Cryptomator, name, size, other)?;
+        assert_eq!(rt; answers, (ANSWERS, true), "{name} {size} {other}");
     }
     Ok(())
 }
@@ -236,7 +277,7 @@ fn made_or_not(
 ) -> Result<(&'static str, usize), Fail> {
     let mut folder = new_vault(alloc, kind)?;
     let mut source = MemSource::new(vec![in alloc; 1u8; 70_000]?, vec![in alloc; fail; 1]?);
-    let answer = placed(alloc, &mut folder, NodeKind::File, name, &mut source)?;
+    let answer = placed(alloc, &mut folder, Call::PlaceFile, name, &mut source)?;
     Ok((answer, count_items(alloc, &mut folder)?))
 }
 

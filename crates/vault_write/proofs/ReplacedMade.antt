@@ -1,0 +1,307 @@
+-- What a call promises that replaced the content of a file that stands.
+use Rattle.std.proofs.Common.{arith, ◌≡◌, ◌⊎◌, ℕ, ◌≤◌, List, [], ◌∷◌, ◌++◌, length, Option, Some, None, Result, Ok, Err, refl, sym, ap, ◌∙◌, inl, inr, subst, IsTrue}
+use Rattle.chunk_files.specs.Encrypt.{draws, encrypt}
+use Rattle.chunk_files.specs.FileOf.{FilesAreWhatTheyGive, EncryptedFilesAreFiles}
+use Rattle.chunk_files.specs.Keys as contents
+use Rattle.chunk_files.specs.Keys.{Keys}
+use Rattle.port_model.specs.Draws.{ByteStream}
+use Rattle.folder_spec.specs.declared.FolderFault.{FolderFault}
+use Rattle.folder_spec.specs.declared.FolderFault.TheVariants as folder
+use Rattle.folder_spec.specs.Path.{Path, below}
+use Rattle.folder_spec.specs.State.{State, IsSound}
+use Rattle.folder_spec.specs.Edit.{Edit, edited, edits_under, file_edit, view_after, PublishesIn, HasSettledIn}
+use Rattle.folder_spec.specs.Event.{Call, MakeDir, Create, Append, Sync, Settle, Rename, RemoveFile, RemoveDir, Told, FromTo}
+use Rattle.folder_spec.specs.Moments.{Moments, Went}
+use Rattle.folder_spec.specs.Seen.{seen, IsSeen, under}
+use Rattle.folder_spec.specs.View.{View}
+use Rattle.folder_spec.proofs.Moments.{went_more, went_to}
+use Rattle.folder_spec.proofs.Tellings.{from_to_more}
+use Rattle.plain_tree.specs.Names as plain
+use Rattle.vault_read.specs.Laws.{KeepsVaults}
+use Rattle.vault_read.specs.Opened.{OpenedVault}
+use Rattle.vault_spec.specs.Adding.{OpensAs, OpensWith}
+use Rattle.vault_spec.specs.Alike.{IsOrderly}
+use Rattle.vault_spec.specs.Making as making
+use Rattle.vault_spec.specs.Making.{NewFile, Allows}
+use Rattle.vault_spec.specs.Opens.{Opened, opened, opened_file}
+use Rattle.vault_spec.specs.Standing as stands
+use Rattle.vault_spec.specs.Standing.{Standing, standing}
+use Rattle.vault_spec.specs.Vault.{format_of}
+use Rattle.work_folder.specs.Entering.{IsReady}
+use Rattle.content_writing.specs.Content.{Coming, Ending, Whole}
+use Rattle.content_writing.specs.Faults.{of_folder}
+use Rattle.content_writing.specs.declared.fault.PutFault.{PutFault}
+use Rattle.content_writing.specs.declared.fault.PutFault.TheVariants as puts
+use Rattle.vault_write.specs.Calls.{InPlace, MakesOne, Writing}
+use Rattle.vault_write.specs.Editing.{Edits, HasFinished, IsEditing, SeesSome}
+use Rattle.vault_write.specs.Filing.{DoesReplace, IsWhole, OnlyStages, PlacesBy, PlacesFile, ReplacesContent, StopsBy, replace_making}
+use Rattle.vault_write.specs.Making.{Placing, format, path_of, put_by, put_item, is_unstaged, StagesOrPlaces}
+use Rattle.vault_write.specs.Placing.{IsMaking, MayMake, ShowsNewTree, making_at, EndsAs, Makes}
+use Rattle.vault_write.specs.Refusing.{AnswersOver, AnswersPut, AnswersPutBy}
+use Rattle.vault_write.specs.Showing.{EditsShowTrees, EditsBeforeTheLastKeepTrees, MakesAlone, SettledEditsShowTrees}
+use Rattle.vault_write.specs.Slots.{placing}
+use Rattle.vault_write.specs.Trees.{opens_as}
+use Rattle.vault_write.proofs.Begun.{folders_seen}
+use Rattle.vault_write.proofs.FileBegun.{opens_whole}
+use Rattle.vault_write.proofs.FileMade.{begins_at, ends_stopped, first_shown, stopped_making}
+use Rattle.vault_write.proofs.ItemMade.{RootsShow}
+
+-- Where the edit is done, this opens there.
+pub record IsReplaced (p : Placing) (opens : Opened) (drawn : List ℕ) (at : Path) (bytes : List ℕ) (a : Told) : Type 0 where
+  pub place : Path
+  pub at_is : at ≡ p.vault.root ++ place
+  pub stands : standing (format p) (under p.vault.root (seen a.state)) (path_of p) ≡ stands.File place
+  pub making : making_at p (put_item p drawn) a.state ≡ replace_making at bytes
+  pub item : MakesAlone p opens (file_edit place bytes ∷ []) a.state
+  pub anew : opened (format p) (edited (under p.vault.root (seen a.state)) (file_edit place bytes)) (path_of p) ≡ opens
+  pub alone : IsOrderly (format p) (under p.vault.root (seen a.state)) → OpensWith (format p) (under p.vault.root (seen a.state)) (edited (under p.vault.root (seen a.state)) (file_edit place bytes)) (path_of p) opens
+  pub apart : below p.work p.vault.root ≡ None
+  pub beside : below p.vault.root p.work ≡ None
+
+pub is_replaced : (vault : OpenedVault) → KeepsVaults (format_of vault.vault) → (work : Path) (front : plain.Path) (name content drawn : List ℕ) (at place : Path) (a : Told) → IsSound a.state
+    → at ≡ vault.root ++ place → standing (format_of vault.vault) (under vault.root (seen a.state)) (front ++ name ∷ []) ≡ stands.File place → below work vault.root ≡ None → below vault.root work ≡ None
+    → IsReplaced (placing vault work front name (NewFile content)) (opened_file (format_of vault.vault).content (Some (encrypt (format_of vault.vault).content drawn content))) drawn at
+    (encrypt (format_of vault.vault).content drawn content) a
+is_replaced vault laws work front name content drawn at place a sound at_is there apart beside = record {
+  place = place;
+  at_is = at_is;
+  stands = there;
+  making = ap (put_by (placing vault work front name (NewFile content)) drawn (under vault.root (seen a.state))) there ∙ ap (λ q. replace_making q (encrypt (format_of vault.vault).content drawn content)) (sym at_is);
+  item = λ good. record {
+    alone = laws.replaced_alone (under vault.root (seen a.state)) (front ++ name ∷ []) place (encrypt (format_of vault.vault).content drawn content) good.orderly there;
+    clean = (laws.replaced_clean (under vault.root (seen a.state)) (front ++ name ∷ []) place (encrypt (format_of vault.vault).content drawn content) good.orderly there good.clean, tt);
+    vault = (laws.replaced_stay (under vault.root (seen a.state)) (front ++ name ∷ []) place (encrypt (format_of vault.vault).content drawn content) good.orderly there, tt);
+  };
+  anew = (laws.replaced_anew (under vault.root (seen a.state)) (front ++ name ∷ []) place (encrypt (format_of vault.vault).content drawn content) (folders_seen vault.root a.state sound) there).there (front ++ name ∷ []) there;
+  alone = λ orderly. laws.replaced_alone (under vault.root (seen a.state)) (front ++ name ∷ []) place (encrypt (format_of vault.vault).content drawn content) orderly there;
+  apart = apart;
+  beside = beside;
+}
+
+one_edit : (p : Placing) (at place : Path) (bytes : List ℕ) → at ≡ p.vault.root ++ place → file_edit at bytes ∷ [] ≡ edits_under p.vault.root (file_edit place bytes ∷ [])
+one_edit p at place bytes is = ap (λ q. file_edit q bytes ∷ []) is
+
+module _ (shows : EditsShowTrees) (settles : SettledEditsShowTrees) (roots : RootsShow) (p : Placing) (drawn : List ℕ) (at : Path) (bytes : List ℕ) where
+  module _ (a b : Told) (k : IsReplaced p (opens_as p.item) drawn at bytes a) where
+    abbrev u : View
+    u = under p.vault.root (seen a.state)
+
+    replacing_is : (s : State) → IsEditing p.work p.vault.root (replace_making at bytes) a.state s → IsMaking p Whole (replace_making at bytes) a.state s
+    replacing_is s e = record {
+      others = e.others;
+      trees = shows p (file_edit k.place bytes ∷ []) a.state s k.item (subst (λ es. PublishesIn (is_unstaged p.work) es a.state s) (one_edit p at k.place bytes k.at_is) e.publishes);
+      fronts = e.fronts;
+    }
+
+    went_replacing : Edits p.work p.vault.root (replace_making at bytes) a b → Went (IsMaking p Whole (making_at p (put_item p drawn) a.state) a.state) (λ s e. StagesOrPlaces p.work (making_at p (put_item p drawn) a.state) s e.call) a b
+    went_replacing went = subst (λ n. Went (IsMaking p Whole n a.state) (λ s e. StagesOrPlaces p.work n s e.call) a b) (sym k.making)
+        (went_more (IsEditing p.work p.vault.root (replace_making at bytes) a.state) (IsMaking p Whole (replace_making at bytes) a.state) (λ s e. StagesOrPlaces p.work (replace_making at bytes) s e.call)
+        (λ s e. StagesOrPlaces p.work (replace_making at bytes) s e.call) a b replacing_is (λ s e h. h) went)
+
+    replaced_tree : HasFinished p.work p.vault.root (replace_making at bytes) a b → ShowsNewTree p a.state b.state
+    replaced_tree h = settles p (file_edit k.place bytes ∷ []) a.state b.state k.item (subst (λ es. HasSettledIn (is_unstaged p.work) es a.state b.state) (one_edit p at k.place bytes k.at_is) h.settled)
+
+    all_seen : ((q : Path) → IsTrue (is_unstaged p.work q) → seen b.state q ≡ view_after (seen a.state) (file_edit at bytes ∷ []) q) → under p.vault.root (seen b.state) ≡ edited u (file_edit k.place bytes)
+    all_seen views = first_shown roots p k.apart k.beside a b (file_edit k.place bytes ∷ []) (file_edit at bytes ∷ []) (one_edit p at k.place bytes k.at_is) views
+
+    none_seen : ((q : Path) → IsTrue (is_unstaged p.work q) → seen b.state q ≡ seen a.state q) → under p.vault.root (seen b.state) ≡ u
+    none_seen views = first_shown roots p k.apart k.beside a b [] [] refl views
+
+    replaced_ends : HasFinished p.work p.vault.root (replace_making at bytes) a b → EndsAs p u (under p.vault.root (seen b.state)) (Ok tt)
+    replaced_ends h = (
+      ap (λ w. opened (format p) w (path_of p)) (all_seen h.views) ∙ k.anew,
+      λ orderly. subst (λ w. OpensWith (format p) u w (path_of p) (opens_as p.item)) (sym (all_seen h.views)) (k.alone orderly),
+    )
+
+    old_or_new_opens : Edits p.work p.vault.root (replace_making at bytes) a b → IsOrderly (format p) u → OpensAs (format p) u (under p.vault.root (seen b.state)) ⊎ OpensWith (format p) u (under p.vault.root (seen b.state)) (path_of p) (opens_as p.item)
+    old_or_new_opens went orderly =
+        let now : SeesSome p.work (file_edit at bytes ∷ []) a.state b.state = (went_to (IsEditing p.work p.vault.root (replace_making at bytes) a.state) (λ s e. StagesOrPlaces p.work (replace_making at bytes) s e.call) a b went).sees in
+        by_done now.done now.more now.is now.views
+      where
+        by_done : (done more : List Edit) → file_edit at bytes ∷ [] ≡ done ++ more → ((q : Path) → IsTrue (is_unstaged p.work q) → seen b.state q ≡ view_after (seen a.state) done q)
+            → OpensAs (format p) u (under p.vault.root (seen b.state)) ⊎ OpensWith (format p) u (under p.vault.root (seen b.state)) (path_of p) (opens_as p.item)
+        by_done [] more is views = inl (subst (λ w. OpensAs (format p) u w) (sym (none_seen views)) (λ path. refl))
+        by_done (e ∷ []) more is views =
+            let same : e ≡ file_edit at bytes = cc in
+            inr (subst (λ w. OpensWith (format p) u w (path_of p) (opens_as p.item)) (sym (all_seen (λ q unstaged. views q unstaged ∙ ap (λ x. edited (seen a.state) x q) same))) (k.alone orderly))
+        by_done (e ∷ next ∷ done) more is views = cc
+
+  module _ (t w : Option Told) (k : (a : Told) → t ≡ Some a → IsReplaced p (opens_as p.item) drawn at bytes a) (allowed : Allows (format p) p.name) where
+    replaced_moments : FromTo (Edits p.work p.vault.root (replace_making at bytes)) t w
+        → Moments (λ s0 s. IsMaking p Whole (making_at p (put_item p drawn) s0) s0 s) (λ s0 s e. StagesOrPlaces p.work (making_at p (put_item p drawn) s0) s e.call) t w
+    replaced_moments went = from_to_more (Edits p.work p.vault.root (replace_making at bytes))
+        (λ a b. Went (IsMaking p Whole (making_at p (put_item p drawn) a.state) a.state) (λ s e. StagesOrPlaces p.work (making_at p (put_item p drawn) a.state) s e.call) a b) t w
+        (λ a b is e. went_replacing a b (k a is) e) went
+
+    over : (t : Option Told) → ((a : Told) → t ≡ Some a → IsReplaced p (opens_as p.item) drawn at bytes a) → (ending : Ending) (result : Result (Unit {0}) PutFault) → ((x : View) → AnswersOver p drawn ending x result)
+        → (v : View) → IsSeen t v → AnswersPut p drawn ending (under p.vault.root v) result
+    over (Some a) at_told ending result answers v is = subst (λ x. AnswersPut p drawn ending (under p.vault.root x) result) (sym is)
+        (subst (λ s. AnswersPutBy s p drawn ending (under p.vault.root (seen a.state)) result) (sym (at_told a refl).stands) (answers (under p.vault.root (seen a.state))))
+    over None at_told ending result answers v is = absurd is
+
+    pub replaced_ok : length drawn ≡ making.draws (format p) p.item → FromTo (Edits p.work p.vault.root (replace_making at bytes)) t w → FromTo (HasFinished p.work p.vault.root (replace_making at bytes)) t w
+        → MakesOne InPlace p Whole drawn t w (Ok tt)
+    replaced_ok size went finished = record {
+      enough = omega (arith, size);
+      makes = record {
+        moments = replaced_moments went;
+        done = from_to_more (HasFinished p.work p.vault.root (replace_making at bytes)) (λ a b. ShowsNewTree p a.state b.state) t w (λ a b is e. replaced_tree a b (k a is) e) finished;
+        ready = is_ready t w finished;
+        ends = ends t w k finished;
+      };
+      answer = over t k Whole (Ok tt) (λ x. (allowed, refl, size));
+    }
+      where
+        is_ready : (t w : Option Told) → FromTo (HasFinished p.work p.vault.root (replace_making at bytes)) t w → (v : View) → IsSeen w v → IsReady v p.work
+        is_ready (Some a) (Some b) h v is = subst (λ z. IsReady z p.work) (sym is) h.ready
+        is_ready None (Some b) h v is = absurd h
+        is_ready t None h v is = absurd is
+
+        ends : (t w : Option Told) → ((a : Told) → t ≡ Some a → IsReplaced p (opens_as p.item) drawn at bytes a) → FromTo (HasFinished p.work p.vault.root (replace_making at bytes)) t w
+            → (x y : View) → IsSeen t x → IsSeen w y → EndsAs p (under p.vault.root x) (under p.vault.root y) (Ok tt)
+        ends (Some a) (Some b) at_told h x y is_x is_y =
+            subst (λ z. EndsAs p (under p.vault.root z) (under p.vault.root y) (Ok tt)) (sym is_x)
+            (subst (λ z. EndsAs p (under p.vault.root (seen a.state)) (under p.vault.root z) (Ok tt)) (sym is_y) (replaced_ends a b (at_told a refl) h))
+        ends None (Some b) at_told h x y is_x is_y = absurd h
+        ends t None at_told h x y is_x is_y = absurd is_y
+
+    abbrev OldOrNewOpens : View → View → Type 0
+    OldOrNewOpens x y = IsOrderly (format p) x → OpensAs (format p) x y ⊎ OpensWith (format p) x y (path_of p) (opens_as p.item)
+
+    failed_ends : (t w : Option Told) → ((a : Told) → t ≡ Some a → IsReplaced p (opens_as p.item) drawn at bytes a) → FromTo (Edits p.work p.vault.root (replace_making at bytes)) t w
+        → (x y : View) → IsSeen t x → IsSeen w y → OldOrNewOpens (under p.vault.root x) (under p.vault.root y)
+    failed_ends (Some a) (Some b) at_told h x y is_x is_y =
+        subst (λ z. OldOrNewOpens (under p.vault.root z) (under p.vault.root y)) (sym is_x)
+        (subst (λ z. OldOrNewOpens (under p.vault.root (seen a.state)) (under p.vault.root z)) (sym is_y) (old_or_new_opens a b (at_told a refl) h))
+    failed_ends None (Some b) at_told h x y is_x is_y = absurd h
+    failed_ends t None at_told h x y is_x is_y = absurd is_y
+
+    pub replaced_failed : length drawn ≡ making.draws (format p) p.item → (fault : FolderFault) → FromTo (Edits p.work p.vault.root (replace_making at bytes)) t w → MakesOne InPlace p Whole drawn t w (Err (of_folder fault))
+    replaced_failed size fault went = record { enough = omega (arith, size); makes = by_fault fault; answer = over t k Whole (Err (of_folder fault)) (answers fault) }
+      where
+        by_fault : (fault : FolderFault) → Makes p Whole (put_item p drawn) t w (Err (of_folder fault))
+        by_fault folder.Failed = record { moments = replaced_moments went; done = tt; ready = tt; ends = failed_ends t w k went }
+        by_fault folder.Refused = record { moments = replaced_moments went; done = tt; ready = tt; ends = failed_ends t w k went }
+        by_fault folder.NoMemory = record { moments = replaced_moments went; done = tt; ready = tt; ends = failed_ends t w k went }
+
+        answers : (fault : FolderFault) (x : View) → AnswersOver p drawn Whole x (Err (of_folder fault))
+        answers folder.Failed x = tt
+        answers folder.Refused x = tt
+        answers folder.NoMemory x = tt
+
+-- ---- where nothing but its stage was written
+
+places_none : (work at : Path) (bytes : List ℕ) (some_files : List (List ℕ)) (s : State) (call : Call) → StagesOrPlaces work (stopped_making [] some_files) s call → StagesOrPlaces work (replace_making at bytes) s call
+places_none work at bytes some_files s (MakeDir q) (inl staged) = inl staged
+places_none work at bytes some_files s (MakeDir q) (inr place) = absurd (omega (arith, place.1.1))
+places_none work at bytes some_files s (Create q) h = h
+places_none work at bytes some_files s (Append q piece) h = h
+places_none work at bytes some_files s (Sync q) h = h
+places_none work at bytes some_files s Settle h = h
+places_none work at bytes some_files s (Rename staged q) h = absurd (omega (arith, h.1.1.1))
+places_none work at bytes some_files s (RemoveFile q) h = h
+places_none work at bytes some_files s (RemoveDir q) h = h
+
+module _ (keeps : EditsBeforeTheLastKeepTrees) (roots : RootsShow) (p : Placing) (opens : Opened) (drawn : List ℕ) (at : Path) (bytes : List ℕ) where
+  module _ (ending : Ending) (a b : Told) (k : IsReplaced p opens drawn at bytes a) where
+    only_staging_is : (s : State) → IsEditing p.work p.vault.root (stopped_making [] (bytes ∷ [])) a.state s → IsMaking p ending (replace_making at bytes) a.state s
+    only_staging_is s e = record { others = e.others; trees = keeps p ending opens [] (file_edit k.place bytes) a.state s k.item e.publishes; fronts = e.fronts }
+
+    went_only : Edits p.work p.vault.root (stopped_making [] (bytes ∷ [])) a b
+        → Went (IsMaking p ending (making_at p (put_item p drawn) a.state) a.state) (λ s e. StagesOrPlaces p.work (making_at p (put_item p drawn) a.state) s e.call) a b
+    went_only went = subst (λ n. Went (IsMaking p ending n a.state) (λ s e. StagesOrPlaces p.work n s e.call) a b) (sym k.making)
+        (went_more (IsEditing p.work p.vault.root (stopped_making [] (bytes ∷ [])) a.state) (IsMaking p ending (replace_making at bytes) a.state)
+        (λ s e. StagesOrPlaces p.work (stopped_making [] (bytes ∷ [])) s e.call) (λ s e. StagesOrPlaces p.work (replace_making at bytes) s e.call) a b only_staging_is
+        (λ s e h. places_none p.work at bytes (bytes ∷ []) s e.call h) went)
+
+  module _ (a b : Told) (k : IsReplaced p opens drawn at bytes a) where
+    opens_yet : Edits p.work p.vault.root (stopped_making [] (bytes ∷ [])) a b → OpensAs (format p) (under p.vault.root (seen a.state)) (under p.vault.root (seen b.state))
+    opens_yet went =
+        let now : SeesSome p.work [] a.state b.state = (went_to (IsEditing p.work p.vault.root (stopped_making [] (bytes ∷ [])) a.state) (λ s e. StagesOrPlaces p.work (stopped_making [] (bytes ∷ [])) s e.call) a b went).sees in
+        by_done now.done now.more now.is now.views
+      where
+        by_done : (done more : List Edit) → [] ≡ done ++ more → ((q : Path) → IsTrue (is_unstaged p.work q) → seen b.state q ≡ view_after (seen a.state) done q) → OpensAs (format p) (under p.vault.root (seen a.state)) (under p.vault.root (seen b.state))
+        by_done [] more is views = subst (λ w. OpensAs (format p) (under p.vault.root (seen a.state)) w) (sym (first_shown roots p k.apart k.beside a b [] [] refl views)) (λ path. refl)
+        by_done (e ∷ done) more is views = cc
+
+  module _ (t w : Option Told) (k : (a : Told) → t ≡ Some a → IsReplaced p opens drawn at bytes a) where
+    ends_only : (t w : Option Told) → ((a : Told) → t ≡ Some a → IsReplaced p opens drawn at bytes a) → (fault : PutFault) → FromTo (Edits p.work p.vault.root (stopped_making [] (bytes ∷ []))) t w
+        → (u v : View) → IsSeen t u → IsSeen w v → EndsAs p (under p.vault.root u) (under p.vault.root v) (Err fault)
+    ends_only (Some a) (Some b) at_told fault h u v is_u is_v =
+        subst (λ x. EndsAs p (under p.vault.root x) (under p.vault.root v) (Err fault)) (sym is_u)
+        (subst (λ y. EndsAs p (under p.vault.root (seen a.state)) (under p.vault.root y) (Err fault)) (sym is_v)
+        (ends_stopped p fault (under p.vault.root (seen a.state)) (under p.vault.root (seen b.state)) (opens_yet a b (at_told a refl) h)))
+    ends_only None (Some b) at_told fault h u v is_u is_v = absurd h
+    ends_only t None at_told fault h u v is_u is_v = absurd is_v
+
+    over_stopped : (t : Option Told) → ((a : Told) → t ≡ Some a → IsReplaced p opens drawn at bytes a) → (ending : Ending) (fault : PutFault) → ((x : View) → AnswersOver p drawn ending x (Err fault))
+        → (v : View) → IsSeen t v → AnswersPut p drawn ending (under p.vault.root v) (Err fault)
+    over_stopped (Some a) at_told ending fault answers v is = subst (λ x. AnswersPut p drawn ending (under p.vault.root x) (Err fault)) (sym is)
+        (subst (λ s. AnswersPutBy s p drawn ending (under p.vault.root (seen a.state)) (Err fault)) (sym (at_told a refl).stands) (answers (under p.vault.root (seen a.state))))
+    over_stopped None at_told ending fault answers v is = absurd is
+
+    pub replaced_stopped : (ending : Ending) (fault : PutFault) → length drawn ≤ making.draws (format p) p.item → FromTo (Edits p.work p.vault.root (stopped_making [] (bytes ∷ []))) t w
+        → ((x : View) → AnswersOver p drawn ending x (Err fault)) → MakesOne InPlace p ending drawn t w (Err fault)
+    replaced_stopped ending fault enough went answers = record {
+      enough = enough;
+      makes = record {
+        moments = from_to_more (Edits p.work p.vault.root (stopped_making [] (bytes ∷ [])))
+            (λ a b. Went (IsMaking p ending (making_at p (put_item p drawn) a.state) a.state) (λ s e. StagesOrPlaces p.work (making_at p (put_item p drawn) a.state) s e.call) a b) t w
+            (λ a b is e. went_only ending a b (k a is) e) went;
+        done = tt;
+        ready = tt;
+        ends = ends_only t w k fault went;
+      };
+      answer = over_stopped t k ending fault answers;
+    }
+
+-- ---- by the answer
+
+over_by : (p : Placing) (w : Writing) (u : View) (fault : PutFault) → Allows (format p) p.name → StopsBy (format p).content w fault → AnswersOver p w.drawn w.ending u (Err fault)
+over_by p w u (puts.Damaged at fault) allowed stops = (allowed, stops)
+over_by p w u (puts.Limit limit) allowed stops = (allowed, stops)
+over_by p w u puts.ZeroRandom allowed stops = record { refused = stops.refused; before = stops.before; zeros = stops.zeros }
+over_by p w u puts.Source allowed stops = tt
+over_by p w u puts.Random allowed stops = tt
+over_by p w u puts.Failed allowed stops = tt
+over_by p w u puts.NoMemory allowed stops = tt
+over_by p w u (puts.Find fault) allowed stops = absurd stops
+over_by p w u (puts.NotAllowed path) allowed stops = absurd stops
+over_by p w u (puts.Taken at) allowed stops = absurd stops
+
+module _ (shows : EditsShowTrees) (keeps : EditsBeforeTheLastKeepTrees) (settles : SettledEditsShowTrees) (roots : RootsShow) (gives : FilesAreWhatTheyGive) (are : EncryptedFilesAreFiles)
+    (vault : OpenedVault) (work : Path) (front : plain.Path) (name : List ℕ) (allowed : Allows (format_of vault.vault) name) (at : Path) (t s : Option Told) (may : MayMake t work vault.root)
+    (sound : (a : Told) → t ≡ Some a → IsSound a.state) where
+  abbrev keys : Keys
+  keys = (format_of vault.vault).content
+
+  abbrev put_place : List ℕ → Placing
+  put_place content = placing vault work front name (NewFile content)
+
+  abbrev opens_so : List ℕ → List ℕ → Opened
+  opens_so content drawn = opened_file keys (Some (encrypt keys drawn content))
+
+  module _ (replaced : (content drawn : List ℕ) (a : Told) → t ≡ Some a → IsReplaced (put_place content) (opens_so content drawn) drawn at (encrypt keys drawn content) a) (w : Writing)
+      (enough : length w.drawn ≤ draws (contents.format_of keys) w.content) where
+    whole_at : IsWhole keys w → (a : Told) → t ≡ Some a → IsReplaced (put_place w.content) (opens_as (NewFile w.content)) w.drawn at (encrypt keys w.drawn w.content) a
+    whole_at whole a is = subst (λ o. IsReplaced (put_place w.content) o w.drawn at (encrypt keys w.drawn w.content) a) (opens_whole gives are keys w.drawn w.content whole.encrypted) (replaced w.content w.drawn a is)
+
+    replaced_one : (result : Result (Unit {0}) PutFault) → PlacesBy keys w (DoesReplace work vault.root at (encrypt keys w.drawn w.content) t s) (OnlyStages work (encrypt keys w.drawn w.content ∷ []) t s) result
+        → MakesOne InPlace (put_place w.content) w.ending w.drawn t s result
+    replaced_one (Ok value) (whole, does) =
+        subst (λ x. MakesOne InPlace (put_place w.content) x w.drawn t s (Ok tt)) (sym whole.whole)
+        (replaced_ok shows settles roots (put_place w.content) w.drawn at (encrypt keys w.drawn w.content) t s (whole_at whole) allowed whole.encrypted.enough does.0 does.1)
+    replaced_one (Err fault) (stops, inl stages) =
+        replaced_stopped keeps roots (put_place w.content) (opens_so w.content w.drawn) w.drawn at (encrypt keys w.drawn w.content) t s (replaced w.content w.drawn) w.ending fault enough
+        (stages vault.root (stopped_making [] (encrypt keys w.drawn w.content ∷ [])) [] [] t (λ file among. among)
+        (begins_at work vault.root (stopped_making [] (encrypt keys w.drawn w.content ∷ [])) t refl (λ a is. ([], refl)) may sound)).0
+        (λ x. over_by (put_place w.content) w x fault allowed stops)
+    replaced_one (Err fault) (stops, inr (failed, is, whole, does)) =
+        subst (λ x. MakesOne InPlace (put_place w.content) w.ending w.drawn t s (Err x)) (sym is)
+        (subst (λ x. MakesOne InPlace (put_place w.content) x w.drawn t s (Err (of_folder failed))) (sym whole.whole)
+        (replaced_failed shows settles roots (put_place w.content) w.drawn at (encrypt keys w.drawn w.content) t s (whole_at whole) allowed whole.encrypted.enough failed does.0))
+
+  pub replaced_file : ((content drawn : List ℕ) (a : Told) → t ≡ Some a → IsReplaced (put_place content) (opens_so content drawn) drawn at (encrypt keys drawn content) a)
+      → (coming left : Option Coming) (stream stream' : Option ByteStream) (result : Result (Unit {0}) PutFault) → ReplacesContent keys work vault.root at coming left stream stream' t s result
+      → PlacesFile InPlace vault work front name coming left stream stream' t s result
+  replaced_file replaced coming left stream stream' result k = record { writing = k.writing; takes = k.takes; one = replaced_one replaced k.writing k.enough result k.ends }

@@ -1,0 +1,141 @@
+-- Beginning a migration: the work folder is made ready, and the journal is written.
+use Rattle.std.proofs.Common.{◌≡◌, ◌≤◌, List, length, Option, Some, None, Result, Ok, Err, OnOk, IfOk, refl, sym, ap, ◌∙◌, subst}
+use Rattle.std.proofs.Math.Path.{fun_ext}
+use Rattle.folder_spec.specs.declared.FolderFault.{FolderFault}
+use Rattle.folder_spec.specs.Event.{Told, FromTo}
+use Rattle.folder_spec.specs.Moments.{Went}
+use Rattle.folder_spec.specs.Path.{Path}
+use Rattle.folder_spec.specs.Region.{SparesOld}
+use Rattle.folder_spec.specs.Seen.{seen}
+use Rattle.folder_spec.specs.State.{IsSound}
+use Rattle.folder_spec.specs.View.{View}
+use Rattle.move_journal.specs.Journal.{IsDigest, IsJournal, IsParsed, journal_text}
+use Rattle.move_journal.specs.Writing.{IsWriting, Writes, HasWritten, elsewhere}
+use Rattle.move_journal.specs.declared.journal.Journal.{Journal}
+use Rattle.move_journal.specs.declared.journal.Phase.TheVariants.{Building}
+use Rattle.tree_match.specs.Alone.{Progress, Unbegun, Begun, IsAlone, StaysAlone, StaysGuarded}
+use Rattle.tree_match.specs.Guard.{AllowsTree, IsPlanOf, Migration, Tells, tree_at}
+use Rattle.tree_match.specs.Trees.{Side, IsWalkOf}
+use Rattle.vault_read.specs.Opened.{OpenedVault}
+use Rattle.vault_spec.specs.Opens.{tree}
+use Rattle.vault_spec.specs.Plan.{Planned}
+use Rattle.vault_spec.specs.Vault.{format_of}
+use Rattle.folder_spec.specs.Seen.{under}
+use Rattle.vault_walk.specs.Survey.{item_limit}
+use Rattle.work_folder.specs.Changing.{ChangesAt}
+use Rattle.work_folder.specs.Entering.{IsWorkOrStage, IsLeftOver}
+use Rattle.migrate_core.proofs.Fronts.{StandBelow, allows_tree}
+use Rattle.migrate_core.proofs.Leadings.{alone_goes, goes_given, goes_on}
+use Rattle.migrate_core.proofs.Movings.{AreSound}
+use Rattle.migrate_core.proofs.Planned.{SeenAlone, source_held, source_walk}
+use Rattle.migrate_core.specs.Leading.{Goes, Leads, LeadsEach, LeadsTold}
+use Rattle.migrate_core.specs.Sides.{AllowsEach, AreSides, IsWalked, new_journal, opened_at, side_of}
+
+abbrev pub WalksTellPlans : Type 0
+WalksTellPlans = (v : View) (a : Side) → IsWalkOf v a → IsPlanOf (tree (format_of a.vault) (under a.root v)) a.items
+
+-- ---- what is known of a migration whose source was walked
+
+module _ (shown : SeenAlone) (plans : WalksTellPlans) (g : Migration) (p : Progress) (t : Option Told) (a : Told) (items : List Planned) (is : t ≡ Some a) (at : IsAlone g p a.state)
+    (walked : IsWalked t (opened_at g.source) items) where
+  plan_seen : IsPlanOf (tree_at g.source (seen a.state)) items
+  plan_seen = plans (seen a.state) (side_of (opened_at g.source) items) (source_walk shown g p t a items is at walked)
+
+  -- its journal tells it
+  pub tells_new : Tells g (new_journal g.source.root g.target.root items)
+  tells_new = record {
+    source = refl;
+    target = refl;
+    plan = items;
+    is_plan = subst (λ m. IsPlanOf m items) (fun_ext (source_held shown g p a.state at).held) plan_seen;
+    items = refl;
+    digest = refl;
+  }
+
+  -- and the target allows each name of it, where it does of the walk
+  pub names_allowed : StandBelow → AllowsEach (format_of g.target.vault) items → AllowsTree g.target g.held
+  names_allowed below allowed = allows_tree below g (seen a.state) items (source_held shown g p a.state at) plan_seen allowed
+
+-- ---- the work folder
+
+abbrev pub EntersAlone : Type 0
+EntersAlone = (g : Migration) (p : Progress) (a b : Told) → IsAlone g p a.state → ChangesAt g.work (IsWorkOrStage g.work) (IsLeftOver g.work) (Some a) (Some b) → StaysAlone g p a b
+
+pub enters_goes : {T E : Type 0} → EntersAlone → (g : Migration) (p : Progress) (t u : Option Told) (result : Result T E) → ChangesAt g.work (IsWorkOrStage g.work) (IsLeftOver g.work) t u → Goes g p p t u result
+enters_goes enters g p (Some a) (Some b) result changes = alone_goes g p (Some a) (Some b) result (λ at. enters g p a b at changes)
+enters_goes enters g p None None result changes = alone_goes g p None None result tt
+enters_goes enters g p None (Some b) result changes = absurd changes
+enters_goes enters g p (Some a) None result changes = absurd changes
+
+-- ---- the journal
+
+abbrev pub JournalBegins : Type 0
+JournalBegins = (g : Migration) (j : Journal) (a b : Told) → IsAlone g Unbegun a.state → AllowsTree g.target g.held → IsJournal j → j.phase ≡ Building → Tells g j
+    → Writes g.work j (Some a) (Some b) → StaysGuarded g a b
+
+abbrev pub JournalBegun : Type 0
+JournalBegun = (g : Migration) (j : Journal) (a b : Told) → IsAlone g Unbegun a.state → AllowsTree g.target g.held → IsJournal j → j.phase ≡ Building → Tells g j
+    → IsSound b.state → Writes g.work j (Some a) (Some b) → HasWritten g.work j (Some a) (Some b) → IsAlone g Begun b.state
+
+pub journal_goes : JournalBegins → JournalBegun → (g : Migration) (j : Journal) (t u : Option Told) (result : Result (Unit {0}) FolderFault)
+    → AllowsTree g.target g.held → IsJournal j → j.phase ≡ Building → Tells g j → AreSound u → Writes g.work j t u → OnOk result (HasWritten g.work j t u) → Goes g Unbegun Begun t u result
+journal_goes begins begun g j (Some a) (Some b) result allows is phase tells sound writes written = (λ at. begins g j a b at allows is phase tells writes, then_ result written)
+  where
+    then_ : (result : Result (Unit {0}) FolderFault) → OnOk result (HasWritten g.work j (Some a) (Some b)) → IfOk result (λ value. Leads g Unbegun Begun (Some a) (Some b))
+    then_ (Ok done) written = λ at. begun g j a b at allows is phase tells (sound b refl) writes written
+    then_ (Err fault) written = tt
+journal_goes begins begun g j None None result allows is phase tells sound writes written = (tt, then_ result)
+  where
+    then_ : (result : Result (Unit {0}) FolderFault) → IfOk result (λ value. Leads g Unbegun Begun None None)
+    then_ (Ok done) = tt
+    then_ (Err fault) = tt
+journal_goes begins begun g j None (Some b) result allows is phase tells sound writes written = absurd writes
+journal_goes begins begun g j (Some a) None result allows is phase tells sound writes written = absurd writes
+
+-- the new journal of a migration between two vaults is that of theirs
+new_is : (g : Migration) (from to : OpenedVault) (work : Path) (items : List Planned) → AreSides g from to work → new_journal from.root to.root items ≡ new_journal g.source.root g.target.root items
+new_is g from to work items sides = ap (λ (x : OpenedVault). new_journal x.root to.root items) sides.source ∙ ap (λ (x : OpenedVault). new_journal g.source.root x.root items) sides.target
+
+-- of a migration whose source was walked, and of which the target allows each name
+pub new_journal_goes : SeenAlone → WalksTellPlans → StandBelow → JournalBegins → JournalBegun → (from to : OpenedVault) (work : Path) (items : List Planned) (t u : Option Told) (result : Result (Unit {0}) FolderFault)
+    → IsWalked t from items → AllowsEach (format_of to.vault) items → AreSound u → IsJournal (new_journal from.root to.root items)
+    → Writes work (new_journal from.root to.root items) t u → OnOk result (HasWritten work (new_journal from.root to.root items) t u) → LeadsEach from to work Unbegun Begun t u result
+new_journal_goes shown plans below begins begun from to work items t u result walked allowed sound is writes written g sides =
+    goes_given (AllowsTree g.target g.held × Tells g journal) Written g Unbegun Begun t u result writes
+    (λ a told at. (
+      names_allowed shown plans g Unbegun t a items told at walked_here below (subst (λ x. AllowsEach (format_of x.vault) items) sides.target allowed),
+      subst (λ j. Tells g j) (sym (new_is g from to work items sides)) (tells_new shown plans g Unbegun t a items told at walked_here),
+    ))
+    (λ known. journal_goes begins begun g journal t u result known.0 is refl known.1 sound (subst (λ w. Writes w journal t u) sides.work writes)
+    (subst (λ w. OnOk result (HasWritten w journal t u)) sides.work written))
+  where
+    journal : Journal
+    journal = new_journal from.root to.root items
+
+    Written : Told → Told → Type 0
+    Written a b = Went (IsWriting work (journal_text journal) a.state) (λ s e. SparesOld (elsewhere work) a.state s e.call) a b
+
+    walked_here : IsWalked t (opened_at g.source) items
+    walked_here = subst (λ x. IsWalked t x items) sides.source walked
+
+-- a call that leads on each migration of which the new journal tells leads on each whose source was walked
+pub told_goes : {T E : Type 0} → SeenAlone → WalksTellPlans → (S : Told → Told → Type 0) (from to : OpenedVault) (work : Path) (items : List Planned) (p q : Progress) (t u : Option Told) (result : Result T E)
+    → FromTo S t u → IsWalked t from items → LeadsTold from to work (new_journal from.root to.root items) p q t u result → LeadsEach from to work p q t u result
+told_goes shown plans S from to work items p q t u result told walked leads g sides =
+    goes_given (Tells g (new_journal from.root to.root items)) S g p q t u result told
+    (λ a is at. subst (λ j. Tells g j) (sym (new_is g from to work items sides)) (tells_new shown plans g p t a items is at (subst (λ x. IsWalked t x items) sides.source walked)))
+    (λ tells. leads g sides tells)
+
+pub new_is_journal : (from to : Path) (items : List Planned) (j : Journal) → j ≡ new_journal from to items → IsParsed from → IsParsed to → length items ≤ item_limit → IsDigest j.plan → IsJournal (new_journal from to items)
+new_is_journal from to items j is source target few digest = record { source = source; target = target; items = few; plan = subst (λ (k : Journal). IsDigest k.plan) is digest }
+
+-- The work folder is made ready, and then the new journal is written.
+pub written_goes : SeenAlone → WalksTellPlans → StandBelow → EntersAlone → JournalBegins → JournalBegun → (from to : OpenedVault) (work : Path) (items : List Planned) (t u w : Option Told) (j : Journal)
+    (result : Result (Unit {0}) FolderFault) → j ≡ new_journal from.root to.root items → IsParsed from.root → IsParsed to.root → IsDigest j.plan → AllowsEach (format_of to.vault) items → IsWalked u from items → AreSound w
+    → ChangesAt work (IsWorkOrStage work) (IsLeftOver work) t u → Writes work j u w → OnOk result (HasWritten work j u w) → LeadsEach from to work Unbegun Begun t w result
+written_goes shown plans below enters begins begun from to work items t u w j result is source target digest allowed walked sound changes writes written g sides =
+    let ready : Result (Unit {0}) FolderFault = Ok tt in
+    let one = enters_goes enters g Unbegun t u ready (subst (λ x. ChangesAt x (IsWorkOrStage x) (IsLeftOver x) t u) sides.work changes) in
+    goes_on g Unbegun Unbegun Begun t u w result one.0 one.1
+    (new_journal_goes shown plans below begins begun from to work items u w result walked allowed sound (new_is_journal from.root to.root items j is source target walked.size digest)
+    (subst (λ k. Writes work k u w) is writes) (subst (λ k. OnOk result (HasWritten work k u w)) is written) g sides)

@@ -1,0 +1,262 @@
+-- Ending a migration: that the target holds all that the source held, and what writing so in the journal does.
+use Rattle.std.proofs.Common.{◌≡◌, ◌≢◌, ℕ, List, ◌∷◌, [], Option, Some, None, Result, Ok, Err, IfOk, OnOk, refl, sym, ap, ◌∙◌, subst}
+use Rattle.folder_spec.specs.declared.FolderFault.{FolderFault}
+use Rattle.folder_spec.specs.Event.{Told, FromTo}
+use Rattle.folder_spec.specs.Path.{Path}
+use Rattle.folder_spec.specs.Seen.{IsSeen, seen, under}
+use Rattle.folder_spec.specs.Region.{apart_from_both}
+use Rattle.folder_spec.specs.State.{IsSound, Node}
+use Rattle.folder_spec.specs.View.{View, FileOf, found}
+use Rattle.folder_spec.proofs.Moments.{went_nowhere}
+use Rattle.folder_spec.proofs.Tellings.{from_to_more, from_to_same}
+use Rattle.move_journal.specs.Journal.{IsJournal}
+use Rattle.move_journal.specs.Reading.{journal_path}
+use Rattle.move_journal.specs.Writing.{Writes, HasWritten}
+use Rattle.move_journal.specs.declared.journal.Journal.{Journal}
+use Rattle.move_journal.specs.declared.journal.Phase.TheVariants.{Building, Done}
+use Rattle.plain_tree.specs.Names as plain
+use Rattle.tree_match.specs.Alone.{Progress, Unbegun, Begun, Finished, IsAlone, IsIn, StaysGuarded}
+use Rattle.tree_match.specs.Comparing.{Is}
+use Rattle.tree_match.specs.Guard.{Migration, Guarded, HoldsAll, HoldsSource, IsPartOf, IsThere, IsWhole, Tells, tree_at}
+use Rattle.tree_match.specs.Trees.{Side, HoldsAllBy, AsSame, IsPartIn, IsWalkOf, match_of}
+use Rattle.tree_match.specs.declared.answer.Match.TheVariants.{Same}
+use Rattle.vault_read.specs.Opened.{OpenedVault}
+use Rattle.vault_spec.specs.Alike.{IsOrderly}
+use Rattle.vault_read.specs.Laws.{HasOwnFolders}
+use Rattle.vault_spec.specs.Findings.{IsClean}
+use Rattle.vault_spec.specs.Format.{Format}
+use Rattle.vault_spec.specs.Opens as opens
+use Rattle.vault_spec.specs.Opens.{Opened, NoItem, Directory, Content, Broken, Tree, opened, tree}
+use Rattle.vault_spec.specs.Plan.{Planned}
+use Rattle.vault_spec.specs.Vault.{IsVault, format_of}
+use Rattle.migrate_core.proofs.Leadings.{if_ok}
+use Rattle.migrate_core.proofs.Movings.{AreSound, moves_to, source_beside, turned_over, under_stays}
+use Rattle.migrate_core.proofs.Planned.{SeenAlone, seen_of, source_held, source_walk, walk_of}
+use Rattle.migrate_core.specs.Leading.{FinishesFrom, Goes, Leads, progress_of}
+use Rattle.migrate_core.specs.Moved.{HasMoved, HaveOneTree, Moved, MovesTree, StandsIn, done_of, opened_in}
+use Rattle.migrate_core.specs.Moving.{MovesOnly}
+use Rattle.migrate_core.specs.Sides.{AreSeparate, AreSides, IsWalked, opened_at, side_of}
+
+-- the target is there, however far the migration has come
+pub target_in : (g : Migration) (p : Progress) (v : View) → IsIn g p v → IsThere g.target v
+target_in g Unbegun v is = is.target
+target_in g Begun v is = is.target
+target_in g Finished v is = is.target.there
+
+-- the root of a vault in good order opens
+root_directory : (f : Format) (u : View) → IsOrderly f u → tree f u [] ≡ Directory
+unfolding opened
+root_directory f u orderly = ap (opens.opened_at f u) orderly.root
+
+-- trees of which each is part of the other are one, and no file of it is broken
+named_parts_are_one : (m n : Tree) → IsPartOf m n → IsPartOf n m → (path : plain.Path) → path ≢ [] → (n path ≡ m path) × IsWhole (m path)
+named_parts_are_one m n part back path named = by (m path) refl (n path) refl
+  where
+    is_there : (o : Opened) → m path ≡ o → o ≢ NoItem → (n path ≡ m path) × IsWhole (m path)
+    is_there o is some = let h = part path named (λ none. some (sym is ∙ none)) in (sym h.0, h.1)
+
+    other_there : m path ≡ NoItem → (p : Opened) → n path ≡ p → p ≢ NoItem → (n path ≡ m path) × IsWhole (m path)
+    other_there is p is_other some = let h = back path named (λ none. some (sym is_other ∙ none)) in (h.0, subst IsWhole (sym is) tt)
+
+    by : (o : Opened) → m path ≡ o → (p : Opened) → n path ≡ p → (n path ≡ m path) × IsWhole (m path)
+    by NoItem is NoItem is_other = (is_other ∙ sym is, subst IsWhole (sym is) tt)
+    by NoItem is Directory is_other = other_there is Directory is_other (λ e. cc e)
+    by NoItem is (Content bytes) is_other = other_there is (Content bytes) is_other (λ e. cc e)
+    by NoItem is (Broken chunks fault) is_other = other_there is (Broken chunks fault) is_other (λ e. cc e)
+    by Directory is p is_other = is_there Directory is (λ e. cc e)
+    by (Content bytes) is p is_other = is_there (Content bytes) is (λ e. cc e)
+    by (Broken chunks fault) is p is_other = is_there (Broken chunks fault) is (λ e. cc e)
+
+-- so with their roots
+parts_are_one : (m n : Tree) → m [] ≡ Directory → n [] ≡ Directory → IsPartOf m n → IsPartOf n m → (path : plain.Path) → (n path ≡ m path) × IsWhole (m path)
+parts_are_one m n m_root n_root part back [] = (n_root ∙ sym m_root, subst IsWhole (sym m_root) tt)
+parts_are_one m n m_root n_root part back (name ∷ rest) = named_parts_are_one m n part back (name ∷ rest) (λ e. cc e)
+
+abbrev pub HeldIsPart : Type 0
+HeldIsPart = (v : View) (a b : Side) → IsWalkOf v a → IsWalkOf v b → HoldsAllBy (match_of v a b) → IsPartIn v a b
+
+abbrev pub SameIsPart : Type 0
+SameIsPart = (v : View) (a b : Side) → IsWalkOf v a → IsWalkOf v b → match_of v a b ≡ Is Same → IsPartIn v b a
+
+-- where the two vaults compare as the same, the target holds all that the source held
+pub holds_all : SeenAlone → HeldIsPart → SameIsPart → (g : Migration) (p : Progress) (t : Option Told) (a : Told) (items others : List Planned) → t ≡ Some a → IsAlone g p a.state
+    → IsWalked t (opened_at g.source) items → IsWalked t (opened_at g.target) others
+    → match_of (seen a.state) (side_of (opened_at g.source) items) (side_of (opened_at g.target) others) ≡ Is Same → HoldsAll g (seen a.state)
+holds_all shown held_part same_part g p t a items others is at walked walked_target same = record {
+  held = λ path. (one path).0 ∙ source.held path;
+  whole = λ path. subst IsWhole (source.held path) (one path).1;
+}
+  where
+    v : View
+    v = seen a.state
+
+    source : HoldsSource g v
+    source = source_held shown g p a.state at
+
+    target : IsThere g.target v
+    target = target_in g p v (shown g p a.state at)
+
+    from_walk : IsWalkOf v (side_of (opened_at g.source) items)
+    from_walk = source_walk shown g p t a items is at walked
+
+    to_walk : IsWalkOf v (side_of (opened_at g.target) others)
+    to_walk = walk_of (opened_at g.target) others t v walked_target (seen_of t a is) target.good.orderly
+
+    one : (path : plain.Path) → (tree_at g.target v path ≡ tree_at g.source v path) × IsWhole (tree_at g.source v path)
+    one = parts_are_one (tree_at g.source v) (tree_at g.target v) (root_directory (format_of g.source.vault) (under g.source.root v) source.there.good.orderly)
+        (root_directory (format_of g.target.vault) (under g.target.root v) target.good.orderly)
+        (held_part v (side_of (opened_at g.source) items) (side_of (opened_at g.target) others) from_walk to_walk (subst HoldsAllBy (sym same) AsSame))
+        (same_part v (side_of (opened_at g.source) items) (side_of (opened_at g.target) others) from_walk to_walk same)
+
+-- ---- the journal says so
+
+-- it says so already
+pub says_already : {T E : Type 0} (g : Migration) (t u : Option Told) (result : Result T E) → u ≡ t → FinishesFrom g Finished t u result
+says_already g t u result is = (
+  from_to_same (λ a b. IsAlone g Finished a.state → HoldsAll g (seen a.state) → StaysGuarded g a b) t u is (λ a at holds. went_nowhere (Guarded g) (λ s e. Unit {0}) a at.guarded),
+  if_ok (FromTo (λ a b. IsAlone g Finished a.state → HoldsAll g (seen a.state) → IsAlone g Finished b.state) t u) result
+      (from_to_same (λ a b. IsAlone g Finished a.state → HoldsAll g (seen a.state) → IsAlone g Finished b.state) t u is (λ a at holds. at)),
+)
+
+abbrev pub JournalFinishes : Type 0
+JournalFinishes = (g : Migration) (j : Journal) (a b : Told) → IsAlone g Begun a.state → HoldsAll g (seen a.state) → IsJournal j → j.phase ≡ Done → Tells g j
+    → Writes g.work j (Some a) (Some b) → StaysGuarded g a b
+
+abbrev pub JournalFinished : Type 0
+JournalFinished = (g : Migration) (j : Journal) (a b : Told) → IsAlone g Begun a.state → HoldsAll g (seen a.state) → IsJournal j → j.phase ≡ Done → Tells g j
+    → IsSound b.state → Writes g.work j (Some a) (Some b) → HasWritten g.work j (Some a) (Some b) → IsAlone g Finished b.state
+
+-- a journal that says so is written
+pub says_done : JournalFinishes → JournalFinished → (g : Migration) (j : Journal) (t u : Option Told) (result : Result (Unit {0}) FolderFault) → IsJournal j → j.phase ≡ Done → Tells g j → AreSound u
+    → Writes g.work j t u → OnOk result (HasWritten g.work j t u) → FinishesFrom g Begun t u result
+says_done finishes finished g j (Some a) (Some b) result is phase tells sound writes written = (λ at holds. finishes g j a b at holds is phase tells writes, then_ result written)
+  where
+    then_ : (result : Result (Unit {0}) FolderFault) → OnOk result (HasWritten g.work j (Some a) (Some b)) → IfOk result (λ value. IsAlone g Begun a.state → HoldsAll g (seen a.state) → IsAlone g Finished b.state)
+    then_ (Ok done) written = λ at holds. finished g j a b at holds is phase tells (sound b refl) writes written
+    then_ (Err fault) written = tt
+says_done finishes finished g j None None result is phase tells sound writes written = (tt, if_ok (Unit {0}) result tt)
+says_done finishes finished g j None (Some b) result is phase tells sound writes written = absurd writes
+says_done finishes finished g j (Some a) None result is phase tells sound writes written = absurd writes
+
+pub done_is : (j : Journal) → IsJournal j → IsJournal (done_of j)
+done_is j is = record { source = is.source; target = is.target; items = is.items; plan = is.plan }
+
+pub done_tells : (g : Migration) (j : Journal) → Tells g j → Tells g (done_of j)
+done_tells g j tells = record { source = tells.source; target = tells.target; plan = tells.plan; is_plan = tells.is_plan; items = tells.items; digest = tells.digest }
+
+-- where the target holds all, that leads on
+pub finishes_goes : {T E : Type 0} (g : Migration) (p : Progress) (t u : Option Told) (result : Result T E) → ((a : Told) → t ≡ Some a → IsAlone g p a.state → HoldsAll g (seen a.state))
+    → FinishesFrom g p t u result → Goes g p Finished t u result
+finishes_goes {T = T} {E = E} g p t u result holds h = (
+  from_to_more (λ a b. IsAlone g p a.state → HoldsAll g (seen a.state) → StaysGuarded g a b) (λ a b. IsAlone g p a.state → StaysGuarded g a b) t u (λ a b is stays at. stays at (holds a is at)) h.0,
+  then_ result h.1,
+)
+  where
+    then_ : (result : Result T E) → IfOk result (λ value. FromTo (λ a b. IsAlone g p a.state → HoldsAll g (seen a.state) → IsAlone g Finished b.state) t u) → IfOk result (λ value. Leads g p Finished t u)
+    then_ (Ok value) leads = from_to_more (λ a b. IsAlone g p a.state → HoldsAll g (seen a.state) → IsAlone g Finished b.state) (λ a b. IsAlone g p a.state → IsAlone g Finished b.state) t u
+        (λ a b is lead at. lead at (holds a is at)) leads
+    then_ (Err fault) leads = tt
+
+-- whatever writing it answers, of a journal that doesn't say so yet
+pub says_done_here : JournalFinishes → JournalFinished → (g : Migration) (work : Path) (j : Journal) (t u : Option Told) (result : Result (Unit {0}) FolderFault) → work ≡ g.work → IsJournal j → j.phase ≡ Building → Tells g j
+    → AreSound u → Writes work (done_of j) t u → OnOk result (HasWritten work (done_of j) t u) → FinishesFrom g (progress_of j.phase) t u result
+says_done_here finishes finished g work j t u result same is phase tells sound writes written =
+    subst (λ p. FinishesFrom g (progress_of p) t u result) (sym phase)
+    (says_done finishes finished g (done_of j) t u result (done_is j is) refl (done_tells g j tells) sound (subst (λ w. Writes w (done_of j) t u) same writes)
+    (subst (λ w. OnOk result (HasWritten w (done_of j) t u)) same written))
+
+-- another refusal
+pub says_failed : {T U E D : Type 0} (g : Migration) (j : Journal) (t u : Option Told) (result : Result T E) (other : Result U D) (fault : D) → other ≡ Err fault
+    → FinishesFrom g (progress_of j.phase) t u result → FinishesFrom g (progress_of j.phase) t u other
+says_failed g j t u result other fault is h = (h.0, subst (λ r. IfOk r (λ value. FromTo (λ a b. IsAlone g (progress_of j.phase) a.state → HoldsAll g (seen a.state) → IsAlone g Finished b.state) t u)) (sym is) tt)
+
+-- and so does what ends a migration between two vaults that compare as the same
+pub finish_goes : {T E : Type 0} → SeenAlone → HeldIsPart → SameIsPart → (g : Migration) (from to : OpenedVault) (work : Path) → AreSides g from to work → (p : Progress) (items others : List Planned) (t u : Option Told) (result : Result T E)
+    → IsWalked t from items → IsWalked t to others → ((v : View) → IsSeen t v → match_of v (side_of from items) (side_of to others) ≡ Is Same)
+    → FinishesFrom g p t u result → Goes g p Finished t u result
+finish_goes shown held_part same_part g from to work sides p items others t u result walked walked_target same h =
+    finishes_goes g p t u result
+    (λ a is at. holds_all shown held_part same_part g p t a items others is at (subst (λ x. IsWalked t x items) sides.source walked) (subst (λ x. IsWalked t x others) sides.target walked_target)
+    (subst (λ y. match_of (seen a.state) (side_of (opened_at g.source) items) (side_of y others) ≡ Is Same) sides.target
+    (subst (λ x. match_of (seen a.state) (side_of x items) (side_of to others) ≡ Is Same) sides.source (same (seen a.state) (seen_of t a is))))) h
+
+-- ---- in the end
+
+-- two walked vaults that compare as the same have one tree
+one_tree : HeldIsPart → SameIsPart → (from to : OpenedVault) (items others : List Planned) (t : Option Told) → IsWalked t from items → IsWalked t to others
+    → ((v : View) → IsSeen t v → match_of v (side_of from items) (side_of to others) ≡ Is Same) → (v : View) → IsSeen t v → HaveOneTree from to v
+one_tree held_part same_part from to items others t walked walked_target same v is own own_target path named =
+    let a = walked.plan v is own in
+    let b = walked_target.plan v is own_target in
+    (named_parts_are_one (tree (format_of from.vault) (under from.root v)) (tree (format_of to.vault) (under to.root v))
+    (held_part v (side_of from items) (side_of to others) a b (subst HoldsAllBy (sym (same v is)) AsSame)) (same_part v (side_of from items) (side_of to others) a b (same v is)) path named).0
+
+-- what is seen of two vaults that are left alone
+pub has_moved : HeldIsPart → SameIsPart → (from to : OpenedVault) (work : Path) (items others : List Planned) (journal : Journal) (t u : Option Told) → AreSeparate from.root to.root work → AreSound t
+    → IsJournal journal → journal.source ≡ from.root → journal.target ≡ to.root → IsWalked t from items → IsWalked t to others
+    → ((v : View) → IsSeen t v → match_of v (side_of from items) (side_of to others) ≡ Is Same)
+    → MovesOnly work to.root t u → MovesOnly work from.root t u → ((v : View) → IsSeen u v → StandsIn work (done_of journal) v)
+    → (v : View) → IsSeen u v → HasMoved from to work v
+has_moved held_part same_part from to work items others journal (Some a) (Some b) separate sound is source target walked walked_target same beside_target beside_source says v seen_is =
+    record {
+      source = subst (IsClean (format_of from.vault)) (sym from_same) (walked.clean w refl);
+      target = subst (IsClean (format_of to.vault)) (sym to_same) (walked_target.clean w refl);
+      trees = λ own own_target path named.
+          ap (λ x. tree (format_of to.vault) x path) to_same
+          ∙ one_tree held_part same_part from to items others (Some a) walked walked_target same w refl (subst (HasOwnFolders from.vault) from_same own) (subst (HasOwnFolders to.vault) to_same own_target) path named
+          ∙ ap (λ x. tree (format_of from.vault) x path) (sym from_same);
+      says = record { journal = done_of journal; is = done_is journal is; phase = refl; source = source; target = target; stands = says v seen_is };
+    }
+  where
+    w : View
+    w = seen a.state
+
+    from_same : under from.root v ≡ under from.root w
+    from_same = ap (under from.root) seen_is ∙ under_stays (apart_from_both work to.root) from.root a.state b.state (sound a refl) (λ rest. source_beside from.root to.root work rest separate)
+        (moves_to (apart_from_both work to.root) to.root (Some a) (Some b) beside_target)
+
+    to_same : under to.root v ≡ under to.root w
+    to_same = ap (under to.root) seen_is ∙ under_stays (apart_from_both work from.root) to.root a.state b.state (sound a refl) (λ rest. source_beside to.root from.root work rest (turned_over from.root to.root work separate))
+        (moves_to (apart_from_both work from.root) from.root (Some a) (Some b) beside_source)
+has_moved held_part same_part from to work items others journal None None separate sound is source target walked walked_target same beside_target beside_source says v seen_is = absurd seen_is
+has_moved held_part same_part from to work items others journal None (Some b) separate sound is source target walked walked_target same beside_target beside_source says v seen_is = absurd beside_target
+has_moved held_part same_part from to work items others journal (Some a) None separate sound is source target walked walked_target same beside_target beside_source says v seen_is = absurd seen_is
+
+-- after it is written that all is done, that stands
+pub written_stands : (work : Path) (j : Journal) (t u : Option Told) → HasWritten work j t u → (v : View) → IsSeen u v → StandsIn work j v
+written_stands work j (Some a) (Some b) written v is =
+    ap (λ (w : View). w (journal_path work)) is ∙ ap (found (λ n. (b.state.nodes n).now)) written.replaced.new.is ∙ ap (λ (node : Node). FileOf node.now) written.replaced.new.holds
+written_stands work j None None written v is = absurd is
+written_stands work j (Some a) None written v is = absurd is
+written_stands work j None (Some b) written v is = absurd written
+
+-- ---- by roots and passphrases
+
+opened_is : (x : OpenedVault) (root : Path) → x.root ≡ root → x ≡ opened_in root x.vault
+opened_is x root is = ap (λ r. opened_in r x.vault) is
+
+pub tree_moved : {T E : Type 0} (from to work : Path) (from_pass to_pass : List ℕ) (source target : OpenedVault) (t u : Option Told) (result : Result T E) → source.root ≡ from → target.root ≡ to
+    → ((v : View) → IsSeen t v → IsVault (under from v) from_pass source.vault) → ((v : View) → IsSeen t v → IsVault (under to v) to_pass target.vault)
+    → Moved source target work u result → IfOk result (λ done. MovesTree from to work from_pass to_pass t u)
+tree_moved from to work from_pass to_pass source target t u (Ok value) source_at target_at opens opens_target moved = record {
+  source = source.vault;
+  target = target.vault;
+  opens_source = opens;
+  opens_target = opens_target;
+  moved = λ v is. subst (λ x. HasMoved x (opened_in to target.vault) work v) (opened_is source from source_at) (subst (λ y. HasMoved source y work v) (opened_is target to target_at) (moved v is));
+}
+tree_moved from to work from_pass to_pass source target t u (Err fault) source_at target_at opens opens_target moved = tt
+
+-- what is seen at first is seen where the vaults are opened
+pub moved_before : (from to work : Path) (from_pass to_pass : List ℕ) (t0 t u : Option Told) → ((v : View) → IsSeen t0 v → IsSeen t v) → MovesTree from to work from_pass to_pass t u → MovesTree from to work from_pass to_pass t0 u
+moved_before from to work from_pass to_pass t0 t u before moves = record {
+  source = moves.source;
+  target = moves.target;
+  opens_source = λ v is. moves.opens_source v (before v is);
+  opens_target = λ v is. moves.opens_target v (before v is);
+  moved = moves.moved;
+}
+
+pub if_ok_more : {T E : Type 0} (P Q : Type 0) (result : Result T E) → (P → Q) → IfOk result (λ value. P) → IfOk result (λ value. Q)
+if_ok_more P Q (Ok value) more h = more h
+if_ok_more P Q (Err fault) more h = tt

@@ -1,0 +1,11 @@
+mod Beginnings
+mod Endings
+mod Fronts
+mod Leadings
+mod Movings
+mod Placings
+mod Planned
+mod Restaged
+mod Searched
+mod Settled
+mod WorkFolders

@@ -1,0 +1,125 @@
+-- That calls move nothing but what they may, one after the other; and what stays with that.
+use Rattle.std.proofs.Common.{◌≡◌, ◌&&◌, Bool, true, false, not, List, ◌++◌, Option, Some, None, Result, refl, sym, ap, ◌∙◌, subst, IsTrue, is_none}
+use Rattle.std.proofs.Math.Path.{fun_ext}
+use Rattle.folder_spec.specs.declared.FolderFault.{FolderFault}
+use Rattle.folder_spec.specs.Path.{Path, below}
+use Rattle.folder_spec.specs.State.{State, IsSound}
+use Rattle.folder_spec.specs.Event.{Event, Settle, Told, FromTo, Changes, Steps}
+use Rattle.folder_spec.specs.Moments.{Went}
+use Rattle.folder_spec.specs.Region.{IsAsBefore, apart_from, apart_from_both}
+use Rattle.folder_spec.specs.Seen.{seen, under}
+use Rattle.folder_spec.specs.View.{View}
+use Rattle.folder_spec.proofs.Moments.{went_nowhere, went_on, went_more, went_to, went_by_call}
+use Rattle.folder_spec.proofs.Paths.{below-apart}
+use Rattle.folder_spec.proofs.Regions.{as_before, as_before_on}
+use Rattle.folder_spec.proofs.Tellings.{from_to_more, from_to_on, from_to_same}
+use Rattle.tree_match.proofs.Kept.{not_staged, turned}
+use Rattle.vault_read.specs.Laws.{HasOwnFolders}
+use Rattle.vault_read.specs.Opened.{OpenedVault}
+use Rattle.vault_spec.specs.Findings.{IsClean, IsFileAt}
+use Rattle.vault_spec.specs.Plan.{Planned}
+use Rattle.vault_spec.specs.Vault.{format_of}
+use Rattle.vault_walk.specs.Surveyed.{IsPlanOf}
+use Rattle.vault_write.proofs.Runs.{as_before_then, as_before_within, seen_as_before}
+use Rattle.vault_write.specs.Making.{is_apart, is_staged}
+use Rattle.migrate_core.specs.Moving.{OnlyBrings, MovesBeside}
+use Rattle.migrate_core.specs.Sides.{AreSeparate, IsWalked}
+
+-- ---- one after the other
+
+pub moves_nowhere : (region : Path → Bool) (root : Path) (t u : Option Told) → u ≡ t → MovesBeside region root t u
+moves_nowhere region root t u is =
+    from_to_same (λ a b. Went (IsAsBefore region a.state) (λ s e. OnlyBrings root s e.call) a b) t u is
+    (λ a. went_nowhere (IsAsBefore region a.state) (λ s e. OnlyBrings root s e.call) a (as_before region a.state))
+
+pub moves_on : (region : Path → Bool) (root : Path) (t u w : Option Told) → MovesBeside region root t u → MovesBeside region root u w → MovesBeside region root t w
+moves_on region root t u w first later =
+    let Q : State → Event → Type 0 = λ s e. OnlyBrings root s e.call in
+    let R : Told → Told → Type 0 = λ a b. Went (IsAsBefore region a.state) (λ s e. OnlyBrings root s e.call) a b in
+    from_to_on R R R t u w
+    (λ a b c one two. went_on (IsAsBefore region a.state) Q a b c one
+    (went_more (IsAsBefore region b.state) (IsAsBefore region a.state) Q Q b c
+    (λ s stayed. as_before_then region region a.state b.state s (λ q inside. inside) (went_to (IsAsBefore region a.state) Q a b one) stayed) (λ s e is. is) two)) first later
+
+-- in a smaller region
+pub moves_within : (region within : Path → Bool) (root : Path) (t u : Option Told) → ((q : Path) → IsTrue (region q) → IsTrue (within q)) → MovesBeside within root t u → MovesBeside region root t u
+moves_within region within root t u more moves =
+    let Q : State → Event → Type 0 = λ s e. OnlyBrings root s e.call in
+    from_to_more (λ a b. Went (IsAsBefore within a.state) Q a b) (λ a b. Went (IsAsBefore region a.state) Q a b) t u
+    (λ a b is went. went_more (IsAsBefore within a.state) (IsAsBefore region a.state) Q Q a b (λ s stayed. as_before_within region within a.state s more stayed) (λ s e is. is) went) moves
+
+-- in the end the region is as it was
+pub moves_to : (region : Path → Bool) (root : Path) (t u : Option Told) → MovesBeside region root t u → FromTo (λ a b. IsAsBefore region a.state b.state) t u
+moves_to region root t u moves =
+    from_to_more (λ a b. Went (IsAsBefore region a.state) (λ s e. OnlyBrings root s e.call) a b) (λ a b. IsAsBefore region a.state b.state) t u
+    (λ a b is went. went_to (IsAsBefore region a.state) (λ s e. OnlyBrings root s e.call) a b went) moves
+
+-- a settle moves nothing
+pub settle_moves : (region : Path → Bool) (root : Path) (t u : Option Told) (result : Result (Unit {0}) FolderFault) → Changes Settle t u result → MovesBeside region root t u
+settle_moves region root t u result changes =
+    from_to_more (λ a b. Steps Settle a b result) (λ a b. Went (IsAsBefore region a.state) (λ s e. OnlyBrings root s e.call) a b) t u
+    (λ a b is steps. went_by_call (IsAsBefore region a.state) (λ s e. OnlyBrings root s e.call) Settle a b result (as_before region a.state)
+    (λ allowed. as_before_on region a.state a.state Settle tt tt (as_before region a.state)) (λ added allowed. as_before region a.state) (λ outcome. tt) steps) changes
+
+-- ---- the regions
+
+pub both : (a b : Bool) → IsTrue a → IsTrue b → IsTrue (a && b)
+both true b one other = other
+both false b one other = absurd (cc one)
+
+-- what begins with neither is apart
+pub apart_of : (work root q : Path) → below work q ≡ None → below root q ≡ None → IsTrue (is_apart work root q)
+apart_of work root q one other = both (not (is_staged work q)) (apart_from root q) (ap not (not_staged work q one)) (ap is_none other)
+
+pub both_of : (work root q : Path) → below work q ≡ None → below root q ≡ None → IsTrue (apart_from_both work root q)
+both_of work root q one other = both (apart_from work q) (apart_from root q) (ap is_none one) (ap is_none other)
+
+-- the source is apart from the work folder and from the target
+module _ (from to through rest : Path) (separate : AreSeparate from to through) where
+  pub source_not_in_work : below through (from ++ rest) ≡ None
+  source_not_in_work = below-apart through from rest separate.source.other separate.source.one
+
+  pub source_not_in_target : below to (from ++ rest) ≡ None
+  source_not_in_target = below-apart to from rest separate.vaults.other separate.vaults.one
+
+  pub source_apart : IsTrue (is_apart through to (from ++ rest))
+  source_apart = apart_of through to (from ++ rest) source_not_in_work source_not_in_target
+
+  pub source_beside : IsTrue (apart_from_both through to (from ++ rest))
+  source_beside = both_of through to (from ++ rest) source_not_in_work source_not_in_target
+
+-- and so is the target from the source
+pub turned_over : (from to through : Path) → AreSeparate from to through → AreSeparate to from through
+turned_over from to through separate = record { vaults = turned separate.vaults; source = separate.target; target = separate.source }
+
+-- ---- a walk
+
+-- what a call tells of the state is sound
+abbrev pub AreSound : Option Told → Type 0
+AreSound t = (a : Told) → t ≡ Some a → IsSound a.state
+
+-- what is seen under a root that is as before
+pub under_stays : (region : Path → Bool) (root : Path) (a b : State) → IsSound a → ((rest : Path) → IsTrue (region (root ++ rest))) → IsAsBefore region a b → under root (seen b) ≡ under root (seen a)
+under_stays region root a b sound inside stayed = fun_ext (λ rest. seen_as_before region a b sound stayed (root ++ rest) (inside rest))
+
+-- a walk tells as much of a vault that is as before
+pub walked_stays : (region : Path → Bool) (from : OpenedVault) (items : List Planned) (t u : Option Told) → ((rest : Path) → IsTrue (region (from.root ++ rest))) → AreSound t
+    → FromTo (λ a b. IsAsBefore region a.state b.state) t u → IsWalked t from items → IsWalked u from items
+walked_stays region from items (Some a) (Some b) inside sound stayed walked = record {
+  clean = λ v is. subst (λ w. IsClean (format_of from.vault) (under from.root w)) (sym is) (subst (IsClean (format_of from.vault)) (sym same) (walked.clean (seen a.state) refl));
+  ordered = λ v is. walked.ordered (seen a.state) refl;
+  files = λ v is item among file.
+      let at = walked.behind item among in
+      let there : IsFileAt (seen a.state) item.at = walked.files (seen a.state) refl item among file in
+      (there.0, ap (λ (w : View). w item.at) is ∙ seen_as_before region a.state b.state (sound a refl) stayed item.at (subst (λ p. IsTrue (region p)) (sym at.1) (inside at.0)) ∙ there.1);
+  behind = walked.behind;
+  size = walked.size;
+  plan = λ v is. subst (λ w. HasOwnFolders from.vault (under from.root w) → IsPlanOf from.root (format_of from.vault) (under from.root w) items) (sym is)
+      (subst (λ u. HasOwnFolders from.vault u → IsPlanOf from.root (format_of from.vault) u items) (sym same) (walked.plan (seen a.state) refl));
+}
+  where
+    same : under from.root (seen b.state) ≡ under from.root (seen a.state)
+    same = under_stays region from.root a.state b.state (sound a refl) inside stayed
+walked_stays region from items None None inside sound stayed walked = walked
+walked_stays region from items None (Some b) inside sound stayed walked = absurd stayed
+walked_stays region from items (Some a) None inside sound stayed walked = absurd stayed

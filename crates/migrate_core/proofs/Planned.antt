@@ -1,0 +1,164 @@
+-- Items of the source's plan, and that the source held them.
+use Rattle.std.proofs.Common.{◌≡◌, List, [], ℕ, Option, Some, refl, sym, ap, ◌∙◌, subst, Contains}
+use Rattle.std.specs.List.{concat}
+use Rattle.chunk_files.specs.Decoding.{started}
+use Rattle.chunk_files.specs.Keys.{Keys}
+use Rattle.chunk_files.specs.Reading as reading
+use Rattle.content_writing.specs.Content.{Coming, Ending, Whole, IsReady, IsTold, coming_read, content_limit, ending_of, held_before, still_coming}
+use Rattle.content_writing.specs.VaultContents.{path_of, coming_of}
+use Rattle.content_writing.specs.declared.vault_content.VaultContent.{VaultContent}
+use Rattle.folder_spec.specs.Path.{Path, below}
+use Rattle.folder_spec.specs.Event.{Told}
+use Rattle.folder_spec.specs.Seen.{IsSeen, seen, under}
+use Rattle.folder_spec.specs.State.{State}
+use Rattle.folder_spec.specs.View.{View, FileOf, Found}
+use Rattle.plain_tree.specs.declared.NodeKind.TheVariants.{Dir, File}
+use Rattle.tree_match.proofs.Kept.{source_in}
+use Rattle.tree_match.specs.Alone.{Progress, IsAlone, IsIn}
+use Rattle.tree_match.specs.Comparing.{bytes_found, content_at}
+use Rattle.tree_match.specs.Guard.{AreApart, HoldsSource, Migration}
+use Rattle.tree_match.specs.Trees.{Side, IsWalkOf}
+use Rattle.vault_read.specs.Contents.{Reader, limited_reading}
+use Rattle.vault_read.specs.Laws.{HasOwnFolders}
+use Rattle.vault_read.specs.Opened.{OpenedVault}
+use Rattle.vault_spec.specs.Alike.{IsOrderly}
+use Rattle.vault_spec.specs.Findings.{IsFileAt}
+use Rattle.vault_spec.specs.Opens.{Content, Directory, tree}
+use Rattle.vault_spec.specs.Plan.{Planned}
+use Rattle.vault_spec.specs.Vault.{Vault, Gocryptfs, Cryptomator, format_of}
+use Rattle.vault_write.specs.Calls.{ReadsElsewhere}
+use Rattle.vault_write.specs.Placing.{MayMake}
+use Rattle.work_folder.specs.Entering as entering
+use Rattle.migrate_core.proofs.Movings.{source_not_in_target, source_not_in_work}
+use Rattle.migrate_core.specs.Sides.{AreSeparate, IsItemOf, IsWalked, opened_at, side_of}
+
+-- what is seen of a folder that tells this
+pub seen_of : (t : Option Told) (a : Told) → t ≡ Some a → IsSeen t (seen a.state)
+seen_of t a is = subst (λ t. IsSeen t (seen a.state)) (sym is) refl
+
+-- in a vault in good order no two directories share a folder
+pub own_folders : (vault : Vault) (v : View) → IsOrderly (format_of vault) v → HasOwnFolders vault v
+own_folders (Gocryptfs keys) v orderly = tt
+own_folders (Cryptomator cm) v orderly = orderly.own_folder
+
+-- so its walk tells its plan
+pub walk_of : (from : OpenedVault) (items : List Planned) (t : Option Told) (v : View) → IsWalked t from items → IsSeen t v → IsOrderly (format_of from.vault) (under from.root v) → IsWalkOf v (side_of from items)
+walk_of from items t v walked is orderly = walked.plan v is (own_folders from.vault (under from.root v) orderly)
+
+-- how far a migration has come is seen
+abbrev pub SeenAlone : Type 0
+SeenAlone = (g : Migration) (p : Progress) (s : State) → IsAlone g p s → IsIn g p (seen s)
+
+pub source_held : SeenAlone → (g : Migration) (p : Progress) (s : State) → IsAlone g p s → HoldsSource g (seen s)
+source_held shown g p s at = source_in g p (seen s) (shown g p s at)
+
+pub source_walk : SeenAlone → (g : Migration) (p : Progress) (t : Option Told) (a : Told) (items : List Planned) → t ≡ Some a → IsAlone g p a.state → IsWalked t (opened_at g.source) items
+    → IsWalkOf (seen a.state) (side_of (opened_at g.source) items)
+source_walk shown g p t a items is at walked = walk_of (opened_at g.source) items t (seen a.state) walked (seen_of t a is) (source_held shown g p a.state at).there.good.orderly
+
+-- ---- a directory
+
+abbrev pub DirectoriesOpen : Type 0
+DirectoriesOpen = (v : View) (a : Side) (item : Planned) → IsWalkOf v a → Contains a.items item → item.node ≡ Dir → tree (format_of a.vault) (under a.root v) item.path ≡ Directory
+
+pub directory_held : SeenAlone → DirectoriesOpen → (g : Migration) (p : Progress) (t : Option Told) (a : Told) (item : Planned) → t ≡ Some a → IsAlone g p a.state → IsItemOf t (opened_at g.source) item
+    → item.node ≡ Dir → Directory ≡ g.held item.path
+directory_held shown opens g p t a item is at of node =
+    sym (opens (seen a.state) (side_of (opened_at g.source) of.items) item (source_walk shown g p t a of.items is at of.walked) of.among node)
+    ∙ (source_held shown g p a.state at).held item.path
+
+-- ---- a file
+
+abbrev pub FilesOpen : Type 0
+FilesOpen = (v : View) (a : Side) (item : Planned) → IsWalkOf v a → Contains a.items item → item.node ≡ File → (content_at (format_of a.vault).content v item.at).ending ≡ reading.Whole
+    → tree (format_of a.vault) (under a.root v) item.path ≡ Content (content_at (format_of a.vault).content v item.at).bytes
+
+abbrev pub FilesFit : Type 0
+FilesFit = (keys : Keys) (at : Path) (bytes : List ℕ) → coming_read (record { at = at; decoding = started keys }) content_limit [] (FileOf bytes) ≡ Some (held_before at [] (limited_reading keys bytes))
+
+-- a reader of the item's file, from its start
+abbrev pub reader_of : OpenedVault → Planned → Reader
+reader_of from item = record { at = item.at; decoding = started (format_of from.vault).content }
+
+whole_reading : (at : Path) (ending : reading.Ending) → ending_of at ending ≡ Whole → ending ≡ reading.Whole
+whole_reading at reading.Whole e = refl
+whole_reading at (reading.Faulty fault) e = cc e
+whole_reading at reading.Wanting e = cc e
+
+some_is : {c d : Coming} → Some c ≡ Some d → c ≡ d
+some_is e = cc e
+
+-- what is to come of it, where it comes whole, is what the source held
+pub file_held : SeenAlone → FilesOpen → FilesFit → (g : Migration) (p : Progress) (t : Option Told) (a : Told) (item : Planned) → t ≡ Some a → IsAlone g p a.state → IsItemOf t (opened_at g.source) item
+    → item.node ≡ File → (content : List ℕ) (ending : Ending)
+    → ((c : Coming) → coming_read (reader_of (opened_at g.source) item) content_limit [] (seen a.state item.at) ≡ Some c → c ≡ record { bytes = content; ending = ending })
+    → ending ≡ Whole → Content content ≡ g.held item.path
+file_held shown opens fits g p t a item is at of node content ending told whole =
+    ap Content (sym comes ∙ same)
+    ∙ sym (opens (seen a.state) (side_of (opened_at g.source) of.items) item (source_walk shown g p t a of.items is at of.walked) of.among node ended)
+    ∙ (source_held shown g p a.state at).held item.path
+  where
+    keys : Keys
+    keys = (format_of g.source.vault).content
+
+    there : IsFileAt (seen a.state) item.at
+    there = of.walked.files (seen a.state) (seen_of t a is) item of.among node
+
+    read : reading.Reading
+    read = limited_reading keys there.0
+
+    coming : held_before item.at [] read ≡ record { bytes = content; ending = ending }
+    coming = told (held_before item.at [] read) (ap (coming_read (reader_of (opened_at g.source) item) content_limit []) there.1 ∙ fits keys item.at there.0)
+
+    comes : concat read.chunks ≡ content
+    comes = ap (λ (c : Coming). c.bytes) coming
+
+    found : bytes_found (seen a.state item.at) ≡ there.0
+    found = ap bytes_found there.1
+
+    same : concat read.chunks ≡ (content_at keys (seen a.state) item.at).bytes
+    same = ap (λ bytes. concat (limited_reading keys bytes).chunks) (sym found)
+
+    ended : (content_at keys (seen a.state) item.at).ending ≡ reading.Whole
+    ended = ap (λ bytes. (limited_reading keys bytes).ending) found ∙ whole_reading item.at read.ending (ap (λ (c : Coming). c.ending) coming ∙ whole)
+
+-- ---- the content of a file
+
+-- the content gives what a reader of the item's file has to give
+pub record IsContentOf (from : OpenedVault) (item : Planned) (content : VaultContent) : Type 0 where
+  pub reads : path_of content ≡ Some item.at
+  pub coming : (found : Found) → coming_of content found ≡ coming_read (reader_of from item) content_limit [] found
+
+pub content_is : (from : OpenedVault) (item : Planned) (reader : Reader) (content : VaultContent) → reader ≡ reader_of from item → path_of content ≡ Some reader.at
+    → ((found : Found) → coming_of content found ≡ coming_read reader content_limit [] found) → IsContentOf from item content
+content_is from item reader content is reads coming = record {
+  reads = reads ∙ ap (λ (r : Reader). Some r.at) is;
+  coming = λ found. coming found ∙ ap (λ r. coming_read r content_limit [] found) is;
+}
+
+pub content_coming : (from : OpenedVault) (item : Planned) (content : VaultContent) → IsContentOf from item content → (a : Told)
+    → still_coming (path_of content) (Some a) (coming_of content) ≡ coming_read (reader_of from item) content_limit [] (seen a.state item.at)
+content_coming from item content is a = ap (λ r. still_coming r (Some a) (coming_of content)) is.reads ∙ is.coming (seen a.state item.at)
+
+is_told : {c : Option Coming} {d : Coming} → c ≡ Some d → IsTold c
+is_told e = subst IsTold (sym e) tt
+
+pub content_ready : FilesFit → (from : OpenedVault) (item : Planned) (content : VaultContent) → IsContentOf from item content → (t : Option Told) → IsItemOf t from item → item.node ≡ File
+    → IsReady (path_of content) t (coming_of content)
+content_ready fits from item content is t of node = subst (λ r. IsReady r t (coming_of content)) (sym is.reads) (λ v shown.
+    let there : IsFileAt v item.at = of.walked.files v shown item of.among node in
+    is_told (is.coming (v item.at) ∙ ap (coming_read (reader_of from item) content_limit []) there.1 ∙ fits (format_of from.vault).content item.at there.0))
+
+pub content_elsewhere : (from : OpenedVault) (to work : Path) (item : Planned) (content : VaultContent) → IsContentOf from item content → AreSeparate from.root to work
+    → (t : Option Told) → IsItemOf t from item → ReadsElsewhere (path_of content) work to
+content_elsewhere from to work item content is separate t of =
+    let behind = of.walked.behind item of.among in
+    subst (λ r. ReadsElsewhere r work to) (sym is.reads) (
+      ap (below work) behind.1 ∙ source_not_in_work from.root to work behind.0 separate,
+      ap (below to) behind.1 ∙ source_not_in_target from.root to work behind.0 separate,
+    )
+
+-- ---- the target
+
+pub may_make : (t : Option Told) (work root : Path) → AreApart root work → ((v : View) → IsSeen t v → entering.IsReady v work) → MayMake t work root
+may_make t work root apart ready = record { ready = ready; apart = apart.other; beside = apart.one }

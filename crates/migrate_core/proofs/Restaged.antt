@@ -1,0 +1,114 @@
+-- Going on with a migration whose stage is made ready anew.
+use Rattle.std.proofs.Common.{◌≡◌, ◌&&◌, Bool, true, false, ℕ, List, [], ◌∷◌, Option, Some, None, Result, refl, sym, ap, ◌∙◌, subst, codes, IsTrue, is_none}
+use Rattle.folder_spec.proofs.Paths.{below-apart}
+use Rattle.folder_spec.proofs.Replaces.{apart-below}
+use Rattle.folder_spec.specs.Event.{Told, FromTo}
+use Rattle.folder_spec.specs.Moments.{Went}
+use Rattle.folder_spec.specs.Path.{Path}
+use Rattle.folder_spec.specs.Region.{IsAsBefore, apart_from, apart_from_both}
+use Rattle.folder_spec.specs.Seen.{IsSeen, seen, under}
+use Rattle.folder_spec.specs.View.{View}
+use Rattle.move_journal.specs.declared.journal.Journal.{Journal}
+use Rattle.move_journal.specs.declared.journal.Phase.{Phase}
+use Rattle.move_journal.specs.declared.journal.Phase.TheVariants as phase
+use Rattle.tree_match.proofs.Kept.{behind_none}
+use Rattle.tree_match.specs.Alone.{Progress, Begun, Finished, IsAlone, StaysAlone}
+use Rattle.tree_match.specs.Guard as guard
+use Rattle.tree_match.specs.Guard.{AreApart, IsDone, Migration, Tells}
+use Rattle.tree_match.specs.Trees.{Side, IsWalkOf}
+use Rattle.vault_read.specs.Opened.{OpenedVault}
+use Rattle.vault_spec.proofs.Mapped.{contains_mapped, mapped_from}
+use Rattle.vault_spec.specs.Opens.{Tree, tree}
+use Rattle.vault_spec.specs.Plan.{Planned}
+use Rattle.vault_spec.specs.Vault.{format_of}
+use Rattle.work_folder.specs.Changing.{ChangesAt}
+use Rattle.work_folder.specs.Entering.{IsStage, IsBelowStage}
+use Rattle.work_folder.specs.Entries.{stage_path}
+use Rattle.migrate_core.proofs.Leadings.{goes_given, goes_on}
+use Rattle.migrate_core.proofs.Movings.{moves_to, moves_within}
+use Rattle.migrate_core.proofs.Planned.{SeenAlone, seen_of, walk_of}
+use Rattle.migrate_core.proofs.WorkFolders.{changing_moves}
+use Rattle.migrate_core.specs.Leading.{Goes, Guards, Leads, LeadsTold, progress_of}
+use Rattle.migrate_core.specs.Moving.{MovesBeside, OnlyBrings}
+use Rattle.migrate_core.specs.Sides.{AreSides, IsWalked, StandAll, opened_at, side_of}
+
+-- ---- the stage alone
+
+stage_apart : (work root : Path) → AreApart root work → AreApart root (stage_path work)
+stage_apart work root apart = record {
+  one = below-apart root work (codes "stage" ∷ []) apart.one apart.other;
+  other = behind_none work (codes "stage" ∷ []) root apart.other;
+}
+
+left_of : (a b : Bool) → IsTrue (a && b) → IsTrue a
+left_of true b both = refl
+left_of false b both = absurd (cc both)
+
+pub stage_moves : (work root : Path) (t u : Option Told) → AreApart root work → ChangesAt (stage_path work) (IsStage work) (IsBelowStage work) t u → MovesBeside (apart_from_both work root) root t u
+stage_moves work root t u apart changes =
+    moves_within (apart_from_both work root) (apart_from (stage_path work)) root t u
+    (λ q is. ap is_none (behind_none work (codes "stage" ∷ []) q (apart-below work q (left_of (apart_from work q) (apart_from root q) is))))
+    (changing_moves (stage_path work) (IsStage work) (IsBelowStage work) root t u (stage_apart work root apart) changes)
+
+pub stage_stays : (work root : Path) (t u : Option Told) → AreApart root work → ChangesAt (stage_path work) (IsStage work) (IsBelowStage work) t u
+    → FromTo (λ a b. IsAsBefore (apart_from (stage_path work)) a.state b.state) t u
+stage_stays work root t u apart changes =
+    moves_to (apart_from (stage_path work)) root t u (changing_moves (stage_path work) (IsStage work) (IsBelowStage work) root t u (stage_apart work root apart) changes)
+
+-- what doesn't depend on what is seen
+pub still_known : (X : Type 0) (region : Path → Bool) (root : Path) (t u : Option Told) → MovesBeside region root t u → ((v : View) → IsSeen t v → X) → (v : View) → IsSeen u v → X
+still_known X region root (Some a) (Some b) went known v is = known (seen a.state) refl
+still_known X region root None None went known v is = absurd is
+still_known X region root None (Some b) went known v is = absurd went
+still_known X region root (Some a) None went known v is = absurd went
+
+-- it leaves a migration as far as it has come
+abbrev pub StagesAlone : Type 0
+StagesAlone = (g : Migration) (p : Progress) (a b : Told) → IsAlone g p a.state → ChangesAt (stage_path g.work) (IsStage g.work) (IsBelowStage g.work) (Some a) (Some b) → StaysAlone g p a b
+
+pub stage_alone : StagesAlone → (g : Migration) (p : Progress) (work : Path) (t u : Option Told) → work ≡ g.work → ChangesAt (stage_path work) (IsStage work) (IsBelowStage work) t u
+    → FromTo (λ a b. IsAlone g p a.state → StaysAlone g p a b) t u
+stage_alone stages g p work None None is changes = tt
+stage_alone stages g p work (Some a) (Some b) is changes = λ at. stages g p a b at (subst (λ w. ChangesAt (stage_path w) (IsStage w) (IsBelowStage w) (Some a) (Some b)) is changes)
+stage_alone stages g p work None (Some b) is changes = absurd changes
+stage_alone stages g p work (Some a) None is changes = absurd changes
+
+-- ---- once a migration has finished, each item of the source stands in the target
+
+-- a walk tells the tree
+abbrev pub PlansTell : Type 0
+PlansTell = (v : View) (a : Side) → IsWalkOf v a → guard.IsPlanOf (tree (format_of a.vault) (under a.root v)) a.items
+
+stands_in : (t m : Tree) (items there : List Planned) → guard.IsPlanOf t items → guard.IsPlanOf m there → ((path : List (List ℕ)) → t path ≡ m path) → StandAll items there
+stands_in t m items there plan other same item among =
+    let here = (plan.items.items item.path).0 (contains_mapped (λ (x : Planned). x.path) items item among) in
+    let found = mapped_from (λ (x : Planned). x.path) there item.path ((other.items.items item.path).1 (here.0, λ none. here.1 (same item.path ∙ none))) in
+    (found.0, found.1, found.2)
+
+pub all_stand : PlansTell → (g : Migration) (t : Option Told) (v : View) (items there : List Planned) → IsSeen t v → IsDone g v → IsWalked t (opened_at g.source) items → IsWalked t (opened_at g.target) there
+    → StandAll items there
+all_stand tell g t v items there is done walked other =
+    stands_in (guard.tree_at g.source v) (guard.tree_at g.target v) items there
+    (tell v (side_of (opened_at g.source) items) (walk_of (opened_at g.source) items t v walked is done.source.there.good.orderly))
+    (tell v (side_of (opened_at g.target) there) (walk_of (opened_at g.target) there t v other is done.target.there.good.orderly))
+    (λ path. done.source.held path ∙ sym (done.target.all.held path))
+
+-- ---- going on
+
+pub rest_goes : {T E : Type 0} → SeenAlone → PlansTell → (region : Path → Bool) (root : Path) (g : Migration) (from to : OpenedVault) (through : Path) (journal : Journal) (items there : List Planned)
+    → (t u w : Option Told) (result : Result T E) → MovesBeside region root t w → AreSides g from to through → Tells g journal → IsWalked t from items → IsWalked t to there
+    → ((p : Progress) → Guards g p t u × Leads g p p t u)
+    → (journal.phase ≡ phase.Building → LeadsTold from to through journal Begun Finished u w result)
+    → (journal.phase ≡ phase.Done → StandAll items there → LeadsTold from to through journal Finished Finished u w result)
+    → Goes g (progress_of journal.phase) Finished t w result
+rest_goes shown tell region root g from to through journal items there t u w result went sides tells walked other first building done = by_phase journal.phase refl
+  where
+    stand : (a : Told) → t ≡ Some a → IsAlone g Finished a.state → StandAll items there
+    stand a is at =
+        all_stand tell g t (seen a.state) items there (seen_of t a is) (shown g Finished a.state at) (subst (λ o. IsWalked t o items) sides.source walked) (subst (λ o. IsWalked t o there) sides.target other)
+
+    by_phase : (p : Phase) → journal.phase ≡ p → Goes g (progress_of p) Finished t w result
+    by_phase phase.Building is = goes_on g Begun Begun Finished t u w result (first Begun).0 (first Begun).1 (building is g sides tells)
+    by_phase phase.Done is =
+        goes_given (StandAll items there) (λ a b. Went (IsAsBefore region a.state) (λ s e. OnlyBrings root s e.call) a b) g Finished Finished t w result went stand
+        (λ all. goes_on g Finished Finished Finished t u w result (first Finished).0 (first Finished).1 (done is all g sides tells))

@@ -1,0 +1,291 @@
+-- What a call finds of a settled migration: the vaults that it opens are its sides, and how far it has come.
+use Rattle.std.proofs.Common.{◌≡◌, ◌≢◌, ◌⊎◌, ℕ, List, Bool, true, false, Option, Some, None, Result, Ok, refl, sym, ap, ◌∙◌, subst, subst₂, inl, inr, append-nil, codes}
+use Rattle.folder_spec.specs.declared.FolderFault.{FolderFault}
+use Rattle.folder_spec.proofs.Moments.{went_nowhere, went_on, went_by_call}
+use Rattle.folder_spec.proofs.Tables.{present_is_table}
+use Rattle.folder_spec.proofs.Tellings.{from_to_more, from_to_same}
+use Rattle.folder_spec.specs.Event.{Told, Changes, Steps, Settle, Done, changed, told_after}
+use Rattle.folder_spec.specs.Path.{Part, Path, child, parent}
+use Rattle.folder_spec.specs.Seen.{IsSeen, seen, under}
+use Rattle.folder_spec.specs.State.{State, IsSound, present}
+use Rattle.folder_spec.specs.View.{Found, NoEntry, Folder, FileOf, Special, View, found, kind_found}
+use Rattle.move_journal.specs.Journal.{IsJournal, journal_text}
+use Rattle.move_journal.specs.Reading.{ReadsAs, file_bytes, journal_bytes, journal_path}
+use Rattle.move_journal.specs.Writing.{new_journal_path}
+use Rattle.move_journal.specs.declared.journal.Journal.{Journal}
+use Rattle.move_journal.specs.declared.journal.Phase.{Phase}
+use Rattle.move_journal.specs.declared.journal.Phase.TheVariants as phase
+use Rattle.tree_match.specs.Alone.{Progress, Unbegun, Begun, Finished, IsIn, IsAlone, StaysGuarded}
+use Rattle.tree_match.specs.Guard as guard
+use Rattle.tree_match.specs.Guard.{VaultAt, Migration, Guarded, IsGuarded, IsThere, Tells, HasJournal, Case, NotBegun, Building, Retired, LastJournal, Stands, Gone}
+use Rattle.vault_read.specs.Laws.{HaveOneAnswer}
+use Rattle.vault_read.specs.Opened.{OpenedVault}
+use Rattle.vault_spec.specs.Vault.{Vault, LoadsFrom, IsVault}
+use Rattle.work_folder.specs.Entries.{HasNoForeign, is_foreign, stage_path}
+use Rattle.work_folder.specs.Looking.{Tests, TestsEntries, TestsJournal, TestsKind, TestsParent}
+use Rattle.migrate_core.proofs.Movings.{AreSound}
+use Rattle.migrate_core.specs.Leading.{Guards, IsSettled, KeepsGuarded, KeepsSettled, progress_of}
+use Rattle.migrate_core.specs.Moving.{MovesBeside}
+use Rattle.migrate_core.specs.Sides.{AreSides, IsAsked, IsInUse, IsResumed, opened_at}
+
+-- ---- laws that are cited
+
+-- a reader finds one of the four cases
+abbrev pub AreSeen : Type 0
+AreSeen = (g : Migration) (s : State) → IsSound s → Guarded g s → IsGuarded g (seen s)
+
+-- a text is that of one journal alone
+abbrev pub HaveOneText : Type 0
+HaveOneText = (j k : Journal) → IsJournal j → IsJournal k → journal_text j ≡ journal_text k → j ≡ k
+
+-- a settle keeps migrations guarded
+abbrev pub SettlesGuarded : Type 0
+SettlesGuarded = (g : Migration) (s : State) → Guarded g s → Guarded g (changed s Settle)
+
+-- and then nothing is pending of what counts
+abbrev pub SettlesAlone : Type 0
+SettlesAlone = (g : Migration) (p : Progress) (s : State) → IsSound s → Guarded g s → IsIn g p (seen s) → IsAlone g p (changed s Settle)
+
+-- ---- what is seen
+
+-- what stands has a folder above it
+pub folder_above : (s : State) (work : Path) (name : Part) → IsSound s → seen s (child work name) ≢ NoEntry → seen s work ≡ Folder
+folder_above s work name sound stands =
+    ap (found (λ n. (s.nodes n).now)) ((sound.tables (present s) (present_is_table s)).parents work name (λ none. stands (ap (found (λ n. (s.nodes n).now)) none)))
+
+pub folder_seen_above : (t : Option Told) → AreSound t → (v : View) → IsSeen t v → (work : Path) (name : Part) → v (child work name) ≢ NoEntry → v work ≡ Folder
+folder_seen_above (Some a) sound v is work name stands =
+    ap (λ (w : View). w work) is ∙ folder_above a.state work name (sound a refl) (λ none. stands (ap (λ (w : View). w (child work name)) is ∙ none))
+folder_seen_above None sound v is work name stands = absurd is
+
+-- ---- the vaults
+
+-- a call opened this vault at a root, by a passphrase
+pub record IsLoaded (v : View) (opened : OpenedVault) (root : Path) (pass : List ℕ) : Type 0 where
+  pub stands : opened.root ≡ root
+  pub loads : IsVault (under root v) pass opened.vault
+
+-- something stands at the root of what opens
+pub root_stands : (v : View) (root : Path) (pass : List ℕ) (vault : Vault) → IsVault (under root v) pass vault → v root ≢ NoEntry
+root_stands v root pass vault loads none = cc (subst (λ (x : Found). LoadsFrom x (under root v) pass (Ok vault)) (ap v (append-nil root) ∙ none) loads)
+
+pub one_side : HaveOneAnswer → (a : VaultAt) (v : View) (opened : OpenedVault) (root : Path) (pass : List ℕ) → IsLoaded v opened root pass → a.root ≡ root → a.pass ≡ pass
+    → IsVault (under a.root v) a.pass a.vault → opened ≡ opened_at a
+one_side one a v opened root pass loaded at by there = λ i. record { root = (loaded.stands ∙ sym at) i; vault = same i }
+  where
+    same : opened.vault ≡ a.vault
+    same = let e = one (under a.root v) a.pass (Ok opened.vault) (Ok a.vault) (subst₂ (λ r p. IsVault (under r v) p opened.vault) (sym at) (sym by) loaded.loads) there in cc
+
+-- ---- a migration that is to begin
+
+-- no journal stands where the tests of a work folder pass
+no_journal : (s : State) (work : Path) (text : List ℕ) → IsSound s → Tests (seen s) work (Ok tt) → seen s (journal_path work) ≢ FileOf text
+no_journal s work text sound tests stands =
+    by_journal (seen s (journal_path work)) stands (by_kind (seen s work) (folder_above s work (codes "journal") sound (λ none. file (sym stands ∙ none))) (by_parent (seen s (parent work)) tests))
+  where
+    file : FileOf text ≡ NoEntry → ⊥
+    file e = cc e
+
+    by_parent : (x : Found) → TestsParent x (seen s) work (Ok tt) → TestsKind (seen s work) (seen s) work (Ok tt)
+    by_parent Folder h = h
+    by_parent NoEntry h = absurd (cc h)
+    by_parent (FileOf bytes) h = absurd (cc h)
+    by_parent Special h = absurd (cc h)
+
+    by_kind : (x : Found) → x ≡ Folder → TestsKind x (seen s) work (Ok tt) → TestsJournal (seen s (journal_path work)) (seen s) work (Ok tt)
+    by_kind Folder e h = h
+    by_kind NoEntry e h = absurd (cc e)
+    by_kind (FileOf bytes) e h = absurd (cc h)
+    by_kind Special e h = absurd (cc h)
+
+    by_journal : (x : Found) → x ≡ FileOf text → TestsJournal x (seen s) work (Ok tt) → ⊥
+    by_journal (FileOf bytes) e h = cc h
+    by_journal NoEntry e h = cc e
+    by_journal Folder e h = cc e
+    by_journal Special e h = cc e
+
+-- what leads a settled migration on
+pub record IsFound (g : Migration) (p : Progress) (s : State) (from to : OpenedVault) (through : Path) : Type 0 where
+  pub sides : AreSides g from to through
+  pub alone : IsAlone g p s
+
+pub begins : HaveOneAnswer → AreSeen → (g : Migration) (s : State) (from to : OpenedVault) (source target through : Path) (from_pass to_pass : List ℕ)
+    → IsAsked g source target through from_pass to_pass → IsSettled g s → Tests (seen s) through (Ok tt)
+    → IsLoaded (seen s) from source from_pass → IsLoaded (seen s) to target to_pass → IsFound g Unbegun s from to through
+begins one are_seen g s from to source target through from_pass to_pass asked settled tests loaded other = by_case (are_seen g s settled.sound settled.guarded).case
+  where
+    none_there : (text : List ℕ) → seen s (journal_path g.work) ≢ FileOf text
+    none_there text = subst (λ w. seen s (journal_path w) ≢ FileOf text) (sym asked.work) (no_journal s through text settled.sound tests)
+
+    by_case : Case g (seen s) → IsFound g Unbegun s from to through
+    by_case (NotBegun is) = record {
+      sides = record {
+        source = one_side one g.source (seen s) from source from_pass loaded asked.source asked.opens_source is.source.there.loads;
+        target = one_side one g.target (seen s) to target to_pass other asked.target asked.opens_target is.target.loads;
+        work = sym asked.work;
+      };
+      alone = settled.alone Unbegun is;
+    }
+    by_case (Building is) = absurd (none_there (journal_text is.journal.journal) is.journal.stands)
+    by_case (guard.Done is) = absurd (none_there (journal_text is.journal.journal) is.journal.stands)
+    by_case (Retired is) = absurd (root_stands (seen s) source from_pass from.vault loaded.loads (ap (seen s) (sym asked.source) ∙ is.gone))
+
+-- ---- a migration that is resumed
+
+pub record IsFoundAgain (g : Migration) (s : State) (from to : OpenedVault) (through : Path) (journal : Journal) : Type 0 where
+  pub found : IsFound g (progress_of journal.phase) s from to through
+  pub tells : Tells g journal
+
+pub resumes : HaveOneAnswer → AreSeen → HaveOneText → (g : Migration) (s : State) (from to : OpenedVault) (through : Path) (journal : Journal) (from_pass to_pass : List ℕ)
+    → IsResumed g through from_pass to_pass → IsJournal journal → IsSettled g s → IsInUse (seen s) through journal
+    → IsLoaded (seen s) from journal.source from_pass → IsLoaded (seen s) to journal.target to_pass → IsFoundAgain g s from to through journal
+resumes one are_seen one_text g s from to through journal from_pass to_pass resumed is_journal settled used loaded other = by_case (are_seen g s settled.sound settled.guarded).case
+  where
+    stands : seen s (journal_path g.work) ≡ FileOf (journal_text journal)
+    stands = ap (λ w. seen s (journal_path w)) resumed.work ∙ used.stands
+
+    one_file : {a b : List ℕ} → FileOf a ≡ FileOf b → a ≡ b
+    one_file e = cc e
+
+    is_told : (p : Phase) (has : HasJournal g p (seen s)) → has.journal ≡ journal
+    is_told p has = one_text has.journal journal has.is is_journal (one_file (sym has.stands ∙ stands))
+
+    in_phase : (p : Phase) (has : HasJournal g p (seen s)) → journal.phase ≡ p
+    in_phase p has = ap (λ (j : Journal). j.phase) (sym (is_told p has)) ∙ has.in_phase
+
+    its_tells : (p : Phase) (has : HasJournal g p (seen s)) → Tells g journal
+    its_tells p has = subst (Tells g) (is_told p has) has.tells
+
+    found_by : (p : Phase) → HasJournal g p (seen s) → IsThere g.source (seen s) → IsThere g.target (seen s) → IsAlone g (progress_of p) s → IsFoundAgain g s from to through journal
+    found_by p has source target alone =
+        let tells = its_tells p has in
+        record {
+          found = record {
+            sides = record {
+              source = one_side one g.source (seen s) from journal.source from_pass loaded (sym tells.source) resumed.opens_source source.loads;
+              target = one_side one g.target (seen s) to journal.target to_pass other (sym tells.target) resumed.opens_target target.loads;
+              work = sym resumed.work;
+            };
+            alone = subst (λ q. IsAlone g (progress_of q) s) (sym (in_phase p has)) alone;
+          };
+          tells = tells;
+        }
+
+    clash : {a : List ℕ} → NoEntry ≡ FileOf a → ⊥
+    clash e = cc e
+
+    retired : seen s g.source.root ≡ NoEntry → LastJournal g (seen s) → ⊥
+    retired gone (Stands has) = root_stands (seen s) journal.source from_pass from.vault loaded.loads (ap (seen s) (its_tells phase.Done has).source ∙ gone)
+    retired gone (Gone none) = clash (sym none ∙ stands)
+
+    by_case : Case g (seen s) → IsFoundAgain g s from to through journal
+    by_case (NotBegun is) = absurd (clash (sym is.journal ∙ stands))
+    by_case (Building is) = found_by phase.Building is.journal is.source.there is.target (settled.alone Begun is)
+    by_case (guard.Done is) = found_by phase.Done is.journal is.source.there is.target.there (settled.alone Finished is)
+    by_case (Retired is) = absurd (retired is.gone is.journal)
+
+-- ---- calls that go on with a settled migration
+
+-- nothing has changed
+pub still_settled : (g : Migration) (t u : Option Told) → u ≡ t → KeepsSettled g t u
+still_settled g t u is = from_to_same (λ a b. IsSettled g a.state → StaysGuarded g a b) t u is (λ a settled. went_nowhere (Guarded g) (λ s e. Unit {0}) a settled.guarded)
+
+pub still_guarded : (g : Migration) (t u : Option Told) → u ≡ t → KeepsGuarded g t u
+still_guarded g t u is = from_to_same (λ a b. Guarded g a.state → StaysGuarded g a b) t u is (λ a guarded. went_nowhere (Guarded g) (λ s e. Unit {0}) a guarded)
+
+-- what is found of it leads it on
+pub settled_by : (region : Path → Bool) (root : Path) (g : Migration) (p : Progress) (t u : Option Told) → MovesBeside region root t u
+    → ((a : Told) → t ≡ Some a → IsSettled g a.state → IsAlone g p a.state × Guards g p t u) → KeepsSettled g t u
+settled_by region root g p None None went known = tt
+settled_by region root g p (Some a) (Some b) went known = λ settled. let found = known a refl settled in found.1 found.0
+settled_by region root g p None (Some b) went known = absurd went
+settled_by region root g p (Some a) None went known = absurd went
+
+-- ---- a settle
+
+-- a settle that failed leaves it guarded
+pub settle_fell : SettlesGuarded → (g : Migration) (t u : Option Told) (result : Result (Unit {0}) FolderFault) → Changes Settle t u result → KeepsGuarded g t u
+settle_fell settles g t u result changes =
+    from_to_more (λ a b. Steps Settle a b result) (λ a b. Guarded g a.state → StaysGuarded g a b) t u
+    (λ a b is steps guarded. went_by_call (Guarded g) (λ s e. Unit {0}) Settle a b result guarded (λ allowed. settles g a.state guarded) (λ added allowed. guarded) (λ outcome. tt) steps) changes
+
+-- and after one that was done it is settled
+settled_at : SettlesGuarded → SettlesAlone → (g : Migration) (a b : Told) → IsSound a.state → IsSound b.state → Guarded g a.state → b ≡ told_after a Settle Done → IsSettled g b.state
+settled_at settles alone g a b sound sound_after guarded is = record {
+  sound = sound_after;
+  guarded = subst (λ (c : Told). Guarded g c.state) (sym is) (settles g a.state guarded);
+  alone = subst (λ (c : Told). (p : Progress) → IsIn g p (seen c.state) → IsAlone g p c.state) (sym is) (λ p is_in. alone g p a.state sound guarded is_in);
+}
+
+pub settle_then : SettlesGuarded → SettlesAlone → (g : Migration) (t u w : Option Told) (value : Unit {0}) → AreSound t → AreSound u → Changes Settle t u (Ok value) → KeepsSettled g u w → KeepsGuarded g t w
+settle_then settles alone g None None None value sound sound_after changes keeps = tt
+settle_then settles alone g (Some a) (Some b) (Some c) value sound sound_after changes keeps = λ guarded.
+    went_on (Guarded g) (λ s e. Unit {0}) a b c (settle_fell settles g (Some a) (Some b) (Ok value) changes guarded)
+    (keeps (settled_at settles alone g a b (sound a refl) (sound_after b refl) guarded changes.1))
+settle_then settles alone g None (Some b) w value sound sound_after changes keeps = absurd changes
+settle_then settles alone g (Some a) None w value sound sound_after changes keeps = absurd changes
+settle_then settles alone g None None (Some c) value sound sound_after changes keeps = absurd keeps
+settle_then settles alone g (Some a) (Some b) None value sound sound_after changes keeps = absurd keeps
+
+-- what is seen stays so
+pub settle_seen : (t u : Option Told) (value : Unit {0}) → Changes Settle t u (Ok value) → (v : View) → IsSeen t v → IsSeen u v
+settle_seen (Some a) (Some b) value changes v is = is ∙ ap (λ (c : Told). seen c.state) (sym changes.1)
+settle_seen None u value changes v is = absurd is
+settle_seen (Some a) None value changes v is = absurd changes
+
+-- ---- a work folder that is in use
+
+-- no entry is foreign where the tests of the entries pass
+pub none_foreign : (old : Bool) (v : View) (work : Path) → TestsEntries old v work (Ok tt) → HasNoForeign old v work
+none_foreign old v work h = elim h [ inl none ↦ none.0 | inr some ↦ absurd (cc (some.2)) ]
+
+-- what was read stands there
+pub journal_stands : (v : View) (work : Path) (journal : Journal) → ReadsAs (journal_bytes v work) (Ok journal) → v (journal_path work) ≡ FileOf (journal_text journal)
+journal_stands v work journal read = by_found (v (journal_path work)) read
+  where
+    by_found : (x : Found) → ReadsAs (file_bytes x) (Ok journal) → x ≡ FileOf (journal_text journal)
+    by_found (FileOf bytes) h = ap FileOf h.1
+    by_found NoEntry h = absurd h
+    by_found Folder h = absurd h
+    by_found Special h = absurd h
+
+-- and no other does
+pub one_journal : HaveOneText → (v : View) (work : Path) (journal other : Journal) → IsJournal journal → ReadsAs (journal_bytes v work) (Ok journal) → IsJournal other → v (journal_path work) ≡ FileOf (journal_text other)
+    → journal ≡ other
+one_journal one_text v work journal other is read is_other stands = one_text journal other is is_other (one_file (sym (journal_stands v work journal read) ∙ stands))
+  where
+    one_file : {a b : List ℕ} → FileOf a ≡ FileOf b → a ≡ b
+    one_file e = cc e
+
+pub journal_folder : (t : Option Told) → AreSound t → (v : View) → IsSeen t v → (work : Path) (journal : Journal) → ReadsAs (journal_bytes v work) (Ok journal) → v work ≡ Folder
+journal_folder t sound v is work journal read = folder_seen_above t sound v is work (codes "journal") (λ none. clash (sym (journal_stands v work journal read) ∙ none))
+  where
+    clash : {a : List ℕ} → FileOf a ≡ NoEntry → ⊥
+    clash e = cc e
+
+new_place : (old : Bool) (x : Found) → ¬ (is_foreign old (codes "journal.new") (kind_found x) ≡ true) → (x ≡ NoEntry) ⊎ ((bytes : List ℕ) × (x ≡ FileOf bytes))
+new_place old NoEntry none = inl refl
+new_place old (FileOf bytes) none = inr (bytes, refl)
+new_place true Folder none = absurd (none refl)
+new_place false Folder none = absurd (none refl)
+new_place old Special none = absurd (none refl)
+
+stage_place : (old : Bool) (x : Found) → ¬ (is_foreign old (codes "stage") (kind_found x) ≡ true) → (x ≡ NoEntry) ⊎ (x ≡ Folder)
+stage_place old NoEntry none = inl refl
+stage_place old Folder none = inr refl
+stage_place old (FileOf bytes) none = absurd (none refl)
+stage_place old Special none = absurd (none refl)
+
+pub in_use : (t : Option Told) → AreSound t → (v : View) → IsSeen t v → (work : Path) (journal : Journal) (old : Bool) → ReadsAs (journal_bytes v work) (Ok journal) → TestsEntries old v work (Ok tt)
+    → IsInUse v work journal
+in_use t sound v is work journal old read tests =
+    let none = none_foreign old v work tests in
+    record {
+      folder = record {
+        folder = journal_folder t sound v is work journal read;
+        journal = inr (journal_text journal, journal_stands v work journal read);
+        new_journal = new_place old (v (new_journal_path work)) (none (codes "journal.new"));
+      };
+      stands = journal_stands v work journal read;
+      stage = stage_place old (v (stage_path work)) (none (codes "stage"));
+    }

@@ -1,0 +1,49 @@
+use Rattle.std.proofs.Common.{refl}
+use Rattle.folder_spec.specs.Region.{apart_from_both}
+use Rattle.migrate_core.proofs.Movings.{moves_nowhere, moves_on, settle_moves}
+use Rattle.migrate_core.proofs.Settled.{settle_fell, settle_then, still_guarded}
+use Rattle.migrate_core.proofs.Endings.{if_ok_more, moved_before}
+use Rattle.migrate_core.proofs.Settled.{settle_seen}
+use Rattle.migrate_core.specs.Moved.{MovesTree}
+use Rattle.migrate_core.proofs.beginning.begin.Goals as goal
+
+pub returns-in_err-test_apart-clause-guard : goal.returns-in_err-test_apart-clause-guard
+returns-in_err-test_apart-clause-guard g c = λ migration asked. still_guarded migration (g.F.Folder.told c.args.folder.now) (g.F.Folder.told c.args.folder.now) refl
+
+pub returns-in_err-test_apart-clause-moves : goal.returns-in_err-test_apart-clause-moves
+returns-in_err-test_apart-clause-moves g c =
+    moves_nowhere (apart_from_both c.args.work.now c.args.target.now) c.args.target.now (g.F.Folder.told c.args.folder.now) (g.F.Folder.told c.args.folder.now) refl
+
+pub returns-in_err-settle-clause-guard : goal.returns-in_err-settle-clause-guard
+returns-in_err-settle-clause-guard g c = λ migration asked.
+    settle_fell c.settling_and_entering_keep_migrations_guarded.ensures.settles migration (g.F.Folder.told c.args.folder.now) (g.F.Folder.told c.settle.new.self) c.settle.result c.settle.ensures.changes
+
+pub returns-in_err-settle-clause-moves : goal.returns-in_err-settle-clause-moves
+returns-in_err-settle-clause-moves g c =
+    settle_moves (apart_from_both c.args.work.now c.args.target.now) c.args.target.now (g.F.Folder.told c.args.folder.now) (g.F.Folder.told c.settle.new.self) c.settle.result c.settle.ensures.changes
+
+pub returns-clause-guard : goal.returns-clause-guard
+returns-clause-guard g c = λ migration asked.
+    let law = c.settling_and_entering_keep_migrations_guarded.ensures in
+    settle_then law.settles law.alone migration (g.F.Folder.told c.args.folder.now) (g.F.Folder.told c.settle.new.self) (g.F.Folder.told c.begin_settled.new.folder) c.in_ok-settle.field-0
+    (g.met.F.Folder.sound c.args.folder.now) (g.met.F.Folder.sound c.settle.new.self) c.in_ok-settle.ensures.changes (c.begin_settled.ensures.guard migration asked)
+
+pub returns-clause-moves : goal.returns-clause-moves
+returns-clause-moves g c =
+    let region = apart_from_both c.args.work.now c.args.target.now in
+    let t0 = g.F.Folder.told c.args.folder.now in
+    let t1 = g.F.Folder.told c.settle.new.self in
+    moves_on region c.args.target.now t0 t1 (g.F.Folder.told c.begin_settled.new.folder) (settle_moves region c.args.target.now t0 t1 c.settle.result c.settle.ensures.changes) c.begin_settled.ensures.moves
+
+pub returns-clause-moved : goal.returns-clause-moved
+returns-clause-moved g c =
+    let from = c.args.source.now in
+    let to = c.args.target.now in
+    let work = c.args.work.now in
+    let t0 = g.F.Folder.told c.args.folder.now in
+    let t1 = g.F.Folder.told c.settle.new.self in
+    let t2 = g.F.Folder.told c.begin_settled.new.folder in
+    let pass = c.args.source_pass.now in
+    let pass' = c.args.target_pass.now in
+    if_ok_more (MovesTree from to work pass pass' t1 t2) (MovesTree from to work pass pass' t0 t2) c.begin_settled.result
+    (moved_before from to work pass pass' t0 t1 t2 (settle_seen t0 t1 c.in_ok-settle.field-0 c.in_ok-settle.ensures.changes)) c.begin_settled.ensures.moved

@@ -1,0 +1,74 @@
+use Rattle.std.proofs.Common.{◌≡◌, ◌∙◌, sym, subst, subst₂}
+use Rattle.folder_spec.specs.Region.{apart_from_both}
+use Rattle.folder_spec.specs.Seen.{IsSeen, seen}
+use Rattle.move_journal.specs.Journal.{IsParsed}
+use Rattle.tree_match.specs.Alone.{Unbegun}
+use Rattle.migrate_core.specs.Leading.{Guards}
+use Rattle.migrate_core.specs.Moving.{MovesOnly}
+use Rattle.migrate_core.specs.Sides.{AreSeparate}
+use Rattle.migrate_core.proofs.Movings.{moves_nowhere}
+use Rattle.migrate_core.proofs.Planned.{seen_of}
+use Rattle.migrate_core.proofs.Settled.{begins, settled_by, still_settled}
+use Rattle.migrate_core.proofs.Endings.{tree_moved}
+use Rattle.migrate_core.proofs.beginning.begin_settled.Goals as goal
+
+pub returns-in_err-look-clause-guard : goal.returns-in_err-look-clause-guard
+returns-in_err-look-clause-guard g c = λ migration asked. still_settled migration (g.F.Folder.told c.args.folder.now) (g.F.Folder.told c.look.new.folder) c.look.ensures.told
+
+pub returns-in_err-look-clause-moves : goal.returns-in_err-look-clause-moves
+returns-in_err-look-clause-moves g c =
+    moves_nowhere (apart_from_both c.args.work.now c.args.target.now) c.args.target.now (g.F.Folder.told c.args.folder.now) (g.F.Folder.told c.look.new.folder) c.look.ensures.told
+
+pub returns-in_err-sides-clause-guard : goal.returns-in_err-sides-clause-guard
+returns-in_err-sides-clause-guard g c = λ migration asked.
+    still_settled migration (g.F.Folder.told c.args.folder.now) (g.F.Folder.told c.load_both.new.folder) (c.load_both.ensures.told ∙ c.look.ensures.told)
+
+pub returns-in_err-sides-clause-moves : goal.returns-in_err-sides-clause-moves
+returns-in_err-sides-clause-moves g c =
+    moves_nowhere (apart_from_both c.args.work.now c.args.target.now) c.args.target.now (g.F.Folder.told c.args.folder.now) (g.F.Folder.told c.load_both.new.folder)
+    (c.load_both.ensures.told ∙ c.look.ensures.told)
+
+pub begin_with-requires-clause-source : goal.begin_with-requires-clause-source
+begin_with-requires-clause-source g c = subst IsParsed (sym c.in_ok-sides.ensures.source) c.requires.source
+
+pub begin_with-requires-clause-target : goal.begin_with-requires-clause-target
+begin_with-requires-clause-target g c = subst IsParsed (sym c.in_ok-sides.ensures.target) c.requires.target
+
+pub begin_with-requires-clause-apart : goal.begin_with-requires-clause-apart
+begin_with-requires-clause-apart g c = subst₂ (λ p q. AreSeparate p q c.args.work.now) (sym c.in_ok-sides.ensures.source) (sym c.in_ok-sides.ensures.target) c.requires.apart
+
+pub returns-clause-guard : goal.returns-clause-guard
+returns-clause-guard g c = λ migration asked.
+    let t0 = g.F.Folder.told c.args.folder.now in
+    let t1 = g.F.Folder.told c.look.new.folder in
+    let t2 = g.F.Folder.told c.load_both.new.folder in
+    let t3 = g.F.Folder.told c.begin_with.new.folder in
+    let same : t2 ≡ t0 = c.load_both.ensures.told ∙ c.look.ensures.told in
+    let sides = c.in_ok-sides.sides in
+    let loads = c.in_ok-sides.ensures in
+    settled_by (apart_from_both c.args.work.now sides.target.root) sides.target.root migration Unbegun t0 t3 (subst (λ t. MovesOnly c.args.work.now sides.target.root t t3) same c.begin_with.ensures.moves)
+    (λ a is settled.
+    let v = seen a.state in
+    let shown = subst (λ t. IsSeen t v) (sym c.look.ensures.told) (seen_of t0 a is) in
+    let found = begins c.roots_have_one_answer.ensures c.guarded_migrations_are_seen.ensures.case migration a.state sides.source sides.target c.args.source.now c.args.target.now c.args.work.now
+    c.args.source_pass.now c.args.target_pass.now asked settled (c.in_ok-look.ensures.answer v (seen_of t0 a is)) (record { stands = loads.source; loads = loads.opens_source v shown })
+    (record { stands = loads.target; loads = loads.opens_target v shown }) in (
+      found.alone,
+      subst (λ t. Guards migration Unbegun t t3) same (c.begin_with.ensures.guard migration found.sides).0,
+    ))
+
+pub returns-clause-moves : goal.returns-clause-moves
+returns-clause-moves g c =
+    let t0 = g.F.Folder.told c.args.folder.now in
+    let t3 = g.F.Folder.told c.begin_with.new.folder in
+    let sides = c.in_ok-sides.sides in
+    subst (λ t. MovesOnly c.args.work.now c.args.target.now t t3) (c.load_both.ensures.told ∙ c.look.ensures.told)
+    (subst (λ r. MovesOnly c.args.work.now r (g.F.Folder.told c.load_both.new.folder) t3) c.in_ok-sides.ensures.target c.begin_with.ensures.moves)
+
+pub returns-clause-moved : goal.returns-clause-moved
+returns-clause-moved g c =
+    let sides = c.in_ok-sides.sides in
+    let loads = c.in_ok-sides.ensures in
+    tree_moved c.args.source.now c.args.target.now c.args.work.now c.args.source_pass.now c.args.target_pass.now sides.source sides.target (g.F.Folder.told c.args.folder.now) (g.F.Folder.told c.begin_with.new.folder)
+    c.begin_with.result loads.source loads.target (λ v is. loads.opens_source v (subst (λ t. IsSeen t v) (sym c.look.ensures.told) is))
+    (λ v is. loads.opens_target v (subst (λ t. IsSeen t v) (sym c.look.ensures.told) is)) c.begin_with.ensures.moved

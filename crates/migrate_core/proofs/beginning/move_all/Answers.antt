@@ -1,0 +1,170 @@
+use Rattle.std.proofs.Common.{Result, ◌∙◌, Ok, sym, ap, subst}
+use Rattle.folder_spec.specs.declared.FolderFault.{FolderFault}
+use Rattle.std.proofs.lemmas.Result.{err_from_is_err_and}
+use Rattle.folder_spec.specs.Region.{apart_from_both}
+use Rattle.folder_spec.specs.Seen.{IsSeen}
+use Rattle.folder_spec.specs.View.{View}
+use Rattle.move_journal.specs.Writing.{IsWorkFolder, elsewhere}
+use Rattle.move_journal.specs.declared.journal.Journal.{Journal}
+use Rattle.tree_match.specs.Alone.{Begun, Finished, Unbegun}
+use Rattle.work_folder.specs.Changing.{ChangesAt}
+use Rattle.work_folder.specs.Entering.{IsLeftOver, IsReady, IsWorkOrStage}
+use Rattle.migrate_core.proofs.Beginnings.{enters_goes, told_goes, written_goes}
+use Rattle.migrate_core.proofs.Leadings.{goes_failed, goes_on}
+use Rattle.migrate_core.proofs.Movings.{moves_on, moves_to, source_beside, walked_stays}
+use Rattle.migrate_core.proofs.WorkFolders.{entered_moves, fresh_folder, ready_stays, writing_moves, written_folder, written_moves}
+use Rattle.migrate_core.specs.Leading.{LeadsTold}
+use Rattle.migrate_core.specs.Moving.{MovesOnly}
+use Rattle.migrate_core.specs.Sides.{new_journal}
+use Rattle.migrate_core.specs.Moved.{Moved}
+use Rattle.migrate_core.proofs.beginning.move_all.Goals as goal
+
+pub returns-in_err-entered-clause-guard : goal.returns-in_err-entered-clause-guard
+returns-in_err-entered-clause-guard g c m sides =
+    let told = g.F.Folder.told c.args.folder.now in
+    let entered = g.F.Folder.told c.enter.new.folder in
+    let p = err_from_is_err_and c.from_residual.result c.from_residual.ensures.1 in
+    goes_failed m Unbegun Unbegun Finished told entered c.enter.result c.from_residual.result p.0 p.1
+    (enters_goes c.settling_and_entering_keep_migrations_guarded.ensures.enters m Unbegun told entered c.enter.result
+    (subst (λ w. ChangesAt w (IsWorkOrStage w) (IsLeftOver w) told entered) sides.work c.enter.ensures.enters.moments))
+
+pub returns-in_err-entered-clause-moves : goal.returns-in_err-entered-clause-moves
+returns-in_err-entered-clause-moves g c =
+    let work = c.args.work.now in
+    entered_moves work c.args.sides.now.target.root (IsWorkOrStage work) (IsLeftOver work) (g.F.Folder.told c.args.folder.now) (g.F.Folder.told c.enter.new.folder) c.requires.apart.target c.enter.ensures.enters.moments
+
+pub returns-in_err-journal-clause-guard : goal.returns-in_err-journal-clause-guard
+returns-in_err-journal-clause-guard g c m sides =
+    let told = g.F.Folder.told c.args.folder.now in
+    let entered = g.F.Folder.told c.enter.new.folder in
+    let p = err_from_is_err_and c.from_residual-in_err-journal.result c.from_residual-in_err-journal.ensures.1 in
+    goes_failed m Unbegun Unbegun Finished told entered c.enter.result c.from_residual-in_err-journal.result p.0 p.1
+    (enters_goes c.settling_and_entering_keep_migrations_guarded.ensures.enters m Unbegun told entered c.enter.result
+    (subst (λ w. ChangesAt w (IsWorkOrStage w) (IsLeftOver w) told entered) sides.work c.enter.ensures.enters.moments))
+
+pub returns-in_err-journal-clause-moves : goal.returns-in_err-journal-clause-moves
+returns-in_err-journal-clause-moves g c =
+    let work = c.args.work.now in
+    entered_moves work c.args.sides.now.target.root (IsWorkOrStage work) (IsLeftOver work) (g.F.Folder.told c.args.folder.now) (g.F.Folder.told c.enter.new.folder) c.requires.apart.target c.enter.ensures.enters.moments
+
+pub returns-in_err-write-clause-moves : goal.returns-in_err-write-clause-moves
+returns-in_err-write-clause-moves g c =
+    let root = c.args.sides.now.target.root in
+    let work = c.args.work.now in
+    let told = g.F.Folder.told c.args.folder.now in
+    let entered = g.F.Folder.told c.enter.new.folder in
+    let written = g.F.Folder.told c.write.new.folder in
+    moves_on (apart_from_both work root) root told entered written
+    (entered_moves work root (IsWorkOrStage work) (IsLeftOver work) told entered c.requires.apart.target c.enter.ensures.enters.moments)
+    (written_moves work root c.in_ok-journal.journal entered written c.requires.apart.target c.write.ensures.moments)
+
+pub go_on-requires-clause-walked : goal.go_on-requires-clause-walked
+go_on-requires-clause-walked g c =
+    let from = c.args.sides.now.source in
+    let root = c.args.sides.now.target.root in
+    let work = c.args.work.now in
+    let told = g.F.Folder.told c.args.folder.now in
+    let entered = g.F.Folder.told c.enter.new.folder in
+    let written = g.F.Folder.told c.write.new.folder in
+    walked_stays (apart_from_both work root) from c.args.plan.now.items told written (λ rest. source_beside from.root root work rest c.requires.apart) (g.met.F.Folder.sound c.args.folder.now)
+    (moves_to (apart_from_both work root) root told written (moves_on (apart_from_both work root) root told entered written
+    (entered_moves work root (IsWorkOrStage work) (IsLeftOver work) told entered c.requires.apart.target c.enter.ensures.enters.moments)
+    (written_moves work root c.in_ok-journal.journal entered written c.requires.apart.target c.write.ensures.moments))) c.requires.walked
+
+pub go_on-requires-clause-ready : goal.go_on-requires-clause-ready
+go_on-requires-clause-ready g c =
+    let root = c.args.sides.now.target.root in
+    let work = c.args.work.now in
+    let entered = g.F.Folder.told c.enter.new.folder in
+    let written = g.F.Folder.told c.write.new.folder in
+    subst (λ w. (v : View) → IsSeen written v → IsReady v w) (sym c.in_ok-entered.ensures.path)
+    (ready_stays work entered written (g.met.F.Folder.sound c.enter.new.folder)
+    (moves_to (elsewhere work) root entered written (writing_moves work root c.in_ok-journal.journal entered written c.requires.apart.target c.write.ensures.moments))
+    (λ v is. (c.in_ok-entered.ensures.enters.ready v is).ready))
+
+pub go_on-requires-clause-work_folder : goal.go_on-requires-clause-work_folder
+go_on-requires-clause-work_folder g c =
+    let root = c.args.sides.now.target.root in
+    let work = c.args.work.now in
+    let entered = g.F.Folder.told c.enter.new.folder in
+    let written = g.F.Folder.told c.write.new.folder in
+    subst (λ w. (v : View) → IsSeen written v → IsWorkFolder v w) (sym c.in_ok-entered.ensures.path)
+    (written_folder work c.in_ok-journal.journal entered written (g.met.F.Folder.sound c.enter.new.folder)
+    (moves_to (elsewhere work) root entered written (writing_moves work root c.in_ok-journal.journal entered written c.requires.apart.target c.write.ensures.moments))
+    c.in_ok-write.ensures.written (λ v is. fresh_folder v work (c.in_ok-entered.ensures.enters.ready v is)))
+
+pub returns-clause-moves : goal.returns-clause-moves
+returns-clause-moves g c =
+    let root = c.args.sides.now.target.root in
+    let work = c.args.work.now in
+    let told = g.F.Folder.told c.args.folder.now in
+    let entered = g.F.Folder.told c.enter.new.folder in
+    let written = g.F.Folder.told c.write.new.folder in
+    let after = g.F.Folder.told c.go_on.new.folder in
+    moves_on (apart_from_both work root) root told written after
+    (moves_on (apart_from_both work root) root told entered written
+    (entered_moves work root (IsWorkOrStage work) (IsLeftOver work) told entered c.requires.apart.target c.enter.ensures.enters.moments)
+    (written_moves work root c.in_ok-journal.journal entered written c.requires.apart.target c.write.ensures.moments))
+    (subst (λ w. MovesOnly w root written after) c.in_ok-entered.ensures.path c.go_on.ensures.moves)
+
+pub returns-in_err-write-clause-guard : goal.returns-in_err-write-clause-guard
+returns-in_err-write-clause-guard g c m sides =
+    let from = c.args.sides.now.source in
+    let to = c.args.sides.now.target in
+    let work = c.args.work.now in
+    let items = c.args.plan.now.items in
+    let told = g.F.Folder.told c.args.folder.now in
+    let entered = g.F.Folder.told c.enter.new.folder in
+    let written = g.F.Folder.told c.write.new.folder in
+    let j = c.in_ok-journal.journal in
+    let is = c.in_ok-journal.ensures.new ∙ ap (λ r. new_journal r c.root-2.result.now items) c.root.ensures ∙ ap (λ r. new_journal from.root r items) c.root-2.ensures in
+    let apart = c.requires.apart.target in
+    let walked = walked_stays (apart_from_both work to.root) from items told entered (λ rest. source_beside from.root to.root work rest c.requires.apart) (g.met.F.Folder.sound c.args.folder.now)
+    (moves_to (apart_from_both work to.root) to.root told entered (entered_moves work to.root (IsWorkOrStage work) (IsLeftOver work) told entered apart c.enter.ensures.enters.moments)) c.requires.walked in
+    let p = err_from_is_err_and c.from_residual-in_err-write.result c.from_residual-in_err-write.ensures.1 in
+    goes_failed m Unbegun Begun Finished told written c.write.result c.from_residual-in_err-write.result p.0 p.1
+    (written_goes c.guarded_migrations_are_seen.ensures.alone c.walks_tell_the_tree.ensures.plan c.what_stands_is_found_step_by_step.ensures.below
+    c.settling_and_entering_keep_migrations_guarded.ensures.enters c.journals_keep_migrations_guarded.ensures.begins c.journals_keep_migrations_guarded.ensures.begun from to work items told entered written j
+    c.write.result is c.requires.source c.requires.target c.in_ok-journal.ensures.digest c.requires.allowed walked (g.met.F.Folder.sound c.write.new.folder) c.enter.ensures.enters.moments c.write.ensures.moments
+    c.write.ensures.written m sides)
+
+pub returns-clause-guard : goal.returns-clause-guard
+returns-clause-guard g c m sides =
+    let from = c.args.sides.now.source in
+    let to = c.args.sides.now.target in
+    let work = c.args.work.now in
+    let items = c.args.plan.now.items in
+    let told = g.F.Folder.told c.args.folder.now in
+    let entered = g.F.Folder.told c.enter.new.folder in
+    let written = g.F.Folder.told c.write.new.folder in
+    let j = c.in_ok-journal.journal in
+    let is = c.in_ok-journal.ensures.new ∙ ap (λ r. new_journal r c.root-2.result.now items) c.root.ensures ∙ ap (λ r. new_journal from.root r items) c.root-2.ensures in
+    let apart = c.requires.apart.target in
+    let walked = walked_stays (apart_from_both work to.root) from items told entered (λ rest. source_beside from.root to.root work rest c.requires.apart) (g.met.F.Folder.sound c.args.folder.now)
+    (moves_to (apart_from_both work to.root) to.root told entered (entered_moves work to.root (IsWorkOrStage work) (IsLeftOver work) told entered apart c.enter.ensures.enters.moments)) c.requires.walked in
+    let after = g.F.Folder.told c.go_on.new.folder in
+    let moved = entered_moves work to.root (IsWorkOrStage work) (IsLeftOver work) told entered apart c.enter.ensures.enters.moments in
+    let here = walked_stays (apart_from_both work to.root) from items entered written (λ rest. source_beside from.root to.root work rest c.requires.apart) (g.met.F.Folder.sound c.enter.new.folder)
+    (moves_to (apart_from_both work to.root) to.root entered written (written_moves work to.root j entered written apart c.write.ensures.moments)) walked in
+    let done : Result (Unit {0}) FolderFault = Ok tt in
+    let one = written_goes c.guarded_migrations_are_seen.ensures.alone c.walks_tell_the_tree.ensures.plan c.what_stands_is_found_step_by_step.ensures.below
+    c.settling_and_entering_keep_migrations_guarded.ensures.enters c.journals_keep_migrations_guarded.ensures.begins c.journals_keep_migrations_guarded.ensures.begun from to work items told entered written j
+    done is c.requires.source c.requires.target c.in_ok-journal.ensures.digest c.requires.allowed walked (g.met.F.Folder.sound c.write.new.folder) c.enter.ensures.enters.moments c.write.ensures.moments
+    c.in_ok-write.ensures.written m sides in
+    let goes = subst (λ k. LeadsTold from to c.in_ok-entered.entered k Begun Finished written after c.go_on.result) is (c.go_on.ensures.building (ap (λ (k : Journal). k.phase) is)) in
+    goes_on m Unbegun Begun Finished told written after c.go_on.result one.0 one.1
+    (told_goes c.guarded_migrations_are_seen.ensures.alone c.walks_tell_the_tree.ensures.plan _ from to work items Begun Finished written after c.go_on.result c.go_on.ensures.moves here
+    (subst (λ w. LeadsTold from to w (new_journal from.root to.root items) Begun Finished written after c.go_on.result) c.in_ok-entered.ensures.path goes) m sides)
+
+pub go_on-requires-clause-stands : goal.go_on-requires-clause-stands
+go_on-requires-clause-stands g c phase =
+    (let same = sym (ap (λ (j : Journal). j.phase) c.in_ok-journal.ensures.new) ∙ phase in cc same)
+
+pub go_on-requires-clause-source : goal.go_on-requires-clause-source
+go_on-requires-clause-source g c = ap (λ (j : Journal). j.source) c.in_ok-journal.ensures.new ∙ c.root.ensures
+
+pub go_on-requires-clause-target : goal.go_on-requires-clause-target
+go_on-requires-clause-target g c = ap (λ (j : Journal). j.target) c.in_ok-journal.ensures.new ∙ c.root-2.ensures
+
+pub returns-clause-moved : goal.returns-clause-moved
+returns-clause-moved g c = subst (λ w. Moved c.args.sides.now.source c.args.sides.now.target w (g.F.Folder.told c.go_on.new.folder) c.go_on.result) c.in_ok-entered.ensures.path c.go_on.ensures.moved

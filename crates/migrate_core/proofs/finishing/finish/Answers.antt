@@ -1,0 +1,101 @@
+use Rattle.std.proofs.Common.{Result, ◌∙◌, Ok, sym, subst}
+use Rattle.std.proofs.lemmas.Result.{err_from_is_err_and}
+use Rattle.folder_spec.specs.Region.{apart_from_both}
+use Rattle.folder_spec.specs.Seen.{IsSeen}
+use Rattle.tree_match.specs.Alone.{Finished}
+use Rattle.migrate_core.specs.declared.fault.MoveFault.{MoveFault}
+use Rattle.migrate_core.proofs.Endings.{finish_goes, has_moved}
+use Rattle.migrate_core.proofs.Leadings.{goes_failed, refused_nowhere}
+use Rattle.migrate_core.proofs.Movings.{moves_nowhere}
+use Rattle.migrate_core.specs.Leading.{Goes, progress_of}
+use Rattle.migrate_core.specs.Moving.{MovesOnly}
+use Rattle.migrate_core.specs.Sides.{IsWalked}
+use Rattle.migrate_core.proofs.finishing.finish.Goals as goal
+
+pub returns-in_err-target-clause-guard : goal.returns-in_err-target-clause-guard
+returns-in_err-target-clause-guard g c m sides tells =
+    let p = err_from_is_err_and c.from_residual.result c.from_residual.ensures.1 in
+    refused_nowhere m (progress_of c.args.journal.phase) Finished (g.F.Folder.told c.args.folder.now) (g.F.Folder.told c.walk_one.new.folder) c.from_residual.result p.0 p.1 c.walk_one.ensures.told
+
+pub returns-in_err-target-clause-moves : goal.returns-in_err-target-clause-moves
+returns-in_err-target-clause-moves g c =
+    let root = c.args.sides.now.target.root in
+    moves_nowhere (apart_from_both c.args.work.now root) root (g.F.Folder.told c.args.folder.now) (g.F.Folder.told c.walk_one.new.folder) c.walk_one.ensures.told
+
+pub returns-in_err-test_same-clause-guard : goal.returns-in_err-test_same-clause-guard
+returns-in_err-test_same-clause-guard g c m sides tells =
+    let p = err_from_is_err_and c.from_residual-in_err-test_same.result c.from_residual-in_err-test_same.ensures.1 in
+    refused_nowhere m (progress_of c.args.journal.phase) Finished (g.F.Folder.told c.args.folder.now) (g.F.Folder.told c.test_same.new.folder) c.from_residual-in_err-test_same.result p.0 p.1
+    (c.test_same.ensures.told ∙ c.walk_one.ensures.told)
+
+pub returns-in_err-test_same-clause-moves : goal.returns-in_err-test_same-clause-moves
+returns-in_err-test_same-clause-moves g c =
+    let root = c.args.sides.now.target.root in
+    moves_nowhere (apart_from_both c.args.work.now root) root (g.F.Folder.told c.args.folder.now) (g.F.Folder.told c.test_same.new.folder) (c.test_same.ensures.told ∙ c.walk_one.ensures.told)
+
+pub test_same-requires-clause-source : goal.test_same-requires-clause-source
+test_same-requires-clause-source g c = subst (λ t. IsWalked t c.args.sides.now.source c.args.source.now.items) (sym c.in_ok-target.ensures.told) c.requires.walked
+
+pub test_same-requires-clause-target : goal.test_same-requires-clause-target
+test_same-requires-clause-target g c = subst (λ t. IsWalked t c.args.sides.now.target c.in_ok-target.target.items) (sym c.in_ok-target.ensures.told) c.in_ok-target.ensures.walked
+
+pub say_done-requires-clause-work_folder : goal.say_done-requires-clause-work_folder
+say_done-requires-clause-work_folder g c v is = c.requires.work_folder v (subst (λ t. IsSeen t v) (c.in_ok-test_same.ensures.told ∙ c.in_ok-target.ensures.told) is)
+
+pub returns-in_err-say_done-clause-guard : goal.returns-in_err-say_done-clause-guard
+returns-in_err-say_done-clause-guard g c m sides tells =
+    let told = g.F.Folder.told c.args.folder.now in
+    let here = g.F.Folder.told c.test_same.new.folder in
+    let told' = g.F.Folder.told c.say_done.new.folder in
+    let from = c.args.sides.now.source in
+    let to = c.args.sides.now.target in
+    let same = c.in_ok-test_same.ensures.told ∙ c.in_ok-target.ensures.told in
+    let at = progress_of c.args.journal.phase in
+    let p = err_from_is_err_and c.from_residual-in_err-say_done.result c.from_residual-in_err-say_done.ensures.1 in
+    goes_failed m at Finished Finished told told' c.say_done.result c.from_residual-in_err-say_done.result p.0 p.1
+    (subst (λ t. Goes m at Finished t told' c.say_done.result) same
+    (finish_goes c.guarded_migrations_are_seen.ensures.alone c.what_is_held_opens_the_same.ensures.held c.what_is_held_opens_the_same.ensures.same m from to c.args.work.now sides at
+    c.args.source.now.items c.in_ok-target.target.items here told' c.say_done.result
+    (subst (λ t. IsWalked t from c.args.source.now.items) (sym same) c.requires.walked) (subst (λ t. IsWalked t to c.in_ok-target.target.items) (sym same) c.in_ok-target.ensures.walked)
+    (λ v is. c.in_ok-test_same.ensures.same v (subst (λ t. IsSeen t v) c.in_ok-test_same.ensures.told is)) (c.say_done.ensures.guard m sides.work tells)))
+
+pub returns-in_err-say_done-clause-moves : goal.returns-in_err-say_done-clause-moves
+returns-in_err-say_done-clause-moves g c =
+    let root = c.args.sides.now.target.root in
+    subst (λ t. MovesOnly c.args.work.now root t (g.F.Folder.told c.say_done.new.folder)) (c.in_ok-test_same.ensures.told ∙ c.in_ok-target.ensures.told) (c.say_done.ensures.moves root c.requires.apart.target)
+
+pub returns-clause-guard : goal.returns-clause-guard
+returns-clause-guard g c m sides tells =
+    let told = g.F.Folder.told c.args.folder.now in
+    let here = g.F.Folder.told c.test_same.new.folder in
+    let told' = g.F.Folder.told c.say_done.new.folder in
+    let from = c.args.sides.now.source in
+    let to = c.args.sides.now.target in
+    let same = c.in_ok-test_same.ensures.told ∙ c.in_ok-target.ensures.told in
+    let at = progress_of c.args.journal.phase in
+    let done : Result (Unit {0}) MoveFault = Ok tt in
+    subst (λ t. Goes m at Finished t told' done) same
+    (finish_goes c.guarded_migrations_are_seen.ensures.alone c.what_is_held_opens_the_same.ensures.held c.what_is_held_opens_the_same.ensures.same m from to c.args.work.now sides at
+    c.args.source.now.items c.in_ok-target.target.items here told' done
+    (subst (λ t. IsWalked t from c.args.source.now.items) (sym same) c.requires.walked) (subst (λ t. IsWalked t to c.in_ok-target.target.items) (sym same) c.in_ok-target.ensures.walked)
+    (λ v is. c.in_ok-test_same.ensures.same v (subst (λ t. IsSeen t v) c.in_ok-test_same.ensures.told is)) (c.in_ok-say_done.ensures.guard m sides.work tells))
+
+pub returns-clause-moves : goal.returns-clause-moves
+returns-clause-moves g c =
+    let root = c.args.sides.now.target.root in
+    subst (λ t. MovesOnly c.args.work.now root t (g.F.Folder.told c.say_done.new.folder)) (c.in_ok-test_same.ensures.told ∙ c.in_ok-target.ensures.told) (c.say_done.ensures.moves root c.requires.apart.target)
+
+pub say_done-requires-clause-stands : goal.say_done-requires-clause-stands
+say_done-requires-clause-stands g c phase v is = c.requires.stands phase v (subst (λ t. IsSeen t v) (c.in_ok-test_same.ensures.told ∙ c.in_ok-target.ensures.told) is)
+
+pub returns-clause-moved : goal.returns-clause-moved
+returns-clause-moved g c =
+    let here = g.F.Folder.told c.test_same.new.folder in
+    let from = c.args.sides.now.source in
+    let to = c.args.sides.now.target in
+    let same = c.in_ok-test_same.ensures.told ∙ c.in_ok-target.ensures.told in
+    has_moved c.what_is_held_opens_the_same.ensures.held c.what_is_held_opens_the_same.ensures.same from to c.args.work.now c.args.source.now.items c.in_ok-target.target.items c.args.journal
+    here (g.F.Folder.told c.say_done.new.folder) c.requires.apart (g.met.F.Folder.sound c.test_same.new.folder) c.requires.journal c.requires.source c.requires.target
+    (subst (λ t. IsWalked t from c.args.source.now.items) (sym same) c.requires.walked) (subst (λ t. IsWalked t to c.in_ok-target.target.items) (sym same) c.in_ok-target.ensures.walked)
+    (λ v is. c.in_ok-test_same.ensures.same v (subst (λ t. IsSeen t v) c.in_ok-test_same.ensures.told is))
+    (c.say_done.ensures.moves to.root c.requires.apart.target) (c.say_done.ensures.moves from.root c.requires.apart.source) c.in_ok-say_done.ensures.says

@@ -1,0 +1,93 @@
+use Rattle.std.proofs.Common.{◌∙◌, ap, sym, subst}
+use Rattle.std.proofs.lemmas.Result.{err_from_is_err_and}
+use Rattle.folder_spec.specs.Region.{apart_from_both}
+use Rattle.folder_spec.specs.Seen.{IsSeen}
+use Rattle.folder_spec.specs.View.{View}
+use Rattle.move_journal.specs.Writing.{IsWorkFolder}
+use Rattle.tree_match.specs.Alone.{Begun, Finished}
+use Rattle.vault_write.specs.Making.{is_apart}
+use Rattle.migrate_core.proofs.Leadings.{goes_failed, goes_on, refused_nowhere}
+use Rattle.migrate_core.proofs.Movings.{moves_on, moves_to, moves_within, source_apart, walked_stays}
+use Rattle.migrate_core.proofs.WorkFolders.{beside_staged, journal_stays, placing_has, work_folder_stays}
+use Rattle.migrate_core.specs.Leading.{Goes, progress_of}
+use Rattle.migrate_core.specs.Moved.{Moved, StandsIn}
+use Rattle.migrate_core.specs.Moving.{MovesOnly}
+use Rattle.migrate_core.specs.Sides.{IsWalked, StandAll}
+use Rattle.migrate_core.proofs.finishing.go_on.Goals as goal
+
+pub place_missing-requires-clause-walked : goal.place_missing-requires-clause-walked
+place_missing-requires-clause-walked g c = subst (λ items. IsWalked (g.F.Folder.told c.args.folder.now) c.args.sides.now.source items) (sym c.as_slice-items.ensures) c.requires.walked
+
+pub returns-in_err-placed-clause-building : goal.returns-in_err-placed-clause-building
+returns-in_err-placed-clause-building g c phase m sides tells =
+    let p = err_from_is_err_and c.from_residual.result c.from_residual.ensures.1 in
+    goes_failed m Begun Begun Finished (g.F.Folder.told c.args.folder.now) (g.F.Folder.told c.place_missing.new.folder) c.place_missing.result c.from_residual.result p.0 p.1
+    (c.place_missing.ensures.guard m sides)
+
+pub returns-in_err-placed-clause-done : goal.returns-in_err-placed-clause-done
+returns-in_err-placed-clause-done g c phase all m sides tells =
+    let p = err_from_is_err_and c.from_residual.result c.from_residual.ensures.1 in
+    refused_nowhere m Finished Finished (g.F.Folder.told c.args.folder.now) (g.F.Folder.told c.place_missing.new.folder) c.from_residual.result p.0 p.1
+    (c.place_missing.ensures.none (subst (λ items. StandAll items c.args.there.now) (sym c.as_slice-items.ensures) all))
+
+pub returns-in_err-placed-clause-moves : goal.returns-in_err-placed-clause-moves
+returns-in_err-placed-clause-moves g c =
+    let root = c.args.sides.now.target.root in
+    moves_within (apart_from_both c.args.work.now root) (is_apart c.args.work.now root) root (g.F.Folder.told c.args.folder.now) (g.F.Folder.told c.place_missing.new.folder) (beside_staged c.args.work.now root)
+    c.place_missing.ensures.moves
+
+pub finish-requires-clause-walked : goal.finish-requires-clause-walked
+finish-requires-clause-walked g c =
+    let from = c.args.sides.now.source in
+    let to = c.args.sides.now.target in
+    let told = g.F.Folder.told c.args.folder.now in
+    let here = g.F.Folder.told c.place_missing.new.folder in
+    walked_stays (is_apart c.args.work.now to.root) from c.args.source.now.items told here (λ rest. source_apart from.root to.root c.args.work.now rest c.requires.apart) (g.met.F.Folder.sound c.args.folder.now)
+    (moves_to (is_apart c.args.work.now to.root) to.root told here c.place_missing.ensures.moves) c.requires.walked
+
+pub finish-requires-clause-work_folder : goal.finish-requires-clause-work_folder
+finish-requires-clause-work_folder g c =
+    let root = c.args.sides.now.target.root in
+    let told = g.F.Folder.told c.args.folder.now in
+    let here = g.F.Folder.told c.place_missing.new.folder in
+    subst (λ w. (v : View) → IsSeen here v → IsWorkFolder v w) (sym c.at.ensures)
+    (work_folder_stays (is_apart c.args.work.now root) c.args.work.now told here (placing_has c.args.work.now root c.requires.apart.target) (g.met.F.Folder.sound c.args.folder.now)
+    (moves_to (is_apart c.args.work.now root) root told here c.place_missing.ensures.moves) c.requires.work_folder)
+
+pub returns-clause-building : goal.returns-clause-building
+returns-clause-building g c phase m sides tells =
+    let told = g.F.Folder.told c.args.folder.now in
+    let here = g.F.Folder.told c.place_missing.new.folder in
+    let told' = g.F.Folder.told c.finish.new.folder in
+    let placed = c.in_ok-placed.ensures.guard m sides in
+    goes_on m Begun Begun Finished told here told' c.finish.result placed.0 placed.1
+    (subst (λ p. Goes m p Finished here told' c.finish.result) (ap progress_of phase) (c.finish.ensures.guard m (record { source = sides.source; target = sides.target; work = c.at.ensures ∙ sides.work }) tells))
+
+pub returns-clause-done : goal.returns-clause-done
+returns-clause-done g c phase all m sides tells =
+    let told = g.F.Folder.told c.args.folder.now in
+    let told' = g.F.Folder.told c.finish.new.folder in
+    subst (λ t. Goes m Finished Finished t told' c.finish.result) (c.in_ok-placed.ensures.none (subst (λ items. StandAll items c.args.there.now) (sym c.as_slice-items.ensures) all))
+    (subst (λ p. Goes m p Finished (g.F.Folder.told c.place_missing.new.folder) told' c.finish.result) (ap progress_of phase)
+    (c.finish.ensures.guard m (record { source = sides.source; target = sides.target; work = c.at.ensures ∙ sides.work }) tells))
+
+pub returns-clause-moves : goal.returns-clause-moves
+returns-clause-moves g c =
+    let root = c.args.sides.now.target.root in
+    let told = g.F.Folder.told c.args.folder.now in
+    let here = g.F.Folder.told c.place_missing.new.folder in
+    moves_on (apart_from_both c.args.work.now root) root told here (g.F.Folder.told c.finish.new.folder)
+    (moves_within (apart_from_both c.args.work.now root) (is_apart c.args.work.now root) root told here (beside_staged c.args.work.now root) c.place_missing.ensures.moves)
+    (subst (λ w. MovesOnly w root here (g.F.Folder.told c.finish.new.folder)) c.at.ensures c.finish.ensures.moves)
+
+pub finish-requires-clause-stands : goal.finish-requires-clause-stands
+finish-requires-clause-stands g c phase =
+    let root = c.args.sides.now.target.root in
+    let told = g.F.Folder.told c.args.folder.now in
+    let here = g.F.Folder.told c.place_missing.new.folder in
+    subst (λ w. (v : View) → IsSeen here v → StandsIn w c.args.journal v) (sym c.at.ensures)
+    (journal_stays (is_apart c.args.work.now root) c.args.work.now c.args.journal told here (placing_has c.args.work.now root c.requires.apart.target).journal (g.met.F.Folder.sound c.args.folder.now)
+    (moves_to (is_apart c.args.work.now root) root told here c.place_missing.ensures.moves) (c.requires.stands phase))
+
+pub returns-clause-moved : goal.returns-clause-moved
+returns-clause-moved g c = subst (λ w. Moved c.args.sides.now.source c.args.sides.now.target w (g.F.Folder.told c.finish.new.folder) c.finish.result) c.at.ensures c.finish.ensures.moved

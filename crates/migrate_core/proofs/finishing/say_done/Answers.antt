@@ -1,0 +1,37 @@
+use Rattle.std.proofs.Common.{Ok, subst}
+use Rattle.std.proofs.lemmas.Result.{err_from_is_err_and}
+use Rattle.migrate_core.proofs.Endings.{says_done_here, says_failed, written_stands}
+use Rattle.migrate_core.specs.Moved.{StandsIn, done_of}
+use Rattle.migrate_core.proofs.WorkFolders.{written_moves}
+use Rattle.migrate_core.proofs.finishing.say_done.Goals as goal
+
+pub returns-in_ok-write-in-Building-clause-guard : goal.returns-in_ok-write-in-Building-clause-guard
+returns-in_ok-write-in-Building-clause-guard g c m same tells =
+    says_done_here c.journals_keep_migrations_guarded.ensures.finishes c.journals_keep_migrations_guarded.ensures.finished m c.args.work.now c.args.journal
+    (g.F.Folder.told c.args.folder.now) (g.F.Folder.told c.write.new.folder) (Ok tt) same c.requires.journal c.in-Building.is tells (g.met.F.Folder.sound c.write.new.folder)
+    c.in_ok-write-in-Building.ensures.moments c.in_ok-write-in-Building.ensures.written
+
+pub returns-in_err-write-in-Building-clause-guard : goal.returns-in_err-write-in-Building-clause-guard
+returns-in_err-write-in-Building-clause-guard g c m same tells =
+    let p = err_from_is_err_and c.from_residual.result c.from_residual.ensures.1 in
+    says_failed m c.args.journal (g.F.Folder.told c.args.folder.now) (g.F.Folder.told c.write.new.folder) c.write.result c.from_residual.result p.0 p.1
+    (says_done_here c.journals_keep_migrations_guarded.ensures.finishes c.journals_keep_migrations_guarded.ensures.finished m c.args.work.now c.args.journal
+    (g.F.Folder.told c.args.folder.now) (g.F.Folder.told c.write.new.folder) c.write.result same c.requires.journal c.in-Building.is tells (g.met.F.Folder.sound c.write.new.folder)
+    c.write.ensures.moments c.write.ensures.written)
+
+pub returns-in_ok-write-in-Building-clause-moves : goal.returns-in_ok-write-in-Building-clause-moves
+returns-in_ok-write-in-Building-clause-moves g c root apart =
+    written_moves c.args.work.now root (done_of c.args.journal) (g.F.Folder.told c.args.folder.now) (g.F.Folder.told c.write.new.folder) apart c.write.ensures.moments
+
+pub returns-in_err-write-in-Building-clause-moves : goal.returns-in_err-write-in-Building-clause-moves
+returns-in_err-write-in-Building-clause-moves g c root apart =
+    written_moves c.args.work.now root (done_of c.args.journal) (g.F.Folder.told c.args.folder.now) (g.F.Folder.told c.write.new.folder) apart c.write.ensures.moments
+
+pub returns-in-Done-clause-says : goal.returns-in-Done-clause-says
+returns-in-Done-clause-says g c v is =
+    let j = c.args.journal in
+    subst (λ p. StandsIn c.args.work.now (record { phase = p; source = j.source; target = j.target; items = j.items; plan = j.plan }) v) c.in-Done.is (c.requires.stands c.in-Done.is v is)
+
+pub returns-in_ok-write-in-Building-clause-says : goal.returns-in_ok-write-in-Building-clause-says
+returns-in_ok-write-in-Building-clause-says g c =
+    written_stands c.args.work.now (done_of c.args.journal) (g.F.Folder.told c.args.folder.now) (g.F.Folder.told c.write.new.folder) c.in_ok-write-in-Building.ensures.written

@@ -1,0 +1,53 @@
+use Rattle.std.proofs.Common.{Ok, sym, ap, ◌∙◌, subst}
+use Rattle.std.proofs.lemmas.Result.{err_from_is_err_and}
+use Rattle.content_writing.specs.Content.{Whole}
+use Rattle.tree_match.specs.Alone.{Begun}
+use Rattle.vault_spec.specs.Making.{NewDirectory}
+use Rattle.vault_spec.specs.Plan.{Planned}
+use Rattle.vault_write.specs.Calls.{MakesDirectory}
+use Rattle.migrate_core.proofs.Leadings.{goes_failed}
+use Rattle.migrate_core.proofs.Placings.{directory_goes, made_moves, made_ready}
+use Rattle.migrate_core.proofs.placing.place.Goals as goal
+
+pub returns-in_ok-place_dir-in-Dir-clause-guard : goal.returns-in_ok-place_dir-in-Dir-clause-guard
+returns-in_ok-place_dir-in-Dir-clause-guard g c m sides =
+    let path = ap (λ (x : Planned). x.path) c.item.view_is in
+    let told = g.F.Folder.told c.args.folder.now in
+    let told' = g.F.Folder.told c.place_dir.new.folder in
+    let left = g.R.Randoms.left c.args.random.now in
+    let left' = g.R.Randoms.left c.place_dir.new.random in
+    let from = c.args.sides.now.source in
+    let to = c.args.sides.now.target in
+    directory_goes c.placing_keeps_migrations_guarded.ensures.one c.placing_keeps_migrations_guarded.ensures.next c.guarded_migrations_are_seen.ensures.alone m from to c.args.work.now sides c.args.item.now
+    told told' left left' (Ok tt) c.requires.item (g.met.F.Folder.sound c.place_dir.new.folder) c.walks_tell_the_tree.ensures.directory (sym (ap (λ (x : Planned). x.node) c.item.view_is) ∙ c.in-Dir.is)
+    (subst (λ p. MakesDirectory to c.args.work.now p left left' told told' (Ok tt)) path c.in_ok-place_dir-in-Dir.ensures.made)
+
+pub returns-in_err-place_dir-in-Dir-clause-guard : goal.returns-in_err-place_dir-in-Dir-clause-guard
+returns-in_err-place_dir-in-Dir-clause-guard g c m sides =
+    let path = ap (λ (x : Planned). x.path) c.item.view_is in
+    let told = g.F.Folder.told c.args.folder.now in
+    let told' = g.F.Folder.told c.place_dir.new.folder in
+    let left = g.R.Randoms.left c.args.random.now in
+    let left' = g.R.Randoms.left c.place_dir.new.random in
+    let from = c.args.sides.now.source in
+    let to = c.args.sides.now.target in
+    let p = err_from_is_err_and c.from_residual.result c.from_residual.ensures.1 in
+    goes_failed m Begun Begun Begun told told' c.place_dir.result c.from_residual.result p.0 p.1
+    (directory_goes c.placing_keeps_migrations_guarded.ensures.one c.placing_keeps_migrations_guarded.ensures.next c.guarded_migrations_are_seen.ensures.alone m from to c.args.work.now sides c.args.item.now
+    told told' left left' c.place_dir.result c.requires.item (g.met.F.Folder.sound c.place_dir.new.folder) c.walks_tell_the_tree.ensures.directory (sym (ap (λ (x : Planned). x.node) c.item.view_is) ∙ c.in-Dir.is)
+    (subst (λ p. MakesDirectory to c.args.work.now p left left' told told' c.place_dir.result) path c.place_dir.ensures.made))
+
+pub returns-in_ok-place_dir-in-Dir-clause-moves : goal.returns-in_ok-place_dir-in-Dir-clause-moves
+returns-in_ok-place_dir-in-Dir-clause-moves g c =
+    made_moves c.args.sides.now.target c.args.work.now c.item.inside.path NewDirectory Whole c.place_dir.ensures.made.drawn (g.F.Folder.told c.args.folder.now) (g.F.Folder.told c.place_dir.new.folder) c.place_dir.result
+    c.place_dir.ensures.made.makes c.requires.apart.target
+
+pub returns-in_err-place_dir-in-Dir-clause-moves : goal.returns-in_err-place_dir-in-Dir-clause-moves
+returns-in_err-place_dir-in-Dir-clause-moves g c =
+    made_moves c.args.sides.now.target c.args.work.now c.item.inside.path NewDirectory Whole c.place_dir.ensures.made.drawn (g.F.Folder.told c.args.folder.now) (g.F.Folder.told c.place_dir.new.folder) c.place_dir.result
+    c.place_dir.ensures.made.makes c.requires.apart.target
+
+pub returns-in_ok-place_dir-in-Dir-clause-ready : goal.returns-in_ok-place_dir-in-Dir-clause-ready
+returns-in_ok-place_dir-in-Dir-clause-ready g c =
+    made_ready c.args.sides.now.target c.args.work.now c.item.inside.path NewDirectory Whole c.in_ok-place_dir-in-Dir.ensures.made.drawn (g.F.Folder.told c.args.folder.now) (g.F.Folder.told c.place_dir.new.folder) (Ok tt)
+    c.in_ok-place_dir-in-Dir.ensures.made.makes

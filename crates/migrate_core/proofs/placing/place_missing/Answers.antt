@@ -1,0 +1,88 @@
+use Rattle.std.proofs.Common.{◌∙◌, refl, sym, arith}
+use Rattle.std.proofs.lemmas.Result.{err_from_is_err_and}
+use Rattle.tree_match.specs.Alone.{Begun}
+use Rattle.vault_write.specs.Making.{is_apart}
+use Rattle.migrate_core.proofs.Leadings.{goes_failed, goes_on, guards_on, leads_on, seen_before, still_guards, still_leads}
+use Rattle.migrate_core.proofs.Movings.{moves_nowhere, moves_on, moves_to, source_apart, walked_stays}
+use Rattle.migrate_core.proofs.placing.place_missing.Goals as goal
+use Rattle.migrate_core.proofs.placing.place_missing.Goals.{then-branch, else-branch}
+
+pub loop-item-init : goal.loop-item-init
+loop-item-init g c =
+    let told = g.F.Folder.told c.args.folder.now in
+    record {
+      few = omega arith;
+      ready = c.requires.ready;
+      led = λ m sides. (still_guards m Begun told told refl, still_leads m Begun told told refl);
+      moves = moves_nowhere (is_apart c.args.work.now c.args.sides.now.target.root) c.args.sides.now.target.root told told refl;
+      none = λ all. refl;
+    }
+
+pub place_missing_one-requires-clause-item : goal.place_missing_one-requires-clause-item
+place_missing_one-requires-clause-item g c =
+    let told = g.F.Folder.told c.args.folder.now in
+    let here = g.F.Folder.told c.loop-item.folder in
+    let from = c.args.sides.now.source in
+    let to = c.args.sides.now.target in
+    let work = c.args.work.now in
+    record {
+      items = c.args.items.now;
+      walked = walked_stays (is_apart work to.root) from c.args.items.now told here (λ rest. source_apart from.root to.root work rest c.requires.apart) (g.met.F.Folder.sound c.args.folder.now)
+          (moves_to (is_apart work to.root) to.root told here c.loop-item.invariant.moves) c.requires.walked;
+      among = (c.loop-item.item-index, c.loop-item-test.true, sym c.item-item.is);
+    }
+
+pub place_missing_one-requires-clause-there : goal.place_missing_one-requires-clause-there
+place_missing_one-requires-clause-there g c v is =
+    let before = seen_before _ (g.F.Folder.told c.args.folder.now) (g.F.Folder.told c.loop-item.folder) c.loop-item.invariant.moves v is in
+    c.requires.there before.0 before.1
+
+pub returns-in_err-place_missing_one-clause-guard : goal.returns-in_err-place_missing_one-clause-guard
+returns-in_err-place_missing_one-clause-guard g c m sides =
+    let told = g.F.Folder.told c.args.folder.now in
+    let here = g.F.Folder.told c.loop-item.folder in
+    let told' = g.F.Folder.told c.place_missing_one.new.folder in
+    let led = c.loop-item.invariant.led m sides in
+    let p = err_from_is_err_and c.from_residual.result c.from_residual.ensures.1 in
+    goes_failed m Begun Begun Begun told told' c.place_missing_one.result c.from_residual.result p.0 p.1
+    (goes_on m Begun Begun Begun told here told' c.place_missing_one.result led.0 led.1 (c.place_missing_one.ensures.guard m sides))
+
+pub returns-in_err-place_missing_one-clause-moves : goal.returns-in_err-place_missing_one-clause-moves
+returns-in_err-place_missing_one-clause-moves g c =
+    let to = c.args.sides.now.target in
+    moves_on (is_apart c.args.work.now to.root) to.root (g.F.Folder.told c.args.folder.now) (g.F.Folder.told c.loop-item.folder) (g.F.Folder.told c.place_missing_one.new.folder)
+    c.loop-item.invariant.moves c.place_missing_one.ensures.moves
+
+pub returns-in_err-place_missing_one-clause-none : goal.returns-in_err-place_missing_one-clause-none
+returns-in_err-place_missing_one-clause-none g c all =
+    c.place_missing_one.ensures.none (all c.item-item.result (c.loop-item.item-index, c.loop-item-test.true, sym c.item-item.is)) ∙ c.loop-item.invariant.none all
+
+pub returns-clause-guard : goal.returns-clause-guard
+returns-clause-guard g c = c.loop-item.invariant.led
+
+pub returns-clause-moves : goal.returns-clause-moves
+returns-clause-moves g c = c.loop-item.invariant.moves
+
+pub returns-clause-none : goal.returns-clause-none
+returns-clause-none g c = c.loop-item.invariant.none
+
+pub loop-item-preserved : goal.loop-item-preserved
+loop-item-preserved g c =
+    let told = g.F.Folder.told c.args.folder.now in
+    let here = g.F.Folder.told c.loop-item.folder in
+    let told' = g.F.Folder.told c.place_missing_one.new.folder in
+    let to = c.args.sides.now.target in
+    let i = c.loop-item.invariant in
+    record {
+      few = elim c.if-branch.branch [
+        | then-branch w ↦ omega (arith, w.placed-is, i.few)
+        | else-branch w ↦ omega (arith, w.placed-is, i.few)
+      ];
+      ready = c.in_ok-place_missing_one.ensures.ready;
+      led = λ m sides.
+          let led = i.led m sides in
+          let more = c.in_ok-place_missing_one.ensures.guard m sides in
+          (guards_on m Begun Begun told here told' led.0 led.1 more.0, leads_on m Begun Begun Begun told here told' led.1 more.1);
+      moves = moves_on (is_apart c.args.work.now to.root) to.root told here told' i.moves c.place_missing_one.ensures.moves;
+      none = λ all. c.place_missing_one.ensures.none (all c.item-item.result (c.loop-item.item-index, c.loop-item-test.true, sym c.item-item.is)) ∙ i.none all;
+    }

@@ -1,0 +1,116 @@
+use Rattle.std.proofs.Common.{◌∙◌, Result, Ok, sym, subst}
+use Rattle.std.proofs.lemmas.Result.{err_from_is_err_and}
+use Rattle.folder_spec.specs.Region.{apart_from, apart_from_both}
+use Rattle.tree_match.specs.Alone.{Finished}
+use Rattle.vault_walk.specs.Survey.{IsOrdered}
+use Rattle.move_journal.specs.Writing.{IsWorkFolder}
+use Rattle.work_folder.specs.Entering.{IsReady}
+use Rattle.work_folder.specs.Entries.{stage_path}
+use Rattle.migrate_core.specs.Leading.{progress_of}
+use Rattle.migrate_core.specs.Moving.{MovesOnly}
+use Rattle.migrate_core.specs.Sides.{AreSeparate, StandAll}
+use Rattle.migrate_core.proofs.Leadings.{alone_goes, goes_failed}
+use Rattle.migrate_core.proofs.Movings.{moves_on, moves_to, source_beside, walked_stays}
+use Rattle.migrate_core.proofs.Restaged.{rest_goes, stage_alone, stage_moves, stage_stays, still_known}
+use Rattle.migrate_core.proofs.WorkFolders.{staging_has, work_folder_stays}
+use Rattle.folder_spec.specs.Seen.{IsSeen}
+use Rattle.folder_spec.specs.View.{View}
+use Rattle.migrate_core.proofs.WorkFolders.{journal_stays}
+use Rattle.migrate_core.specs.Moved.{Moved, StandsIn}
+use Rattle.migrate_core.proofs.resuming.place_rest.Goals as goal
+
+pub again-requires-clause-folder : goal.again-requires-clause-folder
+again-requires-clause-folder g c = λ v seen. (c.requires.used v seen).folder.folder
+
+pub again-requires-clause-stage : goal.again-requires-clause-stage
+again-requires-clause-stage g c = λ v seen. (c.requires.used v seen).stage
+
+pub returns-in_err-again-clause-guard : goal.returns-in_err-again-clause-guard
+returns-in_err-again-clause-guard g c = λ migration sides tells.
+    let p = err_from_is_err_and c.from_residual.result c.from_residual.ensures.1 in
+    let t0 = g.F.Folder.told c.args.folder.now in
+    let t1 = g.F.Folder.told c.again.new.folder in
+    let so_far = progress_of c.args.journal.phase in
+    goes_failed migration so_far so_far Finished t0 t1 c.again.result c.from_residual.result p.0 p.1
+    (alone_goes migration so_far t0 t1 c.again.result (stage_alone c.settling_and_entering_keep_migrations_guarded.ensures.restages migration so_far c.args.work.now t0 t1 sides.work c.again.ensures.restages.moments))
+
+pub returns-in_err-again-clause-moves : goal.returns-in_err-again-clause-moves
+returns-in_err-again-clause-moves g c =
+    stage_moves c.args.work.now c.args.sides.now.target.root (g.F.Folder.told c.args.folder.now) (g.F.Folder.told c.again.new.folder) c.requires.apart.target c.again.ensures.restages.moments
+
+pub go_on-requires-clause-apart : goal.go_on-requires-clause-apart
+go_on-requires-clause-apart g c = subst (AreSeparate c.args.sides.now.source.root c.args.sides.now.target.root) (sym c.in_ok-again.ensures.path) c.requires.apart
+
+pub go_on-requires-clause-ready : goal.go_on-requires-clause-ready
+go_on-requires-clause-ready g c = λ v seen. subst (IsReady v) (sym c.in_ok-again.ensures.path) (c.in_ok-again.ensures.restages.ready v seen)
+
+pub go_on-requires-clause-walked : goal.go_on-requires-clause-walked
+go_on-requires-clause-walked g c =
+    let t0 = g.F.Folder.told c.args.folder.now in
+    let t1 = g.F.Folder.told c.again.new.folder in
+    let from = c.args.sides.now.source in
+    let target = c.args.sides.now.target.root in
+    let region = apart_from_both c.args.work.now target in
+    walked_stays region from c.args.plans.now.source.items t0 t1 (λ rest. source_beside from.root target c.args.work.now rest c.requires.apart) (g.met.F.Folder.sound c.args.folder.now)
+    (moves_to region target t0 t1 (stage_moves c.args.work.now target t0 t1 c.requires.apart.target c.again.ensures.restages.moments)) c.requires.source
+
+pub go_on-requires-clause-there : goal.go_on-requires-clause-there
+go_on-requires-clause-there g c = λ v seen.
+    let t0 = g.F.Folder.told c.args.folder.now in
+    let t1 = g.F.Folder.told c.again.new.folder in
+    let target = c.args.sides.now.target.root in
+    subst IsOrdered (sym c.as_slice-there.ensures)
+    (still_known (IsOrdered c.args.plans.now.target.items) (apart_from_both c.args.work.now target) target t0 t1 (stage_moves c.args.work.now target t0 t1 c.requires.apart.target c.again.ensures.restages.moments)
+    c.requires.target.ordered v seen)
+
+pub go_on-requires-clause-work_folder : goal.go_on-requires-clause-work_folder
+go_on-requires-clause-work_folder g c = λ v seen.
+    let t0 = g.F.Folder.told c.args.folder.now in
+    let t1 = g.F.Folder.told c.again.new.folder in
+    let work = c.args.work.now in
+    subst (IsWorkFolder v) (sym c.in_ok-again.ensures.path)
+    (work_folder_stays (apart_from (stage_path work)) work t0 t1 (staging_has work) (g.met.F.Folder.sound c.args.folder.now)
+    (stage_stays work c.args.sides.now.target.root t0 t1 c.requires.apart.target c.again.ensures.restages.moments) (λ w was. (c.requires.used w was).folder) v seen)
+
+pub returns-clause-moves : goal.returns-clause-moves
+returns-clause-moves g c =
+    let t0 = g.F.Folder.told c.args.folder.now in
+    let t1 = g.F.Folder.told c.again.new.folder in
+    let t2 = g.F.Folder.told c.go_on.new.folder in
+    let work = c.args.work.now in
+    let target = c.args.sides.now.target.root in
+    moves_on (apart_from_both work target) target t0 t1 t2 (stage_moves work target t0 t1 c.requires.apart.target c.again.ensures.restages.moments)
+    (subst (λ w. MovesOnly w target t1 t2) c.in_ok-again.ensures.path c.go_on.ensures.moves)
+
+pub returns-clause-guard : goal.returns-clause-guard
+returns-clause-guard g c = λ migration sides tells.
+    let t0 = g.F.Folder.told c.args.folder.now in
+    let t1 = g.F.Folder.told c.again.new.folder in
+    let t2 = g.F.Folder.told c.go_on.new.folder in
+    let work = c.args.work.now in
+    let from = c.args.sides.now.source in
+    let to = c.args.sides.now.target in
+    let journal = c.args.journal in
+    let items = c.args.plans.now.source.items in
+    let there = c.args.plans.now.target.items in
+    let again = c.in_ok-again.again in
+    let done : Result (Unit {0}) (Unit {0}) = Ok tt in
+    let first = stage_moves work to.root t0 t1 c.requires.apart.target c.again.ensures.restages.moments in
+    let later = subst (λ w. MovesOnly w to.root t1 t2) c.in_ok-again.ensures.path c.go_on.ensures.moves in
+    rest_goes c.guarded_migrations_are_seen.ensures.alone c.walks_tell_the_tree.ensures.plan (apart_from_both work to.root) to.root migration from to again journal items there t0 t1 t2 c.go_on.result
+    (moves_on (apart_from_both work to.root) to.root t0 t1 t2 first later) (record { source = sides.source; target = sides.target; work = c.in_ok-again.ensures.path ∙ sides.work }) tells
+    c.requires.source c.requires.target
+    (λ p. alone_goes migration p t0 t1 done (stage_alone c.settling_and_entering_keep_migrations_guarded.ensures.restages migration p work t0 t1 sides.work c.again.ensures.restages.moments))
+    c.go_on.ensures.building (λ is all. c.go_on.ensures.done is (subst (StandAll items) (sym c.as_slice-there.ensures) all))
+
+pub go_on-requires-clause-stands : goal.go_on-requires-clause-stands
+go_on-requires-clause-stands g c phase =
+    let t0 = g.F.Folder.told c.args.folder.now in
+    let t1 = g.F.Folder.told c.again.new.folder in
+    let work = c.args.work.now in
+    subst (λ w. (v : View) → IsSeen t1 v → StandsIn w c.args.journal v) (sym c.in_ok-again.ensures.path)
+    (journal_stays (apart_from (stage_path work)) work c.args.journal t0 t1 (staging_has work).journal (g.met.F.Folder.sound c.args.folder.now)
+    (stage_stays work c.args.sides.now.target.root t0 t1 c.requires.apart.target c.again.ensures.restages.moments) (λ v is. (c.requires.used v is).stands))
+
+pub returns-clause-moved : goal.returns-clause-moved
+returns-clause-moved g c = subst (λ w. Moved c.args.sides.now.source c.args.sides.now.target w (g.F.Folder.told c.go_on.new.folder) c.go_on.result) c.in_ok-again.ensures.path c.go_on.ensures.moved

@@ -1,0 +1,47 @@
+use Rattle.folder_spec.specs.Region.{apart_from_both}
+use Rattle.migrate_core.proofs.Movings.{moves_on, settle_moves}
+use Rattle.migrate_core.proofs.Settled.{settle_fell, settle_seen, settle_then}
+use Rattle.std.proofs.Common.{◌≡◌}
+use Rattle.folder_spec.specs.Seen.{IsSeen}
+use Rattle.folder_spec.specs.View.{FileOf, View}
+use Rattle.move_journal.specs.Journal.{IsJournal, journal_text}
+use Rattle.move_journal.specs.Reading.{journal_path}
+use Rattle.move_journal.specs.declared.journal.Journal.{Journal}
+use Rattle.migrate_core.proofs.Endings.{if_ok_more, moved_before}
+use Rattle.migrate_core.specs.Moved.{MovesTree}
+use Rattle.migrate_core.proofs.resuming.resume.Goals as goal
+
+pub returns-in_err-settle-clause-guard : goal.returns-in_err-settle-clause-guard
+returns-in_err-settle-clause-guard g c = λ migration resumed.
+    settle_fell c.settling_and_entering_keep_migrations_guarded.ensures.settles migration (g.F.Folder.told c.args.folder.now) (g.F.Folder.told c.settle.new.self) c.settle.result c.settle.ensures.changes
+
+pub returns-clause-guard : goal.returns-clause-guard
+returns-clause-guard g c = λ migration resumed.
+    let law = c.settling_and_entering_keep_migrations_guarded.ensures in
+    settle_then law.settles law.alone migration (g.F.Folder.told c.args.folder.now) (g.F.Folder.told c.settle.new.self) (g.F.Folder.told c.resume_settled.new.folder) c.in_ok-settle.field-0
+    (g.met.F.Folder.sound c.args.folder.now) (g.met.F.Folder.sound c.settle.new.self) c.in_ok-settle.ensures.changes (c.resume_settled.ensures.guard migration resumed)
+
+pub returns-in_err-settle-clause-moves : goal.returns-in_err-settle-clause-moves
+returns-in_err-settle-clause-moves g c = λ v journal seen is stands.
+    settle_moves (apart_from_both c.args.work.now journal.target) journal.target (g.F.Folder.told c.args.folder.now) (g.F.Folder.told c.settle.new.self) c.settle.result c.settle.ensures.changes
+
+pub returns-clause-moves : goal.returns-clause-moves
+returns-clause-moves g c = λ v journal seen is stands.
+    let region = apart_from_both c.args.work.now journal.target in
+    let t0 = g.F.Folder.told c.args.folder.now in
+    let t1 = g.F.Folder.told c.settle.new.self in
+    moves_on region journal.target t0 t1 (g.F.Folder.told c.resume_settled.new.folder) (settle_moves region journal.target t0 t1 c.settle.result c.settle.ensures.changes)
+    (c.resume_settled.ensures.moves v journal (settle_seen t0 t1 c.in_ok-settle.field-0 c.in_ok-settle.ensures.changes v seen) is stands)
+
+pub returns-clause-moved : goal.returns-clause-moved
+returns-clause-moved g c =
+    let work = c.args.work.now in
+    let t0 = g.F.Folder.told c.args.folder.now in
+    let t1 = g.F.Folder.told c.settle.new.self in
+    let t2 = g.F.Folder.told c.resume_settled.new.folder in
+    let pass = c.args.source_pass.now in
+    let pass' = c.args.target_pass.now in
+    let seen_then = settle_seen t0 t1 c.in_ok-settle.field-0 c.in_ok-settle.ensures.changes in
+    if_ok_more ((v : View) (journal : Journal) → IsSeen t1 v → IsJournal journal → v (journal_path work) ≡ FileOf (journal_text journal) → MovesTree journal.source journal.target work pass pass' t1 t2)
+    ((v : View) (journal : Journal) → IsSeen t0 v → IsJournal journal → v (journal_path work) ≡ FileOf (journal_text journal) → MovesTree journal.source journal.target work pass pass' t0 t2) c.resume_settled.result
+    (λ moves v journal seen is stands. moved_before journal.source journal.target work pass pass' t0 t1 t2 seen_then (moves v journal (seen_then v seen) is stands)) c.resume_settled.ensures.moved

@@ -1,0 +1,75 @@
+use Rattle.std.proofs.Common.{◌≡◌, ◌∙◌, subst}
+use Rattle.folder_spec.specs.Region.{apart_from_both}
+use Rattle.folder_spec.specs.Seen.{IsSeen}
+use Rattle.move_journal.specs.declared.journal.Journal.{Journal}
+use Rattle.migrate_core.specs.Leading.{KeepsSettled}
+use Rattle.migrate_core.specs.Moving.{MovesOnly}
+use Rattle.migrate_core.proofs.Movings.{moves_nowhere}
+use Rattle.migrate_core.proofs.Settled.{in_use, journal_folder, one_journal, still_settled}
+use Rattle.folder_spec.specs.View.{FileOf, View}
+use Rattle.move_journal.specs.Journal.{IsJournal, journal_text}
+use Rattle.move_journal.specs.Reading.{journal_path}
+use Rattle.migrate_core.proofs.Endings.{if_ok_more}
+use Rattle.migrate_core.specs.Moved.{MovesTree}
+use Rattle.migrate_core.proofs.resuming.resume_settled.Goals as goal
+
+pub returns-in_err-journal-clause-guard : goal.returns-in_err-journal-clause-guard
+returns-in_err-journal-clause-guard g c = λ migration resumed. still_settled migration (g.F.Folder.told c.args.folder.now) (g.F.Folder.told c.read.new.folder) c.read.ensures.told
+
+pub returns-in_err-test_apart-clause-guard : goal.returns-in_err-test_apart-clause-guard
+returns-in_err-test_apart-clause-guard g c = λ migration resumed. still_settled migration (g.F.Folder.told c.args.folder.now) (g.F.Folder.told c.read.new.folder) c.read.ensures.told
+
+pub look_again-requires : goal.look_again-requires
+look_again-requires g c = λ v seen.
+    journal_folder (g.F.Folder.told c.read.new.folder) (g.met.F.Folder.sound c.read.new.folder) v seen c.args.work.now c.in_ok-journal.journal
+    (c.in_ok-journal.ensures.answer v (subst (λ t. IsSeen t v) c.read.ensures.told seen))
+
+pub returns-in_err-look_again-clause-guard : goal.returns-in_err-look_again-clause-guard
+returns-in_err-look_again-clause-guard g c = λ migration resumed.
+    still_settled migration (g.F.Folder.told c.args.folder.now) (g.F.Folder.told c.look_again.new.folder) (c.look_again.ensures.told ∙ c.read.ensures.told)
+
+pub resume_told-requires-clause-used : goal.resume_told-requires-clause-used
+resume_told-requires-clause-used g c = λ v seen.
+    let before = subst (λ t. IsSeen t v) c.look_again.ensures.told seen in
+    in_use (g.F.Folder.told c.look_again.new.folder) (g.met.F.Folder.sound c.look_again.new.folder) v seen c.args.work.now c.in_ok-journal.journal c.eq.result
+    (c.in_ok-journal.ensures.answer v (subst (λ t. IsSeen t v) c.read.ensures.told before)) (c.in_ok-look_again.ensures.answer v before)
+
+pub returns-clause-guard : goal.returns-clause-guard
+returns-clause-guard g c = λ migration resumed.
+    subst (λ t. KeepsSettled migration t (g.F.Folder.told c.resume_told.new.folder)) (c.look_again.ensures.told ∙ c.read.ensures.told) (c.resume_told.ensures.guard migration resumed)
+
+pub returns-in_err-journal-clause-moves : goal.returns-in_err-journal-clause-moves
+returns-in_err-journal-clause-moves g c = λ v journal seen is stands.
+    moves_nowhere (apart_from_both c.args.work.now journal.target) journal.target (g.F.Folder.told c.args.folder.now) (g.F.Folder.told c.read.new.folder) c.read.ensures.told
+
+pub returns-in_err-test_apart-clause-moves : goal.returns-in_err-test_apart-clause-moves
+returns-in_err-test_apart-clause-moves g c = λ v journal seen is stands.
+    moves_nowhere (apart_from_both c.args.work.now journal.target) journal.target (g.F.Folder.told c.args.folder.now) (g.F.Folder.told c.read.new.folder) c.read.ensures.told
+
+pub returns-in_err-look_again-clause-moves : goal.returns-in_err-look_again-clause-moves
+returns-in_err-look_again-clause-moves g c = λ v journal seen is stands.
+    moves_nowhere (apart_from_both c.args.work.now journal.target) journal.target (g.F.Folder.told c.args.folder.now) (g.F.Folder.told c.look_again.new.folder) (c.look_again.ensures.told ∙ c.read.ensures.told)
+
+pub returns-clause-moves : goal.returns-clause-moves
+returns-clause-moves g c = λ v journal seen is stands.
+    let t3 = g.F.Folder.told c.resume_told.new.folder in
+    let read = c.in_ok-journal.journal in
+    subst (λ (j : Journal). MovesOnly c.args.work.now j.target (g.F.Folder.told c.args.folder.now) t3)
+    (one_journal c.journals_are_read_back.ensures.one v c.args.work.now read journal c.in_ok-journal.ensures.journal (c.in_ok-journal.ensures.answer v seen) is stands)
+    (subst (λ t. MovesOnly c.args.work.now read.target t t3) (c.look_again.ensures.told ∙ c.read.ensures.told) c.resume_told.ensures.moves)
+
+pub returns-clause-moved : goal.returns-clause-moved
+returns-clause-moved g c =
+    let work = c.args.work.now in
+    let t0 = g.F.Folder.told c.args.folder.now in
+    let t2 = g.F.Folder.told c.look_again.new.folder in
+    let t3 = g.F.Folder.told c.resume_told.new.folder in
+    let pass = c.args.source_pass.now in
+    let pass' = c.args.target_pass.now in
+    let read = c.in_ok-journal.journal in
+    if_ok_more (MovesTree read.source read.target work pass pass' t2 t3)
+    ((v : View) (journal : Journal) → IsSeen t0 v → IsJournal journal → v (journal_path work) ≡ FileOf (journal_text journal) → MovesTree journal.source journal.target work pass pass' t0 t3) c.resume_told.result
+    (λ moves v journal seen is stands.
+    subst (λ (j : Journal). MovesTree j.source j.target work pass pass' t0 t3)
+    (one_journal c.journals_are_read_back.ensures.one v work read journal c.in_ok-journal.ensures.journal (c.in_ok-journal.ensures.answer v seen) is stands)
+    (subst (λ t. MovesTree read.source read.target work pass pass' t t3) (c.look_again.ensures.told ∙ c.read.ensures.told) moves)) c.resume_told.ensures.moved

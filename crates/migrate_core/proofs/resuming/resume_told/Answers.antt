@@ -1,0 +1,77 @@
+use Rattle.std.proofs.Common.{◌≡◌, ◌∙◌, sym, subst, subst₂}
+use Rattle.folder_spec.specs.Region.{apart_from_both}
+use Rattle.folder_spec.specs.Seen.{IsSeen, seen}
+use Rattle.migrate_core.specs.Leading.{Guards, progress_of}
+use Rattle.migrate_core.specs.Moving.{MovesOnly}
+use Rattle.migrate_core.specs.Sides.{AreSeparate}
+use Rattle.migrate_core.proofs.Movings.{moves_nowhere}
+use Rattle.migrate_core.proofs.Planned.{seen_of}
+use Rattle.migrate_core.proofs.Settled.{resumes, settled_by, still_settled}
+use Rattle.migrate_core.proofs.Endings.{tree_moved}
+use Rattle.migrate_core.proofs.resuming.resume_told.Goals as goal
+
+pub returns-in_err-test_source-clause-guard : goal.returns-in_err-test_source-clause-guard
+returns-in_err-test_source-clause-guard g c = λ migration resumed.
+    still_settled migration (g.F.Folder.told c.args.folder.now) (g.F.Folder.told c.test_source.new.folder) c.test_source.ensures.told
+
+pub returns-in_err-test_source-clause-moves : goal.returns-in_err-test_source-clause-moves
+returns-in_err-test_source-clause-moves g c =
+    let target = c.args.journal.target in
+    moves_nowhere (apart_from_both c.args.work.now target) target (g.F.Folder.told c.args.folder.now) (g.F.Folder.told c.test_source.new.folder) c.test_source.ensures.told
+
+pub returns-in_err-sides-clause-guard : goal.returns-in_err-sides-clause-guard
+returns-in_err-sides-clause-guard g c = λ migration resumed.
+    still_settled migration (g.F.Folder.told c.args.folder.now) (g.F.Folder.told c.load_both.new.folder) (c.load_both.ensures.told ∙ c.test_source.ensures.told)
+
+pub returns-in_err-sides-clause-moves : goal.returns-in_err-sides-clause-moves
+returns-in_err-sides-clause-moves g c =
+    let target = c.args.journal.target in
+    moves_nowhere (apart_from_both c.args.work.now target) target (g.F.Folder.told c.args.folder.now) (g.F.Folder.told c.load_both.new.folder) (c.load_both.ensures.told ∙ c.test_source.ensures.told)
+
+pub resume_with-requires-clause-apart : goal.resume_with-requires-clause-apart
+resume_with-requires-clause-apart g c = subst₂ (λ p q. AreSeparate p q c.args.work.now) (sym c.in_ok-sides.ensures.source) (sym c.in_ok-sides.ensures.target) c.requires.apart
+
+pub resume_with-requires-clause-used : goal.resume_with-requires-clause-used
+resume_with-requires-clause-used g c = λ v seen. c.requires.used v (subst (λ t. IsSeen t v) (c.load_both.ensures.told ∙ c.test_source.ensures.told) seen)
+
+pub returns-clause-guard : goal.returns-clause-guard
+returns-clause-guard g c = λ migration resumed.
+    let t0 = g.F.Folder.told c.args.folder.now in
+    let t1 = g.F.Folder.told c.test_source.new.folder in
+    let t2 = g.F.Folder.told c.load_both.new.folder in
+    let t3 = g.F.Folder.told c.resume_with.new.folder in
+    let same : t2 ≡ t0 = c.load_both.ensures.told ∙ c.test_source.ensures.told in
+    let sides = c.in_ok-sides.sides in
+    let loads = c.in_ok-sides.ensures in
+    let journal = c.args.journal in
+    settled_by (apart_from_both c.args.work.now sides.target.root) sides.target.root migration (progress_of journal.phase) t0 t3
+    (subst (λ t. MovesOnly c.args.work.now sides.target.root t t3) same c.resume_with.ensures.moves)
+    (λ a is settled.
+    let v = seen a.state in
+    let shown = subst (λ t. IsSeen t v) (sym c.test_source.ensures.told) (seen_of t0 a is) in
+    let again = resumes c.roots_have_one_answer.ensures c.guarded_migrations_are_seen.ensures.case c.journals_are_read_back.ensures.one migration a.state sides.source sides.target c.args.work.now journal
+    c.args.source_pass.now c.args.target_pass.now resumed c.requires.journal settled (c.requires.used v (seen_of t0 a is)) (record { stands = loads.source; loads = loads.opens_source v shown })
+    (record { stands = loads.target; loads = loads.opens_target v shown }) in (
+      again.found.alone,
+      subst (λ t. Guards migration (progress_of journal.phase) t t3) same (c.resume_with.ensures.guard migration again.found.sides again.tells).0,
+    ))
+
+pub returns-clause-moves : goal.returns-clause-moves
+returns-clause-moves g c =
+    let t3 = g.F.Folder.told c.resume_with.new.folder in
+    subst (λ t. MovesOnly c.args.work.now c.args.journal.target t t3) (c.load_both.ensures.told ∙ c.test_source.ensures.told)
+    (subst (λ r. MovesOnly c.args.work.now r (g.F.Folder.told c.load_both.new.folder) t3) c.in_ok-sides.ensures.target c.resume_with.ensures.moves)
+
+pub resume_with-requires-clause-source_named : goal.resume_with-requires-clause-source_named
+resume_with-requires-clause-source_named g c = sym c.in_ok-sides.ensures.source
+
+pub resume_with-requires-clause-target_named : goal.resume_with-requires-clause-target_named
+resume_with-requires-clause-target_named g c = sym c.in_ok-sides.ensures.target
+
+pub returns-clause-moved : goal.returns-clause-moved
+returns-clause-moved g c =
+    let sides = c.in_ok-sides.sides in
+    let loads = c.in_ok-sides.ensures in
+    tree_moved c.args.journal.source c.args.journal.target c.args.work.now c.args.source_pass.now c.args.target_pass.now sides.source sides.target (g.F.Folder.told c.args.folder.now)
+    (g.F.Folder.told c.resume_with.new.folder) c.resume_with.result loads.source loads.target (λ v is. loads.opens_source v (subst (λ t. IsSeen t v) (sym c.test_source.ensures.told) is))
+    (λ v is. loads.opens_target v (subst (λ t. IsSeen t v) (sym c.test_source.ensures.told) is)) c.resume_with.ensures.moved

@@ -1,0 +1,55 @@
+use Rattle.std.proofs.Common.{◌∙◌, sym, subst}
+use Rattle.std.proofs.lemmas.Result.{err_from_is_err_and}
+use Rattle.folder_spec.specs.Region.{apart_from_both}
+use Rattle.folder_spec.specs.Seen.{IsSeen}
+use Rattle.tree_match.specs.Alone.{Finished}
+use Rattle.migrate_core.specs.Leading.{Goes, progress_of}
+use Rattle.migrate_core.specs.Moving.{MovesOnly}
+use Rattle.migrate_core.specs.Sides.{IsWalked}
+use Rattle.migrate_core.proofs.Leadings.{refused_nowhere}
+use Rattle.migrate_core.proofs.Movings.{moves_nowhere}
+use Rattle.migrate_core.proofs.resuming.resume_with.Goals as goal
+
+pub returns-in_err-plans-clause-guard : goal.returns-in_err-plans-clause-guard
+returns-in_err-plans-clause-guard g c =
+    let p = err_from_is_err_and c.from_residual.result c.from_residual.ensures.1 in
+    λ migration sides tells. refused_nowhere migration (progress_of c.args.journal.phase) Finished (g.F.Folder.told c.args.folder.now) (g.F.Folder.told c.walk_both.new.folder) c.from_residual.result p.0 p.1 c.walk_both.ensures.told
+
+pub returns-in_err-plans-clause-moves : goal.returns-in_err-plans-clause-moves
+returns-in_err-plans-clause-moves g c =
+    let target = c.args.sides.now.target.root in
+    moves_nowhere (apart_from_both c.args.work.now target) target (g.F.Folder.told c.args.folder.now) (g.F.Folder.told c.walk_both.new.folder) c.walk_both.ensures.told
+
+pub test_plans-requires-clause-source : goal.test_plans-requires-clause-source
+test_plans-requires-clause-source g c = subst (λ t. IsWalked t c.args.sides.now.source c.in_ok-plans.plans.source.items) (sym c.walk_both.ensures.told) c.in_ok-plans.ensures.source
+
+pub test_plans-requires-clause-target : goal.test_plans-requires-clause-target
+test_plans-requires-clause-target g c = subst (λ t. IsWalked t c.args.sides.now.target c.in_ok-plans.plans.target.items) (sym c.walk_both.ensures.told) c.in_ok-plans.ensures.target
+
+pub returns-in_err-test_plans-clause-guard : goal.returns-in_err-test_plans-clause-guard
+returns-in_err-test_plans-clause-guard g c =
+    let p = err_from_is_err_and c.from_residual-in_err-test_plans.result c.from_residual-in_err-test_plans.ensures.1 in
+    λ migration sides tells. refused_nowhere migration (progress_of c.args.journal.phase) Finished (g.F.Folder.told c.args.folder.now) (g.F.Folder.told c.test_plans.new.folder) c.from_residual-in_err-test_plans.result p.0 p.1 (c.test_plans.ensures.told ∙ c.walk_both.ensures.told)
+
+pub returns-in_err-test_plans-clause-moves : goal.returns-in_err-test_plans-clause-moves
+returns-in_err-test_plans-clause-moves g c =
+    let target = c.args.sides.now.target.root in
+    moves_nowhere (apart_from_both c.args.work.now target) target (g.F.Folder.told c.args.folder.now) (g.F.Folder.told c.test_plans.new.folder) (c.test_plans.ensures.told ∙ c.walk_both.ensures.told)
+
+pub place_rest-requires-clause-used : goal.place_rest-requires-clause-used
+place_rest-requires-clause-used g c = λ v seen. c.requires.used v (subst (λ t. IsSeen t v) (c.test_plans.ensures.told ∙ c.walk_both.ensures.told) seen)
+
+pub place_rest-requires-clause-source : goal.place_rest-requires-clause-source
+place_rest-requires-clause-source g c = subst (λ t. IsWalked t c.args.sides.now.source c.in_ok-plans.plans.source.items) (sym (c.test_plans.ensures.told ∙ c.walk_both.ensures.told)) c.in_ok-plans.ensures.source
+
+pub place_rest-requires-clause-target : goal.place_rest-requires-clause-target
+place_rest-requires-clause-target g c = subst (λ t. IsWalked t c.args.sides.now.target c.in_ok-plans.plans.target.items) (sym (c.test_plans.ensures.told ∙ c.walk_both.ensures.told)) c.in_ok-plans.ensures.target
+
+pub returns-clause-guard : goal.returns-clause-guard
+returns-clause-guard g c = λ migration sides tells.
+    subst (λ t. Goes migration (progress_of c.args.journal.phase) Finished t (g.F.Folder.told c.place_rest.new.folder) c.place_rest.result) (c.test_plans.ensures.told ∙ c.walk_both.ensures.told)
+    (c.place_rest.ensures.guard migration sides tells)
+
+pub returns-clause-moves : goal.returns-clause-moves
+returns-clause-moves g c =
+    subst (λ t. MovesOnly c.args.work.now c.args.sides.now.target.root t (g.F.Folder.told c.place_rest.new.folder)) (c.test_plans.ensures.told ∙ c.walk_both.ensures.told) c.place_rest.ensures.moves

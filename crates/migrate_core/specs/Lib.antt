@@ -1,0 +1,6 @@
+-- Migrations: what they do at each moment, and how they answer.
+pub mod Faults
+pub mod Sides
+pub mod Leading
+pub mod Moving
+pub mod Moved

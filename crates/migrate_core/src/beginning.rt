@@ -1,0 +1,147 @@
+//! Beginning a migration.
+ghost use Rattle.std.specs.Prelude.{◌≡◌, [], IfOk, OnOk};
+ghost use Rattle.move_journal.specs.Journal.{IsParsed};
+ghost use Rattle.tree_match.specs.Alone.{Finished, Unbegun};
+ghost use Rattle.tree_match.specs.Guard.{Migration};
+ghost use Rattle.vault_spec.specs.Vault.{format_of};
+ghost use Rattle.migrate_core.specs.Leading.{KeepsGuarded, KeepsSettled, LeadsEach};
+ghost use Rattle.migrate_core.specs.Moved.{Moved, MovesTree};
+ghost use Rattle.migrate_core.specs.Moving.{MovesOnly};
+ghost use Rattle.migrate_core.specs.Sides.{AllowsEach, AreSeparate, IsAsked, IsWalked};
+
+use crate::fault::MoveFault;
+use crate::finishing::go_on;
+use crate::placing::{Done, journal_of};
+use crate::sides::{Sides, load_both, test_apart, test_names, walk_both};
+use folder_model::{FPath, Folder};
+use move_journal::write;
+use port_model::Randoms;
+use std::alloc::Global;
+use tree_match::laws::{
+    guarded_migrations_are_seen, journals_keep_migrations_guarded,
+    settling_and_entering_keep_migrations_guarded, walks_tell_the_tree,
+};
+use vault_read::laws::roots_have_one_answer;
+use vault_spec::laws::what_stands_is_found_step_by_step;
+use vault_walk::{Plan, PlanItem};
+use work_folder::Work;
+
+/// Begins to move the source's tree into the target, and goes on to its end.
+///
+/// The tests, in their order: the three folders don't overlap; the work folder can be made ready; both vaults open and are clean; the
+/// target is empty, and allows each name. Nothing is changed before these.
+pub fn begin<F: Folder, R: Randoms>(
+    alloc: Global,
+    folder: &mut F,
+    source: &FPath,
+    target: &FPath,
+    work: &FPath,
+    source_pass: &[u8],
+    target_pass: &[u8],
+    random: &mut R,
+) -> Result<Done, MoveFault>
+    requires source { IsParsed source.now }
+    requires target { IsParsed target.now }
+    ensures moved { IfOk result (λ done. MovesTree source.now target.now work.now source_pass.now target_pass.now (F.told folder.old) (F.told folder.new)) }
+    ensures guard { (g : Migration) → IsAsked g source.now target.now work.now source_pass.now target_pass.now → KeepsGuarded g (F.told folder.old) (F.told folder.new) }
+    ensures moves { MovesOnly work.now target.now (F.told folder.old) (F.told folder.new) }
+{
+    settling_and_entering_keep_migrations_guarded();
+    test_apart(source, target, work)?;
+    folder.settle()?;
+    begin_settled(
+        alloc,
+        folder,
+        source,
+        target,
+        work,
+        source_pass,
+        target_pass,
+        random,
+    )
+}
+
+// Begins once no change is pending.
+fn begin_settled<F: Folder, R: Randoms>(
+    alloc: Global,
+    folder: &mut F,
+    source: &FPath,
+    target: &FPath,
+    work: &FPath,
+    source_pass: &[u8],
+    target_pass: &[u8],
+    random: &mut R,
+) -> Result<Done, MoveFault>
+    requires source { IsParsed source.now }
+    requires target { IsParsed target.now }
+    requires apart { AreSeparate source.now target.now work.now }
+    ensures moved { IfOk result (λ done. MovesTree source.now target.now work.now source_pass.now target_pass.now (F.told folder.old) (F.told folder.new)) }
+    ensures guard { (g : Migration) → IsAsked g source.now target.now work.now source_pass.now target_pass.now → KeepsSettled g (F.told folder.old) (F.told folder.new) }
+    ensures moves { MovesOnly work.now target.now (F.told folder.old) (F.told folder.new) }
+{
+    roots_have_one_answer();
+    guarded_migrations_are_seen();
+    Work::look(folder, work)?;
+    let sides = load_both(alloc, folder, source, source_pass, target, target_pass)?;
+    begin_with(alloc, folder, work, &sides, random)
+}
+
+// Begins between two vaults.
+fn begin_with<F: Folder, R: Randoms>(
+    alloc: Global,
+    folder: &mut F,
+    work: &FPath,
+    sides: &Sides,
+    random: &mut R,
+) -> Result<Done, MoveFault>
+    requires source { IsParsed sides.now.source.root }
+    requires target { IsParsed sides.now.target.root }
+    requires apart { AreSeparate sides.now.source.root sides.now.target.root work.now }
+    ensures moved { Moved sides.now.source sides.now.target work.now (F.told folder.new) result }
+    ensures guard { LeadsEach sides.now.source sides.now.target work.now Unbegun Finished (F.told folder.old) (F.told folder.new) result }
+    ensures moves { MovesOnly work.now sides.now.target.root (F.told folder.old) (F.told folder.new) }
+{
+    let plans = walk_both(alloc, folder, sides)?;
+    test_empty(plans.target.items.as_slice())?;
+    test_names(&sides.target, plans.source.items.as_slice())?;
+    move_all(alloc, folder, work, sides, &plans.source, random)
+}
+
+// There are no items.
+fn test_empty(items: &[PlanItem]) -> Result<(), MoveFault>
+    ensures { OnOk result (items.now ≡ []) }
+{
+    match items.first() {
+        None => Ok(()),
+        Some(item) => Err(MoveFault::NotEmpty(item.at.copy()?)),
+    }
+}
+
+// Makes the work folder ready, writes the journal, and places each item.
+fn move_all<F: Folder, R: Randoms>(
+    alloc: Global,
+    folder: &mut F,
+    work: &FPath,
+    sides: &Sides,
+    plan: &Plan,
+    random: &mut R,
+) -> Result<Done, MoveFault>
+    requires source { IsParsed sides.now.source.root }
+    requires target { IsParsed sides.now.target.root }
+    requires apart { AreSeparate sides.now.source.root sides.now.target.root work.now }
+    requires walked { IsWalked (F.told folder.old) sides.now.source plan.now.items }
+    requires allowed { AllowsEach (format_of sides.now.target.vault) plan.now.items }
+    ensures moved { Moved sides.now.source sides.now.target work.now (F.told folder.new) result }
+    ensures guard { LeadsEach sides.now.source sides.now.target work.now Unbegun Finished (F.told folder.old) (F.told folder.new) result }
+    ensures moves { MovesOnly work.now sides.now.target.root (F.told folder.old) (F.told folder.new) }
+{
+    guarded_migrations_are_seen();
+    journals_keep_migrations_guarded();
+    settling_and_entering_keep_migrations_guarded();
+    walks_tell_the_tree();
+    what_stands_is_found_step_by_step();
+    let entered = Work::enter(folder, work)?;
+    let journal = journal_of(sides.source.root(), sides.target.root(), plan)?;
+    write(alloc, folder, work, &journal)?;
+    go_on(alloc, folder, &entered, sides, plan, &[], journal, random)
+}

@@ -1,0 +1,124 @@
+//! Why a migration stops.
+use content_writing::PutFault;
+use folder_model::FPath;
+use folder_spec::FolderFault;
+use move_journal::JournalFault;
+use plain_tree::PlainPath;
+use std::alloc::AllocError;
+use tree_match::{MatchFault, Side, Where};
+use vault_read::LoadFault;
+use vault_walk::WalkFault;
+use work_folder::WorkFault;
+
+/// Why a migration stops. What it has placed so far stays, and `resume` goes on from there.
+#[derive(Debug, Drop)]
+pub enum MoveFault {
+    /// The work folder isn't ready.
+    Work(WorkFault),
+    /// No journal was read.
+    Journal(JournalFault),
+    /// One of these folders is the other, or is in it.
+    Overlap(FPath, FPath),
+    /// This vault isn't opened.
+    Load(Side, LoadFault),
+    /// A vault isn't clean, or passes a limit.
+    Walk(WalkFault),
+    /// The target has an item already, at this path.
+    NotEmpty(FPath),
+    /// The target allows no such name.
+    NotAllowed(PlainPath),
+    /// The source has changed: the digest of its plan and its number of items by the journal, and those that it has.
+    Changed([u8; 32], u64, [u8; 32], u64),
+    /// The two vaults aren't compared to the end.
+    Match(MatchFault),
+    /// An item of the target isn't so in the source.
+    Differ(PlainPath, Where),
+    /// An item isn't placed.
+    Place(PutFault),
+    /// All items are in the target, and the source is gone.
+    SourceGone,
+    /// The folder failed.
+    Failed,
+    NoMemory,
+}
+
+impl From<AllocError> for MoveFault {
+    ghost use Rattle.std.specs.Prelude.{◌≡◌};
+    ghost use Rattle.migrate_core.specs.declared.fault.MoveFault.TheVariants.{NoMemory};
+
+    ghost from_gives = { λ _ fault. fault ≡ NoMemory };
+
+    fn from(_fault: AllocError) -> MoveFault {
+        MoveFault::NoMemory
+    }
+}
+
+impl From<FolderFault> for MoveFault {
+    ghost use Rattle.std.specs.Prelude.{◌≡◌};
+    ghost use Rattle.migrate_core.specs.Faults.{of_folder};
+
+    ghost from_gives = { λ fault result. result ≡ of_folder fault };
+
+    fn from(fault: FolderFault) -> MoveFault {
+        match fault {
+            FolderFault::Failed => MoveFault::Failed,
+            FolderFault::Refused => MoveFault::Failed,
+            FolderFault::NoMemory => MoveFault::NoMemory,
+        }
+    }
+}
+
+impl From<WorkFault> for MoveFault {
+    ghost use Rattle.std.specs.Prelude.{◌≡◌};
+    ghost use Rattle.migrate_core.specs.declared.fault.MoveFault.TheVariants.{Work};
+
+    ghost from_gives = { λ fault result. result ≡ Work fault };
+
+    fn from(fault: WorkFault) -> MoveFault {
+        MoveFault::Work(fault)
+    }
+}
+
+impl From<JournalFault> for MoveFault {
+    ghost use Rattle.std.specs.Prelude.{◌≡◌};
+    ghost use Rattle.migrate_core.specs.declared.fault.MoveFault.TheVariants.{Journal};
+
+    ghost from_gives = { λ fault result. result ≡ Journal fault };
+
+    fn from(fault: JournalFault) -> MoveFault {
+        MoveFault::Journal(fault)
+    }
+}
+
+impl From<WalkFault> for MoveFault {
+    ghost use Rattle.std.specs.Prelude.{◌≡◌};
+    ghost use Rattle.migrate_core.specs.declared.fault.MoveFault.TheVariants.{Walk};
+
+    ghost from_gives = { λ fault result. result ≡ Walk fault };
+
+    fn from(fault: WalkFault) -> MoveFault {
+        MoveFault::Walk(fault)
+    }
+}
+
+impl From<MatchFault> for MoveFault {
+    ghost use Rattle.std.specs.Prelude.{◌≡◌};
+    ghost use Rattle.migrate_core.specs.declared.fault.MoveFault.TheVariants.{Match};
+
+    ghost from_gives = { λ fault result. result ≡ Match fault };
+
+    fn from(fault: MatchFault) -> MoveFault {
+        MoveFault::Match(fault)
+    }
+}
+
+impl From<PutFault> for MoveFault {
+    ghost use Rattle.std.specs.Prelude.{◌≡◌};
+    ghost use Rattle.migrate_core.specs.declared.fault.MoveFault.TheVariants.{Place};
+
+    ghost from_gives = { λ fault result. result ≡ Place fault };
+
+    fn from(fault: PutFault) -> MoveFault {
+        MoveFault::Place(fault)
+    }
+}

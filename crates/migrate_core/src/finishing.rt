@@ -1,0 +1,149 @@
+//! Ending a migration.
+ghost use Rattle.std.specs.Prelude.{◌≡◌, OnOk};
+ghost use Rattle.folder_spec.specs.Path.{Path};
+ghost use Rattle.folder_spec.specs.Seen.{IsSeen};
+ghost use Rattle.folder_spec.specs.View.{View};
+ghost use Rattle.move_journal.specs.Journal.{IsJournal};
+ghost use Rattle.move_journal.specs.Writing.{IsWorkFolder};
+ghost use Rattle.tree_match.specs.Alone.{Begun, Finished};
+ghost use Rattle.tree_match.specs.Comparing.{Is};
+ghost use Rattle.tree_match.specs.Guard.{AreApart};
+ghost use Rattle.tree_match.specs.Trees.{match_of};
+ghost use Rattle.tree_match.specs.declared.answer.Match.TheVariants.{Same};
+ghost use Rattle.vault_walk.specs.Survey.{IsOrdered};
+ghost use Rattle.work_folder.specs.Entering.{IsReady};
+ghost use Rattle.migrate_core.specs.Leading.{FinishesEach, LeadsTold, progress_of};
+ghost use Rattle.migrate_core.specs.Moved.{Moved, StandsIn, done_of};
+ghost use Rattle.migrate_core.specs.Moving.{MovesOnly};
+ghost use Rattle.migrate_core.specs.Sides.{AreSeparate, IsWalked, StandAll, side_of};
+
+use crate::fault::MoveFault;
+use crate::placing::{Done, place_missing};
+use crate::sides::{Sides, walk_one};
+use folder_model::{FPath, Folder};
+use move_journal::{Journal, Phase, write};
+use port_model::Randoms;
+use std::alloc::Global;
+use tree_match::laws::{
+    guarded_migrations_are_seen, journals_keep_migrations_guarded, what_is_held_opens_the_same,
+};
+use tree_match::{How, Match, Where, holds_all};
+use vault_walk::{Plan, PlanItem};
+use work_folder::Work;
+
+// Places what the target lacks of the source, and ends the migration.
+pub(crate) fn go_on<F: Folder, R: Randoms>(
+    alloc: Global,
+    folder: &mut F,
+    work: &Work,
+    sides: &Sides,
+    source: &Plan,
+    there: &[PlanItem],
+    journal: Journal,
+    random: &mut R,
+) -> Result<Done, MoveFault>
+    requires apart { AreSeparate sides.now.source.root sides.now.target.root work.now }
+    requires walked { IsWalked (F.told folder.old) sides.now.source source.now.items }
+    requires ready { (v : View) → IsSeen (F.told folder.old) v → IsReady v work.now }
+    requires there { (v : View) → IsSeen (F.told folder.old) v → IsOrdered there.now }
+    requires journal { IsJournal journal }
+    requires work_folder { (v : View) → IsSeen (F.told folder.old) v → IsWorkFolder v work.now }
+    requires stands { journal.phase ≡ Phase.Done → (v : View) → IsSeen (F.told folder.old) v → StandsIn work.now journal v }
+    requires source { journal.source ≡ sides.now.source.root }
+    requires target { journal.target ≡ sides.now.target.root }
+    ensures moved { Moved sides.now.source sides.now.target work.now (F.told folder.new) result }
+    ensures building { journal.phase ≡ Phase.Building → LeadsTold sides.now.source sides.now.target work.now journal Begun Finished (F.told folder.old) (F.told folder.new) result }
+    ensures done { journal.phase ≡ Phase.Done → StandAll source.now.items there.now → LeadsTold sides.now.source sides.now.target work.now journal Finished Finished (F.told folder.old) (F.told folder.new) result }
+    ensures moves { MovesOnly work.now sides.now.target.root (F.told folder.old) (F.told folder.new) }
+{
+    let items = source.items.as_slice();
+    let placed = place_missing(alloc, folder, work, sides, items, there, random)?;
+    finish(alloc, folder, work.at(), sides, source, journal, placed)
+}
+
+// Compares the two vaults once all is placed, and says in the journal that all is done.
+pub(crate) fn finish<F: Folder>(
+    alloc: Global,
+    folder: &mut F,
+    work: &FPath,
+    sides: &Sides,
+    source: &Plan,
+    journal: Journal,
+    placed: u64,
+) -> Result<Done, MoveFault>
+    requires apart { AreSeparate sides.now.source.root sides.now.target.root work.now }
+    requires walked { IsWalked (F.told folder.old) sides.now.source source.now.items }
+    requires journal { IsJournal journal }
+    requires work_folder { (v : View) → IsSeen (F.told folder.old) v → IsWorkFolder v work.now }
+    requires stands { journal.phase ≡ Phase.Done → (v : View) → IsSeen (F.told folder.old) v → StandsIn work.now journal v }
+    requires source { journal.source ≡ sides.now.source.root }
+    requires target { journal.target ≡ sides.now.target.root }
+    ensures moved { Moved sides.now.source sides.now.target work.now (F.told folder.new) result }
+    ensures guard { LeadsTold sides.now.source sides.now.target work.now journal (progress_of journal.phase) Finished (F.told folder.old) (F.told folder.new) result }
+    ensures moves { MovesOnly work.now sides.now.target.root (F.told folder.old) (F.told folder.new) }
+{
+    guarded_migrations_are_seen();
+    what_is_held_opens_the_same();
+    let target = walk_one(alloc, folder, &sides.target)?;
+    test_same(alloc, folder, sides, source, &target)?;
+    say_done(alloc, folder, work, journal)?;
+    Ok(Done {
+        placed,
+        items: target.items.as_slice().len() as u64,
+    })
+}
+
+// The two vaults hold the same.
+fn test_same<F: Folder>(
+    alloc: Global,
+    folder: &mut F,
+    sides: &Sides,
+    source: &Plan,
+    target: &Plan,
+) -> Result<(), MoveFault>
+    requires source { IsWalked (F.told folder.old) sides.now.source source.now.items }
+    requires target { IsWalked (F.told folder.old) sides.now.target target.now.items }
+    ensures told { F.told folder.new ≡ F.told folder.old }
+    ensures same { OnOk result ((v : View) → IsSeen (F.told folder.old) v → match_of v (side_of sides.now.source source.now.items) (side_of sides.now.target target.now.items) ≡ Is Same) }
+{
+    match holds_all(alloc, folder, &sides.source, source, &sides.target, target)? {
+        Match::Same => Ok(()),
+        Match::Contained(path) => Err(MoveFault::Differ(path, Where::Extra)),
+        Match::Differs(path, how) => Err(MoveFault::Differ(path, where_of(how))),
+    }
+}
+
+fn where_of(how: How) -> Where {
+    match how {
+        How::Missing => Where::Missing,
+        How::Kind => Where::Kind,
+        How::Content => Where::Content,
+    }
+}
+
+// Writes the journal anew where it doesn't say yet that all is done.
+fn say_done<F: Folder>(
+    alloc: Global,
+    folder: &mut F,
+    work: &FPath,
+    journal: Journal,
+) -> Result<(), MoveFault>
+    requires journal { IsJournal journal }
+    requires work_folder { (v : View) → IsSeen (F.told folder.old) v → IsWorkFolder v work.now }
+    requires stands { journal.phase ≡ Phase.Done → (v : View) → IsSeen (F.told folder.old) v → StandsIn work.now journal v }
+    ensures says { OnOk result ((v : View) → IsSeen (F.told folder.new) v → StandsIn work.now (done_of journal) v) }
+    ensures guard { FinishesEach work.now journal (F.told folder.old) (F.told folder.new) result }
+    ensures moves { (root : Path) → AreApart root work.now → MovesOnly work.now root (F.told folder.old) (F.told folder.new) }
+{
+    journals_keep_migrations_guarded();
+    match journal.phase {
+        Phase::Done => Ok(()),
+        Phase::Building => {
+            let done = Journal {
+                phase: Phase::Done,
+                ..journal
+            };
+            Ok(write(alloc, folder, work, &done)?)
+        }
+    }
+}

@@ -1,0 +1,17 @@
+//! Moving a whole tree from one vault into another, so that a stop at any moment costs nothing.
+#![tactic(auto)]
+
+mod beginning;
+pub mod fault;
+mod finishing;
+mod placing;
+mod resuming;
+mod sides;
+
+pub use beginning::begin;
+pub use fault::MoveFault;
+pub use placing::Done;
+pub use resuming::resume;
+
+#[cfg(test)]
+mod tests;

@@ -1,0 +1,171 @@
+//! Placing the source's items in the target.
+ghost use Rattle.std.specs.Prelude.{◌≡◌, true, IfOk};
+ghost use Rattle.folder_spec.specs.Seen.{IsSeen};
+ghost use Rattle.folder_spec.specs.View.{View};
+ghost use Rattle.move_journal.specs.Journal.{IsDigest};
+ghost use Rattle.tree_match.specs.Alone.{Begun};
+ghost use Rattle.vault_walk.specs.Survey.{IsOrdered};
+ghost use Rattle.vault_write.specs.Making.{is_apart};
+ghost use Rattle.work_folder.specs.Entering.{IsReady};
+ghost use Rattle.migrate_core.specs.Leading.{LeadsEach};
+ghost use Rattle.migrate_core.specs.Moving.{MovesBeside};
+ghost use Rattle.migrate_core.specs.Sides.{AreSeparate, IsItemOf, IsWalked, StandAll, StandsIn, new_journal};
+
+use crate::fault::MoveFault;
+use crate::sides::Sides;
+use content_writing::VaultContent;
+use content_writing::laws::files_fit_as_contents;
+use folder_model::{FPath, Folder};
+use move_journal::{Journal, Phase};
+use plain_tree::NodeKind;
+use port_model::Randoms;
+use std::alloc::Global;
+use tree_match::laws::{
+    guarded_migrations_are_seen, placing_keeps_migrations_guarded, walks_tell_the_tree,
+};
+use vault_read::ContentReader;
+use vault_walk::{Plan, PlanItem, plan_digest};
+use vault_write::{place_dir, place_file};
+use work_folder::Work;
+
+/// What a migration has done: how many items it placed, and how many the target has.
+#[derive(Clone, Copy, Debug, PartialEq, Eq)]
+pub struct Done {
+    pub placed: u64,
+    pub items: u64,
+}
+
+// The journal of a migration that begins.
+pub(crate) fn journal_of(source: &FPath, target: &FPath, plan: &Plan) -> Result<Journal, MoveFault>
+    ensures new { IfOk result (λ journal. journal ≡ new_journal source.now target.now plan.now.items) }
+    ensures digest { IfOk result (λ journal. IsDigest journal.plan) }
+{
+    Ok(Journal {
+        phase: Phase::Building,
+        source: source.copy()?,
+        target: target.copy()?,
+        items: plan.items.as_slice().len() as u64,
+        plan: plan_digest(plan)?,
+    })
+}
+
+// Places each item that the target lacks, in order. Both plans are in order of their paths.
+pub(crate) fn place_missing<F: Folder, R: Randoms>(
+    alloc: Global,
+    folder: &mut F,
+    work: &Work,
+    sides: &Sides,
+    items: &[PlanItem],
+    there: &[PlanItem],
+    random: &mut R,
+) -> Result<u64, MoveFault>
+    requires apart { AreSeparate sides.now.source.root sides.now.target.root work.now }
+    requires walked { IsWalked (F.told folder.old) sides.now.source items.now }
+    requires ready { (v : View) → IsSeen (F.told folder.old) v → IsReady v work.now }
+    requires there { (v : View) → IsSeen (F.told folder.old) v → IsOrdered there.now }
+    ensures guard { LeadsEach sides.now.source sides.now.target work.now Begun Begun (F.told folder.old) (F.told folder.new) result }
+    ensures moves { MovesBeside (is_apart work.now sides.now.target.root) sides.now.target.root (F.told folder.old) (F.told folder.new) }
+    ensures none { StandAll items.now there.now → F.told folder.new ≡ F.told folder.old }
+{
+    let mut placed = 0;
+    for item in items {
+        if place_missing_one(alloc, folder, work, sides, item, there, random)? {
+            placed += 1;
+        }
+    }
+    Ok(placed)
+}
+
+// Places an item where it isn't there, and says whether it did.
+fn place_missing_one<F: Folder, R: Randoms>(
+    alloc: Global,
+    folder: &mut F,
+    work: &Work,
+    sides: &Sides,
+    item: &PlanItem,
+    there: &[PlanItem],
+    random: &mut R,
+) -> Result<bool, MoveFault>
+    requires apart { AreSeparate sides.now.source.root sides.now.target.root work.now }
+    requires item { IsItemOf (F.told folder.old) sides.now.source item.now }
+    requires ready { (v : View) → IsSeen (F.told folder.old) v → IsReady v work.now }
+    requires there { (v : View) → IsSeen (F.told folder.old) v → IsOrdered there.now }
+    ensures guard { LeadsEach sides.now.source sides.now.target work.now Begun Begun (F.told folder.old) (F.told folder.new) result }
+    ensures moves { MovesBeside (is_apart work.now sides.now.target.root) sides.now.target.root (F.told folder.old) (F.told folder.new) }
+    ensures ready { IfOk result (λ placed. (v : View) → IsSeen (F.told folder.new) v → IsReady v work.now) }
+    ensures none { StandsIn item.now there.now → F.told folder.new ≡ F.told folder.old }
+{
+    if stands(there, item) {
+        return Ok(false);
+    }
+    place(alloc, folder, work, sides, item, random)?;
+    Ok(true)
+}
+
+// Whether one of these has the item's path.
+fn stands(there: &[PlanItem], item: &PlanItem) -> bool
+    ensures { IsOrdered there.now → StandsIn item.now there.now → result ≡ true }
+{
+    there
+        .binary_search_by(|other| other.path.cmp(&item.path))
+        .is_ok()
+}
+
+// Places one item of the source in the target.
+fn place<F: Folder, R: Randoms>(
+    alloc: Global,
+    folder: &mut F,
+    work: &Work,
+    sides: &Sides,
+    item: &PlanItem,
+    random: &mut R,
+) -> Result<(), MoveFault>
+    requires apart { AreSeparate sides.now.source.root sides.now.target.root work.now }
+    requires item { IsItemOf (F.told folder.old) sides.now.source item.now }
+    requires ready { (v : View) → IsSeen (F.told folder.old) v → IsReady v work.now }
+    ensures guard { LeadsEach sides.now.source sides.now.target work.now Begun Begun (F.told folder.old) (F.told folder.new) result }
+    ensures moves { MovesBeside (is_apart work.now sides.now.target.root) sides.now.target.root (F.told folder.old) (F.told folder.new) }
+    ensures ready { IfOk result (λ placed. (v : View) → IsSeen (F.told folder.new) v → IsReady v work.now) }
+{
+    guarded_migrations_are_seen();
+    placing_keeps_migrations_guarded();
+    walks_tell_the_tree();
+    match item.node {
+        NodeKind::Dir => Ok(place_dir(alloc, folder, work, &sides.target, &item.path, random)?),
+        NodeKind::File => place_content(alloc, folder, work, sides, item, random),
+    }
+}
+
+// Places a file of the source, of which its content comes.
+fn place_content<F: Folder, R: Randoms>(
+    alloc: Global,
+    folder: &mut F,
+    work: &Work,
+    sides: &Sides,
+    item: &PlanItem,
+    random: &mut R,
+) -> Result<(), MoveFault>
+    requires file { item.now.node ≡ NodeKind.File }
+    requires apart { AreSeparate sides.now.source.root sides.now.target.root work.now }
+    requires item { IsItemOf (F.told folder.old) sides.now.source item.now }
+    requires ready { (v : View) → IsSeen (F.told folder.old) v → IsReady v work.now }
+    ensures guard { LeadsEach sides.now.source sides.now.target work.now Begun Begun (F.told folder.old) (F.told folder.new) result }
+    ensures moves { MovesBeside (is_apart work.now sides.now.target.root) sides.now.target.root (F.told folder.old) (F.told folder.new) }
+    ensures ready { IfOk result (λ placed. (v : View) → IsSeen (F.told folder.new) v → IsReady v work.now) }
+{
+    files_fit_as_contents();
+    guarded_migrations_are_seen();
+    placing_keeps_migrations_guarded();
+    walks_tell_the_tree();
+    let reader = ContentReader::start(alloc, &sides.source, &item.at)?;
+    let mut content = VaultContent::new(alloc, reader);
+    Ok(place_file(
+        alloc,
+        folder,
+        work,
+        &sides.target,
+        &item.path,
+        &mut content,
+        random,
+    )?)
+}

@@ -1,0 +1,253 @@
+//! Going on with a migration.
+ghost use Rattle.std.specs.Prelude.{◌≡◌, ◌≢◌, ◌⊎◌, IfOk, OnOk};
+ghost use Rattle.folder_spec.specs.Seen.{IsSeen};
+ghost use Rattle.folder_spec.specs.View.{FileOf, NoEntry, View};
+ghost use Rattle.move_journal.specs.Journal.{IsJournal, journal_text};
+ghost use Rattle.move_journal.specs.Reading.{journal_path};
+ghost use Rattle.tree_match.specs.Alone.{Finished};
+ghost use Rattle.tree_match.specs.Guard.{Migration};
+ghost use Rattle.migrate_core.specs.Leading.{KeepsGuarded, KeepsSettled, LeadsTold, progress_of};
+ghost use Rattle.migrate_core.specs.Moved.{Moved, MovesTree};
+ghost use Rattle.migrate_core.specs.Moving.{MovesOnly};
+ghost use Rattle.migrate_core.specs.Sides.{AreSeparate, AreTold, IsInUse, IsResumed, IsWalked};
+
+use crate::fault::MoveFault;
+use crate::finishing::go_on;
+use crate::placing::Done;
+use crate::sides::{Plans, Sides, load_both, test_apart, test_names, walk_both};
+use folder_model::{FPath, Folder, Kind};
+use move_journal::laws::journals_are_read_back;
+use move_journal::{Journal, Phase, read};
+use port_model::Randoms;
+use std::alloc::Global;
+use tree_match::laws::{
+    guarded_migrations_are_seen, settling_and_entering_keep_migrations_guarded, walks_tell_the_tree,
+};
+use tree_match::{How, Match, Where, holds_all};
+use vault_read::laws::roots_have_one_answer;
+use vault_walk::{Plan, plan_digest};
+use work_folder::Work;
+
+/// Goes on with the migration that the journal in a work folder tells of, from whatever a stop left.
+///
+/// The tests, in their order: the journal is there; the three folders don't overlap; nothing foreign is in the work folder; the source is
+/// there still; both vaults open and are clean; the source has the items that the journal names; the target allows each name; and each
+/// item of the target is so in the source.
+pub fn resume<F: Folder, R: Randoms>(
+    alloc: Global,
+    folder: &mut F,
+    work: &FPath,
+    source_pass: &[u8],
+    target_pass: &[u8],
+    random: &mut R,
+) -> Result<Done, MoveFault>
+    ensures guard { (g : Migration) → IsResumed g work.now source_pass.now target_pass.now → KeepsGuarded g (F.told folder.old) (F.told folder.new) }
+    ensures moves { (v : View) (journal : Journal) → IsSeen (F.told folder.old) v → IsJournal journal → v (journal_path work.now) ≡ FileOf (journal_text journal)
+        → MovesOnly work.now journal.target (F.told folder.old) (F.told folder.new) }
+    ensures moved { IfOk result (λ done. (v : View) (journal : Journal) → IsSeen (F.told folder.old) v → IsJournal journal → v (journal_path work.now) ≡ FileOf (journal_text journal)
+        → MovesTree journal.source journal.target work.now source_pass.now target_pass.now (F.told folder.old) (F.told folder.new)) }
+{
+    settling_and_entering_keep_migrations_guarded();
+    folder.settle()?;
+    resume_settled(alloc, folder, work, source_pass, target_pass, random)
+}
+
+// Goes on once no change is pending.
+fn resume_settled<F: Folder, R: Randoms>(
+    alloc: Global,
+    folder: &mut F,
+    work: &FPath,
+    source_pass: &[u8],
+    target_pass: &[u8],
+    random: &mut R,
+) -> Result<Done, MoveFault>
+    ensures guard { (g : Migration) → IsResumed g work.now source_pass.now target_pass.now → KeepsSettled g (F.told folder.old) (F.told folder.new) }
+    ensures moves { (v : View) (journal : Journal) → IsSeen (F.told folder.old) v → IsJournal journal → v (journal_path work.now) ≡ FileOf (journal_text journal)
+        → MovesOnly work.now journal.target (F.told folder.old) (F.told folder.new) }
+    ensures moved { IfOk result (λ done. (v : View) (journal : Journal) → IsSeen (F.told folder.old) v → IsJournal journal → v (journal_path work.now) ≡ FileOf (journal_text journal)
+        → MovesTree journal.source journal.target work.now source_pass.now target_pass.now (F.told folder.old) (F.told folder.new)) }
+{
+    journals_are_read_back();
+    let journal = read(alloc, folder, work)?;
+    test_apart(&journal.source, &journal.target, work)?;
+    Work::look_again(folder, work, journal.phase == Phase::Done)?;
+    resume_told(
+        alloc,
+        folder,
+        work,
+        journal,
+        source_pass,
+        target_pass,
+        random,
+    )
+}
+
+// Goes on with the migration that a journal tells.
+fn resume_told<F: Folder, R: Randoms>(
+    alloc: Global,
+    folder: &mut F,
+    work: &FPath,
+    journal: Journal,
+    source_pass: &[u8],
+    target_pass: &[u8],
+    random: &mut R,
+) -> Result<Done, MoveFault>
+    requires journal { IsJournal journal }
+    requires apart { AreSeparate journal.source journal.target work.now }
+    requires used { (v : View) → IsSeen (F.told folder.old) v → IsInUse v work.now journal }
+    ensures guard { (g : Migration) → IsResumed g work.now source_pass.now target_pass.now → KeepsSettled g (F.told folder.old) (F.told folder.new) }
+    ensures moves { MovesOnly work.now journal.target (F.told folder.old) (F.told folder.new) }
+    ensures moved { IfOk result (λ done. MovesTree journal.source journal.target work.now source_pass.now target_pass.now (F.told folder.old) (F.told folder.new)) }
+{
+    journals_are_read_back();
+    roots_have_one_answer();
+    guarded_migrations_are_seen();
+    test_source(folder, &journal, work)?;
+    let sides = load_both(
+        alloc,
+        folder,
+        &journal.source,
+        source_pass,
+        &journal.target,
+        target_pass,
+    )?;
+    resume_with(alloc, folder, work, &sides, journal, random)
+}
+
+// The source is there, and hasn't been moved into the work folder.
+fn test_source<F: Folder>(folder: &mut F, journal: &Journal, work: &FPath) -> Result<(), MoveFault>
+    ensures told { F.told folder.new ≡ F.told folder.old }
+    ensures there { OnOk result ((journal.now.phase ≡ Phase.Building) ⊎ ((v : View) → IsSeen (F.told folder.old) v → v journal.now.source ≢ NoEntry)) }
+{
+    if journal.phase == Phase::Building {
+        return Ok(());
+    }
+    let old = work.child("old")?;
+    if folder.kind(&old)? != Kind::Missing || folder.kind(&journal.source)? == Kind::Missing {
+        return Err(MoveFault::SourceGone);
+    }
+    Ok(())
+}
+
+// Goes on between two vaults.
+fn resume_with<F: Folder, R: Randoms>(
+    alloc: Global,
+    folder: &mut F,
+    work: &FPath,
+    sides: &Sides,
+    journal: Journal,
+    random: &mut R,
+) -> Result<Done, MoveFault>
+    requires journal { IsJournal journal }
+    requires apart { AreSeparate sides.now.source.root sides.now.target.root work.now }
+    requires used { (v : View) → IsSeen (F.told folder.old) v → IsInUse v work.now journal }
+    requires source_named { journal.source ≡ sides.now.source.root }
+    requires target_named { journal.target ≡ sides.now.target.root }
+    ensures moved { Moved sides.now.source sides.now.target work.now (F.told folder.new) result }
+    ensures guard { LeadsTold sides.now.source sides.now.target work.now journal (progress_of journal.phase) Finished (F.told folder.old) (F.told folder.new) result }
+    ensures moves { MovesOnly work.now sides.now.target.root (F.told folder.old) (F.told folder.new) }
+{
+    let plans = walk_both(alloc, folder, sides)?;
+    test_plans(alloc, folder, sides, &plans, &journal)?;
+    place_rest(alloc, folder, work, sides, &plans, journal, random)
+}
+
+// The source has the items that the journal names, the target allows each name, and each item of the target is so in the source.
+fn test_plans<F: Folder>(
+    alloc: Global,
+    folder: &mut F,
+    sides: &Sides,
+    plans: &Plans,
+    journal: &Journal,
+) -> Result<(), MoveFault>
+    requires source { IsWalked (F.told folder.old) sides.now.source plans.now.source.items }
+    requires target { IsWalked (F.told folder.old) sides.now.target plans.now.target.items }
+    ensures told { F.told folder.new ≡ F.told folder.old }
+{
+    test_changed(journal, plans)?;
+    test_names(&sides.target, plans.source.items.as_slice())?;
+    test_held(alloc, folder, sides, plans)
+}
+
+// The source has the items that the journal names.
+fn test_changed(journal: &Journal, plans: &Plans) -> Result<(), MoveFault>
+    ensures { OnOk result (AreTold journal.now plans.now.source.items) }
+{
+    let digest = plan_digest(&plans.source)?;
+    let items = plans.source.items.as_slice().len() as u64;
+    if digest != journal.plan || items != journal.items {
+        return Err(MoveFault::Changed(journal.plan, journal.items, digest, items));
+    }
+    Ok(())
+}
+
+// Each item of the target is so in the source.
+fn test_held<F: Folder>(
+    alloc: Global,
+    folder: &mut F,
+    sides: &Sides,
+    plans: &Plans,
+) -> Result<(), MoveFault>
+    requires source { IsWalked (F.told folder.old) sides.now.source plans.now.source.items }
+    requires target { IsWalked (F.told folder.old) sides.now.target plans.now.target.items }
+    ensures told { F.told folder.new ≡ F.told folder.old }
+{
+    match holds_all(
+        alloc,
+        folder,
+        &sides.target,
+        &plans.target,
+        &sides.source,
+        &plans.source,
+    )? {
+        Match::Same | Match::Contained(_) => Ok(()),
+        Match::Differs(path, how) => Err(MoveFault::Differ(path, where_of(how))),
+    }
+}
+
+// An item of the target that the source lacks is further there.
+fn where_of(how: How) -> Where {
+    match how {
+        How::Missing => Where::Extra,
+        How::Kind => Where::Kind,
+        How::Content => Where::Content,
+    }
+}
+
+// Makes the stage ready, and places each item that the target lacks.
+fn place_rest<F: Folder, R: Randoms>(
+    alloc: Global,
+    folder: &mut F,
+    work: &FPath,
+    sides: &Sides,
+    plans: &Plans,
+    journal: Journal,
+    random: &mut R,
+) -> Result<Done, MoveFault>
+    requires journal { IsJournal journal }
+    requires apart { AreSeparate sides.now.source.root sides.now.target.root work.now }
+    requires used { (v : View) → IsSeen (F.told folder.old) v → IsInUse v work.now journal }
+    requires source { IsWalked (F.told folder.old) sides.now.source plans.now.source.items }
+    requires target { IsWalked (F.told folder.old) sides.now.target plans.now.target.items }
+    requires source_named { journal.source ≡ sides.now.source.root }
+    requires target_named { journal.target ≡ sides.now.target.root }
+    ensures moved { Moved sides.now.source sides.now.target work.now (F.told folder.new) result }
+    ensures guard { LeadsTold sides.now.source sides.now.target work.now journal (progress_of journal.phase) Finished (F.told folder.old) (F.told folder.new) result }
+    ensures moves { MovesOnly work.now sides.now.target.root (F.told folder.old) (F.told folder.new) }
+{
+    guarded_migrations_are_seen();
+    settling_and_entering_keep_migrations_guarded();
+    walks_tell_the_tree();
+    let again = Work::again(folder, work)?;
+    let there = plans.target.items.as_slice();
+    go_on(
+        alloc,
+        folder,
+        &again,
+        sides,
+        &plans.source,
+        there,
+        journal,
+        random,
+    )
+}

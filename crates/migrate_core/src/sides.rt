@@ -1,0 +1,142 @@
+//! The two vaults of a migration, and their plans.
+ghost use Rattle.std.specs.Prelude.{◌≡◌, IfOk, OnOk};
+ghost use Rattle.folder_spec.specs.Seen.{IsSeen, under};
+ghost use Rattle.folder_spec.specs.View.{View};
+ghost use Rattle.tree_match.specs.Guard.{AreApart};
+ghost use Rattle.vault_spec.specs.Making.{Allows};
+ghost use Rattle.vault_spec.specs.Vault.{IsVault, format_of};
+ghost use Rattle.migrate_core.specs.Sides.{AllowsEach, AllowsLast, AreSeparate, IsWalked};
+
+use crate::fault::MoveFault;
+use folder_model::{FPath, Folder};
+use plain_tree::{Name, PlainPath};
+use std::alloc::Global;
+use tree_match::Side;
+use vault_read::{Vault, VaultKind};
+use vault_walk::{Plan, PlanItem, walk};
+
+// The source and the target of a migration.
+#[derive(Drop)]
+pub(crate) struct Sides {
+    pub(crate) source: Vault,
+    pub(crate) target: Vault,
+}
+
+// Their items.
+#[derive(Drop)]
+pub(crate) struct Plans {
+    pub(crate) source: Plan,
+    pub(crate) target: Plan,
+}
+
+// The vaults that two roots and their passphrases are.
+pub(crate) fn load_both<F: Folder>(
+    alloc: Global,
+    folder: &mut F,
+    source: &FPath,
+    source_pass: &[u8],
+    target: &FPath,
+    target_pass: &[u8],
+) -> Result<Sides, MoveFault>
+    ensures told { F.told folder.new ≡ F.told folder.old }
+    ensures source { IfOk result (λ sides. sides.source.root ≡ source.now) }
+    ensures target { IfOk result (λ sides. sides.target.root ≡ target.now) }
+    ensures opens_source { IfOk result (λ sides. (v : View) → IsSeen (F.told folder.old) v → IsVault (under source.now v) source_pass.now sides.source.vault) }
+    ensures opens_target { IfOk result (λ sides. (v : View) → IsSeen (F.told folder.old) v → IsVault (under target.now v) target_pass.now sides.target.vault) }
+{
+    let source = load(alloc, folder, Side::Source, source, source_pass)?;
+    let target = load(alloc, folder, Side::Target, target, target_pass)?;
+    Ok(Sides { source, target })
+}
+
+fn load<F: Folder>(
+    alloc: Global,
+    folder: &mut F,
+    side: Side,
+    root: &FPath,
+    pass: &[u8],
+) -> Result<Vault, MoveFault>
+    ensures told { F.told folder.new ≡ F.told folder.old }
+    ensures root { IfOk result (λ vault. vault.root ≡ root.now) }
+    ensures vault { IfOk result (λ vault. (v : View) → IsSeen (F.told folder.old) v → IsVault (under root.now v) pass.now vault.vault) }
+{
+    match Vault::load(alloc, folder, root, pass) {
+        Ok(vault) => Ok(vault),
+        Err(fault) => Err(MoveFault::Load(side, fault)),
+    }
+}
+
+// The items of two clean vaults.
+pub(crate) fn walk_both<F: Folder>(
+    alloc: Global,
+    folder: &mut F,
+    sides: &Sides,
+) -> Result<Plans, MoveFault>
+    ensures told { F.told folder.new ≡ F.told folder.old }
+    ensures source { IfOk result (λ plans. IsWalked (F.told folder.old) sides.now.source plans.source.items) }
+    ensures target { IfOk result (λ plans. IsWalked (F.told folder.old) sides.now.target plans.target.items) }
+{
+    let source = walk_one(alloc, folder, &sides.source)?;
+    let target = walk_one(alloc, folder, &sides.target)?;
+    Ok(Plans { source, target })
+}
+
+// The items of a clean vault.
+pub(crate) fn walk_one<F: Folder>(
+    alloc: Global,
+    folder: &mut F,
+    vault: &Vault,
+) -> Result<Plan, MoveFault>
+    ensures told { F.told folder.new ≡ F.told folder.old }
+    ensures walked { IfOk result (λ plan. IsWalked (F.told folder.old) vault.now plan.items) }
+{
+    Ok(walk(alloc, folder, vault)?)
+}
+
+// No two of three folders overlap.
+pub(crate) fn test_apart(source: &FPath, target: &FPath, work: &FPath) -> Result<(), MoveFault>
+    ensures { OnOk result (AreSeparate source.now target.now work.now) }
+{
+    test_pair(source, target)?;
+    test_pair(source, work)?;
+    test_pair(target, work)
+}
+
+fn test_pair(first: &FPath, second: &FPath) -> Result<(), MoveFault>
+    ensures { OnOk result (AreApart first.now second.now) }
+{
+    if first.starts_with(second) || second.starts_with(first) {
+        return Err(MoveFault::Overlap(first.copy()?, second.copy()?));
+    }
+    Ok(())
+}
+
+// The vault allows each name of these items: in a Cryptomator vault those in NFC.
+pub(crate) fn test_names(vault: &Vault, items: &[PlanItem]) -> Result<(), MoveFault>
+    ensures { OnOk result (AllowsEach (format_of vault.now.vault) items.now) }
+{
+    for item in items {
+        test_name(vault, &item.path)?;
+    }
+    Ok(())
+}
+
+// The vault allows the last name of a path.
+fn test_name(vault: &Vault, path: &PlainPath) -> Result<(), MoveFault>
+    ensures { OnOk result (AllowsLast (format_of vault.now.vault) path.now) }
+{
+    match path.names().split_last() {
+        Some((name, _)) => allow(vault, path, name),
+        None => Ok(()),
+    }
+}
+
+// The vault allows a name.
+fn allow(vault: &Vault, path: &PlainPath, name: &Name) -> Result<(), MoveFault>
+    ensures { OnOk result (Allows (format_of vault.now.vault) name.now) }
+{
+    if vault.kind() == VaultKind::Cryptomator && !name.is_nfc()? {
+        return Err(MoveFault::NotAllowed(path.copy()?));
+    }
+    Ok(())
+}

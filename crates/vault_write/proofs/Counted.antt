@@ -47,7 +47,7 @@ pub place_not_random : (fault : PutFault) (result : Result (Unit {0}) PutFault) 
 place_not_random fault result place is random = let same : fault ≡ puts.Random = cc in subst IsPlaceFault same place
 
 pub place_is_directory_fault : (fault : PutFault) → IsPlaceFault fault → IsDirectoryFault fault
-place_is_directory_fault (puts.Find fault) place = tt
+place_is_directory_fault (puts.Find fault) place = place
 place_is_directory_fault (puts.NotAllowed path) place = tt
 place_is_directory_fault (puts.Taken at) place = tt
 place_is_directory_fault (puts.Damaged at fault) place = absurd place

@@ -1,11 +1,12 @@
--- Which faults the calls answer.
+-- Which faults the calls answer. That the folder failed or memory was refused is told as such, and not as a path that isn't found.
 use Rattle.content_writing.specs.declared.fault.PutFault.{PutFault}
 use Rattle.content_writing.specs.declared.fault.PutFault.TheVariants as puts
+use Rattle.vault_read.specs.Contents.{IsOfPath}
 use Rattle.content_writing.specs.declared.fault.PutFault.TheVariants.{Find, Damaged, Limit, ZeroRandom, Random, Failed, NoMemory}
 
 -- the answers of `place_dir`
 abbrev pub IsDirectoryFault : PutFault → Type 0
-IsDirectoryFault (Find fault) = Unit {0}
+IsDirectoryFault (Find fault) = IsOfPath fault
 IsDirectoryFault (puts.NotAllowed path) = Unit {0}
 IsDirectoryFault (puts.Taken at) = Unit {0}
 IsDirectoryFault (Damaged at fault) = ⊥
@@ -18,7 +19,7 @@ IsDirectoryFault NoMemory = Unit {0}
 
 -- the answers of looking for the places of an item
 abbrev pub IsPlaceFault : PutFault → Type 0
-IsPlaceFault (Find fault) = Unit {0}
+IsPlaceFault (Find fault) = IsOfPath fault
 IsPlaceFault (puts.NotAllowed path) = Unit {0}
 IsPlaceFault (puts.Taken at) = Unit {0}
 IsPlaceFault (Damaged at fault) = ⊥

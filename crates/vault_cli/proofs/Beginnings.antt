@@ -1,25 +1,23 @@
 -- What a command did before it came to the making, and why it didn't come to it.
-use Rattle.std.proofs.Common.{◌≡◌, ◌⊎◌, ◌≤◌, ◌&&◌, not, ℕ, Bool, true, false, List, [], ◌∷◌, ◌++◌, append_assoc, codes, Option, Some, None, Result, Ok, Err, length, nat_le, inl, inr, refl, sym, ap, ◌∙◌, subst, arith, IsTrue}
+use Rattle.std.proofs.Common.{◌≡◌, ◌⊎◌, ◌&&◌, not, Bool, true, false, [], ◌∷◌, append_assoc, codes, Option, Some, None, Result, Ok, Err, inl, inr, refl, sym, ap, ◌∙◌, subst, arith, IsTrue}
 use Rattle.std.specs.Prelude.{is_some, is_none, ◌||◌}
-use Rattle.std.proofs.lemmas.Bool.{le-leb}
 use Rattle.folder_spec.specs.declared.FolderFault.{FolderFault}
 use Rattle.folder_spec.specs.Path.{Path, below}
 use Rattle.folder_spec.specs.State.{Table, State, present, IsTableOf, IsSound}
-use Rattle.folder_spec.specs.Event.{Event, Settle, Told, Steps, Changes, FromTo, changed}
+use Rattle.folder_spec.specs.Event.{Settle, Told, Steps, Changes, FromTo, changed}
 use Rattle.folder_spec.specs.Moments.{Went}
 use Rattle.folder_spec.specs.Region.{IsAsBefore, AlikeIn, Spares, apart_from, apart_from_both, at_or_below}
 use Rattle.folder_spec.specs.Seen.{IsSeen, seen, under}
-use Rattle.folder_spec.specs.View.{Found, FileOf, View, AgreeIn, found}
+use Rattle.folder_spec.specs.View.{View, AgreeIn, found}
 use Rattle.folder_spec.specs.Edit.{IsOutside, IsPartOf}
 use Rattle.folder_spec.proofs.Moments.{went_on, went_by_call, went_more, went_nowhere, went_to}
 use Rattle.folder_spec.proofs.Paths.{begins_or_not, below-append}
 use Rattle.folder_spec.proofs.Regions.{as_before, as_before_on}
 use Rattle.folder_spec.proofs.Tellings.{from_to_more, from_to_on, from_to_same}
-use Rattle.vault_spec.specs.Vault.{Vault, Loads, Either}
 use Rattle.port_model.specs.Draws.{ByteStream, Draws}
 use Rattle.vault_write.specs.Making.{is_apart, is_inside, is_unstaged}
 use Rattle.work_folder.specs.Entries.{stage_path}
-use Rattle.work_folder.specs.Changing.{ChangesAt, IsChangingAt, ChangesOnly}
+use Rattle.work_folder.specs.Changing.{ChangesAt}
 use Rattle.work_folder.specs.Entering.{EntersAs, IsWorkOrStage, IsLeftOver}
 use Rattle.work_folder.specs.Looking.{Gives}
 use Rattle.work_folder.specs.declared.fault.WorkFault.{WorkFault}
@@ -27,10 +25,7 @@ use Rattle.work_folder.specs.declared.fault.WorkFault.TheVariants.{NoParent, Wro
 use Rattle.vault_cli.specs.Beginning.{IsBeginning, ChangesWork, ChangesWorkAlone, EndsBefore}
 use Rattle.vault_cli.specs.Places.{overlap}
 use Rattle.vault_cli.specs.Faults.{of_work}
-use Rattle.vault_cli.specs.Opening.{OfPassFile, OfVault, passphrase_in}
-use Rattle.vault_cli.specs.Opening.{IsPhrase, Opens}
-use Rattle.vault_cli.specs.Refusing.{RefusesVault, RefusesWork}
-use Rattle.vault_cli.specs.Shown.{Shown, refused}
+use Rattle.vault_cli.specs.Refusing.{RefusesWork}
 use Rattle.vault_cli.specs.declared.answer.Answer.{Answer}
 use Rattle.vault_cli.specs.declared.answer.Answer.TheVariants.{OutOfMemory}
 

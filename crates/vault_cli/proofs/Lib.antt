@@ -5,10 +5,12 @@ mod Decryptions
 mod Executions
 mod Founding
 mod Listings
+mod MadeItems
 mod MadeVaults
 mod NamingLines
 mod Outcomes
 mod Refusals
 mod Repairs
 mod Showing
+mod Sites
 mod WholeFiles

@@ -1,5 +1,5 @@
 -- A new vault is made after the work folder was made ready.
-use Rattle.std.proofs.Common.{◌≡◌, ◌≢◌, ◌⊎◌, ◌<◌, ◌≤◌, ℕ, Bool, true, false, List, [], ◌∷◌, ◌++◌, Option, Some, None, Result, Ok, Err, OnOk, inl, inr, refl, sym, ap, ◌∙◌, subst, arith, IsTrue}
+use Rattle.std.proofs.Common.{◌≡◌, ◌≢◌, ◌⊎◌, ℕ, Bool, true, false, List, [], ◌∷◌, Option, Some, None, Result, Ok, Err, OnOk, inl, inr, refl, sym, ap, ◌∙◌, subst, arith, IsTrue}
 use Rattle.std.specs.Prelude.{is_none}
 use Rattle.content_writing.specs.declared.fault.PutFault.{PutFault}
 use Rattle.content_writing.specs.declared.fault.PutFault.TheVariants as puts
@@ -7,10 +7,10 @@ use Rattle.std.proofs.KnownBytes.{Keeps-refl}
 use Rattle.std.proofs.lemmas.Bool.{false≢true}
 use Rattle.folder_spec.specs.Path.{Part, Path, below, parent}
 use Rattle.folder_spec.specs.State.{State, IsSound}
-use Rattle.folder_spec.specs.Edit.{Edit, PublishesIn, HasPublishedIn, HasSettledIn}
+use Rattle.folder_spec.specs.Edit.{Edit, HasPublishedIn, HasSettledIn}
 use Rattle.folder_spec.specs.Event.{Event, Told, FromTo}
 use Rattle.folder_spec.specs.Moments.{Went, Moments}
-use Rattle.folder_spec.specs.Region.{IsAsBefore, Spares, apart_from, apart_from_both}
+use Rattle.folder_spec.specs.Region.{Spares, apart_from, apart_from_both}
 use Rattle.folder_spec.specs.View.{View, AgreeIn}
 use Rattle.folder_spec.specs.Seen.{IsSeen}
 use Rattle.folder_spec.proofs.Edits.{publishes_nothing, publishes_joined, published_joined, publishes_in_part, published_in_part, unchanged_present}
@@ -26,7 +26,7 @@ use Rattle.vault_write.specs.Making.{StagesOrPlaces, is_apart, is_unstaged}
 use Rattle.work_folder.specs.Entering.{EntersAs}
 use Rattle.vault_cli.proofs.Beginnings.{Begins, apart_of_both, apart_of_unstaged, as_before_in, as_before_then, begun_then, no_overlap, none_drawn, not_begun_at, seen_after, unchanged_work, unstaged, work_alone}
 use Rattle.vault_cli.proofs.Refusals.{pass_gives, pass_then, work_then}
-use Rattle.vault_cli.specs.Beginning.{IsBeginning, ChangesWork, ChangesWorkAlone, EndsBefore, RefusesOverlapping, is_of_beginning}
+use Rattle.vault_cli.specs.Beginning.{IsBeginning, ChangesWork, EndsBefore, RefusesOverlapping, is_of_beginning}
 use Rattle.vault_cli.specs.Places.{OfDirectory, OfMissing, overlap}
 use Rattle.vault_cli.specs.Faults.{answer_to_making}
 use Rattle.vault_cli.specs.Init.{FoundsAs, FoundsNew, FoundsVault, IsMakingVault, IsOfFounding, MakesVault, MakesVaultApart, DrawsVault, OfNewPlace, OfPlace, RefusesPlace, cost_of}

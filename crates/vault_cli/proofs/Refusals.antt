@@ -14,7 +14,7 @@ use Rattle.vault_read.specs.Laws.{HaveOneAnswer}
 use Rattle.vault_spec.specs.Vault.{Vault, LoadRefusal, Loads, Either}
 use Rattle.vault_spec.specs.Vault as vault
 use Rattle.work_folder.specs.Looking as work
-use Rattle.vault_cli.specs.Beginning.{OfWork}
+use Rattle.vault_cli.specs.Beginning.{OfSite, OfWork}
 use Rattle.vault_cli.specs.Faults.{of_work}
 use Rattle.vault_cli.specs.Opening.{IsPhrase, Opens, passphrase_in, OfPassFile, OfVault, OfOpened, answer_to_refusal}
 use Rattle.vault_cli.specs.Refusing.{Unless, RefusesPass, RefusesOpening, of_load}
@@ -24,6 +24,7 @@ use Rattle.vault_cli.specs.declared.answer.Answer.TheVariants.{OutOfMemory, Refu
 use Rattle.vault_cli.specs.declared.answer.Named.TheVariants as named
 use Rattle.vault_cli.specs.declared.answer.Refusal.TheVariants as refusal
 use Rattle.vault_cli.specs.declared.answer.Limit.TheVariants as limit
+use Rattle.vault_cli.specs.declared.words.Change.{Change}
 
 -- ---- what was seen of a passphrase's file
 
@@ -83,7 +84,7 @@ pass_then at Special shown P Q f x = x
 pass_then at (FileOf bytes) shown P Q f x =
     either (P (passphrase_in bytes)) (Q (passphrase_in bytes)) (shown ≡ refused (Limit limit.PassFile)) (nat_le (length bytes) 2048) (f (passphrase_in bytes)) x
 
-vault_by : (root : Path) (shown : Shown) (P Q : Vault → Type 0) (loaded : vault.Answer) → ((vault : Vault) → P vault → Q vault)
+pub vault_by : (root : Path) (shown : Shown) (P Q : Vault → Type 0) (loaded : vault.Answer) → ((vault : Vault) → P vault → Q vault)
     → MatchResult loaded P (λ refusal. shown ≡ refused (answer_to_refusal root refusal)) → MatchResult loaded Q (λ refusal. shown ≡ refused (answer_to_refusal root refusal))
 vault_by root shown P Q (Ok vault) f x = f vault x
 vault_by root shown P Q (Err refusal) f x = x
@@ -100,6 +101,11 @@ work_by at answer P Q (Err fault) f x = x
 pub work_then : (v : View) (at : Path) (answer : Answer) (P Q : Type 0) → (P → Q) → OfWork v at answer P → OfWork v at answer Q
 work_then v at answer P Q f of = (of.0, of.1, work_by at answer P Q of.0 f of.2)
 
+pub site_then : (change : Change) (v : View) (answer : Answer) (P Q : Vault → Type 0) → ((vault : Vault) → P vault → Q vault) → OfSite change v answer P → OfSite change v answer Q
+site_then change v answer P Q f x =
+    pass_then change.target.pass (v change.target.pass) (refused answer) _ _
+    (λ phrase of. work_then v change.work answer _ _ (λ loads. (loads.0, loads.1, vault_by change.target.vault (refused answer) P Q loads.0 f loads.2)) of) x
+
 pub pass_gives : (at : Path) (there : Found) (shown : Shown) (P : List ℕ → Type 0) (phrase : List ℕ) → IsPhrase there phrase → P phrase → OfPassFile at there shown P
 pass_gives at there shown P phrase is holds =
     subst (λ x. OfPassFile at x shown P) (sym is.1)
@@ -112,7 +118,7 @@ opened_gives v root pass shown P vault opens holds =
 
 -- ---- refusals
 
-unless_then : (P Q : Type 0) (answer : Answer) → (P → Q) → Unless answer P → Unless answer Q
+pub unless_then : (P Q : Type 0) (answer : Answer) → (P → Q) → Unless answer P → Unless answer Q
 unless_then P Q answer f (inl failed) = inl failed
 unless_then P Q answer f (inr (inl memory)) = inr (inl memory)
 unless_then P Q answer f (inr (inr x)) = inr (inr (f x))

@@ -1,19 +1,22 @@
 -- How a command that changes a vault begins: the vault and the work folder don't overlap, the passphrase is read, the folder is
 -- settled, and the work folder is made ready. The first test that fails is the answer.
-use Rattle.std.specs.Prelude.{◌≡◌, ◌⊎◌, ◌||◌, ℕ, Bool, true, false, List, [], IsTrue, Option, is_some, MatchResult}
-use Rattle.std.specs.Io.KnownBytes.{Keeps}
-use Rattle.folder_spec.specs.Path.{Path, below}
+use Rattle.std.specs.Prelude.{◌≡◌, ◌⊎◌, Bool, true, false, [], IsTrue, Option, MatchResult}
+use Rattle.folder_spec.specs.Path.{Path}
 use Rattle.folder_spec.specs.State.{State}
-use Rattle.folder_spec.specs.Event.{Event, Told}
+use Rattle.folder_spec.specs.Event.{Told}
 use Rattle.folder_spec.specs.Moments.{Moments}
 use Rattle.folder_spec.specs.Region.{IsAsBefore, Spares, apart_from}
 use Rattle.folder_spec.specs.View.{View}
 use Rattle.port_model.specs.Draws.{ByteStream, Draws}
+use Rattle.vault_spec.specs.Vault.{Vault}
 use Rattle.work_folder.specs.Entering.{EntersAs}
 use Rattle.work_folder.specs.Looking as work
 use Rattle.vault_cli.specs.Faults.{of_work}
+use Rattle.vault_cli.specs.Opening.{OfPassFile, OfVault}
+use Rattle.vault_cli.specs.Shown.{refused}
 use Rattle.vault_cli.specs.declared.answer.Answer.{Answer}
-use Rattle.vault_cli.specs.declared.answer.Answer.TheVariants.{Done, BadCommandLine, OutOfMemory, FolderFault, InputFault, OutputFault, RandomFault, Refused, WrongPass, NotFound, WrongKind, DamagedInput, Damaged, NotAllowed, Overlap, NotEmpty, Begun, ZeroRandom, Taken, Limit}
+use Rattle.vault_cli.specs.declared.answer.Answer.TheVariants.{OutOfMemory, FolderFault, Refused, WrongPass, NotFound, WrongKind, Overlap, NotEmpty, Begun, Limit}
+use Rattle.vault_cli.specs.declared.words.Change.{Change}
 
 -- overlapping folders are refused, and nothing comes of the call
 pub record RefusesOverlapping (vault work : Path) (answer : Answer) (told told' : Option Told) (stream stream' : Option ByteStream) : Type 0 where
@@ -24,6 +27,13 @@ pub record RefusesOverlapping (vault work : Path) (answer : Answer) (told told' 
 -- what follows where the work folder can be made ready, and else the answer is why it can't
 abbrev pub OfWork : View → Path → Answer → Type 0 → Type 0
 OfWork v at answer next = (entered : work.Answer) × EntersAs v at entered × MatchResult entered (λ done. next) (λ fault. answer ≡ of_work at fault)
+
+-- The tests of a command that changes an opened vault, behind that of overlapping folders, by what is seen at first: what follows of
+-- the vault, where all pass.
+abbrev pub OfSite : Change → View → Answer → (Vault → Type 0) → Type 0
+OfSite change v answer next =
+    OfPassFile change.target.pass (v change.target.pass) (refused answer) (λ phrase.
+    OfWork v change.work answer (OfVault v change.target.vault phrase (refused answer) next))
 
 -- whether a command may answer so before it makes anything outside the work folder
 abbrev pub is_of_beginning : Answer → Bool

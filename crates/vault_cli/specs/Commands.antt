@@ -12,7 +12,8 @@ use Rattle.vault_read.specs.declared.vault.VaultKind.{VaultKind}
 use Rattle.vault_read.specs.declared.vault.VaultKind.TheVariants.{Gocryptfs, Cryptomator}
 use Rattle.vault_cli.specs.Words.{Choice, Arguments, arguments_of, are_just, value_of}
 use Rattle.vault_cli.specs.declared.words.Command.{Command}
-use Rattle.vault_cli.specs.declared.words.Command.TheVariants.{DecryptFile, Init, Ls, Cat, Fsck, Repair}
+use Rattle.vault_cli.specs.declared.words.Command.TheVariants.{DecryptFile, Init, Ls, Cat, Fsck, Mkdir, Repair}
+use Rattle.vault_cli.specs.declared.words.Change.{Change}
 use Rattle.vault_cli.specs.declared.words.Checking.{Checking}
 use Rattle.vault_cli.specs.declared.words.Repairing.{Repairing}
 use Rattle.vault_cli.specs.declared.words.NewVault.{NewVault}
@@ -73,6 +74,22 @@ new_vault_at choices _ = None
 abbrev pub init_by : List Choice → List (List ℕ) → Option Command
 init_by choices positional = with_just pass_and_work choices (option_map Init (new_vault_at choices positional))
 
+abbrev pub change_by : Option Target → Option Path → Option Change
+change_by (Some target) (Some work) = Some (record { target = target; work = work })
+change_by _ _ = None
+
+-- `VAULT PATH --pass FILE --work WORK`
+abbrev pub change_of : List Choice → List ℕ → List ℕ → Option Change
+change_of choices vault path = change_by (target_of choices vault path) (file_of (codes "--work") choices)
+
+abbrev pub change_at : List Choice → List (List ℕ) → Option Change
+change_at choices (vault ∷ path ∷ []) = change_of choices vault path
+change_at choices _ = None
+
+-- `mkdir VAULT PATH --pass FILE --work WORK`
+abbrev pub mkdir_by : List Choice → List (List ℕ) → Option Command
+mkdir_by choices positional = with_just pass_and_work choices (option_map Mkdir (change_at choices positional))
+
 -- `ls VAULT [PATH] --pass FILE`; without PATH it is the root, which the empty text writes
 abbrev pub directory_at : List Choice → List (List ℕ) → Option Target
 directory_at choices (vault ∷ []) = target_of choices vault []
@@ -130,6 +147,7 @@ command_named name arguments =
     else if bytes_eq name (codes "ls") then ls_by arguments.choices arguments.positional
     else if bytes_eq name (codes "cat") then cat_by arguments.choices arguments.positional
     else if bytes_eq name (codes "fsck") then fsck_by arguments.choices arguments.positional
+    else if bytes_eq name (codes "mkdir") then mkdir_by arguments.choices arguments.positional
     else if bytes_eq name (codes "repair") then repair_by arguments.choices arguments.positional
     else None
 

@@ -1,16 +1,16 @@
 -- `init`: a new vault at a path where nothing stands.
-use Rattle.std.specs.Prelude.{◌≡◌, ◌⊎◌, ℕ, ◌≤◌, List, [], ◌∷◌, Result, Ok, Err, OnOk, Option, IsTrue}
+use Rattle.std.specs.Prelude.{◌≡◌, ◌⊎◌, ℕ, List, [], ◌∷◌, Result, OnOk, Option, IsTrue}
 use Rattle.std.specs.Io.KnownBytes.{Keeps}
 use Rattle.content_writing.specs.declared.fault.PutFault.{PutFault}
 use Rattle.cryptomator_conf.specs.declared.conf.CmDraw.{CmDraw}
-use Rattle.folder_spec.specs.Path.{Part, Path, parent}
+use Rattle.folder_spec.specs.Path.{Part, Path}
 use Rattle.folder_spec.specs.State.{State}
 use Rattle.folder_spec.specs.Edit.{Edit, PublishesIn, HasSettledIn}
-use Rattle.folder_spec.specs.Event.{Event, Told, FromTo}
+use Rattle.folder_spec.specs.Event.{Told, FromTo}
 use Rattle.folder_spec.specs.Moments.{Moments}
 use Rattle.folder_spec.specs.Region.{IsAsBefore, Spares, apart_from, apart_from_both}
 use Rattle.folder_spec.specs.Seen.{IsSeen}
-use Rattle.folder_spec.specs.View.{Found, NoEntry, Folder, FileOf, Special, View}
+use Rattle.folder_spec.specs.View.{View}
 use Rattle.folder_spec.specs.Written.{HoldFronts}
 use Rattle.gocrypt_conf.specs.declared.conf.GoDraw.{GoDraw}
 use Rattle.kdf_suite.specs.ScryptCost.{Cost}
@@ -29,8 +29,7 @@ use Rattle.vault_cli.specs.Refusing.{Unless}
 use Rattle.vault_cli.specs.Shown.{refused}
 use Rattle.vault_cli.specs.World.{World}
 use Rattle.vault_cli.specs.declared.answer.Answer.{Answer}
-use Rattle.vault_cli.specs.declared.answer.Answer.TheVariants.{Done, RandomFault, NotFound, WrongKind, NotEmpty, ZeroRandom}
-use Rattle.vault_cli.specs.declared.answer.Named.TheVariants as named
+use Rattle.vault_cli.specs.declared.answer.Answer.TheVariants.{Done, RandomFault, ZeroRandom}
 use Rattle.vault_cli.specs.declared.words.NewVault.{NewVault}
 
 -- the cost of scrypt in new vaults

@@ -19,4 +19,6 @@ pub mod World
 pub mod DecryptFile
 pub mod Beginning
 pub mod Init
+pub mod Items
+pub mod Mkdir
 pub mod Runs

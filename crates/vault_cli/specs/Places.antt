@@ -1,5 +1,5 @@
 -- Places of a folder that a command names: whether they overlap, and whether one is free.
-use Rattle.std.specs.Prelude.{◌≡◌, ◌||◌, ℕ, Bool, List, is_some}
+use Rattle.std.specs.Prelude.{◌≡◌, ◌||◌, Bool, is_some}
 use Rattle.folder_spec.specs.Path.{Path, below, parent}
 use Rattle.folder_spec.specs.View.{Found, NoEntry, Folder, FileOf, Special, View}
 use Rattle.vault_cli.specs.declared.answer.Answer.{Answer}

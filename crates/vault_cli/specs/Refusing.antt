@@ -5,7 +5,7 @@ use Rattle.folder_spec.specs.View.{Found, View}
 use Rattle.vault_read.specs.declared.fault.LoadFault.{LoadFault}
 use Rattle.vault_read.specs.declared.fault.LoadFault.TheVariants as load
 use Rattle.vault_spec.specs.Vault.{go_conf, vault_file}
-use Rattle.vault_cli.specs.Beginning.{OfWork}
+use Rattle.vault_cli.specs.Beginning.{OfSite, OfWork}
 use Rattle.vault_cli.specs.Opening.{OfPassFile, OfVault, OfOpened}
 use Rattle.vault_cli.specs.Shown.{refused}
 use Rattle.vault_cli.specs.declared.answer.Answer.{Answer}
@@ -13,6 +13,7 @@ use Rattle.vault_cli.specs.declared.answer.Answer.TheVariants.{OutOfMemory, Fold
 use Rattle.vault_cli.specs.declared.answer.Named.TheVariants as named
 use Rattle.vault_cli.specs.declared.answer.Refusal.TheVariants as refusal
 use Rattle.vault_cli.specs.declared.answer.Limit.TheVariants as limit
+use Rattle.vault_cli.specs.declared.words.Change.{Change}
 
 -- unless the folder failed or memory was refused
 abbrev pub Unless : Answer → Type 0 → Type 0
@@ -41,6 +42,10 @@ of_load root load.NoMemory = OutOfMemory
 
 abbrev pub RefusesLoad : Path → LoadFault → Answer → Type 0
 RefusesLoad root fault answer = (answer ≡ OutOfMemory) ⊎ (answer ≡ of_load root fault)
+
+-- why a vault isn't opened beside a work folder
+abbrev pub RefusesSite : Change → View → Answer → Type 0
+RefusesSite change v answer = Unless answer (OfSite change v answer (λ vault. ⊥))
 
 -- why a work folder isn't made ready
 abbrev pub RefusesWork : View → Path → Answer → Type 0

@@ -1,14 +1,14 @@
 -- `repair`: moving the strays of a vault into a folder of lost ones, where nothing stands.
-use Rattle.std.specs.Prelude.{◌≡◌, ◌⊎◌, ◌||◌, ℕ, Bool, true, false, List, [], ◌∷◌, ◌++◌, codes, is_some, Option, IsTrue}
+use Rattle.std.specs.Prelude.{◌≡◌, ◌⊎◌, ℕ, Bool, true, false, List, [], ◌∷◌, ◌++◌, codes, Option, IsTrue}
 use Rattle.std.specs.Io.KnownBytes.{Appends, Keeps}
 use Rattle.std.specs.List.{flat_map}
 use Rattle.port_model.specs.Told.{AppendsPrefix}
-use Rattle.folder_spec.specs.Path.{Path, below, parent}
+use Rattle.folder_spec.specs.Path.{Path}
 use Rattle.folder_spec.specs.Event.{Told, FromTo}
 use Rattle.folder_spec.specs.Image.{Image, IsImage}
 use Rattle.folder_spec.specs.Seen.{IsSeen, seen, under}
 use Rattle.folder_spec.specs.State.{HasNothingPending, IsSound, State}
-use Rattle.folder_spec.specs.View.{Found, NoEntry, Folder, FileOf, Special, View, view_of}
+use Rattle.folder_spec.specs.View.{View, view_of}
 use Rattle.plain_tree.specs.Shown.{shown_path}
 use Rattle.vault_read.specs.Laws.{HasOwnFolders}
 use Rattle.vault_spec.specs.Adding.{OpensAs}
@@ -24,7 +24,6 @@ use Rattle.vault_cli.specs.Shown.{IsCutShort, is_of_opening, refused}
 use Rattle.vault_cli.specs.World.{World}
 use Rattle.vault_cli.specs.declared.answer.Answer.{Answer}
 use Rattle.vault_cli.specs.declared.answer.Answer.TheVariants.{Done, OutOfMemory, OutputFault, Refused, WrongPass, NotFound, WrongKind, Overlap, NotEmpty, Limit}
-use Rattle.vault_cli.specs.declared.answer.Named.TheVariants as named
 use Rattle.vault_cli.specs.declared.answer.Limit.TheVariants as limit
 use Rattle.vault_cli.specs.declared.words.Repairing.{Repairing}
 

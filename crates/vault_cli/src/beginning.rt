@@ -7,16 +7,54 @@ ghost use Rattle.work_folder.specs.Entering.{EntersAs, IsReady};
 ghost use Rattle.vault_cli.specs.Beginning.{is_of_beginning, ChangesWork};
 ghost use Rattle.vault_cli.specs.Places.{overlap};
 ghost use Rattle.vault_cli.specs.Faults.{of_work};
-ghost use Rattle.vault_cli.specs.Opening.{IsPhrase};
-ghost use Rattle.vault_cli.specs.Refusing.{RefusesPass, RefusesWork};
+ghost use Rattle.vault_cli.specs.Opening.{IsPhrase, Opens};
+ghost use Rattle.vault_cli.specs.Refusing.{RefusesPass, RefusesSite, RefusesWork};
+ghost use Rattle.vault_write.specs.Placing.{MayMake};
 
 use crate::answer::{Answer, Limit, Named};
-use crate::opening::read_pass;
+use crate::opening::{load, read_pass};
 use crate::places::{do_overlap, overlapping};
+use crate::words::Change;
 use folder_model::{FPath, Folder};
+use folder_spec::laws::roots_show_their_own;
 use std::alloc::Global;
 use text_model::Bytes;
+use vault_read::Vault;
 use work_folder::{Work, WorkFault};
+
+/// An opened vault that is to be changed, and a work folder that is ready.
+#[derive(Drop)]
+pub(crate) struct Site {
+    pub(crate) work: Work,
+    pub(crate) vault: Vault,
+}
+
+/// Makes the work folder of a change ready, and opens the vault.
+pub(crate) fn begin<F: Folder>(
+    alloc: Global,
+    change: &Change,
+    folder: &mut F,
+) -> Result<Site, Answer>
+    ensures work { IfOk result (λ site. site.work ≡ change.now.work) }
+    ensures root { IfOk result (λ site. site.vault.root ≡ change.now.target.vault) }
+    ensures opened { IfOk result (λ site. (v : View) → IsSeen (F.told folder.old) v → Opens v change.now.target.vault change.now.target.pass site.vault.vault) }
+    ensures may { IfOk result (λ site. MayMake (F.told folder.new) site.work site.vault.root) }
+    ensures entered { IfOk result (λ site. (v : View) → IsSeen (F.told folder.old) v → EntersAs v change.now.work (Ok tt)) }
+    ensures apart { IfOk result (λ site. overlap change.now.target.vault change.now.work ≡ false) }
+    ensures overlapping { IfErr result (λ answer. overlap change.now.target.vault change.now.work ≡ true → ((answer ≡ Answer.Overlap change.now.target.vault change.now.work) ⊎ (answer ≡ Answer.OutOfMemory)) × (F.told folder.new ≡ F.told folder.old)) }
+    ensures refused { IfErr result (λ answer. overlap change.now.target.vault change.now.work ≡ false → (v : View) → IsSeen (F.told folder.old) v → RefusesSite change.now v answer) }
+    ensures own { IfErr result (λ answer. overlap change.now.target.vault change.now.work ≡ false → IsTrue (is_of_beginning answer)) }
+    ensures moments { ChangesWork change.now.work (F.told folder.old) (F.told folder.new) }
+    ensures grows { F.faults folder.old ≤ F.faults folder.new }
+    ensures failed { result ≡ Err Answer.FolderFault → CountRose (F.faults folder.old) (F.faults folder.new) }
+{
+    roots_show_their_own();
+    let target = &change.target;
+    let phrase = read_apart(alloc, folder, &target.vault, &change.work, &target.pass)?;
+    let work = enter_settled(folder, &change.work)?;
+    let vault = load(alloc, folder, &target.vault, phrase.as_slice())?;
+    Ok(Site { work, vault })
+}
 
 /// The passphrase in a file, for a vault and a work folder that don't overlap.
 pub(crate) fn read_apart<F: Folder>(

@@ -10,6 +10,7 @@ mod decrypt;
 mod fsck;
 mod init;
 mod ls;
+mod mkdir;
 mod opening;
 mod places;
 mod repair;
@@ -20,7 +21,7 @@ pub mod words;
 pub use answer::Answer;
 pub use reporting::report;
 pub use running::run;
-pub use words::{Checking, Command, NewVault, Repairing, Target};
+pub use words::{Change, Checking, Command, NewVault, Repairing, Target};
 
 #[cfg(test)]
 mod check_samples;

@@ -1,6 +1,7 @@
-//! Runs that make vaults.
-use crate::vault_tests::{answers_drawing, put};
-use folder_model::MemFolder;
+//! Runs that make vaults and directories.
+use crate::check_tests::vaults;
+use crate::vault_tests::{answers_drawing, put, runs, runs_drawing};
+use folder_model::{Folder, MemFolder, Pick};
 use std::alloc::Global;
 use std::process::Abort;
 use std::test::Fail;
@@ -150,4 +151,249 @@ fn vaults_are_refused(rt: HostRuntime) -> Result<(), Fail> {
 #[test]
 fn vaults_are_made(rt: HostRuntime) -> Result<(), Fail> {
     run_rows(&rt, rt.alloc(), MADE)
+}
+
+// The same with what the output takes.
+type LongRow = (&'static str, &'static [u8], u8, &'static str, &'static str);
+
+const EIGHTS: &[u8] = &[8; 16];
+
+const NINES: &[u8] = &[9; 16];
+
+// In vaults that other programs made. The longest names that are stored as they are, and the shortest long ones.
+const GO_ROWS: &[LongRow] = &[
+    (
+        "mkdir g n --pass p",
+        SEVENS,
+        2,
+        "",
+        "vaultmove: bad command line\n",
+    ),
+    (
+        "mkdir g n --pass nofile --work g/w",
+        SEVENS,
+        15,
+        "",
+        "vaultmove: folders overlap: g g/w\n",
+    ),
+    (
+        "mkdir nothing n --pass nofile --work w",
+        SEVENS,
+        10,
+        "",
+        "vaultmove: not found: nofile\n",
+    ),
+    (
+        "mkdir nothing n --pass p --work p",
+        SEVENS,
+        11,
+        "",
+        "vaultmove: wrong kind: p\n",
+    ),
+    (
+        "mkdir nothing n --pass p --work w",
+        SEVENS,
+        10,
+        "",
+        "vaultmove: not found: nothing\n",
+    ),
+    (
+        "mkdir g b/x --pass p --work w",
+        SEVENS,
+        10,
+        "",
+        "vaultmove: not found: b\n",
+    ),
+    (
+        "mkdir g a/x/y --pass p --work w",
+        SEVENS,
+        11,
+        "",
+        "vaultmove: wrong kind: a/x\n",
+    ),
+    (
+        "mkdir g  --pass p --work w",
+        SEVENS,
+        22,
+        "",
+        "vaultmove: place taken: g\n",
+    ),
+    (
+        "mkdir g a --pass p --work w",
+        SEVENS,
+        22,
+        "",
+        "vaultmove: place taken: g/feeHFbfuo7Ykusy8nDq_OQ\n",
+    ),
+    (
+        "mkdir g n --pass p --work w",
+        ZEROS,
+        21,
+        "",
+        "vaultmove: zero random bytes\n",
+    ),
+    (
+        "mkdir g n --pass p --work w",
+        b"",
+        7,
+        "",
+        "vaultmove: random fault\n",
+    ),
+    ("mkdir g n --pass p --work w", SEVENS, 0, "", ""),
+    ("mkdir g n/e\\xcc\\x81 --pass p --work w", SEVENS, 0, "", ""),
+    (
+        "mkdir g n/nnnnnnnnnnnnnnnnnnnnnnnnnnnnnnnnnnnnnnnnnnnnnnnnnnnnnnnnnnnnnnnnnnnnnnnnnnnnnnnnnnnnnnnnnnnnnnnnnnnnnnnnnnnnnnnnnnnnnnnnnnnnnnnnnnnnnnnnnnnnnnnnnnnnnnnnnnnnnnnnnnnnnnnnnnnnnnn --pass p --work w",
+        SEVENS,
+        0,
+        "",
+        "",
+    ),
+    (
+        "mkdir g n/nnnnnnnnnnnnnnnnnnnnnnnnnnnnnnnnnnnnnnnnnnnnnnnnnnnnnnnnnnnnnnnnnnnnnnnnnnnnnnnnnnnnnnnnnnnnnnnnnnnnnnnnnnnnnnnnnnnnnnnnnnnnnnnnnnnnnnnnnnnnnnnnnnnnnnnnnnnnnnnnnnnnnnnnnnnnnnnn --pass p --work w",
+        SEVENS,
+        0,
+        "",
+        "",
+    ),
+    (
+        "mkdir g n/nnnnnnnnnnnnnnnnnnnnnnnnnnnnnnnnnnnnnnnnnnnnnnnnnnnnnnnnnnnnnnnnnnnnnnnnnnnnnnnnnnnnnnnnnnnnnnnnnnnnnnnnnnnnnnnnnnnnnnnnnnnnnnnnnnnnnnnnnnnnnnnnnnnnnnnnnnnnnnnnnnnnnnnnnnnnnnnn/m --pass p --work w",
+        SEVENS,
+        0,
+        "",
+        "",
+    ),
+    (
+        "ls g n/nnnnnnnnnnnnnnnnnnnnnnnnnnnnnnnnnnnnnnnnnnnnnnnnnnnnnnnnnnnnnnnnnnnnnnnnnnnnnnnnnnnnnnnnnnnnnnnnnnnnnnnnnnnnnnnnnnnnnnnnnnnnnnnnnnnnnnnnnnnnnnnnnnnnnnnnnnnnnnnnnnnnnnnnnnnnnnnn --pass p",
+        b"",
+        0,
+        "d m\n",
+        "",
+    ),
+    ("fsck g --pass p", b"", 0, "", ""),
+];
+
+const CM_ROWS: &[LongRow] = &[
+    (
+        "mkdir c e\\xcc\\x81 --pass p --work w",
+        SEVENS,
+        13,
+        "",
+        "vaultmove: name not allowed: e\u{301}\n",
+    ),
+    (
+        "mkdir c  --pass p --work w",
+        SEVENS,
+        22,
+        "",
+        "vaultmove: place taken: c\n",
+    ),
+    (
+        "mkdir c n --pass p --work w",
+        b"",
+        7,
+        "",
+        "vaultmove: random fault\n",
+    ),
+    ("mkdir c n --pass p --work w", SEVENS, 0, "", ""),
+    (
+        "mkdir c n/nnnnnnnnnnnnnnnnnnnnnnnnnnnnnnnnnnnnnnnnnnnnnnnnnnnnnnnnnnnnnnnnnnnnnnnnnnnnnnnnnnnnnnnnnnnnnnnnnnnnnnnnnnnnnnnnnnnnnnnnnnnnnnnnnnnnnnnnnnnnnnnnnn --pass p --work w",
+        EIGHTS,
+        0,
+        "",
+        "",
+    ),
+    (
+        "mkdir c n/nnnnnnnnnnnnnnnnnnnnnnnnnnnnnnnnnnnnnnnnnnnnnnnnnnnnnnnnnnnnnnnnnnnnnnnnnnnnnnnnnnnnnnnnnnnnnnnnnnnnnnnnnnnnnnnnnnnnnnnnnnnnnnnnnnnnnnnnnnnnnnnnnnn --pass p --work w",
+        NINES,
+        0,
+        "",
+        "",
+    ),
+    (
+        "mkdir c n/nnnnnnnnnnnnnnnnnnnnnnnnnnnnnnnnnnnnnnnnnnnnnnnnnnnnnnnnnnnnnnnnnnnnnnnnnnnnnnnnnnnnnnnnnnnnnnnnnnnnnnnnnnnnnnnnnnnnnnnnnnnnnnnnnnnnnnnnnnnnnnnnnnn/m --pass p --work w",
+        ZEROS,
+        0,
+        "",
+        "",
+    ),
+    (
+        "ls c n/nnnnnnnnnnnnnnnnnnnnnnnnnnnnnnnnnnnnnnnnnnnnnnnnnnnnnnnnnnnnnnnnnnnnnnnnnnnnnnnnnnnnnnnnnnnnnnnnnnnnnnnnnnnnnnnnnnnnnnnnnnnnnnnnnnnnnnnnnnnnnnnnnnn --pass p",
+        b"",
+        0,
+        "d m\n",
+        "",
+    ),
+    ("fsck c --pass p", b"", 0, "", ""),
+];
+
+// Checks what runs over these vaults come to, one after the other.
+fn run_long_rows(rt: &impl Abort, alloc: Global, rows: &[LongRow]) -> Result<(), Fail> {
+    let mut folder = MemFolder::new(alloc)?;
+    vaults(alloc, &mut folder)?;
+    for (words, drawn, status, out, err) in rows {
+        answers_drawing(rt, alloc, &mut folder, words, drawn, *status, out, err)?;
+    }
+    Ok(())
+}
+
+#[test]
+fn directories_are_made_in_gocryptfs(rt: HostRuntime) -> Result<(), Fail> {
+    run_long_rows(&rt, rt.alloc(), GO_ROWS)
+}
+
+#[test]
+fn directories_are_made_in_cryptomator(rt: HostRuntime) -> Result<(), Fail> {
+    run_long_rows(&rt, rt.alloc(), CM_ROWS)
+}
+
+// The statuses of making a directory where a call fails, of making it again after a crash then, and of a check.
+fn after_crash(
+    alloc: Global,
+    words: &str,
+    check: &str,
+    call: u64,
+    table: usize,
+) -> Result<(u8, u8, u8), Fail> {
+    let mut folder = MemFolder::new(alloc)?;
+    vaults(alloc, &mut folder)?;
+    folder.settle()?;
+    folder.fail_at(call)?;
+    let (first, _) = runs_drawing(alloc, &mut folder, words, SEVENS, &[])?;
+    let pick = Pick {
+        table,
+        tail: Vec::new(alloc),
+    };
+    let mut folder = folder.crash(&pick)?;
+    let (again, _) = runs_drawing(alloc, &mut folder, words, EIGHTS, &[])?;
+    let (check, _) = runs(alloc, &mut folder, check, &[])?;
+    Ok((first, again, check))
+}
+
+// Each call that fails ends the command; then the directory is made again, or it was made, until no call fails.
+#[test]
+fn a_directory_that_fails_is_made_again(rt: HostRuntime) -> Result<(), Fail> {
+    let alloc = rt.alloc();
+    for (words, check) in [
+        (
+            "mkdir g mmmmmmmmmmmmmmmmmmmmmmmmmmmmmmmmmmmmmmmmmmmmmmmmmmmmmmmmmmmmmmmmmmmmmmmmmmmmmmmmmmmmmmmmmmmmmmmmmmmmmmmmmmmmmmmmmmmmmmmmmmmmmmmmmmmmmmmmmmmmmmmmmmmmmmmmmmmmmmmmmmmmmmmmmmmmmmmm --pass p --work w",
+            "fsck g --pass p",
+        ),
+        (
+            "mkdir c nnnnnnnnnnnnnnnnnnnnnnnnnnnnnnnnnnnnnnnnnnnnnnnnnnnnnnnnnnnnnnnnnnnnnnnnnnnnnnnnnnnnnnnnnnnnnnnnnnnnnnnnnnnnnnnnnnnnnnnnnnnnnnnnnnnnnnnnnnnnnnnnnnn --pass p --work w",
+            "fsck c --pass p",
+        ),
+    ] {
+        for table in [0, 100] {
+            for call in 1..100u64 {
+                let (first, again, checked) = after_crash(alloc, words, check, call, table)?;
+                if first == 0 {
+                    assert!(rt; call > 10);
+                    break;
+                }
+                assert_eq!(rt; (first, checked), (4, 0), "at {call}");
+                assert!(rt; again == 0 || again == 22, "at {call}");
+            }
+        }
+    }
+    Ok(())
 }

@@ -13,6 +13,7 @@ use crate::decrypt::decrypt_file;
 use crate::fsck::fsck;
 use crate::init::init;
 use crate::ls::ls;
+use crate::mkdir::mkdir;
 use crate::repair::repair;
 use crate::reporting::report;
 use crate::words::Command;
@@ -88,6 +89,7 @@ fn execute<F: Folder, R: Randoms, I: Source, O: Sink>(
         Ok(Some(Command::Ls(target))) => ls(alloc, &target, folder, out),
         Ok(Some(Command::Cat(target))) => cat(alloc, &target, folder, out),
         Ok(Some(Command::Fsck(target))) => fsck(alloc, &target, folder, out),
+        Ok(Some(Command::Mkdir(change))) => mkdir(alloc, &change, folder, random),
         Ok(Some(Command::Repair(target))) => repair(alloc, &target, folder, out),
     }
 }

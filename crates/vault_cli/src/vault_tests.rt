@@ -251,11 +251,22 @@ pub(crate) fn runs<F: Folder>(
     words: &str,
     fails: &[u64],
 ) -> Result<(u8, usize), Fail> {
+    runs_drawing(alloc, folder, words, &[], fails)
+}
+
+// The same of a run that may draw these bytes.
+pub(crate) fn runs_drawing<F: Folder>(
+    alloc: Global,
+    folder: &mut F,
+    words: &str,
+    drawn: &[u8],
+    fails: &[u64],
+) -> Result<(u8, usize), Fail> {
     let mut all = Vec::new(alloc);
     for word in words.split(' ') {
         all.push(String::from_str(alloc, word)?)?;
     }
-    let mut random = ListRandoms::new(Vec::new(alloc), Vec::new(alloc));
+    let mut random = ListRandoms::new(drawn.to_vec(alloc)?, Vec::new(alloc));
     let mut input = MemSource::new(Vec::new(alloc), Vec::new(alloc));
     let mut out = MemSink::new(alloc, 20_000, fails.to_vec(alloc)?)?;
     let mut err = MemSink::new(alloc, 1_000, Vec::new(alloc))?;

@@ -1,7 +1,7 @@
 //! The commands, and the words that make them.
 ghost use Rattle.std.specs.Prelude.{◌≡◌, IfOk, map, string_bytes};
 ghost use Rattle.plain_tree.specs.Reading.{read_path};
-ghost use Rattle.vault_cli.specs.Commands.{cat_by, checking_of, command_named, command_of, decrypt_file_by, file_of, folder_path, fsck_by, init_by, key_of, kind_of, ls_by, new_vault_of, repair_by, repairing_of, target_of};
+ghost use Rattle.vault_cli.specs.Commands.{cat_by, checking_of, command_named, command_of, change_of, decrypt_file_by, file_of, folder_path, fsck_by, init_by, key_of, kind_of, ls_by, mkdir_by, new_vault_of, repair_by, repairing_of, target_of};
 
 use crate::arguments::{Arguments, Choice, are_just, value_of};
 use folder_model::{FPath, FPathFault};
@@ -42,6 +42,13 @@ pub struct NewVault {
     pub work: FPath,
 }
 
+/// A plain path in a vault where something is to be made, and a work folder.
+#[derive(Debug, Drop)]
+pub struct Change {
+    pub target: Target,
+    pub work: FPath,
+}
+
 /// A command with its arguments.
 #[derive(Debug, Drop)]
 pub enum Command {
@@ -55,6 +62,8 @@ pub enum Command {
     Cat(Target),
     /// `fsck VAULT --pass FILE`: tells what is found in a vault.
     Fsck(Checking),
+    /// `mkdir VAULT PATH --pass FILE --work WORK`: makes a directory.
+    Mkdir(Change),
     /// `repair VAULT LOST --pass FILE`: moves the strays of a vault into a new folder.
     Repair(Repairing),
 }
@@ -96,6 +105,8 @@ fn named(
         cat(alloc, choices, positional)
     } else if name == "fsck" {
         fsck(alloc, choices, positional)
+    } else if name == "mkdir" {
+        mkdir(alloc, choices, positional)
     } else if name == "repair" {
         repair(alloc, choices, positional)
     } else {
@@ -192,6 +203,41 @@ fn repair(
         _ => None,
     };
     Ok(repairing.map(Command::Repair))
+}
+
+fn mkdir(
+    alloc: Global,
+    choices: &[Choice],
+    positional: &[Text],
+) -> Result<Option<Command>, AllocError>
+    ensures { IfOk result (λ command. command ≡ mkdir_by choices.now positional.now) }
+{
+    if !are_just(choices, &["--pass", "--work"]) {
+        return Ok(None);
+    }
+    let change = match positional {
+        [vault, path] => read_change(alloc, choices, vault.as_str(), path.as_str())?,
+        _ => None,
+    };
+    Ok(change.map(Command::Mkdir))
+}
+
+// What `VAULT PATH --pass FILE --work WORK` names.
+fn read_change(
+    alloc: Global,
+    choices: &[Choice],
+    vault: &str,
+    path: &str,
+) -> Result<Option<Change>, AllocError>
+    ensures { IfOk result (λ change. change ≡ change_of choices.now vault.now path.now) }
+{
+    let (Some(target), Some(work)) = (
+        read_target(alloc, choices, vault, path)?,
+        file_of(alloc, choices, "--work")?,
+    ) else {
+        return Ok(None);
+    };
+    Ok(Some(Change { target, work }))
 }
 
 // What `VAULT LOST --pass FILE` names.

@@ -1,4 +1,4 @@
-use Rattle.std.proofs.Common.{Ok, Err}
+use Rattle.std.proofs.Common.{Ok}
 use Rattle.vault_cli.proofs.Beginnings.{settled_from, entered_from, still_seen, work_refused}
 use Rattle.vault_cli.proofs.beginning.enter_settled.Goals as goal
 

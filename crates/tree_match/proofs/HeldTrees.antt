@@ -278,7 +278,7 @@ tells_tree plans v a walk = record {
       let p : (y : Planned) × (placed a.root y ≡ x) × IsPlanned (format_of a.vault) (under a.root v) y = planned v a walk x among in
       subst (λ (z : Planned). guard.node_of (tree (format_of a.vault) (under a.root v) z.path) ≡ Some z.node) p.1
       (node_opens (format_of a.vault) (under a.root v) p.0 p.2.node (λ none.
-          ((items.items x.path).0 (contains_mapped (λ (item : Planned). item.path) a.items x among)).1 (ap (λ (z : Planned). tree (format_of a.vault) (under a.root v) z.path) (sym p.1) ∙ none)));
+      ((items.items x.path).0 (contains_mapped (λ (item : Planned). item.path) a.items x among)).1 (ap (λ (z : Planned). tree (format_of a.vault) (under a.root v) z.path) (sym p.1) ∙ none)));
 }
   where
     items : AreItems (tree (format_of a.vault) (under a.root v)) (paths_of a.items)

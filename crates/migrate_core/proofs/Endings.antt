@@ -1,5 +1,5 @@
 -- Ending a migration: that the target holds all that the source held, and what writing so in the journal does.
-use Rattle.std.proofs.Common.{◌≡◌, ◌≢◌, ℕ, List, ◌∷◌, [], Option, Some, None, Result, Ok, Err, IfOk, OnOk, refl, sym, ap, ◌∙◌, subst}
+use Rattle.std.proofs.Common.{◌≡◌, ◌≢◌, ℕ, List, ◌∷◌, [], length, Option, Some, None, Result, Ok, Err, IfOk, OnOk, refl, sym, ap, ◌∙◌, subst}
 use Rattle.folder_spec.specs.declared.FolderFault.{FolderFault}
 use Rattle.folder_spec.specs.Event.{Told, FromTo}
 use Rattle.folder_spec.specs.Path.{Path}
@@ -13,7 +13,7 @@ use Rattle.move_journal.specs.Journal.{IsJournal}
 use Rattle.move_journal.specs.Reading.{journal_path}
 use Rattle.move_journal.specs.Writing.{Writes, HasWritten}
 use Rattle.move_journal.specs.declared.journal.Journal.{Journal}
-use Rattle.move_journal.specs.declared.journal.Phase.TheVariants.{Building, Done}
+use Rattle.move_journal.specs.declared.journal.Phase.TheVariants as phase
 use Rattle.plain_tree.specs.Names as plain
 use Rattle.tree_match.specs.Alone.{Progress, Unbegun, Begun, Finished, IsAlone, IsIn, StaysGuarded}
 use Rattle.tree_match.specs.Comparing.{Is}
@@ -33,7 +33,9 @@ use Rattle.migrate_core.proofs.Leadings.{if_ok}
 use Rattle.migrate_core.proofs.Movings.{AreSound, moves_to, source_beside, turned_over, under_stays}
 use Rattle.migrate_core.proofs.Planned.{SeenAlone, seen_of, source_held, source_walk, walk_of}
 use Rattle.migrate_core.specs.Leading.{FinishesFrom, Goes, Leads, progress_of}
-use Rattle.migrate_core.specs.Moved.{HasMoved, HaveOneTree, Moved, MovesTree, StandsIn, done_of, opened_in}
+use Rattle.vault_walk.specs.Surveyed.{IsPlanOf}
+use Rattle.migrate_core.specs.declared.placing.Done.{Done}
+use Rattle.migrate_core.specs.Moved.{HasMoved, HasPlaced, HaveOneTree, Moved, MovesTree, Placed, StandsIn, done_of, lacking, opened_in}
 use Rattle.migrate_core.specs.Moving.{MovesOnly}
 use Rattle.migrate_core.specs.Sides.{AreSeparate, AreSides, IsWalked, opened_at, side_of}
 
@@ -119,15 +121,15 @@ says_already g t u result is = (
 )
 
 abbrev pub JournalFinishes : Type 0
-JournalFinishes = (g : Migration) (j : Journal) (a b : Told) → IsAlone g Begun a.state → HoldsAll g (seen a.state) → IsJournal j → j.phase ≡ Done → Tells g j
+JournalFinishes = (g : Migration) (j : Journal) (a b : Told) → IsAlone g Begun a.state → HoldsAll g (seen a.state) → IsJournal j → j.phase ≡ phase.Done → Tells g j
     → Writes g.work j (Some a) (Some b) → StaysGuarded g a b
 
 abbrev pub JournalFinished : Type 0
-JournalFinished = (g : Migration) (j : Journal) (a b : Told) → IsAlone g Begun a.state → HoldsAll g (seen a.state) → IsJournal j → j.phase ≡ Done → Tells g j
+JournalFinished = (g : Migration) (j : Journal) (a b : Told) → IsAlone g Begun a.state → HoldsAll g (seen a.state) → IsJournal j → j.phase ≡ phase.Done → Tells g j
     → IsSound b.state → Writes g.work j (Some a) (Some b) → HasWritten g.work j (Some a) (Some b) → IsAlone g Finished b.state
 
 -- a journal that says so is written
-pub says_done : JournalFinishes → JournalFinished → (g : Migration) (j : Journal) (t u : Option Told) (result : Result (Unit {0}) FolderFault) → IsJournal j → j.phase ≡ Done → Tells g j → AreSound u
+pub says_done : JournalFinishes → JournalFinished → (g : Migration) (j : Journal) (t u : Option Told) (result : Result (Unit {0}) FolderFault) → IsJournal j → j.phase ≡ phase.Done → Tells g j → AreSound u
     → Writes g.work j t u → OnOk result (HasWritten g.work j t u) → FinishesFrom g Begun t u result
 says_done finishes finished g j (Some a) (Some b) result is phase tells sound writes written = (λ at holds. finishes g j a b at holds is phase tells writes, then_ result written)
   where
@@ -158,7 +160,7 @@ finishes_goes {T = T} {E = E} g p t u result holds h = (
     then_ (Err fault) leads = tt
 
 -- whatever writing it answers, of a journal that doesn't say so yet
-pub says_done_here : JournalFinishes → JournalFinished → (g : Migration) (work : Path) (j : Journal) (t u : Option Told) (result : Result (Unit {0}) FolderFault) → work ≡ g.work → IsJournal j → j.phase ≡ Building → Tells g j
+pub says_done_here : JournalFinishes → JournalFinished → (g : Migration) (work : Path) (j : Journal) (t u : Option Told) (result : Result (Unit {0}) FolderFault) → work ≡ g.work → IsJournal j → j.phase ≡ phase.Building → Tells g j
     → AreSound u → Writes work (done_of j) t u → OnOk result (HasWritten work (done_of j) t u) → FinishesFrom g (progress_of j.phase) t u result
 says_done_here finishes finished g work j t u result same is phase tells sound writes written =
     subst (λ p. FinishesFrom g (progress_of p) t u result) (sym phase)
@@ -196,8 +198,8 @@ pub has_moved : HeldIsPart → SameIsPart → (from to : OpenedVault) (work : Pa
     → IsJournal journal → journal.source ≡ from.root → journal.target ≡ to.root → IsWalked t from items → IsWalked t to others
     → ((v : View) → IsSeen t v → match_of v (side_of from items) (side_of to others) ≡ Is Same)
     → MovesOnly work to.root t u → MovesOnly work from.root t u → ((v : View) → IsSeen u v → StandsIn work (done_of journal) v)
-    → (v : View) → IsSeen u v → HasMoved from to work v
-has_moved held_part same_part from to work items others journal (Some a) (Some b) separate sound is source target walked walked_target same beside_target beside_source says v seen_is =
+    → (count : ℕ) → count ≡ length others → (v : View) → IsSeen u v → HasMoved from to work count v
+has_moved held_part same_part from to work items others journal (Some a) (Some b) separate sound is source target walked walked_target same beside_target beside_source says count counted v seen_is =
     record {
       source = subst (IsClean (format_of from.vault)) (sym from_same) (walked.clean w refl);
       target = subst (IsClean (format_of to.vault)) (sym to_same) (walked_target.clean w refl);
@@ -205,6 +207,8 @@ has_moved held_part same_part from to work items others journal (Some a) (Some b
           ap (λ x. tree (format_of to.vault) x path) to_same
           ∙ one_tree held_part same_part from to items others (Some a) walked walked_target same w refl (subst (HasOwnFolders from.vault) from_same own) (subst (HasOwnFolders to.vault) to_same own_target) path named
           ∙ ap (λ x. tree (format_of from.vault) x path) (sym from_same);
+      items = λ own.
+          (others, subst (λ x. IsPlanOf to.root (format_of to.vault) x others) (sym to_same) (walked_target.plan w refl (subst (HasOwnFolders to.vault) to_same own)), counted);
       says = record { journal = done_of journal; is = done_is journal is; phase = refl; source = source; target = target; stands = says v seen_is };
     }
   where
@@ -218,9 +222,9 @@ has_moved held_part same_part from to work items others journal (Some a) (Some b
     to_same : under to.root v ≡ under to.root w
     to_same = ap (under to.root) seen_is ∙ under_stays (apart_from_both work from.root) to.root a.state b.state (sound a refl) (λ rest. source_beside to.root from.root work rest (turned_over from.root to.root work separate))
         (moves_to (apart_from_both work from.root) from.root (Some a) (Some b) beside_source)
-has_moved held_part same_part from to work items others journal None None separate sound is source target walked walked_target same beside_target beside_source says v seen_is = absurd seen_is
-has_moved held_part same_part from to work items others journal None (Some b) separate sound is source target walked walked_target same beside_target beside_source says v seen_is = absurd beside_target
-has_moved held_part same_part from to work items others journal (Some a) None separate sound is source target walked walked_target same beside_target beside_source says v seen_is = absurd seen_is
+has_moved held_part same_part from to work items others journal None None separate sound is source target walked walked_target same beside_target beside_source says count counted v seen_is = absurd seen_is
+has_moved held_part same_part from to work items others journal None (Some b) separate sound is source target walked walked_target same beside_target beside_source says count counted v seen_is = absurd beside_target
+has_moved held_part same_part from to work items others journal (Some a) None separate sound is source target walked walked_target same beside_target beside_source says count counted v seen_is = absurd seen_is
 
 -- after it is written that all is done, that stands
 pub written_stands : (work : Path) (j : Journal) (t u : Option Told) → HasWritten work j t u → (v : View) → IsSeen u v → StandsIn work j v
@@ -235,28 +239,36 @@ written_stands work j None (Some b) written v is = absurd written
 opened_is : (x : OpenedVault) (root : Path) → x.root ≡ root → x ≡ opened_in root x.vault
 opened_is x root is = ap (λ r. opened_in r x.vault) is
 
-pub tree_moved : {T E : Type 0} (from to work : Path) (from_pass to_pass : List ℕ) (source target : OpenedVault) (t u : Option Told) (result : Result T E) → source.root ≡ from → target.root ≡ to
+pub tree_moved : {E : Type 0} (from to work : Path) (from_pass to_pass : List ℕ) (source target : OpenedVault) (t u : Option Told) (result : Result Done E) → source.root ≡ from → target.root ≡ to
     → ((v : View) → IsSeen t v → IsVault (under from v) from_pass source.vault) → ((v : View) → IsSeen t v → IsVault (under to v) to_pass target.vault)
-    → Moved source target work u result → IfOk result (λ done. MovesTree from to work from_pass to_pass t u)
-tree_moved from to work from_pass to_pass source target t u (Ok value) source_at target_at opens opens_target moved = record {
+    → Placed source target t result → Moved source target work u result → IfOk result (λ done. MovesTree from to work from_pass to_pass done t u)
+tree_moved from to work from_pass to_pass source target t u (Ok done) source_at target_at opens opens_target placed moved = record {
   source = source.vault;
   target = target.vault;
   opens_source = opens;
   opens_target = opens_target;
-  moved = λ v is. subst (λ x. HasMoved x (opened_in to target.vault) work v) (opened_is source from source_at) (subst (λ y. HasMoved source y work v) (opened_is target to target_at) (moved v is));
+  placed = λ v is. subst (λ x. HasPlaced x (opened_in to target.vault) done.placed v) (opened_is source from source_at) (subst (λ y. HasPlaced source y done.placed v) (opened_is target to target_at) (placed v is));
+  moved = λ v is. subst (λ x. HasMoved x (opened_in to target.vault) work done.items v) (opened_is source from source_at) (subst (λ y. HasMoved source y work done.items v) (opened_is target to target_at) (moved v is));
 }
-tree_moved from to work from_pass to_pass source target t u (Err fault) source_at target_at opens opens_target moved = tt
+tree_moved from to work from_pass to_pass source target t u (Err fault) source_at target_at opens opens_target placed moved = tt
 
 -- what is seen at first is seen where the vaults are opened
-pub moved_before : (from to work : Path) (from_pass to_pass : List ℕ) (t0 t u : Option Told) → ((v : View) → IsSeen t0 v → IsSeen t v) → MovesTree from to work from_pass to_pass t u → MovesTree from to work from_pass to_pass t0 u
-moved_before from to work from_pass to_pass t0 t u before moves = record {
+pub moved_before : (from to work : Path) (from_pass to_pass : List ℕ) (done : Done) (t0 t u : Option Told) → ((v : View) → IsSeen t0 v → IsSeen t v) → MovesTree from to work from_pass to_pass done t u → MovesTree from to work from_pass to_pass done t0 u
+moved_before from to work from_pass to_pass done t0 t u before moves = record {
   source = moves.source;
   target = moves.target;
   opens_source = λ v is. moves.opens_source v (before v is);
   opens_target = λ v is. moves.opens_target v (before v is);
+  placed = λ v is. moves.placed v (before v is);
   moved = moves.moved;
 }
 
-pub if_ok_more : {T E : Type 0} (P Q : Type 0) (result : Result T E) → (P → Q) → IfOk result (λ value. P) → IfOk result (λ value. Q)
-if_ok_more P Q (Ok value) more h = more h
+pub if_ok_more : {T E : Type 0} (P Q : T → Type 0) (result : Result T E) → ((value : T) → P value → Q value) → IfOk result P → IfOk result Q
+if_ok_more P Q (Ok value) more h = more value h
 if_ok_more P Q (Err fault) more h = tt
+
+-- of two walks, so many items were placed
+pub placed_of : {E : Type 0} (from to : OpenedVault) (items there : List Planned) (t : Option Told) (result : Result Done E) → IsWalked t from items → IsWalked t to there
+    → IfOk result (λ done. (v : View) → IsSeen t v → done.placed ≡ lacking there items) → Placed from to t result
+placed_of from to items there t (Ok done) walked walked_target placed = λ v is own own_target. (items, there, walked.plan v is own, walked_target.plan v is own_target, placed v is)
+placed_of from to items there t (Err fault) walked walked_target placed = tt

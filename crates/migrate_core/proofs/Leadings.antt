@@ -83,3 +83,10 @@ seen_before S (Some a) (Some b) told v is = (seen a.state, refl)
 seen_before S None None told v is = absurd is
 seen_before S (Some a) None told v is = absurd is
 seen_before S None (Some b) told v is = absurd told
+
+-- what is known where something is seen afterwards is known where something was seen before
+pub then_known : (S : Told → Told → Type 0) (t u : Option Told) → FromTo S t u → (X : Type 0) → ((v : View) → IsSeen u v → X) → (v : View) → IsSeen t v → X
+then_known S (Some a) (Some b) told X known v is = known (seen b.state) refl
+then_known S None None told X known v is = absurd is
+then_known S (Some a) None told X known v is = absurd told
+then_known S None (Some b) told X known v is = absurd is

@@ -1,5 +1,6 @@
 -- What is so once a migration is done.
-use Rattle.std.specs.Prelude.{◌≡◌, ◌≢◌, ℕ, List, [], Option, Result, IfOk}
+use Rattle.std.specs.Prelude.{◌≡◌, ◌≢◌, ℕ, Bool, not, is_some, List, [], length, Option, Result, IfOk}
+use Rattle.std.specs.List.{filter}
 use Rattle.folder_spec.specs.Path.{Path}
 use Rattle.folder_spec.specs.Event.{Told}
 use Rattle.folder_spec.specs.Seen.{IsSeen, under}
@@ -7,13 +8,17 @@ use Rattle.folder_spec.specs.View.{FileOf, View}
 use Rattle.move_journal.specs.Journal.{IsJournal, journal_text}
 use Rattle.move_journal.specs.Reading.{journal_path}
 use Rattle.move_journal.specs.declared.journal.Journal.{Journal}
-use Rattle.move_journal.specs.declared.journal.Phase.TheVariants.{Done}
+use Rattle.move_journal.specs.declared.journal.Phase.TheVariants as phase
 use Rattle.plain_tree.specs.Names as plain
+use Rattle.tree_match.specs.Matching.{item_with}
 use Rattle.vault_read.specs.Laws.{HasOwnFolders}
 use Rattle.vault_read.specs.Opened.{OpenedVault}
 use Rattle.vault_spec.specs.Findings.{IsClean}
 use Rattle.vault_spec.specs.Opens.{tree}
+use Rattle.vault_spec.specs.Plan.{Planned}
 use Rattle.vault_spec.specs.Vault.{Vault, IsVault, format_of}
+use Rattle.vault_walk.specs.Surveyed.{IsPlanOf}
+use Rattle.migrate_core.specs.declared.placing.Done.{Done}
 
 -- where no two directories of either vault share a folder, both open the same at each plain path
 abbrev pub HaveOneTree : OpenedVault → OpenedVault → View → Type 0
@@ -22,7 +27,7 @@ HaveOneTree from to v = HasOwnFolders from.vault (under from.root v) → HasOwnF
 
 -- the journal that says that all is done
 abbrev pub done_of : Journal → Journal
-done_of j = record { phase = Done; source = j.source; target = j.target; items = j.items; plan = j.plan }
+done_of j = record { phase = phase.Done; source = j.source; target = j.target; items = j.items; plan = j.plan }
 
 -- it stands in the work folder
 abbrev pub StandsIn : Path → Journal → View → Type 0
@@ -32,29 +37,51 @@ StandsIn work journal v = v (journal_path work) ≡ FileOf (journal_text journal
 pub record SaysDone (from to work : Path) (v : View) : Type 0 where
   pub journal : Journal
   pub is : IsJournal journal
-  pub phase : journal.phase ≡ Done
+  pub phase : journal.phase ≡ phase.Done
   pub source : journal.source ≡ from
   pub target : journal.target ≡ to
   pub stands : StandsIn work journal v
 
--- both vaults are clean and have one tree, and the journal says so
-pub record HasMoved (from to : OpenedVault) (work : Path) (v : View) : Type 0 where
+-- it has so many items, where no two of its directories share a folder
+abbrev pub HasItems : OpenedVault → ℕ → View → Type 0
+HasItems a count v = HasOwnFolders a.vault (under a.root v) → (items : List Planned) × IsPlanOf a.root (format_of a.vault) (under a.root v) items × (count ≡ length items)
+
+-- both vaults are clean and have one tree, of so many items, and the journal says so
+pub record HasMoved (from to : OpenedVault) (work : Path) (count : ℕ) (v : View) : Type 0 where
   pub source : IsClean (format_of from.vault) (under from.root v)
   pub target : IsClean (format_of to.vault) (under to.root v)
   pub trees : HaveOneTree from to v
+  pub items : HasItems to count v
   pub says : SaysDone from.root to.root work v
 
--- after Ok
-abbrev pub Moved : {T E : Type 0} → OpenedVault → OpenedVault → Path → Option Told → Result T E → Type 0
-Moved from to work told result = IfOk result (λ value. (v : View) → IsSeen told v → HasMoved from to work v)
+-- whether one of these has the item's path
+abbrev pub is_there : List Planned → Planned → Bool
+is_there there item = is_some (item_with item.path there)
+
+-- how many items have no path among these
+abbrev pub lacking : List Planned → List Planned → ℕ
+lacking there items = length (filter (λ item. not (is_there there item)) items)
+
+-- after Ok, of so many items
+abbrev pub Moved : {E : Type 0} → OpenedVault → OpenedVault → Path → Option Told → Result Done E → Type 0
+Moved from to work told result = IfOk result (λ done. (v : View) → IsSeen told v → HasMoved from to work done.items v)
+
+-- so many items were placed as the second vault lacked of the first, where no two directories of either share a folder
+abbrev pub HasPlaced : OpenedVault → OpenedVault → ℕ → View → Type 0
+HasPlaced from to count v = HasOwnFolders from.vault (under from.root v) → HasOwnFolders to.vault (under to.root v)
+    → (items there : List Planned) × IsPlanOf from.root (format_of from.vault) (under from.root v) items × IsPlanOf to.root (format_of to.vault) (under to.root v) there × (count ≡ lacking there items)
+
+abbrev pub Placed : {E : Type 0} → OpenedVault → OpenedVault → Option Told → Result Done E → Type 0
+Placed from to told result = IfOk result (λ done. (v : View) → IsSeen told v → HasPlaced from to done.placed v)
 
 abbrev pub opened_in : Path → Vault → OpenedVault
 opened_in root vault = record { root = root; vault = vault }
 
 -- of the vaults that two roots and their passphrases are
-pub record MovesTree (from to work : Path) (from_pass to_pass : List ℕ) (told told' : Option Told) : Type 0 where
+pub record MovesTree (from to work : Path) (from_pass to_pass : List ℕ) (done : Done) (told told' : Option Told) : Type 0 where
   pub source : Vault
   pub target : Vault
   pub opens_source : (v : View) → IsSeen told v → IsVault (under from v) from_pass source
   pub opens_target : (v : View) → IsSeen told v → IsVault (under to v) to_pass target
-  pub moved : (v : View) → IsSeen told' v → HasMoved (opened_in from source) (opened_in to target) work v
+  pub placed : (v : View) → IsSeen told v → HasPlaced (opened_in from source) (opened_in to target) done.placed v
+  pub moved : (v : View) → IsSeen told' v → HasMoved (opened_in from source) (opened_in to target) work done.items v

@@ -1,11 +1,13 @@
 //! Beginning a migration.
 ghost use Rattle.std.specs.Prelude.{◌≡◌, [], IfOk, OnOk};
+ghost use Rattle.folder_spec.specs.Seen.{IsSeen};
+ghost use Rattle.folder_spec.specs.View.{View};
 ghost use Rattle.move_journal.specs.Journal.{IsParsed};
 ghost use Rattle.tree_match.specs.Alone.{Finished, Unbegun};
 ghost use Rattle.tree_match.specs.Guard.{Migration};
 ghost use Rattle.vault_spec.specs.Vault.{format_of};
 ghost use Rattle.migrate_core.specs.Leading.{KeepsGuarded, KeepsSettled, LeadsEach};
-ghost use Rattle.migrate_core.specs.Moved.{Moved, MovesTree};
+ghost use Rattle.migrate_core.specs.Moved.{Moved, MovesTree, Placed, lacking};
 ghost use Rattle.migrate_core.specs.Moving.{MovesOnly};
 ghost use Rattle.migrate_core.specs.Sides.{AllowsEach, AreSeparate, IsAsked, IsWalked};
 
@@ -42,7 +44,7 @@ pub fn begin<F: Folder, R: Randoms>(
 ) -> Result<Done, MoveFault>
     requires source { IsParsed source.now }
     requires target { IsParsed target.now }
-    ensures moved { IfOk result (λ done. MovesTree source.now target.now work.now source_pass.now target_pass.now (F.told folder.old) (F.told folder.new)) }
+    ensures moved { IfOk result (λ done. MovesTree source.now target.now work.now source_pass.now target_pass.now done (F.told folder.old) (F.told folder.new)) }
     ensures guard { (g : Migration) → IsAsked g source.now target.now work.now source_pass.now target_pass.now → KeepsGuarded g (F.told folder.old) (F.told folder.new) }
     ensures moves { MovesOnly work.now target.now (F.told folder.old) (F.told folder.new) }
 {
@@ -75,7 +77,7 @@ fn begin_settled<F: Folder, R: Randoms>(
     requires source { IsParsed source.now }
     requires target { IsParsed target.now }
     requires apart { AreSeparate source.now target.now work.now }
-    ensures moved { IfOk result (λ done. MovesTree source.now target.now work.now source_pass.now target_pass.now (F.told folder.old) (F.told folder.new)) }
+    ensures moved { IfOk result (λ done. MovesTree source.now target.now work.now source_pass.now target_pass.now done (F.told folder.old) (F.told folder.new)) }
     ensures guard { (g : Migration) → IsAsked g source.now target.now work.now source_pass.now target_pass.now → KeepsSettled g (F.told folder.old) (F.told folder.new) }
     ensures moves { MovesOnly work.now target.now (F.told folder.old) (F.told folder.new) }
 {
@@ -98,6 +100,7 @@ fn begin_with<F: Folder, R: Randoms>(
     requires target { IsParsed sides.now.target.root }
     requires apart { AreSeparate sides.now.source.root sides.now.target.root work.now }
     ensures moved { Moved sides.now.source sides.now.target work.now (F.told folder.new) result }
+    ensures placed { Placed sides.now.source sides.now.target (F.told folder.old) result }
     ensures guard { LeadsEach sides.now.source sides.now.target work.now Unbegun Finished (F.told folder.old) (F.told folder.new) result }
     ensures moves { MovesOnly work.now sides.now.target.root (F.told folder.old) (F.told folder.new) }
 {
@@ -132,6 +135,7 @@ fn move_all<F: Folder, R: Randoms>(
     requires walked { IsWalked (F.told folder.old) sides.now.source plan.now.items }
     requires allowed { AllowsEach (format_of sides.now.target.vault) plan.now.items }
     ensures moved { Moved sides.now.source sides.now.target work.now (F.told folder.new) result }
+    ensures placed { IfOk result (λ done. (v : View) → IsSeen (F.told folder.old) v → done.placed ≡ lacking [] plan.now.items) }
     ensures guard { LeadsEach sides.now.source sides.now.target work.now Unbegun Finished (F.told folder.old) (F.told folder.new) result }
     ensures moves { MovesOnly work.now sides.now.target.root (F.told folder.old) (F.told folder.new) }
 {

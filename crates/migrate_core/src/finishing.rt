@@ -1,5 +1,5 @@
 //! Ending a migration.
-ghost use Rattle.std.specs.Prelude.{◌≡◌, OnOk};
+ghost use Rattle.std.specs.Prelude.{◌≡◌, IfOk, OnOk};
 ghost use Rattle.folder_spec.specs.Path.{Path};
 ghost use Rattle.folder_spec.specs.Seen.{IsSeen};
 ghost use Rattle.folder_spec.specs.View.{View};
@@ -13,7 +13,7 @@ ghost use Rattle.tree_match.specs.declared.answer.Match.TheVariants.{Same};
 ghost use Rattle.vault_walk.specs.Survey.{IsOrdered};
 ghost use Rattle.work_folder.specs.Entering.{IsReady};
 ghost use Rattle.migrate_core.specs.Leading.{FinishesEach, LeadsTold, progress_of};
-ghost use Rattle.migrate_core.specs.Moved.{Moved, StandsIn, done_of};
+ghost use Rattle.migrate_core.specs.Moved.{Moved, StandsIn, done_of, lacking};
 ghost use Rattle.migrate_core.specs.Moving.{MovesOnly};
 ghost use Rattle.migrate_core.specs.Sides.{AreSeparate, IsWalked, StandAll, side_of};
 
@@ -52,6 +52,7 @@ pub(crate) fn go_on<F: Folder, R: Randoms>(
     requires source { journal.source ≡ sides.now.source.root }
     requires target { journal.target ≡ sides.now.target.root }
     ensures moved { Moved sides.now.source sides.now.target work.now (F.told folder.new) result }
+    ensures placed { IfOk result (λ done. (v : View) → IsSeen (F.told folder.old) v → done.placed ≡ lacking there.now source.now.items) }
     ensures building { journal.phase ≡ Phase.Building → LeadsTold sides.now.source sides.now.target work.now journal Begun Finished (F.told folder.old) (F.told folder.new) result }
     ensures done { journal.phase ≡ Phase.Done → StandAll source.now.items there.now → LeadsTold sides.now.source sides.now.target work.now journal Finished Finished (F.told folder.old) (F.told folder.new) result }
     ensures moves { MovesOnly work.now sides.now.target.root (F.told folder.old) (F.told folder.new) }
@@ -79,6 +80,7 @@ pub(crate) fn finish<F: Folder>(
     requires source { journal.source ≡ sides.now.source.root }
     requires target { journal.target ≡ sides.now.target.root }
     ensures moved { Moved sides.now.source sides.now.target work.now (F.told folder.new) result }
+    ensures placed { IfOk result (λ done. done.placed ≡ placed) }
     ensures guard { LeadsTold sides.now.source sides.now.target work.now journal (progress_of journal.phase) Finished (F.told folder.old) (F.told folder.new) result }
     ensures moves { MovesOnly work.now sides.now.target.root (F.told folder.old) (F.told folder.new) }
 {

@@ -1,5 +1,5 @@
 //! Placing the source's items in the target.
-ghost use Rattle.std.specs.Prelude.{◌≡◌, true, IfOk};
+ghost use Rattle.std.specs.Prelude.{◌≡◌, not, IfOk};
 ghost use Rattle.folder_spec.specs.Seen.{IsSeen};
 ghost use Rattle.folder_spec.specs.View.{View};
 ghost use Rattle.move_journal.specs.Journal.{IsDigest};
@@ -8,6 +8,7 @@ ghost use Rattle.vault_walk.specs.Survey.{IsOrdered};
 ghost use Rattle.vault_write.specs.Making.{is_apart};
 ghost use Rattle.work_folder.specs.Entering.{IsReady};
 ghost use Rattle.migrate_core.specs.Leading.{LeadsEach};
+ghost use Rattle.migrate_core.specs.Moved.{is_there, lacking};
 ghost use Rattle.migrate_core.specs.Moving.{MovesBeside};
 ghost use Rattle.migrate_core.specs.Sides.{AreSeparate, IsItemOf, IsWalked, StandAll, StandsIn, new_journal};
 
@@ -66,6 +67,7 @@ pub(crate) fn place_missing<F: Folder, R: Randoms>(
     ensures guard { LeadsEach sides.now.source sides.now.target work.now Begun Begun (F.told folder.old) (F.told folder.new) result }
     ensures moves { MovesBeside (is_apart work.now sides.now.target.root) sides.now.target.root (F.told folder.old) (F.told folder.new) }
     ensures none { StandAll items.now there.now → F.told folder.new ≡ F.told folder.old }
+    ensures counted { IfOk result (λ placed. IsOrdered there.now → placed ≡ lacking there.now items.now) }
 {
     let mut placed = 0;
     for item in items {
@@ -94,6 +96,7 @@ fn place_missing_one<F: Folder, R: Randoms>(
     ensures moves { MovesBeside (is_apart work.now sides.now.target.root) sides.now.target.root (F.told folder.old) (F.told folder.new) }
     ensures ready { IfOk result (λ placed. (v : View) → IsSeen (F.told folder.new) v → IsReady v work.now) }
     ensures none { StandsIn item.now there.now → F.told folder.new ≡ F.told folder.old }
+    ensures counted { IfOk result (λ placed. IsOrdered there.now → placed ≡ not (is_there there.now item.now)) }
 {
     if stands(there, item) {
         return Ok(false);
@@ -104,7 +107,7 @@ fn place_missing_one<F: Folder, R: Randoms>(
 
 // Whether one of these has the item's path.
 fn stands(there: &[PlanItem], item: &PlanItem) -> bool
-    ensures { IsOrdered there.now → StandsIn item.now there.now → result ≡ true }
+    ensures { IsOrdered there.now → result ≡ is_there there.now item.now }
 {
     there
         .binary_search_by(|other| other.path.cmp(&item.path))

@@ -7,7 +7,7 @@ ghost use Rattle.move_journal.specs.Reading.{journal_path};
 ghost use Rattle.tree_match.specs.Alone.{Finished};
 ghost use Rattle.tree_match.specs.Guard.{Migration};
 ghost use Rattle.migrate_core.specs.Leading.{KeepsGuarded, KeepsSettled, LeadsTold, progress_of};
-ghost use Rattle.migrate_core.specs.Moved.{Moved, MovesTree};
+ghost use Rattle.migrate_core.specs.Moved.{Moved, MovesTree, Placed, lacking};
 ghost use Rattle.migrate_core.specs.Moving.{MovesOnly};
 ghost use Rattle.migrate_core.specs.Sides.{AreSeparate, AreTold, IsInUse, IsResumed, IsWalked};
 
@@ -45,7 +45,7 @@ pub fn resume<F: Folder, R: Randoms>(
     ensures moves { (v : View) (journal : Journal) → IsSeen (F.told folder.old) v → IsJournal journal → v (journal_path work.now) ≡ FileOf (journal_text journal)
         → MovesOnly work.now journal.target (F.told folder.old) (F.told folder.new) }
     ensures moved { IfOk result (λ done. (v : View) (journal : Journal) → IsSeen (F.told folder.old) v → IsJournal journal → v (journal_path work.now) ≡ FileOf (journal_text journal)
-        → MovesTree journal.source journal.target work.now source_pass.now target_pass.now (F.told folder.old) (F.told folder.new)) }
+        → MovesTree journal.source journal.target work.now source_pass.now target_pass.now done (F.told folder.old) (F.told folder.new)) }
 {
     settling_and_entering_keep_migrations_guarded();
     folder.settle()?;
@@ -65,7 +65,7 @@ fn resume_settled<F: Folder, R: Randoms>(
     ensures moves { (v : View) (journal : Journal) → IsSeen (F.told folder.old) v → IsJournal journal → v (journal_path work.now) ≡ FileOf (journal_text journal)
         → MovesOnly work.now journal.target (F.told folder.old) (F.told folder.new) }
     ensures moved { IfOk result (λ done. (v : View) (journal : Journal) → IsSeen (F.told folder.old) v → IsJournal journal → v (journal_path work.now) ≡ FileOf (journal_text journal)
-        → MovesTree journal.source journal.target work.now source_pass.now target_pass.now (F.told folder.old) (F.told folder.new)) }
+        → MovesTree journal.source journal.target work.now source_pass.now target_pass.now done (F.told folder.old) (F.told folder.new)) }
 {
     journals_are_read_back();
     let journal = read(alloc, folder, work)?;
@@ -97,7 +97,7 @@ fn resume_told<F: Folder, R: Randoms>(
     requires used { (v : View) → IsSeen (F.told folder.old) v → IsInUse v work.now journal }
     ensures guard { (g : Migration) → IsResumed g work.now source_pass.now target_pass.now → KeepsSettled g (F.told folder.old) (F.told folder.new) }
     ensures moves { MovesOnly work.now journal.target (F.told folder.old) (F.told folder.new) }
-    ensures moved { IfOk result (λ done. MovesTree journal.source journal.target work.now source_pass.now target_pass.now (F.told folder.old) (F.told folder.new)) }
+    ensures moved { IfOk result (λ done. MovesTree journal.source journal.target work.now source_pass.now target_pass.now done (F.told folder.old) (F.told folder.new)) }
 {
     journals_are_read_back();
     roots_have_one_answer();
@@ -144,6 +144,7 @@ fn resume_with<F: Folder, R: Randoms>(
     requires source_named { journal.source ≡ sides.now.source.root }
     requires target_named { journal.target ≡ sides.now.target.root }
     ensures moved { Moved sides.now.source sides.now.target work.now (F.told folder.new) result }
+    ensures placed { Placed sides.now.source sides.now.target (F.told folder.old) result }
     ensures guard { LeadsTold sides.now.source sides.now.target work.now journal (progress_of journal.phase) Finished (F.told folder.old) (F.told folder.new) result }
     ensures moves { MovesOnly work.now sides.now.target.root (F.told folder.old) (F.told folder.new) }
 {
@@ -232,6 +233,7 @@ fn place_rest<F: Folder, R: Randoms>(
     requires source_named { journal.source ≡ sides.now.source.root }
     requires target_named { journal.target ≡ sides.now.target.root }
     ensures moved { Moved sides.now.source sides.now.target work.now (F.told folder.new) result }
+    ensures placed { IfOk result (λ done. (v : View) → IsSeen (F.told folder.old) v → done.placed ≡ lacking plans.now.target.items plans.now.source.items) }
     ensures guard { LeadsTold sides.now.source sides.now.target work.now journal (progress_of journal.phase) Finished (F.told folder.old) (F.told folder.new) result }
     ensures moves { MovesOnly work.now sides.now.target.root (F.told folder.old) (F.told folder.new) }
 {

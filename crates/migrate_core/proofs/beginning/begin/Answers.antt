@@ -45,5 +45,5 @@ returns-clause-moved g c =
     let t2 = g.F.Folder.told c.begin_settled.new.folder in
     let pass = c.args.source_pass.now in
     let pass' = c.args.target_pass.now in
-    if_ok_more (MovesTree from to work pass pass' t1 t2) (MovesTree from to work pass pass' t0 t2) c.begin_settled.result
-    (moved_before from to work pass pass' t0 t1 t2 (settle_seen t0 t1 c.in_ok-settle.field-0 c.in_ok-settle.ensures.changes)) c.begin_settled.ensures.moved
+    if_ok_more (λ done. MovesTree from to work pass pass' done t1 t2) (λ done. MovesTree from to work pass pass' done t0 t2) c.begin_settled.result
+    (λ done. moved_before from to work pass pass' done t0 t1 t2 (settle_seen t0 t1 c.in_ok-settle.field-0 c.in_ok-settle.ensures.changes)) c.begin_settled.ensures.moved

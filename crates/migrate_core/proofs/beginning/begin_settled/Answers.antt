@@ -10,6 +10,7 @@ use Rattle.migrate_core.proofs.Movings.{moves_nowhere}
 use Rattle.migrate_core.proofs.Planned.{seen_of}
 use Rattle.migrate_core.proofs.Settled.{begins, settled_by, still_settled}
 use Rattle.migrate_core.proofs.Endings.{tree_moved}
+use Rattle.migrate_core.specs.Moved.{Placed}
 use Rattle.migrate_core.proofs.beginning.begin_settled.Goals as goal
 
 pub returns-in_err-look-clause-guard : goal.returns-in_err-look-clause-guard
@@ -71,4 +72,5 @@ returns-clause-moved g c =
     let loads = c.in_ok-sides.ensures in
     tree_moved c.args.source.now c.args.target.now c.args.work.now c.args.source_pass.now c.args.target_pass.now sides.source sides.target (g.F.Folder.told c.args.folder.now) (g.F.Folder.told c.begin_with.new.folder)
     c.begin_with.result loads.source loads.target (λ v is. loads.opens_source v (subst (λ t. IsSeen t v) (sym c.look.ensures.told) is))
-    (λ v is. loads.opens_target v (subst (λ t. IsSeen t v) (sym c.look.ensures.told) is)) c.begin_with.ensures.moved
+    (λ v is. loads.opens_target v (subst (λ t. IsSeen t v) (sym c.look.ensures.told) is))
+    (subst (λ t. Placed sides.source sides.target t c.begin_with.result) (c.load_both.ensures.told ∙ c.look.ensures.told) c.begin_with.ensures.placed) c.begin_with.ensures.moved

@@ -1,4 +1,8 @@
-use Rattle.std.proofs.Common.{sym, subst}
+use Rattle.std.proofs.Common.{◌≡◌, ◌∙◌, [], sym, ap, subst}
+use Rattle.folder_spec.specs.Seen.{IsSeen}
+use Rattle.folder_spec.specs.View.{View}
+use Rattle.migrate_core.proofs.Endings.{if_ok_more, placed_of}
+use Rattle.migrate_core.specs.Moved.{lacking}
 use Rattle.std.proofs.lemmas.Result.{err_from_is_err_and}
 use Rattle.folder_spec.specs.Region.{apart_from_both}
 use Rattle.tree_match.specs.Alone.{Unbegun, Finished}
@@ -52,3 +56,12 @@ returns-clause-moves g c = subst (λ t. MovesOnly c.args.work.now c.args.sides.n
 
 pub move_all-requires-clause-allowed : goal.move_all-requires-clause-allowed
 move_all-requires-clause-allowed g c = subst (λ items. AllowsEach (format_of c.args.sides.now.target.vault) items) c.as_slice-2.ensures c.in_ok-test_names.ensures
+
+pub returns-clause-placed : goal.returns-clause-placed
+returns-clause-placed g c =
+    let told = g.F.Folder.told c.args.folder.now in
+    placed_of c.args.sides.now.source c.args.sides.now.target c.in_ok-plans.plans.source.items c.in_ok-plans.plans.target.items told c.move_all.result c.in_ok-plans.ensures.source c.in_ok-plans.ensures.target
+    (if_ok_more (λ done. (v : View) → IsSeen (g.F.Folder.told c.walk_both.new.folder) v → done.placed ≡ lacking [] c.in_ok-plans.plans.source.items)
+    (λ done. (v : View) → IsSeen told v → done.placed ≡ lacking c.in_ok-plans.plans.target.items c.in_ok-plans.plans.source.items) c.move_all.result
+    (λ done is v seen. is v (subst (λ t. IsSeen t v) (sym c.walk_both.ensures.told) seen) ∙ ap (λ there. lacking there c.in_ok-plans.plans.source.items) (sym (sym c.as_slice.ensures ∙ c.in_ok-test_empty.ensures)))
+    c.move_all.ensures.placed)

@@ -1,4 +1,4 @@
-use Rattle.std.proofs.Common.{Result, ◌∙◌, Ok, sym, ap, subst}
+use Rattle.std.proofs.Common.{◌≡◌, [], Result, ◌∙◌, Ok, sym, ap, subst}
 use Rattle.folder_spec.specs.declared.FolderFault.{FolderFault}
 use Rattle.std.proofs.lemmas.Result.{err_from_is_err_and}
 use Rattle.folder_spec.specs.Region.{apart_from_both}
@@ -10,13 +10,14 @@ use Rattle.tree_match.specs.Alone.{Begun, Finished, Unbegun}
 use Rattle.work_folder.specs.Changing.{ChangesAt}
 use Rattle.work_folder.specs.Entering.{IsLeftOver, IsReady, IsWorkOrStage}
 use Rattle.migrate_core.proofs.Beginnings.{enters_goes, told_goes, written_goes}
-use Rattle.migrate_core.proofs.Leadings.{goes_failed, goes_on}
+use Rattle.migrate_core.proofs.Leadings.{goes_failed, goes_on, then_known}
 use Rattle.migrate_core.proofs.Movings.{moves_on, moves_to, source_beside, walked_stays}
 use Rattle.migrate_core.proofs.WorkFolders.{entered_moves, fresh_folder, ready_stays, writing_moves, written_folder, written_moves}
 use Rattle.migrate_core.specs.Leading.{LeadsTold}
 use Rattle.migrate_core.specs.Moving.{MovesOnly}
 use Rattle.migrate_core.specs.Sides.{new_journal}
-use Rattle.migrate_core.specs.Moved.{Moved}
+use Rattle.migrate_core.proofs.Endings.{if_ok_more}
+use Rattle.migrate_core.specs.Moved.{Moved, lacking}
 use Rattle.migrate_core.proofs.beginning.move_all.Goals as goal
 
 pub returns-in_err-entered-clause-guard : goal.returns-in_err-entered-clause-guard
@@ -168,3 +169,13 @@ go_on-requires-clause-target g c = ap (λ (j : Journal). j.target) c.in_ok-journ
 
 pub returns-clause-moved : goal.returns-clause-moved
 returns-clause-moved g c = subst (λ w. Moved c.args.sides.now.source c.args.sides.now.target w (g.F.Folder.told c.go_on.new.folder) c.go_on.result) c.in_ok-entered.ensures.path c.go_on.ensures.moved
+
+pub returns-clause-placed : goal.returns-clause-placed
+returns-clause-placed g c =
+    let told = g.F.Folder.told c.args.folder.now in
+    let entered = g.F.Folder.told c.enter.new.folder in
+    let written = g.F.Folder.told c.write.new.folder in
+    if_ok_more (λ done. (v : View) → IsSeen written v → done.placed ≡ lacking [] c.args.plan.now.items) (λ done. (v : View) → IsSeen told v → done.placed ≡ lacking [] c.args.plan.now.items) c.go_on.result
+    (λ done is. then_known _ told written (moves_on (apart_from_both c.args.work.now c.args.sides.now.target.root) c.args.sides.now.target.root told entered written
+    (entered_moves c.args.work.now c.args.sides.now.target.root (IsWorkOrStage c.args.work.now) (IsLeftOver c.args.work.now) told entered c.requires.apart.target c.enter.ensures.enters.moments)
+    (written_moves c.args.work.now c.args.sides.now.target.root c.in_ok-journal.journal entered written c.requires.apart.target c.write.ensures.moments)) (done.placed ≡ lacking [] c.args.plan.now.items) is) c.go_on.ensures.placed

@@ -1,4 +1,4 @@
-use Rattle.std.proofs.Common.{Result, ◌∙◌, Ok, sym, subst}
+use Rattle.std.proofs.Common.{Result, ◌∙◌, Ok, length, sym, ap, subst}
 use Rattle.std.proofs.lemmas.Result.{err_from_is_err_and}
 use Rattle.folder_spec.specs.Region.{apart_from_both}
 use Rattle.folder_spec.specs.Seen.{IsSeen}
@@ -98,4 +98,4 @@ returns-clause-moved g c =
     here (g.F.Folder.told c.say_done.new.folder) c.requires.apart (g.met.F.Folder.sound c.test_same.new.folder) c.requires.journal c.requires.source c.requires.target
     (subst (λ t. IsWalked t from c.args.source.now.items) (sym same) c.requires.walked) (subst (λ t. IsWalked t to c.in_ok-target.target.items) (sym same) c.in_ok-target.ensures.walked)
     (λ v is. c.in_ok-test_same.ensures.same v (subst (λ t. IsSeen t v) c.in_ok-test_same.ensures.told is))
-    (c.say_done.ensures.moves to.root c.requires.apart.target) (c.say_done.ensures.moves from.root c.requires.apart.source) c.in_ok-say_done.ensures.says
+    (c.say_done.ensures.moves to.root c.requires.apart.target) (c.say_done.ensures.moves from.root c.requires.apart.source) c.in_ok-say_done.ensures.says (length c.as_slice.result.now) (ap length c.as_slice.ensures)

@@ -1,4 +1,4 @@
-use Rattle.std.proofs.Common.{◌∙◌, ap, sym, subst}
+use Rattle.std.proofs.Common.{◌≡◌, ◌∙◌, ap, sym, subst}
 use Rattle.std.proofs.lemmas.Result.{err_from_is_err_and}
 use Rattle.folder_spec.specs.Region.{apart_from_both}
 use Rattle.folder_spec.specs.Seen.{IsSeen}
@@ -10,7 +10,8 @@ use Rattle.migrate_core.proofs.Leadings.{goes_failed, goes_on, refused_nowhere}
 use Rattle.migrate_core.proofs.Movings.{moves_on, moves_to, moves_within, source_apart, walked_stays}
 use Rattle.migrate_core.proofs.WorkFolders.{beside_staged, journal_stays, placing_has, work_folder_stays}
 use Rattle.migrate_core.specs.Leading.{Goes, progress_of}
-use Rattle.migrate_core.specs.Moved.{Moved, StandsIn}
+use Rattle.migrate_core.proofs.Endings.{if_ok_more}
+use Rattle.migrate_core.specs.Moved.{Moved, StandsIn, lacking}
 use Rattle.migrate_core.specs.Moving.{MovesOnly}
 use Rattle.migrate_core.specs.Sides.{IsWalked, StandAll}
 use Rattle.migrate_core.proofs.finishing.go_on.Goals as goal
@@ -91,3 +92,8 @@ finish-requires-clause-stands g c phase =
 
 pub returns-clause-moved : goal.returns-clause-moved
 returns-clause-moved g c = subst (λ w. Moved c.args.sides.now.source c.args.sides.now.target w (g.F.Folder.told c.finish.new.folder) c.finish.result) c.at.ensures c.finish.ensures.moved
+
+pub returns-clause-placed : goal.returns-clause-placed
+returns-clause-placed g c =
+    if_ok_more (λ done. done.placed ≡ c.in_ok-placed.placed) (λ done. (v : View) → IsSeen (g.F.Folder.told c.args.folder.now) v → done.placed ≡ lacking c.args.there.now c.args.source.now.items) c.finish.result
+    (λ done is v seen. is ∙ c.in_ok-placed.ensures.counted (c.requires.there v seen) ∙ ap (lacking c.args.there.now) c.as_slice-items.ensures) c.finish.ensures.placed

@@ -1,4 +1,7 @@
-use Rattle.std.proofs.Common.{◌∙◌, refl, sym, arith}
+use Rattle.std.proofs.Common.{◌∙◌, true, false, refl, sym, ap, arith}
+use Rattle.std.proofs.lemmas.List.{take_all}
+use Rattle.migrate_core.proofs.Searched.{counted_on}
+use Rattle.migrate_core.specs.Moved.{lacking}
 use Rattle.std.proofs.lemmas.Result.{err_from_is_err_and}
 use Rattle.tree_match.specs.Alone.{Begun}
 use Rattle.vault_write.specs.Making.{is_apart}
@@ -15,6 +18,7 @@ loop-item-init g c =
       ready = c.requires.ready;
       led = λ m sides. (still_guards m Begun told told refl, still_leads m Begun told told refl);
       moves = moves_nowhere (is_apart c.args.work.now c.args.sides.now.target.root) c.args.sides.now.target.root told told refl;
+      counted = λ ordered. refl;
       none = λ all. refl;
     }
 
@@ -84,5 +88,16 @@ loop-item-preserved g c =
           let more = c.in_ok-place_missing_one.ensures.guard m sides in
           (guards_on m Begun Begun told here told' led.0 led.1 more.0, leads_on m Begun Begun Begun told here told' led.1 more.1);
       moves = moves_on (is_apart c.args.work.now to.root) to.root told here told' i.moves c.place_missing_one.ensures.moves;
+      counted = λ ordered.
+          let one = c.in_ok-place_missing_one.ensures.counted ordered in
+          elim c.if-branch.branch [
+            | then-branch w ↦ counted_on c.args.there.now c.args.items.now c.loop-item.item-index c.item-item.result c.loop-item.placed c.if-branch.placed true c.loop-item-test.true c.item-item.is (i.counted ordered)
+                (sym w.if-branch.true ∙ one) w.placed-is
+            | else-branch w ↦ counted_on c.args.there.now c.args.items.now c.loop-item.item-index c.item-item.result c.loop-item.placed c.if-branch.placed false c.loop-item-test.true c.item-item.is (i.counted ordered)
+                (sym w.if-branch.false ∙ one) w.placed-is
+          ];
       none = λ all. c.place_missing_one.ensures.none (all c.item-item.result (c.loop-item.item-index, c.loop-item-test.true, sym c.item-item.is)) ∙ i.none all;
     }
+
+pub returns-clause-counted : goal.returns-clause-counted
+returns-clause-counted g c ordered = c.loop-item.invariant.counted ordered ∙ ap (lacking c.args.there.now) (take_all c.loop-item.item-index c.args.items.now c.loop-item-test.false)

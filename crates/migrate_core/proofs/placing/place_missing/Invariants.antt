@@ -1,10 +1,12 @@
-use Rattle.std.proofs.Common.{◌≡◌, ◌≤◌}
+use Rattle.std.proofs.Common.{◌≡◌, ◌≤◌, take}
 use Rattle.folder_spec.specs.Seen.{IsSeen}
 use Rattle.folder_spec.specs.View.{View}
 use Rattle.tree_match.specs.Alone.{Begun}
+use Rattle.vault_walk.specs.Survey.{IsOrdered}
 use Rattle.vault_write.specs.Making.{is_apart}
 use Rattle.work_folder.specs.Entering.{IsReady}
 use Rattle.migrate_core.specs.Leading.{HasLed}
+use Rattle.migrate_core.specs.Moved.{lacking}
 use Rattle.migrate_core.specs.Moving.{MovesBeside}
 use Rattle.migrate_core.specs.Sides.{StandAll}
 use Rattle.migrate_core.proofs.placing.place_missing.Given as goal
@@ -15,5 +17,6 @@ invariant-loop-item g l = record {
   ready : (v : View) → IsSeen (g.F.Folder.told l.folder) v → IsReady v l.work;
   led : HasLed l.sides.source l.sides.target l.work Begun Begun (g.F.Folder.told l.initial.folder) (g.F.Folder.told l.folder);
   moves : MovesBeside (is_apart l.work l.sides.target.root) l.sides.target.root (g.F.Folder.told l.initial.folder) (g.F.Folder.told l.folder);
+  counted : IsOrdered l.there → l.placed ≡ lacking l.there (take l.item-index l.items);
   none : StandAll l.items l.there → g.F.Folder.told l.folder ≡ g.F.Folder.told l.initial.folder;
 }

@@ -1,4 +1,4 @@
-use Rattle.std.proofs.Common.{◌∙◌, Result, Ok, sym, subst}
+use Rattle.std.proofs.Common.{◌≡◌, ◌∙◌, Result, Ok, sym, ap, subst}
 use Rattle.std.proofs.lemmas.Result.{err_from_is_err_and}
 use Rattle.folder_spec.specs.Region.{apart_from, apart_from_both}
 use Rattle.tree_match.specs.Alone.{Finished}
@@ -9,14 +9,15 @@ use Rattle.work_folder.specs.Entries.{stage_path}
 use Rattle.migrate_core.specs.Leading.{progress_of}
 use Rattle.migrate_core.specs.Moving.{MovesOnly}
 use Rattle.migrate_core.specs.Sides.{AreSeparate, StandAll}
-use Rattle.migrate_core.proofs.Leadings.{alone_goes, goes_failed}
+use Rattle.migrate_core.proofs.Leadings.{alone_goes, goes_failed, then_known}
 use Rattle.migrate_core.proofs.Movings.{moves_on, moves_to, source_beside, walked_stays}
 use Rattle.migrate_core.proofs.Restaged.{rest_goes, stage_alone, stage_moves, stage_stays, still_known}
 use Rattle.migrate_core.proofs.WorkFolders.{staging_has, work_folder_stays}
 use Rattle.folder_spec.specs.Seen.{IsSeen}
 use Rattle.folder_spec.specs.View.{View}
 use Rattle.migrate_core.proofs.WorkFolders.{journal_stays}
-use Rattle.migrate_core.specs.Moved.{Moved, StandsIn}
+use Rattle.migrate_core.proofs.Endings.{if_ok_more}
+use Rattle.migrate_core.specs.Moved.{Moved, StandsIn, lacking}
 use Rattle.migrate_core.proofs.resuming.place_rest.Goals as goal
 
 pub again-requires-clause-folder : goal.again-requires-clause-folder
@@ -114,3 +115,14 @@ go_on-requires-clause-stands g c phase =
 
 pub returns-clause-moved : goal.returns-clause-moved
 returns-clause-moved g c = subst (λ w. Moved c.args.sides.now.source c.args.sides.now.target w (g.F.Folder.told c.go_on.new.folder) c.go_on.result) c.in_ok-again.ensures.path c.go_on.ensures.moved
+
+pub returns-clause-placed : goal.returns-clause-placed
+returns-clause-placed g c =
+    let t0 = g.F.Folder.told c.args.folder.now in
+    let t1 = g.F.Folder.told c.again.new.folder in
+    let target = c.args.sides.now.target.root in
+    let items = c.args.plans.now.source.items in
+    let there = c.args.plans.now.target.items in
+    if_ok_more (λ done. (v : View) → IsSeen t1 v → done.placed ≡ lacking c.as_slice-there.result.now items) (λ done. (v : View) → IsSeen t0 v → done.placed ≡ lacking there items) c.go_on.result
+    (λ done is v seen. then_known _ t0 t1 (stage_moves c.args.work.now target t0 t1 c.requires.apart.target c.again.ensures.restages.moments) (done.placed ≡ lacking c.as_slice-there.result.now items) is v seen
+    ∙ ap (λ xs. lacking xs items) c.as_slice-there.ensures) c.go_on.ensures.placed

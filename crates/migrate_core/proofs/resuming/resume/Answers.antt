@@ -42,6 +42,6 @@ returns-clause-moved g c =
     let pass = c.args.source_pass.now in
     let pass' = c.args.target_pass.now in
     let seen_then = settle_seen t0 t1 c.in_ok-settle.field-0 c.in_ok-settle.ensures.changes in
-    if_ok_more ((v : View) (journal : Journal) → IsSeen t1 v → IsJournal journal → v (journal_path work) ≡ FileOf (journal_text journal) → MovesTree journal.source journal.target work pass pass' t1 t2)
-    ((v : View) (journal : Journal) → IsSeen t0 v → IsJournal journal → v (journal_path work) ≡ FileOf (journal_text journal) → MovesTree journal.source journal.target work pass pass' t0 t2) c.resume_settled.result
-    (λ moves v journal seen is stands. moved_before journal.source journal.target work pass pass' t0 t1 t2 seen_then (moves v journal (seen_then v seen) is stands)) c.resume_settled.ensures.moved
+    if_ok_more (λ done. (v : View) (journal : Journal) → IsSeen t1 v → IsJournal journal → v (journal_path work) ≡ FileOf (journal_text journal) → MovesTree journal.source journal.target work pass pass' done t1 t2)
+    (λ done. (v : View) (journal : Journal) → IsSeen t0 v → IsJournal journal → v (journal_path work) ≡ FileOf (journal_text journal) → MovesTree journal.source journal.target work pass pass' done t0 t2) c.resume_settled.result
+    (λ done moves v journal seen is stands. moved_before journal.source journal.target work pass pass' done t0 t1 t2 seen_then (moves v journal (seen_then v seen) is stands)) c.resume_settled.ensures.moved

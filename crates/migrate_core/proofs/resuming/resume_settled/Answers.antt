@@ -67,9 +67,9 @@ returns-clause-moved g c =
     let pass = c.args.source_pass.now in
     let pass' = c.args.target_pass.now in
     let read = c.in_ok-journal.journal in
-    if_ok_more (MovesTree read.source read.target work pass pass' t2 t3)
-    ((v : View) (journal : Journal) → IsSeen t0 v → IsJournal journal → v (journal_path work) ≡ FileOf (journal_text journal) → MovesTree journal.source journal.target work pass pass' t0 t3) c.resume_told.result
-    (λ moves v journal seen is stands.
-    subst (λ (j : Journal). MovesTree j.source j.target work pass pass' t0 t3)
+    if_ok_more (λ done. MovesTree read.source read.target work pass pass' done t2 t3)
+    (λ done. (v : View) (journal : Journal) → IsSeen t0 v → IsJournal journal → v (journal_path work) ≡ FileOf (journal_text journal) → MovesTree journal.source journal.target work pass pass' done t0 t3) c.resume_told.result
+    (λ done moves v journal seen is stands.
+    subst (λ (j : Journal). MovesTree j.source j.target work pass pass' done t0 t3)
     (one_journal c.journals_are_read_back.ensures.one v work read journal c.in_ok-journal.ensures.journal (c.in_ok-journal.ensures.answer v seen) is stands)
-    (subst (λ t. MovesTree read.source read.target work pass pass' t t3) (c.look_again.ensures.told ∙ c.read.ensures.told) moves)) c.resume_told.ensures.moved
+    (subst (λ t. MovesTree read.source read.target work pass pass' done t t3) (c.look_again.ensures.told ∙ c.read.ensures.told) moves)) c.resume_told.ensures.moved

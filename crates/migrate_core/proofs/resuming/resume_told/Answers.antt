@@ -8,6 +8,7 @@ use Rattle.migrate_core.proofs.Movings.{moves_nowhere}
 use Rattle.migrate_core.proofs.Planned.{seen_of}
 use Rattle.migrate_core.proofs.Settled.{resumes, settled_by, still_settled}
 use Rattle.migrate_core.proofs.Endings.{tree_moved}
+use Rattle.migrate_core.specs.Moved.{Placed}
 use Rattle.migrate_core.proofs.resuming.resume_told.Goals as goal
 
 pub returns-in_err-test_source-clause-guard : goal.returns-in_err-test_source-clause-guard
@@ -74,4 +75,5 @@ returns-clause-moved g c =
     let loads = c.in_ok-sides.ensures in
     tree_moved c.args.journal.source c.args.journal.target c.args.work.now c.args.source_pass.now c.args.target_pass.now sides.source sides.target (g.F.Folder.told c.args.folder.now)
     (g.F.Folder.told c.resume_with.new.folder) c.resume_with.result loads.source loads.target (λ v is. loads.opens_source v (subst (λ t. IsSeen t v) (sym c.test_source.ensures.told) is))
-    (λ v is. loads.opens_target v (subst (λ t. IsSeen t v) (sym c.test_source.ensures.told) is)) c.resume_with.ensures.moved
+    (λ v is. loads.opens_target v (subst (λ t. IsSeen t v) (sym c.test_source.ensures.told) is))
+    (subst (λ t. Placed sides.source sides.target t c.resume_with.result) (c.load_both.ensures.told ∙ c.test_source.ensures.told) c.resume_with.ensures.placed) c.resume_with.ensures.moved

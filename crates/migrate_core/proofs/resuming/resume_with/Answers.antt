@@ -1,4 +1,7 @@
-use Rattle.std.proofs.Common.{◌∙◌, sym, subst}
+use Rattle.std.proofs.Common.{◌≡◌, ◌∙◌, sym, subst}
+use Rattle.folder_spec.specs.View.{View}
+use Rattle.migrate_core.proofs.Endings.{if_ok_more, placed_of}
+use Rattle.migrate_core.specs.Moved.{lacking}
 use Rattle.std.proofs.lemmas.Result.{err_from_is_err_and}
 use Rattle.folder_spec.specs.Region.{apart_from_both}
 use Rattle.folder_spec.specs.Seen.{IsSeen}
@@ -53,3 +56,12 @@ returns-clause-guard g c = λ migration sides tells.
 pub returns-clause-moves : goal.returns-clause-moves
 returns-clause-moves g c =
     subst (λ t. MovesOnly c.args.work.now c.args.sides.now.target.root t (g.F.Folder.told c.place_rest.new.folder)) (c.test_plans.ensures.told ∙ c.walk_both.ensures.told) c.place_rest.ensures.moves
+
+pub returns-clause-placed : goal.returns-clause-placed
+returns-clause-placed g c =
+    let told = g.F.Folder.told c.args.folder.now in
+    let items = c.in_ok-plans.plans.source.items in
+    let there = c.in_ok-plans.plans.target.items in
+    placed_of c.args.sides.now.source c.args.sides.now.target items there told c.place_rest.result c.in_ok-plans.ensures.source c.in_ok-plans.ensures.target
+    (if_ok_more (λ done. (v : View) → IsSeen (g.F.Folder.told c.test_plans.new.folder) v → done.placed ≡ lacking there items) (λ done. (v : View) → IsSeen told v → done.placed ≡ lacking there items) c.place_rest.result
+    (λ done is v seen. is v (subst (λ t. IsSeen t v) (sym (c.test_plans.ensures.told ∙ c.walk_both.ensures.told)) seen)) c.place_rest.ensures.placed)

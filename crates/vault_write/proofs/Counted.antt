@@ -6,7 +6,12 @@ use Rattle.content_writing.specs.declared.fault.PutFault.{PutFault}
 use Rattle.content_writing.specs.declared.fault.PutFault.TheVariants as puts
 use Rattle.folder_spec.specs.declared.FolderFault.TheVariants as folder
 use Rattle.port_model.specs.Counts.{CountRose}
-use Rattle.vault_write.specs.Faults.{IsDirectoryFault, IsPlaceFault}
+use Rattle.vault_write.specs.Faults.{IsDirectoryFault, IsFileFault, IsPlaceFault}
+use Rattle.chunk_files.specs.Keys.{Keys}
+use Rattle.plain_tree.specs.Names as plain
+use Rattle.vault_read.specs.Opened.{OpenedVault}
+use Rattle.vault_write.specs.Calls.{Writing}
+use Rattle.vault_write.specs.Filing.{IsAtDirectory, PlacesBy, StopsBy}
 use Rattle.folder_spec.specs.declared.FolderFault.{FolderFault}
 use Rattle.folder_spec.specs.declared.Kind.{Kind}
 use Rattle.folder_spec.specs.Event.{Told}
@@ -60,3 +65,40 @@ place_is_directory_fault puts.NoMemory place = tt
 
 pub is_directory_fault : (fault : PutFault) (result : Result (Unit {0}) PutFault) → IsDirectoryFault fault → result ≡ Err fault → IfErr result IsDirectoryFault
 is_directory_fault fault result directory is = subst (λ r. IfErr r IsDirectoryFault) (sym is) directory
+
+pub place_is_file_fault : (fault : PutFault) → IsPlaceFault fault → IsFileFault fault
+place_is_file_fault (puts.Find fault) place = place
+place_is_file_fault (puts.NotAllowed path) place = tt
+place_is_file_fault (puts.Taken at) place = tt
+place_is_file_fault (puts.Damaged at fault) place = tt
+place_is_file_fault (puts.Limit limit) place = tt
+place_is_file_fault puts.ZeroRandom place = tt
+place_is_file_fault puts.Source place = tt
+place_is_file_fault puts.Random place = tt
+place_is_file_fault puts.Failed place = tt
+place_is_file_fault puts.NoMemory place = tt
+
+pub directory_is_file_fault : (vault : OpenedVault) (path : plain.Path) (told : Option Told) (fault : PutFault) → IsAtDirectory vault path told fault → IsFileFault fault
+directory_is_file_fault vault path told fault (inl failed) = subst IsFileFault (sym failed) tt
+directory_is_file_fault vault path told fault (inr (inl memory)) = subst IsFileFault (sym memory) tt
+directory_is_file_fault vault path told fault (inr (inr found)) = subst IsFileFault (sym found.0) tt
+
+-- writing a content looks for no path
+pub stop_is_file_fault : (keys : Keys) (w : Writing) (fault : PutFault) → StopsBy keys w fault → IsFileFault fault
+stop_is_file_fault keys w (puts.Find fault) stops = absurd stops
+stop_is_file_fault keys w (puts.NotAllowed path) stops = tt
+stop_is_file_fault keys w (puts.Taken at) stops = tt
+stop_is_file_fault keys w (puts.Damaged at fault) stops = tt
+stop_is_file_fault keys w (puts.Limit limit) stops = tt
+stop_is_file_fault keys w puts.ZeroRandom stops = tt
+stop_is_file_fault keys w puts.Source stops = tt
+stop_is_file_fault keys w puts.Random stops = tt
+stop_is_file_fault keys w puts.Failed stops = tt
+stop_is_file_fault keys w puts.NoMemory stops = tt
+
+pub placing_is_file_fault : (keys : Keys) (w : Writing) (Does : Result (Unit {0}) FolderFault → Type 0) (Only : Type 0) (result : Result (Unit {0}) PutFault) → PlacesBy keys w Does Only result → IfErr result IsFileFault
+placing_is_file_fault keys w Does Only (Ok value) ends = tt
+placing_is_file_fault keys w Does Only (Err fault) ends = stop_is_file_fault keys w fault ends.0
+
+pub is_file_fault : (fault : PutFault) (result : Result (Unit {0}) PutFault) → IsFileFault fault → result ≡ Err fault → IfErr result IsFileFault
+is_file_fault fault result file is = subst (λ r. IfErr r IsFileFault) (sym is) file

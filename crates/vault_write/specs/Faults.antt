@@ -29,3 +29,8 @@ IsPlaceFault puts.Source = ⊥
 IsPlaceFault Random = ⊥
 IsPlaceFault Failed = Unit {0}
 IsPlaceFault NoMemory = Unit {0}
+
+-- the answers of `place_file` and `put`
+abbrev pub IsFileFault : PutFault → Type 0
+IsFileFault (Find fault) = IsOfPath fault
+IsFileFault fault = Unit {0}

@@ -11,6 +11,7 @@ ghost use Rattle.content_writing.specs.Content.{IsReady, still_coming};
 ghost use Rattle.content_writing.specs.Writing.{Blames, ReadsApart};
 ghost use Rattle.vault_write.specs.Calls.{MakesFile, New, InPlace, ReadsElsewhere};
 ghost use Rattle.vault_write.specs.Editing.{MayCome};
+ghost use Rattle.vault_write.specs.Faults.{IsFileFault};
 ghost use Rattle.vault_write.specs.Filing.{StagesEntry, PlacesEntry, PlacesFile, PublishesEntry, MayReplace, ReplacesEntry, ReplacesContent, IsSlotOver, StandsAs, StandsUnder, IsAtDirectory};
 ghost use Rattle.vault_write.specs.Placing.{MayMake};
 ghost use Rattle.vault_spec.specs.Making.{Allows};
@@ -55,6 +56,7 @@ pub fn place_file<F: Folder, R: Randoms, C: Content<F>>(
     requires elsewhere { ReadsElsewhere (C.reads content.old) work.now vault.now.root }
     ensures made { MakesFile New vault.now work.now path.now (still_coming (C.reads content.old) (F.told folder.old) (C.coming content.old)) (still_coming (C.reads content.old) (F.told folder.old) (C.coming content.new))
         (R.left random.old) (R.left random.new) (F.told folder.old) (F.told folder.new) result }
+    ensures fault { IfErr result (λ fault. IsFileFault fault) }
     ensures reads { C.reads content.new ≡ C.reads content.old }
     ensures room { C.room content.new ≤ C.room content.old }
     ensures lender { C.lender content.new ≡ C.lender content.old }
@@ -90,6 +92,7 @@ pub fn put<F: Folder, R: Randoms, C: Content<F>>(
     requires elsewhere { ReadsElsewhere (C.reads content.old) work.now vault.now.root }
     ensures made { MakesFile InPlace vault.now work.now path.now (still_coming (C.reads content.old) (F.told folder.old) (C.coming content.old)) (still_coming (C.reads content.old) (F.told folder.old) (C.coming content.new))
         (R.left random.old) (R.left random.new) (F.told folder.old) (F.told folder.new) result }
+    ensures fault { IfErr result (λ fault. IsFileFault fault) }
     ensures reads { C.reads content.new ≡ C.reads content.old }
     ensures room { C.room content.new ≤ C.room content.old }
     ensures lender { C.lender content.new ≡ C.lender content.old }
@@ -125,6 +128,7 @@ fn put_named<F: Folder, R: Randoms, C: Content<F>>(
     requires elsewhere { ReadsElsewhere (C.reads content.old) work.now vault.now.root }
     ensures made { PlacesFile InPlace vault.now work.now front.now name.now (still_coming (C.reads content.old) (F.told folder.old) (C.coming content.old)) (still_coming (C.reads content.old) (F.told folder.old) (C.coming content.new))
         (R.left random.old) (R.left random.new) (F.told folder.old) (F.told folder.new) result }
+    ensures fault { IfErr result (λ fault. IsFileFault fault) }
     ensures reads { C.reads content.new ≡ C.reads content.old }
     ensures room { C.room content.new ≤ C.room content.old }
     ensures lender { C.lender content.new ≡ C.lender content.old }
@@ -209,6 +213,7 @@ fn replace<F: Folder, R: Randoms, C: Content<F>>(
     requires elsewhere { ReadsElsewhere (C.reads content.old) work.now vault.now.root }
     ensures made { PlacesFile InPlace vault.now work.now front.now name.now (still_coming (C.reads content.old) (F.told folder.old) (C.coming content.old)) (still_coming (C.reads content.old) (F.told folder.old) (C.coming content.new))
         (R.left random.old) (R.left random.new) (F.told folder.old) (F.told folder.new) result }
+    ensures fault { IfErr result (λ fault. IsFileFault fault) }
     ensures reads { C.reads content.new ≡ C.reads content.old }
     ensures room { C.room content.new ≤ C.room content.old }
     ensures lender { C.lender content.new ≡ C.lender content.old }
@@ -281,6 +286,7 @@ fn place_over<F: Folder, R: Randoms, C: Content<F>>(
     requires elsewhere { ReadsElsewhere (C.reads content.old) work.now vault.now.root }
     ensures made { PlacesFile New vault.now work.now front.now name.now (still_coming (C.reads content.old) (F.told folder.old) (C.coming content.old)) (still_coming (C.reads content.old) (F.told folder.old) (C.coming content.new))
         (R.left random.old) (R.left random.new) (F.told folder.old) (F.told folder.new) result }
+    ensures fault { IfErr result (λ fault. IsFileFault fault) }
     ensures reads { C.reads content.new ≡ C.reads content.old }
     ensures room { C.room content.new ≤ C.room content.old }
     ensures lender { C.lender content.new ≡ C.lender content.old }
@@ -312,6 +318,7 @@ fn place_named<F: Folder, R: Randoms, C: Content<F>>(
     requires elsewhere { ReadsElsewhere (C.reads content.old) work.now vault.now.root }
     ensures made { PlacesFile New vault.now work.now front.now name.now (still_coming (C.reads content.old) (F.told folder.old) (C.coming content.old)) (still_coming (C.reads content.old) (F.told folder.old) (C.coming content.new))
         (R.left random.old) (R.left random.new) (F.told folder.old) (F.told folder.new) result }
+    ensures fault { IfErr result (λ fault. IsFileFault fault) }
     ensures reads { C.reads content.new ≡ C.reads content.old }
     ensures room { C.room content.new ≤ C.room content.old }
     ensures lender { C.lender content.new ≡ C.lender content.old }
@@ -345,6 +352,7 @@ fn place_in<F: Folder, R: Randoms, C: Content<F>>(
     requires elsewhere { ReadsElsewhere (C.reads content.old) work.now vault.now.root }
     ensures made { PlacesFile New vault.now work.now front.now name.now (still_coming (C.reads content.old) (F.told folder.old) (C.coming content.old)) (still_coming (C.reads content.old) (F.told folder.old) (C.coming content.new))
         (R.left random.old) (R.left random.new) (F.told folder.old) (F.told folder.new) result }
+    ensures fault { IfErr result (λ fault. IsFileFault fault) }
     ensures reads { C.reads content.new ≡ C.reads content.old }
     ensures room { C.room content.new ≤ C.room content.old }
     ensures lender { C.lender content.new ≡ C.lender content.old }
@@ -401,6 +409,7 @@ fn place_go<F: Folder, R: Randoms, C: Content<F>>(
     requires elsewhere { ReadsElsewhere (C.reads content.old) work.now vault.now.root }
     ensures made { PlacesFile New vault.now work.now front.now name.now (still_coming (C.reads content.old) (F.told folder.old) (C.coming content.old)) (still_coming (C.reads content.old) (F.told folder.old) (C.coming content.new))
         (R.left random.old) (R.left random.new) (F.told folder.old) (F.told folder.new) result }
+    ensures fault { IfErr result (λ fault. IsFileFault fault) }
     ensures reads { C.reads content.new ≡ C.reads content.old }
     ensures room { C.room content.new ≤ C.room content.old }
     ensures lender { C.lender content.new ≡ C.lender content.old }
@@ -449,6 +458,7 @@ fn place_cm<F: Folder, R: Randoms, C: Content<F>>(
     requires elsewhere { ReadsElsewhere (C.reads content.old) work.now vault.now.root }
     ensures made { PlacesFile New vault.now work.now front.now name.now (still_coming (C.reads content.old) (F.told folder.old) (C.coming content.old)) (still_coming (C.reads content.old) (F.told folder.old) (C.coming content.new))
         (R.left random.old) (R.left random.new) (F.told folder.old) (F.told folder.new) result }
+    ensures fault { IfErr result (λ fault. IsFileFault fault) }
     ensures reads { C.reads content.new ≡ C.reads content.old }
     ensures room { C.room content.new ≤ C.room content.old }
     ensures lender { C.lender content.new ≡ C.lender content.old }

@@ -1,4 +1,5 @@
 mod Beginnings
+mod Blaming
 mod Endings
 mod Fronts
 mod Leadings

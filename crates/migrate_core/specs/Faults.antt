@@ -1,10 +1,80 @@
--- The faults of the calls below, as a migration tells them.
+-- The faults of the calls below, as a migration tells them. That the folder failed or memory was refused is told as such, whichever call
+-- met it.
+use Rattle.std.specs.Prelude.{◌≡◌}
+use Rattle.content_writing.specs.declared.fault.PutFault.{PutFault}
+use Rattle.content_writing.specs.declared.fault.PutFault.TheVariants as put
 use Rattle.folder_spec.specs.declared.FolderFault.{FolderFault}
 use Rattle.folder_spec.specs.declared.FolderFault.TheVariants as folder
+use Rattle.move_journal.specs.declared.journal.JournalFault.{JournalFault}
+use Rattle.move_journal.specs.declared.journal.JournalFault.TheVariants as journal
+use Rattle.tree_match.specs.declared.answer.MatchFault.{MatchFault}
+use Rattle.tree_match.specs.declared.answer.MatchFault.TheVariants as match
+use Rattle.tree_match.specs.declared.answer.Side.{Side}
+use Rattle.vault_read.specs.Contents.{IsOfPath}
+use Rattle.vault_read.specs.declared.fault.LoadFault.{LoadFault}
+use Rattle.vault_read.specs.declared.fault.LoadFault.TheVariants as load
+use Rattle.vault_walk.specs.declared.fault.WalkFault.{WalkFault}
+use Rattle.vault_walk.specs.declared.fault.WalkFault.TheVariants as walk
+use Rattle.work_folder.specs.declared.fault.WorkFault.{WorkFault}
+use Rattle.work_folder.specs.declared.fault.WorkFault.TheVariants as work
 use Rattle.migrate_core.specs.declared.fault.MoveFault.{MoveFault}
-use Rattle.migrate_core.specs.declared.fault.MoveFault.TheVariants.{Failed, NoMemory}
+use Rattle.migrate_core.specs.declared.fault.MoveFault.TheVariants.{Work, Journal, Load, Walk, Match, Place, Failed, NoMemory}
 
 abbrev pub of_folder : FolderFault → MoveFault
 of_folder folder.Failed = Failed
 of_folder folder.Refused = Failed
 of_folder folder.NoMemory = NoMemory
+
+abbrev pub of_work : WorkFault → MoveFault
+of_work work.Failed = Failed
+of_work work.NoMemory = NoMemory
+of_work fault = Work fault
+
+abbrev pub of_journal : JournalFault → MoveFault
+of_journal journal.Failed = Failed
+of_journal journal.NoMemory = NoMemory
+of_journal fault = Journal fault
+
+abbrev pub of_load : Side → LoadFault → MoveFault
+of_load side load.Failed = Failed
+of_load side load.NoMemory = NoMemory
+of_load side fault = Load side fault
+
+abbrev pub of_walk : WalkFault → MoveFault
+of_walk walk.Failed = Failed
+of_walk walk.NoMemory = NoMemory
+of_walk fault = Walk fault
+
+abbrev pub of_match : MatchFault → MoveFault
+of_match match.Failed = Failed
+of_match match.NoMemory = NoMemory
+of_match fault = Match fault
+
+abbrev pub of_put : PutFault → MoveFault
+of_put put.Failed = Failed
+of_put put.NoMemory = NoMemory
+of_put fault = Place fault
+
+-- The faults that a migration may answer: the folder's failing and want of memory as such alone, and nothing of a source that isn't read.
+abbrev pub IsMoveFault : MoveFault → Type 0
+IsMoveFault (Work work.Failed) = ⊥
+IsMoveFault (Work work.NoMemory) = ⊥
+IsMoveFault (Journal journal.Failed) = ⊥
+IsMoveFault (Journal journal.NoMemory) = ⊥
+IsMoveFault (Load side load.Failed) = ⊥
+IsMoveFault (Load side load.NoMemory) = ⊥
+IsMoveFault (Walk walk.Failed) = ⊥
+IsMoveFault (Walk walk.NoMemory) = ⊥
+IsMoveFault (Match match.Failed) = ⊥
+IsMoveFault (Match match.NoMemory) = ⊥
+IsMoveFault (Place (put.Find fault)) = IsOfPath fault
+IsMoveFault (Place put.Source) = ⊥
+IsMoveFault (Place put.Failed) = ⊥
+IsMoveFault (Place put.NoMemory) = ⊥
+IsMoveFault fault = Unit {0}
+
+-- and these two only for a reason
+pub record Blamed (folder random : Type 0) (fault : MoveFault) : Type 0 where
+  pub own : IsMoveFault fault
+  pub failed : fault ≡ Failed → folder
+  pub drawn : fault ≡ Place put.Random → random

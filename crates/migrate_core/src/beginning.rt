@@ -1,11 +1,13 @@
 //! Beginning a migration.
-ghost use Rattle.std.specs.Prelude.{◌≡◌, [], IfOk, OnOk};
+ghost use Rattle.std.specs.Prelude.{◌≡◌, ◌≤◌, [], IfErr, IfOk, OnOk};
+ghost use Rattle.port_model.specs.Counts.{CountRose};
 ghost use Rattle.folder_spec.specs.Seen.{IsSeen};
 ghost use Rattle.folder_spec.specs.View.{View};
 ghost use Rattle.move_journal.specs.Journal.{IsParsed};
 ghost use Rattle.tree_match.specs.Alone.{Finished, Unbegun};
 ghost use Rattle.tree_match.specs.Guard.{Migration};
 ghost use Rattle.vault_spec.specs.Vault.{format_of};
+ghost use Rattle.migrate_core.specs.Faults.{Blamed};
 ghost use Rattle.migrate_core.specs.Leading.{KeepsGuarded, KeepsSettled, LeadsEach};
 ghost use Rattle.migrate_core.specs.Moved.{Moved, MovesTree, Placed, lacking};
 ghost use Rattle.migrate_core.specs.Moving.{MovesOnly};
@@ -47,6 +49,9 @@ pub fn begin<F: Folder, R: Randoms>(
     ensures moved { IfOk result (λ done. MovesTree source.now target.now work.now source_pass.now target_pass.now done (F.told folder.old) (F.told folder.new)) }
     ensures guard { (g : Migration) → IsAsked g source.now target.now work.now source_pass.now target_pass.now → KeepsGuarded g (F.told folder.old) (F.told folder.new) }
     ensures moves { MovesOnly work.now target.now (F.told folder.old) (F.told folder.new) }
+    ensures grows { F.faults folder.old ≤ F.faults folder.new }
+    ensures random { R.faults random.old ≤ R.faults random.new }
+    ensures blamed { IfErr result (Blamed (CountRose (F.faults folder.old) (F.faults folder.new)) (CountRose (R.faults random.old) (R.faults random.new))) }
 {
     settling_and_entering_keep_migrations_guarded();
     test_apart(source, target, work)?;
@@ -80,6 +85,9 @@ fn begin_settled<F: Folder, R: Randoms>(
     ensures moved { IfOk result (λ done. MovesTree source.now target.now work.now source_pass.now target_pass.now done (F.told folder.old) (F.told folder.new)) }
     ensures guard { (g : Migration) → IsAsked g source.now target.now work.now source_pass.now target_pass.now → KeepsSettled g (F.told folder.old) (F.told folder.new) }
     ensures moves { MovesOnly work.now target.now (F.told folder.old) (F.told folder.new) }
+    ensures grows { F.faults folder.old ≤ F.faults folder.new }
+    ensures random { R.faults random.old ≤ R.faults random.new }
+    ensures blamed { IfErr result (Blamed (CountRose (F.faults folder.old) (F.faults folder.new)) (CountRose (R.faults random.old) (R.faults random.new))) }
 {
     roots_have_one_answer();
     guarded_migrations_are_seen();
@@ -103,6 +111,9 @@ fn begin_with<F: Folder, R: Randoms>(
     ensures placed { Placed sides.now.source sides.now.target (F.told folder.old) result }
     ensures guard { LeadsEach sides.now.source sides.now.target work.now Unbegun Finished (F.told folder.old) (F.told folder.new) result }
     ensures moves { MovesOnly work.now sides.now.target.root (F.told folder.old) (F.told folder.new) }
+    ensures grows { F.faults folder.old ≤ F.faults folder.new }
+    ensures random { R.faults random.old ≤ R.faults random.new }
+    ensures blamed { IfErr result (Blamed (CountRose (F.faults folder.old) (F.faults folder.new)) (CountRose (R.faults random.old) (R.faults random.new))) }
 {
     let plans = walk_both(alloc, folder, sides)?;
     test_empty(plans.target.items.as_slice())?;
@@ -112,7 +123,8 @@ fn begin_with<F: Folder, R: Randoms>(
 
 // There are no items.
 fn test_empty(items: &[PlanItem]) -> Result<(), MoveFault>
-    ensures { OnOk result (items.now ≡ []) }
+    ensures empty { OnOk result (items.now ≡ []) }
+    ensures blamed { IfErr result (Blamed ⊥ ⊥) }
 {
     match items.first() {
         None => Ok(()),
@@ -138,6 +150,9 @@ fn move_all<F: Folder, R: Randoms>(
     ensures placed { IfOk result (λ done. (v : View) → IsSeen (F.told folder.old) v → done.placed ≡ lacking [] plan.now.items) }
     ensures guard { LeadsEach sides.now.source sides.now.target work.now Unbegun Finished (F.told folder.old) (F.told folder.new) result }
     ensures moves { MovesOnly work.now sides.now.target.root (F.told folder.old) (F.told folder.new) }
+    ensures grows { F.faults folder.old ≤ F.faults folder.new }
+    ensures random { R.faults random.old ≤ R.faults random.new }
+    ensures blamed { IfErr result (Blamed (CountRose (F.faults folder.old) (F.faults folder.new)) (CountRose (R.faults random.old) (R.faults random.new))) }
 {
     guarded_migrations_are_seen();
     journals_keep_migrations_guarded();

@@ -37,7 +37,7 @@ pub enum MoveFault {
     Place(PutFault),
     /// All items are in the target, and the source is gone.
     SourceGone,
-    /// The folder failed.
+    /// The folder failed, in whichever call.
     Failed,
     NoMemory,
 }
@@ -70,55 +70,75 @@ impl From<FolderFault> for MoveFault {
 
 impl From<WorkFault> for MoveFault {
     ghost use Rattle.std.specs.Prelude.{◌≡◌};
-    ghost use Rattle.migrate_core.specs.declared.fault.MoveFault.TheVariants.{Work};
+    ghost use Rattle.migrate_core.specs.Faults.{of_work};
 
-    ghost from_gives = { λ fault result. result ≡ Work fault };
+    ghost from_gives = { λ fault result. result ≡ of_work fault };
 
     fn from(fault: WorkFault) -> MoveFault {
-        MoveFault::Work(fault)
+        match fault {
+            WorkFault::Failed => MoveFault::Failed,
+            WorkFault::NoMemory => MoveFault::NoMemory,
+            fault => MoveFault::Work(fault),
+        }
     }
 }
 
 impl From<JournalFault> for MoveFault {
     ghost use Rattle.std.specs.Prelude.{◌≡◌};
-    ghost use Rattle.migrate_core.specs.declared.fault.MoveFault.TheVariants.{Journal};
+    ghost use Rattle.migrate_core.specs.Faults.{of_journal};
 
-    ghost from_gives = { λ fault result. result ≡ Journal fault };
+    ghost from_gives = { λ fault result. result ≡ of_journal fault };
 
     fn from(fault: JournalFault) -> MoveFault {
-        MoveFault::Journal(fault)
+        match fault {
+            JournalFault::Failed => MoveFault::Failed,
+            JournalFault::NoMemory => MoveFault::NoMemory,
+            fault => MoveFault::Journal(fault),
+        }
     }
 }
 
 impl From<WalkFault> for MoveFault {
     ghost use Rattle.std.specs.Prelude.{◌≡◌};
-    ghost use Rattle.migrate_core.specs.declared.fault.MoveFault.TheVariants.{Walk};
+    ghost use Rattle.migrate_core.specs.Faults.{of_walk};
 
-    ghost from_gives = { λ fault result. result ≡ Walk fault };
+    ghost from_gives = { λ fault result. result ≡ of_walk fault };
 
     fn from(fault: WalkFault) -> MoveFault {
-        MoveFault::Walk(fault)
+        match fault {
+            WalkFault::Failed => MoveFault::Failed,
+            WalkFault::NoMemory => MoveFault::NoMemory,
+            fault => MoveFault::Walk(fault),
+        }
     }
 }
 
 impl From<MatchFault> for MoveFault {
     ghost use Rattle.std.specs.Prelude.{◌≡◌};
-    ghost use Rattle.migrate_core.specs.declared.fault.MoveFault.TheVariants.{Match};
+    ghost use Rattle.migrate_core.specs.Faults.{of_match};
 
-    ghost from_gives = { λ fault result. result ≡ Match fault };
+    ghost from_gives = { λ fault result. result ≡ of_match fault };
 
     fn from(fault: MatchFault) -> MoveFault {
-        MoveFault::Match(fault)
+        match fault {
+            MatchFault::Failed => MoveFault::Failed,
+            MatchFault::NoMemory => MoveFault::NoMemory,
+            fault => MoveFault::Match(fault),
+        }
     }
 }
 
 impl From<PutFault> for MoveFault {
     ghost use Rattle.std.specs.Prelude.{◌≡◌};
-    ghost use Rattle.migrate_core.specs.declared.fault.MoveFault.TheVariants.{Place};
+    ghost use Rattle.migrate_core.specs.Faults.{of_put};
 
-    ghost from_gives = { λ fault result. result ≡ Place fault };
+    ghost from_gives = { λ fault result. result ≡ of_put fault };
 
     fn from(fault: PutFault) -> MoveFault {
-        MoveFault::Place(fault)
+        match fault {
+            PutFault::Failed => MoveFault::Failed,
+            PutFault::NoMemory => MoveFault::NoMemory,
+            fault => MoveFault::Place(fault),
+        }
     }
 }

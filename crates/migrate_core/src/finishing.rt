@@ -1,5 +1,6 @@
 //! Ending a migration.
-ghost use Rattle.std.specs.Prelude.{◌≡◌, IfOk, OnOk};
+ghost use Rattle.std.specs.Prelude.{◌≡◌, ◌≤◌, IfErr, IfOk, OnOk};
+ghost use Rattle.port_model.specs.Counts.{CountRose};
 ghost use Rattle.folder_spec.specs.Path.{Path};
 ghost use Rattle.folder_spec.specs.Seen.{IsSeen};
 ghost use Rattle.folder_spec.specs.View.{View};
@@ -12,6 +13,7 @@ ghost use Rattle.tree_match.specs.Trees.{match_of};
 ghost use Rattle.tree_match.specs.declared.answer.Match.TheVariants.{Same};
 ghost use Rattle.vault_walk.specs.Survey.{IsOrdered};
 ghost use Rattle.work_folder.specs.Entering.{IsReady};
+ghost use Rattle.migrate_core.specs.Faults.{Blamed};
 ghost use Rattle.migrate_core.specs.Leading.{FinishesEach, LeadsTold, progress_of};
 ghost use Rattle.migrate_core.specs.Moved.{Moved, StandsIn, done_of, lacking};
 ghost use Rattle.migrate_core.specs.Moving.{MovesOnly};
@@ -56,6 +58,9 @@ pub(crate) fn go_on<F: Folder, R: Randoms>(
     ensures building { journal.phase ≡ Phase.Building → LeadsTold sides.now.source sides.now.target work.now journal Begun Finished (F.told folder.old) (F.told folder.new) result }
     ensures done { journal.phase ≡ Phase.Done → StandAll source.now.items there.now → LeadsTold sides.now.source sides.now.target work.now journal Finished Finished (F.told folder.old) (F.told folder.new) result }
     ensures moves { MovesOnly work.now sides.now.target.root (F.told folder.old) (F.told folder.new) }
+    ensures grows { F.faults folder.old ≤ F.faults folder.new }
+    ensures random { R.faults random.old ≤ R.faults random.new }
+    ensures blamed { IfErr result (Blamed (CountRose (F.faults folder.old) (F.faults folder.new)) (CountRose (R.faults random.old) (R.faults random.new))) }
 {
     let items = source.items.as_slice();
     let placed = place_missing(alloc, folder, work, sides, items, there, random)?;
@@ -83,6 +88,8 @@ pub(crate) fn finish<F: Folder>(
     ensures placed { IfOk result (λ done. done.placed ≡ placed) }
     ensures guard { LeadsTold sides.now.source sides.now.target work.now journal (progress_of journal.phase) Finished (F.told folder.old) (F.told folder.new) result }
     ensures moves { MovesOnly work.now sides.now.target.root (F.told folder.old) (F.told folder.new) }
+    ensures grows { F.faults folder.old ≤ F.faults folder.new }
+    ensures blamed { IfErr result (Blamed (CountRose (F.faults folder.old) (F.faults folder.new)) ⊥) }
 {
     guarded_migrations_are_seen();
     what_is_held_opens_the_same();
@@ -107,6 +114,8 @@ fn test_same<F: Folder>(
     requires target { IsWalked (F.told folder.old) sides.now.target target.now.items }
     ensures told { F.told folder.new ≡ F.told folder.old }
     ensures same { OnOk result ((v : View) → IsSeen (F.told folder.old) v → match_of v (side_of sides.now.source source.now.items) (side_of sides.now.target target.now.items) ≡ Is Same) }
+    ensures grows { F.faults folder.old ≤ F.faults folder.new }
+    ensures blamed { IfErr result (Blamed (CountRose (F.faults folder.old) (F.faults folder.new)) ⊥) }
 {
     match holds_all(alloc, folder, &sides.source, source, &sides.target, target)? {
         Match::Same => Ok(()),
@@ -136,6 +145,8 @@ fn say_done<F: Folder>(
     ensures says { OnOk result ((v : View) → IsSeen (F.told folder.new) v → StandsIn work.now (done_of journal) v) }
     ensures guard { FinishesEach work.now journal (F.told folder.old) (F.told folder.new) result }
     ensures moves { (root : Path) → AreApart root work.now → MovesOnly work.now root (F.told folder.old) (F.told folder.new) }
+    ensures grows { F.faults folder.old ≤ F.faults folder.new }
+    ensures blamed { IfErr result (Blamed (CountRose (F.faults folder.old) (F.faults folder.new)) ⊥) }
 {
     journals_keep_migrations_guarded();
     match journal.phase {

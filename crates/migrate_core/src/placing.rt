@@ -1,5 +1,6 @@
 //! Placing the source's items in the target.
-ghost use Rattle.std.specs.Prelude.{◌≡◌, not, IfOk};
+ghost use Rattle.std.specs.Prelude.{◌≡◌, ◌≤◌, not, IfErr, IfOk};
+ghost use Rattle.port_model.specs.Counts.{CountRose};
 ghost use Rattle.folder_spec.specs.Seen.{IsSeen};
 ghost use Rattle.folder_spec.specs.View.{View};
 ghost use Rattle.move_journal.specs.Journal.{IsDigest};
@@ -7,6 +8,7 @@ ghost use Rattle.tree_match.specs.Alone.{Begun};
 ghost use Rattle.vault_walk.specs.Survey.{IsOrdered};
 ghost use Rattle.vault_write.specs.Making.{is_apart};
 ghost use Rattle.work_folder.specs.Entering.{IsReady};
+ghost use Rattle.migrate_core.specs.Faults.{Blamed};
 ghost use Rattle.migrate_core.specs.Leading.{LeadsEach};
 ghost use Rattle.migrate_core.specs.Moved.{is_there, lacking};
 ghost use Rattle.migrate_core.specs.Moving.{MovesBeside};
@@ -40,6 +42,7 @@ pub struct Done {
 pub(crate) fn journal_of(source: &FPath, target: &FPath, plan: &Plan) -> Result<Journal, MoveFault>
     ensures new { IfOk result (λ journal. journal ≡ new_journal source.now target.now plan.now.items) }
     ensures digest { IfOk result (λ journal. IsDigest journal.plan) }
+    ensures blamed { IfErr result (Blamed ⊥ ⊥) }
 {
     Ok(Journal {
         phase: Phase::Building,
@@ -68,6 +71,9 @@ pub(crate) fn place_missing<F: Folder, R: Randoms>(
     ensures moves { MovesBeside (is_apart work.now sides.now.target.root) sides.now.target.root (F.told folder.old) (F.told folder.new) }
     ensures none { StandAll items.now there.now → F.told folder.new ≡ F.told folder.old }
     ensures counted { IfOk result (λ placed. IsOrdered there.now → placed ≡ lacking there.now items.now) }
+    ensures grows { F.faults folder.old ≤ F.faults folder.new }
+    ensures random { R.faults random.old ≤ R.faults random.new }
+    ensures blamed { IfErr result (Blamed (CountRose (F.faults folder.old) (F.faults folder.new)) (CountRose (R.faults random.old) (R.faults random.new))) }
 {
     let mut placed = 0;
     for item in items {
@@ -97,6 +103,9 @@ fn place_missing_one<F: Folder, R: Randoms>(
     ensures ready { IfOk result (λ placed. (v : View) → IsSeen (F.told folder.new) v → IsReady v work.now) }
     ensures none { StandsIn item.now there.now → F.told folder.new ≡ F.told folder.old }
     ensures counted { IfOk result (λ placed. IsOrdered there.now → placed ≡ not (is_there there.now item.now)) }
+    ensures grows { F.faults folder.old ≤ F.faults folder.new }
+    ensures random { R.faults random.old ≤ R.faults random.new }
+    ensures blamed { IfErr result (Blamed (CountRose (F.faults folder.old) (F.faults folder.new)) (CountRose (R.faults random.old) (R.faults random.new))) }
 {
     if stands(there, item) {
         return Ok(false);
@@ -129,6 +138,9 @@ fn place<F: Folder, R: Randoms>(
     ensures guard { LeadsEach sides.now.source sides.now.target work.now Begun Begun (F.told folder.old) (F.told folder.new) result }
     ensures moves { MovesBeside (is_apart work.now sides.now.target.root) sides.now.target.root (F.told folder.old) (F.told folder.new) }
     ensures ready { IfOk result (λ placed. (v : View) → IsSeen (F.told folder.new) v → IsReady v work.now) }
+    ensures grows { F.faults folder.old ≤ F.faults folder.new }
+    ensures random { R.faults random.old ≤ R.faults random.new }
+    ensures blamed { IfErr result (Blamed (CountRose (F.faults folder.old) (F.faults folder.new)) (CountRose (R.faults random.old) (R.faults random.new))) }
 {
     guarded_migrations_are_seen();
     placing_keeps_migrations_guarded();
@@ -155,6 +167,9 @@ fn place_content<F: Folder, R: Randoms>(
     ensures guard { LeadsEach sides.now.source sides.now.target work.now Begun Begun (F.told folder.old) (F.told folder.new) result }
     ensures moves { MovesBeside (is_apart work.now sides.now.target.root) sides.now.target.root (F.told folder.old) (F.told folder.new) }
     ensures ready { IfOk result (λ placed. (v : View) → IsSeen (F.told folder.new) v → IsReady v work.now) }
+    ensures grows { F.faults folder.old ≤ F.faults folder.new }
+    ensures random { R.faults random.old ≤ R.faults random.new }
+    ensures blamed { IfErr result (Blamed (CountRose (F.faults folder.old) (F.faults folder.new)) (CountRose (R.faults random.old) (R.faults random.new))) }
 {
     files_fit_as_contents();
     guarded_migrations_are_seen();

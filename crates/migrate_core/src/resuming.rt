@@ -1,11 +1,13 @@
 //! Going on with a migration.
-ghost use Rattle.std.specs.Prelude.{◌≡◌, ◌≢◌, ◌⊎◌, IfOk, OnOk};
+ghost use Rattle.std.specs.Prelude.{◌≡◌, ◌≢◌, ◌⊎◌, ◌≤◌, IfErr, IfOk, OnOk};
+ghost use Rattle.port_model.specs.Counts.{CountRose};
 ghost use Rattle.folder_spec.specs.Seen.{IsSeen};
 ghost use Rattle.folder_spec.specs.View.{FileOf, NoEntry, View};
 ghost use Rattle.move_journal.specs.Journal.{IsJournal, journal_text};
 ghost use Rattle.move_journal.specs.Reading.{journal_path};
 ghost use Rattle.tree_match.specs.Alone.{Finished};
 ghost use Rattle.tree_match.specs.Guard.{Migration};
+ghost use Rattle.migrate_core.specs.Faults.{Blamed};
 ghost use Rattle.migrate_core.specs.Leading.{KeepsGuarded, KeepsSettled, LeadsTold, progress_of};
 ghost use Rattle.migrate_core.specs.Moved.{Moved, MovesTree, Placed, lacking};
 ghost use Rattle.migrate_core.specs.Moving.{MovesOnly};
@@ -46,6 +48,9 @@ pub fn resume<F: Folder, R: Randoms>(
         → MovesOnly work.now journal.target (F.told folder.old) (F.told folder.new) }
     ensures moved { IfOk result (λ done. (v : View) (journal : Journal) → IsSeen (F.told folder.old) v → IsJournal journal → v (journal_path work.now) ≡ FileOf (journal_text journal)
         → MovesTree journal.source journal.target work.now source_pass.now target_pass.now done (F.told folder.old) (F.told folder.new)) }
+    ensures grows { F.faults folder.old ≤ F.faults folder.new }
+    ensures random { R.faults random.old ≤ R.faults random.new }
+    ensures blamed { IfErr result (Blamed (CountRose (F.faults folder.old) (F.faults folder.new)) (CountRose (R.faults random.old) (R.faults random.new))) }
 {
     settling_and_entering_keep_migrations_guarded();
     folder.settle()?;
@@ -66,6 +71,9 @@ fn resume_settled<F: Folder, R: Randoms>(
         → MovesOnly work.now journal.target (F.told folder.old) (F.told folder.new) }
     ensures moved { IfOk result (λ done. (v : View) (journal : Journal) → IsSeen (F.told folder.old) v → IsJournal journal → v (journal_path work.now) ≡ FileOf (journal_text journal)
         → MovesTree journal.source journal.target work.now source_pass.now target_pass.now done (F.told folder.old) (F.told folder.new)) }
+    ensures grows { F.faults folder.old ≤ F.faults folder.new }
+    ensures random { R.faults random.old ≤ R.faults random.new }
+    ensures blamed { IfErr result (Blamed (CountRose (F.faults folder.old) (F.faults folder.new)) (CountRose (R.faults random.old) (R.faults random.new))) }
 {
     journals_are_read_back();
     let journal = read(alloc, folder, work)?;
@@ -98,6 +106,9 @@ fn resume_told<F: Folder, R: Randoms>(
     ensures guard { (g : Migration) → IsResumed g work.now source_pass.now target_pass.now → KeepsSettled g (F.told folder.old) (F.told folder.new) }
     ensures moves { MovesOnly work.now journal.target (F.told folder.old) (F.told folder.new) }
     ensures moved { IfOk result (λ done. MovesTree journal.source journal.target work.now source_pass.now target_pass.now done (F.told folder.old) (F.told folder.new)) }
+    ensures grows { F.faults folder.old ≤ F.faults folder.new }
+    ensures random { R.faults random.old ≤ R.faults random.new }
+    ensures blamed { IfErr result (Blamed (CountRose (F.faults folder.old) (F.faults folder.new)) (CountRose (R.faults random.old) (R.faults random.new))) }
 {
     journals_are_read_back();
     roots_have_one_answer();
@@ -118,6 +129,8 @@ fn resume_told<F: Folder, R: Randoms>(
 fn test_source<F: Folder>(folder: &mut F, journal: &Journal, work: &FPath) -> Result<(), MoveFault>
     ensures told { F.told folder.new ≡ F.told folder.old }
     ensures there { OnOk result ((journal.now.phase ≡ Phase.Building) ⊎ ((v : View) → IsSeen (F.told folder.old) v → v journal.now.source ≢ NoEntry)) }
+    ensures grows { F.faults folder.old ≤ F.faults folder.new }
+    ensures blamed { IfErr result (Blamed (CountRose (F.faults folder.old) (F.faults folder.new)) ⊥) }
 {
     if journal.phase == Phase::Building {
         return Ok(());
@@ -147,6 +160,9 @@ fn resume_with<F: Folder, R: Randoms>(
     ensures placed { Placed sides.now.source sides.now.target (F.told folder.old) result }
     ensures guard { LeadsTold sides.now.source sides.now.target work.now journal (progress_of journal.phase) Finished (F.told folder.old) (F.told folder.new) result }
     ensures moves { MovesOnly work.now sides.now.target.root (F.told folder.old) (F.told folder.new) }
+    ensures grows { F.faults folder.old ≤ F.faults folder.new }
+    ensures random { R.faults random.old ≤ R.faults random.new }
+    ensures blamed { IfErr result (Blamed (CountRose (F.faults folder.old) (F.faults folder.new)) (CountRose (R.faults random.old) (R.faults random.new))) }
 {
     let plans = walk_both(alloc, folder, sides)?;
     test_plans(alloc, folder, sides, &plans, &journal)?;
@@ -164,6 +180,8 @@ fn test_plans<F: Folder>(
     requires source { IsWalked (F.told folder.old) sides.now.source plans.now.source.items }
     requires target { IsWalked (F.told folder.old) sides.now.target plans.now.target.items }
     ensures told { F.told folder.new ≡ F.told folder.old }
+    ensures grows { F.faults folder.old ≤ F.faults folder.new }
+    ensures blamed { IfErr result (Blamed (CountRose (F.faults folder.old) (F.faults folder.new)) ⊥) }
 {
     test_changed(journal, plans)?;
     test_names(&sides.target, plans.source.items.as_slice())?;
@@ -172,7 +190,8 @@ fn test_plans<F: Folder>(
 
 // The source has the items that the journal names.
 fn test_changed(journal: &Journal, plans: &Plans) -> Result<(), MoveFault>
-    ensures { OnOk result (AreTold journal.now plans.now.source.items) }
+    ensures told { OnOk result (AreTold journal.now plans.now.source.items) }
+    ensures blamed { IfErr result (Blamed ⊥ ⊥) }
 {
     let digest = plan_digest(&plans.source)?;
     let items = plans.source.items.as_slice().len() as u64;
@@ -192,6 +211,8 @@ fn test_held<F: Folder>(
     requires source { IsWalked (F.told folder.old) sides.now.source plans.now.source.items }
     requires target { IsWalked (F.told folder.old) sides.now.target plans.now.target.items }
     ensures told { F.told folder.new ≡ F.told folder.old }
+    ensures grows { F.faults folder.old ≤ F.faults folder.new }
+    ensures blamed { IfErr result (Blamed (CountRose (F.faults folder.old) (F.faults folder.new)) ⊥) }
 {
     match holds_all(
         alloc,
@@ -236,6 +257,9 @@ fn place_rest<F: Folder, R: Randoms>(
     ensures placed { IfOk result (λ done. (v : View) → IsSeen (F.told folder.old) v → done.placed ≡ lacking plans.now.target.items plans.now.source.items) }
     ensures guard { LeadsTold sides.now.source sides.now.target work.now journal (progress_of journal.phase) Finished (F.told folder.old) (F.told folder.new) result }
     ensures moves { MovesOnly work.now sides.now.target.root (F.told folder.old) (F.told folder.new) }
+    ensures grows { F.faults folder.old ≤ F.faults folder.new }
+    ensures random { R.faults random.old ≤ R.faults random.new }
+    ensures blamed { IfErr result (Blamed (CountRose (F.faults folder.old) (F.faults folder.new)) (CountRose (R.faults random.old) (R.faults random.new))) }
 {
     guarded_migrations_are_seen();
     settling_and_entering_keep_migrations_guarded();

@@ -1,10 +1,12 @@
 //! The two vaults of a migration, and their plans.
-ghost use Rattle.std.specs.Prelude.{◌≡◌, IfOk, OnOk};
+ghost use Rattle.std.specs.Prelude.{◌≡◌, ◌≤◌, IfErr, IfOk, OnOk};
+ghost use Rattle.port_model.specs.Counts.{CountRose};
 ghost use Rattle.folder_spec.specs.Seen.{IsSeen, under};
 ghost use Rattle.folder_spec.specs.View.{View};
 ghost use Rattle.tree_match.specs.Guard.{AreApart};
 ghost use Rattle.vault_spec.specs.Making.{Allows};
 ghost use Rattle.vault_spec.specs.Vault.{IsVault, format_of};
+ghost use Rattle.migrate_core.specs.Faults.{Blamed};
 ghost use Rattle.migrate_core.specs.Sides.{AllowsEach, AllowsLast, AreSeparate, IsWalked};
 
 use crate::fault::MoveFault;
@@ -12,7 +14,7 @@ use folder_model::{FPath, Folder};
 use plain_tree::{Name, PlainPath};
 use std::alloc::Global;
 use tree_match::Side;
-use vault_read::{Vault, VaultKind};
+use vault_read::{LoadFault, Vault, VaultKind};
 use vault_walk::{Plan, PlanItem, walk};
 
 // The source and the target of a migration.
@@ -43,6 +45,8 @@ pub(crate) fn load_both<F: Folder>(
     ensures target { IfOk result (λ sides. sides.target.root ≡ target.now) }
     ensures opens_source { IfOk result (λ sides. (v : View) → IsSeen (F.told folder.old) v → IsVault (under source.now v) source_pass.now sides.source.vault) }
     ensures opens_target { IfOk result (λ sides. (v : View) → IsSeen (F.told folder.old) v → IsVault (under target.now v) target_pass.now sides.target.vault) }
+    ensures grows { F.faults folder.old ≤ F.faults folder.new }
+    ensures blamed { IfErr result (Blamed (CountRose (F.faults folder.old) (F.faults folder.new)) ⊥) }
 {
     let source = load(alloc, folder, Side::Source, source, source_pass)?;
     let target = load(alloc, folder, Side::Target, target, target_pass)?;
@@ -59,9 +63,13 @@ fn load<F: Folder>(
     ensures told { F.told folder.new ≡ F.told folder.old }
     ensures root { IfOk result (λ vault. vault.root ≡ root.now) }
     ensures vault { IfOk result (λ vault. (v : View) → IsSeen (F.told folder.old) v → IsVault (under root.now v) pass.now vault.vault) }
+    ensures grows { F.faults folder.old ≤ F.faults folder.new }
+    ensures blamed { IfErr result (Blamed (CountRose (F.faults folder.old) (F.faults folder.new)) ⊥) }
 {
     match Vault::load(alloc, folder, root, pass) {
         Ok(vault) => Ok(vault),
+        Err(LoadFault::Failed) => Err(MoveFault::Failed),
+        Err(LoadFault::NoMemory) => Err(MoveFault::NoMemory),
         Err(fault) => Err(MoveFault::Load(side, fault)),
     }
 }
@@ -75,6 +83,8 @@ pub(crate) fn walk_both<F: Folder>(
     ensures told { F.told folder.new ≡ F.told folder.old }
     ensures source { IfOk result (λ plans. IsWalked (F.told folder.old) sides.now.source plans.source.items) }
     ensures target { IfOk result (λ plans. IsWalked (F.told folder.old) sides.now.target plans.target.items) }
+    ensures grows { F.faults folder.old ≤ F.faults folder.new }
+    ensures blamed { IfErr result (Blamed (CountRose (F.faults folder.old) (F.faults folder.new)) ⊥) }
 {
     let source = walk_one(alloc, folder, &sides.source)?;
     let target = walk_one(alloc, folder, &sides.target)?;
@@ -89,13 +99,16 @@ pub(crate) fn walk_one<F: Folder>(
 ) -> Result<Plan, MoveFault>
     ensures told { F.told folder.new ≡ F.told folder.old }
     ensures walked { IfOk result (λ plan. IsWalked (F.told folder.old) vault.now plan.items) }
+    ensures grows { F.faults folder.old ≤ F.faults folder.new }
+    ensures blamed { IfErr result (Blamed (CountRose (F.faults folder.old) (F.faults folder.new)) ⊥) }
 {
     Ok(walk(alloc, folder, vault)?)
 }
 
 // No two of three folders overlap.
 pub(crate) fn test_apart(source: &FPath, target: &FPath, work: &FPath) -> Result<(), MoveFault>
-    ensures { OnOk result (AreSeparate source.now target.now work.now) }
+    ensures apart { OnOk result (AreSeparate source.now target.now work.now) }
+    ensures blamed { IfErr result (Blamed ⊥ ⊥) }
 {
     test_pair(source, target)?;
     test_pair(source, work)?;
@@ -103,7 +116,8 @@ pub(crate) fn test_apart(source: &FPath, target: &FPath, work: &FPath) -> Result
 }
 
 fn test_pair(first: &FPath, second: &FPath) -> Result<(), MoveFault>
-    ensures { OnOk result (AreApart first.now second.now) }
+    ensures apart { OnOk result (AreApart first.now second.now) }
+    ensures blamed { IfErr result (Blamed ⊥ ⊥) }
 {
     if first.starts_with(second) || second.starts_with(first) {
         return Err(MoveFault::Overlap(first.copy()?, second.copy()?));
@@ -113,7 +127,8 @@ fn test_pair(first: &FPath, second: &FPath) -> Result<(), MoveFault>
 
 // The vault allows each name of these items: in a Cryptomator vault those in NFC.
 pub(crate) fn test_names(vault: &Vault, items: &[PlanItem]) -> Result<(), MoveFault>
-    ensures { OnOk result (AllowsEach (format_of vault.now.vault) items.now) }
+    ensures allowed { OnOk result (AllowsEach (format_of vault.now.vault) items.now) }
+    ensures blamed { IfErr result (Blamed ⊥ ⊥) }
 {
     for item in items {
         test_name(vault, &item.path)?;
@@ -123,7 +138,8 @@ pub(crate) fn test_names(vault: &Vault, items: &[PlanItem]) -> Result<(), MoveFa
 
 // The vault allows the last name of a path.
 fn test_name(vault: &Vault, path: &PlainPath) -> Result<(), MoveFault>
-    ensures { OnOk result (AllowsLast (format_of vault.now.vault) path.now) }
+    ensures allowed { OnOk result (AllowsLast (format_of vault.now.vault) path.now) }
+    ensures blamed { IfErr result (Blamed ⊥ ⊥) }
 {
     match path.names().split_last() {
         Some((name, _)) => allow(vault, path, name),
@@ -133,7 +149,8 @@ fn test_name(vault: &Vault, path: &PlainPath) -> Result<(), MoveFault>
 
 // The vault allows a name.
 fn allow(vault: &Vault, path: &PlainPath, name: &Name) -> Result<(), MoveFault>
-    ensures { OnOk result (Allows (format_of vault.now.vault) name.now) }
+    ensures allowed { OnOk result (Allows (format_of vault.now.vault) name.now) }
+    ensures blamed { IfErr result (Blamed ⊥ ⊥) }
 {
     if vault.kind() == VaultKind::Cryptomator && !name.is_nfc()? {
         return Err(MoveFault::NotAllowed(path.copy()?));

@@ -55,7 +55,7 @@ pub returns-clause-moves : goal.returns-clause-moves
 returns-clause-moves g c = subst (λ t. MovesOnly c.args.work.now c.args.sides.now.target.root t (g.F.Folder.told c.move_all.new.folder)) c.walk_both.ensures.told c.move_all.ensures.moves
 
 pub move_all-requires-clause-allowed : goal.move_all-requires-clause-allowed
-move_all-requires-clause-allowed g c = subst (λ items. AllowsEach (format_of c.args.sides.now.target.vault) items) c.as_slice-2.ensures c.in_ok-test_names.ensures
+move_all-requires-clause-allowed g c = subst (λ items. AllowsEach (format_of c.args.sides.now.target.vault) items) c.as_slice-2.ensures c.in_ok-test_names.ensures.allowed
 
 pub returns-clause-placed : goal.returns-clause-placed
 returns-clause-placed g c =
@@ -63,5 +63,5 @@ returns-clause-placed g c =
     placed_of c.args.sides.now.source c.args.sides.now.target c.in_ok-plans.plans.source.items c.in_ok-plans.plans.target.items told c.move_all.result c.in_ok-plans.ensures.source c.in_ok-plans.ensures.target
     (if_ok_more (λ done. (v : View) → IsSeen (g.F.Folder.told c.walk_both.new.folder) v → done.placed ≡ lacking [] c.in_ok-plans.plans.source.items)
     (λ done. (v : View) → IsSeen told v → done.placed ≡ lacking c.in_ok-plans.plans.target.items c.in_ok-plans.plans.source.items) c.move_all.result
-    (λ done is v seen. is v (subst (λ t. IsSeen t v) (sym c.walk_both.ensures.told) seen) ∙ ap (λ there. lacking there c.in_ok-plans.plans.source.items) (sym (sym c.as_slice.ensures ∙ c.in_ok-test_empty.ensures)))
+    (λ done is v seen. is v (subst (λ t. IsSeen t v) (sym c.walk_both.ensures.told) seen) ∙ ap (λ there. lacking there c.in_ok-plans.plans.source.items) (sym (sym c.as_slice.ensures ∙ c.in_ok-test_empty.ensures.empty)))
     c.move_all.ensures.placed)

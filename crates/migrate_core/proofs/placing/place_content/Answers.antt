@@ -1,4 +1,4 @@
-use Rattle.std.proofs.Common.{Ok, refl, ap, ◌∙◌, subst}
+use Rattle.std.proofs.Common.{Err, Ok, arith, refl, ap, ◌∙◌, subst}
 use Rattle.std.proofs.lemmas.Result.{err_from_is_err_and}
 use Rattle.chunk_files.specs.Decoding.{started}
 use Rattle.content_writing.specs.Content.{still_coming}
@@ -9,6 +9,7 @@ use Rattle.vault_spec.specs.Plan.{Planned}
 use Rattle.vault_spec.specs.Vault.{format_of}
 use Rattle.vault_write.specs.Calls.{New, MakesFile}
 use Rattle.vault_write.specs.Making.{is_apart}
+use Rattle.migrate_core.proofs.Blaming.{blamed_file}
 use Rattle.migrate_core.proofs.Leadings.{goes_failed}
 use Rattle.migrate_core.proofs.Movings.{moves_nowhere}
 use Rattle.migrate_core.proofs.Placings.{file_goes, made_moves, made_ready}
@@ -85,3 +86,10 @@ returns-clause-ready g c =
     let w = c.in_ok-place_file.ensures.made.writing in
     made_ready c.args.sides.now.target c.args.work.now c.item.inside.path (NewFile w.content) w.ending w.drawn (g.F.Folder.told c.args.folder.now) (g.F.Folder.told c.place_file.new.folder) (Ok tt)
     c.in_ok-place_file.ensures.made.makes
+
+pub returns-in_err-place_file-clause-blamed : goal.returns-in_err-place_file-clause-blamed
+returns-in_err-place_file-clause-blamed g c =
+    let p = err_from_is_err_and c.from_residual-in_err-place_file.result c.from_residual-in_err-place_file.ensures.1 in
+    let made = c.in_err-place_file.ensures in
+    rw (p.1, p.2)
+    (blamed_file c.in_err-place_file.field-0.0 made.fault (λ is. omega (arith, made.source.1 (ap Err is))) (λ is. made.failed.1 (ap Err is)) (λ is. made.random.1 (ap Err is)))

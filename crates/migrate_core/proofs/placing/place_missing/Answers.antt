@@ -5,6 +5,7 @@ use Rattle.migrate_core.specs.Moved.{lacking}
 use Rattle.std.proofs.lemmas.Result.{err_from_is_err_and}
 use Rattle.tree_match.specs.Alone.{Begun}
 use Rattle.vault_write.specs.Making.{is_apart}
+use Rattle.migrate_core.proofs.Blaming.{blamed_since}
 use Rattle.migrate_core.proofs.Leadings.{goes_failed, goes_on, guards_on, leads_on, seen_before, still_guards, still_leads}
 use Rattle.migrate_core.proofs.Movings.{moves_nowhere, moves_on, moves_to, source_apart, walked_stays}
 use Rattle.migrate_core.proofs.placing.place_missing.Goals as goal
@@ -14,6 +15,8 @@ pub loop-item-init : goal.loop-item-init
 loop-item-init g c =
     let told = g.F.Folder.told c.args.folder.now in
     record {
+      grows = omega arith;
+      random = omega arith;
       few = omega arith;
       ready = c.requires.ready;
       led = λ m sides. (still_guards m Begun told told refl, still_leads m Begun told told refl);
@@ -61,6 +64,24 @@ pub returns-in_err-place_missing_one-clause-none : goal.returns-in_err-place_mis
 returns-in_err-place_missing_one-clause-none g c all =
     c.place_missing_one.ensures.none (all c.item-item.result (c.loop-item.item-index, c.loop-item-test.true, sym c.item-item.is)) ∙ c.loop-item.invariant.none all
 
+pub returns-in_err-place_missing_one-clause-grows : goal.returns-in_err-place_missing_one-clause-grows
+returns-in_err-place_missing_one-clause-grows g c = omega (arith, c.loop-item.invariant.grows, c.place_missing_one.ensures.grows)
+
+pub returns-in_err-place_missing_one-clause-random : goal.returns-in_err-place_missing_one-clause-random
+returns-in_err-place_missing_one-clause-random g c = omega (arith, c.loop-item.invariant.random, c.place_missing_one.ensures.random)
+
+pub returns-in_err-place_missing_one-clause-blamed : goal.returns-in_err-place_missing_one-clause-blamed
+returns-in_err-place_missing_one-clause-blamed g c =
+    let p = err_from_is_err_and c.from_residual.result c.from_residual.ensures.1 in
+    rw (p.1, p.2)
+    (blamed_since _ _ _ _ _ _ c.loop-item.invariant.grows c.loop-item.invariant.random c.in_err-place_missing_one.field-0.0 c.in_err-place_missing_one.ensures.blamed)
+
+pub returns-clause-grows : goal.returns-clause-grows
+returns-clause-grows g c = c.loop-item.invariant.grows
+
+pub returns-clause-random : goal.returns-clause-random
+returns-clause-random g c = c.loop-item.invariant.random
+
 pub returns-clause-guard : goal.returns-clause-guard
 returns-clause-guard g c = c.loop-item.invariant.led
 
@@ -78,6 +99,8 @@ loop-item-preserved g c =
     let to = c.args.sides.now.target in
     let i = c.loop-item.invariant in
     record {
+      grows = omega (arith, i.grows, c.place_missing_one.ensures.grows);
+      random = omega (arith, i.random, c.place_missing_one.ensures.random);
       few = elim c.if-branch.branch [
         | then-branch w ↦ omega (arith, w.placed-is, i.few)
         | else-branch w ↦ omega (arith, w.placed-is, i.few)

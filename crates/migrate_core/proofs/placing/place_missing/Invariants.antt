@@ -13,6 +13,8 @@ use Rattle.migrate_core.proofs.placing.place_missing.Given as goal
 
 abbrev pub invariant-loop-item : goal.invariant-loop-item
 invariant-loop-item g l = record {
+  grows : g.F.Folder.faults l.initial.folder ≤ g.F.Folder.faults l.folder;
+  random : g.R.Randoms.faults l.initial.random ≤ g.R.Randoms.faults l.random;
   few : l.placed ≤ l.item-index;
   ready : (v : View) → IsSeen (g.F.Folder.told l.folder) v → IsReady v l.work;
   led : HasLed l.sides.source l.sides.target l.work Begun Begun (g.F.Folder.told l.initial.folder) (g.F.Folder.told l.folder);

@@ -35,7 +35,7 @@ use Rattle.migrate_core.proofs.Planned.{SeenAlone, seen_of, source_held, source_
 use Rattle.migrate_core.specs.Leading.{FinishesFrom, Goes, Leads, progress_of}
 use Rattle.vault_walk.specs.Surveyed.{IsPlanOf}
 use Rattle.migrate_core.specs.declared.placing.Done.{Done}
-use Rattle.migrate_core.specs.Moved.{HasMoved, HasPlaced, HaveOneTree, Moved, MovesTree, Placed, StandsIn, done_of, lacking, opened_in}
+use Rattle.migrate_core.specs.Moved.{HasMoved, HasPlaced, HaveOneTree, Moved, MovesTold, MovesTree, Placed, StandsIn, done_of, lacking, opened_in}
 use Rattle.migrate_core.specs.Moving.{MovesOnly}
 use Rattle.migrate_core.specs.Sides.{AreSeparate, AreSides, IsWalked, opened_at, side_of}
 
@@ -261,6 +261,14 @@ moved_before from to work from_pass to_pass done t0 t u before moves = record {
   opens_target = λ v is. moves.opens_target v (before v is);
   placed = λ v is. moves.placed v (before v is);
   moved = moves.moved;
+}
+
+pub told_before : (work : Path) (from_pass to_pass : List ℕ) (done : Done) (t0 t u : Option Told) → ((v : View) → IsSeen t0 v → IsSeen t v) → (v : View) → MovesTold work from_pass to_pass done t u v → MovesTold work from_pass to_pass done t0 u v
+told_before work from_pass to_pass done t0 t u before v told = record {
+  journal = told.journal;
+  is = told.is;
+  stands = told.stands;
+  moves = moved_before told.journal.source told.journal.target work from_pass to_pass done t0 t u before told.moves;
 }
 
 pub if_ok_more : {T E : Type 0} (P Q : T → Type 0) (result : Result T E) → ((value : T) → P value → Q value) → IfOk result P → IfOk result Q

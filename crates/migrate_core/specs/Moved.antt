@@ -85,3 +85,10 @@ pub record MovesTree (from to work : Path) (from_pass to_pass : List ℕ) (done 
   pub opens_target : (v : View) → IsSeen told v → IsVault (under to v) to_pass target
   pub placed : (v : View) → IsSeen told v → HasPlaced (opened_in from source) (opened_in to target) done.placed v
   pub moved : (v : View) → IsSeen told' v → HasMoved (opened_in from source) (opened_in to target) work done.items v
+
+-- of the vaults that the journal tells which stands in the work folder
+pub record MovesTold (work : Path) (from_pass to_pass : List ℕ) (done : Done) (told told' : Option Told) (v : View) : Type 0 where
+  pub journal : Journal
+  pub is : IsJournal journal
+  pub stands : StandsIn work journal v
+  pub moves : MovesTree journal.source journal.target work from_pass to_pass done told told'

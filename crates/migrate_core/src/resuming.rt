@@ -9,7 +9,7 @@ ghost use Rattle.tree_match.specs.Alone.{Finished};
 ghost use Rattle.tree_match.specs.Guard.{Migration};
 ghost use Rattle.migrate_core.specs.Faults.{Blamed};
 ghost use Rattle.migrate_core.specs.Leading.{KeepsGuarded, KeepsSettled, LeadsTold, progress_of};
-ghost use Rattle.migrate_core.specs.Moved.{Moved, MovesTree, Placed, lacking};
+ghost use Rattle.migrate_core.specs.Moved.{Moved, MovesTold, MovesTree, Placed, lacking};
 ghost use Rattle.migrate_core.specs.Moving.{MovesOnly};
 ghost use Rattle.migrate_core.specs.Sides.{AreSeparate, AreTold, IsInUse, IsResumed, IsWalked};
 
@@ -46,8 +46,7 @@ pub fn resume<F: Folder, R: Randoms>(
     ensures guard { (g : Migration) → IsResumed g work.now source_pass.now target_pass.now → KeepsGuarded g (F.told folder.old) (F.told folder.new) }
     ensures moves { (v : View) (journal : Journal) → IsSeen (F.told folder.old) v → IsJournal journal → v (journal_path work.now) ≡ FileOf (journal_text journal)
         → MovesOnly work.now journal.target (F.told folder.old) (F.told folder.new) }
-    ensures moved { IfOk result (λ done. (v : View) (journal : Journal) → IsSeen (F.told folder.old) v → IsJournal journal → v (journal_path work.now) ≡ FileOf (journal_text journal)
-        → MovesTree journal.source journal.target work.now source_pass.now target_pass.now done (F.told folder.old) (F.told folder.new)) }
+    ensures moved { IfOk result (λ done. (v : View) → IsSeen (F.told folder.old) v → MovesTold work.now source_pass.now target_pass.now done (F.told folder.old) (F.told folder.new) v) }
     ensures grows { F.faults folder.old ≤ F.faults folder.new }
     ensures random { R.faults random.old ≤ R.faults random.new }
     ensures blamed { IfErr result (Blamed (CountRose (F.faults folder.old) (F.faults folder.new)) (CountRose (R.faults random.old) (R.faults random.new))) }
@@ -69,8 +68,7 @@ fn resume_settled<F: Folder, R: Randoms>(
     ensures guard { (g : Migration) → IsResumed g work.now source_pass.now target_pass.now → KeepsSettled g (F.told folder.old) (F.told folder.new) }
     ensures moves { (v : View) (journal : Journal) → IsSeen (F.told folder.old) v → IsJournal journal → v (journal_path work.now) ≡ FileOf (journal_text journal)
         → MovesOnly work.now journal.target (F.told folder.old) (F.told folder.new) }
-    ensures moved { IfOk result (λ done. (v : View) (journal : Journal) → IsSeen (F.told folder.old) v → IsJournal journal → v (journal_path work.now) ≡ FileOf (journal_text journal)
-        → MovesTree journal.source journal.target work.now source_pass.now target_pass.now done (F.told folder.old) (F.told folder.new)) }
+    ensures moved { IfOk result (λ done. (v : View) → IsSeen (F.told folder.old) v → MovesTold work.now source_pass.now target_pass.now done (F.told folder.old) (F.told folder.new) v) }
     ensures grows { F.faults folder.old ≤ F.faults folder.new }
     ensures random { R.faults random.old ≤ R.faults random.new }
     ensures blamed { IfErr result (Blamed (CountRose (F.faults folder.old) (F.faults folder.new)) (CountRose (R.faults random.old) (R.faults random.new))) }

@@ -1,14 +1,10 @@
 use Rattle.folder_spec.specs.Region.{apart_from_both}
 use Rattle.migrate_core.proofs.Movings.{moves_on, settle_moves}
 use Rattle.migrate_core.proofs.Settled.{settle_fell, settle_seen, settle_then}
-use Rattle.std.proofs.Common.{◌≡◌}
 use Rattle.folder_spec.specs.Seen.{IsSeen}
-use Rattle.folder_spec.specs.View.{FileOf, View}
-use Rattle.move_journal.specs.Journal.{IsJournal, journal_text}
-use Rattle.move_journal.specs.Reading.{journal_path}
-use Rattle.move_journal.specs.declared.journal.Journal.{Journal}
-use Rattle.migrate_core.proofs.Endings.{if_ok_more, moved_before}
-use Rattle.migrate_core.specs.Moved.{MovesTree}
+use Rattle.folder_spec.specs.View.{View}
+use Rattle.migrate_core.proofs.Endings.{if_ok_more, told_before}
+use Rattle.migrate_core.specs.Moved.{MovesTold}
 use Rattle.migrate_core.proofs.resuming.resume.Goals as goal
 
 pub returns-in_err-settle-clause-guard : goal.returns-in_err-settle-clause-guard
@@ -42,6 +38,5 @@ returns-clause-moved g c =
     let pass = c.args.source_pass.now in
     let pass' = c.args.target_pass.now in
     let seen_then = settle_seen t0 t1 c.in_ok-settle.field-0 c.in_ok-settle.ensures.changes in
-    if_ok_more (λ done. (v : View) (journal : Journal) → IsSeen t1 v → IsJournal journal → v (journal_path work) ≡ FileOf (journal_text journal) → MovesTree journal.source journal.target work pass pass' done t1 t2)
-    (λ done. (v : View) (journal : Journal) → IsSeen t0 v → IsJournal journal → v (journal_path work) ≡ FileOf (journal_text journal) → MovesTree journal.source journal.target work pass pass' done t0 t2) c.resume_settled.result
-    (λ done moves v journal seen is stands. moved_before journal.source journal.target work pass pass' done t0 t1 t2 seen_then (moves v journal (seen_then v seen) is stands)) c.resume_settled.ensures.moved
+    if_ok_more (λ done. (v : View) → IsSeen t1 v → MovesTold work pass pass' done t1 t2 v) (λ done. (v : View) → IsSeen t0 v → MovesTold work pass pass' done t0 t2 v) c.resume_settled.result
+    (λ done moves v seen. told_before work pass pass' done t0 t1 t2 seen_then v (moves v (seen_then v seen))) c.resume_settled.ensures.moved

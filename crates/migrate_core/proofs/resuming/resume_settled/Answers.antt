@@ -1,16 +1,14 @@
-use Rattle.std.proofs.Common.{◌≡◌, ◌∙◌, subst}
+use Rattle.std.proofs.Common.{◌∙◌, subst}
 use Rattle.folder_spec.specs.Region.{apart_from_both}
 use Rattle.folder_spec.specs.Seen.{IsSeen}
 use Rattle.move_journal.specs.declared.journal.Journal.{Journal}
 use Rattle.migrate_core.specs.Leading.{KeepsSettled}
 use Rattle.migrate_core.specs.Moving.{MovesOnly}
 use Rattle.migrate_core.proofs.Movings.{moves_nowhere}
-use Rattle.migrate_core.proofs.Settled.{in_use, journal_folder, one_journal, still_settled}
-use Rattle.folder_spec.specs.View.{FileOf, View}
-use Rattle.move_journal.specs.Journal.{IsJournal, journal_text}
-use Rattle.move_journal.specs.Reading.{journal_path}
+use Rattle.migrate_core.proofs.Settled.{in_use, journal_folder, journal_stands, one_journal, still_settled}
+use Rattle.folder_spec.specs.View.{View}
 use Rattle.migrate_core.proofs.Endings.{if_ok_more}
-use Rattle.migrate_core.specs.Moved.{MovesTree}
+use Rattle.migrate_core.specs.Moved.{MovesTold, MovesTree}
 use Rattle.migrate_core.proofs.resuming.resume_settled.Goals as goal
 
 pub returns-in_err-journal-clause-guard : goal.returns-in_err-journal-clause-guard
@@ -67,9 +65,10 @@ returns-clause-moved g c =
     let pass = c.args.source_pass.now in
     let pass' = c.args.target_pass.now in
     let read = c.in_ok-journal.journal in
-    if_ok_more (λ done. MovesTree read.source read.target work pass pass' done t2 t3)
-    (λ done. (v : View) (journal : Journal) → IsSeen t0 v → IsJournal journal → v (journal_path work) ≡ FileOf (journal_text journal) → MovesTree journal.source journal.target work pass pass' done t0 t3) c.resume_told.result
-    (λ done moves v journal seen is stands.
-    subst (λ (j : Journal). MovesTree j.source j.target work pass pass' done t0 t3)
-    (one_journal c.journals_are_read_back.ensures.one v work read journal c.in_ok-journal.ensures.journal (c.in_ok-journal.ensures.answer v seen) is stands)
-    (subst (λ t. MovesTree read.source read.target work pass pass' done t t3) (c.look_again.ensures.told ∙ c.read.ensures.told) moves)) c.resume_told.ensures.moved
+    if_ok_more (λ done. MovesTree read.source read.target work pass pass' done t2 t3) (λ done. (v : View) → IsSeen t0 v → MovesTold work pass pass' done t0 t3 v) c.resume_told.result
+    (λ done moves v seen. record {
+      journal = read;
+      is = c.in_ok-journal.ensures.journal;
+      stands = journal_stands v work read (c.in_ok-journal.ensures.answer v seen);
+      moves = subst (λ t. MovesTree read.source read.target work pass pass' done t t3) (c.look_again.ensures.told ∙ c.read.ensures.told) moves;
+    }) c.resume_told.ensures.moved

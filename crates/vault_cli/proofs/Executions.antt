@@ -22,10 +22,11 @@ use Rattle.vault_cli.specs.declared.answer.Answer.{Answer}
 use Rattle.vault_cli.specs.declared.answer.Answer.TheVariants.{Done, Findings, BadCommandLine, OutOfMemory, FolderFault, InputFault, OutputFault, RandomFault, Refused, WrongPass, NotFound, WrongKind, DamagedInput, Damaged, NotAllowed, Overlap, NotEmpty, Begun, ZeroRandom, Taken, Limit}
 use Rattle.vault_cli.specs.declared.words.Command.{Command}
 use Rattle.vault_cli.specs.declared.words.Repairing.{Repairing}
-use Rattle.vault_cli.specs.declared.words.Command.TheVariants.{DecryptFile, Init, Ls, Cat, Fsck, Mkdir, Repair}
+use Rattle.vault_cli.specs.declared.words.Command.TheVariants.{DecryptFile, Init, Ls, Cat, Fsck, Mkdir, Put, Repair}
 use Rattle.vault_cli.proofs.Decryptions.{decrypts_nothing, decryption_lost}
 use Rattle.vault_cli.proofs.MadeItems.{makes_no_directory, directory_lost, no_bad_directory}
 use Rattle.vault_cli.proofs.MadeVaults.{makes_no_vault, vault_lost, no_bad_vault}
+use Rattle.vault_cli.proofs.StoredFiles.{stores_nothing, file_lost, no_bad_file}
 
 either_of : {P Q : Type 0} (b : Bool) → P → Q → Either b P Q
 either_of true p q = p
@@ -63,6 +64,7 @@ not_begun (Some (Repair target)) w = record { apart = either_of (overlap target.
     repairs = record { own = refl; cause = λ v is. inl (inr (inr refl)); tested = λ is. cc; moves = inl refl; prints = Keeps-refl w.taken }
 not_begun (Some (Init new)) w = makes_no_vault new w
 not_begun (Some (Mkdir change)) w = makes_no_directory change w
+not_begun (Some (Put change)) w = stores_nothing change w
 
 -- all pieces are the first ones
 all_taken : (Shows : Shown → Type 0) (answer : Answer) (taken taken' : Option (List ℕ)) → TakesAll Shows answer taken taken' → TakesSome Shows taken taken'
@@ -157,6 +159,7 @@ lost (Some (Repair target)) answer before after named did =
     }
 lost (Some (Init new)) answer before after named did = vault_lost new answer before after named did
 lost (Some (Mkdir change)) answer before after named did = directory_lost change answer before after named did
+lost (Some (Put change)) answer before after named did = file_lost change answer before after named did
 
 -- what holds of an answer holds of the one that its report gives back
 pub reported : (command : Option Command) (answer result : Answer) (before after : World) → (result ≡ answer) ⊎ ((result ≡ OutOfMemory) × (is_plain answer ≡ false))
@@ -232,6 +235,7 @@ bad_is_none (Some (Repair target)) answer before after is did = absurd (by (over
     by false repairs = let none : IsTrue (is_of_repairing BadCommandLine) = subst (λ a. IsTrue (is_of_repairing a)) (bad_of_status answer is) repairs.own in cc
 bad_is_none (Some (Init new)) answer before after is did = absurd (no_bad_vault new answer before after (bad_of_status answer is) did)
 bad_is_none (Some (Mkdir change)) answer before after is did = absurd (no_bad_directory change answer before after (bad_of_status answer is) did)
+bad_is_none (Some (Put change)) answer before after is did = absurd (no_bad_file change answer before after (bad_of_status answer is) did)
 
 pub none_is_bad : (command : Option Command) (answer : Answer) (before after : World) → IsNone command → Executes command answer before after → (status_of answer ≡ 2) ⊎ (status_of answer ≡ 3)
 none_is_bad None answer before after none did = elim did.answers [ inl bad ↦ inl (ap status_of bad) | inr memory ↦ inr (ap status_of memory) ]

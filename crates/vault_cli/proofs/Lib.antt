@@ -13,4 +13,5 @@ mod Refusals
 mod Repairs
 mod Showing
 mod Sites
+mod StoredFiles
 mod WholeFiles

@@ -39,7 +39,7 @@ use Rattle.vault_cli.specs.Items.{ShowsOneBeside, ShowsNewTreeBeside, IsMakingBe
 use Rattle.vault_cli.specs.Mkdir.{MakesDirectoryThere, MakesDirectoryApart, MakesDirectoryIn, is_of_directory}
 use Rattle.vault_cli.specs.Opening.{Opens, OfVault}
 use Rattle.vault_cli.specs.Places.{overlap}
-use Rattle.vault_cli.specs.Refusing.{RefusesSite}
+use Rattle.vault_cli.specs.Refusing.{RefusesSite, Unless}
 use Rattle.vault_cli.specs.Shown.{refused}
 use Rattle.vault_cli.specs.World.{World}
 use Rattle.vault_cli.specs.declared.answer.Answer.{Answer}
@@ -144,7 +144,7 @@ named_made outside alike how p ending drawn t u w result sound apart begins one 
 
 -- ---- at a plain path
 
-item_made : Outside → Alike → (how : How) (vault : OpenedVault) (work : Path) (path : plain.Path) (item : NewItem) (ending : Ending) (drawn : List ℕ) (t u w : Option Told) (result : Result (Unit {0}) PutFault)
+pub item_made : Outside → Alike → (how : How) (vault : OpenedVault) (work : Path) (path : plain.Path) (item : NewItem) (ending : Ending) (drawn : List ℕ) (t u w : Option Told) (result : Result (Unit {0}) PutFault)
     → ((a : Told) → t ≡ Some a → IsSound a.state) → overlap vault.root work ≡ false → ChangesWork work t u → MakesAt how vault work path item ending drawn u w result → MakesItem how vault work path item ending drawn t w result
 item_made outside alike how vault work path item ending drawn t u w result sound apart begins makes = record {
   named = λ front name is.
@@ -153,7 +153,7 @@ item_made outside alike how vault work path item ending drawn t u w result sound
 }
 
 -- all tests pass of what is seen at first
-site_gives : (change : Change) (v : View) (answer : Answer) (next : Vault → Type 0) (vault : Vault) → Opens v change.target.vault change.target.pass vault → EntersAs v change.work (Ok tt) → next vault → OfSite change v answer next
+pub site_gives : (change : Change) (v : View) (answer : Answer) (next : Vault → Type 0) (vault : Vault) → Opens v change.target.vault change.target.pass vault → EntersAs v change.work (Ok tt) → next vault → OfSite change v answer next
 site_gives change v answer next vault opens entered holds =
     pass_gives change.target.pass (v change.target.pass) (refused answer) (λ phrase. OfWork v change.work answer (OfVault v change.target.vault phrase (refused answer) next)) opens.0 opens.1
     (Ok tt, entered, (Ok vault, opens.2, holds))
@@ -229,6 +229,11 @@ pub apart_made : (change : Change) (answer : Answer) (t w : Option Told) (stream
 apart_made change answer t w stream stream' apart made =
     subst (λ b. Either b (RefusesOverlapping change.target.vault change.work answer t w stream stream') (MakesDirectoryApart change answer t w stream stream')) (sym apart) made
 
+-- a test that fails is the answer, whatever follows where all pass
+pub site_refused : (change : Change) (v : View) (answer : Answer) (next : Vault → Type 0) → RefusesSite change v answer → Unless answer (OfSite change v answer next)
+site_refused change v answer next refuses =
+    unless_then (OfSite change v answer (λ vault. ⊥)) (OfSite change v answer next) answer (site_then change v answer (λ vault. ⊥) next (λ vault none. absurd none)) refuses
+
 -- where the command doesn't come to the making
 pub no_site : (change : Change) (answer : Answer) (t u : Option Told) (stream : Option ByteStream) → Draws stream stream []
     → (overlap change.target.vault change.work ≡ true → ((answer ≡ Overlap change.target.vault change.work) ⊎ (answer ≡ OutOfMemory)) × (u ≡ t))
@@ -239,15 +244,13 @@ no_site change answer t u stream undrawn overlapping refuses own begins = by (ov
     by : (b : Bool) → overlap change.target.vault change.work ≡ b → Either b (RefusesOverlapping change.target.vault change.work answer t u stream stream) (MakesDirectoryApart change answer t u stream stream)
     by true is = record { answers = (overlapping is).0; unchanged = (overlapping is).1; undrawn = undrawn }
     by false is = record {
-      cause = λ v seen.
-          unless_then (OfSite change v answer (λ vault. ⊥)) (OfSite change v answer (λ vault. MakesIn New change NewDirectory Whole vault answer t u stream stream)) answer
-          (site_then change v answer (λ vault. ⊥) (λ vault. MakesIn New change NewDirectory Whole vault answer t u stream stream) (λ vault none. absurd none)) (refuses is v seen);
+      cause = λ v seen. site_refused change v answer (λ vault. MakesIn New change NewDirectory Whole vault answer t u stream stream) (refuses is v seen);
       comes = inl (record { own = own is; changes = work_alone change.work t u stream stream begins undrawn });
     }
 
 -- ---- where the command isn't begun, and where its message found no memory
 
-either_made : (b : Bool) (P Q : Type 0) → P → Q → Either b P Q
+pub either_made : (b : Bool) (P Q : Type 0) → P → Q → Either b P Q
 either_made true P Q p q = p
 either_made false P Q p q = q
 
@@ -287,7 +290,7 @@ root_lost : (how : How) (root : Path) → AnswersRoot how root (Err puts.NoMemor
 root_lost New root = λ other. refl
 root_lost InPlace root = λ other. refl
 
-lost_in : (how : How) (change : Change) (item : NewItem) (ending : Ending) (vault : Vault) (answer : Answer) (t w : Option Told) (stream stream' : Option ByteStream) → is_plain answer ≡ false
+pub lost_in : (how : How) (change : Change) (item : NewItem) (ending : Ending) (vault : Vault) (answer : Answer) (t w : Option Told) (stream stream' : Option ByteStream) → is_plain answer ≡ false
     → MakesIn how change item ending vault answer t w stream stream' → MakesIn how change item ending vault OutOfMemory t w stream stream'
 lost_in how change item ending vault answer t w stream stream' named makes = record {
   result = Err puts.NoMemory;

@@ -12,7 +12,7 @@ use Rattle.vault_read.specs.declared.vault.VaultKind.{VaultKind}
 use Rattle.vault_read.specs.declared.vault.VaultKind.TheVariants.{Gocryptfs, Cryptomator}
 use Rattle.vault_cli.specs.Words.{Choice, Arguments, arguments_of, are_just, value_of}
 use Rattle.vault_cli.specs.declared.words.Command.{Command}
-use Rattle.vault_cli.specs.declared.words.Command.TheVariants.{DecryptFile, Init, Ls, Cat, Fsck, Mkdir, Repair}
+use Rattle.vault_cli.specs.declared.words.Command.TheVariants.{DecryptFile, Init, Ls, Cat, Fsck, Mkdir, Put, Repair}
 use Rattle.vault_cli.specs.declared.words.Change.{Change}
 use Rattle.vault_cli.specs.declared.words.Checking.{Checking}
 use Rattle.vault_cli.specs.declared.words.Repairing.{Repairing}
@@ -86,9 +86,17 @@ abbrev pub change_at : List Choice → List (List ℕ) → Option Change
 change_at choices (vault ∷ path ∷ []) = change_of choices vault path
 change_at choices _ = None
 
+-- the words behind the name of a command that makes an item
+abbrev pub making_by : List Choice → List (List ℕ) → Option Change
+making_by choices positional = with_just pass_and_work choices (change_at choices positional)
+
 -- `mkdir VAULT PATH --pass FILE --work WORK`
 abbrev pub mkdir_by : List Choice → List (List ℕ) → Option Command
-mkdir_by choices positional = with_just pass_and_work choices (option_map Mkdir (change_at choices positional))
+mkdir_by choices positional = option_map Mkdir (making_by choices positional)
+
+-- `put VAULT PATH --pass FILE --work WORK`
+abbrev pub put_by : List Choice → List (List ℕ) → Option Command
+put_by choices positional = option_map Put (making_by choices positional)
 
 -- `ls VAULT [PATH] --pass FILE`; without PATH it is the root, which the empty text writes
 abbrev pub directory_at : List Choice → List (List ℕ) → Option Target
@@ -148,6 +156,7 @@ command_named name arguments =
     else if bytes_eq name (codes "cat") then cat_by arguments.choices arguments.positional
     else if bytes_eq name (codes "fsck") then fsck_by arguments.choices arguments.positional
     else if bytes_eq name (codes "mkdir") then mkdir_by arguments.choices arguments.positional
+    else if bytes_eq name (codes "put") then put_by arguments.choices arguments.positional
     else if bytes_eq name (codes "repair") then repair_by arguments.choices arguments.positional
     else None
 

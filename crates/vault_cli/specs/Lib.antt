@@ -21,4 +21,5 @@ pub mod Beginning
 pub mod Init
 pub mod Items
 pub mod Mkdir
+pub mod Put
 pub mod Runs

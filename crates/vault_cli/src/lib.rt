@@ -13,6 +13,7 @@ mod ls;
 mod mkdir;
 mod opening;
 mod places;
+mod put;
 mod repair;
 mod reporting;
 mod running;
@@ -35,6 +36,8 @@ mod making_tests;
 mod repair_tests;
 #[cfg(test)]
 mod samples;
+#[cfg(test)]
+mod storing_tests;
 #[cfg(test)]
 mod tests;
 #[cfg(test)]

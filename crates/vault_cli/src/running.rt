@@ -14,6 +14,7 @@ use crate::fsck::fsck;
 use crate::init::init;
 use crate::ls::ls;
 use crate::mkdir::mkdir;
+use crate::put::put;
 use crate::repair::repair;
 use crate::reporting::report;
 use crate::words::Command;
@@ -90,6 +91,7 @@ fn execute<F: Folder, R: Randoms, I: Source, O: Sink>(
         Ok(Some(Command::Cat(target))) => cat(alloc, &target, folder, out),
         Ok(Some(Command::Fsck(target))) => fsck(alloc, &target, folder, out),
         Ok(Some(Command::Mkdir(change))) => mkdir(alloc, &change, folder, random),
+        Ok(Some(Command::Put(change))) => put(alloc, &change, folder, random, input),
         Ok(Some(Command::Repair(target))) => repair(alloc, &target, folder, out),
     }
 }

@@ -33,7 +33,7 @@ pub(crate) fn put<F: Folder>(
 }
 
 // Both vaults, and pass files.
-fn vaults(alloc: Global) -> Result<MemFolder, Fail> {
+pub(crate) fn samples(alloc: Global) -> Result<MemFolder, Fail> {
     let mut folder = MemFolder::new(alloc)?;
     put(alloc, &mut folder, G_DIRS, G_FILES)?;
     put(alloc, &mut folder, C_DIRS, C_FILES)?;
@@ -127,7 +127,7 @@ const LONG_LINE: &str =
 #[test]
 fn gocryptfs_is_read(rt: HostRuntime) -> Result<(), Fail> {
     let alloc = rt.alloc();
-    let mut folder = vaults(alloc)?;
+    let mut folder = samples(alloc)?;
     for (words, status, out, err) in [
         ("ls g --pass p", 0, "d a\nf e\n", ""),
         ("ls --pass=p g a", 0, "f x\n", ""),
@@ -192,7 +192,7 @@ fn gocryptfs_is_read(rt: HostRuntime) -> Result<(), Fail> {
 #[test]
 fn cryptomator_is_read(rt: HostRuntime) -> Result<(), Fail> {
     let alloc = rt.alloc();
-    let mut folder = vaults(alloc)?;
+    let mut folder = samples(alloc)?;
     for (words, status, out, err) in [
         ("ls c --pass p", 0, LONG_LINE, ""),
         ("ls c a --pass p", 0, "f x\n", ""),
@@ -294,7 +294,7 @@ fn put_holes<F: Folder>(alloc: Global, folder: &mut F) -> Result<(), Fail> {
 #[test]
 fn an_output_that_fails(rt: HostRuntime) -> Result<(), Fail> {
     let alloc = rt.alloc();
-    let mut folder = vaults(alloc)?;
+    let mut folder = samples(alloc)?;
     put_holes(alloc, &mut folder)?;
     for (words, fails, status, written) in [
         ("cat g e --pass p", [].as_slice(), 0, 12_288),
@@ -309,7 +309,7 @@ fn an_output_that_fails(rt: HostRuntime) -> Result<(), Fail> {
 
 // The status of a run in which one call of the folder fails.
 fn fails_at(alloc: Global, words: &str, call: u64) -> Result<u8, Fail> {
-    let mut folder = vaults(alloc)?;
+    let mut folder = samples(alloc)?;
     folder.fail_at(call)?;
     let ended = runs(alloc, &mut folder, words, &[])?;
     Ok(ended.0)

@@ -1,7 +1,7 @@
 //! The commands, and the words that make them.
 ghost use Rattle.std.specs.Prelude.{◌≡◌, IfOk, map, string_bytes};
 ghost use Rattle.plain_tree.specs.Reading.{read_path};
-ghost use Rattle.vault_cli.specs.Commands.{cat_by, checking_of, command_named, command_of, change_of, decrypt_file_by, file_of, folder_path, fsck_by, init_by, key_of, kind_of, ls_by, mkdir_by, new_vault_of, repair_by, repairing_of, target_of};
+ghost use Rattle.vault_cli.specs.Commands.{cat_by, checking_of, command_named, command_of, change_of, decrypt_file_by, file_of, folder_path, fsck_by, init_by, key_of, kind_of, ls_by, making_by, mkdir_by, new_vault_of, put_by, repair_by, repairing_of, target_of};
 
 use crate::arguments::{Arguments, Choice, are_just, value_of};
 use folder_model::{FPath, FPathFault};
@@ -64,6 +64,8 @@ pub enum Command {
     Fsck(Checking),
     /// `mkdir VAULT PATH --pass FILE --work WORK`: makes a directory.
     Mkdir(Change),
+    /// `put VAULT PATH --pass FILE --work WORK`: stores the input as a file.
+    Put(Change),
     /// `repair VAULT LOST --pass FILE`: moves the strays of a vault into a new folder.
     Repair(Repairing),
 }
@@ -107,6 +109,8 @@ fn named(
         fsck(alloc, choices, positional)
     } else if name == "mkdir" {
         mkdir(alloc, choices, positional)
+    } else if name == "put" {
+        put(alloc, choices, positional)
     } else if name == "repair" {
         repair(alloc, choices, positional)
     } else {
@@ -212,14 +216,34 @@ fn mkdir(
 ) -> Result<Option<Command>, AllocError>
     ensures { IfOk result (λ command. command ≡ mkdir_by choices.now positional.now) }
 {
+    Ok(read_making(alloc, choices, positional)?.map(Command::Mkdir))
+}
+
+fn put(
+    alloc: Global,
+    choices: &[Choice],
+    positional: &[Text],
+) -> Result<Option<Command>, AllocError>
+    ensures { IfOk result (λ command. command ≡ put_by choices.now positional.now) }
+{
+    Ok(read_making(alloc, choices, positional)?.map(Command::Put))
+}
+
+// What the words behind the name of a command that makes an item name.
+fn read_making(
+    alloc: Global,
+    choices: &[Choice],
+    positional: &[Text],
+) -> Result<Option<Change>, AllocError>
+    ensures { IfOk result (λ change. change ≡ making_by choices.now positional.now) }
+{
     if !are_just(choices, &["--pass", "--work"]) {
         return Ok(None);
     }
-    let change = match positional {
-        [vault, path] => read_change(alloc, choices, vault.as_str(), path.as_str())?,
-        _ => None,
-    };
-    Ok(change.map(Command::Mkdir))
+    match positional {
+        [vault, path] => read_change(alloc, choices, vault.as_str(), path.as_str()),
+        _ => Ok(None),
+    }
 }
 
 // What `VAULT PATH --pass FILE --work WORK` names.

@@ -1,5 +1,6 @@
 mod Beginnings
 mod Blaming
+mod Causing
 mod Endings
 mod Fronts
 mod Leadings

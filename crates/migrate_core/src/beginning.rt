@@ -7,6 +7,8 @@ ghost use Rattle.move_journal.specs.Journal.{IsParsed};
 ghost use Rattle.tree_match.specs.Alone.{Finished, Unbegun};
 ghost use Rattle.tree_match.specs.Guard.{Migration};
 ghost use Rattle.vault_spec.specs.Vault.{format_of};
+ghost use Rattle.work_folder.specs.Entering.{EntersAs};
+ghost use Rattle.migrate_core.specs.Causes.{Begins, BeginsApart, BeginsWith, Moves, TestsEmpty, Unless};
 ghost use Rattle.migrate_core.specs.Faults.{Blamed};
 ghost use Rattle.migrate_core.specs.Leading.{KeepsGuarded, KeepsSettled, LeadsEach};
 ghost use Rattle.migrate_core.specs.Moved.{Moved, MovesTree, Placed, lacking};
@@ -52,6 +54,7 @@ pub fn begin<F: Folder, R: Randoms>(
     ensures grows { F.faults folder.old ≤ F.faults folder.new }
     ensures random { R.faults random.old ≤ R.faults random.new }
     ensures blamed { IfErr result (Blamed (CountRose (F.faults folder.old) (F.faults folder.new)) (CountRose (R.faults random.old) (R.faults random.new))) }
+    ensures cause { (v : View) → IsSeen (F.told folder.old) v → Unless result (Begins source.now target.now work.now source_pass.now target_pass.now v result) }
 {
     settling_and_entering_keep_migrations_guarded();
     test_apart(source, target, work)?;
@@ -88,6 +91,7 @@ fn begin_settled<F: Folder, R: Randoms>(
     ensures grows { F.faults folder.old ≤ F.faults folder.new }
     ensures random { R.faults random.old ≤ R.faults random.new }
     ensures blamed { IfErr result (Blamed (CountRose (F.faults folder.old) (F.faults folder.new)) (CountRose (R.faults random.old) (R.faults random.new))) }
+    ensures cause { (v : View) → IsSeen (F.told folder.old) v → Unless result (BeginsApart source.now target.now work.now source_pass.now target_pass.now v result) }
 {
     roots_have_one_answer();
     guarded_migrations_are_seen();
@@ -114,6 +118,7 @@ fn begin_with<F: Folder, R: Randoms>(
     ensures grows { F.faults folder.old ≤ F.faults folder.new }
     ensures random { R.faults random.old ≤ R.faults random.new }
     ensures blamed { IfErr result (Blamed (CountRose (F.faults folder.old) (F.faults folder.new)) (CountRose (R.faults random.old) (R.faults random.new))) }
+    ensures cause { (v : View) → IsSeen (F.told folder.old) v → Unless result (BeginsWith sides.now.source sides.now.target work.now v result) }
 {
     let plans = walk_both(alloc, folder, sides)?;
     test_empty(plans.target.items.as_slice())?;
@@ -125,6 +130,7 @@ fn begin_with<F: Folder, R: Randoms>(
 fn test_empty(items: &[PlanItem]) -> Result<(), MoveFault>
     ensures empty { OnOk result (items.now ≡ []) }
     ensures blamed { IfErr result (Blamed ⊥ ⊥) }
+    ensures cause { Unless result (TestsEmpty items.now result) }
 {
     match items.first() {
         None => Ok(()),
@@ -153,6 +159,7 @@ fn move_all<F: Folder, R: Randoms>(
     ensures grows { F.faults folder.old ≤ F.faults folder.new }
     ensures random { R.faults random.old ≤ R.faults random.new }
     ensures blamed { IfErr result (Blamed (CountRose (F.faults folder.old) (F.faults folder.new)) (CountRose (R.faults random.old) (R.faults random.new))) }
+    ensures cause { (v : View) → IsSeen (F.told folder.old) v → Unless result (Moves (EntersAs v work.now) result) }
 {
     guarded_migrations_are_seen();
     journals_keep_migrations_guarded();

@@ -1,5 +1,5 @@
 //! Going on with a migration.
-ghost use Rattle.std.specs.Prelude.{◌≡◌, ◌≢◌, ◌⊎◌, ◌≤◌, IfErr, IfOk, OnOk};
+ghost use Rattle.std.specs.Prelude.{◌≡◌, ◌≢◌, ◌⊎◌, ◌≤◌, IfErr, IfOk, Ok, OnOk};
 ghost use Rattle.port_model.specs.Counts.{CountRose};
 ghost use Rattle.folder_spec.specs.Seen.{IsSeen};
 ghost use Rattle.folder_spec.specs.View.{FileOf, NoEntry, View};
@@ -7,6 +7,8 @@ ghost use Rattle.move_journal.specs.Journal.{IsJournal, journal_text};
 ghost use Rattle.move_journal.specs.Reading.{journal_path};
 ghost use Rattle.tree_match.specs.Alone.{Finished};
 ghost use Rattle.tree_match.specs.Guard.{Migration};
+ghost use Rattle.work_folder.specs.Entering.{Empties};
+ghost use Rattle.migrate_core.specs.Causes.{Moves, Resumes, ResumesTold, ResumesWith, TestsItems, TestsMatch, TestsSource, TestsTold, Unless, is_done, where_in};
 ghost use Rattle.migrate_core.specs.Faults.{Blamed};
 ghost use Rattle.migrate_core.specs.Leading.{KeepsGuarded, KeepsSettled, LeadsTold, progress_of};
 ghost use Rattle.migrate_core.specs.Moved.{Moved, MovesTold, MovesTree, Placed, lacking};
@@ -50,6 +52,7 @@ pub fn resume<F: Folder, R: Randoms>(
     ensures grows { F.faults folder.old ≤ F.faults folder.new }
     ensures random { R.faults random.old ≤ R.faults random.new }
     ensures blamed { IfErr result (Blamed (CountRose (F.faults folder.old) (F.faults folder.new)) (CountRose (R.faults random.old) (R.faults random.new))) }
+    ensures cause { (v : View) → IsSeen (F.told folder.old) v → Unless result (Resumes work.now source_pass.now target_pass.now v result) }
 {
     settling_and_entering_keep_migrations_guarded();
     folder.settle()?;
@@ -72,11 +75,12 @@ fn resume_settled<F: Folder, R: Randoms>(
     ensures grows { F.faults folder.old ≤ F.faults folder.new }
     ensures random { R.faults random.old ≤ R.faults random.new }
     ensures blamed { IfErr result (Blamed (CountRose (F.faults folder.old) (F.faults folder.new)) (CountRose (R.faults random.old) (R.faults random.new))) }
+    ensures cause { (v : View) → IsSeen (F.told folder.old) v → Unless result (Resumes work.now source_pass.now target_pass.now v result) }
 {
     journals_are_read_back();
     let journal = read(alloc, folder, work)?;
     test_apart(&journal.source, &journal.target, work)?;
-    Work::look_again(folder, work, journal.phase == Phase::Done)?;
+    Work::look_again(folder, work, is_done(journal.phase))?;
     resume_told(
         alloc,
         folder,
@@ -86,6 +90,16 @@ fn resume_settled<F: Folder, R: Randoms>(
         target_pass,
         random,
     )
+}
+
+// Whether all is done in this phase.
+fn is_done(phase: Phase) -> bool
+    ensures { result ≡ is_done phase }
+{
+    match phase {
+        Phase::Building => false,
+        Phase::Done => true,
+    }
 }
 
 // Goes on with the migration that a journal tells.
@@ -107,6 +121,7 @@ fn resume_told<F: Folder, R: Randoms>(
     ensures grows { F.faults folder.old ≤ F.faults folder.new }
     ensures random { R.faults random.old ≤ R.faults random.new }
     ensures blamed { IfErr result (Blamed (CountRose (F.faults folder.old) (F.faults folder.new)) (CountRose (R.faults random.old) (R.faults random.new))) }
+    ensures cause { (v : View) → IsSeen (F.told folder.old) v → Unless result (ResumesTold work.now source_pass.now target_pass.now v journal result) }
 {
     journals_are_read_back();
     roots_have_one_answer();
@@ -129,6 +144,7 @@ fn test_source<F: Folder>(folder: &mut F, journal: &Journal, work: &FPath) -> Re
     ensures there { OnOk result ((journal.now.phase ≡ Phase.Building) ⊎ ((v : View) → IsSeen (F.told folder.old) v → v journal.now.source ≢ NoEntry)) }
     ensures grows { F.faults folder.old ≤ F.faults folder.new }
     ensures blamed { IfErr result (Blamed (CountRose (F.faults folder.old) (F.faults folder.new)) ⊥) }
+    ensures cause { (v : View) → IsSeen (F.told folder.old) v → Unless result (TestsSource journal.now.phase work.now journal.now.source v result) }
 {
     if journal.phase == Phase::Building {
         return Ok(());
@@ -161,6 +177,7 @@ fn resume_with<F: Folder, R: Randoms>(
     ensures grows { F.faults folder.old ≤ F.faults folder.new }
     ensures random { R.faults random.old ≤ R.faults random.new }
     ensures blamed { IfErr result (Blamed (CountRose (F.faults folder.old) (F.faults folder.new)) (CountRose (R.faults random.old) (R.faults random.new))) }
+    ensures cause { (v : View) → IsSeen (F.told folder.old) v → Unless result (ResumesWith sides.now.source sides.now.target work.now journal v result) }
 {
     let plans = walk_both(alloc, folder, sides)?;
     test_plans(alloc, folder, sides, &plans, &journal)?;
@@ -180,6 +197,7 @@ fn test_plans<F: Folder>(
     ensures told { F.told folder.new ≡ F.told folder.old }
     ensures grows { F.faults folder.old ≤ F.faults folder.new }
     ensures blamed { IfErr result (Blamed (CountRose (F.faults folder.old) (F.faults folder.new)) ⊥) }
+    ensures cause { (v : View) → IsSeen (F.told folder.old) v → Unless result (TestsItems sides.now.source sides.now.target journal.now v plans.now.source.items plans.now.target.items (λ answer. answer ≡ Ok tt) result) }
 {
     test_changed(journal, plans)?;
     test_names(&sides.target, plans.source.items.as_slice())?;
@@ -190,6 +208,7 @@ fn test_plans<F: Folder>(
 fn test_changed(journal: &Journal, plans: &Plans) -> Result<(), MoveFault>
     ensures told { OnOk result (AreTold journal.now plans.now.source.items) }
     ensures blamed { IfErr result (Blamed ⊥ ⊥) }
+    ensures cause { Unless result (TestsTold journal.now plans.now.source.items result) }
 {
     let digest = plan_digest(&plans.source)?;
     let items = plans.source.items.as_slice().len() as u64;
@@ -211,6 +230,7 @@ fn test_held<F: Folder>(
     ensures told { F.told folder.new ≡ F.told folder.old }
     ensures grows { F.faults folder.old ≤ F.faults folder.new }
     ensures blamed { IfErr result (Blamed (CountRose (F.faults folder.old) (F.faults folder.new)) ⊥) }
+    ensures cause { (v : View) → IsSeen (F.told folder.old) v → Unless result (TestsMatch sides.now.target plans.now.target.items sides.now.source plans.now.source.items v (λ answer. answer ≡ Ok tt) result) }
 {
     match holds_all(
         alloc,
@@ -226,7 +246,9 @@ fn test_held<F: Folder>(
 }
 
 // An item of the target that the source lacks is further there.
-fn where_of(how: How) -> Where {
+fn where_of(how: How) -> Where
+    ensures { result ≡ where_in how }
+{
     match how {
         How::Missing => Where::Extra,
         How::Kind => Where::Kind,
@@ -258,6 +280,7 @@ fn place_rest<F: Folder, R: Randoms>(
     ensures grows { F.faults folder.old ≤ F.faults folder.new }
     ensures random { R.faults random.old ≤ R.faults random.new }
     ensures blamed { IfErr result (Blamed (CountRose (F.faults folder.old) (F.faults folder.new)) (CountRose (R.faults random.old) (R.faults random.new))) }
+    ensures cause { (v : View) → IsSeen (F.told folder.old) v → Unless result (Moves (Empties v work.now) result) }
 {
     guarded_migrations_are_seen();
     settling_and_entering_keep_migrations_guarded();

@@ -1,4 +1,4 @@
-use Rattle.std.proofs.Common.{◌≡◌, [], Result, ◌∙◌, Ok, sym, ap, subst}
+use Rattle.std.proofs.Common.{◌≡◌, [], Result, ◌∙◌, Ok, sym, ap, subst, Err}
 use Rattle.folder_spec.specs.declared.FolderFault.{FolderFault}
 use Rattle.std.proofs.lemmas.Result.{err_from_is_err_and}
 use Rattle.folder_spec.specs.Region.{apart_from_both}
@@ -8,7 +8,7 @@ use Rattle.move_journal.specs.Writing.{IsWorkFolder, elsewhere}
 use Rattle.move_journal.specs.declared.journal.Journal.{Journal}
 use Rattle.tree_match.specs.Alone.{Begun, Finished, Unbegun}
 use Rattle.work_folder.specs.Changing.{ChangesAt}
-use Rattle.work_folder.specs.Entering.{IsLeftOver, IsReady, IsWorkOrStage}
+use Rattle.work_folder.specs.Entering.{IsLeftOver, IsReady, IsWorkOrStage, EntersAs}
 use Rattle.migrate_core.proofs.Beginnings.{enters_goes, told_goes, written_goes}
 use Rattle.migrate_core.proofs.Leadings.{goes_failed, goes_on, then_known}
 use Rattle.migrate_core.proofs.Movings.{moves_on, moves_to, source_beside, walked_stays}
@@ -18,6 +18,9 @@ use Rattle.migrate_core.specs.Moving.{MovesOnly}
 use Rattle.migrate_core.specs.Sides.{new_journal}
 use Rattle.migrate_core.proofs.Endings.{if_ok_more}
 use Rattle.migrate_core.specs.Moved.{Moved, lacking}
+use Rattle.migrate_core.proofs.Causing.{folder_unless, moves_pass, refused_as, work_refused}
+use Rattle.migrate_core.specs.Causes.{IsOfMoving, Moves, Unless}
+use Rattle.migrate_core.specs.Faults.{of_folder, of_work}
 use Rattle.migrate_core.proofs.beginning.move_all.Goals as goal
 
 pub returns-in_err-entered-clause-guard : goal.returns-in_err-entered-clause-guard
@@ -179,3 +182,28 @@ returns-clause-placed g c =
     (λ done is. then_known _ told written (moves_on (apart_from_both c.args.work.now c.args.sides.now.target.root) c.args.sides.now.target.root told entered written
     (entered_moves c.args.work.now c.args.sides.now.target.root (IsWorkOrStage c.args.work.now) (IsLeftOver c.args.work.now) told entered c.requires.apart.target c.enter.ensures.enters.moments)
     (written_moves c.args.work.now c.args.sides.now.target.root c.in_ok-journal.journal entered written c.requires.apart.target c.write.ensures.moments)) (done.placed ≡ lacking [] c.args.plan.now.items) is) c.go_on.ensures.placed
+
+pub returns-in_err-entered-clause-cause : goal.returns-in_err-entered-clause-cause
+returns-in_err-entered-clause-cause g c v seen =
+    let work = c.args.work.now in
+    let why = c.in_err-entered.field-0.0 in
+    let p = err_from_is_err_and c.from_residual.result c.from_residual.ensures.1 in
+    refused_as (λ answer. Unless answer (Moves (EntersAs v work) answer)) c.from_residual.result p.0 (of_work why) p.1 p.2
+    (work_refused (EntersAs v work) (λ _. IsOfMoving) why (c.in_err-entered.ensures.enters.answer v seen))
+
+pub returns-in_err-journal-clause-cause : goal.returns-in_err-journal-clause-cause
+returns-in_err-journal-clause-cause g c v seen =
+    let work = c.args.work.now in
+    let fault = c.in_err-journal.field-0.0 in
+    let p = err_from_is_err_and c.from_residual-in_err-journal.result c.from_residual-in_err-journal.ensures.1 in
+    refused_as (λ answer. Unless answer (Moves (EntersAs v work) answer)) c.from_residual-in_err-journal.result p.0 fault p.1 p.2
+    (moves_pass (EntersAs v work) (Err fault) (c.in_ok-entered.ensures.enters.answer v seen) c.in_err-journal.ensures.moving)
+
+pub returns-in_err-write-clause-cause : goal.returns-in_err-write-clause-cause
+returns-in_err-write-clause-cause g c v seen =
+    let p = err_from_is_err_and c.from_residual-in_err-write.result c.from_residual-in_err-write.ensures.1 in
+    refused_as (λ answer. Unless answer (Moves (EntersAs v c.args.work.now) answer)) c.from_residual-in_err-write.result p.0 (of_folder c.in_err-write.field-0.0) p.1 p.2 (folder_unless _ c.in_err-write.field-0.0)
+
+pub returns-clause-cause : goal.returns-clause-cause
+returns-clause-cause g c v seen =
+    moves_pass (EntersAs v c.args.work.now) c.go_on.result (c.in_ok-entered.ensures.enters.answer v seen) c.go_on.ensures.moving

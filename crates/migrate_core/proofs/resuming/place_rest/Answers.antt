@@ -4,7 +4,7 @@ use Rattle.folder_spec.specs.Region.{apart_from, apart_from_both}
 use Rattle.tree_match.specs.Alone.{Finished}
 use Rattle.vault_walk.specs.Survey.{IsOrdered}
 use Rattle.move_journal.specs.Writing.{IsWorkFolder}
-use Rattle.work_folder.specs.Entering.{IsReady}
+use Rattle.work_folder.specs.Entering.{IsReady, Empties}
 use Rattle.work_folder.specs.Entries.{stage_path}
 use Rattle.migrate_core.specs.Leading.{progress_of}
 use Rattle.migrate_core.specs.Moving.{MovesOnly}
@@ -18,6 +18,9 @@ use Rattle.folder_spec.specs.View.{View}
 use Rattle.migrate_core.proofs.WorkFolders.{journal_stays}
 use Rattle.migrate_core.proofs.Endings.{if_ok_more}
 use Rattle.migrate_core.specs.Moved.{Moved, StandsIn, lacking}
+use Rattle.migrate_core.proofs.Causing.{moves_pass, refused_as, work_refused}
+use Rattle.migrate_core.specs.Causes.{IsOfMoving, Moves, Unless}
+use Rattle.migrate_core.specs.Faults.{of_work}
 use Rattle.migrate_core.proofs.resuming.place_rest.Goals as goal
 
 pub again-requires-clause-folder : goal.again-requires-clause-folder
@@ -126,3 +129,14 @@ returns-clause-placed g c =
     if_ok_more (λ done. (v : View) → IsSeen t1 v → done.placed ≡ lacking c.as_slice-there.result.now items) (λ done. (v : View) → IsSeen t0 v → done.placed ≡ lacking there items) c.go_on.result
     (λ done is v seen. then_known _ t0 t1 (stage_moves c.args.work.now target t0 t1 c.requires.apart.target c.again.ensures.restages.moments) (done.placed ≡ lacking c.as_slice-there.result.now items) is v seen
     ∙ ap (λ xs. lacking xs items) c.as_slice-there.ensures) c.go_on.ensures.placed
+
+pub returns-in_err-again-clause-cause : goal.returns-in_err-again-clause-cause
+returns-in_err-again-clause-cause g c v seen =
+    let why = c.in_err-again.field-0.0 in
+    let p = err_from_is_err_and c.from_residual.result c.from_residual.ensures.1 in
+    refused_as (λ answer. Unless answer (Moves (Empties v c.args.work.now) answer)) c.from_residual.result p.0 (of_work why) p.1 p.2
+    (work_refused (Empties v c.args.work.now) (λ _. IsOfMoving) why (c.in_err-again.ensures.restages.answer v seen))
+
+pub returns-clause-cause : goal.returns-clause-cause
+returns-clause-cause g c v seen =
+    moves_pass (Empties v c.args.work.now) c.go_on.result (c.in_ok-again.ensures.restages.answer v seen) c.go_on.ensures.moving

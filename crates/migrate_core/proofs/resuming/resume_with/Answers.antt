@@ -1,4 +1,4 @@
-use Rattle.std.proofs.Common.{◌≡◌, ◌∙◌, sym, subst}
+use Rattle.std.proofs.Common.{◌≡◌, ◌∙◌, sym, subst, Err, List}
 use Rattle.folder_spec.specs.View.{View}
 use Rattle.migrate_core.proofs.Endings.{if_ok_more, placed_of}
 use Rattle.migrate_core.specs.Moved.{lacking}
@@ -11,6 +11,11 @@ use Rattle.migrate_core.specs.Moving.{MovesOnly}
 use Rattle.migrate_core.specs.Sides.{IsWalked}
 use Rattle.migrate_core.proofs.Leadings.{refused_nowhere}
 use Rattle.migrate_core.proofs.Movings.{moves_nowhere}
+use Rattle.migrate_core.proofs.Causing.{Next, items_pass, items_refused, refused_as, walks_pass, walks_refused}
+use Rattle.migrate_core.specs.Causes.{Moves, ResumesWith, TestsItems, Unless}
+use Rattle.work_folder.specs.Entering.{Empties}
+use Rattle.vault_spec.specs.Plan.{Planned}
+use Rattle.migrate_core.specs.declared.placing.Done.{Done}
 use Rattle.migrate_core.proofs.resuming.resume_with.Goals as goal
 
 pub returns-in_err-plans-clause-guard : goal.returns-in_err-plans-clause-guard
@@ -65,3 +70,46 @@ returns-clause-placed g c =
     placed_of c.args.sides.now.source c.args.sides.now.target items there told c.place_rest.result c.in_ok-plans.ensures.source c.in_ok-plans.ensures.target
     (if_ok_more (λ done. (v : View) → IsSeen (g.F.Folder.told c.test_plans.new.folder) v → done.placed ≡ lacking there items) (λ done. (v : View) → IsSeen told v → done.placed ≡ lacking there items) c.place_rest.result
     (λ done is v seen. is v (subst (λ t. IsSeen t v) (sym (c.test_plans.ensures.told ∙ c.walk_both.ensures.told)) seen)) c.place_rest.ensures.placed)
+
+pub returns-in_err-plans-clause-cause : goal.returns-in_err-plans-clause-cause
+returns-in_err-plans-clause-cause g c v seen =
+    let from = c.args.sides.now.source in
+    let to = c.args.sides.now.target in
+    let work = c.args.work.now in
+    let journal = c.args.journal in
+    let next : Next (List Planned) Done = λ items there. TestsItems from to journal v items there (Moves (Empties v work)) in
+    let fault = c.in_err-plans.field-0.0 in
+    let p = err_from_is_err_and c.from_residual.result c.from_residual.ensures.1 in
+    refused_as (λ answer. Unless answer (ResumesWith from to work journal v answer)) c.from_residual.result p.0 fault p.1 p.2 (walks_refused from to v next fault (c.in_err-plans.ensures.cause v seen))
+
+pub returns-in_err-test_plans-clause-cause : goal.returns-in_err-test_plans-clause-cause
+returns-in_err-test_plans-clause-cause g c v seen =
+    let from = c.args.sides.now.source in
+    let to = c.args.sides.now.target in
+    let work = c.args.work.now in
+    let journal = c.args.journal in
+    let next : Next (List Planned) Done = λ items there. TestsItems from to journal v items there (Moves (Empties v work)) in
+    let plans = c.in_ok-plans.plans in
+    let items = plans.source.items in
+    let there = plans.target.items in
+    let fault = c.in_err-test_plans.field-0.0 in
+    let p = err_from_is_err_and c.from_residual-in_err-test_plans.result c.from_residual-in_err-test_plans.ensures.1 in
+    refused_as (λ answer. Unless answer (ResumesWith from to work journal v answer)) c.from_residual-in_err-test_plans.result p.0 fault p.1 p.2
+    (walks_pass from to v next (Err fault) items there (c.in_ok-plans.ensures.passed_source v seen) (c.in_ok-plans.ensures.passed_target v seen)
+    (items_refused from to journal v items there (Moves (Empties v work)) fault (c.in_err-test_plans.ensures.cause v (subst (λ t. IsSeen t v) (sym c.walk_both.ensures.told) seen))))
+
+pub returns-clause-cause : goal.returns-clause-cause
+returns-clause-cause g c v seen =
+    let from = c.args.sides.now.source in
+    let to = c.args.sides.now.target in
+    let work = c.args.work.now in
+    let journal = c.args.journal in
+    let next : Next (List Planned) Done = λ items there. TestsItems from to journal v items there (Moves (Empties v work)) in
+    let plans = c.in_ok-plans.plans in
+    let items = plans.source.items in
+    let there = plans.target.items in
+    let answer = c.place_rest.result in
+    let once = subst (λ t. IsSeen t v) (sym c.walk_both.ensures.told) seen in
+    walks_pass from to v next answer items there (c.in_ok-plans.ensures.passed_source v seen) (c.in_ok-plans.ensures.passed_target v seen)
+    (items_pass from to journal v items there (Moves (Empties v work)) answer (c.in_ok-test_plans.ensures.cause v once)
+    (c.place_rest.ensures.cause v (subst (λ t. IsSeen t v) (sym c.test_plans.ensures.told) once)))

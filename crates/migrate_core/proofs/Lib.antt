@@ -11,3 +11,4 @@ mod Restaged
 mod Searched
 mod Settled
 mod WorkFolders
+mod Writings

@@ -5,3 +5,4 @@ pub mod Leading
 pub mod Moving
 pub mod Moved
 pub mod Causes
+pub mod Written

@@ -1,5 +1,5 @@
 //! Placing the source's items in the target.
-ghost use Rattle.std.specs.Prelude.{◌≡◌, ◌≤◌, not, IfErr, IfOk};
+ghost use Rattle.std.specs.Prelude.{◌≡◌, ◌≤◌, ◌∷◌, [], not, IfErr, IfOk};
 ghost use Rattle.port_model.specs.Counts.{CountRose};
 ghost use Rattle.folder_spec.specs.Seen.{IsSeen};
 ghost use Rattle.folder_spec.specs.View.{View};
@@ -13,6 +13,7 @@ ghost use Rattle.migrate_core.specs.Faults.{Blamed};
 ghost use Rattle.migrate_core.specs.Leading.{LeadsEach};
 ghost use Rattle.migrate_core.specs.Moved.{is_there, lacking};
 ghost use Rattle.migrate_core.specs.Moving.{MovesBeside};
+ghost use Rattle.migrate_core.specs.Written.{WritesBy, lacked};
 ghost use Rattle.migrate_core.specs.Sides.{AreSeparate, IsItemOf, IsWalked, StandAll, StandsIn, new_journal};
 
 use crate::fault::MoveFault;
@@ -23,6 +24,7 @@ use folder_model::{FPath, Folder};
 use move_journal::{Journal, Phase};
 use plain_tree::NodeKind;
 use port_model::Randoms;
+use port_model::laws::draws_compose;
 use std::alloc::Global;
 use tree_match::laws::{
     guarded_migrations_are_seen, placing_keeps_migrations_guarded, walks_tell_the_tree,
@@ -77,7 +79,9 @@ pub(crate) fn place_missing<F: Folder, R: Randoms>(
     ensures random { R.faults random.old ≤ R.faults random.new }
     ensures blamed { IfErr result (Blamed (CountRose (F.faults folder.old) (F.faults folder.new)) (CountRose (R.faults random.old) (R.faults random.new))) }
     ensures moving { IfErr result IsMovingFault }
+    ensures written { IsOrdered there.now → WritesBy result sides.now.source sides.now.target (lacked there.now items.now) [] (R.left random.old) (R.left random.new) (F.told folder.old) (F.told folder.new) }
 {
+    draws_compose();
     let mut placed = 0;
     for item in items {
         if place_missing_one(alloc, folder, work, sides, item, there, random)? {
@@ -110,7 +114,9 @@ fn place_missing_one<F: Folder, R: Randoms>(
     ensures random { R.faults random.old ≤ R.faults random.new }
     ensures blamed { IfErr result (Blamed (CountRose (F.faults folder.old) (F.faults folder.new)) (CountRose (R.faults random.old) (R.faults random.new))) }
     ensures moving { IfErr result IsMovingFault }
+    ensures written { IsOrdered there.now → WritesBy result sides.now.source sides.now.target (lacked there.now (item.now ∷ [])) [] (R.left random.old) (R.left random.new) (F.told folder.old) (F.told folder.new) }
 {
+    draws_compose();
     if stands(there, item) {
         return Ok(false);
     }
@@ -146,6 +152,7 @@ fn place<F: Folder, R: Randoms>(
     ensures random { R.faults random.old ≤ R.faults random.new }
     ensures blamed { IfErr result (Blamed (CountRose (F.faults folder.old) (F.faults folder.new)) (CountRose (R.faults random.old) (R.faults random.new))) }
     ensures moving { IfErr result IsMovingFault }
+    ensures written { WritesBy result sides.now.source sides.now.target (item.now ∷ []) [] (R.left random.old) (R.left random.new) (F.told folder.old) (F.told folder.new) }
 {
     guarded_migrations_are_seen();
     placing_keeps_migrations_guarded();
@@ -176,7 +183,9 @@ fn place_content<F: Folder, R: Randoms>(
     ensures random { R.faults random.old ≤ R.faults random.new }
     ensures blamed { IfErr result (Blamed (CountRose (F.faults folder.old) (F.faults folder.new)) (CountRose (R.faults random.old) (R.faults random.new))) }
     ensures moving { IfErr result IsMovingFault }
+    ensures written { WritesBy result sides.now.source sides.now.target (item.now ∷ []) [] (R.left random.old) (R.left random.new) (F.told folder.old) (F.told folder.new) }
 {
+    draws_compose();
     files_fit_as_contents();
     guarded_migrations_are_seen();
     placing_keeps_migrations_guarded();

@@ -1,5 +1,5 @@
 //! Going on with a migration.
-ghost use Rattle.std.specs.Prelude.{◌≡◌, ◌≢◌, ◌⊎◌, ◌≤◌, IfErr, IfOk, Ok, OnOk};
+ghost use Rattle.std.specs.Prelude.{◌≡◌, ◌≢◌, ◌⊎◌, ◌≤◌, ◌∷◌, [], IfErr, IfOk, Ok, OnOk};
 ghost use Rattle.port_model.specs.Counts.{CountRose};
 ghost use Rattle.folder_spec.specs.Seen.{IsSeen};
 ghost use Rattle.folder_spec.specs.View.{FileOf, NoEntry, View};
@@ -11,8 +11,9 @@ ghost use Rattle.work_folder.specs.Entering.{Empties};
 ghost use Rattle.migrate_core.specs.Causes.{Moves, Resumes, ResumesTold, ResumesWith, TestsItems, TestsMatch, TestsSource, TestsTold, Unless, is_done, where_in};
 ghost use Rattle.migrate_core.specs.Faults.{Blamed};
 ghost use Rattle.migrate_core.specs.Leading.{KeepsGuarded, KeepsSettled, LeadsTold, progress_of};
-ghost use Rattle.migrate_core.specs.Moved.{Moved, MovesTold, MovesTree, Placed, lacking};
+ghost use Rattle.migrate_core.specs.Moved.{done_of, Moved, MovesTold, MovesTree, Placed, lacking};
 ghost use Rattle.migrate_core.specs.Moving.{MovesOnly};
+ghost use Rattle.migrate_core.specs.Written.{MayWrite, MayWriteTold, MayWriteTree, WritesBy, lacked};
 ghost use Rattle.migrate_core.specs.Sides.{AreSeparate, AreTold, IsInUse, IsResumed, IsWalked};
 
 use crate::fault::MoveFault;
@@ -23,6 +24,7 @@ use folder_model::{FPath, Folder, Kind};
 use move_journal::laws::journals_are_read_back;
 use move_journal::{Journal, Phase, read};
 use port_model::Randoms;
+use port_model::laws::draws_compose;
 use std::alloc::Global;
 use tree_match::laws::{
     guarded_migrations_are_seen, settling_and_entering_keep_migrations_guarded, walks_tell_the_tree,
@@ -53,7 +55,9 @@ pub fn resume<F: Folder, R: Randoms>(
     ensures random { R.faults random.old ≤ R.faults random.new }
     ensures blamed { IfErr result (Blamed (CountRose (F.faults folder.old) (F.faults folder.new)) (CountRose (R.faults random.old) (R.faults random.new))) }
     ensures cause { (v : View) → IsSeen (F.told folder.old) v → Unless result (Resumes work.now source_pass.now target_pass.now v result) }
+    ensures written { (v : View) → IsSeen (F.told folder.old) v → MayWriteTold result work.now source_pass.now target_pass.now (R.left random.old) (R.left random.new) (F.told folder.old) (F.told folder.new) v }
 {
+    draws_compose();
     settling_and_entering_keep_migrations_guarded();
     folder.settle()?;
     resume_settled(alloc, folder, work, source_pass, target_pass, random)
@@ -76,7 +80,9 @@ fn resume_settled<F: Folder, R: Randoms>(
     ensures random { R.faults random.old ≤ R.faults random.new }
     ensures blamed { IfErr result (Blamed (CountRose (F.faults folder.old) (F.faults folder.new)) (CountRose (R.faults random.old) (R.faults random.new))) }
     ensures cause { (v : View) → IsSeen (F.told folder.old) v → Unless result (Resumes work.now source_pass.now target_pass.now v result) }
+    ensures written { (v : View) → IsSeen (F.told folder.old) v → MayWriteTold result work.now source_pass.now target_pass.now (R.left random.old) (R.left random.new) (F.told folder.old) (F.told folder.new) v }
 {
+    draws_compose();
     journals_are_read_back();
     let journal = read(alloc, folder, work)?;
     test_apart(&journal.source, &journal.target, work)?;
@@ -122,7 +128,9 @@ fn resume_told<F: Folder, R: Randoms>(
     ensures random { R.faults random.old ≤ R.faults random.new }
     ensures blamed { IfErr result (Blamed (CountRose (F.faults folder.old) (F.faults folder.new)) (CountRose (R.faults random.old) (R.faults random.new))) }
     ensures cause { (v : View) → IsSeen (F.told folder.old) v → Unless result (ResumesTold work.now source_pass.now target_pass.now v journal result) }
+    ensures written { (v : View) → IsSeen (F.told folder.old) v → MayWriteTree result journal.source journal.target source_pass.now target_pass.now (R.left random.old) (R.left random.new) (F.told folder.old) (F.told folder.new) }
 {
+    draws_compose();
     journals_are_read_back();
     roots_have_one_answer();
     guarded_migrations_are_seen();
@@ -178,7 +186,9 @@ fn resume_with<F: Folder, R: Randoms>(
     ensures random { R.faults random.old ≤ R.faults random.new }
     ensures blamed { IfErr result (Blamed (CountRose (F.faults folder.old) (F.faults folder.new)) (CountRose (R.faults random.old) (R.faults random.new))) }
     ensures cause { (v : View) → IsSeen (F.told folder.old) v → Unless result (ResumesWith sides.now.source sides.now.target work.now journal v result) }
+    ensures written { (v : View) → IsSeen (F.told folder.old) v → MayWrite result sides.now.source sides.now.target (R.left random.old) (R.left random.new) (F.told folder.old) (F.told folder.new) }
 {
+    draws_compose();
     let plans = walk_both(alloc, folder, sides)?;
     test_plans(alloc, folder, sides, &plans, &journal)?;
     place_rest(alloc, folder, work, sides, &plans, journal, random)
@@ -281,7 +291,9 @@ fn place_rest<F: Folder, R: Randoms>(
     ensures random { R.faults random.old ≤ R.faults random.new }
     ensures blamed { IfErr result (Blamed (CountRose (F.faults folder.old) (F.faults folder.new)) (CountRose (R.faults random.old) (R.faults random.new))) }
     ensures cause { (v : View) → IsSeen (F.told folder.old) v → Unless result (Moves (Empties v work.now) result) }
+    ensures written { (v : View) → IsSeen (F.told folder.old) v → WritesBy result sides.now.source sides.now.target (lacked plans.now.target.items plans.now.source.items) (journal_text (done_of journal) ∷ []) (R.left random.old) (R.left random.new) (F.told folder.old) (F.told folder.new) }
 {
+    draws_compose();
     guarded_migrations_are_seen();
     settling_and_entering_keep_migrations_guarded();
     walks_tell_the_tree();

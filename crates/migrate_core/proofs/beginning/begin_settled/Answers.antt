@@ -1,4 +1,4 @@
-use Rattle.std.proofs.Common.{◌≡◌, ◌∙◌, sym, subst, subst₂, Err}
+use Rattle.std.proofs.Common.{◌≡◌, ◌∙◌, sym, subst, subst₂, Err, inl}
 use Rattle.folder_spec.specs.Region.{apart_from_both}
 use Rattle.folder_spec.specs.Seen.{IsSeen, seen}
 use Rattle.move_journal.specs.Journal.{IsParsed}
@@ -18,6 +18,8 @@ use Rattle.migrate_core.specs.Faults.{of_work}
 use Rattle.migrate_core.specs.declared.placing.Done.{Done}
 use Rattle.std.proofs.lemmas.Result.{err_from_is_err_and}
 use Rattle.work_folder.specs.Looking.{Tests}
+use Rattle.migrate_core.proofs.Writings.{nothing_written, tree_of}
+use Rattle.migrate_core.specs.Written.{MayWrite}
 use Rattle.migrate_core.proofs.beginning.begin_settled.Goals as goal
 
 pub returns-in_err-look-clause-guard : goal.returns-in_err-look-clause-guard
@@ -117,3 +119,27 @@ returns-clause-cause g c v seen =
     then_passes of_work (Tests v work) (λ _. Opens v from to c.args.source_pass.now c.args.target_pass.now next) c.begin_with.result tt (c.in_ok-look.ensures.answer v seen)
     (opens_pass v from to c.args.source_pass.now c.args.target_pass.now next c.begin_with.result sides.source sides.target loads.source loads.target
     (loads.opens_source v looked) (loads.opens_target v looked) (c.begin_with.ensures.cause v (subst (λ t. IsSeen t v) (sym c.load_both.ensures.told) looked)))
+
+pub returns-in_err-look-clause-written : goal.returns-in_err-look-clause-written
+returns-in_err-look-clause-written g c v seen =
+    let told = g.F.Folder.told c.args.folder.now in
+    let left = g.R.Randoms.left c.args.random.now in
+    inl (nothing_written left told (g.F.Folder.told c.look.new.folder) (c.draws_compose.ensures.none left) c.look.ensures.told)
+
+pub returns-in_err-sides-clause-written : goal.returns-in_err-sides-clause-written
+returns-in_err-sides-clause-written g c v seen =
+    let told = g.F.Folder.told c.args.folder.now in
+    let left = g.R.Randoms.left c.args.random.now in
+    inl (nothing_written left told (g.F.Folder.told c.load_both.new.folder) (c.draws_compose.ensures.none left) (c.load_both.ensures.told ∙ c.look.ensures.told))
+
+pub returns-clause-written : goal.returns-clause-written
+returns-clause-written g c v seen =
+    let told = g.F.Folder.told c.args.folder.now in
+    let left = g.R.Randoms.left c.args.random.now in
+    let after = g.F.Folder.told c.begin_with.new.folder in
+    let left2 = g.R.Randoms.left c.begin_with.new.random in
+    let sides = c.in_ok-sides.sides in
+    let loads = c.in_ok-sides.ensures in
+    tree_of c.begin_with.result c.args.source.now c.args.target.now c.args.source_pass.now c.args.target_pass.now sides.source sides.target left left2 told after loads.source loads.target
+    (λ w is. loads.opens_source w (subst (λ t. IsSeen t w) (sym c.look.ensures.told) is)) (λ w is. loads.opens_target w (subst (λ t. IsSeen t w) (sym c.look.ensures.told) is))
+    (subst (λ t. MayWrite c.begin_with.result sides.source sides.target left left2 t after) (c.load_both.ensures.told ∙ c.look.ensures.told) c.begin_with.ensures.written)

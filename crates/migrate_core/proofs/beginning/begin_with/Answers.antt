@@ -1,4 +1,4 @@
-use Rattle.std.proofs.Common.{◌≡◌, ◌∙◌, [], sym, ap, subst, Err, List, Ok}
+use Rattle.std.proofs.Common.{◌≡◌, ◌∙◌, [], sym, ap, subst, Err, List, Ok, inl, inr}
 use Rattle.folder_spec.specs.Seen.{IsSeen}
 use Rattle.folder_spec.specs.View.{View}
 use Rattle.migrate_core.proofs.Endings.{if_ok_more, placed_of}
@@ -17,6 +17,8 @@ use Rattle.migrate_core.specs.Causes.{Answer, BeginsWith, Moves, TestsEmpty, Tes
 use Rattle.work_folder.specs.Entering.{EntersAs}
 use Rattle.migrate_core.specs.declared.placing.Done.{Done}
 use Rattle.vault_spec.specs.Plan.{Planned}
+use Rattle.migrate_core.proofs.Writings.{nothing_written}
+use Rattle.migrate_core.specs.Written.{WritesBy, journal_texts, lacked}
 use Rattle.migrate_core.proofs.beginning.begin_with.Goals as goal
 
 pub returns-in_err-plans-clause-guard : goal.returns-in_err-plans-clause-guard
@@ -125,3 +127,40 @@ returns-clause-cause g c v seen =
     (own_passes (TestsNames (format_of to.vault) plans.source.items) moves c.move_all.result tt
     (subst (λ items. Unless {X = Unit {0}} (Ok tt) (TestsNames (format_of to.vault) items (Ok tt))) c.as_slice-2.ensures c.in_ok-test_names.ensures.cause)
     (c.move_all.ensures.cause v (subst (λ t. IsSeen t v) (sym c.walk_both.ensures.told) seen))))
+
+pub returns-in_err-plans-clause-written : goal.returns-in_err-plans-clause-written
+returns-in_err-plans-clause-written g c =
+    let told = g.F.Folder.told c.args.folder.now in
+    let left = g.R.Randoms.left c.args.random.now in
+    inl (nothing_written left told (g.F.Folder.told c.walk_both.new.folder) (c.draws_compose.ensures.none left) c.walk_both.ensures.told)
+
+pub returns-in_err-test_empty-clause-written : goal.returns-in_err-test_empty-clause-written
+returns-in_err-test_empty-clause-written g c =
+    let told = g.F.Folder.told c.args.folder.now in
+    let left = g.R.Randoms.left c.args.random.now in
+    inl (nothing_written left told (g.F.Folder.told c.walk_both.new.folder) (c.draws_compose.ensures.none left) c.walk_both.ensures.told)
+
+pub returns-in_err-test_names-clause-written : goal.returns-in_err-test_names-clause-written
+returns-in_err-test_names-clause-written g c =
+    let told = g.F.Folder.told c.args.folder.now in
+    let left = g.R.Randoms.left c.args.random.now in
+    inl (nothing_written left told (g.F.Folder.told c.walk_both.new.folder) (c.draws_compose.ensures.none left) c.walk_both.ensures.told)
+
+pub returns-clause-written : goal.returns-clause-written
+returns-clause-written g c =
+    let told = g.F.Folder.told c.args.folder.now in
+    let left = g.R.Randoms.left c.args.random.now in
+    let from = c.args.sides.now.source in
+    let to = c.args.sides.now.target in
+    let plans = c.in_ok-plans.plans in
+    let after = g.F.Folder.told c.move_all.new.folder in
+    let left2 = g.R.Randoms.left c.move_all.new.random in
+    inr (record {
+      items = plans.source.items;
+      there = plans.target.items;
+      items_are = c.in_ok-plans.ensures.source.plan;
+      there_are = c.in_ok-plans.ensures.target.plan;
+      writes = subst (λ t. WritesBy c.move_all.result from to (lacked plans.target.items plans.source.items) (journal_texts from.root to.root plans.source.items) left left2 t after) c.walk_both.ensures.told
+          (subst (λ there. WritesBy c.move_all.result from to (lacked there plans.source.items) (journal_texts from.root to.root plans.source.items) left left2 (g.F.Folder.told c.walk_both.new.folder) after)
+          (sym (sym c.as_slice.ensures ∙ c.in_ok-test_empty.ensures.empty)) c.move_all.ensures.written);
+    })

@@ -9,6 +9,8 @@ use Rattle.migrate_core.proofs.Causing.{folder_unless, refused_as}
 use Rattle.std.proofs.lemmas.Result.{err_from_is_err_and}
 use Rattle.migrate_core.specs.Faults.{of_folder}
 use Rattle.migrate_core.specs.Causes.{Resumes, Unless}
+use Rattle.migrate_core.proofs.Writings.{settle_writes, told_after}
+use Rattle.std.proofs.Common.{inl}
 use Rattle.migrate_core.proofs.resuming.resume.Goals as goal
 
 pub returns-in_err-settle-clause-guard : goal.returns-in_err-settle-clause-guard
@@ -54,3 +56,18 @@ returns-in_err-settle-clause-cause g c v seen =
 pub returns-clause-cause : goal.returns-clause-cause
 returns-clause-cause g c v seen =
     c.resume_settled.ensures.cause v (settle_seen (g.F.Folder.told c.args.folder.now) (g.F.Folder.told c.settle.new.self) c.in_ok-settle.field-0 c.in_ok-settle.ensures.changes v seen)
+
+pub returns-in_err-settle-clause-written : goal.returns-in_err-settle-clause-written
+returns-in_err-settle-clause-written g c v seen =
+    let told = g.F.Folder.told c.args.folder.now in
+    let left = g.R.Randoms.left c.args.random.now in
+    inl (record { undrawn = c.draws_compose.ensures.none left; files = settle_writes told (g.F.Folder.told c.settle.new.self) c.settle.result c.settle.ensures.changes })
+
+pub returns-clause-written : goal.returns-clause-written
+returns-clause-written g c v seen =
+    let told = g.F.Folder.told c.args.folder.now in
+    let left = g.R.Randoms.left c.args.random.now in
+    let settled = g.F.Folder.told c.settle.new.self in
+    let known = settle_seen told settled c.in_ok-settle.field-0 c.in_ok-settle.ensures.changes in
+    told_after left (g.R.Randoms.left c.resume_settled.new.random) told settled (g.F.Folder.told c.resume_settled.new.folder) known (settle_writes told settled c.settle.result c.settle.ensures.changes)
+    c.resume_settled.result c.args.work.now c.args.source_pass.now c.args.target_pass.now v (c.resume_settled.ensures.written v (known v seen))

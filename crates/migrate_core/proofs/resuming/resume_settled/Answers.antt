@@ -1,4 +1,4 @@
-use Rattle.std.proofs.Common.{◌∙◌, subst, Err, Ok, sym}
+use Rattle.std.proofs.Common.{◌∙◌, subst, Err, Ok, sym, inl}
 use Rattle.folder_spec.specs.Region.{apart_from_both}
 use Rattle.folder_spec.specs.Seen.{IsSeen}
 use Rattle.move_journal.specs.declared.journal.Journal.{Journal}
@@ -16,6 +16,8 @@ use Rattle.move_journal.specs.Reading.{ReadsAs, journal_bytes}
 use Rattle.migrate_core.specs.Faults.{of_journal, of_work}
 use Rattle.migrate_core.specs.declared.placing.Done.{Done}
 use Rattle.std.proofs.lemmas.Result.{err_from_is_err_and}
+use Rattle.migrate_core.proofs.Writings.{nothing_written, told_of}
+use Rattle.migrate_core.specs.Written.{MayWriteTree}
 use Rattle.migrate_core.proofs.resuming.resume_settled.Goals as goal
 
 pub returns-in_err-journal-clause-guard : goal.returns-in_err-journal-clause-guard
@@ -142,3 +144,34 @@ returns-clause-cause g c v seen =
     (then_passes of_work (TestsEntries (is_done read.phase) v work) (λ _. told read) answer tt
     (subst (λ old. TestsEntries old v work (Ok tt)) c.is_done.ensures (c.in_ok-look_again.ensures.answer v once))
     (c.resume_told.ensures.cause v (subst (λ t. IsSeen t v) (sym c.look_again.ensures.told) once))))
+
+pub returns-in_err-journal-clause-written : goal.returns-in_err-journal-clause-written
+returns-in_err-journal-clause-written g c v seen =
+    let told = g.F.Folder.told c.args.folder.now in
+    let left = g.R.Randoms.left c.args.random.now in
+    inl (nothing_written left told (g.F.Folder.told c.read.new.folder) (c.draws_compose.ensures.none left) c.read.ensures.told)
+
+pub returns-in_err-test_apart-clause-written : goal.returns-in_err-test_apart-clause-written
+returns-in_err-test_apart-clause-written g c v seen =
+    let told = g.F.Folder.told c.args.folder.now in
+    let left = g.R.Randoms.left c.args.random.now in
+    inl (nothing_written left told (g.F.Folder.told c.read.new.folder) (c.draws_compose.ensures.none left) c.read.ensures.told)
+
+pub returns-in_err-look_again-clause-written : goal.returns-in_err-look_again-clause-written
+returns-in_err-look_again-clause-written g c v seen =
+    let told = g.F.Folder.told c.args.folder.now in
+    let left = g.R.Randoms.left c.args.random.now in
+    inl (nothing_written left told (g.F.Folder.told c.look_again.new.folder) (c.draws_compose.ensures.none left) (c.look_again.ensures.told ∙ c.read.ensures.told))
+
+pub returns-clause-written : goal.returns-clause-written
+returns-clause-written g c v seen =
+    let told = g.F.Folder.told c.args.folder.now in
+    let left = g.R.Randoms.left c.args.random.now in
+    let after = g.F.Folder.told c.resume_told.new.folder in
+    let left2 = g.R.Randoms.left c.resume_told.new.random in
+    let read = c.in_ok-journal.journal in
+    let pass = c.args.source_pass.now in
+    let pass' = c.args.target_pass.now in
+    let same = c.look_again.ensures.told ∙ c.read.ensures.told in
+    told_of c.resume_told.result c.args.work.now pass pass' left left2 told after v read c.in_ok-journal.ensures.journal (journal_stands v c.args.work.now read (c.in_ok-journal.ensures.answer v seen))
+    (subst (λ t. MayWriteTree c.resume_told.result read.source read.target pass pass' left left2 t after) same (c.resume_told.ensures.written v (subst (λ t. IsSeen t v) (sym same) seen)))

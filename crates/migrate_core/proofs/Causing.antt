@@ -36,11 +36,14 @@ use Rattle.work_folder.specs.Looking as work
 use Rattle.work_folder.specs.Looking.{Gives}
 use Rattle.work_folder.specs.declared.fault.WorkFault.{WorkFault}
 use Rattle.work_folder.specs.declared.fault.WorkFault.TheVariants as works
-use Rattle.migrate_core.specs.Causes.{Answer, Compares, ForbidsLast, IsMovingFault, IsOfMoving, Opens, RefusesBoth, RefusesLoad, RefusesWalk, RefusesWalks, TestsHeld, TestsItems, TestsMatch, TestsNames, TestsTold, Then, Unless, Walks, WalksBoth, nothing_follows, of_refusal, own}
-use Rattle.migrate_core.specs.Faults.{of_folder, of_journal, of_load, of_match, of_walk, of_work}
+use Rattle.migrate_core.specs.Causes.{Answer, Compares, ForbidsLast, IsOfMoving, IsStop, Opens, RefusesBoth, RefusesLoad, RefusesWalk, RefusesWalks, TestsHeld, TestsItems, TestsMatch, TestsNames, TestsTold, Then, Unless, Walks, WalksBoth, nothing_follows, nothing_stops, of_refusal, own}
+use Rattle.migrate_core.specs.Faults.{of_folder, of_journal, of_load, of_match, of_put, of_walk, of_work}
 use Rattle.vault_spec.specs.Format.{Format}
 use Rattle.migrate_core.specs.Moved.{opened_in}
 use Rattle.migrate_core.specs.Sides.{AllowsEach, AllowsLast}
+use Rattle.content_writing.specs.declared.fault.PutFault.{PutFault}
+use Rattle.content_writing.specs.declared.fault.PutFault.TheVariants as put
+use Rattle.migrate_core.specs.declared.fault.MoveFault.TheVariants as moves
 use Rattle.migrate_core.specs.declared.fault.MoveFault.{MoveFault}
 use Rattle.migrate_core.specs.declared.fault.MoveFault.TheVariants.{Failed, NoMemory, NotAllowed}
 
@@ -135,7 +138,7 @@ walk_refused a v (walk.Limit limit.Input) can tells = absurd can
 walk_refused a v walk.Failed can tells = inl refl
 walk_refused a v walk.NoMemory can tells = inr (inl refl)
 
-pub walk_moving : (why : WalkFault) → IsMovingFault (of_walk why)
+pub walk_moving : (why : WalkFault) → IsStop nothing_stops (of_walk why)
 walk_moving (walk.NotClean finding) = tt
 walk_moving (walk.Limit which) = tt
 walk_moving walk.Failed = tt
@@ -207,12 +210,40 @@ walks_pass from to v next answer items there one other h =
 
 -- ---- once items are moved
 
-pub moving : {Y : Type 0} (answer : Answer Y) → IfErr answer IsMovingFault → Unless answer (IsOfMoving answer)
-moving (Ok value) is = inr (inr tt)
-moving (Err fault) is = inr (inr is)
+pub moving : {Y : Type 0} (P : PutFault → Type 0) (answer : Answer Y) → IfErr answer (IsStop P) → Unless answer (IsOfMoving P answer)
+moving P (Ok value) is = inr (inr tt)
+moving P (Err fault) is = inr (inr is)
 
-pub moves_pass : {Y : Type 0} (A : work.Answer → Type 0) (answer : Answer Y) → A (Ok tt) → IfErr answer IsMovingFault → Unless answer (Then of_work A (λ _. IsOfMoving) answer)
-moves_pass A answer ready is = then_passes of_work A (λ _. IsOfMoving) answer tt ready (moving answer is)
+pub moves_pass : {Y : Type 0} (A : work.Answer → Type 0) (P : PutFault → Type 0) (answer : Answer Y) → A (Ok tt) → IfErr answer (IsStop P) → Unless answer (Then of_work A (λ _. IsOfMoving P) answer)
+moves_pass A P answer ready is = then_passes of_work A (λ _. IsOfMoving P) answer tt ready (moving P answer is)
+
+pub stop_more : (P Q : PutFault → Type 0) (fault : MoveFault) → ((why : PutFault) → P why → Q why) → IsStop P fault → IsStop Q fault
+stop_more P Q (moves.Place why) more is = more why is
+stop_more P Q (moves.Walk why) more is = tt
+stop_more P Q (moves.Match why) more is = tt
+stop_more P Q (moves.Differ path how) more is = tt
+stop_more P Q moves.Failed more is = tt
+stop_more P Q moves.NoMemory more is = tt
+stop_more P Q (moves.Work why) more is = is
+stop_more P Q (moves.Journal why) more is = is
+stop_more P Q (moves.Overlap p q) more is = is
+stop_more P Q (moves.Load side why) more is = is
+stop_more P Q (moves.NotEmpty at) more is = is
+stop_more P Q (moves.NotAllowed path) more is = is
+stop_more P Q (moves.Changed plan items plan' items') more is = is
+stop_more P Q moves.SourceGone more is = is
+
+pub put_stop : (P : PutFault → Type 0) (fault : PutFault) → P fault → IsStop P (of_put fault)
+put_stop P (put.Find why) is = is
+put_stop P (put.NotAllowed path) is = is
+put_stop P (put.Taken at) is = is
+put_stop P (put.Damaged at why) is = is
+put_stop P (put.Limit which) is = is
+put_stop P put.ZeroRandom is = is
+put_stop P put.Source is = is
+put_stop P put.Random is = is
+put_stop P put.Failed is = tt
+put_stop P put.NoMemory is = tt
 
 -- ---- single tests
 

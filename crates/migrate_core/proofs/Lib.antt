@@ -10,5 +10,6 @@ mod Planned
 mod Restaged
 mod Searched
 mod Settled
+mod Stopping
 mod WorkFolders
 mod Writings

@@ -1,13 +1,13 @@
 -- What is written, one item after the other.
-use Rattle.std.proofs.Common.{◌≡◌, ◌⊎◌, ◌+◌, inl, inr, ◌≤◌, ◌<◌, ℕ, zero, suc, nat_lt, Bool, true, false, not, cond, List, [], ◌∷◌, ◌++◌, length, map, take, drop, get_or, Contains, Option, Some, None, IsTrue, Result, Ok, Err, OnOk, refl, sym, ap, ◌∙◌, subst, subst₂, arith, append_assoc, append-nil}
-use Rattle.std.specs.List.{concat, filter}
+use Rattle.std.proofs.Common.{◌≡◌, ◌+◌, inl, inr, ◌≤◌, ◌<◌, ℕ, zero, suc, nat_lt, Bool, true, false, not, cond, List, [], ◌∷◌, ◌++◌, length, take, drop, get_or, Contains, Option, Some, None, IsTrue, Result, Ok, Err, OnOk, refl, sym, ap, ◌∙◌, subst, subst₂, arith, append_assoc, append-nil}
+use Rattle.std.specs.List.{concat}
 use Rattle.std.proofs.lemmas.Bool.{ltb-true, ltb-false}
 use Rattle.std.proofs.lemmas.List.Elements.{filter-append}
 use Rattle.std.proofs.lemmas.List.{take_more, take-append-drop}
 use Rattle.folder_spec.proofs.Moments.{went_nowhere, went_on, went_more, went_to}
 use Rattle.folder_spec.proofs.Tellings.{from_to_more, from_to_on, from_to_same}
 use Rattle.folder_spec.specs.Event.{Event, Told, FromTo}
-use Rattle.folder_spec.specs.Moments.{Moments, Went}
+use Rattle.folder_spec.specs.Moments.{Went}
 use Rattle.folder_spec.specs.Seen.{IsSeen, seen}
 use Rattle.folder_spec.specs.State.{Node, State, BeginsWith}
 use Rattle.folder_spec.specs.View.{Found, View}
@@ -56,7 +56,7 @@ use Rattle.folder_spec.specs.Region.{apart_from_both}
 use Rattle.vault_walk.specs.Survey.{IsOrdered}
 use Rattle.move_journal.specs.declared.journal.Phase.TheVariants.{Done}
 use Rattle.migrate_core.specs.Sides.{AreSeparate, AreTold, IsItemOf, IsWalked, new_journal}
-use Rattle.migrate_core.specs.Written.{AreCopies, AreFull, AreFullButLast, HoldsOnly, IsCopyOf, IsFileOf, IsFull, IsOneOf, MadeItem, MayWrite, MayWriteTold, MayWriteTree, Writes, WritesAll, WritesBy, WritesFirst, WritesLacked, WritesNothing, WritesOnly, WritesTold, WritesTree, journal_texts, lacked, slices}
+use Rattle.migrate_core.specs.Written.{AreCopies, AreFull, AreFullButLast, HoldsOnly, IsCopyOf, IsFileOf, IsFull, IsOneOf, MadeItem, MayWrite, MayWriteTold, MayWriteTree, Writes, WritesAll, WritesBy, WritesFirst, WritesLacked, WritesNothing, WritesOnly, WritesTree, journal_texts, lacked, slices}
 
 -- ---- members
 

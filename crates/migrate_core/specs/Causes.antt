@@ -1,15 +1,20 @@
 -- Why `begin` and `resume` refuse before they change anything: their tests in order, by what is seen at first. The first test that fails
 -- is the answer.
-use Rattle.std.specs.Prelude.{◌≡◌, ◌≢◌, ◌⊎◌, ◌∷◌, [], List, ℕ, length, ◌++◌, Bool, true, false, Result, Ok, Err, MatchResult}
+use Rattle.std.specs.Prelude.{◌≡◌, ◌≢◌, ◌⊎◌, ◌∷◌, [], List, ℕ, length, ◌++◌, Bool, true, false, Result, Ok, Err, MatchResult, Contains, Option}
+use Rattle.chunk_files.specs.Reading.{Ending, Faulty, Wanting}
+use Rattle.content_writing.specs.declared.fault.PutFault.{PutFault}
+use Rattle.content_writing.specs.declared.fault.PutFault.TheVariants as put
+use Rattle.folder_spec.specs.Event.{Told}
 use Rattle.folder_spec.specs.Path.{Path}
-use Rattle.folder_spec.specs.Seen.{under}
+use Rattle.folder_spec.specs.Seen.{IsSeen, under}
 use Rattle.folder_spec.specs.View.{NoEntry, View}
 use Rattle.move_journal.specs.Reading.{ReadsAs, journal_bytes}
 use Rattle.move_journal.specs.declared.journal.Journal.{Journal}
 use Rattle.move_journal.specs.declared.journal.Phase.{Phase}
 use Rattle.move_journal.specs.declared.journal.Phase.TheVariants as phase
 use Rattle.plain_tree.specs.Names as plain
-use Rattle.tree_match.specs.Comparing.{Answers}
+use Rattle.plain_tree.specs.declared.NodeKind.TheVariants.{File}
+use Rattle.tree_match.specs.Comparing.{Answers, content_at}
 use Rattle.tree_match.specs.Guard.{AreApart, old_path}
 use Rattle.tree_match.specs.Matching.{matched}
 use Rattle.tree_match.specs.declared.answer.How.{How}
@@ -170,37 +175,56 @@ TestsMatch a items b others v next = Then of_match (Compares a items b others v)
 
 -- ---- the calls
 
--- what may be answered once all tests have passed and the stage is made ready
-abbrev pub IsMovingFault : MoveFault → Type 0
-IsMovingFault (Place fault) = Unit {0}
-IsMovingFault (Walk fault) = Unit {0}
-IsMovingFault (Matching fault) = Unit {0}
-IsMovingFault (Differ path how) = Unit {0}
-IsMovingFault Failed = Unit {0}
-IsMovingFault NoMemory = Unit {0}
-IsMovingFault (Work fault) = ⊥
-IsMovingFault (Unread fault) = ⊥
-IsMovingFault (Overlap p q) = ⊥
-IsMovingFault (Load side fault) = ⊥
-IsMovingFault (NotEmpty at) = ⊥
-IsMovingFault (NotAllowed path) = ⊥
-IsMovingFault (Changed plan items plan' items') = ⊥
-IsMovingFault SourceGone = ⊥
+-- the content file of one of these items, at this path, is read so to its end
+pub record EndsSo (from : OpenedVault) (v : View) (items : List Planned) (at : Path) (ending : Ending) : Type 0 where
+  pub item : Planned
+  pub among : Contains items item
+  pub file : item.node ≡ File
+  pub place : item.at ≡ at
+  pub ends : (content_at (format_of from.vault).content v item.at).ending ≡ ending
 
-abbrev pub IsOfMoving : {Y : Type 0} → Answer Y → Type 0
-IsOfMoving (Ok value) = Unit {0}
-IsOfMoving (Err fault) = IsMovingFault fault
+-- why one of these items isn't placed: of a content that is damaged or passes the limit, that it does
+abbrev pub StopsAt : OpenedVault → View → List Planned → PutFault → Type 0
+StopsAt from v items (put.Damaged at fault) = EndsSo from v items at (Faulty fault)
+StopsAt from v items (put.Limit (limit.Length at)) = EndsSo from v items at Wanting
+StopsAt from v items (put.Limit limit.Items) = ⊥
+StopsAt from v items (put.Limit limit.Depth) = ⊥
+StopsAt from v items (put.Limit limit.Input) = ⊥
+StopsAt from v items put.Source = ⊥
+StopsAt from v items fault = Unit {0}
+
+-- what may be answered once all tests have passed and the stage is made ready: an item isn't placed, for such a reason, or the vaults
+-- aren't walked and compared to the end
+abbrev pub IsStop : (PutFault → Type 0) → MoveFault → Type 0
+IsStop P (Place fault) = P fault
+IsStop P (Walk fault) = Unit {0}
+IsStop P (Matching fault) = Unit {0}
+IsStop P (Differ path how) = Unit {0}
+IsStop P Failed = Unit {0}
+IsStop P NoMemory = Unit {0}
+IsStop P (Work fault) = ⊥
+IsStop P (Unread fault) = ⊥
+IsStop P (Overlap p q) = ⊥
+IsStop P (Load side fault) = ⊥
+IsStop P (NotEmpty at) = ⊥
+IsStop P (NotAllowed path) = ⊥
+IsStop P (Changed plan items plan' items') = ⊥
+IsStop P SourceGone = ⊥
+
+abbrev pub IsOfMoving : {Y : Type 0} → (PutFault → Type 0) → Answer Y → Type 0
+IsOfMoving P (Ok value) = Unit {0}
+IsOfMoving P (Err fault) = IsStop P fault
 
 -- the stage is made ready, as the work folder answers, and then items are moved
-abbrev pub Moves : {Y : Type 0} → (work.Answer → Type 0) → Answer Y → Type 0
-Moves readies = Then of_work readies (λ _. IsOfMoving)
+abbrev pub Moves : {Y : Type 0} → (work.Answer → Type 0) → (PutFault → Type 0) → Answer Y → Type 0
+Moves readies stops = Then of_work readies (λ _. IsOfMoving stops)
 
 -- `begin` between two opened vaults: both are clean, the target is empty, and it allows each name
 abbrev pub BeginsWith : {Y : Type 0} → OpenedVault → OpenedVault → Path → View → Answer Y → Type 0
 BeginsWith from to work v =
     WalksBoth from to v (λ items there.
     Then own (TestsEmpty there) (λ _.
-    Then own (TestsNames (format_of to.vault) items) (λ _. Moves (EntersAs v work))))
+    Then own (TestsNames (format_of to.vault) items) (λ _. Moves (EntersAs v work) (StopsAt from v items))))
 
 -- behind the test that the folders don't overlap: the work folder can be made ready, and both vaults open
 abbrev pub BeginsApart : {Y : Type 0} → (from to work : Path) (from_pass to_pass : List ℕ) → View → Answer Y → Type 0
@@ -220,7 +244,7 @@ TestsItems from to journal v items there next =
 
 -- `resume` between two opened vaults: both are clean
 abbrev pub ResumesWith : {Y : Type 0} → OpenedVault → OpenedVault → Path → Journal → View → Answer Y → Type 0
-ResumesWith from to work journal v = WalksBoth from to v (λ items there. TestsItems from to journal v items there (Moves (Empties v work)))
+ResumesWith from to work journal v = WalksBoth from to v (λ items there. TestsItems from to journal v items there (Moves (Empties v work) (StopsAt from v items)))
 
 -- behind the tests of the work folder: the source is there still, and both vaults open
 abbrev pub ResumesTold : {Y : Type 0} → Path → (from_pass to_pass : List ℕ) → View → Journal → Answer Y → Type 0
@@ -259,3 +283,11 @@ RefusesWalk a v = Refuses (Then of_walk (Walks a v) nothing_follows)
 
 abbrev pub RefusesWalks : OpenedVault → OpenedVault → View → MoveFault → Type 0
 RefusesWalks from to v = Refuses (WalksBoth from to v (λ items. nothing_follows))
+
+-- no item isn't placed
+abbrev pub nothing_stops : PutFault → Type 0
+nothing_stops fault = ⊥
+
+-- by all that is seen at first
+abbrev pub StopsSeen : Option Told → OpenedVault → List Planned → MoveFault → Type 0
+StopsSeen told from items fault = (v : View) → IsSeen told v → IsStop (StopsAt from v items) fault

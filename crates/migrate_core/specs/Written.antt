@@ -1,5 +1,5 @@
 -- What a migration writes: the bytes that it draws, item by item, and the files that it makes.
-use Rattle.std.specs.Prelude.{◌≡◌, ◌⊎◌, ◌≤◌, ◌<◌, ℕ, Bool, not, List, [], ◌∷◌, ◌++◌, length, map, Contains, Option, Result, Ok, Err}
+use Rattle.std.specs.Prelude.{◌≡◌, ◌⊎◌, ◌≤◌, ◌<◌, ℕ, not, List, [], ◌∷◌, ◌++◌, length, map, Contains, Option, Result, Ok, Err}
 use Rattle.std.specs.List.{concat, filter}
 use Rattle.folder_spec.specs.Event.{Told}
 use Rattle.folder_spec.specs.Moments.{Moments}

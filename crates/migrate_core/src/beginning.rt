@@ -8,7 +8,7 @@ ghost use Rattle.tree_match.specs.Alone.{Finished, Unbegun};
 ghost use Rattle.tree_match.specs.Guard.{Migration};
 ghost use Rattle.vault_spec.specs.Vault.{format_of};
 ghost use Rattle.work_folder.specs.Entering.{EntersAs};
-ghost use Rattle.migrate_core.specs.Causes.{Begins, BeginsApart, BeginsWith, Moves, TestsEmpty, Unless};
+ghost use Rattle.migrate_core.specs.Causes.{Begins, BeginsApart, BeginsWith, Moves, StopsAt, TestsEmpty, Unless};
 ghost use Rattle.migrate_core.specs.Faults.{Blamed};
 ghost use Rattle.migrate_core.specs.Leading.{KeepsGuarded, KeepsSettled, LeadsEach};
 ghost use Rattle.migrate_core.specs.Moved.{Moved, MovesTree, Placed, lacking};
@@ -167,7 +167,7 @@ fn move_all<F: Folder, R: Randoms>(
     ensures grows { F.faults folder.old ≤ F.faults folder.new }
     ensures random { R.faults random.old ≤ R.faults random.new }
     ensures blamed { IfErr result (Blamed (CountRose (F.faults folder.old) (F.faults folder.new)) (CountRose (R.faults random.old) (R.faults random.new))) }
-    ensures cause { (v : View) → IsSeen (F.told folder.old) v → Unless result (Moves (EntersAs v work.now) result) }
+    ensures cause { (v : View) → IsSeen (F.told folder.old) v → Unless result (Moves (EntersAs v work.now) (StopsAt sides.now.source v plan.now.items) result) }
     ensures written { WritesBy result sides.now.source sides.now.target (lacked [] plan.now.items) (journal_texts sides.now.source.root sides.now.target.root plan.now.items) (R.left random.old) (R.left random.new) (F.told folder.old) (F.told folder.new) }
 {
     draws_compose();

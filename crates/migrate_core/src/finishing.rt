@@ -13,7 +13,7 @@ ghost use Rattle.tree_match.specs.Trees.{match_of};
 ghost use Rattle.tree_match.specs.declared.answer.Match.TheVariants.{Same};
 ghost use Rattle.vault_walk.specs.Survey.{IsOrdered};
 ghost use Rattle.work_folder.specs.Entering.{IsReady};
-ghost use Rattle.migrate_core.specs.Causes.{IsMovingFault};
+ghost use Rattle.migrate_core.specs.Causes.{IsStop, StopsSeen, nothing_stops};
 ghost use Rattle.migrate_core.specs.Faults.{Blamed};
 ghost use Rattle.migrate_core.specs.Leading.{FinishesEach, LeadsTold, progress_of};
 ghost use Rattle.migrate_core.specs.Moved.{Moved, StandsIn, done_of, lacking};
@@ -64,7 +64,7 @@ pub(crate) fn go_on<F: Folder, R: Randoms>(
     ensures grows { F.faults folder.old ≤ F.faults folder.new }
     ensures random { R.faults random.old ≤ R.faults random.new }
     ensures blamed { IfErr result (Blamed (CountRose (F.faults folder.old) (F.faults folder.new)) (CountRose (R.faults random.old) (R.faults random.new))) }
-    ensures moving { IfErr result IsMovingFault }
+    ensures moving { IfErr result (StopsSeen (F.told folder.old) sides.now.source source.now.items) }
     ensures written { IsOrdered there.now → WritesBy result sides.now.source sides.now.target (lacked there.now source.now.items) (journal_text (done_of journal) ∷ []) (R.left random.old) (R.left random.new) (F.told folder.old) (F.told folder.new) }
 {
     draws_compose();
@@ -96,7 +96,7 @@ pub(crate) fn finish<F: Folder>(
     ensures moves { MovesOnly work.now sides.now.target.root (F.told folder.old) (F.told folder.new) }
     ensures grows { F.faults folder.old ≤ F.faults folder.new }
     ensures blamed { IfErr result (Blamed (CountRose (F.faults folder.old) (F.faults folder.new)) ⊥) }
-    ensures moving { IfErr result IsMovingFault }
+    ensures moving { IfErr result (IsStop nothing_stops) }
     ensures written { WritesOnly (λ file. Contains (journal_text (done_of journal) ∷ []) file) (F.told folder.old) (F.told folder.new) }
 {
     guarded_migrations_are_seen();
@@ -124,7 +124,7 @@ fn test_same<F: Folder>(
     ensures same { OnOk result ((v : View) → IsSeen (F.told folder.old) v → match_of v (side_of sides.now.source source.now.items) (side_of sides.now.target target.now.items) ≡ Is Same) }
     ensures grows { F.faults folder.old ≤ F.faults folder.new }
     ensures blamed { IfErr result (Blamed (CountRose (F.faults folder.old) (F.faults folder.new)) ⊥) }
-    ensures moving { IfErr result IsMovingFault }
+    ensures moving { IfErr result (IsStop nothing_stops) }
 {
     match holds_all(alloc, folder, &sides.source, source, &sides.target, target)? {
         Match::Same => Ok(()),
@@ -156,7 +156,7 @@ fn say_done<F: Folder>(
     ensures moves { (root : Path) → AreApart root work.now → MovesOnly work.now root (F.told folder.old) (F.told folder.new) }
     ensures grows { F.faults folder.old ≤ F.faults folder.new }
     ensures blamed { IfErr result (Blamed (CountRose (F.faults folder.old) (F.faults folder.new)) ⊥) }
-    ensures moving { IfErr result IsMovingFault }
+    ensures moving { IfErr result (IsStop nothing_stops) }
     ensures written { WritesOnly (λ file. Contains (journal_text (done_of journal) ∷ []) file) (F.told folder.old) (F.told folder.new) }
 {
     journals_keep_migrations_guarded();

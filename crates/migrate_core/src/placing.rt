@@ -8,7 +8,7 @@ ghost use Rattle.tree_match.specs.Alone.{Begun};
 ghost use Rattle.vault_walk.specs.Survey.{IsOrdered};
 ghost use Rattle.vault_write.specs.Making.{is_apart};
 ghost use Rattle.work_folder.specs.Entering.{IsReady};
-ghost use Rattle.migrate_core.specs.Causes.{IsMovingFault};
+ghost use Rattle.migrate_core.specs.Causes.{IsStop, StopsSeen, nothing_stops};
 ghost use Rattle.migrate_core.specs.Faults.{Blamed};
 ghost use Rattle.migrate_core.specs.Leading.{LeadsEach};
 ghost use Rattle.migrate_core.specs.Moved.{is_there, lacking};
@@ -46,7 +46,7 @@ pub(crate) fn journal_of(source: &FPath, target: &FPath, plan: &Plan) -> Result<
     ensures new { IfOk result (λ journal. journal ≡ new_journal source.now target.now plan.now.items) }
     ensures digest { IfOk result (λ journal. IsDigest journal.plan) }
     ensures blamed { IfErr result (Blamed ⊥ ⊥) }
-    ensures moving { IfErr result IsMovingFault }
+    ensures moving { IfErr result (IsStop nothing_stops) }
 {
     Ok(Journal {
         phase: Phase::Building,
@@ -78,7 +78,7 @@ pub(crate) fn place_missing<F: Folder, R: Randoms>(
     ensures grows { F.faults folder.old ≤ F.faults folder.new }
     ensures random { R.faults random.old ≤ R.faults random.new }
     ensures blamed { IfErr result (Blamed (CountRose (F.faults folder.old) (F.faults folder.new)) (CountRose (R.faults random.old) (R.faults random.new))) }
-    ensures moving { IfErr result IsMovingFault }
+    ensures moving { IfErr result (StopsSeen (F.told folder.old) sides.now.source items.now) }
     ensures written { IsOrdered there.now → WritesBy result sides.now.source sides.now.target (lacked there.now items.now) [] (R.left random.old) (R.left random.new) (F.told folder.old) (F.told folder.new) }
 {
     draws_compose();
@@ -113,7 +113,7 @@ fn place_missing_one<F: Folder, R: Randoms>(
     ensures grows { F.faults folder.old ≤ F.faults folder.new }
     ensures random { R.faults random.old ≤ R.faults random.new }
     ensures blamed { IfErr result (Blamed (CountRose (F.faults folder.old) (F.faults folder.new)) (CountRose (R.faults random.old) (R.faults random.new))) }
-    ensures moving { IfErr result IsMovingFault }
+    ensures moving { IfErr result (StopsSeen (F.told folder.old) sides.now.source (item.now ∷ [])) }
     ensures written { IsOrdered there.now → WritesBy result sides.now.source sides.now.target (lacked there.now (item.now ∷ [])) [] (R.left random.old) (R.left random.new) (F.told folder.old) (F.told folder.new) }
 {
     draws_compose();
@@ -151,7 +151,7 @@ fn place<F: Folder, R: Randoms>(
     ensures grows { F.faults folder.old ≤ F.faults folder.new }
     ensures random { R.faults random.old ≤ R.faults random.new }
     ensures blamed { IfErr result (Blamed (CountRose (F.faults folder.old) (F.faults folder.new)) (CountRose (R.faults random.old) (R.faults random.new))) }
-    ensures moving { IfErr result IsMovingFault }
+    ensures moving { IfErr result (StopsSeen (F.told folder.old) sides.now.source (item.now ∷ [])) }
     ensures written { WritesBy result sides.now.source sides.now.target (item.now ∷ []) [] (R.left random.old) (R.left random.new) (F.told folder.old) (F.told folder.new) }
 {
     guarded_migrations_are_seen();
@@ -182,7 +182,7 @@ fn place_content<F: Folder, R: Randoms>(
     ensures grows { F.faults folder.old ≤ F.faults folder.new }
     ensures random { R.faults random.old ≤ R.faults random.new }
     ensures blamed { IfErr result (Blamed (CountRose (F.faults folder.old) (F.faults folder.new)) (CountRose (R.faults random.old) (R.faults random.new))) }
-    ensures moving { IfErr result IsMovingFault }
+    ensures moving { IfErr result (StopsSeen (F.told folder.old) sides.now.source (item.now ∷ [])) }
     ensures written { WritesBy result sides.now.source sides.now.target (item.now ∷ []) [] (R.left random.old) (R.left random.new) (F.told folder.old) (F.told folder.new) }
 {
     draws_compose();

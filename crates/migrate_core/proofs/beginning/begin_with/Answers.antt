@@ -13,7 +13,7 @@ use Rattle.migrate_core.specs.Sides.{AllowsEach, IsWalked}
 use Rattle.migrate_core.proofs.Leadings.{refused_nowhere}
 use Rattle.migrate_core.proofs.Movings.{moves_nowhere}
 use Rattle.migrate_core.proofs.Causing.{Next, own_passes, own_refused, refused_as, walks_pass, walks_refused}
-use Rattle.migrate_core.specs.Causes.{Answer, BeginsWith, Moves, TestsEmpty, TestsNames, Then, Unless, own}
+use Rattle.migrate_core.specs.Causes.{Answer, BeginsWith, Moves, TestsEmpty, TestsNames, Then, Unless, own, StopsAt}
 use Rattle.work_folder.specs.Entering.{EntersAs}
 use Rattle.migrate_core.specs.declared.placing.Done.{Done}
 use Rattle.vault_spec.specs.Plan.{Planned}
@@ -77,8 +77,8 @@ pub returns-in_err-plans-clause-cause : goal.returns-in_err-plans-clause-cause
 returns-in_err-plans-clause-cause g c v seen =
     let from = c.args.sides.now.source in
     let to = c.args.sides.now.target in
-    let moves : Unit {0} → Answer Done → Type 0 = λ _. Moves (EntersAs v c.args.work.now) in
-    let names : List Planned → Unit {0} → Answer Done → Type 0 = λ items _. Then own (TestsNames (format_of to.vault) items) moves in
+    let moves : List Planned → Unit {0} → Answer Done → Type 0 = λ items _. Moves (EntersAs v c.args.work.now) (StopsAt from v items) in
+    let names : List Planned → Unit {0} → Answer Done → Type 0 = λ items _. Then own (TestsNames (format_of to.vault) items) (moves items) in
     let next : Next (List Planned) Done = λ items there. Then own (TestsEmpty there) (names items) in
     let fault = c.in_err-plans.field-0.0 in
     let p = err_from_is_err_and c.from_residual.result c.from_residual.ensures.1 in
@@ -88,8 +88,8 @@ pub returns-in_err-test_empty-clause-cause : goal.returns-in_err-test_empty-clau
 returns-in_err-test_empty-clause-cause g c v seen =
     let from = c.args.sides.now.source in
     let to = c.args.sides.now.target in
-    let moves : Unit {0} → Answer Done → Type 0 = λ _. Moves (EntersAs v c.args.work.now) in
-    let names : List Planned → Unit {0} → Answer Done → Type 0 = λ items _. Then own (TestsNames (format_of to.vault) items) moves in
+    let moves : List Planned → Unit {0} → Answer Done → Type 0 = λ items _. Moves (EntersAs v c.args.work.now) (StopsAt from v items) in
+    let names : List Planned → Unit {0} → Answer Done → Type 0 = λ items _. Then own (TestsNames (format_of to.vault) items) (moves items) in
     let next : Next (List Planned) Done = λ items there. Then own (TestsEmpty there) (names items) in
     let plans = c.in_ok-plans.plans in
     let fault = c.in_err-test_empty.field-0.0 in
@@ -102,8 +102,8 @@ pub returns-in_err-test_names-clause-cause : goal.returns-in_err-test_names-clau
 returns-in_err-test_names-clause-cause g c v seen =
     let from = c.args.sides.now.source in
     let to = c.args.sides.now.target in
-    let moves : Unit {0} → Answer Done → Type 0 = λ _. Moves (EntersAs v c.args.work.now) in
-    let names : List Planned → Unit {0} → Answer Done → Type 0 = λ items _. Then own (TestsNames (format_of to.vault) items) moves in
+    let moves : List Planned → Unit {0} → Answer Done → Type 0 = λ items _. Moves (EntersAs v c.args.work.now) (StopsAt from v items) in
+    let names : List Planned → Unit {0} → Answer Done → Type 0 = λ items _. Then own (TestsNames (format_of to.vault) items) (moves items) in
     let next : Next (List Planned) Done = λ items there. Then own (TestsEmpty there) (names items) in
     let plans = c.in_ok-plans.plans in
     let fault = c.in_err-test_names.field-0.0 in
@@ -111,20 +111,20 @@ returns-in_err-test_names-clause-cause g c v seen =
     refused_as (λ answer. Unless answer (BeginsWith from to c.args.work.now v answer)) c.from_residual-in_err-test_names.result p.0 fault p.1 p.2
     (walks_pass from to v next (Err fault) plans.source.items plans.target.items (c.in_ok-plans.ensures.passed_source v seen) (c.in_ok-plans.ensures.passed_target v seen)
     (own_passes (TestsEmpty plans.target.items) (names plans.source.items) (Err fault) tt (subst (λ items. Unless {X = Unit {0}} (Ok tt) (TestsEmpty items (Ok tt))) c.as_slice.ensures c.in_ok-test_empty.ensures.cause)
-    (own_refused (TestsNames (format_of to.vault) plans.source.items) moves fault
+    (own_refused (TestsNames (format_of to.vault) plans.source.items) (moves plans.source.items) fault
     (subst (λ items. Unless {X = Unit {0}} (Err fault) (TestsNames (format_of to.vault) items (Err fault))) c.as_slice-2.ensures c.in_err-test_names.ensures.cause))))
 
 pub returns-clause-cause : goal.returns-clause-cause
 returns-clause-cause g c v seen =
     let from = c.args.sides.now.source in
     let to = c.args.sides.now.target in
-    let moves : Unit {0} → Answer Done → Type 0 = λ _. Moves (EntersAs v c.args.work.now) in
-    let names : List Planned → Unit {0} → Answer Done → Type 0 = λ items _. Then own (TestsNames (format_of to.vault) items) moves in
+    let moves : List Planned → Unit {0} → Answer Done → Type 0 = λ items _. Moves (EntersAs v c.args.work.now) (StopsAt from v items) in
+    let names : List Planned → Unit {0} → Answer Done → Type 0 = λ items _. Then own (TestsNames (format_of to.vault) items) (moves items) in
     let next : Next (List Planned) Done = λ items there. Then own (TestsEmpty there) (names items) in
     let plans = c.in_ok-plans.plans in
     walks_pass from to v next c.move_all.result plans.source.items plans.target.items (c.in_ok-plans.ensures.passed_source v seen) (c.in_ok-plans.ensures.passed_target v seen)
     (own_passes (TestsEmpty plans.target.items) (names plans.source.items) c.move_all.result tt (subst (λ items. Unless {X = Unit {0}} (Ok tt) (TestsEmpty items (Ok tt))) c.as_slice.ensures c.in_ok-test_empty.ensures.cause)
-    (own_passes (TestsNames (format_of to.vault) plans.source.items) moves c.move_all.result tt
+    (own_passes (TestsNames (format_of to.vault) plans.source.items) (moves plans.source.items) c.move_all.result tt
     (subst (λ items. Unless {X = Unit {0}} (Ok tt) (TestsNames (format_of to.vault) items (Ok tt))) c.as_slice-2.ensures c.in_ok-test_names.ensures.cause)
     (c.move_all.ensures.cause v (subst (λ t. IsSeen t v) (sym c.walk_both.ensures.told) seen))))
 

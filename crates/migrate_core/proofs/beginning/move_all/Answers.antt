@@ -18,12 +18,13 @@ use Rattle.migrate_core.specs.Moving.{MovesOnly}
 use Rattle.migrate_core.specs.Sides.{new_journal}
 use Rattle.migrate_core.proofs.Endings.{if_ok_more}
 use Rattle.migrate_core.specs.Moved.{Moved, lacking, done_of}
-use Rattle.migrate_core.proofs.Causing.{folder_unless, moves_pass, refused_as, work_refused}
-use Rattle.migrate_core.specs.Causes.{IsOfMoving, Moves, Unless}
+use Rattle.migrate_core.proofs.Causing.{folder_unless, moves_pass, refused_as, work_refused, stop_more}
+use Rattle.migrate_core.specs.Causes.{IsOfMoving, Moves, Unless, StopsAt, nothing_stops}
 use Rattle.migrate_core.specs.Faults.{of_folder, of_work}
 use Rattle.migrate_core.proofs.Writings.{changing_writes, in_first, journal_written, kept_by, lacked_is, none_ordered, nothing_yet, only_more, only_on, source_beside_at, texts_first, texts_then}
 use Rattle.migrate_core.specs.Written.{WritesBy, WritesOnly, journal_texts, lacked}
 use Rattle.move_journal.specs.Journal.{journal_text}
+use Rattle.migrate_core.proofs.Stopping.{if_stops_before, seen_stops}
 use Rattle.migrate_core.proofs.beginning.move_all.Goals as goal
 
 pub returns-in_err-entered-clause-guard : goal.returns-in_err-entered-clause-guard
@@ -189,27 +190,43 @@ returns-clause-placed g c =
 pub returns-in_err-entered-clause-cause : goal.returns-in_err-entered-clause-cause
 returns-in_err-entered-clause-cause g c v seen =
     let work = c.args.work.now in
+    let stops = StopsAt c.args.sides.now.source v c.args.plan.now.items in
     let why = c.in_err-entered.field-0.0 in
     let p = err_from_is_err_and c.from_residual.result c.from_residual.ensures.1 in
-    refused_as (λ answer. Unless answer (Moves (EntersAs v work) answer)) c.from_residual.result p.0 (of_work why) p.1 p.2
-    (work_refused (EntersAs v work) (λ _. IsOfMoving) why (c.in_err-entered.ensures.enters.answer v seen))
+    refused_as (λ answer. Unless answer (Moves (EntersAs v work) stops answer)) c.from_residual.result p.0 (of_work why) p.1 p.2
+    (work_refused (EntersAs v work) (λ _. IsOfMoving stops) why (c.in_err-entered.ensures.enters.answer v seen))
 
 pub returns-in_err-journal-clause-cause : goal.returns-in_err-journal-clause-cause
 returns-in_err-journal-clause-cause g c v seen =
     let work = c.args.work.now in
+    let stops = StopsAt c.args.sides.now.source v c.args.plan.now.items in
     let fault = c.in_err-journal.field-0.0 in
     let p = err_from_is_err_and c.from_residual-in_err-journal.result c.from_residual-in_err-journal.ensures.1 in
-    refused_as (λ answer. Unless answer (Moves (EntersAs v work) answer)) c.from_residual-in_err-journal.result p.0 fault p.1 p.2
-    (moves_pass (EntersAs v work) (Err fault) (c.in_ok-entered.ensures.enters.answer v seen) c.in_err-journal.ensures.moving)
+    refused_as (λ answer. Unless answer (Moves (EntersAs v work) stops answer)) c.from_residual-in_err-journal.result p.0 fault p.1 p.2
+    (moves_pass (EntersAs v work) stops (Err fault) (c.in_ok-entered.ensures.enters.answer v seen) (stop_more nothing_stops stops fault (λ why none. absurd none) c.in_err-journal.ensures.moving))
 
 pub returns-in_err-write-clause-cause : goal.returns-in_err-write-clause-cause
 returns-in_err-write-clause-cause g c v seen =
+    let stops = StopsAt c.args.sides.now.source v c.args.plan.now.items in
     let p = err_from_is_err_and c.from_residual-in_err-write.result c.from_residual-in_err-write.ensures.1 in
-    refused_as (λ answer. Unless answer (Moves (EntersAs v c.args.work.now) answer)) c.from_residual-in_err-write.result p.0 (of_folder c.in_err-write.field-0.0) p.1 p.2 (folder_unless _ c.in_err-write.field-0.0)
+    refused_as (λ answer. Unless answer (Moves (EntersAs v c.args.work.now) stops answer)) c.from_residual-in_err-write.result p.0 (of_folder c.in_err-write.field-0.0) p.1 p.2 (folder_unless _ c.in_err-write.field-0.0)
 
 pub returns-clause-cause : goal.returns-clause-cause
 returns-clause-cause g c v seen =
-    moves_pass (EntersAs v c.args.work.now) c.go_on.result (c.in_ok-entered.ensures.enters.answer v seen) c.go_on.ensures.moving
+    let from = c.args.sides.now.source in
+    let to = c.args.sides.now.target in
+    let work = c.args.work.now in
+    let items = c.args.plan.now.items in
+    let told = g.F.Folder.told c.args.folder.now in
+    let entered = g.F.Folder.told c.enter.new.folder in
+    let written = g.F.Folder.told c.write.new.folder in
+    let region = apart_from_both work to.root in
+    let kept = kept_by region from.root items told written (g.met.F.Folder.sound c.args.folder.now)
+    (λ one among. source_beside_at from to.root work items one c.requires.apart c.requires.walked among)
+    (moves_to region to.root told written (moves_on region to.root told entered written (entered_moves work to.root (IsWorkOrStage work) (IsLeftOver work) told entered c.requires.apart.target c.enter.ensures.enters.moments)
+    (written_moves work to.root c.in_ok-journal.journal entered written c.requires.apart.target c.write.ensures.moments))) in
+    moves_pass (EntersAs v work) (StopsAt from v items) c.go_on.result (c.in_ok-entered.ensures.enters.answer v seen)
+    (seen_stops c.go_on.result from items told v seen (if_stops_before c.go_on.result from items told written kept c.go_on.ensures.moving))
 
 pub returns-in_err-entered-clause-written : goal.returns-in_err-entered-clause-written
 returns-in_err-entered-clause-written g c =

@@ -1,4 +1,4 @@
-use Rattle.std.proofs.Common.{◌≡◌, ◌∙◌, ap, sym, subst, Err, [], arith, refl, ◌∷◌}
+use Rattle.std.proofs.Common.{◌≡◌, ◌∙◌, ap, sym, subst, [], arith, refl, ◌∷◌, IfErr}
 use Rattle.std.proofs.lemmas.Result.{err_from_is_err_and}
 use Rattle.folder_spec.specs.Region.{apart_from_both}
 use Rattle.folder_spec.specs.Seen.{IsSeen}
@@ -18,6 +18,8 @@ use Rattle.migrate_core.specs.Written.{WritesAll, WritesBy, WritesFirst, lacked}
 use Rattle.migrate_core.proofs.Writings.{by_all, by_texts, then_texts}
 use Rattle.migrate_core.proofs.Causing.{refused_as}
 use Rattle.move_journal.specs.Journal.{journal_text}
+use Rattle.migrate_core.proofs.Stopping.{none_seen}
+use Rattle.migrate_core.specs.Causes.{StopsSeen}
 use Rattle.migrate_core.proofs.finishing.go_on.Goals as goal
 
 pub place_missing-requires-clause-walked : goal.place_missing-requires-clause-walked
@@ -133,3 +135,14 @@ returns-clause-written g c ordered =
     by_all c.finish.result from to (lacked there items) texts left left1 told told'
     (then_texts c.draws_compose.ensures.composed from to (lacked there items) [] texts left left1 left1 told here told'
     (subst (λ xs. WritesAll from to (lacked there xs) [] left left1 told here) c.as_slice-items.ensures (c.in_ok-placed.ensures.written ordered)) (c.draws_compose.ensures.none left1) c.finish.ensures.written)
+
+pub returns-in_err-placed-clause-moving : goal.returns-in_err-placed-clause-moving
+returns-in_err-placed-clause-moving g c =
+    let from = c.args.sides.now.source in
+    let told = g.F.Folder.told c.args.folder.now in
+    let p = err_from_is_err_and c.from_residual.result c.from_residual.ensures.1 in
+    refused_as (λ answer. IfErr answer (StopsSeen told from c.args.source.now.items)) c.from_residual.result p.0 c.in_err-placed.field-0.0 p.1 p.2
+    (subst (λ xs. StopsSeen told from xs c.in_err-placed.field-0.0) c.as_slice-items.ensures c.in_err-placed.ensures.moving)
+
+pub returns-clause-moving : goal.returns-clause-moving
+returns-clause-moving g c = none_seen c.finish.result c.args.sides.now.source c.args.source.now.items (g.F.Folder.told c.args.folder.now) c.finish.ensures.moving

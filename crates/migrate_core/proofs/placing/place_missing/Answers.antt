@@ -1,4 +1,4 @@
-use Rattle.std.proofs.Common.{◌∙◌, ◌+◌, true, false, refl, sym, ap, arith, Contains, [], drop, subst, take, ◌++◌, ◌∷◌}
+use Rattle.std.proofs.Common.{◌∙◌, ◌+◌, true, false, refl, sym, ap, arith, Contains, [], drop, subst, take, ◌++◌, ◌∷◌, IfErr}
 use Rattle.std.proofs.lemmas.List.{take_all}
 use Rattle.migrate_core.proofs.Searched.{counted_on}
 use Rattle.migrate_core.specs.Moved.{lacking}
@@ -11,6 +11,8 @@ use Rattle.migrate_core.proofs.Movings.{moves_nowhere, moves_on, moves_to, sourc
 use Rattle.migrate_core.specs.Written.{WritesAll, WritesBy, WritesFirst, lacked}
 use Rattle.migrate_core.proofs.Writings.{all_on, first_of_more, first_on, kept_by, lacked_is, lacked_next, lacked_split, next_among, only_nowhere, source_place, texts_alone}
 use Rattle.migrate_core.proofs.Causing.{refused_as}
+use Rattle.migrate_core.proofs.Stopping.{stops_before}
+use Rattle.migrate_core.specs.Causes.{StopsSeen}
 use Rattle.migrate_core.proofs.placing.place_missing.Goals as goal
 use Rattle.migrate_core.proofs.placing.place_missing.Goals.{then-branch, else-branch}
 
@@ -176,3 +178,21 @@ returns-clause-written g c ordered =
     let left = g.R.Randoms.left c.args.random.now in
     subst (λ xs. WritesAll c.args.sides.now.source c.args.sides.now.target (lacked c.args.there.now xs) [] left (g.R.Randoms.left c.loop-item.random) (g.F.Folder.told c.args.folder.now) (g.F.Folder.told c.loop-item.folder))
     (take_all c.loop-item.item-index c.args.items.now c.loop-item-test.false) (c.loop-item.invariant.written ordered)
+
+pub returns-in_err-place_missing_one-clause-moving : goal.returns-in_err-place_missing_one-clause-moving
+returns-in_err-place_missing_one-clause-moving g c =
+    let from = c.args.sides.now.source in
+    let to = c.args.sides.now.target in
+    let work = c.args.work.now in
+    let items = c.args.items.now in
+    let told = g.F.Folder.told c.args.folder.now in
+    let here = g.F.Folder.told c.loop-item.folder in
+    let k = c.loop-item.item-index in
+    let item = c.item-item.result in
+    let fault = c.in_err-place_missing_one.field-0.0 in
+    let kept = kept_by (is_apart work to.root) from.root (item ∷ []) told here (g.met.F.Folder.sound c.args.folder.now)
+    (λ one among. source_place from to.root work items one c.requires.apart c.requires.walked (next_among items k item c.loop-item-test.true c.item-item.is one among))
+    (moves_to (is_apart work to.root) to.root told here c.loop-item.invariant.moves) in
+    let p = err_from_is_err_and c.from_residual.result c.from_residual.ensures.1 in
+    refused_as (λ answer. IfErr answer (StopsSeen told from items)) c.from_residual.result p.0 fault p.1 p.2
+    (stops_before from (item ∷ []) items told here fault kept (next_among items k item c.loop-item-test.true c.item-item.is) c.in_err-place_missing_one.ensures.moving)

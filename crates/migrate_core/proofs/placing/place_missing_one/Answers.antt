@@ -1,4 +1,4 @@
-use Rattle.std.proofs.Common.{refl, sym, ◌∙◌, Contains, [], cond, not, subst, ◌∷◌}
+use Rattle.std.proofs.Common.{refl, sym, ◌∙◌, Contains, [], cond, not, subst, ◌∷◌, IfErr}
 use Rattle.folder_spec.specs.Seen.{seen}
 use Rattle.tree_match.specs.Alone.{Begun}
 use Rattle.vault_write.specs.Making.{is_apart}
@@ -10,6 +10,7 @@ use Rattle.migrate_core.proofs.Writings.{only_nowhere, texts_alone}
 use Rattle.migrate_core.proofs.Causing.{refused_as}
 use Rattle.std.proofs.lemmas.Result.{err_from_is_err_and}
 use Rattle.migrate_core.specs.Written.{WritesAll, WritesBy, WritesFirst, lacked}
+use Rattle.migrate_core.specs.Causes.{StopsSeen}
 use Rattle.migrate_core.proofs.placing.place_missing_one.Goals as goal
 
 pub returns-in_err-place-clause-none : goal.returns-in_err-place-clause-none
@@ -67,3 +68,8 @@ returns-then-stands-clause-written g c ordered =
     let item = c.args.item.now in
     subst (λ b. WritesAll from to (cond (not b) (item ∷ []) []) [] left left told told) (sym c.if-stands.true ∙ c.stands.ensures ordered)
     (texts_alone from to [] [] left left told told (c.draws_compose.ensures.none left) (only_nowhere (λ file. Contains [] file) told told refl))
+
+pub returns-in_err-place-clause-moving : goal.returns-in_err-place-clause-moving
+returns-in_err-place-clause-moving g c =
+    let p = err_from_is_err_and c.from_residual.result c.from_residual.ensures.1 in
+    refused_as (λ answer. IfErr answer (StopsSeen (g.F.Folder.told c.args.folder.now) c.args.sides.now.source (c.args.item.now ∷ []))) c.from_residual.result p.0 c.in_err-place.field-0.0 p.1 p.2 c.in_err-place.ensures.moving

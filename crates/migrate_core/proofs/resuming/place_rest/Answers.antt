@@ -19,12 +19,13 @@ use Rattle.migrate_core.proofs.WorkFolders.{journal_stays}
 use Rattle.migrate_core.proofs.Endings.{if_ok_more}
 use Rattle.migrate_core.specs.Moved.{Moved, StandsIn, lacking, done_of}
 use Rattle.migrate_core.proofs.Causing.{moves_pass, refused_as, work_refused}
-use Rattle.migrate_core.specs.Causes.{IsOfMoving, Moves, Unless}
+use Rattle.migrate_core.specs.Causes.{IsOfMoving, Moves, Unless, StopsAt}
 use Rattle.migrate_core.specs.Faults.{of_work}
 use Rattle.migrate_core.proofs.Writings.{changing_writes, kept_by, lacked_is, nothing_yet, only_more, source_beside_at, texts_then}
 use Rattle.migrate_core.specs.Written.{WritesBy, lacked}
 use Rattle.move_journal.specs.Journal.{journal_text}
 use Rattle.migrate_core.proofs.Blaming.{blamed_later}
+use Rattle.migrate_core.proofs.Stopping.{if_stops_before, seen_stops}
 use Rattle.migrate_core.proofs.resuming.place_rest.Goals as goal
 
 pub again-requires-clause-folder : goal.again-requires-clause-folder
@@ -136,14 +137,26 @@ returns-clause-placed g c =
 
 pub returns-in_err-again-clause-cause : goal.returns-in_err-again-clause-cause
 returns-in_err-again-clause-cause g c v seen =
+    let stops = StopsAt c.args.sides.now.source v c.args.plans.now.source.items in
     let why = c.in_err-again.field-0.0 in
     let p = err_from_is_err_and c.from_residual.result c.from_residual.ensures.1 in
-    refused_as (λ answer. Unless answer (Moves (Empties v c.args.work.now) answer)) c.from_residual.result p.0 (of_work why) p.1 p.2
-    (work_refused (Empties v c.args.work.now) (λ _. IsOfMoving) why (c.in_err-again.ensures.restages.answer v seen))
+    refused_as (λ answer. Unless answer (Moves (Empties v c.args.work.now) stops answer)) c.from_residual.result p.0 (of_work why) p.1 p.2
+    (work_refused (Empties v c.args.work.now) (λ _. IsOfMoving stops) why (c.in_err-again.ensures.restages.answer v seen))
 
 pub returns-clause-cause : goal.returns-clause-cause
 returns-clause-cause g c v seen =
-    moves_pass (Empties v c.args.work.now) c.go_on.result (c.in_ok-again.ensures.restages.answer v seen) c.go_on.ensures.moving
+    let from = c.args.sides.now.source in
+    let to = c.args.sides.now.target in
+    let work = c.args.work.now in
+    let items = c.args.plans.now.source.items in
+    let told = g.F.Folder.told c.args.folder.now in
+    let ready = g.F.Folder.told c.again.new.folder in
+    let region = apart_from_both work to.root in
+    let kept = kept_by region from.root items told ready (g.met.F.Folder.sound c.args.folder.now)
+    (λ one among. source_beside_at from to.root work items one c.requires.apart c.requires.source among)
+    (moves_to region to.root told ready (stage_moves work to.root told ready c.requires.apart.target c.again.ensures.restages.moments)) in
+    moves_pass (Empties v work) (StopsAt from v items) c.go_on.result (c.in_ok-again.ensures.restages.answer v seen)
+    (seen_stops c.go_on.result from items told v seen (if_stops_before c.go_on.result from items told ready kept c.go_on.ensures.moving))
 
 pub returns-in_err-again-clause-written : goal.returns-in_err-again-clause-written
 returns-in_err-again-clause-written g c v seen =

@@ -1,5 +1,5 @@
 -- Why a migration's faults may come.
-use Rattle.std.proofs.Common.{◌≡◌, ◌≢◌, ◌≤◌, ℕ, Err, refl}
+use Rattle.std.proofs.Common.{◌≡◌, ◌≢◌, ◌≤◌, ℕ, IfErr, Result, Ok, Err, refl}
 use Rattle.folder_model.proofs.Counting.{rose_since}
 use Rattle.folder_model.specs.Answers.{CountsAbove}
 use Rattle.folder_spec.specs.declared.FolderFault.{FolderFault}
@@ -37,3 +37,7 @@ blamed_file put.Source own none failed drawn = absurd (none refl)
 blamed_file put.Random own none failed drawn = record { own = tt; failed = λ is. cc is; drawn = λ is. drawn refl }
 blamed_file put.Failed own none failed drawn = record { own = tt; failed = λ is. failed refl; drawn = λ is. cc is }
 blamed_file put.NoMemory own none failed drawn = record { own = tt; failed = λ is. cc is; drawn = λ is. cc is }
+
+pub blamed_later : {T : Type 0} (f f1 f2 r r1 r2 : ℕ) (result : Result T MoveFault) → f ≤ f1 → r ≤ r1 → IfErr result (Blamed (CountRose f1 f2) (CountRose r1 r2)) → IfErr result (Blamed (CountRose f f2) (CountRose r r2))
+blamed_later f f1 f2 r r1 r2 (Ok value) folder random b = tt
+blamed_later f f1 f2 r r1 r2 (Err fault) folder random b = blamed_since f f1 f2 r r1 r2 folder random fault b

@@ -1,5 +1,6 @@
 mod Beginnings
 mod Blaming
+mod Causing
 mod Endings
 mod Fronts
 mod Leadings
@@ -9,4 +10,6 @@ mod Planned
 mod Restaged
 mod Searched
 mod Settled
+mod Stopping
 mod WorkFolders
+mod Writings

@@ -80,7 +80,7 @@ places_bring root work apart m new s (RemoveDir p) h = below_root root work apar
 abbrev pub Answer : Type 0
 Answer = Result (Unit {0}) PutFault
 
-no_answer : (T : Type 0) (taken : PutFault) (result : Answer) → ((result ≢ Err taken) → result ≡ Err NoMemory) → OnOk result T
+pub no_answer : (T : Type 0) (taken : PutFault) (result : Answer) → ((result ≢ Err taken) → result ≡ Err NoMemory) → OnOk result T
 no_answer T taken (Ok done) refused = absurd (ok_is_no_err (refused (λ e. cc e)))
   where
     ok_is_no_err : Ok done ≡ Err NoMemory → ⊥

@@ -4,3 +4,5 @@ pub mod Sides
 pub mod Leading
 pub mod Moving
 pub mod Moved
+pub mod Causes
+pub mod Written

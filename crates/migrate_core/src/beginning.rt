@@ -7,10 +7,13 @@ ghost use Rattle.move_journal.specs.Journal.{IsParsed};
 ghost use Rattle.tree_match.specs.Alone.{Finished, Unbegun};
 ghost use Rattle.tree_match.specs.Guard.{Migration};
 ghost use Rattle.vault_spec.specs.Vault.{format_of};
+ghost use Rattle.work_folder.specs.Entering.{EntersAs};
+ghost use Rattle.migrate_core.specs.Causes.{Begins, BeginsApart, BeginsWith, Moves, StopsAt, TestsEmpty, Unless};
 ghost use Rattle.migrate_core.specs.Faults.{Blamed};
 ghost use Rattle.migrate_core.specs.Leading.{KeepsGuarded, KeepsSettled, LeadsEach};
 ghost use Rattle.migrate_core.specs.Moved.{Moved, MovesTree, Placed, lacking};
 ghost use Rattle.migrate_core.specs.Moving.{MovesOnly};
+ghost use Rattle.migrate_core.specs.Written.{MayWrite, MayWriteTree, WritesBy, journal_texts, lacked};
 ghost use Rattle.migrate_core.specs.Sides.{AllowsEach, AreSeparate, IsAsked, IsWalked};
 
 use crate::fault::MoveFault;
@@ -20,6 +23,7 @@ use crate::sides::{Sides, load_both, test_apart, test_names, walk_both};
 use folder_model::{FPath, Folder};
 use move_journal::write;
 use port_model::Randoms;
+use port_model::laws::draws_compose;
 use std::alloc::Global;
 use tree_match::laws::{
     guarded_migrations_are_seen, journals_keep_migrations_guarded,
@@ -52,7 +56,10 @@ pub fn begin<F: Folder, R: Randoms>(
     ensures grows { F.faults folder.old ≤ F.faults folder.new }
     ensures random { R.faults random.old ≤ R.faults random.new }
     ensures blamed { IfErr result (Blamed (CountRose (F.faults folder.old) (F.faults folder.new)) (CountRose (R.faults random.old) (R.faults random.new))) }
+    ensures cause { (v : View) → IsSeen (F.told folder.old) v → Unless result (Begins source.now target.now work.now source_pass.now target_pass.now v result) }
+    ensures written { (v : View) → IsSeen (F.told folder.old) v → MayWriteTree result source.now target.now source_pass.now target_pass.now (R.left random.old) (R.left random.new) (F.told folder.old) (F.told folder.new) }
 {
+    draws_compose();
     settling_and_entering_keep_migrations_guarded();
     test_apart(source, target, work)?;
     folder.settle()?;
@@ -88,7 +95,10 @@ fn begin_settled<F: Folder, R: Randoms>(
     ensures grows { F.faults folder.old ≤ F.faults folder.new }
     ensures random { R.faults random.old ≤ R.faults random.new }
     ensures blamed { IfErr result (Blamed (CountRose (F.faults folder.old) (F.faults folder.new)) (CountRose (R.faults random.old) (R.faults random.new))) }
+    ensures cause { (v : View) → IsSeen (F.told folder.old) v → Unless result (BeginsApart source.now target.now work.now source_pass.now target_pass.now v result) }
+    ensures written { (v : View) → IsSeen (F.told folder.old) v → MayWriteTree result source.now target.now source_pass.now target_pass.now (R.left random.old) (R.left random.new) (F.told folder.old) (F.told folder.new) }
 {
+    draws_compose();
     roots_have_one_answer();
     guarded_migrations_are_seen();
     Work::look(folder, work)?;
@@ -114,7 +124,10 @@ fn begin_with<F: Folder, R: Randoms>(
     ensures grows { F.faults folder.old ≤ F.faults folder.new }
     ensures random { R.faults random.old ≤ R.faults random.new }
     ensures blamed { IfErr result (Blamed (CountRose (F.faults folder.old) (F.faults folder.new)) (CountRose (R.faults random.old) (R.faults random.new))) }
+    ensures cause { (v : View) → IsSeen (F.told folder.old) v → Unless result (BeginsWith sides.now.source sides.now.target work.now v result) }
+    ensures written { MayWrite result sides.now.source sides.now.target (R.left random.old) (R.left random.new) (F.told folder.old) (F.told folder.new) }
 {
+    draws_compose();
     let plans = walk_both(alloc, folder, sides)?;
     test_empty(plans.target.items.as_slice())?;
     test_names(&sides.target, plans.source.items.as_slice())?;
@@ -125,6 +138,7 @@ fn begin_with<F: Folder, R: Randoms>(
 fn test_empty(items: &[PlanItem]) -> Result<(), MoveFault>
     ensures empty { OnOk result (items.now ≡ []) }
     ensures blamed { IfErr result (Blamed ⊥ ⊥) }
+    ensures cause { Unless result (TestsEmpty items.now result) }
 {
     match items.first() {
         None => Ok(()),
@@ -153,7 +167,10 @@ fn move_all<F: Folder, R: Randoms>(
     ensures grows { F.faults folder.old ≤ F.faults folder.new }
     ensures random { R.faults random.old ≤ R.faults random.new }
     ensures blamed { IfErr result (Blamed (CountRose (F.faults folder.old) (F.faults folder.new)) (CountRose (R.faults random.old) (R.faults random.new))) }
+    ensures cause { (v : View) → IsSeen (F.told folder.old) v → Unless result (Moves (EntersAs v work.now) (StopsAt sides.now.source v plan.now.items) result) }
+    ensures written { WritesBy result sides.now.source sides.now.target (lacked [] plan.now.items) (journal_texts sides.now.source.root sides.now.target.root plan.now.items) (R.left random.old) (R.left random.new) (F.told folder.old) (F.told folder.new) }
 {
+    draws_compose();
     guarded_migrations_are_seen();
     journals_keep_migrations_guarded();
     settling_and_entering_keep_migrations_guarded();

@@ -1,10 +1,10 @@
 //! Ending a migration.
-ghost use Rattle.std.specs.Prelude.{◌≡◌, ◌≤◌, IfErr, IfOk, OnOk};
+ghost use Rattle.std.specs.Prelude.{◌≡◌, ◌≤◌, ◌∷◌, [], Contains, IfErr, IfOk, OnOk};
 ghost use Rattle.port_model.specs.Counts.{CountRose};
 ghost use Rattle.folder_spec.specs.Path.{Path};
 ghost use Rattle.folder_spec.specs.Seen.{IsSeen};
 ghost use Rattle.folder_spec.specs.View.{View};
-ghost use Rattle.move_journal.specs.Journal.{IsJournal};
+ghost use Rattle.move_journal.specs.Journal.{IsJournal, journal_text};
 ghost use Rattle.move_journal.specs.Writing.{IsWorkFolder};
 ghost use Rattle.tree_match.specs.Alone.{Begun, Finished};
 ghost use Rattle.tree_match.specs.Comparing.{Is};
@@ -13,10 +13,12 @@ ghost use Rattle.tree_match.specs.Trees.{match_of};
 ghost use Rattle.tree_match.specs.declared.answer.Match.TheVariants.{Same};
 ghost use Rattle.vault_walk.specs.Survey.{IsOrdered};
 ghost use Rattle.work_folder.specs.Entering.{IsReady};
+ghost use Rattle.migrate_core.specs.Causes.{IsStop, StopsSeen, nothing_stops};
 ghost use Rattle.migrate_core.specs.Faults.{Blamed};
 ghost use Rattle.migrate_core.specs.Leading.{FinishesEach, LeadsTold, progress_of};
 ghost use Rattle.migrate_core.specs.Moved.{Moved, StandsIn, done_of, lacking};
 ghost use Rattle.migrate_core.specs.Moving.{MovesOnly};
+ghost use Rattle.migrate_core.specs.Written.{WritesBy, WritesOnly, lacked};
 ghost use Rattle.migrate_core.specs.Sides.{AreSeparate, IsWalked, StandAll, side_of};
 
 use crate::fault::MoveFault;
@@ -25,6 +27,7 @@ use crate::sides::{Sides, walk_one};
 use folder_model::{FPath, Folder};
 use move_journal::{Journal, Phase, write};
 use port_model::Randoms;
+use port_model::laws::draws_compose;
 use std::alloc::Global;
 use tree_match::laws::{
     guarded_migrations_are_seen, journals_keep_migrations_guarded, what_is_held_opens_the_same,
@@ -61,7 +64,10 @@ pub(crate) fn go_on<F: Folder, R: Randoms>(
     ensures grows { F.faults folder.old ≤ F.faults folder.new }
     ensures random { R.faults random.old ≤ R.faults random.new }
     ensures blamed { IfErr result (Blamed (CountRose (F.faults folder.old) (F.faults folder.new)) (CountRose (R.faults random.old) (R.faults random.new))) }
+    ensures moving { IfErr result (StopsSeen (F.told folder.old) sides.now.source source.now.items) }
+    ensures written { IsOrdered there.now → WritesBy result sides.now.source sides.now.target (lacked there.now source.now.items) (journal_text (done_of journal) ∷ []) (R.left random.old) (R.left random.new) (F.told folder.old) (F.told folder.new) }
 {
+    draws_compose();
     let items = source.items.as_slice();
     let placed = place_missing(alloc, folder, work, sides, items, there, random)?;
     finish(alloc, folder, work.at(), sides, source, journal, placed)
@@ -90,6 +96,8 @@ pub(crate) fn finish<F: Folder>(
     ensures moves { MovesOnly work.now sides.now.target.root (F.told folder.old) (F.told folder.new) }
     ensures grows { F.faults folder.old ≤ F.faults folder.new }
     ensures blamed { IfErr result (Blamed (CountRose (F.faults folder.old) (F.faults folder.new)) ⊥) }
+    ensures moving { IfErr result (IsStop nothing_stops) }
+    ensures written { WritesOnly (λ file. Contains (journal_text (done_of journal) ∷ []) file) (F.told folder.old) (F.told folder.new) }
 {
     guarded_migrations_are_seen();
     what_is_held_opens_the_same();
@@ -116,6 +124,7 @@ fn test_same<F: Folder>(
     ensures same { OnOk result ((v : View) → IsSeen (F.told folder.old) v → match_of v (side_of sides.now.source source.now.items) (side_of sides.now.target target.now.items) ≡ Is Same) }
     ensures grows { F.faults folder.old ≤ F.faults folder.new }
     ensures blamed { IfErr result (Blamed (CountRose (F.faults folder.old) (F.faults folder.new)) ⊥) }
+    ensures moving { IfErr result (IsStop nothing_stops) }
 {
     match holds_all(alloc, folder, &sides.source, source, &sides.target, target)? {
         Match::Same => Ok(()),
@@ -147,6 +156,8 @@ fn say_done<F: Folder>(
     ensures moves { (root : Path) → AreApart root work.now → MovesOnly work.now root (F.told folder.old) (F.told folder.new) }
     ensures grows { F.faults folder.old ≤ F.faults folder.new }
     ensures blamed { IfErr result (Blamed (CountRose (F.faults folder.old) (F.faults folder.new)) ⊥) }
+    ensures moving { IfErr result (IsStop nothing_stops) }
+    ensures written { WritesOnly (λ file. Contains (journal_text (done_of journal) ∷ []) file) (F.told folder.old) (F.told folder.new) }
 {
     journals_keep_migrations_guarded();
     match journal.phase {

@@ -1,5 +1,5 @@
 //! Placing the source's items in the target.
-ghost use Rattle.std.specs.Prelude.{◌≡◌, ◌≤◌, not, IfErr, IfOk};
+ghost use Rattle.std.specs.Prelude.{◌≡◌, ◌≤◌, ◌∷◌, [], not, IfErr, IfOk};
 ghost use Rattle.port_model.specs.Counts.{CountRose};
 ghost use Rattle.folder_spec.specs.Seen.{IsSeen};
 ghost use Rattle.folder_spec.specs.View.{View};
@@ -8,10 +8,12 @@ ghost use Rattle.tree_match.specs.Alone.{Begun};
 ghost use Rattle.vault_walk.specs.Survey.{IsOrdered};
 ghost use Rattle.vault_write.specs.Making.{is_apart};
 ghost use Rattle.work_folder.specs.Entering.{IsReady};
+ghost use Rattle.migrate_core.specs.Causes.{IsStop, StopsSeen, nothing_stops};
 ghost use Rattle.migrate_core.specs.Faults.{Blamed};
 ghost use Rattle.migrate_core.specs.Leading.{LeadsEach};
 ghost use Rattle.migrate_core.specs.Moved.{is_there, lacking};
 ghost use Rattle.migrate_core.specs.Moving.{MovesBeside};
+ghost use Rattle.migrate_core.specs.Written.{WritesBy, lacked};
 ghost use Rattle.migrate_core.specs.Sides.{AreSeparate, IsItemOf, IsWalked, StandAll, StandsIn, new_journal};
 
 use crate::fault::MoveFault;
@@ -22,6 +24,7 @@ use folder_model::{FPath, Folder};
 use move_journal::{Journal, Phase};
 use plain_tree::NodeKind;
 use port_model::Randoms;
+use port_model::laws::draws_compose;
 use std::alloc::Global;
 use tree_match::laws::{
     guarded_migrations_are_seen, placing_keeps_migrations_guarded, walks_tell_the_tree,
@@ -43,6 +46,7 @@ pub(crate) fn journal_of(source: &FPath, target: &FPath, plan: &Plan) -> Result<
     ensures new { IfOk result (λ journal. journal ≡ new_journal source.now target.now plan.now.items) }
     ensures digest { IfOk result (λ journal. IsDigest journal.plan) }
     ensures blamed { IfErr result (Blamed ⊥ ⊥) }
+    ensures moving { IfErr result (IsStop nothing_stops) }
 {
     Ok(Journal {
         phase: Phase::Building,
@@ -74,7 +78,10 @@ pub(crate) fn place_missing<F: Folder, R: Randoms>(
     ensures grows { F.faults folder.old ≤ F.faults folder.new }
     ensures random { R.faults random.old ≤ R.faults random.new }
     ensures blamed { IfErr result (Blamed (CountRose (F.faults folder.old) (F.faults folder.new)) (CountRose (R.faults random.old) (R.faults random.new))) }
+    ensures moving { IfErr result (StopsSeen (F.told folder.old) sides.now.source items.now) }
+    ensures written { IsOrdered there.now → WritesBy result sides.now.source sides.now.target (lacked there.now items.now) [] (R.left random.old) (R.left random.new) (F.told folder.old) (F.told folder.new) }
 {
+    draws_compose();
     let mut placed = 0;
     for item in items {
         if place_missing_one(alloc, folder, work, sides, item, there, random)? {
@@ -106,7 +113,10 @@ fn place_missing_one<F: Folder, R: Randoms>(
     ensures grows { F.faults folder.old ≤ F.faults folder.new }
     ensures random { R.faults random.old ≤ R.faults random.new }
     ensures blamed { IfErr result (Blamed (CountRose (F.faults folder.old) (F.faults folder.new)) (CountRose (R.faults random.old) (R.faults random.new))) }
+    ensures moving { IfErr result (StopsSeen (F.told folder.old) sides.now.source (item.now ∷ [])) }
+    ensures written { IsOrdered there.now → WritesBy result sides.now.source sides.now.target (lacked there.now (item.now ∷ [])) [] (R.left random.old) (R.left random.new) (F.told folder.old) (F.told folder.new) }
 {
+    draws_compose();
     if stands(there, item) {
         return Ok(false);
     }
@@ -141,6 +151,8 @@ fn place<F: Folder, R: Randoms>(
     ensures grows { F.faults folder.old ≤ F.faults folder.new }
     ensures random { R.faults random.old ≤ R.faults random.new }
     ensures blamed { IfErr result (Blamed (CountRose (F.faults folder.old) (F.faults folder.new)) (CountRose (R.faults random.old) (R.faults random.new))) }
+    ensures moving { IfErr result (StopsSeen (F.told folder.old) sides.now.source (item.now ∷ [])) }
+    ensures written { WritesBy result sides.now.source sides.now.target (item.now ∷ []) [] (R.left random.old) (R.left random.new) (F.told folder.old) (F.told folder.new) }
 {
     guarded_migrations_are_seen();
     placing_keeps_migrations_guarded();
@@ -170,7 +182,10 @@ fn place_content<F: Folder, R: Randoms>(
     ensures grows { F.faults folder.old ≤ F.faults folder.new }
     ensures random { R.faults random.old ≤ R.faults random.new }
     ensures blamed { IfErr result (Blamed (CountRose (F.faults folder.old) (F.faults folder.new)) (CountRose (R.faults random.old) (R.faults random.new))) }
+    ensures moving { IfErr result (StopsSeen (F.told folder.old) sides.now.source (item.now ∷ [])) }
+    ensures written { WritesBy result sides.now.source sides.now.target (item.now ∷ []) [] (R.left random.old) (R.left random.new) (F.told folder.old) (F.told folder.new) }
 {
+    draws_compose();
     files_fit_as_contents();
     guarded_migrations_are_seen();
     placing_keeps_migrations_guarded();

@@ -1,5 +1,5 @@
 //! Going on with a migration.
-ghost use Rattle.std.specs.Prelude.{◌≡◌, ◌≢◌, ◌⊎◌, ◌≤◌, IfErr, IfOk, OnOk};
+ghost use Rattle.std.specs.Prelude.{◌≡◌, ◌≢◌, ◌⊎◌, ◌≤◌, ◌∷◌, [], IfErr, IfOk, Ok, OnOk};
 ghost use Rattle.port_model.specs.Counts.{CountRose};
 ghost use Rattle.folder_spec.specs.Seen.{IsSeen};
 ghost use Rattle.folder_spec.specs.View.{FileOf, NoEntry, View};
@@ -7,10 +7,13 @@ ghost use Rattle.move_journal.specs.Journal.{IsJournal, journal_text};
 ghost use Rattle.move_journal.specs.Reading.{journal_path};
 ghost use Rattle.tree_match.specs.Alone.{Finished};
 ghost use Rattle.tree_match.specs.Guard.{Migration};
+ghost use Rattle.work_folder.specs.Entering.{Empties};
+ghost use Rattle.migrate_core.specs.Causes.{Moves, Resumes, ResumesTold, ResumesWith, StopsAt, TestsItems, TestsMatch, TestsSource, TestsTold, Unless, is_done, where_in};
 ghost use Rattle.migrate_core.specs.Faults.{Blamed};
 ghost use Rattle.migrate_core.specs.Leading.{KeepsGuarded, KeepsSettled, LeadsTold, progress_of};
-ghost use Rattle.migrate_core.specs.Moved.{Moved, MovesTold, MovesTree, Placed, lacking};
+ghost use Rattle.migrate_core.specs.Moved.{done_of, Moved, MovesTold, MovesTree, Placed, lacking};
 ghost use Rattle.migrate_core.specs.Moving.{MovesOnly};
+ghost use Rattle.migrate_core.specs.Written.{MayWrite, MayWriteTold, MayWriteTree, WritesBy, lacked};
 ghost use Rattle.migrate_core.specs.Sides.{AreSeparate, AreTold, IsInUse, IsResumed, IsWalked};
 
 use crate::fault::MoveFault;
@@ -21,6 +24,7 @@ use folder_model::{FPath, Folder, Kind};
 use move_journal::laws::journals_are_read_back;
 use move_journal::{Journal, Phase, read};
 use port_model::Randoms;
+use port_model::laws::draws_compose;
 use std::alloc::Global;
 use tree_match::laws::{
     guarded_migrations_are_seen, settling_and_entering_keep_migrations_guarded, walks_tell_the_tree,
@@ -50,7 +54,10 @@ pub fn resume<F: Folder, R: Randoms>(
     ensures grows { F.faults folder.old ≤ F.faults folder.new }
     ensures random { R.faults random.old ≤ R.faults random.new }
     ensures blamed { IfErr result (Blamed (CountRose (F.faults folder.old) (F.faults folder.new)) (CountRose (R.faults random.old) (R.faults random.new))) }
+    ensures cause { (v : View) → IsSeen (F.told folder.old) v → Unless result (Resumes work.now source_pass.now target_pass.now v result) }
+    ensures written { (v : View) → IsSeen (F.told folder.old) v → MayWriteTold result work.now source_pass.now target_pass.now (R.left random.old) (R.left random.new) (F.told folder.old) (F.told folder.new) v }
 {
+    draws_compose();
     settling_and_entering_keep_migrations_guarded();
     folder.settle()?;
     resume_settled(alloc, folder, work, source_pass, target_pass, random)
@@ -72,11 +79,14 @@ fn resume_settled<F: Folder, R: Randoms>(
     ensures grows { F.faults folder.old ≤ F.faults folder.new }
     ensures random { R.faults random.old ≤ R.faults random.new }
     ensures blamed { IfErr result (Blamed (CountRose (F.faults folder.old) (F.faults folder.new)) (CountRose (R.faults random.old) (R.faults random.new))) }
+    ensures cause { (v : View) → IsSeen (F.told folder.old) v → Unless result (Resumes work.now source_pass.now target_pass.now v result) }
+    ensures written { (v : View) → IsSeen (F.told folder.old) v → MayWriteTold result work.now source_pass.now target_pass.now (R.left random.old) (R.left random.new) (F.told folder.old) (F.told folder.new) v }
 {
+    draws_compose();
     journals_are_read_back();
     let journal = read(alloc, folder, work)?;
     test_apart(&journal.source, &journal.target, work)?;
-    Work::look_again(folder, work, journal.phase == Phase::Done)?;
+    Work::look_again(folder, work, is_done(journal.phase))?;
     resume_told(
         alloc,
         folder,
@@ -86,6 +96,16 @@ fn resume_settled<F: Folder, R: Randoms>(
         target_pass,
         random,
     )
+}
+
+// Whether all is done in this phase.
+fn is_done(phase: Phase) -> bool
+    ensures { result ≡ is_done phase }
+{
+    match phase {
+        Phase::Building => false,
+        Phase::Done => true,
+    }
 }
 
 // Goes on with the migration that a journal tells.
@@ -107,7 +127,10 @@ fn resume_told<F: Folder, R: Randoms>(
     ensures grows { F.faults folder.old ≤ F.faults folder.new }
     ensures random { R.faults random.old ≤ R.faults random.new }
     ensures blamed { IfErr result (Blamed (CountRose (F.faults folder.old) (F.faults folder.new)) (CountRose (R.faults random.old) (R.faults random.new))) }
+    ensures cause { (v : View) → IsSeen (F.told folder.old) v → Unless result (ResumesTold work.now source_pass.now target_pass.now v journal result) }
+    ensures written { (v : View) → IsSeen (F.told folder.old) v → MayWriteTree result journal.source journal.target source_pass.now target_pass.now (R.left random.old) (R.left random.new) (F.told folder.old) (F.told folder.new) }
 {
+    draws_compose();
     journals_are_read_back();
     roots_have_one_answer();
     guarded_migrations_are_seen();
@@ -129,6 +152,7 @@ fn test_source<F: Folder>(folder: &mut F, journal: &Journal, work: &FPath) -> Re
     ensures there { OnOk result ((journal.now.phase ≡ Phase.Building) ⊎ ((v : View) → IsSeen (F.told folder.old) v → v journal.now.source ≢ NoEntry)) }
     ensures grows { F.faults folder.old ≤ F.faults folder.new }
     ensures blamed { IfErr result (Blamed (CountRose (F.faults folder.old) (F.faults folder.new)) ⊥) }
+    ensures cause { (v : View) → IsSeen (F.told folder.old) v → Unless result (TestsSource journal.now.phase work.now journal.now.source v result) }
 {
     if journal.phase == Phase::Building {
         return Ok(());
@@ -161,7 +185,10 @@ fn resume_with<F: Folder, R: Randoms>(
     ensures grows { F.faults folder.old ≤ F.faults folder.new }
     ensures random { R.faults random.old ≤ R.faults random.new }
     ensures blamed { IfErr result (Blamed (CountRose (F.faults folder.old) (F.faults folder.new)) (CountRose (R.faults random.old) (R.faults random.new))) }
+    ensures cause { (v : View) → IsSeen (F.told folder.old) v → Unless result (ResumesWith sides.now.source sides.now.target work.now journal v result) }
+    ensures written { (v : View) → IsSeen (F.told folder.old) v → MayWrite result sides.now.source sides.now.target (R.left random.old) (R.left random.new) (F.told folder.old) (F.told folder.new) }
 {
+    draws_compose();
     let plans = walk_both(alloc, folder, sides)?;
     test_plans(alloc, folder, sides, &plans, &journal)?;
     place_rest(alloc, folder, work, sides, &plans, journal, random)
@@ -180,6 +207,7 @@ fn test_plans<F: Folder>(
     ensures told { F.told folder.new ≡ F.told folder.old }
     ensures grows { F.faults folder.old ≤ F.faults folder.new }
     ensures blamed { IfErr result (Blamed (CountRose (F.faults folder.old) (F.faults folder.new)) ⊥) }
+    ensures cause { (v : View) → IsSeen (F.told folder.old) v → Unless result (TestsItems sides.now.source sides.now.target journal.now v plans.now.source.items plans.now.target.items (λ answer. answer ≡ Ok tt) result) }
 {
     test_changed(journal, plans)?;
     test_names(&sides.target, plans.source.items.as_slice())?;
@@ -190,6 +218,7 @@ fn test_plans<F: Folder>(
 fn test_changed(journal: &Journal, plans: &Plans) -> Result<(), MoveFault>
     ensures told { OnOk result (AreTold journal.now plans.now.source.items) }
     ensures blamed { IfErr result (Blamed ⊥ ⊥) }
+    ensures cause { Unless result (TestsTold journal.now plans.now.source.items result) }
 {
     let digest = plan_digest(&plans.source)?;
     let items = plans.source.items.as_slice().len() as u64;
@@ -211,6 +240,7 @@ fn test_held<F: Folder>(
     ensures told { F.told folder.new ≡ F.told folder.old }
     ensures grows { F.faults folder.old ≤ F.faults folder.new }
     ensures blamed { IfErr result (Blamed (CountRose (F.faults folder.old) (F.faults folder.new)) ⊥) }
+    ensures cause { (v : View) → IsSeen (F.told folder.old) v → Unless result (TestsMatch sides.now.target plans.now.target.items sides.now.source plans.now.source.items v (λ answer. answer ≡ Ok tt) result) }
 {
     match holds_all(
         alloc,
@@ -226,7 +256,9 @@ fn test_held<F: Folder>(
 }
 
 // An item of the target that the source lacks is further there.
-fn where_of(how: How) -> Where {
+fn where_of(how: How) -> Where
+    ensures { result ≡ where_in how }
+{
     match how {
         How::Missing => Where::Extra,
         How::Kind => Where::Kind,
@@ -258,7 +290,10 @@ fn place_rest<F: Folder, R: Randoms>(
     ensures grows { F.faults folder.old ≤ F.faults folder.new }
     ensures random { R.faults random.old ≤ R.faults random.new }
     ensures blamed { IfErr result (Blamed (CountRose (F.faults folder.old) (F.faults folder.new)) (CountRose (R.faults random.old) (R.faults random.new))) }
+    ensures cause { (v : View) → IsSeen (F.told folder.old) v → Unless result (Moves (Empties v work.now) (StopsAt sides.now.source v plans.now.source.items) result) }
+    ensures written { (v : View) → IsSeen (F.told folder.old) v → WritesBy result sides.now.source sides.now.target (lacked plans.now.target.items plans.now.source.items) (journal_text (done_of journal) ∷ []) (R.left random.old) (R.left random.new) (F.told folder.old) (F.told folder.new) }
 {
+    draws_compose();
     guarded_migrations_are_seen();
     settling_and_entering_keep_migrations_guarded();
     walks_tell_the_tree();

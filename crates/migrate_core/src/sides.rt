@@ -1,12 +1,14 @@
 //! The two vaults of a migration, and their plans.
-ghost use Rattle.std.specs.Prelude.{◌≡◌, ◌≤◌, IfErr, IfOk, OnOk};
+ghost use Rattle.std.specs.Prelude.{◌≡◌, ◌⊎◌, ◌≤◌, IfErr, IfOk, OnOk, Ok};
 ghost use Rattle.port_model.specs.Counts.{CountRose};
 ghost use Rattle.folder_spec.specs.Seen.{IsSeen, under};
 ghost use Rattle.folder_spec.specs.View.{View};
 ghost use Rattle.tree_match.specs.Guard.{AreApart};
 ghost use Rattle.vault_spec.specs.Making.{Allows};
 ghost use Rattle.vault_spec.specs.Vault.{IsVault, format_of};
+ghost use Rattle.migrate_core.specs.Causes.{ForbidsLast, IsStop, RefusesBoth, RefusesLoad, RefusesWalk, RefusesWalks, TestsApart, TestsNames, TestsPair, Unless, Walks, nothing_stops};
 ghost use Rattle.migrate_core.specs.Faults.{Blamed};
+ghost use Rattle.migrate_core.specs.declared.fault.MoveFault.TheVariants.{NoMemory};
 ghost use Rattle.migrate_core.specs.Sides.{AllowsEach, AllowsLast, AreSeparate, IsWalked};
 
 use crate::fault::MoveFault;
@@ -47,6 +49,7 @@ pub(crate) fn load_both<F: Folder>(
     ensures opens_target { IfOk result (λ sides. (v : View) → IsSeen (F.told folder.old) v → IsVault (under target.now v) target_pass.now sides.target.vault) }
     ensures grows { F.faults folder.old ≤ F.faults folder.new }
     ensures blamed { IfErr result (Blamed (CountRose (F.faults folder.old) (F.faults folder.new)) ⊥) }
+    ensures cause { IfErr result (λ fault. (v : View) → IsSeen (F.told folder.old) v → RefusesBoth v source.now target.now source_pass.now target_pass.now fault) }
 {
     let source = load(alloc, folder, Side::Source, source, source_pass)?;
     let target = load(alloc, folder, Side::Target, target, target_pass)?;
@@ -65,6 +68,7 @@ fn load<F: Folder>(
     ensures vault { IfOk result (λ vault. (v : View) → IsSeen (F.told folder.old) v → IsVault (under root.now v) pass.now vault.vault) }
     ensures grows { F.faults folder.old ≤ F.faults folder.new }
     ensures blamed { IfErr result (Blamed (CountRose (F.faults folder.old) (F.faults folder.new)) ⊥) }
+    ensures cause { IfErr result (λ fault. (v : View) → IsSeen (F.told folder.old) v → RefusesLoad side v root.now pass.now fault) }
 {
     match Vault::load(alloc, folder, root, pass) {
         Ok(vault) => Ok(vault),
@@ -85,6 +89,9 @@ pub(crate) fn walk_both<F: Folder>(
     ensures target { IfOk result (λ plans. IsWalked (F.told folder.old) sides.now.target plans.target.items) }
     ensures grows { F.faults folder.old ≤ F.faults folder.new }
     ensures blamed { IfErr result (Blamed (CountRose (F.faults folder.old) (F.faults folder.new)) ⊥) }
+    ensures passed_source { IfOk result (λ plans. (v : View) → IsSeen (F.told folder.old) v → Walks sides.now.source v (Ok plans.source.items)) }
+    ensures passed_target { IfOk result (λ plans. (v : View) → IsSeen (F.told folder.old) v → Walks sides.now.target v (Ok plans.target.items)) }
+    ensures cause { IfErr result (λ fault. (v : View) → IsSeen (F.told folder.old) v → RefusesWalks sides.now.source sides.now.target v fault) }
 {
     let source = walk_one(alloc, folder, &sides.source)?;
     let target = walk_one(alloc, folder, &sides.target)?;
@@ -101,6 +108,9 @@ pub(crate) fn walk_one<F: Folder>(
     ensures walked { IfOk result (λ plan. IsWalked (F.told folder.old) vault.now plan.items) }
     ensures grows { F.faults folder.old ≤ F.faults folder.new }
     ensures blamed { IfErr result (Blamed (CountRose (F.faults folder.old) (F.faults folder.new)) ⊥) }
+    ensures passed { IfOk result (λ plan. (v : View) → IsSeen (F.told folder.old) v → Walks vault.now v (Ok plan.items)) }
+    ensures cause { IfErr result (λ fault. (v : View) → IsSeen (F.told folder.old) v → RefusesWalk vault.now v fault) }
+    ensures moving { IfErr result (IsStop nothing_stops) }
 {
     Ok(walk(alloc, folder, vault)?)
 }
@@ -109,6 +119,7 @@ pub(crate) fn walk_one<F: Folder>(
 pub(crate) fn test_apart(source: &FPath, target: &FPath, work: &FPath) -> Result<(), MoveFault>
     ensures apart { OnOk result (AreSeparate source.now target.now work.now) }
     ensures blamed { IfErr result (Blamed ⊥ ⊥) }
+    ensures cause { Unless result (TestsApart source.now target.now work.now result) }
 {
     test_pair(source, target)?;
     test_pair(source, work)?;
@@ -118,6 +129,7 @@ pub(crate) fn test_apart(source: &FPath, target: &FPath, work: &FPath) -> Result
 fn test_pair(first: &FPath, second: &FPath) -> Result<(), MoveFault>
     ensures apart { OnOk result (AreApart first.now second.now) }
     ensures blamed { IfErr result (Blamed ⊥ ⊥) }
+    ensures cause { Unless result (TestsPair first.now second.now result) }
 {
     if first.starts_with(second) || second.starts_with(first) {
         return Err(MoveFault::Overlap(first.copy()?, second.copy()?));
@@ -129,6 +141,7 @@ fn test_pair(first: &FPath, second: &FPath) -> Result<(), MoveFault>
 pub(crate) fn test_names(vault: &Vault, items: &[PlanItem]) -> Result<(), MoveFault>
     ensures allowed { OnOk result (AllowsEach (format_of vault.now.vault) items.now) }
     ensures blamed { IfErr result (Blamed ⊥ ⊥) }
+    ensures cause { Unless result (TestsNames (format_of vault.now.vault) items.now result) }
 {
     for item in items {
         test_name(vault, &item.path)?;
@@ -140,6 +153,7 @@ pub(crate) fn test_names(vault: &Vault, items: &[PlanItem]) -> Result<(), MoveFa
 fn test_name(vault: &Vault, path: &PlainPath) -> Result<(), MoveFault>
     ensures allowed { OnOk result (AllowsLast (format_of vault.now.vault) path.now) }
     ensures blamed { IfErr result (Blamed ⊥ ⊥) }
+    ensures forbids { IfErr result (λ fault. (fault ≡ NoMemory) ⊎ (ForbidsLast (format_of vault.now.vault) path.now × (fault ≡ MoveFault.NotAllowed path.now))) }
 {
     match path.names().split_last() {
         Some((name, _)) => allow(vault, path, name),
@@ -151,6 +165,7 @@ fn test_name(vault: &Vault, path: &PlainPath) -> Result<(), MoveFault>
 fn allow(vault: &Vault, path: &PlainPath, name: &Name) -> Result<(), MoveFault>
     ensures allowed { OnOk result (Allows (format_of vault.now.vault) name.now) }
     ensures blamed { IfErr result (Blamed ⊥ ⊥) }
+    ensures forbids { IfErr result (λ fault. (fault ≡ NoMemory) ⊎ ((¬ Allows (format_of vault.now.vault) name.now) × (fault ≡ MoveFault.NotAllowed path.now))) }
 {
     if vault.kind() == VaultKind::Cryptomator && !name.is_nfc()? {
         return Err(MoveFault::NotAllowed(path.copy()?));

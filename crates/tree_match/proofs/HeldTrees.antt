@@ -1,5 +1,5 @@
 -- That a vault has the items of another, where comparing their plans tells so.
-use Rattle.std.proofs.Common.{◌≡◌, ◌≢◌, ◌⊎◌, inl, inr, ℕ, zero, suc, ◌<◌, List, [], ◌∷◌, ◌++◌, length, map, Bool, true, false, if◌then◌else◌, Option, Some, None, refl, sym, ap, subst, ◌∙◌, arith, Contains}
+use Rattle.std.proofs.Common.{◌≡◌, ◌≢◌, ◌⊎◌, inl, inr, ℕ, zero, suc, ◌<◌, List, [], ◌∷◌, length, Bool, true, false, if◌then◌else◌, Option, Some, None, refl, sym, ap, subst, ◌∙◌, arith, Contains}
 use Rattle.std.proofs.lemmas.Simd.{map-map}
 use Rattle.std.specs.List.{concat}
 use Rattle.std.specs.Cmp.Lexicographic.{pointwise_decides, bytes_decides}
@@ -19,18 +19,18 @@ use Rattle.vault_spec.proofs.Mapped.{contains_mapped, mapped_from}
 use Rattle.vault_spec.specs.Alike.{place_of}
 use Rattle.vault_spec.specs.Format.{Format, file_bytes}
 use Rattle.vault_spec.specs.Listing.{node_of}
-use Rattle.vault_spec.specs.Opens.{Opened, NoItem, Directory, Content, Broken, Tree, tree, AreItems, opened, opened_at, opened_by, opened_file}
+use Rattle.vault_spec.specs.Opens.{Opened, NoItem, Directory, Content, Broken, tree, AreItems, opened, opened_at, opened_by, opened_file}
 use Rattle.vault_spec.specs.Plan.{Planned, IsPlan, IsPlanned, paths_of}
 use Rattle.vault_spec.specs.Standing.{Standing, Absent, Strange, File, Dir, standing}
 use Rattle.vault_spec.specs.Vault.{Vault, format_of}
 use Rattle.vault_walk.proofs.PlanOrder.{placed_in_order}
-use Rattle.vault_walk.specs.Surveyed.{IsPlanOf, placed}
+use Rattle.vault_walk.specs.Surveyed.{placed}
 use Rattle.tree_match.proofs.Differing.{holds_none, holds_one, differs_one, further_found, further_none}
 use Rattle.tree_match.proofs.WholeContents.{AreWhole, read_whole, whole_and_same}
 use Rattle.tree_match.specs.Comparing.{Outcome, Is, Stops, compared, content_at, content_of, bytes_found}
 use Rattle.tree_match.specs.Guard.{IsPartOf, IsWhole}
 use Rattle.tree_match.specs.Guard as guard
-use Rattle.tree_match.specs.Matching.{IsMatchable, by_item, content_held, first_differing, first_further, held_as, held_by, item_with, matched}
+use Rattle.tree_match.specs.Matching.{IsMatchable, by_item, content_held, first_differing, first_further, held_as, held_by, item_with}
 use Rattle.tree_match.specs.Trees.{Side, IsWalkOf, HoldsAllBy, AsSame, AndFurther, IsPartIn, match_of}
 use Rattle.tree_match.specs.declared.answer.How.{How}
 use Rattle.tree_match.specs.declared.answer.Match.{Match}
@@ -48,14 +48,14 @@ IsNoDifference Same = Unit {0}
 IsNoDifference (Contained path) = Unit {0}
 IsNoDifference (Differs path how) = ⊥
 
-first_or_among : (y : Planned) (ys : List Planned) (x : Planned) → Contains (y ∷ ys) x → (y ≡ x) ⊎ Contains ys x
+pub first_or_among : (y : Planned) (ys : List Planned) (x : Planned) → Contains (y ∷ ys) x → (y ≡ x) ⊎ Contains ys x
 first_or_among y ys x (zero, few, is) = inl is
 first_or_among y ys x (suc k, few, is) = inr (k, omega (arith, few), is)
 
 is_answer : (one other : Match) → Is one ≡ Is other → one ≡ other
 is_answer one other e = cc e
 
-stopped : (held : Planned → Outcome (Option How)) (last : Outcome Match) (x : Planned) (xs : List Planned) (at : folder.Path) (ending : Ending) → held x ≡ Stops at ending
+pub stopped : (held : Planned → Outcome (Option How)) (last : Outcome Match) (x : Planned) (xs : List Planned) (at : folder.Path) (ending : Ending) → held x ≡ Stops at ending
     → first_differing held (x ∷ xs) last ≡ Stops at ending
 unfolding first_differing
 stopped held last x xs at ending is = ap (λ (h : Outcome (Option How)). by_item x.path h (first_differing held xs last)) is
@@ -79,7 +79,7 @@ module _ (held : Planned → Outcome (Option How)) (last answer : Match) (no_dif
           stops e = cc e
 
 -- the item with a path has it, and is among them
-found_with : (path : plain.Path) (others : List Planned) (o : Planned) → item_with path others ≡ Some o → Contains others o × (o.path ≡ path)
+pub found_with : (path : plain.Path) (others : List Planned) (o : Planned) → item_with path others ≡ Some o → Contains others o × (o.path ≡ path)
 found_with path [] o is = cc is
 found_with path (z ∷ zs) o is = by (path_eq z.path path) refl is (found_with path zs o)
   where
@@ -112,7 +112,7 @@ dir_opens f u path is = by (standing f u path) is
     by (File at) e = cc e
     by (Dir at directory) e = refl
 
-file_stands : (s : Standing) (at : folder.Path) → node_of s ≡ Some node.File → place_of s ≡ Some at → s ≡ File at
+pub file_stands : (s : Standing) (at : folder.Path) → node_of s ≡ Some node.File → place_of s ≡ Some at → s ≡ File at
 file_stands Absent at is place = cc is
 file_stands (Strange other) at is place = cc is
 file_stands (File other) at is place = cc place
@@ -139,13 +139,13 @@ abbrev pub PlansAreTheTree : Type 0
 PlansAreTheTree = (vault : Vault) (v : View) (plan : List Planned) → IsPlan (format_of vault) v plan → AreItems (tree (format_of vault) v) (paths_of plan)
 
 -- an item of a plan stands so
-planned : (v : View) (a : Side) → IsWalkOf v a → (x : Planned) → Contains a.items x → (y : Planned) × (placed a.root y ≡ x) × IsPlanned (format_of a.vault) (under a.root v) y
+pub planned : (v : View) (a : Side) → IsWalkOf v a → (x : Planned) → Contains a.items x → (y : Planned) × (placed a.root y ≡ x) × IsPlanned (format_of a.vault) (under a.root v) y
 planned v a walk x among =
     let from : (y : Planned) × Contains walk.plan y × (placed a.root y ≡ x) = mapped_from (placed a.root) walk.plan x (subst (λ (xs : List Planned). Contains xs x) walk.items_are among) in
     (from.0, from.2, ((walk.is.items from.0).0 from.1).1)
 
 -- each item of the tree is in the plan
-in_plan : PlansAreTheTree → (v : View) (a : Side) → IsWalkOf v a → (path : plain.Path) → path ≢ [] → tree (format_of a.vault) (under a.root v) path ≢ NoItem
+pub in_plan : PlansAreTheTree → (v : View) (a : Side) → IsWalkOf v a → (path : plain.Path) → path ≢ [] → tree (format_of a.vault) (under a.root v) path ≢ NoItem
     → (x : Planned) × Contains a.items x × (x.path ≡ path)
 in_plan plans v a walk path named there =
     let items : AreItems (tree (format_of a.vault) (under a.root v)) (paths_of walk.plan) = plans a.vault (under a.root v) walk.plan walk.is in

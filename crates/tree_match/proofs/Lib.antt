@@ -11,4 +11,6 @@ mod ReadAhead
 mod Merging
 mod Differing
 mod WholeContents
+mod CutContents
+mod SameTrees
 mod HeldTrees

@@ -217,7 +217,7 @@ one_opens_on alike g x a b at places path opens = elim (one_or_not path (path_of
       seen_tree alike g b.state made.0 made.1 path ∙ made.2.opens.others path other.0 ∙ sym (seen_tree alike g a.state at.view at.alone path) ∙ opens
 ]
 
-opens_on : RootsAreAlike → ImagesShow → (g : Migration) (items : List ItemAt) (a b : Told) → IsAlone g Begun a.state → PlaceEach g items a b
+pub opens_on : RootsAreAlike → ImagesShow → (g : Migration) (items : List ItemAt) (a b : Told) → IsAlone g Begun a.state → PlaceEach g items a b
     → (path : plain.Path) → tree_at g.target (seen a.state) path ≡ g.held path → tree_at g.target (seen b.state) path ≡ g.held path
 opens_on alike shown g [] a b at placed path opens = subst (λ (c : Told). tree_at g.target (seen c.state) path ≡ g.held path) (sym placed) opens
 opens_on alike shown g (x ∷ items) a b at placed path opens =

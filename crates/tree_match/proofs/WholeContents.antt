@@ -10,7 +10,7 @@ use Rattle.chunk_files.specs.FileOf.{WholeFilesEnd}
 use Rattle.chunk_files.specs.Keys.{Keys}
 use Rattle.chunk_files.specs.Reading.{Ending, Whole, Wanting, Faulty}
 use Rattle.folder_spec.specs.Path.{Path}
-use Rattle.tree_match.specs.Comparing.{Content, Outcome, Is, Stops, compared, is_cut}
+use Rattle.tree_match.specs.Comparing.{Content, Is, Stops, compared, is_cut}
 
 -- a file of which no more than a limit is read, and that is read to its end
 pub read_whole : WholeFilesEnd → (limit : ℕ) (keys : Keys) (bytes : List ℕ) → (read_file keys (take limit bytes) (nat_lt limit (length bytes))).ending ≡ Whole

@@ -1,5 +1,6 @@
 -- What comparing two vaults by their plans tells of their trees.
-use Rattle.std.specs.Prelude.{◌≡◌, List}
+use Rattle.std.specs.Prelude.{List}
+use Rattle.chunk_files.specs.Reading.{Wanting}
 use Rattle.folder_spec.specs.Path.{Path}
 use Rattle.folder_spec.specs.Seen.{under}
 use Rattle.folder_spec.specs.View.{View}
@@ -8,11 +9,11 @@ use Rattle.vault_spec.specs.Opens.{tree}
 use Rattle.vault_spec.specs.Plan.{Planned}
 use Rattle.vault_spec.specs.Vault.{Vault, format_of}
 use Rattle.vault_walk.specs.Surveyed.{IsPlanOf}
-use Rattle.tree_match.specs.Comparing.{Outcome, Is}
+use Rattle.tree_match.specs.Comparing.{Outcome, Is, Stops}
 use Rattle.tree_match.specs.Guard.{IsPartOf}
 use Rattle.tree_match.specs.Matching.{matched}
 use Rattle.tree_match.specs.declared.answer.Match.{Match}
-use Rattle.tree_match.specs.declared.answer.Match.TheVariants.{Same, Contained, Differs}
+use Rattle.tree_match.specs.declared.answer.Match.TheVariants.{Same, Contained}
 
 -- where a vault stands, and its plan
 pub record Side : Type 0 where
@@ -35,3 +36,8 @@ pub data HoldsAllBy : Outcome Match → Type 0 where
 -- the tree of the first is part of that of the second
 abbrev pub IsPartIn : View → Side → Side → Type 0
 IsPartIn v a b = IsPartOf (tree (format_of a.vault) (under a.root v)) (tree (format_of b.vault) (under b.root v))
+
+-- both hold the same; or the content of a file passes the limit before its end
+pub data IsSameOrTooLong : Outcome Match → Type 0 where
+  AreSame : IsSameOrTooLong (Is Same)
+  IsTooLong : (at : Path) → IsSameOrTooLong (Stops at Wanting)

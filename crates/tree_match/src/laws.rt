@@ -7,12 +7,13 @@ ghost use Rattle.folder_spec.specs.Image.{Image, IsImage, state_of};
 ghost use Rattle.folder_spec.specs.Seen.{seen, under};
 ghost use Rattle.folder_spec.specs.State.{State, IsSound, HasNothingPending};
 ghost use Rattle.folder_spec.specs.View.{View, view_of};
-ghost use Rattle.tree_match.specs.Guard.{Migration, Guarded, IsGuarded, IsSafe, IsSeparate, IsNotBegun, IsWork, AllowsTree, HoldsAll, IsPlanOf, Tells, kinds_in};
+ghost use Rattle.tree_match.specs.Guard.{Migration, Guarded, IsGuarded, IsSafe, IsSeparate, IsNotBegun, IsWork, AllowsTree, HoldsAll, IsPlanOf, Tells, kinds_in, tree_at};
 ghost use Rattle.move_journal.specs.Journal.{IsJournal};
 ghost use Rattle.move_journal.specs.Writing.{Writes, HasWritten};
 ghost use Rattle.move_journal.specs.declared.journal.Journal.{Journal};
 ghost use Rattle.move_journal.specs.declared.journal.Phase.TheVariants.{Building, Done};
 ghost use Rattle.tree_match.specs.Alone.{Progress, Unbegun, Begun, Finished, IsIn, IsAlone, StaysGuarded, StaysAlone};
+ghost use Rattle.plain_tree.specs.Names as plain;
 ghost use Rattle.plain_tree.specs.declared.NodeKind.TheVariants.{Dir, File};
 ghost use Rattle.vault_spec.specs.Opens.{Content, Directory, tree};
 ghost use Rattle.vault_spec.specs.Plan.{Planned};
@@ -20,7 +21,7 @@ ghost use Rattle.vault_spec.specs.Vault.{format_of};
 ghost use Rattle.tree_match.specs.Comparing.{Is, content_at};
 ghost use Rattle.tree_match.specs.Matching.{IsMatchable};
 ghost use Rattle.tree_match.specs.Placed.{ItemAt, Places, PlaceEach, ArePlaced};
-ghost use Rattle.tree_match.specs.Trees.{Side, IsWalkOf, HoldsAllBy, IsPartIn, match_of};
+ghost use Rattle.tree_match.specs.Trees.{Side, IsWalkOf, HoldsAllBy, IsPartIn, IsSameOrTooLong, match_of};
 ghost use Rattle.tree_match.specs.declared.answer.Match.TheVariants.{Same};
 ghost use Rattle.work_folder.specs.Changing.{ChangesAt};
 ghost use Rattle.work_folder.specs.Entering.{IsStage, IsBelowStage, IsWorkOrStage, IsLeftOver};
@@ -53,13 +54,16 @@ pub fn guarded_migrations_are_seen()
 }
 
 /// While an item that the source held is made in the target, a migration stays guarded at each moment, whatever the call answers.
-/// Once it is made, the next one may follow. Items that are made one after the other all open in the target.
+/// Once it is made, the next one may follow. Items that are made one after the other all open in the target, and what opened there as the
+/// source held it goes on to.
 pub fn placing_keeps_migrations_guarded()
     ensures one { (g : Migration) (x : ItemAt) (a b : Told) (result : Result (Unit {0}) PutFault) → IsAlone g Begun a.state → Places g x a b result → StaysGuarded g a b }
     ensures next { (g : Migration) (x : ItemAt) (a b : Told) → IsAlone g Begun a.state → Places g x a b (Ok tt) → IsAlone g Begun b.state }
     ensures each { (g : Migration) (items : List ItemAt) (a b : Told) → IsAlone g Begun a.state → PlaceEach g items a b → StaysGuarded g a b }
     ensures last { (g : Migration) (items : List ItemAt) (a b : Told) → IsAlone g Begun a.state → PlaceEach g items a b → IsAlone g Begun b.state }
     ensures placed { (g : Migration) (items : List ItemAt) (a b : Told) → IsAlone g Begun a.state → PlaceEach g items a b → ArePlaced g items b.state }
+    ensures kept { (g : Migration) (items : List ItemAt) (a b : Told) (path : plain.Path) → IsAlone g Begun a.state → PlaceEach g items a b → tree_at g.target (seen a.state) path ≡ g.held path
+        → tree_at g.target (seen b.state) path ≡ g.held path }
 {
     images_show_views();
     roots_show_their_own();
@@ -98,11 +102,13 @@ pub fn journals_keep_migrations_guarded()
 }
 
 /// Plans that walks answer can be compared. Where the second vault has all items of the first, the tree of the first is part of the
-/// second's, with no broken file; and where that has no further ones, its tree is part of the first's too.
+/// second's, with no broken file; and where that has no further ones, its tree is part of the first's too. Vaults of one tree without
+/// broken files are the same, unless a content passes the limit.
 pub fn what_is_held_opens_the_same()
     ensures matchable { (v : View) (a : Side) → IsWalkOf v a → IsMatchable v a.items }
     ensures held { (v : View) (a b : Side) → IsWalkOf v a → IsWalkOf v b → HoldsAllBy (match_of v a b) → IsPartIn v a b }
     ensures same { (v : View) (a b : Side) → IsWalkOf v a → IsWalkOf v b → match_of v a b ≡ Is Same → IsPartIn v b a }
+    ensures alike { (v : View) (a b : Side) → IsWalkOf v a → IsWalkOf v b → IsPartIn v a b → IsPartIn v b a → IsSameOrTooLong (match_of v a b) }
 {
     files_have_their_contents();
     plans_are_the_tree();

@@ -1,10 +1,16 @@
-use Rattle.std.proofs.Common.{refl}
+use Rattle.std.proofs.Common.{refl, inl}
 use Rattle.folder_spec.specs.Region.{apart_from_both}
 use Rattle.migrate_core.proofs.Movings.{moves_nowhere, moves_on, settle_moves}
 use Rattle.migrate_core.proofs.Settled.{settle_fell, settle_then, still_guarded}
 use Rattle.migrate_core.proofs.Endings.{if_ok_more, moved_before}
 use Rattle.migrate_core.proofs.Settled.{settle_seen}
 use Rattle.migrate_core.specs.Moved.{MovesTree}
+use Rattle.migrate_core.proofs.Causing.{folder_unless, own_passes, own_refused, refused_as}
+use Rattle.migrate_core.specs.Causes.{Begins, BeginsApart, TestsApart, Then, Unless, own}
+use Rattle.std.proofs.lemmas.Result.{err_from_is_err_and}
+use Rattle.migrate_core.specs.Faults.{of_folder}
+use Rattle.migrate_core.specs.declared.placing.Done.{Done}
+use Rattle.migrate_core.proofs.Writings.{may_write_after, nothing_written, settle_writes}
 use Rattle.migrate_core.proofs.beginning.begin.Goals as goal
 
 pub returns-in_err-test_apart-clause-guard : goal.returns-in_err-test_apart-clause-guard
@@ -47,3 +53,48 @@ returns-clause-moved g c =
     let pass' = c.args.target_pass.now in
     if_ok_more (λ done. MovesTree from to work pass pass' done t1 t2) (λ done. MovesTree from to work pass pass' done t0 t2) c.begin_settled.result
     (λ done. moved_before from to work pass pass' done t0 t1 t2 (settle_seen t0 t1 c.in_ok-settle.field-0 c.in_ok-settle.ensures.changes)) c.begin_settled.ensures.moved
+
+pub returns-in_err-test_apart-clause-cause : goal.returns-in_err-test_apart-clause-cause
+returns-in_err-test_apart-clause-cause g c v seen =
+    let from = c.args.source.now in
+    let to = c.args.target.now in
+    let work = c.args.work.now in
+    let begins = BeginsApart {Y = Done} from to work c.args.source_pass.now c.args.target_pass.now v in
+    let p = err_from_is_err_and c.from_residual.result c.from_residual.ensures.1 in
+    refused_as (λ answer. Unless answer (Then own (TestsApart from to work) (λ _. begins) answer)) c.from_residual.result p.0 c.in_err-test_apart.field-0.0 p.1 p.2
+    (own_refused (TestsApart from to work) (λ _. begins) c.in_err-test_apart.field-0.0 c.in_err-test_apart.ensures.cause)
+
+pub returns-in_err-settle-clause-cause : goal.returns-in_err-settle-clause-cause
+returns-in_err-settle-clause-cause g c v seen =
+    let p = err_from_is_err_and c.from_residual-in_err-settle.result c.from_residual-in_err-settle.ensures.1 in
+    refused_as (λ answer. Unless answer (Begins c.args.source.now c.args.target.now c.args.work.now c.args.source_pass.now c.args.target_pass.now v answer)) c.from_residual-in_err-settle.result p.0
+    (of_folder c.in_err-settle.field-0.0) p.1 p.2 (folder_unless _ c.in_err-settle.field-0.0)
+
+pub returns-clause-cause : goal.returns-clause-cause
+returns-clause-cause g c v seen =
+    let from = c.args.source.now in
+    let to = c.args.target.now in
+    let work = c.args.work.now in
+    own_passes (TestsApart from to work) (λ _. BeginsApart from to work c.args.source_pass.now c.args.target_pass.now v) c.begin_settled.result tt c.in_ok-test_apart.ensures.cause
+    (c.begin_settled.ensures.cause v (settle_seen (g.F.Folder.told c.args.folder.now) (g.F.Folder.told c.settle.new.self) c.in_ok-settle.field-0 c.in_ok-settle.ensures.changes v seen))
+
+pub returns-in_err-test_apart-clause-written : goal.returns-in_err-test_apart-clause-written
+returns-in_err-test_apart-clause-written g c v seen =
+    let told = g.F.Folder.told c.args.folder.now in
+    let left = g.R.Randoms.left c.args.random.now in
+    inl (nothing_written left told told (c.draws_compose.ensures.none left) refl)
+
+pub returns-in_err-settle-clause-written : goal.returns-in_err-settle-clause-written
+returns-in_err-settle-clause-written g c v seen =
+    let told = g.F.Folder.told c.args.folder.now in
+    let left = g.R.Randoms.left c.args.random.now in
+    inl (record { undrawn = c.draws_compose.ensures.none left; files = settle_writes told (g.F.Folder.told c.settle.new.self) c.settle.result c.settle.ensures.changes })
+
+pub returns-clause-written : goal.returns-clause-written
+returns-clause-written g c v seen =
+    let told = g.F.Folder.told c.args.folder.now in
+    let left = g.R.Randoms.left c.args.random.now in
+    let settled = g.F.Folder.told c.settle.new.self in
+    let known = settle_seen told settled c.in_ok-settle.field-0 c.in_ok-settle.ensures.changes in
+    may_write_after left (g.R.Randoms.left c.begin_settled.new.random) told settled (g.F.Folder.told c.begin_settled.new.folder) known (settle_writes told settled c.settle.result c.settle.ensures.changes)
+    c.begin_settled.result c.args.source.now c.args.target.now c.args.source_pass.now c.args.target_pass.now (c.begin_settled.ensures.written v (known v seen))

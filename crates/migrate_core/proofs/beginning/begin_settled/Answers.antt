@@ -1,4 +1,4 @@
-use Rattle.std.proofs.Common.{◌≡◌, ◌∙◌, sym, subst, subst₂}
+use Rattle.std.proofs.Common.{◌≡◌, ◌∙◌, sym, subst, subst₂, Err, inl}
 use Rattle.folder_spec.specs.Region.{apart_from_both}
 use Rattle.folder_spec.specs.Seen.{IsSeen, seen}
 use Rattle.move_journal.specs.Journal.{IsParsed}
@@ -11,6 +11,15 @@ use Rattle.migrate_core.proofs.Planned.{seen_of}
 use Rattle.migrate_core.proofs.Settled.{begins, settled_by, still_settled}
 use Rattle.migrate_core.proofs.Endings.{tree_moved}
 use Rattle.migrate_core.specs.Moved.{Placed}
+use Rattle.migrate_core.proofs.Causing.{Next, opens_pass, opens_refused, refused_as, then_passes, work_refused}
+use Rattle.vault_read.specs.Opened.{OpenedVault}
+use Rattle.migrate_core.specs.Causes.{BeginsWith, Opens, Then, Unless}
+use Rattle.migrate_core.specs.Faults.{of_work}
+use Rattle.migrate_core.specs.declared.placing.Done.{Done}
+use Rattle.std.proofs.lemmas.Result.{err_from_is_err_and}
+use Rattle.work_folder.specs.Looking.{Tests}
+use Rattle.migrate_core.proofs.Writings.{nothing_written, tree_of}
+use Rattle.migrate_core.specs.Written.{MayWrite}
 use Rattle.migrate_core.proofs.beginning.begin_settled.Goals as goal
 
 pub returns-in_err-look-clause-guard : goal.returns-in_err-look-clause-guard
@@ -74,3 +83,63 @@ returns-clause-moved g c =
     c.begin_with.result loads.source loads.target (λ v is. loads.opens_source v (subst (λ t. IsSeen t v) (sym c.look.ensures.told) is))
     (λ v is. loads.opens_target v (subst (λ t. IsSeen t v) (sym c.look.ensures.told) is))
     (subst (λ t. Placed sides.source sides.target t c.begin_with.result) (c.load_both.ensures.told ∙ c.look.ensures.told) c.begin_with.ensures.placed) c.begin_with.ensures.moved
+
+pub returns-in_err-look-clause-cause : goal.returns-in_err-look-clause-cause
+returns-in_err-look-clause-cause g c v seen =
+    let from = c.args.source.now in
+    let to = c.args.target.now in
+    let work = c.args.work.now in
+    let opens = λ (_ : Unit {0}). Opens {Y = Done} v from to c.args.source_pass.now c.args.target_pass.now (λ source target. BeginsWith source target work v) in
+    let why = c.in_err-look.field-0.0 in
+    let p = err_from_is_err_and c.from_residual.result c.from_residual.ensures.1 in
+    refused_as (λ answer. Unless answer (Then of_work (Tests v work) opens answer)) c.from_residual.result p.0 (of_work why) p.1 p.2 (work_refused (Tests v work) opens why (c.in_err-look.ensures.answer v seen))
+
+pub returns-in_err-sides-clause-cause : goal.returns-in_err-sides-clause-cause
+returns-in_err-sides-clause-cause g c v seen =
+    let from = c.args.source.now in
+    let to = c.args.target.now in
+    let work = c.args.work.now in
+    let opens = λ (_ : Unit {0}). Opens {Y = Done} v from to c.args.source_pass.now c.args.target_pass.now (λ source target. BeginsWith source target work v) in
+    let fault = c.in_err-sides.field-0.0 in
+    let p = err_from_is_err_and c.from_residual-in_err-sides.result c.from_residual-in_err-sides.ensures.1 in
+    refused_as (λ answer. Unless answer (Then of_work (Tests v work) opens answer)) c.from_residual-in_err-sides.result p.0 fault p.1 p.2
+    (then_passes of_work (Tests v work) opens (Err fault) tt (c.in_ok-look.ensures.answer v seen)
+    (opens_refused v from to c.args.source_pass.now c.args.target_pass.now (λ source target. BeginsWith source target work v) fault
+    (c.in_err-sides.ensures.cause v (subst (λ t. IsSeen t v) (sym c.look.ensures.told) seen))))
+
+pub returns-clause-cause : goal.returns-clause-cause
+returns-clause-cause g c v seen =
+    let from = c.args.source.now in
+    let to = c.args.target.now in
+    let work = c.args.work.now in
+    let next : Next OpenedVault Done = λ source target. BeginsWith source target work v in
+    let sides = c.in_ok-sides.sides in
+    let loads = c.in_ok-sides.ensures in
+    let looked = subst (λ t. IsSeen t v) (sym c.look.ensures.told) seen in
+    then_passes of_work (Tests v work) (λ _. Opens v from to c.args.source_pass.now c.args.target_pass.now next) c.begin_with.result tt (c.in_ok-look.ensures.answer v seen)
+    (opens_pass v from to c.args.source_pass.now c.args.target_pass.now next c.begin_with.result sides.source sides.target loads.source loads.target
+    (loads.opens_source v looked) (loads.opens_target v looked) (c.begin_with.ensures.cause v (subst (λ t. IsSeen t v) (sym c.load_both.ensures.told) looked)))
+
+pub returns-in_err-look-clause-written : goal.returns-in_err-look-clause-written
+returns-in_err-look-clause-written g c v seen =
+    let told = g.F.Folder.told c.args.folder.now in
+    let left = g.R.Randoms.left c.args.random.now in
+    inl (nothing_written left told (g.F.Folder.told c.look.new.folder) (c.draws_compose.ensures.none left) c.look.ensures.told)
+
+pub returns-in_err-sides-clause-written : goal.returns-in_err-sides-clause-written
+returns-in_err-sides-clause-written g c v seen =
+    let told = g.F.Folder.told c.args.folder.now in
+    let left = g.R.Randoms.left c.args.random.now in
+    inl (nothing_written left told (g.F.Folder.told c.load_both.new.folder) (c.draws_compose.ensures.none left) (c.load_both.ensures.told ∙ c.look.ensures.told))
+
+pub returns-clause-written : goal.returns-clause-written
+returns-clause-written g c v seen =
+    let told = g.F.Folder.told c.args.folder.now in
+    let left = g.R.Randoms.left c.args.random.now in
+    let after = g.F.Folder.told c.begin_with.new.folder in
+    let left2 = g.R.Randoms.left c.begin_with.new.random in
+    let sides = c.in_ok-sides.sides in
+    let loads = c.in_ok-sides.ensures in
+    tree_of c.begin_with.result c.args.source.now c.args.target.now c.args.source_pass.now c.args.target_pass.now sides.source sides.target left left2 told after loads.source loads.target
+    (λ w is. loads.opens_source w (subst (λ t. IsSeen t w) (sym c.look.ensures.told) is)) (λ w is. loads.opens_target w (subst (λ t. IsSeen t w) (sym c.look.ensures.told) is))
+    (subst (λ t. MayWrite c.begin_with.result sides.source sides.target left left2 t after) (c.load_both.ensures.told ∙ c.look.ensures.told) c.begin_with.ensures.written)

@@ -1,4 +1,4 @@
-use Rattle.std.proofs.Common.{◌≡◌, ◌∙◌, [], sym, ap, subst}
+use Rattle.std.proofs.Common.{◌≡◌, ◌∙◌, [], sym, ap, subst, Err, List, Ok, inl, inr}
 use Rattle.folder_spec.specs.Seen.{IsSeen}
 use Rattle.folder_spec.specs.View.{View}
 use Rattle.migrate_core.proofs.Endings.{if_ok_more, placed_of}
@@ -12,6 +12,13 @@ use Rattle.migrate_core.specs.Moving.{MovesOnly}
 use Rattle.migrate_core.specs.Sides.{AllowsEach, IsWalked}
 use Rattle.migrate_core.proofs.Leadings.{refused_nowhere}
 use Rattle.migrate_core.proofs.Movings.{moves_nowhere}
+use Rattle.migrate_core.proofs.Causing.{Next, own_passes, own_refused, refused_as, walks_pass, walks_refused}
+use Rattle.migrate_core.specs.Causes.{Answer, BeginsWith, Moves, TestsEmpty, TestsNames, Then, Unless, own, StopsAt}
+use Rattle.work_folder.specs.Entering.{EntersAs}
+use Rattle.migrate_core.specs.declared.placing.Done.{Done}
+use Rattle.vault_spec.specs.Plan.{Planned}
+use Rattle.migrate_core.proofs.Writings.{nothing_written}
+use Rattle.migrate_core.specs.Written.{WritesBy, journal_texts, lacked}
 use Rattle.migrate_core.proofs.beginning.begin_with.Goals as goal
 
 pub returns-in_err-plans-clause-guard : goal.returns-in_err-plans-clause-guard
@@ -65,3 +72,95 @@ returns-clause-placed g c =
     (λ done. (v : View) → IsSeen told v → done.placed ≡ lacking c.in_ok-plans.plans.target.items c.in_ok-plans.plans.source.items) c.move_all.result
     (λ done is v seen. is v (subst (λ t. IsSeen t v) (sym c.walk_both.ensures.told) seen) ∙ ap (λ there. lacking there c.in_ok-plans.plans.source.items) (sym (sym c.as_slice.ensures ∙ c.in_ok-test_empty.ensures.empty)))
     c.move_all.ensures.placed)
+
+pub returns-in_err-plans-clause-cause : goal.returns-in_err-plans-clause-cause
+returns-in_err-plans-clause-cause g c v seen =
+    let from = c.args.sides.now.source in
+    let to = c.args.sides.now.target in
+    let moves : List Planned → Unit {0} → Answer Done → Type 0 = λ items _. Moves (EntersAs v c.args.work.now) (StopsAt from v items) in
+    let names : List Planned → Unit {0} → Answer Done → Type 0 = λ items _. Then own (TestsNames (format_of to.vault) items) (moves items) in
+    let next : Next (List Planned) Done = λ items there. Then own (TestsEmpty there) (names items) in
+    let fault = c.in_err-plans.field-0.0 in
+    let p = err_from_is_err_and c.from_residual.result c.from_residual.ensures.1 in
+    refused_as (λ answer. Unless answer (BeginsWith from to c.args.work.now v answer)) c.from_residual.result p.0 fault p.1 p.2 (walks_refused from to v next fault (c.in_err-plans.ensures.cause v seen))
+
+pub returns-in_err-test_empty-clause-cause : goal.returns-in_err-test_empty-clause-cause
+returns-in_err-test_empty-clause-cause g c v seen =
+    let from = c.args.sides.now.source in
+    let to = c.args.sides.now.target in
+    let moves : List Planned → Unit {0} → Answer Done → Type 0 = λ items _. Moves (EntersAs v c.args.work.now) (StopsAt from v items) in
+    let names : List Planned → Unit {0} → Answer Done → Type 0 = λ items _. Then own (TestsNames (format_of to.vault) items) (moves items) in
+    let next : Next (List Planned) Done = λ items there. Then own (TestsEmpty there) (names items) in
+    let plans = c.in_ok-plans.plans in
+    let fault = c.in_err-test_empty.field-0.0 in
+    let p = err_from_is_err_and c.from_residual-in_err-test_empty.result c.from_residual-in_err-test_empty.ensures.1 in
+    refused_as (λ answer. Unless answer (BeginsWith from to c.args.work.now v answer)) c.from_residual-in_err-test_empty.result p.0 fault p.1 p.2
+    (walks_pass from to v next (Err fault) plans.source.items plans.target.items (c.in_ok-plans.ensures.passed_source v seen) (c.in_ok-plans.ensures.passed_target v seen)
+    (own_refused (TestsEmpty plans.target.items) (names plans.source.items) fault (subst (λ items. Unless {X = Unit {0}} (Err fault) (TestsEmpty items (Err fault))) c.as_slice.ensures c.in_err-test_empty.ensures.cause)))
+
+pub returns-in_err-test_names-clause-cause : goal.returns-in_err-test_names-clause-cause
+returns-in_err-test_names-clause-cause g c v seen =
+    let from = c.args.sides.now.source in
+    let to = c.args.sides.now.target in
+    let moves : List Planned → Unit {0} → Answer Done → Type 0 = λ items _. Moves (EntersAs v c.args.work.now) (StopsAt from v items) in
+    let names : List Planned → Unit {0} → Answer Done → Type 0 = λ items _. Then own (TestsNames (format_of to.vault) items) (moves items) in
+    let next : Next (List Planned) Done = λ items there. Then own (TestsEmpty there) (names items) in
+    let plans = c.in_ok-plans.plans in
+    let fault = c.in_err-test_names.field-0.0 in
+    let p = err_from_is_err_and c.from_residual-in_err-test_names.result c.from_residual-in_err-test_names.ensures.1 in
+    refused_as (λ answer. Unless answer (BeginsWith from to c.args.work.now v answer)) c.from_residual-in_err-test_names.result p.0 fault p.1 p.2
+    (walks_pass from to v next (Err fault) plans.source.items plans.target.items (c.in_ok-plans.ensures.passed_source v seen) (c.in_ok-plans.ensures.passed_target v seen)
+    (own_passes (TestsEmpty plans.target.items) (names plans.source.items) (Err fault) tt (subst (λ items. Unless {X = Unit {0}} (Ok tt) (TestsEmpty items (Ok tt))) c.as_slice.ensures c.in_ok-test_empty.ensures.cause)
+    (own_refused (TestsNames (format_of to.vault) plans.source.items) (moves plans.source.items) fault
+    (subst (λ items. Unless {X = Unit {0}} (Err fault) (TestsNames (format_of to.vault) items (Err fault))) c.as_slice-2.ensures c.in_err-test_names.ensures.cause))))
+
+pub returns-clause-cause : goal.returns-clause-cause
+returns-clause-cause g c v seen =
+    let from = c.args.sides.now.source in
+    let to = c.args.sides.now.target in
+    let moves : List Planned → Unit {0} → Answer Done → Type 0 = λ items _. Moves (EntersAs v c.args.work.now) (StopsAt from v items) in
+    let names : List Planned → Unit {0} → Answer Done → Type 0 = λ items _. Then own (TestsNames (format_of to.vault) items) (moves items) in
+    let next : Next (List Planned) Done = λ items there. Then own (TestsEmpty there) (names items) in
+    let plans = c.in_ok-plans.plans in
+    walks_pass from to v next c.move_all.result plans.source.items plans.target.items (c.in_ok-plans.ensures.passed_source v seen) (c.in_ok-plans.ensures.passed_target v seen)
+    (own_passes (TestsEmpty plans.target.items) (names plans.source.items) c.move_all.result tt (subst (λ items. Unless {X = Unit {0}} (Ok tt) (TestsEmpty items (Ok tt))) c.as_slice.ensures c.in_ok-test_empty.ensures.cause)
+    (own_passes (TestsNames (format_of to.vault) plans.source.items) (moves plans.source.items) c.move_all.result tt
+    (subst (λ items. Unless {X = Unit {0}} (Ok tt) (TestsNames (format_of to.vault) items (Ok tt))) c.as_slice-2.ensures c.in_ok-test_names.ensures.cause)
+    (c.move_all.ensures.cause v (subst (λ t. IsSeen t v) (sym c.walk_both.ensures.told) seen))))
+
+pub returns-in_err-plans-clause-written : goal.returns-in_err-plans-clause-written
+returns-in_err-plans-clause-written g c =
+    let told = g.F.Folder.told c.args.folder.now in
+    let left = g.R.Randoms.left c.args.random.now in
+    inl (nothing_written left told (g.F.Folder.told c.walk_both.new.folder) (c.draws_compose.ensures.none left) c.walk_both.ensures.told)
+
+pub returns-in_err-test_empty-clause-written : goal.returns-in_err-test_empty-clause-written
+returns-in_err-test_empty-clause-written g c =
+    let told = g.F.Folder.told c.args.folder.now in
+    let left = g.R.Randoms.left c.args.random.now in
+    inl (nothing_written left told (g.F.Folder.told c.walk_both.new.folder) (c.draws_compose.ensures.none left) c.walk_both.ensures.told)
+
+pub returns-in_err-test_names-clause-written : goal.returns-in_err-test_names-clause-written
+returns-in_err-test_names-clause-written g c =
+    let told = g.F.Folder.told c.args.folder.now in
+    let left = g.R.Randoms.left c.args.random.now in
+    inl (nothing_written left told (g.F.Folder.told c.walk_both.new.folder) (c.draws_compose.ensures.none left) c.walk_both.ensures.told)
+
+pub returns-clause-written : goal.returns-clause-written
+returns-clause-written g c =
+    let told = g.F.Folder.told c.args.folder.now in
+    let left = g.R.Randoms.left c.args.random.now in
+    let from = c.args.sides.now.source in
+    let to = c.args.sides.now.target in
+    let plans = c.in_ok-plans.plans in
+    let after = g.F.Folder.told c.move_all.new.folder in
+    let left2 = g.R.Randoms.left c.move_all.new.random in
+    inr (record {
+      items = plans.source.items;
+      there = plans.target.items;
+      items_are = c.in_ok-plans.ensures.source.plan;
+      there_are = c.in_ok-plans.ensures.target.plan;
+      writes = subst (λ t. WritesBy c.move_all.result from to (lacked plans.target.items plans.source.items) (journal_texts from.root to.root plans.source.items) left left2 t after) c.walk_both.ensures.told
+          (subst (λ there. WritesBy c.move_all.result from to (lacked there plans.source.items) (journal_texts from.root to.root plans.source.items) left left2 (g.F.Folder.told c.walk_both.new.folder) after)
+          (sym (sym c.as_slice.ensures ∙ c.in_ok-test_empty.ensures.empty)) c.move_all.ensures.written);
+    })

@@ -1,4 +1,4 @@
-use Rattle.std.proofs.Common.{◌≡◌, [], Result, ◌∙◌, Ok, sym, ap, subst}
+use Rattle.std.proofs.Common.{◌≡◌, [], Result, ◌∙◌, Ok, sym, ap, subst, Err, Contains, refl, ◌∷◌}
 use Rattle.folder_spec.specs.declared.FolderFault.{FolderFault}
 use Rattle.std.proofs.lemmas.Result.{err_from_is_err_and}
 use Rattle.folder_spec.specs.Region.{apart_from_both}
@@ -8,7 +8,7 @@ use Rattle.move_journal.specs.Writing.{IsWorkFolder, elsewhere}
 use Rattle.move_journal.specs.declared.journal.Journal.{Journal}
 use Rattle.tree_match.specs.Alone.{Begun, Finished, Unbegun}
 use Rattle.work_folder.specs.Changing.{ChangesAt}
-use Rattle.work_folder.specs.Entering.{IsLeftOver, IsReady, IsWorkOrStage}
+use Rattle.work_folder.specs.Entering.{IsLeftOver, IsReady, IsWorkOrStage, EntersAs}
 use Rattle.migrate_core.proofs.Beginnings.{enters_goes, told_goes, written_goes}
 use Rattle.migrate_core.proofs.Leadings.{goes_failed, goes_on, then_known}
 use Rattle.migrate_core.proofs.Movings.{moves_on, moves_to, source_beside, walked_stays}
@@ -17,7 +17,14 @@ use Rattle.migrate_core.specs.Leading.{LeadsTold}
 use Rattle.migrate_core.specs.Moving.{MovesOnly}
 use Rattle.migrate_core.specs.Sides.{new_journal}
 use Rattle.migrate_core.proofs.Endings.{if_ok_more}
-use Rattle.migrate_core.specs.Moved.{Moved, lacking}
+use Rattle.migrate_core.specs.Moved.{Moved, lacking, done_of}
+use Rattle.migrate_core.proofs.Causing.{folder_unless, moves_pass, refused_as, work_refused, stop_more}
+use Rattle.migrate_core.specs.Causes.{IsOfMoving, Moves, Unless, StopsAt, nothing_stops}
+use Rattle.migrate_core.specs.Faults.{of_folder, of_work}
+use Rattle.migrate_core.proofs.Writings.{changing_writes, in_first, journal_written, kept_by, lacked_is, none_ordered, nothing_yet, only_more, only_on, source_beside_at, texts_first, texts_then}
+use Rattle.migrate_core.specs.Written.{WritesBy, WritesOnly, journal_texts, lacked}
+use Rattle.move_journal.specs.Journal.{journal_text}
+use Rattle.migrate_core.proofs.Stopping.{if_stops_before, seen_stops}
 use Rattle.migrate_core.proofs.beginning.move_all.Goals as goal
 
 pub returns-in_err-entered-clause-guard : goal.returns-in_err-entered-clause-guard
@@ -179,3 +186,125 @@ returns-clause-placed g c =
     (λ done is. then_known _ told written (moves_on (apart_from_both c.args.work.now c.args.sides.now.target.root) c.args.sides.now.target.root told entered written
     (entered_moves c.args.work.now c.args.sides.now.target.root (IsWorkOrStage c.args.work.now) (IsLeftOver c.args.work.now) told entered c.requires.apart.target c.enter.ensures.enters.moments)
     (written_moves c.args.work.now c.args.sides.now.target.root c.in_ok-journal.journal entered written c.requires.apart.target c.write.ensures.moments)) (done.placed ≡ lacking [] c.args.plan.now.items) is) c.go_on.ensures.placed
+
+pub returns-in_err-entered-clause-cause : goal.returns-in_err-entered-clause-cause
+returns-in_err-entered-clause-cause g c v seen =
+    let work = c.args.work.now in
+    let stops = StopsAt c.args.sides.now.source v c.args.plan.now.items in
+    let why = c.in_err-entered.field-0.0 in
+    let p = err_from_is_err_and c.from_residual.result c.from_residual.ensures.1 in
+    refused_as (λ answer. Unless answer (Moves (EntersAs v work) stops answer)) c.from_residual.result p.0 (of_work why) p.1 p.2
+    (work_refused (EntersAs v work) (λ _. IsOfMoving stops) why (c.in_err-entered.ensures.enters.answer v seen))
+
+pub returns-in_err-journal-clause-cause : goal.returns-in_err-journal-clause-cause
+returns-in_err-journal-clause-cause g c v seen =
+    let work = c.args.work.now in
+    let stops = StopsAt c.args.sides.now.source v c.args.plan.now.items in
+    let fault = c.in_err-journal.field-0.0 in
+    let p = err_from_is_err_and c.from_residual-in_err-journal.result c.from_residual-in_err-journal.ensures.1 in
+    refused_as (λ answer. Unless answer (Moves (EntersAs v work) stops answer)) c.from_residual-in_err-journal.result p.0 fault p.1 p.2
+    (moves_pass (EntersAs v work) stops (Err fault) (c.in_ok-entered.ensures.enters.answer v seen) (stop_more nothing_stops stops fault (λ why none. absurd none) c.in_err-journal.ensures.moving))
+
+pub returns-in_err-write-clause-cause : goal.returns-in_err-write-clause-cause
+returns-in_err-write-clause-cause g c v seen =
+    let stops = StopsAt c.args.sides.now.source v c.args.plan.now.items in
+    let p = err_from_is_err_and c.from_residual-in_err-write.result c.from_residual-in_err-write.ensures.1 in
+    refused_as (λ answer. Unless answer (Moves (EntersAs v c.args.work.now) stops answer)) c.from_residual-in_err-write.result p.0 (of_folder c.in_err-write.field-0.0) p.1 p.2 (folder_unless _ c.in_err-write.field-0.0)
+
+pub returns-clause-cause : goal.returns-clause-cause
+returns-clause-cause g c v seen =
+    let from = c.args.sides.now.source in
+    let to = c.args.sides.now.target in
+    let work = c.args.work.now in
+    let items = c.args.plan.now.items in
+    let told = g.F.Folder.told c.args.folder.now in
+    let entered = g.F.Folder.told c.enter.new.folder in
+    let written = g.F.Folder.told c.write.new.folder in
+    let region = apart_from_both work to.root in
+    let kept = kept_by region from.root items told written (g.met.F.Folder.sound c.args.folder.now)
+    (λ one among. source_beside_at from to.root work items one c.requires.apart c.requires.walked among)
+    (moves_to region to.root told written (moves_on region to.root told entered written (entered_moves work to.root (IsWorkOrStage work) (IsLeftOver work) told entered c.requires.apart.target c.enter.ensures.enters.moments)
+    (written_moves work to.root c.in_ok-journal.journal entered written c.requires.apart.target c.write.ensures.moments))) in
+    moves_pass (EntersAs v work) (StopsAt from v items) c.go_on.result (c.in_ok-entered.ensures.enters.answer v seen)
+    (seen_stops c.go_on.result from items told v seen (if_stops_before c.go_on.result from items told written kept c.go_on.ensures.moving))
+
+pub returns-in_err-entered-clause-written : goal.returns-in_err-entered-clause-written
+returns-in_err-entered-clause-written g c =
+    let from = c.args.sides.now.source in
+    let to = c.args.sides.now.target in
+    let work = c.args.work.now in
+    let items = c.args.plan.now.items in
+    let texts = journal_texts from.root to.root items in
+    let told = g.F.Folder.told c.args.folder.now in
+    let left = g.R.Randoms.left c.args.random.now in
+    let entered = g.F.Folder.told c.enter.new.folder in
+    let entering = changing_writes work (IsWorkOrStage work) (IsLeftOver work) told entered c.enter.ensures.enters.moments in
+    let p = err_from_is_err_and c.from_residual.result c.from_residual.ensures.1 in
+    refused_as (λ answer. WritesBy answer from to (lacked [] items) texts left left told entered) c.from_residual.result p.0 p.0 p.1 refl
+    (nothing_yet from to (lacked [] items) texts left left told entered (c.draws_compose.ensures.none left) entering)
+
+pub returns-in_err-journal-clause-written : goal.returns-in_err-journal-clause-written
+returns-in_err-journal-clause-written g c =
+    let from = c.args.sides.now.source in
+    let to = c.args.sides.now.target in
+    let work = c.args.work.now in
+    let items = c.args.plan.now.items in
+    let texts = journal_texts from.root to.root items in
+    let told = g.F.Folder.told c.args.folder.now in
+    let left = g.R.Randoms.left c.args.random.now in
+    let entered = g.F.Folder.told c.enter.new.folder in
+    let entering = changing_writes work (IsWorkOrStage work) (IsLeftOver work) told entered c.enter.ensures.enters.moments in
+    let p = err_from_is_err_and c.from_residual-in_err-journal.result c.from_residual-in_err-journal.ensures.1 in
+    refused_as (λ answer. WritesBy answer from to (lacked [] items) texts left left told entered) c.from_residual-in_err-journal.result p.0 p.0 p.1 refl
+    (nothing_yet from to (lacked [] items) texts left left told entered (c.draws_compose.ensures.none left) entering)
+
+pub returns-in_err-write-clause-written : goal.returns-in_err-write-clause-written
+returns-in_err-write-clause-written g c =
+    let from = c.args.sides.now.source in
+    let to = c.args.sides.now.target in
+    let work = c.args.work.now in
+    let items = c.args.plan.now.items in
+    let texts = journal_texts from.root to.root items in
+    let told = g.F.Folder.told c.args.folder.now in
+    let left = g.R.Randoms.left c.args.random.now in
+    let entered = g.F.Folder.told c.enter.new.folder in
+    let entering = changing_writes work (IsWorkOrStage work) (IsLeftOver work) told entered c.enter.ensures.enters.moments in
+    let written = g.F.Folder.told c.write.new.folder in
+    let j = c.in_ok-journal.journal in
+    let is = c.in_ok-journal.ensures.new ∙ ap (λ r. new_journal r c.root-2.result.now items) c.root.ensures ∙ ap (λ r. new_journal from.root r items) c.root-2.ensures in
+    let writing = subst (λ (k : Journal). WritesOnly (λ file. Contains (journal_text k ∷ []) file) entered written) is (journal_written work j entered written c.write.ensures.moments) in
+    let first = journal_text (new_journal from.root to.root items) ∷ [] in
+    let last = journal_text (done_of (new_journal from.root to.root items)) ∷ [] in
+    let so_far = only_on (λ file. ⊥) (λ file. Contains first file) (λ file. Contains first file) (λ file none. absurd none) (λ file text. text) told entered written entering writing in
+    let p = err_from_is_err_and c.from_residual-in_err-write.result c.from_residual-in_err-write.ensures.1 in
+    refused_as (λ answer. WritesBy answer from to (lacked [] items) texts left left told written) c.from_residual-in_err-write.result p.0 p.0 p.1 refl
+    (texts_first from to (lacked [] items) texts left left told written (c.draws_compose.ensures.none left)
+    (only_more (λ file. Contains first file) (λ file. Contains texts file) (λ file text. in_first first last file text) told written so_far))
+
+pub returns-clause-written : goal.returns-clause-written
+returns-clause-written g c =
+    let from = c.args.sides.now.source in
+    let to = c.args.sides.now.target in
+    let work = c.args.work.now in
+    let items = c.args.plan.now.items in
+    let texts = journal_texts from.root to.root items in
+    let told = g.F.Folder.told c.args.folder.now in
+    let left = g.R.Randoms.left c.args.random.now in
+    let entered = g.F.Folder.told c.enter.new.folder in
+    let entering = changing_writes work (IsWorkOrStage work) (IsLeftOver work) told entered c.enter.ensures.enters.moments in
+    let written = g.F.Folder.told c.write.new.folder in
+    let j = c.in_ok-journal.journal in
+    let is = c.in_ok-journal.ensures.new ∙ ap (λ r. new_journal r c.root-2.result.now items) c.root.ensures ∙ ap (λ r. new_journal from.root r items) c.root-2.ensures in
+    let writing = subst (λ (k : Journal). WritesOnly (λ file. Contains (journal_text k ∷ []) file) entered written) is (journal_written work j entered written c.write.ensures.moments) in
+    let first = journal_text (new_journal from.root to.root items) ∷ [] in
+    let last = journal_text (done_of (new_journal from.root to.root items)) ∷ [] in
+    let so_far = only_on (λ file. ⊥) (λ file. Contains first file) (λ file. Contains first file) (λ file none. absurd none) (λ file text. text) told entered written entering writing in
+    let after = g.F.Folder.told c.go_on.new.folder in
+    let left2 = g.R.Randoms.left c.go_on.new.random in
+    let region = apart_from_both work to.root in
+    let kept = kept_by region from.root (lacked [] items) told written (g.met.F.Folder.sound c.args.folder.now)
+    (λ one among. source_beside_at from to.root work items one c.requires.apart c.requires.walked (lacked_is [] items one among))
+    (moves_to region to.root told written (moves_on region to.root told entered written (entered_moves work to.root (IsWorkOrStage work) (IsLeftOver work) told entered c.requires.apart.target c.enter.ensures.enters.moments)
+    (written_moves work to.root j entered written c.requires.apart.target c.write.ensures.moments))) in
+    texts_then c.draws_compose.ensures.composed from to (lacked [] items) first last left left left2 told written after c.go_on.result kept (c.draws_compose.ensures.none left) so_far
+    (subst (λ (k : Journal). WritesBy c.go_on.result from to (lacked [] items) (journal_text (done_of k) ∷ []) left left2 written after) is (c.go_on.ensures.written none_ordered))

@@ -1,4 +1,4 @@
-use Rattle.std.proofs.Common.{Result, ◌∙◌, Ok, length, sym, ap, subst}
+use Rattle.std.proofs.Common.{Result, ◌∙◌, Ok, length, sym, ap, subst, Contains, [], ◌∷◌}
 use Rattle.std.proofs.lemmas.Result.{err_from_is_err_and}
 use Rattle.folder_spec.specs.Region.{apart_from_both}
 use Rattle.folder_spec.specs.Seen.{IsSeen}
@@ -10,6 +10,10 @@ use Rattle.migrate_core.proofs.Movings.{moves_nowhere}
 use Rattle.migrate_core.specs.Leading.{Goes, progress_of}
 use Rattle.migrate_core.specs.Moving.{MovesOnly}
 use Rattle.migrate_core.specs.Sides.{IsWalked}
+use Rattle.migrate_core.specs.Moved.{done_of}
+use Rattle.migrate_core.proofs.Writings.{only_nowhere}
+use Rattle.move_journal.specs.Journal.{journal_text}
+use Rattle.migrate_core.specs.Written.{WritesOnly}
 use Rattle.migrate_core.proofs.finishing.finish.Goals as goal
 
 pub returns-in_err-target-clause-guard : goal.returns-in_err-target-clause-guard
@@ -99,3 +103,15 @@ returns-clause-moved g c =
     (subst (λ t. IsWalked t from c.args.source.now.items) (sym same) c.requires.walked) (subst (λ t. IsWalked t to c.in_ok-target.target.items) (sym same) c.in_ok-target.ensures.walked)
     (λ v is. c.in_ok-test_same.ensures.same v (subst (λ t. IsSeen t v) c.in_ok-test_same.ensures.told is))
     (c.say_done.ensures.moves to.root c.requires.apart.target) (c.say_done.ensures.moves from.root c.requires.apart.source) c.in_ok-say_done.ensures.says (length c.as_slice.result.now) (ap length c.as_slice.ensures)
+
+pub returns-in_err-target-clause-written : goal.returns-in_err-target-clause-written
+returns-in_err-target-clause-written g c = only_nowhere (λ file. Contains (journal_text (done_of c.args.journal) ∷ []) file) (g.F.Folder.told c.args.folder.now) (g.F.Folder.told c.walk_one.new.folder) c.walk_one.ensures.told
+
+pub returns-in_err-test_same-clause-written : goal.returns-in_err-test_same-clause-written
+returns-in_err-test_same-clause-written g c = only_nowhere (λ file. Contains (journal_text (done_of c.args.journal) ∷ []) file) (g.F.Folder.told c.args.folder.now) (g.F.Folder.told c.test_same.new.folder) (c.test_same.ensures.told ∙ c.walk_one.ensures.told)
+
+pub returns-in_err-say_done-clause-written : goal.returns-in_err-say_done-clause-written
+returns-in_err-say_done-clause-written g c = subst (λ t. WritesOnly (λ file. Contains (journal_text (done_of c.args.journal) ∷ []) file) t (g.F.Folder.told c.say_done.new.folder)) (c.test_same.ensures.told ∙ c.walk_one.ensures.told) c.say_done.ensures.written
+
+pub returns-clause-written : goal.returns-clause-written
+returns-clause-written g c = subst (λ t. WritesOnly (λ file. Contains (journal_text (done_of c.args.journal) ∷ []) file) t (g.F.Folder.told c.say_done.new.folder)) (c.test_same.ensures.told ∙ c.walk_one.ensures.told) c.say_done.ensures.written

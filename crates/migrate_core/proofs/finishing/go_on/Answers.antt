@@ -1,4 +1,4 @@
-use Rattle.std.proofs.Common.{◌≡◌, ◌∙◌, ap, sym, subst}
+use Rattle.std.proofs.Common.{◌≡◌, ◌∙◌, ap, sym, subst, [], arith, refl, ◌∷◌, IfErr}
 use Rattle.std.proofs.lemmas.Result.{err_from_is_err_and}
 use Rattle.folder_spec.specs.Region.{apart_from_both}
 use Rattle.folder_spec.specs.Seen.{IsSeen}
@@ -11,9 +11,15 @@ use Rattle.migrate_core.proofs.Movings.{moves_on, moves_to, moves_within, source
 use Rattle.migrate_core.proofs.WorkFolders.{beside_staged, journal_stays, placing_has, work_folder_stays}
 use Rattle.migrate_core.specs.Leading.{Goes, progress_of}
 use Rattle.migrate_core.proofs.Endings.{if_ok_more}
-use Rattle.migrate_core.specs.Moved.{Moved, StandsIn, lacking}
+use Rattle.migrate_core.specs.Moved.{Moved, StandsIn, lacking, done_of}
 use Rattle.migrate_core.specs.Moving.{MovesOnly}
 use Rattle.migrate_core.specs.Sides.{IsWalked, StandAll}
+use Rattle.migrate_core.specs.Written.{WritesAll, WritesBy, WritesFirst, lacked}
+use Rattle.migrate_core.proofs.Writings.{by_all, by_texts, then_texts}
+use Rattle.migrate_core.proofs.Causing.{refused_as}
+use Rattle.move_journal.specs.Journal.{journal_text}
+use Rattle.migrate_core.proofs.Stopping.{none_seen}
+use Rattle.migrate_core.specs.Causes.{StopsSeen}
 use Rattle.migrate_core.proofs.finishing.go_on.Goals as goal
 
 pub place_missing-requires-clause-walked : goal.place_missing-requires-clause-walked
@@ -97,3 +103,46 @@ pub returns-clause-placed : goal.returns-clause-placed
 returns-clause-placed g c =
     if_ok_more (λ done. done.placed ≡ c.in_ok-placed.placed) (λ done. (v : View) → IsSeen (g.F.Folder.told c.args.folder.now) v → done.placed ≡ lacking c.args.there.now c.args.source.now.items) c.finish.result
     (λ done is v seen. is ∙ c.in_ok-placed.ensures.counted (c.requires.there v seen) ∙ ap (lacking c.args.there.now) c.as_slice-items.ensures) c.finish.ensures.placed
+
+pub returns-in_err-placed-clause-written : goal.returns-in_err-placed-clause-written
+returns-in_err-placed-clause-written g c ordered =
+    let from = c.args.sides.now.source in
+    let to = c.args.sides.now.target in
+    let there = c.args.there.now in
+    let items = c.args.source.now.items in
+    let texts = journal_text (done_of c.args.journal) ∷ [] in
+    let told = g.F.Folder.told c.args.folder.now in
+    let here = g.F.Folder.told c.place_missing.new.folder in
+    let left = g.R.Randoms.left c.args.random.now in
+    let left1 = g.R.Randoms.left c.place_missing.new.random in
+    let p = err_from_is_err_and c.from_residual.result c.from_residual.ensures.1 in
+    by_texts from to (lacked there items) [] texts left left1 told here (λ text none. absurd (omega (arith, none.1))) c.from_residual.result
+    (refused_as (λ answer. WritesBy answer from to (lacked there items) [] left left1 told here) c.from_residual.result p.0 p.0 p.1 refl
+    (subst (λ xs. WritesFirst from to (lacked there xs) [] left left1 told here) c.as_slice-items.ensures (c.in_err-placed.ensures.written ordered)))
+
+pub returns-clause-written : goal.returns-clause-written
+returns-clause-written g c ordered =
+    let from = c.args.sides.now.source in
+    let to = c.args.sides.now.target in
+    let there = c.args.there.now in
+    let items = c.args.source.now.items in
+    let texts = journal_text (done_of c.args.journal) ∷ [] in
+    let told = g.F.Folder.told c.args.folder.now in
+    let here = g.F.Folder.told c.place_missing.new.folder in
+    let left = g.R.Randoms.left c.args.random.now in
+    let left1 = g.R.Randoms.left c.place_missing.new.random in
+    let told' = g.F.Folder.told c.finish.new.folder in
+    by_all c.finish.result from to (lacked there items) texts left left1 told told'
+    (then_texts c.draws_compose.ensures.composed from to (lacked there items) [] texts left left1 left1 told here told'
+    (subst (λ xs. WritesAll from to (lacked there xs) [] left left1 told here) c.as_slice-items.ensures (c.in_ok-placed.ensures.written ordered)) (c.draws_compose.ensures.none left1) c.finish.ensures.written)
+
+pub returns-in_err-placed-clause-moving : goal.returns-in_err-placed-clause-moving
+returns-in_err-placed-clause-moving g c =
+    let from = c.args.sides.now.source in
+    let told = g.F.Folder.told c.args.folder.now in
+    let p = err_from_is_err_and c.from_residual.result c.from_residual.ensures.1 in
+    refused_as (λ answer. IfErr answer (StopsSeen told from c.args.source.now.items)) c.from_residual.result p.0 c.in_err-placed.field-0.0 p.1 p.2
+    (subst (λ xs. StopsSeen told from xs c.in_err-placed.field-0.0) c.as_slice-items.ensures c.in_err-placed.ensures.moving)
+
+pub returns-clause-moving : goal.returns-clause-moving
+returns-clause-moving g c = none_seen c.finish.result c.args.sides.now.source c.args.source.now.items (g.F.Folder.told c.args.folder.now) c.finish.ensures.moving

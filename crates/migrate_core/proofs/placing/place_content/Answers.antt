@@ -1,4 +1,4 @@
-use Rattle.std.proofs.Common.{Err, Ok, arith, refl, ap, ◌∙◌, subst}
+use Rattle.std.proofs.Common.{Err, Ok, arith, refl, ap, ◌∙◌, subst, [], ◌∷◌, IfErr}
 use Rattle.std.proofs.lemmas.Result.{err_from_is_err_and}
 use Rattle.chunk_files.specs.Decoding.{started}
 use Rattle.content_writing.specs.Content.{still_coming}
@@ -13,7 +13,14 @@ use Rattle.migrate_core.proofs.Blaming.{blamed_file}
 use Rattle.migrate_core.proofs.Leadings.{goes_failed}
 use Rattle.migrate_core.proofs.Movings.{moves_nowhere}
 use Rattle.migrate_core.proofs.Placings.{file_goes, made_moves, made_ready}
-use Rattle.migrate_core.proofs.Planned.{content_elsewhere, content_is, content_ready}
+use Rattle.migrate_core.proofs.Planned.{content_elsewhere, content_is, content_ready, content_coming}
+use Rattle.migrate_core.proofs.Writings.{file_copy, item_made, nothing_yet, one_begun, one_written, only_nowhere}
+use Rattle.migrate_core.specs.Written.{MadeItem, WritesBy}
+use Rattle.migrate_core.proofs.Causing.{refused_as, put_stop}
+use Rattle.migrate_core.specs.Causes.{StopsAt, StopsSeen}
+use Rattle.migrate_core.proofs.Stopping.{ending_told, file_stops}
+use Rattle.migrate_core.specs.declared.fault.MoveFault.TheVariants.{NoMemory}
+use Rattle.migrate_core.specs.Faults.{of_put}
 use Rattle.migrate_core.proofs.placing.place_content.Goals as goal
 
 pub returns-in_err-reader-clause-moves : goal.returns-in_err-reader-clause-moves
@@ -93,3 +100,81 @@ returns-in_err-place_file-clause-blamed g c =
     let made = c.in_err-place_file.ensures in
     rw (p.1, p.2)
     (blamed_file c.in_err-place_file.field-0.0 made.fault (λ is. omega (arith, made.source.1 (ap Err is))) (λ is. made.failed.1 (ap Err is)) (λ is. made.random.1 (ap Err is)))
+
+pub returns-in_err-reader-clause-written : goal.returns-in_err-reader-clause-written
+returns-in_err-reader-clause-written g c =
+    let from = c.args.sides.now.source in
+    let to = c.args.sides.now.target in
+    let told = g.F.Folder.told c.args.folder.now in
+    let left = g.R.Randoms.left c.args.random.now in
+    let p = err_from_is_err_and c.from_residual.result c.from_residual.ensures.1 in
+    refused_as (λ answer. WritesBy answer from to (c.args.item.now ∷ []) [] left left told told) c.from_residual.result p.0 p.0 p.1 refl
+    (nothing_yet from to (c.args.item.now ∷ []) [] left left told told (c.draws_compose.ensures.none left) (only_nowhere (λ file. ⊥) told told refl))
+
+pub returns-in_err-place_file-clause-written : goal.returns-in_err-place_file-clause-written
+returns-in_err-place_file-clause-written g c =
+    let from = c.args.sides.now.source in
+    let to = c.args.sides.now.target in
+    let told = g.F.Folder.told c.args.folder.now in
+    let left = g.R.Randoms.left c.args.random.now in
+    let item = c.args.item.now in
+    let told' = g.F.Folder.told c.place_file.new.folder in
+    let left' = g.R.Randoms.left c.place_file.new.random in
+    let content = c.new-content.result in
+    let gives = content_is from item c.in_ok-reader.reader content
+    (c.in_ok-reader.ensures.reader ∙ ap (λ (x : Planned). record { at = x.at; decoding = started (format_of from.vault).content }) c.item.view_is) c.new-content.ensures.reads c.new-content.ensures.coming in
+    let path = ap (λ (x : Planned). x.path) c.item.view_is in
+    let made = c.place_file.ensures.made in
+    let w = made.writing in
+    let x : MadeItem = record { path = c.item.inside.path; item = NewFile w.content; drawn = w.drawn } in
+    let copy = file_copy c.files_fit_as_contents.ensures from item told c.item.inside.path w.content w.drawn w.ending path c.requires.file c.requires.item
+    (λ a is coming comes. made.takes.told coming (ap (λ t. still_coming (path_of content) t (coming_of content)) is ∙ content_coming from item content gives a ∙ comes)) in
+    let p = err_from_is_err_and c.from_residual-in_err-place_file.result c.from_residual-in_err-place_file.ensures.1 in
+    refused_as (λ answer. WritesBy answer from to (item ∷ []) [] left left' told told') c.from_residual-in_err-place_file.result p.0 p.0 p.1 refl
+    (one_begun from to item x left left' told told' c.place_file.result made.takes.were_drawn copy (item_made to c.args.work.now x w.ending told told' c.place_file.result made.makes))
+
+pub returns-clause-written : goal.returns-clause-written
+returns-clause-written g c =
+    let from = c.args.sides.now.source in
+    let to = c.args.sides.now.target in
+    let told = g.F.Folder.told c.args.folder.now in
+    let left = g.R.Randoms.left c.args.random.now in
+    let item = c.args.item.now in
+    let told' = g.F.Folder.told c.place_file.new.folder in
+    let left' = g.R.Randoms.left c.place_file.new.random in
+    let content = c.new-content.result in
+    let gives = content_is from item c.in_ok-reader.reader content
+    (c.in_ok-reader.ensures.reader ∙ ap (λ (x : Planned). record { at = x.at; decoding = started (format_of from.vault).content }) c.item.view_is) c.new-content.ensures.reads c.new-content.ensures.coming in
+    let path = ap (λ (x : Planned). x.path) c.item.view_is in
+    let made = c.in_ok-place_file.ensures.made in
+    let w = made.writing in
+    let x : MadeItem = record { path = c.item.inside.path; item = NewFile w.content; drawn = w.drawn } in
+    let copy = file_copy c.files_fit_as_contents.ensures from item told c.item.inside.path w.content w.drawn w.ending path c.requires.file c.requires.item
+    (λ a is coming comes. made.takes.told coming (ap (λ t. still_coming (path_of content) t (coming_of content)) is ∙ content_coming from item content gives a ∙ comes)) in
+    one_written from to item x left left' told told' made.takes.were_drawn copy (item_made to c.args.work.now x w.ending told told' (Ok tt) made.makes)
+
+pub returns-in_err-reader-clause-moving : goal.returns-in_err-reader-clause-moving
+returns-in_err-reader-clause-moving g c =
+    let p = err_from_is_err_and c.from_residual.result c.from_residual.ensures.1 in
+    refused_as (λ answer. IfErr answer (StopsSeen (g.F.Folder.told c.args.folder.now) c.args.sides.now.source (c.args.item.now ∷ []))) c.from_residual.result p.0 NoMemory p.1 p.2 (λ v seen. tt)
+
+pub returns-in_err-place_file-clause-moving : goal.returns-in_err-place_file-clause-moving
+returns-in_err-place_file-clause-moving g c =
+    let from = c.args.sides.now.source in
+    let told = g.F.Folder.told c.args.folder.now in
+    let to = c.args.sides.now.target in
+    let item = c.args.item.now in
+    let told' = g.F.Folder.told c.place_file.new.folder in
+    let content = c.new-content.result in
+    let gives = content_is from item c.in_ok-reader.reader content
+    (c.in_ok-reader.ensures.reader ∙ ap (λ (x : Planned). record { at = x.at; decoding = started (format_of from.vault).content }) c.item.view_is) c.new-content.ensures.reads c.new-content.ensures.coming in
+    let e = c.in_err-place_file.ensures in
+    let made = e.made in
+    let w = made.writing in
+    let why = c.in_err-place_file.field-0.0 in
+    let p = err_from_is_err_and c.from_residual-in_err-place_file.result c.from_residual-in_err-place_file.ensures.1 in
+    refused_as (λ answer. IfErr answer (StopsSeen told from (item ∷ []))) c.from_residual-in_err-place_file.result p.0 (of_put why) p.1 p.2
+    (λ v seen. put_stop (StopsAt from v (item ∷ [])) why
+    (file_stops c.files_fit_as_contents.ensures from item told w.content w.ending why c.requires.file (λ is. omega (arith, e.source.1 (ap Err is))) c.requires.item
+    (λ a is coming comes. made.takes.told coming (ap (λ t. still_coming (path_of content) t (coming_of content)) is ∙ content_coming from item content gives a ∙ comes))
+    (ending_told to c.args.work.now c.item.inside.path (NewFile w.content) w.ending w.drawn told told' why made.makes) v seen))

@@ -1,4 +1,4 @@
-use Rattle.std.proofs.Common.{◌∙◌, true, false, refl, sym, ap, arith}
+use Rattle.std.proofs.Common.{◌∙◌, ◌+◌, true, false, refl, sym, ap, arith, Contains, [], drop, subst, take, ◌++◌, ◌∷◌, IfErr}
 use Rattle.std.proofs.lemmas.List.{take_all}
 use Rattle.migrate_core.proofs.Searched.{counted_on}
 use Rattle.migrate_core.specs.Moved.{lacking}
@@ -8,6 +8,11 @@ use Rattle.vault_write.specs.Making.{is_apart}
 use Rattle.migrate_core.proofs.Blaming.{blamed_since}
 use Rattle.migrate_core.proofs.Leadings.{goes_failed, goes_on, guards_on, leads_on, seen_before, still_guards, still_leads}
 use Rattle.migrate_core.proofs.Movings.{moves_nowhere, moves_on, moves_to, source_apart, walked_stays}
+use Rattle.migrate_core.specs.Written.{WritesAll, WritesBy, WritesFirst, lacked}
+use Rattle.migrate_core.proofs.Writings.{all_on, first_of_more, first_on, kept_by, lacked_is, lacked_next, lacked_split, next_among, only_nowhere, source_place, texts_alone}
+use Rattle.migrate_core.proofs.Causing.{refused_as}
+use Rattle.migrate_core.proofs.Stopping.{stops_before}
+use Rattle.migrate_core.specs.Causes.{StopsSeen}
 use Rattle.migrate_core.proofs.placing.place_missing.Goals as goal
 use Rattle.migrate_core.proofs.placing.place_missing.Goals.{then-branch, else-branch}
 
@@ -22,6 +27,8 @@ loop-item-init g c =
       led = λ m sides. (still_guards m Begun told told refl, still_leads m Begun told told refl);
       moves = moves_nowhere (is_apart c.args.work.now c.args.sides.now.target.root) c.args.sides.now.target.root told told refl;
       counted = λ ordered. refl;
+      written = λ ordered. texts_alone c.args.sides.now.source c.args.sides.now.target [] [] (g.R.Randoms.left c.args.random.now) (g.R.Randoms.left c.args.random.now) told told
+          (c.draws_compose.ensures.none (g.R.Randoms.left c.args.random.now)) (only_nowhere (λ file. Contains [] file) told told refl);
       none = λ all. refl;
     }
 
@@ -93,10 +100,22 @@ returns-clause-none g c = c.loop-item.invariant.none
 
 pub loop-item-preserved : goal.loop-item-preserved
 loop-item-preserved g c =
+    let from = c.args.sides.now.source in
+    let to = c.args.sides.now.target in
+    let work = c.args.work.now in
+    let items = c.args.items.now in
+    let there = c.args.there.now in
     let told = g.F.Folder.told c.args.folder.now in
     let here = g.F.Folder.told c.loop-item.folder in
     let told' = g.F.Folder.told c.place_missing_one.new.folder in
-    let to = c.args.sides.now.target in
+    let left = g.R.Randoms.left c.args.random.now in
+    let left1 = g.R.Randoms.left c.loop-item.random in
+    let left2 = g.R.Randoms.left c.place_missing_one.new.random in
+    let k = c.loop-item.item-index in
+    let item = c.item-item.result in
+    let kept = kept_by (is_apart work to.root) from.root (lacked there (item ∷ [])) told here (g.met.F.Folder.sound c.args.folder.now)
+    (λ one among. source_place from to.root work items one (c.requires.apart) c.requires.walked (next_among items k item c.loop-item-test.true c.item-item.is one (lacked_is there (item ∷ []) one among)))
+    (moves_to (is_apart work to.root) to.root told here c.loop-item.invariant.moves) in
     let i = c.loop-item.invariant in
     record {
       grows = omega (arith, i.grows, c.place_missing_one.ensures.grows);
@@ -119,8 +138,61 @@ loop-item-preserved g c =
             | else-branch w ↦ counted_on c.args.there.now c.args.items.now c.loop-item.item-index c.item-item.result c.loop-item.placed c.if-branch.placed false c.loop-item-test.true c.item-item.is (i.counted ordered)
                 (sym w.if-branch.false ∙ one) w.placed-is
           ];
+      written = λ ordered.
+          subst (λ xs. WritesAll from to xs [] left left2 told told') (lacked_next there items k item c.loop-item-test.true c.item-item.is)
+          (all_on c.draws_compose.ensures.composed from to (lacked there (take k items)) (lacked there (item ∷ [])) [] [] left left1 left2 told here told' kept
+          (i.written ordered) (c.in_ok-place_missing_one.ensures.written ordered));
       none = λ all. c.place_missing_one.ensures.none (all c.item-item.result (c.loop-item.item-index, c.loop-item-test.true, sym c.item-item.is)) ∙ i.none all;
     }
 
 pub returns-clause-counted : goal.returns-clause-counted
 returns-clause-counted g c ordered = c.loop-item.invariant.counted ordered ∙ ap (lacking c.args.there.now) (take_all c.loop-item.item-index c.args.items.now c.loop-item-test.false)
+
+pub returns-in_err-place_missing_one-clause-written : goal.returns-in_err-place_missing_one-clause-written
+returns-in_err-place_missing_one-clause-written g c ordered =
+    let from = c.args.sides.now.source in
+    let to = c.args.sides.now.target in
+    let work = c.args.work.now in
+    let items = c.args.items.now in
+    let there = c.args.there.now in
+    let told = g.F.Folder.told c.args.folder.now in
+    let here = g.F.Folder.told c.loop-item.folder in
+    let told' = g.F.Folder.told c.place_missing_one.new.folder in
+    let left = g.R.Randoms.left c.args.random.now in
+    let left1 = g.R.Randoms.left c.loop-item.random in
+    let left2 = g.R.Randoms.left c.place_missing_one.new.random in
+    let k = c.loop-item.item-index in
+    let item = c.item-item.result in
+    let kept = kept_by (is_apart work to.root) from.root (lacked there (item ∷ [])) told here (g.met.F.Folder.sound c.args.folder.now)
+    (λ one among. source_place from to.root work items one (c.requires.apart) c.requires.walked (next_among items k item c.loop-item-test.true c.item-item.is one (lacked_is there (item ∷ []) one among)))
+    (moves_to (is_apart work to.root) to.root told here c.loop-item.invariant.moves) in
+    let p = err_from_is_err_and c.from_residual.result c.from_residual.ensures.1 in
+    refused_as (λ answer. WritesBy answer from to (lacked there items) [] left left2 told told') c.from_residual.result p.0 p.0 p.1 refl
+    (subst (λ xs. WritesFirst from to xs [] left left2 told told') (ap (λ xs. xs ++ lacked there (drop (k + 1) items)) (lacked_next there items k item c.loop-item-test.true c.item-item.is) ∙ lacked_split there items (k + 1))
+    (first_of_more from to (lacked there (take k items) ++ lacked there (item ∷ [])) [] left left2 told told' (lacked there (drop (k + 1) items))
+    (first_on c.draws_compose.ensures.composed from to (lacked there (take k items)) (lacked there (item ∷ [])) [] [] left left1 left2 told here told' kept
+    (c.loop-item.invariant.written ordered) (c.in_err-place_missing_one.ensures.written ordered))))
+
+pub returns-clause-written : goal.returns-clause-written
+returns-clause-written g c ordered =
+    let left = g.R.Randoms.left c.args.random.now in
+    subst (λ xs. WritesAll c.args.sides.now.source c.args.sides.now.target (lacked c.args.there.now xs) [] left (g.R.Randoms.left c.loop-item.random) (g.F.Folder.told c.args.folder.now) (g.F.Folder.told c.loop-item.folder))
+    (take_all c.loop-item.item-index c.args.items.now c.loop-item-test.false) (c.loop-item.invariant.written ordered)
+
+pub returns-in_err-place_missing_one-clause-moving : goal.returns-in_err-place_missing_one-clause-moving
+returns-in_err-place_missing_one-clause-moving g c =
+    let from = c.args.sides.now.source in
+    let to = c.args.sides.now.target in
+    let work = c.args.work.now in
+    let items = c.args.items.now in
+    let told = g.F.Folder.told c.args.folder.now in
+    let here = g.F.Folder.told c.loop-item.folder in
+    let k = c.loop-item.item-index in
+    let item = c.item-item.result in
+    let fault = c.in_err-place_missing_one.field-0.0 in
+    let kept = kept_by (is_apart work to.root) from.root (item ∷ []) told here (g.met.F.Folder.sound c.args.folder.now)
+    (λ one among. source_place from to.root work items one c.requires.apart c.requires.walked (next_among items k item c.loop-item-test.true c.item-item.is one among))
+    (moves_to (is_apart work to.root) to.root told here c.loop-item.invariant.moves) in
+    let p = err_from_is_err_and c.from_residual.result c.from_residual.ensures.1 in
+    refused_as (λ answer. IfErr answer (StopsSeen told from items)) c.from_residual.result p.0 fault p.1 p.2
+    (stops_before from (item ∷ []) items told here fault kept (next_among items k item c.loop-item-test.true c.item-item.is) c.in_err-place_missing_one.ensures.moving)

@@ -1,4 +1,4 @@
-use Rattle.std.proofs.Common.{◌≡◌, ◌≤◌, take}
+use Rattle.std.proofs.Common.{◌≡◌, ◌≤◌, take, []}
 use Rattle.folder_spec.specs.Seen.{IsSeen}
 use Rattle.folder_spec.specs.View.{View}
 use Rattle.tree_match.specs.Alone.{Begun}
@@ -9,6 +9,7 @@ use Rattle.migrate_core.specs.Leading.{HasLed}
 use Rattle.migrate_core.specs.Moved.{lacking}
 use Rattle.migrate_core.specs.Moving.{MovesBeside}
 use Rattle.migrate_core.specs.Sides.{StandAll}
+use Rattle.migrate_core.specs.Written.{WritesAll, lacked}
 use Rattle.migrate_core.proofs.placing.place_missing.Given as goal
 
 abbrev pub invariant-loop-item : goal.invariant-loop-item
@@ -20,5 +21,7 @@ invariant-loop-item g l = record {
   led : HasLed l.sides.source l.sides.target l.work Begun Begun (g.F.Folder.told l.initial.folder) (g.F.Folder.told l.folder);
   moves : MovesBeside (is_apart l.work l.sides.target.root) l.sides.target.root (g.F.Folder.told l.initial.folder) (g.F.Folder.told l.folder);
   counted : IsOrdered l.there → l.placed ≡ lacking l.there (take l.item-index l.items);
+  written : IsOrdered l.there → WritesAll l.sides.source l.sides.target (lacked l.there (take l.item-index l.items)) [] (g.R.Randoms.left l.initial.random) (g.R.Randoms.left l.random)
+      (g.F.Folder.told l.initial.folder) (g.F.Folder.told l.folder);
   none : StandAll l.items l.there → g.F.Folder.told l.folder ≡ g.F.Folder.told l.initial.folder;
 }

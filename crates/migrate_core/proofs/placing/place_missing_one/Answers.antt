@@ -1,4 +1,4 @@
-use Rattle.std.proofs.Common.{refl, sym, ◌∙◌}
+use Rattle.std.proofs.Common.{refl, sym, ◌∙◌, Contains, [], cond, not, subst, ◌∷◌, IfErr}
 use Rattle.folder_spec.specs.Seen.{seen}
 use Rattle.tree_match.specs.Alone.{Begun}
 use Rattle.vault_write.specs.Making.{is_apart}
@@ -6,6 +6,11 @@ use Rattle.migrate_core.proofs.Leadings.{nothing_told, still_guards, still_leads
 use Rattle.migrate_core.proofs.Movings.{moves_nowhere}
 use Rattle.migrate_core.proofs.Planned.{seen_of}
 use Rattle.migrate_core.proofs.Searched.{there_where}
+use Rattle.migrate_core.proofs.Writings.{only_nowhere, texts_alone}
+use Rattle.migrate_core.proofs.Causing.{refused_as}
+use Rattle.std.proofs.lemmas.Result.{err_from_is_err_and}
+use Rattle.migrate_core.specs.Written.{WritesAll, WritesBy, WritesFirst, lacked}
+use Rattle.migrate_core.specs.Causes.{StopsSeen}
 use Rattle.migrate_core.proofs.placing.place_missing_one.Goals as goal
 
 pub returns-in_err-place-clause-none : goal.returns-in_err-place-clause-none
@@ -29,3 +34,42 @@ pub returns-then-stands-clause-moves : goal.returns-then-stands-clause-moves
 returns-then-stands-clause-moves g c =
     let root = c.args.sides.now.target.root in
     moves_nowhere (is_apart c.args.work.now root) root (g.F.Folder.told c.args.folder.now) (g.F.Folder.told c.args.folder.now) refl
+
+pub returns-in_err-place-clause-written : goal.returns-in_err-place-clause-written
+returns-in_err-place-clause-written g c ordered =
+    let from = c.args.sides.now.source in
+    let to = c.args.sides.now.target in
+    let told = g.F.Folder.told c.args.folder.now in
+    let left = g.R.Randoms.left c.args.random.now in
+    let item = c.args.item.now in
+    let told' = g.F.Folder.told c.place.new.folder in
+    let left' = g.R.Randoms.left c.place.new.random in
+    let p = err_from_is_err_and c.from_residual.result c.from_residual.ensures.1 in
+    refused_as (λ answer. WritesBy answer from to (lacked c.args.there.now (item ∷ [])) [] left left' told told') c.from_residual.result p.0 p.0 p.1 refl
+    (subst (λ b. WritesFirst from to (cond (not b) (item ∷ []) []) [] left left' told told') (sym c.if-stands.false ∙ c.stands.ensures ordered) c.in_err-place.ensures.written)
+
+pub returns-clause-written : goal.returns-clause-written
+returns-clause-written g c ordered =
+    let from = c.args.sides.now.source in
+    let to = c.args.sides.now.target in
+    let told = g.F.Folder.told c.args.folder.now in
+    let left = g.R.Randoms.left c.args.random.now in
+    let item = c.args.item.now in
+    let told' = g.F.Folder.told c.place.new.folder in
+    let left' = g.R.Randoms.left c.place.new.random in
+    subst (λ b. WritesAll from to (cond (not b) (item ∷ []) []) [] left left' told told') (sym c.if-stands.false ∙ c.stands.ensures ordered) c.in_ok-place.ensures.written
+
+pub returns-then-stands-clause-written : goal.returns-then-stands-clause-written
+returns-then-stands-clause-written g c ordered =
+    let from = c.args.sides.now.source in
+    let to = c.args.sides.now.target in
+    let told = g.F.Folder.told c.args.folder.now in
+    let left = g.R.Randoms.left c.args.random.now in
+    let item = c.args.item.now in
+    subst (λ b. WritesAll from to (cond (not b) (item ∷ []) []) [] left left told told) (sym c.if-stands.true ∙ c.stands.ensures ordered)
+    (texts_alone from to [] [] left left told told (c.draws_compose.ensures.none left) (only_nowhere (λ file. Contains [] file) told told refl))
+
+pub returns-in_err-place-clause-moving : goal.returns-in_err-place-clause-moving
+returns-in_err-place-clause-moving g c =
+    let p = err_from_is_err_and c.from_residual.result c.from_residual.ensures.1 in
+    refused_as (λ answer. IfErr answer (StopsSeen (g.F.Folder.told c.args.folder.now) c.args.sides.now.source (c.args.item.now ∷ []))) c.from_residual.result p.0 c.in_err-place.field-0.0 p.1 p.2 c.in_err-place.ensures.moving

@@ -1,10 +1,10 @@
-use Rattle.std.proofs.Common.{◌≡◌, ◌∙◌, Result, Ok, sym, ap, subst}
+use Rattle.std.proofs.Common.{◌≡◌, ◌∙◌, Result, Ok, sym, ap, arith, subst, Contains, [], refl, ◌∷◌}
 use Rattle.std.proofs.lemmas.Result.{err_from_is_err_and}
 use Rattle.folder_spec.specs.Region.{apart_from, apart_from_both}
 use Rattle.tree_match.specs.Alone.{Finished}
 use Rattle.vault_walk.specs.Survey.{IsOrdered}
 use Rattle.move_journal.specs.Writing.{IsWorkFolder}
-use Rattle.work_folder.specs.Entering.{IsReady}
+use Rattle.work_folder.specs.Entering.{IsReady, Empties, IsBelowStage, IsStage}
 use Rattle.work_folder.specs.Entries.{stage_path}
 use Rattle.migrate_core.specs.Leading.{progress_of}
 use Rattle.migrate_core.specs.Moving.{MovesOnly}
@@ -17,7 +17,15 @@ use Rattle.folder_spec.specs.Seen.{IsSeen}
 use Rattle.folder_spec.specs.View.{View}
 use Rattle.migrate_core.proofs.WorkFolders.{journal_stays}
 use Rattle.migrate_core.proofs.Endings.{if_ok_more}
-use Rattle.migrate_core.specs.Moved.{Moved, StandsIn, lacking}
+use Rattle.migrate_core.specs.Moved.{Moved, StandsIn, lacking, done_of}
+use Rattle.migrate_core.proofs.Causing.{moves_pass, refused_as, work_refused}
+use Rattle.migrate_core.specs.Causes.{IsOfMoving, Moves, Unless, StopsAt}
+use Rattle.migrate_core.specs.Faults.{of_work}
+use Rattle.migrate_core.proofs.Writings.{changing_writes, kept_by, lacked_is, nothing_yet, only_more, source_beside_at, texts_then}
+use Rattle.migrate_core.specs.Written.{WritesBy, lacked}
+use Rattle.move_journal.specs.Journal.{journal_text}
+use Rattle.migrate_core.proofs.Blaming.{blamed_later}
+use Rattle.migrate_core.proofs.Stopping.{if_stops_before, seen_stops}
 use Rattle.migrate_core.proofs.resuming.place_rest.Goals as goal
 
 pub again-requires-clause-folder : goal.again-requires-clause-folder
@@ -126,3 +134,71 @@ returns-clause-placed g c =
     if_ok_more (λ done. (v : View) → IsSeen t1 v → done.placed ≡ lacking c.as_slice-there.result.now items) (λ done. (v : View) → IsSeen t0 v → done.placed ≡ lacking there items) c.go_on.result
     (λ done is v seen. then_known _ t0 t1 (stage_moves c.args.work.now target t0 t1 c.requires.apart.target c.again.ensures.restages.moments) (done.placed ≡ lacking c.as_slice-there.result.now items) is v seen
     ∙ ap (λ xs. lacking xs items) c.as_slice-there.ensures) c.go_on.ensures.placed
+
+pub returns-in_err-again-clause-cause : goal.returns-in_err-again-clause-cause
+returns-in_err-again-clause-cause g c v seen =
+    let stops = StopsAt c.args.sides.now.source v c.args.plans.now.source.items in
+    let why = c.in_err-again.field-0.0 in
+    let p = err_from_is_err_and c.from_residual.result c.from_residual.ensures.1 in
+    refused_as (λ answer. Unless answer (Moves (Empties v c.args.work.now) stops answer)) c.from_residual.result p.0 (of_work why) p.1 p.2
+    (work_refused (Empties v c.args.work.now) (λ _. IsOfMoving stops) why (c.in_err-again.ensures.restages.answer v seen))
+
+pub returns-clause-cause : goal.returns-clause-cause
+returns-clause-cause g c v seen =
+    let from = c.args.sides.now.source in
+    let to = c.args.sides.now.target in
+    let work = c.args.work.now in
+    let items = c.args.plans.now.source.items in
+    let told = g.F.Folder.told c.args.folder.now in
+    let ready = g.F.Folder.told c.again.new.folder in
+    let region = apart_from_both work to.root in
+    let kept = kept_by region from.root items told ready (g.met.F.Folder.sound c.args.folder.now)
+    (λ one among. source_beside_at from to.root work items one c.requires.apart c.requires.source among)
+    (moves_to region to.root told ready (stage_moves work to.root told ready c.requires.apart.target c.again.ensures.restages.moments)) in
+    moves_pass (Empties v work) (StopsAt from v items) c.go_on.result (c.in_ok-again.ensures.restages.answer v seen)
+    (seen_stops c.go_on.result from items told v seen (if_stops_before c.go_on.result from items told ready kept c.go_on.ensures.moving))
+
+pub returns-in_err-again-clause-written : goal.returns-in_err-again-clause-written
+returns-in_err-again-clause-written g c v seen =
+    let from = c.args.sides.now.source in
+    let to = c.args.sides.now.target in
+    let work = c.args.work.now in
+    let items = c.args.plans.now.source.items in
+    let there = c.args.plans.now.target.items in
+    let texts = journal_text (done_of c.args.journal) ∷ [] in
+    let told = g.F.Folder.told c.args.folder.now in
+    let ready = g.F.Folder.told c.again.new.folder in
+    let left = g.R.Randoms.left c.args.random.now in
+    let staging = changing_writes (stage_path work) (IsStage work) (IsBelowStage work) told ready c.again.ensures.restages.moments in
+    let p = err_from_is_err_and c.from_residual.result c.from_residual.ensures.1 in
+    refused_as (λ answer. WritesBy answer from to (lacked there items) texts left left told ready) c.from_residual.result p.0 p.0 p.1 refl
+    (nothing_yet from to (lacked there items) texts left left told ready (c.draws_compose.ensures.none left) staging)
+
+pub returns-clause-written : goal.returns-clause-written
+returns-clause-written g c v seen =
+    let from = c.args.sides.now.source in
+    let to = c.args.sides.now.target in
+    let work = c.args.work.now in
+    let items = c.args.plans.now.source.items in
+    let there = c.args.plans.now.target.items in
+    let texts = journal_text (done_of c.args.journal) ∷ [] in
+    let told = g.F.Folder.told c.args.folder.now in
+    let ready = g.F.Folder.told c.again.new.folder in
+    let left = g.R.Randoms.left c.args.random.now in
+    let staging = changing_writes (stage_path work) (IsStage work) (IsBelowStage work) told ready c.again.ensures.restages.moments in
+    let after = g.F.Folder.told c.go_on.new.folder in
+    let left2 = g.R.Randoms.left c.go_on.new.random in
+    let region = apart_from_both work to.root in
+    let kept = kept_by region from.root (lacked there items) told ready (g.met.F.Folder.sound c.args.folder.now)
+    (λ one among. source_beside_at from to.root work items one c.requires.apart c.requires.source (lacked_is there items one among))
+    (moves_to region to.root told ready (stage_moves work to.root told ready c.requires.apart.target c.again.ensures.restages.moments)) in
+    texts_then c.draws_compose.ensures.composed from to (lacked there items) [] texts left left left2 told ready after c.go_on.result kept (c.draws_compose.ensures.none left)
+    (only_more (λ file. ⊥) (λ file. Contains [] file) (λ file none. absurd none) told ready staging)
+    (subst (λ xs. WritesBy c.go_on.result from to (lacked xs items) texts left left2 ready after) c.as_slice-there.ensures
+    (c.go_on.ensures.written (subst IsOrdered (sym c.as_slice-there.ensures) (c.requires.target.ordered v seen))))
+
+pub returns-clause-blamed : goal.returns-clause-blamed
+returns-clause-blamed g c =
+    let random = g.R.Randoms.faults c.args.random.now in
+    blamed_later (g.F.Folder.faults c.args.folder.now) (g.F.Folder.faults c.again.new.folder) (g.F.Folder.faults c.go_on.new.folder) random random (g.R.Randoms.faults c.go_on.new.random) c.go_on.result
+    c.again.ensures.restages.grows (omega arith) c.go_on.ensures.blamed

@@ -5,6 +5,12 @@ use Rattle.folder_spec.specs.Seen.{IsSeen}
 use Rattle.folder_spec.specs.View.{View}
 use Rattle.migrate_core.proofs.Endings.{if_ok_more, told_before}
 use Rattle.migrate_core.specs.Moved.{MovesTold}
+use Rattle.migrate_core.proofs.Causing.{folder_unless, refused_as}
+use Rattle.std.proofs.lemmas.Result.{err_from_is_err_and}
+use Rattle.migrate_core.specs.Faults.{of_folder}
+use Rattle.migrate_core.specs.Causes.{Resumes, Unless}
+use Rattle.migrate_core.proofs.Writings.{settle_writes, told_after}
+use Rattle.std.proofs.Common.{inl}
 use Rattle.migrate_core.proofs.resuming.resume.Goals as goal
 
 pub returns-in_err-settle-clause-guard : goal.returns-in_err-settle-clause-guard
@@ -40,3 +46,28 @@ returns-clause-moved g c =
     let seen_then = settle_seen t0 t1 c.in_ok-settle.field-0 c.in_ok-settle.ensures.changes in
     if_ok_more (λ done. (v : View) → IsSeen t1 v → MovesTold work pass pass' done t1 t2 v) (λ done. (v : View) → IsSeen t0 v → MovesTold work pass pass' done t0 t2 v) c.resume_settled.result
     (λ done moves v seen. told_before work pass pass' done t0 t1 t2 seen_then v (moves v (seen_then v seen))) c.resume_settled.ensures.moved
+
+pub returns-in_err-settle-clause-cause : goal.returns-in_err-settle-clause-cause
+returns-in_err-settle-clause-cause g c v seen =
+    let p = err_from_is_err_and c.from_residual.result c.from_residual.ensures.1 in
+    refused_as (λ answer. Unless answer (Resumes c.args.work.now c.args.source_pass.now c.args.target_pass.now v answer)) c.from_residual.result p.0 (of_folder c.in_err-settle.field-0.0) p.1 p.2
+    (folder_unless _ c.in_err-settle.field-0.0)
+
+pub returns-clause-cause : goal.returns-clause-cause
+returns-clause-cause g c v seen =
+    c.resume_settled.ensures.cause v (settle_seen (g.F.Folder.told c.args.folder.now) (g.F.Folder.told c.settle.new.self) c.in_ok-settle.field-0 c.in_ok-settle.ensures.changes v seen)
+
+pub returns-in_err-settle-clause-written : goal.returns-in_err-settle-clause-written
+returns-in_err-settle-clause-written g c v seen =
+    let told = g.F.Folder.told c.args.folder.now in
+    let left = g.R.Randoms.left c.args.random.now in
+    inl (record { undrawn = c.draws_compose.ensures.none left; files = settle_writes told (g.F.Folder.told c.settle.new.self) c.settle.result c.settle.ensures.changes })
+
+pub returns-clause-written : goal.returns-clause-written
+returns-clause-written g c v seen =
+    let told = g.F.Folder.told c.args.folder.now in
+    let left = g.R.Randoms.left c.args.random.now in
+    let settled = g.F.Folder.told c.settle.new.self in
+    let known = settle_seen told settled c.in_ok-settle.field-0 c.in_ok-settle.ensures.changes in
+    told_after left (g.R.Randoms.left c.resume_settled.new.random) told settled (g.F.Folder.told c.resume_settled.new.folder) known (settle_writes told settled c.settle.result c.settle.ensures.changes)
+    c.resume_settled.result c.args.work.now c.args.source_pass.now c.args.target_pass.now v (c.resume_settled.ensures.written v (known v seen))

@@ -1,4 +1,4 @@
-use Rattle.std.proofs.Common.{◌∙◌, subst}
+use Rattle.std.proofs.Common.{◌∙◌, subst, Err, Ok, sym, inl}
 use Rattle.folder_spec.specs.Region.{apart_from_both}
 use Rattle.folder_spec.specs.Seen.{IsSeen}
 use Rattle.move_journal.specs.declared.journal.Journal.{Journal}
@@ -9,6 +9,15 @@ use Rattle.migrate_core.proofs.Settled.{in_use, journal_folder, journal_stands, 
 use Rattle.folder_spec.specs.View.{View}
 use Rattle.migrate_core.proofs.Endings.{if_ok_more}
 use Rattle.migrate_core.specs.Moved.{MovesTold, MovesTree}
+use Rattle.migrate_core.proofs.Causing.{journal_refused, own_passes, own_refused, refused_as, then_passes, work_refused}
+use Rattle.migrate_core.specs.Causes.{Resumes, ResumesTold, TestsApart, Then, Unless, is_done, own}
+use Rattle.work_folder.specs.Looking.{Gives, TestsEntries}
+use Rattle.move_journal.specs.Reading.{ReadsAs, journal_bytes}
+use Rattle.migrate_core.specs.Faults.{of_journal, of_work}
+use Rattle.migrate_core.specs.declared.placing.Done.{Done}
+use Rattle.std.proofs.lemmas.Result.{err_from_is_err_and}
+use Rattle.migrate_core.proofs.Writings.{nothing_written, told_of}
+use Rattle.migrate_core.specs.Written.{MayWriteTree}
 use Rattle.migrate_core.proofs.resuming.resume_settled.Goals as goal
 
 pub returns-in_err-journal-clause-guard : goal.returns-in_err-journal-clause-guard
@@ -29,7 +38,7 @@ returns-in_err-look_again-clause-guard g c = λ migration resumed.
 pub resume_told-requires-clause-used : goal.resume_told-requires-clause-used
 resume_told-requires-clause-used g c = λ v seen.
     let before = subst (λ t. IsSeen t v) c.look_again.ensures.told seen in
-    in_use (g.F.Folder.told c.look_again.new.folder) (g.met.F.Folder.sound c.look_again.new.folder) v seen c.args.work.now c.in_ok-journal.journal c.eq.result
+    in_use (g.F.Folder.told c.look_again.new.folder) (g.met.F.Folder.sound c.look_again.new.folder) v seen c.args.work.now c.in_ok-journal.journal c.is_done.result
     (c.in_ok-journal.ensures.answer v (subst (λ t. IsSeen t v) c.read.ensures.told before)) (c.in_ok-look_again.ensures.answer v before)
 
 pub returns-clause-guard : goal.returns-clause-guard
@@ -72,3 +81,97 @@ returns-clause-moved g c =
       stands = journal_stands v work read (c.in_ok-journal.ensures.answer v seen);
       moves = subst (λ t. MovesTree read.source read.target work pass pass' done t t3) (c.look_again.ensures.told ∙ c.read.ensures.told) moves;
     }) c.resume_told.ensures.moved
+
+pub returns-in_err-journal-clause-cause : goal.returns-in_err-journal-clause-cause
+returns-in_err-journal-clause-cause g c v seen =
+    let work = c.args.work.now in
+    let pass = c.args.source_pass.now in
+    let pass' = c.args.target_pass.now in
+    let told = λ (j : Journal). ResumesTold {Y = Done} work pass pass' v j in
+    let entries = λ (j : Journal) (_ : Unit {0}). Then of_work (TestsEntries (is_done j.phase) v work) (λ _. told j) in
+    let folders = λ (j : Journal). Then own (TestsApart j.source j.target work) (entries j) in
+    let why = c.in_err-journal.field-0.0 in
+    let p = err_from_is_err_and c.from_residual.result c.from_residual.ensures.1 in
+    refused_as (λ answer. Unless answer (Resumes work pass pass' v answer)) c.from_residual.result p.0 (of_journal why) p.1 p.2
+    (journal_refused (journal_bytes v work) folders why (c.in_err-journal.ensures.answer v seen))
+
+pub returns-in_err-test_apart-clause-cause : goal.returns-in_err-test_apart-clause-cause
+returns-in_err-test_apart-clause-cause g c v seen =
+    let work = c.args.work.now in
+    let pass = c.args.source_pass.now in
+    let pass' = c.args.target_pass.now in
+    let told = λ (j : Journal). ResumesTold {Y = Done} work pass pass' v j in
+    let entries = λ (j : Journal) (_ : Unit {0}). Then of_work (TestsEntries (is_done j.phase) v work) (λ _. told j) in
+    let folders = λ (j : Journal). Then own (TestsApart j.source j.target work) (entries j) in
+    let read = c.in_ok-journal.journal in
+    let fault = c.in_err-test_apart.field-0.0 in
+    let p = err_from_is_err_and c.from_residual-in_err-test_apart.result c.from_residual-in_err-test_apart.ensures.1 in
+    refused_as (λ answer. Unless answer (Resumes work pass pass' v answer)) c.from_residual-in_err-test_apart.result p.0 fault p.1 p.2
+    (then_passes of_journal (ReadsAs (journal_bytes v work)) folders (Err fault) read (c.in_ok-journal.ensures.answer v seen)
+    (own_refused (TestsApart read.source read.target work) (entries read) fault c.in_err-test_apart.ensures.cause))
+
+pub returns-in_err-look_again-clause-cause : goal.returns-in_err-look_again-clause-cause
+returns-in_err-look_again-clause-cause g c v seen =
+    let work = c.args.work.now in
+    let pass = c.args.source_pass.now in
+    let pass' = c.args.target_pass.now in
+    let told = λ (j : Journal). ResumesTold {Y = Done} work pass pass' v j in
+    let entries = λ (j : Journal) (_ : Unit {0}). Then of_work (TestsEntries (is_done j.phase) v work) (λ _. told j) in
+    let folders = λ (j : Journal). Then own (TestsApart j.source j.target work) (entries j) in
+    let read = c.in_ok-journal.journal in
+    let why = c.in_err-look_again.field-0.0 in
+    let p = err_from_is_err_and c.from_residual-in_err-look_again.result c.from_residual-in_err-look_again.ensures.1 in
+    let looked = c.in_err-look_again.ensures.answer v (subst (λ t. IsSeen t v) (sym c.read.ensures.told) seen) in
+    refused_as (λ answer. Unless answer (Resumes work pass pass' v answer)) c.from_residual-in_err-look_again.result p.0 (of_work why) p.1 p.2
+    (then_passes of_journal (ReadsAs (journal_bytes v work)) folders (Err (of_work why)) read (c.in_ok-journal.ensures.answer v seen)
+    (own_passes (TestsApart read.source read.target work) (entries read) (Err (of_work why)) tt c.in_ok-test_apart.ensures.cause
+    (work_refused (TestsEntries (is_done read.phase) v work) (λ _. told read) why
+    (subst (λ old. Gives {T = Unit {0}} (TestsEntries old v work) (Err why)) c.is_done.ensures looked))))
+
+pub returns-clause-cause : goal.returns-clause-cause
+returns-clause-cause g c v seen =
+    let work = c.args.work.now in
+    let pass = c.args.source_pass.now in
+    let pass' = c.args.target_pass.now in
+    let told = λ (j : Journal). ResumesTold {Y = Done} work pass pass' v j in
+    let entries = λ (j : Journal) (_ : Unit {0}). Then of_work (TestsEntries (is_done j.phase) v work) (λ _. told j) in
+    let folders = λ (j : Journal). Then own (TestsApart j.source j.target work) (entries j) in
+    let read = c.in_ok-journal.journal in
+    let answer = c.resume_told.result in
+    let once = subst (λ t. IsSeen t v) (sym c.read.ensures.told) seen in
+    then_passes of_journal (ReadsAs (journal_bytes v work)) folders answer read (c.in_ok-journal.ensures.answer v seen)
+    (own_passes (TestsApart read.source read.target work) (entries read) answer tt c.in_ok-test_apart.ensures.cause
+    (then_passes of_work (TestsEntries (is_done read.phase) v work) (λ _. told read) answer tt
+    (subst (λ old. TestsEntries old v work (Ok tt)) c.is_done.ensures (c.in_ok-look_again.ensures.answer v once))
+    (c.resume_told.ensures.cause v (subst (λ t. IsSeen t v) (sym c.look_again.ensures.told) once))))
+
+pub returns-in_err-journal-clause-written : goal.returns-in_err-journal-clause-written
+returns-in_err-journal-clause-written g c v seen =
+    let told = g.F.Folder.told c.args.folder.now in
+    let left = g.R.Randoms.left c.args.random.now in
+    inl (nothing_written left told (g.F.Folder.told c.read.new.folder) (c.draws_compose.ensures.none left) c.read.ensures.told)
+
+pub returns-in_err-test_apart-clause-written : goal.returns-in_err-test_apart-clause-written
+returns-in_err-test_apart-clause-written g c v seen =
+    let told = g.F.Folder.told c.args.folder.now in
+    let left = g.R.Randoms.left c.args.random.now in
+    inl (nothing_written left told (g.F.Folder.told c.read.new.folder) (c.draws_compose.ensures.none left) c.read.ensures.told)
+
+pub returns-in_err-look_again-clause-written : goal.returns-in_err-look_again-clause-written
+returns-in_err-look_again-clause-written g c v seen =
+    let told = g.F.Folder.told c.args.folder.now in
+    let left = g.R.Randoms.left c.args.random.now in
+    inl (nothing_written left told (g.F.Folder.told c.look_again.new.folder) (c.draws_compose.ensures.none left) (c.look_again.ensures.told ∙ c.read.ensures.told))
+
+pub returns-clause-written : goal.returns-clause-written
+returns-clause-written g c v seen =
+    let told = g.F.Folder.told c.args.folder.now in
+    let left = g.R.Randoms.left c.args.random.now in
+    let after = g.F.Folder.told c.resume_told.new.folder in
+    let left2 = g.R.Randoms.left c.resume_told.new.random in
+    let read = c.in_ok-journal.journal in
+    let pass = c.args.source_pass.now in
+    let pass' = c.args.target_pass.now in
+    let same = c.look_again.ensures.told ∙ c.read.ensures.told in
+    told_of c.resume_told.result c.args.work.now pass pass' left left2 told after v read c.in_ok-journal.ensures.journal (journal_stands v c.args.work.now read (c.in_ok-journal.ensures.answer v seen))
+    (subst (λ t. MayWriteTree c.resume_told.result read.source read.target pass pass' left left2 t after) same (c.resume_told.ensures.written v (subst (λ t. IsSeen t v) (sym same) seen)))

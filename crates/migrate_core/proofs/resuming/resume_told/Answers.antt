@@ -1,4 +1,4 @@
-use Rattle.std.proofs.Common.{◌≡◌, ◌∙◌, sym, subst, subst₂}
+use Rattle.std.proofs.Common.{◌≡◌, ◌∙◌, sym, subst, subst₂, Err, inl}
 use Rattle.folder_spec.specs.Region.{apart_from_both}
 use Rattle.folder_spec.specs.Seen.{IsSeen, seen}
 use Rattle.migrate_core.specs.Leading.{Guards, progress_of}
@@ -9,6 +9,13 @@ use Rattle.migrate_core.proofs.Planned.{seen_of}
 use Rattle.migrate_core.proofs.Settled.{resumes, settled_by, still_settled}
 use Rattle.migrate_core.proofs.Endings.{tree_moved}
 use Rattle.migrate_core.specs.Moved.{Placed}
+use Rattle.migrate_core.proofs.Causing.{Next, opens_pass, opens_refused, own_passes, own_refused, refused_as}
+use Rattle.vault_read.specs.Opened.{OpenedVault}
+use Rattle.migrate_core.specs.Causes.{Opens, ResumesTold, ResumesWith, TestsSource, Unless}
+use Rattle.migrate_core.specs.declared.placing.Done.{Done}
+use Rattle.std.proofs.lemmas.Result.{err_from_is_err_and}
+use Rattle.migrate_core.proofs.Writings.{nothing_written, tree_of}
+use Rattle.migrate_core.specs.Written.{MayWrite}
 use Rattle.migrate_core.proofs.resuming.resume_told.Goals as goal
 
 pub returns-in_err-test_source-clause-guard : goal.returns-in_err-test_source-clause-guard
@@ -77,3 +84,73 @@ returns-clause-moved g c =
     (g.F.Folder.told c.resume_with.new.folder) c.resume_with.result loads.source loads.target (λ v is. loads.opens_source v (subst (λ t. IsSeen t v) (sym c.test_source.ensures.told) is))
     (λ v is. loads.opens_target v (subst (λ t. IsSeen t v) (sym c.test_source.ensures.told) is))
     (subst (λ t. Placed sides.source sides.target t c.resume_with.result) (c.load_both.ensures.told ∙ c.test_source.ensures.told) c.resume_with.ensures.placed) c.resume_with.ensures.moved
+
+pub returns-in_err-test_source-clause-cause : goal.returns-in_err-test_source-clause-cause
+returns-in_err-test_source-clause-cause g c v seen =
+    let work = c.args.work.now in
+    let journal = c.args.journal in
+    let pass = c.args.source_pass.now in
+    let pass' = c.args.target_pass.now in
+    let next : Next OpenedVault Done = λ source target. ResumesWith source target work journal v in
+    let opens = λ (_ : Unit {0}). Opens v journal.source journal.target pass pass' next in
+    let tests = TestsSource journal.phase work journal.source v in
+    let fault = c.in_err-test_source.field-0.0 in
+    let p = err_from_is_err_and c.from_residual.result c.from_residual.ensures.1 in
+    refused_as (λ answer. Unless answer (ResumesTold work pass pass' v journal answer)) c.from_residual.result p.0 fault p.1 p.2 (own_refused tests opens fault (c.in_err-test_source.ensures.cause v seen))
+
+pub returns-in_err-sides-clause-cause : goal.returns-in_err-sides-clause-cause
+returns-in_err-sides-clause-cause g c v seen =
+    let work = c.args.work.now in
+    let journal = c.args.journal in
+    let pass = c.args.source_pass.now in
+    let pass' = c.args.target_pass.now in
+    let next : Next OpenedVault Done = λ source target. ResumesWith source target work journal v in
+    let opens = λ (_ : Unit {0}). Opens v journal.source journal.target pass pass' next in
+    let tests = TestsSource journal.phase work journal.source v in
+    let fault = c.in_err-sides.field-0.0 in
+    let p = err_from_is_err_and c.from_residual-in_err-sides.result c.from_residual-in_err-sides.ensures.1 in
+    refused_as (λ answer. Unless answer (ResumesTold work pass pass' v journal answer)) c.from_residual-in_err-sides.result p.0 fault p.1 p.2
+    (own_passes tests opens (Err fault) tt (c.in_ok-test_source.ensures.cause v seen)
+    (opens_refused v journal.source journal.target pass pass' next fault (c.in_err-sides.ensures.cause v (subst (λ t. IsSeen t v) (sym c.test_source.ensures.told) seen))))
+
+pub returns-clause-cause : goal.returns-clause-cause
+returns-clause-cause g c v seen =
+    let work = c.args.work.now in
+    let journal = c.args.journal in
+    let pass = c.args.source_pass.now in
+    let pass' = c.args.target_pass.now in
+    let next : Next OpenedVault Done = λ source target. ResumesWith source target work journal v in
+    let opens = λ (_ : Unit {0}). Opens v journal.source journal.target pass pass' next in
+    let tests = TestsSource journal.phase work journal.source v in
+    let answer = c.resume_with.result in
+    let sides = c.in_ok-sides.sides in
+    let loads = c.in_ok-sides.ensures in
+    let once = subst (λ t. IsSeen t v) (sym c.test_source.ensures.told) seen in
+    own_passes tests opens answer tt (c.in_ok-test_source.ensures.cause v seen)
+    (opens_pass v journal.source journal.target pass pass' next answer sides.source sides.target loads.source loads.target (loads.opens_source v once) (loads.opens_target v once)
+    (c.resume_with.ensures.cause v (subst (λ t. IsSeen t v) (sym c.load_both.ensures.told) once)))
+
+pub returns-in_err-test_source-clause-written : goal.returns-in_err-test_source-clause-written
+returns-in_err-test_source-clause-written g c v seen =
+    let told = g.F.Folder.told c.args.folder.now in
+    let left = g.R.Randoms.left c.args.random.now in
+    inl (nothing_written left told (g.F.Folder.told c.test_source.new.folder) (c.draws_compose.ensures.none left) c.test_source.ensures.told)
+
+pub returns-in_err-sides-clause-written : goal.returns-in_err-sides-clause-written
+returns-in_err-sides-clause-written g c v seen =
+    let told = g.F.Folder.told c.args.folder.now in
+    let left = g.R.Randoms.left c.args.random.now in
+    inl (nothing_written left told (g.F.Folder.told c.load_both.new.folder) (c.draws_compose.ensures.none left) (c.load_both.ensures.told ∙ c.test_source.ensures.told))
+
+pub returns-clause-written : goal.returns-clause-written
+returns-clause-written g c v seen =
+    let told = g.F.Folder.told c.args.folder.now in
+    let left = g.R.Randoms.left c.args.random.now in
+    let after = g.F.Folder.told c.resume_with.new.folder in
+    let left2 = g.R.Randoms.left c.resume_with.new.random in
+    let sides = c.in_ok-sides.sides in
+    let loads = c.in_ok-sides.ensures in
+    let same = c.load_both.ensures.told ∙ c.test_source.ensures.told in
+    tree_of c.resume_with.result c.args.journal.source c.args.journal.target c.args.source_pass.now c.args.target_pass.now sides.source sides.target left left2 told after loads.source loads.target
+    (λ w is. loads.opens_source w (subst (λ t. IsSeen t w) (sym c.test_source.ensures.told) is)) (λ w is. loads.opens_target w (subst (λ t. IsSeen t w) (sym c.test_source.ensures.told) is))
+    (subst (λ t. MayWrite c.resume_with.result sides.source sides.target left left2 t after) same (c.resume_with.ensures.written v (subst (λ t. IsSeen t v) (sym same) seen)))

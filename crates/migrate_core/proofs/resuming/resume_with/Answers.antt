@@ -1,7 +1,7 @@
-use Rattle.std.proofs.Common.{◌≡◌, ◌∙◌, sym, subst}
+use Rattle.std.proofs.Common.{◌≡◌, ◌∙◌, sym, subst, Err, List, [], inl, inr, ◌∷◌}
 use Rattle.folder_spec.specs.View.{View}
 use Rattle.migrate_core.proofs.Endings.{if_ok_more, placed_of}
-use Rattle.migrate_core.specs.Moved.{lacking}
+use Rattle.migrate_core.specs.Moved.{lacking, done_of}
 use Rattle.std.proofs.lemmas.Result.{err_from_is_err_and}
 use Rattle.folder_spec.specs.Region.{apart_from_both}
 use Rattle.folder_spec.specs.Seen.{IsSeen}
@@ -11,6 +11,14 @@ use Rattle.migrate_core.specs.Moving.{MovesOnly}
 use Rattle.migrate_core.specs.Sides.{IsWalked}
 use Rattle.migrate_core.proofs.Leadings.{refused_nowhere}
 use Rattle.migrate_core.proofs.Movings.{moves_nowhere}
+use Rattle.migrate_core.proofs.Causing.{Next, items_pass, items_refused, refused_as, walks_pass, walks_refused}
+use Rattle.migrate_core.specs.Causes.{Moves, ResumesWith, TestsItems, Unless, StopsAt}
+use Rattle.work_folder.specs.Entering.{Empties}
+use Rattle.vault_spec.specs.Plan.{Planned}
+use Rattle.migrate_core.specs.declared.placing.Done.{Done}
+use Rattle.migrate_core.proofs.Writings.{by_texts, done_text, items_told, nothing_written}
+use Rattle.migrate_core.specs.Written.{WritesBy, journal_texts, lacked}
+use Rattle.move_journal.specs.Journal.{journal_text}
 use Rattle.migrate_core.proofs.resuming.resume_with.Goals as goal
 
 pub returns-in_err-plans-clause-guard : goal.returns-in_err-plans-clause-guard
@@ -65,3 +73,84 @@ returns-clause-placed g c =
     placed_of c.args.sides.now.source c.args.sides.now.target items there told c.place_rest.result c.in_ok-plans.ensures.source c.in_ok-plans.ensures.target
     (if_ok_more (λ done. (v : View) → IsSeen (g.F.Folder.told c.test_plans.new.folder) v → done.placed ≡ lacking there items) (λ done. (v : View) → IsSeen told v → done.placed ≡ lacking there items) c.place_rest.result
     (λ done is v seen. is v (subst (λ t. IsSeen t v) (sym (c.test_plans.ensures.told ∙ c.walk_both.ensures.told)) seen)) c.place_rest.ensures.placed)
+
+pub returns-in_err-plans-clause-cause : goal.returns-in_err-plans-clause-cause
+returns-in_err-plans-clause-cause g c v seen =
+    let from = c.args.sides.now.source in
+    let to = c.args.sides.now.target in
+    let work = c.args.work.now in
+    let journal = c.args.journal in
+    let next : Next (List Planned) Done = λ items there. TestsItems from to journal v items there (Moves (Empties v work) (StopsAt from v items)) in
+    let fault = c.in_err-plans.field-0.0 in
+    let p = err_from_is_err_and c.from_residual.result c.from_residual.ensures.1 in
+    refused_as (λ answer. Unless answer (ResumesWith from to work journal v answer)) c.from_residual.result p.0 fault p.1 p.2 (walks_refused from to v next fault (c.in_err-plans.ensures.cause v seen))
+
+pub returns-in_err-test_plans-clause-cause : goal.returns-in_err-test_plans-clause-cause
+returns-in_err-test_plans-clause-cause g c v seen =
+    let from = c.args.sides.now.source in
+    let to = c.args.sides.now.target in
+    let work = c.args.work.now in
+    let journal = c.args.journal in
+    let next : Next (List Planned) Done = λ items there. TestsItems from to journal v items there (Moves (Empties v work) (StopsAt from v items)) in
+    let plans = c.in_ok-plans.plans in
+    let items = plans.source.items in
+    let there = plans.target.items in
+    let fault = c.in_err-test_plans.field-0.0 in
+    let p = err_from_is_err_and c.from_residual-in_err-test_plans.result c.from_residual-in_err-test_plans.ensures.1 in
+    refused_as (λ answer. Unless answer (ResumesWith from to work journal v answer)) c.from_residual-in_err-test_plans.result p.0 fault p.1 p.2
+    (walks_pass from to v next (Err fault) items there (c.in_ok-plans.ensures.passed_source v seen) (c.in_ok-plans.ensures.passed_target v seen)
+    (items_refused from to journal v items there (Moves (Empties v work) (StopsAt from v items)) fault (c.in_err-test_plans.ensures.cause v (subst (λ t. IsSeen t v) (sym c.walk_both.ensures.told) seen))))
+
+pub returns-clause-cause : goal.returns-clause-cause
+returns-clause-cause g c v seen =
+    let from = c.args.sides.now.source in
+    let to = c.args.sides.now.target in
+    let work = c.args.work.now in
+    let journal = c.args.journal in
+    let next : Next (List Planned) Done = λ items there. TestsItems from to journal v items there (Moves (Empties v work) (StopsAt from v items)) in
+    let plans = c.in_ok-plans.plans in
+    let items = plans.source.items in
+    let there = plans.target.items in
+    let answer = c.place_rest.result in
+    let once = subst (λ t. IsSeen t v) (sym c.walk_both.ensures.told) seen in
+    walks_pass from to v next answer items there (c.in_ok-plans.ensures.passed_source v seen) (c.in_ok-plans.ensures.passed_target v seen)
+    (items_pass from to journal v items there (Moves (Empties v work) (StopsAt from v items)) answer (c.in_ok-test_plans.ensures.cause v once)
+    (c.place_rest.ensures.cause v (subst (λ t. IsSeen t v) (sym c.test_plans.ensures.told) once)))
+
+pub returns-in_err-plans-clause-written : goal.returns-in_err-plans-clause-written
+returns-in_err-plans-clause-written g c v seen =
+    let told = g.F.Folder.told c.args.folder.now in
+    let left = g.R.Randoms.left c.args.random.now in
+    inl (nothing_written left told (g.F.Folder.told c.walk_both.new.folder) (c.draws_compose.ensures.none left) c.walk_both.ensures.told)
+
+pub returns-in_err-test_plans-clause-written : goal.returns-in_err-test_plans-clause-written
+returns-in_err-test_plans-clause-written g c v seen =
+    let told = g.F.Folder.told c.args.folder.now in
+    let left = g.R.Randoms.left c.args.random.now in
+    inl (nothing_written left told (g.F.Folder.told c.test_plans.new.folder) (c.draws_compose.ensures.none left) (c.test_plans.ensures.told ∙ c.walk_both.ensures.told))
+
+pub returns-clause-written : goal.returns-clause-written
+returns-clause-written g c v seen =
+    let told = g.F.Folder.told c.args.folder.now in
+    let left = g.R.Randoms.left c.args.random.now in
+    let from = c.args.sides.now.source in
+    let to = c.args.sides.now.target in
+    let plans = c.in_ok-plans.plans in
+    let journal = c.args.journal in
+    let items = plans.source.items in
+    let there = plans.target.items in
+    let after = g.F.Folder.told c.place_rest.new.folder in
+    let left2 = g.R.Randoms.left c.place_rest.new.random in
+    let same = c.test_plans.ensures.told ∙ c.walk_both.ensures.told in
+    let once = subst (λ t. IsSeen t v) (sym c.walk_both.ensures.told) seen in
+    let told_items = items_told from to journal v items there (c.in_ok-test_plans.ensures.cause v once) in
+    let text = done_text journal from.root to.root items c.requires.source_named c.requires.target_named told_items in
+    inr (record {
+      items = items;
+      there = there;
+      items_are = c.in_ok-plans.ensures.source.plan;
+      there_are = c.in_ok-plans.ensures.target.plan;
+      writes = by_texts from to (lacked there items) (journal_text (done_of journal) ∷ []) (journal_texts from.root to.root items) left left2 told after text c.place_rest.result
+          (subst (λ t. WritesBy c.place_rest.result from to (lacked there items) (journal_text (done_of journal) ∷ []) left left2 t after) same
+          (c.place_rest.ensures.written v (subst (λ t. IsSeen t v) (sym same) seen)));
+    })

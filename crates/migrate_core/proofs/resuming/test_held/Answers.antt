@@ -1,3 +1,12 @@
+use Rattle.vault_spec.specs.Vault.{format_of}
+use Rattle.migrate_core.specs.Faults.{of_match}
+use Rattle.migrate_core.proofs.Causing.{Passed, match_refused, none_differs, own_passes, own_refused, refused_as, then_passes}
+use Rattle.migrate_core.specs.Causes.{Answer, Compares, TestsHeld, TestsMatch, Then, Unless, own}
+use Rattle.tree_match.specs.declared.answer.Match.{Match}
+use Rattle.std.proofs.lemmas.Result.{err_from_is_err_and}
+use Rattle.tree_match.specs.Matching.{matched}
+use Rattle.std.proofs.Common.{Err, Ok, ap, inr, refl, subst, sym}
+use Rattle.migrate_core.specs.declared.fault.MoveFault.TheVariants.{Differ}
 use Rattle.migrate_core.proofs.resuming.test_held.Goals as goal
 
 pub holds_all-requires-clause-a : goal.holds_all-requires-clause-a
@@ -5,3 +14,43 @@ holds_all-requires-clause-a g c = λ v seen. record { ordered = c.requires.targe
 
 pub holds_all-requires-clause-b : goal.holds_all-requires-clause-b
 holds_all-requires-clause-b g c = λ v seen. record { ordered = c.requires.source.ordered v seen; files = c.requires.source.files v seen }
+
+pub returns-in_err-holds_all-clause-cause : goal.returns-in_err-holds_all-clause-cause
+returns-in_err-holds_all-clause-cause g c v seen =
+    let from = c.args.sides.now.source in
+    let to = c.args.sides.now.target in
+    let why = c.in_err-holds_all.field-0.0 in
+    let held = λ (m : Match). Then own (TestsHeld m) (λ _. Passed) in
+    let p = err_from_is_err_and c.from_residual.result c.from_residual.ensures.1 in
+    refused_as (λ answer. Unless answer (TestsMatch to c.args.plans.now.target.items from c.args.plans.now.source.items v Passed answer)) c.from_residual.result p.0 (of_match why) p.1 p.2
+    (match_refused (matched (format_of to.vault).content c.args.plans.now.target.items (format_of from.vault).content c.args.plans.now.source.items v) held why (c.in_err-holds_all.ensures.answers v seen))
+
+pub returns-in-Same : goal.returns-in-Same
+returns-in-Same g c =
+    let from = c.args.sides.now.source in
+    let to = c.args.sides.now.target in
+    let items = c.args.plans.now.target.items in
+    let others = c.args.plans.now.source.items in
+    let m = c.in_ok-holds_all.field-0 in
+    let held : Match → Answer (Unit {0}) → Type 0 = λ m. Then own (TestsHeld m) (λ _. Passed) in
+    record {
+      told = c.in_ok-holds_all.ensures.told;
+      grows = c.in_ok-holds_all.ensures.grows;
+      blamed = tt;
+      cause = λ v seen. then_passes of_match (Compares to items from others v) held (Ok tt) m (c.in_ok-holds_all.ensures.answers v seen)
+          (own_passes (TestsHeld m) (λ _. Passed) (Ok tt) tt (inr (inr (none_differs m c.in-Same.is))) (inr (inr refl)));
+    }
+
+pub returns-clause-cause : goal.returns-clause-cause
+returns-clause-cause g c v seen =
+    let from = c.args.sides.now.source in
+    let to = c.args.sides.now.target in
+    let items = c.args.plans.now.target.items in
+    let others = c.args.plans.now.source.items in
+    let m = c.in_ok-holds_all.field-0 in
+    let held : Match → Answer (Unit {0}) → Type 0 = λ m. Then own (TestsHeld m) (λ _. Passed) in
+    let path = c.in-Differs.path in
+    let place = c.where_of.result in
+    then_passes of_match (Compares to items from others v) held (Err (Differ path place)) m (c.in_ok-holds_all.ensures.answers v seen)
+    (own_refused (TestsHeld m) (λ _. Passed) (Differ path place)
+    (inr (inr (subst (λ x. TestsHeld x (Err (Differ path place))) (sym c.in-Differs.is) (ap (λ w. Err (Differ path w)) c.where_of.ensures)))))

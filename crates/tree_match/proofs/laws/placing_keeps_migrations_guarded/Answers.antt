@@ -1,4 +1,4 @@
-use Rattle.tree_match.proofs.Placing.{one_stays, next_may_follow, each_stays, last_may_follow, all_are_placed}
+use Rattle.tree_match.proofs.Placing.{one_stays, next_may_follow, each_stays, last_may_follow, all_are_placed, opens_on}
 use Rattle.tree_match.proofs.laws.placing_keeps_migrations_guarded.Goals as goal
 
 pub returns : goal.returns
@@ -8,4 +8,5 @@ returns c = record {
   each = each_stays c.roots_show_their_own.ensures.alike c.images_show_views.ensures.one;
   last = last_may_follow c.roots_show_their_own.ensures.alike c.images_show_views.ensures.one;
   placed = all_are_placed c.roots_show_their_own.ensures.alike c.images_show_views.ensures.one;
+  kept = λ g items a b path at placed. opens_on c.roots_show_their_own.ensures.alike c.images_show_views.ensures.one g items a b at placed path;
 }

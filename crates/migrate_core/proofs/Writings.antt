@@ -1,0 +1,564 @@
+-- What is written, one item after the other.
+use Rattle.std.proofs.Common.{◌≡◌, ◌+◌, inl, inr, ◌≤◌, ◌<◌, ℕ, zero, suc, nat_lt, Bool, true, false, not, cond, List, [], ◌∷◌, ◌++◌, length, take, drop, get_or, Contains, Option, Some, None, IsTrue, Result, Ok, Err, OnOk, refl, sym, ap, ◌∙◌, subst, subst₂, arith, append_assoc, append-nil}
+use Rattle.std.specs.List.{concat}
+use Rattle.std.proofs.lemmas.Bool.{ltb-true, ltb-false}
+use Rattle.std.proofs.lemmas.List.Elements.{filter-append}
+use Rattle.std.proofs.lemmas.List.{take_more, take-append-drop}
+use Rattle.folder_spec.proofs.Moments.{went_nowhere, went_on, went_more, went_to}
+use Rattle.folder_spec.proofs.Tellings.{from_to_more, from_to_on, from_to_same}
+use Rattle.folder_spec.specs.Event.{Event, Told, FromTo}
+use Rattle.folder_spec.specs.Moments.{Went}
+use Rattle.folder_spec.specs.Seen.{IsSeen, seen}
+use Rattle.folder_spec.specs.State.{Node, State, BeginsWith}
+use Rattle.folder_spec.specs.View.{Found, View}
+use Rattle.folder_spec.proofs.Moments.{went_by_call}
+use Rattle.folder_spec.proofs.Paths.{base_or_child}
+use Rattle.folder_spec.specs.Event.{Changes, Settle, Steps, changed}
+use Rattle.folder_spec.specs.Path.{Path}
+use Rattle.folder_spec.specs.Region.{IsAsBefore, SparesOld, apart_from}
+use Rattle.folder_spec.specs.Seen.{under}
+use Rattle.folder_spec.specs.Written.{HoldFronts}
+use Rattle.folder_spec.specs.declared.FolderFault.{FolderFault}
+use Rattle.content_writing.specs.Content.{Coming, Ending, content_limit, coming_read, held_before}
+use Rattle.content_writing.specs.declared.fault.PutFault.{PutFault}
+use Rattle.content_writing.specs.declared.fault.PutFault.TheVariants.{Taken}
+use Rattle.move_journal.specs.Journal.{IsJournal, journal_text}
+use Rattle.move_journal.specs.Writing.{IsWriting, elsewhere}
+use Rattle.move_journal.specs.Writing as journal
+use Rattle.move_journal.specs.declared.journal.Journal.{Journal}
+use Rattle.plain_tree.specs.Names as plain
+use Rattle.plain_tree.specs.declared.NodeKind.TheVariants.{Dir, File}
+use Rattle.port_model.specs.Draws.{ByteStream, Draws}
+use Rattle.tree_match.specs.Comparing.{bytes_found, content_at}
+use Rattle.vault_read.specs.Contents.{limited_reading}
+use Rattle.vault_read.specs.Opened.{OpenedVault}
+use Rattle.vault_spec.specs.Find.{Refusal}
+use Rattle.vault_spec.specs.Findings.{IsFileAt}
+use Rattle.vault_spec.specs.Format.{Directory}
+use Rattle.vault_spec.specs.Find.{enter}
+use Rattle.vault_spec.specs.Making.{NewDirectory, NewFile, draws}
+use Rattle.vault_spec.specs.Plan.{Planned}
+use Rattle.vault_spec.specs.Vault.{IsVault, format_of}
+use Rattle.chunk_files.specs.Keys.{Keys}
+use Rattle.vault_write.proofs.Runs.{seen_as_before}
+use Rattle.vault_write.specs.Calls.{MakesAt, MakesOne, New}
+use Rattle.vault_write.specs.Making.{Placing, StagesOrPlaces, format, making_in, new_item, path_of}
+use Rattle.vault_write.specs.Placing.{IsMaking, making_at}
+use Rattle.work_folder.specs.Changing.{ChangesAt, ChangesOnly, IsChangingAt}
+use Rattle.vault_write.specs.Making.{is_apart}
+use Rattle.migrate_core.proofs.Movings.{AreSound, source_apart, source_beside}
+use Rattle.migrate_core.proofs.Placings.{no_answer}
+use Rattle.migrate_core.proofs.Planned.{FilesFit, reader_of}
+use Rattle.migrate_core.specs.Moved.{StandsIn, done_of, is_there, opened_in}
+use Rattle.migrate_core.proofs.Causing.{Passed}
+use Rattle.migrate_core.specs.Causes.{TestsItems, Unless}
+use Rattle.folder_spec.specs.Region.{apart_from_both}
+use Rattle.vault_walk.specs.Survey.{IsOrdered}
+use Rattle.move_journal.specs.declared.journal.Phase.TheVariants.{Done}
+use Rattle.migrate_core.specs.Sides.{AreSeparate, AreTold, IsItemOf, IsWalked, new_journal}
+use Rattle.migrate_core.specs.Written.{AreCopies, AreFull, AreFullButLast, HoldsOnly, IsCopyOf, IsFileOf, IsFull, IsOneOf, MadeItem, MayWrite, MayWriteTold, MayWriteTree, Writes, WritesAll, WritesBy, WritesFirst, WritesLacked, WritesNothing, WritesOnly, WritesTree, journal_texts, lacked, slices}
+
+-- ---- members
+
+pub in_first : {X : Type 0} (xs ys : List X) (x : X) → Contains xs x → Contains (xs ++ ys) x
+in_first [] ys x c = absurd (omega (arith, c.1))
+in_first (z ∷ zs) ys x (zero, lt, is) = (zero, omega arith, is)
+in_first (z ∷ zs) ys x (suc k, lt, is) = let c = in_first zs ys x (k, omega (arith, lt), is) in (suc c.0, omega (arith, c.1), c.2)
+
+pub in_second : {X : Type 0} (xs ys : List X) (x : X) → Contains ys x → Contains (xs ++ ys) x
+in_second [] ys x c = c
+in_second (z ∷ zs) ys x c = let d = in_second zs ys x c in (suc d.0, omega (arith, d.1), d.2)
+
+-- ---- files
+
+pub holds_same : (P : List ℕ → Type 0) (s : State) → HoldsOnly P s s
+holds_same P s = record { nodes = λ n old. refl; made = omega arith; fronts = λ n new made. absurd (omega (arith, new, made)) }
+
+holds_on : (P Q R : List ℕ → Type 0) → ((file : List ℕ) → P file → R file) → ((file : List ℕ) → Q file → R file) → (s0 s1 s : State) → HoldsOnly P s0 s1 → HoldsOnly Q s1 s → HoldsOnly R s0 s
+holds_on P Q R one other s0 s1 s p q = record {
+  nodes = λ n old. q.nodes n (omega (arith, old, p.made)) ∙ p.nodes n old;
+  made = omega (arith, p.made, q.made);
+  fronts = λ n new made. by n new made (nat_lt n s1.made) refl;
+}
+  where
+    by : (n : ℕ) → s0.made ≤ n → n < s.made → (b : Bool) → nat_lt n s1.made ≡ b → (file : List ℕ) × R file × BeginsWith file (s.nodes n).now
+    by n new made true is =
+        let lt : n < s1.made = ltb-true n s1.made is in
+        let f = p.fronts n new lt in
+        (f.0, one f.0 f.1, subst (λ (node : Node). BeginsWith f.0 node.now) (sym (q.nodes n lt)) f.2)
+    by n new made false is = let f = q.fronts n (ltb-false n s1.made is) made in (f.0, other f.0 f.1, f.2)
+
+holds_more : (P R : List ℕ → Type 0) → ((file : List ℕ) → P file → R file) → (s0 s : State) → HoldsOnly P s0 s → HoldsOnly R s0 s
+holds_more P R one s0 s p = record { nodes = p.nodes; made = p.made; fronts = λ n new made. let f = p.fronts n new made in (f.0, one f.0 f.1, f.2) }
+
+abbrev NoMore : State → Event → Type 0
+NoMore s e = Unit {0}
+
+pub only_nowhere : (P : List ℕ → Type 0) (t u : Option Told) → u ≡ t → WritesOnly P t u
+only_nowhere P t u is = from_to_same (λ a b. Went (HoldsOnly P a.state) NoMore a b) t u is (λ a. went_nowhere (HoldsOnly P a.state) NoMore a (holds_same P a.state))
+
+pub only_more : (P R : List ℕ → Type 0) → ((file : List ℕ) → P file → R file) → (t u : Option Told) → WritesOnly P t u → WritesOnly R t u
+only_more P R one t u writes =
+    from_to_more (λ a b. Went (HoldsOnly P a.state) NoMore a b) (λ a b. Went (HoldsOnly R a.state) NoMore a b) t u
+    (λ a b is went. went_more (HoldsOnly P a.state) (HoldsOnly R a.state) NoMore NoMore a b (λ s h. holds_more P R one a.state s h) (λ s e h. h) went) writes
+
+pub only_on : (P Q R : List ℕ → Type 0) → ((file : List ℕ) → P file → R file) → ((file : List ℕ) → Q file → R file) → (t u w : Option Told) → WritesOnly P t u → WritesOnly Q u w → WritesOnly R t w
+only_on P Q R one other t u w first later =
+    from_to_on (λ a b. Went (HoldsOnly P a.state) NoMore a b) (λ a b. Went (HoldsOnly Q a.state) NoMore a b) (λ a b. Went (HoldsOnly R a.state) NoMore a b) t u w
+    (λ a b c p q. went_on (HoldsOnly R a.state) NoMore a b c
+    (went_more (HoldsOnly P a.state) (HoldsOnly R a.state) NoMore NoMore a b (λ s h. holds_more P R one a.state s h) (λ s e h. h) p)
+    (went_more (HoldsOnly Q b.state) (HoldsOnly R a.state) NoMore NoMore b c (λ s h. holds_on P Q R one other a.state b.state s (went_to (HoldsOnly P a.state) NoMore a b p) h) (λ s e h. h) q)) first later
+
+-- ---- items
+
+copies_on : (from : OpenedVault) (v : View) (items more : List Planned) (made others : List MadeItem) → AreCopies from v items made → AreCopies from v more others → AreCopies from v (items ++ more) (made ++ others)
+copies_on from v [] more [] others one other = other
+copies_on from v (item ∷ items) more (x ∷ made) others one other = (one.0, copies_on from v items more made others one.1 other)
+copies_on from v [] more (x ∷ made) others one other = absurd one
+copies_on from v (item ∷ items) more [] others one other = absurd one
+
+slices_on : (made others : List MadeItem) → slices (made ++ others) ≡ slices made ++ slices others
+slices_on [] others = refl
+slices_on (x ∷ made) others = ap (λ (ys : List ℕ). x.drawn ++ ys) (slices_on made others) ∙ sym (append_assoc x.drawn (slices made) (slices others))
+
+full_on : (to : OpenedVault) (made others : List MadeItem) → AreFull to made → AreFull to others → AreFull to (made ++ others)
+full_on to [] others one other = other
+full_on to (x ∷ made) others one other = (one.0, full_on to made others one.1 other)
+
+full_before : (to : OpenedVault) (made others : List MadeItem) → AreFull to made → AreFullButLast to others → AreFullButLast to (made ++ others)
+full_before to [] others one other = other
+full_before to (x ∷ []) [] one other = omega (arith, one.0)
+full_before to (x ∷ []) (y ∷ others) one other = (one.0, other)
+full_before to (x ∷ y ∷ made) others one other = (one.0, full_before to (y ∷ made) others one.1 other)
+
+pub all_full : (to : OpenedVault) (made : List MadeItem) → AreFull to made → AreFullButLast to made
+all_full to [] full = tt
+all_full to (x ∷ []) full = omega (arith, full.0)
+all_full to (x ∷ y ∷ made) full = (full.0, all_full to (y ∷ made) full.1)
+
+-- what stands where these items are is as it was
+abbrev pub Kept : List Planned → Option Told → Option Told → Type 0
+Kept items = FromTo (λ a b. (item : Planned) → Contains items item → seen b.state item.at ≡ seen a.state item.at)
+
+copies_as : (from : OpenedVault) (v w : View) (items : List Planned) (made : List MadeItem) → ((item : Planned) → Contains items item → w item.at ≡ v item.at) → AreCopies from w items made → AreCopies from v items made
+copies_as from v w [] [] same copies = tt
+copies_as from v w (item ∷ items) (x ∷ made) same copies = (
+  record {
+    path = copies.0.path;
+    directory = copies.0.directory;
+    file = λ is. copies.0.file is ∙ ap (λ (found : Found). NewFile (concat (limited_reading (format_of from.vault).content (bytes_found found)).chunks)) (same item (zero, omega arith, refl));
+  },
+  copies_as from v w items made (λ other among. same other (suc among.0, omega (arith, among.1), among.2)) copies.1,
+)
+copies_as from v w [] (x ∷ made) same copies = absurd copies
+copies_as from v w (item ∷ items) [] same copies = absurd copies
+
+copies_before : (from : OpenedVault) (items : List Planned) (made : List MadeItem) (t u : Option Told) → Kept items t u → ((w : View) → IsSeen u w → AreCopies from w items made)
+    → (v : View) → IsSeen t v → AreCopies from v items made
+copies_before from items made (Some a) (Some b) kept later v is = copies_as from v (seen b.state) items made (λ item among. kept item among ∙ sym (ap (λ (w : View). w item.at) is)) (later (seen b.state) refl)
+copies_before from items made None u kept later v is = absurd is
+copies_before from items made (Some a) None kept later v is = absurd kept
+
+known_before : (P : Type 0) (R : Told → Told → Type 0) (t u : Option Told) → FromTo R t u → ((w : View) → IsSeen u w → P) → (v : View) → IsSeen t v → P
+known_before P R (Some a) (Some b) told later v is = later (seen b.state) refl
+known_before P R None u told later v is = absurd is
+known_before P R (Some a) None told later v is = absurd told
+
+-- ---- one part after another
+
+abbrev pub Compose : Type 0
+Compose = (first second third : Option ByteStream) (xs ys : List ℕ) → Draws first second xs → Draws second third ys → Draws first third (xs ++ ys)
+
+module _ (compose : Compose) (from to : OpenedVault) (items more : List Planned) (texts others : List (List ℕ)) (s s1 s2 : Option ByteStream) (t u w : Option Told) where
+  writes_on : (m n : List MadeItem) → Kept more t u → Writes from to items m texts s s1 t u → Writes from to more n others s1 s2 u w → Writes from to (items ++ more) (m ++ n) (texts ++ others) s s2 t w
+  writes_on m n kept one other = record {
+    drawn = subst (Draws s s2) (sym (slices_on m n)) (compose s s1 s2 (slices m) (slices n) one.drawn other.drawn);
+    copies = λ v is. copies_on from v items more m n (one.copies v is) (copies_before from more n t u kept other.copies v is);
+    files = only_on (IsOneOf to m texts) (IsOneOf to n others) (IsOneOf to (m ++ n) (texts ++ others))
+        (λ file h. elim h [ inl text ↦ inl (in_first texts others file text) | inr (x, among, is) ↦ inr (x, in_first m n x among, is) ])
+        (λ file h. elim h [ inl text ↦ inl (in_second texts others file text) | inr (x, among, is) ↦ inr (x, in_second m n x among, is) ]) t u w one.files other.files;
+  }
+
+  pub all_on : Kept more t u → WritesAll from to items texts s s1 t u → WritesAll from to more others s1 s2 u w → WritesAll from to (items ++ more) (texts ++ others) s s2 t w
+  all_on kept one other = record {
+    made = one.made ++ other.made;
+    writes = writes_on one.made other.made kept one.writes other.writes;
+    full = λ v is. full_on to one.made other.made (one.full v is) (known_before (AreFull to other.made) _ t u one.writes.files other.full v is);
+  }
+
+module _ (compose : Compose) (from to : OpenedVault) (items more : List Planned) (texts others : List (List ℕ)) (s s1 s2 : Option ByteStream) (t u w : Option Told) where
+  pub first_on : Kept more t u → WritesAll from to items texts s s1 t u → WritesFirst from to more others s1 s2 u w → WritesFirst from to (items ++ more) (texts ++ others) s s2 t w
+  first_on kept one other = record {
+    made = one.made ++ other.made;
+    first = items ++ other.first;
+    rest = other.rest;
+    are = ap (λ (xs : List Planned). items ++ xs) other.are ∙ sym (append_assoc items other.first other.rest);
+    writes = writes_on compose from to items other.first texts others s s1 s2 t u w one.made other.made
+        (from_to_more _ _ t u (λ a b is kept item among. kept item (subst (λ (xs : List Planned). Contains xs item) (sym other.are) (in_first other.first other.rest item among))) kept) one.writes other.writes;
+    full = λ v is. full_before to one.made other.made (one.full v is) (known_before (AreFullButLast to other.made) _ t u one.writes.files other.full v is);
+  }
+
+module _ (from to : OpenedVault) (items : List Planned) (texts : List (List ℕ)) (s s' : Option ByteStream) (t t' : Option Told) where
+  pub first_of_all : WritesAll from to items texts s s' t t' → WritesFirst from to items texts s s' t t'
+  first_of_all all = record { made = all.made; first = items; rest = []; are = sym (append-nil items); writes = all.writes; full = λ v is. all_full to all.made (all.full v is) }
+
+  pub first_of_more : (more : List Planned) → WritesFirst from to items texts s s' t t' → WritesFirst from to (items ++ more) texts s s' t t'
+  first_of_more more some = record {
+    made = some.made;
+    first = some.first;
+    rest = some.rest ++ more;
+    are = ap (λ (xs : List Planned). xs ++ more) some.are ∙ append_assoc some.first some.rest more;
+    writes = some.writes;
+    full = some.full;
+  }
+
+  -- no item, and only a text
+  pub texts_alone : Draws s s' [] → WritesOnly (λ file. Contains texts file) t t' → WritesAll from to [] texts s s' t t'
+  texts_alone undrawn files = record {
+    made = [];
+    writes = record { drawn = undrawn; copies = λ v is. tt; files = only_more (λ file. Contains texts file) (IsOneOf to [] texts) (λ file text. inl text) t t' files };
+    full = λ v is. tt;
+  }
+
+-- ---- the items that are lacked
+
+pub lacked_more : (there xs ys : List Planned) → lacked there (xs ++ ys) ≡ lacked there xs ++ lacked there ys
+lacked_more there xs ys = filter-append (λ (item : Planned). not (is_there there item)) xs ys
+
+-- ---- one item
+
+files_among : (p : Placing) (drawn : List ℕ) (u : View) (file : List ℕ) → Contains (new_item p drawn u).files file → IsFileOf p.vault (record { path = path_of p; item = p.item; drawn = drawn }) file
+files_among p drawn u file = by (enter (format p) u p.front)
+  where
+    by : (entered : Result Directory Refusal) → Contains (making_in p u drawn entered).files file → IsFileOf p.vault (record { path = path_of p; item = p.item; drawn = drawn }) file
+    by (Err refusal) among = absurd (omega (arith, among.1))
+    by (Ok dir) among = record { front = p.front; name = p.name; dir = dir; is = refl; among = among }
+
+making_writes : (p : Placing) (ending : Ending) (drawn : List ℕ) (s0 s : State) → IsMaking p ending (making_at p (new_item p drawn) s0) s0 s
+    → HoldsOnly (IsFileOf p.vault (record { path = path_of p; item = p.item; drawn = drawn })) s0 s
+making_writes p ending drawn s0 s making = record {
+  nodes = making.others.nodes;
+  made = making.others.made;
+  fronts = λ n new made. let f = making.fronts n new made in (f.file, files_among p drawn (under p.vault.root (seen s0)) f.file f.among, f.front);
+}
+
+-- what a call makes of one item
+pub record MakesItem (to : OpenedVault) (x : MadeItem) (t u : Option Told) (result : Result (Unit {0}) PutFault) : Type 0 where
+  pub files : WritesOnly (IsFileOf to x) t u
+  pub enough : length x.drawn ≤ draws (format_of to.vault) x.item
+  pub full : OnOk result ((v : View) → IsSeen t v → IsFull to x)
+
+pub item_made : (to : OpenedVault) (work : Path) (x : MadeItem) (ending : Ending) (t u : Option Told) (result : Result (Unit {0}) PutFault) → MakesAt New to work x.path x.item ending x.drawn t u result → MakesItem to x t u result
+item_made to work x ending t u result made = elim (base_or_child x.path) [
+  | inl root ↦
+      let none = made.root root in
+      record {
+        files = only_nowhere (IsFileOf to x) t u none.0;
+        enough = omega (arith, ap (λ (ys : List ℕ). length ys) none.1);
+        full = no_answer ((v : View) → IsSeen t v → IsFull to x) (Taken to.root) result none.2;
+      }
+  | inr named ↦
+      let p : Placing = record { vault = to; work = work; front = named.0; name = named.1; item = x.item } in
+      let one : MakesOne New p ending x.drawn t u result = made.named named.0 named.1 named.2 in
+      record {
+        files = from_to_more
+            (λ a b. Went (IsMaking p ending (making_at p (new_item p x.drawn) a.state) a.state) (λ s e. StagesOrPlaces work (making_at p (new_item p x.drawn) a.state) s e.call) a b)
+            (λ a b. Went (HoldsOnly (IsFileOf to x) a.state) NoMore a b) t u
+            (λ a b is went. went_more (IsMaking p ending (making_at p (new_item p x.drawn) a.state) a.state) (HoldsOnly (IsFileOf to x) a.state)
+            (λ s e. StagesOrPlaces work (making_at p (new_item p x.drawn) a.state) s e.call) NoMore a b
+            (λ s making. subst (λ path. HoldsOnly (IsFileOf to (record { path = path; item = x.item; drawn = x.drawn })) a.state s) (sym named.2) (making_writes p ending x.drawn a.state s making)) (λ s e h. tt) went) one.makes.moments;
+        enough = one.enough;
+        full = by result one;
+      }
+]
+  where
+    by : {p : Placing} → (result : Result (Unit {0}) PutFault) → MakesOne New p ending x.drawn t u result → OnOk result ((v : View) → IsSeen t v → length x.drawn ≡ draws (format p) p.item)
+    by (Ok value) one = λ v is. (one.answer v is).2
+    by (Err fault) one = tt
+
+-- it is the item of the source
+abbrev pub IsCopy : OpenedVault → Planned → Option Told → MadeItem → Type 0
+IsCopy from item t x = (v : View) → IsSeen t v → IsCopyOf from v item x
+
+one_slice : (x : MadeItem) → x.drawn ≡ slices (x ∷ [])
+one_slice x = sym (append-nil x.drawn)
+
+writes_one : (from to : OpenedVault) (item : Planned) (x : MadeItem) (s s' : Option ByteStream) (t u : Option Told) → Draws s s' x.drawn → IsCopy from item t x → WritesOnly (IsFileOf to x) t u
+    → Writes from to (item ∷ []) (x ∷ []) [] s s' t u
+writes_one from to item x s s' t u drawn copy files = record {
+  drawn = subst (Draws s s') (one_slice x) drawn;
+  copies = λ v is. (copy v is, tt);
+  files = only_more (IsFileOf to x) (IsOneOf to (x ∷ []) []) (λ file h. inr (x, (zero, omega arith, refl), h)) t u files;
+}
+
+pub one_written : (from to : OpenedVault) (item : Planned) (x : MadeItem) (s s' : Option ByteStream) (t u : Option Told) → Draws s s' x.drawn → IsCopy from item t x → MakesItem to x t u (Ok tt)
+    → WritesAll from to (item ∷ []) [] s s' t u
+one_written from to item x s s' t u drawn copy makes = record { made = x ∷ []; writes = writes_one from to item x s s' t u drawn copy makes.files; full = λ v is. (makes.full v is, tt) }
+
+pub one_begun : (from to : OpenedVault) (item : Planned) (x : MadeItem) (s s' : Option ByteStream) (t u : Option Told) (result : Result (Unit {0}) PutFault) → Draws s s' x.drawn → IsCopy from item t x → MakesItem to x t u result
+    → WritesFirst from to (item ∷ []) [] s s' t u
+one_begun from to item x s s' t u result drawn copy makes = record {
+  made = x ∷ [];
+  first = item ∷ [];
+  rest = [];
+  are = refl;
+  writes = writes_one from to item x s s' t u drawn copy makes.files;
+  full = λ v is. makes.enough;
+}
+
+pub directory_copy : (from : OpenedVault) (item : Planned) (t : Option Told) (path : plain.Path) (drawn : List ℕ) → path ≡ item.path → item.node ≡ Dir → IsCopy from item t (record { path = path; item = NewDirectory; drawn = drawn })
+directory_copy from item t path drawn at node v is = record { path = at; directory = λ dir. refl; file = λ file. absurd (other (sym node ∙ file)) }
+  where
+    other : Dir ≡ File → ⊥
+    other e = cc e
+
+some_coming : {c d : Coming} → Some c ≡ Some d → c ≡ d
+some_coming e = cc e
+
+-- the content that was written is what the source's file gives
+pub file_copy : FilesFit → (from : OpenedVault) (item : Planned) (t : Option Told) (path : plain.Path) (content drawn : List ℕ) (ending : Ending) → path ≡ item.path → item.node ≡ File → IsItemOf t from item
+    → ((a : Told) → t ≡ Some a → (c : Coming) → coming_read (reader_of from item) content_limit [] (seen a.state item.at) ≡ Some c → c ≡ record { bytes = content; ending = ending })
+    → IsCopy from item t (record { path = path; item = NewFile content; drawn = drawn })
+file_copy fits from item t path content drawn ending at node of told v is = record {
+  path = at;
+  directory = λ dir. absurd (other (sym node ∙ dir));
+  file = λ file. ap NewFile (by t of told is);
+}
+  where
+    other : File ≡ Dir → ⊥
+    other e = cc e
+
+    keys : Keys
+    keys = (format_of from.vault).content
+
+    by : (t : Option Told) → IsItemOf t from item
+        → ((a : Told) → t ≡ Some a → (c : Coming) → coming_read (reader_of from item) content_limit [] (seen a.state item.at) ≡ Some c → c ≡ record { bytes = content; ending = ending })
+        → IsSeen t v → content ≡ (content_at keys v item.at).bytes
+    by None of told is = absurd is
+    by (Some a) of told is =
+        let there : IsFileAt (seen a.state) item.at = of.walked.files (seen a.state) refl item of.among node in
+        let coming : held_before item.at [] (limited_reading keys there.0) ≡ record { bytes = content; ending = ending } =
+        told a refl (held_before item.at [] (limited_reading keys there.0)) (ap (coming_read (reader_of from item) content_limit []) there.1 ∙ fits keys item.at there.0) in
+        sym (ap (λ (c : Coming). c.bytes) coming) ∙ ap (λ bytes. concat (limited_reading keys bytes).chunks) (sym (ap bytes_found there.1))
+        ∙ ap (λ (found : Found). concat (limited_reading keys (bytes_found found)).chunks) (sym (ap (λ (w : View). w item.at) is))
+
+-- ---- what makes no file of an item
+
+writing_only : (text : List ℕ) (s0 s : State) → ((n : ℕ) → n < s0.made → s.nodes n ≡ s0.nodes n) → s0.made ≤ s.made → HoldFronts (text ∷ []) s0 s → HoldsOnly (λ file. Contains (text ∷ []) file) s0 s
+writing_only text s0 s nodes made fronts = record { nodes = nodes; made = made; fronts = λ n new inside. let f = fronts n new inside in (f.file, f.among, f.front) }
+
+pub journal_written : (work : Path) (j : Journal) (t u : Option Told) → journal.Writes work j t u → WritesOnly (λ file. Contains (journal_text j ∷ []) file) t u
+journal_written work j t u writes =
+    from_to_more (λ a b. Went (IsWriting work (journal_text j) a.state) (λ s e. SparesOld (elsewhere work) a.state s e.call) a b) (λ a b. Went (HoldsOnly (λ file. Contains (journal_text j ∷ []) file) a.state) NoMore a b) t u
+    (λ a b is went. went_more (IsWriting work (journal_text j) a.state) (HoldsOnly (λ file. Contains (journal_text j ∷ []) file) a.state) (λ s e. SparesOld (elsewhere work) a.state s e.call) NoMore a b
+    (λ s h. writing_only (journal_text j) a.state s h.journal.nodes h.journal.made h.fronts) (λ s e h. tt) went) writes
+
+none_made : (s0 s : State) → s.nodes ≡ s0.nodes → s.made ≡ s0.made → HoldsOnly (λ file. ⊥) s0 s
+none_made s0 s nodes made = record { nodes = λ n old. ap (λ (x : ℕ → Node). x n) nodes; made = omega (arith, made); fronts = λ n new inside. absurd (omega (arith, new, inside, made)) }
+
+pub changing_writes : (root : Path) (Comes Goes : Path → Type 0) (t u : Option Told) → ChangesAt root Comes Goes t u → WritesOnly (λ file. ⊥) t u
+changing_writes root Comes Goes t u changes =
+    from_to_more (λ a b. Went (IsChangingAt root Comes Goes a.state) (λ s e. ChangesOnly Comes Goes e.call × SparesOld (apart_from root) a.state s e.call) a b) (λ a b. Went (HoldsOnly (λ file. ⊥) a.state) NoMore a b) t u
+    (λ a b is went. went_more (IsChangingAt root Comes Goes a.state) (HoldsOnly (λ file. ⊥) a.state) (λ s e. ChangesOnly Comes Goes e.call × SparesOld (apart_from root) a.state s e.call) NoMore a b
+    (λ s h. none_made a.state s h.changing.nodes h.changing.made) (λ s e h. tt) went) changes
+
+pub settle_writes : (t u : Option Told) (result : Result (Unit {0}) FolderFault) → Changes Settle t u result → WritesOnly (λ file. ⊥) t u
+settle_writes t u result changes =
+    from_to_more (λ a b. Steps Settle a b result) (λ a b. Went (HoldsOnly (λ file. ⊥) a.state) NoMore a b) t u
+    (λ a b is steps. went_by_call (HoldsOnly (λ file. ⊥) a.state) NoMore Settle a b result (holds_same (λ file. ⊥) a.state)
+    (λ allowed. none_made a.state (changed a.state Settle) refl refl) (λ added allowed. holds_same (λ file. ⊥) a.state) (λ outcome. tt) steps) changes
+
+-- ---- before and after
+
+module _ (from to : OpenedVault) (items : List Planned) (texts : List (List ℕ)) (s s' : Option ByteStream) (t u w : Option Told) (known : (v : View) → IsSeen t v → IsSeen u v) (before : WritesOnly (λ file. ⊥) t u) where
+  writes_after : (first : List Planned) (made : List MadeItem) → Writes from to first made texts s s' u w → Writes from to first made texts s s' t w
+  writes_after first made h = record {
+    drawn = h.drawn;
+    copies = λ v is. h.copies v (known v is);
+    files = only_on (λ file. ⊥) (IsOneOf to made texts) (IsOneOf to made texts) (λ file none. absurd none) (λ file is. is) t u w before h.files;
+  }
+
+  pub by_after : {T E : Type 0} (result : Result T E) → WritesBy result from to items texts s s' u w → WritesBy result from to items texts s s' t w
+  by_after (Ok value) h = record { made = h.made; writes = writes_after items h.made h.writes; full = λ v is. h.full v (known v is) }
+  by_after (Err fault) h = record { made = h.made; first = h.first; rest = h.rest; are = h.are; writes = writes_after h.first h.made h.writes; full = λ v is. h.full v (known v is) }
+
+-- with further texts
+module _ (from to : OpenedVault) (items : List Planned) (texts more : List (List ℕ)) (s s' : Option ByteStream) (t t' : Option Told) (within : (text : List ℕ) → Contains texts text → Contains more text) where
+  writes_texts : (first : List Planned) (made : List MadeItem) → Writes from to first made texts s s' t t' → Writes from to first made more s s' t t'
+  writes_texts first made h = record {
+    drawn = h.drawn;
+    copies = h.copies;
+    files = only_more (IsOneOf to made texts) (IsOneOf to made more) (λ file is. elim is [ inl text ↦ inl (within file text) | inr item ↦ inr item ]) t t' h.files;
+  }
+
+  pub by_texts : {T E : Type 0} (result : Result T E) → WritesBy result from to items texts s s' t t' → WritesBy result from to items more s s' t t'
+  by_texts (Ok value) h = record { made = h.made; writes = writes_texts items h.made h.writes; full = h.full }
+  by_texts (Err fault) h = record { made = h.made; first = h.first; rest = h.rest; are = h.are; writes = writes_texts h.first h.made h.writes; full = h.full }
+
+-- a further text is written
+module _ (compose : Compose) (from to : OpenedVault) (items : List Planned) (texts others : List (List ℕ)) (s s1 s2 : Option ByteStream) (t u w : Option Told) where
+  pub texts_then : {T E : Type 0} (result : Result T E) → Kept items t u → Draws s s1 [] → WritesOnly (λ file. Contains texts file) t u → WritesBy result from to items others s1 s2 u w
+      → WritesBy result from to items (texts ++ others) s s2 t w
+  texts_then (Ok value) kept undrawn files h = all_on compose from to [] items texts others s s1 s2 t u w kept (texts_alone from to [] texts s s1 t u undrawn files) h
+  texts_then (Err fault) kept undrawn files h = first_on compose from to [] items texts others s s1 s2 t u w kept (texts_alone from to [] texts s s1 t u undrawn files) h
+
+  pub then_texts : WritesAll from to items texts s s1 t u → Draws s1 s2 [] → WritesOnly (λ file. Contains others file) u w → WritesAll from to items (texts ++ others) s s2 t w
+  then_texts all undrawn files = record {
+    made = all.made;
+    writes = record {
+      drawn = subst (Draws s s2) (append-nil (slices all.made)) (compose s s1 s2 (slices all.made) [] all.writes.drawn undrawn);
+      copies = all.writes.copies;
+      files = only_on (IsOneOf to all.made texts) (λ file. Contains others file) (IsOneOf to all.made (texts ++ others))
+          (λ file h. elim h [ inl text ↦ inl (in_first texts others file text) | inr item ↦ inr item ]) (λ file text. inl (in_second texts others file text)) t u w all.writes.files files;
+    };
+    full = all.full;
+  }
+
+pub nothing_yet : (from to : OpenedVault) (items : List Planned) (texts : List (List ℕ)) (s s' : Option ByteStream) (t u : Option Told) → Draws s s' [] → WritesOnly (λ file. ⊥) t u → WritesFirst from to items texts s s' t u
+nothing_yet from to items texts s s' t u undrawn files = record {
+  made = [];
+  first = [];
+  rest = items;
+  are = refl;
+  writes = record { drawn = undrawn; copies = λ v is. tt; files = only_more (λ file. ⊥) (IsOneOf to [] texts) (λ file none. absurd none) t u files };
+  full = λ v is. tt;
+}
+
+pub texts_first : (from to : OpenedVault) (items : List Planned) (texts : List (List ℕ)) (s s' : Option ByteStream) (t u : Option Told) → Draws s s' [] → WritesOnly (λ file. Contains texts file) t u
+    → WritesFirst from to items texts s s' t u
+texts_first from to items texts s s' t u undrawn files = record {
+  made = [];
+  first = [];
+  rest = items;
+  are = refl;
+  writes = record { drawn = undrawn; copies = λ v is. tt; files = only_more (λ file. Contains texts file) (IsOneOf to [] texts) (λ file text. inl text) t u files };
+  full = λ v is. tt;
+}
+
+-- ---- where the source's files stand
+
+pub kept_by : (region : Path → Bool) (root : Path) (items : List Planned) (t u : Option Told) → AreSound t → ((item : Planned) → Contains items item → IsTrue (region item.at)) → FromTo (λ a b. IsAsBefore region a.state b.state) t u
+    → Kept items t u
+kept_by region root items (Some a) (Some b) sound inside stayed = λ item among. seen_as_before region a.state b.state (sound a refl) stayed item.at (inside item among)
+kept_by region root items None None sound inside stayed = tt
+kept_by region root items None (Some b) sound inside stayed = absurd stayed
+kept_by region root items (Some a) None sound inside stayed = absurd stayed
+
+-- of the items that are lacked each is one of these
+pub lacked_is : (there xs : List Planned) (item : Planned) → Contains (lacked there xs) item → Contains xs item
+lacked_is there [] item among = among
+lacked_is there (x ∷ xs) item among = by (is_there there x) among (lacked_is there xs item)
+  where
+    by : (b : Bool) → Contains (cond (not b) (x ∷ lacked there xs) (lacked there xs)) item → (Contains (lacked there xs) item → Contains xs item) → Contains (x ∷ xs) item
+    by true c later = let d = later c in (suc d.0, omega (arith, d.1), d.2)
+    by false (zero, lt, is) later = (zero, omega arith, is)
+    by false (suc k, lt, is) later = let d = later (k, omega (arith, lt), is) in (suc d.0, omega (arith, d.1), d.2)
+
+-- those of the front, and the next one
+pub lacked_next : (there xs : List Planned) (k : ℕ) (x : Planned) → k < length xs → x ≡ get_or xs k x → lacked there (take k xs) ++ lacked there (x ∷ []) ≡ lacked there (take (k + 1) xs)
+lacked_next there xs k x inside at =
+    sym (lacked_more there (take k xs) (x ∷ [])) ∙ ap (λ (z : Planned). lacked there (take k xs ++ z ∷ [])) at ∙ ap (lacked there) (sym (take_more xs k x inside))
+
+-- and all that follow
+pub lacked_split : (there xs : List Planned) (k : ℕ) → lacked there (take k xs) ++ lacked there (drop k xs) ≡ lacked there xs
+lacked_split there xs k = sym (lacked_more there (take k xs) (drop k xs)) ∙ ap (lacked there) (take-append-drop k xs)
+
+-- an item of the source stands apart from what is staged and from the target
+pub source_place : (from : OpenedVault) (root work : Path) (items : List Planned) {t : Option Told} (item : Planned) → AreSeparate from.root root work → IsWalked t from items → Contains items item → IsTrue (is_apart work root item.at)
+source_place from root work items item separate walked among =
+    let behind = walked.behind item among in
+    subst (λ at. IsTrue (is_apart work root at)) (sym behind.1) (source_apart from.root root work behind.0 separate)
+
+pub next_among : (items : List Planned) (k : ℕ) (item : Planned) → k < length items → item ≡ get_or items k item → (one : Planned) → Contains (item ∷ []) one → Contains items one
+next_among items k item inside at one (zero, lt, is) = subst (Contains items) is (k, inside, sym at)
+next_among items k item inside at one (suc j, lt, is) = absurd (omega (arith, lt))
+
+-- ---- by the answer
+
+pub by_all : {T E : Type 0} (result : Result T E) (from to : OpenedVault) (items : List Planned) (texts : List (List ℕ)) (s s' : Option ByteStream) (t t' : Option Told) → WritesAll from to items texts s s' t t' → WritesBy result from to items texts s s' t t'
+by_all (Ok value) from to items texts s s' t t' all = all
+by_all (Err fault) from to items texts s s' t t' all = first_of_all from to items texts s s' t t' all
+
+pub nothing_written : (s : Option ByteStream) (t u : Option Told) → Draws s s [] → u ≡ t → WritesNothing s s t u
+nothing_written s t u undrawn same = record { undrawn = undrawn; files = only_nowhere (λ file. ⊥) t u same }
+
+-- the vaults are those of two roots and their passphrases
+pub tree_of : {T E : Type 0} (result : Result T E) (from to : Path) (pass pass' : List ℕ) (source target : OpenedVault) (s s' : Option ByteStream) (t t' : Option Told) → source.root ≡ from → target.root ≡ to
+    → ((v : View) → IsSeen t v → IsVault (under from v) pass source.vault) → ((v : View) → IsSeen t v → IsVault (under to v) pass' target.vault)
+    → MayWrite result source target s s' t t' → MayWriteTree result from to pass pass' s s' t t'
+tree_of result from to pass pass' source target s s' t t' at_from at_to opens opens' may = elim may [
+  | inl nothing ↦ inl nothing
+  | inr writes ↦ inr (record {
+    source = source.vault;
+    target = target.vault;
+    opens_source = opens;
+    opens_target = opens';
+    writes = subst₂ (λ p q. WritesLacked result (opened_in p source.vault) (opened_in q target.vault) s s' t t') at_from at_to writes;
+  })
+]
+
+-- behind a call by which nothing is written and what is seen stays so
+module _ (s s' : Option ByteStream) (t u w : Option Told) (known : (v : View) → IsSeen t v → IsSeen u v) (before : WritesOnly (λ file. ⊥) t u) where
+  nothing_after : WritesNothing s s' u w → WritesNothing s s' t w
+  nothing_after h = record { undrawn = h.undrawn; files = only_on (λ file. ⊥) (λ file. ⊥) (λ file. ⊥) (λ file none. none) (λ file none. none) t u w before h.files }
+
+  lacked_after : {T E : Type 0} (result : Result T E) (from to : OpenedVault) → WritesLacked result from to s s' u w → WritesLacked result from to s s' t w
+  lacked_after result from to h = record {
+    items = h.items;
+    there = h.there;
+    items_are = λ v is. h.items_are v (known v is);
+    there_are = λ v is. h.there_are v (known v is);
+    writes = by_after from to (lacked h.there h.items) (journal_texts from.root to.root h.items) s s' t u w known before result h.writes;
+  }
+
+  tree_after : {T E : Type 0} (result : Result T E) (from to : Path) (pass pass' : List ℕ) → WritesTree result from to pass pass' s s' u w → WritesTree result from to pass pass' s s' t w
+  tree_after result from to pass pass' h = record {
+    source = h.source;
+    target = h.target;
+    opens_source = λ v is. h.opens_source v (known v is);
+    opens_target = λ v is. h.opens_target v (known v is);
+    writes = lacked_after result (opened_in from h.source) (opened_in to h.target) h.writes;
+  }
+
+  pub may_write_after : {T E : Type 0} (result : Result T E) (from to : Path) (pass pass' : List ℕ) → MayWriteTree result from to pass pass' s s' u w → MayWriteTree result from to pass pass' s s' t w
+  may_write_after result from to pass pass' may = elim may [
+    | inl nothing ↦ inl (nothing_after nothing)
+    | inr writes ↦ inr (tree_after result from to pass pass' writes)
+  ]
+
+  pub told_after : {T E : Type 0} (result : Result T E) (work : Path) (pass pass' : List ℕ) (v : View) → MayWriteTold result work pass pass' s s' u w v → MayWriteTold result work pass pass' s s' t w v
+  told_after result work pass pass' v may = elim may [
+    | inl nothing ↦ inl (nothing_after nothing)
+    | inr told ↦ inr (record { journal = told.journal; is = told.is; stands = told.stands; writes = tree_after result told.journal.source told.journal.target pass pass' told.writes })
+  ]
+
+pub told_of : {T E : Type 0} (result : Result T E) (work : Path) (pass pass' : List ℕ) (s s' : Option ByteStream) (t t' : Option Told) (v : View) (j : Journal) → IsJournal j → StandsIn work j v
+    → MayWriteTree result j.source j.target pass pass' s s' t t' → MayWriteTold result work pass pass' s s' t t' v
+told_of result work pass pass' s s' t t' v j is stands may = elim may [
+  | inl nothing ↦ inl nothing
+  | inr writes ↦ inr (record { journal = j; is = is; stands = stands; writes = writes })
+]
+
+-- ---- what the calls need
+
+pub source_beside_at : (from : OpenedVault) (root work : Path) (items : List Planned) {t : Option Told} (item : Planned) → AreSeparate from.root root work → IsWalked t from items → Contains items item → IsTrue (apart_from_both work root item.at)
+source_beside_at from root work items item separate walked among =
+    let behind = walked.behind item among in
+    subst (λ at. IsTrue (apart_from_both work root at)) (sym behind.1) (source_beside from.root root work behind.0 separate)
+
+pub none_ordered : IsOrdered []
+none_ordered i j d before few = absurd (omega (arith, few))
+
+-- where the tests of the items pass, the source has those of the journal
+pub items_told : (from to : OpenedVault) (journal : Journal) (v : View) (items there : List Planned) → Unless {X = Unit {0}} (Ok tt) (TestsItems from to journal v items there Passed (Ok tt)) → AreTold journal items
+items_told from to journal v items there (inl e) = cc e
+items_told from to journal v items there (inr (inl e)) = cc e
+items_told from to journal v items there (inr (inr (Err why, tested, is))) = cc is
+items_told from to journal v items there (inr (inr (Ok value, inl passed, rest))) = passed.0
+items_told from to journal v items there (inr (inr (Ok value, inr failed, rest))) = cc (failed.1)
+
+-- and its journal is theirs
+pub done_text : (j : Journal) (from to : Path) (items : List Planned) → j.source ≡ from → j.target ≡ to → AreTold j items → (text : List ℕ) → Contains (journal_text (done_of j) ∷ []) text → Contains (journal_texts from to items) text
+done_text j from to items source target told text among =
+    let same : done_of j ≡ done_of (new_journal from to items) = λ i. record { phase = Done; source = source i; target = target i; items = told.1 i; plan = told.0 i } in
+    in_second (journal_text (new_journal from to items) ∷ []) (journal_text (done_of (new_journal from to items)) ∷ []) text (subst (λ k. Contains (journal_text k ∷ []) text) same among)

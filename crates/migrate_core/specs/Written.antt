@@ -1,0 +1,154 @@
+-- What a migration writes: the bytes that it draws, item by item, and the files that it makes.
+use Rattle.std.specs.Prelude.{◌≡◌, ◌⊎◌, ◌≤◌, ◌<◌, ℕ, not, List, [], ◌∷◌, ◌++◌, length, map, Contains, Option, Result, Ok, Err}
+use Rattle.std.specs.List.{concat, filter}
+use Rattle.folder_spec.specs.Event.{Told}
+use Rattle.folder_spec.specs.Moments.{Moments}
+use Rattle.folder_spec.specs.Path.{Path}
+use Rattle.folder_spec.specs.Seen.{IsSeen, under}
+use Rattle.folder_spec.specs.State.{State, BeginsWith}
+use Rattle.folder_spec.specs.View.{View}
+use Rattle.move_journal.specs.Journal.{IsJournal, journal_text}
+use Rattle.move_journal.specs.declared.journal.Journal.{Journal}
+use Rattle.plain_tree.specs.Names as plain
+use Rattle.plain_tree.specs.declared.NodeKind.TheVariants.{Dir, File}
+use Rattle.port_model.specs.Draws.{ByteStream, Draws}
+use Rattle.tree_match.specs.Comparing.{content_at}
+use Rattle.vault_read.specs.Opened.{OpenedVault}
+use Rattle.vault_spec.specs.Format.{Directory}
+use Rattle.vault_spec.specs.Making.{NewItem, NewDirectory, NewFile, draws, files}
+use Rattle.vault_spec.specs.Plan.{Planned}
+use Rattle.vault_spec.specs.Vault.{Vault, IsVault, format_of}
+use Rattle.migrate_core.specs.Causes.{AreItemsOf}
+use Rattle.migrate_core.specs.Moved.{StandsIn, done_of, is_there, opened_in}
+use Rattle.migrate_core.specs.Sides.{new_journal}
+
+-- an item that was made in the target, and the bytes drawn for it
+pub record MadeItem : Type 0 where
+  pub path : plain.Path
+  pub item : NewItem
+  pub drawn : List ℕ
+
+-- it is this item of the source, with the content that its file gives
+pub record IsCopyOf (from : OpenedVault) (v : View) (planned : Planned) (x : MadeItem) : Type 0 where
+  pub path : x.path ≡ planned.path
+  pub directory : planned.node ≡ Dir → x.item ≡ NewDirectory
+  pub file : planned.node ≡ File → x.item ≡ NewFile (content_at (format_of from.vault).content v planned.at).bytes
+
+-- they are these items, one by one
+abbrev pub AreCopies : OpenedVault → View → List Planned → List MadeItem → Type 0
+AreCopies from v [] [] = Unit {0}
+AreCopies from v (item ∷ items) (x ∷ xs) = IsCopyOf from v item x × AreCopies from v items xs
+AreCopies from v [] (x ∷ xs) = ⊥
+AreCopies from v (item ∷ items) [] = ⊥
+
+-- all bytes drawn, a slice for each item
+abbrev pub slices : List MadeItem → List ℕ
+slices made = concat (map (λ (x : MadeItem). x.drawn) made)
+
+-- a slice is as long as its item draws
+abbrev pub IsFull : OpenedVault → MadeItem → Type 0
+IsFull to x = length x.drawn ≡ draws (format_of to.vault) x.item
+
+abbrev pub AreFull : OpenedVault → List MadeItem → Type 0
+AreFull to [] = Unit {0}
+AreFull to (x ∷ xs) = IsFull to x × AreFull to xs
+
+-- each is, but the last may be shorter
+abbrev pub AreFullButLast : OpenedVault → List MadeItem → Type 0
+AreFullButLast to [] = Unit {0}
+AreFullButLast to (x ∷ []) = length x.drawn ≤ draws (format_of to.vault) x.item
+AreFullButLast to (x ∷ y ∷ xs) = IsFull to x × AreFullButLast to (y ∷ xs)
+
+-- one of the item's files under its slice, in a directory of the target
+pub record IsFileOf (to : OpenedVault) (x : MadeItem) (file : List ℕ) : Type 0 where
+  pub front : plain.Path
+  pub name : List ℕ
+  pub dir : Directory
+  pub is : x.path ≡ front ++ name ∷ []
+  pub among : Contains (files (format_of to.vault) dir name x.item x.drawn) file
+
+-- one of these texts, or of the files of these items
+abbrev pub IsOneOf : OpenedVault → List MadeItem → List (List ℕ) → List ℕ → Type 0
+IsOneOf to made texts file = Contains texts file ⊎ ((x : MadeItem) × Contains made x × IsFileOf to x file)
+
+-- Since s0 no file of then was written, and each that was made holds a front part of one of these.
+pub record HoldsOnly (P : List ℕ → Type 0) (s0 s : State) : Type 0 where
+  pub nodes : (n : ℕ) → n < s0.made → s.nodes n ≡ s0.nodes n
+  pub made : s0.made ≤ s.made
+  pub fronts : (n : ℕ) → s0.made ≤ n → n < s.made → (file : List ℕ) × P file × BeginsWith file (s.nodes n).now
+
+-- at each moment
+abbrev pub WritesOnly : (List ℕ → Type 0) → Option Told → Option Told → Type 0
+WritesOnly P = Moments (HoldsOnly P) (λ s0 s e. Unit {0})
+
+-- These items were made, with these texts: what was drawn, of which items of the source they are, and what was written.
+pub record Writes (from to : OpenedVault) (items : List Planned) (made : List MadeItem) (texts : List (List ℕ)) (stream stream' : Option ByteStream) (told told' : Option Told) : Type 0 where
+  pub drawn : Draws stream stream' (slices made)
+  pub copies : (v : View) → IsSeen told v → AreCopies from v items made
+  pub files : WritesOnly (IsOneOf to made texts) told told'
+
+-- all of these items
+pub record WritesAll (from to : OpenedVault) (items : List Planned) (texts : List (List ℕ)) (stream stream' : Option ByteStream) (told told' : Option Told) : Type 0 where
+  pub made : List MadeItem
+  pub writes : Writes from to items made texts stream stream' told told'
+  pub full : (v : View) → IsSeen told v → AreFull to made
+
+-- the first of them
+pub record WritesFirst (from to : OpenedVault) (items : List Planned) (texts : List (List ℕ)) (stream stream' : Option ByteStream) (told told' : Option Told) : Type 0 where
+  pub made : List MadeItem
+  pub first : List Planned
+  pub rest : List Planned
+  pub are : items ≡ first ++ rest
+  pub writes : Writes from to first made texts stream stream' told told'
+  pub full : (v : View) → IsSeen told v → AreFullButLast to made
+
+-- the items whose path none of those has
+abbrev pub lacked : List Planned → List Planned → List Planned
+lacked there items = filter (λ item. not (is_there there item)) items
+
+-- the texts of a migration's journal
+abbrev pub journal_texts : Path → Path → List Planned → List (List ℕ)
+journal_texts from to items = journal_text (new_journal from to items) ∷ journal_text (done_of (new_journal from to items)) ∷ []
+
+-- by the answer: all of them after Ok, or the first of them
+abbrev pub WritesBy : {T E : Type 0} → Result T E → OpenedVault → OpenedVault → List Planned → List (List ℕ) → Option ByteStream → Option ByteStream → Option Told → Option Told → Type 0
+WritesBy (Ok value) = WritesAll
+WritesBy (Err fault) = WritesFirst
+
+-- between two opened vaults, the items of the source that the target lacks
+pub record WritesLacked {T E : Type 0} (result : Result T E) (from to : OpenedVault) (stream stream' : Option ByteStream) (told told' : Option Told) : Type 0 where
+  pub items : List Planned
+  pub there : List Planned
+  pub items_are : (v : View) → IsSeen told v → AreItemsOf from v items
+  pub there_are : (v : View) → IsSeen told v → AreItemsOf to v there
+  pub writes : WritesBy result from to (lacked there items) (journal_texts from.root to.root items) stream stream' told told'
+
+-- nothing is drawn, and no file is made or written
+pub record WritesNothing (stream stream' : Option ByteStream) (told told' : Option Told) : Type 0 where
+  pub undrawn : Draws stream stream' []
+  pub files : WritesOnly (λ file. ⊥) told told'
+
+-- where a test fails nothing is written
+abbrev pub MayWrite : {T E : Type 0} → Result T E → OpenedVault → OpenedVault → Option ByteStream → Option ByteStream → Option Told → Option Told → Type 0
+MayWrite result from to stream stream' told told' = WritesNothing stream stream' told told' ⊎ WritesLacked result from to stream stream' told told'
+
+-- of the vaults that two roots and their passphrases are
+pub record WritesTree {T E : Type 0} (result : Result T E) (from to : Path) (from_pass to_pass : List ℕ) (stream stream' : Option ByteStream) (told told' : Option Told) : Type 0 where
+  pub source : Vault
+  pub target : Vault
+  pub opens_source : (v : View) → IsSeen told v → IsVault (under from v) from_pass source
+  pub opens_target : (v : View) → IsSeen told v → IsVault (under to v) to_pass target
+  pub writes : WritesLacked result (opened_in from source) (opened_in to target) stream stream' told told'
+
+abbrev pub MayWriteTree : {T E : Type 0} → Result T E → (from to : Path) (from_pass to_pass : List ℕ) → Option ByteStream → Option ByteStream → Option Told → Option Told → Type 0
+MayWriteTree result from to from_pass to_pass stream stream' told told' = WritesNothing stream stream' told told' ⊎ WritesTree result from to from_pass to_pass stream stream' told told'
+
+-- of those that the journal tells which stands in the work folder
+pub record WritesTold {T E : Type 0} (result : Result T E) (work : Path) (from_pass to_pass : List ℕ) (stream stream' : Option ByteStream) (told told' : Option Told) (v : View) : Type 0 where
+  pub journal : Journal
+  pub is : IsJournal journal
+  pub stands : StandsIn work journal v
+  pub writes : WritesTree result journal.source journal.target from_pass to_pass stream stream' told told'
+
+abbrev pub MayWriteTold : {T E : Type 0} → Result T E → Path → (from_pass to_pass : List ℕ) → Option ByteStream → Option ByteStream → Option Told → Option Told → View → Type 0
+MayWriteTold result work from_pass to_pass stream stream' told told' v = WritesNothing stream stream' told told' ⊎ WritesTold result work from_pass to_pass stream stream' told told' v

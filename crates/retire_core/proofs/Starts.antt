@@ -12,6 +12,8 @@ use Rattle.migrate_core.specs.Moved.{StandsIn}
 use Rattle.move_journal.specs.Journal.{IsJournal, journal_text}
 use Rattle.move_journal.specs.Reading.{ReadsAs, file_bytes, journal_bytes}
 use Rattle.move_journal.specs.declared.journal.Journal.{Journal}
+use Rattle.move_journal.specs.declared.journal.JournalFault.{JournalFault}
+use Rattle.move_journal.specs.declared.journal.JournalFault.TheVariants as journal
 use Rattle.move_journal.specs.declared.journal.Phase.{Phase}
 use Rattle.move_journal.specs.declared.journal.Phase.TheVariants as phase
 use Rattle.tree_match.specs.Guard as guard
@@ -19,6 +21,7 @@ use Rattle.tree_match.specs.Guard.{Migration, Building, Case, Gone, HasJournal, 
 use Rattle.work_folder.specs.Entries.{journal_path}
 use Rattle.retire_core.proofs.RetiredTables.{HaveOneText, rest_done, rest_retired, rest_seen}
 use Rattle.retire_core.specs.Clearing.{MovesHeldOnly}
+use Rattle.retire_core.specs.Faults.{OfJournal, of_journal}
 use Rattle.retire_core.specs.Guarding.{ComesFromDone, ComesTo, IsAtRest, IsDoneAtRest, KeepsDone, KeepsFromRest}
 use Rattle.retire_core.specs.Retiring.{Retiring}
 
@@ -134,3 +137,11 @@ pub moved_before : (r : Retiring) (t u : Option Told) → MovesHeldOnly r t u �
 moved_before r (Some a) (Some b) went w is = (seen a.state, refl)
 moved_before r None (Some b) went w is = absurd went
 moved_before r t None went w is = absurd is
+
+-- why no journal is read
+pub read_caused : (work : Path) (v : View) (fault : JournalFault) → ReadsAs (journal_bytes v work) (Err fault) → OfJournal work v (of_journal fault)
+read_caused work v journal.NoJournal reads = reads
+read_caused work v (journal.BadJournal number) reads = reads
+read_caused work v journal.TooLarge reads = reads
+read_caused work v journal.Failed reads = tt
+read_caused work v journal.NoMemory reads = tt

@@ -1,11 +1,19 @@
 -- The faults of the calls below, as `retire` tells them. That the folder failed or memory was refused is told as such, whichever call
 -- met it.
-use Rattle.std.specs.Prelude.{◌≡◌}
+use Rattle.std.specs.Prelude.{◌≡◌, Err}
 use Rattle.folder_spec.specs.declared.FolderFault.{FolderFault}
 use Rattle.folder_spec.specs.declared.FolderFault.TheVariants as folder
 use Rattle.folder_staging.specs.declared.removal.RemovalFault.{RemovalFault}
 use Rattle.folder_staging.specs.declared.removal.RemovalFault.TheVariants as removal
+use Rattle.folder_spec.specs.Path.{Path}
+use Rattle.folder_spec.specs.View.{View}
+use Rattle.migrate_core.specs.Moved.{StandsIn}
+use Rattle.move_journal.specs.Journal.{IsJournal}
+use Rattle.move_journal.specs.Reading.{ReadsAs, journal_bytes}
+use Rattle.move_journal.specs.declared.journal.Journal.{Journal as Written}
 use Rattle.move_journal.specs.declared.journal.JournalFault.{JournalFault}
+use Rattle.move_journal.specs.declared.journal.Phase.{Phase}
+use Rattle.move_journal.specs.declared.journal.Phase.TheVariants as phase
 use Rattle.move_journal.specs.declared.journal.JournalFault.TheVariants as journal
 use Rattle.tree_match.specs.declared.answer.MatchFault.{MatchFault}
 use Rattle.tree_match.specs.declared.answer.MatchFault.TheVariants as match
@@ -15,7 +23,7 @@ use Rattle.vault_walk.specs.declared.fault.WalkFault.TheVariants as walk
 use Rattle.work_folder.specs.declared.fault.WorkFault.{WorkFault}
 use Rattle.work_folder.specs.declared.fault.WorkFault.TheVariants as work
 use Rattle.retire_core.specs.declared.fault.RetireFault.{RetireFault}
-use Rattle.retire_core.specs.declared.fault.RetireFault.TheVariants.{Work, Journal, Load, Walk, Match, Depth, Failed, NoMemory}
+use Rattle.retire_core.specs.declared.fault.RetireFault.TheVariants.{Work, Journal, Unfinished, Load, Walk, Match, Depth, Failed, NoMemory}
 
 abbrev pub of_folder : FolderFault → RetireFault
 of_folder folder.Failed = Failed
@@ -62,7 +70,31 @@ IsRetireFault (Match match.Failed) = ⊥
 IsRetireFault (Match match.NoMemory) = ⊥
 IsRetireFault fault = Unit {0}
 
--- and the folder is named as failing only for a reason
-pub record Blamed (folder : Type 0) (fault : RetireFault) : Type 0 where
-  pub own : IsRetireFault fault
+-- and once the journal is read, nothing more of it
+abbrev pub IsLaterFault : RetireFault → Type 0
+IsLaterFault (Journal fault) = ⊥
+IsLaterFault Unfinished = ⊥
+IsLaterFault fault = IsRetireFault fault
+
+-- of these, and the folder is named as failing only for a reason
+pub record Blamed (Own : RetireFault → Type 0) (folder : Type 0) (fault : RetireFault) : Type 0 where
+  pub own : Own fault
   pub failed : fault ≡ Failed → folder
+
+-- ---- by the journal
+
+-- a journal of this phase stands in the work folder
+pub record Says (work : Path) (phase : Phase) (v : View) : Type 0 where
+  pub journal : Written
+  pub is : IsJournal journal
+  pub in_phase : journal.phase ≡ phase
+  pub stands : StandsIn work journal v
+
+-- No journal is read only where reading it refuses so; `Unfinished` comes only where it says that items are still being placed; and each
+-- other refusal only where it says that all is done.
+abbrev pub OfJournal : Path → View → RetireFault → Type 0
+OfJournal work v (Journal fault) = ReadsAs (journal_bytes v work) (Err fault)
+OfJournal work v Unfinished = Says work phase.Building v
+OfJournal work v Failed = Unit {0}
+OfJournal work v NoMemory = Unit {0}
+OfJournal work v fault = Says work phase.Done v

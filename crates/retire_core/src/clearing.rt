@@ -6,7 +6,7 @@ ghost use Rattle.folder_spec.specs.Seen.{IsSeen};
 ghost use Rattle.folder_spec.specs.View.{NoEntry, View};
 ghost use Rattle.tree_match.specs.Guard.{Migration};
 ghost use Rattle.retire_core.specs.Clearing.{ClearsEntry, ClearsOnly, ClearsRest, HasOnlyJournal, IsGone, IsInOrder, Leaves};
-ghost use Rattle.retire_core.specs.Faults.{Blamed};
+ghost use Rattle.retire_core.specs.Faults.{Blamed, IsLaterFault};
 ghost use Rattle.retire_core.specs.Guarding.{KeepsRetiring};
 
 use crate::fault::RetireFault;
@@ -23,7 +23,7 @@ pub(crate) fn clear<F: Folder>(folder: &mut F, work: &FPath) -> Result<(), Retir
     ensures clears { ClearsOnly work.now (F.told folder.old) (F.told folder.new) }
     ensures gone { OnOk result (IsGone work.now (F.told folder.new)) }
     ensures grows { F.faults folder.old ≤ F.faults folder.new }
-    ensures blamed { IfErr result (Blamed (CountRose (F.faults folder.old) (F.faults folder.new))) }
+    ensures blamed { IfErr result (Blamed IsLaterFault (CountRose (F.faults folder.old) (F.faults folder.new))) }
 {
     clear_beside(folder, work)?;
     clear_rest(folder, work)
@@ -36,7 +36,7 @@ fn clear_beside<F: Folder>(folder: &mut F, work: &FPath) -> Result<(), RetireFau
     ensures clears { ClearsOnly work.now (F.told folder.old) (F.told folder.new) }
     ensures cleared { OnOk result ((v : View) → IsSeen (F.told folder.new) v → HasOnlyJournal v work.now) }
     ensures grows { F.faults folder.old ≤ F.faults folder.new }
-    ensures blamed { IfErr result (Blamed (CountRose (F.faults folder.old) (F.faults folder.new))) }
+    ensures blamed { IfErr result (Blamed IsLaterFault (CountRose (F.faults folder.old) (F.faults folder.new))) }
 {
     clear_entry(folder, work, "old")?;
     clear_entry(folder, work, "stage")?;
@@ -51,7 +51,7 @@ fn clear_entry<F: Folder>(folder: &mut F, work: &FPath, name: &str) -> Result<()
     ensures leaves { Leaves (child work.now name.now) (F.told folder.old) (F.told folder.new) }
     ensures gone { OnOk result (IsGone (child work.now name.now) (F.told folder.new)) }
     ensures grows { F.faults folder.old ≤ F.faults folder.new }
-    ensures blamed { IfErr result (Blamed (CountRose (F.faults folder.old) (F.faults folder.new))) }
+    ensures blamed { IfErr result (Blamed IsLaterFault (CountRose (F.faults folder.old) (F.faults folder.new))) }
 {
     removals_leave_the_rest();
     roots_show_their_own();
@@ -70,7 +70,7 @@ fn clear_rest<F: Folder>(folder: &mut F, work: &FPath) -> Result<(), RetireFault
     ensures clears { ClearsRest work.now (F.told folder.old) (F.told folder.new) }
     ensures gone { OnOk result (IsGone work.now (F.told folder.new)) }
     ensures grows { F.faults folder.old ≤ F.faults folder.new }
-    ensures blamed { IfErr result (Blamed (CountRose (F.faults folder.old) (F.faults folder.new))) }
+    ensures blamed { IfErr result (Blamed IsLaterFault (CountRose (F.faults folder.old) (F.faults folder.new))) }
 {
     roots_show_their_own();
     let journal = work.child("journal")?;

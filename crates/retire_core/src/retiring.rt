@@ -9,7 +9,7 @@ ghost use Rattle.migrate_core.specs.Sides.{AreSeparate, IsResumed};
 ghost use Rattle.move_journal.specs.Journal.{IsJournal};
 ghost use Rattle.tree_match.specs.Guard.{AreApart, Migration, old_path};
 ghost use Rattle.retire_core.specs.Clearing.{IsGone, IsInOrder, MovesHeldOnly, MovesOnly};
-ghost use Rattle.retire_core.specs.Faults.{Blamed};
+ghost use Rattle.retire_core.specs.Faults.{Blamed, IsLaterFault, IsRetireFault, OfJournal};
 ghost use Rattle.retire_core.specs.Guarding.{ComesFromDone, ComesTo, KeepsDone, KeepsFromRest};
 ghost use Rattle.retire_core.specs.Retiring.{HasRetired, IsHeld, RemovesOnly, TouchesOnly, retiring_by};
 
@@ -53,8 +53,9 @@ pub fn retire<F: Folder>(
     ensures removes { (v : View) (journal : Journal) → IsSeen (F.told folder.old) v → IsJournal journal → StandsIn work.now journal v
         → RemovesOnly (retiring_by work.now source_pass.now target_pass.now journal) (F.told folder.old) (F.told folder.new) }
     ensures retired { IfOk result (λ retired. (v : View) → IsSeen (F.told folder.old) v → HasRetired work.now retired.items (F.told folder.new) v) }
+    ensures caused { IfErr result (λ fault. (v : View) → IsSeen (F.told folder.old) v → OfJournal work.now v fault) }
     ensures grows { F.faults folder.old ≤ F.faults folder.new }
-    ensures blamed { IfErr result (Blamed (CountRose (F.faults folder.old) (F.faults folder.new))) }
+    ensures blamed { IfErr result (Blamed IsRetireFault (CountRose (F.faults folder.old) (F.faults folder.new))) }
 {
     settling_and_entering_keep_migrations_guarded();
     folder.settle()?;
@@ -75,8 +76,9 @@ fn retire_settled<F: Folder>(
     ensures removes { (v : View) (journal : Journal) → IsSeen (F.told folder.old) v → IsJournal journal → StandsIn work.now journal v
         → RemovesOnly (retiring_by work.now source_pass.now target_pass.now journal) (F.told folder.old) (F.told folder.new) }
     ensures retired { IfOk result (λ retired. (v : View) → IsSeen (F.told folder.old) v → HasRetired work.now retired.items (F.told folder.new) v) }
+    ensures caused { IfErr result (λ fault. (v : View) → IsSeen (F.told folder.old) v → OfJournal work.now v fault) }
     ensures grows { F.faults folder.old ≤ F.faults folder.new }
-    ensures blamed { IfErr result (Blamed (CountRose (F.faults folder.old) (F.faults folder.new))) }
+    ensures blamed { IfErr result (Blamed IsRetireFault (CountRose (F.faults folder.old) (F.faults folder.new))) }
 {
     journals_are_read_back();
     let journal = read_done(alloc, folder, work)?;
@@ -91,8 +93,9 @@ fn read_done<F: Folder>(alloc: Global, folder: &mut F, work: &FPath) -> Result<J
     ensures journal { IfOk result (λ journal. IsJournal journal) }
     ensures phase { IfOk result (λ journal. journal.phase ≡ Phase.Done) }
     ensures stands { IfOk result (λ journal. (v : View) → IsSeen (F.told folder.old) v → StandsIn work.now journal v) }
+    ensures caused { IfErr result (λ fault. (v : View) → IsSeen (F.told folder.old) v → OfJournal work.now v fault) }
     ensures grows { F.faults folder.old ≤ F.faults folder.new }
-    ensures blamed { IfErr result (Blamed (CountRose (F.faults folder.old) (F.faults folder.new))) }
+    ensures blamed { IfErr result (Blamed IsRetireFault (CountRose (F.faults folder.old) (F.faults folder.new))) }
 {
     let journal = read(alloc, folder, work)?;
     match journal.phase {
@@ -122,7 +125,7 @@ fn retire_told<F: Folder>(
     ensures work { OnOk result (IsGone work.now (F.told folder.new)) }
     ensures items { IfOk result (λ retired. retired.items ≡ journal.now.items) }
     ensures grows { F.faults folder.old ≤ F.faults folder.new }
-    ensures blamed { IfErr result (Blamed (CountRose (F.faults folder.old) (F.faults folder.new))) }
+    ensures blamed { IfErr result (Blamed IsLaterFault (CountRose (F.faults folder.old) (F.faults folder.new))) }
 {
     images_show_views();
     roots_show_their_own();
@@ -154,7 +157,7 @@ fn put_away<F: Folder>(
     ensures gone { OnOk result (IsGone journal.now.source (F.told folder.new)) }
     ensures order { OnOk result ((v : View) → IsSeen (F.told folder.new) v → IsInOrder v work.now) }
     ensures grows { F.faults folder.old ≤ F.faults folder.new }
-    ensures blamed { IfErr result (Blamed (CountRose (F.faults folder.old) (F.faults folder.new))) }
+    ensures blamed { IfErr result (Blamed IsLaterFault (CountRose (F.faults folder.old) (F.faults folder.new))) }
 {
     journals_are_read_back();
     if folder.kind(&journal.source)? == Kind::Missing {
@@ -169,7 +172,7 @@ fn test_free<F: Folder>(folder: &mut F, work: &FPath) -> Result<(), RetireFault>
     ensures told { F.told folder.new ≡ F.told folder.old }
     ensures free { OnOk result (IsGone (old_path work.now) (F.told folder.old)) }
     ensures grows { F.faults folder.old ≤ F.faults folder.new }
-    ensures blamed { IfErr result (Blamed (CountRose (F.faults folder.old) (F.faults folder.new))) }
+    ensures blamed { IfErr result (Blamed IsLaterFault (CountRose (F.faults folder.old) (F.faults folder.new))) }
 {
     let old = work.child("old")?;
     match folder.kind(&old)? {
@@ -197,7 +200,7 @@ fn move_held<F: Folder>(
     ensures gone { OnOk result (IsGone journal.now.source (F.told folder.new)) }
     ensures leaves { (v w : View) → IsSeen (F.told folder.old) v → IsSeen (F.told folder.new) w → IsInOrder v work.now → IsInOrder w work.now }
     ensures grows { F.faults folder.old ≤ F.faults folder.new }
-    ensures blamed { IfErr result (Blamed (CountRose (F.faults folder.old) (F.faults folder.new))) }
+    ensures blamed { IfErr result (Blamed IsLaterFault (CountRose (F.faults folder.old) (F.faults folder.new))) }
 {
     let sides = load_both(
         alloc,
@@ -223,7 +226,7 @@ fn move_source<F: Folder>(folder: &mut F, source: &FPath, work: &FPath) -> Resul
     ensures gone { OnOk result (IsGone source.now (F.told folder.new)) }
     ensures leaves { (v w : View) → IsSeen (F.told folder.old) v → IsSeen (F.told folder.new) w → IsInOrder v work.now → IsInOrder w work.now }
     ensures grows { F.faults folder.old ≤ F.faults folder.new }
-    ensures blamed { IfErr result (Blamed (CountRose (F.faults folder.old) (F.faults folder.new))) }
+    ensures blamed { IfErr result (Blamed IsLaterFault (CountRose (F.faults folder.old) (F.faults folder.new))) }
 {
     clean_vaults_have_only_files_and_directories();
     images_show_views();

@@ -6,7 +6,7 @@ ghost use Rattle.folder_spec.specs.View.{View};
 ghost use Rattle.tree_match.specs.Guard.{AreApart};
 ghost use Rattle.vault_spec.specs.Vault.{IsVault};
 ghost use Rattle.migrate_core.specs.Sides.{AreSeparate, IsWalked};
-ghost use Rattle.retire_core.specs.Faults.{Blamed};
+ghost use Rattle.retire_core.specs.Faults.{Blamed, IsLaterFault};
 ghost use Rattle.retire_core.specs.Retiring.{AreHeld};
 
 use crate::fault::RetireFault;
@@ -39,7 +39,7 @@ pub(crate) fn load_both<F: Folder>(
     ensures opens_source { IfOk result (λ sides. (v : View) → IsSeen (F.told folder.old) v → IsVault (under source.now v) source_pass.now sides.source.vault) }
     ensures opens_target { IfOk result (λ sides. (v : View) → IsSeen (F.told folder.old) v → IsVault (under target.now v) target_pass.now sides.target.vault) }
     ensures grows { F.faults folder.old ≤ F.faults folder.new }
-    ensures blamed { IfErr result (Blamed (CountRose (F.faults folder.old) (F.faults folder.new))) }
+    ensures blamed { IfErr result (Blamed IsLaterFault (CountRose (F.faults folder.old) (F.faults folder.new))) }
 {
     let source = load(alloc, folder, Side::Source, source, source_pass)?;
     let target = load(alloc, folder, Side::Target, target, target_pass)?;
@@ -57,7 +57,7 @@ fn load<F: Folder>(
     ensures root { IfOk result (λ vault. vault.root ≡ root.now) }
     ensures vault { IfOk result (λ vault. (v : View) → IsSeen (F.told folder.old) v → IsVault (under root.now v) pass.now vault.vault) }
     ensures grows { F.faults folder.old ≤ F.faults folder.new }
-    ensures blamed { IfErr result (Blamed (CountRose (F.faults folder.old) (F.faults folder.new))) }
+    ensures blamed { IfErr result (Blamed IsLaterFault (CountRose (F.faults folder.old) (F.faults folder.new))) }
 {
     match Vault::load(alloc, folder, root, pass) {
         Ok(vault) => Ok(vault),
@@ -72,7 +72,7 @@ fn walk_one<F: Folder>(alloc: Global, folder: &mut F, vault: &Vault) -> Result<P
     ensures told { F.told folder.new ≡ F.told folder.old }
     ensures walked { IfOk result (λ plan. IsWalked (F.told folder.old) vault.now plan.items) }
     ensures grows { F.faults folder.old ≤ F.faults folder.new }
-    ensures blamed { IfErr result (Blamed (CountRose (F.faults folder.old) (F.faults folder.new))) }
+    ensures blamed { IfErr result (Blamed IsLaterFault (CountRose (F.faults folder.old) (F.faults folder.new))) }
 {
     Ok(walk(alloc, folder, vault)?)
 }
@@ -86,7 +86,7 @@ pub(crate) fn test_held<F: Folder>(
     ensures told { F.told folder.new ≡ F.told folder.old }
     ensures held { OnOk result ((v : View) → IsSeen (F.told folder.old) v → AreHeld sides.now.source sides.now.target v) }
     ensures grows { F.faults folder.old ≤ F.faults folder.new }
-    ensures blamed { IfErr result (Blamed (CountRose (F.faults folder.old) (F.faults folder.new))) }
+    ensures blamed { IfErr result (Blamed IsLaterFault (CountRose (F.faults folder.old) (F.faults folder.new))) }
 {
     let source = walk_one(alloc, folder, &sides.source)?;
     let target = walk_one(alloc, folder, &sides.target)?;
@@ -106,7 +106,7 @@ fn compare<F: Folder>(
     ensures told { F.told folder.new ≡ F.told folder.old }
     ensures held { OnOk result ((v : View) → IsSeen (F.told folder.old) v → AreHeld sides.now.source sides.now.target v) }
     ensures grows { F.faults folder.old ≤ F.faults folder.new }
-    ensures blamed { IfErr result (Blamed (CountRose (F.faults folder.old) (F.faults folder.new))) }
+    ensures blamed { IfErr result (Blamed IsLaterFault (CountRose (F.faults folder.old) (F.faults folder.new))) }
 {
     what_is_held_opens_the_same();
     match holds_all(alloc, folder, &sides.source, source, &sides.target, target)? {
@@ -128,7 +128,7 @@ fn where_of(how: How) -> Where {
 // No two of three folders overlap.
 pub(crate) fn test_apart(source: &FPath, target: &FPath, work: &FPath) -> Result<(), RetireFault>
     ensures apart { OnOk result (AreSeparate source.now target.now work.now) }
-    ensures blamed { IfErr result (Blamed ⊥) }
+    ensures blamed { IfErr result (Blamed IsLaterFault ⊥) }
 {
     test_pair(source, target)?;
     test_pair(source, work)?;
@@ -137,7 +137,7 @@ pub(crate) fn test_apart(source: &FPath, target: &FPath, work: &FPath) -> Result
 
 fn test_pair(first: &FPath, second: &FPath) -> Result<(), RetireFault>
     ensures apart { OnOk result (AreApart first.now second.now) }
-    ensures blamed { IfErr result (Blamed ⊥) }
+    ensures blamed { IfErr result (Blamed IsLaterFault ⊥) }
 {
     if first.starts_with(second) || second.starts_with(first) {
         return Err(RetireFault::Overlap(first.copy()?, second.copy()?));

@@ -1,4 +1,4 @@
-mod Guards
+pub mod Guards
 mod Along
 pub mod Kept
 mod Placing

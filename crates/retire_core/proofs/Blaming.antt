@@ -1,0 +1,96 @@
+-- Why the faults of `retire` may come.
+use Rattle.std.proofs.Common.{IfErr, Ok, ◌≡◌, ◌≤◌, ℕ, Option, Some, Result, Err}
+use Rattle.folder_model.proofs.Counting.{counts_after, counts_at_fault, rose_since}
+use Rattle.folder_model.specs.Answers.{Answers, Counts, CountsAbove}
+use Rattle.folder_spec.specs.declared.FolderFault.{FolderFault}
+use Rattle.folder_spec.specs.declared.FolderFault.TheVariants as folder
+use Rattle.folder_spec.specs.declared.Kind.{Kind}
+use Rattle.folder_spec.specs.Event.{Allowed, Call, Changes, Told}
+use Rattle.folder_spec.specs.Path.{Path}
+use Rattle.folder_spec.specs.View.{View, kind_found}
+use Rattle.folder_staging.specs.declared.removal.RemovalFault.{RemovalFault}
+use Rattle.folder_staging.specs.declared.removal.RemovalFault.TheVariants as removal
+use Rattle.port_model.specs.Counts.{CountRose}
+use Rattle.work_folder.specs.declared.fault.WorkFault.{WorkFault}
+use Rattle.work_folder.specs.declared.fault.WorkFault.TheVariants as work
+use Rattle.retire_core.specs.Faults.{Blamed, IsLaterFault, IsRetireFault, OfJournal, Says, of_folder, of_removal, of_work}
+use Rattle.retire_core.specs.declared.fault.RetireFault.{RetireFault}
+use Rattle.retire_core.specs.declared.fault.RetireFault.TheVariants as retire
+use Rattle.move_journal.specs.declared.journal.Phase.TheVariants as phase
+
+-- since earlier counts
+pub blamed_since : (Own : RetireFault → Type 0) (before mid after : ℕ) → before ≤ mid → (fault : RetireFault) → Blamed Own (CountRose mid after) fault → Blamed Own (CountRose before after) fault
+blamed_since Own before mid after le fault b = record { own = b.own; failed = λ is. rose_since before mid after le (b.failed is) }
+
+-- a call of the folder
+pub blamed_folder : (T : Type 0) (before after : ℕ) (fault : FolderFault) → CountsAbove {T = T} before after (Err fault) → Blamed IsLaterFault (CountRose before after) (of_folder fault)
+blamed_folder T before after folder.Failed counts = record { own = tt; failed = λ is. counts.1 }
+blamed_folder T before after folder.Refused counts = record { own = tt; failed = λ is. counts.1 }
+blamed_folder T before after folder.NoMemory counts = record { own = tt; failed = λ is. cc is }
+
+-- a question about a kind
+pub blamed_kind : (t : Option Told) (at : Path) (before mid after : ℕ) (fault : FolderFault) → before ≤ mid → Answers {T = Kind} t (λ v. Unit {0}) (λ v kind. kind ≡ kind_found (v at)) (Err fault)
+    → Counts {T = Kind} t mid after (Err fault) → Blamed IsLaterFault (CountRose before after) (of_folder fault)
+blamed_kind t at before mid after fault le answer counts =
+    blamed_folder Kind before after fault (counts_at_fault Kind Kind t before mid after (λ v. Unit {0}) (λ v kind. kind ≡ kind_found (v at)) fault le (λ v is. tt) answer counts)
+
+-- a call that changes something, and is allowed
+pub blamed_call : (call : Call) (t u : Option Told) (before mid after : ℕ) (fault : FolderFault) → before ≤ mid → ((a : Told) → t ≡ Some a → Allowed a.state call) → Changes call t u (Err fault)
+    → Counts {T = Unit {0}} t mid after (Err fault) → Blamed IsLaterFault (CountRose before after) (of_folder fault)
+blamed_call call t u before mid after fault le allowed changes counts = blamed_folder (Unit {0}) before after fault (counts_after call t u before mid after (Err fault) le allowed changes counts)
+
+-- a removal
+pub blamed_removal : (before mid after : ℕ) (fault : RemovalFault) (result : Result (Unit {0}) RemovalFault) → result ≡ Err fault → before ≤ mid → (result ≡ Err removal.Failed → CountRose mid after)
+    → Blamed IsLaterFault (CountRose before after) (of_removal fault)
+blamed_removal before mid after removal.Depth result is le failed = record { own = tt; failed = λ is. cc is }
+blamed_removal before mid after (removal.Other at) result is le failed = record { own = tt; failed = λ is. cc is }
+blamed_removal before mid after removal.Failed result is le failed = record { own = tt; failed = λ same. rose_since before mid after le (failed is) }
+blamed_removal before mid after removal.NoMemory result is le failed = record { own = tt; failed = λ is. cc is }
+
+-- ---- once the journal is read
+
+-- such a fault is one that `retire` may answer
+pub later_own : (fault : RetireFault) → IsLaterFault fault → IsRetireFault fault
+later_own (retire.Journal fault) later = absurd later
+later_own retire.Unfinished later = absurd later
+later_own (retire.Work fault) later = later
+later_own (retire.Overlap one two) later = later
+later_own (retire.Load side fault) later = later
+later_own (retire.Walk fault) later = later
+later_own (retire.Match fault) later = later
+later_own (retire.Differ path how) later = later
+later_own retire.Depth later = later
+later_own retire.Failed later = later
+later_own retire.NoMemory later = later
+
+pub blamed_later : (before mid after : ℕ) → before ≤ mid → (fault : RetireFault) → Blamed IsLaterFault (CountRose mid after) fault → Blamed IsRetireFault (CountRose before after) fault
+blamed_later before mid after le fault b = record { own = later_own fault b.own; failed = λ is. rose_since before mid after le (b.failed is) }
+
+-- and comes with a journal that says that all is done
+pub later_caused : (work : Path) (v : View) (fault : RetireFault) → IsLaterFault fault → Says work phase.Done v → OfJournal work v fault
+later_caused work v (retire.Journal fault) later says = absurd later
+later_caused work v retire.Unfinished later says = absurd later
+later_caused work v (retire.Work fault) later says = says
+later_caused work v (retire.Overlap one two) later says = says
+later_caused work v (retire.Load side fault) later says = says
+later_caused work v (retire.Walk fault) later says = says
+later_caused work v (retire.Match fault) later says = says
+later_caused work v (retire.Differ path how) later says = says
+later_caused work v retire.Depth later says = says
+later_caused work v retire.Failed later says = tt
+later_caused work v retire.NoMemory later says = tt
+
+-- more of the fault of an exit
+pub if_err_both : {T : Type 0} (P Q : RetireFault → Type 0) (result : Result T RetireFault) → ((fault : RetireFault) → P fault → Q fault) → IfErr result P → IfErr result Q
+if_err_both P Q (Ok value) more h = tt
+if_err_both P Q (Err fault) more h = more fault h
+
+-- what a test of the work folder found
+pub work_caused : (work : Path) (v : View) (fault : WorkFault) → Says work phase.Done v → OfJournal work v (of_work fault)
+work_caused at v (work.NoParent p) says = says
+work_caused at v (work.WrongKind p) says = says
+work_caused at v (work.Foreign p) says = says
+work_caused at v work.Begun says = says
+work_caused at v work.Depth says = says
+work_caused at v work.Failed says = tt
+work_caused at v work.NoMemory says = tt

@@ -1,0 +1,11 @@
+mod Histories
+mod RetiredTables
+mod CleanVaults
+mod Renamed
+mod Going
+mod Cleared
+mod Lasts
+mod Away
+mod Courses
+mod Blaming
+mod Starts

@@ -1,0 +1,147 @@
+-- What a run finds of a migration at rest: whether its source is there, and that the journal names it.
+use Rattle.std.proofs.Common.{◌≡◌, ◌≢◌, ℕ, List, OnOk, Option, Some, None, Result, Ok, Err, refl, sym, ap, ◌∙◌, subst}
+use Rattle.folder_spec.specs.declared.Kind.{Kind}
+use Rattle.folder_spec.specs.declared.Kind.TheVariants as kind
+use Rattle.folder_spec.specs.Event.{Told}
+use Rattle.folder_spec.specs.Path.{Path}
+use Rattle.folder_spec.specs.Seen.{IsSeen, seen}
+use Rattle.folder_spec.specs.State.{State}
+use Rattle.folder_spec.specs.View.{FileOf, Folder, Found, NoEntry, Special, View, kind_found}
+use Rattle.folder_model.specs.Answers.{Answers}
+use Rattle.migrate_core.specs.Moved.{StandsIn}
+use Rattle.move_journal.specs.Journal.{IsJournal, journal_text}
+use Rattle.move_journal.specs.Reading.{ReadsAs, file_bytes, journal_bytes}
+use Rattle.move_journal.specs.declared.journal.Journal.{Journal}
+use Rattle.move_journal.specs.declared.journal.JournalFault.{JournalFault}
+use Rattle.move_journal.specs.declared.journal.JournalFault.TheVariants as journal
+use Rattle.move_journal.specs.declared.journal.Phase.{Phase}
+use Rattle.move_journal.specs.declared.journal.Phase.TheVariants as phase
+use Rattle.tree_match.specs.Guard as guard
+use Rattle.tree_match.specs.Guard.{Migration, Building, Case, Gone, HasJournal, IsDone, LastJournal, NotBegun, Retired, Stands}
+use Rattle.work_folder.specs.Entries.{journal_path}
+use Rattle.retire_core.proofs.RetiredTables.{HaveOneText, rest_done, rest_retired, rest_seen}
+use Rattle.retire_core.specs.Clearing.{MovesHeldOnly}
+use Rattle.retire_core.specs.Faults.{OfJournal, of_journal}
+use Rattle.retire_core.specs.Guarding.{ComesFromDone, ComesTo, IsAtRest, IsDoneAtRest, KeepsDone, KeepsFromRest}
+use Rattle.retire_core.specs.Retiring.{Retiring}
+
+-- a kind that is Missing is of nothing, and another isn't
+pub missing_none : (x : Found) → kind_found x ≡ kind.Missing → x ≡ NoEntry
+missing_none NoEntry e = refl
+missing_none Folder e = cc e
+missing_none (FileOf bytes) e = cc e
+missing_none Special e = cc e
+
+-- ---- the journal names the source
+
+module _ (one_text : HaveOneText) (g : Migration) (s : State) (journal : Journal) (at : IsAtRest g s) (is_journal : IsJournal journal) (stands : StandsIn g.work journal (seen s)) where
+  clash : {a : List ℕ} → NoEntry ≡ FileOf a → ⊥
+  clash e = cc e
+
+  one_file : {a b : List ℕ} → FileOf a ≡ FileOf b → a ≡ b
+  one_file e = cc e
+
+  named : (p : Phase) → HasJournal g p (seen s) → journal.source ≡ g.source.root
+  named p has =
+      let same : has.journal ≡ journal = one_text has.journal journal has.is is_journal (one_file (sym has.stands ∙ stands)) in
+      ap (λ (j : Journal). j.source) (sym same) ∙ has.tells.source
+
+  by_last : LastJournal g (seen s) → journal.source ≡ g.source.root
+  by_last (Stands has) = named phase.Done has
+  by_last (Gone none) = absurd (clash (sym none ∙ stands))
+
+  by_case : Case g (seen s) → journal.source ≡ g.source.root
+  by_case (NotBegun is) = absurd (clash (sym is.journal ∙ stands))
+  by_case (Building is) = named phase.Building is.journal
+  by_case (guard.Done is) = named phase.Done is.journal
+  by_case (Retired is) = by_last is.journal
+
+  pub names_source : journal.source ≡ g.source.root
+  names_source = by_case (rest_seen g s at).case
+
+-- ---- by what a folder tells
+
+-- what a run knows of a journal
+pub record IsKnown (g : Migration) (journal : Journal) (t : Option Told) : Type 0 where
+  pub one_text : HaveOneText
+  pub is : IsJournal journal
+  pub done : journal.phase ≡ phase.Done
+  pub stands : (v : View) → IsSeen t v → StandsIn g.work journal v
+
+source_is : (g : Migration) (journal : Journal) (a : Told) → IsKnown g journal (Some a) → IsAtRest g a.state → journal.source ≡ g.source.root
+source_is g journal a known at = names_source known.one_text g a.state journal at known.is (known.stands (seen a.state) refl)
+
+-- where the source isn't there, it is retired
+pub comes_missing : (g : Migration) (journal : Journal) (t u : Option Told) → IsKnown g journal t → u ≡ t → ((v : View) → IsSeen t v → v journal.source ≡ NoEntry) → ComesTo g t u
+comes_missing g journal t u known same none = subst (λ w. ComesTo g t w) (sym same) (at_same t known none)
+  where
+    at_same : (o : Option Told) → IsKnown g journal o → ((v : View) → IsSeen o v → v journal.source ≡ NoEntry) → ComesTo g o o
+    at_same None known none = tt
+    at_same (Some a) known none = λ at. rest_retired g a.state at (ap (seen a.state) (sym (source_is g journal a known at)) ∙ none (seen a.state) refl)
+
+-- where it is there, the migration is done
+done_at : (g : Migration) (journal : Journal) (a : Told) → IsKnown g journal (Some a) → ((v : View) → IsSeen (Some a) v → v journal.source ≢ NoEntry) → IsAtRest g a.state → IsDoneAtRest g a.state
+done_at g journal a known there at = record {
+  rest = at;
+  done = rest_done known.one_text g a.state journal at (subst (λ p. seen a.state p ≢ NoEntry) (source_is g journal a known at) (there (seen a.state) refl)) known.is known.done (known.stands (seen a.state) refl);
+}
+
+pub rest_by_done : (g : Migration) (journal : Journal) (r : Retiring) (t u : Option Told) → IsKnown g journal t → ((v : View) → IsSeen t v → v journal.source ≢ NoEntry) → MovesHeldOnly r t u
+    → (g.source.root ≡ journal.source → KeepsDone g t u) → KeepsFromRest g t u
+rest_by_done g journal r (Some a) (Some b) known there shape keeps = λ at. keeps (sym (source_is g journal a known at)) (done_at g journal a known there at)
+rest_by_done g journal r None None known there shape keeps = tt
+rest_by_done g journal r None (Some b) known there shape keeps = absurd shape
+rest_by_done g journal r (Some a) None known there shape keeps = absurd shape
+
+pub comes_by_done : (g : Migration) (journal : Journal) (r : Retiring) (t u : Option Told) → IsKnown g journal t → ((v : View) → IsSeen t v → v journal.source ≢ NoEntry) → MovesHeldOnly r t u
+    → (g.source.root ≡ journal.source → ComesFromDone g t u) → ComesTo g t u
+comes_by_done g journal r (Some a) (Some b) known there shape comes = λ at. comes (sym (source_is g journal a known at)) (done_at g journal a known there at)
+comes_by_done g journal r None None known there shape comes = tt
+comes_by_done g journal r None (Some b) known there shape comes = absurd shape
+comes_by_done g journal r (Some a) None known there shape comes = absurd shape
+
+-- ---- a kind that was asked for
+
+pub there_by_kind : (t : Option Told) (at : Path) (k : Kind) → Answers t (λ v. Unit {0}) (λ v kind. kind ≡ kind_found (v at)) (Ok k) → k ≢ kind.Missing → (v : View) → IsSeen t v → v at ≢ NoEntry
+there_by_kind t at k answer isnt v is none = isnt ((answer v is).1 ∙ ap kind_found none)
+
+pub missing_by_kind : (t : Option Told) (at : Path) (k : Kind) → Answers t (λ v. Unit {0}) (λ v kind. kind ≡ kind_found (v at)) (Ok k) → k ≡ kind.Missing → (v : View) → IsSeen t v → v at ≡ NoEntry
+missing_by_kind t at k answer is v shown = missing_none (v at) (sym (answer v shown).1 ∙ is)
+
+-- ---- the journal that was read
+
+pub journal_stands : (v : View) (work : Path) (journal : Journal) → ReadsAs (journal_bytes v work) (Ok journal) → StandsIn work journal v
+journal_stands v work journal read = by_found (v (journal_path work)) read
+  where
+    by_found : (x : Found) → ReadsAs (file_bytes x) (Ok journal) → x ≡ FileOf (journal_text journal)
+    by_found (FileOf bytes) h = ap FileOf h.1
+    by_found NoEntry h = absurd h
+    by_found Folder h = absurd h
+    by_found Special h = absurd h
+
+-- no other stands there
+pub one_journal : HaveOneText → (v : View) (work : Path) (journal other : Journal) → IsJournal journal → StandsIn work journal v → IsJournal other → StandsIn work other v → journal ≡ other
+one_journal one_text v work journal other is stands is_other stands_too = one_text journal other is is_other (one_file (sym stands ∙ stands_too))
+  where
+    one_file : {a b : List ℕ} → FileOf a ≡ FileOf b → a ≡ b
+    one_file e = cc e
+
+-- ---- answers
+
+pub on_ok_more : {T E : Type 0} (P Q : Type 0) (result : Result T E) → (P → Q) → OnOk result P → OnOk result Q
+on_ok_more P Q (Ok value) more h = more h
+on_ok_more P Q (Err fault) more h = tt
+
+-- what was seen before
+pub moved_before : (r : Retiring) (t u : Option Told) → MovesHeldOnly r t u → (w : View) → IsSeen u w → (v : View) × IsSeen t v
+moved_before r (Some a) (Some b) went w is = (seen a.state, refl)
+moved_before r None (Some b) went w is = absurd went
+moved_before r t None went w is = absurd is
+
+-- why no journal is read
+pub read_caused : (work : Path) (v : View) (fault : JournalFault) → ReadsAs (journal_bytes v work) (Err fault) → OfJournal work v (of_journal fault)
+read_caused work v journal.NoJournal reads = reads
+read_caused work v (journal.BadJournal number) reads = reads
+read_caused work v journal.TooLarge reads = reads
+read_caused work v journal.Failed reads = tt
+read_caused work v journal.NoMemory reads = tt

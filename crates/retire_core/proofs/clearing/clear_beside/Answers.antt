@@ -1,0 +1,45 @@
+use Rattle.std.proofs.Common.{codes, refl}
+use Rattle.retire_core.proofs.Cleared.{on_ok_journal, only_by_old, only_then, rest_by_entry}
+use Rattle.retire_core.proofs.Going.{retiring_then}
+use Rattle.retire_core.proofs.clearing.clear_beside.Goals as goal
+
+pub returns-in_err-clear_entry-clause-clears : goal.returns-in_err-clear_entry-clause-clears
+returns-in_err-clear_entry-clause-clears g c = only_by_old c.args.work.now (g.F.Folder.told c.args.folder.now) (g.F.Folder.told c.clear_entry.new.folder) c.clear_entry.ensures.clears
+
+pub returns-in_err-clear_entry-2-clause-guard : goal.returns-in_err-clear_entry-2-clause-guard
+returns-in_err-clear_entry-2-clause-guard g c = λ migration same.
+    retiring_then migration (g.F.Folder.told c.args.folder.now) (g.F.Folder.told c.clear_entry.new.folder) (g.F.Folder.told c.clear_entry-2.new.folder) (c.clear_entry.ensures.guard migration same) (c.clear_entry-2.ensures.guard migration same)
+
+pub returns-in_err-clear_entry-2-clause-clears : goal.returns-in_err-clear_entry-2-clause-clears
+returns-in_err-clear_entry-2-clause-clears g c =
+    let work = c.args.work.now in
+    let t0 = g.F.Folder.told c.args.folder.now in
+    let t1 = g.F.Folder.told c.clear_entry.new.folder in
+    let t2 = g.F.Folder.told c.clear_entry-2.new.folder in
+    only_then work t0 t1 t2 (only_by_old work t0 t1 c.clear_entry.ensures.clears) (rest_by_entry work (codes "stage") t1 t2 refl c.clear_entry-2.ensures.clears)
+
+pub returns-clause-guard : goal.returns-clause-guard
+returns-clause-guard g c = λ migration same.
+    let t0 = g.F.Folder.told c.args.folder.now in
+    let t1 = g.F.Folder.told c.clear_entry.new.folder in
+    let t2 = g.F.Folder.told c.clear_entry-2.new.folder in
+    let t3 = g.F.Folder.told c.clear_entry-3.new.folder in
+    retiring_then migration t0 t1 t3 (c.clear_entry.ensures.guard migration same) (retiring_then migration t1 t2 t3 (c.clear_entry-2.ensures.guard migration same) (c.clear_entry-3.ensures.guard migration same))
+
+pub returns-clause-clears : goal.returns-clause-clears
+returns-clause-clears g c =
+    let work = c.args.work.now in
+    let t0 = g.F.Folder.told c.args.folder.now in
+    let t1 = g.F.Folder.told c.clear_entry.new.folder in
+    let t2 = g.F.Folder.told c.clear_entry-2.new.folder in
+    let t3 = g.F.Folder.told c.clear_entry-3.new.folder in
+    only_then work t0 t2 t3 (only_then work t0 t1 t2 (only_by_old work t0 t1 c.clear_entry.ensures.clears) (rest_by_entry work (codes "stage") t1 t2 refl c.clear_entry-2.ensures.clears))
+    (rest_by_entry work (codes "journal.new") t2 t3 refl c.clear_entry-3.ensures.clears)
+
+pub returns-clause-cleared : goal.returns-clause-cleared
+returns-clause-cleared g c =
+    let one = c.in_ok-clear_entry.ensures in
+    let two = c.in_ok-clear_entry-2.ensures in
+    let three = c.clear_entry-3.ensures in
+    on_ok_journal c.args.work.now (g.F.Folder.told c.args.folder.now) (g.F.Folder.told c.clear_entry.new.folder) (g.F.Folder.told c.clear_entry-2.new.folder) (g.F.Folder.told c.clear_entry-3.new.folder)
+    c.clear_entry-3.result c.requires.order one.clears two.clears three.clears one.leaves two.leaves three.leaves one.gone two.gone three.gone

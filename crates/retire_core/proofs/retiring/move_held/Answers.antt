@@ -1,0 +1,76 @@
+use Rattle.std.proofs.Common.{◌≡◌, ◌∙◌, OnOk, subst, subst₂}
+use Rattle.folder_spec.specs.Seen.{IsSeen}
+use Rattle.migrate_core.specs.Moved.{opened_in}
+use Rattle.tree_match.specs.Guard.{Migration}
+use Rattle.retire_core.proofs.Away.{StaysInOrder, order_same}
+use Rattle.retire_core.proofs.Courses.{held_moves, held_same}
+use Rattle.retire_core.proofs.Going.{done_same}
+use Rattle.retire_core.specs.Clearing.{MovesHeldOnly}
+use Rattle.retire_core.specs.Guarding.{ComesFromDone, KeepsDone}
+use Rattle.retire_core.specs.Retiring.{AreHeld, retiring_by}
+use Rattle.retire_core.proofs.retiring.move_held.Goals as goal
+
+pub returns-in_err-sides-clause-guard : goal.returns-in_err-sides-clause-guard
+returns-in_err-sides-clause-guard g c = λ migration at_source at_work. done_same migration (g.F.Folder.told c.args.folder.now) (g.F.Folder.told c.load_both.new.folder) c.load_both.ensures.told
+
+pub returns-in_err-sides-clause-moves : goal.returns-in_err-sides-clause-moves
+returns-in_err-sides-clause-moves g c =
+    held_same (retiring_by c.args.work.now c.args.source_pass.now c.args.target_pass.now c.args.journal.now) (g.F.Folder.told c.args.folder.now) (g.F.Folder.told c.load_both.new.folder) c.load_both.ensures.told
+
+pub returns-in_err-sides-clause-leaves : goal.returns-in_err-sides-clause-leaves
+returns-in_err-sides-clause-leaves g c = order_same c.args.work.now (g.F.Folder.told c.args.folder.now) (g.F.Folder.told c.load_both.new.folder) c.load_both.ensures.told
+
+pub returns-in_err-test_held-clause-guard : goal.returns-in_err-test_held-clause-guard
+returns-in_err-test_held-clause-guard g c = λ migration at_source at_work.
+    done_same migration (g.F.Folder.told c.args.folder.now) (g.F.Folder.told c.test_held.new.folder) (c.test_held.ensures.told ∙ c.load_both.ensures.told)
+
+pub returns-in_err-test_held-clause-moves : goal.returns-in_err-test_held-clause-moves
+returns-in_err-test_held-clause-moves g c =
+    held_same (retiring_by c.args.work.now c.args.source_pass.now c.args.target_pass.now c.args.journal.now) (g.F.Folder.told c.args.folder.now) (g.F.Folder.told c.test_held.new.folder) (c.test_held.ensures.told ∙ c.load_both.ensures.told)
+
+pub returns-in_err-test_held-clause-leaves : goal.returns-in_err-test_held-clause-leaves
+returns-in_err-test_held-clause-leaves g c = order_same c.args.work.now (g.F.Folder.told c.args.folder.now) (g.F.Folder.told c.test_held.new.folder) (c.test_held.ensures.told ∙ c.load_both.ensures.told)
+
+pub move_source-requires-clause-there : goal.move_source-requires-clause-there
+move_source-requires-clause-there g c = λ v seen. c.requires.there v (subst (λ t. IsSeen t v) (c.test_held.ensures.told ∙ c.load_both.ensures.told) seen)
+
+pub move_source-requires-clause-free : goal.move_source-requires-clause-free
+move_source-requires-clause-free g c = λ v seen. c.requires.free v (subst (λ t. IsSeen t v) (c.test_held.ensures.told ∙ c.load_both.ensures.told) seen)
+
+pub move_source-requires-clause-folder : goal.move_source-requires-clause-folder
+move_source-requires-clause-folder g c = λ v seen. c.requires.folder v (subst (λ t. IsSeen t v) (c.test_held.ensures.told ∙ c.load_both.ensures.told) seen)
+
+pub returns-clause-guard : goal.returns-clause-guard
+returns-clause-guard g c = λ migration at_source at_work.
+    subst (λ t. KeepsDone migration t (g.F.Folder.told c.move_source.new.folder)) (c.test_held.ensures.told ∙ c.load_both.ensures.told) (c.move_source.ensures.guard migration at_source at_work)
+
+pub returns-clause-comes : goal.returns-clause-comes
+returns-clause-comes g c =
+    subst (λ t. OnOk c.move_source.result ((migration : Migration) → migration.source.root ≡ c.args.journal.now.source → migration.work ≡ c.args.work.now → ComesFromDone migration t (g.F.Folder.told c.move_source.new.folder)))
+    (c.test_held.ensures.told ∙ c.load_both.ensures.told) c.move_source.ensures.comes
+
+pub returns-clause-moves : goal.returns-clause-moves
+returns-clause-moves g c =
+    let r = retiring_by c.args.work.now c.args.source_pass.now c.args.target_pass.now c.args.journal.now in
+    let t0 = g.F.Folder.told c.args.folder.now in
+    let t1 = g.F.Folder.told c.load_both.new.folder in
+    let t2 = g.F.Folder.told c.test_held.new.folder in
+    let t3 = g.F.Folder.told c.move_source.new.folder in
+    let sides = c.in_ok-sides.sides in
+    let loads = c.in_ok-sides.ensures in
+    subst (λ t. MovesHeldOnly r t t3) (c.test_held.ensures.told ∙ c.load_both.ensures.told)
+    (held_moves r t2 t3
+    (λ v seen.
+    let before = subst (λ t. IsSeen t v) c.test_held.ensures.told seen in
+    let first = subst (λ t. IsSeen t v) c.load_both.ensures.told before in
+    record {
+      source = sides.source.vault;
+      target = sides.target.vault;
+      opens_source = loads.opens_source v first;
+      opens_target = loads.opens_target v first;
+      held = subst₂ (λ p q. AreHeld (opened_in p sides.source.vault) (opened_in q sides.target.vault) v) loads.source loads.target (c.in_ok-test_held.ensures.held v before);
+    }) c.move_source.ensures.moves)
+
+pub returns-clause-leaves : goal.returns-clause-leaves
+returns-clause-leaves g c =
+    subst (λ t. StaysInOrder c.args.work.now t (g.F.Folder.told c.move_source.new.folder)) (c.test_held.ensures.told ∙ c.load_both.ensures.told) c.move_source.ensures.leaves

@@ -1,0 +1,141 @@
+use Rattle.std.proofs.Common.{◌≤◌, arith, ◌≡◌, ◌∙◌, codes, subst, sym}
+use Rattle.folder_spec.specs.Seen.{IsSeen}
+use Rattle.folder_spec.specs.View.{FileOf, NoEntry}
+use Rattle.migrate_core.specs.Moved.{StandsIn}
+use Rattle.move_journal.specs.Journal.{journal_text}
+use Rattle.move_journal.specs.declared.journal.Journal.{Journal}
+use Rattle.std.proofs.lemmas.Result.{err_from_is_err_and}
+use Rattle.folder_spec.specs.View.{View}
+use Rattle.port_model.specs.Counts.{CountRose}
+use Rattle.retire_core.proofs.Blaming.{blamed_later, if_err_both, later_caused, later_own, work_caused}
+use Rattle.retire_core.specs.Faults.{Blamed, IsLaterFault, IsRetireFault, OfJournal}
+use Rattle.retire_core.proofs.Courses.{folder_above, in_order, removes_same, retired_by, touches_same}
+use Rattle.retire_core.proofs.Going.{rest_same}
+use Rattle.retire_core.proofs.Starts.{one_journal}
+use Rattle.retire_core.specs.Guarding.{KeepsFromRest}
+use Rattle.retire_core.specs.Retiring.{RemovesOnly, TouchesOnly, retiring_by}
+use Rattle.retire_core.proofs.retiring.retire_settled.Goals as goal
+
+pub returns-in_err-journal-clause-guard : goal.returns-in_err-journal-clause-guard
+returns-in_err-journal-clause-guard g c = λ migration resumed. rest_same migration (g.F.Folder.told c.args.folder.now) (g.F.Folder.told c.read_done.new.folder) c.read_done.ensures.told
+
+pub returns-in_err-journal-clause-touches : goal.returns-in_err-journal-clause-touches
+returns-in_err-journal-clause-touches g c = λ v journal seen is stands.
+    touches_same (retiring_by c.args.work.now c.args.source_pass.now c.args.target_pass.now journal) (g.F.Folder.told c.args.folder.now) (g.F.Folder.told c.read_done.new.folder) c.read_done.ensures.told
+
+pub returns-in_err-journal-clause-removes : goal.returns-in_err-journal-clause-removes
+returns-in_err-journal-clause-removes g c = λ v journal seen is stands.
+    removes_same (retiring_by c.args.work.now c.args.source_pass.now c.args.target_pass.now journal) (g.F.Folder.told c.args.folder.now) (g.F.Folder.told c.read_done.new.folder) c.read_done.ensures.told
+
+pub returns-in_err-test_apart-clause-guard : goal.returns-in_err-test_apart-clause-guard
+returns-in_err-test_apart-clause-guard g c = λ migration resumed. rest_same migration (g.F.Folder.told c.args.folder.now) (g.F.Folder.told c.read_done.new.folder) c.read_done.ensures.told
+
+pub returns-in_err-test_apart-clause-touches : goal.returns-in_err-test_apart-clause-touches
+returns-in_err-test_apart-clause-touches g c = λ v journal seen is stands.
+    touches_same (retiring_by c.args.work.now c.args.source_pass.now c.args.target_pass.now journal) (g.F.Folder.told c.args.folder.now) (g.F.Folder.told c.read_done.new.folder) c.read_done.ensures.told
+
+pub returns-in_err-test_apart-clause-removes : goal.returns-in_err-test_apart-clause-removes
+returns-in_err-test_apart-clause-removes g c = λ v journal seen is stands.
+    removes_same (retiring_by c.args.work.now c.args.source_pass.now c.args.target_pass.now journal) (g.F.Folder.told c.args.folder.now) (g.F.Folder.told c.read_done.new.folder) c.read_done.ensures.told
+
+pub look_again-requires : goal.look_again-requires
+look_again-requires g c = λ v seen.
+    let stands : StandsIn c.args.work.now c.in_ok-journal.journal v = c.in_ok-journal.ensures.stands v (subst (λ t. IsSeen t v) c.read_done.ensures.told seen) in
+    folder_above (g.F.Folder.told c.read_done.new.folder) (g.met.F.Folder.sound c.read_done.new.folder) v seen c.args.work.now (codes "journal")
+    (λ none. let clash : NoEntry ≡ FileOf (journal_text c.in_ok-journal.journal) = sym none ∙ stands in cc clash)
+
+pub returns-in_err-look_again-clause-guard : goal.returns-in_err-look_again-clause-guard
+returns-in_err-look_again-clause-guard g c = λ migration resumed.
+    rest_same migration (g.F.Folder.told c.args.folder.now) (g.F.Folder.told c.look_again.new.folder) (c.look_again.ensures.told ∙ c.read_done.ensures.told)
+
+pub returns-in_err-look_again-clause-touches : goal.returns-in_err-look_again-clause-touches
+returns-in_err-look_again-clause-touches g c = λ v journal seen is stands.
+    touches_same (retiring_by c.args.work.now c.args.source_pass.now c.args.target_pass.now journal) (g.F.Folder.told c.args.folder.now) (g.F.Folder.told c.look_again.new.folder) (c.look_again.ensures.told ∙ c.read_done.ensures.told)
+
+pub returns-in_err-look_again-clause-removes : goal.returns-in_err-look_again-clause-removes
+returns-in_err-look_again-clause-removes g c = λ v journal seen is stands.
+    removes_same (retiring_by c.args.work.now c.args.source_pass.now c.args.target_pass.now journal) (g.F.Folder.told c.args.folder.now) (g.F.Folder.told c.look_again.new.folder) (c.look_again.ensures.told ∙ c.read_done.ensures.told)
+
+pub retire_told-requires-clause-stands : goal.retire_told-requires-clause-stands
+retire_told-requires-clause-stands g c = λ v seen. c.in_ok-journal.ensures.stands v (subst (λ t. IsSeen t v) (c.look_again.ensures.told ∙ c.read_done.ensures.told) seen)
+
+pub retire_told-requires-clause-order : goal.retire_told-requires-clause-order
+retire_told-requires-clause-order g c = λ v seen.
+    let before = subst (λ t. IsSeen t v) c.look_again.ensures.told seen in
+    in_order (g.F.Folder.told c.look_again.new.folder) (g.met.F.Folder.sound c.look_again.new.folder) v seen c.args.work.now (journal_text c.in_ok-journal.journal)
+    (c.in_ok-journal.ensures.stands v (subst (λ t. IsSeen t v) c.read_done.ensures.told before)) (c.in_ok-look_again.ensures.answer v before)
+
+pub returns-clause-guard : goal.returns-clause-guard
+returns-clause-guard g c = λ migration resumed.
+    subst (λ t. KeepsFromRest migration t (g.F.Folder.told c.retire_told.new.folder)) (c.look_again.ensures.told ∙ c.read_done.ensures.told) (c.retire_told.ensures.guard migration resumed)
+
+pub returns-clause-touches : goal.returns-clause-touches
+returns-clause-touches g c = λ v journal seen is stands.
+    let t3 = g.F.Folder.told c.retire_told.new.folder in
+    let work = c.args.work.now in
+    let read = c.in_ok-journal.journal in
+    let pass = c.args.source_pass.now in
+    let pass_too = c.args.target_pass.now in
+    subst (λ (j : Journal). TouchesOnly (retiring_by work pass pass_too j) (g.F.Folder.told c.args.folder.now) t3)
+    (one_journal c.journals_are_read_back.ensures.one v work read journal c.in_ok-journal.ensures.journal (c.in_ok-journal.ensures.stands v seen) is stands)
+    (subst (λ t. TouchesOnly (retiring_by work pass pass_too read) t t3) (c.look_again.ensures.told ∙ c.read_done.ensures.told) c.retire_told.ensures.touches)
+
+pub returns-clause-removes : goal.returns-clause-removes
+returns-clause-removes g c = λ v journal seen is stands.
+    let t3 = g.F.Folder.told c.retire_told.new.folder in
+    let work = c.args.work.now in
+    let read = c.in_ok-journal.journal in
+    let pass = c.args.source_pass.now in
+    let pass_too = c.args.target_pass.now in
+    subst (λ (j : Journal). RemovesOnly (retiring_by work pass pass_too j) (g.F.Folder.told c.args.folder.now) t3)
+    (one_journal c.journals_are_read_back.ensures.one v work read journal c.in_ok-journal.ensures.journal (c.in_ok-journal.ensures.stands v seen) is stands)
+    (subst (λ t. RemovesOnly (retiring_by work pass pass_too read) t t3) (c.look_again.ensures.told ∙ c.read_done.ensures.told) c.retire_told.ensures.removes)
+
+pub returns-clause-retired : goal.returns-clause-retired
+returns-clause-retired g c =
+    retired_by c.args.work.now c.in_ok-journal.journal (g.F.Folder.told c.args.folder.now) (g.F.Folder.told c.retire_told.new.folder) c.retire_told.result c.in_ok-journal.ensures.journal c.in_ok-journal.ensures.phase
+    c.in_ok-journal.ensures.stands c.retire_told.ensures.source c.retire_told.ensures.work c.retire_told.ensures.items
+
+pub returns-in_err-journal-clause-caused : goal.returns-in_err-journal-clause-caused
+returns-in_err-journal-clause-caused g c =
+    let p = err_from_is_err_and c.from_residual.result c.from_residual.ensures.1 in
+    rw (p.1, p.2) c.in_err-journal.ensures.caused
+
+pub returns-in_err-test_apart-clause-blamed : goal.returns-in_err-test_apart-clause-blamed
+returns-in_err-test_apart-clause-blamed g c =
+    let p = err_from_is_err_and c.from_residual-in_err-test_apart.result c.from_residual-in_err-test_apart.ensures.1 in
+    let fault = c.in_err-test_apart.field-0.0 in
+    let blamed = c.in_err-test_apart.ensures.blamed in
+    rw (p.1, p.2) (record { own = later_own fault blamed.own; failed = λ is. absurd (blamed.failed is) })
+
+pub returns-in_err-test_apart-clause-caused : goal.returns-in_err-test_apart-clause-caused
+returns-in_err-test_apart-clause-caused g c =
+    let p = err_from_is_err_and c.from_residual-in_err-test_apart.result c.from_residual-in_err-test_apart.ensures.1 in
+    let read = c.in_ok-journal.ensures in
+    rw (p.1, p.2) (λ v seen. later_caused c.args.work.now v c.in_err-test_apart.field-0.0 c.in_err-test_apart.ensures.blamed.own (record { journal = c.in_ok-journal.journal; is = read.journal; in_phase = read.phase; stands = read.stands v seen }))
+
+pub returns-in_err-look_again-clause-caused : goal.returns-in_err-look_again-clause-caused
+returns-in_err-look_again-clause-caused g c =
+    let p = err_from_is_err_and c.from_residual-in_err-look_again.result c.from_residual-in_err-look_again.ensures.1 in
+    let read = c.in_ok-journal.ensures in
+    rw (p.1, p.2) (λ v seen. work_caused c.args.work.now v c.in_err-look_again.field-0.0 (record { journal = c.in_ok-journal.journal; is = read.journal; in_phase = read.phase; stands = read.stands v seen }))
+
+pub returns-clause-blamed : goal.returns-clause-blamed
+returns-clause-blamed g c =
+    let n0 = g.F.Folder.faults c.args.folder.now in
+    let n1 = g.F.Folder.faults c.read_done.new.folder in
+    let n2 = g.F.Folder.faults c.look_again.new.folder in
+    let n3 = g.F.Folder.faults c.retire_told.new.folder in
+    let one : n0 ≤ n1 = c.read_done.ensures.grows in
+    let two : n1 ≤ n2 = c.look_again.ensures.grows in
+    if_err_both (Blamed IsLaterFault (CountRose n2 n3)) (Blamed IsRetireFault (CountRose n0 n3)) c.retire_told.result (λ fault b. blamed_later n0 n2 n3 (omega (arith, one, two)) fault b) c.retire_told.ensures.blamed
+
+pub returns-clause-caused : goal.returns-clause-caused
+returns-clause-caused g c =
+    let n2 = g.F.Folder.faults c.look_again.new.folder in
+    let n3 = g.F.Folder.faults c.retire_told.new.folder in
+    let t0 = g.F.Folder.told c.args.folder.now in
+    let work = c.args.work.now in
+    let read = c.in_ok-journal.ensures in
+    if_err_both (Blamed IsLaterFault (CountRose n2 n3)) (λ fault. (v : View) → IsSeen t0 v → OfJournal work v fault) c.retire_told.result
+    (λ fault b v seen. later_caused work v fault b.own (record { journal = c.in_ok-journal.journal; is = read.journal; in_phase = read.phase; stands = read.stands v seen })) c.retire_told.ensures.blamed

@@ -1,0 +1,11 @@
+use Rattle.std.proofs.Common.{arith}
+use Rattle.std.proofs.lemmas.Result.{err_from_is_err_and}
+use Rattle.retire_core.proofs.Blaming.{blamed_kind}
+use Rattle.retire_core.proofs.retiring.test_free.Goals as goal
+
+pub returns-in_err-kind-clause-blamed : goal.returns-in_err-kind-clause-blamed
+returns-in_err-kind-clause-blamed g c =
+    let n0 = g.F.Folder.faults c.args.folder.now in
+    let p = err_from_is_err_and c.from_residual-in_err-kind.result c.from_residual-in_err-kind.ensures.1 in
+    rw (p.1, p.2)
+    (blamed_kind (g.F.Folder.told c.args.folder.now) c.in_ok-old.old n0 n0 (g.F.Folder.faults c.kind.new.self) c.in_err-kind.field-0.0 (omega arith) c.in_err-kind.ensures.answer c.in_err-kind.ensures.counts)

@@ -1,0 +1,6 @@
+-- Retiring a source: what is removed and when, how the faults are told, and histories.
+pub mod Faults
+pub mod Retiring
+pub mod History
+pub mod Guarding
+pub mod Clearing

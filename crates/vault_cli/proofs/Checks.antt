@@ -26,13 +26,14 @@ use Rattle.vault_check.specs.declared.fault.CheckFault.TheVariants as check
 use Rattle.vault_cli.specs.Answers.{status_of}
 use Rattle.vault_cli.specs.Faults.{of_check}
 use Rattle.vault_cli.specs.Fsck.{IsReportOf, ShowsVault, Whole, TooMany, TooDeep, TooLong, ShowsReport, OpensWithin, ChecksVault, fault_part, finding_line, finding_name, is_of_checking, note_line, report_text}
-use Rattle.vault_cli.specs.Lines.{answer_to_found, found_line, name_numbered, noted_line, told_text}
+use Rattle.vault_cli.specs.Answers.{name_numbered}
+use Rattle.vault_cli.specs.Lines.{answer_to_found, found_line, noted_line, told_text}
 use Rattle.vault_cli.specs.Opening.{Opens}
 use Rattle.vault_cli.specs.Refusing.{Unless}
 use Rattle.vault_cli.specs.Shown.{Shown, Follows, is_of_opening, refused}
 use Rattle.vault_cli.specs.World.{World}
 use Rattle.vault_cli.specs.declared.answer.Answer.{Answer}
-use Rattle.vault_cli.specs.declared.answer.Answer.TheVariants.{Done, Findings, BadCommandLine, OutOfMemory, FolderFault, InputFault, OutputFault, RandomFault, Refused, WrongPass, NotFound, WrongKind, DamagedInput, Damaged, NotAllowed, Overlap, NotEmpty, Begun, ZeroRandom, Taken, Limit}
+use Rattle.vault_cli.specs.declared.answer.Answer.TheVariants.{Done, Findings, BadCommandLine, OutOfMemory, FolderFault, InputFault, OutputFault, RandomFault, Refused, WrongPass, NotFound, WrongKind, DamagedInput, Damaged, NotAllowed, NotClean, Overlap, NotEmpty, Begun, Unusable, Changed, Differ, ZeroRandom, Taken, Limit, Retired}
 use Rattle.vault_cli.specs.declared.words.Checking.{Checking}
 use Rattle.vault_cli.proofs.Refusals.{opened_alike, opened_gives, opened_is}
 use Rattle.vault_cli.proofs.Showing.{all_or_cut}
@@ -160,6 +161,11 @@ of_checking (NotAllowed path) is = is
 of_checking (Begun work) is = is
 of_checking ZeroRandom is = is
 of_checking (Taken at) is = is
+of_checking (NotClean at number) is = is
+of_checking (Unusable work why) is = is
+of_checking (Changed plan items plan' items') is = is
+of_checking (Differ path how) is = is
+of_checking (Retired work) is = is
 
 pub of_report : (found : List walk.Finding) → IsTrue (is_of_checking (answer_to_found found)) × (answer_to_found found ≢ FolderFault) × (answer_to_found found ≢ OutputFault)
 of_report [] = (refl, λ is. cc, λ is. cc)

@@ -13,19 +13,20 @@ use Rattle.vault_cli.specs.declared.decrypt.DecryptEnd.{DecryptEnd}
 use Rattle.vault_cli.specs.declared.decrypt.DecryptEnd.TheVariants as ends
 use Rattle.vault_cli.specs.Fsck.{is_of_checking}
 use Rattle.vault_cli.specs.Places.{overlap}
-use Rattle.vault_cli.specs.Repair.{RefusesOverlap, RepairsApart, PrintsMoved, is_of_repairing}
+use Rattle.vault_cli.specs.Repair.{HasMovedStrays, RefusesOverlap, RepairsApart, is_of_repairing, moved_text}
 use Rattle.vault_cli.specs.Runs.{Executes}
 use Rattle.vault_cli.specs.Shown.{Shown, TakesAll, TakesSome, Follows, Reads, is_of_reading}
 use Rattle.vault_cli.specs.World.{World}
 use Rattle.vault_spec.specs.Vault.{Either}
 use Rattle.vault_cli.specs.declared.answer.Answer.{Answer}
-use Rattle.vault_cli.specs.declared.answer.Answer.TheVariants.{Done, Findings, BadCommandLine, OutOfMemory, FolderFault, InputFault, OutputFault, RandomFault, Refused, WrongPass, NotFound, WrongKind, DamagedInput, Damaged, NotAllowed, Overlap, NotEmpty, Begun, ZeroRandom, Taken, Limit}
+use Rattle.vault_cli.specs.declared.answer.Answer.TheVariants.{Done, Findings, BadCommandLine, OutOfMemory, FolderFault, InputFault, OutputFault, RandomFault, Refused, WrongPass, NotFound, WrongKind, DamagedInput, Damaged, NotAllowed, NotClean, Overlap, NotEmpty, Begun, Unusable, Changed, Differ, ZeroRandom, Taken, Limit, Retired}
 use Rattle.vault_cli.specs.declared.words.Command.{Command}
-use Rattle.vault_cli.specs.declared.words.Repairing.{Repairing}
-use Rattle.vault_cli.specs.declared.words.Command.TheVariants.{DecryptFile, Init, Ls, Cat, Fsck, Mkdir, Put, Repair}
+use Rattle.vault_cli.specs.declared.words.Command.TheVariants.{DecryptFile, Init, Ls, Cat, Fsck, Mkdir, Put, Repair, Migrate, Resume}
 use Rattle.vault_cli.proofs.Decryptions.{decrypts_nothing, decryption_lost}
 use Rattle.vault_cli.proofs.MadeItems.{makes_no_directory, directory_lost, no_bad_directory}
 use Rattle.vault_cli.proofs.MadeVaults.{makes_no_vault, vault_lost, no_bad_vault}
+use Rattle.vault_cli.proofs.Migrations.{AreSafe, migrates_nothing, migration_lost, no_bad_migration, resumes_nothing, resuming_lost, no_bad_resuming}
+use Rattle.vault_cli.proofs.Printings.{print_lost}
 use Rattle.vault_cli.proofs.StoredFiles.{stores_nothing, file_lost, no_bad_file}
 
 either_of : {P Q : Type 0} (b : Bool) → P → Q → Either b P Q
@@ -41,12 +42,12 @@ reads_nothing Shows told taken = record {
   exactly = λ v shown is shows. inr (inr (inr refl));
 }
 
-pub not_begun : (command : Option Command) (w : World) → Executes command OutOfMemory w w
-not_begun None w = record { answers = inr refl; unchanged = refl; untouched = Keeps-refl w.left; unwritten = Keeps-refl w.taken }
-not_begun (Some (DecryptFile key)) w = decrypts_nothing key w
-not_begun (Some (Ls target)) w = record { reads = reads_nothing _ w.told w.taken; quiet = λ failed. cc; untouched = Keeps-refl w.left }
-not_begun (Some (Cat target)) w = record { reads = reads_nothing _ w.told w.taken; untouched = Keeps-refl w.left }
-not_begun (Some (Fsck target)) w = record {
+pub not_begun : AreSafe → (command : Option Command) (w : World) → Executes command OutOfMemory w w
+not_begun law None w = record { answers = inr refl; unchanged = refl; untouched = Keeps-refl w.left; unwritten = Keeps-refl w.taken }
+not_begun law (Some (DecryptFile key)) w = decrypts_nothing key w
+not_begun law (Some (Ls target)) w = record { reads = reads_nothing _ w.told w.taken; quiet = λ failed. cc; untouched = Keeps-refl w.left }
+not_begun law (Some (Cat target)) w = record { reads = reads_nothing _ w.told w.taken; untouched = Keeps-refl w.left }
+not_begun law (Some (Fsck target)) w = record {
   unchanged = refl;
   own = refl;
   follows = λ v is. inl (Keeps-refl w.taken);
@@ -55,16 +56,18 @@ not_begun (Some (Fsck target)) w = record {
   quiet = λ failed. cc;
   untouched = Keeps-refl w.left;
 }
-not_begun (Some (Repair target)) w = record { apart = either_of (overlap target.vault target.lost) refuses repairs; untouched = Keeps-refl w.left }
+not_begun law (Some (Repair target)) w = record { apart = either_of (overlap target.vault target.lost) refuses repairs; untouched = Keeps-refl w.left }
   where
     refuses : RefusesOverlap target.vault target.lost OutOfMemory w.told w.told w.taken w.taken
     refuses = record { answers = inr refl; unchanged = refl; unwritten = Keeps-refl w.taken }
 
     repairs : RepairsApart target OutOfMemory w.told w.told w.taken w.taken
     repairs = record { own = refl; cause = λ v is. inl (inr (inr refl)); tested = λ is. cc; moves = inl refl; prints = Keeps-refl w.taken }
-not_begun (Some (Init new)) w = makes_no_vault new w
-not_begun (Some (Mkdir change)) w = makes_no_directory change w
-not_begun (Some (Put change)) w = stores_nothing change w
+not_begun law (Some (Init new)) w = makes_no_vault new w
+not_begun law (Some (Mkdir change)) w = makes_no_directory change w
+not_begun law (Some (Put change)) w = stores_nothing change w
+not_begun law (Some (Migrate moving)) w = migrates_nothing moving law w
+not_begun law (Some (Resume resuming)) w = resumes_nothing resuming law w
 
 -- all pieces are the first ones
 all_taken : (Shows : Shown → Type 0) (answer : Answer) (taken taken' : Option (List ℕ)) → TakesAll Shows answer taken taken' → TakesSome Shows taken taken'
@@ -93,6 +96,11 @@ follows_lost Shows (NotAllowed path) taken taken' named follows = all_taken Show
 follows_lost Shows (Begun work) taken taken' named follows = all_taken Shows (Begun work) taken taken' follows
 follows_lost Shows ZeroRandom taken taken' named follows = cc
 follows_lost Shows (Taken at) taken taken' named follows = all_taken Shows (Taken at) taken taken' follows
+follows_lost Shows (NotClean at number) taken taken' named follows = all_taken Shows (NotClean at number) taken taken' follows
+follows_lost Shows (Unusable work why) taken taken' named follows = all_taken Shows (Unusable work why) taken taken' follows
+follows_lost Shows (Changed plan items plan' items') taken taken' named follows = all_taken Shows (Changed plan items plan' items') taken taken' follows
+follows_lost Shows (Differ path how) taken taken' named follows = all_taken Shows (Differ path how) taken taken' follows
+follows_lost Shows (Retired work) taken taken' named follows = all_taken Shows (Retired work) taken taken' follows
 
 reads_lost : (Shows : View → Shown → Type 0) (answer : Answer) (told told' : Option Told) (taken taken' : Option (List ℕ)) → is_plain answer ≡ false
     → Reads Shows answer told told' taken taken' → Reads Shows OutOfMemory told told' taken taken'
@@ -102,31 +110,6 @@ reads_lost Shows answer told told' taken taken' named reads = record {
   follows = λ v is. follows_lost (Shows v) answer taken taken' named (reads.follows v is);
   exactly = λ v shown is shows. inr (inr (inr refl));
 }
-
--- an answer that names something printed nothing
-print_lost : (target : Repairing) (answer : Answer) (told told' : Option Told) (taken taken' : Option (List ℕ)) → is_plain answer ≡ false → PrintsMoved target answer told told' taken taken'
-    → PrintsMoved target OutOfMemory told told' taken taken'
-print_lost target Done told told' taken taken' named prints = cc
-print_lost target Findings told told' taken taken' named prints = cc
-print_lost target BadCommandLine told told' taken taken' named prints = cc
-print_lost target OutOfMemory told told' taken taken' named prints = cc
-print_lost target FolderFault told told' taken taken' named prints = cc
-print_lost target InputFault told told' taken taken' named prints = cc
-print_lost target OutputFault told told' taken taken' named prints = cc
-print_lost target RandomFault told told' taken taken' named prints = cc
-print_lost target ZeroRandom told told' taken taken' named prints = cc
-print_lost target (NotAllowed path) told told' taken taken' named prints = prints
-print_lost target (Begun work) told told' taken taken' named prints = prints
-print_lost target (Taken at) told told' taken taken' named prints = prints
-print_lost target (Refused at why) told told' taken taken' named prints = prints
-print_lost target (WrongPass root) told told' taken taken' named prints = prints
-print_lost target (NotFound what) told told' taken taken' named prints = prints
-print_lost target (WrongKind what) told told' taken taken' named prints = prints
-print_lost target (DamagedInput fault) told told' taken taken' named prints = prints
-print_lost target (Damaged at how) told told' taken taken' named prints = prints
-print_lost target (Overlap first second) told told' taken taken' named prints = prints
-print_lost target (NotEmpty at) told told' taken taken' named prints = prints
-print_lost target (Limit which) told told' taken taken' named prints = prints
 
 lost : (command : Option Command) (answer : Answer) (before after : World) → is_plain answer ≡ false → Executes command answer before after → Executes command OutOfMemory before after
 lost None answer before after named did = record { answers = inr refl; unchanged = did.unchanged; untouched = did.untouched; unwritten = did.unwritten }
@@ -155,11 +138,13 @@ lost (Some (Repair target)) answer before after named did =
       cause = λ v is. inl (inr (inr refl));
       tested = λ is. cc;
       moves = repairs.moves;
-      prints = print_lost target answer before.told after.told before.taken after.taken named repairs.prints;
+      prints = print_lost moved_text (λ moved. HasMovedStrays target moved before.told after.told) answer before.taken after.taken named repairs.prints;
     }
 lost (Some (Init new)) answer before after named did = vault_lost new answer before after named did
 lost (Some (Mkdir change)) answer before after named did = directory_lost change answer before after named did
 lost (Some (Put change)) answer before after named did = file_lost change answer before after named did
+lost (Some (Migrate moving)) answer before after named did = migration_lost moving answer before after named did
+lost (Some (Resume resuming)) answer before after named did = resuming_lost resuming answer before after named did
 
 -- what holds of an answer holds of the one that its report gives back
 pub reported : (command : Option Command) (answer result : Answer) (before after : World) → (result ≡ answer) ⊎ ((result ≡ OutOfMemory) × (is_plain answer ≡ false))
@@ -205,6 +190,11 @@ is_answer_of (NotEmpty at) few = absurd (omega (arith, few))
 is_answer_of (Begun work) few = absurd (omega (arith, few))
 is_answer_of ZeroRandom few = absurd (omega (arith, few))
 is_answer_of (Taken at) few = absurd (omega (arith, few))
+is_answer_of (NotClean at number) few = absurd (omega (arith, few))
+is_answer_of (Unusable work why) few = absurd (omega (arith, few))
+is_answer_of (Changed plan items plan' items') few = absurd (omega (arith, few))
+is_answer_of (Differ path how) few = absurd (omega (arith, few))
+is_answer_of (Retired work) few = absurd (omega (arith, few))
 is_answer_of (Limit which) few = absurd (omega (arith, few))
 
 pub with_status : (answer : Answer) (status : ℕ) → status ≤ 7 → status_of answer ≡ status → answer ≡ answer_of status
@@ -236,6 +226,8 @@ bad_is_none (Some (Repair target)) answer before after is did = absurd (by (over
 bad_is_none (Some (Init new)) answer before after is did = absurd (no_bad_vault new answer before after (bad_of_status answer is) did)
 bad_is_none (Some (Mkdir change)) answer before after is did = absurd (no_bad_directory change answer before after (bad_of_status answer is) did)
 bad_is_none (Some (Put change)) answer before after is did = absurd (no_bad_file change answer before after (bad_of_status answer is) did)
+bad_is_none (Some (Migrate moving)) answer before after is did = absurd (no_bad_migration moving answer before after (bad_of_status answer is) did)
+bad_is_none (Some (Resume resuming)) answer before after is did = absurd (no_bad_resuming resuming answer before after (bad_of_status answer is) did)
 
 pub none_is_bad : (command : Option Command) (answer : Answer) (before after : World) → IsNone command → Executes command answer before after → (status_of answer ≡ 2) ⊎ (status_of answer ≡ 3)
 none_is_bad None answer before after none did = elim did.answers [ inl bad ↦ inl (ap status_of bad) | inr memory ↦ inr (ap status_of memory) ]

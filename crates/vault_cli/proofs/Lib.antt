@@ -7,8 +7,10 @@ mod Founding
 mod Listings
 mod MadeItems
 mod MadeVaults
+mod Migrations
 mod NamingLines
 mod Outcomes
+mod Printings
 mod Refusals
 mod Repairs
 mod Showing

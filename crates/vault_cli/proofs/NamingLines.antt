@@ -2,7 +2,7 @@
 use Rattle.std.proofs.Common.{◌≡◌, false, refl}
 use Rattle.vault_cli.specs.Answers.{is_plain, line, line_of, message_of}
 use Rattle.vault_cli.specs.declared.answer.Answer.{Answer}
-use Rattle.vault_cli.specs.declared.answer.Answer.TheVariants.{Done, Findings, BadCommandLine, OutOfMemory, FolderFault, InputFault, OutputFault, RandomFault, Refused, WrongPass, NotFound, WrongKind, DamagedInput, Damaged, NotAllowed, Overlap, NotEmpty, Begun, ZeroRandom, Taken, Limit}
+use Rattle.vault_cli.specs.declared.answer.Answer.TheVariants.{Done, Findings, BadCommandLine, OutOfMemory, FolderFault, InputFault, OutputFault, RandomFault, Refused, WrongPass, NotFound, WrongKind, DamagedInput, Damaged, NotAllowed, NotClean, Overlap, NotEmpty, Begun, Unusable, Changed, Differ, ZeroRandom, Taken, Limit, Retired}
 
 -- it has a message, and so a line
 pub naming_line : (answer : Answer) → is_plain answer ≡ false → line_of answer ≡ line (message_of answer)
@@ -27,3 +27,8 @@ naming_line (NotAllowed path) is = refl
 naming_line (Begun work) is = refl
 naming_line ZeroRandom is = cc
 naming_line (Taken at) is = refl
+naming_line (NotClean at number) is = refl
+naming_line (Unusable work why) is = refl
+naming_line (Changed plan items plan' items') is = refl
+naming_line (Differ path how) is = refl
+naming_line (Retired work) is = refl

@@ -15,9 +15,9 @@ use Rattle.vault_spec.specs.Vault.{Vault, LoadRefusal, Loads, Either}
 use Rattle.vault_spec.specs.Vault as vault
 use Rattle.work_folder.specs.Looking as work
 use Rattle.vault_cli.specs.Beginning.{OfSite, OfWork}
-use Rattle.vault_cli.specs.Faults.{of_work}
+use Rattle.vault_cli.specs.Faults.{of_load, of_work}
 use Rattle.vault_cli.specs.Opening.{IsPhrase, Opens, passphrase_in, OfPassFile, OfVault, OfOpened, answer_to_refusal}
-use Rattle.vault_cli.specs.Refusing.{Unless, RefusesPass, RefusesOpening, of_load}
+use Rattle.vault_cli.specs.Refusing.{Unless, RefusesPass, RefusesOpening}
 use Rattle.vault_cli.specs.Shown.{Shown, refused}
 use Rattle.vault_cli.specs.declared.answer.Answer.{Answer}
 use Rattle.vault_cli.specs.declared.answer.Answer.TheVariants.{OutOfMemory, Refused, NotFound, WrongKind, Limit}

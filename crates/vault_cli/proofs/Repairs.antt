@@ -1,7 +1,6 @@
 -- What `repair` did, from what its parts say.
 use Rattle.std.proofs.Common.{◌≡◌, ℕ, false, List, [], Option, Some, None, Err, inl, inr, refl, sym, ◌∙◌, subst}
-use Rattle.std.specs.Prelude.{◌⊎◌, IsTrue, is_some}
-use Rattle.std.proofs.KnownBytes.{Keeps-refl}
+use Rattle.std.specs.Prelude.{◌≢◌, ◌⊎◌, IsTrue, is_some}
 use Rattle.std.proofs.lemmas.Bool.{or_parts}
 use Rattle.port_model.specs.Counts.{CountRose}
 use Rattle.folder_model.specs.Answers.{Answers, Counts}
@@ -29,10 +28,12 @@ use Rattle.vault_cli.specs.Faults.{of_check, of_folder}
 use Rattle.vault_cli.specs.Opening.{Opens}
 use Rattle.vault_cli.specs.Refusing.{Unless, RefusesOpening}
 use Rattle.vault_cli.specs.Places.{OfDirectory, OfMissing, OfFree, overlap}
-use Rattle.vault_cli.specs.Repair.{IsOfMoving, TooMany, TooDeep, OfRepairing, MovesStrays, HasMovedStrays, Prints, PrintsMoved, RefusesOverlap, RepairsApart, is_of_moving, is_of_repairing, is_of_test}
+use Rattle.vault_cli.specs.Repair.{IsOfMoving, TooMany, TooDeep, OfRepairing, MovesStrays, HasMovedStrays, RefusesOverlap, RepairsApart, is_of_moving, is_of_repairing, is_of_test, moved_text}
+use Rattle.vault_cli.specs.Printing.{PrintsText}
+use Rattle.vault_cli.proofs.Printings.{IsPrinted, nothing_printed, printed}
 use Rattle.vault_cli.specs.Shown.{IsCutShort, is_of_opening, refused}
 use Rattle.vault_cli.specs.declared.answer.Answer.{Answer}
-use Rattle.vault_cli.specs.declared.answer.Answer.TheVariants.{Done, Findings, BadCommandLine, OutOfMemory, FolderFault, InputFault, OutputFault, RandomFault, Refused, WrongPass, NotFound, WrongKind, DamagedInput, Damaged, NotAllowed, Overlap, NotEmpty, Begun, ZeroRandom, Taken, Limit}
+use Rattle.vault_cli.specs.declared.answer.Answer.TheVariants.{Done, Findings, BadCommandLine, OutOfMemory, FolderFault, InputFault, OutputFault, RandomFault, Refused, WrongPass, NotFound, WrongKind, DamagedInput, Damaged, NotAllowed, NotClean, Overlap, NotEmpty, Begun, Unusable, Changed, Differ, ZeroRandom, Taken, Limit, Retired}
 use Rattle.vault_cli.specs.declared.words.Repairing.{Repairing}
 use Rattle.vault_cli.proofs.Refusals.{opened_gives, unless_opened}
 
@@ -167,6 +168,11 @@ opening_moves (NotAllowed path) is = is
 opening_moves (Begun work) is = is
 opening_moves ZeroRandom is = is
 opening_moves (Taken at) is = is
+opening_moves (NotClean at number) is = is
+opening_moves (Unusable work why) is = is
+opening_moves (Changed plan items plan' items') is = is
+opening_moves (Differ path how) is = is
+opening_moves (Retired work) is = is
 
 -- ---- the whole
 
@@ -192,35 +198,22 @@ of_repairing (NotAllowed path) is = is
 of_repairing (Begun work) is = is
 of_repairing ZeroRandom is = is
 of_repairing (Taken at) is = is
+of_repairing (NotClean at number) is = is
+of_repairing (Unusable work why) is = is
+of_repairing (Changed plan items plan' items') is = is
+of_repairing (Differ path how) is = is
+of_repairing (Retired work) is = is
 
 cut_or : (answer : Answer) (P : Type 0) → Unless answer P → IsCutShort answer ⊎ P
 cut_or answer P (inl failed) = inl (inl failed)
 cut_or answer P (inr (inl memory)) = inl (inr (inr memory))
 cut_or answer P (inr (inr holds)) = inr holds
 
--- nothing is written where nothing was printed
-unprinted : (target : Repairing) (answer : Answer) (told told' : Option Told) (taken : Option (List ℕ)) → IsTrue (is_of_moving answer) → PrintsMoved target answer told told' taken taken
-unprinted target Done told told' taken is = cc
-unprinted target OutputFault told told' taken is = cc
-unprinted target Findings told told' taken is = Keeps-refl taken
-unprinted target BadCommandLine told told' taken is = Keeps-refl taken
-unprinted target OutOfMemory told told' taken is = Keeps-refl taken
-unprinted target FolderFault told told' taken is = Keeps-refl taken
-unprinted target InputFault told told' taken is = Keeps-refl taken
-unprinted target (Refused at why) told told' taken is = Keeps-refl taken
-unprinted target (WrongPass root) told told' taken is = Keeps-refl taken
-unprinted target (NotFound what) told told' taken is = Keeps-refl taken
-unprinted target (WrongKind what) told told' taken is = Keeps-refl taken
-unprinted target (DamagedInput fault) told told' taken is = Keeps-refl taken
-unprinted target (Damaged at how) told told' taken is = Keeps-refl taken
-unprinted target (Overlap first second) told told' taken is = Keeps-refl taken
-unprinted target (NotEmpty at) told told' taken is = Keeps-refl taken
-unprinted target (Limit which) told told' taken is = Keeps-refl taken
-unprinted target RandomFault told told' taken is = Keeps-refl taken
-unprinted target (NotAllowed path) told told' taken is = Keeps-refl taken
-unprinted target (Begun work) told told' taken is = Keeps-refl taken
-unprinted target ZeroRandom told told' taken is = Keeps-refl taken
-unprinted target (Taken at) told told' taken is = Keeps-refl taken
+not_done : (answer : Answer) → IsTrue (is_of_moving answer) → answer ≢ Done
+not_done answer own same = let none : IsTrue (is_of_moving Done) = subst (λ a. IsTrue (is_of_moving a)) same own in cc
+
+not_output : (answer : Answer) → IsTrue (is_of_moving answer) → answer ≢ OutputFault
+not_output answer own same = let none : IsTrue (is_of_moving OutputFault) = subst (λ a. IsTrue (is_of_moving a)) same own in cc
 
 pub repair_refused : (target : Repairing) (answer : Answer) (told told' : Option Told) (taken : Option (List ℕ)) → IsTrue (is_of_moving answer)
     → ((v : View) → IsSeen told v → Unless answer (OfRepairing target v answer)) → (IsTrue (is_of_test answer) → told' ≡ told) → (told' ≡ told) ⊎ MovesStrays target told told'
@@ -230,7 +223,7 @@ repair_refused target answer told told' taken own cause tested moves = record {
   cause = λ v is. cut_or answer (OfRepairing target v answer) (cause v is);
   tested = tested;
   moves = moves;
-  prints = unprinted target answer told told' taken own;
+  prints = nothing_printed moved_text (λ moved. HasMovedStrays target moved told told') answer taken (not_done answer own) (not_output answer own);
 }
 
 pub refused_apart : (target : Repairing) (answer : Answer) (told told' : Option Told) (taken : Option (List ℕ)) → overlap target.vault target.lost ≡ false → RepairsApart target answer told told' taken taken
@@ -238,30 +231,27 @@ pub refused_apart : (target : Repairing) (answer : Answer) (told told' : Option 
 refused_apart target answer told told' taken apart repairs =
     subst (λ b. Either b (RefusesOverlap target.vault target.lost answer told told' taken taken) (RepairsApart target answer told told' taken taken)) (sym apart) repairs
 
+own_printed : (answer : Answer) → IsPrinted answer → IsTrue (is_of_repairing answer)
+own_printed answer (inl done) = subst (λ a. IsTrue (is_of_repairing a)) (sym done) refl
+own_printed answer (inr (inl output)) = subst (λ a. IsTrue (is_of_repairing a)) (sym output) refl
+own_printed answer (inr (inr memory)) = subst (λ a. IsTrue (is_of_repairing a)) (sym memory) refl
+
+cause_printed : (target : Repairing) (v : View) (answer : Answer) → OfRepairing target v Done → IsPrinted answer → IsCutShort answer ⊎ OfRepairing target v answer
+cause_printed target v answer passed (inl done) = inr (subst (λ a. OfRepairing target v a) (sym done) passed)
+cause_printed target v answer passed (inr output) = inl (inr output)
+
+not_of_test : (answer : Answer) → IsPrinted answer → ¬ IsTrue (is_of_test answer)
+not_of_test answer (inl done) test = let none : IsTrue (is_of_test Done) = subst (λ a. IsTrue (is_of_test a)) done test in cc
+not_of_test answer (inr (inl output)) test = let none : IsTrue (is_of_test OutputFault) = subst (λ a. IsTrue (is_of_test a)) output test in cc
+not_of_test answer (inr (inr memory)) test = let none : IsTrue (is_of_test OutOfMemory) = subst (λ a. IsTrue (is_of_test a)) memory test in cc
+
 pub repair_printed : (target : Repairing) (moved : List Path) (answer : Answer) (told told' : Option Told) (taken taken' : Option (List ℕ)) → HasMovedStrays target moved told told'
-    → ((v : View) → IsSeen told v → OfRepairing target v Done) → (told' ≡ told) ⊎ MovesStrays target told told' → Prints moved answer taken taken'
-    → (answer ≡ Done) ⊎ ((answer ≡ OutputFault) ⊎ (answer ≡ OutOfMemory)) → RepairsApart target answer told told' taken taken'
-repair_printed target moved answer told told' taken taken' has passed moves prints (inl done) =
-    subst (λ a. RepairsApart target a told told' taken taken') (sym done) (record {
-      own = refl;
-      cause = λ v is. inr (passed v is);
-      tested = λ is. cc;
-      moves = moves;
-      prints = (moved, has, subst (λ a. Prints moved a taken taken') done prints);
-    })
-repair_printed target moved answer told told' taken taken' has passed moves prints (inr (inl output)) =
-    subst (λ a. RepairsApart target a told told' taken taken') (sym output) (record {
-      own = refl;
-      cause = λ v is. inl (inr (inl refl));
-      tested = λ is. cc;
-      moves = moves;
-      prints = (moved, has, subst (λ a. Prints moved a taken taken') output prints);
-    })
-repair_printed target moved answer told told' taken taken' has passed moves prints (inr (inr memory)) =
-    subst (λ a. RepairsApart target a told told' taken taken') (sym memory) (record {
-      own = refl;
-      cause = λ v is. inl (inr (inr refl));
-      tested = λ is. cc;
-      moves = moves;
-      prints = subst (λ a. Prints moved a taken taken') memory prints;
-    })
+    → ((v : View) → IsSeen told v → OfRepairing target v Done) → (told' ≡ told) ⊎ MovesStrays target told told' → PrintsText (moved_text moved) answer taken taken'
+    → IsPrinted answer → RepairsApart target answer told told' taken taken'
+repair_printed target moved answer told told' taken taken' has passed moves prints is_printed = record {
+  own = own_printed answer is_printed;
+  cause = λ v is. cause_printed target v answer (passed v is) is_printed;
+  tested = λ test. absurd (not_of_test answer is_printed test);
+  moves = moves;
+  prints = printed moved_text (λ moved. HasMovedStrays target moved told told') moved answer taken taken' has prints is_printed;
+}

@@ -7,7 +7,7 @@ use Rattle.folder_spec.specs.Event.{Told}
 use Rattle.folder_spec.specs.View.{View}
 use Rattle.folder_spec.specs.Seen.{IsSeen}
 use Rattle.vault_cli.specs.declared.answer.Answer.{Answer}
-use Rattle.vault_cli.specs.declared.answer.Answer.TheVariants.{Done, Findings, BadCommandLine, OutOfMemory, FolderFault, InputFault, OutputFault, RandomFault, Refused, WrongPass, NotFound, WrongKind, DamagedInput, Damaged, NotAllowed, Overlap, NotEmpty, Begun, ZeroRandom, Taken, Limit}
+use Rattle.vault_cli.specs.declared.answer.Answer.TheVariants.{Done, Findings, BadCommandLine, OutOfMemory, FolderFault, InputFault, OutputFault, RandomFault, Refused, WrongPass, NotFound, WrongKind, DamagedInput, Damaged, NotAllowed, NotClean, Overlap, NotEmpty, Begun, Unusable, Changed, Differ, ZeroRandom, Taken, Limit, Retired}
 use Rattle.vault_cli.specs.Refusing.{Unless}
 use Rattle.vault_cli.specs.Shown.{Shown, refused, TakesAll, Follows, IsCutShort, Reads, is_of_opening, is_of_reading, is_refusal}
 
@@ -42,6 +42,11 @@ follows_refused Shows (NotAllowed path) taken taken' keeps shows = (refused (Not
 follows_refused Shows (Begun work) taken taken' keeps shows = (refused (Begun work), shows, refl, nothing taken taken' keeps)
 follows_refused Shows ZeroRandom taken taken' keeps shows = (refused ZeroRandom, shows, refl, nothing taken taken' keeps)
 follows_refused Shows (Taken at) taken taken' keeps shows = (refused (Taken at), shows, refl, nothing taken taken' keeps)
+follows_refused Shows (NotClean at number) taken taken' keeps shows = (refused (NotClean at number), shows, refl, nothing taken taken' keeps)
+follows_refused Shows (Unusable work why) taken taken' keeps shows = (refused (Unusable work why), shows, refl, nothing taken taken' keeps)
+follows_refused Shows (Changed plan items plan' items') taken taken' keeps shows = (refused (Changed plan items plan' items'), shows, refl, nothing taken taken' keeps)
+follows_refused Shows (Differ path how) taken taken' keeps shows = (refused (Differ path how), shows, refl, nothing taken taken' keeps)
+follows_refused Shows (Retired work) taken taken' keeps shows = (refused (Retired work), shows, refl, nothing taken taken' keeps)
 
 pub follows_unless : (Shows : Shown → Type 0) (answer : Answer) (taken taken' : Option (List ℕ)) → Keeps taken taken' → Unless answer (Shows (refused answer)) → Follows Shows answer taken taken'
 follows_unless Shows answer taken taken' keeps (inl failed) = subst (λ a. Follows Shows a taken taken') (sym failed) (inl keeps)
@@ -71,6 +76,11 @@ all_or_cut Shows (NotAllowed path) taken taken' follows = inl follows
 all_or_cut Shows (Begun work) taken taken' follows = inl follows
 all_or_cut Shows ZeroRandom taken taken' follows = inl follows
 all_or_cut Shows (Taken at) taken taken' follows = inl follows
+all_or_cut Shows (NotClean at number) taken taken' follows = inl follows
+all_or_cut Shows (Unusable work why) taken taken' follows = inl follows
+all_or_cut Shows (Changed plan items plan' items') taken taken' follows = inl follows
+all_or_cut Shows (Differ path how) taken taken' follows = inl follows
+all_or_cut Shows (Retired work) taken taken' follows = inl follows
 
 -- the answer is what is shown, unless it is cut short
 exactly : (Shows : Shown → Type 0) (answer : Answer) (taken taken' : Option (List ℕ)) (shown : Shown) → IsOne Shows → Shows shown → Follows Shows answer taken taken' → (answer ≡ shown.answer) ⊎ IsCutShort answer
@@ -111,6 +121,11 @@ of_reading (NotAllowed path) is = is
 of_reading (Begun work) is = is
 of_reading ZeroRandom is = is
 of_reading (Taken at) is = is
+of_reading (NotClean at number) is = is
+of_reading (Unusable work why) is = is
+of_reading (Changed plan items plan' items') is = is
+of_reading (Differ path how) is = is
+of_reading (Retired work) is = is
 
 -- a vault that isn't opened is a refusal
 pub opening_refuses : (answer : Answer) → IsTrue (is_of_opening answer) → IsTrue (is_refusal answer)
@@ -135,6 +150,11 @@ opening_refuses (NotAllowed path) is = is
 opening_refuses (Begun work) is = is
 opening_refuses ZeroRandom is = is
 opening_refuses (Taken at) is = is
+opening_refuses (NotClean at number) is = is
+opening_refuses (Unusable work why) is = is
+opening_refuses (Changed plan items plan' items') is = is
+opening_refuses (Differ path how) is = is
+opening_refuses (Retired work) is = is
 
 -- a refusal is no fault of the output
 pub refusal_is_no_output_fault : (answer : Answer) → IsTrue (is_refusal answer) → answer ≢ OutputFault

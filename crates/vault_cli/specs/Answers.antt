@@ -1,21 +1,26 @@
 -- How a command ends: its status and its message. Each message is one line on the error stream, and a command that is done writes
 -- none, nor does a check that has findings. Paths, and the texts of a configuration, are in their shown form.
-use Rattle.std.specs.Prelude.{ℕ, Bool, true, false, List, [], ◌∷◌, ◌++◌, ◌⊎◌, codes, Option}
+use Rattle.std.specs.Prelude.{ℕ, Bool, true, false, List, [], ◌∷◌, ◌++◌, ◌⊎◌, codes, decimal, nat_eq, if◌then◌else◌, Option}
 use Rattle.std.specs.Io.KnownBytes.{Appends}
 use Rattle.port_model.specs.Counts.{CountRose}
 use Rattle.port_model.specs.Told.{AppendsPrefix}
 use Rattle.chunk_files.specs.Fault.{fault_text}
 use Rattle.cryptomator_conf.specs.Fault as cryptomator
 use Rattle.gocrypt_conf.specs.Fault as gocryptfs
+use Rattle.hex.specs.Hex.{encode_lower}
 use Rattle.plain_tree.specs.Shown.{shown, shown_path}
+use Rattle.tree_match.specs.declared.answer.Where.{Where}
+use Rattle.tree_match.specs.declared.answer.Where.TheVariants as differs
 use Rattle.vault_cli.specs.declared.answer.Answer.{Answer}
-use Rattle.vault_cli.specs.declared.answer.Answer.TheVariants.{Done, Findings, BadCommandLine, OutOfMemory, FolderFault, InputFault, OutputFault, RandomFault, Refused, WrongPass, NotFound, WrongKind, DamagedInput, Damaged, NotAllowed, Overlap, NotEmpty, Begun, ZeroRandom, Taken, Limit}
+use Rattle.vault_cli.specs.declared.answer.Answer.TheVariants.{Done, Findings, BadCommandLine, OutOfMemory, FolderFault, InputFault, OutputFault, RandomFault, Refused, WrongPass, NotFound, WrongKind, DamagedInput, Damaged, NotAllowed, NotClean, Overlap, NotEmpty, Begun, Unusable, Changed, Differ, ZeroRandom, Taken, Limit, Retired}
 use Rattle.vault_cli.specs.declared.answer.Named.{Named}
 use Rattle.vault_cli.specs.declared.answer.Named.TheVariants as named
 use Rattle.vault_cli.specs.declared.answer.Refusal.{Refusal}
 use Rattle.vault_cli.specs.declared.answer.Refusal.TheVariants as refusal
 use Rattle.vault_cli.specs.declared.answer.Damage.{Damage}
 use Rattle.vault_cli.specs.declared.answer.Damage.TheVariants as damage
+use Rattle.vault_cli.specs.declared.answer.Flaw.{Flaw}
+use Rattle.vault_cli.specs.declared.answer.Flaw.TheVariants as flaw
 use Rattle.vault_cli.specs.declared.answer.Limit as limits
 use Rattle.vault_cli.specs.declared.answer.Limit.TheVariants as limit
 
@@ -35,12 +40,17 @@ status_of (WrongKind what) = 11
 status_of (DamagedInput fault) = 12
 status_of (Damaged at how) = 12
 status_of (NotAllowed path) = 13
+status_of (NotClean at number) = 14
 status_of (Overlap first second) = 15
 status_of (NotEmpty at) = 16
 status_of (Begun work) = 17
+status_of (Unusable work why) = 18
+status_of (Changed plan items plan' items') = 19
+status_of (Differ path how) = 20
 status_of ZeroRandom = 21
 status_of (Taken at) = 22
 status_of (Limit which) = 23
+status_of (Retired work) = 24
 
 abbrev pub named_text : Named → List ℕ
 named_text (named.Folder at) = shown_path at
@@ -64,6 +74,39 @@ limit_text limit.PassFile = codes "pass file"
 limit_text limit.Input = codes "input"
 limit_text limit.Removal = codes "removal"
 
+-- the name of the findings of a number
+abbrev pub name_numbered : ℕ → List ℕ
+name_numbered n =
+    if nat_eq n 1 then codes "BadStoredName"
+    else if nat_eq n 2 then codes "NoDirKey"
+    else if nat_eq n 3 then codes "LongNameLost"
+    else if nat_eq n 4 then codes "OrphanLongName"
+    else if nat_eq n 5 then codes "DirIdTwice"
+    else if nat_eq n 6 then codes "NoFolder"
+    else if nat_eq n 7 then codes "OrphanFolder"
+    else if nat_eq n 8 then codes "SymlinkFound"
+    else if nat_eq n 9 then codes "WrongKind"
+    else if nat_eq n 10 then codes "ExtraEntry"
+    else if nat_eq n 11 then codes "TwoKinds"
+    else if nat_eq n 12 then codes "HeaderDamaged"
+    else if nat_eq n 13 then codes "ChunkDamaged"
+    else codes "EmptyOrphan"
+
+abbrev pub flaw_text : Flaw → List ℕ
+flaw_text flaw.Missing = codes "missing"
+flaw_text (flaw.Line number) = codes "line " ++ decimal number
+flaw_text flaw.Building = codes "building"
+
+-- a digest and a number of items
+abbrev pub plan_text : List ℕ → ℕ → List ℕ
+plan_text plan items = encode_lower plan ++ codes " " ++ decimal items
+
+abbrev pub differing_text : Where → List ℕ
+differing_text differs.Missing = codes "missing"
+differing_text differs.Kind = codes "kind"
+differing_text differs.Content = codes "content"
+differing_text differs.Extra = codes "extra"
+
 abbrev pub message_of : Answer → List ℕ
 message_of Done = []
 message_of Findings = []
@@ -80,12 +123,17 @@ message_of (WrongKind what) = codes "wrong kind: " ++ named_text what
 message_of (DamagedInput fault) = codes "damaged: input: " ++ fault_text fault
 message_of (Damaged at how) = codes "damaged: " ++ shown_path at ++ codes ": " ++ damage_text how
 message_of (NotAllowed path) = codes "name not allowed: " ++ shown_path path
+message_of (NotClean at number) = codes "vault not clean: " ++ shown_path at ++ codes ": " ++ name_numbered number
 message_of (Overlap first second) = codes "folders overlap: " ++ shown_path first ++ codes " " ++ shown_path second
 message_of (NotEmpty at) = codes "not empty: " ++ shown_path at
 message_of (Begun work) = codes "already begun: " ++ shown_path work
+message_of (Unusable work why) = codes "no usable journal: " ++ shown_path work ++ codes ": " ++ flaw_text why
+message_of (Changed plan items plan' items') = codes "source changed: " ++ plan_text plan items ++ codes " " ++ plan_text plan' items'
+message_of (Differ path how) = codes "trees differ: " ++ shown_path path ++ codes ": " ++ differing_text how
 message_of ZeroRandom = codes "zero random bytes"
 message_of (Taken at) = codes "place taken: " ++ shown_path at
 message_of (Limit which) = codes "limit: " ++ limit_text which
+message_of (Retired work) = codes "source retired: " ++ shown_path work
 
 abbrev pub line : List ℕ → List ℕ
 line text = codes "vaultmove: " ++ text ++ 10 ∷ []

@@ -6,17 +6,21 @@ use Rattle.std.specs.Result.{result_ok}
 use Rattle.folder_model.specs.Text.{is_path_text, parts_of}
 use Rattle.folder_spec.specs.Path.{Path}
 use Rattle.hex.specs.Hex.{decode_sized}
+use Rattle.move_journal.specs.Journal.{IsParsed}
 use Rattle.plain_tree.specs.Names as plain
 use Rattle.plain_tree.specs.Reading.{read_path}
 use Rattle.vault_read.specs.declared.vault.VaultKind.{VaultKind}
 use Rattle.vault_read.specs.declared.vault.VaultKind.TheVariants.{Gocryptfs, Cryptomator}
 use Rattle.vault_cli.specs.Words.{Choice, Arguments, arguments_of, are_just, value_of}
 use Rattle.vault_cli.specs.declared.words.Command.{Command}
-use Rattle.vault_cli.specs.declared.words.Command.TheVariants.{DecryptFile, Init, Ls, Cat, Fsck, Mkdir, Put, Repair}
+use Rattle.vault_cli.specs.declared.words.Command.TheVariants.{DecryptFile, Init, Ls, Cat, Fsck, Mkdir, Put, Repair, Migrate, Resume}
 use Rattle.vault_cli.specs.declared.words.Change.{Change}
 use Rattle.vault_cli.specs.declared.words.Checking.{Checking}
 use Rattle.vault_cli.specs.declared.words.Repairing.{Repairing}
+use Rattle.vault_cli.specs.declared.words.Resuming.{Resuming}
+use Rattle.vault_cli.specs.declared.words.Moving.{Moving}
 use Rattle.vault_cli.specs.declared.words.NewVault.{NewVault}
+use Rattle.vault_cli.specs.declared.words.Passes.{Passes}
 use Rattle.vault_cli.specs.declared.words.Target.{Target}
 
 -- the folder path that a word writes
@@ -147,6 +151,49 @@ repairing_at choices _ = None
 abbrev pub repair_by : List Choice → List (List ℕ) → Option Command
 repair_by choices positional = with_just pass_alone choices (option_map Repair (repairing_at choices positional))
 
+abbrev pub both_passes : List (List ℕ)
+both_passes = codes "--from-pass" ∷ codes "--to-pass" ∷ []
+
+abbrev pub passes_by : Option Path → Option Path → Option Passes
+passes_by (Some source) (Some target) = Some (record { source = source; target = target })
+passes_by _ _ = None
+
+-- `--from-pass FILE --to-pass FILE`
+abbrev pub passes_of : List Choice → Option Passes
+passes_of choices = passes_by (file_of (codes "--from-pass") choices) (file_of (codes "--to-pass") choices)
+
+abbrev pub moving_by : Option Path → Option Path → Option Path → Option Passes → Option Moving
+moving_by (Some source) (Some target) (Some work) (Some passes) = Some (record { source = source; target = target; work = work; passes = passes })
+moving_by _ _ _ _ = None
+
+-- `FROM TO WORK --from-pass FILE --to-pass FILE`
+abbrev pub moving_of : List Choice → List ℕ → List ℕ → List ℕ → Option Moving
+moving_of choices source target work = moving_by (folder_path source) (folder_path target) (folder_path work) (passes_of choices)
+
+-- `migrate FROM TO WORK --from-pass FILE --to-pass FILE`
+abbrev pub moving_at : List Choice → List (List ℕ) → Option Moving
+moving_at choices (source ∷ target ∷ work ∷ []) = moving_of choices source target work
+moving_at choices _ = None
+
+abbrev pub migrate_by : List Choice → List (List ℕ) → Option Command
+migrate_by choices positional = with_just both_passes choices (option_map Migrate (moving_at choices positional))
+
+abbrev pub resuming_by : Option Path → Option Passes → Option Resuming
+resuming_by (Some work) (Some passes) = Some (record { work = work; passes = passes })
+resuming_by _ _ = None
+
+-- `WORK --from-pass FILE --to-pass FILE`
+abbrev pub resuming_of : List Choice → List ℕ → Option Resuming
+resuming_of choices work = resuming_by (folder_path work) (passes_of choices)
+
+-- `resume WORK --from-pass FILE --to-pass FILE`
+abbrev pub resuming_at : List Choice → List (List ℕ) → Option Resuming
+resuming_at choices (work ∷ []) = resuming_of choices work
+resuming_at choices _ = None
+
+abbrev pub resume_by : List Choice → List (List ℕ) → Option Command
+resume_by choices positional = with_just both_passes choices (option_map Resume (resuming_at choices positional))
+
 -- the command of a name with its arguments
 abbrev pub command_named : List ℕ → Arguments → Option Command
 command_named name arguments =
@@ -158,8 +205,18 @@ command_named name arguments =
     else if bytes_eq name (codes "mkdir") then mkdir_by arguments.choices arguments.positional
     else if bytes_eq name (codes "put") then put_by arguments.choices arguments.positional
     else if bytes_eq name (codes "repair") then repair_by arguments.choices arguments.positional
+    else if bytes_eq name (codes "migrate") then migrate_by arguments.choices arguments.positional
+    else if bytes_eq name (codes "resume") then resume_by arguments.choices arguments.positional
     else None
 
 abbrev pub command_of : List (List ℕ) → Option Command
 command_of [] = None
 command_of (name ∷ rest) = command_named name (arguments_of rest)
+
+-- that some text writes each root of a migration (private contracts only)
+abbrev pub AreWritten : Moving → Type 0
+AreWritten moving = IsParsed moving.source × IsParsed moving.target
+
+abbrev pub HasTexts : Option Command → Type 0
+HasTexts (Some (Migrate moving)) = AreWritten moving
+HasTexts command = Unit {0}

@@ -1,5 +1,5 @@
 -- The answers to the faults of the calls below.
-use Rattle.std.specs.Prelude.{Result, Ok, Err}
+use Rattle.std.specs.Prelude.{◌++◌, Result, Ok, Err}
 use Rattle.content_writing.specs.declared.fault.PutFault.{PutFault}
 use Rattle.content_writing.specs.declared.fault.PutFault.TheVariants as puts
 use Rattle.folder_spec.specs.Path.{Path}
@@ -9,16 +9,30 @@ use Rattle.vault_read.specs.declared.fault.CatFault.{CatFault}
 use Rattle.vault_read.specs.declared.fault.CatFault.TheVariants as cat
 use Rattle.vault_read.specs.declared.fault.FindFault.{FindFault}
 use Rattle.vault_read.specs.declared.fault.FindFault.TheVariants as find
+use Rattle.vault_read.specs.declared.fault.LoadFault.{LoadFault}
+use Rattle.vault_read.specs.declared.fault.LoadFault.TheVariants as load
 use Rattle.vault_read.specs.declared.fault.Limit as reading
 use Rattle.vault_read.specs.declared.fault.Limit.TheVariants as limited
+use Rattle.migrate_core.specs.declared.fault.MoveFault.{MoveFault}
+use Rattle.migrate_core.specs.declared.fault.MoveFault.TheVariants as move
+use Rattle.move_journal.specs.Reading.{journal_path}
+use Rattle.move_journal.specs.declared.journal.JournalFault.{JournalFault}
+use Rattle.move_journal.specs.declared.journal.JournalFault.TheVariants as journal
+use Rattle.tree_match.specs.declared.answer.MatchFault.{MatchFault}
+use Rattle.tree_match.specs.declared.answer.MatchFault.TheVariants as match
 use Rattle.vault_check.specs.declared.fault.CheckFault.{CheckFault}
 use Rattle.vault_check.specs.declared.fault.CheckFault.TheVariants as check
+use Rattle.vault_spec.specs.Vault.{go_conf, vault_file}
+use Rattle.vault_walk.specs.declared.fault.WalkFault.{WalkFault}
+use Rattle.vault_walk.specs.declared.fault.WalkFault.TheVariants as walk
 use Rattle.work_folder.specs.declared.fault.WorkFault.{WorkFault}
 use Rattle.work_folder.specs.declared.fault.WorkFault.TheVariants as work
 use Rattle.vault_cli.specs.declared.answer.Answer.{Answer}
-use Rattle.vault_cli.specs.declared.answer.Answer.TheVariants.{Done, OutOfMemory, FolderFault, InputFault, OutputFault, RandomFault, NotFound, WrongKind, Damaged, NotAllowed, NotEmpty, Begun, ZeroRandom, Taken, Limit}
+use Rattle.vault_cli.specs.declared.answer.Answer.TheVariants.{Done, OutOfMemory, FolderFault, InputFault, OutputFault, RandomFault, Refused, WrongPass, NotFound, WrongKind, Damaged, NotAllowed, NotClean, Overlap, NotEmpty, Begun, Unusable, Changed, Differ, ZeroRandom, Taken, Limit, Retired}
 use Rattle.vault_cli.specs.declared.answer.Named.TheVariants as named
 use Rattle.vault_cli.specs.declared.answer.Damage.TheVariants as damage
+use Rattle.vault_cli.specs.declared.answer.Flaw.TheVariants as flaw
+use Rattle.vault_cli.specs.declared.answer.Refusal.TheVariants as refusal
 use Rattle.vault_cli.specs.declared.answer.Limit as limits
 use Rattle.vault_cli.specs.declared.answer.Limit.TheVariants as limit
 
@@ -80,3 +94,52 @@ of_work at work.Begun = Begun at
 of_work at work.Depth = Limit limit.Removal
 of_work at work.Failed = FolderFault
 of_work at work.NoMemory = OutOfMemory
+
+-- the answer to a vault that isn't opened
+abbrev pub of_load : Path → LoadFault → Answer
+of_load root (load.Missing at) = NotFound (named.Folder at)
+of_load root (load.WrongKind at) = WrongKind (named.Folder at)
+of_load root (load.TooLarge at) = Limit (limit.Length at)
+of_load root (load.Go fault) = Refused (root ++ go_conf) (refusal.Gocryptfs fault)
+of_load root (load.Cm at fault) = Refused at (refusal.Cryptomator fault)
+of_load root load.WrongPass = WrongPass root
+of_load root load.BadSignature = Refused (root ++ vault_file) refusal.Signature
+of_load root load.Failed = FolderFault
+of_load root load.NoMemory = OutOfMemory
+
+abbrev pub of_walk : WalkFault → Answer
+of_walk (walk.NotClean finding) = NotClean finding.at finding.number
+of_walk (walk.Limit which) = Limit (of_limit which)
+of_walk walk.Failed = FolderFault
+of_walk walk.NoMemory = OutOfMemory
+
+abbrev pub of_match : MatchFault → Answer
+of_match (match.Damaged at fault) = Damaged at (damage.Content fault)
+of_match (match.Limit which) = Limit (of_limit which)
+of_match match.Failed = FolderFault
+of_match match.NoMemory = OutOfMemory
+
+-- of the journal in a work folder
+abbrev pub of_journal : Path → JournalFault → Answer
+of_journal work journal.NoJournal = Unusable work flaw.Missing
+of_journal work (journal.BadJournal number) = Unusable work (flaw.Line number)
+of_journal work journal.TooLarge = Limit (limit.Length (journal_path work))
+of_journal work journal.Failed = FolderFault
+of_journal work journal.NoMemory = OutOfMemory
+
+-- of a migration through this work folder; `root` is that of the vault that isn't opened
+abbrev pub of_move : Path → Path → MoveFault → Answer
+of_move work root (move.Work fault) = of_work work fault
+of_move work root (move.Journal fault) = of_journal work fault
+of_move work root (move.Overlap first second) = Overlap first second
+of_move work root (move.Load side fault) = of_load root fault
+of_move work root (move.Walk fault) = of_walk fault
+of_move work root (move.NotEmpty at) = NotEmpty at
+of_move work root (move.NotAllowed path) = NotAllowed path
+of_move work root (move.Changed plan items plan' items') = Changed plan items plan' items'
+of_move work root (move.Match fault) = of_match fault
+of_move work root (move.Differ path how) = Differ path how
+of_move work root (move.Place fault) = of_put fault
+of_move work root move.SourceGone = Retired work
+of_move work root move.Failed = FolderFault
+of_move work root move.NoMemory = OutOfMemory

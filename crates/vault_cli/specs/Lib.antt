@@ -10,6 +10,7 @@ pub mod Finding
 pub mod Ls
 pub mod Cat
 pub mod Fsck
+pub mod Printing
 pub mod Repair
 pub mod Lines
 pub mod Inputs
@@ -22,4 +23,7 @@ pub mod Init
 pub mod Items
 pub mod Mkdir
 pub mod Put
+pub mod Moving
+pub mod Migrate
+pub mod Resume
 pub mod Runs

@@ -1,18 +1,14 @@
 -- Words of private contracts: why a vault isn't opened for a command.
-use Rattle.std.specs.Prelude.{◌≡◌, ◌⊎◌, ◌++◌, ℕ, List}
+use Rattle.std.specs.Prelude.{◌≡◌, ◌⊎◌, ℕ, List}
 use Rattle.folder_spec.specs.Path.{Path}
 use Rattle.folder_spec.specs.View.{Found, View}
 use Rattle.vault_read.specs.declared.fault.LoadFault.{LoadFault}
-use Rattle.vault_read.specs.declared.fault.LoadFault.TheVariants as load
-use Rattle.vault_spec.specs.Vault.{go_conf, vault_file}
 use Rattle.vault_cli.specs.Beginning.{OfSite, OfWork}
+use Rattle.vault_cli.specs.Faults.{of_load}
 use Rattle.vault_cli.specs.Opening.{OfPassFile, OfVault, OfOpened}
 use Rattle.vault_cli.specs.Shown.{refused}
 use Rattle.vault_cli.specs.declared.answer.Answer.{Answer}
-use Rattle.vault_cli.specs.declared.answer.Answer.TheVariants.{OutOfMemory, FolderFault, Refused, WrongPass, NotFound, WrongKind, Limit}
-use Rattle.vault_cli.specs.declared.answer.Named.TheVariants as named
-use Rattle.vault_cli.specs.declared.answer.Refusal.TheVariants as refusal
-use Rattle.vault_cli.specs.declared.answer.Limit.TheVariants as limit
+use Rattle.vault_cli.specs.declared.answer.Answer.TheVariants.{OutOfMemory, FolderFault}
 use Rattle.vault_cli.specs.declared.words.Change.{Change}
 
 -- unless the folder failed or memory was refused
@@ -27,18 +23,6 @@ RefusesOpening v root pass answer = Unless answer (OfOpened v root pass (refused
 
 abbrev pub RefusesVault : View → Path → List ℕ → Answer → Type 0
 RefusesVault v root phrase answer = Unless answer (OfVault v root phrase (refused answer) (λ vault. ⊥))
-
--- the answer to a vault that isn't opened
-abbrev pub of_load : Path → LoadFault → Answer
-of_load root (load.Missing at) = NotFound (named.Folder at)
-of_load root (load.WrongKind at) = WrongKind (named.Folder at)
-of_load root (load.TooLarge at) = Limit (limit.Length at)
-of_load root (load.Go fault) = Refused (root ++ go_conf) (refusal.Gocryptfs fault)
-of_load root (load.Cm at fault) = Refused at (refusal.Cryptomator fault)
-of_load root load.WrongPass = WrongPass root
-of_load root load.BadSignature = Refused (root ++ vault_file) refusal.Signature
-of_load root load.Failed = FolderFault
-of_load root load.NoMemory = OutOfMemory
 
 abbrev pub RefusesLoad : Path → LoadFault → Answer → Type 0
 RefusesLoad root fault answer = (answer ≡ OutOfMemory) ⊎ (answer ≡ of_load root fault)

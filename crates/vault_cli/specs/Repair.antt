@@ -1,8 +1,7 @@
 -- `repair`: moving the strays of a vault into a folder of lost ones, where nothing stands.
 use Rattle.std.specs.Prelude.{◌≡◌, ◌⊎◌, ℕ, Bool, true, false, List, [], ◌∷◌, ◌++◌, codes, Option, IsTrue}
-use Rattle.std.specs.Io.KnownBytes.{Appends, Keeps}
+use Rattle.std.specs.Io.KnownBytes.{Keeps}
 use Rattle.std.specs.List.{flat_map}
-use Rattle.port_model.specs.Told.{AppendsPrefix}
 use Rattle.folder_spec.specs.Path.{Path}
 use Rattle.folder_spec.specs.Event.{Told, FromTo}
 use Rattle.folder_spec.specs.Image.{Image, IsImage}
@@ -20,6 +19,7 @@ use Rattle.vault_walk.specs.Surveyed.{IsOnlyTooDeep, IsWithin}
 use Rattle.vault_check.specs.Repairing.{AreApart, AreMoved, IsRepairing, RepairsAt}
 use Rattle.vault_cli.specs.Opening.{Opens, OfOpened}
 use Rattle.vault_cli.specs.Places.{OfFree, overlap}
+use Rattle.vault_cli.specs.Printing.{PrintsDone}
 use Rattle.vault_cli.specs.Shown.{IsCutShort, is_of_opening, refused}
 use Rattle.vault_cli.specs.World.{World}
 use Rattle.vault_cli.specs.declared.answer.Answer.{Answer}
@@ -93,18 +93,6 @@ moved_line at = codes "moved " ++ shown_path at ++ 10 ∷ []
 abbrev pub moved_text : List Path → List ℕ
 moved_text moved = flat_map moved_line moved
 
--- what the output took of these paths' lines: all, or where it failed a front part
-abbrev pub Prints : List Path → Answer → Option (List ℕ) → Option (List ℕ) → Type 0
-Prints moved Done taken taken' = Appends taken taken' (moved_text moved)
-Prints moved OutputFault taken taken' = AppendsPrefix taken taken' (moved_text moved)
-Prints moved answer taken taken' = Keeps taken taken'
-
--- nothing is written before all strays are moved
-abbrev pub PrintsMoved : Repairing → Answer → Option Told → Option Told → Option (List ℕ) → Option (List ℕ) → Type 0
-PrintsMoved target Done told told' taken taken' = (moved : List Path) × HasMovedStrays target moved told told' × Prints moved Done taken taken'
-PrintsMoved target OutputFault told told' taken taken' = (moved : List Path) × HasMovedStrays target moved told told' × Prints moved OutputFault taken taken'
-PrintsMoved target answer told told' taken taken' = Keeps taken taken'
-
 -- overlapping folders are refused by the words alone
 pub record RefusesOverlap (one other : Path) (answer : Answer) (told told' : Option Told) (taken taken' : Option (List ℕ)) : Type 0 where
   pub answers : (answer ≡ Overlap one other) ⊎ (answer ≡ OutOfMemory)
@@ -116,7 +104,7 @@ pub record RepairsApart (target : Repairing) (answer : Answer) (told told' : Opt
   pub cause : (v : View) → IsSeen told v → IsCutShort answer ⊎ OfRepairing target v answer
   pub tested : IsTrue (is_of_test answer) → told' ≡ told
   pub moves : (told' ≡ told) ⊎ MovesStrays target told told'
-  pub prints : PrintsMoved target answer told told' taken taken'
+  pub prints : PrintsDone moved_text (λ moved. HasMovedStrays target moved told told') answer taken taken'
 
 -- `repair`, which takes nothing of the input
 pub record RepairsVault (target : Repairing) (answer : Answer) (before after : World) : Type 0 where

@@ -6,15 +6,17 @@ use Rattle.vault_cli.specs.DecryptFile.{DecryptsFile}
 use Rattle.vault_cli.specs.Fsck.{ChecksVault}
 use Rattle.vault_cli.specs.Init.{MakesVault}
 use Rattle.vault_cli.specs.Ls.{ShowsItems}
+use Rattle.vault_cli.specs.Migrate.{MigratesTree}
 use Rattle.vault_cli.specs.Mkdir.{MakesDirectoryIn}
 use Rattle.vault_cli.specs.Put.{StoresFile}
 use Rattle.vault_cli.specs.Repair.{RepairsVault}
+use Rattle.vault_cli.specs.Resume.{ResumesTree}
 use Rattle.vault_cli.specs.Shown.{Reads}
 use Rattle.vault_cli.specs.World.{World}
 use Rattle.vault_cli.specs.declared.answer.Answer.{Answer}
 use Rattle.vault_cli.specs.declared.answer.Answer.TheVariants.{BadCommandLine, OutOfMemory, FolderFault}
 use Rattle.vault_cli.specs.declared.words.Command.{Command}
-use Rattle.vault_cli.specs.declared.words.Command.TheVariants.{DecryptFile, Init, Ls, Cat, Fsck, Mkdir, Put, Repair}
+use Rattle.vault_cli.specs.declared.words.Command.TheVariants.{DecryptFile, Init, Ls, Cat, Fsck, Mkdir, Put, Repair, Migrate, Resume}
 use Rattle.vault_cli.specs.declared.words.Target.{Target}
 
 -- words that make no command, of which nothing comes
@@ -45,3 +47,5 @@ Executes (Some (Fsck target)) answer before after = ChecksVault target answer be
 Executes (Some (Mkdir change)) answer before after = MakesDirectoryIn change answer before after
 Executes (Some (Put change)) answer before after = StoresFile change answer before after
 Executes (Some (Repair target)) answer before after = RepairsVault target answer before after
+Executes (Some (Migrate moving)) answer before after = MigratesTree moving answer before after
+Executes (Some (Resume resuming)) answer before after = ResumesTree resuming answer before after

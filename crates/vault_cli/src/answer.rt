@@ -11,8 +11,10 @@ use folder_spec::FolderFault;
 use gocrypt_conf::GoConfFault;
 use plain_tree::PlainPath;
 use std::alloc::AllocError;
+use tree_match::{MatchFault, Where};
 use vault_check::CheckFault;
 use vault_read::{CatFault, FindFault};
+use vault_walk::WalkFault;
 use vault_write::PutFault;
 
 /// What a message names: a path of the folder, or one of a vault's plain tree.
@@ -54,6 +56,17 @@ pub enum Limit {
     Removal,
 }
 
+/// Why a journal is of no use.
+#[derive(Clone, Copy, Debug, PartialEq, Eq)]
+pub enum Flaw {
+    /// There is none.
+    Missing,
+    /// The number of its first line that fits no journal.
+    Line(u8),
+    /// Items are still being placed.
+    Building,
+}
+
 /// How a command ends.
 #[derive(Debug, Drop)]
 pub enum Answer {
@@ -87,18 +100,28 @@ pub enum Answer {
     Damaged(FPath, Damage),
     /// The vault allows no such name.
     NotAllowed(PlainPath),
+    /// A vault that has to be clean isn't: the path and the number of its first finding.
+    NotClean(FPath, u8),
     /// One of these folders is the other, or is in it.
     Overlap(FPath, FPath),
     /// Something stands at this path that is to be free.
     NotEmpty(FPath),
     /// This work folder has a journal.
     Begun(FPath),
+    /// This work folder has no journal that is of use.
+    Unusable(FPath, Flaw),
+    /// The source isn't as it was when its migration began: the digest of its plan and its number of items then, and now.
+    Changed([u8; 32], u64, [u8; 32], u64),
+    /// The two trees differ at this path.
+    Differ(PlainPath, Where),
     /// Sixteen zero bytes were drawn, where these are refused.
     ZeroRandom,
     /// Something stands where a new item is to have its place.
     Taken(FPath),
     /// A limit is passed.
     Limit(Limit),
+    /// The source of the migration in this work folder is retired.
+    Retired(FPath),
 }
 
 impl Answer {
@@ -122,12 +145,17 @@ impl Answer {
             Answer::DamagedInput(_) => 12,
             Answer::Damaged(_, _) => 12,
             Answer::NotAllowed(_) => 13,
+            Answer::NotClean(_, _) => 14,
             Answer::Overlap(_, _) => 15,
             Answer::NotEmpty(_) => 16,
             Answer::Begun(_) => 17,
+            Answer::Unusable(_, _) => 18,
+            Answer::Changed(_, _, _, _) => 19,
+            Answer::Differ(_, _) => 20,
             Answer::ZeroRandom => 21,
             Answer::Taken(_) => 22,
             Answer::Limit(_) => 23,
+            Answer::Retired(_) => 24,
         }
     }
 }
@@ -221,6 +249,38 @@ impl From<CheckFault> for Answer {
             CheckFault::Limit(limit) => Answer::Limit(Limit::from(limit)),
             CheckFault::Failed => Answer::FolderFault,
             CheckFault::NoMemory => Answer::OutOfMemory,
+        }
+    }
+}
+
+impl From<WalkFault> for Answer {
+    ghost use Rattle.std.specs.Prelude.{◌≡◌};
+    ghost use Rattle.vault_cli.specs.Faults.{of_walk};
+
+    ghost from_gives = { λ fault answer. answer ≡ of_walk fault };
+
+    fn from(fault: WalkFault) -> Answer {
+        match fault {
+            WalkFault::NotClean(finding) => Answer::NotClean(finding.at, finding.number),
+            WalkFault::Limit(limit) => Answer::Limit(Limit::from(limit)),
+            WalkFault::Failed => Answer::FolderFault,
+            WalkFault::NoMemory => Answer::OutOfMemory,
+        }
+    }
+}
+
+impl From<MatchFault> for Answer {
+    ghost use Rattle.std.specs.Prelude.{◌≡◌};
+    ghost use Rattle.vault_cli.specs.Faults.{of_match};
+
+    ghost from_gives = { λ fault answer. answer ≡ of_match fault };
+
+    fn from(fault: MatchFault) -> Answer {
+        match fault {
+            MatchFault::Damaged(at, fault) => Answer::Damaged(at, Damage::Content(fault)),
+            MatchFault::Limit(limit) => Answer::Limit(Limit::from(limit)),
+            MatchFault::Failed => Answer::FolderFault,
+            MatchFault::NoMemory => Answer::OutOfMemory,
         }
     }
 }

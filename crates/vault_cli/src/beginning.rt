@@ -97,8 +97,8 @@ pub(crate) fn enter_settled<F: Folder>(folder: &mut F, work: &FPath) -> Result<W
     }
 }
 
-// The answer to a work folder that isn't ready.
-fn answer_to(work: &FPath, fault: WorkFault) -> Answer
+/// The answer to a work folder that isn't ready.
+pub(crate) fn answer_to(work: &FPath, fault: WorkFault) -> Answer
     ensures answers { (result ≡ Answer.OutOfMemory) ⊎ (result ≡ of_work work.now fault) }
     ensures failed { result ≡ Answer.FolderFault → fault ≡ WorkFault.Failed }
     ensures own { IsTrue (is_of_beginning result) }

@@ -6,13 +6,13 @@ ghost use Rattle.folder_spec.specs.Seen.{IsSeen};
 ghost use Rattle.port_model.specs.Counts.{CountRose};
 ghost use Rattle.std.specs.List.{flat_map};
 ghost use Rattle.vault_cli.specs.Fsck.{ShowsReport, fault_part, is_of_checking};
-ghost use Rattle.vault_cli.specs.Lines.{answer_to_found, found_line, name_numbered, noted_line, told_text};
+ghost use Rattle.vault_cli.specs.Lines.{answer_to_found, found_line, noted_line, told_text};
 ghost use Rattle.vault_cli.specs.Refusing.{Unless};
 ghost use Rattle.vault_cli.specs.Shown.{Follows, is_of_opening, refused};
 
 use crate::answer::Answer;
 use crate::opening::open;
-use crate::reporting::shown_folder;
+use crate::reporting::{name_of, shown_folder};
 use crate::words::Checking;
 use chunk_files::ChunkFault;
 use folder_model::{FPath, Folder};
@@ -137,26 +137,4 @@ fn push_note(alloc: Global, text: &mut String, note: &FPath) -> Result<(), Alloc
     text.push_str("14 EmptyOrphan ")?;
     text.push_str(shown_folder(alloc, note)?.as_str())?;
     text.push('\n')
-}
-
-// The name of the findings of a number.
-fn name_of(number: u8) -> &'static str
-    ensures { result.now ≡ name_numbered number }
-{
-    match number {
-        1 => "BadStoredName",
-        2 => "NoDirKey",
-        3 => "LongNameLost",
-        4 => "OrphanLongName",
-        5 => "DirIdTwice",
-        6 => "NoFolder",
-        7 => "OrphanFolder",
-        8 => "SymlinkFound",
-        9 => "WrongKind",
-        10 => "ExtraEntry",
-        11 => "TwoKinds",
-        12 => "HeaderDamaged",
-        13 => "ChunkDamaged",
-        _ => "EmptyOrphan",
-    }
 }

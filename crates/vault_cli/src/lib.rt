@@ -10,19 +10,22 @@ mod decrypt;
 mod fsck;
 mod init;
 mod ls;
+mod migrate;
 mod mkdir;
+mod moving;
 mod opening;
 mod places;
 mod put;
 mod repair;
 mod reporting;
+mod resume;
 mod running;
 pub mod words;
 
 pub use answer::Answer;
 pub use reporting::report;
 pub use running::run;
-pub use words::{Change, Checking, Command, NewVault, Repairing, Target};
+pub use words::{Change, Checking, Command, Moving, NewVault, Passes, Repairing, Resuming, Target};
 
 #[cfg(test)]
 mod check_samples;
@@ -32,6 +35,8 @@ mod check_tests;
 mod link_tests;
 #[cfg(test)]
 mod making_tests;
+#[cfg(test)]
+mod moving_tests;
 #[cfg(test)]
 mod repair_tests;
 #[cfg(test)]

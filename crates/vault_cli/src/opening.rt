@@ -104,8 +104,8 @@ fn line_end(bytes: &[u8]) -> usize
     end
 }
 
-// The answer to a vault that isn't opened.
-fn answer_to(root: &FPath, fault: LoadFault) -> Answer
+/// The answer to a vault that isn't opened.
+pub(crate) fn answer_to(root: &FPath, fault: LoadFault) -> Answer
     ensures refuses { RefusesLoad root.now fault result }
     ensures failed { result ≡ Answer.FolderFault → fault ≡ LoadFault.Failed }
     ensures own { IsTrue (is_of_opening result) }

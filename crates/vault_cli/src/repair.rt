@@ -5,13 +5,14 @@ ghost use Rattle.folder_spec.specs.View.{View};
 ghost use Rattle.port_model.specs.Counts.{CountRose};
 ghost use Rattle.vault_spec.specs.Vault.{Either};
 ghost use Rattle.vault_cli.specs.Places.{overlap};
+ghost use Rattle.vault_cli.specs.Printing.{PrintsText};
 ghost use Rattle.vault_cli.specs.Refusing.{Unless};
-ghost use Rattle.vault_cli.specs.Repair.{HasMovedStrays, MovesStrays, OfRepairing, Prints, RefusesOverlap, RepairsApart, is_of_moving, is_of_test, moved_line, moved_text};
+ghost use Rattle.vault_cli.specs.Repair.{HasMovedStrays, MovesStrays, OfRepairing, RefusesOverlap, RepairsApart, is_of_moving, is_of_test, moved_line, moved_text};
 
 use crate::answer::Answer;
 use crate::opening::open;
 use crate::places::{do_overlap, overlapping, test_free};
-use crate::reporting::shown_folder;
+use crate::reporting::{print, shown_folder};
 use crate::words::Repairing;
 use folder_model::{FPath, Folder};
 use port_model::Sink;
@@ -35,7 +36,7 @@ pub(crate) fn repair<F: Folder, O: Sink>(
         return overlapping(&target.vault, &target.lost);
     }
     match move_strays(alloc, target, folder) {
-        Ok(moved) => print(alloc, moved.as_slice(), out),
+        Ok(moved) => print_moved(alloc, moved.as_slice(), out),
         Err(answer) => answer,
     }
 }
@@ -66,18 +67,14 @@ fn move_strays<F: Folder>(
 }
 
 // Writes a line for each path.
-fn print<O: Sink>(alloc: Global, moved: &[FPath], out: &mut O) -> Answer
-    ensures prints { Prints moved.now result (O.taken out.old) (O.taken out.new) }
+fn print_moved<O: Sink>(alloc: Global, moved: &[FPath], out: &mut O) -> Answer
+    ensures prints { PrintsText (moved_text moved.now) result (O.taken out.old) (O.taken out.new) }
     ensures answers { (result ≡ Answer.Done) ⊎ ((result ≡ Answer.OutputFault) ⊎ (result ≡ Answer.OutOfMemory)) }
     ensures output_fault { result ≡ Answer.OutputFault → CountRose (O.faults out.old) (O.faults out.new) }
 {
-    let text = match text_of(alloc, moved) {
-        Ok(text) => text,
-        Err(_) => return Answer::OutOfMemory,
-    };
-    match out.put(text.as_bytes()) {
-        Ok(()) => Answer::Done,
-        Err(_) => Answer::OutputFault,
+    match text_of(alloc, moved) {
+        Ok(text) => print(text.as_str(), out),
+        Err(_) => Answer::OutOfMemory,
     }
 }
 

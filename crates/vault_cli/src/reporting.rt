@@ -2,13 +2,17 @@
 ghost use Rattle.std.specs.Prelude.{◌≡◌, ◌++◌, ◌∷◌, ◌⊎◌, [], false, IfOk, MatchOption, codes, map, string_bytes};
 ghost use Rattle.std.specs.List.{flat_map};
 ghost use Rattle.plain_tree.specs.Shown.{shown, shown_path};
-ghost use Rattle.vault_cli.specs.Answers.{TakesText, damage_text, is_plain, limit_text, line_of, message_of, named_text, refusal_text};
+ghost use Rattle.port_model.specs.Counts.{CountRose};
+ghost use Rattle.vault_cli.specs.Answers.{TakesText, damage_text, differing_text, flaw_text, is_plain, limit_text, line_of, message_of, name_numbered, named_text, plan_text, refusal_text};
+ghost use Rattle.vault_cli.specs.Printing.{PrintsText};
+ghost use Rattle.hex.specs.Hex.{encode_lower};
 
-use crate::answer::{Answer, Damage, Limit, Named, Refusal};
+use crate::answer::{Answer, Damage, Flaw, Limit, Named, Refusal};
 use folder_model::FPath;
-use plain_tree::shown_text;
+use plain_tree::{PlainPath, shown_text};
 use port_model::Sink;
 use std::alloc::{AllocError, Global};
+use tree_match::Where;
 
 /// Writes an answer's message to the error stream, as one line; `Done` and `Findings` have none. A fault of that stream
 /// changes nothing. The answer comes back, or `OutOfMemory` where a message that names something found no memory.
@@ -90,6 +94,7 @@ fn message_of(alloc: Global, answer: &Answer) -> Result<String, AllocError>
             at_path(alloc, "damaged: ", at, damage_text(alloc, how)?.as_str())
         }
         Answer::NotAllowed(path) => behind(alloc, "name not allowed: ", path.shown()?.as_str()),
+        Answer::NotClean(at, number) => at_path(alloc, "vault not clean: ", at, name_of(*number)),
         Answer::Overlap(first, second) => both_paths(alloc, "folders overlap: ", first, second),
         Answer::NotEmpty(at) => behind(alloc, "not empty: ", shown_folder(alloc, at)?.as_str()),
         Answer::Begun(work) => behind(
@@ -97,8 +102,23 @@ fn message_of(alloc: Global, answer: &Answer) -> Result<String, AllocError>
             "already begun: ",
             shown_folder(alloc, work)?.as_str(),
         ),
+        Answer::Unusable(work, why) => at_path(
+            alloc,
+            "no usable journal: ",
+            work,
+            flaw_text(alloc, why)?.as_str(),
+        ),
+        Answer::Changed(plan, items, plan_now, items_now) => {
+            changed_text(alloc, plan, *items, plan_now, *items_now)
+        }
+        Answer::Differ(path, how) => differ_text(alloc, path, *how),
         Answer::Taken(at) => behind(alloc, "place taken: ", shown_folder(alloc, at)?.as_str()),
         Answer::Limit(which) => behind(alloc, "limit: ", limit_text(alloc, which)?.as_str()),
+        Answer::Retired(work) => behind(
+            alloc,
+            "source retired: ",
+            shown_folder(alloc, work)?.as_str(),
+        ),
         _ => Ok(String::new(alloc)),
     }
 }
@@ -179,6 +199,76 @@ fn limit_text(alloc: Global, which: &Limit) -> Result<String, AllocError>
     }
 }
 
+fn flaw_text(alloc: Global, why: &Flaw) -> Result<String, AllocError>
+    ensures { IfOk result (λ text. string_bytes text ≡ flaw_text why.now) }
+{
+    match why {
+        Flaw::Missing => String::from_str(alloc, "missing"),
+        Flaw::Line(number) => format!(in alloc; "line {number}"),
+        Flaw::Building => String::from_str(alloc, "building"),
+    }
+}
+
+// A digest and a number of items, and those that they have become.
+fn changed_text(
+    alloc: Global,
+    plan: &[u8; 32],
+    items: u64,
+    plan_now: &[u8; 32],
+    items_now: u64,
+) -> Result<String, AllocError>
+    ensures { IfOk result (λ text. string_bytes text ≡ codes "source changed: " ++ plan_text plan.now items ++ codes " " ++ plan_text plan_now.now items_now) }
+{
+    let mut text = behind(
+        alloc,
+        "source changed: ",
+        plan_text(alloc, plan, items)?.as_str(),
+    )?;
+    text.push_str(" ")?;
+    text.push_str(plan_text(alloc, plan_now, items_now)?.as_str())?;
+    Ok(text)
+}
+
+fn plan_text(alloc: Global, plan: &[u8; 32], items: u64) -> Result<String, AllocError>
+    ensures { IfOk result (λ text. string_bytes text ≡ plan_text plan.now items) }
+{
+    let mut text = hex::encode(alloc, plan.as_slice())?;
+    text.push_str(format!(in alloc; " {items}")?.as_str())?;
+    Ok(text)
+}
+
+fn differ_text(alloc: Global, path: &PlainPath, how: Where) -> Result<String, AllocError>
+    ensures { IfOk result (λ text. string_bytes text ≡ codes "trees differ: " ++ shown_path path.now ++ codes ": " ++ differing_text how) }
+{
+    let mut text = behind(alloc, "trees differ: ", path.shown()?.as_str())?;
+    text.push_str(": ")?;
+    text.push_str(differing_word(how))?;
+    Ok(text)
+}
+
+fn differing_word(how: Where) -> &'static str
+    ensures { result.now ≡ differing_text how }
+{
+    match how {
+        Where::Missing => "missing",
+        Where::Kind => "kind",
+        Where::Content => "content",
+        Where::Extra => "extra",
+    }
+}
+
+/// Writes the text of a command that is done.
+pub(crate) fn print<O: Sink>(text: &str, out: &mut O) -> Answer
+    ensures prints { PrintsText text.now result (O.taken out.old) (O.taken out.new) }
+    ensures answers { (result ≡ Answer.Done) ⊎ (result ≡ Answer.OutputFault) }
+    ensures output_fault { result ≡ Answer.OutputFault → CountRose (O.faults out.old) (O.faults out.new) }
+{
+    match out.put(text.as_bytes()) {
+        Ok(()) => Answer::Done,
+        Err(_) => Answer::OutputFault,
+    }
+}
+
 /// The shown form of a path of the folder.
 #[tactic(auto, unfolding(plain_tree::specs::Shown::shown_path))]
 pub(crate) fn shown_folder(alloc: Global, at: &FPath) -> Result<String, AllocError>
@@ -202,4 +292,26 @@ fn shown_before(alloc: Global, mut text: String, others: &[String]) -> Result<St
         text.push_str(shown_text(alloc, part.as_bytes())?.as_str())?;
     }
     Ok(text)
+}
+
+/// The name of the findings of a number.
+pub(crate) fn name_of(number: u8) -> &'static str
+    ensures { result.now ≡ name_numbered number }
+{
+    match number {
+        1 => "BadStoredName",
+        2 => "NoDirKey",
+        3 => "LongNameLost",
+        4 => "OrphanLongName",
+        5 => "DirIdTwice",
+        6 => "NoFolder",
+        7 => "OrphanFolder",
+        8 => "SymlinkFound",
+        9 => "WrongKind",
+        10 => "ExtraEntry",
+        11 => "TwoKinds",
+        12 => "HeaderDamaged",
+        13 => "ChunkDamaged",
+        _ => "EmptyOrphan",
+    }
 }

@@ -13,22 +13,26 @@ use crate::decrypt::decrypt_file;
 use crate::fsck::fsck;
 use crate::init::init;
 use crate::ls::ls;
+use crate::migrate::migrate;
 use crate::mkdir::mkdir;
 use crate::put::put;
 use crate::repair::repair;
 use crate::reporting::report;
+use crate::resume::resume;
 use crate::words::Command;
 use chunk_files::laws::{files_are_what_they_give, whole_files_end};
 use folder_model::Folder;
 use port_model::{Randoms, Sink, Source};
 use std::alloc::Global;
+use tree_match::laws::guarded_migrations_are_safe;
 use vault_read::laws::roots_have_one_answer;
 
 /// Does what the words after the program's name ask for, and answers the status to end with. Every status but 0 and 1 writes its line
 /// to `err`: 1 a check has findings, 2 no command, 3 no memory, 4 the folder failed, 5 the input, 6 the output, 7 the random source,
 /// 8 a configuration is refused, 9 the passphrase, 10 something isn't there, 11 it is of another kind, 12 it is damaged, 13 a name isn't
-/// allowed, 15 folders overlap, 16 a place isn't free, 17 a journal is there, 21 zero random bytes, 22 a place is taken, 23 a limit is
-/// passed.
+/// allowed, 14 a vault isn't clean, 15 folders overlap, 16 a place isn't free, 17 a journal is there, 18 none of use is there, 19 the
+/// source of a migration has changed, 20 two trees differ, 21 zero random bytes, 22 a place is taken, 23 a limit is passed, 24 the source
+/// of a migration is retired.
 pub fn run<F: Folder, R: Randoms, I: Source, O: Sink, E: Sink>(
     alloc: Global,
     words: &[String],
@@ -80,6 +84,7 @@ fn execute<F: Folder, R: Randoms, I: Source, O: Sink>(
     files_are_what_they_give();
     whole_files_end();
     roots_have_one_answer();
+    guarded_migrations_are_safe();
     match Command::from_words(alloc, words) {
         Err(_) => Answer::OutOfMemory,
         Ok(None) => Answer::BadCommandLine,
@@ -93,5 +98,7 @@ fn execute<F: Folder, R: Randoms, I: Source, O: Sink>(
         Ok(Some(Command::Mkdir(change))) => mkdir(alloc, &change, folder, random),
         Ok(Some(Command::Put(change))) => put(alloc, &change, folder, random, input),
         Ok(Some(Command::Repair(target))) => repair(alloc, &target, folder, out),
+        Ok(Some(Command::Migrate(moving))) => migrate(alloc, &moving, folder, random, out),
+        Ok(Some(Command::Resume(resuming))) => resume(alloc, &resuming, folder, random, out),
     }
 }

@@ -1,7 +1,8 @@
 //! The commands, and the words that make them.
-ghost use Rattle.std.specs.Prelude.{◌≡◌, IfOk, map, string_bytes};
+ghost use Rattle.std.specs.Prelude.{◌≡◌, IfOk, IfSome, map, string_bytes};
+ghost use Rattle.move_journal.specs.Journal.{IsParsed};
 ghost use Rattle.plain_tree.specs.Reading.{read_path};
-ghost use Rattle.vault_cli.specs.Commands.{cat_by, checking_of, command_named, command_of, change_of, decrypt_file_by, file_of, folder_path, fsck_by, init_by, key_of, kind_of, ls_by, making_by, mkdir_by, new_vault_of, put_by, repair_by, repairing_of, target_of};
+ghost use Rattle.vault_cli.specs.Commands.{AreWritten, HasTexts, cat_by, change_of, checking_of, command_named, command_of, decrypt_file_by, file_of, folder_path, fsck_by, init_by, key_of, kind_of, ls_by, making_by, migrate_by, mkdir_by, moving_of, new_vault_of, passes_of, put_by, repair_by, repairing_of, resume_by, resuming_of, target_of};
 
 use crate::arguments::{Arguments, Choice, are_just, value_of};
 use folder_model::{FPath, FPathFault};
@@ -49,6 +50,29 @@ pub struct Change {
     pub work: FPath,
 }
 
+/// The files that hold the passphrases of a migration's vaults.
+#[derive(Debug, Drop)]
+pub struct Passes {
+    pub source: FPath,
+    pub target: FPath,
+}
+
+/// A migration that is to be begun: from one vault into another, through a work folder.
+#[derive(Debug, Drop)]
+pub struct Moving {
+    pub source: FPath,
+    pub target: FPath,
+    pub work: FPath,
+    pub passes: Passes,
+}
+
+/// The work folder of a migration to go on with.
+#[derive(Debug, Drop)]
+pub struct Resuming {
+    pub work: FPath,
+    pub passes: Passes,
+}
+
 /// A command with its arguments.
 #[derive(Debug, Drop)]
 pub enum Command {
@@ -68,12 +92,17 @@ pub enum Command {
     Put(Change),
     /// `repair VAULT LOST --pass FILE`: moves the strays of a vault into a new folder.
     Repair(Repairing),
+    /// `migrate FROM TO WORK --from-pass FILE --to-pass FILE`: moves a whole tree from one vault into another.
+    Migrate(Moving),
+    /// `resume WORK --from-pass FILE --to-pass FILE`: goes on with a migration.
+    Resume(Resuming),
 }
 
 impl Command {
     /// The command that these words make, or `None` where they make none.
     pub fn from_words(alloc: Global, words: &[String]) -> Result<Option<Command>, AllocError>
-        ensures { IfOk result (λ command. command ≡ command_of (map string_bytes words.now)) }
+        ensures is { IfOk result (λ command. command ≡ command_of (map string_bytes words.now)) }
+        ensures texts { IfOk result HasTexts }
     {
         let Some((name, rest)) = words.split_first() else {
             return Ok(None);
@@ -95,7 +124,8 @@ fn named(
     choices: &[Choice],
     positional: &[Text],
 ) -> Result<Option<Command>, AllocError>
-    ensures { IfOk result (λ command. command ≡ command_named name.now (record { choices = choices.now; positional = positional.now })) }
+    ensures is { IfOk result (λ command. command ≡ command_named name.now (record { choices = choices.now; positional = positional.now })) }
+    ensures texts { IfOk result HasTexts }
 {
     if name == "decrypt-file" {
         Ok(decrypt_file(choices, positional))
@@ -113,6 +143,10 @@ fn named(
         put(alloc, choices, positional)
     } else if name == "repair" {
         repair(alloc, choices, positional)
+    } else if name == "migrate" {
+        migrate(alloc, choices, positional)
+    } else if name == "resume" {
+        resume(alloc, choices, positional)
     } else {
         Ok(None)
     }
@@ -246,6 +280,104 @@ fn read_making(
     }
 }
 
+fn migrate(
+    alloc: Global,
+    choices: &[Choice],
+    positional: &[Text],
+) -> Result<Option<Command>, AllocError>
+    ensures is { IfOk result (λ command. command ≡ migrate_by choices.now positional.now) }
+    ensures texts { IfOk result HasTexts }
+{
+    if !are_just(choices, &["--from-pass", "--to-pass"]) {
+        return Ok(None);
+    }
+    let moving = match positional {
+        [source, target, work] => {
+            read_moving(
+                alloc,
+                choices,
+                source.as_str(),
+                target.as_str(),
+                work.as_str(),
+            )?
+        }
+        _ => None,
+    };
+    Ok(moving.map(Command::Migrate))
+}
+
+fn resume(
+    alloc: Global,
+    choices: &[Choice],
+    positional: &[Text],
+) -> Result<Option<Command>, AllocError>
+    ensures { IfOk result (λ command. command ≡ resume_by choices.now positional.now) }
+{
+    if !are_just(choices, &["--from-pass", "--to-pass"]) {
+        return Ok(None);
+    }
+    let resuming = match positional {
+        [work] => read_resuming(alloc, choices, work.as_str())?,
+        _ => None,
+    };
+    Ok(resuming.map(Command::Resume))
+}
+
+// What `FROM TO WORK --from-pass FILE --to-pass FILE` names.
+fn read_moving(
+    alloc: Global,
+    choices: &[Choice],
+    source: &str,
+    target: &str,
+    work: &str,
+) -> Result<Option<Moving>, AllocError>
+    ensures is { IfOk result (λ moving. moving ≡ moving_of choices.now source.now target.now work.now) }
+    ensures texts { IfOk result (λ moving. IfSome moving AreWritten) }
+{
+    let (Some(source), Some(target), Some(work), Some(passes)) = (
+        folder_path(alloc, source)?,
+        folder_path(alloc, target)?,
+        folder_path(alloc, work)?,
+        read_passes(alloc, choices)?,
+    ) else {
+        return Ok(None);
+    };
+    Ok(Some(Moving {
+        source,
+        target,
+        work,
+        passes,
+    }))
+}
+
+// What `WORK --from-pass FILE --to-pass FILE` names.
+fn read_resuming(
+    alloc: Global,
+    choices: &[Choice],
+    work: &str,
+) -> Result<Option<Resuming>, AllocError>
+    ensures { IfOk result (λ resuming. resuming ≡ resuming_of choices.now work.now) }
+{
+    let (Some(work), Some(passes)) = (folder_path(alloc, work)?, read_passes(alloc, choices)?)
+    else {
+        return Ok(None);
+    };
+    Ok(Some(Resuming { work, passes }))
+}
+
+// What `--from-pass FILE --to-pass FILE` names.
+fn read_passes(alloc: Global, choices: &[Choice]) -> Result<Option<Passes>, AllocError>
+    ensures { IfOk result (λ passes. passes ≡ passes_of choices.now) }
+{
+    let (Some(source), Some(target)) = (
+        file_of(alloc, choices, "--from-pass")?,
+        file_of(alloc, choices, "--to-pass")?,
+    ) else {
+        return Ok(None);
+    };
+    Ok(Some(Passes { source, target }))
+}
+
 // What `VAULT PATH --pass FILE --work WORK` names.
 fn read_change(
     alloc: Global,
@@ -369,8 +501,10 @@ fn file_of(alloc: Global, choices: &[Choice], name: &str) -> Result<Option<FPath
 
 // The folder path that a word writes.
 fn folder_path(alloc: Global, word: &str) -> Result<Option<FPath>, AllocError>
-    ensures { IfOk result (λ path. path ≡ folder_path word.now) }
+    ensures is { IfOk result (λ path. path ≡ folder_path word.now) }
+    ensures text { IfOk result (λ path. IfSome path IsParsed) }
 {
+    let _utf8 = word.as_bytes();
     match FPath::parse(alloc, word) {
         Ok(path) => Ok(Some(path)),
         Err(FPathFault::BadPath) => Ok(None),

@@ -11,7 +11,7 @@ use Rattle.vault_cli.proofs.Executions.{not_begun}
 use Rattle.vault_cli.proofs.running.execute.Goals as goal
 
 pub returns-in-Err-clause-executes : goal.returns-in-Err-clause-executes
-returns-in-Err-clause-executes g c = not_begun (command_of (map (λ s. string_bytes s) c.args.words.now)) _
+returns-in-Err-clause-executes g c = not_begun c.guarded_migrations_are_safe.ensures.safe (command_of (map (λ s. string_bytes s) c.args.words.now)) _
 
 pub returns-in-Ok-Some-DecryptFile-clause-executes : goal.returns-in-Ok-Some-DecryptFile-clause-executes
 returns-in-Ok-Some-DecryptFile-clause-executes g c =
@@ -19,7 +19,7 @@ returns-in-Ok-Some-DecryptFile-clause-executes g c =
     let told = g.F.Folder.told c.args.folder.now in
     let before : World = record { told = told; left = g.I.Source.left c.args.input.now; ended = g.I.Source.ended c.args.input.now; taken = g.O.Sink.taken c.args.out.now; random = g.R.Randoms.left c.args.random.now } in
     let after : World = record { told = told; left = g.I.Source.left c.decrypt_file.new.input; ended = g.I.Source.ended c.decrypt_file.new.input; taken = g.O.Sink.taken c.decrypt_file.new.out; random = g.R.Randoms.left c.args.random.now } in
-    subst (λ command. Executes command c.from.result before after) (ap Some (sym arm.field-0-0-is) ∙ sym arm.field-0-is ∙ arm.ensures)
+    subst (λ command. Executes command c.from.result before after) (ap Some (sym arm.field-0-0-is) ∙ sym arm.field-0-is ∙ arm.ensures.is)
     (subst (λ answer. DecryptsFile arm.key answer before after) (sym c.from.ensures)
     (decrypts c.files_are_what_they_give.ensures c.whole_files_end.ensures arm.key c.decrypt_file.result before after c.decrypt_file.ensures.tells c.decrypt_file.ensures.writes
     c.decrypt_file.ensures.takes c.decrypt_file.ensures.near c.decrypt_file.ensures.end refl))
@@ -31,7 +31,7 @@ returns-in-Ok-Some-Fsck-clause-executes g c =
     let ended = g.I.Source.ended c.args.input.now in
     let before : World = record { told = g.F.Folder.told c.args.folder.now; left = left; ended = ended; taken = g.O.Sink.taken c.args.out.now; random = g.R.Randoms.left c.args.random.now } in
     let after : World = record { told = g.F.Folder.told c.fsck.new.folder; left = left; ended = ended; taken = g.O.Sink.taken c.fsck.new.out; random = g.R.Randoms.left c.args.random.now } in
-    subst (λ command. Executes command c.fsck.result before after) (ap Some (sym arm.field-0-0-is) ∙ sym arm.field-0-is ∙ arm.ensures)
+    subst (λ command. Executes command c.fsck.result before after) (ap Some (sym arm.field-0-0-is) ∙ sym arm.field-0-is ∙ arm.ensures.is)
     (checks c.roots_have_one_answer.ensures arm.target c.fsck.result before after c.fsck.ensures.told c.fsck.ensures.own c.fsck.ensures.follows c.fsck.ensures.quiet (Keeps-refl left))
 
 pub returns-in-Ok-Some-Repair-clause-executes : goal.returns-in-Ok-Some-Repair-clause-executes
@@ -42,4 +42,4 @@ returns-in-Ok-Some-Repair-clause-executes g c =
     let before : World = record { told = g.F.Folder.told c.args.folder.now; left = left; ended = ended; taken = g.O.Sink.taken c.args.out.now; random = g.R.Randoms.left c.args.random.now } in
     let after : World = record { told = g.F.Folder.told c.repair.new.folder; left = left; ended = ended; taken = g.O.Sink.taken c.repair.new.out; random = g.R.Randoms.left c.args.random.now } in
     let did : RepairsVault arm.target c.repair.result before after = record { apart = c.repair.ensures.apart; untouched = Keeps-refl left } in
-    subst (λ command. Executes command c.repair.result before after) (ap Some (sym arm.field-0-0-is) ∙ sym arm.field-0-is ∙ arm.ensures) did
+    subst (λ command. Executes command c.repair.result before after) (ap Some (sym arm.field-0-0-is) ∙ sym arm.field-0-is ∙ arm.ensures.is) did

@@ -1,0 +1,415 @@
+-- Migrations that are led on: nothing is lost at any moment, and what was done where one wasn't begun, or its message found no memory.
+use Rattle.std.proofs.Common.{◌≡◌, ℕ, Bool, true, false, List, Option, Some, None, Result, Ok, Err, inl, inr, refl, sym, ap, ◌∙◌, subst, IsTrue, ◌⊎◌}
+use Rattle.std.specs.Prelude.{◌≢◌, ◌||◌, MatchOption, MatchResult, if◌then◌else◌}
+use Rattle.std.proofs.KnownBytes.{Keeps-refl}
+use Rattle.folder_spec.specs.Event.{Told}
+use Rattle.folder_spec.specs.Image.{Image, IsImage}
+use Rattle.folder_spec.specs.Moments.{Went}
+use Rattle.folder_spec.specs.Path.{Path}
+use Rattle.folder_spec.specs.Region.{IsAsBefore, apart_from_both}
+use Rattle.folder_spec.specs.Seen.{IsSeen}
+use Rattle.folder_spec.specs.State.{State}
+use Rattle.folder_spec.specs.View.{Found, NoEntry, Folder, FileOf, Special, View, view_of}
+use Rattle.folder_spec.proofs.Moments.{went_more, went_nowhere}
+use Rattle.folder_spec.proofs.Regions.{as_before}
+use Rattle.folder_spec.proofs.Tellings.{from_to_more, from_to_same}
+use Rattle.migrate_core.specs.Faults as causes
+use Rattle.migrate_core.specs.Leading.{KeepsGuarded}
+use Rattle.migrate_core.specs.Moved.{StandsIn}
+use Rattle.migrate_core.specs.Moving.{MovesOnly, OnlyBrings}
+use Rattle.migrate_core.specs.Sides.{IsAsked, IsResumed}
+use Rattle.migrate_core.specs.declared.fault.MoveFault.{MoveFault}
+use Rattle.migrate_core.specs.declared.fault.MoveFault.TheVariants as moves
+use Rattle.migrate_core.specs.declared.placing.Done as moved
+use Rattle.move_journal.specs.Journal.{IsJournal, journal_text}
+use Rattle.move_journal.specs.Writing.{GivesBack}
+use Rattle.move_journal.specs.Reading.{ReadsAs, file_bytes, journal_bytes, journal_path}
+use Rattle.move_journal.specs.declared.journal.JournalFault.{JournalFault}
+use Rattle.move_journal.specs.declared.journal.JournalFault.TheVariants as journal
+use Rattle.move_journal.specs.declared.journal.Journal.{Journal}
+use Rattle.port_model.specs.Draws.{ByteStream}
+use Rattle.tree_match.specs.Alone.{StaysGuarded}
+use Rattle.tree_match.specs.Guard.{Migration, Guarded, IsSafe}
+use Rattle.tree_match.specs.declared.answer.Side.{Side}
+use Rattle.vault_read.specs.declared.fault.LoadFault.{LoadFault}
+use Rattle.vault_cli.specs.Answers.{is_plain}
+use Rattle.vault_cli.specs.Beginning.{is_of_beginning}
+use Rattle.vault_cli.specs.Migrate.{HasMigrated, IsAskedFor, MigratesApart, MigratesTree, Pair, RefusesTwo, first_overlap, pair}
+use Rattle.vault_cli.specs.Migrate as migrating
+use Rattle.vault_cli.specs.Moving.{AnswersMove, ArePhrases, Comes, FailPasses, KeepsAll, LosesNothing, OfPasses, Outcome, RefusesPasses, done_text, is_of_end, is_of_migration, is_of_stop}
+use Rattle.vault_cli.specs.Opening.{IsPhrase, OfPassFile, passphrase_in}
+use Rattle.vault_cli.specs.Places.{overlap}
+use Rattle.vault_cli.specs.Printing.{PrintsText}
+use Rattle.vault_cli.specs.Refusing.{RefusesPass}
+use Rattle.vault_cli.specs.Resume.{HasResumed, IsResumedFor, Resumes, ResumesTree}
+use Rattle.vault_cli.specs.Resume as resuming_on
+use Rattle.vault_cli.specs.Shown.{refused}
+use Rattle.vault_cli.specs.World.{World}
+use Rattle.vault_cli.specs.declared.answer.Answer.{Answer}
+use Rattle.vault_cli.specs.declared.answer.Answer.TheVariants.{Done, Findings, BadCommandLine, OutOfMemory, FolderFault, InputFault, OutputFault, RandomFault, Refused, WrongPass, NotFound, WrongKind, DamagedInput, Damaged, NotAllowed, NotClean, Overlap, NotEmpty, Begun, Unusable, Changed, Differ, ZeroRandom, Taken, Limit, Retired}
+use Rattle.vault_cli.specs.declared.words.Moving.{Moving}
+use Rattle.vault_cli.specs.declared.words.Passes.{Passes}
+use Rattle.vault_cli.specs.declared.words.Resuming.{Resuming}
+use Rattle.vault_cli.proofs.Beginnings.{none_drawn}
+use Rattle.vault_cli.proofs.Printings.{IsPrinted, nothing_printed, print_lost, printed}
+use Rattle.vault_cli.proofs.Refusals.{pass_gives, pass_then, unless_then}
+
+-- ---- nothing is lost
+
+abbrev pub AreSafe : Type 0
+AreSafe = (g : Migration) (s : State) (image : Image) → Guarded g s → IsImage s image → IsSafe g (view_of image)
+
+module _ (law : AreSafe) (g : Migration) (told told' : Option Told) where
+  loses_nothing : (s : State) → Guarded g s → LosesNothing g s
+  loses_nothing s guarded = record { guarded = guarded; safe = λ image is. law g s image guarded is }
+
+  abbrev Keeps : Told → Told → Type 0
+  Keeps a b = Guarded g a.state → Went (LosesNothing g) (λ s e. Unit {0}) a b
+
+  pub keeps_all : KeepsGuarded g told told' → KeepsAll g told told'
+  keeps_all = from_to_more (λ a b. Guarded g a.state → StaysGuarded g a b) Keeps told told' (λ a b is stays guarded.
+      went_more (Guarded g) (LosesNothing g) (λ s e. Unit {0}) (λ s e. Unit {0}) a b loses_nothing (λ s e x. x) (stays guarded))
+
+  pub keeps_same : told' ≡ told → KeepsAll g told told'
+  keeps_same same = from_to_same Keeps told told' same (λ a guarded. went_nowhere (LosesNothing g) (λ s e. Unit {0}) a (loses_nothing a.state guarded))
+
+pub moves_nothing : (work target : Path) (told told' : Option Told) → told' ≡ told → MovesOnly work target told told'
+moves_nothing work target told told' same =
+    from_to_same (λ a b. Went (IsAsBefore (apart_from_both work target) a.state) (λ s e. OnlyBrings target s e.call) a b) told told' same
+    (λ a. went_nowhere (IsAsBefore (apart_from_both work target) a.state) (λ s e. OnlyBrings target s e.call) a (as_before (apart_from_both work target) a.state))
+
+-- ---- the passphrases
+
+phrase_is_one : (there : Found) (a b : List ℕ) → IsPhrase there a → IsPhrase there b → a ≡ b
+phrase_is_one there a b p q =
+    let both : FileOf p.0 ≡ FileOf q.0 = sym p.1 ∙ q.1 in
+    let same : p.0 ≡ q.0 = cc in
+    p.3 ∙ ap passphrase_in same ∙ sym q.3
+
+pub first_refused : (passes : Passes) (v : View) (answer : Answer) → RefusesPass passes.source (v passes.source) answer → FailPasses passes v answer
+first_refused passes v answer =
+    unless_then (OfPassFile passes.source (v passes.source) (refused answer) (λ s. ⊥)) (OfPasses passes v answer (λ s t. ⊥)) answer
+    (pass_then passes.source (v passes.source) (refused answer) (λ s. ⊥) (λ s. OfPassFile passes.target (v passes.target) (refused answer) (λ t. ⊥)) (λ s none. absurd none))
+
+pub second_refused : (passes : Passes) (v : View) (answer : Answer) (source : List ℕ) → IsPhrase (v passes.source) source → RefusesPass passes.target (v passes.target) answer → FailPasses passes v answer
+second_refused passes v answer source is =
+    unless_then (OfPassFile passes.target (v passes.target) (refused answer) (λ t. ⊥)) (OfPasses passes v answer (λ s t. ⊥)) answer
+    (pass_gives passes.source (v passes.source) (refused answer) (λ s. OfPassFile passes.target (v passes.target) (refused answer) (λ t. ⊥)) source is)
+
+pub phrases_are : (passes : Passes) (source target source_pass target_pass : List ℕ) (v : View) → source_pass ≡ source → target_pass ≡ target → IsPhrase (v passes.source) source → IsPhrase (v passes.target) target
+    → ArePhrases passes source_pass target_pass v
+phrases_are passes source target source_pass target_pass v first second is is' =
+    record { source = subst (IsPhrase (v passes.source)) (sym first) is; target = subst (IsPhrase (v passes.target)) (sym second) is' }
+
+-- the migration that is asked for is the one whose passphrases were read
+pub asked_is : (g : Migration) (moving : Moving) (v : View) (source target : List ℕ) → ArePhrases moving.passes source target v → IsAskedFor g moving v → IsAsked g moving.source moving.target moving.work source target
+asked_is g moving v source target are asked = record {
+  source = asked.asked.source;
+  target = asked.asked.target;
+  work = asked.asked.work;
+  opens_source = phrase_is_one (v moving.passes.source) g.source.pass source asked.phrases.source are.source;
+  opens_target = phrase_is_one (v moving.passes.target) g.target.pass target asked.phrases.target are.target;
+}
+
+pub resumed_is : (g : Migration) (resuming : Resuming) (v : View) (source target : List ℕ) → ArePhrases resuming.passes source target v → IsResumedFor g resuming v → IsResumed g resuming.work source target
+resumed_is g resuming v source target are asked = record {
+  work = asked.resumed.work;
+  opens_source = phrase_is_one (v resuming.passes.source) g.source.pass source asked.phrases.source are.source;
+  opens_target = phrase_is_one (v resuming.passes.target) g.target.pass target asked.phrases.target are.target;
+}
+
+-- ---- the journal
+
+stands_found : (x : Found) (j : Journal) → ReadsAs (file_bytes x) (Ok j) → IsJournal j × (x ≡ FileOf (journal_text j))
+stands_found (FileOf bytes) j reads = (reads.0, ap FileOf reads.1)
+stands_found NoEntry j reads = absurd reads
+stands_found Folder j reads = absurd reads
+stands_found Special j reads = absurd reads
+
+pub journal_found : (work : Path) (v : View) (j : Journal) → ReadsAs (journal_bytes v work) (Ok j) → resuming_on.IsFoundJournal work v (Some j)
+journal_found work v j = stands_found (v (journal_path work)) j
+
+-- a journal that stands is read
+pub journal_missing : (law : (j : Journal) (result : Result Journal JournalFault) → IsJournal j → ReadsAs (Some (journal_text j)) result → GivesBack j result)
+    (work : Path) (v : View) (result : Result Journal JournalFault) → ((j : Journal) → ¬ GivesBack j result) → ReadsAs (journal_bytes v work) result → resuming_on.IsFoundJournal work v None
+journal_missing law work v result none reads j good stands = none j (law j result good (subst (λ x. ReadsAs (file_bytes x) result) stands reads))
+
+-- ---- what a migration comes to
+
+passes_fail : (passes : Passes) (answer : Answer) (told : Option Told) (stream : Option ByteStream) (v : View) → FailPasses passes v answer → RefusesPasses passes answer told told stream stream v
+passes_fail passes answer told stream v fail = record { answers = fail; unchanged = refl; undrawn = none_drawn stream }
+
+pub passes_unread : (passes : Passes) (answer : Answer) (told told' : Option Told) (stream : Option ByteStream) (v : View) → told' ≡ told → FailPasses passes v answer → RefusesPasses passes answer told told' stream stream v
+passes_unread passes answer told told' stream v same fail = record { answers = fail; unchanged = same; undrawn = none_drawn stream }
+
+pub cut_short : (passes : Passes) (v : View) (answer : Answer) → (answer ≡ FolderFault) ⊎ (answer ≡ OutOfMemory) → FailPasses passes v answer
+cut_short passes v answer (inl failed) = inl failed
+cut_short passes v answer (inr memory) = inr (inl memory)
+
+refused_lost : (passes : Passes) (answer : Answer) (told told' : Option Told) (stream stream' : Option ByteStream) (v : View) → RefusesPasses passes answer told told' stream stream' v
+    → RefusesPasses passes OutOfMemory told told' stream stream' v
+refused_lost passes answer told told' stream stream' v refuses = record { answers = inr (inl refl); unchanged = refuses.unchanged; undrawn = refuses.undrawn }
+
+module _ (passes : Passes) (IsCaused IsWritten : List ℕ → List ℕ → Outcome → Type 0) (v : View) where
+  pub comes_as : (P Q : Outcome → Type 0) → ((outcome : Outcome) → P outcome → Q outcome) → Comes passes IsCaused IsWritten P v → Comes passes IsCaused IsWritten Q v
+  comes_as P Q f comes = record {
+    source_pass = comes.source_pass;
+    target_pass = comes.target_pass;
+    phrases = comes.phrases;
+    outcome = comes.outcome;
+    cause = comes.cause;
+    written = comes.written;
+    answers = f comes.outcome comes.answers;
+  }
+
+move_lost : (work : Path) (IsRoot : MoveFault → Path → Type 0) (outcome : Outcome) → AnswersMove work IsRoot OutOfMemory outcome
+move_lost work IsRoot (Ok done) = inr (inr refl)
+move_lost work IsRoot (Err fault) = inl refl
+
+move_printed : (work : Path) (IsRoot : MoveFault → Path → Type 0) (answer : Answer) (done : moved.Done) → IsPrinted answer → (outcome : Outcome) → outcome ≡ Ok done → AnswersMove work IsRoot answer outcome
+move_printed work IsRoot answer done is_printed outcome is = subst (AnswersMove work IsRoot answer) (sym is) is_printed
+
+-- ---- the answers
+
+pub beginning_stops : (answer : Answer) → IsTrue (is_of_beginning answer) → IsTrue (is_of_stop answer)
+beginning_stops Done is = is
+beginning_stops OutputFault is = is
+beginning_stops Findings is = is
+beginning_stops BadCommandLine is = is
+beginning_stops OutOfMemory is = refl
+beginning_stops FolderFault is = refl
+beginning_stops InputFault is = is
+beginning_stops RandomFault is = refl
+beginning_stops (Refused at why) is = refl
+beginning_stops (WrongPass root) is = refl
+beginning_stops (NotFound what) is = refl
+beginning_stops (WrongKind what) is = refl
+beginning_stops (DamagedInput fault) is = is
+beginning_stops (Damaged at how) is = refl
+beginning_stops (NotAllowed path) is = refl
+beginning_stops (NotClean at number) is = refl
+beginning_stops (Overlap first second) is = refl
+beginning_stops (NotEmpty at) is = refl
+beginning_stops (Begun work) is = refl
+beginning_stops (Unusable work why) is = refl
+beginning_stops (Changed plan items plan' items') is = refl
+beginning_stops (Differ path how) is = refl
+beginning_stops ZeroRandom is = refl
+beginning_stops (Taken at) is = refl
+beginning_stops (Limit which) is = refl
+beginning_stops (Retired work) is = refl
+
+pub not_done : (answer : Answer) → IsTrue (is_of_stop answer) → answer ≢ Done
+not_done answer own same = let none : IsTrue (is_of_stop Done) = subst (λ a. IsTrue (is_of_stop a)) same own in cc
+
+pub not_output : (answer : Answer) → IsTrue (is_of_stop answer) → answer ≢ OutputFault
+not_output answer own same = let none : IsTrue (is_of_stop OutputFault) = subst (λ a. IsTrue (is_of_stop a)) same own in cc
+
+or_left : (a b : Bool) → IsTrue a → IsTrue (a || b)
+or_left true b is = refl
+or_left false b is = cc
+
+pub stop_is_own : (answer : Answer) → IsTrue (is_of_stop answer) → IsTrue (is_of_migration answer)
+stop_is_own answer = or_left (is_of_stop answer) (is_of_end answer)
+
+pub printed_is_own : (answer : Answer) → IsPrinted answer → IsTrue (is_of_migration answer)
+printed_is_own answer (inl done) = subst (λ a. IsTrue (is_of_migration a)) (sym done) refl
+printed_is_own answer (inr (inl output)) = subst (λ a. IsTrue (is_of_migration a)) (sym output) refl
+printed_is_own answer (inr (inr memory)) = subst (λ a. IsTrue (is_of_migration a)) (sym memory) refl
+
+no_bad : (answer : Answer) → answer ≡ BadCommandLine → ¬ IsTrue (is_of_migration answer)
+no_bad answer bad own = let none : IsTrue (is_of_migration BadCommandLine) = subst (λ a. IsTrue (is_of_migration a)) bad own in cc
+
+-- ---- `migrate`
+
+module _ (moving : Moving) where
+  abbrev pick : Bool → Bool → Bool → Option Pair
+  pick one two three =
+      if one then Some (pair moving.source moving.target)
+      else if two then Some (pair moving.source moving.work)
+      else if three then Some (pair moving.target moving.work)
+      else None
+
+  -- the first two folders that overlap are named
+  module _ (P : Type 0) (Q : Pair → Type 0) where
+    pub first_two : overlap moving.source moving.target ≡ true → Q (pair moving.source moving.target) → MatchOption (first_overlap moving) P Q
+    first_two is q = subst (λ b. MatchOption (pick b (overlap moving.source moving.work) (overlap moving.target moving.work)) P Q) (sym is) q
+
+    later : overlap moving.source moving.target ≡ false → MatchOption (pick false (overlap moving.source moving.work) (overlap moving.target moving.work)) P Q → MatchOption (first_overlap moving) P Q
+    later none x = subst (λ b. MatchOption (pick b (overlap moving.source moving.work) (overlap moving.target moving.work)) P Q) (sym none) x
+
+    pub second_two : overlap moving.source moving.target ≡ false → overlap moving.source moving.work ≡ true → Q (pair moving.source moving.work) → MatchOption (first_overlap moving) P Q
+    second_two none is q = later none (subst (λ b. MatchOption (pick false b (overlap moving.target moving.work)) P Q) (sym is) q)
+
+    last : overlap moving.source moving.target ≡ false → overlap moving.source moving.work ≡ false → MatchOption (pick false false (overlap moving.target moving.work)) P Q → MatchOption (first_overlap moving) P Q
+    last none second x = later none (subst (λ b. MatchOption (pick false b (overlap moving.target moving.work)) P Q) (sym second) x)
+
+    pub third_two : overlap moving.source moving.target ≡ false → overlap moving.source moving.work ≡ false → overlap moving.target moving.work ≡ true → Q (pair moving.target moving.work) → MatchOption (first_overlap moving) P Q
+    third_two none second is q = last none second (subst (λ b. MatchOption (pick false false b) P Q) (sym is) q)
+
+    pub no_two : overlap moving.source moving.target ≡ false → overlap moving.source moving.work ≡ false → overlap moving.target moving.work ≡ false → P → MatchOption (first_overlap moving) P Q
+    no_two none second third x = last none second (subst (λ b. MatchOption (pick false false b) P Q) (sym third) x)
+
+  pub migrate_stopped : (answer : Answer) (told told' : Option Told) (taken : Option (List ℕ)) (stream stream' : Option ByteStream) → IsTrue (is_of_stop answer)
+      → ((v : View) → IsSeen told v → migrating.MayCome moving answer told told' stream stream' v)
+      → ((g : Migration) (v : View) → IsSeen told v → IsAskedFor g moving v → KeepsAll g told told') → MovesOnly moving.work moving.target told told' → MigratesApart moving answer told told' taken taken stream stream'
+  migrate_stopped answer told told' taken stream stream' own comes keeps moves = record {
+    own = stop_is_own answer own;
+    comes = comes;
+    keeps = keeps;
+    moves = moves;
+    prints = nothing_printed done_text (λ done. HasMigrated moving done told told') answer taken (not_done answer own) (not_output answer own);
+  }
+
+  pub migrate_printed : (done : moved.Done) (answer : Answer) (told told' : Option Told) (taken taken' : Option (List ℕ)) (stream stream' : Option ByteStream) → HasMigrated moving done told told'
+      → ((v : View) → IsSeen told v → migrating.ComesTo moving (λ outcome. outcome ≡ Ok done) told told' stream stream' v)
+      → ((g : Migration) (v : View) → IsSeen told v → IsAskedFor g moving v → KeepsAll g told told') → MovesOnly moving.work moving.target told told'
+      → PrintsText (done_text done) answer taken taken' → IsPrinted answer → MigratesApart moving answer told told' taken taken' stream stream'
+  migrate_printed done answer told told' taken taken' stream stream' has comes keeps moves prints is_printed = record {
+    own = printed_is_own answer is_printed;
+    comes = λ v is. inr (comes_as moving.passes (migrating.IsCaused moving v) (migrating.IsWritten moving told told' stream stream') v (λ outcome. outcome ≡ Ok done)
+        (AnswersMove moving.work (migrating.IsRootOf moving) answer) (move_printed moving.work (migrating.IsRootOf moving) answer done is_printed) (comes v is));
+    keeps = keeps;
+    moves = moves;
+    prints = printed done_text (λ done. HasMigrated moving done told told') done answer taken taken' has prints is_printed;
+  }
+
+  migrates_nothing_apart : AreSafe → (told : Option Told) (taken : Option (List ℕ)) (stream : Option ByteStream) → MigratesApart moving OutOfMemory told told taken taken stream stream
+  migrates_nothing_apart law told taken stream =
+      migrate_stopped OutOfMemory told told taken stream stream refl (λ v is. inl (passes_fail moving.passes OutOfMemory told stream v (inr (inl refl)))) (λ g v is asked. keeps_same law g told told refl)
+      (moves_nothing moving.work moving.target told told refl)
+
+  pub migrates_nothing : AreSafe → (w : World) → MigratesTree moving OutOfMemory w w
+  migrates_nothing law w = record { apart = by (first_overlap moving); untouched = Keeps-refl w.left }
+    where
+      by : (o : Option Pair) → MatchOption o (MigratesApart moving OutOfMemory w.told w.told w.taken w.taken w.random w.random) (λ two. RefusesTwo two OutOfMemory w.told w.told w.taken w.taken w.random w.random)
+      by None = migrates_nothing_apart law w.told w.taken w.random
+      by (Some two) = record { refuses = record { answers = inr refl; unchanged = refl; unwritten = Keeps-refl w.taken }; undrawn = none_drawn w.random }
+
+  pub migration_lost : (answer : Answer) (before after : World) → is_plain answer ≡ false → MigratesTree moving answer before after → MigratesTree moving OutOfMemory before after
+  migration_lost answer before after named did = record { apart = by (first_overlap moving) did.apart; untouched = did.untouched }
+    where
+      comes_lost : (v : View) → migrating.MayCome moving answer before.told after.told before.random after.random v → migrating.MayCome moving OutOfMemory before.told after.told before.random after.random v
+      comes_lost v (inl refuses) = inl (refused_lost moving.passes answer before.told after.told before.random after.random v refuses)
+      comes_lost v (inr comes) = inr (comes_as moving.passes (migrating.IsCaused moving v) (migrating.IsWritten moving before.told after.told before.random after.random) v
+          (AnswersMove moving.work (migrating.IsRootOf moving) answer) (AnswersMove moving.work (migrating.IsRootOf moving) OutOfMemory) (λ outcome x. move_lost moving.work (migrating.IsRootOf moving) outcome) comes)
+
+      by : (o : Option Pair) → MatchOption o (MigratesApart moving answer before.told after.told before.taken after.taken before.random after.random) (λ two. RefusesTwo two answer before.told after.told before.taken after.taken before.random after.random)
+          → MatchOption o (MigratesApart moving OutOfMemory before.told after.told before.taken after.taken before.random after.random) (λ two. RefusesTwo two OutOfMemory before.told after.told before.taken after.taken before.random after.random)
+      by None migrates = record {
+        own = refl;
+        comes = λ v is. comes_lost v (migrates.comes v is);
+        keeps = migrates.keeps;
+        moves = migrates.moves;
+        prints = print_lost done_text (λ done. HasMigrated moving done before.told after.told) answer before.taken after.taken named migrates.prints;
+      }
+      by (Some two) refused = record { refuses = record { answers = inr refl; unchanged = refused.refuses.unchanged; unwritten = refused.refuses.unwritten }; undrawn = refused.undrawn }
+
+  pub no_bad_migration : (answer : Answer) (before after : World) → answer ≡ BadCommandLine → MigratesTree moving answer before after → ⊥
+  no_bad_migration answer before after bad did = by (first_overlap moving) did.apart
+    where
+      by : (o : Option Pair) → MatchOption o (MigratesApart moving answer before.told after.told before.taken after.taken before.random after.random) (λ two. RefusesTwo two answer before.told after.told before.taken after.taken before.random after.random) → ⊥
+      by None migrates = no_bad answer bad migrates.own
+      by (Some two) refused = elim refused.refuses.answers [ inl overlaps ↦ let no = sym bad ∙ overlaps in cc | inr memory ↦ let no = sym bad ∙ memory in cc ]
+
+  pub refuses_two : (two : Pair) (answer : Answer) (told : Option Told) (taken : Option (List ℕ)) (stream : Option ByteStream) → (answer ≡ Overlap two.first two.second) ⊎ (answer ≡ OutOfMemory) → RefusesTwo two answer told told taken taken stream stream
+  refuses_two two answer told taken stream answers = record { refuses = record { answers = answers; unchanged = refl; unwritten = Keeps-refl taken }; undrawn = none_drawn stream }
+
+-- ---- `resume`
+
+module _ (resuming : Resuming) where
+  abbrev Brings : Option Told → Option Told → Type 0
+  Brings told told' = (v : View) (journal : Journal) → IsSeen told v → IsJournal journal → StandsIn resuming.work journal v → MovesOnly resuming.work journal.target told told'
+
+  pub resume_stopped : (answer : Answer) (told told' : Option Told) (taken : Option (List ℕ)) (stream stream' : Option ByteStream) → IsTrue (is_of_stop answer)
+      → ((v : View) → IsSeen told v → resuming_on.MayCome resuming answer told told' stream stream' v)
+      → ((g : Migration) (v : View) → IsSeen told v → IsResumedFor g resuming v → KeepsAll g told told') → Brings told told' → Resumes resuming answer told told' taken taken stream stream'
+  resume_stopped answer told told' taken stream stream' own comes keeps moves = record {
+    own = stop_is_own answer own;
+    comes = comes;
+    keeps = keeps;
+    moves = moves;
+    prints = nothing_printed done_text (λ done. HasResumed resuming done told told') answer taken (not_done answer own) (not_output answer own);
+  }
+
+  pub resume_printed : (done : moved.Done) (answer : Answer) (told told' : Option Told) (taken taken' : Option (List ℕ)) (stream stream' : Option ByteStream) → HasResumed resuming done told told'
+      → ((v : View) → IsSeen told v → resuming_on.ComesTo resuming (λ outcome. outcome ≡ Ok done) told told' stream stream' v)
+      → ((g : Migration) (v : View) → IsSeen told v → IsResumedFor g resuming v → KeepsAll g told told') → Brings told told'
+      → PrintsText (done_text done) answer taken taken' → IsPrinted answer → Resumes resuming answer told told' taken taken' stream stream'
+  resume_printed done answer told told' taken taken' stream stream' has comes keeps moves prints is_printed = record {
+    own = printed_is_own answer is_printed;
+    comes = λ v is. inr (comes_as resuming.passes (resuming_on.IsCaused resuming v) (resuming_on.IsWritten resuming told told' stream stream' v) v (λ outcome. outcome ≡ Ok done)
+        (AnswersMove resuming.work (resuming_on.IsRootOf resuming.work v) answer) (move_printed resuming.work (resuming_on.IsRootOf resuming.work v) answer done is_printed) (comes v is));
+    keeps = keeps;
+    moves = moves;
+    prints = printed done_text (λ done. HasResumed resuming done told told') done answer taken taken' has prints is_printed;
+  }
+
+  pub resumes_nothing : AreSafe → (w : World) → ResumesTree resuming OutOfMemory w w
+  resumes_nothing law w = record {
+    resumes = resume_stopped OutOfMemory w.told w.told w.taken w.random w.random refl (λ v is. inl (passes_fail resuming.passes OutOfMemory w.told w.random v (inr (inl refl)))) (λ g v is asked. keeps_same law g w.told w.told refl)
+        (λ v journal is good stands. moves_nothing resuming.work journal.target w.told w.told refl);
+    untouched = Keeps-refl w.left;
+  }
+
+  pub resuming_lost : (answer : Answer) (before after : World) → is_plain answer ≡ false → ResumesTree resuming answer before after → ResumesTree resuming OutOfMemory before after
+  resuming_lost answer before after named did = record {
+    resumes = record {
+      own = refl;
+      comes = λ v is. comes_lost v (did.resumes.comes v is);
+      keeps = did.resumes.keeps;
+      moves = did.resumes.moves;
+      prints = print_lost done_text (λ done. HasResumed resuming done before.told after.told) answer before.taken after.taken named did.resumes.prints;
+    };
+    untouched = did.untouched;
+  }
+    where
+      comes_lost : (v : View) → resuming_on.MayCome resuming answer before.told after.told before.random after.random v → resuming_on.MayCome resuming OutOfMemory before.told after.told before.random after.random v
+      comes_lost v (inl refuses) = inl (refused_lost resuming.passes answer before.told after.told before.random after.random v refuses)
+      comes_lost v (inr comes) = inr (comes_as resuming.passes (resuming_on.IsCaused resuming v) (resuming_on.IsWritten resuming before.told after.told before.random after.random v) v
+          (AnswersMove resuming.work (resuming_on.IsRootOf resuming.work v) answer) (AnswersMove resuming.work (resuming_on.IsRootOf resuming.work v) OutOfMemory) (λ outcome x. move_lost resuming.work (resuming_on.IsRootOf resuming.work v) outcome) comes)
+
+  pub no_bad_resuming : (answer : Answer) (before after : World) → answer ≡ BadCommandLine → ResumesTree resuming answer before after → ⊥
+  no_bad_resuming answer before after bad did = no_bad answer bad did.resumes.own
+
+  -- the root that is named of a vault that isn't opened is the journal's
+  module _ (v : View) where
+    no_load : (side : Side) (f : LoadFault) (fault : JournalFault) → moves.Load side f ≢ causes.of_journal fault
+    no_load side f journal.NoJournal same = cc
+    no_load side f (journal.BadJournal number) same = cc
+    no_load side f journal.TooLarge same = cc
+    no_load side f journal.Failed same = cc
+    no_load side f journal.NoMemory same = cc
+
+    abbrev stopped_by : MoveFault → Outcome
+    stopped_by fault = Err fault
+
+    fault_is : (a b : MoveFault) → stopped_by a ≡ stopped_by b → a ≡ b
+    fault_is a b same = cc
+
+    load_root : (found : Option Journal) (side : Side) (f : LoadFault) → resuming_on.IsFoundJournal resuming.work v found → (tested : Result Journal JournalFault) (P : Journal → Type 0)
+        → ReadsAs (journal_bytes v resuming.work) tested → MatchResult tested P (λ fault. stopped_by (moves.Load side f) ≡ stopped_by (causes.of_journal fault))
+        → resuming_on.IsRootOf resuming.work v (moves.Load side f) (resuming_on.root_by resuming.work found (moves.Load side f))
+    load_root (Some j) side f is tested P reads match = (j, is.0, is.1, refl)
+    load_root None side f is (Ok j) P reads match =
+        let stands = stands_found (v (journal_path resuming.work)) j reads in absurd (is j stands.0 stands.1)
+    load_root None side f is (Err fault) P reads match = absurd (no_load side f fault (fault_is (moves.Load side f) (causes.of_journal fault) match))
+
+    pub journal_root : (found : Option Journal) (fault : MoveFault) → resuming_on.IsFoundJournal resuming.work v found → (s t : List ℕ) → resuming_on.IsCaused resuming v s t (Err fault)
+        → resuming_on.IsRootOf resuming.work v fault (resuming_on.root_by resuming.work found fault)
+    journal_root found (moves.Load side f) is s t (inl failed) = let no = fault_is (moves.Load side f) moves.Failed failed in cc
+    journal_root found (moves.Load side f) is s t (inr (inl memory)) = let no = fault_is (moves.Load side f) moves.NoMemory memory in cc
+    journal_root found (moves.Load side f) is s t (inr (inr tested)) = load_root found side f is tested.0 _ tested.1 tested.2
+    journal_root found (moves.Work fault) is s t cause = tt
+    journal_root found (moves.Journal fault) is s t cause = tt
+    journal_root found (moves.Overlap first second) is s t cause = tt
+    journal_root found (moves.Walk fault) is s t cause = tt
+    journal_root found (moves.NotEmpty at) is s t cause = tt
+    journal_root found (moves.NotAllowed path) is s t cause = tt
+    journal_root found (moves.Changed plan items plan' items') is s t cause = tt
+    journal_root found (moves.Match fault) is s t cause = tt
+    journal_root found (moves.Differ path how) is s t cause = tt
+    journal_root found (moves.Place fault) is s t cause = tt
+    journal_root found moves.SourceGone is s t cause = tt
+    journal_root found moves.Failed is s t cause = tt
+    journal_root found moves.NoMemory is s t cause = tt

@@ -1,0 +1,84 @@
+-- What a command writes once it is done.
+use Rattle.std.proofs.Common.{◌≡◌, ◌⊎◌, false, ℕ, List, Option, inl, inr, refl, sym, subst}
+use Rattle.std.specs.Prelude.{◌≢◌}
+use Rattle.std.specs.Io.KnownBytes.{Keeps}
+use Rattle.std.proofs.KnownBytes.{Keeps-refl}
+use Rattle.vault_cli.specs.Answers.{is_plain}
+use Rattle.vault_cli.specs.Printing.{PrintsDone, PrintsText}
+use Rattle.vault_cli.specs.declared.answer.Answer.{Answer}
+use Rattle.vault_cli.specs.declared.answer.Answer.TheVariants.{Done, Findings, BadCommandLine, OutOfMemory, FolderFault, InputFault, OutputFault, RandomFault, Refused, WrongPass, NotFound, WrongKind, DamagedInput, Damaged, NotAllowed, NotClean, Overlap, NotEmpty, Begun, Unusable, Changed, Differ, ZeroRandom, Taken, Limit, Retired}
+
+-- the answers to a text that is printed
+abbrev pub IsPrinted : Answer → Type 0
+IsPrinted answer = (answer ≡ Done) ⊎ ((answer ≡ OutputFault) ⊎ (answer ≡ OutOfMemory))
+
+module _ {X : Type 0} (text : X → List ℕ) (IsDone : X → Type 0) where
+  -- another answer writes nothing
+  pub nothing_written : (answer : Answer) (taken taken' : Option (List ℕ)) → answer ≢ Done → answer ≢ OutputFault → Keeps taken taken' → PrintsDone text IsDone answer taken taken'
+  nothing_written Done taken taken' done output keeps = absurd (done refl)
+  nothing_written OutputFault taken taken' done output keeps = absurd (output refl)
+  nothing_written Findings taken taken' done output keeps = keeps
+  nothing_written BadCommandLine taken taken' done output keeps = keeps
+  nothing_written OutOfMemory taken taken' done output keeps = keeps
+  nothing_written FolderFault taken taken' done output keeps = keeps
+  nothing_written InputFault taken taken' done output keeps = keeps
+  nothing_written RandomFault taken taken' done output keeps = keeps
+  nothing_written (Refused at why) taken taken' done output keeps = keeps
+  nothing_written (WrongPass root) taken taken' done output keeps = keeps
+  nothing_written (NotFound what) taken taken' done output keeps = keeps
+  nothing_written (WrongKind what) taken taken' done output keeps = keeps
+  nothing_written (DamagedInput fault) taken taken' done output keeps = keeps
+  nothing_written (Damaged at how) taken taken' done output keeps = keeps
+  nothing_written (NotAllowed path) taken taken' done output keeps = keeps
+  nothing_written (NotClean at number) taken taken' done output keeps = keeps
+  nothing_written (Overlap first second) taken taken' done output keeps = keeps
+  nothing_written (NotEmpty at) taken taken' done output keeps = keeps
+  nothing_written (Begun work) taken taken' done output keeps = keeps
+  nothing_written (Unusable work why) taken taken' done output keeps = keeps
+  nothing_written (Changed plan items plan' items') taken taken' done output keeps = keeps
+  nothing_written (Differ path how) taken taken' done output keeps = keeps
+  nothing_written ZeroRandom taken taken' done output keeps = keeps
+  nothing_written (Taken at) taken taken' done output keeps = keeps
+  nothing_written (Limit which) taken taken' done output keeps = keeps
+  nothing_written (Retired work) taken taken' done output keeps = keeps
+
+  pub nothing_printed : (answer : Answer) (taken : Option (List ℕ)) → answer ≢ Done → answer ≢ OutputFault → PrintsDone text IsDone answer taken taken
+  nothing_printed answer taken done output = nothing_written answer taken taken done output (Keeps-refl taken)
+
+  -- an answer that names something has printed nothing
+  pub print_lost : (answer : Answer) (taken taken' : Option (List ℕ)) → is_plain answer ≡ false → PrintsDone text IsDone answer taken taken' → PrintsDone text IsDone OutOfMemory taken taken'
+  print_lost Done taken taken' named prints = cc
+  print_lost OutputFault taken taken' named prints = cc
+  print_lost Findings taken taken' named prints = cc
+  print_lost BadCommandLine taken taken' named prints = cc
+  print_lost OutOfMemory taken taken' named prints = cc
+  print_lost FolderFault taken taken' named prints = cc
+  print_lost InputFault taken taken' named prints = cc
+  print_lost RandomFault taken taken' named prints = cc
+  print_lost (Refused at why) taken taken' named prints = prints
+  print_lost (WrongPass root) taken taken' named prints = prints
+  print_lost (NotFound what) taken taken' named prints = prints
+  print_lost (WrongKind what) taken taken' named prints = prints
+  print_lost (DamagedInput fault) taken taken' named prints = prints
+  print_lost (Damaged at how) taken taken' named prints = prints
+  print_lost (NotAllowed path) taken taken' named prints = prints
+  print_lost (NotClean at number) taken taken' named prints = prints
+  print_lost (Overlap first second) taken taken' named prints = prints
+  print_lost (NotEmpty at) taken taken' named prints = prints
+  print_lost (Begun work) taken taken' named prints = prints
+  print_lost (Unusable work why) taken taken' named prints = prints
+  print_lost (Changed plan items plan' items') taken taken' named prints = prints
+  print_lost (Differ path how) taken taken' named prints = prints
+  print_lost ZeroRandom taken taken' named prints = cc
+  print_lost (Taken at) taken taken' named prints = prints
+  print_lost (Limit which) taken taken' named prints = prints
+  print_lost (Retired work) taken taken' named prints = prints
+
+  -- what was done is told once its text is printed
+  pub printed : (x : X) (answer : Answer) (taken taken' : Option (List ℕ)) → IsDone x → PrintsText (text x) answer taken taken' → IsPrinted answer → PrintsDone text IsDone answer taken taken'
+  printed x answer taken taken' is prints (inl done) =
+      subst (λ a. PrintsDone text IsDone a taken taken') (sym done) (x, is, subst (λ a. PrintsText (text x) a taken taken') done prints)
+  printed x answer taken taken' is prints (inr (inl output)) =
+      subst (λ a. PrintsDone text IsDone a taken taken') (sym output) (x, is, subst (λ a. PrintsText (text x) a taken taken') output prints)
+  printed x answer taken taken' is prints (inr (inr memory)) =
+      subst (λ a. PrintsDone text IsDone a taken taken') (sym memory) (subst (λ a. PrintsText (text x) a taken taken') memory prints)

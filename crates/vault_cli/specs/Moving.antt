@@ -1,0 +1,92 @@
+-- What the commands share that lead a migration on: its passphrases stand in two files, what is lost at no moment, and what is printed.
+use Rattle.std.specs.Prelude.{◌++◌, ◌∷◌, [], ℕ, Bool, true, false, ◌||◌, List, codes, decimal, Option, Result, Ok, Err, ◌⊎◌, ◌≡◌}
+use Rattle.folder_spec.specs.Event.{Told, FromTo}
+use Rattle.folder_spec.specs.Image.{Image, IsImage}
+use Rattle.folder_spec.specs.Moments.{Went}
+use Rattle.folder_spec.specs.Path.{Path}
+use Rattle.folder_spec.specs.State.{State}
+use Rattle.folder_spec.specs.View.{View, view_of}
+use Rattle.migrate_core.specs.declared.fault.MoveFault.{MoveFault}
+use Rattle.migrate_core.specs.declared.placing.Done as moved
+use Rattle.port_model.specs.Draws.{ByteStream, Draws}
+use Rattle.tree_match.specs.Guard.{Migration, Guarded, IsSafe}
+use Rattle.vault_cli.specs.Faults.{of_move}
+use Rattle.vault_cli.specs.Opening.{IsPhrase, OfPassFile}
+use Rattle.vault_cli.specs.Refusing.{Unless}
+use Rattle.vault_cli.specs.Shown.{refused}
+use Rattle.vault_cli.specs.declared.answer.Answer.{Answer}
+use Rattle.vault_cli.specs.declared.answer.Answer.TheVariants.{Done, Findings, BadCommandLine, OutOfMemory, InputFault, OutputFault, DamagedInput}
+use Rattle.vault_cli.specs.declared.words.Passes.{Passes}
+
+-- the two files hold these passphrases
+pub record ArePhrases (passes : Passes) (source_pass target_pass : List ℕ) (v : View) : Type 0 where
+  pub source : IsPhrase (v passes.source) source_pass
+  pub target : IsPhrase (v passes.target) target_pass
+
+-- what follows of the passphrases in the two files
+abbrev pub OfPasses : Passes → View → Answer → (List ℕ → List ℕ → Type 0) → Type 0
+OfPasses passes v answer next =
+    OfPassFile passes.source (v passes.source) (refused answer) (λ source.
+    OfPassFile passes.target (v passes.target) (refused answer) (λ target. next source target))
+
+-- They aren't read, and nothing comes of the command.
+pub record RefusesPasses (passes : Passes) (answer : Answer) (told told' : Option Told) (stream stream' : Option ByteStream) (v : View) : Type 0 where
+  pub answers : Unless answer (OfPasses passes v answer (λ source target. ⊥))
+  pub unchanged : told' ≡ told
+  pub undrawn : Draws stream stream' []
+
+-- what a migration comes to
+abbrev pub Outcome : Type 0
+Outcome = Result moved.Done MoveFault
+
+-- the answer to it, of a migration through this work folder; the root is that of the vault that isn't opened
+abbrev pub AnswersMove : Path → (MoveFault → Path → Type 0) → Answer → Outcome → Type 0
+AnswersMove work IsRoot answer (Ok done) = (answer ≡ Done) ⊎ ((answer ≡ OutputFault) ⊎ (answer ≡ OutOfMemory))
+AnswersMove work IsRoot answer (Err fault) = (answer ≡ OutOfMemory) ⊎ ((root : Path) × IsRoot fault root × (answer ≡ of_move work root fault))
+
+-- They are read, and under them the migration comes to this, for such a cause; it draws and writes so, and is answered so.
+pub record Comes (passes : Passes) (IsCaused : List ℕ → List ℕ → Outcome → Type 0) (IsWritten : List ℕ → List ℕ → Outcome → Type 0) (IsAnswered : Outcome → Type 0) (v : View) : Type 0 where
+  pub source_pass : List ℕ
+  pub target_pass : List ℕ
+  pub phrases : ArePhrases passes source_pass target_pass v
+  pub outcome : Outcome
+  pub cause : IsCaused source_pass target_pass outcome
+  pub written : IsWritten source_pass target_pass outcome
+  pub answers : IsAnswered outcome
+
+-- The state is one in which the migration is guarded; and after a crash there, each file that the source held when the migration began
+-- opens with its content in the source, or at its path in the target.
+pub record LosesNothing (g : Migration) (s : State) : Type 0 where
+  pub guarded : Guarded g s
+  pub safe : (image : Image) → IsImage s image → IsSafe g (view_of image)
+
+-- where the migration is guarded at first, nothing is lost at any moment
+abbrev pub KeepsAll : Migration → Option Told → Option Told → Type 0
+KeepsAll g = FromTo (λ a b. Guarded g a.state → Went (LosesNothing g) (λ s e. Unit {0}) a b)
+
+-- `placed N, items M`
+abbrev pub done_text : moved.Done → List ℕ
+done_text done = codes "placed " ++ decimal done.placed ++ codes ", items " ++ decimal done.items ++ 10 ∷ []
+
+-- whether a migration that stops may be answered so
+abbrev pub is_of_stop : Answer → Bool
+is_of_stop Done = false
+is_of_stop Findings = false
+is_of_stop BadCommandLine = false
+is_of_stop InputFault = false
+is_of_stop OutputFault = false
+is_of_stop (DamagedInput fault) = false
+is_of_stop answer = true
+
+-- and one that comes to its end
+abbrev pub is_of_end : Answer → Bool
+is_of_end Done = true
+is_of_end OutputFault = true
+is_of_end answer = false
+
+abbrev pub is_of_migration : Answer → Bool
+is_of_migration answer = is_of_stop answer || is_of_end answer
+
+-- why the passphrases aren't read (private contracts only)
+abbrev pub FailPasses : Passes → View → Answer → Type 0
+FailPasses passes v answer = Unless answer (OfPasses passes v answer (λ source target. ⊥))

@@ -1,0 +1,130 @@
+//! What the commands share that lead a migration on.
+ghost use Rattle.std.specs.Prelude.{◌≡◌, ◌⊎◌, ◌≤◌, Err, IfErr, IfOk, IsTrue, string_bytes};
+ghost use Rattle.folder_spec.specs.Seen.{IsSeen};
+ghost use Rattle.folder_spec.specs.View.{View};
+ghost use Rattle.migrate_core.specs.Faults.{IsMoveFault};
+ghost use Rattle.port_model.specs.Counts.{CountRose};
+ghost use Rattle.vault_cli.specs.Beginning.{is_of_beginning};
+ghost use Rattle.vault_cli.specs.Faults.{of_journal, of_move};
+ghost use Rattle.vault_cli.specs.Moving.{FailPasses, done_text, is_of_stop};
+ghost use Rattle.vault_cli.specs.Opening.{IsPhrase};
+ghost use Rattle.vault_cli.specs.Printing.{PrintsText};
+
+use crate::answer::{Answer, Flaw, Limit};
+use crate::opening::read_pass;
+use crate::reporting::print;
+use crate::words::Passes;
+use crate::{beginning, opening};
+use content_writing::PutFault;
+use folder_model::{FPath, Folder};
+use migrate_core::{Done, MoveFault};
+use move_journal::JournalFault;
+use port_model::Sink;
+use std::alloc::{AllocError, Global};
+use text_model::Bytes;
+
+/// The passphrases of a migration's vaults.
+#[derive(Drop)]
+pub(crate) struct Phrases {
+    pub(crate) source: Bytes,
+    pub(crate) target: Bytes,
+}
+
+/// The passphrases in two files.
+pub(crate) fn read_passes<F: Folder>(
+    alloc: Global,
+    folder: &mut F,
+    passes: &Passes,
+) -> Result<Phrases, Answer>
+    ensures told { F.told folder.new ≡ F.told folder.old }
+    ensures source { IfOk result (λ phrases. (v : View) → IsSeen (F.told folder.old) v → IsPhrase (v passes.now.source) phrases.source) }
+    ensures target { IfOk result (λ phrases. (v : View) → IsSeen (F.told folder.old) v → IsPhrase (v passes.now.target) phrases.target) }
+    ensures refused { IfErr result (λ answer. (v : View) → IsSeen (F.told folder.old) v → FailPasses passes.now v answer) }
+    ensures own { IfErr result (λ answer. IsTrue (is_of_beginning answer)) }
+    ensures grows { F.faults folder.old ≤ F.faults folder.new }
+    ensures failed { result ≡ Err Answer.FolderFault → CountRose (F.faults folder.old) (F.faults folder.new) }
+{
+    let source = read_pass(alloc, folder, &passes.source)?;
+    let target = read_pass(alloc, folder, &passes.target)?;
+    Ok(Phrases { source, target })
+}
+
+/// Writes what a migration has done.
+pub(crate) fn print_done<O: Sink>(alloc: Global, done: &Done, out: &mut O) -> Answer
+    ensures prints { PrintsText (done_text done.now) result (O.taken out.old) (O.taken out.new) }
+    ensures answers { (result ≡ Answer.Done) ⊎ ((result ≡ Answer.OutputFault) ⊎ (result ≡ Answer.OutOfMemory)) }
+    ensures output_fault { result ≡ Answer.OutputFault → CountRose (O.faults out.old) (O.faults out.new) }
+{
+    match text_of(alloc, done) {
+        Ok(text) => print(text.as_str(), out),
+        Err(_) => Answer::OutOfMemory,
+    }
+}
+
+fn text_of(alloc: Global, done: &Done) -> Result<String, AllocError>
+    ensures { IfOk result (λ text. string_bytes text ≡ done_text done.now) }
+{
+    let placed = done.placed;
+    let items = done.items;
+    let mut text = format!(in alloc; "placed {placed}")?;
+    text.push_str(format!(in alloc; ", items {items}")?.as_str())?;
+    text.push('\n')?;
+    Ok(text)
+}
+
+/// The answer to a migration that stops. `root` is that of the vault that isn't opened, if there is one.
+pub(crate) fn answer_to(work: &FPath, root: &FPath, fault: MoveFault) -> Answer
+    ensures answers { (result ≡ Answer.OutOfMemory) ⊎ (result ≡ of_move work.now root.now fault) }
+    ensures failed { result ≡ Answer.FolderFault → IsMoveFault fault → fault ≡ MoveFault.Failed }
+    ensures drawn { result ≡ Answer.RandomFault → fault ≡ MoveFault.Place PutFault.Random }
+    ensures own { IsMoveFault fault → IsTrue (is_of_stop result) }
+{
+    match fault {
+        MoveFault::Work(fault) => beginning::answer_to(work, fault),
+        MoveFault::Journal(fault) => answer_to_journal(work, fault),
+        MoveFault::Overlap(first, second) => Answer::Overlap(first, second),
+        MoveFault::Load(_, fault) => opening::answer_to(root, fault),
+        MoveFault::Walk(fault) => Answer::from(fault),
+        MoveFault::NotEmpty(at) => Answer::NotEmpty(at),
+        MoveFault::NotAllowed(path) => Answer::NotAllowed(path),
+        MoveFault::Changed(plan, items, plan_now, items_now) => {
+            Answer::Changed(plan, items, plan_now, items_now)
+        }
+        MoveFault::Match(fault) => Answer::from(fault),
+        MoveFault::Differ(path, how) => Answer::Differ(path, how),
+        MoveFault::Place(fault) => Answer::from(fault),
+        MoveFault::SourceGone => match work.copy() {
+            Ok(work) => Answer::Retired(work),
+            Err(_) => Answer::OutOfMemory,
+        },
+        MoveFault::Failed => Answer::FolderFault,
+        MoveFault::NoMemory => Answer::OutOfMemory,
+    }
+}
+
+/// The answer to a journal that isn't read.
+pub(crate) fn answer_to_journal(work: &FPath, fault: JournalFault) -> Answer
+    ensures answers { (result ≡ Answer.OutOfMemory) ⊎ (result ≡ of_journal work.now fault) }
+    ensures failed { result ≡ Answer.FolderFault → fault ≡ JournalFault.Failed }
+    ensures own { IsTrue (is_of_stop result) }
+{
+    match fault {
+        JournalFault::NoJournal => unusable(work, Flaw::Missing),
+        JournalFault::BadJournal(number) => unusable(work, Flaw::Line(number)),
+        JournalFault::TooLarge => match work.child("journal") {
+            Ok(at) => Answer::Limit(Limit::Length(at)),
+            Err(_) => Answer::OutOfMemory,
+        },
+        JournalFault::Failed => Answer::FolderFault,
+        JournalFault::NoMemory => Answer::OutOfMemory,
+    }
+}
+
+fn unusable(work: &FPath, why: Flaw) -> Answer
+    ensures { (result ≡ Answer.OutOfMemory) ⊎ (result ≡ Answer.Unusable work.now why) }
+{
+    match work.copy() {
+        Ok(work) => Answer::Unusable(work, why),
+        Err(_) => Answer::OutOfMemory,
+    }
+}

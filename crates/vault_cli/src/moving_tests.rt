@@ -1,0 +1,356 @@
+//! Runs that move trees from one vault into another.
+use crate::check_samples::{C_FILES, G_FILES};
+use crate::check_tests::{changes, vaults};
+use crate::run;
+use crate::vault_tests::{answers_drawing, path, put, runs, runs_drawing};
+use folder_model::{Folder, MemFolder, Pick};
+use port_model::{ListRandoms, MemSink, MemSource};
+use std::alloc::Global;
+use std::process::Abort;
+use std::test::Fail;
+
+const SEVENS: &[u8] = &[7; 2_000];
+
+// Two vaults without items but for their configurations, and what else is there.
+const EMPTY_DIRS: &[&str] = &[
+    "h",
+    "k",
+    "k/d",
+    "k/d/YT",
+    "k/d/YT/22CGLQYO5W5RSLEKXYZDGECFOA5L5Z",
+    "f",
+    "j",
+];
+
+const EMPTY_FILES: &[(&str, &[u8])] = &[
+    ("h/gocryptfs.diriv", b"nine nine nine n"),
+    ("f/x", b""),
+    (
+        "j/journal",
+        b"vaultmove 1\nphase building\nfrom g\nto k\nitems four\n",
+    ),
+    ("p2", b"Secret"),
+];
+
+// Two vaults of some items and two empty ones with their keys, a folder with a file of somebody else's, and one with a journal that is none.
+fn four_vaults(alloc: Global) -> Result<MemFolder, Fail> {
+    let mut folder = MemFolder::new(alloc)?;
+    vaults(alloc, &mut folder)?;
+    put(alloc, &mut folder, EMPTY_DIRS, EMPTY_FILES)?;
+    let ([conf, ..], [master, token, ..]) = (G_FILES, C_FILES) else {
+        return Err(Fail::from("configurations"));
+    };
+    put(
+        alloc,
+        &mut folder,
+        &[],
+        &[
+            ("h/gocryptfs.conf", conf.1),
+            ("k/masterkey.cryptomator", master.1),
+            ("k/vault.cryptomator", token.1),
+        ],
+    )?;
+    folder.settle()?;
+    Ok(folder)
+}
+
+// Words, the status, what the output takes and the line. In the words `+` stands for both options.
+type Row = (&'static str, u8, &'static str, &'static str);
+
+fn words_of(alloc: Global, words: &str) -> Result<String, Fail> {
+    let mut whole = String::new(alloc);
+    for mark in words.chars() {
+        match mark {
+            '+' => whole.push_str("--from-pass p --to-pass p")?,
+            _ => whole.push(mark)?,
+        }
+    }
+    Ok(whole)
+}
+
+// Checks what runs come to, one after the other, behind some changes.
+fn run_rows(rt: &impl Abort, alloc: Global, lines: &str, rows: &[Row]) -> Result<(), Fail> {
+    let mut folder = four_vaults(alloc)?;
+    changes(alloc, &mut folder, lines)?;
+    for (words, status, out, err) in rows {
+        let words = words_of(alloc, words)?;
+        answers_drawing(
+            rt,
+            alloc,
+            &mut folder,
+            words.as_str(),
+            SEVENS,
+            *status,
+            out,
+            err,
+        )?;
+    }
+    Ok(())
+}
+
+const REFUSED: &[Row] = &[
+    (
+        "migrate g k m --from-pass p",
+        2,
+        "",
+        "vaultmove: bad command line\n",
+    ),
+    ("migrate g k +", 2, "", "vaultmove: bad command line\n"),
+    (
+        "resume m --to-pass p",
+        2,
+        "",
+        "vaultmove: bad command line\n",
+    ),
+    (
+        "migrate g g/t m --from-pass n --to-pass n",
+        15,
+        "",
+        "vaultmove: folders overlap: g g/t\n",
+    ),
+    (
+        "migrate g k g/m +",
+        15,
+        "",
+        "vaultmove: folders overlap: g g/m\n",
+    ),
+    (
+        "migrate g k k +",
+        15,
+        "",
+        "vaultmove: folders overlap: k k\n",
+    ),
+    (
+        "migrate g k m --from-pass p --to-pass n",
+        10,
+        "",
+        "vaultmove: not found: n\n",
+    ),
+    ("migrate g k n/m +", 10, "", "vaultmove: not found: n\n"),
+    ("migrate g k p +", 11, "", "vaultmove: wrong kind: p\n"),
+    ("migrate g k j +", 17, "", "vaultmove: already begun: j\n"),
+    ("migrate g k f +", 16, "", "vaultmove: not empty: f/x\n"),
+    ("migrate n k m +", 10, "", "vaultmove: not found: n\n"),
+    (
+        "migrate g k m --from-pass p2 --to-pass p",
+        9,
+        "",
+        "vaultmove: wrong passphrase: g\n",
+    ),
+    (
+        "migrate g k m --from-pass p --to-pass p2",
+        9,
+        "",
+        "vaultmove: wrong passphrase: k\n",
+    ),
+    (
+        "migrate g c m +",
+        16,
+        "",
+        "vaultmove: not empty: c/d/YT/22CGLQYO5W5RSLEKXYZDGECFOA5L5Z/nhpW3bsTqXqzss5qOq_3-ow=.c9r\n",
+    ),
+    (
+        "resume m +",
+        18,
+        "",
+        "vaultmove: no usable journal: m: missing\n",
+    ),
+    (
+        "resume j +",
+        18,
+        "",
+        "vaultmove: no usable journal: j: line 5\n",
+    ),
+    ("mkdir g e\\xcc\\x81 --pass p --work w", 0, "", ""),
+    (
+        "migrate g k m +",
+        13,
+        "",
+        "vaultmove: name not allowed: e\u{301}\n",
+    ),
+    (
+        "resume m +",
+        18,
+        "",
+        "vaultmove: no usable journal: m: missing\n",
+    ),
+    ("ls k --pass p", 0, "", ""),
+];
+
+#[test]
+fn migrations_are_refused(rt: HostRuntime) -> Result<(), Fail> {
+    run_rows(&rt, rt.alloc(), "", REFUSED)
+}
+
+#[test]
+fn vaults_that_are_not_clean_are_not_moved(rt: HostRuntime) -> Result<(), Fail> {
+    run_rows(
+        &rt,
+        rt.alloc(),
+        "file g/.DS_Store x",
+        &[(
+            "migrate g k m +",
+            14,
+            "",
+            "vaultmove: vault not clean: g/.DS_Store: BadStoredName\n",
+        )],
+    )
+}
+
+const MOVED: &[Row] = &[
+    ("migrate g k m +", 0, "placed 4, items 4\n", ""),
+    ("migrate g k m +", 17, "", "vaultmove: already begun: m\n"),
+    ("resume m +", 0, "placed 0, items 4\n", ""),
+    (
+        "resume m --from-pass p2 --to-pass p",
+        9,
+        "",
+        "vaultmove: wrong passphrase: g\n",
+    ),
+    (
+        "resume m --from-pass p --to-pass p2",
+        9,
+        "",
+        "vaultmove: wrong passphrase: k\n",
+    ),
+    ("cat k a/x --pass p", 0, "hello", ""),
+    ("fsck k --pass p", 0, "", ""),
+    ("migrate k h n +", 0, "placed 4, items 4\n", ""),
+    ("cat h a/x --pass p", 0, "hello", ""),
+    ("fsck h --pass p", 0, "", ""),
+    ("mkdir h n --pass p --work w", 0, "", ""),
+    ("resume n +", 20, "", "vaultmove: trees differ: n: extra\n"),
+];
+
+#[test]
+fn trees_are_moved_there_and_back(rt: HostRuntime) -> Result<(), Fail> {
+    run_rows(&rt, rt.alloc(), "", MOVED)
+}
+
+// Of an empty tree, the journal to the letter.
+const JOURNAL: &[u8] =
+    b"vaultmove 1\nphase done\nfrom h\nto k\nitems 0\nplan e3b0c44298fc1c149afbf4c8996fb92427ae41e4649b934ca495991b7852b855\n";
+
+#[test]
+fn the_journal_says_what_is_done(rt: HostRuntime) -> Result<(), Fail> {
+    let alloc = rt.alloc();
+    let mut folder = four_vaults(alloc)?;
+    let words = words_of(alloc, "migrate h k m +")?;
+    let words = words.as_str();
+    let out = "placed 0, items 0\n";
+    answers_drawing(&rt, alloc, &mut folder, words, SEVENS, 0, out, "")?;
+    let mut text = [0; 200];
+    let size = folder.read(&path(alloc, "m/journal")?, 0, &mut text)?;
+    assert_eq!(rt; &text[..size], JOURNAL);
+    Ok(())
+}
+
+// Once a directory is made in the source, and once the source was put away, `resume` says so.
+#[test]
+fn a_changed_source_is_told(rt: HostRuntime) -> Result<(), Fail> {
+    let alloc = rt.alloc();
+    let mut folder = four_vaults(alloc)?;
+    let migrate = words_of(alloc, "migrate g k m +")?;
+    let resume = words_of(alloc, "resume m +")?;
+    let (moved, _) = runs_drawing(alloc, &mut folder, migrate.as_str(), SEVENS, &[])?;
+    let make = "mkdir g n --pass p --work w";
+    let (made, _) = runs_drawing(alloc, &mut folder, make, SEVENS, &[])?;
+    let (changed, _) = runs(alloc, &mut folder, resume.as_str(), &[])?;
+    assert_eq!(rt; (moved, made, changed), (0, 0, 19));
+    folder.rename(&path(alloc, "g")?, &path(alloc, "m/old")?)?;
+    let line = "vaultmove: source retired: m\n";
+    answers_drawing(
+        &rt,
+        alloc,
+        &mut folder,
+        resume.as_str(),
+        SEVENS,
+        24,
+        "",
+        line,
+    )
+}
+
+// The status of a run, and what its output took.
+fn ends<F: Folder>(alloc: Global, folder: &mut F, words: &str) -> Result<(u8, Vec<u8>), Fail> {
+    let words = words_of(alloc, words)?;
+    let mut all = Vec::new(alloc);
+    for word in words.split(' ') {
+        all.push(String::from_str(alloc, word)?)?;
+    }
+    let mut random = ListRandoms::new(SEVENS.to_vec(alloc)?, Vec::new(alloc));
+    let mut input = MemSource::new(Vec::new(alloc), Vec::new(alloc));
+    let mut out = MemSink::new(alloc, 1_000, Vec::new(alloc))?;
+    let mut err = MemSink::new(alloc, 1_000, Vec::new(alloc))?;
+    let status = run(
+        alloc,
+        all.as_slice(),
+        folder,
+        &mut random,
+        &mut input,
+        &mut out,
+        &mut err,
+    );
+    Ok((status, out.bytes().to_vec(alloc)?))
+}
+
+// The folder that a crash leaves where this call of a migration fails; `None` where none fails any more.
+fn crashed(alloc: Global, call: u64, table: usize, tail: &[u8]) -> Result<Option<MemFolder>, Fail> {
+    let mut folder = four_vaults(alloc)?;
+    folder.fail_at(call)?;
+    let (status, _) = ends(alloc, &mut folder, "migrate g k m +")?;
+    if status == 0 {
+        return Ok(None);
+    }
+    let pick = Pick {
+        table,
+        tail: tail.to_vec(alloc)?,
+    };
+    Ok(Some(folder.crash(&pick)?))
+}
+
+// Goes on with a migration, or begins anew where it hadn't begun, and gives the output.
+fn gone_on<F: Folder>(alloc: Global, folder: &mut F) -> Result<Vec<u8>, Fail> {
+    let (status, out) = ends(alloc, folder, "resume m +")?;
+    if status == 0 {
+        return Ok(out);
+    }
+    let (status, out) = ends(alloc, folder, "migrate g k m +")?;
+    if status != 0 {
+        return Err(Fail::from("a migration that ends"));
+    }
+    Ok(out)
+}
+
+// Whether nothing is found in the target, and its file has its content.
+fn holds<F: Folder>(alloc: Global, folder: &mut F) -> Result<bool, Fail> {
+    let (checked, found) = ends(alloc, folder, "fsck k --pass p")?;
+    let (read, content) = ends(alloc, folder, "cat k a/x --pass p")?;
+    Ok((checked, read) == (0, 0) && found.is_empty() && content.as_slice() == b"hello".as_slice())
+}
+
+// Each call that fails, and a crash then to either end of the changes that were pending: nothing is lost, and the migration comes to
+// its end. At one of the calls the last item is placed or not, by what the crash leaves.
+#[test]
+fn a_migration_that_fails_goes_on(rt: HostRuntime) -> Result<(), Fail> {
+    let alloc = rt.alloc();
+    let mut parted = false;
+    for call in 1..1_000u64 {
+        let Some(mut first) = crashed(alloc, call, 0, b"")? else {
+            assert!(rt; call > 50 && parted);
+            return Ok(());
+        };
+        let Some(mut last) = crashed(alloc, call, 100, b"tail")? else {
+            return Err(Fail::from("a call that fails"));
+        };
+        let placed = (gone_on(alloc, &mut first)?, gone_on(alloc, &mut last)?);
+        parted = parted
+            || (placed.0.as_slice() == b"placed 1, items 4\n".as_slice()
+                && placed.1.as_slice() == b"placed 0, items 4\n".as_slice());
+        assert!(rt;
+            holds(alloc, &mut first)? && holds(alloc, &mut last)?,
+            "at {call}"
+        );
+    }
+    Ok(())
+}

@@ -1,0 +1,122 @@
+//! `resume`: goes on with a migration.
+ghost use Rattle.std.specs.Prelude.{◌≡◌, ◌⊎◌, ◌≤◌, Ok, Err, IfErr, IfOk, IsTrue};
+ghost use Rattle.folder_spec.specs.Seen.{IsSeen};
+ghost use Rattle.folder_spec.specs.View.{View};
+ghost use Rattle.migrate_core.specs.Faults.{IsMoveFault};
+ghost use Rattle.migrate_core.specs.Moved.{StandsIn};
+ghost use Rattle.migrate_core.specs.Moving.{MovesOnly};
+ghost use Rattle.move_journal.specs.Journal.{IsJournal};
+ghost use Rattle.port_model.specs.Counts.{CountRose};
+ghost use Rattle.tree_match.specs.Guard.{Migration};
+ghost use Rattle.vault_cli.specs.Faults.{of_move};
+ghost use Rattle.vault_cli.specs.Moving.{KeepsAll, is_of_stop};
+ghost use Rattle.vault_cli.specs.Resume.{ComesTo, HasResumed, IsFoundJournal, IsResumedFor, MayCome, Resumes, root_by};
+
+use crate::answer::Answer;
+use crate::moving::{answer_to, print_done, read_passes};
+use crate::words::Resuming;
+use content_writing::PutFault;
+use folder_model::{FPath, Folder};
+use migrate_core::{Done, MoveFault};
+use move_journal::laws::journals_are_read_back;
+use move_journal::{Journal, JournalFault, read};
+use port_model::{Randoms, Sink};
+use std::alloc::Global;
+use tree_match::Side;
+use tree_match::laws::guarded_migrations_are_safe;
+
+/// Goes on with the migration that the journal tells of, and then writes what was done.
+pub(crate) fn resume<F: Folder, R: Randoms, O: Sink>(
+    alloc: Global,
+    resuming: &Resuming,
+    folder: &mut F,
+    random: &mut R,
+    out: &mut O,
+) -> Answer
+    ensures resumes { Resumes resuming.now result (F.told folder.old) (F.told folder.new) (O.taken out.old) (O.taken out.new) (R.left random.old) (R.left random.new) }
+    ensures folder_fault { result ≡ Answer.FolderFault → CountRose (F.faults folder.old) (F.faults folder.new) }
+    ensures random_fault { result ≡ Answer.RandomFault → CountRose (R.faults random.old) (R.faults random.new) }
+    ensures output_fault { result ≡ Answer.OutputFault → CountRose (O.faults out.old) (O.faults out.new) }
+{
+    match go_on(alloc, resuming, folder, random) {
+        Ok(done) => print_done(alloc, &done, out),
+        Err(answer) => answer,
+    }
+}
+
+// Reads the passphrases, and goes on.
+fn go_on<F: Folder, R: Randoms>(
+    alloc: Global,
+    resuming: &Resuming,
+    folder: &mut F,
+    random: &mut R,
+) -> Result<Done, Answer>
+    ensures resumed { IfOk result (λ done. HasResumed resuming.now done (F.told folder.old) (F.told folder.new)) }
+    ensures came { IfOk result (λ done. (v : View) → IsSeen (F.told folder.old) v → ComesTo resuming.now (λ outcome. outcome ≡ Ok done) (F.told folder.old) (F.told folder.new) (R.left random.old) (R.left random.new) v) }
+    ensures stopped { IfErr result (λ answer. (v : View) → IsSeen (F.told folder.old) v → MayCome resuming.now answer (F.told folder.old) (F.told folder.new) (R.left random.old) (R.left random.new) v) }
+    ensures keeps { (g : Migration) (v : View) → IsSeen (F.told folder.old) v → IsResumedFor g resuming.now v → KeepsAll g (F.told folder.old) (F.told folder.new) }
+    ensures moves { (v : View) (journal : Journal) → IsSeen (F.told folder.old) v → IsJournal journal → StandsIn resuming.now.work journal v → MovesOnly resuming.now.work journal.target (F.told folder.old) (F.told folder.new) }
+    ensures own { IfErr result (λ answer. IsTrue (is_of_stop answer)) }
+    ensures failed { result ≡ Err Answer.FolderFault → CountRose (F.faults folder.old) (F.faults folder.new) }
+    ensures drawn { result ≡ Err Answer.RandomFault → CountRose (R.faults random.old) (R.faults random.new) }
+{
+    guarded_migrations_are_safe();
+    let phrases = read_passes(alloc, folder, &resuming.passes)?;
+    let journal = find_journal(alloc, folder, &resuming.work)?;
+    match migrate_core::resume(
+        alloc,
+        folder,
+        &resuming.work,
+        phrases.source.as_slice(),
+        phrases.target.as_slice(),
+        random,
+    ) {
+        Ok(done) => Ok(done),
+        Err(fault) => Err(stopped(&resuming.work, &journal, fault)),
+    }
+}
+
+// The journal, which tells the roots of the vaults; `None` where there is none of use.
+fn find_journal<F: Folder>(
+    alloc: Global,
+    folder: &mut F,
+    work: &FPath,
+) -> Result<Option<Journal>, Answer>
+    ensures told { F.told folder.new ≡ F.told folder.old }
+    ensures found { IfOk result (λ found. (v : View) → IsSeen (F.told folder.old) v → IsFoundJournal work.now v found) }
+    ensures cut { IfErr result (λ answer. (answer ≡ Answer.FolderFault) ⊎ (answer ≡ Answer.OutOfMemory)) }
+    ensures grows { F.faults folder.old ≤ F.faults folder.new }
+    ensures failed { result ≡ Err Answer.FolderFault → CountRose (F.faults folder.old) (F.faults folder.new) }
+{
+    journals_are_read_back();
+    match read(alloc, folder, work) {
+        Ok(journal) => Ok(Some(journal)),
+        Err(JournalFault::Failed) => Err(Answer::FolderFault),
+        Err(JournalFault::NoMemory) => Err(Answer::OutOfMemory),
+        Err(JournalFault::NoJournal) => Ok(None),
+        Err(JournalFault::BadJournal(_)) => Ok(None),
+        Err(JournalFault::TooLarge) => Ok(None),
+    }
+}
+
+// The answer to a migration that stops.
+fn stopped(work: &FPath, journal: &Option<Journal>, fault: MoveFault) -> Answer
+    ensures answers { (result ≡ Answer.OutOfMemory) ⊎ (result ≡ of_move work.now (root_by work.now journal.now fault) fault) }
+    ensures own { IsMoveFault fault → IsTrue (is_of_stop result) }
+    ensures failed { result ≡ Answer.FolderFault → IsMoveFault fault → fault ≡ MoveFault.Failed }
+    ensures drawn { result ≡ Answer.RandomFault → fault ≡ MoveFault.Place PutFault.Random }
+{
+    let root = root_by(work, journal, &fault);
+    answer_to(work, root, fault)
+}
+
+// The root of the vault that isn't opened.
+fn root_by<'a>(work: &'a FPath, journal: &'a Option<Journal>, fault: &MoveFault) -> &'a FPath
+    ensures { result.now ≡ root_by work.now journal.now fault.now }
+{
+    match (journal, fault) {
+        (Some(journal), MoveFault::Load(Side::Source, _)) => &journal.source,
+        (Some(journal), MoveFault::Load(Side::Target, _)) => &journal.target,
+        _ => work,
+    }
+}

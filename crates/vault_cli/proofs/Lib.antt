@@ -13,6 +13,7 @@ mod Outcomes
 mod Printings
 mod Refusals
 mod Repairs
+mod Retirings
 mod Showing
 mod Sites
 mod StoredFiles

@@ -36,7 +36,7 @@ use Rattle.vault_cli.specs.Answers.{is_plain}
 use Rattle.vault_cli.specs.Beginning.{is_of_beginning}
 use Rattle.vault_cli.specs.Migrate.{HasMigrated, IsAskedFor, MigratesApart, MigratesTree, Pair, RefusesTwo, first_overlap, pair}
 use Rattle.vault_cli.specs.Migrate as migrating
-use Rattle.vault_cli.specs.Moving.{AnswersMove, ArePhrases, Comes, FailPasses, KeepsAll, LosesNothing, OfPasses, Outcome, RefusesPasses, done_text, is_of_end, is_of_migration, is_of_stop}
+use Rattle.vault_cli.specs.Moving.{AnswersMove, ArePhrases, Comes, FailPasses, KeepsAll, LosesNothing, OfPasses, Outcome, RefusesPasses, RefusesUndrawn, done_text, is_of_end, is_of_migration, is_of_stop}
 use Rattle.vault_cli.specs.Opening.{IsPhrase, OfPassFile, passphrase_in}
 use Rattle.vault_cli.specs.Places.{overlap}
 use Rattle.vault_cli.specs.Printing.{PrintsText}
@@ -136,29 +136,28 @@ journal_missing law work v result none reads j good stands = none j (law j resul
 
 -- ---- what a migration comes to
 
-passes_fail : (passes : Passes) (answer : Answer) (told : Option Told) (stream : Option ByteStream) (v : View) → FailPasses passes v answer → RefusesPasses passes answer told told stream stream v
-passes_fail passes answer told stream v fail = record { answers = fail; unchanged = refl; undrawn = none_drawn stream }
+pub passes_unread : (passes : Passes) (answer : Answer) (told told' : Option Told) (v : View) → told' ≡ told → FailPasses passes v answer → RefusesPasses passes answer told told' v
+passes_unread passes answer told told' v same fail = record { answers = fail; unchanged = same }
 
-pub passes_unread : (passes : Passes) (answer : Answer) (told told' : Option Told) (stream : Option ByteStream) (v : View) → told' ≡ told → FailPasses passes v answer → RefusesPasses passes answer told told' stream stream v
-passes_unread passes answer told told' stream v same fail = record { answers = fail; unchanged = same; undrawn = none_drawn stream }
+pub unread_undrawn : (passes : Passes) (answer : Answer) (told told' : Option Told) (stream : Option ByteStream) (v : View) → told' ≡ told → FailPasses passes v answer → RefusesUndrawn passes answer told told' stream stream v
+unread_undrawn passes answer told told' stream v same fail = (passes_unread passes answer told told' v same fail, none_drawn stream)
 
 pub cut_short : (passes : Passes) (v : View) (answer : Answer) → (answer ≡ FolderFault) ⊎ (answer ≡ OutOfMemory) → FailPasses passes v answer
 cut_short passes v answer (inl failed) = inl failed
 cut_short passes v answer (inr memory) = inr (inl memory)
 
-refused_lost : (passes : Passes) (answer : Answer) (told told' : Option Told) (stream stream' : Option ByteStream) (v : View) → RefusesPasses passes answer told told' stream stream' v
-    → RefusesPasses passes OutOfMemory told told' stream stream' v
-refused_lost passes answer told told' stream stream' v refuses = record { answers = inr (inl refl); unchanged = refuses.unchanged; undrawn = refuses.undrawn }
+pub refused_lost : (passes : Passes) (answer : Answer) (told told' : Option Told) (v : View) → RefusesPasses passes answer told told' v → RefusesPasses passes OutOfMemory told told' v
+refused_lost passes answer told told' v refuses = record { answers = inr (inl refl); unchanged = refuses.unchanged }
 
-module _ (passes : Passes) (IsCaused IsWritten : List ℕ → List ℕ → Outcome → Type 0) (v : View) where
-  pub comes_as : (P Q : Outcome → Type 0) → ((outcome : Outcome) → P outcome → Q outcome) → Comes passes IsCaused IsWritten P v → Comes passes IsCaused IsWritten Q v
+module _ {O : Type 0} (passes : Passes) (IsCaused DoesSo : List ℕ → List ℕ → O → Type 0) (v : View) where
+  pub comes_as : (P Q : O → Type 0) → ((outcome : O) → P outcome → Q outcome) → Comes passes IsCaused DoesSo P v → Comes passes IsCaused DoesSo Q v
   comes_as P Q f comes = record {
     source_pass = comes.source_pass;
     target_pass = comes.target_pass;
     phrases = comes.phrases;
     outcome = comes.outcome;
     cause = comes.cause;
-    written = comes.written;
+    does = comes.does;
     answers = f comes.outcome comes.answers;
   }
 
@@ -205,7 +204,7 @@ not_done answer own same = let none : IsTrue (is_of_stop Done) = subst (λ a. Is
 pub not_output : (answer : Answer) → IsTrue (is_of_stop answer) → answer ≢ OutputFault
 not_output answer own same = let none : IsTrue (is_of_stop OutputFault) = subst (λ a. IsTrue (is_of_stop a)) same own in cc
 
-or_left : (a b : Bool) → IsTrue a → IsTrue (a || b)
+pub or_left : (a b : Bool) → IsTrue a → IsTrue (a || b)
 or_left true b is = refl
 or_left false b is = cc
 
@@ -276,7 +275,7 @@ module _ (moving : Moving) where
 
   migrates_nothing_apart : AreSafe → (told : Option Told) (taken : Option (List ℕ)) (stream : Option ByteStream) → MigratesApart moving OutOfMemory told told taken taken stream stream
   migrates_nothing_apart law told taken stream =
-      migrate_stopped OutOfMemory told told taken stream stream refl (λ v is. inl (passes_fail moving.passes OutOfMemory told stream v (inr (inl refl)))) (λ g v is asked. keeps_same law g told told refl)
+      migrate_stopped OutOfMemory told told taken stream stream refl (λ v is. inl (unread_undrawn moving.passes OutOfMemory told told stream v refl (inr (inl refl)))) (λ g v is asked. keeps_same law g told told refl)
       (moves_nothing moving.work moving.target told told refl)
 
   pub migrates_nothing : AreSafe → (w : World) → MigratesTree moving OutOfMemory w w
@@ -290,7 +289,7 @@ module _ (moving : Moving) where
   migration_lost answer before after named did = record { apart = by (first_overlap moving) did.apart; untouched = did.untouched }
     where
       comes_lost : (v : View) → migrating.MayCome moving answer before.told after.told before.random after.random v → migrating.MayCome moving OutOfMemory before.told after.told before.random after.random v
-      comes_lost v (inl refuses) = inl (refused_lost moving.passes answer before.told after.told before.random after.random v refuses)
+      comes_lost v (inl refuses) = inl (refused_lost moving.passes answer before.told after.told v refuses.0, refuses.1)
       comes_lost v (inr comes) = inr (comes_as moving.passes (migrating.IsCaused moving v) (migrating.IsWritten moving before.told after.told before.random after.random) v
           (AnswersMove moving.work (migrating.IsRootOf moving) answer) (AnswersMove moving.work (migrating.IsRootOf moving) OutOfMemory) (λ outcome x. move_lost moving.work (migrating.IsRootOf moving) outcome) comes)
 
@@ -347,7 +346,7 @@ module _ (resuming : Resuming) where
 
   pub resumes_nothing : AreSafe → (w : World) → ResumesTree resuming OutOfMemory w w
   resumes_nothing law w = record {
-    resumes = resume_stopped OutOfMemory w.told w.told w.taken w.random w.random refl (λ v is. inl (passes_fail resuming.passes OutOfMemory w.told w.random v (inr (inl refl)))) (λ g v is asked. keeps_same law g w.told w.told refl)
+    resumes = resume_stopped OutOfMemory w.told w.told w.taken w.random w.random refl (λ v is. inl (unread_undrawn resuming.passes OutOfMemory w.told w.told w.random v refl (inr (inl refl)))) (λ g v is asked. keeps_same law g w.told w.told refl)
         (λ v journal is good stands. moves_nothing resuming.work journal.target w.told w.told refl);
     untouched = Keeps-refl w.left;
   }
@@ -365,7 +364,7 @@ module _ (resuming : Resuming) where
   }
     where
       comes_lost : (v : View) → resuming_on.MayCome resuming answer before.told after.told before.random after.random v → resuming_on.MayCome resuming OutOfMemory before.told after.told before.random after.random v
-      comes_lost v (inl refuses) = inl (refused_lost resuming.passes answer before.told after.told before.random after.random v refuses)
+      comes_lost v (inl refuses) = inl (refused_lost resuming.passes answer before.told after.told v refuses.0, refuses.1)
       comes_lost v (inr comes) = inr (comes_as resuming.passes (resuming_on.IsCaused resuming v) (resuming_on.IsWritten resuming before.told after.told before.random after.random v) v
           (AnswersMove resuming.work (resuming_on.IsRootOf resuming.work v) answer) (AnswersMove resuming.work (resuming_on.IsRootOf resuming.work v) OutOfMemory) (λ outcome x. move_lost resuming.work (resuming_on.IsRootOf resuming.work v) outcome) comes)
 

@@ -13,7 +13,7 @@ use Rattle.vault_read.specs.declared.vault.VaultKind.{VaultKind}
 use Rattle.vault_read.specs.declared.vault.VaultKind.TheVariants.{Gocryptfs, Cryptomator}
 use Rattle.vault_cli.specs.Words.{Choice, Arguments, arguments_of, are_just, value_of}
 use Rattle.vault_cli.specs.declared.words.Command.{Command}
-use Rattle.vault_cli.specs.declared.words.Command.TheVariants.{DecryptFile, Init, Ls, Cat, Fsck, Mkdir, Put, Repair, Migrate, Resume}
+use Rattle.vault_cli.specs.declared.words.Command.TheVariants.{DecryptFile, Init, Ls, Cat, Fsck, Mkdir, Put, Repair, Migrate, Resume, Retire}
 use Rattle.vault_cli.specs.declared.words.Change.{Change}
 use Rattle.vault_cli.specs.declared.words.Checking.{Checking}
 use Rattle.vault_cli.specs.declared.words.Repairing.{Repairing}
@@ -186,13 +186,21 @@ resuming_by _ _ = None
 abbrev pub resuming_of : List Choice → List ℕ → Option Resuming
 resuming_of choices work = resuming_by (folder_path work) (passes_of choices)
 
--- `resume WORK --from-pass FILE --to-pass FILE`
 abbrev pub resuming_at : List Choice → List (List ℕ) → Option Resuming
 resuming_at choices (work ∷ []) = resuming_of choices work
 resuming_at choices _ = None
 
+-- the words behind the name of a command that goes on with a migration
+abbrev pub leading_by : List Choice → List (List ℕ) → Option Resuming
+leading_by choices positional = with_just both_passes choices (resuming_at choices positional)
+
+-- `resume WORK --from-pass FILE --to-pass FILE`
 abbrev pub resume_by : List Choice → List (List ℕ) → Option Command
-resume_by choices positional = with_just both_passes choices (option_map Resume (resuming_at choices positional))
+resume_by choices positional = option_map Resume (leading_by choices positional)
+
+-- `retire WORK --from-pass FILE --to-pass FILE`
+abbrev pub retire_by : List Choice → List (List ℕ) → Option Command
+retire_by choices positional = option_map Retire (leading_by choices positional)
 
 -- the command of a name with its arguments
 abbrev pub command_named : List ℕ → Arguments → Option Command
@@ -207,6 +215,7 @@ command_named name arguments =
     else if bytes_eq name (codes "repair") then repair_by arguments.choices arguments.positional
     else if bytes_eq name (codes "migrate") then migrate_by arguments.choices arguments.positional
     else if bytes_eq name (codes "resume") then resume_by arguments.choices arguments.positional
+    else if bytes_eq name (codes "retire") then retire_by arguments.choices arguments.positional
     else None
 
 abbrev pub command_of : List (List ℕ) → Option Command

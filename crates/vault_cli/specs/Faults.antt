@@ -18,6 +18,8 @@ use Rattle.migrate_core.specs.declared.fault.MoveFault.TheVariants as move
 use Rattle.move_journal.specs.Reading.{journal_path}
 use Rattle.move_journal.specs.declared.journal.JournalFault.{JournalFault}
 use Rattle.move_journal.specs.declared.journal.JournalFault.TheVariants as journal
+use Rattle.retire_core.specs.declared.fault.RetireFault.{RetireFault}
+use Rattle.retire_core.specs.declared.fault.RetireFault.TheVariants as retire
 use Rattle.tree_match.specs.declared.answer.MatchFault.{MatchFault}
 use Rattle.tree_match.specs.declared.answer.MatchFault.TheVariants as match
 use Rattle.vault_check.specs.declared.fault.CheckFault.{CheckFault}
@@ -143,3 +145,17 @@ of_move work root (move.Place fault) = of_put fault
 of_move work root move.SourceGone = Retired work
 of_move work root move.Failed = FolderFault
 of_move work root move.NoMemory = OutOfMemory
+
+-- of retiring the source of the migration in this work folder; `root` is that of the vault that isn't opened
+abbrev pub of_retire : Path → Path → RetireFault → Answer
+of_retire work root (retire.Work fault) = of_work work fault
+of_retire work root (retire.Journal fault) = of_journal work fault
+of_retire work root retire.Unfinished = Unusable work flaw.Building
+of_retire work root (retire.Overlap first second) = Overlap first second
+of_retire work root (retire.Load side fault) = of_load root fault
+of_retire work root (retire.Walk fault) = of_walk fault
+of_retire work root (retire.Match fault) = of_match fault
+of_retire work root (retire.Differ path how) = Differ path how
+of_retire work root retire.Depth = Limit limit.Removal
+of_retire work root retire.Failed = FolderFault
+of_retire work root retire.NoMemory = OutOfMemory

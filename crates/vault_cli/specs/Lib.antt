@@ -26,4 +26,5 @@ pub mod Put
 pub mod Moving
 pub mod Migrate
 pub mod Resume
+pub mod Retire
 pub mod Runs

@@ -16,7 +16,7 @@ use Rattle.migrate_core.specs.declared.placing.Done as moved
 use Rattle.port_model.specs.Draws.{ByteStream, Draws}
 use Rattle.tree_match.specs.Guard.{Migration}
 use Rattle.tree_match.specs.declared.answer.Side.TheVariants.{Target}
-use Rattle.vault_cli.specs.Moving.{AnswersMove, ArePhrases, Comes, KeepsAll, Outcome, RefusesPasses, done_text, is_of_migration}
+use Rattle.vault_cli.specs.Moving.{AnswersMove, ArePhrases, Comes, KeepsAll, Outcome, RefusesUndrawn, done_text, is_of_migration}
 use Rattle.vault_cli.specs.Places.{overlap}
 use Rattle.vault_cli.specs.Printing.{PrintsDone}
 use Rattle.vault_cli.specs.Repair.{RefusesOverlap}
@@ -73,7 +73,7 @@ ComesTo moving IsAnswered told told' stream stream' v = Comes moving.passes (IsC
 -- or the passphrases aren't read
 abbrev pub MayCome : Moving → Answer → Option Told → Option Told → Option ByteStream → Option ByteStream → View → Type 0
 MayCome moving answer told told' stream stream' v =
-    RefusesPasses moving.passes answer told told' stream stream' v ⊎ ComesTo moving (AnswersMove moving.work (IsRootOf moving) answer) told told' stream stream' v
+    RefusesUndrawn moving.passes answer told told' stream stream' v ⊎ ComesTo moving (AnswersMove moving.work (IsRootOf moving) answer) told told' stream stream' v
 
 -- Of folders that don't overlap: whatever the answer is, nothing is lost; all but the work folder and the target stays as it was, and
 -- nothing of the target is removed or replaced. At 0 the tree is moved.

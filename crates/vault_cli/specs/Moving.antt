@@ -29,11 +29,14 @@ OfPasses passes v answer next =
     OfPassFile passes.source (v passes.source) (refused answer) (λ source.
     OfPassFile passes.target (v passes.target) (refused answer) (λ target. next source target))
 
--- They aren't read, and nothing comes of the command.
-pub record RefusesPasses (passes : Passes) (answer : Answer) (told told' : Option Told) (stream stream' : Option ByteStream) (v : View) : Type 0 where
+-- They aren't read, and nothing is changed.
+pub record RefusesPasses (passes : Passes) (answer : Answer) (told told' : Option Told) (v : View) : Type 0 where
   pub answers : Unless answer (OfPasses passes v answer (λ source target. ⊥))
   pub unchanged : told' ≡ told
-  pub undrawn : Draws stream stream' []
+
+-- nor drawn
+abbrev pub RefusesUndrawn : Passes → Answer → Option Told → Option Told → Option ByteStream → Option ByteStream → View → Type 0
+RefusesUndrawn passes answer told told' stream stream' v = RefusesPasses passes answer told told' v × Draws stream stream' []
 
 -- what a migration comes to
 abbrev pub Outcome : Type 0
@@ -44,14 +47,14 @@ abbrev pub AnswersMove : Path → (MoveFault → Path → Type 0) → Answer →
 AnswersMove work IsRoot answer (Ok done) = (answer ≡ Done) ⊎ ((answer ≡ OutputFault) ⊎ (answer ≡ OutOfMemory))
 AnswersMove work IsRoot answer (Err fault) = (answer ≡ OutOfMemory) ⊎ ((root : Path) × IsRoot fault root × (answer ≡ of_move work root fault))
 
--- They are read, and under them the migration comes to this, for such a cause; it draws and writes so, and is answered so.
-pub record Comes (passes : Passes) (IsCaused : List ℕ → List ℕ → Outcome → Type 0) (IsWritten : List ℕ → List ℕ → Outcome → Type 0) (IsAnswered : Outcome → Type 0) (v : View) : Type 0 where
+-- They are read, and under them the call comes to this, for such a cause; it does so, and is answered so.
+pub record Comes {O : Type 0} (passes : Passes) (IsCaused : List ℕ → List ℕ → O → Type 0) (DoesSo : List ℕ → List ℕ → O → Type 0) (IsAnswered : O → Type 0) (v : View) : Type 0 where
   pub source_pass : List ℕ
   pub target_pass : List ℕ
   pub phrases : ArePhrases passes source_pass target_pass v
-  pub outcome : Outcome
+  pub outcome : O
   pub cause : IsCaused source_pass target_pass outcome
-  pub written : IsWritten source_pass target_pass outcome
+  pub does : DoesSo source_pass target_pass outcome
   pub answers : IsAnswered outcome
 
 -- The state is one in which the migration is guarded; and after a crash there, each file that the source held when the migration began

@@ -20,7 +20,7 @@ use Rattle.port_model.specs.Draws.{ByteStream}
 use Rattle.tree_match.specs.Guard.{Migration}
 use Rattle.tree_match.specs.declared.answer.Side.{Side}
 use Rattle.tree_match.specs.declared.answer.Side.TheVariants.{Source, Target}
-use Rattle.vault_cli.specs.Moving.{AnswersMove, ArePhrases, Comes, KeepsAll, Outcome, RefusesPasses, done_text, is_of_migration}
+use Rattle.vault_cli.specs.Moving.{AnswersMove, ArePhrases, Comes, KeepsAll, Outcome, RefusesUndrawn, done_text, is_of_migration}
 use Rattle.vault_cli.specs.Printing.{PrintsDone}
 use Rattle.vault_cli.specs.World.{World}
 use Rattle.vault_cli.specs.declared.answer.Answer.{Answer}
@@ -61,7 +61,7 @@ ComesTo resuming IsAnswered told told' stream stream' v = Comes resuming.passes 
 -- or the passphrases aren't read, or the folder failed, or memory was refused
 abbrev pub MayCome : Resuming → Answer → Option Told → Option Told → Option ByteStream → Option ByteStream → View → Type 0
 MayCome resuming answer told told' stream stream' v =
-    RefusesPasses resuming.passes answer told told' stream stream' v ⊎ ComesTo resuming (AnswersMove resuming.work (IsRootOf resuming.work v) answer) told told' stream stream' v
+    RefusesUndrawn resuming.passes answer told told' stream stream' v ⊎ ComesTo resuming (AnswersMove resuming.work (IsRootOf resuming.work v) answer) told told' stream stream' v
 
 -- Whatever the answer is, nothing is lost; where a journal stands in the work folder, all but that folder and the target stays as it was,
 -- and nothing of the target is removed or replaced. At 0 the tree is moved.

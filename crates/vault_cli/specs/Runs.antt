@@ -11,12 +11,13 @@ use Rattle.vault_cli.specs.Mkdir.{MakesDirectoryIn}
 use Rattle.vault_cli.specs.Put.{StoresFile}
 use Rattle.vault_cli.specs.Repair.{RepairsVault}
 use Rattle.vault_cli.specs.Resume.{ResumesTree}
+use Rattle.vault_cli.specs.Retire.{RetiresSource}
 use Rattle.vault_cli.specs.Shown.{Reads}
 use Rattle.vault_cli.specs.World.{World}
 use Rattle.vault_cli.specs.declared.answer.Answer.{Answer}
 use Rattle.vault_cli.specs.declared.answer.Answer.TheVariants.{BadCommandLine, OutOfMemory, FolderFault}
 use Rattle.vault_cli.specs.declared.words.Command.{Command}
-use Rattle.vault_cli.specs.declared.words.Command.TheVariants.{DecryptFile, Init, Ls, Cat, Fsck, Mkdir, Put, Repair, Migrate, Resume}
+use Rattle.vault_cli.specs.declared.words.Command.TheVariants.{DecryptFile, Init, Ls, Cat, Fsck, Mkdir, Put, Repair, Migrate, Resume, Retire}
 use Rattle.vault_cli.specs.declared.words.Target.{Target}
 
 -- words that make no command, of which nothing comes
@@ -49,3 +50,4 @@ Executes (Some (Put change)) answer before after = StoresFile change answer befo
 Executes (Some (Repair target)) answer before after = RepairsVault target answer before after
 Executes (Some (Migrate moving)) answer before after = MigratesTree moving answer before after
 Executes (Some (Resume resuming)) answer before after = ResumesTree resuming answer before after
+Executes (Some (Retire resuming)) answer before after = RetiresSource resuming answer before after

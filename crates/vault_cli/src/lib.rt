@@ -19,6 +19,7 @@ mod put;
 mod repair;
 mod reporting;
 mod resume;
+mod retire;
 mod running;
 pub mod words;
 

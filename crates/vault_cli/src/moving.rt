@@ -9,6 +9,7 @@ ghost use Rattle.vault_cli.specs.Faults.{of_journal, of_move};
 ghost use Rattle.vault_cli.specs.Moving.{FailPasses, done_text, is_of_stop};
 ghost use Rattle.vault_cli.specs.Opening.{IsPhrase};
 ghost use Rattle.vault_cli.specs.Printing.{PrintsText};
+ghost use Rattle.vault_cli.specs.Resume.{IsFoundJournal};
 
 use crate::answer::{Answer, Flaw, Limit};
 use crate::opening::read_pass;
@@ -18,7 +19,8 @@ use crate::{beginning, opening};
 use content_writing::PutFault;
 use folder_model::{FPath, Folder};
 use migrate_core::{Done, MoveFault};
-use move_journal::JournalFault;
+use move_journal::laws::journals_are_read_back;
+use move_journal::{Journal, JournalFault, read};
 use port_model::Sink;
 use std::alloc::{AllocError, Global};
 use text_model::Bytes;
@@ -47,6 +49,29 @@ pub(crate) fn read_passes<F: Folder>(
     let source = read_pass(alloc, folder, &passes.source)?;
     let target = read_pass(alloc, folder, &passes.target)?;
     Ok(Phrases { source, target })
+}
+
+/// The journal, which tells the roots of the vaults; `None` where there is none of use.
+pub(crate) fn find_journal<F: Folder>(
+    alloc: Global,
+    folder: &mut F,
+    work: &FPath,
+) -> Result<Option<Journal>, Answer>
+    ensures told { F.told folder.new ≡ F.told folder.old }
+    ensures found { IfOk result (λ found. (v : View) → IsSeen (F.told folder.old) v → IsFoundJournal work.now v found) }
+    ensures cut { IfErr result (λ answer. (answer ≡ Answer.FolderFault) ⊎ (answer ≡ Answer.OutOfMemory)) }
+    ensures grows { F.faults folder.old ≤ F.faults folder.new }
+    ensures failed { result ≡ Err Answer.FolderFault → CountRose (F.faults folder.old) (F.faults folder.new) }
+{
+    journals_are_read_back();
+    match read(alloc, folder, work) {
+        Ok(journal) => Ok(Some(journal)),
+        Err(JournalFault::Failed) => Err(Answer::FolderFault),
+        Err(JournalFault::NoMemory) => Err(Answer::OutOfMemory),
+        Err(JournalFault::NoJournal) => Ok(None),
+        Err(JournalFault::BadJournal(_)) => Ok(None),
+        Err(JournalFault::TooLarge) => Ok(None),
+    }
 }
 
 /// Writes what a migration has done.
@@ -120,7 +145,8 @@ pub(crate) fn answer_to_journal(work: &FPath, fault: JournalFault) -> Answer
     }
 }
 
-fn unusable(work: &FPath, why: Flaw) -> Answer
+/// That the journal in a work folder is of no use.
+pub(crate) fn unusable(work: &FPath, why: Flaw) -> Answer
     ensures { (result ≡ Answer.OutOfMemory) ⊎ (result ≡ Answer.Unusable work.now why) }
 {
     match work.copy() {

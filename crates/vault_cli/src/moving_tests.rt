@@ -1,4 +1,4 @@
-//! Runs that move trees from one vault into another.
+//! Runs that move trees from one vault into another, and retire their source.
 use crate::check_samples::{C_FILES, G_FILES};
 use crate::check_tests::{changes, vaults};
 use crate::run;
@@ -19,8 +19,13 @@ const EMPTY_DIRS: &[&str] = &[
     "k/d/YT",
     "k/d/YT/22CGLQYO5W5RSLEKXYZDGECFOA5L5Z",
     "f",
+    "i",
     "j",
 ];
+
+// The journal of a migration of which items are still being placed.
+const BUILDING: &[u8] =
+    b"vaultmove 1\nphase building\nfrom g\nto k\nitems 0\nplan e3b0c44298fc1c149afbf4c8996fb92427ae41e4649b934ca495991b7852b855\n";
 
 const EMPTY_FILES: &[(&str, &[u8])] = &[
     ("h/gocryptfs.diriv", b"nine nine nine n"),
@@ -29,10 +34,12 @@ const EMPTY_FILES: &[(&str, &[u8])] = &[
         "j/journal",
         b"vaultmove 1\nphase building\nfrom g\nto k\nitems four\n",
     ),
+    ("i/journal", BUILDING),
     ("p2", b"Secret"),
 ];
 
-// Two vaults of some items and two empty ones with their keys, a folder with a file of somebody else's, and one with a journal that is none.
+// Two vaults of some items and two empty ones with their keys, a folder with a file of somebody else's, one with a journal, and one
+// with a journal that is none.
 fn four_vaults(alloc: Global) -> Result<MemFolder, Fail> {
     let mut folder = MemFolder::new(alloc)?;
     vaults(alloc, &mut folder)?;
@@ -349,6 +356,103 @@ fn a_migration_that_fails_goes_on(rt: HostRuntime) -> Result<(), Fail> {
                 && placed.1.as_slice() == b"placed 0, items 4\n".as_slice());
         assert!(rt;
             holds(alloc, &mut first)? && holds(alloc, &mut last)?,
+            "at {call}"
+        );
+    }
+    Ok(())
+}
+
+// The source of a finished migration is retired, and then nothing is left of it to retire.
+const RETIRED: &[Row] = &[
+    ("retire m", 2, "", "vaultmove: bad command line\n"),
+    (
+        "retire m +",
+        18,
+        "",
+        "vaultmove: no usable journal: m: missing\n",
+    ),
+    (
+        "retire i +",
+        18,
+        "",
+        "vaultmove: no usable journal: i: building\n",
+    ),
+    ("migrate g k m +", 0, "placed 4, items 4\n", ""),
+    (
+        "retire m --from-pass p2 --to-pass p",
+        9,
+        "",
+        "vaultmove: wrong passphrase: g\n",
+    ),
+    (
+        "retire m --from-pass p --to-pass p2",
+        9,
+        "",
+        "vaultmove: wrong passphrase: k\n",
+    ),
+    ("retire m +", 0, "retired 4\n", ""),
+    ("ls g --pass p", 10, "", "vaultmove: not found: g\n"),
+    (
+        "retire m +",
+        18,
+        "",
+        "vaultmove: no usable journal: m: missing\n",
+    ),
+    ("cat k a/x --pass p", 0, "hello", ""),
+    ("migrate k h n +", 0, "placed 4, items 4\n", ""),
+    ("mkdir k x --pass p --work w", 0, "", ""),
+    (
+        "retire n +",
+        20,
+        "",
+        "vaultmove: trees differ: x: missing\n",
+    ),
+    ("ls k a --pass p", 0, "f x\n", ""),
+];
+
+#[test]
+fn sources_are_retired(rt: HostRuntime) -> Result<(), Fail> {
+    run_rows(&rt, rt.alloc(), "", RETIRED)
+}
+
+// Retires the source of a finished migration where this call fails, and gives the folder that a crash then leaves; `None` where none
+// fails any more.
+fn retired(alloc: Global, call: u64, table: usize) -> Result<Option<MemFolder>, Fail> {
+    let mut folder = four_vaults(alloc)?;
+    let (moved, _) = ends(alloc, &mut folder, "migrate g k m +")?;
+    folder.fail_at(call)?;
+    let (status, _) = ends(alloc, &mut folder, "retire m +")?;
+    if moved != 0 || status == 0 {
+        return Ok(None);
+    }
+    let pick = Pick {
+        table,
+        tail: Vec::new(alloc),
+    };
+    Ok(Some(folder.crash(&pick)?))
+}
+
+// Whether another run retires the source, or it was retired and nothing is left; and the target is whole.
+fn retires<F: Folder>(alloc: Global, folder: &mut F) -> Result<bool, Fail> {
+    let (status, _) = ends(alloc, folder, "retire m +")?;
+    let (left, _) = ends(alloc, folder, "ls g --pass p")?;
+    Ok((status == 0 || status == 18) && left == 10 && holds(alloc, folder)?)
+}
+
+// Each call that fails, and a crash then to either end of the changes that were pending.
+#[test]
+fn a_source_that_is_not_retired_is_retired_again(rt: HostRuntime) -> Result<(), Fail> {
+    let alloc = rt.alloc();
+    for call in 1..1_000u64 {
+        let Some(mut first) = retired(alloc, call, 0)? else {
+            assert!(rt; call > 50);
+            return Ok(());
+        };
+        let Some(mut last) = retired(alloc, call, 100)? else {
+            return Err(Fail::from("a call that fails"));
+        };
+        assert!(rt;
+            retires(alloc, &mut first)? && retires(alloc, &mut last)?,
             "at {call}"
         );
     }

@@ -10,16 +10,15 @@ ghost use Rattle.port_model.specs.Counts.{CountRose};
 ghost use Rattle.tree_match.specs.Guard.{Migration};
 ghost use Rattle.vault_cli.specs.Faults.{of_move};
 ghost use Rattle.vault_cli.specs.Moving.{KeepsAll, is_of_stop};
-ghost use Rattle.vault_cli.specs.Resume.{ComesTo, HasResumed, IsFoundJournal, IsResumedFor, MayCome, Resumes, root_by};
+ghost use Rattle.vault_cli.specs.Resume.{ComesTo, HasResumed, IsResumedFor, MayCome, Resumes, root_by};
 
 use crate::answer::Answer;
-use crate::moving::{answer_to, print_done, read_passes};
+use crate::moving::{answer_to, find_journal, print_done, read_passes};
 use crate::words::Resuming;
 use content_writing::PutFault;
 use folder_model::{FPath, Folder};
 use migrate_core::{Done, MoveFault};
-use move_journal::laws::journals_are_read_back;
-use move_journal::{Journal, JournalFault, read};
+use move_journal::Journal;
 use port_model::{Randoms, Sink};
 use std::alloc::Global;
 use tree_match::Side;
@@ -73,29 +72,6 @@ fn go_on<F: Folder, R: Randoms>(
     ) {
         Ok(done) => Ok(done),
         Err(fault) => Err(stopped(&resuming.work, &journal, fault)),
-    }
-}
-
-// The journal, which tells the roots of the vaults; `None` where there is none of use.
-fn find_journal<F: Folder>(
-    alloc: Global,
-    folder: &mut F,
-    work: &FPath,
-) -> Result<Option<Journal>, Answer>
-    ensures told { F.told folder.new ≡ F.told folder.old }
-    ensures found { IfOk result (λ found. (v : View) → IsSeen (F.told folder.old) v → IsFoundJournal work.now v found) }
-    ensures cut { IfErr result (λ answer. (answer ≡ Answer.FolderFault) ⊎ (answer ≡ Answer.OutOfMemory)) }
-    ensures grows { F.faults folder.old ≤ F.faults folder.new }
-    ensures failed { result ≡ Err Answer.FolderFault → CountRose (F.faults folder.old) (F.faults folder.new) }
-{
-    journals_are_read_back();
-    match read(alloc, folder, work) {
-        Ok(journal) => Ok(Some(journal)),
-        Err(JournalFault::Failed) => Err(Answer::FolderFault),
-        Err(JournalFault::NoMemory) => Err(Answer::OutOfMemory),
-        Err(JournalFault::NoJournal) => Ok(None),
-        Err(JournalFault::BadJournal(_)) => Ok(None),
-        Err(JournalFault::TooLarge) => Ok(None),
     }
 }
 

@@ -19,6 +19,7 @@ use crate::put::put;
 use crate::repair::repair;
 use crate::reporting::report;
 use crate::resume::resume;
+use crate::retire::retire;
 use crate::words::Command;
 use chunk_files::laws::{files_are_what_they_give, whole_files_end};
 use folder_model::Folder;
@@ -100,5 +101,6 @@ fn execute<F: Folder, R: Randoms, I: Source, O: Sink>(
         Ok(Some(Command::Repair(target))) => repair(alloc, &target, folder, out),
         Ok(Some(Command::Migrate(moving))) => migrate(alloc, &moving, folder, random, out),
         Ok(Some(Command::Resume(resuming))) => resume(alloc, &resuming, folder, random, out),
+        Ok(Some(Command::Retire(resuming))) => retire(alloc, &resuming, folder, out),
     }
 }

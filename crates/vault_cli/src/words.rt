@@ -2,7 +2,7 @@
 ghost use Rattle.std.specs.Prelude.{◌≡◌, IfOk, IfSome, map, string_bytes};
 ghost use Rattle.move_journal.specs.Journal.{IsParsed};
 ghost use Rattle.plain_tree.specs.Reading.{read_path};
-ghost use Rattle.vault_cli.specs.Commands.{AreWritten, HasTexts, cat_by, change_of, checking_of, command_named, command_of, decrypt_file_by, file_of, folder_path, fsck_by, init_by, key_of, kind_of, ls_by, making_by, migrate_by, mkdir_by, moving_of, new_vault_of, passes_of, put_by, repair_by, repairing_of, resume_by, resuming_of, target_of};
+ghost use Rattle.vault_cli.specs.Commands.{AreWritten, HasTexts, cat_by, change_of, checking_of, command_named, command_of, decrypt_file_by, file_of, folder_path, fsck_by, init_by, key_of, kind_of, leading_by, ls_by, making_by, migrate_by, mkdir_by, moving_of, new_vault_of, passes_of, put_by, repair_by, repairing_of, resume_by, resuming_of, retire_by, target_of};
 
 use crate::arguments::{Arguments, Choice, are_just, value_of};
 use folder_model::{FPath, FPathFault};
@@ -66,7 +66,7 @@ pub struct Moving {
     pub passes: Passes,
 }
 
-/// The work folder of a migration to go on with.
+/// The work folder of a migration that has begun.
 #[derive(Debug, Drop)]
 pub struct Resuming {
     pub work: FPath,
@@ -96,6 +96,8 @@ pub enum Command {
     Migrate(Moving),
     /// `resume WORK --from-pass FILE --to-pass FILE`: goes on with a migration.
     Resume(Resuming),
+    /// `retire WORK --from-pass FILE --to-pass FILE`: removes the source of a finished migration.
+    Retire(Resuming),
 }
 
 impl Command {
@@ -147,6 +149,8 @@ fn named(
         migrate(alloc, choices, positional)
     } else if name == "resume" {
         resume(alloc, choices, positional)
+    } else if name == "retire" {
+        retire(alloc, choices, positional)
     } else {
         Ok(None)
     }
@@ -313,14 +317,34 @@ fn resume(
 ) -> Result<Option<Command>, AllocError>
     ensures { IfOk result (λ command. command ≡ resume_by choices.now positional.now) }
 {
+    Ok(read_leading(alloc, choices, positional)?.map(Command::Resume))
+}
+
+fn retire(
+    alloc: Global,
+    choices: &[Choice],
+    positional: &[Text],
+) -> Result<Option<Command>, AllocError>
+    ensures { IfOk result (λ command. command ≡ retire_by choices.now positional.now) }
+{
+    Ok(read_leading(alloc, choices, positional)?.map(Command::Retire))
+}
+
+// What the words behind the name of a command that goes on with a migration name.
+fn read_leading(
+    alloc: Global,
+    choices: &[Choice],
+    positional: &[Text],
+) -> Result<Option<Resuming>, AllocError>
+    ensures { IfOk result (λ resuming. resuming ≡ leading_by choices.now positional.now) }
+{
     if !are_just(choices, &["--from-pass", "--to-pass"]) {
         return Ok(None);
     }
-    let resuming = match positional {
-        [work] => read_resuming(alloc, choices, work.as_str())?,
-        _ => None,
-    };
-    Ok(resuming.map(Command::Resume))
+    match positional {
+        [work] => read_resuming(alloc, choices, work.as_str()),
+        _ => Ok(None),
+    }
 }
 
 // What `FROM TO WORK --from-pass FILE --to-pass FILE` names.

@@ -6,7 +6,7 @@ use Rattle.migrate_core.specs.Leading.{KeepsGuarded}
 use Rattle.migrate_core.specs.Moved.{MovesTree}
 use Rattle.vault_cli.specs.Migrate.{IsWritten, MayCome}
 use Rattle.vault_cli.specs.Moving.{ArePhrases}
-use Rattle.vault_cli.proofs.Migrations.{asked_is, keeps_all, keeps_same, passes_unread, phrases_are}
+use Rattle.vault_cli.proofs.Migrations.{asked_is, keeps_all, keeps_same, phrases_are, unread_undrawn}
 use Rattle.vault_cli.proofs.migrate.begin.Goals as goal
 
 pub returns-in_err-phrases-clause-keeps : goal.returns-in_err-phrases-clause-keeps
@@ -49,7 +49,7 @@ returns-in_err-phrases-clause-stopped g c =
     let p = err_from_is_err_and c.from_residual.result c.from_residual.ensures.1 in
     subst (λ r. IfErr r (λ answer. (v : View) → IsSeen told v → MayCome moving answer told told' stream stream v)) (sym p.1) (λ v is.
     subst (λ answer. MayCome moving answer told told' stream stream v) (sym p.2)
-    (inl (passes_unread moving.passes c.in_err-phrases.field-0.0 told told' stream v c.in_err-phrases.ensures.told (c.in_err-phrases.ensures.refused v is))))
+    (inl (unread_undrawn moving.passes c.in_err-phrases.field-0.0 told told' stream v c.in_err-phrases.ensures.told (c.in_err-phrases.ensures.refused v is))))
 
 pub returns-in-Ok-clause-came : goal.returns-in-Ok-clause-came
 returns-in-Ok-clause-came g c = λ v is.
@@ -65,7 +65,7 @@ returns-in-Ok-clause-came g c = λ v is.
           (c.in_ok-phrases.ensures.source v is) (c.in_ok-phrases.ensures.target v is);
       outcome = Ok c.in-Ok.done;
       cause = c.in-Ok.ensures.cause v seen;
-      written = subst (λ t. IsWritten moving t told' stream stream' c.as_slice.result.now c.as_slice-2.result.now (Ok c.in-Ok.done)) c.in_ok-phrases.ensures.told (c.in-Ok.ensures.written v seen);
+      does = subst (λ t. IsWritten moving t told' stream stream' c.as_slice.result.now c.as_slice-2.result.now (Ok c.in-Ok.done)) c.in_ok-phrases.ensures.told (c.in-Ok.ensures.written v seen);
       answers = refl;
     }
 
@@ -83,6 +83,6 @@ returns-clause-stopped g c = λ v is.
           (c.in_ok-phrases.ensures.source v is) (c.in_ok-phrases.ensures.target v is);
       outcome = Err c.in-Err.fault;
       cause = c.in-Err.ensures.cause v seen;
-      written = subst (λ t. IsWritten moving t told' stream stream' c.as_slice.result.now c.as_slice-2.result.now (Err c.in-Err.fault)) c.in_ok-phrases.ensures.told (c.in-Err.ensures.written v seen);
+      does = subst (λ t. IsWritten moving t told' stream stream' c.as_slice.result.now c.as_slice-2.result.now (Err c.in-Err.fault)) c.in_ok-phrases.ensures.told (c.in-Err.ensures.written v seen);
       answers = elim c.answer_to.ensures.answers [ inl memory ↦ inl memory | inr same ↦ inr (c.root_of-root.result.now, c.root_of-root.ensures, same) ];
     })

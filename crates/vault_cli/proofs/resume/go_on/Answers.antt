@@ -6,7 +6,7 @@ use Rattle.migrate_core.specs.Leading.{KeepsGuarded}
 use Rattle.migrate_core.specs.Moved.{MovesTold}
 use Rattle.vault_cli.specs.Moving.{ArePhrases}
 use Rattle.vault_cli.specs.Resume.{IsWritten, MayCome, root_by}
-use Rattle.vault_cli.proofs.Migrations.{cut_short, journal_root, keeps_all, keeps_same, passes_unread, phrases_are, resumed_is}
+use Rattle.vault_cli.proofs.Migrations.{cut_short, journal_root, keeps_all, keeps_same, phrases_are, resumed_is, unread_undrawn}
 use Rattle.vault_cli.proofs.resume.go_on.Goals as goal
 
 pub returns-in_err-phrases-clause-keeps : goal.returns-in_err-phrases-clause-keeps
@@ -26,7 +26,7 @@ returns-in_err-phrases-clause-stopped g c =
     let p = err_from_is_err_and c.from_residual.result c.from_residual.ensures.1 in
     subst (λ r. IfErr r (λ answer. (v : View) → IsSeen told v → MayCome resuming answer told told' stream stream v)) (sym p.1) (λ v is.
     subst (λ answer. MayCome resuming answer told told' stream stream v) (sym p.2)
-    (inl (passes_unread resuming.passes c.in_err-phrases.field-0.0 told told' stream v c.in_err-phrases.ensures.told (c.in_err-phrases.ensures.refused v is))))
+    (inl (unread_undrawn resuming.passes c.in_err-phrases.field-0.0 told told' stream v c.in_err-phrases.ensures.told (c.in_err-phrases.ensures.refused v is))))
 
 pub returns-in_err-journal-clause-stopped : goal.returns-in_err-journal-clause-stopped
 returns-in_err-journal-clause-stopped g c =
@@ -37,7 +37,7 @@ returns-in_err-journal-clause-stopped g c =
     let p = err_from_is_err_and c.from_residual-in_err-journal.result c.from_residual-in_err-journal.ensures.1 in
     subst (λ r. IfErr r (λ answer. (v : View) → IsSeen told v → MayCome resuming answer told told' stream stream v)) (sym p.1) (λ v is.
     subst (λ answer. MayCome resuming answer told told' stream stream v) (sym p.2)
-    (inl (passes_unread resuming.passes c.in_err-journal.field-0.0 told told' stream v (c.in_err-journal.ensures.told ∙ c.in_ok-phrases.ensures.told) (cut_short resuming.passes v c.in_err-journal.field-0.0 c.in_err-journal.ensures.cut))))
+    (inl (unread_undrawn resuming.passes c.in_err-journal.field-0.0 told told' stream v (c.in_err-journal.ensures.told ∙ c.in_ok-phrases.ensures.told) (cut_short resuming.passes v c.in_err-journal.field-0.0 c.in_err-journal.ensures.cut))))
 
 pub returns-in-Ok-clause-resumed : goal.returns-in-Ok-clause-resumed
 returns-in-Ok-clause-resumed g c =
@@ -83,7 +83,7 @@ returns-in-Ok-clause-came g c = λ v is.
           (c.in_ok-phrases.ensures.source v is) (c.in_ok-phrases.ensures.target v is);
       outcome = Ok c.in-Ok.done;
       cause = c.in-Ok.ensures.cause v seen;
-      written = subst (λ t. IsWritten resuming t told' stream stream' v c.as_slice.result.now c.as_slice-2.result.now (Ok c.in-Ok.done)) same (c.in-Ok.ensures.written v seen);
+      does = subst (λ t. IsWritten resuming t told' stream stream' v c.as_slice.result.now c.as_slice-2.result.now (Ok c.in-Ok.done)) same (c.in-Ok.ensures.written v seen);
       answers = refl;
     }
 
@@ -104,7 +104,7 @@ returns-clause-stopped g c = λ v is.
           (c.in_ok-phrases.ensures.source v is) (c.in_ok-phrases.ensures.target v is);
       outcome = Err c.in-Err.fault;
       cause = cause;
-      written = subst (λ t. IsWritten resuming t told' stream stream' v c.as_slice.result.now c.as_slice-2.result.now (Err c.in-Err.fault)) same (c.in-Err.ensures.written v seen);
+      does = subst (λ t. IsWritten resuming t told' stream stream' v c.as_slice.result.now c.as_slice-2.result.now (Err c.in-Err.fault)) same (c.in-Err.ensures.written v seen);
       answers = elim c.stopped.ensures.answers [
         | inl memory ↦ inl memory
         | inr named ↦ inr (

@@ -2,7 +2,7 @@ use Rattle.std.proofs.Common.{Err, subst}
 use Rattle.move_journal.specs.Reading.{ReadsAs, journal_bytes}
 use Rattle.move_journal.specs.declared.journal.JournalFault.TheVariants.{NoJournal, BadJournal, TooLarge}
 use Rattle.vault_cli.proofs.Migrations.{journal_found, journal_missing}
-use Rattle.vault_cli.proofs.resume.find_journal.Goals as goal
+use Rattle.vault_cli.proofs.moving.find_journal.Goals as goal
 
 pub returns-in-Ok-clause-found : goal.returns-in-Ok-clause-found
 returns-in-Ok-clause-found g c = λ v is. journal_found c.args.work.now v c.in-Ok.journal (c.in-Ok.ensures.answer v is)

@@ -353,6 +353,7 @@ fn after_crash(
     check: &str,
     call: u64,
     table: usize,
+    tail: &[u8],
 ) -> Result<(u8, u8, u8), Fail> {
     let mut folder = MemFolder::new(alloc)?;
     vaults(alloc, &mut folder)?;
@@ -361,7 +362,7 @@ fn after_crash(
     let (first, _) = runs_drawing(alloc, &mut folder, words, SEVENS, &[])?;
     let pick = Pick {
         table,
-        tail: Vec::new(alloc),
+        tail: tail.to_vec(alloc)?,
     };
     let mut folder = folder.crash(&pick)?;
     let (again, _) = runs_drawing(alloc, &mut folder, words, EIGHTS, &[])?;
@@ -374,6 +375,8 @@ fn after_crash(
 fn a_directory_that_fails_is_made_again(rt: HostRuntime) -> Result<(), Fail> {
     let alloc = rt.alloc();
     for (words, check) in [
+        ("mkdir g m --pass p --work w", "fsck g --pass p"),
+        ("mkdir c m --pass p --work w", "fsck c --pass p"),
         (
             "mkdir g mmmmmmmmmmmmmmmmmmmmmmmmmmmmmmmmmmmmmmmmmmmmmmmmmmmmmmmmmmmmmmmmmmmmmmmmmmmmmmmmmmmmmmmmmmmmmmmmmmmmmmmmmmmmmmmmmmmmmmmmmmmmmmmmmmmmmmmmmmmmmmmmmmmmmmmmmmmmmmmmmmmmmmmmmmmmmmmm --pass p --work w",
             "fsck g --pass p",
@@ -383,9 +386,16 @@ fn a_directory_that_fails_is_made_again(rt: HostRuntime) -> Result<(), Fail> {
             "fsck c --pass p",
         ),
     ] {
-        for table in [0, 100] {
+        for (table, tail) in [
+            (0, b"".as_slice()),
+            (0, b"z".as_slice()),
+            (1, b"".as_slice()),
+            (1, b"z".as_slice()),
+            (100, b"".as_slice()),
+            (100, b"z".as_slice()),
+        ] {
             for call in 1..100u64 {
-                let (first, again, checked) = after_crash(alloc, words, check, call, table)?;
+                let (first, again, checked) = after_crash(alloc, words, check, call, table, tail)?;
                 if first == 0 {
                     assert!(rt; call > 10);
                     break;

@@ -11,6 +11,8 @@ use std::test::Fail;
 
 const SEVENS: &[u8] = &[7; 2_000];
 
+const EIGHTS: &[u8] = &[8; 2_000];
+
 // Two vaults without items but for their configurations, and what else is there.
 const EMPTY_DIRS: &[&str] = &[
     "h",
@@ -278,14 +280,19 @@ fn a_changed_source_is_told(rt: HostRuntime) -> Result<(), Fail> {
     )
 }
 
-// The status of a run, and what its output took.
-fn ends<F: Folder>(alloc: Global, folder: &mut F, words: &str) -> Result<(u8, Vec<u8>), Fail> {
+// The status of a run that may draw these bytes, and what its output took.
+fn ends<F: Folder>(
+    alloc: Global,
+    folder: &mut F,
+    words: &str,
+    drawn: &[u8],
+) -> Result<(u8, Vec<u8>), Fail> {
     let words = words_of(alloc, words)?;
     let mut all = Vec::new(alloc);
     for word in words.split(' ') {
         all.push(String::from_str(alloc, word)?)?;
     }
-    let mut random = ListRandoms::new(SEVENS.to_vec(alloc)?, Vec::new(alloc));
+    let mut random = ListRandoms::new(drawn.to_vec(alloc)?, Vec::new(alloc));
     let mut input = MemSource::new(Vec::new(alloc), Vec::new(alloc));
     let mut out = MemSink::new(alloc, 1_000, Vec::new(alloc))?;
     let mut err = MemSink::new(alloc, 1_000, Vec::new(alloc))?;
@@ -305,7 +312,7 @@ fn ends<F: Folder>(alloc: Global, folder: &mut F, words: &str) -> Result<(u8, Ve
 fn crashed(alloc: Global, call: u64, table: usize, tail: &[u8]) -> Result<Option<MemFolder>, Fail> {
     let mut folder = four_vaults(alloc)?;
     folder.fail_at(call)?;
-    let (status, _) = ends(alloc, &mut folder, "migrate g k m +")?;
+    let (status, _) = ends(alloc, &mut folder, "migrate g k m +", SEVENS)?;
     if status == 0 {
         return Ok(None);
     }
@@ -318,22 +325,22 @@ fn crashed(alloc: Global, call: u64, table: usize, tail: &[u8]) -> Result<Option
 
 // Goes on with a migration, or begins anew where it hadn't begun, and gives the output.
 fn gone_on<F: Folder>(alloc: Global, folder: &mut F) -> Result<Vec<u8>, Fail> {
-    let (status, out) = ends(alloc, folder, "resume m +")?;
+    let (status, out) = ends(alloc, folder, "resume m +", EIGHTS)?;
     if status == 0 {
         return Ok(out);
     }
-    let (status, out) = ends(alloc, folder, "migrate g k m +")?;
+    let (status, out) = ends(alloc, folder, "migrate g k m +", EIGHTS)?;
     if status != 0 {
         return Err(Fail::from("a migration that ends"));
     }
     Ok(out)
 }
 
-// Whether nothing is found in the target, and its file has its content.
+// Whether the target is in good order, and its file has its content.
 fn holds<F: Folder>(alloc: Global, folder: &mut F) -> Result<bool, Fail> {
-    let (checked, found) = ends(alloc, folder, "fsck k --pass p")?;
-    let (read, content) = ends(alloc, folder, "cat k a/x --pass p")?;
-    Ok((checked, read) == (0, 0) && found.is_empty() && content.as_slice() == b"hello".as_slice())
+    let (checked, _) = ends(alloc, folder, "fsck k --pass p", &[])?;
+    let (read, content) = ends(alloc, folder, "cat k a/x --pass p", &[])?;
+    Ok((checked, read) == (0, 0) && content.as_slice() == b"hello".as_slice())
 }
 
 // Each call that fails, and a crash then to either end of the changes that were pending: nothing is lost, and the migration comes to
@@ -400,7 +407,7 @@ const RETIRED: &[Row] = &[
     ),
     ("cat k a/x --pass p", 0, "hello", ""),
     ("migrate k h n +", 0, "placed 4, items 4\n", ""),
-    ("mkdir k x --pass p --work w", 0, "", ""),
+    ("put k x --pass p --work w", 0, "", ""),
     (
         "retire n +",
         20,
@@ -419,9 +426,9 @@ fn sources_are_retired(rt: HostRuntime) -> Result<(), Fail> {
 // fails any more.
 fn retired(alloc: Global, call: u64, table: usize) -> Result<Option<MemFolder>, Fail> {
     let mut folder = four_vaults(alloc)?;
-    let (moved, _) = ends(alloc, &mut folder, "migrate g k m +")?;
+    let (moved, _) = ends(alloc, &mut folder, "migrate g k m +", SEVENS)?;
     folder.fail_at(call)?;
-    let (status, _) = ends(alloc, &mut folder, "retire m +")?;
+    let (status, _) = ends(alloc, &mut folder, "retire m +", &[])?;
     if moved != 0 || status == 0 {
         return Ok(None);
     }
@@ -434,8 +441,8 @@ fn retired(alloc: Global, call: u64, table: usize) -> Result<Option<MemFolder>, 
 
 // Whether another run retires the source, or it was retired and nothing is left; and the target is whole.
 fn retires<F: Folder>(alloc: Global, folder: &mut F) -> Result<bool, Fail> {
-    let (status, _) = ends(alloc, folder, "retire m +")?;
-    let (left, _) = ends(alloc, folder, "ls g --pass p")?;
+    let (status, _) = ends(alloc, folder, "retire m +", &[])?;
+    let (left, _) = ends(alloc, folder, "ls g --pass p", &[])?;
     Ok((status == 0 || status == 18) && left == 10 && holds(alloc, folder)?)
 }
 

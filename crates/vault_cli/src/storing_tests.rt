@@ -548,7 +548,10 @@ fn crash_each(rt: &impl Abort, alloc: Global, check: &str, rows: &[Storing]) -> 
     for (words, then, old) in rows {
         for (table, tail) in [
             (0, b"".as_slice()),
+            (0, b"z".as_slice()),
+            (1, b"".as_slice()),
             (1, b"z".as_slice()),
+            (100, b"".as_slice()),
             (100, b"z".as_slice()),
         ] {
             for call in 1..100u64 {

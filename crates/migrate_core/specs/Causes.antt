@@ -58,11 +58,11 @@ abbrev pub Answer : Type 0 → Type 0
 Answer X = Result X MoveFault
 
 -- its own fault, where a test fails, and else what follows of what it gives
-abbrev pub Then : {X Y F : Type 0} → (F → MoveFault) → (Result X F → Type 0) → (X → Answer Y → Type 0) → Answer Y → Type 0
+abbrev pub Then : {X Y F G : Type 0} → (F → G) → (Result X F → Type 0) → (X → Result Y G → Type 0) → Result Y G → Type 0
 Then {X = X} {F = F} told test next answer = (tested : Result X F) × test tested × MatchResult tested (λ x. next x answer) (λ fault. answer ≡ Err (told fault))
 
 -- a fault that is told as it is
-abbrev pub own : MoveFault → MoveFault
+abbrev pub own : {G : Type 0} → G → G
 own fault = fault
 
 -- the folder may always fail, and memory run out
@@ -70,7 +70,7 @@ abbrev pub Unless : {X : Type 0} → Answer X → Type 0 → Type 0
 Unless answer P = (answer ≡ Err Failed) ⊎ ((answer ≡ Err NoMemory) ⊎ P)
 
 -- passes where this is so, and fails by this fault where that is
-abbrev pub PassesOr : Type 0 → Type 0 → MoveFault → Answer (Unit {0}) → Type 0
+abbrev pub PassesOr : {G : Type 0} → Type 0 → Type 0 → G → Result (Unit {0}) G → Type 0
 PassesOr passes fails fault answer = (passes × (answer ≡ Ok tt)) ⊎ (fails × (answer ≡ Err fault))
 
 -- ---- the folders

@@ -15,12 +15,13 @@ use Rattle.folder_spec.proofs.Moments.{went_more, went_nowhere, went_to}
 use Rattle.folder_spec.proofs.Regions.{as_before}
 use Rattle.folder_spec.proofs.Tellings.{from_to_more, from_to_same}
 use Rattle.plain_tree.specs.Names as plain
-use Rattle.vault_spec.specs.Adding.{OpensAs, OpensWith, ComesAlone}
+use Rattle.vault_spec.specs.Adding.{OpensAs, OpensWith, ComesAlone, StaysClean}
 use Rattle.vault_spec.specs.Alike.{IsOrderly}
 use Rattle.vault_spec.specs.Anywhere.{ComesAtLast}
 use Rattle.vault_spec.specs.Format.{Format}
 use Rattle.vault_spec.specs.Making.{draws}
 use Rattle.vault_spec.specs.Opens.{Opened, opened}
+use Rattle.vault_spec.specs.Staying.{StaysVault}
 use Rattle.folder_spec.specs.declared.FolderFault.TheVariants as folder
 use Rattle.content_writing.specs.Faults.{of_folder}
 use Rattle.content_writing.specs.Content.{Ending, Whole}
@@ -32,8 +33,8 @@ use Rattle.vault_write.specs.Editing.{IsEditing, SeesSome, Edits, HasFinished}
 use Rattle.vault_write.specs.Making.{Placing, Making, format, path_of, new_item, is_unstaged, is_elsewhere, StagesOrPlaces}
 use Rattle.vault_write.specs.Placing.{IsMaking, ShowsNewTree, making_at, EndsAs, Makes}
 use Rattle.vault_write.specs.Refusing.{HasTaken, Answers}
-use Rattle.vault_write.specs.Showing.{MakeItemAt, EditsShowTrees, SettledEditsShowTrees}
-use Rattle.vault_write.specs.Trees.{opens_as}
+use Rattle.vault_write.specs.Showing.{MakeItem, MakeItemAt, EditsShowTrees, SettledEditsShowTrees}
+use Rattle.vault_write.specs.Trees.{StaysGood, opens_as}
 use Rattle.vault_write.proofs.Stages.{root_unstaged}
 use Rattle.vault_write.proofs.TreesShown.{old_alone}
 
@@ -55,6 +56,12 @@ all_opens : (f : Format) (v w : View) (edits : List Edit) (at : plain.Path) (ite
 all_opens f v w [] at item comes = absurd comes
 all_opens f v w (e ∷ []) at item comes = comes
 all_opens f v w (e ∷ next ∷ edits) at item comes = all_opens f v (edited w e) (next ∷ edits) at item comes.1
+
+-- a vault in good order stays so
+all_stay : (f : Format) (u w : View) (edits : List Edit) (at : plain.Path) (item : Opened) → ComesAlone f u w edits at item → StaysClean f w edits → StaysVault f u w edits → StaysGood f u (view_after w edits)
+all_stay f u w [] at item comes clean vault = absurd comes
+all_stay f u w (e ∷ []) at item comes clean vault = record { clean = clean.0; orderly = vault.0.0; loads = vault.0.1 }
+all_stay f u w (e ∷ next ∷ edits) at item comes clean vault = all_stay f u (edited w e) (next ∷ edits) at item comes.1 clean.1 vault.1
 
 -- the first of some edits below a root are the first of these, below the root
 pub record IsSplit (root : Path) (edits done more : List Edit) : Type 0 where
@@ -127,6 +134,10 @@ module _ (shows : EditsShowTrees) (settles : SettledEditsShowTrees) (roots : Roo
         ap (λ w. opened (format p) w (path_of p)) now ∙ last_opens (format p) (under p.vault.root (seen a.state)) (under p.vault.root (seen a.state)) begun.edits (path_of p) (opens_as p.item) begun.last,
         λ orderly. subst (λ w. OpensWith (format p) (under p.vault.root (seen a.state)) w (path_of p) (opens_as p.item)) (sym now)
             (all_opens (format p) (under p.vault.root (seen a.state)) (under p.vault.root (seen a.state)) begun.edits (path_of p) (opens_as p.item) (begun.alone orderly)),
+        λ clean orderly.
+            let made : MakeItem (format p) (under p.vault.root (seen a.state)) (path_of p) (opens_as p.item) begun.edits = begun.item (record { clean = clean; orderly = orderly }) in
+            subst (λ w. StaysGood (format p) (under p.vault.root (seen a.state)) w) (sym now)
+            (all_stay (format p) (under p.vault.root (seen a.state)) (under p.vault.root (seen a.state)) begun.edits (path_of p) (opens_as p.item) made.alone made.clean made.vault),
       )
 
   -- after a failure some of the begun.edits are seen

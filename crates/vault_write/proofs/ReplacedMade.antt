@@ -38,9 +38,9 @@ use Rattle.vault_write.specs.Filing.{DoesReplace, IsWhole, OnlyStages, PlacesBy,
 use Rattle.vault_write.specs.Making.{Placing, format, path_of, put_by, put_item, is_unstaged, StagesOrPlaces}
 use Rattle.vault_write.specs.Placing.{IsMaking, MayMake, ShowsNewTree, making_at, EndsAs, Makes}
 use Rattle.vault_write.specs.Refusing.{AnswersOver, AnswersPut, AnswersPutBy}
-use Rattle.vault_write.specs.Showing.{EditsShowTrees, EditsBeforeTheLastKeepTrees, MakesAlone, SettledEditsShowTrees}
+use Rattle.vault_write.specs.Showing.{EditsShowTrees, EditsBeforeTheLastKeepTrees, MakeItem, MakesAlone, SettledEditsShowTrees}
 use Rattle.vault_write.specs.Slots.{placing}
-use Rattle.vault_write.specs.Trees.{opens_as}
+use Rattle.vault_write.specs.Trees.{StaysGood, opens_as}
 use Rattle.vault_write.proofs.Begun.{folders_seen}
 use Rattle.vault_write.proofs.FileBegun.{opens_whole}
 use Rattle.vault_write.proofs.FileMade.{begins_at, ends_stopped, first_shown, stopped_making}
@@ -111,6 +111,9 @@ module _ (shows : EditsShowTrees) (settles : SettledEditsShowTrees) (roots : Roo
     replaced_ends h = (
       ap (λ w. opened (format p) w (path_of p)) (all_seen h.views) ∙ k.anew,
       λ orderly. subst (λ w. OpensWith (format p) u w (path_of p) (opens_as p.item)) (sym (all_seen h.views)) (k.alone orderly),
+      λ clean orderly.
+          let made : MakeItem (format p) u (path_of p) (opens_as p.item) (file_edit k.place bytes ∷ []) = k.item (record { clean = clean; orderly = orderly }) in
+          subst (λ w. StaysGood (format p) u w) (sym (all_seen h.views)) (record { clean = made.clean.0; orderly = made.vault.0.0; loads = made.vault.0.1 }),
     )
 
     old_or_new_opens : Edits p.work p.vault.root (replace_making at bytes) a b → IsOrderly (format p) u → OpensAs (format p) u (under p.vault.root (seen b.state)) ⊎ OpensWith (format p) u (under p.vault.root (seen b.state)) (path_of p) (opens_as p.item)

@@ -24,6 +24,12 @@ pub record KeepsVault (f : Format) (root : Path) (v w : View) : Type 0 where
   pub loads : LoadsAlike (under root v) (under root w)
   pub good : ShowsVault f root w
 
+-- A vault stays in good order, and each passphrase opens it as it did.
+pub record StaysGood (f : Format) (v w : View) : Type 0 where
+  pub clean : IsClean f w
+  pub orderly : IsOrderly f w
+  pub loads : LoadsAlike v w
+
 -- and in it all opens as it did
 pub record KeepsTree (f : Format) (root : Path) (v w : View) : Type 0 where
   pub vault : KeepsVault f root v w

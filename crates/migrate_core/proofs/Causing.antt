@@ -36,7 +36,8 @@ use Rattle.work_folder.specs.Looking as work
 use Rattle.work_folder.specs.Looking.{Gives}
 use Rattle.work_folder.specs.declared.fault.WorkFault.{WorkFault}
 use Rattle.work_folder.specs.declared.fault.WorkFault.TheVariants as works
-use Rattle.migrate_core.specs.Causes.{Answer, Compares, ForbidsLast, IsOfMoving, IsStop, Opens, RefusesBoth, RefusesLoad, RefusesWalk, RefusesWalks, TestsHeld, TestsItems, TestsMatch, TestsNames, TestsTold, Then, Unless, Walks, WalksBoth, nothing_follows, nothing_stops, of_refusal, own}
+use Rattle.migrate_core.specs.Causes.{Answer, Compares, ForbidsLast, IsOfMoving, IsStop, Moves, Opens, StopsAt, StopsMatch, RefusesBoth, RefusesLoad, RefusesWalk, RefusesWalks, TestsHeld, TestsItems, TestsMatch, TestsNames, TestsTold, Then, Unless, Walks, WalksBoth, nothing_follows, nothing_stops, of_refusal, own}
+use Rattle.migrate_core.specs.Copying.{HaveOwnFolders}
 use Rattle.migrate_core.specs.Faults.{of_folder, of_journal, of_load, of_match, of_put, of_walk, of_work}
 use Rattle.vault_spec.specs.Format.{Format}
 use Rattle.migrate_core.specs.Moved.{opened_in}
@@ -138,12 +139,6 @@ walk_refused a v (walk.Limit limit.Input) can tells = absurd can
 walk_refused a v walk.Failed can tells = inl refl
 walk_refused a v walk.NoMemory can tells = inr (inl refl)
 
-pub walk_moving : (why : WalkFault) → IsStop nothing_stops (of_walk why)
-walk_moving (walk.NotClean finding) = tt
-walk_moving (walk.Limit which) = tt
-walk_moving walk.Failed = tt
-walk_moving walk.NoMemory = tt
-
 -- ---- comparing
 
 pub match_refused : {Y : Type 0} (outcome : Outcome Match) (next : Match → Answer Y → Type 0) (why : MatchFault) → Answers outcome (Err why) → Unless {X = Y} (Err (of_match why)) (Then of_match (Answers outcome) next (Err (of_match why)))
@@ -210,40 +205,57 @@ walks_pass from to v next answer items there one other h =
 
 -- ---- once items are moved
 
-pub moving : {Y : Type 0} (P : PutFault → Type 0) (answer : Answer Y) → IfErr answer (IsStop P) → Unless answer (IsOfMoving P answer)
-moving P (Ok value) is = inr (inr tt)
-moving P (Err fault) is = inr (inr is)
+pub moving : {Y : Type 0} (Is : Type 0) (P : PutFault → Type 0) (answer : Answer Y) → IfErr answer (IsStop Is P) → Unless answer (IsOfMoving Is P answer)
+moving Is P (Ok value) is = inr (inr tt)
+moving Is P (Err fault) is = inr (inr is)
 
-pub moves_pass : {Y : Type 0} (A : work.Answer → Type 0) (P : PutFault → Type 0) (answer : Answer Y) → A (Ok tt) → IfErr answer (IsStop P) → Unless answer (Then of_work A (λ _. IsOfMoving P) answer)
-moves_pass A P answer ready is = then_passes of_work A (λ _. IsOfMoving P) answer tt ready (moving P answer is)
+pub moves_pass : {Y : Type 0} (A : work.Answer → Type 0) (from to : OpenedVault) (v : View) (items : List Planned) (answer : Answer Y) → A (Ok tt)
+    → IfErr answer (IsStop (HaveOwnFolders from to v) (StopsAt (HaveOwnFolders from to v) from v items)) → Unless answer (Moves A from to v items answer)
+moves_pass A from to v items answer ready is =
+    let Own : Type 0 = HaveOwnFolders from to v in
+    then_passes of_work A (λ _. IsOfMoving Own (StopsAt Own from v items)) answer tt ready (moving Own (StopsAt Own from v items) answer is)
 
-pub stop_more : (P Q : PutFault → Type 0) (fault : MoveFault) → ((why : PutFault) → P why → Q why) → IsStop P fault → IsStop Q fault
-stop_more P Q (moves.Place why) more is = more why is
-stop_more P Q (moves.Walk why) more is = tt
-stop_more P Q (moves.Match why) more is = tt
-stop_more P Q (moves.Differ path how) more is = tt
-stop_more P Q moves.Failed more is = tt
-stop_more P Q moves.NoMemory more is = tt
-stop_more P Q (moves.Work why) more is = is
-stop_more P Q (moves.Journal why) more is = is
-stop_more P Q (moves.Overlap p q) more is = is
-stop_more P Q (moves.Load side why) more is = is
-stop_more P Q (moves.NotEmpty at) more is = is
-stop_more P Q (moves.NotAllowed path) more is = is
-stop_more P Q (moves.Changed plan items plan' items') more is = is
-stop_more P Q moves.SourceGone more is = is
+match_more_stops : (Is More : Type 0) (why : MatchFault) → (More → Is) → StopsMatch Is why → StopsMatch More why
+match_more_stops Is More (match.Damaged at fault) more is = λ m. is (more m)
+match_more_stops Is More (match.Limit (limit.Length at)) more is = tt
+match_more_stops Is More (match.Limit limit.Items) more is = λ m. is (more m)
+match_more_stops Is More (match.Limit limit.Depth) more is = λ m. is (more m)
+match_more_stops Is More (match.Limit limit.Input) more is = λ m. is (more m)
+match_more_stops Is More match.Failed more is = λ m. is (more m)
+match_more_stops Is More match.NoMemory more is = λ m. is (more m)
 
-pub put_stop : (P : PutFault → Type 0) (fault : PutFault) → P fault → IsStop P (of_put fault)
-put_stop P (put.Find why) is = is
-put_stop P (put.NotAllowed path) is = is
-put_stop P (put.Taken at) is = is
-put_stop P (put.Damaged at why) is = is
-put_stop P (put.Limit which) is = is
-put_stop P put.ZeroRandom is = is
-put_stop P put.Source is = is
-put_stop P put.Random is = is
-put_stop P put.Failed is = tt
-put_stop P put.NoMemory is = tt
+-- where more is so of both vaults
+pub stop_more : (Is More : Type 0) (P Q : PutFault → Type 0) (fault : MoveFault) → (More → Is) → ((why : PutFault) → P why → Q why) → IsStop Is P fault → IsStop More Q fault
+stop_more Is More P Q (moves.Place why) given more is = more why is
+stop_more Is More P Q (moves.Walk why) given more is = λ m. is (given m)
+stop_more Is More P Q (moves.Match why) given more is = match_more_stops Is More why given is
+stop_more Is More P Q (moves.Differ path how) given more is = λ m. is (given m)
+stop_more Is More P Q moves.Failed given more is = tt
+stop_more Is More P Q moves.NoMemory given more is = tt
+stop_more Is More P Q (moves.Work why) given more is = is
+stop_more Is More P Q (moves.Journal why) given more is = is
+stop_more Is More P Q (moves.Overlap p q) given more is = is
+stop_more Is More P Q (moves.Load side why) given more is = is
+stop_more Is More P Q (moves.NotEmpty at) given more is = is
+stop_more Is More P Q (moves.NotAllowed path) given more is = is
+stop_more Is More P Q (moves.Changed plan items plan' items') given more is = is
+stop_more Is More P Q moves.SourceGone given more is = is
+
+-- what never stops, whatever is so
+pub never_more : (Is : Type 0) (P : PutFault → Type 0) (fault : MoveFault) → IsStop (Unit {0}) nothing_stops fault → IsStop Is P fault
+never_more Is P fault = stop_more (Unit {0}) Is nothing_stops P fault (λ m. tt) (λ why none. absurd none)
+
+pub put_stop : (Is : Type 0) (P : PutFault → Type 0) (fault : PutFault) → P fault → IsStop Is P (of_put fault)
+put_stop Is P (put.Find why) is = is
+put_stop Is P (put.NotAllowed path) is = is
+put_stop Is P (put.Taken at) is = is
+put_stop Is P (put.Damaged at why) is = is
+put_stop Is P (put.Limit which) is = is
+put_stop Is P put.ZeroRandom is = is
+put_stop Is P put.Source is = is
+put_stop Is P put.Random is = is
+put_stop Is P put.Failed is = tt
+put_stop Is P put.NoMemory is = tt
 
 -- ---- single tests
 

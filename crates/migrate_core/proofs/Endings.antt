@@ -46,7 +46,7 @@ target_in g Begun v is = is.target
 target_in g Finished v is = is.target.there
 
 -- the root of a vault in good order opens
-root_directory : (f : Format) (u : View) → IsOrderly f u → tree f u [] ≡ Directory
+pub root_directory : (f : Format) (u : View) → IsOrderly f u → tree f u [] ≡ Directory
 unfolding opened
 root_directory f u orderly = ap (opens.opened_at f u) orderly.root
 

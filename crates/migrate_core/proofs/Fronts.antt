@@ -32,15 +32,20 @@ placed f v path there = by (standing f v path) refl
     by (File at) e = (at, ap place_of e)
     by (Dir at dir) e = (at, ap place_of e)
 
--- what it is in is an item
-one_above : StandBelow → (f : Format) (v : View) (path : plain.Path) (name : List ℕ) → tree f v (path ++ name ∷ []) ≢ NoItem → tree f v path ≢ NoItem
+-- it stands in a directory
+pub stands_in : StandBelow → (f : Format) (v : View) (path : plain.Path) (name : List ℕ) → tree f v (path ++ name ∷ []) ≢ NoItem → StandsBelow f v (path ++ name ∷ [])
+stands_in below f v path name there = let at = placed f v (path ++ name ∷ []) there in below f v (path ++ name ∷ []) at.0 (child-not_base path name) at.1
+
+-- which opens
+pub directory_above : StandBelow → (f : Format) (v : View) (path : plain.Path) (name : List ℕ) → tree f v (path ++ name ∷ []) ≢ NoItem → tree f v path ≡ Directory
 unfolding opened
-one_above below f v path name there none =
-    let at = placed f v (path ++ name ∷ []) there in
-    let up : StandsBelow f v (path ++ name ∷ []) = below f v (path ++ name ∷ []) at.0 (child-not_base path name) at.1 in
+directory_above below f v path name there =
+    let up : StandsBelow f v (path ++ name ∷ []) = stands_in below f v path name there in
     let same : path ≡ up.front = child-injective path up.front name up.name up.is in
-    let directory : tree f v path ≡ Directory = ap (opens.opened_at f v) (ap (standing f v) same ∙ up.leads.stands) in
-    (let e : Directory ≡ NoItem = sym directory ∙ none in cc e)
+    ap (opens.opened_at f v) (ap (standing f v) same ∙ up.leads.stands)
+
+one_above : StandBelow → (f : Format) (v : View) (path : plain.Path) (name : List ℕ) → tree f v (path ++ name ∷ []) ≢ NoItem → tree f v path ≢ NoItem
+one_above below f v path name there none = let e : Directory ≡ NoItem = sym (directory_above below f v path name there) ∙ none in cc e
 
 all_above : StandBelow → (f : Format) (v : View) (front rest : plain.Path) → tree f v (front ++ rest) ≢ NoItem → tree f v front ≢ NoItem
 all_above below f v front [] there = subst (λ p. tree f v p ≢ NoItem) (append-nil front) there

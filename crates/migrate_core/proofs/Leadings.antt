@@ -1,5 +1,5 @@
 -- Calls that lead a migration on, one after the other.
-use Rattle.std.proofs.Common.{◌≡◌, Option, Some, None, Result, Ok, Err, IfOk, refl, sym, subst}
+use Rattle.std.proofs.Common.{◌≡◌, Option, Some, None, Result, Ok, Err, IfOk, OnOk, refl, sym, ◌∙◌, subst}
 use Rattle.folder_spec.proofs.Moments.{went_nowhere, went_on, went_more, went_to}
 use Rattle.folder_spec.proofs.Tellings.{from_to_more, from_to_on, from_to_same}
 use Rattle.folder_spec.specs.Event.{Told, FromTo}
@@ -19,6 +19,10 @@ still_leads g p t u is = from_to_same (λ a b. IsAlone g p a.state → IsAlone g
 pub if_ok : {T E : Type 0} (P : Type 0) (result : Result T E) → P → IfOk result (λ value. P)
 if_ok P (Ok value) is = is
 if_ok P (Err fault) is = tt
+
+pub on_ok : {T E : Type 0} (P : Type 0) (result : Result T E) → P → OnOk result P
+on_ok P (Ok value) is = is
+on_ok P (Err fault) is = tt
 
 pub goes_nowhere : {T E : Type 0} (g : Migration) (p : Progress) (t u : Option Told) (result : Result T E) → u ≡ t → Goes g p p t u result
 goes_nowhere g p t u result is = (still_guards g p t u is, if_ok (Leads g p p t u) result (still_leads g p t u is))
@@ -83,6 +87,17 @@ seen_before S (Some a) (Some b) told v is = (seen a.state, refl)
 seen_before S None None told v is = absurd is
 seen_before S (Some a) None told v is = absurd is
 seen_before S None (Some b) told v is = absurd told
+
+-- and what is seen before is followed by something seen
+pub seen_then : (S : Told → Told → Type 0) (t u : Option Told) → FromTo S t u → (v : View) → IsSeen t v → (w : View) × IsSeen u w
+seen_then S (Some a) (Some b) told v is = (seen b.state, refl)
+seen_then S None u told v is = absurd is
+seen_then S (Some a) None told v is = absurd told
+
+-- at one time one view is seen
+pub one_view : (t : Option Told) (v w : View) → IsSeen t v → IsSeen t w → w ≡ v
+one_view (Some a) v w one other = other ∙ sym one
+one_view None v w one other = absurd one
 
 -- what is known where something is seen afterwards is known where something was seen before
 pub then_known : (S : Told → Told → Type 0) (t u : Option Told) → FromTo S t u → (X : Type 0) → ((v : View) → IsSeen u v → X) → (v : View) → IsSeen t v → X

@@ -7,7 +7,7 @@ use Rattle.folder_spec.specs.State.{State, IsSound}
 use Rattle.folder_spec.specs.Event.{Event, Settle, Told, FromTo, Changes, Steps}
 use Rattle.folder_spec.specs.Moments.{Went}
 use Rattle.folder_spec.specs.Region.{IsAsBefore, apart_from, apart_from_both}
-use Rattle.folder_spec.specs.Seen.{seen, under}
+use Rattle.folder_spec.specs.Seen.{IsSeen, seen, under}
 use Rattle.folder_spec.specs.View.{View}
 use Rattle.folder_spec.proofs.Moments.{went_nowhere, went_on, went_more, went_to, went_by_call}
 use Rattle.folder_spec.proofs.Paths.{below-apart}
@@ -101,6 +101,13 @@ AreSound t = (a : Told) → t ≡ Some a → IsSound a.state
 -- what is seen under a root that is as before
 pub under_stays : (region : Path → Bool) (root : Path) (a b : State) → IsSound a → ((rest : Path) → IsTrue (region (root ++ rest))) → IsAsBefore region a b → under root (seen b) ≡ under root (seen a)
 under_stays region root a b sound inside stayed = fun_ext (λ rest. seen_as_before region a b sound stayed (root ++ rest) (inside rest))
+
+-- of a folder that tells its state
+pub seen_stays : (region : Path → Bool) (root : Path) (t u : Option Told) → AreSound t → ((rest : Path) → IsTrue (region (root ++ rest))) → FromTo (λ a b. IsAsBefore region a.state b.state) t u
+    → (v w : View) → IsSeen t v → IsSeen u w → under root w ≡ under root v
+seen_stays region root (Some a) (Some b) sound inside stayed v w is_v is_w = ap (under root) is_w ∙ under_stays region root a.state b.state (sound a refl) inside stayed ∙ sym (ap (under root) is_v)
+seen_stays region root None u sound inside stayed v w is_v is_w = absurd is_v
+seen_stays region root (Some a) None sound inside stayed v w is_v is_w = absurd is_w
 
 -- a walk tells as much of a vault that is as before
 pub walked_stays : (region : Path → Bool) (from : OpenedVault) (items : List Planned) (t u : Option Told) → ((rest : Path) → IsTrue (region (from.root ++ rest))) → AreSound t

@@ -88,18 +88,16 @@ whole_reading at reading.Wanting e = cc e
 some_is : {c d : Coming} → Some c ≡ Some d → c ≡ d
 some_is e = cc e
 
--- what is to come of it, where it comes whole, is what the source held
-pub file_held : SeenAlone → FilesOpen → FilesFit → (g : Migration) (p : Progress) (t : Option Told) (a : Told) (item : Planned) → t ≡ Some a → IsAlone g p a.state → IsItemOf t (opened_at g.source) item
-    → item.node ≡ File → (content : List ℕ) (ending : Ending)
-    → ((c : Coming) → coming_read (reader_of (opened_at g.source) item) content_limit [] (seen a.state item.at) ≡ Some c → c ≡ record { bytes = content; ending = ending })
-    → ending ≡ Whole → Content content ≡ g.held item.path
-file_held shown opens fits g p t a item is at of node content ending told whole =
-    ap Content (sym comes ∙ same)
-    ∙ sym (opens (seen a.state) (side_of (opened_at g.source) of.items) item (source_walk shown g p t a of.items is at of.walked) of.among node ended)
-    ∙ (source_held shown g p a.state at).held item.path
+-- what is to come of it, where it comes whole, opens in the source
+pub file_opens : FilesOpen → FilesFit → (from : OpenedVault) (t : Option Told) (a : Told) (item : Planned) → t ≡ Some a → (of : IsItemOf t from item) → IsWalkOf (seen a.state) (side_of from of.items) → item.node ≡ File
+    → (content : List ℕ) (ending : Ending)
+    → ((c : Coming) → coming_read (reader_of from item) content_limit [] (seen a.state item.at) ≡ Some c → c ≡ record { bytes = content; ending = ending })
+    → ending ≡ Whole → Content content ≡ tree (format_of from.vault) (under from.root (seen a.state)) item.path
+file_opens opens fits from t a item is of walk node content ending told whole =
+    ap Content (sym comes ∙ same) ∙ sym (opens (seen a.state) (side_of from of.items) item walk of.among node ended)
   where
     keys : Keys
-    keys = (format_of g.source.vault).content
+    keys = (format_of from.vault).content
 
     there : IsFileAt (seen a.state) item.at
     there = of.walked.files (seen a.state) (seen_of t a is) item of.among node
@@ -108,7 +106,7 @@ file_held shown opens fits g p t a item is at of node content ending told whole 
     read = limited_reading keys there.0
 
     coming : held_before item.at [] read ≡ record { bytes = content; ending = ending }
-    coming = told (held_before item.at [] read) (ap (coming_read (reader_of (opened_at g.source) item) content_limit []) there.1 ∙ fits keys item.at there.0)
+    coming = told (held_before item.at [] read) (ap (coming_read (reader_of from item) content_limit []) there.1 ∙ fits keys item.at there.0)
 
     comes : concat read.chunks ≡ content
     comes = ap (λ (c : Coming). c.bytes) coming
@@ -121,6 +119,15 @@ file_held shown opens fits g p t a item is at of node content ending told whole 
 
     ended : (content_at keys (seen a.state) item.at).ending ≡ reading.Whole
     ended = ap (λ bytes. (limited_reading keys bytes).ending) found ∙ whole_reading item.at read.ending (ap (λ (c : Coming). c.ending) coming ∙ whole)
+
+-- and is what the source held
+pub file_held : SeenAlone → FilesOpen → FilesFit → (g : Migration) (p : Progress) (t : Option Told) (a : Told) (item : Planned) → t ≡ Some a → IsAlone g p a.state → IsItemOf t (opened_at g.source) item
+    → item.node ≡ File → (content : List ℕ) (ending : Ending)
+    → ((c : Coming) → coming_read (reader_of (opened_at g.source) item) content_limit [] (seen a.state item.at) ≡ Some c → c ≡ record { bytes = content; ending = ending })
+    → ending ≡ Whole → Content content ≡ g.held item.path
+file_held shown opens fits g p t a item is at of node content ending told whole =
+    file_opens opens fits (opened_at g.source) t a item is of (source_walk shown g p t a of.items is at of.walked) node content ending told whole
+    ∙ (source_held shown g p a.state at).held item.path
 
 -- ---- the content of a file
 

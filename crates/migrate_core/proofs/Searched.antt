@@ -53,7 +53,7 @@ found_in item there (Err i) ordered stands h =
     greater e = cc e
 
 -- whether an item is there says whether one has its path
-there_by : (path : plain.Path) (there : List Planned) → is_some (item_with path there) ≡ true → (other : Planned) × Contains there other × (other.path ≡ path)
+pub there_by : (path : plain.Path) (there : List Planned) → is_some (item_with path there) ≡ true → (other : Planned) × Contains there other × (other.path ≡ path)
 there_by path [] is = cc is
 there_by path (z ∷ zs) is = by (path_eq z.path path) refl is (there_by path zs)
   where

@@ -1,5 +1,5 @@
 -- Why placing stops: a content that is damaged or passes the limit.
-use Rattle.std.proofs.Common.{◌≡◌, ◌≢◌, ℕ, zero, arith, List, [], ◌∷◌, Contains, Option, Some, None, Result, Ok, Err, IfErr, inl, inr, refl, sym, ap, ◌∙◌, subst}
+use Rattle.std.proofs.Common.{◌≡◌, ◌≢◌, ℕ, zero, arith, List, [], ◌∷◌, ◌++◌, Contains, Option, Some, None, Result, Ok, Err, IfErr, inl, inr, refl, sym, ap, ◌∙◌, subst}
 use Rattle.chunk_files.specs.Keys.{Keys}
 use Rattle.chunk_files.specs.Reading as reading
 use Rattle.chunk_files.specs.declared.fault.ChunkFault.{ChunkFault}
@@ -13,24 +13,31 @@ use Rattle.folder_spec.specs.Seen.{IsSeen, seen, under}
 use Rattle.folder_spec.specs.View.{Found, View}
 use Rattle.plain_tree.specs.declared.NodeKind.TheVariants.{File}
 use Rattle.tree_match.specs.Comparing.{bytes_found, content_at}
-use Rattle.vault_read.specs.Contents.{limited_reading}
+use Rattle.vault_read.specs.Contents.{IsOfPath, limited_reading}
+use Rattle.vault_read.specs.Finding.{Refuses}
+use Rattle.vault_read.specs.declared.fault.FindFault.{FindFault}
+use Rattle.vault_read.specs.declared.fault.FindFault.TheVariants as finds
+use Rattle.vault_spec.specs.Find.{Locked, NotFound, Refusal, WrongKind, enter}
+use Rattle.vault_spec.specs.Format.{Directory}
+use Rattle.vault_spec.specs.declared.Lack.TheVariants as lacks
 use Rattle.vault_read.specs.Opened.{OpenedVault}
 use Rattle.vault_read.specs.declared.fault.Limit.{Limit}
 use Rattle.vault_read.specs.declared.fault.Limit.TheVariants as limit
 use Rattle.plain_tree.specs.Names as plain
 use Rattle.vault_spec.specs.Findings.{IsFileAt}
-use Rattle.vault_spec.specs.Making.{NewItem}
+use Rattle.vault_spec.specs.Making.{Allows, NewItem}
 use Rattle.vault_spec.specs.Plan.{Planned}
 use Rattle.vault_spec.specs.Vault.{format_of}
 use Rattle.vault_write.specs.Calls.{MakesAt, MakesOne, New}
-use Rattle.vault_write.specs.Faults.{IsDirectoryFault}
+use Rattle.vault_write.specs.Faults.{IsDirectoryFault, IsFileFault}
 use Rattle.vault_write.specs.Making.{Placing}
 use Rattle.vault_write.specs.Refusing.{Answers, TakesRoot}
 use Rattle.migrate_core.proofs.Causing.{stop_more}
 use Rattle.migrate_core.proofs.Planned.{FilesFit, reader_of}
 use Rattle.migrate_core.proofs.Writings.{Kept}
-use Rattle.migrate_core.specs.Causes.{Answer, EndsSo, IsStop, StopsAt, StopsSeen}
-use Rattle.migrate_core.specs.Sides.{IsItemOf}
+use Rattle.migrate_core.specs.Causes.{Answer, EndsSo, IsStop, StopsAt, StopsLater, StopsSeen, nothing_stops}
+use Rattle.migrate_core.specs.Copying.{Enters}
+use Rattle.migrate_core.specs.Sides.{AllowsLast, IsItemOf}
 use Rattle.migrate_core.specs.declared.fault.MoveFault.{MoveFault}
 
 -- ---- among more items, and by what was seen before
@@ -45,104 +52,131 @@ ends_as from v w items more at ending same e = record {
   ends = ap (λ (found : Found). (limited_reading (format_of from.vault).content (bytes_found found)).ending) (sym (same e.item e.among).1) ∙ e.ends;
 }
 
-stops_as : (from : OpenedVault) (v w : View) (items more : List Planned) → ((item : Planned) → Contains items item → Contains more item × (w item.at ≡ v item.at)) → (why : PutFault)
-    → StopsAt from w items why → StopsAt from v more why
-stops_as from v w items more same (put.Damaged at fault) is = ends_as from v w items more at (reading.Faulty fault) same is
-stops_as from v w items more same (put.Limit (limit.Length at)) is = ends_as from v w items more at reading.Wanting same is
-stops_as from v w items more same (put.Limit limit.Items) is = is
-stops_as from v w items more same (put.Limit limit.Depth) is = is
-stops_as from v w items more same (put.Limit limit.Input) is = is
-stops_as from v w items more same put.Source is = is
-stops_as from v w items more same (put.Find why) is = tt
-stops_as from v w items more same (put.NotAllowed path) is = tt
-stops_as from v w items more same (put.Taken at) is = tt
-stops_as from v w items more same put.ZeroRandom is = tt
-stops_as from v w items more same put.Random is = tt
-stops_as from v w items more same put.Failed is = tt
-stops_as from v w items more same put.NoMemory is = tt
+stops_as : (Is More : Type 0) (from : OpenedVault) (v w : View) (items more : List Planned) → (More → Is) → ((item : Planned) → Contains items item → Contains more item × (w item.at ≡ v item.at)) → (why : PutFault)
+    → StopsAt Is from w items why → StopsAt More from v more why
+stops_as Is More from v w items more given same (put.Damaged at fault) is = ends_as from v w items more at (reading.Faulty fault) same is
+stops_as Is More from v w items more given same (put.Limit (limit.Length at)) is = ends_as from v w items more at reading.Wanting same is
+stops_as Is More from v w items more given same (put.Limit limit.Items) is = is
+stops_as Is More from v w items more given same (put.Limit limit.Depth) is = is
+stops_as Is More from v w items more given same (put.Limit limit.Input) is = is
+stops_as Is More from v w items more given same put.Source is = is
+stops_as Is More from v w items more given same (put.Find why) is = λ m. is (given m)
+stops_as Is More from v w items more given same (put.NotAllowed path) is = is
+stops_as Is More from v w items more given same (put.Taken at) is = tt
+stops_as Is More from v w items more given same put.ZeroRandom is = tt
+stops_as Is More from v w items more given same put.Random is = tt
+stops_as Is More from v w items more given same put.Failed is = tt
+stops_as Is More from v w items more given same put.NoMemory is = tt
 
-pub stops_before : (from : OpenedVault) (items more : List Planned) (t u : Option Told) (fault : MoveFault) → Kept items t u → ((item : Planned) → Contains items item → Contains more item)
-    → StopsSeen u from items fault → StopsSeen t from more fault
-stops_before from items more (Some a) (Some b) fault kept within later v is =
-    stop_more (StopsAt from (seen b.state) items) (StopsAt from v more) fault
-    (stops_as from v (seen b.state) items more (λ item among. (within item among, kept item among ∙ sym (ap (λ (w : View). w item.at) is)))) (later (seen b.state) refl)
-stops_before from items more None u fault kept within later v is = absurd is
-stops_before from items more (Some a) None fault kept within later v is = absurd kept
+-- what was so before is so later
+abbrev pub Stays : (View → Type 0) → (View → Type 0) → Option Told → Option Told → Type 0
+Stays More Is t u = (v w : View) → IsSeen t v → IsSeen u w → More v → Is w
 
-pub if_stops_before : {T : Type 0} (result : Answer T) (from : OpenedVault) (items : List Planned) (t u : Option Told) → Kept items t u → IfErr result (StopsSeen u from items) → IfErr result (StopsSeen t from items)
-if_stops_before (Ok value) from items t u kept later = tt
-if_stops_before (Err fault) from items t u kept later = stops_before from items items t u fault kept (λ item among. among) later
+pub stops_before : (Is More : View → Type 0) (from : OpenedVault) (items more : List Planned) (t u : Option Told) (fault : MoveFault) → Kept items t u → ((item : Planned) → Contains items item → Contains more item)
+    → Stays More Is t u → StopsSeen Is u from items fault → StopsSeen More t from more fault
+stops_before Is More from items more (Some a) (Some b) fault kept within stays later v is =
+    let given : More v → Is (seen b.state) = stays v (seen b.state) is refl in
+    stop_more (Is (seen b.state)) (More v) (StopsAt (Is (seen b.state)) from (seen b.state) items) (StopsAt (More v) from v more) fault given
+    (stops_as (Is (seen b.state)) (More v) from v (seen b.state) items more given (λ item among. (within item among, kept item among ∙ sym (ap (λ (w : View). w item.at) is)))) (later (seen b.state) refl)
+stops_before Is More from items more None u fault kept within stays later v is = absurd is
+stops_before Is More from items more (Some a) None fault kept within stays later v is = absurd kept
 
--- what never stops
-pub none_stops : {T : Type 0} (result : Answer T) (P : PutFault → Type 0) → IfErr result (IsStop (λ why. ⊥)) → IfErr result (IsStop P)
-none_stops (Ok value) P is = tt
-none_stops (Err fault) P is = stop_more (λ why. ⊥) P fault (λ why none. absurd none) is
+pub if_stops_before : {T : Type 0} (result : Answer T) (Is More : View → Type 0) (from : OpenedVault) (items : List Planned) (t u : Option Told) → Kept items t u → Stays More Is t u
+    → IfErr result (StopsSeen Is u from items) → IfErr result (StopsSeen More t from items)
+if_stops_before (Ok value) Is More from items t u kept stays later = tt
+if_stops_before (Err fault) Is More from items t u kept stays later = stops_before Is More from items items t u fault kept (λ item among. among) stays later
 
-pub none_seen : {T : Type 0} (result : Answer T) (from : OpenedVault) (items : List Planned) (t : Option Told) → IfErr result (IsStop (λ why. ⊥)) → IfErr result (StopsSeen t from items)
-none_seen (Ok value) from items t is = tt
-none_seen (Err fault) from items t is = λ v seen. stop_more (λ why. ⊥) (StopsAt from v items) fault (λ why none. absurd none) is
+-- what stops later, when all is placed
+pub later_seen : {T : Type 0} (result : Answer T) (Is More : View → Type 0) (from : OpenedVault) (items : List Planned) (t u : Option Told) → Stays More Is t u → ((v : View) → IsSeen t v → (w : View) × IsSeen u w)
+    → IfErr result (StopsLater Is u) → IfErr result (StopsSeen More t from items)
+later_seen (Ok value) Is More from items t u stays after later = tt
+later_seen (Err fault) Is More from items t u stays after later = λ v is.
+    let w : (w : View) × IsSeen u w = after v is in
+    stop_more (Is w.0) (More v) nothing_stops (StopsAt (More v) from v items) fault (stays v w.0 is w.1) (λ why none. absurd none) (later w.0 w.1)
 
-pub seen_stops : {T : Type 0} (result : Answer T) (from : OpenedVault) (items : List Planned) (t : Option Told) (v : View) → IsSeen t v → IfErr result (StopsSeen t from items) → IfErr result (IsStop (StopsAt from v items))
-seen_stops (Ok value) from items t v is stops = tt
-seen_stops (Err fault) from items t v is stops = stops v is
+pub seen_stops : {T : Type 0} (result : Answer T) (Is : View → Type 0) (from : OpenedVault) (items : List Planned) (t : Option Told) (v : View) → IsSeen t v → IfErr result (StopsSeen Is t from items)
+    → IfErr result (IsStop (Is v) (StopsAt (Is v) from v items))
+seen_stops (Ok value) Is from items t v is stops = tt
+seen_stops (Err fault) Is from items t v is stops = stops v is
 
 -- ---- one item
 
-pub directory_stops : (from : OpenedVault) (v : View) (items : List Planned) (why : PutFault) → IsDirectoryFault why → StopsAt from v items why
-directory_stops from v items (put.Damaged at fault) is = absurd is
-directory_stops from v items (put.Limit which) is = absurd is
-directory_stops from v items put.Source is = absurd is
-directory_stops from v items (put.Find why) is = tt
-directory_stops from v items (put.NotAllowed path) is = tt
-directory_stops from v items (put.Taken at) is = tt
-directory_stops from v items put.ZeroRandom is = tt
-directory_stops from v items put.Random is = tt
-directory_stops from v items put.Failed is = tt
-directory_stops from v items put.NoMemory is = tt
+-- what a refusal tells: of the directory that is to have the item and of its name, and how the content ends
+abbrev pub Tells : OpenedVault → plain.Path → View → Ending → PutFault → Type 0
+Tells to path v ending (put.Find why) =
+    IsOfPath why → (front : plain.Path) × (name : List ℕ) × (path ≡ front ++ name ∷ []) × ((dir : Directory) → enter (format_of to.vault) (under to.root v) front ≢ Ok dir)
+Tells to path v ending (put.NotAllowed at) = (front : plain.Path) × (name : List ℕ) × (path ≡ front ++ name ∷ []) × (¬ Allows (format_of to.vault) name)
+Tells to path v ending (put.Damaged at fault) = ending ≡ Damaged at fault
+Tells to path v ending (put.Limit which) = ending ≡ TooLong which
+Tells to path v ending put.Source = Unit {0}
+Tells to path v ending fault = Unit {0}
 
--- the ending that a refusal for its content tells
-abbrev EndingTold : Ending → PutFault → Type 0
-EndingTold ending (put.Damaged at fault) = ending ≡ Damaged at fault
-EndingTold ending (put.Limit which) = ending ≡ TooLong which
-EndingTold ending put.Source = Unit {0}
-EndingTold ending fault = Unit {0}
+entered_or_not : (root : Path) (entered : Result Directory Refusal) (why : FindFault) → IsOfPath why → Refuses root entered why → (dir : Directory) → entered ≢ Ok dir
+entered_or_not root entered (finds.NotFound at) of h dir e = let never : Err (NotFound at) ≡ Ok dir = sym h ∙ e in cc never
+entered_or_not root entered (finds.WrongKind at) of h dir e = let never : Err (WrongKind at) ≡ Ok dir = sym h ∙ e in cc never
+entered_or_not root entered (finds.NoDirKey at) of h dir e = let never : Err (Locked h.0 lacks.NoDirKey) ≡ Ok dir = sym h.2 ∙ e in cc never
+entered_or_not root entered (finds.NoFolder at) of h dir e = let never : Err (Locked h.0 lacks.NoFolder) ≡ Ok dir = sym h.2 ∙ e in cc never
+entered_or_not root entered finds.Failed of h dir e = absurd of
+entered_or_not root entered finds.NoMemory of h dir e = absurd of
 
-named_tells : (p : Placing) (drawn : List ℕ) (ending : Ending) (u : View) (why : PutFault) → Answers p drawn ending u (Err why) → EndingTold ending why
-named_tells p drawn ending u (put.Damaged at fault) h = h.1
-named_tells p drawn ending u (put.Limit which) h = h.1
-named_tells p drawn ending u put.Source h = tt
-named_tells p drawn ending u (put.Find why) h = tt
-named_tells p drawn ending u (put.NotAllowed path) h = tt
-named_tells p drawn ending u (put.Taken at) h = tt
-named_tells p drawn ending u put.ZeroRandom h = tt
-named_tells p drawn ending u put.Random h = tt
-named_tells p drawn ending u put.Failed h = tt
-named_tells p drawn ending u put.NoMemory h = tt
+named_tells : (p : Placing) (drawn : List ℕ) (ending : Ending) (path : plain.Path) (v : View) (why : PutFault) → path ≡ p.front ++ p.name ∷ [] → Answers p drawn ending (under p.vault.root v) (Err why) → Tells p.vault path v ending why
+named_tells p drawn ending path v (put.Damaged at fault) is h = h.1
+named_tells p drawn ending path v (put.Limit which) is h = h.1
+named_tells p drawn ending path v put.Source is h = tt
+named_tells p drawn ending path v (put.Find why) is h = λ of. (p.front, p.name, is, entered_or_not p.vault.root (enter (format_of p.vault.vault) (under p.vault.root v) p.front) why of h.0)
+named_tells p drawn ending path v (put.NotAllowed at) is h = (p.front, p.name, is, h.1.forbidden)
+named_tells p drawn ending path v (put.Taken at) is h = tt
+named_tells p drawn ending path v put.ZeroRandom is h = tt
+named_tells p drawn ending path v put.Random is h = tt
+named_tells p drawn ending path v put.Failed is h = tt
+named_tells p drawn ending path v put.NoMemory is h = tt
 
 abbrev Given : PutFault → Result (Unit {0}) PutFault
 Given why = Err why
 
-root_tells : (root : Path) (ending : Ending) (why : PutFault) → TakesRoot root (Err why) → EndingTold ending why
-root_tells root ending (put.Damaged at fault) h = let never : Given (put.Damaged at fault) ≡ Err put.NoMemory = h (λ e. cc e) in cc never
-root_tells root ending (put.Limit which) h = let never : Given (put.Limit which) ≡ Err put.NoMemory = h (λ e. cc e) in cc never
-root_tells root ending put.Source h = tt
-root_tells root ending (put.Find why) h = tt
-root_tells root ending (put.NotAllowed path) h = tt
-root_tells root ending (put.Taken at) h = tt
-root_tells root ending put.ZeroRandom h = tt
-root_tells root ending put.Random h = tt
-root_tells root ending put.Failed h = tt
-root_tells root ending put.NoMemory h = tt
+root_tells : (to : OpenedVault) (path : plain.Path) (v : View) (ending : Ending) (why : PutFault) → TakesRoot to.root (Err why) → Tells to path v ending why
+root_tells to path v ending (put.Damaged at fault) h = let never : Given (put.Damaged at fault) ≡ Err put.NoMemory = h (λ e. cc e) in cc never
+root_tells to path v ending (put.Limit which) h = let never : Given (put.Limit which) ≡ Err put.NoMemory = h (λ e. cc e) in cc never
+root_tells to path v ending put.Source h = tt
+root_tells to path v ending (put.Find why) h = let never : Given (put.Find why) ≡ Err put.NoMemory = h (λ e. cc e) in cc never
+root_tells to path v ending (put.NotAllowed at) h = let never : Given (put.NotAllowed at) ≡ Err put.NoMemory = h (λ e. cc e) in cc never
+root_tells to path v ending (put.Taken at) h = tt
+root_tells to path v ending put.ZeroRandom h = tt
+root_tells to path v ending put.Random h = tt
+root_tells to path v ending put.Failed h = tt
+root_tells to path v ending put.NoMemory h = tt
 
-pub ending_told : (to : OpenedVault) (work : Path) (path : plain.Path) (item : NewItem) (ending : Ending) (drawn : List ℕ) (t u : Option Told) (why : PutFault) → MakesAt New to work path item ending drawn t u (Err why)
-    → (v : View) → IsSeen t v → EndingTold ending why
-ending_told to work path item ending drawn t u why made v is = elim (base_or_child path) [
-  | inl root ↦ root_tells to.root ending why (made.root root).2
+pub refusal_tells : (to : OpenedVault) (work : Path) (path : plain.Path) (item : NewItem) (ending : Ending) (drawn : List ℕ) (t u : Option Told) (why : PutFault) → MakesAt New to work path item ending drawn t u (Err why)
+    → (v : View) → IsSeen t v → Tells to path v ending why
+refusal_tells to work path item ending drawn t u why made v is = elim (base_or_child path) [
+  | inl root ↦ root_tells to path v ending why (made.root root).2
   | inr named ↦
       let p : Placing = record { vault = to; work = work; front = named.0; name = named.1; item = item } in
       let one : MakesOne New p ending drawn t u (Err why) = made.named named.0 named.1 named.2 in
-      named_tells p drawn ending (under to.root v) why (one.answer v is)
+      named_tells p drawn ending path v why named.2 (one.answer v is)
 ]
+
+not_found : (to : OpenedVault) (item : Planned) (v : View) (ending : Ending) (why : FindFault) → IsOfPath why → Tells to item.path v ending (put.Find why) → ¬ Enters to item v
+not_found to item v ending why of tells enters =
+    let told = tells of in
+    let way = enters told.0 told.1 told.2 in
+    told.3 way.0 way.1
+
+name_forbidden : (to : OpenedVault) (item : Planned) (v : View) (ending : Ending) (at : plain.Path) → AllowsLast (format_of to.vault) item.path → Tells to item.path v ending (put.NotAllowed at) → ⊥
+name_forbidden to item v ending at allowed tells = tells.3 (allowed tells.0 tells.1 tells.2)
+
+pub directory_stops : (from to : OpenedVault) (item : Planned) (v : View) (ending : Ending) → AllowsLast (format_of to.vault) item.path → (why : PutFault) → IsDirectoryFault why → Tells to item.path v ending why
+    → StopsAt (Enters to item v) from v (item ∷ []) why
+directory_stops from to item v ending allowed (put.Damaged at fault) can tells = absurd can
+directory_stops from to item v ending allowed (put.Limit which) can tells = absurd can
+directory_stops from to item v ending allowed put.Source can tells = absurd can
+directory_stops from to item v ending allowed (put.Find why) can tells = not_found to item v ending why can tells
+directory_stops from to item v ending allowed (put.NotAllowed at) can tells = name_forbidden to item v ending at allowed tells
+directory_stops from to item v ending allowed (put.Taken at) can tells = tt
+directory_stops from to item v ending allowed put.ZeroRandom can tells = tt
+directory_stops from to item v ending allowed put.Random can tells = tt
+directory_stops from to item v ending allowed put.Failed can tells = tt
+directory_stops from to item v ending allowed put.NoMemory can tells = tt
 
 -- so its reading ends
 record ReadSo (at : Path) (ending : reading.Ending) (at' : Path) (ending' : reading.Ending) : Type 0 where
@@ -164,32 +198,33 @@ no_other at reading.Whole which other e = cc e
 no_other at reading.Wanting which other e = other at (cc e)
 no_other at (reading.Faulty fault) which other e = cc e
 
-by_ending : (from : OpenedVault) (item : Planned) (v : View) (why : PutFault) → item.node ≡ File → why ≢ put.Source → EndingTold (ending_of item.at (content_at (format_of from.vault).content v item.at).ending) why
-    → StopsAt from v (item ∷ []) why
-by_ending from item v (put.Damaged at fault) node read told =
+by_ending : (from to : OpenedVault) (item : Planned) (v : View) (why : PutFault) → item.node ≡ File → why ≢ put.Source → AllowsLast (format_of to.vault) item.path → IsFileFault why
+    → Tells to item.path v (ending_of item.at (content_at (format_of from.vault).content v item.at).ending) why → StopsAt (Enters to item v) from v (item ∷ []) why
+by_ending from to item v (put.Damaged at fault) node read allowed can told =
     let so = damaged_so item.at at (content_at (format_of from.vault).content v item.at).ending fault told in
     record { item = item; among = (zero, omega arith, refl); file = node; place = so.place; ends = so.ends }
-by_ending from item v (put.Limit (limit.Length at)) node read told =
+by_ending from to item v (put.Limit (limit.Length at)) node read allowed can told =
     let so = too_long_so item.at at (content_at (format_of from.vault).content v item.at).ending told in
     record { item = item; among = (zero, omega arith, refl); file = node; place = so.place; ends = so.ends }
-by_ending from item v (put.Limit limit.Items) node read told = no_other item.at (content_at (format_of from.vault).content v item.at).ending limit.Items (λ path e. cc e) told
-by_ending from item v (put.Limit limit.Depth) node read told = no_other item.at (content_at (format_of from.vault).content v item.at).ending limit.Depth (λ path e. cc e) told
-by_ending from item v (put.Limit limit.Input) node read told = no_other item.at (content_at (format_of from.vault).content v item.at).ending limit.Input (λ path e. cc e) told
-by_ending from item v put.Source node read told = read refl
-by_ending from item v (put.Find why) node read told = tt
-by_ending from item v (put.NotAllowed path) node read told = tt
-by_ending from item v (put.Taken at) node read told = tt
-by_ending from item v put.ZeroRandom node read told = tt
-by_ending from item v put.Random node read told = tt
-by_ending from item v put.Failed node read told = tt
-by_ending from item v put.NoMemory node read told = tt
+by_ending from to item v (put.Limit limit.Items) node read allowed can told = no_other item.at (content_at (format_of from.vault).content v item.at).ending limit.Items (λ path e. cc e) told
+by_ending from to item v (put.Limit limit.Depth) node read allowed can told = no_other item.at (content_at (format_of from.vault).content v item.at).ending limit.Depth (λ path e. cc e) told
+by_ending from to item v (put.Limit limit.Input) node read allowed can told = no_other item.at (content_at (format_of from.vault).content v item.at).ending limit.Input (λ path e. cc e) told
+by_ending from to item v put.Source node read allowed can told = read refl
+by_ending from to item v (put.Find why) node read allowed can told = not_found to item v (ending_of item.at (content_at (format_of from.vault).content v item.at).ending) why can told
+by_ending from to item v (put.NotAllowed path) node read allowed can told = name_forbidden to item v (ending_of item.at (content_at (format_of from.vault).content v item.at).ending) path allowed told
+by_ending from to item v (put.Taken at) node read allowed can told = tt
+by_ending from to item v put.ZeroRandom node read allowed can told = tt
+by_ending from to item v put.Random node read allowed can told = tt
+by_ending from to item v put.Failed node read allowed can told = tt
+by_ending from to item v put.NoMemory node read allowed can told = tt
 
 -- a file of which the content was told
-pub file_stops : FilesFit → (from : OpenedVault) (item : Planned) (t : Option Told) (content : List ℕ) (ending : Ending) (why : PutFault) → item.node ≡ File → why ≢ put.Source → IsItemOf t from item
+pub file_stops : FilesFit → (from to : OpenedVault) (item : Planned) (t : Option Told) (content : List ℕ) (ending : Ending) (why : PutFault) → item.node ≡ File → why ≢ put.Source → AllowsLast (format_of to.vault) item.path → IsFileFault why
+    → IsItemOf t from item
     → ((a : Told) → t ≡ Some a → (c : Coming) → coming_read (reader_of from item) content_limit [] (seen a.state item.at) ≡ Some c → c ≡ record { bytes = content; ending = ending })
-    → ((v : View) → IsSeen t v → EndingTold ending why) → (v : View) → IsSeen t v → StopsAt from v (item ∷ []) why
-file_stops fits from item None content ending why node read of told ends v is = absurd is
-file_stops fits from item (Some a) content ending why node read of told ends v is =
+    → ((v : View) → IsSeen t v → Tells to item.path v ending why) → (v : View) → IsSeen t v → StopsAt (Enters to item v) from v (item ∷ []) why
+file_stops fits from to item None content ending why node read allowed can of told ends v is = absurd is
+file_stops fits from to item (Some a) content ending why node read allowed can of told ends v is =
     let keys : Keys = (format_of from.vault).content in
     let there : IsFileAt (seen a.state) item.at = of.walked.files (seen a.state) refl item of.among node in
     let coming : held_before item.at [] (limited_reading keys there.0) ≡ record { bytes = content; ending = ending } =
@@ -197,4 +232,4 @@ file_stops fits from item (Some a) content ending why node read of told ends v i
     let found : bytes_found (v item.at) ≡ there.0 = ap (λ (w : View). bytes_found (w item.at)) is ∙ ap bytes_found there.1 in
     let ended : ending ≡ ending_of item.at (content_at keys v item.at).ending =
     sym (ap (λ (c : Coming). c.ending) coming) ∙ ap (λ bytes. ending_of item.at (limited_reading keys bytes).ending) (sym found) in
-    by_ending from item v why node read (subst (λ (x : Ending). EndingTold x why) ended (ends v is))
+    by_ending from to item v why node read allowed can (subst (λ (x : Ending). Tells to item.path v x why) ended (ends v is))

@@ -22,6 +22,7 @@ use Rattle.tree_match.specs.declared.answer.How.TheVariants as how
 use Rattle.tree_match.specs.declared.answer.Match.{Match}
 use Rattle.tree_match.specs.declared.answer.Match.TheVariants.{Same, Contained, Differs}
 use Rattle.tree_match.specs.declared.answer.MatchFault.{MatchFault}
+use Rattle.tree_match.specs.declared.answer.MatchFault.TheVariants as match
 use Rattle.tree_match.specs.declared.answer.Side.{Side}
 use Rattle.tree_match.specs.declared.answer.Side.TheVariants.{Source, Target}
 use Rattle.tree_match.specs.declared.answer.Where.{Where}
@@ -45,6 +46,7 @@ use Rattle.vault_walk.specs.declared.fault.WalkFault.TheVariants as walk
 use Rattle.work_folder.specs.Entering.{Empties, EntersAs}
 use Rattle.work_folder.specs.Looking.{Tests, TestsEntries}
 use Rattle.work_folder.specs.Looking as work
+use Rattle.migrate_core.specs.Copying.{HaveOwnFolders}
 use Rattle.migrate_core.specs.Faults.{of_journal, of_match, of_walk, of_work}
 use Rattle.migrate_core.specs.Moved.{opened_in}
 use Rattle.migrate_core.specs.Sides.{AllowsLast, AreTold}
@@ -183,48 +185,61 @@ pub record EndsSo (from : OpenedVault) (v : View) (items : List Planned) (at : P
   pub place : item.at ≡ at
   pub ends : (content_at (format_of from.vault).content v item.at).ending ≡ ending
 
--- why one of these items isn't placed: of a content that is damaged or passes the limit, that it does
-abbrev pub StopsAt : OpenedVault → View → List Planned → PutFault → Type 0
-StopsAt from v items (put.Damaged at fault) = EndsSo from v items at (Faulty fault)
-StopsAt from v items (put.Limit (limit.Length at)) = EndsSo from v items at Wanting
-StopsAt from v items (put.Limit limit.Items) = ⊥
-StopsAt from v items (put.Limit limit.Depth) = ⊥
-StopsAt from v items (put.Limit limit.Input) = ⊥
-StopsAt from v items put.Source = ⊥
-StopsAt from v items fault = Unit {0}
+-- Why one of these items isn't placed: of a content that is damaged or passes the limit, that it does. In vaults of which this is so,
+-- the directory that is to have the item is always found.
+abbrev pub StopsAt : Type 0 → OpenedVault → View → List Planned → PutFault → Type 0
+StopsAt Is from v items (put.Damaged at fault) = EndsSo from v items at (Faulty fault)
+StopsAt Is from v items (put.Limit (limit.Length at)) = EndsSo from v items at Wanting
+StopsAt Is from v items (put.Limit limit.Items) = ⊥
+StopsAt Is from v items (put.Limit limit.Depth) = ⊥
+StopsAt Is from v items (put.Limit limit.Input) = ⊥
+StopsAt Is from v items put.Source = ⊥
+StopsAt Is from v items (put.Find fault) = ¬ Is
+StopsAt Is from v items (put.NotAllowed path) = ⊥
+StopsAt Is from v items fault = Unit {0}
 
--- what may be answered once all tests have passed and the stage is made ready: an item isn't placed, for such a reason, or the vaults
--- aren't walked and compared to the end
-abbrev pub IsStop : (PutFault → Type 0) → MoveFault → Type 0
-IsStop P (Place fault) = P fault
-IsStop P (Walk fault) = Unit {0}
-IsStop P (Matching fault) = Unit {0}
-IsStop P (Differ path how) = Unit {0}
-IsStop P Failed = Unit {0}
-IsStop P NoMemory = Unit {0}
-IsStop P (Work fault) = ⊥
-IsStop P (Unread fault) = ⊥
-IsStop P (Overlap p q) = ⊥
-IsStop P (Load side fault) = ⊥
-IsStop P (NotEmpty at) = ⊥
-IsStop P (NotAllowed path) = ⊥
-IsStop P (Changed plan items plan' items') = ⊥
-IsStop P SourceGone = ⊥
+-- of contents that are compared only the limit counts, where this is so
+abbrev pub StopsMatch : Type 0 → MatchFault → Type 0
+StopsMatch Is (match.Limit (limit.Length at)) = Unit {0}
+StopsMatch Is (match.Limit limit.Items) = ¬ Is
+StopsMatch Is (match.Limit limit.Depth) = ¬ Is
+StopsMatch Is (match.Limit limit.Input) = ¬ Is
+StopsMatch Is (match.Damaged at fault) = ¬ Is
+StopsMatch Is match.Failed = ¬ Is
+StopsMatch Is match.NoMemory = ¬ Is
 
-abbrev pub IsOfMoving : {Y : Type 0} → (PutFault → Type 0) → Answer Y → Type 0
-IsOfMoving P (Ok value) = Unit {0}
-IsOfMoving P (Err fault) = IsStop P fault
+-- What may be answered once all tests have passed and the stage is made ready: an item isn't placed, for such a reason. In vaults of
+-- which this is so, both are walked again, and are the same, unless a content passes the limit where it is compared.
+abbrev pub IsStop : Type 0 → (PutFault → Type 0) → MoveFault → Type 0
+IsStop Is P (Place fault) = P fault
+IsStop Is P (Walk fault) = ¬ Is
+IsStop Is P (Matching fault) = StopsMatch Is fault
+IsStop Is P (Differ path how) = ¬ Is
+IsStop Is P Failed = Unit {0}
+IsStop Is P NoMemory = Unit {0}
+IsStop Is P (Work fault) = ⊥
+IsStop Is P (Unread fault) = ⊥
+IsStop Is P (Overlap p q) = ⊥
+IsStop Is P (Load side fault) = ⊥
+IsStop Is P (NotEmpty at) = ⊥
+IsStop Is P (NotAllowed path) = ⊥
+IsStop Is P (Changed plan items plan' items') = ⊥
+IsStop Is P SourceGone = ⊥
 
--- the stage is made ready, as the work folder answers, and then items are moved
-abbrev pub Moves : {Y : Type 0} → (work.Answer → Type 0) → (PutFault → Type 0) → Answer Y → Type 0
-Moves readies stops = Then of_work readies (λ _. IsOfMoving stops)
+abbrev pub IsOfMoving : {Y : Type 0} → Type 0 → (PutFault → Type 0) → Answer Y → Type 0
+IsOfMoving Is P (Ok value) = Unit {0}
+IsOfMoving Is P (Err fault) = IsStop Is P fault
+
+-- the stage is made ready, as the work folder answers, and then items are moved between vaults of which no two directories share a folder
+abbrev pub Moves : {Y : Type 0} → (work.Answer → Type 0) → OpenedVault → OpenedVault → View → List Planned → Answer Y → Type 0
+Moves readies from to v items = Then of_work readies (λ _. IsOfMoving (HaveOwnFolders from to v) (StopsAt (HaveOwnFolders from to v) from v items))
 
 -- `begin` between two opened vaults: both are clean, the target is empty, and it allows each name
 abbrev pub BeginsWith : {Y : Type 0} → OpenedVault → OpenedVault → Path → View → Answer Y → Type 0
 BeginsWith from to work v =
     WalksBoth from to v (λ items there.
     Then own (TestsEmpty there) (λ _.
-    Then own (TestsNames (format_of to.vault) items) (λ _. Moves (EntersAs v work) (StopsAt from v items))))
+    Then own (TestsNames (format_of to.vault) items) (λ _. Moves (EntersAs v work) from to v items)))
 
 -- behind the test that the folders don't overlap: the work folder can be made ready, and both vaults open
 abbrev pub BeginsApart : {Y : Type 0} → (from to work : Path) (from_pass to_pass : List ℕ) → View → Answer Y → Type 0
@@ -244,7 +259,7 @@ TestsItems from to journal v items there next =
 
 -- `resume` between two opened vaults: both are clean
 abbrev pub ResumesWith : {Y : Type 0} → OpenedVault → OpenedVault → Path → Journal → View → Answer Y → Type 0
-ResumesWith from to work journal v = WalksBoth from to v (λ items there. TestsItems from to journal v items there (Moves (Empties v work) (StopsAt from v items)))
+ResumesWith from to work journal v = WalksBoth from to v (λ items there. TestsItems from to journal v items there (Moves (Empties v work) from to v items))
 
 -- behind the tests of the work folder: the source is there still, and both vaults open
 abbrev pub ResumesTold : {Y : Type 0} → Path → (from_pass to_pass : List ℕ) → View → Journal → Answer Y → Type 0
@@ -288,6 +303,10 @@ RefusesWalks from to v = Refuses (WalksBoth from to v (λ items. nothing_follows
 abbrev pub nothing_stops : PutFault → Type 0
 nothing_stops fault = ⊥
 
--- by all that is seen at first
-abbrev pub StopsSeen : Option Told → OpenedVault → List Planned → MoveFault → Type 0
-StopsSeen told from items fault = (v : View) → IsSeen told v → IsStop (StopsAt from v items) fault
+-- by all that is seen at first, where this is so of it
+abbrev pub StopsSeen : (View → Type 0) → Option Told → OpenedVault → List Planned → MoveFault → Type 0
+StopsSeen Is told from items fault = (v : View) → IsSeen told v → IsStop (Is v) (StopsAt (Is v) from v items) fault
+
+-- where no item is placed
+abbrev pub StopsLater : (View → Type 0) → Option Told → MoveFault → Type 0
+StopsLater Is told fault = (v : View) → IsSeen told v → IsStop (Is v) nothing_stops fault

@@ -4,5 +4,6 @@ pub mod Sides
 pub mod Leading
 pub mod Moving
 pub mod Moved
+pub mod Copying
 pub mod Causes
 pub mod Written

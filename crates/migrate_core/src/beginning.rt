@@ -8,7 +8,8 @@ ghost use Rattle.tree_match.specs.Alone.{Finished, Unbegun};
 ghost use Rattle.tree_match.specs.Guard.{Migration};
 ghost use Rattle.vault_spec.specs.Vault.{format_of};
 ghost use Rattle.work_folder.specs.Entering.{EntersAs};
-ghost use Rattle.migrate_core.specs.Causes.{Begins, BeginsApart, BeginsWith, Moves, StopsAt, TestsEmpty, Unless};
+ghost use Rattle.migrate_core.specs.Causes.{Begins, BeginsApart, BeginsWith, Moves, TestsEmpty, Unless};
+ghost use Rattle.migrate_core.specs.Copying.{MayBegin};
 ghost use Rattle.migrate_core.specs.Faults.{Blamed};
 ghost use Rattle.migrate_core.specs.Leading.{KeepsGuarded, KeepsSettled, LeadsEach};
 ghost use Rattle.migrate_core.specs.Moved.{Moved, MovesTree, Placed, lacking};
@@ -29,7 +30,7 @@ use tree_match::laws::{
     guarded_migrations_are_seen, journals_keep_migrations_guarded,
     settling_and_entering_keep_migrations_guarded, walks_tell_the_tree,
 };
-use vault_read::laws::roots_have_one_answer;
+use vault_read::laws::{clean_vaults_are_orderly, roots_have_one_answer};
 use vault_spec::laws::what_stands_is_found_step_by_step;
 use vault_walk::{Plan, PlanItem};
 use work_folder::Work;
@@ -128,6 +129,9 @@ fn begin_with<F: Folder, R: Randoms>(
     ensures written { MayWrite result sides.now.source sides.now.target (R.left random.old) (R.left random.new) (F.told folder.old) (F.told folder.new) }
 {
     draws_compose();
+    walks_tell_the_tree();
+    clean_vaults_are_orderly(&sides.source);
+    clean_vaults_are_orderly(&sides.target);
     let plans = walk_both(alloc, folder, sides)?;
     test_empty(plans.target.items.as_slice())?;
     test_names(&sides.target, plans.source.items.as_slice())?;
@@ -160,6 +164,7 @@ fn move_all<F: Folder, R: Randoms>(
     requires apart { AreSeparate sides.now.source.root sides.now.target.root work.now }
     requires walked { IsWalked (F.told folder.old) sides.now.source plan.now.items }
     requires allowed { AllowsEach (format_of sides.now.target.vault) plan.now.items }
+    requires copying { MayBegin sides.now.source sides.now.target [] (F.told folder.old) }
     ensures moved { Moved sides.now.source sides.now.target work.now (F.told folder.new) result }
     ensures placed { IfOk result (λ done. (v : View) → IsSeen (F.told folder.old) v → done.placed ≡ lacking [] plan.now.items) }
     ensures guard { LeadsEach sides.now.source sides.now.target work.now Unbegun Finished (F.told folder.old) (F.told folder.new) result }
@@ -167,7 +172,7 @@ fn move_all<F: Folder, R: Randoms>(
     ensures grows { F.faults folder.old ≤ F.faults folder.new }
     ensures random { R.faults random.old ≤ R.faults random.new }
     ensures blamed { IfErr result (Blamed (CountRose (F.faults folder.old) (F.faults folder.new)) (CountRose (R.faults random.old) (R.faults random.new))) }
-    ensures cause { (v : View) → IsSeen (F.told folder.old) v → Unless result (Moves (EntersAs v work.now) (StopsAt sides.now.source v plan.now.items) result) }
+    ensures cause { (v : View) → IsSeen (F.told folder.old) v → Unless result (Moves (EntersAs v work.now) sides.now.source sides.now.target v plan.now.items result) }
     ensures written { WritesBy result sides.now.source sides.now.target (lacked [] plan.now.items) (journal_texts sides.now.source.root sides.now.target.root plan.now.items) (R.left random.old) (R.left random.new) (F.told folder.old) (F.told folder.new) }
 {
     draws_compose();

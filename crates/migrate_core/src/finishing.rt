@@ -9,17 +9,19 @@ ghost use Rattle.move_journal.specs.Writing.{IsWorkFolder};
 ghost use Rattle.tree_match.specs.Alone.{Begun, Finished};
 ghost use Rattle.tree_match.specs.Comparing.{Is};
 ghost use Rattle.tree_match.specs.Guard.{AreApart};
-ghost use Rattle.tree_match.specs.Trees.{match_of};
+ghost use Rattle.tree_match.specs.Trees.{IsSameOrTooLong, match_of};
 ghost use Rattle.tree_match.specs.declared.answer.Match.TheVariants.{Same};
+ghost use Rattle.vault_spec.specs.Vault.{format_of};
 ghost use Rattle.vault_walk.specs.Survey.{IsOrdered};
 ghost use Rattle.work_folder.specs.Entering.{IsReady};
-ghost use Rattle.migrate_core.specs.Causes.{IsStop, StopsSeen, nothing_stops};
+ghost use Rattle.migrate_core.specs.Causes.{IsStop, StopsLater, StopsSeen, nothing_stops};
+ghost use Rattle.migrate_core.specs.Copying.{HasCopied};
 ghost use Rattle.migrate_core.specs.Faults.{Blamed};
 ghost use Rattle.migrate_core.specs.Leading.{FinishesEach, LeadsTold, progress_of};
 ghost use Rattle.migrate_core.specs.Moved.{Moved, StandsIn, done_of, lacking};
 ghost use Rattle.migrate_core.specs.Moving.{MovesOnly};
 ghost use Rattle.migrate_core.specs.Written.{WritesBy, WritesOnly, lacked};
-ghost use Rattle.migrate_core.specs.Sides.{AreSeparate, IsWalked, StandAll, side_of};
+ghost use Rattle.migrate_core.specs.Sides.{AllowsEach, AreSeparate, IsWalked, StandAll, side_of};
 
 use crate::fault::MoveFault;
 use crate::placing::{Done, place_missing};
@@ -30,9 +32,12 @@ use port_model::Randoms;
 use port_model::laws::draws_compose;
 use std::alloc::Global;
 use tree_match::laws::{
-    guarded_migrations_are_seen, journals_keep_migrations_guarded, what_is_held_opens_the_same,
+    guarded_migrations_are_seen, journals_keep_migrations_guarded, walks_tell_the_tree,
+    what_is_held_opens_the_same,
 };
 use tree_match::{How, Match, Where, holds_all};
+use vault_read::laws::files_have_their_contents;
+use vault_spec::laws::what_stands_is_found_step_by_step;
 use vault_walk::{Plan, PlanItem};
 use work_folder::Work;
 
@@ -49,6 +54,7 @@ pub(crate) fn go_on<F: Folder, R: Randoms>(
 ) -> Result<Done, MoveFault>
     requires apart { AreSeparate sides.now.source.root sides.now.target.root work.now }
     requires walked { IsWalked (F.told folder.old) sides.now.source source.now.items }
+    requires allowed { AllowsEach (format_of sides.now.target.vault) source.now.items }
     requires ready { (v : View) → IsSeen (F.told folder.old) v → IsReady v work.now }
     requires there { (v : View) → IsSeen (F.told folder.old) v → IsOrdered there.now }
     requires journal { IsJournal journal }
@@ -64,7 +70,7 @@ pub(crate) fn go_on<F: Folder, R: Randoms>(
     ensures grows { F.faults folder.old ≤ F.faults folder.new }
     ensures random { R.faults random.old ≤ R.faults random.new }
     ensures blamed { IfErr result (Blamed (CountRose (F.faults folder.old) (F.faults folder.new)) (CountRose (R.faults random.old) (R.faults random.new))) }
-    ensures moving { IfErr result (StopsSeen (F.told folder.old) sides.now.source source.now.items) }
+    ensures moving { IfErr result (StopsSeen (HasCopied sides.now.source sides.now.target there.now) (F.told folder.old) sides.now.source source.now.items) }
     ensures written { IsOrdered there.now → WritesBy result sides.now.source sides.now.target (lacked there.now source.now.items) (journal_text (done_of journal) ∷ []) (R.left random.old) (R.left random.new) (F.told folder.old) (F.told folder.new) }
 {
     draws_compose();
@@ -96,11 +102,14 @@ pub(crate) fn finish<F: Folder>(
     ensures moves { MovesOnly work.now sides.now.target.root (F.told folder.old) (F.told folder.new) }
     ensures grows { F.faults folder.old ≤ F.faults folder.new }
     ensures blamed { IfErr result (Blamed (CountRose (F.faults folder.old) (F.faults folder.new)) ⊥) }
-    ensures moving { IfErr result (IsStop nothing_stops) }
+    ensures moving { IfErr result (StopsLater (HasCopied sides.now.source sides.now.target source.now.items) (F.told folder.old)) }
     ensures written { WritesOnly (λ file. Contains (journal_text (done_of journal) ∷ []) file) (F.told folder.old) (F.told folder.new) }
 {
+    files_have_their_contents();
     guarded_migrations_are_seen();
+    walks_tell_the_tree();
     what_is_held_opens_the_same();
+    what_stands_is_found_step_by_step();
     let target = walk_one(alloc, folder, &sides.target)?;
     test_same(alloc, folder, sides, source, &target)?;
     say_done(alloc, folder, work, journal)?;
@@ -124,7 +133,7 @@ fn test_same<F: Folder>(
     ensures same { OnOk result ((v : View) → IsSeen (F.told folder.old) v → match_of v (side_of sides.now.source source.now.items) (side_of sides.now.target target.now.items) ≡ Is Same) }
     ensures grows { F.faults folder.old ≤ F.faults folder.new }
     ensures blamed { IfErr result (Blamed (CountRose (F.faults folder.old) (F.faults folder.new)) ⊥) }
-    ensures moving { IfErr result (IsStop nothing_stops) }
+    ensures moving { IfErr result (StopsLater (λ v. IsSameOrTooLong (match_of v (side_of sides.now.source source.now.items) (side_of sides.now.target target.now.items))) (F.told folder.old)) }
 {
     match holds_all(alloc, folder, &sides.source, source, &sides.target, target)? {
         Match::Same => Ok(()),
@@ -156,7 +165,7 @@ fn say_done<F: Folder>(
     ensures moves { (root : Path) → AreApart root work.now → MovesOnly work.now root (F.told folder.old) (F.told folder.new) }
     ensures grows { F.faults folder.old ≤ F.faults folder.new }
     ensures blamed { IfErr result (Blamed (CountRose (F.faults folder.old) (F.faults folder.new)) ⊥) }
-    ensures moving { IfErr result (IsStop nothing_stops) }
+    ensures moving { IfErr result (IsStop (Unit {0}) nothing_stops) }
     ensures written { WritesOnly (λ file. Contains (journal_text (done_of journal) ∷ []) file) (F.told folder.old) (F.told folder.new) }
 {
     journals_keep_migrations_guarded();

@@ -5,16 +5,18 @@ ghost use Rattle.folder_spec.specs.Seen.{IsSeen};
 ghost use Rattle.folder_spec.specs.View.{View};
 ghost use Rattle.move_journal.specs.Journal.{IsDigest};
 ghost use Rattle.tree_match.specs.Alone.{Begun};
+ghost use Rattle.vault_spec.specs.Vault.{format_of};
 ghost use Rattle.vault_walk.specs.Survey.{IsOrdered};
 ghost use Rattle.vault_write.specs.Making.{is_apart};
 ghost use Rattle.work_folder.specs.Entering.{IsReady};
 ghost use Rattle.migrate_core.specs.Causes.{IsStop, StopsSeen, nothing_stops};
+ghost use Rattle.migrate_core.specs.Copying.{CopiesAll, CopiesMissing, CopiesOne, Enters, HasCopied};
 ghost use Rattle.migrate_core.specs.Faults.{Blamed};
 ghost use Rattle.migrate_core.specs.Leading.{LeadsEach};
 ghost use Rattle.migrate_core.specs.Moved.{is_there, lacking};
 ghost use Rattle.migrate_core.specs.Moving.{MovesBeside};
 ghost use Rattle.migrate_core.specs.Written.{WritesBy, lacked};
-ghost use Rattle.migrate_core.specs.Sides.{AreSeparate, IsItemOf, IsWalked, StandAll, StandsIn, new_journal};
+ghost use Rattle.migrate_core.specs.Sides.{AllowsEach, AllowsLast, AreSeparate, IsItemOf, IsWalked, StandAll, StandsIn, new_journal};
 
 use crate::fault::MoveFault;
 use crate::sides::Sides;
@@ -23,6 +25,7 @@ use content_writing::laws::files_fit_as_contents;
 use folder_model::{FPath, Folder};
 use move_journal::{Journal, Phase};
 use plain_tree::NodeKind;
+use plain_tree::laws::prefix_comes_first;
 use port_model::Randoms;
 use port_model::laws::draws_compose;
 use std::alloc::Global;
@@ -30,6 +33,7 @@ use tree_match::laws::{
     guarded_migrations_are_seen, placing_keeps_migrations_guarded, walks_tell_the_tree,
 };
 use vault_read::ContentReader;
+use vault_spec::laws::{what_is_found_stands, what_stands_is_found_step_by_step};
 use vault_walk::{Plan, PlanItem, plan_digest};
 use vault_write::{place_dir, place_file};
 use work_folder::Work;
@@ -46,7 +50,7 @@ pub(crate) fn journal_of(source: &FPath, target: &FPath, plan: &Plan) -> Result<
     ensures new { IfOk result (λ journal. journal ≡ new_journal source.now target.now plan.now.items) }
     ensures digest { IfOk result (λ journal. IsDigest journal.plan) }
     ensures blamed { IfErr result (Blamed ⊥ ⊥) }
-    ensures moving { IfErr result (IsStop nothing_stops) }
+    ensures moving { IfErr result (IsStop (Unit {0}) nothing_stops) }
 {
     Ok(Journal {
         phase: Phase::Building,
@@ -69,6 +73,7 @@ pub(crate) fn place_missing<F: Folder, R: Randoms>(
 ) -> Result<u64, MoveFault>
     requires apart { AreSeparate sides.now.source.root sides.now.target.root work.now }
     requires walked { IsWalked (F.told folder.old) sides.now.source items.now }
+    requires allowed { AllowsEach (format_of sides.now.target.vault) items.now }
     requires ready { (v : View) → IsSeen (F.told folder.old) v → IsReady v work.now }
     requires there { (v : View) → IsSeen (F.told folder.old) v → IsOrdered there.now }
     ensures guard { LeadsEach sides.now.source sides.now.target work.now Begun Begun (F.told folder.old) (F.told folder.new) result }
@@ -78,10 +83,15 @@ pub(crate) fn place_missing<F: Folder, R: Randoms>(
     ensures grows { F.faults folder.old ≤ F.faults folder.new }
     ensures random { R.faults random.old ≤ R.faults random.new }
     ensures blamed { IfErr result (Blamed (CountRose (F.faults folder.old) (F.faults folder.new)) (CountRose (R.faults random.old) (R.faults random.new))) }
-    ensures moving { IfErr result (StopsSeen (F.told folder.old) sides.now.source items.now) }
+    ensures copies { IfOk result (λ placed. CopiesAll sides.now.source sides.now.target there.now items.now (F.told folder.old) (F.told folder.new)) }
+    ensures moving { IfErr result (StopsSeen (HasCopied sides.now.source sides.now.target there.now) (F.told folder.old) sides.now.source items.now) }
     ensures written { IsOrdered there.now → WritesBy result sides.now.source sides.now.target (lacked there.now items.now) [] (R.left random.old) (R.left random.new) (F.told folder.old) (F.told folder.new) }
 {
     draws_compose();
+    prefix_comes_first();
+    walks_tell_the_tree();
+    what_is_found_stands();
+    what_stands_is_found_step_by_step();
     let mut placed = 0;
     for item in items {
         if place_missing_one(alloc, folder, work, sides, item, there, random)? {
@@ -103,6 +113,7 @@ fn place_missing_one<F: Folder, R: Randoms>(
 ) -> Result<bool, MoveFault>
     requires apart { AreSeparate sides.now.source.root sides.now.target.root work.now }
     requires item { IsItemOf (F.told folder.old) sides.now.source item.now }
+    requires allowed { AllowsLast (format_of sides.now.target.vault) item.now.path }
     requires ready { (v : View) → IsSeen (F.told folder.old) v → IsReady v work.now }
     requires there { (v : View) → IsSeen (F.told folder.old) v → IsOrdered there.now }
     ensures guard { LeadsEach sides.now.source sides.now.target work.now Begun Begun (F.told folder.old) (F.told folder.new) result }
@@ -110,10 +121,11 @@ fn place_missing_one<F: Folder, R: Randoms>(
     ensures ready { IfOk result (λ placed. (v : View) → IsSeen (F.told folder.new) v → IsReady v work.now) }
     ensures none { StandsIn item.now there.now → F.told folder.new ≡ F.told folder.old }
     ensures counted { IfOk result (λ placed. IsOrdered there.now → placed ≡ not (is_there there.now item.now)) }
+    ensures copies { IfOk result (λ placed. CopiesMissing sides.now.source sides.now.target there.now item.now (F.told folder.old) (F.told folder.new)) }
     ensures grows { F.faults folder.old ≤ F.faults folder.new }
     ensures random { R.faults random.old ≤ R.faults random.new }
     ensures blamed { IfErr result (Blamed (CountRose (F.faults folder.old) (F.faults folder.new)) (CountRose (R.faults random.old) (R.faults random.new))) }
-    ensures moving { IfErr result (StopsSeen (F.told folder.old) sides.now.source (item.now ∷ [])) }
+    ensures moving { IfErr result (StopsSeen (Enters sides.now.target item.now) (F.told folder.old) sides.now.source (item.now ∷ [])) }
     ensures written { IsOrdered there.now → WritesBy result sides.now.source sides.now.target (lacked there.now (item.now ∷ [])) [] (R.left random.old) (R.left random.new) (F.told folder.old) (F.told folder.new) }
 {
     draws_compose();
@@ -144,14 +156,16 @@ fn place<F: Folder, R: Randoms>(
 ) -> Result<(), MoveFault>
     requires apart { AreSeparate sides.now.source.root sides.now.target.root work.now }
     requires item { IsItemOf (F.told folder.old) sides.now.source item.now }
+    requires allowed { AllowsLast (format_of sides.now.target.vault) item.now.path }
     requires ready { (v : View) → IsSeen (F.told folder.old) v → IsReady v work.now }
     ensures guard { LeadsEach sides.now.source sides.now.target work.now Begun Begun (F.told folder.old) (F.told folder.new) result }
     ensures moves { MovesBeside (is_apart work.now sides.now.target.root) sides.now.target.root (F.told folder.old) (F.told folder.new) }
     ensures ready { IfOk result (λ placed. (v : View) → IsSeen (F.told folder.new) v → IsReady v work.now) }
+    ensures copies { IfOk result (λ placed. CopiesOne sides.now.source sides.now.target item.now (F.told folder.old) (F.told folder.new)) }
     ensures grows { F.faults folder.old ≤ F.faults folder.new }
     ensures random { R.faults random.old ≤ R.faults random.new }
     ensures blamed { IfErr result (Blamed (CountRose (F.faults folder.old) (F.faults folder.new)) (CountRose (R.faults random.old) (R.faults random.new))) }
-    ensures moving { IfErr result (StopsSeen (F.told folder.old) sides.now.source (item.now ∷ [])) }
+    ensures moving { IfErr result (StopsSeen (Enters sides.now.target item.now) (F.told folder.old) sides.now.source (item.now ∷ [])) }
     ensures written { WritesBy result sides.now.source sides.now.target (item.now ∷ []) [] (R.left random.old) (R.left random.new) (F.told folder.old) (F.told folder.new) }
 {
     guarded_migrations_are_seen();
@@ -175,14 +189,16 @@ fn place_content<F: Folder, R: Randoms>(
     requires file { item.now.node ≡ NodeKind.File }
     requires apart { AreSeparate sides.now.source.root sides.now.target.root work.now }
     requires item { IsItemOf (F.told folder.old) sides.now.source item.now }
+    requires allowed { AllowsLast (format_of sides.now.target.vault) item.now.path }
     requires ready { (v : View) → IsSeen (F.told folder.old) v → IsReady v work.now }
     ensures guard { LeadsEach sides.now.source sides.now.target work.now Begun Begun (F.told folder.old) (F.told folder.new) result }
     ensures moves { MovesBeside (is_apart work.now sides.now.target.root) sides.now.target.root (F.told folder.old) (F.told folder.new) }
     ensures ready { IfOk result (λ placed. (v : View) → IsSeen (F.told folder.new) v → IsReady v work.now) }
+    ensures copies { IfOk result (λ placed. CopiesOne sides.now.source sides.now.target item.now (F.told folder.old) (F.told folder.new)) }
     ensures grows { F.faults folder.old ≤ F.faults folder.new }
     ensures random { R.faults random.old ≤ R.faults random.new }
     ensures blamed { IfErr result (Blamed (CountRose (F.faults folder.old) (F.faults folder.new)) (CountRose (R.faults random.old) (R.faults random.new))) }
-    ensures moving { IfErr result (StopsSeen (F.told folder.old) sides.now.source (item.now ∷ [])) }
+    ensures moving { IfErr result (StopsSeen (Enters sides.now.target item.now) (F.told folder.old) sides.now.source (item.now ∷ [])) }
     ensures written { WritesBy result sides.now.source sides.now.target (item.now ∷ []) [] (R.left random.old) (R.left random.new) (F.told folder.old) (F.told folder.new) }
 {
     draws_compose();

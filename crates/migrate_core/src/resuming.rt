@@ -7,14 +7,16 @@ ghost use Rattle.move_journal.specs.Journal.{IsJournal, journal_text};
 ghost use Rattle.move_journal.specs.Reading.{journal_path};
 ghost use Rattle.tree_match.specs.Alone.{Finished};
 ghost use Rattle.tree_match.specs.Guard.{Migration};
+ghost use Rattle.vault_spec.specs.Vault.{format_of};
 ghost use Rattle.work_folder.specs.Entering.{Empties};
-ghost use Rattle.migrate_core.specs.Causes.{Moves, Resumes, ResumesTold, ResumesWith, StopsAt, TestsItems, TestsMatch, TestsSource, TestsTold, Unless, is_done, where_in};
+ghost use Rattle.migrate_core.specs.Causes.{Moves, Resumes, ResumesTold, ResumesWith, TestsItems, TestsMatch, TestsSource, TestsTold, Unless, is_done, where_in};
+ghost use Rattle.migrate_core.specs.Copying.{MayBegin};
 ghost use Rattle.migrate_core.specs.Faults.{Blamed};
 ghost use Rattle.migrate_core.specs.Leading.{KeepsGuarded, KeepsSettled, LeadsTold, progress_of};
 ghost use Rattle.migrate_core.specs.Moved.{done_of, Moved, MovesTold, MovesTree, Placed, lacking};
 ghost use Rattle.migrate_core.specs.Moving.{MovesOnly};
 ghost use Rattle.migrate_core.specs.Written.{MayWrite, MayWriteTold, MayWriteTree, WritesBy, lacked};
-ghost use Rattle.migrate_core.specs.Sides.{AreSeparate, AreTold, IsInUse, IsResumed, IsWalked};
+ghost use Rattle.migrate_core.specs.Sides.{AllowsEach, AreSeparate, AreTold, IsInUse, IsResumed, IsWalked};
 
 use crate::fault::MoveFault;
 use crate::finishing::go_on;
@@ -27,10 +29,11 @@ use port_model::Randoms;
 use port_model::laws::draws_compose;
 use std::alloc::Global;
 use tree_match::laws::{
-    guarded_migrations_are_seen, settling_and_entering_keep_migrations_guarded, walks_tell_the_tree,
+    guarded_migrations_are_seen, settling_and_entering_keep_migrations_guarded,
+    walks_tell_the_tree, what_is_held_opens_the_same,
 };
 use tree_match::{How, Match, Where, holds_all};
-use vault_read::laws::roots_have_one_answer;
+use vault_read::laws::{clean_vaults_are_orderly, roots_have_one_answer};
 use vault_walk::{Plan, plan_digest};
 use work_folder::Work;
 
@@ -189,6 +192,10 @@ fn resume_with<F: Folder, R: Randoms>(
     ensures written { (v : View) → IsSeen (F.told folder.old) v → MayWrite result sides.now.source sides.now.target (R.left random.old) (R.left random.new) (F.told folder.old) (F.told folder.new) }
 {
     draws_compose();
+    walks_tell_the_tree();
+    what_is_held_opens_the_same();
+    clean_vaults_are_orderly(&sides.source);
+    clean_vaults_are_orderly(&sides.target);
     let plans = walk_both(alloc, folder, sides)?;
     test_plans(alloc, folder, sides, &plans, &journal)?;
     place_rest(alloc, folder, work, sides, &plans, journal, random)
@@ -206,6 +213,7 @@ fn test_plans<F: Folder>(
     requires target { IsWalked (F.told folder.old) sides.now.target plans.now.target.items }
     ensures told { F.told folder.new ≡ F.told folder.old }
     ensures grows { F.faults folder.old ≤ F.faults folder.new }
+    ensures allowed { OnOk result (AllowsEach (format_of sides.now.target.vault) plans.now.source.items) }
     ensures blamed { IfErr result (Blamed (CountRose (F.faults folder.old) (F.faults folder.new)) ⊥) }
     ensures cause { (v : View) → IsSeen (F.told folder.old) v → Unless result (TestsItems sides.now.source sides.now.target journal.now v plans.now.source.items plans.now.target.items (λ answer. answer ≡ Ok tt) result) }
 {
@@ -281,6 +289,8 @@ fn place_rest<F: Folder, R: Randoms>(
     requires used { (v : View) → IsSeen (F.told folder.old) v → IsInUse v work.now journal }
     requires source { IsWalked (F.told folder.old) sides.now.source plans.now.source.items }
     requires target { IsWalked (F.told folder.old) sides.now.target plans.now.target.items }
+    requires allowed { AllowsEach (format_of sides.now.target.vault) plans.now.source.items }
+    requires copying { MayBegin sides.now.source sides.now.target plans.now.target.items (F.told folder.old) }
     requires source_named { journal.source ≡ sides.now.source.root }
     requires target_named { journal.target ≡ sides.now.target.root }
     ensures moved { Moved sides.now.source sides.now.target work.now (F.told folder.new) result }
@@ -290,7 +300,7 @@ fn place_rest<F: Folder, R: Randoms>(
     ensures grows { F.faults folder.old ≤ F.faults folder.new }
     ensures random { R.faults random.old ≤ R.faults random.new }
     ensures blamed { IfErr result (Blamed (CountRose (F.faults folder.old) (F.faults folder.new)) (CountRose (R.faults random.old) (R.faults random.new))) }
-    ensures cause { (v : View) → IsSeen (F.told folder.old) v → Unless result (Moves (Empties v work.now) (StopsAt sides.now.source v plans.now.source.items) result) }
+    ensures cause { (v : View) → IsSeen (F.told folder.old) v → Unless result (Moves (Empties v work.now) sides.now.source sides.now.target v plans.now.source.items result) }
     ensures written { (v : View) → IsSeen (F.told folder.old) v → WritesBy result sides.now.source sides.now.target (lacked plans.now.target.items plans.now.source.items) (journal_text (done_of journal) ∷ []) (R.left random.old) (R.left random.new) (F.told folder.old) (F.told folder.new) }
 {
     draws_compose();

@@ -6,7 +6,7 @@ ghost use Rattle.folder_spec.specs.View.{View};
 ghost use Rattle.tree_match.specs.Guard.{AreApart};
 ghost use Rattle.vault_spec.specs.Making.{Allows};
 ghost use Rattle.vault_spec.specs.Vault.{IsVault, format_of};
-ghost use Rattle.migrate_core.specs.Causes.{ForbidsLast, IsStop, RefusesBoth, RefusesLoad, RefusesWalk, RefusesWalks, TestsApart, TestsNames, TestsPair, Unless, Walks, nothing_stops};
+ghost use Rattle.migrate_core.specs.Causes.{ForbidsLast, RefusesBoth, RefusesLoad, RefusesWalk, RefusesWalks, TestsApart, TestsNames, TestsPair, Unless, Walks};
 ghost use Rattle.migrate_core.specs.Faults.{Blamed};
 ghost use Rattle.migrate_core.specs.declared.fault.MoveFault.TheVariants.{NoMemory};
 ghost use Rattle.migrate_core.specs.Sides.{AllowsEach, AllowsLast, AreSeparate, IsWalked};
@@ -110,7 +110,6 @@ pub(crate) fn walk_one<F: Folder>(
     ensures blamed { IfErr result (Blamed (CountRose (F.faults folder.old) (F.faults folder.new)) ⊥) }
     ensures passed { IfOk result (λ plan. (v : View) → IsSeen (F.told folder.old) v → Walks vault.now v (Ok plan.items)) }
     ensures cause { IfErr result (λ fault. (v : View) → IsSeen (F.told folder.old) v → RefusesWalk vault.now v fault) }
-    ensures moving { IfErr result (IsStop nothing_stops) }
 {
     Ok(walk(alloc, folder, vault)?)
 }

@@ -1,7 +1,7 @@
 pub mod Guards
 mod Along
 pub mod Kept
-mod Placing
+pub mod Placing
 mod Sounds
 mod Settling
 mod Entering

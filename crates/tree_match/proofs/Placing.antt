@@ -24,7 +24,7 @@ use Rattle.tree_match.specs.Guard.{Migration, IsSeparate, IsWhole, IsPartOf, IsB
 use Rattle.tree_match.specs.Placed.{ItemAt, path_of, placing_of, IsHeld, Places, PlaceEach, ArePlaced}
 use Rattle.vault_spec.specs.Adding.{OpensAs, OpensWith}
 use Rattle.vault_spec.specs.Making.{NewItem, NewDirectory, NewFile}
-use Rattle.vault_spec.specs.Opens.{NoItem, tree}
+use Rattle.vault_spec.specs.Opens.{NoItem, Tree, tree}
 use Rattle.vault_spec.specs.Vault.{format_of}
 use Rattle.vault_write.specs.Making.{Placing, Making, is_inside, is_staged, is_elsewhere, StagesOrPlaces}
 use Rattle.vault_write.specs.Placing.{HasVault, ShowsOne, IsMaking, making_at}
@@ -111,13 +111,16 @@ kept_part : (g : Migration) (v w : View) → OpensAs (format_of g.target.vault) 
 kept_part g v w opens part path named there =
     subst (λ o. (o ≡ g.held path) × IsWhole o) (sym (opens path)) (part path named (subst (λ o. o ≢ NoItem) (opens path) there))
 
+-- a tree that is part of another stays so where it gains an item of that
+pub part_gains : (t u m : Tree) (at : plain.Path) (item : NewItem) → opens_as item ≡ m at → ((path : plain.Path) → path ≢ at → u path ≡ t path) → u at ≡ opens_as item → IsPartOf t m → IsPartOf u m
+part_gains t u m at item held others there part path named is = elim (one_or_not path at) [
+  | inl same ↦ subst (λ p. (u p ≡ m p) × IsWhole (u p)) (sym same) (there ∙ held, subst IsWhole (sym there) (whole_item item))
+  | inr other ↦ subst (λ o. (o ≡ m path) × IsWhole o) (sym (others path other.0)) (part path named (subst (λ o. o ≢ NoItem) (others path other.0) is))
+]
+
 gained_part : (g : Migration) (x : ItemAt) (v w : View) → IsHeld g x → OpensWith (format_of g.target.vault) (under g.target.root v) (under g.target.root w) (path_of x) (opens_as x.item)
     → IsPartOf (tree_at g.target v) g.held → IsPartOf (tree_at g.target w) g.held
-gained_part g x v w held opens part path named there = elim (one_or_not path (path_of x)) [
-  | inl is ↦ subst (λ p. (tree_at g.target w p ≡ g.held p) × IsWhole (tree_at g.target w p)) (sym is)
-      (opens.there ∙ held, subst IsWhole (sym opens.there) (whole_item x.item))
-  | inr other ↦ subst (λ o. (o ≡ g.held path) × IsWhole o) (sym (opens.others path other.0)) (part path named (subst (λ o. o ≢ NoItem) (opens.others path other.0) there))
-]
+gained_part g x v w held opens = part_gains (tree_at g.target v) (tree_at g.target w) g.held (path_of x) x.item held opens.others opens.there
 
 builds : RootsAreAlike → (g : Migration) (x : ItemAt) (ending : Ending) (v w : View) → IsSeparate g → (ending ≡ Whole → IsHeld g x) → IsBuilding g v → OldOrNew g x ending v w → IsBuilding g w
 builds alike g x ending v w separate held is (inl keeps) = builds_on alike g v w separate is keeps.vault (kept_part g v w keeps.opens is.part)

@@ -13,12 +13,14 @@ use Rattle.migrate_core.specs.Sides.{AllowsEach, IsWalked}
 use Rattle.migrate_core.proofs.Leadings.{refused_nowhere}
 use Rattle.migrate_core.proofs.Movings.{moves_nowhere}
 use Rattle.migrate_core.proofs.Causing.{Next, own_passes, own_refused, refused_as, walks_pass, walks_refused}
-use Rattle.migrate_core.specs.Causes.{Answer, BeginsWith, Moves, TestsEmpty, TestsNames, Then, Unless, own, StopsAt}
+use Rattle.migrate_core.specs.Causes.{Answer, BeginsWith, Moves, TestsEmpty, TestsNames, Then, Unless, own}
 use Rattle.work_folder.specs.Entering.{EntersAs}
 use Rattle.migrate_core.specs.declared.placing.Done.{Done}
 use Rattle.vault_spec.specs.Plan.{Planned}
 use Rattle.migrate_core.proofs.Writings.{nothing_written}
 use Rattle.migrate_core.specs.Written.{WritesBy, journal_texts, lacked}
+use Rattle.migrate_core.proofs.Started.{empty_held, may_begin}
+use Rattle.migrate_core.specs.Copying.{MayBegin}
 use Rattle.migrate_core.proofs.beginning.begin_with.Goals as goal
 
 pub returns-in_err-plans-clause-guard : goal.returns-in_err-plans-clause-guard
@@ -77,7 +79,7 @@ pub returns-in_err-plans-clause-cause : goal.returns-in_err-plans-clause-cause
 returns-in_err-plans-clause-cause g c v seen =
     let from = c.args.sides.now.source in
     let to = c.args.sides.now.target in
-    let moves : List Planned → Unit {0} → Answer Done → Type 0 = λ items _. Moves (EntersAs v c.args.work.now) (StopsAt from v items) in
+    let moves : List Planned → Unit {0} → Answer Done → Type 0 = λ items _. Moves (EntersAs v c.args.work.now) from to v items in
     let names : List Planned → Unit {0} → Answer Done → Type 0 = λ items _. Then own (TestsNames (format_of to.vault) items) (moves items) in
     let next : Next (List Planned) Done = λ items there. Then own (TestsEmpty there) (names items) in
     let fault = c.in_err-plans.field-0.0 in
@@ -88,7 +90,7 @@ pub returns-in_err-test_empty-clause-cause : goal.returns-in_err-test_empty-clau
 returns-in_err-test_empty-clause-cause g c v seen =
     let from = c.args.sides.now.source in
     let to = c.args.sides.now.target in
-    let moves : List Planned → Unit {0} → Answer Done → Type 0 = λ items _. Moves (EntersAs v c.args.work.now) (StopsAt from v items) in
+    let moves : List Planned → Unit {0} → Answer Done → Type 0 = λ items _. Moves (EntersAs v c.args.work.now) from to v items in
     let names : List Planned → Unit {0} → Answer Done → Type 0 = λ items _. Then own (TestsNames (format_of to.vault) items) (moves items) in
     let next : Next (List Planned) Done = λ items there. Then own (TestsEmpty there) (names items) in
     let plans = c.in_ok-plans.plans in
@@ -102,7 +104,7 @@ pub returns-in_err-test_names-clause-cause : goal.returns-in_err-test_names-clau
 returns-in_err-test_names-clause-cause g c v seen =
     let from = c.args.sides.now.source in
     let to = c.args.sides.now.target in
-    let moves : List Planned → Unit {0} → Answer Done → Type 0 = λ items _. Moves (EntersAs v c.args.work.now) (StopsAt from v items) in
+    let moves : List Planned → Unit {0} → Answer Done → Type 0 = λ items _. Moves (EntersAs v c.args.work.now) from to v items in
     let names : List Planned → Unit {0} → Answer Done → Type 0 = λ items _. Then own (TestsNames (format_of to.vault) items) (moves items) in
     let next : Next (List Planned) Done = λ items there. Then own (TestsEmpty there) (names items) in
     let plans = c.in_ok-plans.plans in
@@ -118,7 +120,7 @@ pub returns-clause-cause : goal.returns-clause-cause
 returns-clause-cause g c v seen =
     let from = c.args.sides.now.source in
     let to = c.args.sides.now.target in
-    let moves : List Planned → Unit {0} → Answer Done → Type 0 = λ items _. Moves (EntersAs v c.args.work.now) (StopsAt from v items) in
+    let moves : List Planned → Unit {0} → Answer Done → Type 0 = λ items _. Moves (EntersAs v c.args.work.now) from to v items in
     let names : List Planned → Unit {0} → Answer Done → Type 0 = λ items _. Then own (TestsNames (format_of to.vault) items) (moves items) in
     let next : Next (List Planned) Done = λ items there. Then own (TestsEmpty there) (names items) in
     let plans = c.in_ok-plans.plans in
@@ -164,3 +166,14 @@ returns-clause-written g c =
           (subst (λ there. WritesBy c.move_all.result from to (lacked there plans.source.items) (journal_texts from.root to.root plans.source.items) left left2 (g.F.Folder.told c.walk_both.new.folder) after)
           (sym (sym c.as_slice.ensures ∙ c.in_ok-test_empty.ensures.empty)) c.move_all.ensures.written);
     })
+
+pub move_all-requires-clause-copying : goal.move_all-requires-clause-copying
+move_all-requires-clause-copying g c =
+    let from = c.args.sides.now.source in
+    let to = c.args.sides.now.target in
+    let told = g.F.Folder.told c.args.folder.now in
+    let plans = c.in_ok-plans.plans in
+    let walked_to = subst (IsWalked told to) (sym c.as_slice.ensures ∙ c.in_ok-test_empty.ensures.empty) c.in_ok-plans.ensures.target in
+    subst (MayBegin from to []) (sym c.walk_both.ensures.told)
+    (may_begin c.walks_tell_the_tree.ensures.plan from to c.clean_vaults_are_orderly.ensures c.clean_vaults_are_orderly-2.ensures plans.source.items [] told (g.met.F.Folder.sound c.args.folder.now)
+    c.in_ok-plans.ensures.source walked_to c.in_ok-plans.ensures.passed_source (empty_held c.walks_tell_the_tree.ensures.plan from to plans.source.items told))

@@ -11,15 +11,17 @@ use Rattle.work_folder.specs.Changing.{ChangesAt}
 use Rattle.work_folder.specs.Entering.{IsLeftOver, IsReady, IsWorkOrStage, EntersAs}
 use Rattle.migrate_core.proofs.Beginnings.{enters_goes, told_goes, written_goes}
 use Rattle.migrate_core.proofs.Leadings.{goes_failed, goes_on, then_known}
-use Rattle.migrate_core.proofs.Movings.{moves_on, moves_to, source_beside, walked_stays}
+use Rattle.migrate_core.proofs.Movings.{moves_on, moves_to, seen_stays, source_beside, turned_over, walked_stays}
 use Rattle.migrate_core.proofs.WorkFolders.{entered_moves, fresh_folder, ready_stays, writing_moves, written_folder, written_moves}
 use Rattle.migrate_core.specs.Leading.{LeadsTold}
 use Rattle.migrate_core.specs.Moving.{MovesOnly}
 use Rattle.migrate_core.specs.Sides.{new_journal}
 use Rattle.migrate_core.proofs.Endings.{if_ok_more}
 use Rattle.migrate_core.specs.Moved.{Moved, lacking, done_of}
-use Rattle.migrate_core.proofs.Causing.{folder_unless, moves_pass, refused_as, work_refused, stop_more}
-use Rattle.migrate_core.specs.Causes.{IsOfMoving, Moves, Unless, StopsAt, nothing_stops}
+use Rattle.migrate_core.proofs.Causing.{folder_unless, moves_pass, never_more, refused_as, work_refused}
+use Rattle.migrate_core.specs.Causes.{IsOfMoving, Moves, Unless, StopsAt}
+use Rattle.migrate_core.specs.Copying.{HasCopied, HaveOwnFolders}
+use Rattle.migrate_core.proofs.Copyings.{copied_as}
 use Rattle.migrate_core.specs.Faults.{of_folder, of_work}
 use Rattle.migrate_core.proofs.Writings.{changing_writes, in_first, journal_written, kept_by, lacked_is, none_ordered, nothing_yet, only_more, only_on, source_beside_at, texts_first, texts_then}
 use Rattle.migrate_core.specs.Written.{WritesBy, WritesOnly, journal_texts, lacked}
@@ -190,26 +192,33 @@ returns-clause-placed g c =
 pub returns-in_err-entered-clause-cause : goal.returns-in_err-entered-clause-cause
 returns-in_err-entered-clause-cause g c v seen =
     let work = c.args.work.now in
-    let stops = StopsAt c.args.sides.now.source v c.args.plan.now.items in
+    let from = c.args.sides.now.source in
+    let to = c.args.sides.now.target in
+    let items = c.args.plan.now.items in
     let why = c.in_err-entered.field-0.0 in
     let p = err_from_is_err_and c.from_residual.result c.from_residual.ensures.1 in
-    refused_as (λ answer. Unless answer (Moves (EntersAs v work) stops answer)) c.from_residual.result p.0 (of_work why) p.1 p.2
-    (work_refused (EntersAs v work) (λ _. IsOfMoving stops) why (c.in_err-entered.ensures.enters.answer v seen))
+    refused_as (λ answer. Unless answer (Moves (EntersAs v work) from to v items answer)) c.from_residual.result p.0 (of_work why) p.1 p.2
+    (work_refused (EntersAs v work) (λ _. IsOfMoving (HaveOwnFolders from to v) (StopsAt (HaveOwnFolders from to v) from v items)) why (c.in_err-entered.ensures.enters.answer v seen))
 
 pub returns-in_err-journal-clause-cause : goal.returns-in_err-journal-clause-cause
 returns-in_err-journal-clause-cause g c v seen =
     let work = c.args.work.now in
-    let stops = StopsAt c.args.sides.now.source v c.args.plan.now.items in
+    let from = c.args.sides.now.source in
+    let to = c.args.sides.now.target in
+    let items = c.args.plan.now.items in
     let fault = c.in_err-journal.field-0.0 in
     let p = err_from_is_err_and c.from_residual-in_err-journal.result c.from_residual-in_err-journal.ensures.1 in
-    refused_as (λ answer. Unless answer (Moves (EntersAs v work) stops answer)) c.from_residual-in_err-journal.result p.0 fault p.1 p.2
-    (moves_pass (EntersAs v work) stops (Err fault) (c.in_ok-entered.ensures.enters.answer v seen) (stop_more nothing_stops stops fault (λ why none. absurd none) c.in_err-journal.ensures.moving))
+    refused_as (λ answer. Unless answer (Moves (EntersAs v work) from to v items answer)) c.from_residual-in_err-journal.result p.0 fault p.1 p.2
+    (moves_pass (EntersAs v work) from to v items (Err fault) (c.in_ok-entered.ensures.enters.answer v seen)
+    (never_more (HaveOwnFolders from to v) (StopsAt (HaveOwnFolders from to v) from v items) fault c.in_err-journal.ensures.moving))
 
 pub returns-in_err-write-clause-cause : goal.returns-in_err-write-clause-cause
 returns-in_err-write-clause-cause g c v seen =
-    let stops = StopsAt c.args.sides.now.source v c.args.plan.now.items in
+    let from = c.args.sides.now.source in
+    let to = c.args.sides.now.target in
+    let items = c.args.plan.now.items in
     let p = err_from_is_err_and c.from_residual-in_err-write.result c.from_residual-in_err-write.ensures.1 in
-    refused_as (λ answer. Unless answer (Moves (EntersAs v c.args.work.now) stops answer)) c.from_residual-in_err-write.result p.0 (of_folder c.in_err-write.field-0.0) p.1 p.2 (folder_unless _ c.in_err-write.field-0.0)
+    refused_as (λ answer. Unless answer (Moves (EntersAs v c.args.work.now) from to v items answer)) c.from_residual-in_err-write.result p.0 (of_folder c.in_err-write.field-0.0) p.1 p.2 (folder_unless _ c.in_err-write.field-0.0)
 
 pub returns-clause-cause : goal.returns-clause-cause
 returns-clause-cause g c v seen =
@@ -225,8 +234,16 @@ returns-clause-cause g c v seen =
     (λ one among. source_beside_at from to.root work items one c.requires.apart c.requires.walked among)
     (moves_to region to.root told written (moves_on region to.root told entered written (entered_moves work to.root (IsWorkOrStage work) (IsLeftOver work) told entered c.requires.apart.target c.enter.ensures.enters.moments)
     (written_moves work to.root c.in_ok-journal.journal entered written c.requires.apart.target c.write.ensures.moments))) in
-    moves_pass (EntersAs v work) (StopsAt from v items) c.go_on.result (c.in_ok-entered.ensures.enters.answer v seen)
-    (seen_stops c.go_on.result from items told v seen (if_stops_before c.go_on.result from items told written kept c.go_on.ensures.moving))
+    let away = apart_from_both work from.root in
+    let source_is = seen_stays region from.root told written (g.met.F.Folder.sound c.args.folder.now) (λ rest. source_beside from.root to.root work rest c.requires.apart)
+    (moves_to region to.root told written (moves_on region to.root told entered written (entered_moves work to.root (IsWorkOrStage work) (IsLeftOver work) told entered c.requires.apart.target c.enter.ensures.enters.moments)
+    (written_moves work to.root c.in_ok-journal.journal entered written c.requires.apart.target c.write.ensures.moments))) in
+    let target_is = seen_stays away to.root told written (g.met.F.Folder.sound c.args.folder.now) (λ rest. source_beside to.root from.root work rest (turned_over from.root to.root work c.requires.apart))
+    (moves_to away from.root told written (moves_on away from.root told entered written (entered_moves work from.root (IsWorkOrStage work) (IsLeftOver work) told entered c.requires.apart.source c.enter.ensures.enters.moments)
+    (written_moves work from.root c.in_ok-journal.journal entered written c.requires.apart.source c.write.ensures.moments))) in
+    moves_pass (EntersAs v work) from to v items c.go_on.result (c.in_ok-entered.ensures.enters.answer v seen)
+    (seen_stops c.go_on.result (HaveOwnFolders from to) from items told v seen (if_stops_before c.go_on.result (HasCopied from to []) (HaveOwnFolders from to) from items told written kept
+    (λ x w is_x is_w own. copied_as from to [] x w (source_is x w is_x is_w) (target_is x w is_x is_w) (c.requires.copying x is_x own)) c.go_on.ensures.moving))
 
 pub returns-in_err-entered-clause-written : goal.returns-in_err-entered-clause-written
 returns-in_err-entered-clause-written g c =

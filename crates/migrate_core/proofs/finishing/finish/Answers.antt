@@ -14,6 +14,13 @@ use Rattle.migrate_core.specs.Moved.{done_of}
 use Rattle.migrate_core.proofs.Writings.{only_nowhere}
 use Rattle.move_journal.specs.Journal.{journal_text}
 use Rattle.migrate_core.specs.Written.{WritesOnly}
+use Rattle.std.proofs.Common.{IfErr}
+use Rattle.tree_match.specs.Trees.{IsSameOrTooLong, match_of}
+use Rattle.migrate_core.proofs.Causing.{never_more, refused_as, stop_more}
+use Rattle.migrate_core.proofs.Compared.{copied_matches, copied_within, walk_stops}
+use Rattle.migrate_core.specs.Causes.{StopsLater, nothing_stops}
+use Rattle.migrate_core.specs.Copying.{HasCopied}
+use Rattle.migrate_core.specs.Sides.{side_of}
 use Rattle.migrate_core.proofs.finishing.finish.Goals as goal
 
 pub returns-in_err-target-clause-guard : goal.returns-in_err-target-clause-guard
@@ -115,3 +122,39 @@ returns-in_err-say_done-clause-written g c = subst (λ t. WritesOnly (λ file. C
 
 pub returns-clause-written : goal.returns-clause-written
 returns-clause-written g c = subst (λ t. WritesOnly (λ file. Contains (journal_text (done_of c.args.journal) ∷ []) file) t (g.F.Folder.told c.say_done.new.folder)) (c.test_same.ensures.told ∙ c.walk_one.ensures.told) c.say_done.ensures.written
+
+pub returns-in_err-target-clause-moving : goal.returns-in_err-target-clause-moving
+returns-in_err-target-clause-moving g c =
+    let from = c.args.sides.now.source in
+    let to = c.args.sides.now.target in
+    let items = c.args.source.now.items in
+    let fault = c.in_err-target.field-0.0 in
+    let p = err_from_is_err_and c.from_residual.result c.from_residual.ensures.1 in
+    refused_as (λ answer. IfErr answer (StopsLater (HasCopied from to items) (g.F.Folder.told c.args.folder.now))) c.from_residual.result p.0 fault p.1 p.2
+    (λ v is. walk_stops to v (HasCopied from to items v) (λ h. h.copying.target.clean)
+    (λ h. copied_within c.what_stands_is_found_step_by_step.ensures.below c.what_stands_is_found_step_by_step.ensures.behind c.files_have_their_contents.ensures from to v h.copying) fault
+    (c.in_err-target.ensures.cause v is))
+
+pub returns-in_err-test_same-clause-moving : goal.returns-in_err-test_same-clause-moving
+returns-in_err-test_same-clause-moving g c =
+    let from = c.args.sides.now.source in
+    let to = c.args.sides.now.target in
+    let items = c.args.source.now.items in
+    let others = c.in_ok-target.target.items in
+    let told = g.F.Folder.told c.args.folder.now in
+    let fault = c.in_err-test_same.field-0.0 in
+    let p = err_from_is_err_and c.from_residual-in_err-test_same.result c.from_residual-in_err-test_same.ensures.1 in
+    refused_as (λ answer. IfErr answer (StopsLater (HasCopied from to items) told)) c.from_residual-in_err-test_same.result p.0 fault p.1 p.2
+    (λ v is. stop_more (IsSameOrTooLong (match_of v (side_of from items) (side_of to others))) (HasCopied from to items v) nothing_stops nothing_stops fault
+    (copied_matches c.walks_tell_the_tree.ensures.plan c.what_is_held_opens_the_same.ensures.alike from to items others told told v c.requires.walked is c.in_ok-target.ensures.walked is) (λ why none. none)
+    (c.in_err-test_same.ensures.moving v (subst (λ t. IsSeen t v) (sym c.walk_one.ensures.told) is)))
+
+pub returns-in_err-say_done-clause-moving : goal.returns-in_err-say_done-clause-moving
+returns-in_err-say_done-clause-moving g c =
+    let from = c.args.sides.now.source in
+    let to = c.args.sides.now.target in
+    let items = c.args.source.now.items in
+    let fault = c.in_err-say_done.field-0.0 in
+    let p = err_from_is_err_and c.from_residual-in_err-say_done.result c.from_residual-in_err-say_done.ensures.1 in
+    refused_as (λ answer. IfErr answer (StopsLater (HasCopied from to items) (g.F.Folder.told c.args.folder.now))) c.from_residual-in_err-say_done.result p.0 fault p.1 p.2
+    (λ v is. never_more (HasCopied from to items v) nothing_stops fault c.in_err-say_done.ensures.moving)

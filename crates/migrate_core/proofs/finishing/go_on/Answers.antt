@@ -6,19 +6,21 @@ use Rattle.folder_spec.specs.View.{View}
 use Rattle.move_journal.specs.Writing.{IsWorkFolder}
 use Rattle.tree_match.specs.Alone.{Begun, Finished}
 use Rattle.vault_write.specs.Making.{is_apart}
-use Rattle.migrate_core.proofs.Leadings.{goes_failed, goes_on, refused_nowhere}
+use Rattle.migrate_core.proofs.Leadings.{goes_failed, goes_on, refused_nowhere, seen_then}
 use Rattle.migrate_core.proofs.Movings.{moves_on, moves_to, moves_within, source_apart, walked_stays}
 use Rattle.migrate_core.proofs.WorkFolders.{beside_staged, journal_stays, placing_has, work_folder_stays}
 use Rattle.migrate_core.specs.Leading.{Goes, progress_of}
 use Rattle.migrate_core.proofs.Endings.{if_ok_more}
 use Rattle.migrate_core.specs.Moved.{Moved, StandsIn, lacking, done_of}
 use Rattle.migrate_core.specs.Moving.{MovesOnly}
-use Rattle.migrate_core.specs.Sides.{IsWalked, StandAll}
+use Rattle.migrate_core.specs.Copying.{CopiesAll, HasCopied}
+use Rattle.migrate_core.specs.Sides.{AllowsEach, IsWalked, StandAll}
+use Rattle.vault_spec.specs.Vault.{format_of}
 use Rattle.migrate_core.specs.Written.{WritesAll, WritesBy, WritesFirst, lacked}
 use Rattle.migrate_core.proofs.Writings.{by_all, by_texts, then_texts}
 use Rattle.migrate_core.proofs.Causing.{refused_as}
 use Rattle.move_journal.specs.Journal.{journal_text}
-use Rattle.migrate_core.proofs.Stopping.{none_seen}
+use Rattle.migrate_core.proofs.Stopping.{later_seen}
 use Rattle.migrate_core.specs.Causes.{StopsSeen}
 use Rattle.migrate_core.proofs.finishing.go_on.Goals as goal
 
@@ -140,9 +142,21 @@ pub returns-in_err-placed-clause-moving : goal.returns-in_err-placed-clause-movi
 returns-in_err-placed-clause-moving g c =
     let from = c.args.sides.now.source in
     let told = g.F.Folder.told c.args.folder.now in
+    let Has = HasCopied from c.args.sides.now.target c.args.there.now in
     let p = err_from_is_err_and c.from_residual.result c.from_residual.ensures.1 in
-    refused_as (λ answer. IfErr answer (StopsSeen told from c.args.source.now.items)) c.from_residual.result p.0 c.in_err-placed.field-0.0 p.1 p.2
-    (subst (λ xs. StopsSeen told from xs c.in_err-placed.field-0.0) c.as_slice-items.ensures c.in_err-placed.ensures.moving)
+    refused_as (λ answer. IfErr answer (StopsSeen Has told from c.args.source.now.items)) c.from_residual.result p.0 c.in_err-placed.field-0.0 p.1 p.2
+    (subst (λ xs. StopsSeen Has told from xs c.in_err-placed.field-0.0) c.as_slice-items.ensures c.in_err-placed.ensures.moving)
 
 pub returns-clause-moving : goal.returns-clause-moving
-returns-clause-moving g c = none_seen c.finish.result c.args.sides.now.source c.args.source.now.items (g.F.Folder.told c.args.folder.now) c.finish.ensures.moving
+returns-clause-moving g c =
+    let from = c.args.sides.now.source in
+    let to = c.args.sides.now.target in
+    let items = c.args.source.now.items in
+    let there = c.args.there.now in
+    let told = g.F.Folder.told c.args.folder.now in
+    let here = g.F.Folder.told c.place_missing.new.folder in
+    later_seen c.finish.result (HasCopied from to items) (HasCopied from to there) from items told here (subst (λ xs. CopiesAll from to there xs told here) c.as_slice-items.ensures c.in_ok-placed.ensures.copies)
+    (seen_then _ told here c.place_missing.ensures.moves) c.finish.ensures.moving
+
+pub place_missing-requires-clause-allowed : goal.place_missing-requires-clause-allowed
+place_missing-requires-clause-allowed g c = subst (λ items. AllowsEach (format_of c.args.sides.now.target.vault) items) (sym c.as_slice-items.ensures) c.requires.allowed

@@ -1,4 +1,4 @@
-use Rattle.std.proofs.Common.{Ok, sym, ap, ◌∙◌, subst, [], refl, ◌∷◌, IfErr}
+use Rattle.std.proofs.Common.{Err, Ok, sym, ap, ◌∙◌, subst, [], refl, ◌∷◌, IfErr}
 use Rattle.std.proofs.lemmas.Result.{err_from_is_err_and}
 use Rattle.content_writing.specs.Content.{Whole}
 use Rattle.tree_match.specs.Alone.{Begun}
@@ -11,8 +11,10 @@ use Rattle.migrate_core.proofs.Causing.{refused_as, put_stop}
 use Rattle.migrate_core.proofs.Writings.{directory_copy, item_made, one_begun, one_written}
 use Rattle.migrate_core.specs.Written.{MadeItem, WritesBy}
 use Rattle.migrate_core.specs.Faults.{of_put}
-use Rattle.migrate_core.proofs.Stopping.{directory_stops}
+use Rattle.migrate_core.proofs.Stopping.{directory_stops, refusal_tells}
 use Rattle.migrate_core.specs.Causes.{StopsAt, StopsSeen}
+use Rattle.migrate_core.specs.Copying.{Enters}
+use Rattle.migrate_core.proofs.Copyings.{directory_copies}
 use Rattle.migrate_core.proofs.placing.place.Goals as goal
 
 pub returns-in_ok-place_dir-in-Dir-clause-guard : goal.returns-in_ok-place_dir-in-Dir-clause-guard
@@ -99,5 +101,26 @@ returns-in_err-place_dir-in-Dir-clause-moving g c =
     let item = c.args.item.now in
     let why = c.in_err-place_dir-in-Dir.field-0.0 in
     let p = err_from_is_err_and c.from_residual.result c.from_residual.ensures.1 in
-    refused_as (λ answer. IfErr answer (StopsSeen told from (item ∷ []))) c.from_residual.result p.0 (of_put why) p.1 p.2
-    (λ v seen. put_stop (StopsAt from v (item ∷ [])) why (directory_stops from v (item ∷ []) why c.in_err-place_dir-in-Dir.ensures.fault))
+    let to = c.args.sides.now.target in
+    let told' = g.F.Folder.told c.place_dir.new.folder in
+    let left = g.R.Randoms.left c.args.random.now in
+    let left' = g.R.Randoms.left c.place_dir.new.random in
+    let made = subst (λ q. MakesDirectory to c.args.work.now q left left' told told' (Err why)) (ap (λ (x : Planned). x.path) c.item.view_is) c.in_err-place_dir-in-Dir.ensures.made in
+    refused_as (λ answer. IfErr answer (StopsSeen (Enters to item) told from (item ∷ []))) c.from_residual.result p.0 (of_put why) p.1 p.2
+    (λ v seen. put_stop (Enters to item v) (StopsAt (Enters to item v) from v (item ∷ [])) why
+    (directory_stops from to item v Whole c.requires.allowed why c.in_err-place_dir-in-Dir.ensures.fault
+    (refusal_tells to c.args.work.now item.path NewDirectory Whole made.drawn told told' why made.makes v seen)))
+
+pub returns-in_ok-place_dir-in-Dir-clause-copies : goal.returns-in_ok-place_dir-in-Dir-clause-copies
+returns-in_ok-place_dir-in-Dir-clause-copies g c =
+    let from = c.args.sides.now.source in
+    let to = c.args.sides.now.target in
+    let work = c.args.work.now in
+    let told = g.F.Folder.told c.args.folder.now in
+    let told' = g.F.Folder.told c.place_dir.new.folder in
+    let left = g.R.Randoms.left c.args.random.now in
+    let left' = g.R.Randoms.left c.place_dir.new.random in
+    let made = subst (λ q. MakesDirectory to work q left left' told told' (Ok tt)) (ap (λ (x : Planned). x.path) c.item.view_is) c.in_ok-place_dir-in-Dir.ensures.made in
+    directory_copies from to work c.args.item.now told told' c.requires.apart (g.met.F.Folder.sound c.args.folder.now)
+    (made_moves to work c.args.item.now.path NewDirectory Whole made.drawn told told' (Ok tt) made.makes c.requires.apart.target) c.requires.item c.walks_tell_the_tree.ensures.directory
+    (sym (ap (λ (x : Planned). x.node) c.item.view_is) ∙ c.in-Dir.is) left left' made

@@ -7,7 +7,7 @@ use Rattle.tree_match.specs.Alone.{Begun}
 use Rattle.vault_spec.specs.Making.{NewFile}
 use Rattle.vault_spec.specs.Plan.{Planned}
 use Rattle.vault_spec.specs.Vault.{format_of}
-use Rattle.vault_write.specs.Calls.{New, MakesFile}
+use Rattle.vault_write.specs.Calls.{New, MakesAt, MakesFile}
 use Rattle.vault_write.specs.Making.{is_apart}
 use Rattle.migrate_core.proofs.Blaming.{blamed_file}
 use Rattle.migrate_core.proofs.Leadings.{goes_failed}
@@ -18,9 +18,11 @@ use Rattle.migrate_core.proofs.Writings.{file_copy, item_made, nothing_yet, one_
 use Rattle.migrate_core.specs.Written.{MadeItem, WritesBy}
 use Rattle.migrate_core.proofs.Causing.{refused_as, put_stop}
 use Rattle.migrate_core.specs.Causes.{StopsAt, StopsSeen}
-use Rattle.migrate_core.proofs.Stopping.{ending_told, file_stops}
+use Rattle.migrate_core.proofs.Stopping.{file_stops, refusal_tells}
 use Rattle.migrate_core.specs.declared.fault.MoveFault.TheVariants.{NoMemory}
 use Rattle.migrate_core.specs.Faults.{of_put}
+use Rattle.migrate_core.specs.Copying.{Enters}
+use Rattle.migrate_core.proofs.Copyings.{file_copies}
 use Rattle.migrate_core.proofs.placing.place_content.Goals as goal
 
 pub returns-in_err-reader-clause-moves : goal.returns-in_err-reader-clause-moves
@@ -156,7 +158,7 @@ returns-clause-written g c =
 pub returns-in_err-reader-clause-moving : goal.returns-in_err-reader-clause-moving
 returns-in_err-reader-clause-moving g c =
     let p = err_from_is_err_and c.from_residual.result c.from_residual.ensures.1 in
-    refused_as (λ answer. IfErr answer (StopsSeen (g.F.Folder.told c.args.folder.now) c.args.sides.now.source (c.args.item.now ∷ []))) c.from_residual.result p.0 NoMemory p.1 p.2 (λ v seen. tt)
+    refused_as (λ answer. IfErr answer (StopsSeen (Enters c.args.sides.now.target c.args.item.now) (g.F.Folder.told c.args.folder.now) c.args.sides.now.source (c.args.item.now ∷ []))) c.from_residual.result p.0 NoMemory p.1 p.2 (λ v seen. tt)
 
 pub returns-in_err-place_file-clause-moving : goal.returns-in_err-place_file-clause-moving
 returns-in_err-place_file-clause-moving g c =
@@ -173,8 +175,27 @@ returns-in_err-place_file-clause-moving g c =
     let w = made.writing in
     let why = c.in_err-place_file.field-0.0 in
     let p = err_from_is_err_and c.from_residual-in_err-place_file.result c.from_residual-in_err-place_file.ensures.1 in
-    refused_as (λ answer. IfErr answer (StopsSeen told from (item ∷ []))) c.from_residual-in_err-place_file.result p.0 (of_put why) p.1 p.2
-    (λ v seen. put_stop (StopsAt from v (item ∷ [])) why
-    (file_stops c.files_fit_as_contents.ensures from item told w.content w.ending why c.requires.file (λ is. omega (arith, e.source.1 (ap Err is))) c.requires.item
+    let makes = subst (λ q. MakesAt New to c.args.work.now q (NewFile w.content) w.ending w.drawn told told' (Err why)) (ap (λ (x : Planned). x.path) c.item.view_is) made.makes in
+    refused_as (λ answer. IfErr answer (StopsSeen (Enters to item) told from (item ∷ []))) c.from_residual-in_err-place_file.result p.0 (of_put why) p.1 p.2
+    (λ v seen. put_stop (Enters to item v) (StopsAt (Enters to item v) from v (item ∷ [])) why
+    (file_stops c.files_fit_as_contents.ensures from to item told w.content w.ending why c.requires.file (λ is. omega (arith, e.source.1 (ap Err is))) c.requires.allowed e.fault c.requires.item
     (λ a is coming comes. made.takes.told coming (ap (λ t. still_coming (path_of content) t (coming_of content)) is ∙ content_coming from item content gives a ∙ comes))
-    (ending_told to c.args.work.now c.item.inside.path (NewFile w.content) w.ending w.drawn told told' why made.makes) v seen))
+    (refusal_tells to c.args.work.now item.path (NewFile w.content) w.ending w.drawn told told' why makes) v seen))
+
+pub returns-clause-copies : goal.returns-clause-copies
+returns-clause-copies g c =
+    let from = c.args.sides.now.source in
+    let to = c.args.sides.now.target in
+    let work = c.args.work.now in
+    let told = g.F.Folder.told c.args.folder.now in
+    let told' = g.F.Folder.told c.place_file.new.folder in
+    let item = c.args.item.now in
+    let content = c.new-content.result in
+    let gives = content_is from item c.in_ok-reader.reader content
+    (c.in_ok-reader.ensures.reader ∙ ap (λ (x : Planned). record { at = x.at; decoding = started (format_of from.vault).content }) c.item.view_is) c.new-content.ensures.reads c.new-content.ensures.coming in
+    let made = c.in_ok-place_file.ensures.made in
+    let w = made.writing in
+    let makes = subst (λ q. MakesAt New to work q (NewFile w.content) w.ending w.drawn told told' (Ok tt)) (ap (λ (x : Planned). x.path) c.item.view_is) made.makes in
+    file_copies from to work item told told' c.requires.apart (g.met.F.Folder.sound c.args.folder.now)
+    (made_moves to work item.path (NewFile w.content) w.ending w.drawn told told' (Ok tt) makes c.requires.apart.target) c.requires.item c.walks_tell_the_tree.ensures.file c.files_fit_as_contents.ensures c.requires.file w.content w.drawn w.ending
+    (λ a is coming comes. made.takes.told coming (ap (λ t. still_coming (path_of content) t (coming_of content)) is ∙ content_coming from item content gives a ∙ comes)) makes

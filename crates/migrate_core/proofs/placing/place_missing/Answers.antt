@@ -6,13 +6,18 @@ use Rattle.std.proofs.lemmas.Result.{err_from_is_err_and}
 use Rattle.tree_match.specs.Alone.{Begun}
 use Rattle.vault_write.specs.Making.{is_apart}
 use Rattle.migrate_core.proofs.Blaming.{blamed_since}
-use Rattle.migrate_core.proofs.Leadings.{goes_failed, goes_on, guards_on, leads_on, seen_before, still_guards, still_leads}
+use Rattle.migrate_core.proofs.Leadings.{goes_failed, goes_on, guards_on, leads_on, one_view, seen_before, still_guards, still_leads}
 use Rattle.migrate_core.proofs.Movings.{moves_nowhere, moves_on, moves_to, source_apart, walked_stays}
 use Rattle.migrate_core.specs.Written.{WritesAll, WritesBy, WritesFirst, lacked}
 use Rattle.migrate_core.proofs.Writings.{all_on, first_of_more, first_on, kept_by, lacked_is, lacked_next, lacked_split, next_among, only_nowhere, source_place, texts_alone}
 use Rattle.migrate_core.proofs.Causing.{refused_as}
 use Rattle.migrate_core.proofs.Stopping.{stops_before}
 use Rattle.migrate_core.specs.Causes.{StopsSeen}
+use Rattle.migrate_core.proofs.Copyings.{all_copied, none_copied, one_copied, there_copied}
+use Rattle.migrate_core.proofs.Entered.{next_enters}
+use Rattle.migrate_core.proofs.Planned.{walk_of}
+use Rattle.migrate_core.specs.Copying.{Enters, HasCopied}
+use Rattle.migrate_core.specs.Sides.{side_of}
 use Rattle.migrate_core.proofs.placing.place_missing.Goals as goal
 use Rattle.migrate_core.proofs.placing.place_missing.Goals.{then-branch, else-branch}
 
@@ -29,6 +34,7 @@ loop-item-init g c =
       counted = λ ordered. refl;
       written = λ ordered. texts_alone c.args.sides.now.source c.args.sides.now.target [] [] (g.R.Randoms.left c.args.random.now) (g.R.Randoms.left c.args.random.now) told told
           (c.draws_compose.ensures.none (g.R.Randoms.left c.args.random.now)) (only_nowhere (λ file. Contains [] file) told told refl);
+      copied = λ v w is_v is_w h. none_copied c.args.sides.now.source c.args.sides.now.target c.args.there.now v w (one_view told v w is_v is_w) h;
       none = λ all. refl;
     }
 
@@ -142,6 +148,11 @@ loop-item-preserved g c =
           subst (λ xs. WritesAll from to xs [] left left2 told told') (lacked_next there items k item c.loop-item-test.true c.item-item.is)
           (all_on c.draws_compose.ensures.composed from to (lacked there (take k items)) (lacked there (item ∷ [])) [] [] left left1 left2 told here told' kept
           (i.written ordered) (c.in_ok-place_missing_one.ensures.written ordered));
+      copied = λ v w is_v is_w h.
+          let mid = seen_before _ here told' c.place_missing_one.ensures.moves w is_w in
+          let before = i.copied v mid.0 is_v mid.1 h in
+          one_copied from to there items k item mid.0 w c.loop-item-test.true c.item-item.is before
+          (c.in_ok-place_missing_one.ensures.copies mid.0 w mid.1 is_w (there_copied from to there (take k items) mid.0 before));
       none = λ all. c.place_missing_one.ensures.none (all c.item-item.result (c.loop-item.item-index, c.loop-item-test.true, sym c.item-item.is)) ∙ i.none all;
     }
 
@@ -194,5 +205,23 @@ returns-in_err-place_missing_one-clause-moving g c =
     (λ one among. source_place from to.root work items one c.requires.apart c.requires.walked (next_among items k item c.loop-item-test.true c.item-item.is one among))
     (moves_to (is_apart work to.root) to.root told here c.loop-item.invariant.moves) in
     let p = err_from_is_err_and c.from_residual.result c.from_residual.ensures.1 in
-    refused_as (λ answer. IfErr answer (StopsSeen told from items)) c.from_residual.result p.0 fault p.1 p.2
-    (stops_before from (item ∷ []) items told here fault kept (next_among items k item c.loop-item-test.true c.item-item.is) c.in_err-place_missing_one.ensures.moving)
+    let walked = walked_stays (is_apart work to.root) from items told here (λ rest. source_apart from.root to.root work rest c.requires.apart) (g.met.F.Folder.sound c.args.folder.now)
+    (moves_to (is_apart work to.root) to.root told here c.loop-item.invariant.moves) c.requires.walked in
+    refused_as (λ answer. IfErr answer (StopsSeen (HasCopied from to c.args.there.now) told from items)) c.from_residual.result p.0 fault p.1 p.2
+    (stops_before (Enters to item) (HasCopied from to c.args.there.now) from (item ∷ []) items told here fault kept (next_among items k item c.loop-item-test.true c.item-item.is)
+    (λ v w is_v is_w h.
+    let copied = c.loop-item.invariant.copied v w is_v is_w h in
+    next_enters c.what_stands_is_found_step_by_step.ensures.below c.what_is_found_stands.ensures.enters c.prefix_comes_first.ensures.child from to c.args.there.now items k item w
+    (c.walks_tell_the_tree.ensures.plan w (side_of from items) (walk_of from items here w walked is_w copied.copying.source.orderly)) (walked.ordered w is_w) c.loop-item-test.true c.item-item.is copied)
+    c.in_err-place_missing_one.ensures.moving)
+
+pub place_missing_one-requires-clause-allowed : goal.place_missing_one-requires-clause-allowed
+place_missing_one-requires-clause-allowed g c = c.requires.allowed c.item-item.result (c.loop-item.item-index, c.loop-item-test.true, sym c.item-item.is)
+
+pub returns-clause-copies : goal.returns-clause-copies
+returns-clause-copies g c v w is_v is_w h =
+    let from = c.args.sides.now.source in
+    let to = c.args.sides.now.target in
+    let there = c.args.there.now in
+    all_copied from to there c.args.items.now w
+    (subst (λ xs. HasCopied from to (there ++ xs) w) (take_all c.loop-item.item-index c.args.items.now c.loop-item-test.false) (c.loop-item.invariant.copied v w is_v is_w h))

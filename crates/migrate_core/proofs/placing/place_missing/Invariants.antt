@@ -1,10 +1,11 @@
-use Rattle.std.proofs.Common.{◌≡◌, ◌≤◌, take, []}
+use Rattle.std.proofs.Common.{◌≡◌, ◌≤◌, ◌++◌, take, []}
 use Rattle.folder_spec.specs.Seen.{IsSeen}
 use Rattle.folder_spec.specs.View.{View}
 use Rattle.tree_match.specs.Alone.{Begun}
 use Rattle.vault_walk.specs.Survey.{IsOrdered}
 use Rattle.vault_write.specs.Making.{is_apart}
 use Rattle.work_folder.specs.Entering.{IsReady}
+use Rattle.migrate_core.specs.Copying.{CopiesAll}
 use Rattle.migrate_core.specs.Leading.{HasLed}
 use Rattle.migrate_core.specs.Moved.{lacking}
 use Rattle.migrate_core.specs.Moving.{MovesBeside}
@@ -23,5 +24,6 @@ invariant-loop-item g l = record {
   counted : IsOrdered l.there → l.placed ≡ lacking l.there (take l.item-index l.items);
   written : IsOrdered l.there → WritesAll l.sides.source l.sides.target (lacked l.there (take l.item-index l.items)) [] (g.R.Randoms.left l.initial.random) (g.R.Randoms.left l.random)
       (g.F.Folder.told l.initial.folder) (g.F.Folder.told l.folder);
+  copied : CopiesAll l.sides.source l.sides.target l.there (l.there ++ take l.item-index l.items) (g.F.Folder.told l.initial.folder) (g.F.Folder.told l.folder);
   none : StandAll l.items l.there → g.F.Folder.told l.folder ≡ g.F.Folder.told l.initial.folder;
 }

@@ -2,15 +2,17 @@ use Rattle.std.proofs.Common.{refl, sym, ◌∙◌, Contains, [], cond, not, sub
 use Rattle.folder_spec.specs.Seen.{seen}
 use Rattle.tree_match.specs.Alone.{Begun}
 use Rattle.vault_write.specs.Making.{is_apart}
-use Rattle.migrate_core.proofs.Leadings.{nothing_told, still_guards, still_leads}
+use Rattle.migrate_core.proofs.Leadings.{nothing_told, one_view, still_guards, still_leads}
 use Rattle.migrate_core.proofs.Movings.{moves_nowhere}
 use Rattle.migrate_core.proofs.Planned.{seen_of}
-use Rattle.migrate_core.proofs.Searched.{there_where}
+use Rattle.migrate_core.proofs.Searched.{there_by, there_where}
 use Rattle.migrate_core.proofs.Writings.{only_nowhere, texts_alone}
 use Rattle.migrate_core.proofs.Causing.{refused_as}
 use Rattle.std.proofs.lemmas.Result.{err_from_is_err_and}
 use Rattle.migrate_core.specs.Written.{WritesAll, WritesBy, WritesFirst, lacked}
 use Rattle.migrate_core.specs.Causes.{StopsSeen}
+use Rattle.migrate_core.specs.Copying.{Enters}
+use Rattle.migrate_core.proofs.Copyings.{stands_copied}
 use Rattle.migrate_core.proofs.placing.place_missing_one.Goals as goal
 
 pub returns-in_err-place-clause-none : goal.returns-in_err-place-clause-none
@@ -72,4 +74,14 @@ returns-then-stands-clause-written g c ordered =
 pub returns-in_err-place-clause-moving : goal.returns-in_err-place-clause-moving
 returns-in_err-place-clause-moving g c =
     let p = err_from_is_err_and c.from_residual.result c.from_residual.ensures.1 in
-    refused_as (λ answer. IfErr answer (StopsSeen (g.F.Folder.told c.args.folder.now) c.args.sides.now.source (c.args.item.now ∷ []))) c.from_residual.result p.0 c.in_err-place.field-0.0 p.1 p.2 c.in_err-place.ensures.moving
+    refused_as (λ answer. IfErr answer (StopsSeen (Enters c.args.sides.now.target c.args.item.now) (g.F.Folder.told c.args.folder.now) c.args.sides.now.source (c.args.item.now ∷ []))) c.from_residual.result p.0 c.in_err-place.field-0.0 p.1 p.2 c.in_err-place.ensures.moving
+
+pub returns-then-stands-clause-copies : goal.returns-then-stands-clause-copies
+returns-then-stands-clause-copies g c v w is_v is_w h =
+    let there = c.args.there.now in
+    let item = c.args.item.now in
+    stands_copied c.args.sides.now.source c.args.sides.now.target there item v w (one_view (g.F.Folder.told c.args.folder.now) v w is_v is_w)
+    (there_by item.path there (sym (c.stands.ensures (c.requires.there v is_v)) ∙ c.if-stands.true)) h
+
+pub returns-clause-copies : goal.returns-clause-copies
+returns-clause-copies g c v w is_v is_w h = c.in_ok-place.ensures.copies v w is_v is_w h.copying

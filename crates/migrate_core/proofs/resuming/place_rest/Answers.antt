@@ -1,4 +1,4 @@
-use Rattle.std.proofs.Common.{◌≡◌, ◌∙◌, Result, Ok, sym, ap, arith, subst, Contains, [], refl, ◌∷◌}
+use Rattle.std.proofs.Common.{◌≡◌, ◌∙◌, Result, Ok, sym, ap, arith, subst, Contains, [], refl, ◌∷◌, IfErr}
 use Rattle.std.proofs.lemmas.Result.{err_from_is_err_and}
 use Rattle.folder_spec.specs.Region.{apart_from, apart_from_both}
 use Rattle.tree_match.specs.Alone.{Finished}
@@ -10,7 +10,7 @@ use Rattle.migrate_core.specs.Leading.{progress_of}
 use Rattle.migrate_core.specs.Moving.{MovesOnly}
 use Rattle.migrate_core.specs.Sides.{AreSeparate, StandAll}
 use Rattle.migrate_core.proofs.Leadings.{alone_goes, goes_failed, then_known}
-use Rattle.migrate_core.proofs.Movings.{moves_on, moves_to, source_beside, walked_stays}
+use Rattle.migrate_core.proofs.Movings.{moves_on, moves_to, seen_stays, source_beside, turned_over, walked_stays}
 use Rattle.migrate_core.proofs.Restaged.{rest_goes, stage_alone, stage_moves, stage_stays, still_known}
 use Rattle.migrate_core.proofs.WorkFolders.{staging_has, work_folder_stays}
 use Rattle.folder_spec.specs.Seen.{IsSeen}
@@ -19,7 +19,9 @@ use Rattle.migrate_core.proofs.WorkFolders.{journal_stays}
 use Rattle.migrate_core.proofs.Endings.{if_ok_more}
 use Rattle.migrate_core.specs.Moved.{Moved, StandsIn, lacking, done_of}
 use Rattle.migrate_core.proofs.Causing.{moves_pass, refused_as, work_refused}
-use Rattle.migrate_core.specs.Causes.{IsOfMoving, Moves, Unless, StopsAt}
+use Rattle.migrate_core.specs.Causes.{IsOfMoving, Moves, Unless, StopsAt, StopsSeen}
+use Rattle.migrate_core.specs.Copying.{HasCopied, HaveOwnFolders}
+use Rattle.migrate_core.proofs.Copyings.{copied_as}
 use Rattle.migrate_core.specs.Faults.{of_work}
 use Rattle.migrate_core.proofs.Writings.{changing_writes, kept_by, lacked_is, nothing_yet, only_more, source_beside_at, texts_then}
 use Rattle.migrate_core.specs.Written.{WritesBy, lacked}
@@ -137,11 +139,13 @@ returns-clause-placed g c =
 
 pub returns-in_err-again-clause-cause : goal.returns-in_err-again-clause-cause
 returns-in_err-again-clause-cause g c v seen =
-    let stops = StopsAt c.args.sides.now.source v c.args.plans.now.source.items in
+    let from = c.args.sides.now.source in
+    let to = c.args.sides.now.target in
+    let items = c.args.plans.now.source.items in
     let why = c.in_err-again.field-0.0 in
     let p = err_from_is_err_and c.from_residual.result c.from_residual.ensures.1 in
-    refused_as (λ answer. Unless answer (Moves (Empties v c.args.work.now) stops answer)) c.from_residual.result p.0 (of_work why) p.1 p.2
-    (work_refused (Empties v c.args.work.now) (λ _. IsOfMoving stops) why (c.in_err-again.ensures.restages.answer v seen))
+    refused_as (λ answer. Unless answer (Moves (Empties v c.args.work.now) from to v items answer)) c.from_residual.result p.0 (of_work why) p.1 p.2
+    (work_refused (Empties v c.args.work.now) (λ _. IsOfMoving (HaveOwnFolders from to v) (StopsAt (HaveOwnFolders from to v) from v items)) why (c.in_err-again.ensures.restages.answer v seen))
 
 pub returns-clause-cause : goal.returns-clause-cause
 returns-clause-cause g c v seen =
@@ -155,8 +159,16 @@ returns-clause-cause g c v seen =
     let kept = kept_by region from.root items told ready (g.met.F.Folder.sound c.args.folder.now)
     (λ one among. source_beside_at from to.root work items one c.requires.apart c.requires.source among)
     (moves_to region to.root told ready (stage_moves work to.root told ready c.requires.apart.target c.again.ensures.restages.moments)) in
-    moves_pass (Empties v work) (StopsAt from v items) c.go_on.result (c.in_ok-again.ensures.restages.answer v seen)
-    (seen_stops c.go_on.result from items told v seen (if_stops_before c.go_on.result from items told ready kept c.go_on.ensures.moving))
+    let there = c.args.plans.now.target.items in
+    let away = apart_from_both work from.root in
+    let source_is = seen_stays region from.root told ready (g.met.F.Folder.sound c.args.folder.now) (λ rest. source_beside from.root to.root work rest c.requires.apart)
+    (moves_to region to.root told ready (stage_moves work to.root told ready c.requires.apart.target c.again.ensures.restages.moments)) in
+    let target_is = seen_stays away to.root told ready (g.met.F.Folder.sound c.args.folder.now) (λ rest. source_beside to.root from.root work rest (turned_over from.root to.root work c.requires.apart))
+    (moves_to away from.root told ready (stage_moves work from.root told ready c.requires.apart.source c.again.ensures.restages.moments)) in
+    moves_pass (Empties v work) from to v items c.go_on.result (c.in_ok-again.ensures.restages.answer v seen)
+    (seen_stops c.go_on.result (HaveOwnFolders from to) from items told v seen (if_stops_before c.go_on.result (HasCopied from to there) (HaveOwnFolders from to) from items told ready kept
+    (λ x w is_x is_w own. copied_as from to there x w (source_is x w is_x is_w) (target_is x w is_x is_w) (c.requires.copying x is_x own))
+    (subst (λ xs. IfErr c.go_on.result (StopsSeen (HasCopied from to xs) ready from items)) c.as_slice-there.ensures c.go_on.ensures.moving)))
 
 pub returns-in_err-again-clause-written : goal.returns-in_err-again-clause-written
 returns-in_err-again-clause-written g c v seen =

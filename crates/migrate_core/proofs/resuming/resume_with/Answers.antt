@@ -12,13 +12,15 @@ use Rattle.migrate_core.specs.Sides.{IsWalked}
 use Rattle.migrate_core.proofs.Leadings.{refused_nowhere}
 use Rattle.migrate_core.proofs.Movings.{moves_nowhere}
 use Rattle.migrate_core.proofs.Causing.{Next, items_pass, items_refused, refused_as, walks_pass, walks_refused}
-use Rattle.migrate_core.specs.Causes.{Moves, ResumesWith, TestsItems, Unless, StopsAt}
+use Rattle.migrate_core.specs.Causes.{Moves, ResumesWith, TestsItems, Unless}
 use Rattle.work_folder.specs.Entering.{Empties}
 use Rattle.vault_spec.specs.Plan.{Planned}
 use Rattle.migrate_core.specs.declared.placing.Done.{Done}
 use Rattle.migrate_core.proofs.Writings.{by_texts, done_text, items_told, nothing_written}
 use Rattle.migrate_core.specs.Written.{WritesBy, journal_texts, lacked}
 use Rattle.move_journal.specs.Journal.{journal_text}
+use Rattle.migrate_core.proofs.Started.{matched_held, may_begin}
+use Rattle.migrate_core.specs.Copying.{MayBegin}
 use Rattle.migrate_core.proofs.resuming.resume_with.Goals as goal
 
 pub returns-in_err-plans-clause-guard : goal.returns-in_err-plans-clause-guard
@@ -80,7 +82,7 @@ returns-in_err-plans-clause-cause g c v seen =
     let to = c.args.sides.now.target in
     let work = c.args.work.now in
     let journal = c.args.journal in
-    let next : Next (List Planned) Done = λ items there. TestsItems from to journal v items there (Moves (Empties v work) (StopsAt from v items)) in
+    let next : Next (List Planned) Done = λ items there. TestsItems from to journal v items there (Moves (Empties v work) from to v items) in
     let fault = c.in_err-plans.field-0.0 in
     let p = err_from_is_err_and c.from_residual.result c.from_residual.ensures.1 in
     refused_as (λ answer. Unless answer (ResumesWith from to work journal v answer)) c.from_residual.result p.0 fault p.1 p.2 (walks_refused from to v next fault (c.in_err-plans.ensures.cause v seen))
@@ -91,7 +93,7 @@ returns-in_err-test_plans-clause-cause g c v seen =
     let to = c.args.sides.now.target in
     let work = c.args.work.now in
     let journal = c.args.journal in
-    let next : Next (List Planned) Done = λ items there. TestsItems from to journal v items there (Moves (Empties v work) (StopsAt from v items)) in
+    let next : Next (List Planned) Done = λ items there. TestsItems from to journal v items there (Moves (Empties v work) from to v items) in
     let plans = c.in_ok-plans.plans in
     let items = plans.source.items in
     let there = plans.target.items in
@@ -99,7 +101,7 @@ returns-in_err-test_plans-clause-cause g c v seen =
     let p = err_from_is_err_and c.from_residual-in_err-test_plans.result c.from_residual-in_err-test_plans.ensures.1 in
     refused_as (λ answer. Unless answer (ResumesWith from to work journal v answer)) c.from_residual-in_err-test_plans.result p.0 fault p.1 p.2
     (walks_pass from to v next (Err fault) items there (c.in_ok-plans.ensures.passed_source v seen) (c.in_ok-plans.ensures.passed_target v seen)
-    (items_refused from to journal v items there (Moves (Empties v work) (StopsAt from v items)) fault (c.in_err-test_plans.ensures.cause v (subst (λ t. IsSeen t v) (sym c.walk_both.ensures.told) seen))))
+    (items_refused from to journal v items there (Moves (Empties v work) from to v items) fault (c.in_err-test_plans.ensures.cause v (subst (λ t. IsSeen t v) (sym c.walk_both.ensures.told) seen))))
 
 pub returns-clause-cause : goal.returns-clause-cause
 returns-clause-cause g c v seen =
@@ -107,14 +109,14 @@ returns-clause-cause g c v seen =
     let to = c.args.sides.now.target in
     let work = c.args.work.now in
     let journal = c.args.journal in
-    let next : Next (List Planned) Done = λ items there. TestsItems from to journal v items there (Moves (Empties v work) (StopsAt from v items)) in
+    let next : Next (List Planned) Done = λ items there. TestsItems from to journal v items there (Moves (Empties v work) from to v items) in
     let plans = c.in_ok-plans.plans in
     let items = plans.source.items in
     let there = plans.target.items in
     let answer = c.place_rest.result in
     let once = subst (λ t. IsSeen t v) (sym c.walk_both.ensures.told) seen in
     walks_pass from to v next answer items there (c.in_ok-plans.ensures.passed_source v seen) (c.in_ok-plans.ensures.passed_target v seen)
-    (items_pass from to journal v items there (Moves (Empties v work) (StopsAt from v items)) answer (c.in_ok-test_plans.ensures.cause v once)
+    (items_pass from to journal v items there (Moves (Empties v work) from to v items) answer (c.in_ok-test_plans.ensures.cause v once)
     (c.place_rest.ensures.cause v (subst (λ t. IsSeen t v) (sym c.test_plans.ensures.told) once)))
 
 pub returns-in_err-plans-clause-written : goal.returns-in_err-plans-clause-written
@@ -154,3 +156,15 @@ returns-clause-written g c v seen =
           (subst (λ t. WritesBy c.place_rest.result from to (lacked there items) (journal_text (done_of journal) ∷ []) left left2 t after) same
           (c.place_rest.ensures.written v (subst (λ t. IsSeen t v) (sym same) seen)));
     })
+
+pub place_rest-requires-clause-copying : goal.place_rest-requires-clause-copying
+place_rest-requires-clause-copying g c =
+    let from = c.args.sides.now.source in
+    let to = c.args.sides.now.target in
+    let told = g.F.Folder.told c.args.folder.now in
+    let plans = c.in_ok-plans.plans in
+    subst (MayBegin from to plans.target.items) (sym (c.test_plans.ensures.told ∙ c.walk_both.ensures.told))
+    (may_begin c.walks_tell_the_tree.ensures.plan from to c.clean_vaults_are_orderly.ensures c.clean_vaults_are_orderly-2.ensures plans.source.items plans.target.items told (g.met.F.Folder.sound c.args.folder.now)
+    c.in_ok-plans.ensures.source c.in_ok-plans.ensures.target c.in_ok-plans.ensures.passed_source
+    (matched_held c.what_is_held_opens_the_same.ensures.held from to c.args.journal plans.source.items plans.target.items told
+    (λ v is. c.in_ok-test_plans.ensures.cause v (subst (λ t. IsSeen t v) (sym c.walk_both.ensures.told) is))))

@@ -3,6 +3,8 @@ use Rattle.migrate_core.proofs.Causing.{Passed, own_passes, own_refused, refused
 use Rattle.migrate_core.specs.Causes.{TestsMatch, TestsNames, TestsTold, Then, Unless, own}
 use Rattle.std.proofs.lemmas.Result.{err_from_is_err_and}
 use Rattle.std.proofs.Common.{Err, Ok, subst}
+use Rattle.migrate_core.proofs.Leadings.{on_ok}
+use Rattle.migrate_core.specs.Sides.{AllowsEach}
 use Rattle.migrate_core.proofs.resuming.test_plans.Goals as goal
 
 pub returns-in_err-test_changed-clause-cause : goal.returns-in_err-test_changed-clause-cause
@@ -51,3 +53,8 @@ returns-clause-cause g c v seen =
     let answer = c.test_held.result in
     own_passes told rest answer tt c.in_ok-test_changed.ensures.cause
     (own_passes names matches answer tt (subst (λ xs. Unless {X = Unit {0}} (Ok tt) (TestsNames (format_of to.vault) xs (Ok tt))) c.as_slice.ensures c.in_ok-test_names.ensures.cause) (c.test_held.ensures.cause v seen))
+
+pub returns-clause-allowed : goal.returns-clause-allowed
+returns-clause-allowed g c =
+    on_ok (AllowsEach (format_of c.args.sides.now.target.vault) c.args.plans.now.source.items) c.test_held.result
+    (subst (λ items. AllowsEach (format_of c.args.sides.now.target.vault) items) c.as_slice.ensures c.in_ok-test_names.ensures.allowed)

@@ -1,5 +1,5 @@
 use Rattle.std.proofs.lemmas.Result.{err_from_is_err_and}
-use Rattle.migrate_core.proofs.Causing.{walk_moving, walk_refused}
+use Rattle.migrate_core.proofs.Causing.{walk_refused}
 use Rattle.std.proofs.Common.{Err, ap}
 use Rattle.migrate_core.proofs.sides.walk_one.Goals as goal
 
@@ -22,8 +22,3 @@ returns-in_err-walk-clause-cause g c =
       depth = λ is. e.depth (ap Err is) v seen;
       limits_first = λ finding is. e.limits_first finding (ap Err is) v seen;
     }))
-
-pub returns-in_err-walk-clause-moving : goal.returns-in_err-walk-clause-moving
-returns-in_err-walk-clause-moving g c =
-    let p = err_from_is_err_and c.from_residual.result c.from_residual.ensures.1 in
-    rw (p.1, p.2) (walk_moving c.in_err-walk.field-0.0)

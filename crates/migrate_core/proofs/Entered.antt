@@ -1,0 +1,120 @@
+-- That the directory which is to have an item of the source is entered in the target.
+use Rattle.std.proofs.Common.{◌≡◌, ◌≢◌, ◌<◌, ◌↔◌, ℕ, zero, suc, List, [], ◌∷◌, ◌++◌, length, take, get_or, Contains, Option, Some, None, Ok, Err, refl, sym, ap, ◌∙◌, inl, inr, subst, arith}
+use Rattle.std.proofs.lemmas.Bool.{cases_order}
+use Rattle.std.proofs.lemmas.Cmp.{tied_itself}
+use Rattle.std.proofs.lemmas.List.{get_or_default}
+use Rattle.std.proofs.lemmas.List.Elements.{Contains-append_right}
+use Rattle.std.specs.Cmp.{IsTotalOrder}
+use Rattle.std.specs.Cmp.Lexicographic.{lists_total, nat_list_cmp_total}
+use Rattle.std.specs.Ordering.{ordering_reverse}
+use Rattle.std.specs.declared.cmp.Ordering.TheVariants.{Less, Equal, Greater}
+use Rattle.chunk_files.specs.Contents.{readable}
+use Rattle.chunk_files.specs.Keys.{Keys}
+use Rattle.chunk_files.specs.Reading.{Ending, Faulty, Wanting, Whole}
+use Rattle.folder_spec.specs.Path as folder
+use Rattle.folder_spec.specs.Seen.{under}
+use Rattle.folder_spec.specs.View.{View}
+use Rattle.plain_tree.specs.Names as plain
+use Rattle.plain_tree.specs.Order.{path_cmp}
+use Rattle.tree_match.specs.Guard.{IsPlanOf}
+use Rattle.vault_read.specs.Opened.{OpenedVault}
+use Rattle.vault_spec.proofs.Mapped.{contains_mapped, mapped_from}
+use Rattle.vault_spec.specs.Alike.{IsOrderly, place_of}
+use Rattle.vault_spec.specs.Find.{enter}
+use Rattle.vault_spec.specs.Format.{Directory, Format}
+use Rattle.vault_spec.specs.Opens as opens
+use Rattle.vault_spec.specs.Opens.{NoItem, opened, opened_by, opened_file, tree}
+use Rattle.vault_spec.specs.Plan.{Planned, StandsBelow}
+use Rattle.vault_spec.specs.Reached.{Leads}
+use Rattle.vault_spec.specs.Standing.{Absent, Dir, File, Standing, Strange, standing}
+use Rattle.vault_spec.specs.Vault.{format_of}
+use Rattle.vault_spec.specs.declared.Lack.{Lack}
+use Rattle.vault_walk.specs.Survey.{IsOrdered}
+use Rattle.migrate_core.proofs.Endings.{root_directory}
+use Rattle.migrate_core.proofs.Fronts.{StandBelow, directory_above}
+use Rattle.migrate_core.specs.Copying.{Enters, HasCopied, tree_in}
+
+-- ---- a directory that opens in an orderly vault
+
+abbrev pub EnteredLeads : Type 0
+EnteredLeads = (f : Format) (v : View) (path : plain.Path) (dir : Directory) → (enter f v path ≡ Ok dir) ↔ Leads f v path dir
+
+no_directory : (keys : Keys) (bytes : Option (List ℕ)) → opened_file keys bytes ≢ opens.Directory
+no_directory keys None e = cc e
+no_directory keys (Some bytes) e = by (readable keys bytes).chunks (readable keys bytes).ending e
+  where
+    by : (chunks : List (List ℕ)) (ending : Ending) → opened_by chunks ending ≢ opens.Directory
+    by chunks Whole e = cc e
+    by chunks (Faulty fault) e = cc e
+    by chunks Wanting e = cc e
+
+never_locked : StandBelow → (f : Format) (v : View) → IsOrderly f v → (path : plain.Path) (at : folder.Path) (lack : Lack) → standing f v path ≢ Dir at (Err lack)
+never_locked below f v orderly [] at lack is = let e : Dir [] (Ok orderly.top) ≡ Dir at (Err lack) = sym orderly.root ∙ is in cc e
+never_locked below f v orderly (name ∷ rest) at lack is =
+    let up : StandsBelow f v (name ∷ rest) = below f v (name ∷ rest) at (λ e. cc e) (ap place_of is) in
+    orderly.entered up.front up.dir up.name at lack up.leads (up.stands ∙ is)
+
+pub leads_to : StandBelow → (f : Format) (v : View) → IsOrderly f v → (path : plain.Path) → tree f v path ≡ opens.Directory → (dir : Directory) × Leads f v path dir
+unfolding opened
+leads_to below f v orderly path is = by (standing f v path) refl is
+  where
+    by : (s : Standing) → standing f v path ≡ s → opens.opened_at f v s ≡ opens.Directory → (dir : Directory) × Leads f v path dir
+    by Absent e o = cc o
+    by (Strange at) e o = cc o
+    by (File at) e o = absurd (no_directory f.content _ o)
+    by (Dir at (Ok dir)) e o = (dir, record { at = at; stands = e })
+    by (Dir at (Err lack)) e o = absurd (never_locked below f v orderly path at lack e)
+
+-- ---- the directory of the next item
+
+in_front : {X : Type 0} (xs : List X) (k j : ℕ) (x : X) → j < k → j < length xs → get_or xs j x ≡ x → Contains (take k xs) x
+in_front [] k j x before inside at = absurd (omega (arith, inside))
+in_front (y ∷ xs) zero j x before inside at = absurd (omega (arith, before))
+in_front (y ∷ xs) (suc k) zero x before inside at = (0, omega arith, at)
+in_front (y ∷ xs) (suc k) (suc j) x before inside at = let c = in_front xs k j x (omega (arith, before)) (omega (arith, inside)) at in (suc c.0, omega (arith, c.1), c.2)
+
+paths_total : IsTotalOrder path_cmp
+paths_total = lists_total nat_list_cmp_total
+
+-- what has an earlier path comes before
+before : (items : List Planned) → IsOrdered items → (x item : Planned) (j k : ℕ) → j < length items → get_or items j x ≡ x → k < length items → item ≡ get_or items k item → path_cmp x.path item.path ≡ Less → j < k
+before items ordered x item j k in_j at_j in_k at_k less = elim (cases_order j k) [
+  | inl same ↦
+      let one : x ≡ item = sym at_j ∙ get_or_default items j x item in_j ∙ ap (λ n. get_or items n item) same ∙ sym at_k in
+      absurd (never_equal (sym (tied_itself paths_total item.path) ∙ ap (λ (z : Planned). path_cmp z.path item.path) (sym one) ∙ less))
+  | inr (inl lower) ↦ lower
+  | inr (inr higher) ↦
+      let later : path_cmp (get_or items k item).path (get_or items j item).path ≡ Less = ordered k j item higher in_j in
+      let turned : path_cmp item.path x.path ≡ Less = ap (λ (z : Planned). path_cmp z.path x.path) at_k ∙ ap (λ (z : Planned). path_cmp (get_or items k item).path z.path) (sym at_j ∙ get_or_default items j x item in_j) ∙ later in
+      absurd (never_greater (sym less ∙ paths_total.antisymm x.path item.path ∙ ap ordering_reverse turned))
+]
+  where
+    never_equal : Equal ≢ Less
+    never_equal e = cc e
+
+    never_greater : Less ≢ Greater
+    never_greater e = cc e
+
+-- a path comes before its children
+abbrev pub ParentsFirst : Type 0
+ParentsFirst = (p : plain.Path) (name : List ℕ) → path_cmp p (p ++ name ∷ []) ≡ Less
+
+pub next_enters : StandBelow → EnteredLeads → ParentsFirst → (from to : OpenedVault) (there items : List Planned) (k : ℕ) (item : Planned) (v : View) → IsPlanOf (tree_in from v) items → IsOrdered items
+    → k < length items → item ≡ get_or items k item → HasCopied from to (there ++ take k items) v → Enters to item v
+next_enters below leads first from to there items k item v plan ordered inside at copied front name is =
+    let way : (dir : Directory) × Leads (format_of to.vault) (under to.root v) front dir = leads_to below (format_of to.vault) (under to.root v) copied.copying.target.orderly front (opens_there front is) in
+    (way.0, (leads (format_of to.vault) (under to.root v) front way.0).1 way.1)
+  where
+    opens_there : (front : plain.Path) → item.path ≡ front ++ name ∷ [] → tree_in to v front ≡ opens.Directory
+    opens_there [] is = root_directory (format_of to.vault) (under to.root v) copied.copying.target.orderly
+    opens_there (a ∷ rest) is =
+        let there_item : tree_in from v item.path ≢ NoItem = ((plan.items.items item.path).0 (contains_mapped (λ (x : Planned). x.path) items item (k, inside, sym at))).1 in
+        let directory : tree_in from v (a ∷ rest) ≡ opens.Directory = directory_above below (format_of from.vault) (under from.root v) (a ∷ rest) name (subst (λ p. tree_in from v p ≢ NoItem) is there_item) in
+        let x = mapped_from (λ (x : Planned). x.path) items (a ∷ rest) ((plan.items.items (a ∷ rest)).1 (λ e. cc e, λ none. opens_no (sym directory ∙ none))) in
+        let less : path_cmp x.0.path item.path ≡ Less = ap (λ p. path_cmp p item.path) x.2 ∙ ap (path_cmp (a ∷ rest)) is ∙ first (a ∷ rest) name in
+        let early : x.1.0 < k = before items ordered x.0 item x.1.0 k x.1.1 x.1.2 inside at less in
+        let has : tree_in to v x.0.path ≢ NoItem = copied.has x.0 (Contains-append_right there (take k items) x.0 (in_front items k x.1.0 x.0 early x.1.1 x.1.2)) in
+        (copied.copying.part (a ∷ rest) (λ e. cc e) (subst (λ p. tree_in to v p ≢ NoItem) x.2 has)).0 ∙ directory
+      where
+        opens_no : opens.Directory ≢ NoItem
+        opens_no e = cc e

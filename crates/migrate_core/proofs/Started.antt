@@ -1,0 +1,89 @@
+-- That the source may be copied into the target when the moving begins.
+use Rattle.std.proofs.Common.{◌≡◌, List, [], ◌∷◌, ◌++◌, append_assoc, Contains, Option, Some, None, Ok, Err, inl, inr, refl, sym, ap, ◌∙◌, subst, arith}
+use Rattle.folder_spec.specs.Event.{Told}
+use Rattle.folder_spec.proofs.Tables.{present_is_table}
+use Rattle.folder_spec.specs.Path.{Path}
+use Rattle.folder_spec.specs.Seen.{IsSeen, seen, under}
+use Rattle.folder_spec.specs.State.{State, present}
+use Rattle.folder_spec.specs.View.{View, found}
+use Rattle.tree_match.specs.Comparing.{Is}
+use Rattle.tree_match.specs.Trees.{AndFurther, AsSame, HoldsAllBy, IsPartIn, IsWalkOf, match_of}
+use Rattle.tree_match.specs.declared.answer.Match.{Match}
+use Rattle.tree_match.specs.declared.answer.Match.TheVariants.{Contained, Differs, Same}
+use Rattle.move_journal.specs.declared.journal.Journal.{Journal}
+use Rattle.vault_read.specs.Laws.{HasOwnFolders}
+use Rattle.vault_read.specs.Opened.{OpenedVault}
+use Rattle.vault_spec.proofs.Mapped.{contains_mapped}
+use Rattle.vault_spec.specs.Alike.{HasFolders, IsOrderly}
+use Rattle.vault_spec.specs.Findings.{IsClean}
+use Rattle.vault_spec.specs.Plan.{Planned}
+use Rattle.vault_spec.specs.Vault.{format_of}
+use Rattle.migrate_core.proofs.Causing.{Passed}
+use Rattle.migrate_core.proofs.Compared.{TellsTree, planned_at}
+use Rattle.migrate_core.proofs.Endings.{HeldIsPart}
+use Rattle.migrate_core.proofs.Movings.{AreSound}
+use Rattle.migrate_core.specs.Causes.{TestsHeld, TestsItems, Unless, Walks}
+use Rattle.migrate_core.specs.Copying.{MayBegin, tree_in}
+use Rattle.migrate_core.specs.Sides.{IsWalked, side_of}
+
+-- what is seen has its folders, also at a root
+seen_folders : (root : Path) (t : Option Told) → AreSound t → (v : View) → IsSeen t v → HasFolders (under root v)
+seen_folders root None sound v is = absurd is
+seen_folders root (Some a) sound v is = subst (λ w. HasFolders (under root w)) (sym is) folders
+  where
+    s : State
+    s = a.state
+
+    folders : HasFolders (under root (seen s))
+    folders p name there =
+        ap (found (λ n. (s.nodes n).now)) (((sound a refl).tables (present s) (present_is_table s)).parents (root ++ p) name
+        (λ none. there (ap (seen s) (sym (append_assoc root p (name ∷ []))) ∙ ap (found (λ n. (s.nodes n).now)) none)))
+
+-- a clean vault is orderly
+abbrev pub CleanIsOrderly : OpenedVault → Type 0
+CleanIsOrderly a = (v : View) → HasFolders v → HasOwnFolders a.vault v → IsClean (format_of a.vault) v → IsOrderly (format_of a.vault) v
+
+-- the target's tree is part of the source's, as walks of both tell
+abbrev pub HeldAtFirst : OpenedVault → OpenedVault → List Planned → List Planned → Option Told → Type 0
+HeldAtFirst from to items there t = (v : View) → IsSeen t v → IsWalkOf v (side_of from items) → IsWalkOf v (side_of to there) → IsPartIn v (side_of to there) (side_of from items)
+
+pub may_begin : TellsTree → (from to : OpenedVault) → CleanIsOrderly from → CleanIsOrderly to → (items there : List Planned) (t : Option Told) → AreSound t → IsWalked t from items → IsWalked t to there
+    → ((v : View) → IsSeen t v → Walks from v (Ok items)) → HeldAtFirst from to items there t → MayBegin from to there t
+may_begin tells from to orderly orderly_to items there t sound walked walked_to passed held v is own = record {
+  copying = record {
+    source = record { clean = walked.clean v is; orderly = orderly (under from.root v) (seen_folders from.root t sound v is) own.source (walked.clean v is) };
+    within = (passed v is).0;
+    target = record { clean = walked_to.clean v is; orderly = orderly_to (under to.root v) (seen_folders to.root t sound v is) own.target (walked_to.clean v is) };
+    part = held v is (walked.plan v is own.source) b;
+  };
+  has = λ item among. (((tells v (side_of to there) b).items.items item.path).0 (contains_mapped (λ (x : Planned). x.path) there item among)).1;
+}
+  where
+    b : IsWalkOf v (side_of to there)
+    b = walked_to.plan v is own.target
+
+-- nothing is in an empty target
+pub empty_held : TellsTree → (from to : OpenedVault) (items : List Planned) (t : Option Told) → HeldAtFirst from to items [] t
+empty_held tells from to items t v is a b path named there =
+    let x : (x : Planned) × Contains [] x × (x.path ≡ path) = planned_at (tree_in to v) [] (tells v (side_of to []) b) path named there in
+    absurd (omega (arith, x.1.1))
+
+-- what is in the target was compared
+module _ (from to : OpenedVault) (journal : Journal) (v : View) (items there : List Planned) where
+  held_by_match : (m : Match) → match_of v (side_of to there) (side_of from items) ≡ Is m → TestsHeld m (Ok tt) → HoldsAllBy (match_of v (side_of to there) (side_of from items))
+  held_by_match Same is passed = subst HoldsAllBy (sym is) AsSame
+  held_by_match (Contained path) is passed = subst HoldsAllBy (sym is) (AndFurther path)
+  held_by_match (Differs path how) is passed = cc passed
+
+  pub items_held : Unless {X = Unit {0}} (Ok tt) (TestsItems from to journal v items there Passed (Ok tt)) → HoldsAllBy (match_of v (side_of to there) (side_of from items))
+  items_held (inl e) = cc e
+  items_held (inr (inl e)) = cc e
+  items_held (inr (inr (Err why, tested, is))) = cc is
+  items_held (inr (inr (Ok value, told, (Err why, names, is)))) = cc is
+  items_held (inr (inr (Ok value, told, (Ok other, names, (Err why, matches, is))))) = cc is
+  items_held (inr (inr (Ok value, told, (Ok other, names, (Ok m, matches, (Err why, held, is)))))) = cc is
+  items_held (inr (inr (Ok value, told, (Ok other, names, (Ok m, matches, (Ok last, held, is)))))) = held_by_match m matches held
+
+pub matched_held : HeldIsPart → (from to : OpenedVault) (journal : Journal) (items there : List Planned) (t : Option Told)
+    → ((v : View) → IsSeen t v → Unless {X = Unit {0}} (Ok tt) (TestsItems from to journal v items there Passed (Ok tt))) → HeldAtFirst from to items there t
+matched_held part from to journal items there t passed v is a b = part v (side_of to there) (side_of from items) b a (items_held from to journal v items there (passed v is))

@@ -1,0 +1,66 @@
+-- A target that the items of the source are copied into, as it is seen between two of them.
+use Rattle.std.specs.Prelude.{◌≡◌, ◌≢◌, ◌++◌, ◌∷◌, [], ℕ, List, Contains, Ok, Option}
+use Rattle.folder_spec.specs.Event.{Told}
+use Rattle.folder_spec.specs.Seen.{IsSeen, under}
+use Rattle.folder_spec.specs.View.{View}
+use Rattle.plain_tree.specs.Names as plain
+use Rattle.tree_match.specs.Guard.{IsPartOf}
+use Rattle.vault_read.specs.Laws.{HasOwnFolders}
+use Rattle.vault_read.specs.Opened.{OpenedVault}
+use Rattle.vault_spec.specs.Find.{enter}
+use Rattle.vault_spec.specs.Format.{Directory}
+use Rattle.vault_spec.specs.Opens.{Tree, NoItem, tree}
+use Rattle.vault_spec.specs.Plan.{Planned}
+use Rattle.vault_spec.specs.Vault.{format_of}
+use Rattle.vault_walk.specs.Surveyed.{IsWithin}
+use Rattle.vault_write.specs.Trees.{ShowsVault}
+
+-- no two directories of either vault share a folder
+pub record HaveOwnFolders (from to : OpenedVault) (v : View) : Type 0 where
+  pub source : HasOwnFolders from.vault (under from.root v)
+  pub target : HasOwnFolders to.vault (under to.root v)
+
+-- what opens in the vault
+abbrev pub tree_in : OpenedVault → View → Tree
+tree_in a v = tree (format_of a.vault) (under a.root v)
+
+-- both vaults are in good order, the source passes no limit, and each item of the target is so in the source and isn't broken
+pub record IsCopying (from to : OpenedVault) (v : View) : Type 0 where
+  pub source : ShowsVault (format_of from.vault) from.root v
+  pub within : IsWithin (format_of from.vault) (under from.root v)
+  pub target : ShowsVault (format_of to.vault) to.root v
+  pub part : IsPartOf (tree_in to v) (tree_in from v)
+
+abbrev pub HasItem : OpenedVault → View → Planned → Type 0
+HasItem a v item = tree_in a v item.path ≢ NoItem
+
+-- the target has these items already
+pub record HasCopied (from to : OpenedVault) (items : List Planned) (v : View) : Type 0 where
+  pub copying : IsCopying from to v
+  pub has : (item : Planned) → Contains items item → HasItem to v item
+
+-- the directory that is to have the item is entered
+abbrev pub Enters : OpenedVault → Planned → View → Type 0
+Enters to item v = (front : plain.Path) (name : List ℕ) → item.path ≡ front ++ name ∷ [] → (dir : Directory) × (enter (format_of to.vault) (under to.root v) front ≡ Ok dir)
+
+-- from the one view to the other the target gained the item, and lost none
+pub record Copies (from to : OpenedVault) (item : Planned) (v w : View) : Type 0 where
+  pub copying : IsCopying from to w
+  pub has : HasItem to w item
+  pub keeps : (path : plain.Path) → tree_in to v path ≢ NoItem → tree_in to w path ≢ NoItem
+
+-- it does so, where it was being copied into
+abbrev pub CopiesOne : OpenedVault → OpenedVault → Planned → Option Told → Option Told → Type 0
+CopiesOne from to item told told' = (v w : View) → IsSeen told v → IsSeen told' w → IsCopying from to v → Copies from to item v w
+
+-- the same of an item that may be among these, which the target has already
+abbrev pub CopiesMissing : OpenedVault → OpenedVault → List Planned → Planned → Option Told → Option Told → Type 0
+CopiesMissing from to there item told told' = (v w : View) → IsSeen told v → IsSeen told' w → HasCopied from to there v → Copies from to item v w
+
+-- where it had the ones, it has the others then
+abbrev pub CopiesAll : OpenedVault → OpenedVault → List Planned → List Planned → Option Told → Option Told → Type 0
+CopiesAll from to there items told told' = (v w : View) → IsSeen told v → IsSeen told' w → HasCopied from to there v → HasCopied from to items w
+
+-- so it is where no two directories of either vault share a folder
+abbrev pub MayBegin : OpenedVault → OpenedVault → List Planned → Option Told → Type 0
+MayBegin from to there told = (v : View) → IsSeen told v → HaveOwnFolders from to v → HasCopied from to there v

@@ -59,7 +59,7 @@ staged_below work q is = elim (begins_or_not (stage_path work) q) [
 
 -- and so apart from a root beside the work folder
 module _ (root work : Path) (apart : AreApart root work) (q : Path) (staged : IsTrue (is_staged work q)) where
-  below_root : below root q ≡ None
+  pub below_root : below root q ≡ None
   below_root = let there = staged_below work q staged in ap (below root) there.1 ∙ below-apart root work there.0 apart.one apart.other
 
   root_below : below q root ≡ None

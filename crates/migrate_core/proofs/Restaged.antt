@@ -34,7 +34,7 @@ use Rattle.migrate_core.specs.Sides.{AreSides, IsWalked, StandAll, opened_at, si
 
 -- ---- the stage alone
 
-stage_apart : (work root : Path) → AreApart root work → AreApart root (stage_path work)
+pub stage_apart : (work root : Path) → AreApart root work → AreApart root (stage_path work)
 stage_apart work root apart = record {
   one = below-apart root work (codes "stage" ∷ []) apart.one apart.other;
   other = behind_none work (codes "stage" ∷ []) root apart.other;

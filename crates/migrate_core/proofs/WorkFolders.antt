@@ -31,14 +31,14 @@ no_clash : {p : Path} → None ≡ Some p → ⊥
 no_clash e = cc e
 
 -- a path that a region at a root doesn't have isn't below the root
-not_in_root : (region : Path → Bool) (root p : Path) → ((rest : Path) → IsTrue (region (root ++ rest))) → ((q : Path) → IsTrue (region q) → p ≢ q) → below root p ≡ None
+pub not_in_root : (region : Path → Bool) (root p : Path) → ((rest : Path) → IsTrue (region (root ++ rest))) → ((q : Path) → IsTrue (region q) → p ≢ q) → below root p ≡ None
 not_in_root region root p inside spared = elim (begins_or_not root p) [
   | inl there ↦ absurd (spared (root ++ there.0) (inside there.0) there.1)
   | inr none ↦ none
 ]
 
 -- nor is one below which nothing of the region lies
-not_moved : (region : Path → Bool) (root p : Path) → ((rest : Path) → IsTrue (region (root ++ rest))) → ((q : Path) → IsTrue (region q) → below p q ≡ None) → below root p ≡ None
+pub not_moved : (region : Path → Bool) (root p : Path) → ((rest : Path) → IsTrue (region (root ++ rest))) → ((q : Path) → IsTrue (region q) → below p q ≡ None) → below root p ≡ None
 not_moved region root p inside spared = elim (begins_or_not root p) [
   | inl there ↦ absurd (no_clash (sym (spared p (subst (λ q. IsTrue (region q)) (sym there.1) (inside there.0))) ∙ (ap (below p) (sym (append-nil p)) ∙ below-append p [])))
   | inr none ↦ none

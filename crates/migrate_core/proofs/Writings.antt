@@ -6,7 +6,7 @@ use Rattle.std.proofs.lemmas.List.Elements.{filter-append}
 use Rattle.std.proofs.lemmas.List.{take_more, take-append-drop}
 use Rattle.folder_spec.proofs.Moments.{went_nowhere, went_on, went_more, went_to}
 use Rattle.folder_spec.proofs.Tellings.{from_to_more, from_to_on, from_to_same}
-use Rattle.folder_spec.specs.Event.{Event, Told, FromTo}
+use Rattle.folder_spec.specs.Event.{Append, Call, Create, Event, MakeDir, RemoveDir, RemoveFile, Rename, Sync, Told, FromTo}
 use Rattle.folder_spec.specs.Moments.{Went}
 use Rattle.folder_spec.specs.Seen.{IsSeen, seen}
 use Rattle.folder_spec.specs.State.{Node, State, BeginsWith}
@@ -15,7 +15,7 @@ use Rattle.folder_spec.proofs.Moments.{went_by_call}
 use Rattle.folder_spec.proofs.Paths.{base_or_child}
 use Rattle.folder_spec.specs.Event.{Changes, Settle, Steps, changed}
 use Rattle.folder_spec.specs.Path.{Path}
-use Rattle.folder_spec.specs.Region.{IsAsBefore, SparesOld, apart_from}
+use Rattle.folder_spec.specs.Region.{IsAsBefore, Spares, SparesOld, apart_from}
 use Rattle.folder_spec.specs.Seen.{under}
 use Rattle.folder_spec.specs.Written.{HoldFronts}
 use Rattle.folder_spec.specs.declared.FolderFault.{FolderFault}
@@ -42,12 +42,14 @@ use Rattle.vault_spec.specs.Vault.{IsVault, format_of}
 use Rattle.chunk_files.specs.Keys.{Keys}
 use Rattle.vault_write.proofs.Runs.{seen_as_before}
 use Rattle.vault_write.specs.Calls.{MakesAt, MakesOne, New}
-use Rattle.vault_write.specs.Making.{Placing, StagesOrPlaces, format, making_in, new_item, path_of}
+use Rattle.vault_write.specs.Making.{IsPlace, Making, Placing, StagesOrPlaces, format, making_in, new_item, path_of}
 use Rattle.vault_write.specs.Placing.{IsMaking, making_at}
 use Rattle.work_folder.specs.Changing.{ChangesAt, ChangesOnly, IsChangingAt}
 use Rattle.vault_write.specs.Making.{is_apart}
 use Rattle.migrate_core.proofs.Movings.{AreSound, source_apart, source_beside}
-use Rattle.migrate_core.proofs.Placings.{no_answer}
+use Rattle.migrate_core.proofs.Placings.{below_root, no_answer}
+use Rattle.migrate_core.proofs.WorkFolders.{apart_at, elsewhere_at, not_in_root, not_moved}
+use Rattle.tree_match.specs.Guard.{AreApart}
 use Rattle.migrate_core.proofs.Planned.{FilesFit, reader_of}
 use Rattle.migrate_core.specs.Moved.{StandsIn, done_of, is_there, opened_in}
 use Rattle.migrate_core.proofs.Causing.{Passed}
@@ -56,7 +58,7 @@ use Rattle.folder_spec.specs.Region.{apart_from_both}
 use Rattle.vault_walk.specs.Survey.{IsOrdered}
 use Rattle.move_journal.specs.declared.journal.Phase.TheVariants.{Done}
 use Rattle.migrate_core.specs.Sides.{AreSeparate, AreTold, IsItemOf, IsWalked, new_journal}
-use Rattle.migrate_core.specs.Written.{AreCopies, AreFull, AreFullButLast, HoldsOnly, IsCopyOf, IsFileOf, IsFull, IsOneOf, MadeItem, MayWrite, MayWriteTold, MayWriteTree, Writes, WritesAll, WritesBy, WritesFirst, WritesLacked, WritesNothing, WritesOnly, WritesTree, journal_texts, lacked, slices}
+use Rattle.migrate_core.specs.Written.{BringsOnlyTo, IsMadePlace, IsPlaceOf, WritesBeside, AreCopies, AreFull, AreFullButLast, HoldsOnly, IsCopyOf, IsFileOf, IsFull, IsOneOf, MadeItem, MayWrite, MayWriteTold, MayWriteTree, Writes, WritesAll, WritesBy, WritesFirst, WritesLacked, WritesNothing, WritesOnly, WritesTree, journal_texts, lacked, slices}
 
 -- ---- members
 
@@ -91,23 +93,73 @@ holds_on P Q R one other s0 s1 s p q = record {
 holds_more : (P R : List ℕ → Type 0) → ((file : List ℕ) → P file → R file) → (s0 s : State) → HoldsOnly P s0 s → HoldsOnly R s0 s
 holds_more P R one s0 s p = record { nodes = p.nodes; made = p.made; fronts = λ n new made. let f = p.fronts n new made in (f.0, one f.0 f.1, f.2) }
 
-abbrev NoMore : State → Event → Type 0
-NoMore s e = Unit {0}
+abbrev Calls : (Call → Type 0) → State → Event → Type 0
+Calls Q s e = Q e.call
 
-pub only_nowhere : (P : List ℕ → Type 0) (t u : Option Told) → u ≡ t → WritesOnly P t u
-only_nowhere P t u is = from_to_same (λ a b. Went (HoldsOnly P a.state) NoMore a b) t u is (λ a. went_nowhere (HoldsOnly P a.state) NoMore a (holds_same P a.state))
+pub only_nowhere : (C : Call → Type 0) (P : List ℕ → Type 0) (t u : Option Told) → u ≡ t → WritesOnly C P t u
+only_nowhere C P t u is = from_to_same (λ a b. Went (HoldsOnly P a.state) (Calls C) a b) t u is (λ a. went_nowhere (HoldsOnly P a.state) (Calls C) a (holds_same P a.state))
 
-pub only_more : (P R : List ℕ → Type 0) → ((file : List ℕ) → P file → R file) → (t u : Option Told) → WritesOnly P t u → WritesOnly R t u
-only_more P R one t u writes =
-    from_to_more (λ a b. Went (HoldsOnly P a.state) NoMore a b) (λ a b. Went (HoldsOnly R a.state) NoMore a b) t u
-    (λ a b is went. went_more (HoldsOnly P a.state) (HoldsOnly R a.state) NoMore NoMore a b (λ s h. holds_more P R one a.state s h) (λ s e h. h) went) writes
+pub only_more : (C D : Call → Type 0) (P R : List ℕ → Type 0) → ((call : Call) → C call → D call) → ((file : List ℕ) → P file → R file) → (t u : Option Told) → WritesOnly C P t u → WritesOnly D R t u
+only_more C D P R more one t u writes =
+    from_to_more (λ a b. Went (HoldsOnly P a.state) (Calls C) a b) (λ a b. Went (HoldsOnly R a.state) (Calls D) a b) t u
+    (λ a b is went. went_more (HoldsOnly P a.state) (HoldsOnly R a.state) (Calls C) (Calls D) a b (λ s h. holds_more P R one a.state s h) (λ s e h. more e.call h) went) writes
 
-pub only_on : (P Q R : List ℕ → Type 0) → ((file : List ℕ) → P file → R file) → ((file : List ℕ) → Q file → R file) → (t u w : Option Told) → WritesOnly P t u → WritesOnly Q u w → WritesOnly R t w
-only_on P Q R one other t u w first later =
-    from_to_on (λ a b. Went (HoldsOnly P a.state) NoMore a b) (λ a b. Went (HoldsOnly Q a.state) NoMore a b) (λ a b. Went (HoldsOnly R a.state) NoMore a b) t u w
-    (λ a b c p q. went_on (HoldsOnly R a.state) NoMore a b c
-    (went_more (HoldsOnly P a.state) (HoldsOnly R a.state) NoMore NoMore a b (λ s h. holds_more P R one a.state s h) (λ s e h. h) p)
-    (went_more (HoldsOnly Q b.state) (HoldsOnly R a.state) NoMore NoMore b c (λ s h. holds_on P Q R one other a.state b.state s (went_to (HoldsOnly P a.state) NoMore a b p) h) (λ s e h. h) q)) first later
+pub only_on : (C D E : Call → Type 0) (P Q R : List ℕ → Type 0) → ((call : Call) → C call → E call) → ((call : Call) → D call → E call) → ((file : List ℕ) → P file → R file) → ((file : List ℕ) → Q file → R file)
+    → (t u w : Option Told) → WritesOnly C P t u → WritesOnly D Q u w → WritesOnly E R t w
+only_on C D E P Q R more further one other t u w first later =
+    from_to_on (λ a b. Went (HoldsOnly P a.state) (Calls C) a b) (λ a b. Went (HoldsOnly Q a.state) (Calls D) a b) (λ a b. Went (HoldsOnly R a.state) (Calls E) a b) t u w
+    (λ a b c p q. went_on (HoldsOnly R a.state) (Calls E) a b c
+    (went_more (HoldsOnly P a.state) (HoldsOnly R a.state) (Calls C) (Calls E) a b (λ s h. holds_more P R one a.state s h) (λ s e h. more e.call h) p)
+    (went_more (HoldsOnly Q b.state) (HoldsOnly R a.state) (Calls D) (Calls E) b c (λ s h. holds_on P Q R one other a.state b.state s (went_to (HoldsOnly P a.state) (Calls C) a b p) h) (λ s e h. further e.call h) q)) first later
+
+pub beside_on : (root : Path) (P Q R : List ℕ → Type 0) → ((file : List ℕ) → P file → R file) → ((file : List ℕ) → Q file → R file) → (t u w : Option Told) → WritesBeside root P t u → WritesBeside root Q u w → WritesBeside root R t w
+beside_on root P Q R = only_on (BringsOnlyTo root (λ at. ⊥)) (BringsOnlyTo root (λ at. ⊥)) (BringsOnlyTo root (λ at. ⊥)) P Q R (λ call is. is) (λ call is. is)
+
+-- ---- places
+
+-- what comes to some places comes to more
+pub brings_more : (root : Path) (P Q : Path → Type 0) → ((at : Path) → P at → Q at) → (call : Call) → BringsOnlyTo root P call → BringsOnlyTo root Q call
+brings_more root P Q more (MakeDir at) h = elim h [ inl none ↦ inl none | inr is ↦ inr (more at is) ]
+brings_more root P Q more (Create at) h = elim h [ inl none ↦ inl none | inr is ↦ inr (more at is) ]
+brings_more root P Q more (Rename old at) h = elim h [ inl none ↦ inl none | inr is ↦ inr (more at is) ]
+brings_more root P Q more (Append at piece) h = tt
+brings_more root P Q more (Sync at) h = tt
+brings_more root P Q more Settle h = tt
+brings_more root P Q more (RemoveFile at) h = tt
+brings_more root P Q more (RemoveDir at) h = tt
+
+-- what brings nothing anywhere
+brings_none : (root : Path) (P : Path → Type 0) (call : Call) → BringsOnlyTo [] (λ at. ⊥) call → BringsOnlyTo root P call
+brings_none root P (MakeDir at) h = elim h [ inl none ↦ cc none | inr never ↦ absurd never ]
+brings_none root P (Create at) h = elim h [ inl none ↦ cc none | inr never ↦ absurd never ]
+brings_none root P (Rename old at) h = elim h [ inl none ↦ cc none | inr never ↦ absurd never ]
+brings_none root P (Append at piece) h = tt
+brings_none root P (Sync at) h = tt
+brings_none root P Settle h = tt
+brings_none root P (RemoveFile at) h = tt
+brings_none root P (RemoveDir at) h = tt
+
+-- what spares all at a root
+spares_root : (region : Path → Bool) (root : Path) → ((rest : Path) → IsTrue (region (root ++ rest))) → (call : Call) → Spares region call → BringsOnlyTo root (λ at. ⊥) call
+spares_root region root inside (MakeDir p) h = inl (not_in_root region root p inside h)
+spares_root region root inside (Create p) h = inl (not_in_root region root p inside h)
+spares_root region root inside (Rename old new) h = inl (not_moved region root new inside (λ q is. (h q is).0))
+spares_root region root inside (Append p piece) h = tt
+spares_root region root inside (Sync p) h = tt
+spares_root region root inside Settle h = tt
+spares_root region root inside (RemoveFile p) h = tt
+spares_root region root inside (RemoveDir p) h = tt
+
+-- what brings an item to its places
+places_bring : (root work : Path) → AreApart root work → (m : Making) (P : Path → Type 0) → ((at : Path) → IsPlace m.edits at → P at) → (s : State) (call : Call) → StagesOrPlaces work m s call → BringsOnlyTo root P call
+places_bring root work apart m P among s (MakeDir at) h = elim h [ inl staged ↦ inl (below_root root work apart at staged) | inr place ↦ inr (among at place) ]
+places_bring root work apart m P among s (Create at) h = inl (below_root root work apart at h)
+places_bring root work apart m P among s (Rename staged at) h = inr (among at h.1)
+places_bring root work apart m P among s (Append at piece) h = tt
+places_bring root work apart m P among s (Sync at) h = tt
+places_bring root work apart m P among s Settle h = tt
+places_bring root work apart m P among s (RemoveFile at) h = tt
+places_bring root work apart m P among s (RemoveDir at) h = tt
 
 -- ---- items
 
@@ -174,7 +226,10 @@ module _ (compose : Compose) (from to : OpenedVault) (items more : List Planned)
   writes_on m n kept one other = record {
     drawn = subst (Draws s s2) (sym (slices_on m n)) (compose s s1 s2 (slices m) (slices n) one.drawn other.drawn);
     copies = λ v is. copies_on from v items more m n (one.copies v is) (copies_before from more n t u kept other.copies v is);
-    files = only_on (IsOneOf to m texts) (IsOneOf to n others) (IsOneOf to (m ++ n) (texts ++ others))
+    files = only_on (BringsOnlyTo to.root (IsMadePlace to m)) (BringsOnlyTo to.root (IsMadePlace to n)) (BringsOnlyTo to.root (IsMadePlace to (m ++ n)))
+        (IsOneOf to m texts) (IsOneOf to n others) (IsOneOf to (m ++ n) (texts ++ others))
+        (brings_more to.root (IsMadePlace to m) (IsMadePlace to (m ++ n)) (λ at is. (is.0, in_first m n is.0 is.1, is.2)))
+        (brings_more to.root (IsMadePlace to n) (IsMadePlace to (m ++ n)) (λ at is. (is.0, in_second m n is.0 is.1, is.2)))
         (λ file h. elim h [ inl text ↦ inl (in_first texts others file text) | inr (x, among, is) ↦ inr (x, in_first m n x among, is) ])
         (λ file h. elim h [ inl text ↦ inl (in_second texts others file text) | inr (x, among, is) ↦ inr (x, in_second m n x among, is) ]) t u w one.files other.files;
   }
@@ -198,6 +253,10 @@ module _ (compose : Compose) (from to : OpenedVault) (items more : List Planned)
     full = λ v is. full_before to one.made other.made (one.full v is) (known_before (AreFullButLast to other.made) _ t u one.writes.files other.full v is);
   }
 
+-- what comes nowhere in the target comes to places of items
+beside_made : (to : OpenedVault) (made : List MadeItem) (P R : List ℕ → Type 0) → ((file : List ℕ) → P file → R file) → (t u : Option Told) → WritesBeside to.root P t u → WritesOnly (BringsOnlyTo to.root (IsMadePlace to made)) R t u
+beside_made to made P R more = only_more (BringsOnlyTo to.root (λ at. ⊥)) (BringsOnlyTo to.root (IsMadePlace to made)) P R (brings_more to.root (λ at. ⊥) (IsMadePlace to made) (λ at none. absurd none)) more
+
 module _ (from to : OpenedVault) (items : List Planned) (texts : List (List ℕ)) (s s' : Option ByteStream) (t t' : Option Told) where
   pub first_of_all : WritesAll from to items texts s s' t t' → WritesFirst from to items texts s s' t t'
   first_of_all all = record { made = all.made; first = items; rest = []; are = sym (append-nil items); writes = all.writes; full = λ v is. all_full to all.made (all.full v is) }
@@ -213,10 +272,10 @@ module _ (from to : OpenedVault) (items : List Planned) (texts : List (List ℕ)
   }
 
   -- no item, and only a text
-  pub texts_alone : Draws s s' [] → WritesOnly (λ file. Contains texts file) t t' → WritesAll from to [] texts s s' t t'
+  pub texts_alone : Draws s s' [] → WritesBeside to.root (λ file. Contains texts file) t t' → WritesAll from to [] texts s s' t t'
   texts_alone undrawn files = record {
     made = [];
-    writes = record { drawn = undrawn; copies = λ v is. tt; files = only_more (λ file. Contains texts file) (IsOneOf to [] texts) (λ file text. inl text) t t' files };
+    writes = record { drawn = undrawn; copies = λ v is. tt; files = beside_made to [] (λ file. Contains texts file) (IsOneOf to [] texts) (λ file text. inl text) t t' files };
     full = λ v is. tt;
   }
 
@@ -234,6 +293,13 @@ files_among p drawn u file = by (enter (format p) u p.front)
     by (Err refusal) among = absurd (omega (arith, among.1))
     by (Ok dir) among = record { front = p.front; name = p.name; dir = dir; is = refl; among = among }
 
+places_among : (p : Placing) (drawn : List ℕ) (u : View) (at : Path) → IsPlace (new_item p drawn u).edits at → IsPlaceOf p.vault (record { path = path_of p; item = p.item; drawn = drawn }) at
+places_among p drawn u at = by (enter (format p) u p.front)
+  where
+    by : (entered : Result Directory Refusal) → IsPlace (making_in p u drawn entered).edits at → IsPlaceOf p.vault (record { path = path_of p; item = p.item; drawn = drawn }) at
+    by (Err refusal) place = absurd (omega (arith, place.1.1))
+    by (Ok dir) place = record { front = p.front; name = p.name; dir = dir; view = u; is = refl; place = place }
+
 making_writes : (p : Placing) (ending : Ending) (drawn : List ℕ) (s0 s : State) → IsMaking p ending (making_at p (new_item p drawn) s0) s0 s
     → HoldsOnly (IsFileOf p.vault (record { path = path_of p; item = p.item; drawn = drawn })) s0 s
 making_writes p ending drawn s0 s making = record {
@@ -244,16 +310,16 @@ making_writes p ending drawn s0 s making = record {
 
 -- what a call makes of one item
 pub record MakesItem (to : OpenedVault) (x : MadeItem) (t u : Option Told) (result : Result (Unit {0}) PutFault) : Type 0 where
-  pub files : WritesOnly (IsFileOf to x) t u
+  pub files : WritesOnly (BringsOnlyTo to.root (IsPlaceOf to x)) (IsFileOf to x) t u
   pub enough : length x.drawn ≤ draws (format_of to.vault) x.item
   pub full : OnOk result ((v : View) → IsSeen t v → IsFull to x)
 
-pub item_made : (to : OpenedVault) (work : Path) (x : MadeItem) (ending : Ending) (t u : Option Told) (result : Result (Unit {0}) PutFault) → MakesAt New to work x.path x.item ending x.drawn t u result → MakesItem to x t u result
-item_made to work x ending t u result made = elim (base_or_child x.path) [
+pub item_made : (to : OpenedVault) (work : Path) → AreApart to.root work → (x : MadeItem) (ending : Ending) (t u : Option Told) (result : Result (Unit {0}) PutFault) → MakesAt New to work x.path x.item ending x.drawn t u result → MakesItem to x t u result
+item_made to work apart x ending t u result made = elim (base_or_child x.path) [
   | inl root ↦
       let none = made.root root in
       record {
-        files = only_nowhere (IsFileOf to x) t u none.0;
+        files = only_nowhere (BringsOnlyTo to.root (IsPlaceOf to x)) (IsFileOf to x) t u none.0;
         enough = omega (arith, ap (λ (ys : List ℕ). length ys) none.1);
         full = no_answer ((v : View) → IsSeen t v → IsFull to x) (Taken to.root) result none.2;
       }
@@ -263,10 +329,12 @@ item_made to work x ending t u result made = elim (base_or_child x.path) [
       record {
         files = from_to_more
             (λ a b. Went (IsMaking p ending (making_at p (new_item p x.drawn) a.state) a.state) (λ s e. StagesOrPlaces work (making_at p (new_item p x.drawn) a.state) s e.call) a b)
-            (λ a b. Went (HoldsOnly (IsFileOf to x) a.state) NoMore a b) t u
+            (λ a b. Went (HoldsOnly (IsFileOf to x) a.state) (Calls (BringsOnlyTo to.root (IsPlaceOf to x))) a b) t u
             (λ a b is went. went_more (IsMaking p ending (making_at p (new_item p x.drawn) a.state) a.state) (HoldsOnly (IsFileOf to x) a.state)
-            (λ s e. StagesOrPlaces work (making_at p (new_item p x.drawn) a.state) s e.call) NoMore a b
-            (λ s making. subst (λ path. HoldsOnly (IsFileOf to (record { path = path; item = x.item; drawn = x.drawn })) a.state s) (sym named.2) (making_writes p ending x.drawn a.state s making)) (λ s e h. tt) went) one.makes.moments;
+            (λ s e. StagesOrPlaces work (making_at p (new_item p x.drawn) a.state) s e.call) (Calls (BringsOnlyTo to.root (IsPlaceOf to x))) a b
+            (λ s making. subst (λ path. HoldsOnly (IsFileOf to (record { path = path; item = x.item; drawn = x.drawn })) a.state s) (sym named.2) (making_writes p ending x.drawn a.state s making))
+            (λ s e h. places_bring to.root work apart (making_at p (new_item p x.drawn) a.state) (IsPlaceOf to x)
+            (λ at place. subst (λ path. IsPlaceOf to (record { path = path; item = x.item; drawn = x.drawn }) at) (sym named.2) (places_among p x.drawn (under to.root (seen a.state)) at place)) s e.call h) went) one.makes.moments;
         enough = one.enough;
         full = by result one;
       }
@@ -283,12 +351,13 @@ IsCopy from item t x = (v : View) → IsSeen t v → IsCopyOf from v item x
 one_slice : (x : MadeItem) → x.drawn ≡ slices (x ∷ [])
 one_slice x = sym (append-nil x.drawn)
 
-writes_one : (from to : OpenedVault) (item : Planned) (x : MadeItem) (s s' : Option ByteStream) (t u : Option Told) → Draws s s' x.drawn → IsCopy from item t x → WritesOnly (IsFileOf to x) t u
+writes_one : (from to : OpenedVault) (item : Planned) (x : MadeItem) (s s' : Option ByteStream) (t u : Option Told) → Draws s s' x.drawn → IsCopy from item t x → WritesOnly (BringsOnlyTo to.root (IsPlaceOf to x)) (IsFileOf to x) t u
     → Writes from to (item ∷ []) (x ∷ []) [] s s' t u
 writes_one from to item x s s' t u drawn copy files = record {
   drawn = subst (Draws s s') (one_slice x) drawn;
   copies = λ v is. (copy v is, tt);
-  files = only_more (IsFileOf to x) (IsOneOf to (x ∷ []) []) (λ file h. inr (x, (zero, omega arith, refl), h)) t u files;
+  files = only_more (BringsOnlyTo to.root (IsPlaceOf to x)) (BringsOnlyTo to.root (IsMadePlace to (x ∷ []))) (IsFileOf to x) (IsOneOf to (x ∷ []) [])
+      (brings_more to.root (IsPlaceOf to x) (IsMadePlace to (x ∷ [])) (λ at is. (x, (zero, omega arith, refl), is))) (λ file h. inr (x, (zero, omega arith, refl), h)) t u files;
 }
 
 pub one_written : (from to : OpenedVault) (item : Planned) (x : MadeItem) (s s' : Option ByteStream) (t u : Option Told) → Draws s s' x.drawn → IsCopy from item t x → MakesItem to x t u (Ok tt)
@@ -347,35 +416,38 @@ file_copy fits from item t path content drawn ending at node of told v is = reco
 writing_only : (text : List ℕ) (s0 s : State) → ((n : ℕ) → n < s0.made → s.nodes n ≡ s0.nodes n) → s0.made ≤ s.made → HoldFronts (text ∷ []) s0 s → HoldsOnly (λ file. Contains (text ∷ []) file) s0 s
 writing_only text s0 s nodes made fronts = record { nodes = nodes; made = made; fronts = λ n new inside. let f = fronts n new inside in (f.file, f.among, f.front) }
 
-pub journal_written : (work : Path) (j : Journal) (t u : Option Told) → journal.Writes work j t u → WritesOnly (λ file. Contains (journal_text j ∷ []) file) t u
-journal_written work j t u writes =
-    from_to_more (λ a b. Went (IsWriting work (journal_text j) a.state) (λ s e. SparesOld (elsewhere work) a.state s e.call) a b) (λ a b. Went (HoldsOnly (λ file. Contains (journal_text j ∷ []) file) a.state) NoMore a b) t u
-    (λ a b is went. went_more (IsWriting work (journal_text j) a.state) (HoldsOnly (λ file. Contains (journal_text j ∷ []) file) a.state) (λ s e. SparesOld (elsewhere work) a.state s e.call) NoMore a b
-    (λ s h. writing_only (journal_text j) a.state s h.journal.nodes h.journal.made h.fronts) (λ s e h. tt) went) writes
+pub journal_written : (work root : Path) → AreApart root work → (j : Journal) (t u : Option Told) → journal.Writes work j t u → WritesBeside root (λ file. Contains (journal_text j ∷ []) file) t u
+journal_written work root apart j t u writes =
+    from_to_more (λ a b. Went (IsWriting work (journal_text j) a.state) (λ s e. SparesOld (elsewhere work) a.state s e.call) a b)
+    (λ a b. Went (HoldsOnly (λ file. Contains (journal_text j ∷ []) file) a.state) (Calls (BringsOnlyTo root (λ at. ⊥))) a b) t u
+    (λ a b is went. went_more (IsWriting work (journal_text j) a.state) (HoldsOnly (λ file. Contains (journal_text j ∷ []) file) a.state) (λ s e. SparesOld (elsewhere work) a.state s e.call) (Calls (BringsOnlyTo root (λ at. ⊥))) a b
+    (λ s h. writing_only (journal_text j) a.state s h.journal.nodes h.journal.made h.fronts) (λ s e spares. spares_root (elsewhere work) root (elsewhere_at work root apart) e.call spares.0) went) writes
 
 none_made : (s0 s : State) → s.nodes ≡ s0.nodes → s.made ≡ s0.made → HoldsOnly (λ file. ⊥) s0 s
 none_made s0 s nodes made = record { nodes = λ n old. ap (λ (x : ℕ → Node). x n) nodes; made = omega (arith, made); fronts = λ n new inside. absurd (omega (arith, new, inside, made)) }
 
-pub changing_writes : (root : Path) (Comes Goes : Path → Type 0) (t u : Option Told) → ChangesAt root Comes Goes t u → WritesOnly (λ file. ⊥) t u
-changing_writes root Comes Goes t u changes =
-    from_to_more (λ a b. Went (IsChangingAt root Comes Goes a.state) (λ s e. ChangesOnly Comes Goes e.call × SparesOld (apart_from root) a.state s e.call) a b) (λ a b. Went (HoldsOnly (λ file. ⊥) a.state) NoMore a b) t u
-    (λ a b is went. went_more (IsChangingAt root Comes Goes a.state) (HoldsOnly (λ file. ⊥) a.state) (λ s e. ChangesOnly Comes Goes e.call × SparesOld (apart_from root) a.state s e.call) NoMore a b
-    (λ s h. none_made a.state s h.changing.nodes h.changing.made) (λ s e h. tt) went) changes
+pub changing_writes : (at : Path) (Comes Goes : Path → Type 0) (root : Path) → AreApart root at → (t u : Option Told) → ChangesAt at Comes Goes t u → WritesBeside root (λ file. ⊥) t u
+changing_writes at Comes Goes root apart t u changes =
+    from_to_more (λ a b. Went (IsChangingAt at Comes Goes a.state) (λ s e. ChangesOnly Comes Goes e.call × SparesOld (apart_from at) a.state s e.call) a b)
+    (λ a b. Went (HoldsOnly (λ file. ⊥) a.state) (Calls (BringsOnlyTo root (λ place. ⊥))) a b) t u
+    (λ a b is went. went_more (IsChangingAt at Comes Goes a.state) (HoldsOnly (λ file. ⊥) a.state) (λ s e. ChangesOnly Comes Goes e.call × SparesOld (apart_from at) a.state s e.call) (Calls (BringsOnlyTo root (λ place. ⊥))) a b
+    (λ s h. none_made a.state s h.changing.nodes h.changing.made) (λ s e spares. spares_root (apart_from at) root (apart_at at root apart) e.call spares.1.0) went) changes
 
-pub settle_writes : (t u : Option Told) (result : Result (Unit {0}) FolderFault) → Changes Settle t u result → WritesOnly (λ file. ⊥) t u
+pub settle_writes : (t u : Option Told) (result : Result (Unit {0}) FolderFault) → Changes Settle t u result → WritesBeside [] (λ file. ⊥) t u
 settle_writes t u result changes =
-    from_to_more (λ a b. Steps Settle a b result) (λ a b. Went (HoldsOnly (λ file. ⊥) a.state) NoMore a b) t u
-    (λ a b is steps. went_by_call (HoldsOnly (λ file. ⊥) a.state) NoMore Settle a b result (holds_same (λ file. ⊥) a.state)
+    from_to_more (λ a b. Steps Settle a b result) (λ a b. Went (HoldsOnly (λ file. ⊥) a.state) (Calls (BringsOnlyTo [] (λ at. ⊥))) a b) t u
+    (λ a b is steps. went_by_call (HoldsOnly (λ file. ⊥) a.state) (Calls (BringsOnlyTo [] (λ at. ⊥))) Settle a b result (holds_same (λ file. ⊥) a.state)
     (λ allowed. none_made a.state (changed a.state Settle) refl refl) (λ added allowed. holds_same (λ file. ⊥) a.state) (λ outcome. tt) steps) changes
 
 -- ---- before and after
 
-module _ (from to : OpenedVault) (items : List Planned) (texts : List (List ℕ)) (s s' : Option ByteStream) (t u w : Option Told) (known : (v : View) → IsSeen t v → IsSeen u v) (before : WritesOnly (λ file. ⊥) t u) where
+module _ (from to : OpenedVault) (items : List Planned) (texts : List (List ℕ)) (s s' : Option ByteStream) (t u w : Option Told) (known : (v : View) → IsSeen t v → IsSeen u v) (before : WritesBeside [] (λ file. ⊥) t u) where
   writes_after : (first : List Planned) (made : List MadeItem) → Writes from to first made texts s s' u w → Writes from to first made texts s s' t w
   writes_after first made h = record {
     drawn = h.drawn;
     copies = λ v is. h.copies v (known v is);
-    files = only_on (λ file. ⊥) (IsOneOf to made texts) (IsOneOf to made texts) (λ file none. absurd none) (λ file is. is) t u w before h.files;
+    files = only_on (BringsOnlyTo [] (λ at. ⊥)) (BringsOnlyTo to.root (IsMadePlace to made)) (BringsOnlyTo to.root (IsMadePlace to made)) (λ file. ⊥) (IsOneOf to made texts) (IsOneOf to made texts)
+        (brings_none to.root (IsMadePlace to made)) (λ call is. is) (λ file none. absurd none) (λ file is. is) t u w before h.files;
   }
 
   pub by_after : {T E : Type 0} (result : Result T E) → WritesBy result from to items texts s s' u w → WritesBy result from to items texts s s' t w
@@ -388,7 +460,7 @@ module _ (from to : OpenedVault) (items : List Planned) (texts more : List (List
   writes_texts first made h = record {
     drawn = h.drawn;
     copies = h.copies;
-    files = only_more (IsOneOf to made texts) (IsOneOf to made more) (λ file is. elim is [ inl text ↦ inl (within file text) | inr item ↦ inr item ]) t t' h.files;
+    files = only_more (BringsOnlyTo to.root (IsMadePlace to made)) (BringsOnlyTo to.root (IsMadePlace to made)) (IsOneOf to made texts) (IsOneOf to made more) (λ call is. is) (λ file is. elim is [ inl text ↦ inl (within file text) | inr item ↦ inr item ]) t t' h.files;
   }
 
   pub by_texts : {T E : Type 0} (result : Result T E) → WritesBy result from to items texts s s' t t' → WritesBy result from to items more s s' t t'
@@ -397,41 +469,42 @@ module _ (from to : OpenedVault) (items : List Planned) (texts more : List (List
 
 -- a further text is written
 module _ (compose : Compose) (from to : OpenedVault) (items : List Planned) (texts others : List (List ℕ)) (s s1 s2 : Option ByteStream) (t u w : Option Told) where
-  pub texts_then : {T E : Type 0} (result : Result T E) → Kept items t u → Draws s s1 [] → WritesOnly (λ file. Contains texts file) t u → WritesBy result from to items others s1 s2 u w
+  pub texts_then : {T E : Type 0} (result : Result T E) → Kept items t u → Draws s s1 [] → WritesBeside to.root (λ file. Contains texts file) t u → WritesBy result from to items others s1 s2 u w
       → WritesBy result from to items (texts ++ others) s s2 t w
   texts_then (Ok value) kept undrawn files h = all_on compose from to [] items texts others s s1 s2 t u w kept (texts_alone from to [] texts s s1 t u undrawn files) h
   texts_then (Err fault) kept undrawn files h = first_on compose from to [] items texts others s s1 s2 t u w kept (texts_alone from to [] texts s s1 t u undrawn files) h
 
-  pub then_texts : WritesAll from to items texts s s1 t u → Draws s1 s2 [] → WritesOnly (λ file. Contains others file) u w → WritesAll from to items (texts ++ others) s s2 t w
+  pub then_texts : WritesAll from to items texts s s1 t u → Draws s1 s2 [] → WritesBeside to.root (λ file. Contains others file) u w → WritesAll from to items (texts ++ others) s s2 t w
   then_texts all undrawn files = record {
     made = all.made;
     writes = record {
       drawn = subst (Draws s s2) (append-nil (slices all.made)) (compose s s1 s2 (slices all.made) [] all.writes.drawn undrawn);
       copies = all.writes.copies;
-      files = only_on (IsOneOf to all.made texts) (λ file. Contains others file) (IsOneOf to all.made (texts ++ others))
+      files = only_on (BringsOnlyTo to.root (IsMadePlace to all.made)) (BringsOnlyTo to.root (λ at. ⊥)) (BringsOnlyTo to.root (IsMadePlace to all.made))
+          (IsOneOf to all.made texts) (λ file. Contains others file) (IsOneOf to all.made (texts ++ others)) (λ call is. is) (brings_more to.root (λ at. ⊥) (IsMadePlace to all.made) (λ at none. absurd none))
           (λ file h. elim h [ inl text ↦ inl (in_first texts others file text) | inr item ↦ inr item ]) (λ file text. inl (in_second texts others file text)) t u w all.writes.files files;
     };
     full = all.full;
   }
 
-pub nothing_yet : (from to : OpenedVault) (items : List Planned) (texts : List (List ℕ)) (s s' : Option ByteStream) (t u : Option Told) → Draws s s' [] → WritesOnly (λ file. ⊥) t u → WritesFirst from to items texts s s' t u
+pub nothing_yet : (from to : OpenedVault) (items : List Planned) (texts : List (List ℕ)) (s s' : Option ByteStream) (t u : Option Told) → Draws s s' [] → WritesBeside to.root (λ file. ⊥) t u → WritesFirst from to items texts s s' t u
 nothing_yet from to items texts s s' t u undrawn files = record {
   made = [];
   first = [];
   rest = items;
   are = refl;
-  writes = record { drawn = undrawn; copies = λ v is. tt; files = only_more (λ file. ⊥) (IsOneOf to [] texts) (λ file none. absurd none) t u files };
+  writes = record { drawn = undrawn; copies = λ v is. tt; files = beside_made to [] (λ file. ⊥) (IsOneOf to [] texts) (λ file none. absurd none) t u files };
   full = λ v is. tt;
 }
 
-pub texts_first : (from to : OpenedVault) (items : List Planned) (texts : List (List ℕ)) (s s' : Option ByteStream) (t u : Option Told) → Draws s s' [] → WritesOnly (λ file. Contains texts file) t u
+pub texts_first : (from to : OpenedVault) (items : List Planned) (texts : List (List ℕ)) (s s' : Option ByteStream) (t u : Option Told) → Draws s s' [] → WritesBeside to.root (λ file. Contains texts file) t u
     → WritesFirst from to items texts s s' t u
 texts_first from to items texts s s' t u undrawn files = record {
   made = [];
   first = [];
   rest = items;
   are = refl;
-  writes = record { drawn = undrawn; copies = λ v is. tt; files = only_more (λ file. Contains texts file) (IsOneOf to [] texts) (λ file text. inl text) t u files };
+  writes = record { drawn = undrawn; copies = λ v is. tt; files = beside_made to [] (λ file. Contains texts file) (IsOneOf to [] texts) (λ file text. inl text) t u files };
   full = λ v is. tt;
 }
 
@@ -480,7 +553,7 @@ by_all (Ok value) from to items texts s s' t t' all = all
 by_all (Err fault) from to items texts s s' t t' all = first_of_all from to items texts s s' t t' all
 
 pub nothing_written : (s : Option ByteStream) (t u : Option Told) → Draws s s [] → u ≡ t → WritesNothing s s t u
-nothing_written s t u undrawn same = record { undrawn = undrawn; files = only_nowhere (λ file. ⊥) t u same }
+nothing_written s t u undrawn same = record { undrawn = undrawn; files = only_nowhere (BringsOnlyTo [] (λ at. ⊥)) (λ file. ⊥) t u same }
 
 -- the vaults are those of two roots and their passphrases
 pub tree_of : {T E : Type 0} (result : Result T E) (from to : Path) (pass pass' : List ℕ) (source target : OpenedVault) (s s' : Option ByteStream) (t t' : Option Told) → source.root ≡ from → target.root ≡ to
@@ -498,9 +571,9 @@ tree_of result from to pass pass' source target s s' t t' at_from at_to opens op
 ]
 
 -- behind a call by which nothing is written and what is seen stays so
-module _ (s s' : Option ByteStream) (t u w : Option Told) (known : (v : View) → IsSeen t v → IsSeen u v) (before : WritesOnly (λ file. ⊥) t u) where
+module _ (s s' : Option ByteStream) (t u w : Option Told) (known : (v : View) → IsSeen t v → IsSeen u v) (before : WritesBeside [] (λ file. ⊥) t u) where
   nothing_after : WritesNothing s s' u w → WritesNothing s s' t w
-  nothing_after h = record { undrawn = h.undrawn; files = only_on (λ file. ⊥) (λ file. ⊥) (λ file. ⊥) (λ file none. none) (λ file none. none) t u w before h.files }
+  nothing_after h = record { undrawn = h.undrawn; files = beside_on [] (λ file. ⊥) (λ file. ⊥) (λ file. ⊥) (λ file none. none) (λ file none. none) t u w before h.files }
 
   lacked_after : {T E : Type 0} (result : Result T E) (from to : OpenedVault) → WritesLacked result from to s s' u w → WritesLacked result from to s s' t w
   lacked_after result from to h = record {

@@ -1,9 +1,10 @@
 -- What a migration writes: the bytes that it draws, item by item, and the files that it makes.
-use Rattle.std.specs.Prelude.{◌≡◌, ◌⊎◌, ◌≤◌, ◌<◌, ℕ, not, List, [], ◌∷◌, ◌++◌, length, map, Contains, Option, Result, Ok, Err}
+use Rattle.std.specs.Prelude.{◌≡◌, ◌⊎◌, ◌≤◌, ◌<◌, ℕ, not, List, [], ◌∷◌, ◌++◌, length, map, Contains, None, Option, Result, Ok, Err}
 use Rattle.std.specs.List.{concat, filter}
-use Rattle.folder_spec.specs.Event.{Told}
+use Rattle.folder_spec.specs.Edit.{edits_under}
+use Rattle.folder_spec.specs.Event.{Append, Call, Create, MakeDir, RemoveDir, RemoveFile, Rename, Settle, Sync, Told}
 use Rattle.folder_spec.specs.Moments.{Moments}
-use Rattle.folder_spec.specs.Path.{Path}
+use Rattle.folder_spec.specs.Path.{Path, below}
 use Rattle.folder_spec.specs.Seen.{IsSeen, under}
 use Rattle.folder_spec.specs.State.{State, BeginsWith}
 use Rattle.folder_spec.specs.View.{View}
@@ -15,9 +16,10 @@ use Rattle.port_model.specs.Draws.{ByteStream, Draws}
 use Rattle.tree_match.specs.Comparing.{content_at}
 use Rattle.vault_read.specs.Opened.{OpenedVault}
 use Rattle.vault_spec.specs.Format.{Directory}
-use Rattle.vault_spec.specs.Making.{NewItem, NewDirectory, NewFile, draws, files}
+use Rattle.vault_spec.specs.Making.{NewItem, NewDirectory, NewFile, draws, edits, files}
 use Rattle.vault_spec.specs.Plan.{Planned}
 use Rattle.vault_spec.specs.Vault.{Vault, IsVault, format_of}
+use Rattle.vault_write.specs.Making.{IsPlace}
 use Rattle.migrate_core.specs.Causes.{AreItemsOf}
 use Rattle.migrate_core.specs.Moved.{StandsIn, done_of, is_there, opened_in}
 use Rattle.migrate_core.specs.Sides.{new_journal}
@@ -67,6 +69,19 @@ pub record IsFileOf (to : OpenedVault) (x : MadeItem) (file : List ℕ) : Type 0
   pub is : x.path ≡ front ++ name ∷ []
   pub among : Contains (files (format_of to.vault) dir name x.item x.drawn) file
 
+-- a place of the item in the target: what an edit that makes it brings comes there, as the vault showed the directory
+pub record IsPlaceOf (to : OpenedVault) (x : MadeItem) (at : Path) : Type 0 where
+  pub front : plain.Path
+  pub name : List ℕ
+  pub dir : Directory
+  pub view : View
+  pub is : x.path ≡ front ++ name ∷ []
+  pub place : IsPlace (edits_under to.root (edits (format_of to.vault) view dir name x.item x.drawn)) at
+
+-- a place of one of these items
+abbrev pub IsMadePlace : OpenedVault → List MadeItem → Path → Type 0
+IsMadePlace to made at = (x : MadeItem) × Contains made x × IsPlaceOf to x at
+
 -- one of these texts, or of the files of these items
 abbrev pub IsOneOf : OpenedVault → List MadeItem → List (List ℕ) → List ℕ → Type 0
 IsOneOf to made texts file = Contains texts file ⊎ ((x : MadeItem) × Contains made x × IsFileOf to x file)
@@ -77,15 +92,30 @@ pub record HoldsOnly (P : List ℕ → Type 0) (s0 s : State) : Type 0 where
   pub made : s0.made ≤ s.made
   pub fronts : (n : ℕ) → s0.made ≤ n → n < s.made → (file : List ℕ) × P file × BeginsWith file (s.nodes n).now
 
--- at each moment
-abbrev pub WritesOnly : (List ℕ → Type 0) → Option Told → Option Told → Type 0
-WritesOnly P = Moments (HoldsOnly P) (λ s0 s e. Unit {0})
+-- What the call brings to the root comes to one of these places.
+abbrev pub BringsOnlyTo : Path → (Path → Type 0) → Call → Type 0
+BringsOnlyTo root P (MakeDir at) = (below root at ≡ None) ⊎ P at
+BringsOnlyTo root P (Create at) = (below root at ≡ None) ⊎ P at
+BringsOnlyTo root P (Rename old at) = (below root at ≡ None) ⊎ P at
+BringsOnlyTo root P (Append at piece) = Unit {0}
+BringsOnlyTo root P (Sync at) = Unit {0}
+BringsOnlyTo root P Settle = Unit {0}
+BringsOnlyTo root P (RemoveFile at) = Unit {0}
+BringsOnlyTo root P (RemoveDir at) = Unit {0}
 
--- These items were made, with these texts: what was drawn, of which items of the source they are, and what was written.
+-- at each moment; and each call is one of these
+abbrev pub WritesOnly : (Call → Type 0) → (List ℕ → Type 0) → Option Told → Option Told → Type 0
+WritesOnly Q P = Moments (HoldsOnly P) (λ s0 s e. Q e.call)
+
+-- and nothing comes to the root
+abbrev pub WritesBeside : Path → (List ℕ → Type 0) → Option Told → Option Told → Type 0
+WritesBeside root P = WritesOnly (BringsOnlyTo root (λ at. ⊥)) P
+
+-- These items were made, with these texts: what was drawn, of which items of the source they are, and what was written, and where.
 pub record Writes (from to : OpenedVault) (items : List Planned) (made : List MadeItem) (texts : List (List ℕ)) (stream stream' : Option ByteStream) (told told' : Option Told) : Type 0 where
   pub drawn : Draws stream stream' (slices made)
   pub copies : (v : View) → IsSeen told v → AreCopies from v items made
-  pub files : WritesOnly (IsOneOf to made texts) told told'
+  pub files : WritesOnly (BringsOnlyTo to.root (IsMadePlace to made)) (IsOneOf to made texts) told told'
 
 -- all of these items
 pub record WritesAll (from to : OpenedVault) (items : List Planned) (texts : List (List ℕ)) (stream stream' : Option ByteStream) (told told' : Option Told) : Type 0 where
@@ -123,10 +153,10 @@ pub record WritesLacked {T E : Type 0} (result : Result T E) (from to : OpenedVa
   pub there_are : (v : View) → IsSeen told v → AreItemsOf to v there
   pub writes : WritesBy result from to (lacked there items) (journal_texts from.root to.root items) stream stream' told told'
 
--- nothing is drawn, and no file is made or written
+-- nothing is drawn, and nothing is made or written
 pub record WritesNothing (stream stream' : Option ByteStream) (told told' : Option Told) : Type 0 where
   pub undrawn : Draws stream stream' []
-  pub files : WritesOnly (λ file. ⊥) told told'
+  pub files : WritesBeside [] (λ file. ⊥) told told'
 
 -- where a test fails nothing is written
 abbrev pub MayWrite : {T E : Type 0} → Result T E → OpenedVault → OpenedVault → Option ByteStream → Option ByteStream → Option Told → Option Told → Type 0

@@ -20,7 +20,7 @@ ghost use Rattle.migrate_core.specs.Faults.{Blamed};
 ghost use Rattle.migrate_core.specs.Leading.{FinishesEach, LeadsTold, progress_of};
 ghost use Rattle.migrate_core.specs.Moved.{Moved, StandsIn, done_of, lacking};
 ghost use Rattle.migrate_core.specs.Moving.{MovesOnly};
-ghost use Rattle.migrate_core.specs.Written.{WritesBy, WritesOnly, lacked};
+ghost use Rattle.migrate_core.specs.Written.{WritesBeside, WritesBy, lacked};
 ghost use Rattle.migrate_core.specs.Sides.{AllowsEach, AreSeparate, IsWalked, StandAll, side_of};
 
 use crate::fault::MoveFault;
@@ -103,7 +103,7 @@ pub(crate) fn finish<F: Folder>(
     ensures grows { F.faults folder.old ≤ F.faults folder.new }
     ensures blamed { IfErr result (Blamed (CountRose (F.faults folder.old) (F.faults folder.new)) ⊥) }
     ensures moving { IfErr result (StopsLater (HasCopied sides.now.source sides.now.target source.now.items) (F.told folder.old)) }
-    ensures written { WritesOnly (λ file. Contains (journal_text (done_of journal) ∷ []) file) (F.told folder.old) (F.told folder.new) }
+    ensures written { WritesBeside sides.now.target.root (λ file. Contains (journal_text (done_of journal) ∷ []) file) (F.told folder.old) (F.told folder.new) }
 {
     files_have_their_contents();
     guarded_migrations_are_seen();
@@ -166,7 +166,7 @@ fn say_done<F: Folder>(
     ensures grows { F.faults folder.old ≤ F.faults folder.new }
     ensures blamed { IfErr result (Blamed (CountRose (F.faults folder.old) (F.faults folder.new)) ⊥) }
     ensures moving { IfErr result (IsStop (Unit {0}) nothing_stops) }
-    ensures written { WritesOnly (λ file. Contains (journal_text (done_of journal) ∷ []) file) (F.told folder.old) (F.told folder.new) }
+    ensures written { (root : Path) → AreApart root work.now → WritesBeside root (λ file. Contains (journal_text (done_of journal) ∷ []) file) (F.told folder.old) (F.told folder.new) }
 {
     journals_keep_migrations_guarded();
     match journal.phase {

@@ -23,8 +23,8 @@ use Rattle.migrate_core.specs.Causes.{IsOfMoving, Moves, Unless, StopsAt}
 use Rattle.migrate_core.specs.Copying.{HasCopied, HaveOwnFolders}
 use Rattle.migrate_core.proofs.Copyings.{copied_as}
 use Rattle.migrate_core.specs.Faults.{of_folder, of_work}
-use Rattle.migrate_core.proofs.Writings.{changing_writes, in_first, journal_written, kept_by, lacked_is, none_ordered, nothing_yet, only_more, only_on, source_beside_at, texts_first, texts_then}
-use Rattle.migrate_core.specs.Written.{WritesBy, WritesOnly, journal_texts, lacked}
+use Rattle.migrate_core.proofs.Writings.{changing_writes, in_first, journal_written, kept_by, lacked_is, none_ordered, nothing_yet, beside_on, only_more, source_beside_at, texts_first, texts_then}
+use Rattle.migrate_core.specs.Written.{BringsOnlyTo, WritesBeside, WritesBy, journal_texts, lacked}
 use Rattle.move_journal.specs.Journal.{journal_text}
 use Rattle.migrate_core.proofs.Stopping.{if_stops_before, seen_stops}
 use Rattle.migrate_core.proofs.beginning.move_all.Goals as goal
@@ -255,7 +255,7 @@ returns-in_err-entered-clause-written g c =
     let told = g.F.Folder.told c.args.folder.now in
     let left = g.R.Randoms.left c.args.random.now in
     let entered = g.F.Folder.told c.enter.new.folder in
-    let entering = changing_writes work (IsWorkOrStage work) (IsLeftOver work) told entered c.enter.ensures.enters.moments in
+    let entering = changing_writes work (IsWorkOrStage work) (IsLeftOver work) to.root c.requires.apart.target told entered c.enter.ensures.enters.moments in
     let p = err_from_is_err_and c.from_residual.result c.from_residual.ensures.1 in
     refused_as (λ answer. WritesBy answer from to (lacked [] items) texts left left told entered) c.from_residual.result p.0 p.0 p.1 refl
     (nothing_yet from to (lacked [] items) texts left left told entered (c.draws_compose.ensures.none left) entering)
@@ -270,7 +270,7 @@ returns-in_err-journal-clause-written g c =
     let told = g.F.Folder.told c.args.folder.now in
     let left = g.R.Randoms.left c.args.random.now in
     let entered = g.F.Folder.told c.enter.new.folder in
-    let entering = changing_writes work (IsWorkOrStage work) (IsLeftOver work) told entered c.enter.ensures.enters.moments in
+    let entering = changing_writes work (IsWorkOrStage work) (IsLeftOver work) to.root c.requires.apart.target told entered c.enter.ensures.enters.moments in
     let p = err_from_is_err_and c.from_residual-in_err-journal.result c.from_residual-in_err-journal.ensures.1 in
     refused_as (λ answer. WritesBy answer from to (lacked [] items) texts left left told entered) c.from_residual-in_err-journal.result p.0 p.0 p.1 refl
     (nothing_yet from to (lacked [] items) texts left left told entered (c.draws_compose.ensures.none left) entering)
@@ -285,18 +285,18 @@ returns-in_err-write-clause-written g c =
     let told = g.F.Folder.told c.args.folder.now in
     let left = g.R.Randoms.left c.args.random.now in
     let entered = g.F.Folder.told c.enter.new.folder in
-    let entering = changing_writes work (IsWorkOrStage work) (IsLeftOver work) told entered c.enter.ensures.enters.moments in
+    let entering = changing_writes work (IsWorkOrStage work) (IsLeftOver work) to.root c.requires.apart.target told entered c.enter.ensures.enters.moments in
     let written = g.F.Folder.told c.write.new.folder in
     let j = c.in_ok-journal.journal in
     let is = c.in_ok-journal.ensures.new ∙ ap (λ r. new_journal r c.root-2.result.now items) c.root.ensures ∙ ap (λ r. new_journal from.root r items) c.root-2.ensures in
-    let writing = subst (λ (k : Journal). WritesOnly (λ file. Contains (journal_text k ∷ []) file) entered written) is (journal_written work j entered written c.write.ensures.moments) in
+    let writing = subst (λ (k : Journal). WritesBeside to.root (λ file. Contains (journal_text k ∷ []) file) entered written) is (journal_written work to.root c.requires.apart.target j entered written c.write.ensures.moments) in
     let first = journal_text (new_journal from.root to.root items) ∷ [] in
     let last = journal_text (done_of (new_journal from.root to.root items)) ∷ [] in
-    let so_far = only_on (λ file. ⊥) (λ file. Contains first file) (λ file. Contains first file) (λ file none. absurd none) (λ file text. text) told entered written entering writing in
+    let so_far = beside_on to.root (λ file. ⊥) (λ file. Contains first file) (λ file. Contains first file) (λ file none. absurd none) (λ file text. text) told entered written entering writing in
     let p = err_from_is_err_and c.from_residual-in_err-write.result c.from_residual-in_err-write.ensures.1 in
     refused_as (λ answer. WritesBy answer from to (lacked [] items) texts left left told written) c.from_residual-in_err-write.result p.0 p.0 p.1 refl
     (texts_first from to (lacked [] items) texts left left told written (c.draws_compose.ensures.none left)
-    (only_more (λ file. Contains first file) (λ file. Contains texts file) (λ file text. in_first first last file text) told written so_far))
+    (only_more (BringsOnlyTo to.root (λ at. ⊥)) (BringsOnlyTo to.root (λ at. ⊥)) (λ file. Contains first file) (λ file. Contains texts file) (λ call is. is) (λ file text. in_first first last file text) told written so_far))
 
 pub returns-clause-written : goal.returns-clause-written
 returns-clause-written g c =
@@ -308,14 +308,14 @@ returns-clause-written g c =
     let told = g.F.Folder.told c.args.folder.now in
     let left = g.R.Randoms.left c.args.random.now in
     let entered = g.F.Folder.told c.enter.new.folder in
-    let entering = changing_writes work (IsWorkOrStage work) (IsLeftOver work) told entered c.enter.ensures.enters.moments in
+    let entering = changing_writes work (IsWorkOrStage work) (IsLeftOver work) to.root c.requires.apart.target told entered c.enter.ensures.enters.moments in
     let written = g.F.Folder.told c.write.new.folder in
     let j = c.in_ok-journal.journal in
     let is = c.in_ok-journal.ensures.new ∙ ap (λ r. new_journal r c.root-2.result.now items) c.root.ensures ∙ ap (λ r. new_journal from.root r items) c.root-2.ensures in
-    let writing = subst (λ (k : Journal). WritesOnly (λ file. Contains (journal_text k ∷ []) file) entered written) is (journal_written work j entered written c.write.ensures.moments) in
+    let writing = subst (λ (k : Journal). WritesBeside to.root (λ file. Contains (journal_text k ∷ []) file) entered written) is (journal_written work to.root c.requires.apart.target j entered written c.write.ensures.moments) in
     let first = journal_text (new_journal from.root to.root items) ∷ [] in
     let last = journal_text (done_of (new_journal from.root to.root items)) ∷ [] in
-    let so_far = only_on (λ file. ⊥) (λ file. Contains first file) (λ file. Contains first file) (λ file none. absurd none) (λ file text. text) told entered written entering writing in
+    let so_far = beside_on to.root (λ file. ⊥) (λ file. Contains first file) (λ file. Contains first file) (λ file none. absurd none) (λ file text. text) told entered written entering writing in
     let after = g.F.Folder.told c.go_on.new.folder in
     let left2 = g.R.Randoms.left c.go_on.new.random in
     let region = apart_from_both work to.root in

@@ -13,7 +13,7 @@ use Rattle.migrate_core.specs.Sides.{IsWalked}
 use Rattle.migrate_core.specs.Moved.{done_of}
 use Rattle.migrate_core.proofs.Writings.{only_nowhere}
 use Rattle.move_journal.specs.Journal.{journal_text}
-use Rattle.migrate_core.specs.Written.{WritesOnly}
+use Rattle.migrate_core.specs.Written.{BringsOnlyTo, WritesBeside}
 use Rattle.std.proofs.Common.{IfErr}
 use Rattle.tree_match.specs.Trees.{IsSameOrTooLong, match_of}
 use Rattle.migrate_core.proofs.Causing.{never_more, refused_as, stop_more}
@@ -112,16 +112,16 @@ returns-clause-moved g c =
     (c.say_done.ensures.moves to.root c.requires.apart.target) (c.say_done.ensures.moves from.root c.requires.apart.source) c.in_ok-say_done.ensures.says (length c.as_slice.result.now) (ap length c.as_slice.ensures)
 
 pub returns-in_err-target-clause-written : goal.returns-in_err-target-clause-written
-returns-in_err-target-clause-written g c = only_nowhere (λ file. Contains (journal_text (done_of c.args.journal) ∷ []) file) (g.F.Folder.told c.args.folder.now) (g.F.Folder.told c.walk_one.new.folder) c.walk_one.ensures.told
+returns-in_err-target-clause-written g c = only_nowhere (BringsOnlyTo c.args.sides.now.target.root (λ at. ⊥)) (λ file. Contains (journal_text (done_of c.args.journal) ∷ []) file) (g.F.Folder.told c.args.folder.now) (g.F.Folder.told c.walk_one.new.folder) c.walk_one.ensures.told
 
 pub returns-in_err-test_same-clause-written : goal.returns-in_err-test_same-clause-written
-returns-in_err-test_same-clause-written g c = only_nowhere (λ file. Contains (journal_text (done_of c.args.journal) ∷ []) file) (g.F.Folder.told c.args.folder.now) (g.F.Folder.told c.test_same.new.folder) (c.test_same.ensures.told ∙ c.walk_one.ensures.told)
+returns-in_err-test_same-clause-written g c = only_nowhere (BringsOnlyTo c.args.sides.now.target.root (λ at. ⊥)) (λ file. Contains (journal_text (done_of c.args.journal) ∷ []) file) (g.F.Folder.told c.args.folder.now) (g.F.Folder.told c.test_same.new.folder) (c.test_same.ensures.told ∙ c.walk_one.ensures.told)
 
 pub returns-in_err-say_done-clause-written : goal.returns-in_err-say_done-clause-written
-returns-in_err-say_done-clause-written g c = subst (λ t. WritesOnly (λ file. Contains (journal_text (done_of c.args.journal) ∷ []) file) t (g.F.Folder.told c.say_done.new.folder)) (c.test_same.ensures.told ∙ c.walk_one.ensures.told) c.say_done.ensures.written
+returns-in_err-say_done-clause-written g c = subst (λ t. WritesBeside c.args.sides.now.target.root (λ file. Contains (journal_text (done_of c.args.journal) ∷ []) file) t (g.F.Folder.told c.say_done.new.folder)) (c.test_same.ensures.told ∙ c.walk_one.ensures.told) (c.say_done.ensures.written c.args.sides.now.target.root c.requires.apart.target)
 
 pub returns-clause-written : goal.returns-clause-written
-returns-clause-written g c = subst (λ t. WritesOnly (λ file. Contains (journal_text (done_of c.args.journal) ∷ []) file) t (g.F.Folder.told c.say_done.new.folder)) (c.test_same.ensures.told ∙ c.walk_one.ensures.told) c.say_done.ensures.written
+returns-clause-written g c = subst (λ t. WritesBeside c.args.sides.now.target.root (λ file. Contains (journal_text (done_of c.args.journal) ∷ []) file) t (g.F.Folder.told c.say_done.new.folder)) (c.test_same.ensures.told ∙ c.walk_one.ensures.told) (c.say_done.ensures.written c.args.sides.now.target.root c.requires.apart.target)
 
 pub returns-in_err-target-clause-moving : goal.returns-in_err-target-clause-moving
 returns-in_err-target-clause-moving g c =

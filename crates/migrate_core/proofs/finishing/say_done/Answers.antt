@@ -4,6 +4,7 @@ use Rattle.migrate_core.proofs.Endings.{says_done_here, says_failed, written_sta
 use Rattle.migrate_core.specs.Moved.{StandsIn, done_of}
 use Rattle.migrate_core.proofs.WorkFolders.{written_moves}
 use Rattle.migrate_core.proofs.Writings.{journal_written, only_nowhere}
+use Rattle.migrate_core.specs.Written.{BringsOnlyTo}
 use Rattle.move_journal.specs.Journal.{journal_text}
 use Rattle.migrate_core.proofs.finishing.say_done.Goals as goal
 
@@ -39,10 +40,10 @@ returns-in_ok-write-in-Building-clause-says g c =
     written_stands c.args.work.now (done_of c.args.journal) (g.F.Folder.told c.args.folder.now) (g.F.Folder.told c.write.new.folder) c.in_ok-write-in-Building.ensures.written
 
 pub returns-in-Done-clause-written : goal.returns-in-Done-clause-written
-returns-in-Done-clause-written g c = only_nowhere (λ file. Contains (journal_text (done_of c.args.journal) ∷ []) file) (g.F.Folder.told c.args.folder.now) (g.F.Folder.told c.args.folder.now) refl
+returns-in-Done-clause-written g c root apart = only_nowhere (BringsOnlyTo root (λ at. ⊥)) (λ file. Contains (journal_text (done_of c.args.journal) ∷ []) file) (g.F.Folder.told c.args.folder.now) (g.F.Folder.told c.args.folder.now) refl
 
 pub returns-in_ok-write-in-Building-clause-written : goal.returns-in_ok-write-in-Building-clause-written
-returns-in_ok-write-in-Building-clause-written g c = journal_written c.args.work.now (done_of c.args.journal) (g.F.Folder.told c.args.folder.now) (g.F.Folder.told c.write.new.folder) c.write.ensures.moments
+returns-in_ok-write-in-Building-clause-written g c root apart = journal_written c.args.work.now root apart (done_of c.args.journal) (g.F.Folder.told c.args.folder.now) (g.F.Folder.told c.write.new.folder) c.write.ensures.moments
 
 pub returns-in_err-write-in-Building-clause-written : goal.returns-in_err-write-in-Building-clause-written
-returns-in_err-write-in-Building-clause-written g c = journal_written c.args.work.now (done_of c.args.journal) (g.F.Folder.told c.args.folder.now) (g.F.Folder.told c.write.new.folder) c.write.ensures.moments
+returns-in_err-write-in-Building-clause-written g c root apart = journal_written c.args.work.now root apart (done_of c.args.journal) (g.F.Folder.told c.args.folder.now) (g.F.Folder.told c.write.new.folder) c.write.ensures.moments

@@ -76,7 +76,7 @@ returns-in_err-place_dir-in-Dir-clause-written g c =
     let copy = directory_copy from item told c.item.inside.path made.drawn path node in
     let p = err_from_is_err_and c.from_residual.result c.from_residual.ensures.1 in
     refused_as (λ answer. WritesBy answer from to (item ∷ []) [] left left' told told') c.from_residual.result p.0 p.0 p.1 refl
-    (one_begun from to item x left left' told told' c.place_dir.result made.were_drawn copy (item_made to c.args.work.now x Whole told told' c.place_dir.result made.makes))
+    (one_begun from to item x left left' told told' c.place_dir.result made.were_drawn copy (item_made to c.args.work.now c.requires.apart.target x Whole told told' c.place_dir.result made.makes))
 
 pub returns-in_ok-place_dir-in-Dir-clause-written : goal.returns-in_ok-place_dir-in-Dir-clause-written
 returns-in_ok-place_dir-in-Dir-clause-written g c =
@@ -92,7 +92,7 @@ returns-in_ok-place_dir-in-Dir-clause-written g c =
     let made = c.in_ok-place_dir-in-Dir.ensures.made in
     let x : MadeItem = record { path = c.item.inside.path; item = NewDirectory; drawn = made.drawn } in
     let copy = directory_copy from item told c.item.inside.path made.drawn path node in
-    one_written from to item x left left' told told' made.were_drawn copy (item_made to c.args.work.now x Whole told told' (Ok tt) made.makes)
+    one_written from to item x left left' told told' made.were_drawn copy (item_made to c.args.work.now c.requires.apart.target x Whole told told' (Ok tt) made.makes)
 
 pub returns-in_err-place_dir-in-Dir-clause-moving : goal.returns-in_err-place_dir-in-Dir-clause-moving
 returns-in_err-place_dir-in-Dir-clause-moving g c =

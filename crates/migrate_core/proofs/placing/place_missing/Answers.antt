@@ -8,7 +8,7 @@ use Rattle.vault_write.specs.Making.{is_apart}
 use Rattle.migrate_core.proofs.Blaming.{blamed_since}
 use Rattle.migrate_core.proofs.Leadings.{goes_failed, goes_on, guards_on, leads_on, one_view, seen_before, still_guards, still_leads}
 use Rattle.migrate_core.proofs.Movings.{moves_nowhere, moves_on, moves_to, source_apart, walked_stays}
-use Rattle.migrate_core.specs.Written.{WritesAll, WritesBy, WritesFirst, lacked}
+use Rattle.migrate_core.specs.Written.{BringsOnlyTo, WritesAll, WritesBy, WritesFirst, lacked}
 use Rattle.migrate_core.proofs.Writings.{all_on, first_of_more, first_on, kept_by, lacked_is, lacked_next, lacked_split, next_among, only_nowhere, source_place, texts_alone}
 use Rattle.migrate_core.proofs.Causing.{refused_as}
 use Rattle.migrate_core.proofs.Stopping.{stops_before}
@@ -33,7 +33,7 @@ loop-item-init g c =
       moves = moves_nowhere (is_apart c.args.work.now c.args.sides.now.target.root) c.args.sides.now.target.root told told refl;
       counted = λ ordered. refl;
       written = λ ordered. texts_alone c.args.sides.now.source c.args.sides.now.target [] [] (g.R.Randoms.left c.args.random.now) (g.R.Randoms.left c.args.random.now) told told
-          (c.draws_compose.ensures.none (g.R.Randoms.left c.args.random.now)) (only_nowhere (λ file. Contains [] file) told told refl);
+          (c.draws_compose.ensures.none (g.R.Randoms.left c.args.random.now)) (only_nowhere (BringsOnlyTo c.args.sides.now.target.root (λ at. ⊥)) (λ file. Contains [] file) told told refl);
       copied = λ v w is_v is_w h. none_copied c.args.sides.now.source c.args.sides.now.target c.args.there.now v w (one_view told v w is_v is_w) h;
       none = λ all. refl;
     }

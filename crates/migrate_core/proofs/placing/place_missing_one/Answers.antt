@@ -9,7 +9,7 @@ use Rattle.migrate_core.proofs.Searched.{there_by, there_where}
 use Rattle.migrate_core.proofs.Writings.{only_nowhere, texts_alone}
 use Rattle.migrate_core.proofs.Causing.{refused_as}
 use Rattle.std.proofs.lemmas.Result.{err_from_is_err_and}
-use Rattle.migrate_core.specs.Written.{WritesAll, WritesBy, WritesFirst, lacked}
+use Rattle.migrate_core.specs.Written.{BringsOnlyTo, WritesAll, WritesBy, WritesFirst, lacked}
 use Rattle.migrate_core.specs.Causes.{StopsSeen}
 use Rattle.migrate_core.specs.Copying.{Enters}
 use Rattle.migrate_core.proofs.Copyings.{stands_copied}
@@ -69,7 +69,7 @@ returns-then-stands-clause-written g c ordered =
     let left = g.R.Randoms.left c.args.random.now in
     let item = c.args.item.now in
     subst (λ b. WritesAll from to (cond (not b) (item ∷ []) []) [] left left told told) (sym c.if-stands.true ∙ c.stands.ensures ordered)
-    (texts_alone from to [] [] left left told told (c.draws_compose.ensures.none left) (only_nowhere (λ file. Contains [] file) told told refl))
+    (texts_alone from to [] [] left left told told (c.draws_compose.ensures.none left) (only_nowhere (BringsOnlyTo to.root (λ at. ⊥)) (λ file. Contains [] file) told told refl))
 
 pub returns-in_err-place-clause-moving : goal.returns-in_err-place-clause-moving
 returns-in_err-place-clause-moving g c =

@@ -11,7 +11,7 @@ use Rattle.migrate_core.specs.Moving.{MovesOnly}
 use Rattle.migrate_core.specs.Sides.{AreSeparate, StandAll}
 use Rattle.migrate_core.proofs.Leadings.{alone_goes, goes_failed, then_known}
 use Rattle.migrate_core.proofs.Movings.{moves_on, moves_to, seen_stays, source_beside, turned_over, walked_stays}
-use Rattle.migrate_core.proofs.Restaged.{rest_goes, stage_alone, stage_moves, stage_stays, still_known}
+use Rattle.migrate_core.proofs.Restaged.{rest_goes, stage_alone, stage_apart, stage_moves, stage_stays, still_known}
 use Rattle.migrate_core.proofs.WorkFolders.{staging_has, work_folder_stays}
 use Rattle.folder_spec.specs.Seen.{IsSeen}
 use Rattle.folder_spec.specs.View.{View}
@@ -24,7 +24,7 @@ use Rattle.migrate_core.specs.Copying.{HasCopied, HaveOwnFolders}
 use Rattle.migrate_core.proofs.Copyings.{copied_as}
 use Rattle.migrate_core.specs.Faults.{of_work}
 use Rattle.migrate_core.proofs.Writings.{changing_writes, kept_by, lacked_is, nothing_yet, only_more, source_beside_at, texts_then}
-use Rattle.migrate_core.specs.Written.{WritesBy, lacked}
+use Rattle.migrate_core.specs.Written.{BringsOnlyTo, WritesBy, lacked}
 use Rattle.move_journal.specs.Journal.{journal_text}
 use Rattle.migrate_core.proofs.Blaming.{blamed_later}
 use Rattle.migrate_core.proofs.Stopping.{if_stops_before, seen_stops}
@@ -181,7 +181,7 @@ returns-in_err-again-clause-written g c v seen =
     let told = g.F.Folder.told c.args.folder.now in
     let ready = g.F.Folder.told c.again.new.folder in
     let left = g.R.Randoms.left c.args.random.now in
-    let staging = changing_writes (stage_path work) (IsStage work) (IsBelowStage work) told ready c.again.ensures.restages.moments in
+    let staging = changing_writes (stage_path work) (IsStage work) (IsBelowStage work) to.root (stage_apart work to.root c.requires.apart.target) told ready c.again.ensures.restages.moments in
     let p = err_from_is_err_and c.from_residual.result c.from_residual.ensures.1 in
     refused_as (λ answer. WritesBy answer from to (lacked there items) texts left left told ready) c.from_residual.result p.0 p.0 p.1 refl
     (nothing_yet from to (lacked there items) texts left left told ready (c.draws_compose.ensures.none left) staging)
@@ -197,7 +197,7 @@ returns-clause-written g c v seen =
     let told = g.F.Folder.told c.args.folder.now in
     let ready = g.F.Folder.told c.again.new.folder in
     let left = g.R.Randoms.left c.args.random.now in
-    let staging = changing_writes (stage_path work) (IsStage work) (IsBelowStage work) told ready c.again.ensures.restages.moments in
+    let staging = changing_writes (stage_path work) (IsStage work) (IsBelowStage work) to.root (stage_apart work to.root c.requires.apart.target) told ready c.again.ensures.restages.moments in
     let after = g.F.Folder.told c.go_on.new.folder in
     let left2 = g.R.Randoms.left c.go_on.new.random in
     let region = apart_from_both work to.root in
@@ -205,7 +205,7 @@ returns-clause-written g c v seen =
     (λ one among. source_beside_at from to.root work items one c.requires.apart c.requires.source (lacked_is there items one among))
     (moves_to region to.root told ready (stage_moves work to.root told ready c.requires.apart.target c.again.ensures.restages.moments)) in
     texts_then c.draws_compose.ensures.composed from to (lacked there items) [] texts left left left2 told ready after c.go_on.result kept (c.draws_compose.ensures.none left)
-    (only_more (λ file. ⊥) (λ file. Contains [] file) (λ file none. absurd none) told ready staging)
+    (only_more (BringsOnlyTo to.root (λ at. ⊥)) (BringsOnlyTo to.root (λ at. ⊥)) (λ file. ⊥) (λ file. Contains [] file) (λ call is. is) (λ file none. absurd none) told ready staging)
     (subst (λ xs. WritesBy c.go_on.result from to (lacked xs items) texts left left2 ready after) c.as_slice-there.ensures
     (c.go_on.ensures.written (subst IsOrdered (sym c.as_slice-there.ensures) (c.requires.target.ordered v seen))))
 

@@ -1,5 +1,5 @@
 -- What is written, one item after the other.
-use Rattle.std.proofs.Common.{◌≡◌, ◌+◌, inl, inr, ◌≤◌, ◌<◌, ℕ, zero, suc, nat_lt, Bool, true, false, not, cond, List, [], ◌∷◌, ◌++◌, length, take, drop, get_or, Contains, Option, Some, None, IsTrue, Result, Ok, Err, OnOk, refl, sym, ap, ◌∙◌, subst, subst₂, arith, append_assoc, append-nil}
+use Rattle.std.proofs.Common.{◌≡◌, ◌≢◌, IfErr, ◌+◌, inl, inr, ◌≤◌, ◌<◌, ℕ, zero, suc, nat_lt, Bool, true, false, not, cond, List, [], ◌∷◌, ◌++◌, length, take, drop, get_or, Contains, Option, Some, None, IsTrue, Result, Ok, Err, OnOk, refl, sym, ap, ◌∙◌, subst, subst₂, arith, append_assoc, append-nil}
 use Rattle.std.specs.List.{concat}
 use Rattle.std.proofs.lemmas.Bool.{ltb-true, ltb-false}
 use Rattle.std.proofs.lemmas.List.Elements.{filter-append}
@@ -12,7 +12,7 @@ use Rattle.folder_spec.specs.Seen.{IsSeen, seen}
 use Rattle.folder_spec.specs.State.{Node, State, BeginsWith}
 use Rattle.folder_spec.specs.View.{Found, View}
 use Rattle.folder_spec.proofs.Moments.{went_by_call}
-use Rattle.folder_spec.proofs.Paths.{base_or_child}
+use Rattle.folder_spec.proofs.Paths.{base_or_child, one_or_not}
 use Rattle.folder_spec.specs.Event.{Changes, Settle, Steps, changed}
 use Rattle.folder_spec.specs.Path.{Path}
 use Rattle.folder_spec.specs.Region.{IsAsBefore, Spares, SparesOld, apart_from}
@@ -21,7 +21,16 @@ use Rattle.folder_spec.specs.Written.{HoldFronts}
 use Rattle.folder_spec.specs.declared.FolderFault.{FolderFault}
 use Rattle.content_writing.specs.Content.{Coming, Ending, content_limit, coming_read, held_before}
 use Rattle.content_writing.specs.declared.fault.PutFault.{PutFault}
+use Rattle.content_writing.specs.declared.fault.PutFault.TheVariants as put
 use Rattle.content_writing.specs.declared.fault.PutFault.TheVariants.{Taken}
+use Rattle.folder_spec.specs.declared.FolderFault.TheVariants as folder
+use Rattle.work_folder.specs.declared.fault.WorkFault.{WorkFault}
+use Rattle.work_folder.specs.declared.fault.WorkFault.TheVariants as works
+use Rattle.vault_write.specs.Refusing.{Answers, DrewZeros, HasTaken, TakesRoot}
+use Rattle.migrate_core.proofs.Leadings.{seen_then}
+use Rattle.migrate_core.specs.Faults.{of_folder, of_put, of_work}
+use Rattle.migrate_core.specs.declared.fault.MoveFault.{MoveFault}
+use Rattle.migrate_core.specs.declared.fault.MoveFault.TheVariants.{Place}
 use Rattle.move_journal.specs.Journal.{IsJournal, journal_text}
 use Rattle.move_journal.specs.Writing.{IsWriting, elsewhere}
 use Rattle.move_journal.specs.Writing as journal
@@ -53,12 +62,12 @@ use Rattle.tree_match.specs.Guard.{AreApart}
 use Rattle.migrate_core.proofs.Planned.{FilesFit, reader_of}
 use Rattle.migrate_core.specs.Moved.{StandsIn, done_of, is_there, opened_in}
 use Rattle.migrate_core.proofs.Causing.{Passed}
-use Rattle.migrate_core.specs.Causes.{TestsItems, Unless}
+use Rattle.migrate_core.specs.Causes.{IsStop, StopsLater, TestsItems, Unless, nothing_stops}
 use Rattle.folder_spec.specs.Region.{apart_from_both}
 use Rattle.vault_walk.specs.Survey.{IsOrdered}
 use Rattle.move_journal.specs.declared.journal.Phase.TheVariants.{Done}
 use Rattle.migrate_core.specs.Sides.{AreSeparate, AreTold, IsItemOf, IsWalked, new_journal}
-use Rattle.migrate_core.specs.Written.{BringsOnlyTo, IsMadePlace, IsPlaceOf, WritesBeside, AreCopies, AreFull, AreFullButLast, HoldsOnly, IsCopyOf, IsFileOf, IsFull, IsOneOf, MadeItem, MayWrite, MayWriteTold, MayWriteTree, Writes, WritesAll, WritesBy, WritesFirst, WritesLacked, WritesNothing, WritesOnly, WritesTree, journal_texts, lacked, slices}
+use Rattle.migrate_core.specs.Written.{IsLast, HasGone, StopsLast, WasSeen, BringsOnlyTo, IsMadePlace, IsPlaceOf, WritesBeside, AreCopies, AreFull, AreFullButLast, HoldsOnly, IsCopyOf, IsFileOf, IsFull, IsOneOf, MadeItem, MayWrite, MayWriteTold, MayWriteTree, Writes, WritesAll, WritesBy, WritesFirst, WritesLacked, WritesNothing, WritesOnly, WritesTree, journal_texts, lacked, slices}
 
 -- ---- members
 
@@ -216,6 +225,68 @@ known_before P R (Some a) (Some b) told later v is = later (seen b.state) refl
 known_before P R None u told later v is = absurd is
 known_before P R (Some a) None told later v is = absurd told
 
+-- ---- why the last stops
+
+not_place : (Is : Type 0) (fault : MoveFault) → IsStop Is nothing_stops fault → (why : PutFault) → fault ≢ Place why
+not_place Is fault stops why is = subst (IsStop Is nothing_stops) is stops
+
+-- of no item
+pub none_last : (to : OpenedVault) (made : List MadeItem) (t u : Option Told) (fault : MoveFault) → ((v : View) → IsSeen t v → (why : PutFault) → fault ≢ Place why) → StopsLast to made t u fault
+none_last to made t u fault none = record { zeros = λ is v seen_v. absurd (none v seen_v put.ZeroRandom is); taken = λ at is v seen_v. absurd (none v seen_v (put.Taken at) is) }
+
+pub stop_last : (to : OpenedVault) (made : List MadeItem) (t u : Option Told) (fault : MoveFault) (Is : Type 0) → IsStop Is nothing_stops fault → StopsLast to made t u fault
+stop_last to made t u fault Is stops = none_last to made t u fault (λ v seen_v. not_place Is fault stops)
+
+pub folder_last : (to : OpenedVault) (made : List MadeItem) (t u : Option Told) (fault : FolderFault) → StopsLast to made t u (of_folder fault)
+folder_last to made t u fault = none_last to made t u (of_folder fault) (λ v seen_v. by fault)
+  where
+    by : (fault : FolderFault) (why : PutFault) → of_folder fault ≢ Place why
+    by folder.Failed why is = cc is
+    by folder.Refused why is = cc is
+    by folder.NoMemory why is = cc is
+
+pub work_last : (to : OpenedVault) (made : List MadeItem) (t u : Option Told) (fault : WorkFault) → StopsLast to made t u (of_work fault)
+work_last to made t u fault = none_last to made t u (of_work fault) (λ v seen_v. by fault)
+  where
+    by : (fault : WorkFault) (why : PutFault) → of_work fault ≢ Place why
+    by (works.NoParent p) why is = cc is
+    by (works.WrongKind p) why is = cc is
+    by (works.Foreign p) why is = cc is
+    by works.Begun why is = cc is
+    by works.Depth why is = cc is
+    by works.Failed why is = cc is
+    by works.NoMemory why is = cc is
+
+passed_of : (P : State → Type 0) (Q : State → Event → Type 0) (a b : Told) → Went P Q a b → HasGone a b
+passed_of P Q a b went = went_more P (λ s. Unit {0}) Q (λ s e. Unit {0}) a b (λ s h. tt) (λ s e h. tt) went
+
+was_seen_on : (C : Call → Type 0) (P : List ℕ → Type 0) (t u w : Option Told) (v : View) → WritesOnly C P t u → WasSeen u w v → WasSeen t w v
+was_seen_on C P t u w v =
+    from_to_on (λ a b. Went (HoldsOnly P a.state) (Calls C) a b) (λ b e. (c : Told) × HasGone b c × HasGone c e × (v ≡ seen c.state)) (λ a e. (c : Told) × HasGone a c × HasGone c e × (v ≡ seen c.state)) t u w
+    (λ a b e went was. (was.0, went_on (λ s. Unit {0}) (λ s e. Unit {0}) a b was.0 (passed_of (HoldsOnly P a.state) (Calls C) a b went) was.1, was.2, was.3))
+
+-- what is seen at first
+was_first : (P : State → State → Type 0) (Q : State → State → Event → Type 0) (t u : Option Told) (v : View) → FromTo (λ a b. Went (P a.state) (Q a.state) a b) t u → IsSeen t v → WasSeen t u v
+was_first P Q (Some a) (Some b) v went is = (a, went_nowhere (λ s. Unit {0}) (λ s e. Unit {0}) a tt, passed_of (P a.state) (Q a.state) a b went, is)
+was_first P Q (Some a) None v went is = absurd went
+was_first P Q None u v went is = absurd is
+
+-- behind others
+last_on : (C : Call → Type 0) (P : List ℕ → Type 0) (to : OpenedVault) (made others : List MadeItem) (t u w : Option Told) (fault : MoveFault) → WritesOnly C P t u → StopsLast to others u w fault → StopsLast to (made ++ others) t w fault
+last_on C P to made others t u w fault before h = record {
+  zeros = λ is v seen_v.
+      let then_ = seen_then (λ a b. Went (HoldsOnly P a.state) (Calls C) a b) t u before v seen_v in
+      let z = h.zeros is then_.0 then_.1 in
+      (z.0, is_last z.0 z.1, z.2);
+  taken = λ at is v seen_v.
+      let then_ = seen_then (λ a b. Went (HoldsOnly P a.state) (Calls C) a b) t u before v seen_v in
+      let z = h.taken at is then_.0 then_.1 in
+      (z.0, z.1, is_last z.0 z.2, was_seen_on C P t u w z.1 before z.3, z.4);
+}
+  where
+    is_last : (x : MadeItem) → IsLast others x → IsLast (made ++ others) x
+    is_last x last = (made ++ last.0, ap (λ (ys : List MadeItem). made ++ ys) last.1 ∙ sym (append_assoc made last.0 (x ∷ [])))
+
 -- ---- one part after another
 
 abbrev pub Compose : Type 0
@@ -242,8 +313,8 @@ module _ (compose : Compose) (from to : OpenedVault) (items more : List Planned)
   }
 
 module _ (compose : Compose) (from to : OpenedVault) (items more : List Planned) (texts others : List (List ℕ)) (s s1 s2 : Option ByteStream) (t u w : Option Told) where
-  pub first_on : Kept more t u → WritesAll from to items texts s s1 t u → WritesFirst from to more others s1 s2 u w → WritesFirst from to (items ++ more) (texts ++ others) s s2 t w
-  first_on kept one other = record {
+  pub first_on : Kept more t u → WritesAll from to items texts s s1 t u → (fault : MoveFault) → WritesFirst fault from to more others s1 s2 u w → WritesFirst fault from to (items ++ more) (texts ++ others) s s2 t w
+  first_on kept one fault other = record {
     made = one.made ++ other.made;
     first = items ++ other.first;
     rest = other.rest;
@@ -251,6 +322,7 @@ module _ (compose : Compose) (from to : OpenedVault) (items more : List Planned)
     writes = writes_on compose from to items other.first texts others s s1 s2 t u w one.made other.made
         (from_to_more _ _ t u (λ a b is kept item among. kept item (subst (λ (xs : List Planned). Contains xs item) (sym other.are) (in_first other.first other.rest item among))) kept) one.writes other.writes;
     full = λ v is. full_before to one.made other.made (one.full v is) (known_before (AreFullButLast to other.made) _ t u one.writes.files other.full v is);
+    last = last_on (BringsOnlyTo to.root (IsMadePlace to one.made)) (IsOneOf to one.made texts) to one.made other.made t u w fault one.writes.files other.last;
   }
 
 -- what comes nowhere in the target comes to places of items
@@ -258,17 +330,18 @@ beside_made : (to : OpenedVault) (made : List MadeItem) (P R : List ℕ → Type
 beside_made to made P R more = only_more (BringsOnlyTo to.root (λ at. ⊥)) (BringsOnlyTo to.root (IsMadePlace to made)) P R (brings_more to.root (λ at. ⊥) (IsMadePlace to made) (λ at none. absurd none)) more
 
 module _ (from to : OpenedVault) (items : List Planned) (texts : List (List ℕ)) (s s' : Option ByteStream) (t t' : Option Told) where
-  pub first_of_all : WritesAll from to items texts s s' t t' → WritesFirst from to items texts s s' t t'
-  first_of_all all = record { made = all.made; first = items; rest = []; are = sym (append-nil items); writes = all.writes; full = λ v is. all_full to all.made (all.full v is) }
+  pub first_of_all : (fault : MoveFault) → ((v : View) → IsSeen t v → (why : PutFault) → fault ≢ Place why) → WritesAll from to items texts s s' t t' → WritesFirst fault from to items texts s s' t t'
+  first_of_all fault other all = record { last = none_last to all.made t t' fault other; made = all.made; first = items; rest = []; are = sym (append-nil items); writes = all.writes; full = λ v is. all_full to all.made (all.full v is) }
 
-  pub first_of_more : (more : List Planned) → WritesFirst from to items texts s s' t t' → WritesFirst from to (items ++ more) texts s s' t t'
-  first_of_more more some = record {
+  pub first_of_more : (more : List Planned) (fault : MoveFault) → WritesFirst fault from to items texts s s' t t' → WritesFirst fault from to (items ++ more) texts s s' t t'
+  first_of_more more fault some = record {
     made = some.made;
     first = some.first;
     rest = some.rest ++ more;
     are = ap (λ (xs : List Planned). xs ++ more) some.are ∙ append_assoc some.first some.rest more;
     writes = some.writes;
     full = some.full;
+    last = some.last;
   }
 
   -- no item, and only a text
@@ -344,6 +417,62 @@ item_made to work apart x ending t u result made = elim (base_or_child x.path) [
     by (Ok value) one = λ v is. (one.answer v is).2
     by (Err fault) one = tt
 
+-- why it stops
+put_is : (why other : PutFault) → of_put why ≡ Place other → why ≡ other
+put_is (put.Find fault) other is = cc is
+put_is (put.NotAllowed path) other is = cc is
+put_is (put.Taken at) other is = cc is
+put_is (put.Damaged at fault) other is = cc is
+put_is (put.Limit which) other is = cc is
+put_is put.ZeroRandom other is = cc is
+put_is put.Source other is = cc is
+put_is put.Random other is = cc is
+put_is put.Failed other is = cc is
+put_is put.NoMemory other is = cc is
+
+abbrev Given : PutFault → Result (Unit {0}) PutFault
+Given why = Err why
+
+pub item_stops : (to : OpenedVault) (work : Path) (x : MadeItem) (ending : Ending) (t u : Option Told) (why : PutFault) → MakesAt New to work x.path x.item ending x.drawn t u (Err why) → StopsLast to (x ∷ []) t u (of_put why)
+item_stops to work x ending t u why made = elim (base_or_child x.path) [
+  | inl root ↦ root_stops root (made.root root)
+  | inr named ↦ named_stops named.0 named.1 named.2 (made.named named.0 named.1 named.2)
+]
+  where
+    placing : plain.Path → List ℕ → Placing
+    placing front name = record { vault = to; work = work; front = front; name = name; item = x.item }
+
+    root_stops : x.path ≡ [] → (u ≡ t) × (x.drawn ≡ []) × TakesRoot to.root (Err why) → StopsLast to (x ∷ []) t u (of_put why)
+    root_stops root h = record {
+      zeros = λ is v seen_v. let never : Given put.ZeroRandom ≡ Err put.NoMemory = subst (λ y. TakesRoot to.root (Given y)) (put_is why put.ZeroRandom is) h.2 (λ e. cc e) in cc never;
+      taken = λ at is v seen_v.
+          let takes : TakesRoot to.root (Given (put.Taken at)) = subst (λ y. TakesRoot to.root (Given y)) (put_is why (put.Taken at) is) h.2 in
+          (x, v, ([], refl), was_first (λ s0. HoldsOnly (λ file. ⊥) s0) (λ s0. Calls (λ call. Unit {0})) t u v (only_nowhere (λ call. Unit {0}) (λ file. ⊥) t u h.0) seen_v, inr (root, elim (one_or_not at to.root) [
+            | inl same ↦ same
+            | inr other ↦ (let never : Given (put.Taken at) ≡ Err put.NoMemory = takes (λ e. other.0 (taken_is e)) in cc never)
+          ]));
+    }
+      where
+        taken_is : {p q : Path} → Given (put.Taken p) ≡ Given (put.Taken q) → p ≡ q
+        taken_is e = cc e
+
+    named_stops : (front : plain.Path) (name : List ℕ) → x.path ≡ front ++ name ∷ [] → MakesOne New (placing front name) ending x.drawn t u (Err why) → StopsLast to (x ∷ []) t u (of_put why)
+    named_stops front name at_path one =
+        let p : Placing = placing front name in
+        record {
+          zeros = λ is v seen_v.
+              let z : DrewZeros p x.drawn = subst (λ y. Answers p x.drawn ending (under to.root v) (Err y)) (put_is why put.ZeroRandom is) (one.answer v seen_v) in
+              (x, ([], refl), record { refused = z.refused; before = z.before; zeros = z.zeros });
+          taken = λ at is v seen_v.
+              let h : (place : Path) × (at ≡ to.root ++ place) × HasTaken p x.drawn (under to.root v) (Some place) = subst (λ y. Answers p x.drawn ending (under to.root v) (Err y)) (put_is why (put.Taken at) is) (one.answer v seen_v) in (
+                x,
+                v,
+                ([], refl),
+                was_first (λ s0. IsMaking p ending (making_at p (new_item p x.drawn) s0) s0) (λ s0 s e. StagesOrPlaces work (making_at p (new_item p x.drawn) s0) s e.call) t u v one.makes.moments seen_v,
+                inl (record { front = front; name = name; dir = h.2.dir; place = h.0; is = at_path; entered = h.2.there.entered; taken = h.2.is; there = h.1 }),
+              );
+        }
+
 -- it is the item of the source
 abbrev pub IsCopy : OpenedVault → Planned → Option Told → MadeItem → Type 0
 IsCopy from item t x = (v : View) → IsSeen t v → IsCopyOf from v item x
@@ -364,9 +493,10 @@ pub one_written : (from to : OpenedVault) (item : Planned) (x : MadeItem) (s s' 
     → WritesAll from to (item ∷ []) [] s s' t u
 one_written from to item x s s' t u drawn copy makes = record { made = x ∷ []; writes = writes_one from to item x s s' t u drawn copy makes.files; full = λ v is. (makes.full v is, tt) }
 
-pub one_begun : (from to : OpenedVault) (item : Planned) (x : MadeItem) (s s' : Option ByteStream) (t u : Option Told) (result : Result (Unit {0}) PutFault) → Draws s s' x.drawn → IsCopy from item t x → MakesItem to x t u result
-    → WritesFirst from to (item ∷ []) [] s s' t u
-one_begun from to item x s s' t u result drawn copy makes = record {
+pub one_begun : (from to : OpenedVault) (item : Planned) (x : MadeItem) (s s' : Option ByteStream) (t u : Option Told) (why : PutFault) → Draws s s' x.drawn → IsCopy from item t x → MakesItem to x t u (Err why)
+    → StopsLast to (x ∷ []) t u (of_put why) → WritesFirst (of_put why) from to (item ∷ []) [] s s' t u
+one_begun from to item x s s' t u why drawn copy makes last = record {
+  last = last;
   made = x ∷ [];
   first = item ∷ [];
   rest = [];
@@ -450,9 +580,9 @@ module _ (from to : OpenedVault) (items : List Planned) (texts : List (List ℕ)
         (brings_none to.root (IsMadePlace to made)) (λ call is. is) (λ file none. absurd none) (λ file is. is) t u w before h.files;
   }
 
-  pub by_after : {T E : Type 0} (result : Result T E) → WritesBy result from to items texts s s' u w → WritesBy result from to items texts s s' t w
+  pub by_after : {T : Type 0} (result : Result T MoveFault) → WritesBy result from to items texts s s' u w → WritesBy result from to items texts s s' t w
   by_after (Ok value) h = record { made = h.made; writes = writes_after items h.made h.writes; full = λ v is. h.full v (known v is) }
-  by_after (Err fault) h = record { made = h.made; first = h.first; rest = h.rest; are = h.are; writes = writes_after h.first h.made h.writes; full = λ v is. h.full v (known v is) }
+  by_after (Err fault) h = record { last = last_on (BringsOnlyTo [] (λ at. ⊥)) (λ file. ⊥) to [] h.made t u w fault before h.last; made = h.made; first = h.first; rest = h.rest; are = h.are; writes = writes_after h.first h.made h.writes; full = λ v is. h.full v (known v is) }
 
 -- with further texts
 module _ (from to : OpenedVault) (items : List Planned) (texts more : List (List ℕ)) (s s' : Option ByteStream) (t t' : Option Told) (within : (text : List ℕ) → Contains texts text → Contains more text) where
@@ -463,16 +593,16 @@ module _ (from to : OpenedVault) (items : List Planned) (texts more : List (List
     files = only_more (BringsOnlyTo to.root (IsMadePlace to made)) (BringsOnlyTo to.root (IsMadePlace to made)) (IsOneOf to made texts) (IsOneOf to made more) (λ call is. is) (λ file is. elim is [ inl text ↦ inl (within file text) | inr item ↦ inr item ]) t t' h.files;
   }
 
-  pub by_texts : {T E : Type 0} (result : Result T E) → WritesBy result from to items texts s s' t t' → WritesBy result from to items more s s' t t'
+  pub by_texts : {T : Type 0} (result : Result T MoveFault) → WritesBy result from to items texts s s' t t' → WritesBy result from to items more s s' t t'
   by_texts (Ok value) h = record { made = h.made; writes = writes_texts items h.made h.writes; full = h.full }
-  by_texts (Err fault) h = record { made = h.made; first = h.first; rest = h.rest; are = h.are; writes = writes_texts h.first h.made h.writes; full = h.full }
+  by_texts (Err fault) h = record { last = h.last; made = h.made; first = h.first; rest = h.rest; are = h.are; writes = writes_texts h.first h.made h.writes; full = h.full }
 
 -- a further text is written
 module _ (compose : Compose) (from to : OpenedVault) (items : List Planned) (texts others : List (List ℕ)) (s s1 s2 : Option ByteStream) (t u w : Option Told) where
-  pub texts_then : {T E : Type 0} (result : Result T E) → Kept items t u → Draws s s1 [] → WritesBeside to.root (λ file. Contains texts file) t u → WritesBy result from to items others s1 s2 u w
+  pub texts_then : {T : Type 0} (result : Result T MoveFault) → Kept items t u → Draws s s1 [] → WritesBeside to.root (λ file. Contains texts file) t u → WritesBy result from to items others s1 s2 u w
       → WritesBy result from to items (texts ++ others) s s2 t w
   texts_then (Ok value) kept undrawn files h = all_on compose from to [] items texts others s s1 s2 t u w kept (texts_alone from to [] texts s s1 t u undrawn files) h
-  texts_then (Err fault) kept undrawn files h = first_on compose from to [] items texts others s s1 s2 t u w kept (texts_alone from to [] texts s s1 t u undrawn files) h
+  texts_then (Err fault) kept undrawn files h = first_on compose from to [] items texts others s s1 s2 t u w kept (texts_alone from to [] texts s s1 t u undrawn files) fault h
 
   pub then_texts : WritesAll from to items texts s s1 t u → Draws s1 s2 [] → WritesBeside to.root (λ file. Contains others file) u w → WritesAll from to items (texts ++ others) s s2 t w
   then_texts all undrawn files = record {
@@ -487,8 +617,10 @@ module _ (compose : Compose) (from to : OpenedVault) (items : List Planned) (tex
     full = all.full;
   }
 
-pub nothing_yet : (from to : OpenedVault) (items : List Planned) (texts : List (List ℕ)) (s s' : Option ByteStream) (t u : Option Told) → Draws s s' [] → WritesBeside to.root (λ file. ⊥) t u → WritesFirst from to items texts s s' t u
-nothing_yet from to items texts s s' t u undrawn files = record {
+pub nothing_yet : (fault : MoveFault) (from to : OpenedVault) (items : List Planned) (texts : List (List ℕ)) (s s' : Option ByteStream) (t u : Option Told) → StopsLast to [] t u fault → Draws s s' [] → WritesBeside to.root (λ file. ⊥) t u
+    → WritesFirst fault from to items texts s s' t u
+nothing_yet fault from to items texts s s' t u last undrawn files = record {
+  last = last;
   made = [];
   first = [];
   rest = items;
@@ -497,9 +629,10 @@ nothing_yet from to items texts s s' t u undrawn files = record {
   full = λ v is. tt;
 }
 
-pub texts_first : (from to : OpenedVault) (items : List Planned) (texts : List (List ℕ)) (s s' : Option ByteStream) (t u : Option Told) → Draws s s' [] → WritesBeside to.root (λ file. Contains texts file) t u
-    → WritesFirst from to items texts s s' t u
-texts_first from to items texts s s' t u undrawn files = record {
+pub texts_first : (fault : MoveFault) (from to : OpenedVault) (items : List Planned) (texts : List (List ℕ)) (s s' : Option ByteStream) (t u : Option Told) → StopsLast to [] t u fault → Draws s s' [] → WritesBeside to.root (λ file. Contains texts file) t u
+    → WritesFirst fault from to items texts s s' t u
+texts_first fault from to items texts s s' t u last undrawn files = record {
+  last = last;
   made = [];
   first = [];
   rest = items;
@@ -548,15 +681,16 @@ next_among items k item inside at one (suc j, lt, is) = absurd (omega (arith, lt
 
 -- ---- by the answer
 
-pub by_all : {T E : Type 0} (result : Result T E) (from to : OpenedVault) (items : List Planned) (texts : List (List ℕ)) (s s' : Option ByteStream) (t t' : Option Told) → WritesAll from to items texts s s' t t' → WritesBy result from to items texts s s' t t'
-by_all (Ok value) from to items texts s s' t t' all = all
-by_all (Err fault) from to items texts s s' t t' all = first_of_all from to items texts s s' t t' all
+pub by_all : {T : Type 0} (result : Result T MoveFault) (Is : View → Type 0) (from to : OpenedVault) (items : List Planned) (texts : List (List ℕ)) (s s' : Option ByteStream) (t u t' : Option Told) → ((v : View) → IsSeen t v → (w : View) × IsSeen u w) → IfErr result (StopsLater Is u)
+    → WritesAll from to items texts s s' t t' → WritesBy result from to items texts s s' t t'
+by_all (Ok value) Is from to items texts s s' t u t' after stops all = all
+by_all (Err fault) Is from to items texts s s' t u t' after stops all = first_of_all from to items texts s s' t t' fault (λ v seen_v. let w = after v seen_v in not_place (Is w.0) fault (stops w.0 w.1)) all
 
 pub nothing_written : (s : Option ByteStream) (t u : Option Told) → Draws s s [] → u ≡ t → WritesNothing s s t u
 nothing_written s t u undrawn same = record { undrawn = undrawn; files = only_nowhere (BringsOnlyTo [] (λ at. ⊥)) (λ file. ⊥) t u same }
 
 -- the vaults are those of two roots and their passphrases
-pub tree_of : {T E : Type 0} (result : Result T E) (from to : Path) (pass pass' : List ℕ) (source target : OpenedVault) (s s' : Option ByteStream) (t t' : Option Told) → source.root ≡ from → target.root ≡ to
+pub tree_of : {T : Type 0} (result : Result T MoveFault) (from to : Path) (pass pass' : List ℕ) (source target : OpenedVault) (s s' : Option ByteStream) (t t' : Option Told) → source.root ≡ from → target.root ≡ to
     → ((v : View) → IsSeen t v → IsVault (under from v) pass source.vault) → ((v : View) → IsSeen t v → IsVault (under to v) pass' target.vault)
     → MayWrite result source target s s' t t' → MayWriteTree result from to pass pass' s s' t t'
 tree_of result from to pass pass' source target s s' t t' at_from at_to opens opens' may = elim may [
@@ -575,7 +709,7 @@ module _ (s s' : Option ByteStream) (t u w : Option Told) (known : (v : View) �
   nothing_after : WritesNothing s s' u w → WritesNothing s s' t w
   nothing_after h = record { undrawn = h.undrawn; files = beside_on [] (λ file. ⊥) (λ file. ⊥) (λ file. ⊥) (λ file none. none) (λ file none. none) t u w before h.files }
 
-  lacked_after : {T E : Type 0} (result : Result T E) (from to : OpenedVault) → WritesLacked result from to s s' u w → WritesLacked result from to s s' t w
+  lacked_after : {T : Type 0} (result : Result T MoveFault) (from to : OpenedVault) → WritesLacked result from to s s' u w → WritesLacked result from to s s' t w
   lacked_after result from to h = record {
     items = h.items;
     there = h.there;
@@ -584,7 +718,7 @@ module _ (s s' : Option ByteStream) (t u w : Option Told) (known : (v : View) �
     writes = by_after from to (lacked h.there h.items) (journal_texts from.root to.root h.items) s s' t u w known before result h.writes;
   }
 
-  tree_after : {T E : Type 0} (result : Result T E) (from to : Path) (pass pass' : List ℕ) → WritesTree result from to pass pass' s s' u w → WritesTree result from to pass pass' s s' t w
+  tree_after : {T : Type 0} (result : Result T MoveFault) (from to : Path) (pass pass' : List ℕ) → WritesTree result from to pass pass' s s' u w → WritesTree result from to pass pass' s s' t w
   tree_after result from to pass pass' h = record {
     source = h.source;
     target = h.target;
@@ -593,19 +727,19 @@ module _ (s s' : Option ByteStream) (t u w : Option Told) (known : (v : View) �
     writes = lacked_after result (opened_in from h.source) (opened_in to h.target) h.writes;
   }
 
-  pub may_write_after : {T E : Type 0} (result : Result T E) (from to : Path) (pass pass' : List ℕ) → MayWriteTree result from to pass pass' s s' u w → MayWriteTree result from to pass pass' s s' t w
+  pub may_write_after : {T : Type 0} (result : Result T MoveFault) (from to : Path) (pass pass' : List ℕ) → MayWriteTree result from to pass pass' s s' u w → MayWriteTree result from to pass pass' s s' t w
   may_write_after result from to pass pass' may = elim may [
     | inl nothing ↦ inl (nothing_after nothing)
     | inr writes ↦ inr (tree_after result from to pass pass' writes)
   ]
 
-  pub told_after : {T E : Type 0} (result : Result T E) (work : Path) (pass pass' : List ℕ) (v : View) → MayWriteTold result work pass pass' s s' u w v → MayWriteTold result work pass pass' s s' t w v
+  pub told_after : {T : Type 0} (result : Result T MoveFault) (work : Path) (pass pass' : List ℕ) (v : View) → MayWriteTold result work pass pass' s s' u w v → MayWriteTold result work pass pass' s s' t w v
   told_after result work pass pass' v may = elim may [
     | inl nothing ↦ inl (nothing_after nothing)
     | inr told ↦ inr (record { journal = told.journal; is = told.is; stands = told.stands; writes = tree_after result told.journal.source told.journal.target pass pass' told.writes })
   ]
 
-pub told_of : {T E : Type 0} (result : Result T E) (work : Path) (pass pass' : List ℕ) (s s' : Option ByteStream) (t t' : Option Told) (v : View) (j : Journal) → IsJournal j → StandsIn work j v
+pub told_of : {T : Type 0} (result : Result T MoveFault) (work : Path) (pass pass' : List ℕ) (s s' : Option ByteStream) (t t' : Option Told) (v : View) (j : Journal) → IsJournal j → StandsIn work j v
     → MayWriteTree result j.source j.target pass pass' s s' t t' → MayWriteTold result work pass pass' s s' t t' v
 told_of result work pass pass' s s' t t' v j is stands may = elim may [
   | inl nothing ↦ inl nothing

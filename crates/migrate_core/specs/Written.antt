@@ -1,11 +1,11 @@
 -- What a migration writes: the bytes that it draws, item by item, and the files that it makes.
-use Rattle.std.specs.Prelude.{◌≡◌, ◌⊎◌, ◌≤◌, ◌<◌, ℕ, not, List, [], ◌∷◌, ◌++◌, length, map, Contains, None, Option, Result, Ok, Err}
+use Rattle.std.specs.Prelude.{◌≡◌, ◌⊎◌, ◌≤◌, ◌<◌, ℕ, not, List, [], ◌∷◌, ◌++◌, length, map, Contains, None, Some, Option, Result, Ok, Err, replicate, true}
 use Rattle.std.specs.List.{concat, filter}
 use Rattle.folder_spec.specs.Edit.{edits_under}
-use Rattle.folder_spec.specs.Event.{Append, Call, Create, MakeDir, RemoveDir, RemoveFile, Rename, Settle, Sync, Told}
-use Rattle.folder_spec.specs.Moments.{Moments}
+use Rattle.folder_spec.specs.Event.{Append, Call, Create, MakeDir, RemoveDir, RemoveFile, Rename, Settle, Sync, Told, FromTo}
+use Rattle.folder_spec.specs.Moments.{Moments, Went}
 use Rattle.folder_spec.specs.Path.{Path, below}
-use Rattle.folder_spec.specs.Seen.{IsSeen, under}
+use Rattle.folder_spec.specs.Seen.{IsSeen, seen, under}
 use Rattle.folder_spec.specs.State.{State, BeginsWith}
 use Rattle.folder_spec.specs.View.{View}
 use Rattle.move_journal.specs.Journal.{IsJournal, journal_text}
@@ -15,11 +15,16 @@ use Rattle.plain_tree.specs.declared.NodeKind.TheVariants.{Dir, File}
 use Rattle.port_model.specs.Draws.{ByteStream, Draws}
 use Rattle.tree_match.specs.Comparing.{content_at}
 use Rattle.vault_read.specs.Opened.{OpenedVault}
+use Rattle.vault_spec.specs.Find.{enter}
 use Rattle.vault_spec.specs.Format.{Directory}
-use Rattle.vault_spec.specs.Making.{NewItem, NewDirectory, NewFile, draws, edits, files}
+use Rattle.vault_spec.specs.Making.{NewItem, NewDirectory, NewFile, draws, edits, files, taken}
 use Rattle.vault_spec.specs.Plan.{Planned}
 use Rattle.vault_spec.specs.Vault.{Vault, IsVault, format_of}
 use Rattle.vault_write.specs.Making.{IsPlace}
+use Rattle.chunk_files.specs.Keys as contents
+use Rattle.content_writing.specs.declared.fault.PutFault.TheVariants as put
+use Rattle.migrate_core.specs.declared.fault.MoveFault.{MoveFault}
+use Rattle.migrate_core.specs.declared.fault.MoveFault.TheVariants.{Place}
 use Rattle.migrate_core.specs.Causes.{AreItemsOf}
 use Rattle.migrate_core.specs.Moved.{StandsIn, done_of, is_there, opened_in}
 use Rattle.migrate_core.specs.Sides.{new_journal}
@@ -82,6 +87,10 @@ pub record IsPlaceOf (to : OpenedVault) (x : MadeItem) (at : Path) : Type 0 wher
 abbrev pub IsMadePlace : OpenedVault → List MadeItem → Path → Type 0
 IsMadePlace to made at = (x : MadeItem) × Contains made x × IsPlaceOf to x at
 
+-- a call, or a part of it
+abbrev pub HasGone : Told → Told → Type 0
+HasGone = Went (λ s. Unit {0}) (λ s e. Unit {0})
+
 -- one of these texts, or of the files of these items
 abbrev pub IsOneOf : OpenedVault → List MadeItem → List (List ℕ) → List ℕ → Type 0
 IsOneOf to made texts file = Contains texts file ⊎ ((x : MadeItem) × Contains made x × IsFileOf to x file)
@@ -123,14 +132,51 @@ pub record WritesAll (from to : OpenedVault) (items : List Planned) (texts : Lis
   pub writes : Writes from to items made texts stream stream' told told'
   pub full : (v : View) → IsSeen told v → AreFull to made
 
+-- ---- why the last of them stops
+
+-- this was seen at a moment of a call
+abbrev pub WasSeen : Option Told → Option Told → View → Type 0
+WasSeen told told' v = FromTo (λ a b. (c : Told) × HasGone a c × HasGone c b × (v ≡ seen c.state)) told told'
+
+-- a place of the item is taken in the target as it is seen, under its slice
+pub record IsTaken (to : OpenedVault) (x : MadeItem) (v : View) (at : Path) : Type 0 where
+  pub front : plain.Path
+  pub name : List ℕ
+  pub dir : Directory
+  pub place : Path
+  pub is : x.path ≡ front ++ name ∷ []
+  pub entered : enter (format_of to.vault) (under to.root v) front ≡ Ok dir
+  pub taken : taken (format_of to.vault) (under to.root v) dir name x.item x.drawn ≡ Some place
+  pub there : at ≡ to.root ++ place
+
+-- or it is the root
+abbrev pub IsTakenAt : OpenedVault → MadeItem → View → Path → Type 0
+IsTakenAt to x v at = IsTaken to x v at ⊎ ((x.path ≡ []) × (at ≡ to.root))
+
+-- its slice ends in sixteen zero bytes, where these are refused
+pub record EndsInZeros (to : OpenedVault) (x : MadeItem) : Type 0 where
+  pub refused : (contents.format_of (format_of to.vault).content).refuses_zeros ≡ true
+  pub before : List ℕ
+  pub zeros : x.drawn ≡ before ++ replicate 16 0
+
+abbrev pub IsLast : List MadeItem → MadeItem → Type 0
+IsLast made x = (before : List MadeItem) × (made ≡ before ++ x ∷ [])
+
+-- Zeros are refused, and a place is named as taken, only of the last of these items: that its slice ends so, or that the place was taken
+-- at a moment of the call.
+pub record StopsLast (to : OpenedVault) (made : List MadeItem) (told told' : Option Told) (fault : MoveFault) : Type 0 where
+  pub zeros : fault ≡ Place put.ZeroRandom → (v : View) → IsSeen told v → (x : MadeItem) × IsLast made x × EndsInZeros to x
+  pub taken : (at : Path) → fault ≡ Place (put.Taken at) → (v : View) → IsSeen told v → (x : MadeItem) × (u : View) × IsLast made x × WasSeen told told' u × IsTakenAt to x u at
+
 -- the first of them
-pub record WritesFirst (from to : OpenedVault) (items : List Planned) (texts : List (List ℕ)) (stream stream' : Option ByteStream) (told told' : Option Told) : Type 0 where
+pub record WritesFirst (fault : MoveFault) (from to : OpenedVault) (items : List Planned) (texts : List (List ℕ)) (stream stream' : Option ByteStream) (told told' : Option Told) : Type 0 where
   pub made : List MadeItem
   pub first : List Planned
   pub rest : List Planned
   pub are : items ≡ first ++ rest
   pub writes : Writes from to first made texts stream stream' told told'
   pub full : (v : View) → IsSeen told v → AreFullButLast to made
+  pub last : StopsLast to made told told' fault
 
 -- the items whose path none of those has
 abbrev pub lacked : List Planned → List Planned → List Planned
@@ -141,12 +187,12 @@ abbrev pub journal_texts : Path → Path → List Planned → List (List ℕ)
 journal_texts from to items = journal_text (new_journal from to items) ∷ journal_text (done_of (new_journal from to items)) ∷ []
 
 -- by the answer: all of them after Ok, or the first of them
-abbrev pub WritesBy : {T E : Type 0} → Result T E → OpenedVault → OpenedVault → List Planned → List (List ℕ) → Option ByteStream → Option ByteStream → Option Told → Option Told → Type 0
+abbrev pub WritesBy : {T : Type 0} → Result T MoveFault → OpenedVault → OpenedVault → List Planned → List (List ℕ) → Option ByteStream → Option ByteStream → Option Told → Option Told → Type 0
 WritesBy (Ok value) = WritesAll
-WritesBy (Err fault) = WritesFirst
+WritesBy (Err fault) = WritesFirst fault
 
 -- between two opened vaults, the items of the source that the target lacks
-pub record WritesLacked {T E : Type 0} (result : Result T E) (from to : OpenedVault) (stream stream' : Option ByteStream) (told told' : Option Told) : Type 0 where
+pub record WritesLacked {T : Type 0} (result : Result T MoveFault) (from to : OpenedVault) (stream stream' : Option ByteStream) (told told' : Option Told) : Type 0 where
   pub items : List Planned
   pub there : List Planned
   pub items_are : (v : View) → IsSeen told v → AreItemsOf from v items
@@ -159,26 +205,26 @@ pub record WritesNothing (stream stream' : Option ByteStream) (told told' : Opti
   pub files : WritesBeside [] (λ file. ⊥) told told'
 
 -- where a test fails nothing is written
-abbrev pub MayWrite : {T E : Type 0} → Result T E → OpenedVault → OpenedVault → Option ByteStream → Option ByteStream → Option Told → Option Told → Type 0
+abbrev pub MayWrite : {T : Type 0} → Result T MoveFault → OpenedVault → OpenedVault → Option ByteStream → Option ByteStream → Option Told → Option Told → Type 0
 MayWrite result from to stream stream' told told' = WritesNothing stream stream' told told' ⊎ WritesLacked result from to stream stream' told told'
 
 -- of the vaults that two roots and their passphrases are
-pub record WritesTree {T E : Type 0} (result : Result T E) (from to : Path) (from_pass to_pass : List ℕ) (stream stream' : Option ByteStream) (told told' : Option Told) : Type 0 where
+pub record WritesTree {T : Type 0} (result : Result T MoveFault) (from to : Path) (from_pass to_pass : List ℕ) (stream stream' : Option ByteStream) (told told' : Option Told) : Type 0 where
   pub source : Vault
   pub target : Vault
   pub opens_source : (v : View) → IsSeen told v → IsVault (under from v) from_pass source
   pub opens_target : (v : View) → IsSeen told v → IsVault (under to v) to_pass target
   pub writes : WritesLacked result (opened_in from source) (opened_in to target) stream stream' told told'
 
-abbrev pub MayWriteTree : {T E : Type 0} → Result T E → (from to : Path) (from_pass to_pass : List ℕ) → Option ByteStream → Option ByteStream → Option Told → Option Told → Type 0
+abbrev pub MayWriteTree : {T : Type 0} → Result T MoveFault → (from to : Path) (from_pass to_pass : List ℕ) → Option ByteStream → Option ByteStream → Option Told → Option Told → Type 0
 MayWriteTree result from to from_pass to_pass stream stream' told told' = WritesNothing stream stream' told told' ⊎ WritesTree result from to from_pass to_pass stream stream' told told'
 
 -- of those that the journal tells which stands in the work folder
-pub record WritesTold {T E : Type 0} (result : Result T E) (work : Path) (from_pass to_pass : List ℕ) (stream stream' : Option ByteStream) (told told' : Option Told) (v : View) : Type 0 where
+pub record WritesTold {T : Type 0} (result : Result T MoveFault) (work : Path) (from_pass to_pass : List ℕ) (stream stream' : Option ByteStream) (told told' : Option Told) (v : View) : Type 0 where
   pub journal : Journal
   pub is : IsJournal journal
   pub stands : StandsIn work journal v
   pub writes : WritesTree result journal.source journal.target from_pass to_pass stream stream' told told'
 
-abbrev pub MayWriteTold : {T E : Type 0} → Result T E → Path → (from_pass to_pass : List ℕ) → Option ByteStream → Option ByteStream → Option Told → Option Told → View → Type 0
+abbrev pub MayWriteTold : {T : Type 0} → Result T MoveFault → Path → (from_pass to_pass : List ℕ) → Option ByteStream → Option ByteStream → Option Told → Option Told → View → Type 0
 MayWriteTold result work from_pass to_pass stream stream' told told' v = WritesNothing stream stream' told told' ⊎ WritesTold result work from_pass to_pass stream stream' told told' v

@@ -1,4 +1,4 @@
-use Rattle.std.proofs.Common.{◌≡◌, ◌∙◌, ap, sym, subst, [], arith, refl, ◌∷◌, IfErr}
+use Rattle.std.proofs.Common.{◌≡◌, ◌∙◌, ap, sym, subst, [], arith, ◌∷◌, IfErr}
 use Rattle.std.proofs.lemmas.Result.{err_from_is_err_and}
 use Rattle.folder_spec.specs.Region.{apart_from_both}
 use Rattle.folder_spec.specs.Seen.{IsSeen}
@@ -119,8 +119,8 @@ returns-in_err-placed-clause-written g c ordered =
     let left1 = g.R.Randoms.left c.place_missing.new.random in
     let p = err_from_is_err_and c.from_residual.result c.from_residual.ensures.1 in
     by_texts from to (lacked there items) [] texts left left1 told here (λ text none. absurd (omega (arith, none.1))) c.from_residual.result
-    (refused_as (λ answer. WritesBy answer from to (lacked there items) [] left left1 told here) c.from_residual.result p.0 p.0 p.1 refl
-    (subst (λ xs. WritesFirst from to (lacked there xs) [] left left1 told here) c.as_slice-items.ensures (c.in_err-placed.ensures.written ordered)))
+    (refused_as (λ answer. WritesBy answer from to (lacked there items) [] left left1 told here) c.from_residual.result p.0 c.in_err-placed.field-0.0 p.1 p.2
+    (subst (λ xs. WritesFirst c.in_err-placed.field-0.0 from to (lacked there xs) [] left left1 told here) c.as_slice-items.ensures (c.in_err-placed.ensures.written ordered)))
 
 pub returns-clause-written : goal.returns-clause-written
 returns-clause-written g c ordered =
@@ -134,7 +134,7 @@ returns-clause-written g c ordered =
     let left = g.R.Randoms.left c.args.random.now in
     let left1 = g.R.Randoms.left c.place_missing.new.random in
     let told' = g.F.Folder.told c.finish.new.folder in
-    by_all c.finish.result from to (lacked there items) texts left left1 told told'
+    by_all c.finish.result (HasCopied from to items) from to (lacked there items) texts left left1 told here told' (seen_then _ told here c.place_missing.ensures.moves) c.finish.ensures.moving
     (then_texts c.draws_compose.ensures.composed from to (lacked there items) [] texts left left1 left1 told here told'
     (subst (λ xs. WritesAll from to (lacked there xs) [] left left1 told here) c.as_slice-items.ensures (c.in_ok-placed.ensures.written ordered)) (c.draws_compose.ensures.none left1) c.finish.ensures.written)
 

@@ -1,4 +1,4 @@
-use Rattle.std.proofs.Common.{Err, Ok, sym, ap, ◌∙◌, subst, [], refl, ◌∷◌, IfErr}
+use Rattle.std.proofs.Common.{Err, Ok, sym, ap, ◌∙◌, subst, [], ◌∷◌, IfErr}
 use Rattle.std.proofs.lemmas.Result.{err_from_is_err_and}
 use Rattle.content_writing.specs.Content.{Whole}
 use Rattle.tree_match.specs.Alone.{Begun}
@@ -8,7 +8,7 @@ use Rattle.vault_write.specs.Calls.{MakesDirectory}
 use Rattle.migrate_core.proofs.Leadings.{goes_failed}
 use Rattle.migrate_core.proofs.Placings.{directory_goes, made_moves, made_ready}
 use Rattle.migrate_core.proofs.Causing.{refused_as, put_stop}
-use Rattle.migrate_core.proofs.Writings.{directory_copy, item_made, one_begun, one_written}
+use Rattle.migrate_core.proofs.Writings.{directory_copy, item_made, item_stops, one_begun, one_written}
 use Rattle.migrate_core.specs.Written.{MadeItem, WritesBy}
 use Rattle.migrate_core.specs.Faults.{of_put}
 use Rattle.migrate_core.proofs.Stopping.{directory_stops, refusal_tells}
@@ -71,12 +71,14 @@ returns-in_err-place_dir-in-Dir-clause-written g c =
     let left' = g.R.Randoms.left c.place_dir.new.random in
     let path = ap (λ (x : Planned). x.path) c.item.view_is in
     let node = sym (ap (λ (x : Planned). x.node) c.item.view_is) ∙ c.in-Dir.is in
-    let made = c.place_dir.ensures.made in
+    let made = c.in_err-place_dir-in-Dir.ensures.made in
     let x : MadeItem = record { path = c.item.inside.path; item = NewDirectory; drawn = made.drawn } in
     let copy = directory_copy from item told c.item.inside.path made.drawn path node in
     let p = err_from_is_err_and c.from_residual.result c.from_residual.ensures.1 in
-    refused_as (λ answer. WritesBy answer from to (item ∷ []) [] left left' told told') c.from_residual.result p.0 p.0 p.1 refl
-    (one_begun from to item x left left' told told' c.place_dir.result made.were_drawn copy (item_made to c.args.work.now c.requires.apart.target x Whole told told' c.place_dir.result made.makes))
+    let why = c.in_err-place_dir-in-Dir.field-0.0 in
+    refused_as (λ answer. WritesBy answer from to (item ∷ []) [] left left' told told') c.from_residual.result p.0 (of_put why) p.1 p.2
+    (one_begun from to item x left left' told told' why made.were_drawn copy (item_made to c.args.work.now c.requires.apart.target x Whole told told' (Err why) made.makes)
+    (item_stops to c.args.work.now x Whole told told' why made.makes))
 
 pub returns-in_ok-place_dir-in-Dir-clause-written : goal.returns-in_ok-place_dir-in-Dir-clause-written
 returns-in_ok-place_dir-in-Dir-clause-written g c =

@@ -178,11 +178,11 @@ returns-in_err-place_missing_one-clause-written g c ordered =
     (λ one among. source_place from to.root work items one (c.requires.apart) c.requires.walked (next_among items k item c.loop-item-test.true c.item-item.is one (lacked_is there (item ∷ []) one among)))
     (moves_to (is_apart work to.root) to.root told here c.loop-item.invariant.moves) in
     let p = err_from_is_err_and c.from_residual.result c.from_residual.ensures.1 in
-    refused_as (λ answer. WritesBy answer from to (lacked there items) [] left left2 told told') c.from_residual.result p.0 p.0 p.1 refl
-    (subst (λ xs. WritesFirst from to xs [] left left2 told told') (ap (λ xs. xs ++ lacked there (drop (k + 1) items)) (lacked_next there items k item c.loop-item-test.true c.item-item.is) ∙ lacked_split there items (k + 1))
-    (first_of_more from to (lacked there (take k items) ++ lacked there (item ∷ [])) [] left left2 told told' (lacked there (drop (k + 1) items))
+    refused_as (λ answer. WritesBy answer from to (lacked there items) [] left left2 told told') c.from_residual.result p.0 c.in_err-place_missing_one.field-0.0 p.1 p.2
+    (subst (λ xs. WritesFirst c.in_err-place_missing_one.field-0.0 from to xs [] left left2 told told') (ap (λ xs. xs ++ lacked there (drop (k + 1) items)) (lacked_next there items k item c.loop-item-test.true c.item-item.is) ∙ lacked_split there items (k + 1))
+    (first_of_more from to (lacked there (take k items) ++ lacked there (item ∷ [])) [] left left2 told told' (lacked there (drop (k + 1) items)) c.in_err-place_missing_one.field-0.0
     (first_on c.draws_compose.ensures.composed from to (lacked there (take k items)) (lacked there (item ∷ [])) [] [] left left1 left2 told here told' kept
-    (c.loop-item.invariant.written ordered) (c.in_err-place_missing_one.ensures.written ordered))))
+    (c.loop-item.invariant.written ordered) c.in_err-place_missing_one.field-0.0 (c.in_err-place_missing_one.ensures.written ordered))))
 
 pub returns-clause-written : goal.returns-clause-written
 returns-clause-written g c ordered =

@@ -47,8 +47,8 @@ returns-in_err-place-clause-written g c ordered =
     let told' = g.F.Folder.told c.place.new.folder in
     let left' = g.R.Randoms.left c.place.new.random in
     let p = err_from_is_err_and c.from_residual.result c.from_residual.ensures.1 in
-    refused_as (λ answer. WritesBy answer from to (lacked c.args.there.now (item ∷ [])) [] left left' told told') c.from_residual.result p.0 p.0 p.1 refl
-    (subst (λ b. WritesFirst from to (cond (not b) (item ∷ []) []) [] left left' told told') (sym c.if-stands.false ∙ c.stands.ensures ordered) c.in_err-place.ensures.written)
+    refused_as (λ answer. WritesBy answer from to (lacked c.args.there.now (item ∷ [])) [] left left' told told') c.from_residual.result p.0 c.in_err-place.field-0.0 p.1 p.2
+    (subst (λ b. WritesFirst c.in_err-place.field-0.0 from to (cond (not b) (item ∷ []) []) [] left left' told told') (sym c.if-stands.false ∙ c.stands.ensures ordered) c.in_err-place.ensures.written)
 
 pub returns-clause-written : goal.returns-clause-written
 returns-clause-written g c ordered =

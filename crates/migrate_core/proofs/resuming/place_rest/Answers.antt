@@ -1,4 +1,4 @@
-use Rattle.std.proofs.Common.{◌≡◌, ◌∙◌, Result, Ok, sym, ap, arith, subst, Contains, [], refl, ◌∷◌, IfErr}
+use Rattle.std.proofs.Common.{◌≡◌, ◌∙◌, Result, Ok, sym, ap, arith, subst, Contains, [], ◌∷◌, IfErr}
 use Rattle.std.proofs.lemmas.Result.{err_from_is_err_and}
 use Rattle.folder_spec.specs.Region.{apart_from, apart_from_both}
 use Rattle.tree_match.specs.Alone.{Finished}
@@ -23,7 +23,7 @@ use Rattle.migrate_core.specs.Causes.{IsOfMoving, Moves, Unless, StopsAt, StopsS
 use Rattle.migrate_core.specs.Copying.{HasCopied, HaveOwnFolders}
 use Rattle.migrate_core.proofs.Copyings.{copied_as}
 use Rattle.migrate_core.specs.Faults.{of_work}
-use Rattle.migrate_core.proofs.Writings.{changing_writes, kept_by, lacked_is, nothing_yet, only_more, source_beside_at, texts_then}
+use Rattle.migrate_core.proofs.Writings.{changing_writes, kept_by, lacked_is, nothing_yet, work_last, only_more, source_beside_at, texts_then}
 use Rattle.migrate_core.specs.Written.{BringsOnlyTo, WritesBy, lacked}
 use Rattle.move_journal.specs.Journal.{journal_text}
 use Rattle.migrate_core.proofs.Blaming.{blamed_later}
@@ -183,8 +183,8 @@ returns-in_err-again-clause-written g c v seen =
     let left = g.R.Randoms.left c.args.random.now in
     let staging = changing_writes (stage_path work) (IsStage work) (IsBelowStage work) to.root (stage_apart work to.root c.requires.apart.target) told ready c.again.ensures.restages.moments in
     let p = err_from_is_err_and c.from_residual.result c.from_residual.ensures.1 in
-    refused_as (λ answer. WritesBy answer from to (lacked there items) texts left left told ready) c.from_residual.result p.0 p.0 p.1 refl
-    (nothing_yet from to (lacked there items) texts left left told ready (c.draws_compose.ensures.none left) staging)
+    refused_as (λ answer. WritesBy answer from to (lacked there items) texts left left told ready) c.from_residual.result p.0 (of_work c.in_err-again.field-0.0) p.1 p.2
+    (nothing_yet (of_work c.in_err-again.field-0.0) from to (lacked there items) texts left left told ready (work_last to [] told ready c.in_err-again.field-0.0) (c.draws_compose.ensures.none left) staging)
 
 pub returns-clause-written : goal.returns-clause-written
 returns-clause-written g c v seen =

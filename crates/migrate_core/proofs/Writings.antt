@@ -28,7 +28,9 @@ use Rattle.work_folder.specs.declared.fault.WorkFault.{WorkFault}
 use Rattle.work_folder.specs.declared.fault.WorkFault.TheVariants as works
 use Rattle.vault_write.specs.Refusing.{Answers, DrewZeros, HasTaken, TakesRoot}
 use Rattle.migrate_core.proofs.Leadings.{seen_then}
-use Rattle.migrate_core.specs.Faults.{of_folder, of_put, of_work}
+use Rattle.move_journal.specs.declared.journal.JournalFault.{JournalFault}
+use Rattle.move_journal.specs.declared.journal.JournalFault.TheVariants as journals
+use Rattle.migrate_core.specs.Faults.{IsOfTest, of_folder, of_journal, of_put, of_work}
 use Rattle.migrate_core.specs.declared.fault.MoveFault.{MoveFault}
 use Rattle.migrate_core.specs.declared.fault.MoveFault.TheVariants.{Place}
 use Rattle.move_journal.specs.Journal.{IsJournal, journal_text}
@@ -67,7 +69,7 @@ use Rattle.folder_spec.specs.Region.{apart_from_both}
 use Rattle.vault_walk.specs.Survey.{IsOrdered}
 use Rattle.move_journal.specs.declared.journal.Phase.TheVariants.{Done}
 use Rattle.migrate_core.specs.Sides.{AreSeparate, AreTold, IsItemOf, IsWalked, new_journal}
-use Rattle.migrate_core.specs.Written.{IsLast, HasGone, StopsLast, WasSeen, BringsOnlyTo, IsMadePlace, IsPlaceOf, WritesBeside, AreCopies, AreFull, AreFullButLast, HoldsOnly, IsCopyOf, IsFileOf, IsFull, IsOneOf, MadeItem, MayWrite, MayWriteTold, MayWriteTree, Writes, WritesAll, WritesBy, WritesFirst, WritesLacked, WritesNothing, WritesOnly, WritesTree, journal_texts, lacked, slices}
+use Rattle.migrate_core.specs.Written.{IsRefusal, IsLast, HasGone, StopsLast, WasSeen, BringsOnlyTo, IsMadePlace, IsPlaceOf, WritesBeside, AreCopies, AreFull, AreFullButLast, HoldsOnly, IsCopyOf, IsFileOf, IsFull, IsOneOf, MadeItem, MayWrite, MayWriteTold, MayWriteTree, Writes, WritesAll, WritesBy, WritesFirst, WritesLacked, WritesNothing, WritesOnly, WritesTree, journal_texts, lacked, slices}
 
 -- ---- members
 
@@ -446,11 +448,19 @@ item_stops to work x ending t u why made = elim (base_or_child x.path) [
     root_stops root h = record {
       zeros = λ is v seen_v. let never : Given put.ZeroRandom ≡ Err put.NoMemory = subst (λ y. TakesRoot to.root (Given y)) (put_is why put.ZeroRandom is) h.2 (λ e. cc e) in cc never;
       taken = λ at is v seen_v.
-          let takes : TakesRoot to.root (Given (put.Taken at)) = subst (λ y. TakesRoot to.root (Given y)) (put_is why (put.Taken at) is) h.2 in
-          (x, v, ([], refl), was_first (λ s0. HoldsOnly (λ file. ⊥) s0) (λ s0. Calls (λ call. Unit {0})) t u v (only_nowhere (λ call. Unit {0}) (λ file. ⊥) t u h.0) seen_v, inr (root, elim (one_or_not at to.root) [
-            | inl same ↦ same
-            | inr other ↦ (let never : Given (put.Taken at) ≡ Err put.NoMemory = takes (λ e. other.0 (taken_is e)) in cc never)
-          ]));
+          let takes : TakesRoot to.root (Given (put.Taken at)) = subst (λ y. TakesRoot to.root (Given y)) (put_is why (put.Taken at) is) h.2 in (
+            x,
+            v,
+            ([], refl),
+            was_first (λ s0. HoldsOnly (λ file. ⊥) s0) (λ s0. Calls (λ call. Unit {0})) t u v (only_nowhere (λ call. Unit {0}) (λ file. ⊥) t u h.0) seen_v,
+            inr (
+              root,
+              elim (one_or_not at to.root) [
+                | inl same ↦ same
+                | inr other ↦ (let never : Given (put.Taken at) ≡ Err put.NoMemory = takes (λ e. other.0 (taken_is e)) in cc never)
+              ],
+            ),
+          );
     }
       where
         taken_is : {p q : Path} → Given (put.Taken p) ≡ Given (put.Taken q) → p ≡ q
@@ -686,8 +696,32 @@ pub by_all : {T : Type 0} (result : Result T MoveFault) (Is : View → Type 0) (
 by_all (Ok value) Is from to items texts s s' t u t' after stops all = all
 by_all (Err fault) Is from to items texts s s' t u t' after stops all = first_of_all from to items texts s s' t t' fault (λ v seen_v. let w = after v seen_v in not_place (Is w.0) fault (stops w.0 w.1)) all
 
-pub nothing_written : (s : Option ByteStream) (t u : Option Told) → Draws s s [] → u ≡ t → WritesNothing s s t u
-nothing_written s t u undrawn same = record { undrawn = undrawn; files = only_nowhere (BringsOnlyTo [] (λ at. ⊥)) (λ file. ⊥) t u same }
+pub refusal_as : {T : Type 0} (result : Result T MoveFault) (fault why : MoveFault) → result ≡ Err fault → fault ≡ why → IsOfTest why → IsRefusal result
+refusal_as {T = T} result fault why is same tested = subst (λ (r : Result T MoveFault). IsRefusal r) (sym (is ∙ ap Err same)) tested
+
+pub folder_refuses : (fault : FolderFault) → IsOfTest (of_folder fault)
+folder_refuses folder.Failed = tt
+folder_refuses folder.Refused = tt
+folder_refuses folder.NoMemory = tt
+
+pub work_refuses : (fault : WorkFault) → IsOfTest (of_work fault)
+work_refuses (works.NoParent p) = tt
+work_refuses (works.WrongKind p) = tt
+work_refuses (works.Foreign p) = tt
+work_refuses works.Begun = tt
+work_refuses works.Depth = tt
+work_refuses works.Failed = tt
+work_refuses works.NoMemory = tt
+
+pub journal_refuses : (fault : JournalFault) → IsOfTest (of_journal fault)
+journal_refuses journals.NoJournal = tt
+journal_refuses (journals.BadJournal number) = tt
+journal_refuses journals.TooLarge = tt
+journal_refuses journals.Failed = tt
+journal_refuses journals.NoMemory = tt
+
+pub nothing_written : {T : Type 0} (result : Result T MoveFault) → IsRefusal result → (s : Option ByteStream) (t u : Option Told) → Draws s s [] → u ≡ t → WritesNothing result s s t u
+nothing_written result refused s t u undrawn same = record { refused = refused; undrawn = undrawn; files = only_nowhere (BringsOnlyTo [] (λ at. ⊥)) (λ file. ⊥) t u same }
 
 -- the vaults are those of two roots and their passphrases
 pub tree_of : {T : Type 0} (result : Result T MoveFault) (from to : Path) (pass pass' : List ℕ) (source target : OpenedVault) (s s' : Option ByteStream) (t t' : Option Told) → source.root ≡ from → target.root ≡ to
@@ -706,8 +740,8 @@ tree_of result from to pass pass' source target s s' t t' at_from at_to opens op
 
 -- behind a call by which nothing is written and what is seen stays so
 module _ (s s' : Option ByteStream) (t u w : Option Told) (known : (v : View) → IsSeen t v → IsSeen u v) (before : WritesBeside [] (λ file. ⊥) t u) where
-  nothing_after : WritesNothing s s' u w → WritesNothing s s' t w
-  nothing_after h = record { undrawn = h.undrawn; files = beside_on [] (λ file. ⊥) (λ file. ⊥) (λ file. ⊥) (λ file none. none) (λ file none. none) t u w before h.files }
+  nothing_after : {T : Type 0} (result : Result T MoveFault) → WritesNothing result s s' u w → WritesNothing result s s' t w
+  nothing_after result h = record { refused = h.refused; undrawn = h.undrawn; files = beside_on [] (λ file. ⊥) (λ file. ⊥) (λ file. ⊥) (λ file none. none) (λ file none. none) t u w before h.files }
 
   lacked_after : {T : Type 0} (result : Result T MoveFault) (from to : OpenedVault) → WritesLacked result from to s s' u w → WritesLacked result from to s s' t w
   lacked_after result from to h = record {
@@ -729,13 +763,13 @@ module _ (s s' : Option ByteStream) (t u w : Option Told) (known : (v : View) �
 
   pub may_write_after : {T : Type 0} (result : Result T MoveFault) (from to : Path) (pass pass' : List ℕ) → MayWriteTree result from to pass pass' s s' u w → MayWriteTree result from to pass pass' s s' t w
   may_write_after result from to pass pass' may = elim may [
-    | inl nothing ↦ inl (nothing_after nothing)
+    | inl nothing ↦ inl (nothing_after result nothing)
     | inr writes ↦ inr (tree_after result from to pass pass' writes)
   ]
 
   pub told_after : {T : Type 0} (result : Result T MoveFault) (work : Path) (pass pass' : List ℕ) (v : View) → MayWriteTold result work pass pass' s s' u w v → MayWriteTold result work pass pass' s s' t w v
   told_after result work pass pass' v may = elim may [
-    | inl nothing ↦ inl (nothing_after nothing)
+    | inl nothing ↦ inl (nothing_after result nothing)
     | inr told ↦ inr (record { journal = told.journal; is = told.is; stands = told.stands; writes = tree_after result told.journal.source told.journal.target pass pass' told.writes })
   ]
 

@@ -78,3 +78,8 @@ pub record Blamed (folder random : Type 0) (fault : MoveFault) : Type 0 where
   pub own : IsMoveFault fault
   pub failed : fault ≡ Failed → folder
   pub drawn : fault ≡ Place put.Random → random
+
+-- what a test may answer, before any item is placed
+abbrev pub IsOfTest : MoveFault → Type 0
+IsOfTest (Place fault) = ⊥
+IsOfTest fault = Unit {0}

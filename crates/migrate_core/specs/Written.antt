@@ -26,6 +26,7 @@ use Rattle.content_writing.specs.declared.fault.PutFault.TheVariants as put
 use Rattle.migrate_core.specs.declared.fault.MoveFault.{MoveFault}
 use Rattle.migrate_core.specs.declared.fault.MoveFault.TheVariants.{Place}
 use Rattle.migrate_core.specs.Causes.{AreItemsOf}
+use Rattle.migrate_core.specs.Faults.{IsOfTest}
 use Rattle.migrate_core.specs.Moved.{StandsIn, done_of, is_there, opened_in}
 use Rattle.migrate_core.specs.Sides.{new_journal}
 
@@ -199,14 +200,20 @@ pub record WritesLacked {T : Type 0} (result : Result T MoveFault) (from to : Op
   pub there_are : (v : View) → IsSeen told v → AreItemsOf to v there
   pub writes : WritesBy result from to (lacked there items) (journal_texts from.root to.root items) stream stream' told told'
 
--- nothing is drawn, and nothing is made or written
-pub record WritesNothing (stream stream' : Option ByteStream) (told told' : Option Told) : Type 0 where
+-- a test refuses
+abbrev pub IsRefusal : {T : Type 0} → Result T MoveFault → Type 0
+IsRefusal (Ok value) = ⊥
+IsRefusal (Err fault) = IsOfTest fault
+
+-- a test refuses: nothing is drawn, and nothing is made or written
+pub record WritesNothing {T : Type 0} (result : Result T MoveFault) (stream stream' : Option ByteStream) (told told' : Option Told) : Type 0 where
+  pub refused : IsRefusal result
   pub undrawn : Draws stream stream' []
   pub files : WritesBeside [] (λ file. ⊥) told told'
 
 -- where a test fails nothing is written
 abbrev pub MayWrite : {T : Type 0} → Result T MoveFault → OpenedVault → OpenedVault → Option ByteStream → Option ByteStream → Option Told → Option Told → Type 0
-MayWrite result from to stream stream' told told' = WritesNothing stream stream' told told' ⊎ WritesLacked result from to stream stream' told told'
+MayWrite result from to stream stream' told told' = WritesNothing result stream stream' told told' ⊎ WritesLacked result from to stream stream' told told'
 
 -- of the vaults that two roots and their passphrases are
 pub record WritesTree {T : Type 0} (result : Result T MoveFault) (from to : Path) (from_pass to_pass : List ℕ) (stream stream' : Option ByteStream) (told told' : Option Told) : Type 0 where
@@ -217,7 +224,7 @@ pub record WritesTree {T : Type 0} (result : Result T MoveFault) (from to : Path
   pub writes : WritesLacked result (opened_in from source) (opened_in to target) stream stream' told told'
 
 abbrev pub MayWriteTree : {T : Type 0} → Result T MoveFault → (from to : Path) (from_pass to_pass : List ℕ) → Option ByteStream → Option ByteStream → Option Told → Option Told → Type 0
-MayWriteTree result from to from_pass to_pass stream stream' told told' = WritesNothing stream stream' told told' ⊎ WritesTree result from to from_pass to_pass stream stream' told told'
+MayWriteTree result from to from_pass to_pass stream stream' told told' = WritesNothing result stream stream' told told' ⊎ WritesTree result from to from_pass to_pass stream stream' told told'
 
 -- of those that the journal tells which stands in the work folder
 pub record WritesTold {T : Type 0} (result : Result T MoveFault) (work : Path) (from_pass to_pass : List ℕ) (stream stream' : Option ByteStream) (told told' : Option Told) (v : View) : Type 0 where
@@ -227,4 +234,4 @@ pub record WritesTold {T : Type 0} (result : Result T MoveFault) (work : Path) (
   pub writes : WritesTree result journal.source journal.target from_pass to_pass stream stream' told told'
 
 abbrev pub MayWriteTold : {T : Type 0} → Result T MoveFault → Path → (from_pass to_pass : List ℕ) → Option ByteStream → Option ByteStream → Option Told → Option Told → View → Type 0
-MayWriteTold result work from_pass to_pass stream stream' told told' v = WritesNothing stream stream' told told' ⊎ WritesTold result work from_pass to_pass stream stream' told told' v
+MayWriteTold result work from_pass to_pass stream stream' told told' v = WritesNothing result stream stream' told told' ⊎ WritesTold result work from_pass to_pass stream stream' told told' v

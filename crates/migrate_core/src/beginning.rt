@@ -10,7 +10,7 @@ ghost use Rattle.vault_spec.specs.Vault.{format_of};
 ghost use Rattle.work_folder.specs.Entering.{EntersAs};
 ghost use Rattle.migrate_core.specs.Causes.{Begins, BeginsApart, BeginsWith, Moves, TestsEmpty, Unless};
 ghost use Rattle.migrate_core.specs.Copying.{MayBegin};
-ghost use Rattle.migrate_core.specs.Faults.{Blamed};
+ghost use Rattle.migrate_core.specs.Faults.{Blamed, IsOfTest};
 ghost use Rattle.migrate_core.specs.Leading.{KeepsGuarded, KeepsSettled, LeadsEach};
 ghost use Rattle.migrate_core.specs.Moved.{Moved, MovesTree, Placed, lacking};
 ghost use Rattle.migrate_core.specs.Moving.{MovesOnly};
@@ -141,6 +141,7 @@ fn begin_with<F: Folder, R: Randoms>(
 // There are no items.
 fn test_empty(items: &[PlanItem]) -> Result<(), MoveFault>
     ensures empty { OnOk result (items.now ≡ []) }
+    ensures tested { IfErr result IsOfTest }
     ensures blamed { IfErr result (Blamed ⊥ ⊥) }
     ensures cause { Unless result (TestsEmpty items.now result) }
 {

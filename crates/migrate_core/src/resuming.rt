@@ -11,7 +11,7 @@ ghost use Rattle.vault_spec.specs.Vault.{format_of};
 ghost use Rattle.work_folder.specs.Entering.{Empties};
 ghost use Rattle.migrate_core.specs.Causes.{Moves, Resumes, ResumesTold, ResumesWith, TestsItems, TestsMatch, TestsSource, TestsTold, Unless, is_done, where_in};
 ghost use Rattle.migrate_core.specs.Copying.{MayBegin};
-ghost use Rattle.migrate_core.specs.Faults.{Blamed};
+ghost use Rattle.migrate_core.specs.Faults.{Blamed, IsOfTest};
 ghost use Rattle.migrate_core.specs.Leading.{KeepsGuarded, KeepsSettled, LeadsTold, progress_of};
 ghost use Rattle.migrate_core.specs.Moved.{done_of, Moved, MovesTold, MovesTree, Placed, lacking};
 ghost use Rattle.migrate_core.specs.Moving.{MovesOnly};
@@ -154,6 +154,7 @@ fn test_source<F: Folder>(folder: &mut F, journal: &Journal, work: &FPath) -> Re
     ensures told { F.told folder.new ≡ F.told folder.old }
     ensures there { OnOk result ((journal.now.phase ≡ Phase.Building) ⊎ ((v : View) → IsSeen (F.told folder.old) v → v journal.now.source ≢ NoEntry)) }
     ensures grows { F.faults folder.old ≤ F.faults folder.new }
+    ensures tested { IfErr result IsOfTest }
     ensures blamed { IfErr result (Blamed (CountRose (F.faults folder.old) (F.faults folder.new)) ⊥) }
     ensures cause { (v : View) → IsSeen (F.told folder.old) v → Unless result (TestsSource journal.now.phase work.now journal.now.source v result) }
 {
@@ -214,6 +215,7 @@ fn test_plans<F: Folder>(
     ensures told { F.told folder.new ≡ F.told folder.old }
     ensures grows { F.faults folder.old ≤ F.faults folder.new }
     ensures allowed { OnOk result (AllowsEach (format_of sides.now.target.vault) plans.now.source.items) }
+    ensures tested { IfErr result IsOfTest }
     ensures blamed { IfErr result (Blamed (CountRose (F.faults folder.old) (F.faults folder.new)) ⊥) }
     ensures cause { (v : View) → IsSeen (F.told folder.old) v → Unless result (TestsItems sides.now.source sides.now.target journal.now v plans.now.source.items plans.now.target.items (λ answer. answer ≡ Ok tt) result) }
 {
@@ -225,6 +227,7 @@ fn test_plans<F: Folder>(
 // The source has the items that the journal names.
 fn test_changed(journal: &Journal, plans: &Plans) -> Result<(), MoveFault>
     ensures told { OnOk result (AreTold journal.now plans.now.source.items) }
+    ensures tested { IfErr result IsOfTest }
     ensures blamed { IfErr result (Blamed ⊥ ⊥) }
     ensures cause { Unless result (TestsTold journal.now plans.now.source.items result) }
 {
@@ -247,6 +250,7 @@ fn test_held<F: Folder>(
     requires target { IsWalked (F.told folder.old) sides.now.target plans.now.target.items }
     ensures told { F.told folder.new ≡ F.told folder.old }
     ensures grows { F.faults folder.old ≤ F.faults folder.new }
+    ensures tested { IfErr result IsOfTest }
     ensures blamed { IfErr result (Blamed (CountRose (F.faults folder.old) (F.faults folder.new)) ⊥) }
     ensures cause { (v : View) → IsSeen (F.told folder.old) v → Unless result (TestsMatch sides.now.target plans.now.target.items sides.now.source plans.now.source.items v (λ answer. answer ≡ Ok tt) result) }
 {

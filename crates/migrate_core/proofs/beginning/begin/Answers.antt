@@ -10,7 +10,7 @@ use Rattle.migrate_core.specs.Causes.{Begins, BeginsApart, TestsApart, Then, Unl
 use Rattle.std.proofs.lemmas.Result.{err_from_is_err_and}
 use Rattle.migrate_core.specs.Faults.{of_folder}
 use Rattle.migrate_core.specs.declared.placing.Done.{Done}
-use Rattle.migrate_core.proofs.Writings.{may_write_after, nothing_written, settle_writes}
+use Rattle.migrate_core.proofs.Writings.{refusal_as, folder_refuses, may_write_after, nothing_written, settle_writes}
 use Rattle.migrate_core.proofs.beginning.begin.Goals as goal
 
 pub returns-in_err-test_apart-clause-guard : goal.returns-in_err-test_apart-clause-guard
@@ -82,13 +82,17 @@ pub returns-in_err-test_apart-clause-written : goal.returns-in_err-test_apart-cl
 returns-in_err-test_apart-clause-written g c v seen =
     let told = g.F.Folder.told c.args.folder.now in
     let left = g.R.Randoms.left c.args.random.now in
-    inl (nothing_written left told told (c.draws_compose.ensures.none left) refl)
+    let p = err_from_is_err_and c.from_residual.result c.from_residual.ensures.1 in
+    let refused = refusal_as c.from_residual.result p.0 (c.in_err-test_apart.field-0.0) p.1 p.2 (c.in_err-test_apart.ensures.tested) in
+    inl (nothing_written c.from_residual.result refused left told told (c.draws_compose.ensures.none left) refl)
 
 pub returns-in_err-settle-clause-written : goal.returns-in_err-settle-clause-written
 returns-in_err-settle-clause-written g c v seen =
     let told = g.F.Folder.told c.args.folder.now in
     let left = g.R.Randoms.left c.args.random.now in
-    inl (record { undrawn = c.draws_compose.ensures.none left; files = settle_writes told (g.F.Folder.told c.settle.new.self) c.settle.result c.settle.ensures.changes })
+    let p = err_from_is_err_and c.from_residual-in_err-settle.result c.from_residual-in_err-settle.ensures.1 in
+    let refused = refusal_as c.from_residual-in_err-settle.result p.0 (of_folder c.in_err-settle.field-0.0) p.1 p.2 (folder_refuses c.in_err-settle.field-0.0) in
+    inl (record { refused = refused; undrawn = c.draws_compose.ensures.none left; files = settle_writes told (g.F.Folder.told c.settle.new.self) c.settle.result c.settle.ensures.changes })
 
 pub returns-clause-written : goal.returns-clause-written
 returns-clause-written g c v seen =

@@ -9,7 +9,7 @@ use Rattle.migrate_core.proofs.Causing.{folder_unless, refused_as}
 use Rattle.std.proofs.lemmas.Result.{err_from_is_err_and}
 use Rattle.migrate_core.specs.Faults.{of_folder}
 use Rattle.migrate_core.specs.Causes.{Resumes, Unless}
-use Rattle.migrate_core.proofs.Writings.{settle_writes, told_after}
+use Rattle.migrate_core.proofs.Writings.{refusal_as, folder_refuses, settle_writes, told_after}
 use Rattle.std.proofs.Common.{inl}
 use Rattle.migrate_core.proofs.resuming.resume.Goals as goal
 
@@ -61,7 +61,9 @@ pub returns-in_err-settle-clause-written : goal.returns-in_err-settle-clause-wri
 returns-in_err-settle-clause-written g c v seen =
     let told = g.F.Folder.told c.args.folder.now in
     let left = g.R.Randoms.left c.args.random.now in
-    inl (record { undrawn = c.draws_compose.ensures.none left; files = settle_writes told (g.F.Folder.told c.settle.new.self) c.settle.result c.settle.ensures.changes })
+    let p = err_from_is_err_and c.from_residual.result c.from_residual.ensures.1 in
+    let refused = refusal_as c.from_residual.result p.0 (of_folder c.in_err-settle.field-0.0) p.1 p.2 (folder_refuses c.in_err-settle.field-0.0) in
+    inl (record { refused = refused; undrawn = c.draws_compose.ensures.none left; files = settle_writes told (g.F.Folder.told c.settle.new.self) c.settle.result c.settle.ensures.changes })
 
 pub returns-clause-written : goal.returns-clause-written
 returns-clause-written g c v seen =

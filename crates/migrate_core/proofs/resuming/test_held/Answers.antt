@@ -36,6 +36,7 @@ returns-in-Same g c =
     record {
       told = c.in_ok-holds_all.ensures.told;
       grows = c.in_ok-holds_all.ensures.grows;
+      tested = tt;
       blamed = tt;
       cause = λ v seen. then_passes of_match (Compares to items from others v) held (Ok tt) m (c.in_ok-holds_all.ensures.answers v seen)
           (own_passes (TestsHeld m) (λ _. Passed) (Ok tt) tt (inr (inr (none_differs m c.in-Same.is))) (inr (inr refl)));

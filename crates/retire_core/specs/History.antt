@@ -7,8 +7,7 @@ use Rattle.folder_spec.specs.Moments as moments
 use Rattle.folder_spec.specs.Moments.{EachState}
 use Rattle.folder_spec.specs.Seen.{seen}
 use Rattle.folder_spec.specs.State.{State, IsSound, HasNothingPending}
-use Rattle.folder_spec.specs.View.{view_of}
-use Rattle.tree_match.specs.Guard.{Migration, Guarded, IsNotBegun, IsSafe, IsSeparate, IsWork, kinds_in}
+use Rattle.tree_match.specs.Guard.{Migration, Guarded, IsNotBegun, IsSeparate, IsWork, kinds_in}
 
 -- one run of a command: the state at its entry, and the events that it adds to the folder's log
 pub record Run : Type 0 where
@@ -61,11 +60,6 @@ pub record IsBeginning (g : Migration) (s : State) : Type 0 where
 pub record IsHistory (g : Migration) (first : Run) (more : List Run) : Type 0 where
   pub begins : IsBeginning g first.entry
   pub runs : AreRuns g first more
-
--- guarded at a moment, and safe in whatever a crash there leaves
-pub record IsBorne (g : Migration) (s : State) : Type 0 where
-  pub guarded : Guarded g s
-  pub safe : (image : Image) → IsImage s image → IsSafe g (view_of image)
 
 -- a state of one of these runs
 abbrev pub IsStateIn : Run → List Run → State → Type 0

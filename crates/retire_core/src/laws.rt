@@ -3,11 +3,11 @@ ghost use Rattle.std.specs.Prelude.{◌≢◌, List};
 ghost use Rattle.folder_spec.specs.Path.{Path};
 ghost use Rattle.folder_spec.specs.State.{State};
 ghost use Rattle.folder_spec.specs.View.{Special, View};
-ghost use Rattle.tree_match.specs.Guard.{Migration};
+ghost use Rattle.tree_match.specs.Guard.{LosesNothing, Migration};
 ghost use Rattle.vault_spec.specs.Alike.{IsOrderly};
 ghost use Rattle.vault_spec.specs.Findings.{IsClean};
 ghost use Rattle.vault_spec.specs.Vault.{Vault, format_of};
-ghost use Rattle.retire_core.specs.History.{Run, IsBorne, IsHistory, IsStateIn};
+ghost use Rattle.retire_core.specs.History.{Run, IsHistory, IsStateIn};
 
 use tree_match::laws::{
     guarded_migrations_are_safe, settling_and_entering_keep_migrations_guarded,
@@ -19,7 +19,7 @@ use vault_spec::laws::entries_of_clean_vaults_are_accounted_for;
 ///
 /// It rests on what the three commands say of their own runs by their clauses `guard`.
 pub fn histories_are_borne()
-    ensures { (g : Migration) (first : Run) (more : List Run) (s : State) → IsHistory g first more → IsStateIn first more s → IsBorne g s }
+    ensures { (g : Migration) (first : Run) (more : List Run) (s : State) → IsHistory g first more → IsStateIn first more s → LosesNothing g s }
 {
     guarded_migrations_are_safe();
     settling_and_entering_keep_migrations_guarded();

@@ -212,3 +212,8 @@ pub record Guarded (g : Migration) (s : State) : Type 0 where
 abbrev pub IsSafe : Migration → View → Type 0
 IsSafe g v = (path : plain.Path) (content : List ℕ) → g.held path ≡ Content content
     → (tree_at g.source v path ≡ Content content) ⊎ (tree_at g.target v path ≡ Content content)
+
+-- it is guarded at a moment, and safe in whatever a crash there leaves
+pub record LosesNothing (g : Migration) (s : State) : Type 0 where
+  pub guarded : Guarded g s
+  pub safe : (image : Image) → IsImage s image → IsSafe g (view_of image)

@@ -40,7 +40,7 @@ none_folder : Folder ≡ NoEntry → ⊥
 none_folder e = cc e
 
 -- what stands has a folder at each path before it
-folder_before : (v : View) → HasFolders v → (p : Path) (a : Part) (more : Path) → v (p ++ a ∷ more) ≢ NoEntry → v p ≡ Folder
+pub folder_before : (v : View) → HasFolders v → (p : Path) (a : Part) (more : Path) → v (p ++ a ∷ more) ≢ NoEntry → v p ≡ Folder
 folder_before v folders p a [] there = folders p a there
 folder_before v folders p a (b ∷ more) there =
     folders p a (λ none. none_folder (sym (folder_before v folders (child p a) b more (subst (λ q. v q ≢ NoEntry) (sym (append_assoc p (a ∷ []) (b ∷ more))) there)) ∙ none))

@@ -9,3 +9,5 @@ mod Away
 mod Courses
 mod Blaming
 mod Starts
+mod Causing
+mod Completing

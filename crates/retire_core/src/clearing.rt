@@ -5,6 +5,7 @@ ghost use Rattle.folder_spec.specs.Path.{child};
 ghost use Rattle.folder_spec.specs.Seen.{IsSeen};
 ghost use Rattle.folder_spec.specs.View.{NoEntry, View};
 ghost use Rattle.tree_match.specs.Guard.{Migration};
+ghost use Rattle.retire_core.specs.Causes.{IsOfFolder, TestsRemoval, TestsRemovals, Unless};
 ghost use Rattle.retire_core.specs.Clearing.{ClearsEntry, ClearsOnly, ClearsRest, HasOnlyJournal, IsGone, IsInOrder, Leaves};
 ghost use Rattle.retire_core.specs.Faults.{Blamed, IsLaterFault};
 ghost use Rattle.retire_core.specs.Guarding.{KeepsRetiring};
@@ -24,6 +25,7 @@ pub(crate) fn clear<F: Folder>(folder: &mut F, work: &FPath) -> Result<(), Retir
     ensures gone { OnOk result (IsGone work.now (F.told folder.new)) }
     ensures grows { F.faults folder.old ≤ F.faults folder.new }
     ensures blamed { IfErr result (Blamed IsLaterFault (CountRose (F.faults folder.old) (F.faults folder.new))) }
+    ensures cause { (v : View) → IsSeen (F.told folder.old) v → Unless result (TestsRemovals work.now v result) }
 {
     clear_beside(folder, work)?;
     clear_rest(folder, work)
@@ -37,6 +39,7 @@ fn clear_beside<F: Folder>(folder: &mut F, work: &FPath) -> Result<(), RetireFau
     ensures cleared { OnOk result ((v : View) → IsSeen (F.told folder.new) v → HasOnlyJournal v work.now) }
     ensures grows { F.faults folder.old ≤ F.faults folder.new }
     ensures blamed { IfErr result (Blamed IsLaterFault (CountRose (F.faults folder.old) (F.faults folder.new))) }
+    ensures cause { (v : View) → IsSeen (F.told folder.old) v → Unless result (TestsRemovals work.now v result) }
 {
     clear_entry(folder, work, "old")?;
     clear_entry(folder, work, "stage")?;
@@ -52,6 +55,7 @@ fn clear_entry<F: Folder>(folder: &mut F, work: &FPath, name: &str) -> Result<()
     ensures gone { OnOk result (IsGone (child work.now name.now) (F.told folder.new)) }
     ensures grows { F.faults folder.old ≤ F.faults folder.new }
     ensures blamed { IfErr result (Blamed IsLaterFault (CountRose (F.faults folder.old) (F.faults folder.new))) }
+    ensures cause { (v : View) → IsSeen (F.told folder.old) v → Unless result (TestsRemoval (child work.now name.now) v result) }
 {
     removals_leave_the_rest();
     roots_show_their_own();
@@ -71,6 +75,7 @@ fn clear_rest<F: Folder>(folder: &mut F, work: &FPath) -> Result<(), RetireFault
     ensures gone { OnOk result (IsGone work.now (F.told folder.new)) }
     ensures grows { F.faults folder.old ≤ F.faults folder.new }
     ensures blamed { IfErr result (Blamed IsLaterFault (CountRose (F.faults folder.old) (F.faults folder.new))) }
+    ensures fails { IfErr result IsOfFolder }
 {
     roots_show_their_own();
     let journal = work.child("journal")?;

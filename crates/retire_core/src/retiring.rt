@@ -1,21 +1,23 @@
 //! Retiring the source of a migration.
 ghost use Rattle.std.specs.Prelude.{◌≡◌, ◌≢◌, ◌≤◌, [], IfErr, IfOk, OnOk};
 ghost use Rattle.port_model.specs.Counts.{CountRose};
-ghost use Rattle.folder_spec.specs.Seen.{IsSeen};
+ghost use Rattle.folder_spec.specs.Seen.{IsSeen, moved_view};
 ghost use Rattle.folder_spec.specs.View.{Folder, NoEntry, View};
 ghost use Rattle.migrate_core.specs.Leading.{KeepsGuarded};
 ghost use Rattle.migrate_core.specs.Moved.{StandsIn};
 ghost use Rattle.migrate_core.specs.Sides.{AreSeparate, IsResumed};
 ghost use Rattle.move_journal.specs.Journal.{IsJournal};
 ghost use Rattle.tree_match.specs.Guard.{AreApart, Migration, old_path};
+ghost use Rattle.retire_core.specs.Causes.{IsOfFolder, ReadsDone, Retires, RetiresTold, TestsAway, TestsFree, TestsHeld, Unless, moved_away};
 ghost use Rattle.retire_core.specs.Clearing.{IsGone, IsInOrder, MovesHeldOnly, MovesOnly};
+ghost use Rattle.retire_core.specs.Completing.{CanRetire};
 ghost use Rattle.retire_core.specs.Faults.{Blamed, IsLaterFault, IsRetireFault, OfJournal};
 ghost use Rattle.retire_core.specs.Guarding.{ComesFromDone, ComesTo, KeepsDone, KeepsFromRest};
 ghost use Rattle.retire_core.specs.Retiring.{HasRetired, IsHeld, RemovesOnly, TouchesOnly, retiring_by};
 
 use crate::clearing::clear;
 use crate::fault::RetireFault;
-use crate::laws::clean_vaults_have_only_files_and_directories;
+use crate::laws::{clean_vaults_have_only_files_and_directories, what_can_be_retired_is_retired};
 use crate::sides::{load_both, test_apart, test_held};
 use folder_model::{FPath, Folder, Kind};
 use folder_spec::laws::{images_show_views, roots_show_their_own};
@@ -54,10 +56,13 @@ pub fn retire<F: Folder>(
         → RemovesOnly (retiring_by work.now source_pass.now target_pass.now journal) (F.told folder.old) (F.told folder.new) }
     ensures retired { IfOk result (λ retired. (v : View) → IsSeen (F.told folder.old) v → HasRetired work.now retired.items (F.told folder.new) v) }
     ensures caused { IfErr result (λ fault. (v : View) → IsSeen (F.told folder.old) v → OfJournal work.now v fault) }
+    ensures completes { (g : Migration) (v : View) → IsSeen (F.told folder.old) v → IsResumed g work.now source_pass.now target_pass.now → CanRetire g v → IfErr result IsOfFolder }
     ensures grows { F.faults folder.old ≤ F.faults folder.new }
     ensures blamed { IfErr result (Blamed IsRetireFault (CountRose (F.faults folder.old) (F.faults folder.new))) }
+    ensures cause { (v : View) → IsSeen (F.told folder.old) v → Unless result (Retires work.now source_pass.now target_pass.now v result) }
 {
     settling_and_entering_keep_migrations_guarded();
+    what_can_be_retired_is_retired();
     folder.settle()?;
     retire_settled(alloc, folder, work, source_pass, target_pass)
 }
@@ -79,6 +84,7 @@ fn retire_settled<F: Folder>(
     ensures caused { IfErr result (λ fault. (v : View) → IsSeen (F.told folder.old) v → OfJournal work.now v fault) }
     ensures grows { F.faults folder.old ≤ F.faults folder.new }
     ensures blamed { IfErr result (Blamed IsRetireFault (CountRose (F.faults folder.old) (F.faults folder.new))) }
+    ensures cause { (v : View) → IsSeen (F.told folder.old) v → Unless result (Retires work.now source_pass.now target_pass.now v result) }
 {
     journals_are_read_back();
     let journal = read_done(alloc, folder, work)?;
@@ -96,6 +102,7 @@ fn read_done<F: Folder>(alloc: Global, folder: &mut F, work: &FPath) -> Result<J
     ensures caused { IfErr result (λ fault. (v : View) → IsSeen (F.told folder.old) v → OfJournal work.now v fault) }
     ensures grows { F.faults folder.old ≤ F.faults folder.new }
     ensures blamed { IfErr result (Blamed IsRetireFault (CountRose (F.faults folder.old) (F.faults folder.new))) }
+    ensures cause { (v : View) → IsSeen (F.told folder.old) v → Unless result (ReadsDone work.now v result) }
 {
     let journal = read(alloc, folder, work)?;
     match journal.phase {
@@ -126,6 +133,7 @@ fn retire_told<F: Folder>(
     ensures items { IfOk result (λ retired. retired.items ≡ journal.now.items) }
     ensures grows { F.faults folder.old ≤ F.faults folder.new }
     ensures blamed { IfErr result (Blamed IsLaterFault (CountRose (F.faults folder.old) (F.faults folder.new))) }
+    ensures cause { (v : View) → IsSeen (F.told folder.old) v → Unless result (RetiresTold work.now source_pass.now target_pass.now journal.now v result) }
 {
     images_show_views();
     roots_show_their_own();
@@ -158,6 +166,8 @@ fn put_away<F: Folder>(
     ensures order { OnOk result ((v : View) → IsSeen (F.told folder.new) v → IsInOrder v work.now) }
     ensures grows { F.faults folder.old ≤ F.faults folder.new }
     ensures blamed { IfErr result (Blamed IsLaterFault (CountRose (F.faults folder.old) (F.faults folder.new))) }
+    ensures cause { (v : View) → IsSeen (F.told folder.old) v → Unless result (TestsAway work.now source_pass.now target_pass.now journal.now v result) }
+    ensures seen { OnOk result ((v w : View) → IsSeen (F.told folder.old) v → IsSeen (F.told folder.new) w → w ≡ moved_away (v journal.now.source) journal.now.source work.now v) }
 {
     journals_are_read_back();
     if folder.kind(&journal.source)? == Kind::Missing {
@@ -173,6 +183,7 @@ fn test_free<F: Folder>(folder: &mut F, work: &FPath) -> Result<(), RetireFault>
     ensures free { OnOk result (IsGone (old_path work.now) (F.told folder.old)) }
     ensures grows { F.faults folder.old ≤ F.faults folder.new }
     ensures blamed { IfErr result (Blamed IsLaterFault (CountRose (F.faults folder.old) (F.faults folder.new))) }
+    ensures cause { (v : View) → IsSeen (F.told folder.old) v → Unless result (TestsFree work.now v result) }
 {
     let old = work.child("old")?;
     match folder.kind(&old)? {
@@ -201,6 +212,8 @@ fn move_held<F: Folder>(
     ensures leaves { (v w : View) → IsSeen (F.told folder.old) v → IsSeen (F.told folder.new) w → IsInOrder v work.now → IsInOrder w work.now }
     ensures grows { F.faults folder.old ≤ F.faults folder.new }
     ensures blamed { IfErr result (Blamed IsLaterFault (CountRose (F.faults folder.old) (F.faults folder.new))) }
+    ensures cause { (v : View) → IsSeen (F.told folder.old) v → Unless result (TestsHeld journal.now.source journal.now.target source_pass.now target_pass.now v result) }
+    ensures seen { OnOk result ((v w : View) → IsSeen (F.told folder.old) v → IsSeen (F.told folder.new) w → w ≡ moved_view v journal.now.source (old_path work.now)) }
 {
     let sides = load_both(
         alloc,
@@ -227,6 +240,8 @@ fn move_source<F: Folder>(folder: &mut F, source: &FPath, work: &FPath) -> Resul
     ensures leaves { (v w : View) → IsSeen (F.told folder.old) v → IsSeen (F.told folder.new) w → IsInOrder v work.now → IsInOrder w work.now }
     ensures grows { F.faults folder.old ≤ F.faults folder.new }
     ensures blamed { IfErr result (Blamed IsLaterFault (CountRose (F.faults folder.old) (F.faults folder.new))) }
+    ensures fails { IfErr result IsOfFolder }
+    ensures seen { OnOk result ((v w : View) → IsSeen (F.told folder.old) v → IsSeen (F.told folder.new) w → w ≡ moved_view v source.now (old_path work.now)) }
 {
     clean_vaults_have_only_files_and_directories();
     images_show_views();

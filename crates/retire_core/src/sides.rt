@@ -1,11 +1,12 @@
 //! The two vaults of a migration, and whether the target holds the source.
-ghost use Rattle.std.specs.Prelude.{◌≡◌, ◌≤◌, IfErr, IfOk, OnOk};
+ghost use Rattle.std.specs.Prelude.{◌≡◌, ◌≤◌, IfErr, IfOk, Ok, OnOk};
 ghost use Rattle.port_model.specs.Counts.{CountRose};
 ghost use Rattle.folder_spec.specs.Seen.{IsSeen, under};
 ghost use Rattle.folder_spec.specs.View.{View};
 ghost use Rattle.tree_match.specs.Guard.{AreApart};
 ghost use Rattle.vault_spec.specs.Vault.{IsVault};
 ghost use Rattle.migrate_core.specs.Sides.{AreSeparate, IsWalked};
+ghost use Rattle.retire_core.specs.Causes.{Opens, Refuses, TestsApart, TestsClean, TestsHeld, TestsItems, TestsPair, TestsVaults, Unless, where_of};
 ghost use Rattle.retire_core.specs.Faults.{Blamed, IsLaterFault};
 ghost use Rattle.retire_core.specs.Retiring.{AreHeld};
 
@@ -40,6 +41,7 @@ pub(crate) fn load_both<F: Folder>(
     ensures opens_target { IfOk result (λ sides. (v : View) → IsSeen (F.told folder.old) v → IsVault (under target.now v) target_pass.now sides.target.vault) }
     ensures grows { F.faults folder.old ≤ F.faults folder.new }
     ensures blamed { IfErr result (Blamed IsLaterFault (CountRose (F.faults folder.old) (F.faults folder.new))) }
+    ensures cause { IfErr result (λ fault. (v : View) → IsSeen (F.told folder.old) v → Refuses (TestsHeld source.now target.now source_pass.now target_pass.now v) fault) }
 {
     let source = load(alloc, folder, Side::Source, source, source_pass)?;
     let target = load(alloc, folder, Side::Target, target, target_pass)?;
@@ -58,6 +60,7 @@ fn load<F: Folder>(
     ensures vault { IfOk result (λ vault. (v : View) → IsSeen (F.told folder.old) v → IsVault (under root.now v) pass.now vault.vault) }
     ensures grows { F.faults folder.old ≤ F.faults folder.new }
     ensures blamed { IfErr result (Blamed IsLaterFault (CountRose (F.faults folder.old) (F.faults folder.new))) }
+    ensures cause { (v : View) → IsSeen (F.told folder.old) v → Unless result (Opens side root.now pass.now v result) }
 {
     match Vault::load(alloc, folder, root, pass) {
         Ok(vault) => Ok(vault),
@@ -73,6 +76,8 @@ fn walk_one<F: Folder>(alloc: Global, folder: &mut F, vault: &Vault) -> Result<P
     ensures walked { IfOk result (λ plan. IsWalked (F.told folder.old) vault.now plan.items) }
     ensures grows { F.faults folder.old ≤ F.faults folder.new }
     ensures blamed { IfErr result (Blamed IsLaterFault (CountRose (F.faults folder.old) (F.faults folder.new))) }
+    ensures passed { IfOk result (λ plan. (v : View) → IsSeen (F.told folder.old) v → TestsClean vault.now v (Ok plan.items)) }
+    ensures cause { IfErr result (λ fault. (v : View) → IsSeen (F.told folder.old) v → Refuses (TestsClean vault.now v) fault) }
 {
     Ok(walk(alloc, folder, vault)?)
 }
@@ -87,6 +92,7 @@ pub(crate) fn test_held<F: Folder>(
     ensures held { OnOk result ((v : View) → IsSeen (F.told folder.old) v → AreHeld sides.now.source sides.now.target v) }
     ensures grows { F.faults folder.old ≤ F.faults folder.new }
     ensures blamed { IfErr result (Blamed IsLaterFault (CountRose (F.faults folder.old) (F.faults folder.new))) }
+    ensures cause { (v : View) → IsSeen (F.told folder.old) v → Unless result (TestsVaults sides.now.source sides.now.target v result) }
 {
     let source = walk_one(alloc, folder, &sides.source)?;
     let target = walk_one(alloc, folder, &sides.target)?;
@@ -107,6 +113,7 @@ fn compare<F: Folder>(
     ensures held { OnOk result ((v : View) → IsSeen (F.told folder.old) v → AreHeld sides.now.source sides.now.target v) }
     ensures grows { F.faults folder.old ≤ F.faults folder.new }
     ensures blamed { IfErr result (Blamed IsLaterFault (CountRose (F.faults folder.old) (F.faults folder.new))) }
+    ensures cause { (v : View) → IsSeen (F.told folder.old) v → Unless result (TestsItems sides.now.source source.now.items sides.now.target target.now.items v result) }
 {
     what_is_held_opens_the_same();
     match holds_all(alloc, folder, &sides.source, source, &sides.target, target)? {
@@ -117,7 +124,9 @@ fn compare<F: Folder>(
     }
 }
 
-fn where_of(how: How) -> Where {
+fn where_of(how: How) -> Where
+    ensures { result ≡ where_of how }
+{
     match how {
         How::Missing => Where::Missing,
         How::Kind => Where::Kind,
@@ -129,6 +138,7 @@ fn where_of(how: How) -> Where {
 pub(crate) fn test_apart(source: &FPath, target: &FPath, work: &FPath) -> Result<(), RetireFault>
     ensures apart { OnOk result (AreSeparate source.now target.now work.now) }
     ensures blamed { IfErr result (Blamed IsLaterFault ⊥) }
+    ensures cause { Unless result (TestsApart source.now target.now work.now result) }
 {
     test_pair(source, target)?;
     test_pair(source, work)?;
@@ -138,6 +148,7 @@ pub(crate) fn test_apart(source: &FPath, target: &FPath, work: &FPath) -> Result
 fn test_pair(first: &FPath, second: &FPath) -> Result<(), RetireFault>
     ensures apart { OnOk result (AreApart first.now second.now) }
     ensures blamed { IfErr result (Blamed IsLaterFault ⊥) }
+    ensures cause { Unless result (TestsPair first.now second.now result) }
 {
     if first.starts_with(second) || second.starts_with(first) {
         return Err(RetireFault::Overlap(first.copy()?, second.copy()?));

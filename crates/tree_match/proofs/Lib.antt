@@ -13,4 +13,4 @@ mod Differing
 mod WholeContents
 mod CutContents
 mod SameTrees
-mod HeldTrees
+pub mod HeldTrees

@@ -1,5 +1,9 @@
 use Rattle.retire_core.proofs.Cleared.{only_then}
 use Rattle.retire_core.proofs.Going.{retiring_then}
+use Rattle.std.proofs.lemmas.Result.{err_from_is_err_and}
+use Rattle.retire_core.proofs.Causing.{ends, passed_is, refused_as}
+use Rattle.retire_core.specs.Causes.{TestsRemovals, Unless}
+use Rattle.std.proofs.Common.{Ok}
 use Rattle.retire_core.proofs.clearing.clear.Goals as goal
 
 pub returns-clause-guard : goal.returns-clause-guard
@@ -9,3 +13,13 @@ returns-clause-guard g c = λ migration same.
 pub returns-clause-clears : goal.returns-clause-clears
 returns-clause-clears g c =
     only_then c.args.work.now (g.F.Folder.told c.args.folder.now) (g.F.Folder.told c.clear_beside.new.folder) (g.F.Folder.told c.clear_rest.new.folder) c.clear_beside.ensures.clears c.clear_rest.ensures.clears
+
+pub returns-in_err-clear_beside-clause-cause : goal.returns-in_err-clear_beside-clause-cause
+returns-in_err-clear_beside-clause-cause g c v seen =
+    let p = err_from_is_err_and c.from_residual.result c.from_residual.ensures.1 in
+    refused_as (λ answer. Unless answer (TestsRemovals c.args.work.now v answer)) c.from_residual.result p.0 (c.in_err-clear_beside.field-0.0) p.1 p.2
+    (c.in_err-clear_beside.ensures.cause v seen)
+
+pub returns-clause-cause : goal.returns-clause-cause
+returns-clause-cause g c v seen =
+    ends (TestsRemovals c.args.work.now v) c.clear_rest.result c.clear_rest.ensures.fails (passed_is tt (TestsRemovals c.args.work.now v (Ok tt)) (c.in_ok-clear_beside.ensures.cause v seen))

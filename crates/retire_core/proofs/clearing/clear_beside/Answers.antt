@@ -1,6 +1,9 @@
-use Rattle.std.proofs.Common.{codes, refl}
+use Rattle.std.proofs.Common.{codes, refl, Err, Ok}
 use Rattle.retire_core.proofs.Cleared.{on_ok_journal, only_by_old, only_then, rest_by_entry}
 use Rattle.retire_core.proofs.Going.{retiring_then}
+use Rattle.std.proofs.lemmas.Result.{err_from_is_err_and}
+use Rattle.retire_core.proofs.Causing.{both_removed, old_stays, refused_as, removed_before, stage_stays}
+use Rattle.retire_core.specs.Causes.{TestsRemovals, Unless}
 use Rattle.retire_core.proofs.clearing.clear_beside.Goals as goal
 
 pub returns-in_err-clear_entry-clause-clears : goal.returns-in_err-clear_entry-clause-clears
@@ -43,3 +46,31 @@ returns-clause-cleared g c =
     let three = c.clear_entry-3.ensures in
     on_ok_journal c.args.work.now (g.F.Folder.told c.args.folder.now) (g.F.Folder.told c.clear_entry.new.folder) (g.F.Folder.told c.clear_entry-2.new.folder) (g.F.Folder.told c.clear_entry-3.new.folder)
     c.clear_entry-3.result c.requires.order one.clears two.clears three.clears one.leaves two.leaves three.leaves one.gone two.gone three.gone
+
+pub returns-in_err-clear_entry-clause-cause : goal.returns-in_err-clear_entry-clause-cause
+returns-in_err-clear_entry-clause-cause g c v seen =
+    let p = err_from_is_err_and c.from_residual.result c.from_residual.ensures.1 in
+    refused_as (λ answer. Unless answer (TestsRemovals c.args.work.now v answer)) c.from_residual.result p.0 (c.in_err-clear_entry.field-0.0) p.1 p.2
+    (old_stays c.args.work.now v c.in_err-clear_entry.field-0.0 (c.in_err-clear_entry.ensures.cause v seen))
+
+pub returns-in_err-clear_entry-2-clause-cause : goal.returns-in_err-clear_entry-2-clause-cause
+returns-in_err-clear_entry-2-clause-cause g c v seen =
+    let t0 = g.F.Folder.told c.args.folder.now in
+    let t1 = g.F.Folder.told c.clear_entry.new.folder in
+    let p = err_from_is_err_and c.from_residual-in_err-clear_entry-2.result c.from_residual-in_err-clear_entry-2.ensures.1 in
+    refused_as (λ answer. Unless answer (TestsRemovals c.args.work.now v answer)) c.from_residual-in_err-clear_entry-2.result p.0 (c.in_err-clear_entry-2.field-0.0) p.1 p.2
+    (stage_stays c.args.work.now v c.in_err-clear_entry-2.field-0.0 (c.in_ok-clear_entry.ensures.cause v seen)
+    (removed_before c.args.work.now (codes "old") (codes "stage") t0 t1 (Err c.in_err-clear_entry-2.field-0.0) refl c.clear_entry.ensures.clears c.clear_entry.ensures.leaves c.in_err-clear_entry-2.ensures.cause v seen))
+
+pub returns-clause-cause : goal.returns-clause-cause
+returns-clause-cause g c v seen =
+    let t0 = g.F.Folder.told c.args.folder.now in
+    let t1 = g.F.Folder.told c.clear_entry.new.folder in
+    let t2 = g.F.Folder.told c.clear_entry-2.new.folder in
+    let work = c.args.work.now in
+    let answer = c.clear_entry-3.result in
+    let old = c.clear_entry.ensures in
+    let stage = c.clear_entry-2.ensures in
+    both_removed work v answer (c.in_ok-clear_entry.ensures.cause v seen) (removed_before work (codes "old") (codes "stage") t0 t1 (Ok tt) refl old.clears old.leaves c.in_ok-clear_entry-2.ensures.cause v seen)
+    (removed_before work (codes "old") (codes "journal.new") t0 t1 answer refl old.clears old.leaves
+    (removed_before work (codes "stage") (codes "journal.new") t1 t2 answer refl stage.clears stage.leaves c.clear_entry-3.ensures.cause) v seen)

@@ -1,15 +1,19 @@
-use Rattle.std.proofs.Common.{◌≡◌, ◌≤◌, Ok, arith, subst, sym}
+use Rattle.std.proofs.Common.{◌≡◌, ◌≤◌, Ok, arith, inr, subst, sym}
 use Rattle.std.proofs.lemmas.Result.{err_from_is_err_and}
 use Rattle.folder_model.proofs.Counting.{never_falls}
 use Rattle.folder_model.specs.Answers.{Answers}
 use Rattle.folder_spec.specs.Path.{child}
 use Rattle.folder_staging.specs.Removal.{Removes, deepest, from}
-use Rattle.folder_spec.specs.View.{kind_found}
+use Rattle.folder_spec.specs.View.{NoEntry, kind_found}
+use Rattle.folder_spec.specs.Seen.{IsSeen}
 use Rattle.folder_spec.specs.declared.Kind.{Kind}
 use Rattle.retire_core.proofs.Blaming.{blamed_kind, blamed_removal}
 use Rattle.retire_core.proofs.Cleared.{bare_of, entry_cleared, entry_leaves, entry_same}
 use Rattle.retire_core.proofs.Going.{removes_retiring}
-use Rattle.retire_core.proofs.Starts.{there_by_kind}
+use Rattle.retire_core.proofs.Causing.{folder_unless, none_removed, refused_as, removal_done, removal_refused}
+use Rattle.retire_core.proofs.Starts.{missing_by_kind, there_by_kind}
+use Rattle.retire_core.specs.Causes.{Refuses, TestsRemoval, Unless}
+use Rattle.retire_core.specs.Faults.{of_folder, of_removal}
 use Rattle.retire_core.specs.Clearing.{ClearsEntry, IsGone, Leaves}
 use Rattle.retire_core.specs.Guarding.{KeepsRetiring}
 use Rattle.retire_core.proofs.clearing.clear_entry.Goals as goal
@@ -47,6 +51,9 @@ returns-in_err-remove_all-in_default g c =
       leaves = subst (λ p. Leaves p t0 t2) its (subst (λ t. Leaves at t t2) c.kind.ensures.told (entry_leaves at t1 t2 (g.met.F.Folder.sound c.kind.new.self) clears));
       gone = tt;
       grows = (let first : n0 ≤ n1 = never_falls {T = Kind} t0 n0 n1 (Ok c.in_ok-kind.field-0) c.in_ok-kind.ensures.counts in let second : n1 ≤ n2 = removes.grows in omega (arith, first, second));
+      cause = rw p.2
+          (λ v seen. subst (λ q. Refuses (TestsRemoval q v) (of_removal c.in_err-remove_all-in_default.field-0.0)) its
+          (removal_refused at v c.remove_all.result c.in_err-remove_all-in_default.field-0.0 c.in_err-remove_all-in_default.was (removes.answer v (subst (λ t. IsSeen t v) (sym c.kind.ensures.told) seen))));
       blamed = rw p.2 (blamed_removal n0 n1 n2 c.in_err-remove_all-in_default.field-0.0 c.remove_all.result (c.in_err-remove_all-in_default.was) (never_falls {T = Kind} t0 n0 n1 (Ok c.in_ok-kind.field-0) c.in_ok-kind.ensures.counts) removes.failed);
     })
 
@@ -71,5 +78,20 @@ returns g c =
       leaves = subst (λ p. Leaves p t0 t2) its (subst (λ t. Leaves at t t2) c.kind.ensures.told (entry_leaves at t1 t2 (g.met.F.Folder.sound c.kind.new.self) clears));
       gone = subst (λ p. IsGone p t2) its (bare_of at t2 c.remove_all.result c.in_ok-remove_all-in_default.field-0 (c.in_ok-remove_all-in_default.was) removes.bare);
       grows = (let first : n0 ≤ n1 = never_falls {T = Kind} t0 n0 n1 (Ok c.in_ok-kind.field-0) c.in_ok-kind.ensures.counts in let second : n1 ≤ n2 = removes.grows in omega (arith, first, second));
+      cause = λ v seen. inr (inr (subst (λ q. TestsRemoval q v (Ok tt)) its
+          (removal_done at v c.remove_all.result c.in_ok-remove_all-in_default.field-0 c.in_ok-remove_all-in_default.was (removes.answer v (subst (λ t. IsSeen t v) (sym c.kind.ensures.told) seen)))));
       blamed = tt;
     }
+
+pub returns-in_err-kind-clause-cause : goal.returns-in_err-kind-clause-cause
+returns-in_err-kind-clause-cause g c v seen =
+    let p = err_from_is_err_and c.from_residual-in_err-kind.result c.from_residual-in_err-kind.ensures.1 in
+    refused_as (λ answer. Unless answer (TestsRemoval (child c.args.work.now c.args.name.now) v answer)) c.from_residual-in_err-kind.result p.0 (of_folder c.in_err-kind.field-0.0) p.1 p.2
+    (folder_unless _ c.in_err-kind.field-0.0)
+
+pub returns-in-Missing-clause-cause : goal.returns-in-Missing-clause-cause
+returns-in-Missing-clause-cause g c v seen =
+    let t0 = g.F.Folder.told c.args.folder.now in
+    let at = c.in_ok-at.at in
+    inr (inr (none_removed t0 (g.met.F.Folder.sound c.args.folder.now) v seen (child c.args.work.now c.args.name.now)
+    (subst (λ q. v q ≡ NoEntry) c.in_ok-at.ensures (missing_by_kind t0 at c.in_ok-kind.field-0 c.in_ok-kind.ensures.answer c.in-Missing.is v seen))))

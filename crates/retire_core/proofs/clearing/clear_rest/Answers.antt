@@ -7,6 +7,7 @@ use Rattle.retire_core.proofs.Blaming.{blamed_call}
 use Rattle.retire_core.proofs.Cleared.{folder_allowed, folder_gone, journal_allowed, rest_then}
 use Rattle.retire_core.proofs.Going.{retiring_then}
 use Rattle.retire_core.proofs.Lasts.{folder_clears, folder_retiring, journal_clears, journal_retiring, settle_clears, settle_retiring}
+use Rattle.retire_core.proofs.Causing.{folder_fails}
 use Rattle.retire_core.proofs.clearing.clear_rest.Goals as goal
 
 pub returns-in_err-remove_file-clause-guard : goal.returns-in_err-remove_file-clause-guard
@@ -116,3 +117,18 @@ pub returns-clause-gone : goal.returns-clause-gone
 returns-clause-gone g c =
     folder_gone c.args.work.now (g.F.Folder.told c.remove_file.new.self) (g.F.Folder.told c.remove_dir.new.self) (g.F.Folder.told c.settle.new.self) c.in_ok-remove_dir.field-0 c.in_ok-settle.field-0
     (g.met.F.Folder.sound c.remove_file.new.self) (g.met.F.Folder.sound c.remove_dir.new.self) c.in_ok-remove_dir.ensures.changes c.in_ok-settle.ensures.changes
+
+pub returns-in_err-remove_file-clause-fails : goal.returns-in_err-remove_file-clause-fails
+returns-in_err-remove_file-clause-fails g c =
+    let p = err_from_is_err_and c.from_residual-in_err-remove_file.result c.from_residual-in_err-remove_file.ensures.1 in
+    rw (p.1, p.2) (folder_fails c.in_err-remove_file.field-0.0)
+
+pub returns-in_err-remove_dir-clause-fails : goal.returns-in_err-remove_dir-clause-fails
+returns-in_err-remove_dir-clause-fails g c =
+    let p = err_from_is_err_and c.from_residual-in_err-remove_dir.result c.from_residual-in_err-remove_dir.ensures.1 in
+    rw (p.1, p.2) (folder_fails c.in_err-remove_dir.field-0.0)
+
+pub returns-in_err-settle-clause-fails : goal.returns-in_err-settle-clause-fails
+returns-in_err-settle-clause-fails g c =
+    let p = err_from_is_err_and c.from_residual-in_err-settle.result c.from_residual-in_err-settle.ensures.1 in
+    rw (p.1, p.2) (folder_fails c.in_err-settle.field-0.0)

@@ -1,13 +1,17 @@
-use Rattle.std.proofs.Common.{◌≡◌, ◌∙◌, OnOk, subst, subst₂}
-use Rattle.folder_spec.specs.Seen.{IsSeen}
+use Rattle.std.proofs.Common.{◌≡◌, ◌∙◌, OnOk, subst, subst₂, Err, Ok, sym}
+use Rattle.folder_spec.specs.Seen.{IsSeen, moved_view}
 use Rattle.migrate_core.specs.Moved.{opened_in}
-use Rattle.tree_match.specs.Guard.{Migration}
+use Rattle.tree_match.specs.Guard.{Migration, old_path}
 use Rattle.retire_core.proofs.Away.{StaysInOrder, order_same}
 use Rattle.retire_core.proofs.Courses.{held_moves, held_same}
 use Rattle.retire_core.proofs.Going.{done_same}
 use Rattle.retire_core.specs.Clearing.{MovesHeldOnly}
 use Rattle.retire_core.specs.Guarding.{ComesFromDone, KeepsDone}
 use Rattle.retire_core.specs.Retiring.{AreHeld, retiring_by}
+use Rattle.std.proofs.lemmas.Result.{err_from_is_err_and}
+use Rattle.retire_core.proofs.Causing.{both_opened, ends, passed_is, refused_as}
+use Rattle.retire_core.specs.Causes.{TestsHeld, Unless}
+use Rattle.folder_spec.specs.View.{View}
 use Rattle.retire_core.proofs.retiring.move_held.Goals as goal
 
 pub returns-in_err-sides-clause-guard : goal.returns-in_err-sides-clause-guard
@@ -74,3 +78,45 @@ returns-clause-moves g c =
 pub returns-clause-leaves : goal.returns-clause-leaves
 returns-clause-leaves g c =
     subst (λ t. StaysInOrder c.args.work.now t (g.F.Folder.told c.move_source.new.folder)) (c.test_held.ensures.told ∙ c.load_both.ensures.told) c.move_source.ensures.leaves
+
+pub returns-in_err-sides-clause-cause : goal.returns-in_err-sides-clause-cause
+returns-in_err-sides-clause-cause g c v seen =
+    let from = c.args.journal.now.source in
+    let to = c.args.journal.now.target in
+    let pass = c.args.source_pass.now in
+    let pass_too = c.args.target_pass.now in
+    let p = err_from_is_err_and c.from_residual.result c.from_residual.ensures.1 in
+    refused_as (λ answer. Unless answer (TestsHeld from to pass pass_too v answer)) c.from_residual.result p.0 (c.in_err-sides.field-0.0) p.1 p.2
+    (c.in_err-sides.ensures.cause v seen)
+
+pub returns-in_err-test_held-clause-cause : goal.returns-in_err-test_held-clause-cause
+returns-in_err-test_held-clause-cause g c v seen =
+    let from = c.args.journal.now.source in
+    let to = c.args.journal.now.target in
+    let pass = c.args.source_pass.now in
+    let pass_too = c.args.target_pass.now in
+    let p = err_from_is_err_and c.from_residual-in_err-test_held.result c.from_residual-in_err-test_held.ensures.1 in
+    refused_as (λ answer. Unless answer (TestsHeld from to pass pass_too v answer)) c.from_residual-in_err-test_held.result p.0 (c.in_err-test_held.field-0.0) p.1 p.2
+    (both_opened from to pass pass_too v c.in_ok-sides.sides.source c.in_ok-sides.sides.target (Err c.in_err-test_held.field-0.0) c.in_ok-sides.ensures.source c.in_ok-sides.ensures.target
+    (c.in_ok-sides.ensures.opens_source v seen) (c.in_ok-sides.ensures.opens_target v seen)
+    (c.in_err-test_held.ensures.cause v (subst (λ t. IsSeen t v) (sym c.load_both.ensures.told) seen)))
+
+pub returns-clause-cause : goal.returns-clause-cause
+returns-clause-cause g c v seen =
+    let from = c.args.journal.now.source in
+    let to = c.args.journal.now.target in
+    let pass = c.args.source_pass.now in
+    let pass_too = c.args.target_pass.now in
+    let sides = c.in_ok-sides.sides in
+    ends (TestsHeld from to pass pass_too v) c.move_source.result c.move_source.ensures.fails
+    (passed_is tt (TestsHeld from to pass pass_too v (Ok tt))
+    (both_opened from to pass pass_too v c.in_ok-sides.sides.source c.in_ok-sides.sides.target (Ok tt) c.in_ok-sides.ensures.source c.in_ok-sides.ensures.target
+    (c.in_ok-sides.ensures.opens_source v seen) (c.in_ok-sides.ensures.opens_target v seen)
+    (c.in_ok-test_held.ensures.cause v (subst (λ t. IsSeen t v) (sym c.load_both.ensures.told) seen))))
+
+pub returns-clause-seen : goal.returns-clause-seen
+returns-clause-seen g c =
+    subst
+    (λ t. OnOk c.move_source.result
+    ((v w : View) → IsSeen t v → IsSeen (g.F.Folder.told c.move_source.new.folder) w → w ≡ moved_view v c.args.journal.now.source (old_path c.args.work.now)))
+    (c.test_held.ensures.told ∙ c.load_both.ensures.told) c.move_source.ensures.seen

@@ -4,6 +4,7 @@ use Rattle.folder_spec.specs.Event.{Changes, Rename}
 use Rattle.tree_match.specs.Guard.{old_path}
 use Rattle.retire_core.proofs.Away.{AreLaws, away_comes, away_gone, away_guarded, away_settled, move_allowed, moves_call, moves_settled, order_call, order_settled, settle_seen_back}
 use Rattle.retire_core.proofs.Blaming.{blamed_call}
+use Rattle.retire_core.proofs.Causing.{folder_fails, moved_seen}
 use Rattle.retire_core.proofs.retiring.move_source.Goals as goal
 
 pub returns-in_err-rename-clause-guard : goal.returns-in_err-rename-clause-guard
@@ -116,3 +117,21 @@ returns-clause-leaves g c =
     order_settled c.args.work.now t0 t1 t2 c.settle.result
     (order_call source c.args.work.now t0 t1 c.rename.result c.requires.apart (g.met.F.Folder.sound c.args.folder.now)
     (subst (λ q. Changes (Rename source q) t0 t1 c.rename.result) c.in_ok-old.ensures c.rename.ensures.changes)) c.settle.ensures.changes (settle_seen_back t1 t2 c.settle.result c.settle.ensures.changes)
+
+pub returns-in_err-rename-clause-fails : goal.returns-in_err-rename-clause-fails
+returns-in_err-rename-clause-fails g c =
+    let p = err_from_is_err_and c.from_residual-in_err-rename.result c.from_residual-in_err-rename.ensures.1 in
+    rw (p.1, p.2) (folder_fails c.in_err-rename.field-0.0)
+
+pub returns-in_err-settle-clause-fails : goal.returns-in_err-settle-clause-fails
+returns-in_err-settle-clause-fails g c =
+    let p = err_from_is_err_and c.from_residual-in_err-settle.result c.from_residual-in_err-settle.ensures.1 in
+    rw (p.1, p.2) (folder_fails c.in_err-settle.field-0.0)
+
+pub returns-clause-seen : goal.returns-clause-seen
+returns-clause-seen g c =
+    let t0 = g.F.Folder.told c.args.folder.now in
+    let t1 = g.F.Folder.told c.rename.new.self in
+    let one = c.in_ok-rename.field-0 in
+    moved_seen c.args.source.now c.args.work.now t0 t1 (g.F.Folder.told c.settle.new.self) one c.in_ok-settle.field-0 (g.met.F.Folder.sound c.args.folder.now) (g.met.F.Folder.sound c.rename.new.self)
+    (subst (λ q. Changes (Rename c.args.source.now q) t0 t1 (Ok one)) c.in_ok-old.ensures c.in_ok-rename.ensures.changes) c.in_ok-settle.ensures.changes

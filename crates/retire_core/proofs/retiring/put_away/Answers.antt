@@ -1,13 +1,13 @@
 use denote.Enum.Bare.{same_true, sameb}
-use Rattle.std.proofs.Common.{rules, true, false, ap, ◌≡◌, ◌≢◌, ◌∙◌, arith, subst, sym}
+use Rattle.std.proofs.Common.{rules, true, false, ap, ◌≡◌, ◌≢◌, ◌∙◌, arith, subst, sym, inl, inr, refl}
 use Rattle.std.proofs.lemmas.Result.{err_from_is_err_and}
-use Rattle.folder_spec.specs.Seen.{IsSeen}
+use Rattle.folder_spec.specs.Seen.{IsSeen, moved_view}
 use Rattle.folder_spec.specs.View.{View}
 use Rattle.folder_spec.specs.contracts.Kind.{the_type}
 use Rattle.folder_spec.specs.declared.Kind.TheVariants.{Missing}
 use Rattle.migrate_core.specs.Moved.{StandsIn}
 use Rattle.migrate_core.specs.Sides.{IsResumed}
-use Rattle.tree_match.specs.Guard.{Migration}
+use Rattle.tree_match.specs.Guard.{Migration, old_path}
 use Rattle.retire_core.proofs.Blaming.{blamed_kind}
 use Rattle.retire_core.proofs.Courses.{held_same}
 use Rattle.retire_core.proofs.Going.{rest_same}
@@ -15,6 +15,9 @@ use Rattle.retire_core.proofs.Starts.{IsKnown, comes_by_done, comes_missing, mis
 use Rattle.retire_core.specs.Clearing.{IsGone, IsInOrder, MovesHeldOnly}
 use Rattle.retire_core.specs.Guarding.{ComesFromDone, ComesTo, KeepsDone}
 use Rattle.retire_core.specs.Retiring.{retiring_by}
+use Rattle.retire_core.proofs.Causing.{away_none, away_there, folder_unless, is_free, not_free, one_view, refused_as}
+use Rattle.retire_core.specs.Causes.{TestsAway, Unless, moved_away}
+use Rattle.retire_core.specs.Faults.{of_folder}
 use Rattle.retire_core.proofs.retiring.put_away.Goals as goal
 
 pub returns-in_err-kind-clause-guard : goal.returns-in_err-kind-clause-guard
@@ -87,3 +90,65 @@ returns-clause-order g c =
     (λ gone w is.
     let before = moved_before r t0 t3 (subst (λ t. MovesHeldOnly r t t3) same c.move_held.ensures.moves) w is in
     c.move_held.ensures.leaves before.0 w (subst (λ t. IsSeen t before.0) (sym same) before.1) is (c.requires.order before.0 before.1)) c.move_held.ensures.gone
+
+pub returns-in_err-kind-clause-cause : goal.returns-in_err-kind-clause-cause
+returns-in_err-kind-clause-cause g c v seen =
+    let work = c.args.work.now in
+    let pass = c.args.source_pass.now in
+    let pass_too = c.args.target_pass.now in
+    let journal = c.args.journal.now in
+    let p = err_from_is_err_and c.from_residual.result c.from_residual.ensures.1 in
+    refused_as (λ answer. Unless answer (TestsAway work pass pass_too journal v answer)) c.from_residual.result p.0 (of_folder c.in_err-kind.field-0.0) p.1 p.2
+    (folder_unless _ c.in_err-kind.field-0.0)
+
+pub returns-then-eq-clause-cause : goal.returns-then-eq-clause-cause
+returns-then-eq-clause-cause g c v seen =
+    let kind = c.in_ok-kind.field-0 in
+    let missing : kind ≡ Missing = same_true the_type (search rules) kind Missing (sym c.eq.ensures ∙ c.if-eq.true) in
+    inr (inr (inl (missing_by_kind (g.F.Folder.told c.args.folder.now) c.args.journal.now.source kind c.in_ok-kind.ensures.answer missing v seen, refl)))
+
+pub returns-then-eq-clause-seen : goal.returns-then-eq-clause-seen
+returns-then-eq-clause-seen g c v w seen now =
+    let t0 = g.F.Folder.told c.args.folder.now in
+    let source = c.args.journal.now.source in
+    let kind = c.in_ok-kind.field-0 in
+    let missing : kind ≡ Missing = same_true the_type (search rules) kind Missing (sym c.eq.ensures ∙ c.if-eq.true) in
+    away_none source c.args.work.now v w (missing_by_kind t0 source kind c.in_ok-kind.ensures.answer missing v seen) (one_view t0 w v (subst (λ t. IsSeen t w) c.kind.ensures.told now) seen)
+
+pub returns-in_err-test_free-clause-cause : goal.returns-in_err-test_free-clause-cause
+returns-in_err-test_free-clause-cause g c v seen =
+    let work = c.args.work.now in
+    let pass = c.args.source_pass.now in
+    let pass_too = c.args.target_pass.now in
+    let journal = c.args.journal.now in
+    let kind = c.in_ok-kind.field-0 in
+    let isnt : kind ≢ Missing = (λ is. let equal : false ≡ true = sym c.if-eq.false ∙ c.eq.ensures ∙ ap (λ k. sameb the_type k Missing) is in cc equal) in
+    let p = err_from_is_err_and c.from_residual-in_err-test_free.result c.from_residual-in_err-test_free.ensures.1 in
+    refused_as (λ answer. Unless answer (TestsAway work pass pass_too journal v answer)) c.from_residual-in_err-test_free.result p.0 (c.in_err-test_free.field-0.0) p.1 p.2
+    (not_free work pass pass_too journal v (there_by_kind (g.F.Folder.told c.args.folder.now) journal.source kind c.in_ok-kind.ensures.answer isnt v seen) c.in_err-test_free.field-0.0
+    (c.in_err-test_free.ensures.cause v (subst (λ t. IsSeen t v) (sym c.kind.ensures.told) seen)))
+
+pub returns-clause-cause : goal.returns-clause-cause
+returns-clause-cause g c v seen =
+    let work = c.args.work.now in
+    let pass = c.args.source_pass.now in
+    let pass_too = c.args.target_pass.now in
+    let journal = c.args.journal.now in
+    let kind = c.in_ok-kind.field-0 in
+    let isnt : kind ≢ Missing = (λ is. let equal : false ≡ true = sym c.if-eq.false ∙ c.eq.ensures ∙ ap (λ k. sameb the_type k Missing) is in cc equal) in
+    let once = subst (λ t. IsSeen t v) (sym c.kind.ensures.told) seen in
+    is_free work pass pass_too journal v (there_by_kind (g.F.Folder.told c.args.folder.now) journal.source kind c.in_ok-kind.ensures.answer isnt v seen) c.move_held.result (c.in_ok-test_free.ensures.cause v once)
+    (c.move_held.ensures.cause v (subst (λ t. IsSeen t v) (sym c.test_free.ensures.told) once))
+
+pub returns-clause-seen : goal.returns-clause-seen
+returns-clause-seen g c =
+    let t0 = g.F.Folder.told c.args.folder.now in
+    let t2 = g.F.Folder.told c.test_free.new.folder in
+    let t3 = g.F.Folder.told c.move_held.new.folder in
+    let same = c.test_free.ensures.told ∙ c.kind.ensures.told in
+    let source = c.args.journal.now.source in
+    let work = c.args.work.now in
+    let kind = c.in_ok-kind.field-0 in
+    let isnt : kind ≢ Missing = (λ is. let equal : false ≡ true = sym c.if-eq.false ∙ c.eq.ensures ∙ ap (λ k. sameb the_type k Missing) is in cc equal) in
+    on_ok_more ((v w : View) → IsSeen t2 v → IsSeen t3 w → w ≡ moved_view v source (old_path work)) ((v w : View) → IsSeen t0 v → IsSeen t3 w → w ≡ moved_away (v source) source work v) c.move_held.result
+    (λ moved v w seen now. moved v w (subst (λ t. IsSeen t v) (sym same) seen) now ∙ away_there source work v (v source) (there_by_kind t0 source kind c.in_ok-kind.ensures.answer isnt v seen)) c.move_held.ensures.seen

@@ -1,9 +1,13 @@
+use Rattle.std.proofs.Common.{subst, subst₂, sym}
 use Rattle.folder_spec.specs.Seen.{IsSeen}
 use Rattle.folder_spec.specs.View.{View}
 use Rattle.retire_core.proofs.Blaming.{if_err_both}
-use Rattle.retire_core.specs.Faults.{OfJournal}
-use Rattle.retire_core.proofs.Courses.{removes_settled, retired_earlier, settle_fell, settle_removes, settle_seen, settle_then, settle_touches, touches_then}
+use Rattle.retire_core.specs.Faults.{OfJournal, of_folder}
+use Rattle.retire_core.proofs.Courses.{folder_above, removes_settled, retired_earlier, settle_fell, settle_removes, settle_seen, settle_then, settle_touches, touches_then}
 use Rattle.retire_core.specs.Retiring.{retiring_by}
+use Rattle.retire_core.proofs.Causing.{folder_fails, folder_unless, refused_as, unless_completes}
+use Rattle.retire_core.specs.Causes.{Retires, Unless}
+use Rattle.std.proofs.lemmas.Result.{err_from_is_err_and}
 use Rattle.retire_core.proofs.retiring.retire.Goals as goal
 
 pub returns-in_err-settle-clause-guard : goal.returns-in_err-settle-clause-guard
@@ -52,3 +56,27 @@ returns-clause-caused g c =
     let work = c.args.work.now in
     if_err_both (λ fault. (v : View) → IsSeen t1 v → OfJournal work v fault) (λ fault. (v : View) → IsSeen t0 v → OfJournal work v fault) c.retire_settled.result
     (λ fault caused v seen. caused v (settle_seen t0 t1 c.in_ok-settle.field-0 c.in_ok-settle.ensures.changes v seen)) c.retire_settled.ensures.caused
+
+pub returns-in_err-settle-clause-cause : goal.returns-in_err-settle-clause-cause
+returns-in_err-settle-clause-cause g c v seen =
+    let p = err_from_is_err_and c.from_residual.result c.from_residual.ensures.1 in
+    refused_as (λ answer. Unless answer (Retires c.args.work.now c.args.source_pass.now c.args.target_pass.now v answer)) c.from_residual.result p.0 (of_folder c.in_err-settle.field-0.0) p.1 p.2
+    (folder_unless _ c.in_err-settle.field-0.0)
+
+pub returns-clause-cause : goal.returns-clause-cause
+returns-clause-cause g c v seen =
+    c.retire_settled.ensures.cause v (settle_seen (g.F.Folder.told c.args.folder.now) (g.F.Folder.told c.settle.new.self) c.in_ok-settle.field-0 c.in_ok-settle.ensures.changes v seen)
+
+pub returns-in_err-settle-clause-completes : goal.returns-in_err-settle-clause-completes
+returns-in_err-settle-clause-completes g c =
+    let p = err_from_is_err_and c.from_residual.result c.from_residual.ensures.1 in
+    rw (p.1, p.2) (λ migration v seen resumed can. folder_fails c.in_err-settle.field-0.0)
+
+pub returns-clause-completes : goal.returns-clause-completes
+returns-clause-completes g c = λ migration v seen resumed can.
+    let t0 = g.F.Folder.told c.args.folder.now in
+    let cause = c.retire_settled.ensures.cause v (settle_seen t0 (g.F.Folder.told c.settle.new.self) c.in_ok-settle.field-0 c.in_ok-settle.ensures.changes v seen) in
+    unless_completes c.retire_settled.result (Retires c.args.work.now c.args.source_pass.now c.args.target_pass.now v c.retire_settled.result)
+    (λ tested. c.what_can_be_retired_is_retired.ensures migration v c.retire_settled.result (λ p a there. folder_above t0 (g.met.F.Folder.sound c.args.folder.now) v seen p a there) can
+    (subst (λ w. Retires w migration.source.pass migration.target.pass v c.retire_settled.result) (sym resumed.work)
+    (subst₂ (λ x y. Retires c.args.work.now x y v c.retire_settled.result) (sym resumed.opens_source) (sym resumed.opens_target) tested))) cause

@@ -8,12 +8,14 @@ use Rattle.std.proofs.lemmas.Result.{err_from_is_err_and}
 use Rattle.folder_spec.specs.View.{View}
 use Rattle.port_model.specs.Counts.{CountRose}
 use Rattle.retire_core.proofs.Blaming.{blamed_later, if_err_both, later_caused, later_own, work_caused}
-use Rattle.retire_core.specs.Faults.{Blamed, IsLaterFault, IsRetireFault, OfJournal}
+use Rattle.retire_core.specs.Faults.{Blamed, IsLaterFault, IsRetireFault, OfJournal, of_work}
 use Rattle.retire_core.proofs.Courses.{folder_above, in_order, removes_same, retired_by, touches_same}
 use Rattle.retire_core.proofs.Going.{rest_same}
 use Rattle.retire_core.proofs.Starts.{one_journal}
 use Rattle.retire_core.specs.Guarding.{KeepsFromRest}
 use Rattle.retire_core.specs.Retiring.{RemovesOnly, TouchesOnly, retiring_by}
+use Rattle.retire_core.proofs.Causing.{foreign, is_told, not_done, overlapping, refused_as}
+use Rattle.retire_core.specs.Causes.{Retires, Unless}
 use Rattle.retire_core.proofs.retiring.retire_settled.Goals as goal
 
 pub returns-in_err-journal-clause-guard : goal.returns-in_err-journal-clause-guard
@@ -139,3 +141,37 @@ returns-clause-caused g c =
     let read = c.in_ok-journal.ensures in
     if_err_both (Blamed IsLaterFault (CountRose n2 n3)) (λ fault. (v : View) → IsSeen t0 v → OfJournal work v fault) c.retire_told.result
     (λ fault b v seen. later_caused work v fault b.own (record { journal = c.in_ok-journal.journal; is = read.journal; in_phase = read.phase; stands = read.stands v seen })) c.retire_told.ensures.blamed
+
+pub returns-in_err-journal-clause-cause : goal.returns-in_err-journal-clause-cause
+returns-in_err-journal-clause-cause g c v seen =
+    let work = c.args.work.now in
+    let pass = c.args.source_pass.now in
+    let pass_too = c.args.target_pass.now in
+    let p = err_from_is_err_and c.from_residual.result c.from_residual.ensures.1 in
+    refused_as (λ answer. Unless answer (Retires work pass pass_too v answer)) c.from_residual.result p.0 (c.in_err-journal.field-0.0) p.1 p.2
+    (not_done work pass pass_too v c.in_err-journal.field-0.0 (c.in_err-journal.ensures.cause v seen))
+
+pub returns-in_err-test_apart-clause-cause : goal.returns-in_err-test_apart-clause-cause
+returns-in_err-test_apart-clause-cause g c v seen =
+    let work = c.args.work.now in
+    let pass = c.args.source_pass.now in
+    let pass_too = c.args.target_pass.now in
+    let p = err_from_is_err_and c.from_residual-in_err-test_apart.result c.from_residual-in_err-test_apart.ensures.1 in
+    refused_as (λ answer. Unless answer (Retires work pass pass_too v answer)) c.from_residual-in_err-test_apart.result p.0 (c.in_err-test_apart.field-0.0) p.1 p.2
+    (overlapping work pass pass_too v c.in_ok-journal.journal (c.in_ok-journal.ensures.cause v seen) c.in_err-test_apart.field-0.0 c.in_err-test_apart.ensures.cause)
+
+pub returns-in_err-look_again-clause-cause : goal.returns-in_err-look_again-clause-cause
+returns-in_err-look_again-clause-cause g c v seen =
+    let work = c.args.work.now in
+    let pass = c.args.source_pass.now in
+    let pass_too = c.args.target_pass.now in
+    let p = err_from_is_err_and c.from_residual-in_err-look_again.result c.from_residual-in_err-look_again.ensures.1 in
+    refused_as (λ answer. Unless answer (Retires work pass pass_too v answer)) c.from_residual-in_err-look_again.result p.0 (of_work c.in_err-look_again.field-0.0) p.1 p.2
+    (foreign work pass pass_too v c.in_ok-journal.journal (c.in_ok-journal.ensures.cause v seen) c.in_ok-test_apart.ensures.cause c.in_err-look_again.field-0.0
+    (c.in_err-look_again.ensures.answer v (subst (λ t. IsSeen t v) (sym c.read_done.ensures.told) seen)))
+
+pub returns-clause-cause : goal.returns-clause-cause
+returns-clause-cause g c v seen =
+    let read = subst (λ t. IsSeen t v) (sym c.read_done.ensures.told) seen in
+    is_told c.args.work.now c.args.source_pass.now c.args.target_pass.now v c.in_ok-journal.journal (c.in_ok-journal.ensures.cause v seen) c.in_ok-test_apart.ensures.cause c.retire_told.result
+    (c.in_ok-look_again.ensures.answer v read) (c.retire_told.ensures.cause v (subst (λ t. IsSeen t v) (sym c.look_again.ensures.told) read))

@@ -1,5 +1,9 @@
 use Rattle.retire_core.proofs.Courses.{gone_still, not_base, removes_cleared, removes_moved, rest_then, touches_cleared, touches_moved}
 use Rattle.retire_core.specs.Retiring.{retiring_by}
+use Rattle.std.proofs.lemmas.Result.{err_from_is_err_and}
+use Rattle.retire_core.proofs.Causing.{is_retired, not_away, not_removed, refused_as, removed_then}
+use Rattle.retire_core.specs.Causes.{RetiresTold, Unless}
+use Rattle.std.proofs.Common.{Err, Ok}
 use Rattle.retire_core.proofs.retiring.retire_told.Goals as goal
 
 pub returns-in_err-put_away-clause-touches : goal.returns-in_err-put_away-clause-touches
@@ -47,3 +51,35 @@ pub returns-clause-source : goal.returns-clause-source
 returns-clause-source g c =
     gone_still c.args.journal.now.source c.args.work.now (g.F.Folder.told c.put_away.new.folder) (g.F.Folder.told c.clear.new.folder) c.requires.apart.source (g.met.F.Folder.sound c.put_away.new.folder)
     c.clear.ensures.clears c.in_ok-put_away.ensures.gone
+
+pub returns-in_err-put_away-clause-cause : goal.returns-in_err-put_away-clause-cause
+returns-in_err-put_away-clause-cause g c v seen =
+    let work = c.args.work.now in
+    let pass = c.args.source_pass.now in
+    let pass_too = c.args.target_pass.now in
+    let journal = c.args.journal.now in
+    let p = err_from_is_err_and c.from_residual.result c.from_residual.ensures.1 in
+    refused_as (λ answer. Unless answer (RetiresTold work pass pass_too journal v answer)) c.from_residual.result p.0 (c.in_err-put_away.field-0.0) p.1 p.2
+    (not_away work pass pass_too journal v c.in_err-put_away.field-0.0 (c.in_err-put_away.ensures.cause v seen))
+
+pub returns-in_err-clear-clause-cause : goal.returns-in_err-clear-clause-cause
+returns-in_err-clear-clause-cause g c v seen =
+    let work = c.args.work.now in
+    let pass = c.args.source_pass.now in
+    let pass_too = c.args.target_pass.now in
+    let journal = c.args.journal.now in
+    let p = err_from_is_err_and c.from_residual-in_err-clear.result c.from_residual-in_err-clear.ensures.1 in
+    refused_as (λ answer. Unless answer (RetiresTold work pass pass_too journal v answer)) c.from_residual-in_err-clear.result p.0 (c.in_err-clear.field-0.0) p.1 p.2
+    (not_removed work pass pass_too journal v c.in_err-clear.field-0.0 (c.in_ok-put_away.ensures.cause v seen)
+    (removed_then (retiring_by work pass pass_too journal) journal.source work (g.F.Folder.told c.args.folder.now) (g.F.Folder.told c.put_away.new.folder) (Err c.in_err-clear.field-0.0) c.put_away.ensures.moves c.in_ok-put_away.ensures.seen
+    c.in_err-clear.ensures.cause v seen))
+
+pub returns-clause-cause : goal.returns-clause-cause
+returns-clause-cause g c v seen =
+    let work = c.args.work.now in
+    let pass = c.args.source_pass.now in
+    let pass_too = c.args.target_pass.now in
+    let journal = c.args.journal.now in
+    is_retired work pass pass_too journal v (c.in_ok-put_away.ensures.cause v seen)
+    (removed_then (retiring_by work pass pass_too journal) journal.source work (g.F.Folder.told c.args.folder.now) (g.F.Folder.told c.put_away.new.folder) (Ok tt) c.put_away.ensures.moves c.in_ok-put_away.ensures.seen
+    c.in_ok-clear.ensures.cause v seen)

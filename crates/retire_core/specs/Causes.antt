@@ -1,0 +1,161 @@
+-- Why `retire` refuses: its tests in order, by what is seen at first. The first test that fails is the answer, and where none does, the
+-- source is retired.
+use Rattle.std.specs.Prelude.{◌≡◌, ◌≢◌, ◌⊎◌, ℕ, List, true, Result, Ok, Err}
+use Rattle.folder_spec.specs.Path.{Path}
+use Rattle.folder_spec.specs.Seen.{moved_view, under}
+use Rattle.folder_spec.specs.View.{Found, NoEntry, View}
+use Rattle.folder_staging.specs.Removal.{RemovesAs, deepest, from}
+use Rattle.migrate_core.specs.Causes.{Compares, PassesOr, Then, Walks, own, refused_at}
+use Rattle.migrate_core.specs.Moved.{opened_in}
+use Rattle.move_journal.specs.Reading.{ReadsAs, journal_bytes}
+use Rattle.move_journal.specs.declared.journal.Journal.{Journal}
+use Rattle.move_journal.specs.declared.journal.Phase.{Phase}
+use Rattle.move_journal.specs.declared.journal.Phase.TheVariants as phase
+use Rattle.tree_match.specs.Guard.{AreApart, old_path}
+use Rattle.tree_match.specs.declared.answer.How.{How}
+use Rattle.tree_match.specs.declared.answer.How.TheVariants as how
+use Rattle.tree_match.specs.declared.answer.Match.{Match}
+use Rattle.tree_match.specs.declared.answer.Match.TheVariants.{Same, Contained, Differs}
+use Rattle.tree_match.specs.declared.answer.Side.{Side}
+use Rattle.tree_match.specs.declared.answer.Side.TheVariants.{Source, Target}
+use Rattle.tree_match.specs.declared.answer.Where.{Where}
+use Rattle.tree_match.specs.declared.answer.Where.TheVariants as place
+use Rattle.vault_read.specs.Opened.{OpenedVault}
+use Rattle.vault_spec.specs.Plan.{Planned}
+use Rattle.vault_spec.specs.Vault.{LoadRefusal, Loads}
+use Rattle.work_folder.specs.Entries.{new_journal_path, stage_path}
+use Rattle.work_folder.specs.Looking.{TestsEntries}
+use Rattle.work_folder.specs.declared.fault.WorkFault.TheVariants.{Foreign}
+use Rattle.retire_core.specs.Faults.{of_journal, of_match, of_removal, of_walk, of_work}
+use Rattle.retire_core.specs.declared.fault.RetireFault.{RetireFault}
+use Rattle.retire_core.specs.declared.fault.RetireFault.TheVariants.{Work, Unfinished, Overlap, Load, Differ, Failed, NoMemory}
+use Rattle.retire_core.specs.declared.retiring.Retired.{Retired}
+
+-- what a call may answer of which one test is a part
+abbrev pub Answer : Type 0 → Type 0
+Answer X = Result X RetireFault
+
+-- the folder may always fail, and memory run out
+abbrev pub Unless : {X : Type 0} → Answer X → Type 0 → Type 0
+Unless answer P = (answer ≡ Err Failed) ⊎ ((answer ≡ Err NoMemory) ⊎ P)
+
+-- the folder failed, or memory ran out
+abbrev pub IsOfFolder : RetireFault → Type 0
+IsOfFolder fault = (fault ≡ Failed) ⊎ (fault ≡ NoMemory)
+
+-- it passes, with this value
+abbrev pub Passes : {X : Type 0} → X → Answer X → Type 0
+Passes value answer = answer ≡ Ok value
+
+-- ---- the journal, and the folders
+
+-- it says that all is done
+abbrev pub TestsPhase : Journal → Phase → Answer Journal → Type 0
+TestsPhase journal phase.Building answer = answer ≡ Err Unfinished
+TestsPhase journal phase.Done answer = answer ≡ Ok journal
+
+-- the journal is there, and says that all is done
+abbrev pub ReadsDone : Path → View → Answer Journal → Type 0
+ReadsDone work v = Then of_journal (ReadsAs (journal_bytes v work)) (λ journal. TestsPhase journal journal.phase)
+
+abbrev pub TestsPair : Path → Path → Answer (Unit {0}) → Type 0
+TestsPair p q = PassesOr (AreApart p q) (¬ AreApart p q) (Overlap p q)
+
+-- no two of the three folders overlap
+abbrev pub TestsApart : Path → Path → Path → Answer (Unit {0}) → Type 0
+TestsApart from to work = Then own (TestsPair from to) (λ _. Then own (TestsPair from work) (λ _. TestsPair to work))
+
+-- ---- whether the target holds the source
+
+abbrev pub of_refusal : Side → Path → LoadRefusal → RetireFault
+of_refusal side root refusal = Load side (refused_at root refusal)
+
+-- the root and its passphrase are a vault
+abbrev pub Opens : Side → Path → List ℕ → View → Answer OpenedVault → Type 0
+Opens side root pass v = Then (of_refusal side root) (Loads (under root v) pass) (λ vault. Passes (opened_in root vault))
+
+-- the vault passes no limit and is clean, and these are its items
+abbrev pub TestsClean : OpenedVault → View → Answer (List Planned) → Type 0
+TestsClean a v = Then of_walk (Walks a v) Passes
+
+-- how an item of the source isn't so in the target
+abbrev pub where_of : How → Where
+where_of how.Missing = place.Missing
+where_of how.Kind = place.Kind
+where_of how.Content = place.Content
+
+-- each item of the source is so in the target, which may have more
+abbrev pub TestsMatch : Match → Answer (Unit {0}) → Type 0
+TestsMatch Same answer = answer ≡ Ok tt
+TestsMatch (Contained path) answer = answer ≡ Ok tt
+TestsMatch (Differs path how) answer = answer ≡ Err (Differ path (where_of how))
+
+-- so it is by comparing their items
+abbrev pub TestsItems : OpenedVault → List Planned → OpenedVault → List Planned → View → Answer (Unit {0}) → Type 0
+TestsItems source items target others v = Then of_match (Compares source items target others v) TestsMatch
+
+-- both are clean, and so it is
+abbrev pub TestsVaults : OpenedVault → OpenedVault → View → Answer (Unit {0}) → Type 0
+TestsVaults source target v =
+    Then own (TestsClean source v) (λ items.
+    Then own (TestsClean target v) (λ others. TestsItems source items target others v))
+
+-- both open, and so it is
+abbrev pub TestsHeld : (from to : Path) (from_pass to_pass : List ℕ) → View → Answer (Unit {0}) → Type 0
+TestsHeld from to from_pass to_pass v =
+    Then own (Opens Source from from_pass v) (λ source.
+    Then own (Opens Target to to_pass v) (λ target. TestsVaults source target v))
+
+-- ---- moving the source into the work folder
+
+-- nothing is at `old`
+abbrev pub TestsFree : Path → View → Answer (Unit {0}) → Type 0
+TestsFree work v = PassesOr (v (old_path work) ≡ NoEntry) (v (old_path work) ≢ NoEntry) (Work (Foreign (old_path work)))
+
+-- The source isn't there, and isn't moved; or it is there, nothing is at `old`, and the target holds it.
+abbrev pub TestsAway : Path → (from_pass to_pass : List ℕ) → Journal → View → Answer (Unit {0}) → Type 0
+TestsAway work from_pass to_pass journal v answer =
+    ((v journal.source ≡ NoEntry) × (answer ≡ Ok tt))
+    ⊎ ((v journal.source ≢ NoEntry) × Then own (TestsFree work v) (λ _. TestsHeld journal.source journal.target from_pass to_pass v) answer)
+
+-- what is seen then, by what was at the source
+abbrev pub moved_away : Found → Path → Path → View → View
+moved_away NoEntry source work v = v
+moved_away there source work v = moved_view v source (old_path work)
+
+-- ---- removing what is in the work folder
+
+-- what is at the path and below it: only files and directories, and none deeper than 128 parts below it
+abbrev pub TestsRemoval : Path → View → Answer (Unit {0}) → Type 0
+TestsRemoval at v = Then of_removal (RemovesAs (from at deepest) v) Passes
+
+-- all but the journal, in this order
+abbrev pub TestsRemovals : Path → View → Answer (Unit {0}) → Type 0
+TestsRemovals work v =
+    Then own (TestsRemoval (old_path work) v) (λ _.
+    Then own (TestsRemoval (stage_path work) v) (λ _. TestsRemoval (new_journal_path work) v))
+
+-- ---- the call
+
+-- as many items as the journal says
+abbrev pub retired_of : Journal → Retired
+retired_of journal = record { items = journal.items }
+
+-- behind the tests of the work folder: the source may be moved away, and then all but the journal is removed
+abbrev pub RetiresTold : Path → (from_pass to_pass : List ℕ) → Journal → View → Answer Retired → Type 0
+RetiresTold work from_pass to_pass journal v =
+    Then own (TestsAway work from_pass to_pass journal v) (λ _.
+    Then own (TestsRemovals work (moved_away (v journal.source) journal.source work v)) (λ _. Passes (retired_of journal)))
+
+-- the journal is there and says that all is done; the three folders don't overlap; no entry of the work folder is foreign
+abbrev pub Retires : Path → (from_pass to_pass : List ℕ) → View → Answer Retired → Type 0
+Retires work from_pass to_pass v =
+    Then own (ReadsDone work v) (λ journal.
+    Then own (TestsApart journal.source journal.target work) (λ _.
+    Then of_work (TestsEntries true v work) (λ _. RetiresTold work from_pass to_pass journal v)))
+
+-- ---- refusals of a part (private contracts only)
+
+-- the test fails by this fault
+abbrev pub Refuses : {X : Type 0} → (Answer X → Type 0) → RetireFault → Type 0
+Refuses {X = X} test fault = Unless {X = X} (Err fault) (test (Err fault))

@@ -47,6 +47,8 @@ mod storing_tests;
 #[cfg(test)]
 mod tests;
 #[cfg(test)]
+mod tree_tests;
+#[cfg(test)]
 mod vault_tests;
 #[cfg(test)]
 mod whole_vault_tests;

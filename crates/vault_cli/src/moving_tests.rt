@@ -2,14 +2,15 @@
 use crate::check_samples::{C_FILES, G_FILES};
 use crate::check_tests::{changes, vaults};
 use crate::run;
+use crate::storing_tests::{came, storing};
 use crate::vault_tests::{answers_drawing, path, put, runs, runs_drawing};
-use folder_model::{Folder, MemFolder, Pick};
+use folder_model::{Folder, Kind, MemFolder, Pick};
 use port_model::{ListRandoms, MemSink, MemSource};
 use std::alloc::Global;
 use std::process::Abort;
 use std::test::Fail;
 
-const SEVENS: &[u8] = &[7; 2_000];
+pub(crate) const SEVENS: &[u8] = &[7; 2_000];
 
 const EIGHTS: &[u8] = &[8; 2_000];
 
@@ -42,7 +43,7 @@ const EMPTY_FILES: &[(&str, &[u8])] = &[
 
 // Two vaults of some items and two empty ones with their keys, a folder with a file of somebody else's, one with a journal, and one
 // with a journal that is none.
-fn four_vaults(alloc: Global) -> Result<MemFolder, Fail> {
+pub(crate) fn four_vaults(alloc: Global) -> Result<MemFolder, Fail> {
     let mut folder = MemFolder::new(alloc)?;
     vaults(alloc, &mut folder)?;
     put(alloc, &mut folder, EMPTY_DIRS, EMPTY_FILES)?;
@@ -66,7 +67,7 @@ fn four_vaults(alloc: Global) -> Result<MemFolder, Fail> {
 // Words, the status, what the output takes and the line. In the words `+` stands for both options.
 type Row = (&'static str, u8, &'static str, &'static str);
 
-fn words_of(alloc: Global, words: &str) -> Result<String, Fail> {
+pub(crate) fn words_of(alloc: Global, words: &str) -> Result<String, Fail> {
     let mut whole = String::new(alloc);
     for mark in words.chars() {
         match mark {
@@ -77,24 +78,25 @@ fn words_of(alloc: Global, words: &str) -> Result<String, Fail> {
     Ok(whole)
 }
 
-// Checks what runs come to, one after the other, behind some changes.
+// Checks what runs come to in a folder, one after the other.
+fn run_each<F: Folder>(
+    rt: &impl Abort,
+    alloc: Global,
+    folder: &mut F,
+    rows: &[Row],
+) -> Result<(), Fail> {
+    for (words, status, out, err) in rows {
+        let words = words_of(alloc, words)?;
+        answers_drawing(rt, alloc, folder, words.as_str(), SEVENS, *status, out, err)?;
+    }
+    Ok(())
+}
+
+// The same behind some changes.
 fn run_rows(rt: &impl Abort, alloc: Global, lines: &str, rows: &[Row]) -> Result<(), Fail> {
     let mut folder = four_vaults(alloc)?;
     changes(alloc, &mut folder, lines)?;
-    for (words, status, out, err) in rows {
-        let words = words_of(alloc, words)?;
-        answers_drawing(
-            rt,
-            alloc,
-            &mut folder,
-            words.as_str(),
-            SEVENS,
-            *status,
-            out,
-            err,
-        )?;
-    }
-    Ok(())
+    run_each(rt, alloc, &mut folder, rows)
 }
 
 const REFUSED: &[Row] = &[
@@ -281,7 +283,7 @@ fn a_changed_source_is_told(rt: HostRuntime) -> Result<(), Fail> {
 }
 
 // The status of a run that may draw these bytes, and what its output took.
-fn ends<F: Folder>(
+pub(crate) fn ends<F: Folder>(
     alloc: Global,
     folder: &mut F,
     words: &str,
@@ -308,13 +310,22 @@ fn ends<F: Folder>(
     Ok((status, out.bytes().to_vec(alloc)?))
 }
 
-// The folder that a crash leaves where this call of a migration fails; `None` where none fails any more.
-fn crashed(alloc: Global, call: u64, table: usize, tail: &[u8]) -> Result<Option<MemFolder>, Fail> {
-    let mut folder = four_vaults(alloc)?;
+// The folder that a crash leaves where this call of a run fails; `None` where none fails any more.
+fn crashed(
+    alloc: Global,
+    mut folder: MemFolder,
+    words: &str,
+    call: u64,
+    table: usize,
+    tail: &[u8],
+) -> Result<Option<MemFolder>, Fail> {
     folder.fail_at(call)?;
-    let (status, _) = ends(alloc, &mut folder, "migrate g k m +", SEVENS)?;
+    let (status, _) = ends(alloc, &mut folder, words, SEVENS)?;
     if status == 0 {
         return Ok(None);
+    }
+    if status != 4 {
+        return Err(Fail::from("a folder fault"));
     }
     let pick = Pick {
         table,
@@ -343,31 +354,100 @@ fn holds<F: Folder>(alloc: Global, folder: &mut F) -> Result<bool, Fail> {
     Ok((checked, read) == (0, 0) && content.as_slice() == b"hello".as_slice())
 }
 
-// Each call that fails, and a crash then to either end of the changes that were pending: nothing is lost, and the migration comes to
-// its end. At one of the calls the last item is placed or not, by what the crash leaves.
-#[test]
-fn a_migration_that_fails_goes_on(rt: HostRuntime) -> Result<(), Fail> {
-    let alloc = rt.alloc();
-    let mut parted = false;
-    for call in 1..1_000u64 {
-        let Some(mut first) = crashed(alloc, call, 0, b"")? else {
-            assert!(rt; call > 50 && parted);
-            return Ok(());
-        };
-        let Some(mut last) = crashed(alloc, call, 100, b"tail")? else {
-            return Err(Fail::from("a call that fails"));
-        };
-        let placed = (gone_on(alloc, &mut first)?, gone_on(alloc, &mut last)?);
-        parted = parted
-            || (placed.0.as_slice() == b"placed 1, items 4\n".as_slice()
-                && placed.1.as_slice() == b"placed 0, items 4\n".as_slice());
-        assert!(rt;
-            holds(alloc, &mut first)? && holds(alloc, &mut last)?,
-            "at {call}"
-        );
+// Which of the name tables a crash leaves; the last stands for all further ones.
+const TABLES: &[usize] = &[0, 1, 100];
+
+// Each call that fails, and a crash then to each table, with these bytes behind those of a file that last: nothing is lost, and the
+// migration comes to its end.
+fn migrate_after_each(rt: &impl Abort, alloc: Global, tail: &[u8]) -> Result<(), Fail> {
+    for table in TABLES {
+        for call in 1..1_000u64 {
+            let folder = four_vaults(alloc)?;
+            let left = crashed(alloc, folder, "migrate g k m +", call, *table, tail)?;
+            let Some(mut folder) = left else {
+                assert!(rt; call > 50);
+                break;
+            };
+            gone_on(alloc, &mut folder)?;
+            assert!(rt; holds(alloc, &mut folder)?, "at {call} of {table}");
+        }
     }
     Ok(())
 }
+
+#[test]
+fn a_migration_that_fails_goes_on(rt: HostRuntime) -> Result<(), Fail> {
+    migrate_after_each(&rt, rt.alloc(), b"")
+}
+
+#[test]
+fn a_migration_that_fails_goes_on_behind_a_tail(rt: HostRuntime) -> Result<(), Fail> {
+    migrate_after_each(&rt, rt.alloc(), b"tail")
+}
+
+// A vault `h` with three files, and what else is there.
+fn three_files(alloc: Global) -> Result<MemFolder, Fail> {
+    let mut folder = four_vaults(alloc)?;
+    for words in [
+        "put h a --pass p --work w",
+        "put h b --pass p --work w",
+        "put h c --pass p --work w",
+    ] {
+        let (status, _) = ends(alloc, &mut folder, words, SEVENS)?;
+        if status != 0 {
+            return Err(Fail::from("a file"));
+        }
+    }
+    Ok(folder)
+}
+
+// What `resume` places where this call of the migration of three files fails and a crash then leaves this table.
+fn placed_after(alloc: Global, call: u64, table: usize) -> Result<Vec<u8>, Fail> {
+    let folder = three_files(alloc)?;
+    let left = crashed(alloc, folder, "migrate h k m +", call, table, b"")?;
+    let mut folder = left.ok_or("a call that fails")?;
+    let (_, out) = ends(alloc, &mut folder, "resume m +", EIGHTS)?;
+    Ok(out)
+}
+
+// The call of the migration of three files that settles the last of them: what a crash leaves then lacks this file, or doesn't.
+fn last_settle(alloc: Global) -> Result<u64, Fail> {
+    for call in 1..1_000u64 {
+        let before = placed_after(alloc, call, 0)?;
+        if before.as_slice() == b"placed 1, items 3\n".as_slice() {
+            let after = placed_after(alloc, call, 100)?;
+            if after.as_slice() == b"placed 0, items 3\n".as_slice() {
+                return Ok(call);
+            }
+        }
+    }
+    Err(Fail::from("a settle"))
+}
+
+// A settle that fails behind the last rename: a crash then leaves the last file or not, and `resume` places what is missing. Until then
+// the source isn't retired.
+#[test]
+fn the_last_settle_fails(rt: HostRuntime) -> Result<(), Fail> {
+    let alloc = rt.alloc();
+    let call = last_settle(alloc)?;
+    let mut folder = three_files(alloc)?;
+    folder.fail_at(call)?;
+    run_each(&rt, alloc, &mut folder, UNSETTLED)
+}
+
+const UNSETTLED: &[Row] = &[
+    ("migrate h k m +", 4, "", "vaultmove: folder fault\n"),
+    (
+        "retire m +",
+        18,
+        "",
+        "vaultmove: no usable journal: m: building\n",
+    ),
+    ("ls h --pass p", 0, "f a\nf b\nf c\n", ""),
+    ("resume m +", 0, "placed 0, items 3\n", ""),
+    ("retire m +", 0, "retired 3\n", ""),
+    ("ls k --pass p", 0, "f a\nf b\nf c\n", ""),
+];
 
 // The source of a finished migration is retired, and then nothing is left of it to retire.
 const RETIRED: &[Row] = &[
@@ -422,21 +502,14 @@ fn sources_are_retired(rt: HostRuntime) -> Result<(), Fail> {
     run_rows(&rt, rt.alloc(), "", RETIRED)
 }
 
-// Retires the source of a finished migration where this call fails, and gives the folder that a crash then leaves; `None` where none
-// fails any more.
-fn retired(alloc: Global, call: u64, table: usize) -> Result<Option<MemFolder>, Fail> {
+// A finished migration.
+fn moved(alloc: Global) -> Result<MemFolder, Fail> {
     let mut folder = four_vaults(alloc)?;
-    let (moved, _) = ends(alloc, &mut folder, "migrate g k m +", SEVENS)?;
-    folder.fail_at(call)?;
-    let (status, _) = ends(alloc, &mut folder, "retire m +", &[])?;
-    if moved != 0 || status == 0 {
-        return Ok(None);
+    let (status, _) = ends(alloc, &mut folder, "migrate g k m +", SEVENS)?;
+    match status {
+        0 => Ok(folder),
+        _ => Err(Fail::from("a migration that ends")),
     }
-    let pick = Pick {
-        table,
-        tail: Vec::new(alloc),
-    };
-    Ok(Some(folder.crash(&pick)?))
 }
 
 // Whether another run retires the source, or it was retired and nothing is left; and the target is whole.
@@ -446,22 +519,102 @@ fn retires<F: Folder>(alloc: Global, folder: &mut F) -> Result<bool, Fail> {
     Ok((status == 0 || status == 18) && left == 10 && holds(alloc, folder)?)
 }
 
-// Each call that fails, and a crash then to either end of the changes that were pending.
-#[test]
-fn a_source_that_is_not_retired_is_retired_again(rt: HostRuntime) -> Result<(), Fail> {
-    let alloc = rt.alloc();
-    for call in 1..1_000u64 {
-        let Some(mut first) = retired(alloc, call, 0)? else {
-            assert!(rt; call > 50);
-            return Ok(());
-        };
-        let Some(mut last) = retired(alloc, call, 100)? else {
-            return Err(Fail::from("a call that fails"));
-        };
-        assert!(rt;
-            retires(alloc, &mut first)? && retires(alloc, &mut last)?,
-            "at {call}"
-        );
+// Each call that fails, and a crash then to each table.
+fn retire_after_each(rt: &impl Abort, alloc: Global, tail: &[u8]) -> Result<(), Fail> {
+    for table in TABLES {
+        for call in 1..1_000u64 {
+            let folder = moved(alloc)?;
+            let left = crashed(alloc, folder, "retire m +", call, *table, tail)?;
+            let Some(mut folder) = left else {
+                assert!(rt; call > 50);
+                break;
+            };
+            assert!(rt; retires(alloc, &mut folder)?, "at {call} of {table}");
+        }
     }
     Ok(())
+}
+
+#[test]
+fn a_source_that_is_not_retired_is_retired_again(rt: HostRuntime) -> Result<(), Fail> {
+    retire_after_each(&rt, rt.alloc(), b"")
+}
+
+#[test]
+fn a_source_is_retired_behind_a_tail(rt: HostRuntime) -> Result<(), Fail> {
+    retire_after_each(&rt, rt.alloc(), b"tail")
+}
+
+// A call fails while what was the source is being removed.
+#[test]
+fn a_removal_that_fails_goes_on(rt: HostRuntime) -> Result<(), Fail> {
+    let alloc = rt.alloc();
+    for call in 1..1_000u64 {
+        let mut folder = moved(alloc)?;
+        folder.fail_at(call)?;
+        let (status, _) = ends(alloc, &mut folder, "retire m +", &[])?;
+        let old = folder.kind(&path(alloc, "m/old")?)?;
+        let conf = folder.kind(&path(alloc, "m/old/gocryptfs.conf")?)?;
+        let source = folder.kind(&path(alloc, "g")?)?;
+        if (source, old, conf) == (Kind::Missing, Kind::Dir, Kind::Missing) {
+            assert_eq!(rt; status, 4);
+            return run_each(&rt, alloc, &mut folder, STOPPED);
+        }
+    }
+    Err(Fail::from("a removal that fails"))
+}
+
+const STOPPED: &[Row] = &[
+    ("resume m +", 24, "", "vaultmove: source retired: m\n"),
+    ("retire m +", 0, "retired 4\n", ""),
+    (
+        "retire m +",
+        18,
+        "",
+        "vaultmove: no usable journal: m: missing\n",
+    ),
+];
+
+const CHANGED: &[Row] = &[
+    (
+        "retire m +",
+        20,
+        "",
+        "vaultmove: trees differ: a/x: content\n",
+    ),
+    ("fsck g --pass p", 0, "", ""),
+    ("cat g a/x --pass p", 0, "hello", ""),
+];
+
+const BOTH: &[Row] = &[
+    ("retire m +", 16, "", "vaultmove: not empty: m/old\n"),
+    ("fsck g --pass p", 0, "", ""),
+];
+
+const DEEP: &[Row] = &[
+    ("retire m +", 23, "", "vaultmove: limit: removal\n"),
+    ("fsck k --pass p", 0, "", ""),
+];
+
+// A target that was changed, a folder where the source is to be put away, and one that is too deep to be removed.
+#[test]
+fn what_may_be_lost_is_not_removed(rt: HostRuntime) -> Result<(), Fail> {
+    let alloc = rt.alloc();
+    let mut folder = moved(alloc)?;
+    let put = storing("put k a/x --pass p --work w", b"two");
+    let (status, _, _) = came(alloc, &mut folder, &put)?;
+    assert_eq!(rt; status, 0);
+    run_each(&rt, alloc, &mut folder, CHANGED)?;
+    let mut folder = moved(alloc)?;
+    let old = path(alloc, "m/old")?;
+    folder.make_dir(&old)?;
+    run_each(&rt, alloc, &mut folder, BOTH)?;
+    folder.remove_dir(&old)?;
+    folder.rename(&path(alloc, "g")?, &old)?;
+    let mut at = old;
+    for _ in 0..129 {
+        at = at.child("deep")?;
+        folder.make_dir(&at)?;
+    }
+    run_each(&rt, alloc, &mut folder, DEEP)
 }

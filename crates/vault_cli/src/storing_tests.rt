@@ -16,7 +16,7 @@ const ZEROS: &[u8] = &[0; 1_000];
 
 // What a run is given: its words, what the input has and which of its calls fail, and the bytes that may be drawn.
 #[derive(Drop)]
-struct Given<'a> {
+pub(crate) struct Given<'a> {
     words: &'a str,
     input: &'a [u8],
     fails: &'a [u64],
@@ -24,7 +24,7 @@ struct Given<'a> {
 }
 
 // A run that stores this content.
-fn storing<'a>(words: &'a str, input: &'a [u8]) -> Given<'a> {
+pub(crate) fn storing<'a>(words: &'a str, input: &'a [u8]) -> Given<'a> {
     Given {
         words,
         input,
@@ -34,7 +34,7 @@ fn storing<'a>(words: &'a str, input: &'a [u8]) -> Given<'a> {
 }
 
 // A run that reads.
-fn reading(words: &str) -> Given<'_> {
+pub(crate) fn reading(words: &str) -> Given<'_> {
     Given {
         words,
         input: &[],
@@ -44,7 +44,7 @@ fn reading(words: &str) -> Given<'_> {
 }
 
 // The status of a run, and what both streams took.
-fn came<F: Folder>(
+pub(crate) fn came<F: Folder>(
     alloc: Global,
     folder: &mut F,
     given: &Given,
@@ -422,7 +422,7 @@ fn damaged_places_are_refused(rt: HostRuntime) -> Result<(), Fail> {
 }
 
 // A content of so many bytes.
-fn content(alloc: Global, size: usize) -> Result<Vec<u8>, Fail> {
+pub(crate) fn content(alloc: Global, size: usize) -> Result<Vec<u8>, Fail> {
     let mut bytes = Vec::new(alloc);
     for k in 0..size {
         bytes.push((k % 251) as u8)?;

@@ -29,14 +29,14 @@ use Rattle.move_journal.specs.declared.journal.JournalFault.TheVariants as journ
 use Rattle.move_journal.specs.declared.journal.Journal.{Journal}
 use Rattle.port_model.specs.Draws.{ByteStream}
 use Rattle.tree_match.specs.Alone.{StaysGuarded}
-use Rattle.tree_match.specs.Guard.{Migration, Guarded, IsSafe}
+use Rattle.tree_match.specs.Guard.{Migration, Guarded, IsSafe, LosesNothing}
 use Rattle.tree_match.specs.declared.answer.Side.{Side}
 use Rattle.vault_read.specs.declared.fault.LoadFault.{LoadFault}
 use Rattle.vault_cli.specs.Answers.{is_plain}
 use Rattle.vault_cli.specs.Beginning.{is_of_beginning}
 use Rattle.vault_cli.specs.Migrate.{HasMigrated, IsAskedFor, MigratesApart, MigratesTree, Pair, RefusesTwo, first_overlap, pair}
 use Rattle.vault_cli.specs.Migrate as migrating
-use Rattle.vault_cli.specs.Moving.{AnswersMove, ArePhrases, Comes, FailPasses, KeepsAll, LosesNothing, OfPasses, Outcome, RefusesPasses, RefusesUndrawn, done_text, is_of_end, is_of_migration, is_of_stop}
+use Rattle.vault_cli.specs.Moving.{AnswersMove, ArePhrases, Comes, FailPasses, KeepsAll, OfPasses, Outcome, RefusesPasses, RefusesUndrawn, done_text, is_of_end, is_of_migration, is_of_stop}
 use Rattle.vault_cli.specs.Opening.{IsPhrase, OfPassFile, passphrase_in}
 use Rattle.vault_cli.specs.Places.{overlap}
 use Rattle.vault_cli.specs.Printing.{PrintsText}

@@ -1,15 +1,13 @@
 -- What the commands share that lead a migration on: its passphrases stand in two files, what is lost at no moment, and what is printed.
 use Rattle.std.specs.Prelude.{◌++◌, ◌∷◌, [], ℕ, Bool, true, false, ◌||◌, List, codes, decimal, Option, Result, Ok, Err, ◌⊎◌, ◌≡◌}
 use Rattle.folder_spec.specs.Event.{Told, FromTo}
-use Rattle.folder_spec.specs.Image.{Image, IsImage}
 use Rattle.folder_spec.specs.Moments.{Went}
 use Rattle.folder_spec.specs.Path.{Path}
-use Rattle.folder_spec.specs.State.{State}
-use Rattle.folder_spec.specs.View.{View, view_of}
+use Rattle.folder_spec.specs.View.{View}
 use Rattle.migrate_core.specs.declared.fault.MoveFault.{MoveFault}
 use Rattle.migrate_core.specs.declared.placing.Done as moved
 use Rattle.port_model.specs.Draws.{ByteStream, Draws}
-use Rattle.tree_match.specs.Guard.{Migration, Guarded, IsSafe}
+use Rattle.tree_match.specs.Guard.{Migration, Guarded, LosesNothing}
 use Rattle.vault_cli.specs.Faults.{of_move}
 use Rattle.vault_cli.specs.Opening.{IsPhrase, OfPassFile}
 use Rattle.vault_cli.specs.Refusing.{Unless}
@@ -56,12 +54,6 @@ pub record Comes {O : Type 0} (passes : Passes) (IsCaused : List ℕ → List �
   pub cause : IsCaused source_pass target_pass outcome
   pub does : DoesSo source_pass target_pass outcome
   pub answers : IsAnswered outcome
-
--- The state is one in which the migration is guarded; and after a crash there, each file that the source held when the migration began
--- opens with its content in the source, or at its path in the target.
-pub record LosesNothing (g : Migration) (s : State) : Type 0 where
-  pub guarded : Guarded g s
-  pub safe : (image : Image) → IsImage s image → IsSafe g (view_of image)
 
 -- where the migration is guarded at first, nothing is lost at any moment
 abbrev pub KeepsAll : Migration → Option Told → Option Told → Type 0

@@ -8,7 +8,8 @@ use Rattle.folder_spec.specs.View.{View}
 use Rattle.migrate_core.specs.Moved.{StandsIn}
 use Rattle.move_journal.specs.Journal.{IsJournal}
 use Rattle.move_journal.specs.declared.journal.Journal.{Journal}
-use Rattle.retire_core.specs.Faults.{OfJournal}
+use Rattle.retire_core.specs.Causes.{Unless}
+use Rattle.retire_core.specs.Causes as causes
 use Rattle.retire_core.specs.Retiring.{HasRetired, RemovesOnly, TouchesOnly, retiring_by}
 use Rattle.retire_core.specs.declared.fault.RetireFault.{RetireFault}
 use Rattle.retire_core.specs.declared.fault.RetireFault.TheVariants.{Load}
@@ -57,10 +58,9 @@ abbrev pub AnswersRetire : Path → View → Answer → Outcome → Type 0
 AnswersRetire work v answer (Ok retired) = (answer ≡ Done) ⊎ ((answer ≡ OutputFault) ⊎ (answer ≡ OutOfMemory))
 AnswersRetire work v answer (Err fault) = (answer ≡ OutOfMemory) ⊎ ((root : Path) × IsRootOf work v fault root × (answer ≡ of_retire work root fault))
 
--- by which journal each refusal comes
+-- why `retire` comes to what it comes to under these passphrases, by what is seen at first
 abbrev pub IsCaused : Resuming → View → List ℕ → List ℕ → Outcome → Type 0
-IsCaused resuming v source_pass target_pass (Ok retired) = Unit {0}
-IsCaused resuming v source_pass target_pass (Err fault) = OfJournal resuming.work v fault
+IsCaused resuming v source_pass target_pass outcome = Unless outcome (causes.Retires resuming.work source_pass target_pass v outcome)
 
 -- The source is touched only by moving it as a whole into the work folder, once the target holds all of it, and removed only then; all
 -- else but the work folder stays as it was.

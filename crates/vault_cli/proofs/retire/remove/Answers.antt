@@ -69,7 +69,7 @@ returns-in-Ok-clause-came g c = λ v is.
       phrases = phrases_are resuming.passes c.in_ok-phrases.phrases.source c.in_ok-phrases.phrases.target c.as_slice.result.now c.as_slice-2.result.now v c.as_slice.ensures c.as_slice-2.ensures
           (c.in_ok-phrases.ensures.source v is) (c.in_ok-phrases.ensures.target v is);
       outcome = Ok c.in-Ok.retired;
-      cause = tt;
+      cause = c.in-Ok.ensures.cause v seen;
       does = subst (λ t. TouchesNoMore resuming t told' v c.as_slice.result.now c.as_slice-2.result.now (Ok c.in-Ok.retired)) same
           (record { touches = λ journal good stands. c.in-Ok.ensures.touches v journal seen good stands; removes = λ journal good stands. c.in-Ok.ensures.removes v journal seen good stands });
       answers = refl;
@@ -82,21 +82,20 @@ returns-clause-stopped g c = λ v is.
     let same = c.in_ok-journal.ensures.told ∙ c.in_ok-phrases.ensures.told in
     let seen = subst (λ t. IsSeen t v) (sym same) is in
     let found = c.in_ok-journal.journal in
-    let cause = c.in-Err.ensures.caused v seen in
     inr (record {
       source_pass = c.as_slice.result.now;
       target_pass = c.as_slice-2.result.now;
       phrases = phrases_are resuming.passes c.in_ok-phrases.phrases.source c.in_ok-phrases.phrases.target c.as_slice.result.now c.as_slice-2.result.now v c.as_slice.ensures c.as_slice-2.ensures
           (c.in_ok-phrases.ensures.source v is) (c.in_ok-phrases.ensures.target v is);
       outcome = Err c.in-Err.fault;
-      cause = cause;
+      cause = c.in-Err.ensures.cause v seen;
       does = subst (λ t. TouchesNoMore resuming t told' v c.as_slice.result.now c.as_slice-2.result.now (Err c.in-Err.fault)) same
           (record { touches = λ journal good stands. c.in-Err.ensures.touches v journal seen good stands; removes = λ journal good stands. c.in-Err.ensures.removes v journal seen good stands });
       answers = elim c.refused.ensures.answers [
         | inl memory ↦ inl memory
         | inr named ↦ inr (
           root_by resuming.work found c.in-Err.fault,
-          retire_root resuming v found c.in-Err.fault (c.in_ok-journal.ensures.found v (subst (λ t. IsSeen t v) (sym c.in_ok-phrases.ensures.told) is)) cause,
+          retire_root resuming v found c.in-Err.fault (c.in_ok-journal.ensures.found v (subst (λ t. IsSeen t v) (sym c.in_ok-phrases.ensures.told) is)) (c.in-Err.ensures.caused v seen),
           named,
         )
       ];

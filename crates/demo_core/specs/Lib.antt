@@ -1,0 +1,5 @@
+pub mod Demonstration
+pub mod Contents
+pub mod Laws
+pub mod Tree
+pub mod Making

@@ -1,0 +1,241 @@
+//! Making the vaults of the demonstration, and the items of the first.
+ghost use Rattle.std.specs.Prelude.{◌≡◌, ◌≢◌, ◌≤◌, ◌<◌, ◌+◌, ◌⊎◌, ◌++◌, ◌∷◌, [], ℕ, None, Some, Ok, Err, IfErr, IfOk, OnOk, IsTrue, codes, replicate};
+ghost use Rattle.std.specs.Int.{to_le_bytes, w64};
+ghost use Rattle.folder_model.specs.Text.{is_path_text, parts_of};
+ghost use Rattle.folder_spec.specs.Event.{FromTo, Told};
+ghost use Rattle.folder_spec.specs.Path.{below};
+ghost use Rattle.folder_spec.specs.Seen.{IsSeen, ShowsFree};
+ghost use Rattle.folder_spec.specs.View.{View, kind_found};
+ghost use Rattle.move_journal.specs.Journal.{IsParsed};
+ghost use Rattle.port_model.specs.Counts.{CountRose};
+ghost use Rattle.work_folder.specs.Entering.{IsReady};
+ghost use Rattle.vault_write.specs.Founding.{MayFound};
+ghost use Rattle.vault_write.specs.Making.{is_apart};
+ghost use Rattle.vault_write.specs.Placing.{MayMake};
+ghost use Rattle.demo_core.specs.Making.{HoldsAlone, HoldsItems, IsBeside, IsFailed, IsItemFault, IsMakeFault, IsNotPut, MakesBeside, StandsNew, making_folder, phrase};
+
+use crate::bytes::MadeBytes;
+use crate::fault::MakeFault;
+use crate::items::{is_directory, path_of};
+use content_writing::PutFault;
+use folder_model::{FPath, FPathFault, Folder, Kind};
+use folder_spec::FolderFault;
+use folder_spec::laws::roots_show_their_own;
+use kdf_suite::ScryptCost;
+use port_model::{MemRandoms, Randoms};
+use rand_chacha::ChaCha20Rng;
+use rand_core::SeedableRng;
+use std::alloc::{AllocError, Global};
+use vault_read::laws::{clean_vaults_are_orderly, roots_have_one_answer};
+use vault_read::{Vault, VaultKind};
+use vault_write::{init_cm, init_go, place_dir, place_file};
+use work_folder::Work;
+
+/// The passphrase of all vaults of the demonstration.
+pub const PASSPHRASE: &[u8] = b"demo";
+
+/// The random source of the demonstration: the stream of ChaCha20 whose seed is this number, in 32 bytes from the lowest.
+pub fn random_of(seed: u64) -> MemRandoms<ChaCha20Rng>
+    ensures { ⟦<MemRandoms<ChaCha20Rng> as Randoms>⟧.faults result ≡ 0 }
+{
+    let mut bytes = [0; 32];
+    bytes[..8].copy_from_slice(&seed.to_le_bytes());
+    MemRandoms::new(ChaCha20Rng::from_seed(bytes))
+}
+
+/// The path that a text writes.
+pub fn place(alloc: Global, text: &str) -> Result<FPath, AllocError>
+    requires { IsTrue (is_path_text text.now) }
+    ensures is { IfOk result (λ path. path ≡ parts_of text.now) }
+    ensures parsed { IfOk result IsParsed }
+{
+    let _utf8 = text.as_bytes();
+    match FPath::parse(alloc, text) {
+        Ok(path) => Ok(path),
+        Err(FPathFault::NoMemory) => Err(AllocError),
+        Err(FPathFault::BadPath) => unreachable!(),
+    }
+}
+
+/// Makes the first vault, a gocryptfs vault at `g`, with so many items.
+pub fn make_first<F: Folder, R: Randoms>(
+    alloc: Global,
+    folder: &mut F,
+    seed: u64,
+    count: u32,
+    random: &mut R,
+) -> Result<(), MakeFault>
+    requires count { count ≤ 2000 }
+    ensures holds { OnOk result ((v : View) → IsSeen (F.told folder.new) v → HoldsItems (codes "g" ∷ []) seed count v) }
+    ensures beside { MakesBeside (codes "g" ∷ []) (F.told folder.old) (F.told folder.new) }
+    ensures ready { OnOk result ((v : View) → IsSeen (F.told folder.new) v → IsReady v making_folder) }
+    ensures failed { IfErr result (λ fault. IsFailed fault → CountRose (F.faults folder.old) (F.faults folder.new)) }
+    ensures own { IfErr result (λ fault. IsMakeFault fault) }
+    ensures random { result ≡ Err (MakeFault.Put PutFault.Random) → CountRose (R.faults random.old) (R.faults random.new) }
+    ensures grows { F.faults folder.old ≤ F.faults folder.new }
+    ensures counted { R.faults random.old ≤ R.faults random.new }
+{
+    let work = make_vault(alloc, folder, VaultKind::Gocryptfs, "g", random)?;
+    let vault = load(alloc, folder, "g")?;
+    Ok(place_items(alloc, folder, &work, &vault, seed, count, random)?)
+}
+
+/// Makes an empty vault from the work folder `w`, and answers the work folder.
+pub fn make_vault<F: Folder, R: Randoms>(
+    alloc: Global,
+    folder: &mut F,
+    kind: VaultKind,
+    name: &str,
+    random: &mut R,
+) -> Result<Work, MakeFault>
+    requires path { IsTrue (is_path_text name.now) }
+    requires apart { below making_folder (parts_of name.now) ≡ None }
+    requires beside { below (parts_of name.now) making_folder ≡ None }
+    ensures work { IfOk result (λ work. work ≡ making_folder) }
+    ensures ready { IfOk result (λ work. (v : View) → IsSeen (F.told folder.new) v → IsReady v work) }
+    ensures stands { IfOk result (λ work. (a : Told) → F.told folder.new ≡ Some a → StandsNew kind (parts_of name.now) a.state) }
+    ensures beside { MakesBeside (parts_of name.now) (F.told folder.old) (F.told folder.new) }
+    ensures failed { IfErr result (λ fault. IsFailed fault → CountRose (F.faults folder.old) (F.faults folder.new)) }
+    ensures own { IfErr result (λ fault. IsMakeFault fault) }
+    ensures random { result ≡ Err (MakeFault.Put PutFault.Random) → CountRose (R.faults random.old) (R.faults random.new) }
+    ensures grows { F.faults folder.old ≤ F.faults folder.new }
+    ensures counted { R.faults random.old ≤ R.faults random.new }
+{
+    let at = place(alloc, name)?;
+    let work = Work::enter(folder, &place(alloc, "w")?)?;
+    test_free(folder, &at)?;
+    found(alloc, folder, kind, &work, &at, random)?;
+    Ok(work)
+}
+
+// Nothing stands at a path, in a directory.
+fn test_free<F: Folder>(folder: &mut F, at: &FPath) -> Result<(), PutFault>
+    ensures told { F.told folder.new ≡ F.told folder.old }
+    ensures free { OnOk result ((v : View) → IsSeen (F.told folder.old) v → ShowsFree v at.now) }
+    ensures fault { IfErr result (λ fault. (fault ≡ PutFault.Taken at.now) ⊎ ((fault ≡ PutFault.Failed) ⊎ (fault ≡ PutFault.NoMemory))) }
+    ensures failed { result ≡ Err PutFault.Failed → CountRose (F.faults folder.old) (F.faults folder.new) }
+    ensures grows { F.faults folder.old ≤ F.faults folder.new }
+{
+    let above = at.parent()?;
+    let around = kind_at(folder, &above)?;
+    let there = kind_at(folder, at)?;
+    match (around, there) {
+        (Kind::Dir, Kind::Missing) => Ok(()),
+        _ => Err(PutFault::Taken(at.copy()?)),
+    }
+}
+
+fn kind_at<F: Folder>(folder: &mut F, at: &FPath) -> Result<Kind, PutFault>
+    ensures told { F.told folder.new ≡ F.told folder.old }
+    ensures kind { IfOk result (λ kind. (v : View) → IsSeen (F.told folder.old) v → kind ≡ kind_found (v at.now)) }
+    ensures fault { IfErr result (λ fault. (fault ≡ PutFault.Failed) ⊎ (fault ≡ PutFault.NoMemory)) }
+    ensures failed { result ≡ Err PutFault.Failed → CountRose (F.faults folder.old) (F.faults folder.new) }
+    ensures grows { F.faults folder.old ≤ F.faults folder.new }
+{
+    match folder.kind(at) {
+        Ok(kind) => Ok(kind),
+        Err(FolderFault::Failed) => Err(PutFault::Failed),
+        Err(FolderFault::Refused) => Err(PutFault::Failed),
+        Err(FolderFault::NoMemory) => Err(PutFault::NoMemory),
+    }
+}
+
+// Makes a vault of a kind.
+fn found<F: Folder, R: Randoms>(
+    alloc: Global,
+    folder: &mut F,
+    kind: VaultKind,
+    work: &Work,
+    at: &FPath,
+    random: &mut R,
+) -> Result<(), PutFault>
+    requires { MayFound (F.told folder.old) work.now at.now }
+    ensures ready { OnOk result ((v : View) → IsSeen (F.told folder.new) v → IsReady v work.now) }
+    ensures stands { OnOk result (FromTo (λ a b. StandsNew kind at.now b.state) (F.told folder.old) (F.told folder.new)) }
+    ensures beside { IsBeside (is_apart work.now at.now) (F.told folder.old) (F.told folder.new) }
+    ensures failed { result ≡ Err PutFault.Failed → CountRose (F.faults folder.old) (F.faults folder.new) }
+    ensures own { IfErr result (λ fault. IsItemFault fault) }
+    ensures random { result ≡ Err PutFault.Random → CountRose (R.faults random.old) (R.faults random.new) }
+    ensures grows { F.faults folder.old ≤ F.faults folder.new }
+    ensures counted { R.faults random.old ≤ R.faults random.new }
+{
+    roots_show_their_own();
+    let cost = ScryptCost::new(1_024, 8, 1).unwrap();
+    match kind {
+        VaultKind::Gocryptfs => init_go(alloc, folder, work, at, PASSPHRASE, &cost, random),
+        VaultKind::Cryptomator => init_cm(alloc, folder, work, at, PASSPHRASE, &cost, random),
+    }
+}
+
+// The vault at a path.
+fn load<F: Folder>(alloc: Global, folder: &mut F, name: &str) -> Result<Vault, MakeFault>
+    requires { IsTrue (is_path_text name.now) }
+    ensures told { F.told folder.new ≡ F.told folder.old }
+    ensures root { IfOk result (λ vault. vault.root ≡ parts_of name.now) }
+    ensures holds { IfOk result (λ vault. (seed : ℕ) (a : Told) → F.told folder.new ≡ Some a → StandsNew VaultKind.Gocryptfs (parts_of name.now) a.state → HoldsAlone vault seed 0 a.state) }
+    ensures fault { IfErr result (λ fault. IsNotPut fault) }
+    ensures failed { IfErr result (λ fault. IsFailed fault → CountRose (F.faults folder.old) (F.faults folder.new)) }
+    ensures grows { F.faults folder.old ≤ F.faults folder.new }
+{
+    roots_have_one_answer();
+    roots_show_their_own();
+    let at = place(alloc, name)?;
+    let vault = Vault::load(alloc, folder, &at, PASSPHRASE)?;
+    clean_vaults_are_orderly(&vault);
+    Ok(vault)
+}
+
+// Makes the items one after the other.
+fn place_items<F: Folder, R: Randoms>(
+    alloc: Global,
+    folder: &mut F,
+    work: &Work,
+    vault: &Vault,
+    seed: u64,
+    count: u32,
+    random: &mut R,
+) -> Result<(), PutFault>
+    requires may { MayMake (F.told folder.old) work.now vault.now.root }
+    requires count { count ≤ 2000 }
+    ensures ready { OnOk result ((v : View) → IsSeen (F.told folder.new) v → IsReady v work.now) }
+    ensures adds { OnOk result (FromTo (λ a b. HoldsAlone vault.now seed 0 a.state → HoldsAlone vault.now seed count b.state) (F.told folder.old) (F.told folder.new)) }
+    ensures beside { IsBeside (is_apart work.now vault.now.root) (F.told folder.old) (F.told folder.new) }
+    ensures failed { result ≡ Err PutFault.Failed → CountRose (F.faults folder.old) (F.faults folder.new) }
+    ensures own { IfErr result (λ fault. IsItemFault fault) }
+    ensures random { result ≡ Err PutFault.Random → CountRose (R.faults random.old) (R.faults random.new) }
+    ensures grows { F.faults folder.old ≤ F.faults folder.new }
+    ensures counted { R.faults random.old ≤ R.faults random.new }
+{
+    for number in 0..count {
+        place_item(alloc, folder, work, vault, seed, number, random)?;
+    }
+    Ok(())
+}
+
+fn place_item<F: Folder, R: Randoms>(
+    alloc: Global,
+    folder: &mut F,
+    work: &Work,
+    vault: &Vault,
+    seed: u64,
+    number: u32,
+    random: &mut R,
+) -> Result<(), PutFault>
+    requires may { MayMake (F.told folder.old) work.now vault.now.root }
+    requires number { number < 10000 }
+    ensures ready { OnOk result ((v : View) → IsSeen (F.told folder.new) v → IsReady v work.now) }
+    ensures adds { OnOk result (FromTo (λ a b. HoldsAlone vault.now seed number a.state → HoldsAlone vault.now seed (number + 1) b.state) (F.told folder.old) (F.told folder.new)) }
+    ensures beside { IsBeside (is_apart work.now vault.now.root) (F.told folder.old) (F.told folder.new) }
+    ensures failed { result ≡ Err PutFault.Failed → CountRose (F.faults folder.old) (F.faults folder.new) }
+    ensures own { IfErr result (λ fault. IsItemFault fault) }
+    ensures random { result ≡ Err PutFault.Random → CountRose (R.faults random.old) (R.faults random.new) }
+    ensures grows { F.faults folder.old ≤ F.faults folder.new }
+    ensures counted { R.faults random.old ≤ R.faults random.new }
+{
+    let path = path_of(alloc, number)?;
+    if is_directory(number) {
+        return place_dir(alloc, folder, work, vault, &path, random);
+    }
+    let mut content = MadeBytes::of(seed, number);
+    place_file(alloc, folder, work, vault, &path, &mut content, random)
+}

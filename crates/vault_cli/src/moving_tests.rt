@@ -229,7 +229,7 @@ const MOVED: &[Row] = &[
     ("migrate k h n +", 0, "placed 4, items 4\n", ""),
     ("cat h a/x --pass p", 0, "hello", ""),
     ("fsck h --pass p", 0, "", ""),
-    ("mkdir h n --pass p --work w", 0, "", ""),
+    ("put h n --pass p --work w", 0, "", ""),
     ("resume n +", 20, "", "vaultmove: trees differ: n: extra\n"),
 ];
 
@@ -246,17 +246,20 @@ const JOURNAL: &[u8] =
 fn the_journal_says_what_is_done(rt: HostRuntime) -> Result<(), Fail> {
     let alloc = rt.alloc();
     let mut folder = four_vaults(alloc)?;
-    let words = words_of(alloc, "migrate h k m +")?;
-    let words = words.as_str();
-    let out = "placed 0, items 0\n";
-    answers_drawing(&rt, alloc, &mut folder, words, SEVENS, 0, out, "")?;
+    run_each(&rt, alloc, &mut folder, NOTHING_MOVED)?;
     let mut text = [0; 200];
     let size = folder.read(&path(alloc, "m/journal")?, 0, &mut text)?;
     assert_eq!(rt; &text[..size], JOURNAL);
     Ok(())
 }
 
-// Once a directory is made in the source, and once the source was put away, `resume` says so.
+const NOTHING_MOVED: &[Row] = &[
+    ("migrate h k m +", 0, "placed 0, items 0\n", ""),
+    ("migrate h k m +", 17, "", "vaultmove: already begun: m\n"),
+    ("resume m +", 0, "placed 0, items 0\n", ""),
+];
+
+// Once a file is put into the source, and once the source was put away, `resume` says so.
 #[test]
 fn a_changed_source_is_told(rt: HostRuntime) -> Result<(), Fail> {
     let alloc = rt.alloc();
@@ -264,8 +267,8 @@ fn a_changed_source_is_told(rt: HostRuntime) -> Result<(), Fail> {
     let migrate = words_of(alloc, "migrate g k m +")?;
     let resume = words_of(alloc, "resume m +")?;
     let (moved, _) = runs_drawing(alloc, &mut folder, migrate.as_str(), SEVENS, &[])?;
-    let make = "mkdir g n --pass p --work w";
-    let (made, _) = runs_drawing(alloc, &mut folder, make, SEVENS, &[])?;
+    let put = "put g n --pass p --work w";
+    let (made, _) = runs_drawing(alloc, &mut folder, put, SEVENS, &[])?;
     let (changed, _) = runs(alloc, &mut folder, resume.as_str(), &[])?;
     assert_eq!(rt; (moved, made, changed), (0, 0, 19));
     folder.rename(&path(alloc, "g")?, &path(alloc, "m/old")?)?;

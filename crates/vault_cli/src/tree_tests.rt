@@ -5,6 +5,7 @@ use crate::storing_tests::{came, content, reading, storing};
 use crate::vault_tests::{answers, answers_drawing, path, put};
 use folder_model::{Folder, Kind, MemFolder};
 use std::alloc::Global;
+use std::process::Abort;
 use std::test::Fail;
 
 const DIRS: &[&str] = &["a", "a/b", "c"];
@@ -117,22 +118,20 @@ fn varied(alloc: Global, first: u32) -> Result<Vec<u8>, Fail> {
     Ok(bytes)
 }
 
-#[test]
-fn a_whole_tree_is_moved_there_and_back(rt: HostRuntime) -> Result<(), Fail> {
-    let alloc = rt.alloc();
-    let mut folder = whole_tree(alloc)?;
-    for (words, first, out) in [
-        ("migrate h k m +", 1, "placed 43, items 43\n"),
-        ("resume m +", 2, "placed 0, items 43\n"),
-        ("retire m +", 3, "retired 43\n"),
-        ("migrate k n m +", 4, "placed 43, items 43\n"),
-    ] {
+// Runs that draw bytes of their own, and what their outputs take.
+fn run_each(
+    rt: &impl Abort,
+    alloc: Global,
+    folder: &mut MemFolder,
+    rows: &[(&str, u32, &str)],
+) -> Result<(), Fail> {
+    for (words, first, out) in rows {
         let words = words_of(alloc, words)?;
-        let drawn = varied(alloc, first)?;
+        let drawn = varied(alloc, *first)?;
         answers_drawing(
-            &rt,
+            rt,
             alloc,
-            &mut folder,
+            folder,
             words.as_str(),
             drawn.as_slice(),
             0,
@@ -140,7 +139,25 @@ fn a_whole_tree_is_moved_there_and_back(rt: HostRuntime) -> Result<(), Fail> {
             "",
         )?;
     }
+    Ok(())
+}
+
+const THERE: &[(&str, u32, &str)] = &[
+    ("migrate h k m +", 1, "placed 43, items 43\n"),
+    ("resume m +", 2, "placed 0, items 43\n"),
+    ("retire m +", 3, "retired 43\n"),
+];
+
+const BACK: &[(&str, u32, &str)] = &[("migrate k n m +", 4, "placed 43, items 43\n")];
+
+#[test]
+fn a_whole_tree_is_moved_there_and_back(rt: HostRuntime) -> Result<(), Fail> {
+    let alloc = rt.alloc();
+    let mut folder = whole_tree(alloc)?;
+    run_each(&rt, alloc, &mut folder, THERE)?;
     assert_eq!(rt; folder.kind(&path(alloc, "h")?)?, Kind::Missing);
+    assert_eq!(rt; folder.kind(&path(alloc, "m")?)?, Kind::Missing);
+    run_each(&rt, alloc, &mut folder, BACK)?;
     for vault in ["k", "n"] {
         let words = format!(in alloc; "fsck {vault} --pass p")?;
         answers(&rt, alloc, &mut folder, words.as_str(), 0, "", "")?;

@@ -1,5 +1,5 @@
 #!/usr/bin/env python3
-"""Prints the vaults that the tests of `fsck` and `repair` change, as crates/vault_cli/src/check_samples.rt.
+"""Prints the vaults that the tests of `fsck` and `repair` change, as crates/command_tests/src/check_samples.rt.
 
 The vault `g` is that of samples.rt, which gocryptfs 2.3 wrote while it was mounted; only its configuration is written anew, for a cheap
 scrypt, and a file with a long name is added. The vault `c` is written here.
@@ -17,7 +17,7 @@ from cryptography.hazmat.primitives.kdf.hkdf import HKDF
 
 from vault_writer import Cryptomator, CryptomatorTree, Gocryptfs, GocryptfsTree, scrypt
 
-SAMPLES = os.path.join(os.path.dirname(__file__), "../crates/vault_cli/src/samples.rt")
+SAMPLES = os.path.join(os.path.dirname(__file__), "../crates/command_tests/src/samples.rt")
 OLD = {
     path: ast.literal_eval(text)
     for path, text in re.findall(r'\(\s*"(g/[^"]*)",\s*(b"(?:[^"\\]|\\.)*"),?\s*\)', open(SAMPLES).read())

@@ -10,8 +10,6 @@ pub mod laws;
 mod room;
 pub mod source_content;
 mod storing;
-#[cfg(test)]
-mod tests;
 pub mod vault_content;
 pub mod writing;
 

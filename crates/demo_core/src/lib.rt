@@ -9,6 +9,3 @@ pub mod making;
 pub use fault::MakeFault;
 pub use items::{Totals, totals_of};
 pub use making::{PASSPHRASE, make_first, make_vault, place, random_of};
-
-#[cfg(test)]
-mod tests;

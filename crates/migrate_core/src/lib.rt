@@ -12,6 +12,3 @@ pub use beginning::begin;
 pub use fault::MoveFault;
 pub use placing::Done;
 pub use resuming::resume;
-
-#[cfg(test)]
-mod tests;

@@ -9,6 +9,3 @@ mod sides;
 
 pub use fault::RetireFault;
 pub use retiring::{Retired, retire};
-
-#[cfg(test)]
-mod tests;

@@ -8,6 +8,3 @@ pub mod matching;
 
 pub use answer::{How, Match, MatchFault, Side, Where};
 pub use matching::holds_all;
-
-#[cfg(test)]
-mod tests;

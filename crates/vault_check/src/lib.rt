@@ -8,8 +8,6 @@ pub mod laws;
 mod order;
 pub mod repairing;
 mod strays;
-#[cfg(test)]
-mod tests;
 
 pub use checking::{Report, check};
 pub use fault::CheckFault;

@@ -27,28 +27,3 @@ pub use answer::Answer;
 pub use reporting::report;
 pub use running::run;
 pub use words::{Change, Checking, Command, Moving, NewVault, Passes, Repairing, Resuming, Target};
-
-#[cfg(test)]
-mod check_samples;
-#[cfg(test)]
-mod check_tests;
-#[cfg(test)]
-mod link_tests;
-#[cfg(test)]
-mod making_tests;
-#[cfg(test)]
-mod moving_tests;
-#[cfg(test)]
-mod repair_tests;
-#[cfg(test)]
-mod samples;
-#[cfg(test)]
-mod storing_tests;
-#[cfg(test)]
-mod tests;
-#[cfg(test)]
-mod tree_tests;
-#[cfg(test)]
-mod vault_tests;
-#[cfg(test)]
-mod whole_vault_tests;

@@ -25,6 +25,3 @@ pub use looking::{SmallFile, joined, kind_under, read_small};
 pub use reader::ContentReader;
 pub use standing::{Directory, Standing, key_at, root_standing};
 pub use vault::{CmVault, Vault, VaultKeys, VaultKind, content_folder, folder_of, stored_in};
-
-#[cfg(test)]
-mod tests;

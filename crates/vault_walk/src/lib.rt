@@ -21,8 +21,3 @@ mod twice;
 pub use fault::{Finding, WalkFault};
 pub use plan::{Plan, PlanItem, PlanItems, plan_digest};
 pub use surveying::{Surveyed, survey, walk};
-
-#[cfg(test)]
-mod survey_tests;
-#[cfg(test)]
-mod tests;

@@ -11,8 +11,6 @@ pub mod init;
 pub mod laws;
 mod slot;
 mod stage;
-#[cfg(test)]
-mod tests;
 
 pub use content_writing::{Content, PutFault, SourceContent, VaultContent};
 pub use directory::place_dir;

@@ -12,40 +12,7 @@ use Rattle.chunk_files.specs.Pieces.{pieces, first_pieces}
 use Rattle.chunk_files.specs.Reading.{Reading, Whole, Wanting, Faulty, ends}
 use Rattle.chunk_files.specs.Contents.{read_chunk, read_chunks, read_on, read_behind, read_by, readable, read_file}
 use Rattle.vault_read.specs.Contents.{content_limit, limited_reading}
-
--- ---- a whole file never ends for want of bytes
-
-on_whole : (read : Result (List ℕ) ChunkFault) (rest : Reading) → rest.ending ≢ Wanting → (read_on read rest).ending ≢ Wanting
-on_whole (Ok chunk) rest whole wanting = whole wanting
-on_whole (Err fault) rest whole wanting = cc
-
-whole_not : (ends Whole).ending ≢ Wanting
-whole_not wanting = cc
-
-faulty_not : (fault : ChunkFault) → (ends (Faulty fault)).ending ≢ Wanting
-faulty_not fault wanting = cc
-
-chunks_whole : (f : Format) (header : Header) (number : ℕ) (stored : List (List ℕ)) → (read_chunks f header number stored false).ending ≢ Wanting
-unfolding read_chunks
-chunks_whole f header number [] = whole_not
-chunks_whole f header number (first ∷ others) = on_whole (read_chunk f header number first) (read_chunks f header (number + 1) others false) (chunks_whole f header (number + 1) others)
-
-behind_whole : (f : Format) (told : Result Header ChunkFault) (bytes : List ℕ) → (read_behind f told bytes false).ending ≢ Wanting
-behind_whole f (Ok header) bytes = chunks_whole f header 0 (pieces (stored_size f) bytes)
-behind_whole f (Err fault) bytes = faulty_not fault
-
-chosen : (b : Bool) (one two : Reading) → one.ending ≢ Wanting → two.ending ≢ Wanting → (cond b one two).ending ≢ Wanting
-chosen true one two first second = first
-chosen false one two first second = second
-
-by_whole : (f : Format) (bytes : List ℕ) → (read_by f bytes false).ending ≢ Wanting
-unfolding read_by
-by_whole f bytes =
-    chosen ((length bytes == 0) && f.empty_has_no_header) _ _ whole_not
-    (chosen (nat_lt (length bytes) f.header_size) _ _ (faulty_not _) (behind_whole f (f.read_header (take f.header_size bytes)) (drop f.header_size bytes)))
-
-pub readable_ends : (keys : Keys) (bytes : List ℕ) → (readable keys bytes).ending ≢ Wanting
-readable_ends keys bytes = by_whole (format_of keys) bytes
+use Rattle.vault_spec.proofs.Endings.{whole_ends}
 
 -- where reading stops for want of bytes, the file has more than are read
 pub wanting_longer : (keys : Keys) (bytes : List ℕ) → (limited_reading keys bytes).ending ≡ Wanting → nat_lt content_limit (length bytes) ≡ true
@@ -53,7 +20,7 @@ wanting_longer keys bytes wanting = by_test (nat_lt content_limit (length bytes)
   where
     by_test : (b : Bool) → nat_lt content_limit (length bytes) ≡ b → b ≡ true
     by_test true e = refl
-    by_test false e = absurd (by_whole (format_of keys) (take content_limit bytes) (ap (λ goes_on. (read_file keys (take content_limit bytes) goes_on).ending) (sym e) ∙ wanting))
+    by_test false e = absurd (whole_ends keys (take content_limit bytes) (ap (λ goes_on. (read_file keys (take content_limit bytes) goes_on).ending) (sym e) ∙ wanting))
 
 -- ---- a front of a file that ends at a fault ends as the file does
 

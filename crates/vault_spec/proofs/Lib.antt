@@ -37,7 +37,7 @@ mod StraysAlone
 mod GoStrays
 mod CmStrays
 pub mod Mapped
-mod Endings
+pub mod Endings
 mod Plans
 mod VaultPlans
 mod Accounted

@@ -10,8 +10,7 @@ use Rattle.chunk_files.specs.Encrypt.{IsEncrypted, draws, encrypt, has_no_bytes}
 use Rattle.chunk_files.specs.Format.{Format}
 use Rattle.chunk_files.specs.Keys.{Keys, format_of, format_by, full_size}
 use Rattle.chunk_files.specs.Pieces.{first_pieces, pieces}
-use Rattle.content_writing.specs.Writing.{WereAccepted}
-use Rattle.content_writing.specs.Streaming.{IsMadeFor, IsNextChunk, GoesOnWith}
+use Rattle.content_writing.specs.Streaming.{IsMadeFor, IsNextChunk, GoesOnWith, WereAccepted}
 
 -- ---- formats
 
@@ -52,13 +51,16 @@ nonce_sealed_by CmGcm key = omega arith
 pub nonce_sealed : (keys : Keys) → (format_of keys).nonce_size ≤ (format_of keys).seal_size
 nonce_sealed keys = nonce_sealed_by keys.layout keys.key
 
-zeros_by : (layout : Layout) (key : List ℕ) → (format_by layout key).refuses_zeros ≡ true → (16 ≤ (format_by layout key).nonce_size) × (16 ≤ (format_by layout key).header_draw)
-zeros_by Go key refuses = (omega arith, omega arith)
-zeros_by CmGcm key refuses = cc
+sixteen_by : (layout : Layout) (key : List ℕ) → (format_by layout key).refuses_zeros ≡ true → ((format_by layout key).nonce_size ≡ 16) × ((format_by layout key).header_draw ≡ 16)
+sixteen_by Go key refuses = (refl, refl)
+sixteen_by CmGcm key refuses = cc
 
--- where zeros are refused, as many as are drawn for a header and for a nonce
+-- where zeros are refused, sixteen bytes are drawn for a nonce, and for a header
+pub sixteen_drawn : (keys : Keys) → (format_of keys).refuses_zeros ≡ true → ((format_of keys).nonce_size ≡ 16) × ((format_of keys).header_draw ≡ 16)
+sixteen_drawn keys refuses = sixteen_by keys.layout keys.key refuses
+
 pub zeros_drawn : (keys : Keys) → (format_of keys).refuses_zeros ≡ true → (16 ≤ (format_of keys).nonce_size) × (16 ≤ (format_of keys).header_draw)
-zeros_drawn keys refuses = zeros_by keys.layout keys.key refuses
+zeros_drawn keys refuses = let both = sixteen_drawn keys refuses in (omega (arith, both.0), omega (arith, both.1))
 
 -- ---- pieces
 

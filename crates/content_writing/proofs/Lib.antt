@@ -1,6 +1,7 @@
 mod Sourced
 mod Comings
 mod Drawing
+pub mod Sixteens
 mod Standing
 mod Exits
 mod StoredParts

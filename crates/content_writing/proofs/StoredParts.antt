@@ -19,8 +19,7 @@ use Rattle.folder_spec.specs.Seen.{IsSeen, ShowsFile}
 use Rattle.folder_spec.proofs.Stages.{one_file}
 use Rattle.folder_staging.specs.Pieces.{IsWriting, Begins, Adds}
 use Rattle.content_writing.specs.Faults.{of_folder, of_encoding}
-use Rattle.content_writing.specs.Streaming.{FailsToStore, IsMadeFor, StagesFront, BeginsContent, IsNextChunk, StoresChunk}
-use Rattle.content_writing.specs.Writing.{WereAccepted}
+use Rattle.content_writing.specs.Streaming.{FailsToStore, IsMadeFor, StagesFront, BeginsContent, IsNextChunk, StoresChunk, WereAccepted}
 use Rattle.content_writing.specs.declared.fault.PutFault.{PutFault}
 use Rattle.content_writing.specs.declared.fault.PutFault.TheVariants as puts
 use Rattle.content_writing.proofs.Drawing.{has_bytes, none_accepted, zeros_drawn, header_enough, none_in_front, whole_made, front_made, header_made, next_made, next_goes_on}

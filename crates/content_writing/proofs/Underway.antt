@@ -22,6 +22,7 @@ use Rattle.content_writing.specs.Writing.{WritesContent}
 use Rattle.content_writing.specs.declared.fault.PutFault.{PutFault}
 use Rattle.content_writing.specs.declared.fault.PutFault.TheVariants as puts
 use Rattle.content_writing.proofs.Comings.{gave_none, gave_more, ended_on, all_of, rest_of, rest_none, all_is, ending_is}
+use Rattle.content_writing.proofs.Sixteens.{whole_drawn}
 use Rattle.content_writing.proofs.Drawing.{none_accepted, encrypted_accepted, none_in_front, whole_made}
 use Rattle.content_writing.proofs.Standing.{stages_none, staged_stages}
 use Rattle.content_writing.proofs.Exits.{ending_by, ends_as, ends_storing, ends_folder, ends_gathering}
@@ -81,7 +82,7 @@ module _ (w : Start) where
     begin_fails fault b =
         ends_as w gathered left h.gave Whole b.drawn b.made stream told (Err fault) b.were_drawn (b.fits (gathered ++ rest_of w.coming left) empty_so)
         (subst (λ (t : Option Told). StagesFront w.at b.made t told) same b.stages) (λ not. b.accepted (λ is. not (zeros_alike fault is)))
-        (ends_storing w.keys w.at b.drawn (all_of gathered Whole w.coming).bytes (all_of gathered Whole w.coming).ending w.coming left w.told told [] b.drawn fault refl b.ends)
+        (ends_storing w.keys w.at b.drawn (all_of gathered Whole w.coming).bytes (all_of gathered Whole w.coming).ending w.coming left w.told told [] b.drawn fault refl (λ refuses. (0, refl)) b.ends)
 
     pub has_begun : (e : Encoding) → length gathered ≤ full → BeginsContent w.keys (size == 0) w.at w.stream stream told0 told (Ok e)
         → IsUnderway w e gathered told stream left
@@ -130,7 +131,7 @@ module _ (w : Start) where
         (fits_on (Err fault) s (rest_of w.coming left) (λ short. rest_none Whole w.coming left (i.last short))) (stages_on (Err fault) s)
         (λ not long. subst (λ (k : Keys). AreAccepted (format_of k) (i.drawn ++ s.drawn)) i.same_keys (s.accepted i.drawn i.content i.made (i.goes_on some) not))
         (ends_storing w.keys w.at (i.drawn ++ s.drawn) (all_of (i.content ++ gathered) Whole w.coming).bytes (all_of (i.content ++ gathered) Whole w.coming).ending w.coming left w.told told
-        i.drawn s.drawn fault refl last)
+        i.drawn s.drawn fault refl (whole_drawn e w.keys i.drawn i.content i.made i.same_keys (i.goes_on some)) last)
 
     -- behind a chunk that was stored
     module _ (s : StoresChunk e e' gathered w.at stream0 stream told0 told (Ok tt)) (more : List ℕ) (left' : Option Coming) (told' : Option Told) (same : told' ≡ told) where

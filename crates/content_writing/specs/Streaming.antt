@@ -9,7 +9,6 @@ use Rattle.folder_spec.specs.Event.{Told}
 use Rattle.folder_spec.specs.Written.{IsFrontOfOne}
 use Rattle.folder_staging.specs.Pieces.{IsWriting, Stages}
 use Rattle.content_writing.specs.Content.{Coming, Whole, Damaged, TooLong, Gave, HasEnded}
-use Rattle.content_writing.specs.Writing.{WereAccepted}
 use Rattle.content_writing.specs.declared.fault.PutFault.{PutFault}
 use Rattle.content_writing.specs.declared.fault.PutFault.TheVariants as puts
 
@@ -48,6 +47,10 @@ StagesFront at made before now = (files : List (List ℕ)) → IsFrontOfOne file
 -- so far, the staged file has these bytes
 abbrev pub IsStaged : Path → List ℕ → Option Told → Option Told → Type 0
 IsStaged at made before now = (files : List (List ℕ)) → IsFrontOfOne files made → IsWriting files at made before now
+
+-- where a header was drawn, neither its id nor a nonce drawn is of zeros that are refused
+abbrev pub WereAccepted : Keys → List ℕ → Type 0
+WereAccepted keys drawn = (format_of keys).header_draw ≤ length drawn → AreAccepted (format_of keys) drawn
 
 -- why a header or a chunk wasn't stored: sixteen zero bytes were drawn, where these are refused; or an object failed
 abbrev pub FailsToStore : Keys → List ℕ → PutFault → Type 0

@@ -1,8 +1,8 @@
 -- Writing a content as a content file: what is drawn for it, what is written at every moment, and how that ends.
-use Rattle.std.specs.Prelude.{◌≡◌, ◌≢◌, ◌≤◌, ℕ, true, List, [], ◌∷◌, ◌++◌, length, replicate, Option, Some, None, Result, Ok, Err}
+use Rattle.std.specs.Prelude.{◌≡◌, ◌≢◌, ◌≤◌, ℕ, zero, suc, ◌*◌, true, List, [], ◌∷◌, length, take, drop, replicate, Option, Some, None, Result, Ok, Err}
 use Rattle.port_model.specs.Counts.{CountRose}
 use Rattle.port_model.specs.Draws.{ByteStream, Draws}
-use Rattle.chunk_files.specs.Encrypt.{AreAccepted, IsEncrypted, draws, encrypt}
+use Rattle.chunk_files.specs.Encrypt.{IsEncrypted, draws, encrypt}
 use Rattle.chunk_files.specs.Keys.{Keys, format_of}
 use Rattle.folder_spec.specs.Path.{Path, below}
 use Rattle.folder_spec.specs.State.{present}
@@ -22,15 +22,23 @@ abbrev pub ReadsApart : Option Path → Path → Type 0
 ReadsApart None staged = Unit {0}
 ReadsApart (Some at) staged = below staged at ≡ None
 
--- where a header was drawn, neither its id nor a nonce drawn is of zeros that are refused
-abbrev pub WereAccepted : Keys → List ℕ → Type 0
-WereAccepted keys drawn = (format_of keys).header_draw ≤ length drawn → AreAccepted (format_of keys) drawn
+-- the sixteen bytes of this number, from 0, of bytes that are cut into such pieces
+abbrev pub sixteen : ℕ → List ℕ → List ℕ
+sixteen zero bytes = take 16 bytes
+sixteen (suc number) bytes = sixteen number (drop 16 bytes)
 
--- sixteen zero bytes were drawn last, where these are refused
-pub record DrewZeros (keys : Keys) (drawn : List ℕ) : Type 0 where
+-- those of this number that were drawn are zeros, where these are refused
+pub record HasZeros (keys : Keys) (drawn : List ℕ) (number : ℕ) : Type 0 where
   pub refused : (format_of keys).refuses_zeros ≡ true
-  pub before : List ℕ
-  pub zeros : drawn ≡ before ++ replicate 16 0
+  pub zeros : sixteen number drawn ≡ replicate 16 0
+
+-- those that were drawn last are
+abbrev pub DrewZeros : Keys → List ℕ → Type 0
+DrewZeros keys drawn = (number : ℕ) × HasZeros keys drawn number × (length drawn ≡ 16 * suc number)
+
+-- none are
+abbrev pub DrewNoZeros : Keys → List ℕ → Type 0
+DrewNoZeros keys drawn = (number : ℕ) → ¬ HasZeros keys drawn number
 
 -- The content was written whole: in a new file at the path, which lasts through a crash, and under just the bytes that it draws.
 pub record IsWritten (keys : Keys) (at : Path) (drawn content : List ℕ) (ending : Ending) (coming left : Option Coming) (before after : Option Told) : Type 0 where
@@ -62,7 +70,7 @@ pub record WritesContent (keys : Keys) (at : Path) (coming left : Option Coming)
   pub ending : Ending
   pub were_drawn : Draws stream stream' drawn
   pub enough : length drawn ≤ draws (format_of keys) content
-  pub accepted : result ≢ Err puts.ZeroRandom → WereAccepted keys drawn
+  pub accepted : result ≢ Err puts.ZeroRandom → DrewNoZeros keys drawn
   pub told : (c : Coming) → coming ≡ Some c → c ≡ record { bytes = content; ending = ending }
   pub given : List ℕ
   pub gave : Gave given coming left

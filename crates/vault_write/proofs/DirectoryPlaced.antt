@@ -2,15 +2,22 @@
 use Rattle.std.specs.Option.{option_or}
 use Rattle.std.specs.List.{list_all}
 use Rattle.std.proofs.lemmas.Bool.{le-leb, eqb-true}
+use Rattle.std.proofs.lemmas.List.{take_all}
 use Rattle.std.proofs.lemmas.Bool.Decides.{leb_tells, eqb_tells}
-use Rattle.std.proofs.Common.{arith, true, false, Bool, nat_lt, nat_le, nat_eq, ◌≡◌, ◌⊎◌, ◌<◌, ℕ, ◌≤◌, zero, suc, List, [], ◌∷◌, ◌++◌, length, replicate, cond, Option, Some, None, Result, Ok, Err, refl, sym, ap, ◌∙◌, inl, inr, subst, IsTrue}
+use Rattle.std.proofs.Common.{arith, true, false, Bool, nat_lt, nat_le, nat_eq, ◌≡◌, ◌⊎◌, ◌<◌, ℕ, ◌≤◌, zero, suc, List, [], ◌∷◌, ◌++◌, length, take, replicate, cond, ◌*◌, Option, Some, None, Result, Ok, Err, refl, sym, ap, ◌∙◌, inl, inr, subst, IsTrue}
 use Rattle.chunk_files.specs.Keys as contents
+use Rattle.chunk_files.specs.Keys.{Keys}
 use Rattle.chunk_files.specs.Zeros.{is_all_zero}
 use Rattle.content_writing.specs.Content.{Whole}
+use Rattle.content_writing.specs.Writing.{DrewNoZeros, HasZeros}
+use Rattle.content_writing.proofs.Sixteens.{drawn_so_far}
 use Rattle.content_writing.specs.Faults.{of_folder}
 use Rattle.content_writing.specs.declared.fault.PutFault.{PutFault}
 use Rattle.content_writing.specs.declared.fault.PutFault.TheVariants as puts
 use Rattle.cryptomator_conf.specs.Id.{id_of}
+use Rattle.cryptomator_conf.specs.declared.conf.Combo.{Combo}
+use Rattle.cryptomator_conf.specs.declared.conf.Combo.TheVariants.{SivGcm}
+use Rattle.cryptomator_conf.specs.declared.keys.CmKeys.{CmKeys}
 use Rattle.folder_spec.specs.declared.FolderFault.{FolderFault}
 use Rattle.folder_spec.specs.Path.{Path, parent}
 use Rattle.folder_spec.proofs.Paths.{child-not_base}
@@ -25,7 +32,7 @@ use Rattle.vault_names.specs.Cryptomator.{cm_folder_of, is_id_character}
 use Rattle.vault_read.specs.Laws.{KeepsVaults}
 use Rattle.vault_read.specs.Opened.{OpenedVault, IsCryptomator, kind_of}
 use Rattle.vault_read.specs.declared.vault.VaultKind.TheVariants as kind
-use Rattle.vault_spec.specs.Cryptomator.{CmVault, cm_format, directory_id, shelf_named, folder_named, taken_unless_folder, taken_folders}
+use Rattle.vault_spec.specs.Cryptomator.{CmVault, cm_format, contents_by, directory_id, shelf_named, folder_named, taken_unless_folder, taken_folders}
 use Rattle.vault_spec.specs.Format.{is_bytes, taken_at}
 use Rattle.vault_spec.specs.Gocryptfs.{directory_key, taken_unless}
 use Rattle.vault_spec.specs.Making.{NewDirectory, draws}
@@ -69,8 +76,8 @@ module _ (shows : EditsShowTrees) (settles : SettledEditsShowTrees) (roots : Roo
   pub failed_one : (fault : FolderFault) (result : Result (Unit {0}) PutFault) → FromTo (Edits p.work p.vault.root m) t w → result ≡ Err (of_folder fault) → PlacesOne p s s' t w result
   failed_one fault result went is = subst (PlacesOne p s s' t w) (sym is) (record { drawn = drawn; were_drawn = were; one = one_failed shows settles roots p drawn m t w begun size fault went })
 
-  pub done_one : FromTo (Edits p.work p.vault.root m) t w → FromTo (HasFinished p.work p.vault.root m) t w → PlacesOne p s s' t w (Ok tt)
-  done_one went finished = record { drawn = drawn; were_drawn = were; one = one_ok shows settles roots p drawn m t w begun size went finished }
+  pub done_one : DrewNoZeros (format p).content drawn → FromTo (Edits p.work p.vault.root m) t w → FromTo (HasFinished p.work p.vault.root m) t w → PlacesOne p s s' t w (Ok tt)
+  done_one none went finished = record { drawn = drawn; were_drawn = were; one = one_ok shows settles roots p drawn m t w begun size none went finished }
 
 -- its item is begun, and it may do the edits
 pub record MayMakeOne (p : Placing) (drawn : List ℕ) (m : Making) (Places : View → Type 0) (t : Option Told) : Type 0 where
@@ -113,6 +120,14 @@ refuses_zeros : (vault : Vault) → kind_of vault ≡ kind.Gocryptfs → (conten
 refuses_zeros (Gocryptfs keys) is = refl
 refuses_zeros (Cryptomator cm) is = let clash : kind.Cryptomator ≡ kind.Gocryptfs = is in cc
 
+-- no zeros were drawn for a key that has a bit
+pub key_has_bits : (keys : Keys) (key : List ℕ) → length key ≡ 16 → is_all_zero key ≡ false → (number : ℕ) → HasZeros keys key number → ⊥
+key_has_bits keys key size some zero has =
+    let are : key ≡ replicate 16 0 = sym (take_all 16 key (omega (arith, size))) ∙ has.zeros in
+    let no : true ≡ false = ap is_all_zero (sym are) ∙ some in
+    cc no
+key_has_bits keys key size some (suc number) has = let long : 16 * suc (suc number) ≤ length key = drawn_so_far (suc number) key has.zeros in absurd (omega (arith, size, long))
+
 -- no key was drawn
 pub go_undrawn : (vault : OpenedVault) → kind_of vault.vault ≡ kind.Gocryptfs → (work : Path) (front : plain.Path) (name : List ℕ) (s s' : Stream) (t u : Option Told) (fault : PutFault) (result : Result (Unit {0}) PutFault)
     → DrawsSome s s' (Err fault) → u ≡ t → result ≡ Err fault → PlacesOne (placing vault work front name NewDirectory) s s' t u result
@@ -132,7 +147,7 @@ go_undrawn vault is work front name s s' t u fault result h same e =
     few puts.Source k = absurd k
 
     answer : (fault : PutFault) (v : View) → SomeDrew h.bytes h.drawn (Err fault) → Answers (placing vault work front name NewDirectory) h.drawn Whole v (Err fault)
-    answer puts.ZeroRandom v k = record { refused = refuses_zeros vault.vault is; before = []; zeros = k.0 ∙ zeros_are 16 h.bytes h.sizes.size k.1 }
+    answer puts.ZeroRandom v k = (0, record { refused = refuses_zeros vault.vault is; zeros = ap (take 16) (k.0 ∙ zeros_are 16 h.bytes h.sizes.size k.1) }, ap length k.0 ∙ h.sizes.size)
     answer puts.Random v k = tt
     answer puts.Failed v k = absurd k
     answer puts.NoMemory v k = absurd k
@@ -167,6 +182,14 @@ cm_may enters folders root (Cryptomator cm) is laws work front name named t may 
         (home_free (seen a.state) (shown t a told)) (shelf_by (seen a.state) (shown t a told)) may.apart may.beside folders (may.ready (seen a.state) (shown t a told)))
     places_at None told v s = absurd s
 cm_may enters folders root (Gocryptfs keys) is laws work front name named t may sound at side full slot shelf home wants id drawn home_is shelf_is home_free shelf_by id_is is_id sixteen = let clash : kind.Gocryptfs ≡ kind.Cryptomator = is in cc
+
+none_by : (combo : Combo) (keys : CmKeys) → (contents.format_of (contents_by combo keys)).refuses_zeros ≡ false
+none_by SivGcm keys = refl
+
+-- no zeros are refused
+pub none_refused : (vault : Vault) → kind_of vault ≡ kind.Cryptomator → (drawn : List ℕ) → DrewNoZeros (format_of vault).content drawn
+none_refused (Cryptomator cm) is drawn number has = let no : false ≡ true = sym (none_by cm.combo cm.keys) ∙ has.refused in cc no
+none_refused (Gocryptfs keys) is drawn number has = let clash : kind.Gocryptfs ≡ kind.Cryptomator = is in cc
 
 -- a new directory's id is a key
 not_below : (a b : ℕ) → b < a → nat_le a b ≡ false

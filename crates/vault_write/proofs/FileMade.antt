@@ -1,6 +1,6 @@
 -- What a call promises that made a file's edits, or some of them.
 use Rattle.std.specs.Prelude.{Contains}
-use Rattle.std.proofs.Common.{arith, false, Bool, ◌≡◌, ℕ, ◌≤◌, List, [], ◌∷◌, ◌++◌, length, Option, Some, None, Result, Ok, Err, OnOk, refl, sym, ap, ◌∙◌, inl, inr, subst, append-nil, IsTrue}
+use Rattle.std.proofs.Common.{arith, false, Bool, ◌≡◌, ◌≢◌, ℕ, ◌≤◌, List, [], ◌∷◌, ◌++◌, length, Option, Some, None, Result, Ok, Err, OnOk, refl, sym, ap, ◌∙◌, inl, inr, subst, append-nil, IsTrue}
 use Rattle.std.proofs.lemmas.List.Elements.{Contains-append_left, Contains-append_right}
 use Rattle.std.proofs.Math.Path.{fun_ext}
 use Rattle.chunk_files.specs.Encrypt.{draws, encrypt}
@@ -35,6 +35,7 @@ use Rattle.vault_spec.specs.Opens.{Opened, opened_file}
 use Rattle.vault_spec.specs.Vault.{format_of}
 use Rattle.content_writing.specs.Content.{Coming, Ending, IsReady, still_coming}
 use Rattle.content_writing.specs.Faults.{of_folder}
+use Rattle.content_writing.specs.Writing.{DrewNoZeros}
 use Rattle.content_writing.specs.declared.fault.PutFault.{PutFault}
 use Rattle.content_writing.specs.declared.fault.PutFault.TheVariants as puts
 use Rattle.vault_write.specs.Calls.{AnswersRoot, How, MakesFile, MakesOne, New, ReadsElsewhere, Writing}
@@ -152,7 +153,7 @@ module _ (keeps : EditsBeforeTheLastKeepTrees) (roots : RootsShow) (p : Placing)
 answers_stopped : (p : Placing) (w : Writing) (u : View) (fault : PutFault) → HasTaken p w.drawn u None → StopsBy (format p).content w fault → Answers p w.drawn w.ending u (Err fault)
 answers_stopped p w u (puts.Damaged at fault) free stops = (free, stops)
 answers_stopped p w u (puts.Limit limit) free stops = (free, stops)
-answers_stopped p w u puts.ZeroRandom free stops = record { refused = stops.refused; before = stops.before; zeros = stops.zeros }
+answers_stopped p w u puts.ZeroRandom free stops = stops
 answers_stopped p w u puts.Source free stops = tt
 answers_stopped p w u puts.Random free stops = tt
 answers_stopped p w u puts.Failed free stops = tt
@@ -261,14 +262,14 @@ module _ (shows : EditsShowTrees) (keeps : EditsBeforeTheLastKeepTrees) (settles
           (stages vault.root (stopped_making firsts (all_files w.content w.drawn)) firsts [] t (entry_within (encrypt keys w.drawn w.content)) (some_done (Ok tt) adds w.content w.drawn).1).0
           (λ v is. answers_stopped (place w.content) w (under vault.root v) fault (free_at t filed w.content w.drawn v is) stops)
 
-      placed_one : (result : Result (Unit {0}) PutFault) → PlacesBy keys w (DoesLast work (last_edit w.content w.drawn) (entry_files inside (encrypt keys w.drawn w.content)) u s) (OnlyStages work (entry_files inside (encrypt keys w.drawn w.content)) u s) result
+      placed_one : (result : Result (Unit {0}) PutFault) → (result ≢ Err puts.ZeroRandom → DrewNoZeros keys w.drawn) → PlacesBy keys w (DoesLast work (last_edit w.content w.drawn) (entry_files inside (encrypt keys w.drawn w.content)) u s) (OnlyStages work (entry_files inside (encrypt keys w.drawn w.content)) u s) result
           → MakesOne New (place w.content) w.ending w.drawn t s result
-      placed_one (Ok value) (whole, does) =
+      placed_one (Ok value) accepted (whole, does) =
           subst (λ x. MakesOne New (place w.content) x w.drawn t s (Ok tt)) (sym whole.whole)
-          (one_ok shows settles roots (place w.content) w.drawn (file_making firsts (last_edit w.content w.drawn) (all_files w.content w.drawn)) t s (begun_at whole) whole.encrypted.enough
+          (one_ok shows settles roots (place w.content) w.drawn (file_making firsts (last_edit w.content w.drawn) (all_files w.content w.drawn)) t s (begun_at whole) whole.encrypted.enough (accepted (λ clash. cc))
           (last_done (Ok tt) does).0 (last_done (Ok tt) does).1)
-      placed_one (Err fault) (stops, inl stages) = stopped_one fault stops stages
-      placed_one (Err fault) (stops, inr (failed, is, whole, does)) =
+      placed_one (Err fault) accepted (stops, inl stages) = stopped_one fault stops stages
+      placed_one (Err fault) accepted (stops, inr (failed, is, whole, does)) =
           subst (λ x. MakesOne New (place w.content) w.ending w.drawn t s (Err x)) (sym is)
           (subst (λ x. MakesOne New (place w.content) x w.drawn t s (Err (of_folder failed))) (sym whole.whole)
           (one_failed shows settles roots (place w.content) w.drawn (file_making firsts (last_edit w.content w.drawn) (all_files w.content w.drawn)) t s (begun_at whole) whole.encrypted.enough failed
@@ -276,7 +277,7 @@ module _ (shows : EditsShowTrees) (keeps : EditsBeforeTheLastKeepTrees) (settles
 
     pub file_placed : (coming left : Option Coming) (stream stream' : Option ByteStream) (s : Option Told) (result : Result (Unit {0}) PutFault) → AddsEdits work firsts first_files t u (Ok tt)
         → PlacesEntry keys work at inside coming left stream stream' u s result → PlacesFile New vault work front name coming left stream stream' t s result
-    file_placed coming left stream stream' s result adds k = record { writing = k.writing; takes = k.takes; one = placed_one s k.writing adds k.enough result k.ends }
+    file_placed coming left stream stream' s result adds k = record { writing = k.writing; takes = k.takes; one = placed_one s k.writing adds k.enough result k.takes.accepted k.ends }
 
 -- ---- the calls by format
 

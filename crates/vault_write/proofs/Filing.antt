@@ -1,7 +1,7 @@
 -- The entry of a content is staged whole, renamed, and settled.
 use Rattle.std.specs.Prelude.{Contains, IsErrAnd}
 use Rattle.std.specs.Result.{IsErr}
-use Rattle.std.proofs.Common.{arith, true, false, not, zero, suc, ◌≡◌, ◌≢◌, ℕ, ◌≤◌, List, [], ◌∷◌, ◌++◌, length, Option, Some, None, Result, Ok, Err, OnOk, refl, sym, ap, ◌∙◌, inl, inr, subst, append-nil, append_assoc, IsTrue, codes}
+use Rattle.std.proofs.Common.{arith, true, false, not, zero, suc, ◌≡◌, ◌≢◌, ℕ, ◌≤◌, List, [], ◌∷◌, ◌++◌, length, Option, Some, None, Result, Ok, Err, OnOk, refl, sym, ap, ◌∙◌, inl, inr, subst, append-nil, append_assoc, IsTrue, codes, ◌*◌}
 use Rattle.std.proofs.lemmas.List.Elements.{Contains-append_left, Contains-append_right}
 use Rattle.chunk_files.specs.Encrypt.{encrypt}
 use Rattle.chunk_files.specs.Keys as contents
@@ -31,7 +31,8 @@ use Rattle.work_folder.specs.Entries.{stage_path}
 use Rattle.vault_spec.specs.Cryptomator.{content_file, full_file}
 use Rattle.content_writing.specs.Content.{Coming, Whole, Gave, IsReady, IsTold, ends, still_coming}
 use Rattle.content_writing.specs.Faults.{of_folder}
-use Rattle.content_writing.specs.Writing.{EndsBy, ReadsApart, WereAccepted, WritesContent}
+use Rattle.content_writing.specs.Writing.{DrewNoZeros, EndsBy, ReadsApart, WritesContent}
+use Rattle.content_writing.proofs.Sixteens.{drawn_so_far}
 use Rattle.content_writing.specs.declared.fault.PutFault.{PutFault}
 use Rattle.content_writing.specs.declared.fault.PutFault.TheVariants as puts
 use Rattle.vault_write.specs.Calls.{ReadsElsewhere, TakesContent, Writing}
@@ -62,12 +63,8 @@ none_given : (coming : Option Coming) → Gave [] coming coming
 none_given None = tt
 none_given (Some c) = refl
 
-header_by : (layout : Layout) (key : List ℕ) → 1 ≤ (contents.format_by layout key).header_draw
-header_by Go key = omega arith
-header_by CmGcm key = omega arith
-
-none_accepted : (keys : Keys) → WereAccepted keys []
-none_accepted keys long = let some : 1 ≤ (contents.format_of keys).header_draw = header_by keys.layout keys.key in absurd (omega (arith, some, long))
+no_zeros_in_none : (keys : Keys) → DrewNoZeros keys []
+no_zeros_in_none keys number has = let long : 16 * suc number ≤ length {A = ℕ} [] = drawn_so_far number [] has.zeros in absurd (omega (arith, long))
 
 told_so : (coming : Option Coming) (c : Coming) → coming ≡ Some c → c ≡ record { bytes = (untaken coming).content; ending = (untaken coming).ending }
 told_so None c is = cc
@@ -76,7 +73,7 @@ told_so (Some d) c is = let same : d ≡ c = cc in sym same
 pub takes_none : (keys : Keys) (coming : Option Coming) (stream : Option ByteStream) (fault : PutFault) → TakesContent keys (untaken coming) coming coming stream stream (Err fault)
 takes_none keys coming stream fault = record {
   were_drawn = none_drawn stream;
-  accepted = λ other. none_accepted keys;
+  accepted = λ other. no_zeros_in_none keys;
   told = told_so coming;
   gave = none_given coming;
   ended = tt;

@@ -25,6 +25,7 @@ use Rattle.vault_spec.specs.Staying.{StaysVault}
 use Rattle.folder_spec.specs.declared.FolderFault.TheVariants as folder
 use Rattle.content_writing.specs.Faults.{of_folder}
 use Rattle.content_writing.specs.Content.{Ending, Whole}
+use Rattle.content_writing.specs.Writing.{DrewNoZeros}
 use Rattle.content_writing.specs.declared.fault.PutFault.{PutFault}
 use Rattle.content_writing.specs.declared.fault.PutFault.TheVariants as puts
 use Rattle.work_folder.specs.Entering.{IsReady}
@@ -200,11 +201,11 @@ module _ (shows : EditsShowTrees) (settles : SettledEditsShowTrees) (roots : Roo
       by_fault folder.Refused = record { moments = moments_of went; done = tt; ready = tt; ends = failed_ends t w begun went }
       by_fault folder.NoMemory = record { moments = moments_of went; done = tt; ready = tt; ends = failed_ends t w begun went }
 
-  pub one_ok : length drawn ≡ draws (format p) p.item → FromTo (Edits p.work p.vault.root m) t w → FromTo (HasFinished p.work p.vault.root m) t w → MakesOne New p Whole drawn t w (Ok tt)
-  one_ok size went finished = record {
+  pub one_ok : length drawn ≡ draws (format p) p.item → DrewNoZeros (format p).content drawn → FromTo (Edits p.work p.vault.root m) t w → FromTo (HasFinished p.work p.vault.root m) t w → MakesOne New p Whole drawn t w (Ok tt)
+  one_ok size none went finished = record {
     enough = omega (arith, size);
     makes = makes_ok went finished;
-    answer = λ v is. (taken_at t begun v is, refl, size);
+    answer = λ v is. (taken_at t begun v is, refl, size, none);
   }
     where
       taken_at : (t : Option Told) → ((a : Told) → t ≡ Some a → IsBegun p drawn m a) → (v : View) → IsSeen t v → HasTaken p drawn (under p.vault.root v) None

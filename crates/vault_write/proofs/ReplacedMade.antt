@@ -1,5 +1,5 @@
 -- What a call promises that replaced the content of a file that stands.
-use Rattle.std.proofs.Common.{arith, ◌≡◌, ◌⊎◌, ℕ, ◌≤◌, List, [], ◌∷◌, ◌++◌, length, Option, Some, None, Result, Ok, Err, refl, sym, ap, ◌∙◌, inl, inr, subst, IsTrue}
+use Rattle.std.proofs.Common.{arith, ◌≡◌, ◌≢◌, ◌⊎◌, ℕ, ◌≤◌, List, [], ◌∷◌, ◌++◌, length, Option, Some, None, Result, Ok, Err, refl, sym, ap, ◌∙◌, inl, inr, subst, IsTrue}
 use Rattle.chunk_files.specs.Encrypt.{draws, encrypt}
 use Rattle.chunk_files.specs.FileOf.{FilesAreWhatTheyGive, EncryptedFilesAreFiles}
 use Rattle.chunk_files.specs.Keys as contents
@@ -29,6 +29,7 @@ use Rattle.vault_spec.specs.Standing.{Standing, standing}
 use Rattle.vault_spec.specs.Vault.{format_of}
 use Rattle.work_folder.specs.Entering.{IsReady}
 use Rattle.content_writing.specs.Content.{Coming, Ending, Whole}
+use Rattle.content_writing.specs.Writing.{DrewNoZeros}
 use Rattle.content_writing.specs.Faults.{of_folder}
 use Rattle.content_writing.specs.declared.fault.PutFault.{PutFault}
 use Rattle.content_writing.specs.declared.fault.PutFault.TheVariants as puts
@@ -142,9 +143,9 @@ module _ (shows : EditsShowTrees) (settles : SettledEditsShowTrees) (roots : Roo
         (subst (λ s. AnswersPutBy s p drawn ending (under p.vault.root (seen a.state)) result) (sym (at_told a refl).stands) (answers (under p.vault.root (seen a.state))))
     over None at_told ending result answers v is = absurd is
 
-    pub replaced_ok : length drawn ≡ making.draws (format p) p.item → FromTo (Edits p.work p.vault.root (replace_making at bytes)) t w → FromTo (HasFinished p.work p.vault.root (replace_making at bytes)) t w
+    pub replaced_ok : length drawn ≡ making.draws (format p) p.item → DrewNoZeros (format p).content drawn → FromTo (Edits p.work p.vault.root (replace_making at bytes)) t w → FromTo (HasFinished p.work p.vault.root (replace_making at bytes)) t w
         → MakesOne InPlace p Whole drawn t w (Ok tt)
-    replaced_ok size went finished = record {
+    replaced_ok size none went finished = record {
       enough = omega (arith, size);
       makes = record {
         moments = replaced_moments went;
@@ -152,7 +153,7 @@ module _ (shows : EditsShowTrees) (settles : SettledEditsShowTrees) (roots : Roo
         ready = is_ready t w finished;
         ends = ends t w k finished;
       };
-      answer = over t k Whole (Ok tt) (λ x. (allowed, refl, size));
+      answer = over t k Whole (Ok tt) (λ x. (allowed, refl, size, none));
     }
       where
         is_ready : (t w : Option Told) → FromTo (HasFinished p.work p.vault.root (replace_making at bytes)) t w → (v : View) → IsSeen w v → IsReady v p.work
@@ -263,7 +264,7 @@ module _ (keeps : EditsBeforeTheLastKeepTrees) (roots : RootsShow) (p : Placing)
 over_by : (p : Placing) (w : Writing) (u : View) (fault : PutFault) → Allows (format p) p.name → StopsBy (format p).content w fault → AnswersOver p w.drawn w.ending u (Err fault)
 over_by p w u (puts.Damaged at fault) allowed stops = (allowed, stops)
 over_by p w u (puts.Limit limit) allowed stops = (allowed, stops)
-over_by p w u puts.ZeroRandom allowed stops = record { refused = stops.refused; before = stops.before; zeros = stops.zeros }
+over_by p w u puts.ZeroRandom allowed stops = stops
 over_by p w u puts.Source allowed stops = tt
 over_by p w u puts.Random allowed stops = tt
 over_by p w u puts.Failed allowed stops = tt
@@ -289,17 +290,17 @@ module _ (shows : EditsShowTrees) (keeps : EditsBeforeTheLastKeepTrees) (settles
     whole_at : IsWhole keys w → (a : Told) → t ≡ Some a → IsReplaced (put_place w.content) (opens_as (NewFile w.content)) w.drawn at (encrypt keys w.drawn w.content) a
     whole_at whole a is = subst (λ o. IsReplaced (put_place w.content) o w.drawn at (encrypt keys w.drawn w.content) a) (opens_whole gives are keys w.drawn w.content whole.encrypted) (replaced w.content w.drawn a is)
 
-    replaced_one : (result : Result (Unit {0}) PutFault) → PlacesBy keys w (DoesReplace work vault.root at (encrypt keys w.drawn w.content) t s) (OnlyStages work (encrypt keys w.drawn w.content ∷ []) t s) result
+    replaced_one : (result : Result (Unit {0}) PutFault) → (result ≢ Err puts.ZeroRandom → DrewNoZeros keys w.drawn) → PlacesBy keys w (DoesReplace work vault.root at (encrypt keys w.drawn w.content) t s) (OnlyStages work (encrypt keys w.drawn w.content ∷ []) t s) result
         → MakesOne InPlace (put_place w.content) w.ending w.drawn t s result
-    replaced_one (Ok value) (whole, does) =
+    replaced_one (Ok value) accepted (whole, does) =
         subst (λ x. MakesOne InPlace (put_place w.content) x w.drawn t s (Ok tt)) (sym whole.whole)
-        (replaced_ok shows settles roots (put_place w.content) w.drawn at (encrypt keys w.drawn w.content) t s (whole_at whole) allowed whole.encrypted.enough does.0 does.1)
-    replaced_one (Err fault) (stops, inl stages) =
+        (replaced_ok shows settles roots (put_place w.content) w.drawn at (encrypt keys w.drawn w.content) t s (whole_at whole) allowed whole.encrypted.enough (accepted (λ clash. cc)) does.0 does.1)
+    replaced_one (Err fault) accepted (stops, inl stages) =
         replaced_stopped keeps roots (put_place w.content) (opens_so w.content w.drawn) w.drawn at (encrypt keys w.drawn w.content) t s (replaced w.content w.drawn) w.ending fault enough
         (stages vault.root (stopped_making [] (encrypt keys w.drawn w.content ∷ [])) [] [] t (λ file among. among)
         (begins_at work vault.root (stopped_making [] (encrypt keys w.drawn w.content ∷ [])) t refl (λ a is. ([], refl)) may sound)).0
         (λ x. over_by (put_place w.content) w x fault allowed stops)
-    replaced_one (Err fault) (stops, inr (failed, is, whole, does)) =
+    replaced_one (Err fault) accepted (stops, inr (failed, is, whole, does)) =
         subst (λ x. MakesOne InPlace (put_place w.content) w.ending w.drawn t s (Err x)) (sym is)
         (subst (λ x. MakesOne InPlace (put_place w.content) x w.drawn t s (Err (of_folder failed))) (sym whole.whole)
         (replaced_failed shows settles roots (put_place w.content) w.drawn at (encrypt keys w.drawn w.content) t s (whole_at whole) allowed whole.encrypted.enough failed does.0))
@@ -307,4 +308,4 @@ module _ (shows : EditsShowTrees) (keeps : EditsBeforeTheLastKeepTrees) (settles
   pub replaced_file : ((content drawn : List ℕ) (a : Told) → t ≡ Some a → IsReplaced (put_place content) (opens_so content drawn) drawn at (encrypt keys drawn content) a)
       → (coming left : Option Coming) (stream stream' : Option ByteStream) (result : Result (Unit {0}) PutFault) → ReplacesContent keys work vault.root at coming left stream stream' t s result
       → PlacesFile InPlace vault work front name coming left stream stream' t s result
-  replaced_file replaced coming left stream stream' result k = record { writing = k.writing; takes = k.takes; one = replaced_one replaced k.writing k.enough result k.ends }
+  replaced_file replaced coming left stream stream' result k = record { writing = k.writing; takes = k.takes; one = replaced_one replaced k.writing k.enough result k.takes.accepted k.ends }

@@ -11,7 +11,7 @@ use Rattle.vault_read.specs.Opened.{OpenedVault}
 use Rattle.vault_spec.specs.Making.{NewItem, NewDirectory, NewFile, draws}
 use Rattle.vault_spec.specs.Vault.{format_of}
 use Rattle.content_writing.specs.Content.{Coming, Ending, Whole, Gave, HasEnded}
-use Rattle.content_writing.specs.Writing.{WereAccepted}
+use Rattle.content_writing.specs.Writing.{DrewNoZeros}
 use Rattle.vault_write.specs.Making.{Placing, Making, format, new_item, put_item}
 use Rattle.vault_write.specs.Placing.{Makes}
 use Rattle.vault_write.specs.Refusing.{Answers, AnswersPut, TakesRoot, PutsRoot}
@@ -64,7 +64,7 @@ pub record Writing : Type 0 where
 -- were drawn only at last, and after Ok nothing is left of the content.
 pub record TakesContent (keys : Keys) (w : Writing) (coming left : Option Coming) (stream stream' : Option ByteStream) (result : Result (Unit {0}) PutFault) : Type 0 where
   pub were_drawn : Draws stream stream' w.drawn
-  pub accepted : result ≢ Err puts.ZeroRandom → WereAccepted keys w.drawn
+  pub accepted : result ≢ Err puts.ZeroRandom → DrewNoZeros keys w.drawn
   pub told : (c : Coming) → coming ≡ Some c → c ≡ record { bytes = w.content; ending = w.ending }
   pub gave : Gave w.given coming left
   pub ended : OnOk result (HasEnded Whole coming left)

@@ -1,8 +1,7 @@
 -- What a call that makes an item answers, by what the vault showed at first, the bytes drawn and how the content ended. The cases
 -- exclude one another, but that the folder, the source and the random source may fail and memory run out. The tests come in this
 -- order: the directory that is to have the item, the name, the place.
-use Rattle.std.specs.Prelude.{◌≡◌, ◌≢◌, ℕ, true, List, [], ◌++◌, length, replicate, Option, Some, None, Result, Ok, Err}
-use Rattle.chunk_files.specs.Keys as contents
+use Rattle.std.specs.Prelude.{◌≡◌, ◌≢◌, ℕ, List, [], ◌++◌, length, Option, Some, None, Result, Ok, Err}
 use Rattle.folder_spec.specs.Path.{Path}
 use Rattle.folder_spec.specs.View.{View}
 use Rattle.vault_read.specs.Finding.{Refuses}
@@ -12,6 +11,7 @@ use Rattle.vault_spec.specs.Format.{Directory}
 use Rattle.vault_spec.specs.Making.{Allows, draws, taken}
 use Rattle.vault_spec.specs.Standing.{Standing, Absent, Strange, File, Dir, standing}
 use Rattle.content_writing.specs.Content.{Ending, Whole, Damaged, TooLong}
+use Rattle.content_writing.specs.Writing.{DrewNoZeros, DrewZeros}
 use Rattle.vault_write.specs.Making.{Placing, format, path_of}
 use Rattle.content_writing.specs.declared.fault.PutFault.{PutFault}
 use Rattle.content_writing.specs.declared.fault.PutFault.TheVariants as puts
@@ -33,20 +33,14 @@ pub record ForbidsName (p : Placing) (u : View) : Type 0 where
   pub entered : enter (format p) u p.front ≡ Ok dir
   pub forbidden : ¬ Allows (format p) p.name
 
--- sixteen zero bytes were drawn last, where these are refused
-pub record DrewZeros (p : Placing) (drawn : List ℕ) : Type 0 where
-  pub refused : (contents.format_of (format p).content).refuses_zeros ≡ true
-  pub before : List ℕ
-  pub zeros : drawn ≡ before ++ replicate 16 0
-
 abbrev pub Answers : Placing → List ℕ → Ending → View → Result (Unit {0}) PutFault → Type 0
-Answers p drawn ending u (Ok _) = HasTaken p drawn u None × (ending ≡ Whole) × (length drawn ≡ draws (format p) p.item)
+Answers p drawn ending u (Ok _) = HasTaken p drawn u None × (ending ≡ Whole) × (length drawn ≡ draws (format p) p.item) × DrewNoZeros (format p).content drawn
 Answers p drawn ending u (Err (puts.Find fault)) = Refuses p.vault.root (enter (format p) u p.front) fault × (drawn ≡ [])
 Answers p drawn ending u (Err (puts.NotAllowed path)) = (path ≡ path_of p) × ForbidsName p u × (drawn ≡ [])
 Answers p drawn ending u (Err (puts.Taken at)) = (place : Path) × (at ≡ p.vault.root ++ place) × HasTaken p drawn u (Some place)
 Answers p drawn ending u (Err (puts.Damaged at fault)) = HasTaken p drawn u None × (ending ≡ Damaged at fault)
 Answers p drawn ending u (Err (puts.Limit limit)) = HasTaken p drawn u None × (ending ≡ TooLong limit)
-Answers p drawn ending u (Err puts.ZeroRandom) = DrewZeros p drawn
+Answers p drawn ending u (Err puts.ZeroRandom) = DrewZeros (format p).content drawn
 Answers p drawn ending u (Err puts.Source) = Unit {0}
 Answers p drawn ending u (Err puts.Random) = Unit {0}
 Answers p drawn ending u (Err puts.Failed) = Unit {0}
@@ -54,13 +48,13 @@ Answers p drawn ending u (Err puts.NoMemory) = Unit {0}
 
 -- the same where a file that stands is replaced: nothing is tested but the name
 abbrev pub AnswersOver : Placing → List ℕ → Ending → View → Result (Unit {0}) PutFault → Type 0
-AnswersOver p drawn ending u (Ok _) = Allows (format p) p.name × (ending ≡ Whole) × (length drawn ≡ draws (format p) p.item)
+AnswersOver p drawn ending u (Ok _) = Allows (format p) p.name × (ending ≡ Whole) × (length drawn ≡ draws (format p) p.item) × DrewNoZeros (format p).content drawn
 AnswersOver p drawn ending u (Err (puts.Find fault)) = ⊥
 AnswersOver p drawn ending u (Err (puts.NotAllowed path)) = (path ≡ path_of p) × ForbidsName p u × (drawn ≡ [])
 AnswersOver p drawn ending u (Err (puts.Taken at)) = ⊥
 AnswersOver p drawn ending u (Err (puts.Damaged at fault)) = Allows (format p) p.name × (ending ≡ Damaged at fault)
 AnswersOver p drawn ending u (Err (puts.Limit limit)) = Allows (format p) p.name × (ending ≡ TooLong limit)
-AnswersOver p drawn ending u (Err puts.ZeroRandom) = DrewZeros p drawn
+AnswersOver p drawn ending u (Err puts.ZeroRandom) = DrewZeros (format p).content drawn
 AnswersOver p drawn ending u (Err puts.Source) = Unit {0}
 AnswersOver p drawn ending u (Err puts.Random) = Unit {0}
 AnswersOver p drawn ending u (Err puts.Failed) = Unit {0}

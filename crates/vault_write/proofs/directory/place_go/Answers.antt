@@ -5,10 +5,11 @@ use Rattle.folder_spec.specs.Event.{FromTo}
 use Rattle.folder_spec.specs.Seen.{IsSeen}
 use Rattle.folder_spec.specs.View.{View}
 use Rattle.vault_spec.specs.Making.{NewDirectory}
+use Rattle.vault_spec.specs.Vault.{format_of}
 use Rattle.vault_write.specs.Editing.{Edits, HasBegun, HasFinished, GoPlaces, go_making}
 use Rattle.vault_write.specs.Slots.{placing}
 use Rattle.vault_write.proofs.Found.{side_refused}
-use Rattle.vault_write.proofs.DirectoryPlaced.{drawn_none, refused_one, go_may, go_undrawn, drew_key, failed_one, done_one}
+use Rattle.vault_write.proofs.DirectoryPlaced.{drawn_none, refused_one, go_may, go_undrawn, drew_key, failed_one, done_one, key_has_bits}
 use Rattle.vault_write.proofs.directory.place_go.Goals as goal
 
 pub returns-in_err-wants-clause-made : goal.returns-in_err-wants-clause-made
@@ -46,6 +47,6 @@ returns-clause-made g c =
     done_one c.edits_show_trees.ensures.during c.edits_show_trees.ensures.settled c.roots_show_their_own.ensures.edits (placing c.args.vault.now c.args.work.now c.args.front.now c.args.name.now NewDirectory) c.in_ok-key.key (go_making c.in_ok-wants.wants c.args.slot.now.side c.args.slot.now.at c.args.slot.now.full c.in_ok-key.key) (g.R.Randoms.left c.args.random.now) (g.R.Randoms.left c.draw_some.new.random) (g.F.Folder.told c.args.folder.now) (g.F.Folder.told c.make_go.new.folder) (go_may c.what_is_found_stands.ensures.enters c.what_is_found_stands.ensures.folder c.args.vault.now.root c.args.vault.now.vault c.requires.kind c.items_keep_vaults.ensures c.args.work.now c.args.front.now c.args.name.now c.requires.named
     (g.F.Folder.told c.args.folder.now) c.requires.may (g.met.F.Folder.sound c.args.folder.now) c.args.slot.now.at c.args.slot.now.side c.args.slot.now.full c.requires.slot c.in_ok-wants.wants c.in_ok-key.key c.in_ok-wants.ensures.wants
     (drew_key (g.R.Randoms.left c.args.random.now) (g.R.Randoms.left c.draw_some.new.random) c.in_ok-key.key c.in_ok-key.ensures.draws) c.in_ok-key.ensures.sixteen).begun
-    c.in_ok-key.ensures.drawn c.in_ok-key.ensures.sixteen
+    c.in_ok-key.ensures.drawn c.in_ok-key.ensures.sixteen (key_has_bits (format_of c.args.vault.now.vault).content c.in_ok-key.key c.in_ok-key.ensures.sixteen c.in_ok-key.ensures.some_bit)
     (subst (λ t. FromTo (Edits c.args.work.now c.args.vault.now.root (go_making c.in_ok-wants.wants c.args.slot.now.side c.args.slot.now.at c.args.slot.now.full c.in_ok-key.key)) t (g.F.Folder.told c.make_go.new.folder)) c.wants_side.ensures.told c.in_ok-make_go.ensures.made.0)
     (subst (λ t. FromTo (HasFinished c.args.work.now c.args.vault.now.root (go_making c.in_ok-wants.wants c.args.slot.now.side c.args.slot.now.at c.args.slot.now.full c.in_ok-key.key)) t (g.F.Folder.told c.make_go.new.folder)) c.wants_side.ensures.told c.in_ok-make_go.ensures.made.1)

@@ -1,5 +1,5 @@
 -- Ending a migration: that the target holds all that the source held, and what writing so in the journal does.
-use Rattle.std.proofs.Common.{◌≡◌, ◌≢◌, ℕ, List, ◌∷◌, [], length, Option, Some, None, Result, Ok, Err, IfOk, OnOk, refl, sym, ap, ◌∙◌, subst}
+use Rattle.std.proofs.Common.{◌≡◌, ◌≢◌, ℕ, List, ◌∷◌, ◌++◌, [], length, Option, Some, None, Result, Ok, Err, IfOk, OnOk, refl, sym, ap, ◌∙◌, subst}
 use Rattle.folder_spec.specs.declared.FolderFault.{FolderFault}
 use Rattle.folder_spec.specs.Event.{Told, FromTo}
 use Rattle.folder_spec.specs.Path.{Path}
@@ -28,10 +28,12 @@ use Rattle.vault_spec.specs.Format.{Format}
 use Rattle.vault_spec.specs.Opens as opens
 use Rattle.vault_spec.specs.Opens.{Opened, NoItem, Directory, Content, Broken, Tree, opened, tree}
 use Rattle.vault_spec.specs.Plan.{Planned}
-use Rattle.vault_spec.specs.Vault.{IsVault, format_of}
+use Rattle.vault_spec.specs.Vault.{IsVault, Vault, format_of}
+use Rattle.migrate_core.proofs.Keeping.{still_opens, still_seen}
 use Rattle.migrate_core.proofs.Leadings.{if_ok}
 use Rattle.migrate_core.proofs.Movings.{AreSound, moves_to, source_beside, turned_over, under_stays}
 use Rattle.migrate_core.proofs.Planned.{SeenAlone, seen_of, source_held, source_walk, walk_of}
+use Rattle.migrate_core.proofs.SameItems.{same_length}
 use Rattle.migrate_core.specs.Leading.{FinishesFrom, Goes, Leads, progress_of}
 use Rattle.vault_walk.specs.Surveyed.{IsPlanOf}
 use Rattle.migrate_core.specs.declared.placing.Done.{Done}
@@ -195,11 +197,11 @@ one_tree held_part same_part from to items others t walked walked_target same v 
 
 -- what is seen of two vaults that are left alone
 pub has_moved : HeldIsPart → SameIsPart → (from to : OpenedVault) (work : Path) (items others : List Planned) (journal : Journal) (t u : Option Told) → AreSeparate from.root to.root work → AreSound t
-    → IsJournal journal → journal.source ≡ from.root → journal.target ≡ to.root → IsWalked t from items → IsWalked t to others
+    → IsJournal journal → journal.source ≡ from.root → journal.target ≡ to.root → journal.items ≡ length items → IsWalked t from items → IsWalked t to others
     → ((v : View) → IsSeen t v → match_of v (side_of from items) (side_of to others) ≡ Is Same)
     → MovesOnly work to.root t u → MovesOnly work from.root t u → ((v : View) → IsSeen u v → StandsIn work (done_of journal) v)
     → (count : ℕ) → count ≡ length others → (v : View) → IsSeen u v → HasMoved from to work count v
-has_moved held_part same_part from to work items others journal (Some a) (Some b) separate sound is source target walked walked_target same beside_target beside_source says count counted v seen_is =
+has_moved held_part same_part from to work items others journal (Some a) (Some b) separate sound is source target told_items walked walked_target same beside_target beside_source says count counted v seen_is =
     record {
       source = subst (IsClean (format_of from.vault)) (sym from_same) (walked.clean w refl);
       target = subst (IsClean (format_of to.vault)) (sym to_same) (walked_target.clean w refl);
@@ -209,7 +211,7 @@ has_moved held_part same_part from to work items others journal (Some a) (Some b
           ∙ ap (λ x. tree (format_of from.vault) x path) (sym from_same);
       items = λ own.
           (others, subst (λ x. IsPlanOf to.root (format_of to.vault) x others) (sym to_same) (walked_target.plan w refl (subst (HasOwnFolders to.vault) to_same own)), counted);
-      says = record { journal = done_of journal; is = done_is journal is; phase = refl; source = source; target = target; stands = says v seen_is };
+      says = record { journal = done_of journal; is = done_is journal is; phase = refl; source = source; target = target; items = told_items ∙ same_length w (side_of from items) (side_of to others) (walked.ordered w refl) (walked_target.ordered w refl) (same w refl) ∙ sym counted; stands = says v seen_is };
     }
   where
     w : View
@@ -222,9 +224,9 @@ has_moved held_part same_part from to work items others journal (Some a) (Some b
     to_same : under to.root v ≡ under to.root w
     to_same = ap (under to.root) seen_is ∙ under_stays (apart_from_both work from.root) to.root a.state b.state (sound a refl) (λ rest. source_beside to.root from.root work rest (turned_over from.root to.root work separate))
         (moves_to (apart_from_both work from.root) from.root (Some a) (Some b) beside_source)
-has_moved held_part same_part from to work items others journal None None separate sound is source target walked walked_target same beside_target beside_source says count counted v seen_is = absurd seen_is
-has_moved held_part same_part from to work items others journal None (Some b) separate sound is source target walked walked_target same beside_target beside_source says count counted v seen_is = absurd beside_target
-has_moved held_part same_part from to work items others journal (Some a) None separate sound is source target walked walked_target same beside_target beside_source says count counted v seen_is = absurd seen_is
+has_moved held_part same_part from to work items others journal None None separate sound is source target told_items walked walked_target same beside_target beside_source says count counted v seen_is = absurd seen_is
+has_moved held_part same_part from to work items others journal None (Some b) separate sound is source target told_items walked walked_target same beside_target beside_source says count counted v seen_is = absurd beside_target
+has_moved held_part same_part from to work items others journal (Some a) None separate sound is source target told_items walked walked_target same beside_target beside_source says count counted v seen_is = absurd seen_is
 
 -- after it is written that all is done, that stands
 pub written_stands : (work : Path) (j : Journal) (t u : Option Told) → HasWritten work j t u → (v : View) → IsSeen u v → StandsIn work j v
@@ -236,21 +238,36 @@ written_stands work j None (Some b) written v is = absurd written
 
 -- ---- by roots and passphrases
 
+-- a vault to which only something was brought is opened as it was, where it is clean
+opened_still : (work to : Path) (pass : List ℕ) (vault : Vault) (t u : Option Told) → AreSound t → MovesOnly work to t u → ((v : View) → IsSeen t v → IsVault (under to v) pass vault)
+    → ((v : View) → IsSeen u v → IsClean (format_of vault) (under to v)) → (v : View) → IsSeen u v → IsVault (under to v) pass vault
+opened_still work to pass vault (Some a) (Some b) sound went opens clean v is =
+    still_opens (under to (seen a.state)) (under to v) pass vault
+    (λ at stands. ap (λ (w : View). w (to ++ at)) is ∙ still_seen work to at a b (sound a refl) went stands) (clean v is) (opens (seen a.state) refl)
+opened_still work to pass vault None u sound went opens clean v is = absurd (none_known u went is)
+  where
+    none_known : (u : Option Told) → MovesOnly work to None u → IsSeen u v → ⊥
+    none_known None went is = is
+    none_known (Some b) went is = went
+opened_still work to pass vault (Some a) None sound went opens clean v is = absurd is
+
 opened_is : (x : OpenedVault) (root : Path) → x.root ≡ root → x ≡ opened_in root x.vault
 opened_is x root is = ap (λ r. opened_in r x.vault) is
 
-pub tree_moved : {E : Type 0} (from to work : Path) (from_pass to_pass : List ℕ) (source target : OpenedVault) (t u : Option Told) (result : Result Done E) → source.root ≡ from → target.root ≡ to
+pub tree_moved : {E : Type 0} (from to work : Path) (from_pass to_pass : List ℕ) (source target : OpenedVault) (t u : Option Told) (result : Result Done E) → source.root ≡ from → target.root ≡ to → AreSound t → MovesOnly work to t u
     → ((v : View) → IsSeen t v → IsVault (under from v) from_pass source.vault) → ((v : View) → IsSeen t v → IsVault (under to v) to_pass target.vault)
     → Placed source target t result → Moved source target work u result → IfOk result (λ done. MovesTree from to work from_pass to_pass done t u)
-tree_moved from to work from_pass to_pass source target t u (Ok done) source_at target_at opens opens_target placed moved = record {
+tree_moved from to work from_pass to_pass source target t u (Ok done) source_at target_at sound went opens opens_target placed moved = record {
   source = source.vault;
   target = target.vault;
   opens_source = opens;
   opens_target = opens_target;
   placed = λ v is. subst (λ x. HasPlaced x (opened_in to target.vault) done.placed v) (opened_is source from source_at) (subst (λ y. HasPlaced source y done.placed v) (opened_is target to target_at) (placed v is));
   moved = λ v is. subst (λ x. HasMoved x (opened_in to target.vault) work done.items v) (opened_is source from source_at) (subst (λ y. HasMoved source y work done.items v) (opened_is target to target_at) (moved v is));
+  opens_still = opened_still work to to_pass target.vault t u sound went opens_target
+      (λ v is. subst (λ root. IsClean (format_of target.vault) (under root v)) target_at (moved v is).target);
 }
-tree_moved from to work from_pass to_pass source target t u (Err fault) source_at target_at opens opens_target placed moved = tt
+tree_moved from to work from_pass to_pass source target t u (Err fault) source_at target_at sound went opens opens_target placed moved = tt
 
 -- what is seen at first is seen where the vaults are opened
 pub moved_before : (from to work : Path) (from_pass to_pass : List ℕ) (done : Done) (t0 t u : Option Told) → ((v : View) → IsSeen t0 v → IsSeen t v) → MovesTree from to work from_pass to_pass done t u → MovesTree from to work from_pass to_pass done t0 u
@@ -261,6 +278,7 @@ moved_before from to work from_pass to_pass done t0 t u before moves = record {
   opens_target = λ v is. moves.opens_target v (before v is);
   placed = λ v is. moves.placed v (before v is);
   moved = moves.moved;
+  opens_still = moves.opens_still;
 }
 
 pub told_before : (work : Path) (from_pass to_pass : List ℕ) (done : Done) (t0 t u : Option Told) → ((v : View) → IsSeen t0 v → IsSeen t v) → (v : View) → MovesTold work from_pass to_pass done t u v → MovesTold work from_pass to_pass done t0 u v

@@ -34,7 +34,7 @@ use Rattle.vault_write.specs.Making.{Placing}
 use Rattle.vault_write.specs.Refusing.{Answers, TakesRoot}
 use Rattle.migrate_core.proofs.Causing.{stop_more}
 use Rattle.migrate_core.proofs.Planned.{FilesFit, reader_of}
-use Rattle.migrate_core.proofs.Writings.{Kept}
+use Rattle.migrate_core.proofs.Writings.{Kept, ToldContent, content_told}
 use Rattle.migrate_core.specs.Causes.{Answer, EndsSo, IsStop, StopsAt, StopsLater, StopsSeen, nothing_stops}
 use Rattle.migrate_core.specs.Copying.{Enters}
 use Rattle.migrate_core.specs.Sides.{AllowsLast, IsItemOf}
@@ -220,16 +220,7 @@ by_ending from to item v put.NoMemory node read allowed can told = tt
 
 -- a file of which the content was told
 pub file_stops : FilesFit → (from to : OpenedVault) (item : Planned) (t : Option Told) (content : List ℕ) (ending : Ending) (why : PutFault) → item.node ≡ File → why ≢ put.Source → AllowsLast (format_of to.vault) item.path → IsFileFault why
-    → IsItemOf t from item
-    → ((a : Told) → t ≡ Some a → (c : Coming) → coming_read (reader_of from item) content_limit [] (seen a.state item.at) ≡ Some c → c ≡ record { bytes = content; ending = ending })
-    → ((v : View) → IsSeen t v → Tells to item.path v ending why) → (v : View) → IsSeen t v → StopsAt (Enters to item v) from v (item ∷ []) why
-file_stops fits from to item None content ending why node read allowed can of told ends v is = absurd is
-file_stops fits from to item (Some a) content ending why node read allowed can of told ends v is =
-    let keys : Keys = (format_of from.vault).content in
-    let there : IsFileAt (seen a.state) item.at = of.walked.files (seen a.state) refl item of.among node in
-    let coming : held_before item.at [] (limited_reading keys there.0) ≡ record { bytes = content; ending = ending } =
-    told a refl (held_before item.at [] (limited_reading keys there.0)) (ap (coming_read (reader_of from item) content_limit []) there.1 ∙ fits keys item.at there.0) in
-    let found : bytes_found (v item.at) ≡ there.0 = ap (λ (w : View). bytes_found (w item.at)) is ∙ ap bytes_found there.1 in
-    let ended : ending ≡ ending_of item.at (content_at keys v item.at).ending =
-    sym (ap (λ (c : Coming). c.ending) coming) ∙ ap (λ bytes. ending_of item.at (limited_reading keys bytes).ending) (sym found) in
-    by_ending from to item v why node read allowed can (subst (λ (x : Ending). Tells to item.path v x why) ended (ends v is))
+    → IsItemOf t from item → ToldContent from item t content ending → ((v : View) → IsSeen t v → Tells to item.path v ending why) → (v : View) → IsSeen t v → StopsAt (Enters to item v) from v (item ∷ []) why
+file_stops fits from to item t content ending why node read allowed can of told ends v is =
+    by_ending from to item v why node read allowed can
+    (subst (λ (x : Ending). Tells to item.path v x why) (ap (λ (c : Coming). c.ending) (content_told fits from item t content ending node of told v is)) (ends v is))

@@ -19,20 +19,20 @@ use Rattle.folder_spec.specs.Region.{IsAsBefore, Spares, SparesOld, apart_from}
 use Rattle.folder_spec.specs.Seen.{under}
 use Rattle.folder_spec.specs.Written.{HoldFronts}
 use Rattle.folder_spec.specs.declared.FolderFault.{FolderFault}
-use Rattle.content_writing.specs.Content.{Coming, Ending, content_limit, coming_read, held_before}
+use Rattle.content_writing.specs.Content.{Coming, Ending, Whole, content_limit, coming_read, ending_of, held_before}
 use Rattle.content_writing.specs.declared.fault.PutFault.{PutFault}
 use Rattle.content_writing.specs.declared.fault.PutFault.TheVariants as put
 use Rattle.content_writing.specs.declared.fault.PutFault.TheVariants.{Taken}
 use Rattle.folder_spec.specs.declared.FolderFault.TheVariants as folder
 use Rattle.work_folder.specs.declared.fault.WorkFault.{WorkFault}
 use Rattle.work_folder.specs.declared.fault.WorkFault.TheVariants as works
-use Rattle.vault_write.specs.Refusing.{Answers, DrewZeros, HasTaken, TakesRoot}
+use Rattle.vault_write.specs.Refusing.{Answers, HasTaken}
 use Rattle.migrate_core.proofs.Leadings.{seen_then}
 use Rattle.move_journal.specs.declared.journal.JournalFault.{JournalFault}
 use Rattle.move_journal.specs.declared.journal.JournalFault.TheVariants as journals
 use Rattle.migrate_core.specs.Faults.{IsOfTest, of_folder, of_journal, of_put, of_work}
 use Rattle.migrate_core.specs.declared.fault.MoveFault.{MoveFault}
-use Rattle.migrate_core.specs.declared.fault.MoveFault.TheVariants.{Place}
+use Rattle.migrate_core.specs.declared.fault.MoveFault.TheVariants.{Work, Journal as Unread, Overlap, Load, Walk, NotEmpty, NotAllowed, Changed, Match as Matching, Differ, Place, SourceGone, Failed, NoMemory}
 use Rattle.move_journal.specs.Journal.{IsJournal, journal_text}
 use Rattle.move_journal.specs.Writing.{IsWriting, elsewhere}
 use Rattle.move_journal.specs.Writing as journal
@@ -47,7 +47,7 @@ use Rattle.vault_spec.specs.Find.{Refusal}
 use Rattle.vault_spec.specs.Findings.{IsFileAt}
 use Rattle.vault_spec.specs.Format.{Directory}
 use Rattle.vault_spec.specs.Find.{enter}
-use Rattle.vault_spec.specs.Making.{NewDirectory, NewFile, draws}
+use Rattle.vault_spec.specs.Making.{NewDirectory, NewFile, NewItem, draws}
 use Rattle.vault_spec.specs.Plan.{Planned}
 use Rattle.vault_spec.specs.Vault.{IsVault, format_of}
 use Rattle.chunk_files.specs.Keys.{Keys}
@@ -69,7 +69,7 @@ use Rattle.folder_spec.specs.Region.{apart_from_both}
 use Rattle.vault_walk.specs.Survey.{IsOrdered}
 use Rattle.move_journal.specs.declared.journal.Phase.TheVariants.{Done}
 use Rattle.migrate_core.specs.Sides.{AreSeparate, AreTold, IsItemOf, IsWalked, new_journal}
-use Rattle.migrate_core.specs.Written.{IsRefusal, IsLast, HasGone, StopsLast, WasSeen, BringsOnlyTo, IsMadePlace, IsPlaceOf, WritesBeside, AreCopies, AreFull, AreFullButLast, HoldsOnly, IsCopyOf, IsFileOf, IsFull, IsOneOf, MadeItem, MayWrite, MayWriteTold, MayWriteTree, Writes, WritesAll, WritesBy, WritesFirst, WritesLacked, WritesNothing, WritesOnly, WritesTree, journal_texts, lacked, slices}
+use Rattle.migrate_core.specs.Written.{IsRefusal, HasGone, IsOfNoItem, WasAnswered, WasSeen, WereAnswered, ending_by, ending_in, last_answer, placing_in, BringsOnlyTo, IsMadePlace, IsPlaceOf, WritesBeside, AreCopies, HoldsOnly, IsCopyOf, IsFileOf, IsOneOf, MadeItem, MayWrite, MayWriteTold, MayWriteTree, Writes, WritesAll, WritesBy, WritesFirst, WritesLacked, WritesNothing, WritesOnly, WritesTree, journal_texts, lacked, slices}
 
 -- ---- members
 
@@ -184,21 +184,6 @@ slices_on : (made others : List MadeItem) → slices (made ++ others) ≡ slices
 slices_on [] others = refl
 slices_on (x ∷ made) others = ap (λ (ys : List ℕ). x.drawn ++ ys) (slices_on made others) ∙ sym (append_assoc x.drawn (slices made) (slices others))
 
-full_on : (to : OpenedVault) (made others : List MadeItem) → AreFull to made → AreFull to others → AreFull to (made ++ others)
-full_on to [] others one other = other
-full_on to (x ∷ made) others one other = (one.0, full_on to made others one.1 other)
-
-full_before : (to : OpenedVault) (made others : List MadeItem) → AreFull to made → AreFullButLast to others → AreFullButLast to (made ++ others)
-full_before to [] others one other = other
-full_before to (x ∷ []) [] one other = omega (arith, one.0)
-full_before to (x ∷ []) (y ∷ others) one other = (one.0, other)
-full_before to (x ∷ y ∷ made) others one other = (one.0, full_before to (y ∷ made) others one.1 other)
-
-pub all_full : (to : OpenedVault) (made : List MadeItem) → AreFull to made → AreFullButLast to made
-all_full to [] full = tt
-all_full to (x ∷ []) full = omega (arith, full.0)
-all_full to (x ∷ y ∷ made) full = (full.0, all_full to (y ∷ made) full.1)
-
 -- what stands where these items are is as it was
 abbrev pub Kept : List Planned → Option Told → Option Told → Type 0
 Kept items = FromTo (λ a b. (item : Planned) → Contains items item → seen b.state item.at ≡ seen a.state item.at)
@@ -222,42 +207,43 @@ copies_before from items made (Some a) (Some b) kept later v is = copies_as from
 copies_before from items made None u kept later v is = absurd is
 copies_before from items made (Some a) None kept later v is = absurd kept
 
-known_before : (P : Type 0) (R : Told → Told → Type 0) (t u : Option Told) → FromTo R t u → ((w : View) → IsSeen u w → P) → (v : View) → IsSeen t v → P
-known_before P R (Some a) (Some b) told later v is = later (seen b.state) refl
-known_before P R None u told later v is = absurd is
-known_before P R (Some a) None told later v is = absurd told
+-- ---- what placing each came to
 
--- ---- why the last stops
+-- no item is why, unless it isn't placed
+pub is_test : (fault : MoveFault) → ((why : PutFault) → fault ≢ Place why) → IsOfTest fault
+is_test (Place why) other = other why refl
+is_test (Work fault) other = tt
+is_test (Unread fault) other = tt
+is_test (Overlap p q) other = tt
+is_test (Load side fault) other = tt
+is_test (Walk fault) other = tt
+is_test (NotEmpty at) other = tt
+is_test (NotAllowed path) other = tt
+is_test (Changed plan items plan' items') other = tt
+is_test (Matching fault) other = tt
+is_test (Differ path how) other = tt
+is_test SourceGone other = tt
+is_test Failed other = tt
+is_test NoMemory other = tt
 
-not_place : (Is : Type 0) (fault : MoveFault) → IsStop Is nothing_stops fault → (why : PutFault) → fault ≢ Place why
-not_place Is fault stops why is = subst (IsStop Is nothing_stops) is stops
+pub stop_is_test : (fault : MoveFault) (Is : Type 0) → IsStop Is nothing_stops fault → IsOfTest fault
+stop_is_test fault Is stops = is_test fault (λ why is. subst (IsStop Is nothing_stops) is stops)
 
--- of no item
-pub none_last : (to : OpenedVault) (made : List MadeItem) (t u : Option Told) (fault : MoveFault) → ((v : View) → IsSeen t v → (why : PutFault) → fault ≢ Place why) → StopsLast to made t u fault
-none_last to made t u fault none = record { zeros = λ is v seen_v. absurd (none v seen_v put.ZeroRandom is); taken = λ at is v seen_v. absurd (none v seen_v (put.Taken at) is) }
-
-pub stop_last : (to : OpenedVault) (made : List MadeItem) (t u : Option Told) (fault : MoveFault) (Is : Type 0) → IsStop Is nothing_stops fault → StopsLast to made t u fault
-stop_last to made t u fault Is stops = none_last to made t u fault (λ v seen_v. not_place Is fault stops)
-
-pub folder_last : (to : OpenedVault) (made : List MadeItem) (t u : Option Told) (fault : FolderFault) → StopsLast to made t u (of_folder fault)
-folder_last to made t u fault = none_last to made t u (of_folder fault) (λ v seen_v. by fault)
-  where
-    by : (fault : FolderFault) (why : PutFault) → of_folder fault ≢ Place why
-    by folder.Failed why is = cc is
-    by folder.Refused why is = cc is
-    by folder.NoMemory why is = cc is
-
-pub work_last : (to : OpenedVault) (made : List MadeItem) (t u : Option Told) (fault : WorkFault) → StopsLast to made t u (of_work fault)
-work_last to made t u fault = none_last to made t u (of_work fault) (λ v seen_v. by fault)
-  where
-    by : (fault : WorkFault) (why : PutFault) → of_work fault ≢ Place why
-    by (works.NoParent p) why is = cc is
-    by (works.WrongKind p) why is = cc is
-    by (works.Foreign p) why is = cc is
-    by works.Begun why is = cc is
-    by works.Depth why is = cc is
-    by works.Failed why is = cc is
-    by works.NoMemory why is = cc is
+untold : (fault : MoveFault) → IsOfTest fault → last_answer (Err fault) ≡ Err put.NoMemory
+untold (Place why) none = absurd none
+untold (Work fault) none = refl
+untold (Unread fault) none = refl
+untold (Overlap p q) none = refl
+untold (Load side fault) none = refl
+untold (Walk fault) none = refl
+untold (NotEmpty at) none = refl
+untold (NotAllowed path) none = refl
+untold (Changed plan items plan' items') none = refl
+untold (Matching fault) none = refl
+untold (Differ path how) none = refl
+untold SourceGone none = refl
+untold Failed none = refl
+untold NoMemory none = refl
 
 passed_of : (P : State → Type 0) (Q : State → Event → Type 0) (a b : Told) → Went P Q a b → HasGone a b
 passed_of P Q a b went = went_more P (λ s. Unit {0}) Q (λ s e. Unit {0}) a b (λ s h. tt) (λ s e h. tt) went
@@ -267,27 +253,86 @@ was_seen_on C P t u w v =
     from_to_on (λ a b. Went (HoldsOnly P a.state) (Calls C) a b) (λ b e. (c : Told) × HasGone b c × HasGone c e × (v ≡ seen c.state)) (λ a e. (c : Told) × HasGone a c × HasGone c e × (v ≡ seen c.state)) t u w
     (λ a b e went was. (was.0, went_on (λ s. Unit {0}) (λ s e. Unit {0}) a b was.0 (passed_of (HoldsOnly P a.state) (Calls C) a b went) was.1, was.2, was.3))
 
--- what is seen at first
-was_first : (P : State → State → Type 0) (Q : State → State → Event → Type 0) (t u : Option Told) (v : View) → FromTo (λ a b. Went (P a.state) (Q a.state) a b) t u → IsSeen t v → WasSeen t u v
-was_first P Q (Some a) (Some b) v went is = (a, went_nowhere (λ s. Unit {0}) (λ s e. Unit {0}) a tt, passed_of (P a.state) (Q a.state) a b went, is)
-was_first P Q (Some a) None v went is = absurd went
-was_first P Q None u v went is = absurd is
+was_seen_then : (C : Call → Type 0) (P : List ℕ → Type 0) (t u w : Option Told) (v : View) → WritesOnly C P u w → WasSeen t u v → WasSeen t w v
+was_seen_then C P t u w v went was =
+    from_to_on (λ a b. (c : Told) × HasGone a c × HasGone c b × (v ≡ seen c.state)) (λ b e. Went (HoldsOnly P b.state) (Calls C) b e) (λ a e. (c : Told) × HasGone a c × HasGone c e × (v ≡ seen c.state)) t u w
+    (λ a b e was went. (was.0, was.1, went_on (λ s. Unit {0}) (λ s e. Unit {0}) was.0 b e was.2 (passed_of (HoldsOnly P b.state) (Calls C) b e went), was.3)) was went
 
--- behind others
-last_on : (C : Call → Type 0) (P : List ℕ → Type 0) (to : OpenedVault) (made others : List MadeItem) (t u w : Option Told) (fault : MoveFault) → WritesOnly C P t u → StopsLast to others u w fault → StopsLast to (made ++ others) t w fault
-last_on C P to made others t u w fault before h = record {
-  zeros = λ is v seen_v.
-      let then_ = seen_then (λ a b. Went (HoldsOnly P a.state) (Calls C) a b) t u before v seen_v in
-      let z = h.zeros is then_.0 then_.1 in
-      (z.0, is_last z.0 z.1, z.2);
-  taken = λ at is v seen_v.
-      let then_ = seen_then (λ a b. Went (HoldsOnly P a.state) (Calls C) a b) t u before v seen_v in
-      let z = h.taken at is then_.0 then_.1 in
-      (z.0, z.1, is_last z.0 z.2, was_seen_on C P t u w z.1 before z.3, z.4);
-}
-  where
-    is_last : (x : MadeItem) → IsLast others x → IsLast (made ++ others) x
-    is_last x last = (made ++ last.0, ap (λ (ys : List MadeItem). made ++ ys) last.1 ∙ sym (append_assoc made last.0 (x ∷ [])))
+-- what is seen at first
+was_first : (C : Call → Type 0) (P : List ℕ → Type 0) (t u : Option Told) (v : View) → WritesOnly C P t u → IsSeen t v → WasSeen t u v
+was_first C P (Some a) (Some b) v went is = (a, went_nowhere (λ s. Unit {0}) (λ s e. Unit {0}) a tt, passed_of (HoldsOnly P a.state) (Calls C) a b went, is)
+was_first C P (Some a) None v went is = absurd went
+was_first C P None u v went is = absurd is
+
+-- of which the item tells nothing
+answered_test : (from to : OpenedVault) (t u : Option Told) (v : View) (item : Planned) (x : MadeItem) (answer : Result (Unit {0}) MoveFault) → IsOfNoItem answer → WasAnswered from to t u v item x (Ok tt)
+    → WasAnswered from to t u v item x (last_answer answer)
+answered_test from to t u v item x (Ok value) test was = was
+answered_test from to t u v item x (Err fault) test was =
+    subst (WasAnswered from to t u v item x) (sym (untold fault test))
+    (record { enough = was.enough; moment = was.moment; seen = was.seen; named = λ front name is. tt; root = λ is other. refl })
+
+pub answered_tests : (from to : OpenedVault) (t u : Option Told) (v : View) (items : List Planned) (made : List MadeItem) (answer : Result (Unit {0}) MoveFault) → IsOfNoItem answer → WereAnswered from to t u v items made (Ok tt)
+    → WereAnswered from to t u v items made answer
+answered_tests from to t u v [] [] answer test were = test
+answered_tests from to t u v (item ∷ []) (x ∷ []) answer test were = answered_test from to t u v item x answer test were
+answered_tests from to t u v (item ∷ next ∷ items) (x ∷ made) answer test were = (were.0, answered_tests from to t u v (next ∷ items) made answer test were.1)
+answered_tests from to t u v (item ∷ []) (x ∷ y ∷ made) answer test were = absurd were
+answered_tests from to t u v (item ∷ []) [] answer test were = absurd were
+answered_tests from to t u v (item ∷ next ∷ items) [] answer test were = absurd were
+answered_tests from to t u v [] (x ∷ made) answer test were = absurd were
+
+-- one after another
+answered_on : (from to : OpenedVault) (t u : Option Told) (v : View) (items more : List Planned) (made others : List MadeItem) (answer : Result (Unit {0}) MoveFault) → WereAnswered from to t u v items made (Ok tt) → WereAnswered from to t u v more others answer
+    → WereAnswered from to t u v (items ++ more) (made ++ others) answer
+answered_on from to t u v [] more [] others answer one other = other
+answered_on from to t u v (item ∷ []) [] (x ∷ []) [] answer one other = answered_test from to t u v item x answer other one
+answered_on from to t u v (item ∷ []) (next ∷ more) (x ∷ []) others answer one other = (one, other)
+answered_on from to t u v (item ∷ next ∷ items) more (x ∷ made) others answer one other = (one.0, answered_on from to t u v (next ∷ items) more made others answer one.1 other)
+answered_on from to t u v (item ∷ []) [] (x ∷ []) (y ∷ others) answer one other = absurd other
+answered_on from to t u v (item ∷ []) more (x ∷ y ∷ made) others answer one other = absurd one
+answered_on from to t u v (item ∷ []) more [] others answer one other = absurd one
+answered_on from to t u v (item ∷ next ∷ items) more [] others answer one other = absurd one
+answered_on from to t u v [] more (x ∷ made) others answer one other = absurd one
+
+-- what is so of each is so of all
+answered_each : (from to : OpenedVault) (t u t' u' : Option Told) (v w : View) (items : List Planned) (made : List MadeItem) (answer : Result (Unit {0}) MoveFault)
+    → ((item : Planned) → Contains items item → (x : MadeItem) (given : Result (Unit {0}) PutFault) → WasAnswered from to t u w item x given → WasAnswered from to t' u' v item x given)
+    → WereAnswered from to t u w items made answer → WereAnswered from to t' u' v items made answer
+answered_each from to t u t' u' v w [] [] answer each were = were
+answered_each from to t u t' u' v w (item ∷ []) (x ∷ []) answer each were = each item (zero, omega arith, refl) x (last_answer answer) were
+answered_each from to t u t' u' v w (item ∷ next ∷ items) (x ∷ made) answer each were = (
+  each item (zero, omega arith, refl) x (Ok tt) were.0,
+  answered_each from to t u t' u' v w (next ∷ items) made answer (λ other among. each other (suc among.0, omega (arith, among.1), among.2)) were.1,
+)
+answered_each from to t u t' u' v w (item ∷ []) (x ∷ y ∷ made) answer each were = absurd were
+answered_each from to t u t' u' v w (item ∷ []) [] answer each were = absurd were
+answered_each from to t u t' u' v w (item ∷ next ∷ items) [] answer each were = absurd were
+answered_each from to t u t' u' v w [] (x ∷ made) answer each were = absurd were
+
+-- before other calls
+pub answered_then : (C : Call → Type 0) (P : List ℕ → Type 0) (from to : OpenedVault) (t u w : Option Told) (v : View) (items : List Planned) (made : List MadeItem) (answer : Result (Unit {0}) MoveFault) → WritesOnly C P u w
+    → WereAnswered from to t u v items made answer → WereAnswered from to t w v items made answer
+answered_then C P from to t u w v items made answer went =
+    answered_each from to t u t w v v items made answer
+    (λ item among x given was. record { enough = was.enough; moment = was.moment; seen = was_seen_then C P t u w was.moment went was.seen; named = was.named; root = was.root })
+
+-- and behind them, where what stands where these items are stays
+answered_behind : (C : Call → Type 0) (P : List ℕ → Type 0) (from to : OpenedVault) (t u w : Option Told) (items : List Planned) (made : List MadeItem) (answer : Result (Unit {0}) MoveFault) → WritesOnly C P t u → Kept items t u
+    → ((v : View) → IsSeen u v → WereAnswered from to u w v items made answer) → (v : View) → IsSeen t v → WereAnswered from to t w v items made answer
+answered_behind C P from to (Some a) (Some b) w items made answer went kept later v is =
+    answered_each from to (Some b) w (Some a) w v (seen b.state) items made answer
+    (λ item among x given was. record {
+      enough = was.enough;
+      moment = was.moment;
+      seen = was_seen_on C P (Some a) (Some b) w was.moment went was.seen;
+      named = λ front name named. subst (λ ending. Answers (placing_in to front name x.item) x.drawn ending (under to.root was.moment) given)
+          (ap (λ (found : Found). ending_by item.node (ending_of item.at (limited_reading (format_of from.vault).content (bytes_found found)).ending)) (kept item among ∙ sym (ap (λ (z : View). z item.at) is)))
+          (was.named front name named);
+      root = was.root;
+    }) (later (seen b.state) refl)
+answered_behind C P from to None u w items made answer went kept later v is = absurd is
+answered_behind C P from to (Some a) None w items made answer went kept later v is = absurd kept
 
 -- ---- one part after another
 
@@ -295,10 +340,13 @@ abbrev pub Compose : Type 0
 Compose = (first second third : Option ByteStream) (xs ys : List ℕ) → Draws first second xs → Draws second third ys → Draws first third (xs ++ ys)
 
 module _ (compose : Compose) (from to : OpenedVault) (items more : List Planned) (texts others : List (List ℕ)) (s s1 s2 : Option ByteStream) (t u w : Option Told) where
-  writes_on : (m n : List MadeItem) → Kept more t u → Writes from to items m texts s s1 t u → Writes from to more n others s1 s2 u w → Writes from to (items ++ more) (m ++ n) (texts ++ others) s s2 t w
-  writes_on m n kept one other = record {
+  writes_on : (answer : Result (Unit {0}) MoveFault) (m n : List MadeItem) → Kept more t u → Writes (Ok tt) from to items m texts s s1 t u → Writes answer from to more n others s1 s2 u w → Writes answer from to (items ++ more) (m ++ n) (texts ++ others) s s2 t w
+  writes_on answer m n kept one other = record {
     drawn = subst (Draws s s2) (sym (slices_on m n)) (compose s s1 s2 (slices m) (slices n) one.drawn other.drawn);
     copies = λ v is. copies_on from v items more m n (one.copies v is) (copies_before from more n t u kept other.copies v is);
+    answered = λ v is. answered_on from to t w v items more m n answer
+        (answered_then (BringsOnlyTo to.root (IsMadePlace to n)) (IsOneOf to n others) from to t u w v items m (Ok tt) other.files (one.answered v is))
+        (answered_behind (BringsOnlyTo to.root (IsMadePlace to m)) (IsOneOf to m texts) from to t u w more n answer one.files kept other.answered v is);
     files = only_on (BringsOnlyTo to.root (IsMadePlace to m)) (BringsOnlyTo to.root (IsMadePlace to n)) (BringsOnlyTo to.root (IsMadePlace to (m ++ n)))
         (IsOneOf to m texts) (IsOneOf to n others) (IsOneOf to (m ++ n) (texts ++ others))
         (brings_more to.root (IsMadePlace to m) (IsMadePlace to (m ++ n)) (λ at is. (is.0, in_first m n is.0 is.1, is.2)))
@@ -310,8 +358,7 @@ module _ (compose : Compose) (from to : OpenedVault) (items more : List Planned)
   pub all_on : Kept more t u → WritesAll from to items texts s s1 t u → WritesAll from to more others s1 s2 u w → WritesAll from to (items ++ more) (texts ++ others) s s2 t w
   all_on kept one other = record {
     made = one.made ++ other.made;
-    writes = writes_on one.made other.made kept one.writes other.writes;
-    full = λ v is. full_on to one.made other.made (one.full v is) (known_before (AreFull to other.made) _ t u one.writes.files other.full v is);
+    writes = writes_on (Ok tt) one.made other.made kept one.writes other.writes;
   }
 
 module _ (compose : Compose) (from to : OpenedVault) (items more : List Planned) (texts others : List (List ℕ)) (s s1 s2 : Option ByteStream) (t u w : Option Told) where
@@ -321,10 +368,8 @@ module _ (compose : Compose) (from to : OpenedVault) (items more : List Planned)
     first = items ++ other.first;
     rest = other.rest;
     are = ap (λ (xs : List Planned). items ++ xs) other.are ∙ sym (append_assoc items other.first other.rest);
-    writes = writes_on compose from to items other.first texts others s s1 s2 t u w one.made other.made
+    writes = writes_on compose from to items other.first texts others s s1 s2 t u w (Err fault) one.made other.made
         (from_to_more _ _ t u (λ a b is kept item among. kept item (subst (λ (xs : List Planned). Contains xs item) (sym other.are) (in_first other.first other.rest item among))) kept) one.writes other.writes;
-    full = λ v is. full_before to one.made other.made (one.full v is) (known_before (AreFullButLast to other.made) _ t u one.writes.files other.full v is);
-    last = last_on (BringsOnlyTo to.root (IsMadePlace to one.made)) (IsOneOf to one.made texts) to one.made other.made t u w fault one.writes.files other.last;
   }
 
 -- what comes nowhere in the target comes to places of items
@@ -332,8 +377,19 @@ beside_made : (to : OpenedVault) (made : List MadeItem) (P R : List ℕ → Type
 beside_made to made P R more = only_more (BringsOnlyTo to.root (λ at. ⊥)) (BringsOnlyTo to.root (IsMadePlace to made)) P R (brings_more to.root (λ at. ⊥) (IsMadePlace to made) (λ at none. absurd none)) more
 
 module _ (from to : OpenedVault) (items : List Planned) (texts : List (List ℕ)) (s s' : Option ByteStream) (t t' : Option Told) where
-  pub first_of_all : (fault : MoveFault) → ((v : View) → IsSeen t v → (why : PutFault) → fault ≢ Place why) → WritesAll from to items texts s s' t t' → WritesFirst fault from to items texts s s' t t'
-  first_of_all fault other all = record { last = none_last to all.made t t' fault other; made = all.made; first = items; rest = []; are = sym (append-nil items); writes = all.writes; full = λ v is. all_full to all.made (all.full v is) }
+  pub first_of_all : (fault : MoveFault) → ((v : View) → IsSeen t v → IsOfTest fault) → WritesAll from to items texts s s' t t' → WritesFirst fault from to items texts s s' t t'
+  first_of_all fault test all = record {
+    made = all.made;
+    first = items;
+    rest = [];
+    are = sym (append-nil items);
+    writes = record {
+      drawn = all.writes.drawn;
+      copies = all.writes.copies;
+      answered = λ v is. answered_tests from to t t' v items all.made (Err fault) (test v is) (all.writes.answered v is);
+      files = all.writes.files;
+    };
+  }
 
   pub first_of_more : (more : List Planned) (fault : MoveFault) → WritesFirst fault from to items texts s s' t t' → WritesFirst fault from to (items ++ more) texts s s' t t'
   first_of_more more fault some = record {
@@ -342,16 +398,13 @@ module _ (from to : OpenedVault) (items : List Planned) (texts : List (List ℕ)
     rest = some.rest ++ more;
     are = ap (λ (xs : List Planned). xs ++ more) some.are ∙ append_assoc some.first some.rest more;
     writes = some.writes;
-    full = some.full;
-    last = some.last;
   }
 
   -- no item, and only a text
   pub texts_alone : Draws s s' [] → WritesBeside to.root (λ file. Contains texts file) t t' → WritesAll from to [] texts s s' t t'
   texts_alone undrawn files = record {
     made = [];
-    writes = record { drawn = undrawn; copies = λ v is. tt; files = beside_made to [] (λ file. Contains texts file) (IsOneOf to [] texts) (λ file text. inl text) t t' files };
-    full = λ v is. tt;
+    writes = record { drawn = undrawn; copies = λ v is. tt; answered = λ v is. tt; files = beside_made to [] (λ file. Contains texts file) (IsOneOf to [] texts) (λ file text. inl text) t t' files };
   }
 
 -- ---- the items that are lacked
@@ -384,19 +437,17 @@ making_writes p ending drawn s0 s making = record {
 }
 
 -- what a call makes of one item
-pub record MakesItem (to : OpenedVault) (x : MadeItem) (t u : Option Told) (result : Result (Unit {0}) PutFault) : Type 0 where
+pub record MakesItem (to : OpenedVault) (x : MadeItem) (t u : Option Told) : Type 0 where
   pub files : WritesOnly (BringsOnlyTo to.root (IsPlaceOf to x)) (IsFileOf to x) t u
   pub enough : length x.drawn ≤ draws (format_of to.vault) x.item
-  pub full : OnOk result ((v : View) → IsSeen t v → IsFull to x)
 
-pub item_made : (to : OpenedVault) (work : Path) → AreApart to.root work → (x : MadeItem) (ending : Ending) (t u : Option Told) (result : Result (Unit {0}) PutFault) → MakesAt New to work x.path x.item ending x.drawn t u result → MakesItem to x t u result
+pub item_made : (to : OpenedVault) (work : Path) → AreApart to.root work → (x : MadeItem) (ending : Ending) (t u : Option Told) (result : Result (Unit {0}) PutFault) → MakesAt New to work x.path x.item ending x.drawn t u result → MakesItem to x t u
 item_made to work apart x ending t u result made = elim (base_or_child x.path) [
   | inl root ↦
       let none = made.root root in
       record {
         files = only_nowhere (BringsOnlyTo to.root (IsPlaceOf to x)) (IsFileOf to x) t u none.0;
         enough = omega (arith, ap (λ (ys : List ℕ). length ys) none.1);
-        full = no_answer ((v : View) → IsSeen t v → IsFull to x) (Taken to.root) result none.2;
       }
   | inr named ↦
       let p : Placing = record { vault = to; work = work; front = named.0; name = named.1; item = x.item } in
@@ -411,77 +462,55 @@ item_made to work apart x ending t u result made = elim (base_or_child x.path) [
             (λ s e h. places_bring to.root work apart (making_at p (new_item p x.drawn) a.state) (IsPlaceOf to x)
             (λ at place. subst (λ path. IsPlaceOf to (record { path = path; item = x.item; drawn = x.drawn }) at) (sym named.2) (places_among p x.drawn (under to.root (seen a.state)) at place)) s e.call h) went) one.makes.moments;
         enough = one.enough;
-        full = by result one;
       }
 ]
-  where
-    by : {p : Placing} → (result : Result (Unit {0}) PutFault) → MakesOne New p ending x.drawn t u result → OnOk result ((v : View) → IsSeen t v → length x.drawn ≡ draws (format p) p.item)
-    by (Ok value) one = λ v is. (one.answer v is).2
-    by (Err fault) one = tt
 
--- why it stops
-put_is : (why other : PutFault) → of_put why ≡ Place other → why ≡ other
-put_is (put.Find fault) other is = cc is
-put_is (put.NotAllowed path) other is = cc is
-put_is (put.Taken at) other is = cc is
-put_is (put.Damaged at fault) other is = cc is
-put_is (put.Limit which) other is = cc is
-put_is put.ZeroRandom other is = cc is
-put_is put.Source other is = cc is
-put_is put.Random other is = cc is
-put_is put.Failed other is = cc is
-put_is put.NoMemory other is = cc is
+-- from whichever work folder
+taken_from : (to : OpenedVault) (work : Path) (front : plain.Path) (name : List ℕ) (item : NewItem) (drawn : List ℕ) (u : View) (place : Option Path)
+    → HasTaken (record { vault = to; work = work; front = front; name = name; item = item }) drawn u place → HasTaken (placing_in to front name item) drawn u place
+taken_from to work front name item drawn u place h = record { dir = h.dir; there = record { entered = h.there.entered; allowed = h.there.allowed }; is = h.is }
 
-abbrev Given : PutFault → Result (Unit {0}) PutFault
-Given why = Err why
+answers_from : (to : OpenedVault) (work : Path) (front : plain.Path) (name : List ℕ) (item : NewItem) (drawn : List ℕ) (ending : Ending) (u : View) (result : Result (Unit {0}) PutFault)
+    → Answers (record { vault = to; work = work; front = front; name = name; item = item }) drawn ending u result → Answers (placing_in to front name item) drawn ending u result
+answers_from to work front name item drawn ending u (Ok value) h = (taken_from to work front name item drawn u None h.0, h.1, h.2, h.3)
+answers_from to work front name item drawn ending u (Err (put.Find fault)) h = h
+answers_from to work front name item drawn ending u (Err (put.NotAllowed path)) h = (h.0, record { dir = h.1.dir; entered = h.1.entered; forbidden = h.1.forbidden }, h.2)
+answers_from to work front name item drawn ending u (Err (put.Taken at)) h = (h.0, h.1, taken_from to work front name item drawn u (Some h.0) h.2)
+answers_from to work front name item drawn ending u (Err (put.Damaged at fault)) h = (taken_from to work front name item drawn u None h.0, h.1)
+answers_from to work front name item drawn ending u (Err (put.Limit limit)) h = (taken_from to work front name item drawn u None h.0, h.1)
+answers_from to work front name item drawn ending u (Err put.ZeroRandom) h = h
+answers_from to work front name item drawn ending u (Err put.Source) h = tt
+answers_from to work front name item drawn ending u (Err put.Random) h = tt
+answers_from to work front name item drawn ending u (Err put.Failed) h = tt
+answers_from to work front name item drawn ending u (Err put.NoMemory) h = tt
 
-pub item_stops : (to : OpenedVault) (work : Path) (x : MadeItem) (ending : Ending) (t u : Option Told) (why : PutFault) → MakesAt New to work x.path x.item ending x.drawn t u (Err why) → StopsLast to (x ∷ []) t u (of_put why)
-item_stops to work x ending t u why made = elim (base_or_child x.path) [
-  | inl root ↦ root_stops root (made.root root)
-  | inr named ↦ named_stops named.0 named.1 named.2 (made.named named.0 named.1 named.2)
-]
-  where
-    placing : plain.Path → List ℕ → Placing
-    placing front name = record { vault = to; work = work; front = front; name = name; item = x.item }
+-- its content ends so in the source
+abbrev pub EndsIn : OpenedVault → Planned → Option Told → Ending → Type 0
+EndsIn from item t ending = (v : View) → IsSeen t v → ending ≡ ending_in from v item
 
-    root_stops : x.path ≡ [] → (u ≡ t) × (x.drawn ≡ []) × TakesRoot to.root (Err why) → StopsLast to (x ∷ []) t u (of_put why)
-    root_stops root h = record {
-      zeros = λ is v seen_v. let never : Given put.ZeroRandom ≡ Err put.NoMemory = subst (λ y. TakesRoot to.root (Given y)) (put_is why put.ZeroRandom is) h.2 (λ e. cc e) in cc never;
-      taken = λ at is v seen_v.
-          let takes : TakesRoot to.root (Given (put.Taken at)) = subst (λ y. TakesRoot to.root (Given y)) (put_is why (put.Taken at) is) h.2 in (
-            x,
-            v,
-            ([], refl),
-            was_first (λ s0. HoldsOnly (λ file. ⊥) s0) (λ s0. Calls (λ call. Unit {0})) t u v (only_nowhere (λ call. Unit {0}) (λ file. ⊥) t u h.0) seen_v,
-            inr (
-              root,
-              elim (one_or_not at to.root) [
-                | inl same ↦ same
-                | inr other ↦ (let never : Given (put.Taken at) ≡ Err put.NoMemory = takes (λ e. other.0 (taken_is e)) in cc never)
-              ],
-            ),
-          );
-    }
-      where
-        taken_is : {p q : Path} → Given (put.Taken p) ≡ Given (put.Taken q) → p ≡ q
-        taken_is e = cc e
+pub item_answered : (from to : OpenedVault) (work : Path) (item : Planned) (x : MadeItem) (ending : Ending) (t u : Option Told) (result : Result (Unit {0}) PutFault) → MakesItem to x t u → EndsIn from item t ending
+    → MakesAt New to work x.path x.item ending x.drawn t u result → (v : View) → IsSeen t v → WasAnswered from to t u v item x result
+item_answered from to work item x ending t u result makes ends made v is = record {
+  enough = makes.enough;
+  moment = v;
+  seen = was_first (BringsOnlyTo to.root (IsPlaceOf to x)) (IsFileOf to x) t u v makes.files is;
+  named = λ front name named. subst (λ e. Answers (placing_in to front name x.item) x.drawn e (under to.root v) result) (ends v is)
+      (answers_from to work front name x.item x.drawn ending (under to.root v) result ((made.named front name named).answer v is));
+  root = λ root. (made.root root).2;
+}
 
-    named_stops : (front : plain.Path) (name : List ℕ) → x.path ≡ front ++ name ∷ [] → MakesOne New (placing front name) ending x.drawn t u (Err why) → StopsLast to (x ∷ []) t u (of_put why)
-    named_stops front name at_path one =
-        let p : Placing = placing front name in
-        record {
-          zeros = λ is v seen_v.
-              let z : DrewZeros p x.drawn = subst (λ y. Answers p x.drawn ending (under to.root v) (Err y)) (put_is why put.ZeroRandom is) (one.answer v seen_v) in
-              (x, ([], refl), record { refused = z.refused; before = z.before; zeros = z.zeros });
-          taken = λ at is v seen_v.
-              let h : (place : Path) × (at ≡ to.root ++ place) × HasTaken p x.drawn (under to.root v) (Some place) = subst (λ y. Answers p x.drawn ending (under to.root v) (Err y)) (put_is why (put.Taken at) is) (one.answer v seen_v) in (
-                x,
-                v,
-                ([], refl),
-                was_first (λ s0. IsMaking p ending (making_at p (new_item p x.drawn) s0) s0) (λ s0 s e. StagesOrPlaces work (making_at p (new_item p x.drawn) s0) s e.call) t u v one.makes.moments seen_v,
-                inl (record { front = front; name = name; dir = h.2.dir; place = h.0; is = at_path; entered = h.2.there.entered; taken = h.2.is; there = h.1 }),
-              );
-        }
+-- as a migration tells it
+told_as : (from to : OpenedVault) (t u : Option Told) (v : View) (item : Planned) (x : MadeItem) (why : PutFault) → WasAnswered from to t u v item x (Err why) → WasAnswered from to t u v item x (last_answer (Err (of_put why)))
+told_as from to t u v item x (put.Find fault) was = was
+told_as from to t u v item x (put.NotAllowed path) was = was
+told_as from to t u v item x (put.Taken at) was = was
+told_as from to t u v item x (put.Damaged at fault) was = was
+told_as from to t u v item x (put.Limit which) was = was
+told_as from to t u v item x put.ZeroRandom was = was
+told_as from to t u v item x put.Source was = was
+told_as from to t u v item x put.Random was = was
+told_as from to t u v item x put.Failed was = record { enough = was.enough; moment = was.moment; seen = was.seen; named = λ front name is. tt; root = λ is other. refl }
+told_as from to t u v item x put.NoMemory was = was
 
 -- it is the item of the source
 abbrev pub IsCopy : OpenedVault → Planned → Option Told → MadeItem → Type 0
@@ -490,30 +519,34 @@ IsCopy from item t x = (v : View) → IsSeen t v → IsCopyOf from v item x
 one_slice : (x : MadeItem) → x.drawn ≡ slices (x ∷ [])
 one_slice x = sym (append-nil x.drawn)
 
-writes_one : (from to : OpenedVault) (item : Planned) (x : MadeItem) (s s' : Option ByteStream) (t u : Option Told) → Draws s s' x.drawn → IsCopy from item t x → WritesOnly (BringsOnlyTo to.root (IsPlaceOf to x)) (IsFileOf to x) t u
-    → Writes from to (item ∷ []) (x ∷ []) [] s s' t u
-writes_one from to item x s s' t u drawn copy files = record {
+writes_one : (answer : Result (Unit {0}) MoveFault) (from to : OpenedVault) (item : Planned) (x : MadeItem) (s s' : Option ByteStream) (t u : Option Told) → Draws s s' x.drawn → IsCopy from item t x → MakesItem to x t u
+    → ((v : View) → IsSeen t v → WasAnswered from to t u v item x (last_answer answer)) → Writes answer from to (item ∷ []) (x ∷ []) [] s s' t u
+writes_one answer from to item x s s' t u drawn copy makes answered = record {
   drawn = subst (Draws s s') (one_slice x) drawn;
   copies = λ v is. (copy v is, tt);
+  answered = answered;
   files = only_more (BringsOnlyTo to.root (IsPlaceOf to x)) (BringsOnlyTo to.root (IsMadePlace to (x ∷ []))) (IsFileOf to x) (IsOneOf to (x ∷ []) [])
-      (brings_more to.root (IsPlaceOf to x) (IsMadePlace to (x ∷ [])) (λ at is. (x, (zero, omega arith, refl), is))) (λ file h. inr (x, (zero, omega arith, refl), h)) t u files;
+      (brings_more to.root (IsPlaceOf to x) (IsMadePlace to (x ∷ [])) (λ at is. (x, (zero, omega arith, refl), is))) (λ file h. inr (x, (zero, omega arith, refl), h)) t u makes.files;
 }
 
-pub one_written : (from to : OpenedVault) (item : Planned) (x : MadeItem) (s s' : Option ByteStream) (t u : Option Told) → Draws s s' x.drawn → IsCopy from item t x → MakesItem to x t u (Ok tt)
-    → WritesAll from to (item ∷ []) [] s s' t u
-one_written from to item x s s' t u drawn copy makes = record { made = x ∷ []; writes = writes_one from to item x s s' t u drawn copy makes.files; full = λ v is. (makes.full v is, tt) }
+module _ (from to : OpenedVault) (work : Path) (apart : AreApart to.root work) (item : Planned) (x : MadeItem) (ending : Ending) (s s' : Option ByteStream) (t u : Option Told) (drawn : Draws s s' x.drawn) (copy : IsCopy from item t x)
+    (ends : EndsIn from item t ending) where
+  pub one_written : MakesAt New to work x.path x.item ending x.drawn t u (Ok tt) → WritesAll from to (item ∷ []) [] s s' t u
+  one_written made =
+      let makes : MakesItem to x t u = item_made to work apart x ending t u (Ok tt) made in
+      record { made = x ∷ []; writes = writes_one (Ok tt) from to item x s s' t u drawn copy makes (item_answered from to work item x ending t u (Ok tt) makes ends made) }
 
-pub one_begun : (from to : OpenedVault) (item : Planned) (x : MadeItem) (s s' : Option ByteStream) (t u : Option Told) (why : PutFault) → Draws s s' x.drawn → IsCopy from item t x → MakesItem to x t u (Err why)
-    → StopsLast to (x ∷ []) t u (of_put why) → WritesFirst (of_put why) from to (item ∷ []) [] s s' t u
-one_begun from to item x s s' t u why drawn copy makes last = record {
-  last = last;
-  made = x ∷ [];
-  first = item ∷ [];
-  rest = [];
-  are = refl;
-  writes = writes_one from to item x s s' t u drawn copy makes.files;
-  full = λ v is. makes.enough;
-}
+  pub one_begun : (why : PutFault) → MakesAt New to work x.path x.item ending x.drawn t u (Err why) → WritesFirst (of_put why) from to (item ∷ []) [] s s' t u
+  one_begun why made =
+      let makes : MakesItem to x t u = item_made to work apart x ending t u (Err why) made in
+      record {
+        made = x ∷ [];
+        first = item ∷ [];
+        rest = [];
+        are = refl;
+        writes = writes_one (Err (of_put why)) from to item x s s' t u drawn copy makes
+            (λ v is. told_as from to t u v item x why (item_answered from to work item x ending t u (Err why) makes ends made v is));
+      }
 
 pub directory_copy : (from : OpenedVault) (item : Planned) (t : Option Told) (path : plain.Path) (drawn : List ℕ) → path ≡ item.path → item.node ≡ Dir → IsCopy from item t (record { path = path; item = NewDirectory; drawn = drawn })
 directory_copy from item t path drawn at node v is = record { path = at; directory = λ dir. refl; file = λ file. absurd (other (sym node ∙ file)) }
@@ -521,35 +554,39 @@ directory_copy from item t path drawn at node v is = record { path = at; directo
     other : Dir ≡ File → ⊥
     other e = cc e
 
-some_coming : {c d : Coming} → Some c ≡ Some d → c ≡ d
-some_coming e = cc e
+pub directory_ends : (from : OpenedVault) (item : Planned) (t : Option Told) → item.node ≡ Dir → EndsIn from item t Whole
+directory_ends from item t node v is = ap (λ node. ending_by node (ending_of item.at (content_at (format_of from.vault).content v item.at).ending)) (sym node)
 
 -- the content that was written is what the source's file gives
-pub file_copy : FilesFit → (from : OpenedVault) (item : Planned) (t : Option Told) (path : plain.Path) (content drawn : List ℕ) (ending : Ending) → path ≡ item.path → item.node ≡ File → IsItemOf t from item
-    → ((a : Told) → t ≡ Some a → (c : Coming) → coming_read (reader_of from item) content_limit [] (seen a.state item.at) ≡ Some c → c ≡ record { bytes = content; ending = ending })
+abbrev pub ToldContent : OpenedVault → Planned → Option Told → List ℕ → Ending → Type 0
+ToldContent from item t content ending = (a : Told) → t ≡ Some a → (c : Coming) → coming_read (reader_of from item) content_limit [] (seen a.state item.at) ≡ Some c → c ≡ record { bytes = content; ending = ending }
+
+pub content_told : FilesFit → (from : OpenedVault) (item : Planned) (t : Option Told) (content : List ℕ) (ending : Ending) → item.node ≡ File → IsItemOf t from item → ToldContent from item t content ending
+    → (v : View) → IsSeen t v → record { bytes = content; ending = ending } ≡ held_before item.at [] (limited_reading (format_of from.vault).content (bytes_found (v item.at)))
+content_told fits from item None content ending node of told v is = absurd is
+content_told fits from item (Some a) content ending node of told v is =
+    let keys : Keys = (format_of from.vault).content in
+    let there : IsFileAt (seen a.state) item.at = of.walked.files (seen a.state) refl item of.among node in
+    let coming : held_before item.at [] (limited_reading keys there.0) ≡ record { bytes = content; ending = ending } =
+    told a refl (held_before item.at [] (limited_reading keys there.0)) (ap (coming_read (reader_of from item) content_limit []) there.1 ∙ fits keys item.at there.0) in
+    let found : bytes_found (v item.at) ≡ there.0 = ap (λ (w : View). bytes_found (w item.at)) is ∙ ap bytes_found there.1 in
+    sym coming ∙ ap (λ (bytes : List ℕ). held_before item.at [] (limited_reading keys bytes)) (sym found)
+
+pub file_copy : FilesFit → (from : OpenedVault) (item : Planned) (t : Option Told) (path : plain.Path) (content drawn : List ℕ) (ending : Ending) → path ≡ item.path → item.node ≡ File → IsItemOf t from item → ToldContent from item t content ending
     → IsCopy from item t (record { path = path; item = NewFile content; drawn = drawn })
 file_copy fits from item t path content drawn ending at node of told v is = record {
   path = at;
   directory = λ dir. absurd (other (sym node ∙ dir));
-  file = λ file. ap NewFile (by t of told is);
+  file = λ file. ap (λ (c : Coming). NewFile c.bytes) (content_told fits from item t content ending node of told v is);
 }
   where
     other : File ≡ Dir → ⊥
     other e = cc e
 
-    keys : Keys
-    keys = (format_of from.vault).content
-
-    by : (t : Option Told) → IsItemOf t from item
-        → ((a : Told) → t ≡ Some a → (c : Coming) → coming_read (reader_of from item) content_limit [] (seen a.state item.at) ≡ Some c → c ≡ record { bytes = content; ending = ending })
-        → IsSeen t v → content ≡ (content_at keys v item.at).bytes
-    by None of told is = absurd is
-    by (Some a) of told is =
-        let there : IsFileAt (seen a.state) item.at = of.walked.files (seen a.state) refl item of.among node in
-        let coming : held_before item.at [] (limited_reading keys there.0) ≡ record { bytes = content; ending = ending } =
-        told a refl (held_before item.at [] (limited_reading keys there.0)) (ap (coming_read (reader_of from item) content_limit []) there.1 ∙ fits keys item.at there.0) in
-        sym (ap (λ (c : Coming). c.bytes) coming) ∙ ap (λ bytes. concat (limited_reading keys bytes).chunks) (sym (ap bytes_found there.1))
-        ∙ ap (λ (found : Found). concat (limited_reading keys (bytes_found found)).chunks) (sym (ap (λ (w : View). w item.at) is))
+pub file_ends : FilesFit → (from : OpenedVault) (item : Planned) (t : Option Told) (content : List ℕ) (ending : Ending) → item.node ≡ File → IsItemOf t from item → ToldContent from item t content ending → EndsIn from item t ending
+file_ends fits from item t content ending node of told v is =
+    ap (λ (c : Coming). c.ending) (content_told fits from item t content ending node of told v is)
+    ∙ ap (λ node. ending_by node (ending_of item.at (content_at (format_of from.vault).content v item.at).ending)) (sym node)
 
 -- ---- what makes no file of an item
 
@@ -582,30 +619,34 @@ settle_writes t u result changes =
 -- ---- before and after
 
 module _ (from to : OpenedVault) (items : List Planned) (texts : List (List ℕ)) (s s' : Option ByteStream) (t u w : Option Told) (known : (v : View) → IsSeen t v → IsSeen u v) (before : WritesBeside [] (λ file. ⊥) t u) where
-  writes_after : (first : List Planned) (made : List MadeItem) → Writes from to first made texts s s' u w → Writes from to first made texts s s' t w
-  writes_after first made h = record {
+  writes_after : (answer : Result (Unit {0}) MoveFault) (first : List Planned) (made : List MadeItem) → Writes answer from to first made texts s s' u w → Writes answer from to first made texts s s' t w
+  writes_after answer first made h = record {
     drawn = h.drawn;
     copies = λ v is. h.copies v (known v is);
+    answered = λ v is. answered_each from to u w t w v v first made answer
+        (λ item among x given was. record { enough = was.enough; moment = was.moment; seen = was_seen_on (BringsOnlyTo [] (λ at. ⊥)) (λ file. ⊥) t u w was.moment before was.seen; named = was.named; root = was.root })
+        (h.answered v (known v is));
     files = only_on (BringsOnlyTo [] (λ at. ⊥)) (BringsOnlyTo to.root (IsMadePlace to made)) (BringsOnlyTo to.root (IsMadePlace to made)) (λ file. ⊥) (IsOneOf to made texts) (IsOneOf to made texts)
         (brings_none to.root (IsMadePlace to made)) (λ call is. is) (λ file none. absurd none) (λ file is. is) t u w before h.files;
   }
 
   pub by_after : {T : Type 0} (result : Result T MoveFault) → WritesBy result from to items texts s s' u w → WritesBy result from to items texts s s' t w
-  by_after (Ok value) h = record { made = h.made; writes = writes_after items h.made h.writes; full = λ v is. h.full v (known v is) }
-  by_after (Err fault) h = record { last = last_on (BringsOnlyTo [] (λ at. ⊥)) (λ file. ⊥) to [] h.made t u w fault before h.last; made = h.made; first = h.first; rest = h.rest; are = h.are; writes = writes_after h.first h.made h.writes; full = λ v is. h.full v (known v is) }
+  by_after (Ok value) h = record { made = h.made; writes = writes_after (Ok tt) items h.made h.writes }
+  by_after (Err fault) h = record { made = h.made; first = h.first; rest = h.rest; are = h.are; writes = writes_after (Err fault) h.first h.made h.writes }
 
 -- with further texts
 module _ (from to : OpenedVault) (items : List Planned) (texts more : List (List ℕ)) (s s' : Option ByteStream) (t t' : Option Told) (within : (text : List ℕ) → Contains texts text → Contains more text) where
-  writes_texts : (first : List Planned) (made : List MadeItem) → Writes from to first made texts s s' t t' → Writes from to first made more s s' t t'
-  writes_texts first made h = record {
+  writes_texts : (answer : Result (Unit {0}) MoveFault) (first : List Planned) (made : List MadeItem) → Writes answer from to first made texts s s' t t' → Writes answer from to first made more s s' t t'
+  writes_texts answer first made h = record {
     drawn = h.drawn;
     copies = h.copies;
+    answered = h.answered;
     files = only_more (BringsOnlyTo to.root (IsMadePlace to made)) (BringsOnlyTo to.root (IsMadePlace to made)) (IsOneOf to made texts) (IsOneOf to made more) (λ call is. is) (λ file is. elim is [ inl text ↦ inl (within file text) | inr item ↦ inr item ]) t t' h.files;
   }
 
   pub by_texts : {T : Type 0} (result : Result T MoveFault) → WritesBy result from to items texts s s' t t' → WritesBy result from to items more s s' t t'
-  by_texts (Ok value) h = record { made = h.made; writes = writes_texts items h.made h.writes; full = h.full }
-  by_texts (Err fault) h = record { last = h.last; made = h.made; first = h.first; rest = h.rest; are = h.are; writes = writes_texts h.first h.made h.writes; full = h.full }
+  by_texts (Ok value) h = record { made = h.made; writes = writes_texts (Ok tt) items h.made h.writes }
+  by_texts (Err fault) h = record { made = h.made; first = h.first; rest = h.rest; are = h.are; writes = writes_texts (Err fault) h.first h.made h.writes }
 
 -- a further text is written
 module _ (compose : Compose) (from to : OpenedVault) (items : List Planned) (texts others : List (List ℕ)) (s s1 s2 : Option ByteStream) (t u w : Option Told) where
@@ -620,35 +661,31 @@ module _ (compose : Compose) (from to : OpenedVault) (items : List Planned) (tex
     writes = record {
       drawn = subst (Draws s s2) (append-nil (slices all.made)) (compose s s1 s2 (slices all.made) [] all.writes.drawn undrawn);
       copies = all.writes.copies;
+      answered = λ v is. answered_then (BringsOnlyTo to.root (λ at. ⊥)) (λ file. Contains others file) from to t u w v items all.made (Ok tt) files (all.writes.answered v is);
       files = only_on (BringsOnlyTo to.root (IsMadePlace to all.made)) (BringsOnlyTo to.root (λ at. ⊥)) (BringsOnlyTo to.root (IsMadePlace to all.made))
           (IsOneOf to all.made texts) (λ file. Contains others file) (IsOneOf to all.made (texts ++ others)) (λ call is. is) (brings_more to.root (λ at. ⊥) (IsMadePlace to all.made) (λ at none. absurd none))
           (λ file h. elim h [ inl text ↦ inl (in_first texts others file text) | inr item ↦ inr item ]) (λ file text. inl (in_second texts others file text)) t u w all.writes.files files;
     };
-    full = all.full;
   }
 
-pub nothing_yet : (fault : MoveFault) (from to : OpenedVault) (items : List Planned) (texts : List (List ℕ)) (s s' : Option ByteStream) (t u : Option Told) → StopsLast to [] t u fault → Draws s s' [] → WritesBeside to.root (λ file. ⊥) t u
+pub nothing_yet : (fault : MoveFault) (from to : OpenedVault) (items : List Planned) (texts : List (List ℕ)) (s s' : Option ByteStream) (t u : Option Told) → IsOfTest fault → Draws s s' [] → WritesBeside to.root (λ file. ⊥) t u
     → WritesFirst fault from to items texts s s' t u
-nothing_yet fault from to items texts s s' t u last undrawn files = record {
-  last = last;
+nothing_yet fault from to items texts s s' t u test undrawn files = record {
   made = [];
   first = [];
   rest = items;
   are = refl;
-  writes = record { drawn = undrawn; copies = λ v is. tt; files = beside_made to [] (λ file. ⊥) (IsOneOf to [] texts) (λ file none. absurd none) t u files };
-  full = λ v is. tt;
+  writes = record { drawn = undrawn; copies = λ v is. tt; answered = λ v is. test; files = beside_made to [] (λ file. ⊥) (IsOneOf to [] texts) (λ file none. absurd none) t u files };
 }
 
-pub texts_first : (fault : MoveFault) (from to : OpenedVault) (items : List Planned) (texts : List (List ℕ)) (s s' : Option ByteStream) (t u : Option Told) → StopsLast to [] t u fault → Draws s s' [] → WritesBeside to.root (λ file. Contains texts file) t u
+pub texts_first : (fault : MoveFault) (from to : OpenedVault) (items : List Planned) (texts : List (List ℕ)) (s s' : Option ByteStream) (t u : Option Told) → IsOfTest fault → Draws s s' [] → WritesBeside to.root (λ file. Contains texts file) t u
     → WritesFirst fault from to items texts s s' t u
-texts_first fault from to items texts s s' t u last undrawn files = record {
-  last = last;
+texts_first fault from to items texts s s' t u test undrawn files = record {
   made = [];
   first = [];
   rest = items;
   are = refl;
-  writes = record { drawn = undrawn; copies = λ v is. tt; files = beside_made to [] (λ file. Contains texts file) (IsOneOf to [] texts) (λ file text. inl text) t u files };
-  full = λ v is. tt;
+  writes = record { drawn = undrawn; copies = λ v is. tt; answered = λ v is. test; files = beside_made to [] (λ file. Contains texts file) (IsOneOf to [] texts) (λ file text. inl text) t u files };
 }
 
 -- ---- where the source's files stand
@@ -694,7 +731,7 @@ next_among items k item inside at one (suc j, lt, is) = absurd (omega (arith, lt
 pub by_all : {T : Type 0} (result : Result T MoveFault) (Is : View → Type 0) (from to : OpenedVault) (items : List Planned) (texts : List (List ℕ)) (s s' : Option ByteStream) (t u t' : Option Told) → ((v : View) → IsSeen t v → (w : View) × IsSeen u w) → IfErr result (StopsLater Is u)
     → WritesAll from to items texts s s' t t' → WritesBy result from to items texts s s' t t'
 by_all (Ok value) Is from to items texts s s' t u t' after stops all = all
-by_all (Err fault) Is from to items texts s s' t u t' after stops all = first_of_all from to items texts s s' t t' fault (λ v seen_v. let w = after v seen_v in not_place (Is w.0) fault (stops w.0 w.1)) all
+by_all (Err fault) Is from to items texts s s' t u t' after stops all = first_of_all from to items texts s s' t t' fault (λ v seen_v. let w = after v seen_v in stop_is_test fault (Is w.0) (stops w.0 w.1)) all
 
 pub refusal_as : {T : Type 0} (result : Result T MoveFault) (fault why : MoveFault) → result ≡ Err fault → fault ≡ why → IsOfTest why → IsRefusal result
 refusal_as {T = T} result fault why is same tested = subst (λ (r : Result T MoveFault). IsRefusal r) (sym (is ∙ ap Err same)) tested
@@ -790,15 +827,7 @@ source_beside_at from root work items item separate walked among =
 pub none_ordered : IsOrdered []
 none_ordered i j d before few = absurd (omega (arith, few))
 
--- where the tests of the items pass, the source has those of the journal
-pub items_told : (from to : OpenedVault) (journal : Journal) (v : View) (items there : List Planned) → Unless {X = Unit {0}} (Ok tt) (TestsItems from to journal v items there Passed (Ok tt)) → AreTold journal items
-items_told from to journal v items there (inl e) = cc e
-items_told from to journal v items there (inr (inl e)) = cc e
-items_told from to journal v items there (inr (inr (Err why, tested, is))) = cc is
-items_told from to journal v items there (inr (inr (Ok value, inl passed, rest))) = passed.0
-items_told from to journal v items there (inr (inr (Ok value, inr failed, rest))) = cc (failed.1)
-
--- and its journal is theirs
+-- the texts of the journal that tells of these items
 pub done_text : (j : Journal) (from to : Path) (items : List Planned) → j.source ≡ from → j.target ≡ to → AreTold j items → (text : List ℕ) → Contains (journal_text (done_of j) ∷ []) text → Contains (journal_texts from to items) text
 done_text j from to items source target told text among =
     let same : done_of j ≡ done_of (new_journal from to items) = λ i. record { phase = Done; source = source i; target = target i; items = told.1 i; plan = told.0 i } in

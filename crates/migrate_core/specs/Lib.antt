@@ -7,3 +7,4 @@ pub mod Moved
 pub mod Copying
 pub mod Causes
 pub mod Written
+pub mod Completing

@@ -33,13 +33,14 @@ done_of j = record { phase = phase.Done; source = j.source; target = j.target; i
 abbrev pub StandsIn : Path → Journal → View → Type 0
 StandsIn work journal v = v (journal_path work) ≡ FileOf (journal_text journal)
 
--- the journal of a migration between these roots stands in the work folder, and says that all is done
-pub record SaysDone (from to work : Path) (v : View) : Type 0 where
+-- the journal of a migration of so many items between these roots stands in the work folder, and says that all is done
+pub record SaysDone (from to work : Path) (count : ℕ) (v : View) : Type 0 where
   pub journal : Journal
   pub is : IsJournal journal
   pub phase : journal.phase ≡ phase.Done
   pub source : journal.source ≡ from
   pub target : journal.target ≡ to
+  pub items : journal.items ≡ count
   pub stands : StandsIn work journal v
 
 -- it has so many items, where no two of its directories share a folder
@@ -52,7 +53,7 @@ pub record HasMoved (from to : OpenedVault) (work : Path) (count : ℕ) (v : Vie
   pub target : IsClean (format_of to.vault) (under to.root v)
   pub trees : HaveOneTree from to v
   pub items : HasItems to count v
-  pub says : SaysDone from.root to.root work v
+  pub says : SaysDone from.root to.root work count v
 
 -- whether one of these has the item's path
 abbrev pub is_there : List Planned → Planned → Bool
@@ -77,7 +78,7 @@ Placed from to told result = IfOk result (λ done. (v : View) → IsSeen told v 
 abbrev pub opened_in : Path → Vault → OpenedVault
 opened_in root vault = record { root = root; vault = vault }
 
--- of the vaults that two roots and their passphrases are
+-- of the vaults that two roots and their passphrases are, of which the target is opened so afterwards too
 pub record MovesTree (from to work : Path) (from_pass to_pass : List ℕ) (done : Done) (told told' : Option Told) : Type 0 where
   pub source : Vault
   pub target : Vault
@@ -85,6 +86,7 @@ pub record MovesTree (from to work : Path) (from_pass to_pass : List ℕ) (done 
   pub opens_target : (v : View) → IsSeen told v → IsVault (under to v) to_pass target
   pub placed : (v : View) → IsSeen told v → HasPlaced (opened_in from source) (opened_in to target) done.placed v
   pub moved : (v : View) → IsSeen told' v → HasMoved (opened_in from source) (opened_in to target) work done.items v
+  pub opens_still : (v : View) → IsSeen told' v → IsVault (under to v) to_pass target
 
 -- of the vaults that the journal tells which stands in the work folder
 pub record MovesTold (work : Path) (from_pass to_pass : List ℕ) (done : Done) (told told' : Option Told) (v : View) : Type 0 where

@@ -1,5 +1,5 @@
 -- What a migration writes: the bytes that it draws, item by item, and the files that it makes.
-use Rattle.std.specs.Prelude.{◌≡◌, ◌⊎◌, ◌≤◌, ◌<◌, ℕ, not, List, [], ◌∷◌, ◌++◌, length, map, Contains, None, Some, Option, Result, Ok, Err, replicate, true}
+use Rattle.std.specs.Prelude.{◌≡◌, ◌⊎◌, ◌≤◌, ◌<◌, ℕ, not, List, [], ◌∷◌, ◌++◌, length, map, Contains, None, Option, Result, Ok, Err}
 use Rattle.std.specs.List.{concat, filter}
 use Rattle.folder_spec.specs.Edit.{edits_under}
 use Rattle.folder_spec.specs.Event.{Append, Call, Create, MakeDir, RemoveDir, RemoveFile, Rename, Settle, Sync, Told, FromTo}
@@ -11,17 +11,19 @@ use Rattle.folder_spec.specs.View.{View}
 use Rattle.move_journal.specs.Journal.{IsJournal, journal_text}
 use Rattle.move_journal.specs.declared.journal.Journal.{Journal}
 use Rattle.plain_tree.specs.Names as plain
+use Rattle.plain_tree.specs.declared.NodeKind.{NodeKind}
 use Rattle.plain_tree.specs.declared.NodeKind.TheVariants.{Dir, File}
 use Rattle.port_model.specs.Draws.{ByteStream, Draws}
 use Rattle.tree_match.specs.Comparing.{content_at}
 use Rattle.vault_read.specs.Opened.{OpenedVault}
-use Rattle.vault_spec.specs.Find.{enter}
 use Rattle.vault_spec.specs.Format.{Directory}
-use Rattle.vault_spec.specs.Making.{NewItem, NewDirectory, NewFile, draws, edits, files, taken}
+use Rattle.vault_spec.specs.Making.{NewItem, NewDirectory, NewFile, draws, edits, files}
 use Rattle.vault_spec.specs.Plan.{Planned}
 use Rattle.vault_spec.specs.Vault.{Vault, IsVault, format_of}
-use Rattle.vault_write.specs.Making.{IsPlace}
-use Rattle.chunk_files.specs.Keys as contents
+use Rattle.vault_write.specs.Making.{IsPlace, Placing}
+use Rattle.vault_write.specs.Refusing.{Answers, TakesRoot}
+use Rattle.content_writing.specs.Content.{Ending, Whole, ending_of}
+use Rattle.content_writing.specs.declared.fault.PutFault.{PutFault}
 use Rattle.content_writing.specs.declared.fault.PutFault.TheVariants as put
 use Rattle.migrate_core.specs.declared.fault.MoveFault.{MoveFault}
 use Rattle.migrate_core.specs.declared.fault.MoveFault.TheVariants.{Place}
@@ -52,20 +54,6 @@ AreCopies from v (item ∷ items) [] = ⊥
 -- all bytes drawn, a slice for each item
 abbrev pub slices : List MadeItem → List ℕ
 slices made = concat (map (λ (x : MadeItem). x.drawn) made)
-
--- a slice is as long as its item draws
-abbrev pub IsFull : OpenedVault → MadeItem → Type 0
-IsFull to x = length x.drawn ≡ draws (format_of to.vault) x.item
-
-abbrev pub AreFull : OpenedVault → List MadeItem → Type 0
-AreFull to [] = Unit {0}
-AreFull to (x ∷ xs) = IsFull to x × AreFull to xs
-
--- each is, but the last may be shorter
-abbrev pub AreFullButLast : OpenedVault → List MadeItem → Type 0
-AreFullButLast to [] = Unit {0}
-AreFullButLast to (x ∷ []) = length x.drawn ≤ draws (format_of to.vault) x.item
-AreFullButLast to (x ∷ y ∷ xs) = IsFull to x × AreFullButLast to (y ∷ xs)
 
 -- one of the item's files under its slice, in a directory of the target
 pub record IsFileOf (to : OpenedVault) (x : MadeItem) (file : List ℕ) : Type 0 where
@@ -121,53 +109,65 @@ WritesOnly Q P = Moments (HoldsOnly P) (λ s0 s e. Q e.call)
 abbrev pub WritesBeside : Path → (List ℕ → Type 0) → Option Told → Option Told → Type 0
 WritesBeside root P = WritesOnly (BringsOnlyTo root (λ at. ⊥)) P
 
--- These items were made, with these texts: what was drawn, of which items of the source they are, and what was written, and where.
-pub record Writes (from to : OpenedVault) (items : List Planned) (made : List MadeItem) (texts : List (List ℕ)) (stream stream' : Option ByteStream) (told told' : Option Told) : Type 0 where
-  pub drawn : Draws stream stream' (slices made)
-  pub copies : (v : View) → IsSeen told v → AreCopies from v items made
-  pub files : WritesOnly (BringsOnlyTo to.root (IsMadePlace to made)) (IsOneOf to made texts) told told'
-
--- all of these items
-pub record WritesAll (from to : OpenedVault) (items : List Planned) (texts : List (List ℕ)) (stream stream' : Option ByteStream) (told told' : Option Told) : Type 0 where
-  pub made : List MadeItem
-  pub writes : Writes from to items made texts stream stream' told told'
-  pub full : (v : View) → IsSeen told v → AreFull to made
-
--- ---- why the last of them stops
+-- ---- what placing each of them came to
 
 -- this was seen at a moment of a call
 abbrev pub WasSeen : Option Told → Option Told → View → Type 0
 WasSeen told told' v = FromTo (λ a b. (c : Told) × HasGone a c × HasGone c b × (v ≡ seen c.state)) told told'
 
--- a place of the item is taken in the target as it is seen, under its slice
-pub record IsTaken (to : OpenedVault) (x : MadeItem) (v : View) (at : Path) : Type 0 where
-  pub front : plain.Path
-  pub name : List ℕ
-  pub dir : Directory
-  pub place : Path
-  pub is : x.path ≡ front ++ name ∷ []
-  pub entered : enter (format_of to.vault) (under to.root v) front ≡ Ok dir
-  pub taken : taken (format_of to.vault) (under to.root v) dir name x.item x.drawn ≡ Some place
-  pub there : at ≡ to.root ++ place
+abbrev pub ending_by : NodeKind → Ending → Ending
+ending_by Dir ending = Whole
+ending_by File ending = ending
 
--- or it is the root
-abbrev pub IsTakenAt : OpenedVault → MadeItem → View → Path → Type 0
-IsTakenAt to x v at = IsTaken to x v at ⊎ ((x.path ≡ []) × (at ≡ to.root))
+-- how the item ends in the source: a file as its content does, and a directory whole
+abbrev pub ending_in : OpenedVault → View → Planned → Ending
+ending_in from v planned = ending_by planned.node (ending_of planned.at (content_at (format_of from.vault).content v planned.at).ending)
 
--- its slice ends in sixteen zero bytes, where these are refused
-pub record EndsInZeros (to : OpenedVault) (x : MadeItem) : Type 0 where
-  pub refused : (contents.format_of (format_of to.vault).content).refuses_zeros ≡ true
-  pub before : List ℕ
-  pub zeros : x.drawn ≡ before ++ replicate 16 0
+-- the item under its name in the target, from whichever work folder
+abbrev pub placing_in : OpenedVault → plain.Path → List ℕ → NewItem → Placing
+placing_in to front name item = record { vault = to; work = []; front = front; name = name; item = item }
 
-abbrev pub IsLast : List MadeItem → MadeItem → Type 0
-IsLast made x = (before : List MadeItem) × (made ≡ before ++ x ∷ [])
+-- Placing the item was answered so: by how it ends in the source as that was seen at first, by the bytes of its slice, and by what the
+-- target showed at a moment of the call. At the root nothing is placed.
+pub record WasAnswered (from to : OpenedVault) (told told' : Option Told) (v : View) (planned : Planned) (x : MadeItem) (answer : Result (Unit {0}) PutFault) : Type 0 where
+  pub enough : length x.drawn ≤ draws (format_of to.vault) x.item
+  pub moment : View
+  pub seen : WasSeen told told' moment
+  pub named : (front : plain.Path) (name : List ℕ) → x.path ≡ front ++ name ∷ [] → Answers (placing_in to front name x.item) x.drawn (ending_in from v planned) (under to.root moment) answer
+  pub root : x.path ≡ [] → TakesRoot to.root answer
 
--- Zeros are refused, and a place is named as taken, only of the last of these items: that its slice ends so, or that the place was taken
--- at a moment of the call.
-pub record StopsLast (to : OpenedVault) (made : List MadeItem) (told told' : Option Told) (fault : MoveFault) : Type 0 where
-  pub zeros : fault ≡ Place put.ZeroRandom → (v : View) → IsSeen told v → (x : MadeItem) × IsLast made x × EndsInZeros to x
-  pub taken : (at : Path) → fault ≡ Place (put.Taken at) → (v : View) → IsSeen told v → (x : MadeItem) × (u : View) × IsLast made x × WasSeen told told' u × IsTakenAt to x u at
+-- the answer of the last item, where a call answers so for it; of another fault the item tells nothing
+abbrev pub last_answer : Result (Unit {0}) MoveFault → Result (Unit {0}) PutFault
+last_answer (Ok _) = Ok tt
+last_answer (Err (Place fault)) = Err fault
+last_answer (Err fault) = Err put.NoMemory
+
+-- no item is why
+abbrev pub IsOfNoItem : Result (Unit {0}) MoveFault → Type 0
+IsOfNoItem (Ok _) = Unit {0}
+IsOfNoItem (Err fault) = IsOfTest fault
+
+-- Placing these was answered Ok, one after the other, and for the last one as the call then answers.
+abbrev pub WereAnswered : OpenedVault → OpenedVault → Option Told → Option Told → View → List Planned → List MadeItem → Result (Unit {0}) MoveFault → Type 0
+WereAnswered from to told told' v [] [] answer = IsOfNoItem answer
+WereAnswered from to told told' v (item ∷ []) (x ∷ []) answer = WasAnswered from to told told' v item x (last_answer answer)
+WereAnswered from to told told' v (item ∷ next ∷ items) (x ∷ made) answer = WasAnswered from to told told' v item x (Ok tt) × WereAnswered from to told told' v (next ∷ items) made answer
+WereAnswered from to told told' v (item ∷ []) (x ∷ y ∷ made) answer = ⊥
+WereAnswered from to told told' v (item ∷ items) [] answer = ⊥
+WereAnswered from to told told' v [] (x ∷ made) answer = ⊥
+
+-- These items were made, with these texts, until this answer: what was drawn, of which items of the source they are, what placing each
+-- came to, and what was written, and where.
+pub record Writes (answer : Result (Unit {0}) MoveFault) (from to : OpenedVault) (items : List Planned) (made : List MadeItem) (texts : List (List ℕ)) (stream stream' : Option ByteStream) (told told' : Option Told) : Type 0 where
+  pub drawn : Draws stream stream' (slices made)
+  pub copies : (v : View) → IsSeen told v → AreCopies from v items made
+  pub answered : (v : View) → IsSeen told v → WereAnswered from to told told' v items made answer
+  pub files : WritesOnly (BringsOnlyTo to.root (IsMadePlace to made)) (IsOneOf to made texts) told told'
+
+-- all of these items
+pub record WritesAll (from to : OpenedVault) (items : List Planned) (texts : List (List ℕ)) (stream stream' : Option ByteStream) (told told' : Option Told) : Type 0 where
+  pub made : List MadeItem
+  pub writes : Writes (Ok tt) from to items made texts stream stream' told told'
 
 -- the first of them
 pub record WritesFirst (fault : MoveFault) (from to : OpenedVault) (items : List Planned) (texts : List (List ℕ)) (stream stream' : Option ByteStream) (told told' : Option Told) : Type 0 where
@@ -175,9 +175,7 @@ pub record WritesFirst (fault : MoveFault) (from to : OpenedVault) (items : List
   pub first : List Planned
   pub rest : List Planned
   pub are : items ≡ first ++ rest
-  pub writes : Writes from to first made texts stream stream' told told'
-  pub full : (v : View) → IsSeen told v → AreFullButLast to made
-  pub last : StopsLast to made told told' fault
+  pub writes : Writes (Err fault) from to first made texts stream stream' told told'
 
 -- the items whose path none of those has
 abbrev pub lacked : List Planned → List Planned → List Planned

@@ -9,6 +9,7 @@ ghost use Rattle.tree_match.specs.Guard.{Migration};
 ghost use Rattle.vault_spec.specs.Vault.{format_of};
 ghost use Rattle.work_folder.specs.Entering.{EntersAs};
 ghost use Rattle.migrate_core.specs.Causes.{Begins, BeginsApart, BeginsWith, Moves, TestsEmpty, Unless};
+ghost use Rattle.migrate_core.specs.Completing.{CanBegin, IsOfChance};
 ghost use Rattle.migrate_core.specs.Copying.{MayBegin};
 ghost use Rattle.migrate_core.specs.Faults.{Blamed, IsOfTest};
 ghost use Rattle.migrate_core.specs.Leading.{KeepsGuarded, KeepsSettled, LeadsEach};
@@ -19,6 +20,7 @@ ghost use Rattle.migrate_core.specs.Sides.{AllowsEach, AreSeparate, IsAsked, IsW
 
 use crate::fault::MoveFault;
 use crate::finishing::go_on;
+use crate::laws::what_can_begin_is_done;
 use crate::placing::{Done, journal_of};
 use crate::sides::{Sides, load_both, test_apart, test_names, walk_both};
 use folder_model::{FPath, Folder};
@@ -59,8 +61,10 @@ pub fn begin<F: Folder, R: Randoms>(
     ensures blamed { IfErr result (Blamed (CountRose (F.faults folder.old) (F.faults folder.new)) (CountRose (R.faults random.old) (R.faults random.new))) }
     ensures cause { (v : View) → IsSeen (F.told folder.old) v → Unless result (Begins source.now target.now work.now source_pass.now target_pass.now v result) }
     ensures written { (v : View) → IsSeen (F.told folder.old) v → MayWriteTree result source.now target.now source_pass.now target_pass.now (R.left random.old) (R.left random.new) (F.told folder.old) (F.told folder.new) }
+    ensures completes { (g : Migration) (v : View) → IsSeen (F.told folder.old) v → IsAsked g source.now target.now work.now source_pass.now target_pass.now → CanBegin g v → IfErr result IsOfChance }
 {
     draws_compose();
+    what_can_begin_is_done();
     settling_and_entering_keep_migrations_guarded();
     test_apart(source, target, work)?;
     folder.settle()?;

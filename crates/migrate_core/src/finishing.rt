@@ -1,5 +1,5 @@
 //! Ending a migration.
-ghost use Rattle.std.specs.Prelude.{◌≡◌, ◌≤◌, ◌∷◌, [], Contains, IfErr, IfOk, OnOk};
+ghost use Rattle.std.specs.Prelude.{◌≡◌, ◌≤◌, ◌∷◌, [], length, Contains, IfErr, IfOk, OnOk};
 ghost use Rattle.port_model.specs.Counts.{CountRose};
 ghost use Rattle.folder_spec.specs.Path.{Path};
 ghost use Rattle.folder_spec.specs.Seen.{IsSeen};
@@ -62,6 +62,7 @@ pub(crate) fn go_on<F: Folder, R: Randoms>(
     requires stands { journal.phase ≡ Phase.Done → (v : View) → IsSeen (F.told folder.old) v → StandsIn work.now journal v }
     requires source { journal.source ≡ sides.now.source.root }
     requires target { journal.target ≡ sides.now.target.root }
+    requires items { journal.items ≡ length source.now.items }
     ensures moved { Moved sides.now.source sides.now.target work.now (F.told folder.new) result }
     ensures placed { IfOk result (λ done. (v : View) → IsSeen (F.told folder.old) v → done.placed ≡ lacking there.now source.now.items) }
     ensures building { journal.phase ≡ Phase.Building → LeadsTold sides.now.source sides.now.target work.now journal Begun Finished (F.told folder.old) (F.told folder.new) result }
@@ -96,6 +97,7 @@ pub(crate) fn finish<F: Folder>(
     requires stands { journal.phase ≡ Phase.Done → (v : View) → IsSeen (F.told folder.old) v → StandsIn work.now journal v }
     requires source { journal.source ≡ sides.now.source.root }
     requires target { journal.target ≡ sides.now.target.root }
+    requires items { journal.items ≡ length source.now.items }
     ensures moved { Moved sides.now.source sides.now.target work.now (F.told folder.new) result }
     ensures placed { IfOk result (λ done. done.placed ≡ placed) }
     ensures guard { LeadsTold sides.now.source sides.now.target work.now journal (progress_of journal.phase) Finished (F.told folder.old) (F.told folder.new) result }

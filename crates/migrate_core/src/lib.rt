@@ -4,6 +4,7 @@
 mod beginning;
 pub mod fault;
 mod finishing;
+pub mod laws;
 mod placing;
 mod resuming;
 mod sides;

@@ -10,6 +10,7 @@ ghost use Rattle.tree_match.specs.Guard.{Migration};
 ghost use Rattle.vault_spec.specs.Vault.{format_of};
 ghost use Rattle.work_folder.specs.Entering.{Empties};
 ghost use Rattle.migrate_core.specs.Causes.{Moves, Resumes, ResumesTold, ResumesWith, TestsItems, TestsMatch, TestsSource, TestsTold, Unless, is_done, where_in};
+ghost use Rattle.migrate_core.specs.Completing.{CanResume, IsOfChance};
 ghost use Rattle.migrate_core.specs.Copying.{MayBegin};
 ghost use Rattle.migrate_core.specs.Faults.{Blamed, IsOfTest};
 ghost use Rattle.migrate_core.specs.Leading.{KeepsGuarded, KeepsSettled, LeadsTold, progress_of};
@@ -20,6 +21,7 @@ ghost use Rattle.migrate_core.specs.Sides.{AllowsEach, AreSeparate, AreTold, IsI
 
 use crate::fault::MoveFault;
 use crate::finishing::go_on;
+use crate::laws::what_can_resume_is_done;
 use crate::placing::Done;
 use crate::sides::{Plans, Sides, load_both, test_apart, test_names, walk_both};
 use folder_model::{FPath, Folder, Kind};
@@ -59,8 +61,10 @@ pub fn resume<F: Folder, R: Randoms>(
     ensures blamed { IfErr result (Blamed (CountRose (F.faults folder.old) (F.faults folder.new)) (CountRose (R.faults random.old) (R.faults random.new))) }
     ensures cause { (v : View) → IsSeen (F.told folder.old) v → Unless result (Resumes work.now source_pass.now target_pass.now v result) }
     ensures written { (v : View) → IsSeen (F.told folder.old) v → MayWriteTold result work.now source_pass.now target_pass.now (R.left random.old) (R.left random.new) (F.told folder.old) (F.told folder.new) v }
+    ensures completes { (g : Migration) (v : View) → IsSeen (F.told folder.old) v → IsResumed g work.now source_pass.now target_pass.now → CanResume g v → IfErr result IsOfChance }
 {
     draws_compose();
+    what_can_resume_is_done();
     settling_and_entering_keep_migrations_guarded();
     folder.settle()?;
     resume_settled(alloc, folder, work, source_pass, target_pass, random)
@@ -215,6 +219,7 @@ fn test_plans<F: Folder>(
     ensures told { F.told folder.new ≡ F.told folder.old }
     ensures grows { F.faults folder.old ≤ F.faults folder.new }
     ensures allowed { OnOk result (AllowsEach (format_of sides.now.target.vault) plans.now.source.items) }
+    ensures named { OnOk result (AreTold journal.now plans.now.source.items) }
     ensures tested { IfErr result IsOfTest }
     ensures blamed { IfErr result (Blamed (CountRose (F.faults folder.old) (F.faults folder.new)) ⊥) }
     ensures cause { (v : View) → IsSeen (F.told folder.old) v → Unless result (TestsItems sides.now.source sides.now.target journal.now v plans.now.source.items plans.now.target.items (λ answer. answer ≡ Ok tt) result) }
@@ -297,6 +302,7 @@ fn place_rest<F: Folder, R: Randoms>(
     requires copying { MayBegin sides.now.source sides.now.target plans.now.target.items (F.told folder.old) }
     requires source_named { journal.source ≡ sides.now.source.root }
     requires target_named { journal.target ≡ sides.now.target.root }
+    requires items_named { AreTold journal plans.now.source.items }
     ensures moved { Moved sides.now.source sides.now.target work.now (F.told folder.new) result }
     ensures placed { IfOk result (λ done. (v : View) → IsSeen (F.told folder.old) v → done.placed ≡ lacking plans.now.target.items plans.now.source.items) }
     ensures guard { LeadsTold sides.now.source sides.now.target work.now journal (progress_of journal.phase) Finished (F.told folder.old) (F.told folder.new) result }

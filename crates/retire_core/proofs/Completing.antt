@@ -14,6 +14,7 @@ use Rattle.folder_staging.specs.Removal.{RemovesAs, deepest, from}
 use Rattle.folder_staging.specs.declared.removal.RemovalFault.{RemovalFault}
 use Rattle.folder_staging.specs.declared.removal.RemovalFault.TheVariants as removal
 use Rattle.migrate_core.specs.Causes.{Compares, PassesOr, Then, Walks, own}
+use Rattle.migrate_core.specs.Completing.{IsShallow}
 use Rattle.migrate_core.specs.Moved.{opened_in}
 use Rattle.migrate_core.specs.Sides.{side_of}
 use Rattle.move_journal.specs.Journal.{IsJournal, journal_text}
@@ -59,7 +60,7 @@ use Rattle.work_folder.specs.declared.fault.WorkFault.TheVariants as works
 use Rattle.retire_core.proofs.Causing.{away_there, beside, none_behind}
 use Rattle.retire_core.proofs.Renamed.{HasNoSpecial}
 use Rattle.retire_core.specs.Causes.{Answer, IsOfFolder, Opens, Passes, ReadsDone, Retires, RetiresTold, TestsApart, TestsAway, TestsClean, TestsFree, TestsHeld, TestsItems, TestsMatch, TestsPair, TestsPhase, TestsRemoval, TestsRemovals, TestsVaults, moved_away, of_refusal, retired_of}
-use Rattle.retire_core.specs.Completing.{CanRetire, IsAtEnd, IsShallow, KeepsLimits, PassesNoLimit}
+use Rattle.retire_core.specs.Completing.{CanRetire, IsAtEnd, KeepsLimits, PassesNoLimit}
 use Rattle.retire_core.specs.Faults.{of_journal, of_match, of_removal, of_walk, of_work}
 use Rattle.retire_core.specs.declared.fault.RetireFault.{RetireFault}
 use Rattle.retire_core.specs.declared.fault.RetireFault.TheVariants.{Overlap, Work}

@@ -1,10 +1,10 @@
 -- When no test of `retire` fails: a guarded migration is done, or its source is retired while the journal stands, and no limit is passed.
-use Rattle.std.specs.Prelude.{◌≡◌, ◌≢◌, ◌<◌, ◌++◌, length, IsTrue}
+use Rattle.std.specs.Prelude.{◌≡◌, ◌≢◌, ◌++◌, IsTrue}
 use Rattle.chunk_files.specs.Reading.{Wanting}
 use Rattle.folder_spec.specs.Path.{Path}
 use Rattle.folder_spec.specs.Seen.{under}
-use Rattle.folder_spec.specs.View.{NoEntry, View}
-use Rattle.folder_staging.specs.Removal.{deepest}
+use Rattle.folder_spec.specs.View.{View}
+use Rattle.migrate_core.specs.Completing.{IsShallow}
 use Rattle.plain_tree.specs.Names as plain
 use Rattle.tree_match.specs.Comparing.{content_at}
 use Rattle.tree_match.specs.Guard.{Migration, VaultAt, Case, NotBegun, Building, Done, Retired, IsGuarded, IsSeparate, has_old_by, old_path}
@@ -12,10 +12,6 @@ use Rattle.vault_spec.specs.Standing.{File, standing}
 use Rattle.vault_spec.specs.Vault.{format_of}
 use Rattle.vault_walk.specs.Surveyed.{IsWithin}
 use Rattle.work_folder.specs.Entries.{stage_path}
-
--- nothing stands deeper below the path than a removal goes down
-abbrev pub IsShallow : Path → View → Type 0
-IsShallow at v = (rest : Path) → deepest < length rest → v (at ++ rest) ≡ NoEntry
 
 -- the vault passes no limit: neither in the number and the depth of its items, nor by the content of a file
 pub record KeepsLimits (a : VaultAt) (v : View) : Type 0 where

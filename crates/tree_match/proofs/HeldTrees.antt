@@ -39,9 +39,9 @@ use Rattle.tree_match.specs.declared.answer.Match.TheVariants.{Same, Contained, 
 -- ---- items that are held
 
 -- each is held, and what follows is the answer
-record HoldsEach (held : Planned → Outcome (Option How)) (xs : List Planned) (last answer : Match) : Type 0 where
-  each : (x : Planned) → Contains xs x → held x ≡ Is None
-  last_is : last ≡ answer
+pub record HoldsEach (held : Planned → Outcome (Option How)) (xs : List Planned) (last answer : Match) : Type 0 where
+  pub each : (x : Planned) → Contains xs x → held x ≡ Is None
+  pub last_is : last ≡ answer
 
 abbrev pub IsNoDifference : Match → Type 0
 IsNoDifference Same = Unit {0}
@@ -61,7 +61,7 @@ unfolding first_differing
 stopped held last x xs at ending is = ap (λ (h : Outcome (Option How)). by_item x.path h (first_differing held xs last)) is
 
 module _ (held : Planned → Outcome (Option How)) (last answer : Match) (no_difference : IsNoDifference answer) where
-  held_each : (xs : List Planned) → first_differing held xs (Is last) ≡ Is answer → HoldsEach held xs last answer
+  pub held_each : (xs : List Planned) → first_differing held xs (Is last) ≡ Is answer → HoldsEach held xs last answer
   held_each [] is = record { each = λ x c. absurd (omega (arith, c.1)); last_is = is_answer last answer (sym (holds_none held (Is last)) ∙ is) }
   held_each (y ∷ ys) is = by (held y) refl (held_each ys)
     where
@@ -88,7 +88,7 @@ found_with path (z ∷ zs) o is = by (path_eq z.path path) refl is (found_with p
     by false same e behind = let later : Contains zs o × (o.path ≡ path) = behind e in let few : later.0.0 < length zs = later.0.1 in ((suc later.0.0, omega (arith, few), later.0.2), later.1)
 
 -- where no other is further, each has an item with its path
-none_further : (items others : List Planned) → first_further items others ≡ Same → (o : Planned) → Contains others o → (x : Planned) × (item_with o.path items ≡ Some x)
+pub none_further : (items others : List Planned) → first_further items others ≡ Same → (o : Planned) → Contains others o → (x : Planned) × (item_with o.path items ≡ Some x)
 none_further items [] same o among = absurd (omega (arith, among.1))
 none_further items (z ∷ zs) same o among = by (item_with z.path items) refl (none_further items zs)
   where

@@ -12,5 +12,5 @@ mod Merging
 mod Differing
 mod WholeContents
 mod CutContents
-mod SameTrees
+pub mod SameTrees
 pub mod HeldTrees

@@ -1,5 +1,5 @@
 -- That vaults of one tree compare as the same, unless a content passes the limit.
-use Rattle.std.proofs.Common.{◌≡◌, ◌≢◌, inl, inr, ℕ, suc, ◌≤◌, ◌&&◌, nat_eq, nat_le, List, [], ◌∷◌, ◌++◌, length, take, Bool, true, false, if◌then◌else◌, Option, Some, None, refl, sym, ap, subst, ◌∙◌, arith, Contains, length-append, append-nil}
+use Rattle.std.proofs.Common.{◌≡◌, ◌≢◌, ◌⊎◌, inl, inr, ℕ, suc, ◌≤◌, ◌&&◌, nat_eq, nat_le, List, [], ◌∷◌, ◌++◌, length, take, Bool, true, false, if◌then◌else◌, Option, Some, None, refl, sym, ap, subst, ◌∙◌, arith, Contains, length-append, append-nil}
 use Rattle.std.proofs.lemmas.Bool.{leb-true, leb-false, false≢true}
 use Rattle.std.proofs.lemmas.List.{take-take, take_at}
 use Rattle.std.specs.List.{concat, starts_with}
@@ -24,12 +24,12 @@ use Rattle.vault_spec.specs.Standing.{File, standing}
 use Rattle.vault_spec.specs.Vault.{format_of}
 use Rattle.vault_walk.specs.Surveyed.{placed}
 use Rattle.tree_match.proofs.CutContents.{Partly, All, Front, partly_read}
-use Rattle.tree_match.proofs.Differing.{holds_none, holds_one, further_found, further_end}
+use Rattle.tree_match.proofs.Differing.{holds_none, holds_one, further_found, further_none, further_end}
 use Rattle.tree_match.proofs.HeldTrees.{FilesAreThere, PlansAreTheTree, file_stands, found_with, first_or_among, in_plan, planned, stopped, tells_tree}
 use Rattle.tree_match.specs.Comparing.{Outcome, Is, Stops, compared, content_at, content_of, bytes_found, is_cut}
 use Rattle.tree_match.specs.Guard.{IsWhole, node_of}
 use Rattle.tree_match.specs.Matching.{content_held, first_differing, first_further, held_as, held_by, item_with}
-use Rattle.tree_match.specs.Trees.{Side, IsWalkOf, IsPartIn, IsSameOrTooLong, AreSame, IsTooLong, match_of}
+use Rattle.tree_match.specs.Trees.{Side, IsWalkOf, IsPartIn, HoldsAllBy, AsSame, AndFurther, IsSameOrTooLong, AreSame, IsTooLong, match_of}
 use Rattle.tree_match.specs.declared.answer.How.{How}
 use Rattle.tree_match.specs.declared.answer.Match.{Match}
 use Rattle.tree_match.specs.declared.answer.Match.TheVariants.{Same}
@@ -243,3 +243,30 @@ one_tree_matches files plans v a b walk_a walk_b one other =
     let held : Planned → Outcome (Option How) = λ item. held_by (format_of a.vault).content (format_of b.vault).content v item (item_with item.path b.items) in
     let none : first_further a.items b.items ≡ Same = none_further a.items b.items (λ o among. let found = found_in_other files plans v b a walk_b walk_a other o among in (found.0, found.1)) in
     subst (λ (m : Match). IsSameOrTooLong (first_differing held a.items (Is m))) (sym none) (all_tell held a.items (held_one files plans v a b walk_a walk_b one))
+
+-- ---- a tree that is part of another
+
+-- all items are held; or the content of a file passes the limit before its end
+abbrev pub HoldsAllOrTooLong : Outcome Match → Type 0
+HoldsAllOrTooLong outcome = HoldsAllBy outcome ⊎ ((at : folder.Path) × (outcome ≡ Stops at Wanting))
+
+further_or_same : (items others : List Planned) → HoldsAllBy (Is (first_further items others))
+further_or_same items [] = subst (λ (m : Match). HoldsAllBy (Is m)) (sym (further_end items)) AsSame
+further_or_same items (z ∷ zs) = by (item_with z.path items) refl (further_or_same items zs)
+  where
+    by : (found : Option Planned) → item_with z.path items ≡ found → HoldsAllBy (Is (first_further items zs)) → HoldsAllBy (Is (first_further items (z ∷ zs)))
+    by None e later = subst (λ (m : Match). HoldsAllBy (Is m)) (sym (further_none items z zs e)) (AndFurther z.path)
+    by (Some x) e later = subst (λ (m : Match). HoldsAllBy (Is m)) (sym (further_found items z x zs e)) later
+
+all_held : (held : Planned → Outcome (Option How)) (last : Match) → HoldsAllBy (Is last) → (items : List Planned) → ((x : Planned) → Contains items x → TellsThis None (held x)) → HoldsAllOrTooLong (first_differing held items (Is last))
+all_held held last all [] each = subst HoldsAllOrTooLong (sym (holds_none held (Is last))) (inl all)
+all_held held last all (x ∷ xs) each = by (held x) refl (each x (0, omega arith, refl)) (all_held held last all xs (λ y c. each y (suc c.0, omega (arith, c.1), c.2)))
+  where
+    by : (o : Outcome (Option How)) → held x ≡ o → TellsThis None o → HoldsAllOrTooLong (first_differing held xs (Is last)) → HoldsAllOrTooLong (first_differing held (x ∷ xs) (Is last))
+    by _ is Told later = subst HoldsAllOrTooLong (sym (holds_one held (Is last) x xs is)) later
+    by _ is (Cut at) later = subst HoldsAllOrTooLong (sym (stopped held (Is last) x xs at Wanting is)) (inr (at, refl))
+
+pub part_matches : FilesAreThere → PlansAreTheTree → (v : View) (a b : Side) → IsWalkOf v a → IsWalkOf v b → IsPartIn v a b → HoldsAllOrTooLong (match_of v a b)
+part_matches files plans v a b walk_a walk_b one =
+    all_held (λ item. held_by (format_of a.vault).content (format_of b.vault).content v item (item_with item.path b.items)) (first_further a.items b.items) (further_or_same a.items b.items) a.items
+    (held_one files plans v a b walk_a walk_b one)

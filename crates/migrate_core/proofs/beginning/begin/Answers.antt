@@ -1,4 +1,4 @@
-use Rattle.std.proofs.Common.{refl, inl}
+use Rattle.std.proofs.Common.{IfErr, refl, inl}
 use Rattle.folder_spec.specs.Region.{apart_from_both}
 use Rattle.migrate_core.proofs.Movings.{moves_nowhere, moves_on, settle_moves}
 use Rattle.migrate_core.proofs.Settled.{settle_fell, settle_then, still_guarded}
@@ -11,6 +11,9 @@ use Rattle.std.proofs.lemmas.Result.{err_from_is_err_and}
 use Rattle.migrate_core.specs.Faults.{of_folder}
 use Rattle.migrate_core.specs.declared.placing.Done.{Done}
 use Rattle.migrate_core.proofs.Writings.{refusal_as, folder_refuses, may_write_after, nothing_written, settle_writes}
+use Rattle.migrate_core.proofs.Completing.{begin_completes, folder_chance, own_faults}
+use Rattle.migrate_core.specs.Completing.{IsOfChance}
+use Rattle.migrate_core.specs.Faults.{IsMoveFault}
 use Rattle.migrate_core.proofs.beginning.begin.Goals as goal
 
 pub returns-in_err-test_apart-clause-guard : goal.returns-in_err-test_apart-clause-guard
@@ -102,3 +105,20 @@ returns-clause-written g c v seen =
     let known = settle_seen told settled c.in_ok-settle.field-0 c.in_ok-settle.ensures.changes in
     may_write_after left (g.R.Randoms.left c.begin_settled.new.random) told settled (g.F.Folder.told c.begin_settled.new.folder) known (settle_writes told settled c.settle.result c.settle.ensures.changes)
     c.begin_settled.result c.args.source.now c.args.target.now c.args.source_pass.now c.args.target_pass.now (c.begin_settled.ensures.written v (known v seen))
+
+pub returns-in_err-test_apart-clause-completes : goal.returns-in_err-test_apart-clause-completes
+returns-in_err-test_apart-clause-completes g c m v seen asked can =
+    let p = err_from_is_err_and c.from_residual.result c.from_residual.ensures.1 in
+    begin_completes m v c.args.source.now c.args.target.now c.args.work.now c.args.source_pass.now c.args.target_pass.now c.from_residual.result asked
+    (c.what_can_begin_is_done.ensures m v c.from_residual.result can (refused_as (λ answer. IfErr answer IsMoveFault) c.from_residual.result p.0 c.in_err-test_apart.field-0.0 p.1 p.2 c.in_err-test_apart.ensures.blamed.own))
+    (returns-in_err-test_apart-clause-cause g c v seen)
+
+pub returns-in_err-settle-clause-completes : goal.returns-in_err-settle-clause-completes
+returns-in_err-settle-clause-completes g c m v seen asked can =
+    let p = err_from_is_err_and c.from_residual-in_err-settle.result c.from_residual-in_err-settle.ensures.1 in
+    refused_as (λ answer. IfErr answer IsOfChance) c.from_residual-in_err-settle.result p.0 (of_folder c.in_err-settle.field-0.0) p.1 p.2 (folder_chance c.in_err-settle.field-0.0)
+
+pub returns-clause-completes : goal.returns-clause-completes
+returns-clause-completes g c m v seen asked can =
+    begin_completes m v c.args.source.now c.args.target.now c.args.work.now c.args.source_pass.now c.args.target_pass.now c.begin_settled.result asked
+    (c.what_can_begin_is_done.ensures m v c.begin_settled.result can (own_faults c.begin_settled.result _ _ c.begin_settled.ensures.blamed)) (returns-clause-cause g c v seen)

@@ -80,7 +80,9 @@ returns-clause-moved g c =
     let sides = c.in_ok-sides.sides in
     let loads = c.in_ok-sides.ensures in
     tree_moved c.args.source.now c.args.target.now c.args.work.now c.args.source_pass.now c.args.target_pass.now sides.source sides.target (g.F.Folder.told c.args.folder.now) (g.F.Folder.told c.begin_with.new.folder)
-    c.begin_with.result loads.source loads.target (λ v is. loads.opens_source v (subst (λ t. IsSeen t v) (sym c.look.ensures.told) is))
+    c.begin_with.result loads.source loads.target (g.met.F.Folder.sound c.args.folder.now)
+    (subst (λ root. MovesOnly c.args.work.now root (g.F.Folder.told c.args.folder.now) (g.F.Folder.told c.begin_with.new.folder)) loads.target
+    (subst (λ t. MovesOnly c.args.work.now sides.target.root t (g.F.Folder.told c.begin_with.new.folder)) (c.load_both.ensures.told ∙ c.look.ensures.told) c.begin_with.ensures.moves)) (λ v is. loads.opens_source v (subst (λ t. IsSeen t v) (sym c.look.ensures.told) is))
     (λ v is. loads.opens_target v (subst (λ t. IsSeen t v) (sym c.look.ensures.told) is))
     (subst (λ t. Placed sides.source sides.target t c.begin_with.result) (c.load_both.ensures.told ∙ c.look.ensures.told) c.begin_with.ensures.placed) c.begin_with.ensures.moved
 

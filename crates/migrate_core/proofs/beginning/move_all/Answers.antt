@@ -23,7 +23,7 @@ use Rattle.migrate_core.specs.Causes.{IsOfMoving, Moves, Unless, StopsAt}
 use Rattle.migrate_core.specs.Copying.{HasCopied, HaveOwnFolders}
 use Rattle.migrate_core.proofs.Copyings.{copied_as}
 use Rattle.migrate_core.specs.Faults.{of_folder, of_work}
-use Rattle.migrate_core.proofs.Writings.{changing_writes, in_first, journal_written, kept_by, lacked_is, none_ordered, nothing_yet, beside_on, folder_last, stop_last, work_last, only_more, source_beside_at, texts_first, texts_then}
+use Rattle.migrate_core.proofs.Writings.{changing_writes, in_first, journal_written, kept_by, lacked_is, none_ordered, nothing_yet, beside_on, folder_refuses, stop_is_test, work_refuses, only_more, source_beside_at, texts_first, texts_then}
 use Rattle.migrate_core.specs.Written.{BringsOnlyTo, WritesBeside, WritesBy, journal_texts, lacked}
 use Rattle.move_journal.specs.Journal.{journal_text}
 use Rattle.migrate_core.proofs.Stopping.{if_stops_before, seen_stops}
@@ -176,6 +176,9 @@ go_on-requires-clause-source g c = ap (λ (j : Journal). j.source) c.in_ok-journ
 pub go_on-requires-clause-target : goal.go_on-requires-clause-target
 go_on-requires-clause-target g c = ap (λ (j : Journal). j.target) c.in_ok-journal.ensures.new ∙ c.root-2.ensures
 
+pub go_on-requires-clause-items : goal.go_on-requires-clause-items
+go_on-requires-clause-items g c = ap (λ (j : Journal). j.items) c.in_ok-journal.ensures.new
+
 pub returns-clause-moved : goal.returns-clause-moved
 returns-clause-moved g c = subst (λ w. Moved c.args.sides.now.source c.args.sides.now.target w (g.F.Folder.told c.go_on.new.folder) c.go_on.result) c.in_ok-entered.ensures.path c.go_on.ensures.moved
 
@@ -258,7 +261,7 @@ returns-in_err-entered-clause-written g c =
     let entering = changing_writes work (IsWorkOrStage work) (IsLeftOver work) to.root c.requires.apart.target told entered c.enter.ensures.enters.moments in
     let p = err_from_is_err_and c.from_residual.result c.from_residual.ensures.1 in
     refused_as (λ answer. WritesBy answer from to (lacked [] items) texts left left told entered) c.from_residual.result p.0 (of_work c.in_err-entered.field-0.0) p.1 p.2
-    (nothing_yet (of_work c.in_err-entered.field-0.0) from to (lacked [] items) texts left left told entered (work_last to [] told entered c.in_err-entered.field-0.0) (c.draws_compose.ensures.none left) entering)
+    (nothing_yet (of_work c.in_err-entered.field-0.0) from to (lacked [] items) texts left left told entered (work_refuses c.in_err-entered.field-0.0) (c.draws_compose.ensures.none left) entering)
 
 pub returns-in_err-journal-clause-written : goal.returns-in_err-journal-clause-written
 returns-in_err-journal-clause-written g c =
@@ -273,7 +276,7 @@ returns-in_err-journal-clause-written g c =
     let entering = changing_writes work (IsWorkOrStage work) (IsLeftOver work) to.root c.requires.apart.target told entered c.enter.ensures.enters.moments in
     let p = err_from_is_err_and c.from_residual-in_err-journal.result c.from_residual-in_err-journal.ensures.1 in
     refused_as (λ answer. WritesBy answer from to (lacked [] items) texts left left told entered) c.from_residual-in_err-journal.result p.0 c.in_err-journal.field-0.0 p.1 p.2
-    (nothing_yet c.in_err-journal.field-0.0 from to (lacked [] items) texts left left told entered (stop_last to [] told entered c.in_err-journal.field-0.0 (Unit {0}) c.in_err-journal.ensures.moving) (c.draws_compose.ensures.none left) entering)
+    (nothing_yet c.in_err-journal.field-0.0 from to (lacked [] items) texts left left told entered (stop_is_test c.in_err-journal.field-0.0 (Unit {0}) c.in_err-journal.ensures.moving) (c.draws_compose.ensures.none left) entering)
 
 pub returns-in_err-write-clause-written : goal.returns-in_err-write-clause-written
 returns-in_err-write-clause-written g c =
@@ -295,7 +298,7 @@ returns-in_err-write-clause-written g c =
     let so_far = beside_on to.root (λ file. ⊥) (λ file. Contains first file) (λ file. Contains first file) (λ file none. absurd none) (λ file text. text) told entered written entering writing in
     let p = err_from_is_err_and c.from_residual-in_err-write.result c.from_residual-in_err-write.ensures.1 in
     refused_as (λ answer. WritesBy answer from to (lacked [] items) texts left left told written) c.from_residual-in_err-write.result p.0 (of_folder c.in_err-write.field-0.0) p.1 p.2
-    (texts_first (of_folder c.in_err-write.field-0.0) from to (lacked [] items) texts left left told written (folder_last to [] told written c.in_err-write.field-0.0) (c.draws_compose.ensures.none left)
+    (texts_first (of_folder c.in_err-write.field-0.0) from to (lacked [] items) texts left left told written (folder_refuses c.in_err-write.field-0.0) (c.draws_compose.ensures.none left)
     (only_more (BringsOnlyTo to.root (λ at. ⊥)) (BringsOnlyTo to.root (λ at. ⊥)) (λ file. Contains first file) (λ file. Contains texts file) (λ call is. is) (λ file text. in_first first last file text) told written so_far))
 
 pub returns-clause-written : goal.returns-clause-written

@@ -106,7 +106,7 @@ returns-clause-moved g c =
     let to = c.args.sides.now.target in
     let same = c.in_ok-test_same.ensures.told ∙ c.in_ok-target.ensures.told in
     has_moved c.what_is_held_opens_the_same.ensures.held c.what_is_held_opens_the_same.ensures.same from to c.args.work.now c.args.source.now.items c.in_ok-target.target.items c.args.journal
-    here (g.F.Folder.told c.say_done.new.folder) c.requires.apart (g.met.F.Folder.sound c.test_same.new.folder) c.requires.journal c.requires.source c.requires.target
+    here (g.F.Folder.told c.say_done.new.folder) c.requires.apart (g.met.F.Folder.sound c.test_same.new.folder) c.requires.journal c.requires.source c.requires.target c.requires.items
     (subst (λ t. IsWalked t from c.args.source.now.items) (sym same) c.requires.walked) (subst (λ t. IsWalked t to c.in_ok-target.target.items) (sym same) c.in_ok-target.ensures.walked)
     (λ v is. c.in_ok-test_same.ensures.same v (subst (λ t. IsSeen t v) c.in_ok-test_same.ensures.told is))
     (c.say_done.ensures.moves to.root c.requires.apart.target) (c.say_done.ensures.moves from.root c.requires.apart.source) c.in_ok-say_done.ensures.says (length c.as_slice.result.now) (ap length c.as_slice.ensures)

@@ -8,7 +8,7 @@ use Rattle.vault_write.specs.Calls.{MakesDirectory}
 use Rattle.migrate_core.proofs.Leadings.{goes_failed}
 use Rattle.migrate_core.proofs.Placings.{directory_goes, made_moves, made_ready}
 use Rattle.migrate_core.proofs.Causing.{refused_as, put_stop}
-use Rattle.migrate_core.proofs.Writings.{directory_copy, item_made, item_stops, one_begun, one_written}
+use Rattle.migrate_core.proofs.Writings.{directory_copy, directory_ends, one_begun, one_written}
 use Rattle.migrate_core.specs.Written.{MadeItem, WritesBy}
 use Rattle.migrate_core.specs.Faults.{of_put}
 use Rattle.migrate_core.proofs.Stopping.{directory_stops, refusal_tells}
@@ -77,8 +77,7 @@ returns-in_err-place_dir-in-Dir-clause-written g c =
     let p = err_from_is_err_and c.from_residual.result c.from_residual.ensures.1 in
     let why = c.in_err-place_dir-in-Dir.field-0.0 in
     refused_as (λ answer. WritesBy answer from to (item ∷ []) [] left left' told told') c.from_residual.result p.0 (of_put why) p.1 p.2
-    (one_begun from to item x left left' told told' why made.were_drawn copy (item_made to c.args.work.now c.requires.apart.target x Whole told told' (Err why) made.makes)
-    (item_stops to c.args.work.now x Whole told told' why made.makes))
+    (one_begun from to c.args.work.now c.requires.apart.target item x Whole left left' told told' made.were_drawn copy (directory_ends from item told node) why made.makes)
 
 pub returns-in_ok-place_dir-in-Dir-clause-written : goal.returns-in_ok-place_dir-in-Dir-clause-written
 returns-in_ok-place_dir-in-Dir-clause-written g c =
@@ -94,7 +93,7 @@ returns-in_ok-place_dir-in-Dir-clause-written g c =
     let made = c.in_ok-place_dir-in-Dir.ensures.made in
     let x : MadeItem = record { path = c.item.inside.path; item = NewDirectory; drawn = made.drawn } in
     let copy = directory_copy from item told c.item.inside.path made.drawn path node in
-    one_written from to item x left left' told told' made.were_drawn copy (item_made to c.args.work.now c.requires.apart.target x Whole told told' (Ok tt) made.makes)
+    one_written from to c.args.work.now c.requires.apart.target item x Whole left left' told told' made.were_drawn copy (directory_ends from item told node) made.makes
 
 pub returns-in_err-place_dir-in-Dir-clause-moving : goal.returns-in_err-place_dir-in-Dir-clause-moving
 returns-in_err-place_dir-in-Dir-clause-moving g c =

@@ -14,7 +14,7 @@ use Rattle.migrate_core.proofs.Leadings.{goes_failed}
 use Rattle.migrate_core.proofs.Movings.{moves_nowhere}
 use Rattle.migrate_core.proofs.Placings.{file_goes, made_moves, made_ready}
 use Rattle.migrate_core.proofs.Planned.{content_elsewhere, content_is, content_ready, content_coming}
-use Rattle.migrate_core.proofs.Writings.{file_copy, item_made, item_stops, stop_last, nothing_yet, one_begun, one_written, only_nowhere}
+use Rattle.migrate_core.proofs.Writings.{ToldContent, file_copy, file_ends, nothing_yet, one_begun, one_written, only_nowhere}
 use Rattle.migrate_core.specs.Written.{BringsOnlyTo, MadeItem, WritesBy}
 use Rattle.migrate_core.proofs.Causing.{refused_as, put_stop}
 use Rattle.migrate_core.specs.Causes.{StopsAt, StopsSeen}
@@ -111,7 +111,7 @@ returns-in_err-reader-clause-written g c =
     let left = g.R.Randoms.left c.args.random.now in
     let p = err_from_is_err_and c.from_residual.result c.from_residual.ensures.1 in
     refused_as (λ answer. WritesBy answer from to (c.args.item.now ∷ []) [] left left told told) c.from_residual.result p.0 NoMemory p.1 p.2
-    (nothing_yet NoMemory from to (c.args.item.now ∷ []) [] left left told told (stop_last to [] told told NoMemory (Unit {0}) tt) (c.draws_compose.ensures.none left) (only_nowhere (BringsOnlyTo to.root (λ at. ⊥)) (λ file. ⊥) told told refl))
+    (nothing_yet NoMemory from to (c.args.item.now ∷ []) [] left left told told tt (c.draws_compose.ensures.none left) (only_nowhere (BringsOnlyTo to.root (λ at. ⊥)) (λ file. ⊥) told told refl))
 
 pub returns-in_err-place_file-clause-written : goal.returns-in_err-place_file-clause-written
 returns-in_err-place_file-clause-written g c =
@@ -129,13 +129,14 @@ returns-in_err-place_file-clause-written g c =
     let made = c.in_err-place_file.ensures.made in
     let w = made.writing in
     let x : MadeItem = record { path = c.item.inside.path; item = NewFile w.content; drawn = w.drawn } in
-    let copy = file_copy c.files_fit_as_contents.ensures from item told c.item.inside.path w.content w.drawn w.ending path c.requires.file c.requires.item
-    (λ a is coming comes. made.takes.told coming (ap (λ t. still_coming (path_of content) t (coming_of content)) is ∙ content_coming from item content gives a ∙ comes)) in
+    let told_so : ToldContent from item told w.content w.ending =
+    λ a is coming comes. made.takes.told coming (ap (λ t. still_coming (path_of content) t (coming_of content)) is ∙ content_coming from item content gives a ∙ comes) in
+    let copy = file_copy c.files_fit_as_contents.ensures from item told c.item.inside.path w.content w.drawn w.ending path c.requires.file c.requires.item told_so in
+    let ends = file_ends c.files_fit_as_contents.ensures from item told w.content w.ending c.requires.file c.requires.item told_so in
     let p = err_from_is_err_and c.from_residual-in_err-place_file.result c.from_residual-in_err-place_file.ensures.1 in
     let why = c.in_err-place_file.field-0.0 in
     refused_as (λ answer. WritesBy answer from to (item ∷ []) [] left left' told told') c.from_residual-in_err-place_file.result p.0 (of_put why) p.1 p.2
-    (one_begun from to item x left left' told told' why made.takes.were_drawn copy (item_made to c.args.work.now c.requires.apart.target x w.ending told told' (Err why) made.makes)
-    (item_stops to c.args.work.now x w.ending told told' why made.makes))
+    (one_begun from to c.args.work.now c.requires.apart.target item x w.ending left left' told told' made.takes.were_drawn copy ends why made.makes)
 
 pub returns-clause-written : goal.returns-clause-written
 returns-clause-written g c =
@@ -153,9 +154,11 @@ returns-clause-written g c =
     let made = c.in_ok-place_file.ensures.made in
     let w = made.writing in
     let x : MadeItem = record { path = c.item.inside.path; item = NewFile w.content; drawn = w.drawn } in
-    let copy = file_copy c.files_fit_as_contents.ensures from item told c.item.inside.path w.content w.drawn w.ending path c.requires.file c.requires.item
-    (λ a is coming comes. made.takes.told coming (ap (λ t. still_coming (path_of content) t (coming_of content)) is ∙ content_coming from item content gives a ∙ comes)) in
-    one_written from to item x left left' told told' made.takes.were_drawn copy (item_made to c.args.work.now c.requires.apart.target x w.ending told told' (Ok tt) made.makes)
+    let told_so : ToldContent from item told w.content w.ending =
+    λ a is coming comes. made.takes.told coming (ap (λ t. still_coming (path_of content) t (coming_of content)) is ∙ content_coming from item content gives a ∙ comes) in
+    let copy = file_copy c.files_fit_as_contents.ensures from item told c.item.inside.path w.content w.drawn w.ending path c.requires.file c.requires.item told_so in
+    let ends = file_ends c.files_fit_as_contents.ensures from item told w.content w.ending c.requires.file c.requires.item told_so in
+    one_written from to c.args.work.now c.requires.apart.target item x w.ending left left' told told' made.takes.were_drawn copy ends made.makes
 
 pub returns-in_err-reader-clause-moving : goal.returns-in_err-reader-clause-moving
 returns-in_err-reader-clause-moving g c =

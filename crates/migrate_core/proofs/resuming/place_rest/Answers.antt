@@ -23,7 +23,7 @@ use Rattle.migrate_core.specs.Causes.{IsOfMoving, Moves, Unless, StopsAt, StopsS
 use Rattle.migrate_core.specs.Copying.{HasCopied, HaveOwnFolders}
 use Rattle.migrate_core.proofs.Copyings.{copied_as}
 use Rattle.migrate_core.specs.Faults.{of_work}
-use Rattle.migrate_core.proofs.Writings.{changing_writes, kept_by, lacked_is, nothing_yet, work_last, only_more, source_beside_at, texts_then}
+use Rattle.migrate_core.proofs.Writings.{changing_writes, kept_by, lacked_is, nothing_yet, work_refuses, only_more, source_beside_at, texts_then}
 use Rattle.migrate_core.specs.Written.{BringsOnlyTo, WritesBy, lacked}
 use Rattle.move_journal.specs.Journal.{journal_text}
 use Rattle.migrate_core.proofs.Blaming.{blamed_later}
@@ -82,6 +82,9 @@ go_on-requires-clause-work_folder g c = λ v seen.
     subst (IsWorkFolder v) (sym c.in_ok-again.ensures.path)
     (work_folder_stays (apart_from (stage_path work)) work t0 t1 (staging_has work) (g.met.F.Folder.sound c.args.folder.now)
     (stage_stays work c.args.sides.now.target.root t0 t1 c.requires.apart.target c.again.ensures.restages.moments) (λ w was. (c.requires.used w was).folder) v seen)
+
+pub go_on-requires-clause-items : goal.go_on-requires-clause-items
+go_on-requires-clause-items g c = c.requires.items_named.1
 
 pub returns-clause-moves : goal.returns-clause-moves
 returns-clause-moves g c =
@@ -184,7 +187,7 @@ returns-in_err-again-clause-written g c v seen =
     let staging = changing_writes (stage_path work) (IsStage work) (IsBelowStage work) to.root (stage_apart work to.root c.requires.apart.target) told ready c.again.ensures.restages.moments in
     let p = err_from_is_err_and c.from_residual.result c.from_residual.ensures.1 in
     refused_as (λ answer. WritesBy answer from to (lacked there items) texts left left told ready) c.from_residual.result p.0 (of_work c.in_err-again.field-0.0) p.1 p.2
-    (nothing_yet (of_work c.in_err-again.field-0.0) from to (lacked there items) texts left left told ready (work_last to [] told ready c.in_err-again.field-0.0) (c.draws_compose.ensures.none left) staging)
+    (nothing_yet (of_work c.in_err-again.field-0.0) from to (lacked there items) texts left left told ready (work_refuses c.in_err-again.field-0.0) (c.draws_compose.ensures.none left) staging)
 
 pub returns-clause-written : goal.returns-clause-written
 returns-clause-written g c v seen =

@@ -10,7 +10,10 @@ use Rattle.std.proofs.lemmas.Result.{err_from_is_err_and}
 use Rattle.migrate_core.specs.Faults.{of_folder}
 use Rattle.migrate_core.specs.Causes.{Resumes, Unless}
 use Rattle.migrate_core.proofs.Writings.{refusal_as, folder_refuses, settle_writes, told_after}
-use Rattle.std.proofs.Common.{inl}
+use Rattle.std.proofs.Common.{IfErr, inl}
+use Rattle.migrate_core.proofs.Completing.{folder_chance, own_faults}
+use Rattle.migrate_core.proofs.Continuing.{folders_of, resume_completes}
+use Rattle.migrate_core.specs.Completing.{IsOfChance}
 use Rattle.migrate_core.proofs.resuming.resume.Goals as goal
 
 pub returns-in_err-settle-clause-guard : goal.returns-in_err-settle-clause-guard
@@ -73,3 +76,14 @@ returns-clause-written g c v seen =
     let known = settle_seen told settled c.in_ok-settle.field-0 c.in_ok-settle.ensures.changes in
     told_after left (g.R.Randoms.left c.resume_settled.new.random) told settled (g.F.Folder.told c.resume_settled.new.folder) known (settle_writes told settled c.settle.result c.settle.ensures.changes)
     c.resume_settled.result c.args.work.now c.args.source_pass.now c.args.target_pass.now v (c.resume_settled.ensures.written v (known v seen))
+
+pub returns-in_err-settle-clause-completes : goal.returns-in_err-settle-clause-completes
+returns-in_err-settle-clause-completes g c m v seen asked can =
+    let p = err_from_is_err_and c.from_residual.result c.from_residual.ensures.1 in
+    refused_as (λ answer. IfErr answer IsOfChance) c.from_residual.result p.0 (of_folder c.in_err-settle.field-0.0) p.1 p.2 (folder_chance c.in_err-settle.field-0.0)
+
+pub returns-clause-completes : goal.returns-clause-completes
+returns-clause-completes g c m v seen asked can =
+    resume_completes m v c.args.work.now c.args.source_pass.now c.args.target_pass.now c.resume_settled.result asked
+    (c.what_can_resume_is_done.ensures m v c.resume_settled.result (folders_of (g.F.Folder.told c.args.folder.now) (g.met.F.Folder.sound c.args.folder.now) v seen) can
+    (own_faults c.resume_settled.result _ _ c.resume_settled.ensures.blamed)) (returns-clause-cause g c v seen)

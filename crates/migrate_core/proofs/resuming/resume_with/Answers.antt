@@ -16,7 +16,7 @@ use Rattle.migrate_core.specs.Causes.{Moves, ResumesWith, TestsItems, Unless}
 use Rattle.work_folder.specs.Entering.{Empties}
 use Rattle.vault_spec.specs.Plan.{Planned}
 use Rattle.migrate_core.specs.declared.placing.Done.{Done}
-use Rattle.migrate_core.proofs.Writings.{refusal_as, by_texts, done_text, items_told, nothing_written}
+use Rattle.migrate_core.proofs.Writings.{refusal_as, by_texts, done_text, nothing_written}
 use Rattle.migrate_core.specs.Written.{WritesBy, journal_texts, lacked}
 use Rattle.move_journal.specs.Journal.{journal_text}
 use Rattle.migrate_core.proofs.Started.{matched_held, may_begin}
@@ -148,8 +148,7 @@ returns-clause-written g c v seen =
     let after = g.F.Folder.told c.place_rest.new.folder in
     let left2 = g.R.Randoms.left c.place_rest.new.random in
     let same = c.test_plans.ensures.told ∙ c.walk_both.ensures.told in
-    let once = subst (λ t. IsSeen t v) (sym c.walk_both.ensures.told) seen in
-    let told_items = items_told from to journal v items there (c.in_ok-test_plans.ensures.cause v once) in
+    let told_items = c.in_ok-test_plans.ensures.named in
     let text = done_text journal from.root to.root items c.requires.source_named c.requires.target_named told_items in
     inr (record {
       items = items;

@@ -1,0 +1,34 @@
+//! Laws of the definitions. Each function does nothing, and its clauses are the laws.
+ghost use Rattle.std.specs.Prelude.{IfErr, Result};
+ghost use Rattle.folder_spec.specs.View.{View};
+ghost use Rattle.tree_match.specs.Guard.{Migration};
+ghost use Rattle.migrate_core.specs.Causes.{Begins, Resumes};
+ghost use Rattle.migrate_core.specs.Completing.{CanBegin, CanResume, IsOfChance};
+ghost use Rattle.migrate_core.specs.Faults.{IsMoveFault};
+ghost use Rattle.migrate_core.specs.declared.fault.MoveFault.{MoveFault};
+ghost use Rattle.migrate_core.specs.declared.placing.Done.{Done};
+ghost use Rattle.vault_spec.specs.Alike.{HasFolders};
+
+use move_journal::laws::journals_are_read_back;
+use tree_match::laws::walks_tell_the_tree;
+use vault_read::laws::{files_have_their_contents, roots_have_one_answer};
+use vault_spec::laws::plans_are_the_tree;
+
+/// Where a migration can begin, no test of `begin` fails and no content stops it: it is done, unless chance has it otherwise.
+pub fn what_can_begin_is_done()
+    ensures { (g : Migration) (v : View) (answer : Result Done MoveFault) → CanBegin g v → IfErr answer IsMoveFault → Begins g.source.root g.target.root g.work g.source.pass g.target.pass v answer → IfErr answer IsOfChance }
+{
+    roots_have_one_answer();
+    walks_tell_the_tree();
+}
+
+/// Where a migration can go on, no test of `resume` fails and no content stops it: it is done, unless chance has it otherwise.
+pub fn what_can_resume_is_done()
+    ensures { (g : Migration) (v : View) (answer : Result Done MoveFault) → HasFolders v → CanResume g v → IfErr answer IsMoveFault → Resumes g.work g.source.pass g.target.pass v answer → IfErr answer IsOfChance }
+{
+    files_have_their_contents();
+    journals_are_read_back();
+    plans_are_the_tree();
+    roots_have_one_answer();
+    walks_tell_the_tree();
+}

@@ -8,6 +8,8 @@ mod checking;
 #[cfg(test)]
 mod decrypting;
 #[cfg(test)]
+mod demonstrations;
+#[cfg(test)]
 mod links;
 #[cfg(test)]
 mod making;

@@ -21,7 +21,8 @@ use Rattle.vault_spec.specs.Vault.{Either}
 use Rattle.vault_cli.specs.declared.answer.Answer.{Answer}
 use Rattle.vault_cli.specs.declared.answer.Answer.TheVariants.{Done, Findings, BadCommandLine, OutOfMemory, FolderFault, InputFault, OutputFault, RandomFault, Refused, WrongPass, NotFound, WrongKind, DamagedInput, Damaged, NotAllowed, NotClean, Overlap, NotEmpty, Begun, Unusable, Changed, Differ, ZeroRandom, Taken, Limit, Retired}
 use Rattle.vault_cli.specs.declared.words.Command.{Command}
-use Rattle.vault_cli.specs.declared.words.Command.TheVariants.{DecryptFile, Init, Ls, Cat, Fsck, Mkdir, Put, Repair, Migrate, Resume, Retire}
+use Rattle.vault_cli.specs.declared.words.Command.TheVariants.{DecryptFile, Init, Ls, Cat, Fsck, Mkdir, Put, Repair, Migrate, Resume, Retire, Demo}
+use Rattle.vault_cli.proofs.Demonstrations.{demonstrates_nothing, demonstration_lost, no_bad_demonstration}
 use Rattle.vault_cli.proofs.Decryptions.{decrypts_nothing, decryption_lost}
 use Rattle.vault_cli.proofs.MadeItems.{makes_no_directory, directory_lost, no_bad_directory}
 use Rattle.vault_cli.proofs.MadeVaults.{makes_no_vault, vault_lost, no_bad_vault}
@@ -70,6 +71,7 @@ not_begun law (Some (Put change)) w = stores_nothing change w
 not_begun law (Some (Migrate moving)) w = migrates_nothing moving law w
 not_begun law (Some (Resume resuming)) w = resumes_nothing resuming law w
 not_begun law (Some (Retire resuming)) w = retires_nothing resuming law w
+not_begun law (Some (Demo demonstration)) w = demonstrates_nothing demonstration w
 
 -- all pieces are the first ones
 all_taken : (Shows : Shown → Type 0) (answer : Answer) (taken taken' : Option (List ℕ)) → TakesAll Shows answer taken taken' → TakesSome Shows taken taken'
@@ -148,6 +150,7 @@ lost (Some (Put change)) answer before after named did = file_lost change answer
 lost (Some (Migrate moving)) answer before after named did = migration_lost moving answer before after named did
 lost (Some (Resume resuming)) answer before after named did = resuming_lost resuming answer before after named did
 lost (Some (Retire resuming)) answer before after named did = retiring_lost resuming answer before after named did
+lost (Some (Demo demonstration)) answer before after named did = demonstration_lost demonstration answer before after named did
 
 -- what holds of an answer holds of the one that its report gives back
 pub reported : (command : Option Command) (answer result : Answer) (before after : World) → (result ≡ answer) ⊎ ((result ≡ OutOfMemory) × (is_plain answer ≡ false))
@@ -232,6 +235,7 @@ bad_is_none (Some (Put change)) answer before after is did = absurd (no_bad_file
 bad_is_none (Some (Migrate moving)) answer before after is did = absurd (no_bad_migration moving answer before after (bad_of_status answer is) did)
 bad_is_none (Some (Resume resuming)) answer before after is did = absurd (no_bad_resuming resuming answer before after (bad_of_status answer is) did)
 bad_is_none (Some (Retire resuming)) answer before after is did = absurd (no_bad_retiring resuming answer before after (bad_of_status answer is) did)
+bad_is_none (Some (Demo demonstration)) answer before after is did = absurd (no_bad_demonstration demonstration answer before after (bad_of_status answer is) did)
 
 pub none_is_bad : (command : Option Command) (answer : Answer) (before after : World) → IsNone command → Executes command answer before after → (status_of answer ≡ 2) ⊎ (status_of answer ≡ 3)
 none_is_bad None answer before after none did = elim did.answers [ inl bad ↦ inl (ap status_of bad) | inr memory ↦ inr (ap status_of memory) ]

@@ -18,3 +18,8 @@ mod Showing
 mod Sites
 mod StoredFiles
 mod WholeFiles
+mod WrittenNumbers
+mod Demonstrations
+mod Statuses
+mod Keeping
+mod DemonstratedTrees

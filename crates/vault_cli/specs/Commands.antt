@@ -1,6 +1,6 @@
 -- The command that words make. Each of its options stands exactly once, and folder paths and plain paths are read by their rules.
 -- Any other words make none.
-use Rattle.std.specs.Prelude.{ℕ, List, [], ◌∷◌, codes, if◌then◌else◌, Option, None, Some, option_map, option_and_then}
+use Rattle.std.specs.Prelude.{ℕ, ◌≤◌, List, [], ◌∷◌, codes, if◌then◌else◌, Option, None, Some, option_map, option_and_then}
 use Rattle.std.specs.Str.{bytes_eq}
 use Rattle.std.specs.Result.{result_ok}
 use Rattle.folder_model.specs.Text.{is_path_text, parts_of}
@@ -13,7 +13,9 @@ use Rattle.vault_read.specs.declared.vault.VaultKind.{VaultKind}
 use Rattle.vault_read.specs.declared.vault.VaultKind.TheVariants.{Gocryptfs, Cryptomator}
 use Rattle.vault_cli.specs.Words.{Choice, Arguments, arguments_of, are_just, value_of}
 use Rattle.vault_cli.specs.declared.words.Command.{Command}
-use Rattle.vault_cli.specs.declared.words.Command.TheVariants.{DecryptFile, Init, Ls, Cat, Fsck, Mkdir, Put, Repair, Migrate, Resume, Retire}
+use Rattle.vault_cli.specs.declared.words.Command.TheVariants.{DecryptFile, Init, Ls, Cat, Fsck, Mkdir, Put, Repair, Migrate, Resume, Retire, Demo}
+use Rattle.vault_cli.specs.Numbers.{number_within}
+use Rattle.vault_cli.specs.declared.words.Demonstration.{Demonstration}
 use Rattle.vault_cli.specs.declared.words.Change.{Change}
 use Rattle.vault_cli.specs.declared.words.Checking.{Checking}
 use Rattle.vault_cli.specs.declared.words.Repairing.{Repairing}
@@ -202,6 +204,19 @@ resume_by choices positional = option_map Resume (leading_by choices positional)
 abbrev pub retire_by : List Choice → List (List ℕ) → Option Command
 retire_by choices positional = option_map Retire (leading_by choices positional)
 
+abbrev pub demonstration_by : Option ℕ → Option ℕ → Option Demonstration
+demonstration_by (Some seed) (Some count) = Some (record { seed = seed; count = count })
+demonstration_by _ _ = None
+
+-- `SEED COUNT`: a number of 64 bits, and one of at most 2,000
+abbrev pub demonstration_of : List ℕ → List ℕ → Option Demonstration
+demonstration_of seed count = demonstration_by (number_within 18446744073709551615 seed) (number_within 2000 count)
+
+-- `demo SEED COUNT`
+abbrev pub demo_by : List Choice → List (List ℕ) → Option Command
+demo_by [] (seed ∷ count ∷ []) = option_map Demo (demonstration_of seed count)
+demo_by _ _ = None
+
 -- the command of a name with its arguments
 abbrev pub command_named : List ℕ → Arguments → Option Command
 command_named name arguments =
@@ -216,6 +231,7 @@ command_named name arguments =
     else if bytes_eq name (codes "migrate") then migrate_by arguments.choices arguments.positional
     else if bytes_eq name (codes "resume") then resume_by arguments.choices arguments.positional
     else if bytes_eq name (codes "retire") then retire_by arguments.choices arguments.positional
+    else if bytes_eq name (codes "demo") then demo_by arguments.choices arguments.positional
     else None
 
 abbrev pub command_of : List (List ℕ) → Option Command
@@ -228,4 +244,5 @@ AreWritten moving = IsParsed moving.source × IsParsed moving.target
 
 abbrev pub HasTexts : Option Command → Type 0
 HasTexts (Some (Migrate moving)) = AreWritten moving
+HasTexts (Some (Demo demonstration)) = demonstration.count ≤ 2000
 HasTexts command = Unit {0}

@@ -1,4 +1,5 @@
 pub mod Words
+pub mod Numbers
 pub mod Commands
 pub mod Answers
 pub mod Faults
@@ -27,4 +28,5 @@ pub mod Moving
 pub mod Migrate
 pub mod Resume
 pub mod Retire
+pub mod Demo
 pub mod Runs

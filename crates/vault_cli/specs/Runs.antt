@@ -3,6 +3,7 @@ use Rattle.std.specs.Prelude.{◌≡◌, ◌⊎◌, Option, Some, None}
 use Rattle.std.specs.Io.KnownBytes.{Keeps}
 use Rattle.vault_cli.specs.Cat.{ShowsContent}
 use Rattle.vault_cli.specs.DecryptFile.{DecryptsFile}
+use Rattle.vault_cli.specs.Demo.{Demonstrates}
 use Rattle.vault_cli.specs.Fsck.{ChecksVault}
 use Rattle.vault_cli.specs.Init.{MakesVault}
 use Rattle.vault_cli.specs.Ls.{ShowsItems}
@@ -17,7 +18,7 @@ use Rattle.vault_cli.specs.World.{World}
 use Rattle.vault_cli.specs.declared.answer.Answer.{Answer}
 use Rattle.vault_cli.specs.declared.answer.Answer.TheVariants.{BadCommandLine, OutOfMemory, FolderFault}
 use Rattle.vault_cli.specs.declared.words.Command.{Command}
-use Rattle.vault_cli.specs.declared.words.Command.TheVariants.{DecryptFile, Init, Ls, Cat, Fsck, Mkdir, Put, Repair, Migrate, Resume, Retire}
+use Rattle.vault_cli.specs.declared.words.Command.TheVariants.{DecryptFile, Init, Ls, Cat, Fsck, Mkdir, Put, Repair, Migrate, Resume, Retire, Demo}
 use Rattle.vault_cli.specs.declared.words.Target.{Target}
 
 -- words that make no command, of which nothing comes
@@ -51,3 +52,4 @@ Executes (Some (Repair target)) answer before after = RepairsVault target answer
 Executes (Some (Migrate moving)) answer before after = MigratesTree moving answer before after
 Executes (Some (Resume resuming)) answer before after = ResumesTree resuming answer before after
 Executes (Some (Retire resuming)) answer before after = RetiresSource resuming answer before after
+Executes (Some (Demo demonstration)) answer before after = Demonstrates demonstration answer before after

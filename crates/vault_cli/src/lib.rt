@@ -7,12 +7,14 @@ mod arguments;
 mod beginning;
 mod cat;
 mod decrypt;
+mod demo;
 mod fsck;
 mod init;
 mod ls;
 mod migrate;
 mod mkdir;
 mod moving;
+mod numbers;
 mod opening;
 mod places;
 mod put;
@@ -24,6 +26,9 @@ mod running;
 pub mod words;
 
 pub use answer::Answer;
+pub use demo::demo_in;
 pub use reporting::report;
 pub use running::run;
-pub use words::{Change, Checking, Command, Moving, NewVault, Passes, Repairing, Resuming, Target};
+pub use words::{
+    Change, Checking, Command, Demonstration, Moving, NewVault, Passes, Repairing, Resuming, Target,
+};

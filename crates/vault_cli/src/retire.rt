@@ -86,7 +86,7 @@ fn root_by<'a>(work: &'a FPath, journal: &'a Option<Journal>, fault: &RetireFaul
     }
 }
 
-fn answer_to(work: &FPath, root: &FPath, fault: RetireFault) -> Answer
+pub(crate) fn answer_to(work: &FPath, root: &FPath, fault: RetireFault) -> Answer
     ensures answers { (result ≡ Answer.OutOfMemory) ⊎ (result ≡ of_retire work.now root.now fault) }
     ensures own { IsRetireFault fault → IsTrue (is_of_refusal result) }
     ensures failed { result ≡ Answer.FolderFault → IsRetireFault fault → fault ≡ RetireFault.Failed }

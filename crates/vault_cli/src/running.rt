@@ -10,6 +10,7 @@ ghost use Rattle.vault_cli.specs.World.{World};
 use crate::answer::Answer;
 use crate::cat::cat;
 use crate::decrypt::decrypt_file;
+use crate::demo::demo;
 use crate::fsck::fsck;
 use crate::init::init;
 use crate::ls::ls;
@@ -102,5 +103,6 @@ fn execute<F: Folder, R: Randoms, I: Source, O: Sink>(
         Ok(Some(Command::Migrate(moving))) => migrate(alloc, &moving, folder, random, out),
         Ok(Some(Command::Resume(resuming))) => resume(alloc, &resuming, folder, random, out),
         Ok(Some(Command::Retire(resuming))) => retire(alloc, &resuming, folder, out),
+        Ok(Some(Command::Demo(demonstration))) => demo(alloc, &demonstration, out),
     }
 }

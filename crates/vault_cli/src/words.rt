@@ -1,15 +1,19 @@
 //! The commands, and the words that make them.
-ghost use Rattle.std.specs.Prelude.{◌≡◌, IfOk, IfSome, map, string_bytes};
+ghost use Rattle.std.specs.Prelude.{◌≡◌, ◌≤◌, IfOk, IfSome, map, string_bytes};
 ghost use Rattle.move_journal.specs.Journal.{IsParsed};
 ghost use Rattle.plain_tree.specs.Reading.{read_path};
-ghost use Rattle.vault_cli.specs.Commands.{AreWritten, HasTexts, cat_by, change_of, checking_of, command_named, command_of, decrypt_file_by, file_of, folder_path, fsck_by, init_by, key_of, kind_of, leading_by, ls_by, making_by, migrate_by, mkdir_by, moving_of, new_vault_of, passes_of, put_by, repair_by, repairing_of, resume_by, resuming_of, retire_by, target_of};
+ghost use Rattle.vault_cli.specs.Commands.{AreWritten, HasTexts, cat_by, change_of, checking_of, command_named, command_of, decrypt_file_by, demo_by, demonstration_of, file_of, folder_path, fsck_by, init_by, key_of, kind_of, leading_by, ls_by, making_by, migrate_by, mkdir_by, moving_of, new_vault_of, passes_of, put_by, repair_by, repairing_of, resume_by, resuming_of, retire_by, target_of};
 
 use crate::arguments::{Arguments, Choice, are_just, value_of};
+use crate::numbers::number_within;
 use folder_model::{FPath, FPathFault};
 use plain_tree::{PathFault, PlainPath};
 use std::alloc::{AllocError, Global};
 use text_model::Text;
 use vault_read::VaultKind;
+
+// The most items of a demonstration.
+const MAX_COUNT: u64 = 2_000;
 
 /// A plain path in a vault, and the file that holds the vault's passphrase.
 #[derive(Debug, Drop)]
@@ -73,6 +77,13 @@ pub struct Resuming {
     pub passes: Passes,
 }
 
+/// A demonstration: the number that it is made from, and how many items it has.
+#[derive(Clone, Copy, Debug, PartialEq, Eq)]
+pub struct Demonstration {
+    pub seed: u64,
+    pub count: u32,
+}
+
 /// A command with its arguments.
 #[derive(Debug, Drop)]
 pub enum Command {
@@ -98,6 +109,8 @@ pub enum Command {
     Resume(Resuming),
     /// `retire WORK --from-pass FILE --to-pass FILE`: removes the source of a finished migration.
     Retire(Resuming),
+    /// `demo SEED COUNT`: makes a tree of so many items from a number, and moves it there and back in memory.
+    Demo(Demonstration),
 }
 
 impl Command {
@@ -151,6 +164,8 @@ fn named(
         resume(alloc, choices, positional)
     } else if name == "retire" {
         retire(alloc, choices, positional)
+    } else if name == "demo" {
+        Ok(demo(choices, positional))
     } else {
         Ok(None)
     }
@@ -163,6 +178,31 @@ fn decrypt_file(choices: &[Choice], positional: &[Text]) -> Option<Command>
         ([], [key]) => read_key(key.as_str()).map(Command::DecryptFile),
         _ => None,
     }
+}
+
+fn demo(choices: &[Choice], positional: &[Text]) -> Option<Command>
+    ensures is { result ≡ demo_by choices.now positional.now }
+    ensures few { HasTexts result }
+{
+    match (choices, positional) {
+        ([], [seed, count]) => {
+            read_demonstration(seed.as_str(), count.as_str()).map(Command::Demo)
+        }
+        _ => None,
+    }
+}
+
+// What `SEED COUNT` names.
+fn read_demonstration(seed: &str, count: &str) -> Option<Demonstration>
+    ensures is { result ≡ demonstration_of seed.now count.now }
+    ensures few { IfSome result (λ demonstration. demonstration.count ≤ 2000) }
+{
+    let seed = number_within(seed, u64::MAX)?;
+    let count = number_within(count, MAX_COUNT)?;
+    Some(Demonstration {
+        seed,
+        count: count as u32,
+    })
 }
 
 fn init(

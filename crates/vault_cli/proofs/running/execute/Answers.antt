@@ -2,6 +2,7 @@ use Rattle.std.proofs.Common.{Some, refl, sym, ap, ◌∙◌, subst, map, string
 use Rattle.std.proofs.KnownBytes.{Keeps-refl}
 use Rattle.vault_cli.specs.Commands.{command_of}
 use Rattle.vault_cli.specs.DecryptFile.{DecryptsFile}
+use Rattle.vault_cli.specs.Demo.{Demonstrates}
 use Rattle.vault_cli.specs.Repair.{RepairsVault}
 use Rattle.vault_cli.specs.Runs.{Executes}
 use Rattle.vault_cli.specs.World.{World}
@@ -43,3 +44,16 @@ returns-in-Ok-Some-Repair-clause-executes g c =
     let after : World = record { told = g.F.Folder.told c.repair.new.folder; left = left; ended = ended; taken = g.O.Sink.taken c.repair.new.out; random = g.R.Randoms.left c.args.random.now } in
     let did : RepairsVault arm.target c.repair.result before after = record { apart = c.repair.ensures.apart; untouched = Keeps-refl left } in
     subst (λ command. Executes command c.repair.result before after) (ap Some (sym arm.field-0-0-is) ∙ sym arm.field-0-is ∙ arm.ensures.is) did
+
+pub returns-in-Ok-Some-Demo-clause-executes : goal.returns-in-Ok-Some-Demo-clause-executes
+returns-in-Ok-Some-Demo-clause-executes g c =
+    let arm = c.in-Ok-Some-Demo in
+    let told = g.F.Folder.told c.args.folder.now in
+    let left = g.I.Source.left c.args.input.now in
+    let ended = g.I.Source.ended c.args.input.now in
+    let random = g.R.Randoms.left c.args.random.now in
+    let before : World = record { told = told; left = left; ended = ended; taken = g.O.Sink.taken c.args.out.now; random = random } in
+    let after : World = record { told = told; left = left; ended = ended; taken = g.O.Sink.taken c.demo.new.out; random = random } in
+    let did : Demonstrates arm.demonstration c.demo.result before after =
+    record { own = c.demo.ensures.own; steady = c.demo.ensures.no_folder; prints = c.demo.ensures.prints; unchanged = refl; untouched = Keeps-refl left; undrawn = refl } in
+    subst (λ command. Executes command c.demo.result before after) (ap Some (sym arm.field-0-0-is) ∙ sym arm.field-0-is ∙ arm.ensures.is) did

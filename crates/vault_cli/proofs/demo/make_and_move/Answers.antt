@@ -1,0 +1,36 @@
+use Rattle.std.proofs.lemmas.Result.{err_from_is_err_and}
+use Rattle.std.proofs.Common.{◌++◌}
+use Rattle.port_model.specs.Counts.{CountRose}
+use Rattle.vault_cli.specs.Demo.{IsWay, made_text, way_text}
+use Rattle.vault_cli.specs.declared.demo.Way.TheVariants.{Arrived}
+use Rattle.vault_cli.proofs.Contents.{rose_after}
+use Rattle.vault_cli.proofs.Demonstrations.{front_of_more, made_then, nothing_yet, way_stopped}
+use Rattle.vault_cli.proofs.demo.make_and_move.Goals as goal
+
+pub returns-in_err-make_items-clause-prints : goal.returns-in_err-make_items-clause-prints
+returns-in_err-make_items-clause-prints g c =
+    let taken = g.O.Sink.taken c.args.out.now in
+    let text = made_text c.args.seed c.args.count in
+    let p = err_from_is_err_and c.from_residual.result c.from_residual.ensures.1 in
+    way_stopped (IsWay (CountRose (g.F.Folder.faults c.args.folder.now) (g.F.Folder.faults c.make_items.new.folder)) (CountRose (g.R.Randoms.faults c.args.random.now) (g.R.Randoms.faults c.make_items.new.random)))
+    (λ way. text ++ way_text way) c.from_residual.result p.0 taken taken p.1 (Arrived 0 0, tt, nothing_yet taken (text ++ way_text (Arrived 0 0)))
+
+pub returns-in_err-tell_made-clause-prints : goal.returns-in_err-tell_made-clause-prints
+returns-in_err-tell_made-clause-prints g c =
+    let taken = g.O.Sink.taken c.args.out.now in
+    let last = g.O.Sink.taken c.tell_made.new.out in
+    let text = made_text c.args.seed c.args.count in
+    let p = err_from_is_err_and c.from_residual-in_err-tell_made.result c.from_residual-in_err-tell_made.ensures.1 in
+    way_stopped (IsWay (CountRose (g.F.Folder.faults c.args.folder.now) (g.F.Folder.faults c.make_items.new.folder)) (CountRose (g.R.Randoms.faults c.args.random.now) (g.R.Randoms.faults c.make_items.new.random)))
+    (λ way. text ++ way_text way) c.from_residual-in_err-tell_made.result p.0 taken last p.1 (Arrived 0 0, tt, front_of_more taken last text (way_text (Arrived 0 0)) c.in_err-tell_made.ensures.prints)
+
+pub returns-clause-prints : goal.returns-clause-prints
+returns-clause-prints g c =
+    let f0 = g.F.Folder.faults c.args.folder.now in
+    let f1 = g.F.Folder.faults c.make_items.new.folder in
+    let f2 = g.F.Folder.faults c.move_there.new.folder in
+    let r0 = g.R.Randoms.faults c.args.random.now in
+    let r1 = g.R.Randoms.faults c.make_items.new.random in
+    let r2 = g.R.Randoms.faults c.move_there.new.random in
+    made_then (CountRose f1 f2) (CountRose r1 r2) (CountRose f0 f2) (CountRose r0 r2) (rose_after f0 f1 f2 c.make_items.ensures.grows) (rose_after r0 r1 r2 c.make_items.ensures.counted)
+    c.args.seed c.args.count c.move_there.result (g.O.Sink.taken c.args.out.now) (g.O.Sink.taken c.tell_made.new.out) (g.O.Sink.taken c.move_there.new.out) c.in_ok-tell_made.ensures.prints c.move_there.ensures.prints

@@ -1,0 +1,46 @@
+use Rattle.std.proofs.Common.{subst}
+use Rattle.std.specs.Io.KnownBytes.{Appends}
+use Rattle.std.proofs.lemmas.Result.{err_from_is_err_and}
+use Rattle.port_model.specs.Counts.{CountRose}
+use Rattle.vault_cli.specs.Demo.{IsLed, IsWayBack, back_text, led_text, moved_text, retired_text}
+use Rattle.vault_cli.specs.declared.demo.Leg.TheVariants.{Back}
+use Rattle.vault_cli.specs.declared.demo.Way.TheVariants.{Arrived}
+use Rattle.vault_cli.proofs.Demonstrations.{all_then, front_then, some_back, way_stopped}
+use Rattle.vault_cli.proofs.demo.move_back.Goals as goal
+
+pub returns-in_err-status-clause-prints : goal.returns-in_err-status-clause-prints
+returns-in_err-status-clause-prints g c =
+    let folder = CountRose (g.F.Folder.faults c.args.folder.now) (g.F.Folder.faults c.lead.new.folder) in
+    let random = CountRose (g.R.Randoms.faults c.args.random.now) (g.R.Randoms.faults c.lead.new.random) in
+    let taken = g.O.Sink.taken c.args.out.now in
+    let last = g.O.Sink.taken c.lead.new.out in
+    let p = err_from_is_err_and c.from_residual.result c.from_residual.ensures.1 in
+    way_stopped (IsWayBack folder random) back_text c.from_residual.result p.0 taken last p.1 (some_back folder random taken last c.in_err-status.ensures.prints)
+
+pub returns-in_err-tell_retired-in-Retired-clause-prints : goal.returns-in_err-tell_retired-in-Retired-clause-prints
+returns-in_err-tell_retired-in-Retired-clause-prints g c =
+    let folder = CountRose (g.F.Folder.faults c.args.folder.now) (g.F.Folder.faults c.lead.new.folder) in
+    let random = CountRose (g.R.Randoms.faults c.args.random.now) (g.R.Randoms.faults c.lead.new.random) in
+    let taken = g.O.Sink.taken c.args.out.now in
+    let mid = g.O.Sink.taken c.lead.new.out in
+    let last = g.O.Sink.taken c.tell_retired.new.out in
+    let p = err_from_is_err_and c.from_residual-in_err-tell_retired-in-Retired.result c.from_residual-in_err-tell_retired-in-Retired.ensures.1 in
+    let led = subst (λ l. IsLed folder random l × Appends taken mid (led_text Back l)) c.in-Retired.is c.in_ok-status.ensures.prints in
+    way_stopped (IsWayBack folder random) back_text c.from_residual-in_err-tell_retired-in-Retired.result p.0 taken last p.1
+    (Arrived c.args.first c.in-Retired.second, tt, front_then taken mid last (moved_text Back 0) (retired_text c.args.first c.in-Retired.second) led.1 c.in_err-tell_retired-in-Retired.ensures.prints)
+
+pub returns-in-Stopped-clause-prints : goal.returns-in-Stopped-clause-prints
+returns-in-Stopped-clause-prints g c =
+    let folder = CountRose (g.F.Folder.faults c.args.folder.now) (g.F.Folder.faults c.lead.new.folder) in
+    let random = CountRose (g.R.Randoms.faults c.args.random.now) (g.R.Randoms.faults c.lead.new.random) in
+    subst (λ l. IsLed folder random l × Appends (g.O.Sink.taken c.args.out.now) (g.O.Sink.taken c.lead.new.out) (led_text Back l)) c.in-Stopped.is c.in_ok-status.ensures.prints
+
+pub returns-in_ok-tell_retired-in-Retired-clause-prints : goal.returns-in_ok-tell_retired-in-Retired-clause-prints
+returns-in_ok-tell_retired-in-Retired-clause-prints g c =
+    let folder = CountRose (g.F.Folder.faults c.args.folder.now) (g.F.Folder.faults c.lead.new.folder) in
+    let random = CountRose (g.R.Randoms.faults c.args.random.now) (g.R.Randoms.faults c.lead.new.random) in
+    let taken = g.O.Sink.taken c.args.out.now in
+    let mid = g.O.Sink.taken c.lead.new.out in
+    let last = g.O.Sink.taken c.tell_retired.new.out in
+    let led = subst (λ l. IsLed folder random l × Appends taken mid (led_text Back l)) c.in-Retired.is c.in_ok-status.ensures.prints in
+    (tt, all_then taken mid last (moved_text Back 0) (retired_text c.args.first c.in-Retired.second) led.1 c.in_ok-tell_retired-in-Retired.ensures.prints)

@@ -1,0 +1,455 @@
+//! `demo`: makes a tree from a number, and moves it to the other format and back, in a folder of its own.
+ghost use Rattle.std.specs.Prelude.{◌≡◌, ◌≢◌, ◌≤◌, Ok, Err, IfErr, IfOk, IsTrue, string_bytes};
+ghost use Rattle.move_journal.specs.Journal.{IsParsed};
+ghost use Rattle.port_model.specs.Counts.{CountRose};
+ghost use Rattle.demo_core.specs.Making.{IsFailed, IsMakeFault};
+ghost use Rattle.migrate_core.specs.Faults.{IsMoveFault};
+ghost use Rattle.retire_core.specs.Faults.{IsRetireFault};
+ghost use Rattle.vault_cli.specs.Answers.{TakesText, line_of, status_of};
+ghost use Rattle.vault_cli.specs.Demo.{IsStatus, PrintsAll, PrintsBack, PrintsDemonstration, PrintsLed, PrintsWay, TakesPart, is_of_demonstration, is_of_fault, is_of_telling, made_text, moved_text, retired_text};
+ghost use Rattle.vault_cli.specs.Moving.{is_of_stop};
+ghost use Rattle.vault_cli.specs.Retire.{is_of_refusal};
+
+use crate::answer::Answer;
+use crate::reporting::report;
+use crate::words::Demonstration;
+use crate::{beginning, moving, opening, retire};
+use content_writing::PutFault;
+use demo_core::{
+    MakeFault, PASSPHRASE, SteadyFolder, make_first, make_vault, place, random_of, totals_of,
+};
+use folder_model::{FPath, Folder};
+use migrate_core::MoveFault;
+use port_model::{Randoms, Sink};
+use retire_core::RetireFault;
+use std::alloc::{AllocError, Global};
+use tree_match::Side;
+use vault_read::VaultKind;
+
+/// Makes a tree of so many items from a number in a gocryptfs vault at `g`, moves it into a new Cryptomator vault at `c`, retires `g`,
+/// moves it into a new gocryptfs vault at `h`, and retires `c`. `count` is at most 2,000. Of each part it writes to `out` what was done,
+/// and to `err` the message of a status other than 0. It answers the status: 0 where all is done, or a migration ends with another
+/// status, which stands on its line.
+pub fn demo_in<F: Folder, O: Sink, E: Sink>(
+    alloc: Global,
+    folder: &mut F,
+    seed: u64,
+    count: u32,
+    out: &mut O,
+    err: &mut E,
+) -> u8
+    requires { count ≤ 2000 }
+    // One answer is behind the status, the line on `err` and what was printed.
+    ensures answer { (answer : Answer) × (result ≡ status_of answer)
+        × TakesText (E.taken err.old) (E.taken err.new) (E.faults err.old) (E.faults err.new) (line_of answer)
+        × IsTrue (is_of_demonstration answer)
+        × PrintsDemonstration (CountRose (F.faults folder.old) (F.faults folder.new)) seed count answer (O.taken out.old) (O.taken out.new) }
+    ensures folder_fault { result ≡ 4 → CountRose (F.faults folder.old) (F.faults folder.new) }
+    ensures output_fault { result ≡ 6 → CountRose (O.faults out.old) (O.faults out.new) }
+{
+    let answer = demonstrate(alloc, folder, seed, count, out);
+    let answer = report(alloc, answer, err);
+    answer.status()
+}
+
+/// Does so in a new folder in memory, in which no call fails.
+pub(crate) fn demo<O: Sink>(alloc: Global, demonstration: &Demonstration, out: &mut O) -> Answer
+    requires { demonstration.now.count ≤ 2000 }
+    ensures own { IsTrue (is_of_demonstration result) }
+    ensures prints { PrintsDemonstration ⊥ demonstration.now.seed demonstration.now.count result (O.taken out.old) (O.taken out.new) }
+    ensures no_folder { result ≢ Answer.FolderFault }
+    ensures output_fault { result ≡ Answer.OutputFault → CountRose (O.faults out.old) (O.faults out.new) }
+{
+    let Demonstration { seed, count } = *demonstration;
+    match SteadyFolder::new(alloc) {
+        Ok(mut folder) => demonstrate(alloc, &mut folder, seed, count, out),
+        Err(_) => Answer::OutOfMemory,
+    }
+}
+
+fn demonstrate<F: Folder, O: Sink>(
+    alloc: Global,
+    folder: &mut F,
+    seed: u64,
+    count: u32,
+    out: &mut O,
+) -> Answer
+    requires { count ≤ 2000 }
+    ensures own { IsTrue (is_of_demonstration result) }
+    ensures prints { PrintsDemonstration (CountRose (F.faults folder.old) (F.faults folder.new)) seed count result (O.taken out.old) (O.taken out.new) }
+    ensures folder_fault { result ≡ Answer.FolderFault → CountRose (F.faults folder.old) (F.faults folder.new) }
+    ensures output_fault { result ≡ Answer.OutputFault → CountRose (O.faults out.old) (O.faults out.new) }
+{
+    let mut random = random_of(seed);
+    match make_and_move(alloc, folder, seed, count, &mut random, out) {
+        Ok(_) => Answer::Done,
+        Err(answer) => answer,
+    }
+}
+
+// How the demonstration ends.
+#[derive(Clone, Copy)]
+enum Way {
+    // The migration to Cryptomator ends it with this status.
+    StoppedThere(u8),
+    // The migration back does.
+    StoppedBack(u8),
+    // Both are done, and each retired so many items.
+    Arrived(u64, u64),
+}
+
+// Makes the first vault and its items, and moves them there and back.
+fn make_and_move<F: Folder, R: Randoms, O: Sink>(
+    alloc: Global,
+    folder: &mut F,
+    seed: u64,
+    count: u32,
+    random: &mut R,
+    out: &mut O,
+) -> Result<Way, Answer>
+    requires { count ≤ 2000 }
+    ensures own { IfErr result (λ answer. IsTrue (is_of_fault answer)) }
+    ensures prints { PrintsAll (CountRose (F.faults folder.old) (F.faults folder.new)) (CountRose (R.faults random.old) (R.faults random.new)) seed count result (O.taken out.old) (O.taken out.new) }
+    ensures folder_fault { result ≡ Err Answer.FolderFault → CountRose (F.faults folder.old) (F.faults folder.new) }
+    ensures random_fault { result ≡ Err Answer.RandomFault → CountRose (R.faults random.old) (R.faults random.new) }
+    ensures output_fault { result ≡ Err Answer.OutputFault → CountRose (O.faults out.old) (O.faults out.new) }
+{
+    make_items(alloc, folder, seed, count, random)?;
+    tell_made(alloc, seed, count, out)?;
+    move_there(alloc, folder, random, out)
+}
+
+// Makes the first vault and its items.
+fn make_items<F: Folder, R: Randoms>(
+    alloc: Global,
+    folder: &mut F,
+    seed: u64,
+    count: u32,
+    random: &mut R,
+) -> Result<(), Answer>
+    requires { count ≤ 2000 }
+    ensures own { IfErr result (λ answer. IsTrue (is_of_stop answer)) }
+    ensures folder_fault { result ≡ Err Answer.FolderFault → CountRose (F.faults folder.old) (F.faults folder.new) }
+    ensures random_fault { result ≡ Err Answer.RandomFault → CountRose (R.faults random.old) (R.faults random.new) }
+    ensures grows { F.faults folder.old ≤ F.faults folder.new }
+    ensures counted { R.faults random.old ≤ R.faults random.new }
+{
+    let root = place(alloc, "g")?;
+    match make_first(alloc, folder, seed, count, random) {
+        Ok(()) => Ok(()),
+        Err(fault) => Err(answer_to(alloc, &root, fault)),
+    }
+}
+
+// Moves the items into a Cryptomator vault at `c`, and then back.
+fn move_there<F: Folder, R: Randoms, O: Sink>(
+    alloc: Global,
+    folder: &mut F,
+    random: &mut R,
+    out: &mut O,
+) -> Result<Way, Answer>
+    ensures own { IfErr result (λ answer. IsTrue (is_of_fault answer)) }
+    ensures prints { PrintsWay (CountRose (F.faults folder.old) (F.faults folder.new)) (CountRose (R.faults random.old) (R.faults random.new)) result (O.taken out.old) (O.taken out.new) }
+    ensures folder_fault { result ≡ Err Answer.FolderFault → CountRose (F.faults folder.old) (F.faults folder.new) }
+    ensures random_fault { result ≡ Err Answer.RandomFault → CountRose (R.faults random.old) (R.faults random.new) }
+    ensures output_fault { result ≡ Err Answer.OutputFault → CountRose (O.faults out.old) (O.faults out.new) }
+{
+    match lead(alloc, folder, Leg::There, random, out)? {
+        Led::Stopped(status) => Ok(Way::StoppedThere(status)),
+        Led::Retired(items) => move_back(alloc, folder, items, random, out),
+    }
+}
+
+// Moves the items into a gocryptfs vault at `h`.
+fn move_back<F: Folder, R: Randoms, O: Sink>(
+    alloc: Global,
+    folder: &mut F,
+    first: u64,
+    random: &mut R,
+    out: &mut O,
+) -> Result<Way, Answer>
+    ensures own { IfErr result (λ answer. IsTrue (is_of_fault answer)) }
+    ensures prints { PrintsBack (CountRose (F.faults folder.old) (F.faults folder.new)) (CountRose (R.faults random.old) (R.faults random.new)) result (O.taken out.old) (O.taken out.new) }
+    ensures folder_fault { result ≡ Err Answer.FolderFault → CountRose (F.faults folder.old) (F.faults folder.new) }
+    ensures random_fault { result ≡ Err Answer.RandomFault → CountRose (R.faults random.old) (R.faults random.new) }
+    ensures output_fault { result ≡ Err Answer.OutputFault → CountRose (O.faults out.old) (O.faults out.new) }
+{
+    match lead(alloc, folder, Leg::Back, random, out)? {
+        Led::Stopped(status) => Ok(Way::StoppedBack(status)),
+        Led::Retired(second) => {
+            tell_retired(alloc, first, second, out)?;
+            Ok(Way::Arrived(first, second))
+        }
+    }
+}
+
+// One of the two migrations: from `g` to `c`, or from `c` to `h`.
+#[derive(Clone, Copy, Debug, PartialEq, Eq)]
+enum Leg {
+    There,
+    Back,
+}
+
+impl Leg {
+    fn source(self, alloc: Global) -> Result<FPath, AllocError>
+        ensures { IfOk result IsParsed }
+    {
+        match self {
+            Leg::There => place(alloc, "g"),
+            Leg::Back => place(alloc, "c"),
+        }
+    }
+
+    fn target(self, alloc: Global) -> Result<FPath, AllocError>
+        ensures { IfOk result IsParsed }
+    {
+        match self {
+            Leg::There => place(alloc, "c"),
+            Leg::Back => place(alloc, "h"),
+        }
+    }
+}
+
+// How one migration ends.
+#[derive(Clone, Copy)]
+enum Led {
+    // With a status other than 0.
+    Stopped(u8),
+    // It is done, and its source had so many items.
+    Retired(u64),
+}
+
+// Does a migration, writes its status, and retires its source.
+fn lead<F: Folder, R: Randoms, O: Sink>(
+    alloc: Global,
+    folder: &mut F,
+    leg: Leg,
+    random: &mut R,
+    out: &mut O,
+) -> Result<Led, Answer>
+    ensures own { IfErr result (λ answer. IsTrue (is_of_fault answer)) }
+    ensures prints { PrintsLed (CountRose (F.faults folder.old) (F.faults folder.new)) (CountRose (R.faults random.old) (R.faults random.new)) leg result (O.taken out.old) (O.taken out.new) }
+    ensures folder_fault { result ≡ Err Answer.FolderFault → CountRose (F.faults folder.old) (F.faults folder.new) }
+    ensures random_fault { result ≡ Err Answer.RandomFault → CountRose (R.faults random.old) (R.faults random.new) }
+    ensures output_fault { result ≡ Err Answer.OutputFault → CountRose (O.faults out.old) (O.faults out.new) }
+    ensures grows { F.faults folder.old ≤ F.faults folder.new }
+    ensures counted { R.faults random.old ≤ R.faults random.new }
+    ensures written { O.faults out.old ≤ O.faults out.new }
+{
+    let status = move_to(alloc, folder, leg, random)?;
+    tell_moved(alloc, leg, status, out)?;
+    if status != 0 {
+        return Ok(Led::Stopped(status));
+    }
+    Ok(Led::Retired(retire_source(alloc, folder, leg)?))
+}
+
+// Makes the target of a migration, does the migration, and answers its status. Want of memory ends the work.
+fn move_to<F: Folder, R: Randoms>(
+    alloc: Global,
+    folder: &mut F,
+    leg: Leg,
+    random: &mut R,
+) -> Result<u8, Answer>
+    ensures status { IfOk result (IsStatus (CountRose (F.faults folder.old) (F.faults folder.new)) (CountRose (R.faults random.old) (R.faults random.new))) }
+    ensures own { IfErr result (λ answer. IsTrue (is_of_stop answer)) }
+    ensures folder_fault { result ≡ Err Answer.FolderFault → CountRose (F.faults folder.old) (F.faults folder.new) }
+    ensures random_fault { result ≡ Err Answer.RandomFault → CountRose (R.faults random.old) (R.faults random.new) }
+    ensures grows { F.faults folder.old ≤ F.faults folder.new }
+    ensures counted { R.faults random.old ≤ R.faults random.new }
+{
+    make_target(alloc, folder, leg, random)?;
+    let source = leg.source(alloc)?;
+    let target = leg.target(alloc)?;
+    migrate(alloc, folder, &source, &target, random)
+}
+
+// Makes the target of a migration.
+fn make_target<F: Folder, R: Randoms>(
+    alloc: Global,
+    folder: &mut F,
+    leg: Leg,
+    random: &mut R,
+) -> Result<(), Answer>
+    ensures own { IfErr result (λ answer. IsTrue (is_of_stop answer)) }
+    ensures folder_fault { result ≡ Err Answer.FolderFault → CountRose (F.faults folder.old) (F.faults folder.new) }
+    ensures random_fault { result ≡ Err Answer.RandomFault → CountRose (R.faults random.old) (R.faults random.new) }
+    ensures grows { F.faults folder.old ≤ F.faults folder.new }
+    ensures counted { R.faults random.old ≤ R.faults random.new }
+{
+    let root = leg.target(alloc)?;
+    let made = match leg {
+        Leg::There => make_vault(alloc, folder, VaultKind::Cryptomator, "c", random),
+        Leg::Back => make_vault(alloc, folder, VaultKind::Gocryptfs, "h", random),
+    };
+    match made {
+        Ok(_) => Ok(()),
+        Err(fault) => Err(answer_to(alloc, &root, fault)),
+    }
+}
+
+// Does a migration, and answers its status.
+fn migrate<F: Folder, R: Randoms>(
+    alloc: Global,
+    folder: &mut F,
+    source: &FPath,
+    target: &FPath,
+    random: &mut R,
+) -> Result<u8, Answer>
+    requires source { IsParsed source.now }
+    requires target { IsParsed target.now }
+    ensures status { IfOk result (IsStatus (CountRose (F.faults folder.old) (F.faults folder.new)) (CountRose (R.faults random.old) (R.faults random.new))) }
+    ensures memory { IfErr result (λ answer. answer ≡ Answer.OutOfMemory) }
+    ensures grows { F.faults folder.old ≤ F.faults folder.new }
+    ensures counted { R.faults random.old ≤ R.faults random.new }
+{
+    let work = place(alloc, "m")?;
+    match migrate_core::begin(
+        alloc, folder, source, target, &work, PASSPHRASE, PASSPHRASE, random,
+    ) {
+        Ok(_) => Ok(0),
+        Err(fault) => status_of(&work, source, target, fault),
+    }
+}
+
+// The status of a migration that stops.
+fn status_of(work: &FPath, source: &FPath, target: &FPath, fault: MoveFault) -> Result<u8, Answer>
+    ensures status { IfOk result (IsStatus (IsMoveFault fault → fault ≡ MoveFault.Failed) (fault ≡ MoveFault.Place PutFault.Random)) }
+    ensures memory { IfErr result (λ answer. answer ≡ Answer.OutOfMemory) }
+{
+    let root = match fault {
+        MoveFault::Load(Side::Target, _) => target,
+        _ => source,
+    };
+    match moving::answer_to(work, root, fault) {
+        Answer::OutOfMemory => Err(Answer::OutOfMemory),
+        answer => Ok(answer.status()),
+    }
+}
+
+// Retires the source of a migration, and answers how many items it had.
+fn retire_source<F: Folder>(alloc: Global, folder: &mut F, leg: Leg) -> Result<u64, Answer>
+    ensures own { IfErr result (λ answer. IsTrue (is_of_refusal answer)) }
+    ensures folder_fault { result ≡ Err Answer.FolderFault → CountRose (F.faults folder.old) (F.faults folder.new) }
+    ensures grows { F.faults folder.old ≤ F.faults folder.new }
+{
+    let work = place(alloc, "m")?;
+    let source = leg.source(alloc)?;
+    let target = leg.target(alloc)?;
+    match retire_core::retire(alloc, folder, &work, PASSPHRASE, PASSPHRASE) {
+        Ok(retired) => Ok(retired.items),
+        Err(fault) => Err(refused(&work, &source, &target, fault)),
+    }
+}
+
+// The answer to a source that isn't retired.
+fn refused(work: &FPath, source: &FPath, target: &FPath, fault: RetireFault) -> Answer
+    ensures own { IsRetireFault fault → IsTrue (is_of_refusal result) }
+    ensures failed { result ≡ Answer.FolderFault → IsRetireFault fault → fault ≡ RetireFault.Failed }
+{
+    let root = match fault {
+        RetireFault::Load(Side::Target, _) => target,
+        _ => source,
+    };
+    retire::answer_to(work, root, fault)
+}
+
+// The answer to a vault at this root that isn't made, or an item in it.
+fn answer_to(alloc: Global, root: &FPath, fault: MakeFault) -> Answer
+    ensures own { IsMakeFault fault → IsTrue (is_of_stop result) }
+    ensures failed { result ≡ Answer.FolderFault → IsMakeFault fault → IsFailed fault }
+    ensures drawn { result ≡ Answer.RandomFault → fault ≡ MakeFault.Put PutFault.Random }
+{
+    match fault {
+        MakeFault::Work(fault) => match place(alloc, "w") {
+            Ok(work) => beginning::answer_to(&work, fault),
+            Err(_) => Answer::OutOfMemory,
+        },
+        MakeFault::Load(fault) => opening::answer_to(root, fault),
+        MakeFault::Put(fault) => Answer::from(fault),
+        MakeFault::NoMemory => Answer::OutOfMemory,
+    }
+}
+
+// Writes what the items come to.
+fn tell_made<O: Sink>(alloc: Global, seed: u64, count: u32, out: &mut O) -> Result<(), Answer>
+    requires { count ≤ 2000 }
+    ensures prints { TakesPart result (O.taken out.old) (O.taken out.new) (made_text seed count) }
+    ensures own { IfErr result (λ answer. IsTrue (is_of_telling answer)) }
+    ensures output_fault { result ≡ Err Answer.OutputFault → CountRose (O.faults out.old) (O.faults out.new) }
+    ensures written { O.faults out.old ≤ O.faults out.new }
+{
+    let text = made_text(alloc, seed, count)?;
+    tell(text.as_str(), out)
+}
+
+// Writes the line of a migration.
+fn tell_moved<O: Sink>(alloc: Global, leg: Leg, status: u8, out: &mut O) -> Result<(), Answer>
+    ensures prints { TakesPart result (O.taken out.old) (O.taken out.new) (moved_text leg status) }
+    ensures own { IfErr result (λ answer. IsTrue (is_of_telling answer)) }
+    ensures output_fault { result ≡ Err Answer.OutputFault → CountRose (O.faults out.old) (O.faults out.new) }
+    ensures written { O.faults out.old ≤ O.faults out.new }
+{
+    let text = moved_text(alloc, leg, status)?;
+    tell(text.as_str(), out)
+}
+
+// Writes the line of both retired vaults.
+fn tell_retired<O: Sink>(alloc: Global, first: u64, second: u64, out: &mut O) -> Result<(), Answer>
+    ensures prints { TakesPart result (O.taken out.old) (O.taken out.new) (retired_text first second) }
+    ensures own { IfErr result (λ answer. IsTrue (is_of_telling answer)) }
+    ensures output_fault { result ≡ Err Answer.OutputFault → CountRose (O.faults out.old) (O.faults out.new) }
+    ensures written { O.faults out.old ≤ O.faults out.new }
+{
+    let text = retired_text(alloc, first, second)?;
+    tell(text.as_str(), out)
+}
+
+// Writes what is known now.
+fn tell<O: Sink>(text: &str, out: &mut O) -> Result<(), Answer>
+    ensures prints { TakesPart result (O.taken out.old) (O.taken out.new) text.now }
+    ensures own { IfErr result (λ answer. IsTrue (is_of_telling answer)) }
+    ensures output_fault { result ≡ Err Answer.OutputFault → CountRose (O.faults out.old) (O.faults out.new) }
+    ensures written { O.faults out.old ≤ O.faults out.new }
+{
+    match out.put(text.as_bytes()) {
+        Ok(()) => Ok(()),
+        Err(_) => Err(Answer::OutputFault),
+    }
+}
+
+// What the items come to.
+fn made_text(alloc: Global, seed: u64, count: u32) -> Result<String, AllocError>
+    requires { count ≤ 2000 }
+    ensures { IfOk result (λ text. string_bytes text ≡ made_text seed count) }
+{
+    let totals = totals_of(seed, count);
+    let directories = totals.directories;
+    let files = totals.files;
+    let bytes = totals.bytes;
+    let mut text = format!(in alloc; "demo seed {seed}")?;
+    text.push_str(format!(in alloc; " count {count}\n")?.as_str())?;
+    text.push_str(format!(in alloc; "directories {directories}")?.as_str())?;
+    text.push_str(format!(in alloc; " files {files}")?.as_str())?;
+    text.push_str(format!(in alloc; " bytes {bytes}\n")?.as_str())?;
+    Ok(text)
+}
+
+// The line of a migration.
+fn moved_text(alloc: Global, leg: Leg, status: u8) -> Result<String, AllocError>
+    ensures { IfOk result (λ text. string_bytes text ≡ moved_text leg status) }
+{
+    match leg {
+        Leg::There => format!(in alloc; "to cryptomator {status}\n"),
+        Leg::Back => format!(in alloc; "to gocryptfs {status}\n"),
+    }
+}
+
+// The line of both retired vaults.
+fn retired_text(alloc: Global, first: u64, second: u64) -> Result<String, AllocError>
+    ensures { IfOk result (λ text. string_bytes text ≡ retired_text first second) }
+{
+    let mut text = format!(in alloc; "items {first}")?;
+    text.push_str(format!(in alloc; " {second}\n")?.as_str())?;
+    Ok(text)
+}

@@ -7,16 +7,13 @@ use Rattle.folder_spec.specs.declared.FolderFault.TheVariants as folder
 use Rattle.folder_spec.specs.declared.Kind.{Kind}
 use Rattle.folder_spec.specs.Event.{Allowed, Call, Changes, Told}
 use Rattle.folder_spec.specs.Path.{Path}
-use Rattle.folder_spec.specs.View.{View, kind_found}
+use Rattle.folder_spec.specs.View.{kind_found}
 use Rattle.folder_staging.specs.declared.removal.RemovalFault.{RemovalFault}
 use Rattle.folder_staging.specs.declared.removal.RemovalFault.TheVariants as removal
 use Rattle.port_model.specs.Counts.{CountRose}
-use Rattle.work_folder.specs.declared.fault.WorkFault.{WorkFault}
-use Rattle.work_folder.specs.declared.fault.WorkFault.TheVariants as work
-use Rattle.retire_core.specs.Faults.{Blamed, IsLaterFault, IsRetireFault, OfJournal, Says, of_folder, of_removal, of_work}
+use Rattle.retire_core.specs.Faults.{Blamed, IsLaterFault, IsRetireFault, of_folder, of_removal}
 use Rattle.retire_core.specs.declared.fault.RetireFault.{RetireFault}
 use Rattle.retire_core.specs.declared.fault.RetireFault.TheVariants as retire
-use Rattle.move_journal.specs.declared.journal.Phase.TheVariants as phase
 
 -- since earlier counts
 pub blamed_since : (Own : RetireFault → Type 0) (before mid after : ℕ) → before ≤ mid → (fault : RetireFault) → Blamed Own (CountRose mid after) fault → Blamed Own (CountRose before after) fault
@@ -66,31 +63,7 @@ later_own retire.NoMemory later = later
 pub blamed_later : (before mid after : ℕ) → before ≤ mid → (fault : RetireFault) → Blamed IsLaterFault (CountRose mid after) fault → Blamed IsRetireFault (CountRose before after) fault
 blamed_later before mid after le fault b = record { own = later_own fault b.own; failed = λ is. rose_since before mid after le (b.failed is) }
 
--- and comes with a journal that says that all is done
-pub later_caused : (work : Path) (v : View) (fault : RetireFault) → IsLaterFault fault → Says work phase.Done v → OfJournal work v fault
-later_caused work v (retire.Journal fault) later says = absurd later
-later_caused work v retire.Unfinished later says = absurd later
-later_caused work v (retire.Work fault) later says = says
-later_caused work v (retire.Overlap one two) later says = says
-later_caused work v (retire.Load side fault) later says = says
-later_caused work v (retire.Walk fault) later says = says
-later_caused work v (retire.Match fault) later says = says
-later_caused work v (retire.Differ path how) later says = says
-later_caused work v retire.Depth later says = says
-later_caused work v retire.Failed later says = tt
-later_caused work v retire.NoMemory later says = tt
-
 -- more of the fault of an exit
 pub if_err_both : {T : Type 0} (P Q : RetireFault → Type 0) (result : Result T RetireFault) → ((fault : RetireFault) → P fault → Q fault) → IfErr result P → IfErr result Q
 if_err_both P Q (Ok value) more h = tt
 if_err_both P Q (Err fault) more h = more fault h
-
--- what a test of the work folder found
-pub work_caused : (work : Path) (v : View) (fault : WorkFault) → Says work phase.Done v → OfJournal work v (of_work fault)
-work_caused at v (work.NoParent p) says = says
-work_caused at v (work.WrongKind p) says = says
-work_caused at v (work.Foreign p) says = says
-work_caused at v work.Begun says = says
-work_caused at v work.Depth says = says
-work_caused at v work.Failed says = tt
-work_caused at v work.NoMemory says = tt

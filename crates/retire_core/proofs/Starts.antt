@@ -9,19 +9,14 @@ use Rattle.folder_spec.specs.State.{State}
 use Rattle.folder_spec.specs.View.{FileOf, Folder, Found, NoEntry, Special, View, kind_found}
 use Rattle.folder_model.specs.Answers.{Answers}
 use Rattle.migrate_core.specs.Moved.{StandsIn}
-use Rattle.move_journal.specs.Journal.{IsJournal, journal_text}
-use Rattle.move_journal.specs.Reading.{ReadsAs, file_bytes, journal_bytes}
+use Rattle.move_journal.specs.Journal.{IsJournal}
 use Rattle.move_journal.specs.declared.journal.Journal.{Journal}
-use Rattle.move_journal.specs.declared.journal.JournalFault.{JournalFault}
-use Rattle.move_journal.specs.declared.journal.JournalFault.TheVariants as journal
 use Rattle.move_journal.specs.declared.journal.Phase.{Phase}
 use Rattle.move_journal.specs.declared.journal.Phase.TheVariants as phase
 use Rattle.tree_match.specs.Guard as guard
 use Rattle.tree_match.specs.Guard.{Migration, Building, Case, Gone, HasJournal, IsDone, LastJournal, NotBegun, Retired, Stands}
-use Rattle.work_folder.specs.Entries.{journal_path}
 use Rattle.retire_core.proofs.RetiredTables.{HaveOneText, rest_done, rest_retired, rest_seen}
 use Rattle.retire_core.specs.Clearing.{MovesHeldOnly}
-use Rattle.retire_core.specs.Faults.{OfJournal, of_journal}
 use Rattle.retire_core.specs.Guarding.{ComesFromDone, ComesTo, IsAtRest, IsDoneAtRest, KeepsDone, KeepsFromRest}
 use Rattle.retire_core.specs.Retiring.{Retiring}
 
@@ -110,16 +105,7 @@ missing_by_kind t at k answer is v shown = missing_none (v at) (sym (answer v sh
 
 -- ---- the journal that was read
 
-pub journal_stands : (v : View) (work : Path) (journal : Journal) → ReadsAs (journal_bytes v work) (Ok journal) → StandsIn work journal v
-journal_stands v work journal read = by_found (v (journal_path work)) read
-  where
-    by_found : (x : Found) → ReadsAs (file_bytes x) (Ok journal) → x ≡ FileOf (journal_text journal)
-    by_found (FileOf bytes) h = ap FileOf h.1
-    by_found NoEntry h = absurd h
-    by_found Folder h = absurd h
-    by_found Special h = absurd h
-
--- no other stands there
+-- no other journal stands there
 pub one_journal : HaveOneText → (v : View) (work : Path) (journal other : Journal) → IsJournal journal → StandsIn work journal v → IsJournal other → StandsIn work other v → journal ≡ other
 one_journal one_text v work journal other is stands is_other stands_too = one_text journal other is is_other (one_file (sym stands ∙ stands_too))
   where
@@ -137,11 +123,3 @@ pub moved_before : (r : Retiring) (t u : Option Told) → MovesHeldOnly r t u �
 moved_before r (Some a) (Some b) went w is = (seen a.state, refl)
 moved_before r None (Some b) went w is = absurd went
 moved_before r t None went w is = absurd is
-
--- why no journal is read
-pub read_caused : (work : Path) (v : View) (fault : JournalFault) → ReadsAs (journal_bytes v work) (Err fault) → OfJournal work v (of_journal fault)
-read_caused work v journal.NoJournal reads = reads
-read_caused work v (journal.BadJournal number) reads = reads
-read_caused work v journal.TooLarge reads = reads
-read_caused work v journal.Failed reads = tt
-read_caused work v journal.NoMemory reads = tt

@@ -1,19 +1,11 @@
 -- The faults of the calls below, as `retire` tells them. That the folder failed or memory was refused is told as such, whichever call
 -- met it.
-use Rattle.std.specs.Prelude.{◌≡◌, Err}
+use Rattle.std.specs.Prelude.{◌≡◌}
 use Rattle.folder_spec.specs.declared.FolderFault.{FolderFault}
 use Rattle.folder_spec.specs.declared.FolderFault.TheVariants as folder
 use Rattle.folder_staging.specs.declared.removal.RemovalFault.{RemovalFault}
 use Rattle.folder_staging.specs.declared.removal.RemovalFault.TheVariants as removal
-use Rattle.folder_spec.specs.Path.{Path}
-use Rattle.folder_spec.specs.View.{View}
-use Rattle.migrate_core.specs.Moved.{StandsIn}
-use Rattle.move_journal.specs.Journal.{IsJournal}
-use Rattle.move_journal.specs.Reading.{ReadsAs, journal_bytes}
-use Rattle.move_journal.specs.declared.journal.Journal.{Journal as Written}
 use Rattle.move_journal.specs.declared.journal.JournalFault.{JournalFault}
-use Rattle.move_journal.specs.declared.journal.Phase.{Phase}
-use Rattle.move_journal.specs.declared.journal.Phase.TheVariants as phase
 use Rattle.move_journal.specs.declared.journal.JournalFault.TheVariants as journal
 use Rattle.tree_match.specs.declared.answer.MatchFault.{MatchFault}
 use Rattle.tree_match.specs.declared.answer.MatchFault.TheVariants as match
@@ -80,21 +72,3 @@ IsLaterFault fault = IsRetireFault fault
 pub record Blamed (Own : RetireFault → Type 0) (folder : Type 0) (fault : RetireFault) : Type 0 where
   pub own : Own fault
   pub failed : fault ≡ Failed → folder
-
--- ---- by the journal
-
--- a journal of this phase stands in the work folder
-pub record Says (work : Path) (phase : Phase) (v : View) : Type 0 where
-  pub journal : Written
-  pub is : IsJournal journal
-  pub in_phase : journal.phase ≡ phase
-  pub stands : StandsIn work journal v
-
--- No journal is read only where reading it refuses so; `Unfinished` comes only where it says that items are still being placed; and each
--- other refusal only where it says that all is done.
-abbrev pub OfJournal : Path → View → RetireFault → Type 0
-OfJournal work v (Journal fault) = ReadsAs (journal_bytes v work) (Err fault)
-OfJournal work v Unfinished = Says work phase.Building v
-OfJournal work v Failed = Unit {0}
-OfJournal work v NoMemory = Unit {0}
-OfJournal work v fault = Says work phase.Done v

@@ -11,7 +11,7 @@ ghost use Rattle.tree_match.specs.Guard.{AreApart, Migration, old_path};
 ghost use Rattle.retire_core.specs.Causes.{IsOfFolder, ReadsDone, Retires, RetiresTold, TestsAway, TestsFree, TestsHeld, Unless, moved_away};
 ghost use Rattle.retire_core.specs.Clearing.{IsGone, IsInOrder, MovesHeldOnly, MovesOnly};
 ghost use Rattle.retire_core.specs.Completing.{CanRetire};
-ghost use Rattle.retire_core.specs.Faults.{Blamed, IsLaterFault, IsRetireFault, OfJournal};
+ghost use Rattle.retire_core.specs.Faults.{Blamed, IsLaterFault, IsRetireFault};
 ghost use Rattle.retire_core.specs.Guarding.{ComesFromDone, ComesTo, KeepsDone, KeepsFromRest};
 ghost use Rattle.retire_core.specs.Retiring.{HasRetired, IsHeld, RemovesOnly, TouchesOnly, retiring_by};
 
@@ -55,7 +55,6 @@ pub fn retire<F: Folder>(
     ensures removes { (v : View) (journal : Journal) → IsSeen (F.told folder.old) v → IsJournal journal → StandsIn work.now journal v
         → RemovesOnly (retiring_by work.now source_pass.now target_pass.now journal) (F.told folder.old) (F.told folder.new) }
     ensures retired { IfOk result (λ retired. (v : View) → IsSeen (F.told folder.old) v → HasRetired work.now retired.items (F.told folder.new) v) }
-    ensures caused { IfErr result (λ fault. (v : View) → IsSeen (F.told folder.old) v → OfJournal work.now v fault) }
     ensures completes { (g : Migration) (v : View) → IsSeen (F.told folder.old) v → IsResumed g work.now source_pass.now target_pass.now → CanRetire g v → IfErr result IsOfFolder }
     ensures grows { F.faults folder.old ≤ F.faults folder.new }
     ensures blamed { IfErr result (Blamed IsRetireFault (CountRose (F.faults folder.old) (F.faults folder.new))) }
@@ -81,7 +80,6 @@ fn retire_settled<F: Folder>(
     ensures removes { (v : View) (journal : Journal) → IsSeen (F.told folder.old) v → IsJournal journal → StandsIn work.now journal v
         → RemovesOnly (retiring_by work.now source_pass.now target_pass.now journal) (F.told folder.old) (F.told folder.new) }
     ensures retired { IfOk result (λ retired. (v : View) → IsSeen (F.told folder.old) v → HasRetired work.now retired.items (F.told folder.new) v) }
-    ensures caused { IfErr result (λ fault. (v : View) → IsSeen (F.told folder.old) v → OfJournal work.now v fault) }
     ensures grows { F.faults folder.old ≤ F.faults folder.new }
     ensures blamed { IfErr result (Blamed IsRetireFault (CountRose (F.faults folder.old) (F.faults folder.new))) }
     ensures cause { (v : View) → IsSeen (F.told folder.old) v → Unless result (Retires work.now source_pass.now target_pass.now v result) }
@@ -99,7 +97,6 @@ fn read_done<F: Folder>(alloc: Global, folder: &mut F, work: &FPath) -> Result<J
     ensures journal { IfOk result (λ journal. IsJournal journal) }
     ensures phase { IfOk result (λ journal. journal.phase ≡ Phase.Done) }
     ensures stands { IfOk result (λ journal. (v : View) → IsSeen (F.told folder.old) v → StandsIn work.now journal v) }
-    ensures caused { IfErr result (λ fault. (v : View) → IsSeen (F.told folder.old) v → OfJournal work.now v fault) }
     ensures grows { F.faults folder.old ≤ F.faults folder.new }
     ensures blamed { IfErr result (Blamed IsRetireFault (CountRose (F.faults folder.old) (F.faults folder.new))) }
     ensures cause { (v : View) → IsSeen (F.told folder.old) v → Unless result (ReadsDone work.now v result) }

@@ -30,10 +30,10 @@ use Rattle.vault_cli.specs.Answers.{name_numbered}
 use Rattle.vault_cli.specs.Lines.{answer_to_found, found_line, noted_line, told_text}
 use Rattle.vault_cli.specs.Opening.{Opens}
 use Rattle.vault_cli.specs.Refusing.{Unless}
-use Rattle.vault_cli.specs.Shown.{Shown, Follows, is_of_opening, refused}
+use Rattle.vault_cli.specs.Shown.{Shown, Follows, refused}
 use Rattle.vault_cli.specs.World.{World}
 use Rattle.vault_cli.specs.declared.answer.Answer.{Answer}
-use Rattle.vault_cli.specs.declared.answer.Answer.TheVariants.{Done, Findings, BadCommandLine, OutOfMemory, FolderFault, InputFault, OutputFault, RandomFault, Refused, WrongPass, NotFound, WrongKind, DamagedInput, Damaged, NotAllowed, NotClean, Overlap, NotEmpty, Begun, Unusable, Changed, Differ, ZeroRandom, Taken, Limit, Retired}
+use Rattle.vault_cli.specs.declared.answer.Answer.TheVariants.{Done, Findings, FolderFault, OutputFault}
 use Rattle.vault_cli.specs.declared.words.Checking.{Checking}
 use Rattle.vault_cli.proofs.Refusals.{opened_alike, opened_gives, opened_is}
 use Rattle.vault_cli.proofs.Showing.{all_or_cut}
@@ -139,40 +139,9 @@ check_refused target root vault v fault same opens is items depth length = by fa
 
 -- ---- the answer
 
-pub of_checking : (answer : Answer) → IsTrue (is_of_opening answer) → IsTrue (is_of_checking answer)
-of_checking Done is = refl
-of_checking Findings is = refl
-of_checking OutputFault is = refl
-of_checking BadCommandLine is = is
-of_checking OutOfMemory is = is
-of_checking FolderFault is = is
-of_checking InputFault is = is
-of_checking (Refused at why) is = is
-of_checking (WrongPass root) is = is
-of_checking (NotFound what) is = is
-of_checking (WrongKind what) is = is
-of_checking (DamagedInput fault) is = is
-of_checking (Damaged at how) is = is
-of_checking (Overlap first second) is = is
-of_checking (NotEmpty at) is = is
-of_checking (Limit which) is = is
-of_checking RandomFault is = is
-of_checking (NotAllowed path) is = is
-of_checking (Begun work) is = is
-of_checking ZeroRandom is = is
-of_checking (Taken at) is = is
-of_checking (NotClean at number) is = is
-of_checking (Unusable work why) is = is
-of_checking (Changed plan items plan' items') is = is
-of_checking (Differ path how) is = is
-of_checking (Retired work) is = is
-
 pub of_report : (found : List walk.Finding) → IsTrue (is_of_checking (answer_to_found found)) × (answer_to_found found ≢ FolderFault) × (answer_to_found found ≢ OutputFault)
 of_report [] = (refl, λ is. cc, λ is. cc)
 of_report (x ∷ found) = (refl, λ is. cc, λ is. cc)
-
-pub opening_is_no_output_fault : (answer : Answer) → IsTrue (is_of_opening answer) → answer ≢ OutputFault
-opening_is_no_output_fault answer is fault = let none : IsTrue (is_of_opening OutputFault) = subst (λ a. IsTrue (is_of_opening a)) fault is in cc
 
 -- what a report is written as follows from what is shown
 pub follows_report : (Shows : Shown → Type 0) (text : List ℕ) (found : List walk.Finding) (taken taken' : Option (List ℕ)) → Shows (record { pieces = text ∷ []; answer = answer_to_found found })

@@ -1,6 +1,6 @@
 -- What a command did where it wasn't begun, and where its message found no memory; and what a status says of the answer.
 use Rattle.std.proofs.Common.{◌≡◌, Bool, true, false, ℕ, List, length, Option, Some, None, inl, inr, refl, sym, ap, ◌∙◌, subst, arith}
-use Rattle.std.specs.Prelude.{◌⊎◌, ◌≢◌, ◌≤◌, nat_eq, if◌then◌else◌, IsNone, IsTrue}
+use Rattle.std.specs.Prelude.{◌⊎◌, ◌≢◌, ◌≤◌, nat_eq, if◌then◌else◌, IsNone}
 use Rattle.std.specs.List.{concat}
 use Rattle.std.specs.Io.KnownBytes.{Appends}
 use Rattle.std.proofs.KnownBytes.{Keeps-refl}
@@ -27,7 +27,7 @@ use Rattle.vault_cli.proofs.Decryptions.{decrypts_nothing, decryption_lost}
 use Rattle.vault_cli.proofs.MadeItems.{makes_no_directory, directory_lost, no_bad_directory}
 use Rattle.vault_cli.proofs.MadeVaults.{makes_no_vault, vault_lost, no_bad_vault}
 use Rattle.vault_cli.proofs.Migrations.{AreSafe, migrates_nothing, migration_lost, no_bad_migration, resumes_nothing, resuming_lost, no_bad_resuming}
-use Rattle.vault_cli.proofs.Printings.{print_lost}
+use Rattle.vault_cli.proofs.Printings.{is_another, print_lost}
 use Rattle.vault_cli.proofs.Retirings.{retires_nothing, retiring_lost, no_bad_retiring}
 use Rattle.vault_cli.proofs.StoredFiles.{stores_nothing, file_lost, no_bad_file}
 
@@ -163,12 +163,6 @@ pub reported_as : (answer result other : Answer) → (result ≡ answer) ⊎ ((r
 reported_as answer result other (inl same) is known = sym same ∙ is
 reported_as answer result other (inr memory) is known = absurd (known (sym is ∙ memory.0))
 
-not_of_reading : (answer : Answer) → answer ≡ BadCommandLine → ¬ IsTrue (is_of_reading answer)
-not_of_reading answer bad own = let none : IsTrue (is_of_reading BadCommandLine) = subst (λ a. IsTrue (is_of_reading a)) bad own in cc
-
-not_of_checking : (answer : Answer) → answer ≡ BadCommandLine → ¬ IsTrue (is_of_checking answer)
-not_of_checking answer bad own = let none : IsTrue (is_of_checking BadCommandLine) = subst (λ a. IsTrue (is_of_checking a)) bad own in cc
-
 -- the answer of a status up to 7
 abbrev pub answer_of : ℕ → Answer
 answer_of n =
@@ -221,14 +215,14 @@ bad_is_none (Some (DecryptFile key)) answer before after is did = absurd (no_end
     no_end ends.OutputFault same = cc
     no_end (ends.Damaged fault) same = cc
     no_end ends.TooLong same = cc
-bad_is_none (Some (Ls target)) answer before after is did = absurd (not_of_reading answer (bad_of_status answer is) did.reads.own)
-bad_is_none (Some (Cat target)) answer before after is did = absurd (not_of_reading answer (bad_of_status answer is) did.reads.own)
-bad_is_none (Some (Fsck target)) answer before after is did = absurd (not_of_checking answer (bad_of_status answer is) did.own)
+bad_is_none (Some (Ls target)) answer before after is did = absurd (is_another is_of_reading answer BadCommandLine did.reads.own refl (bad_of_status answer is))
+bad_is_none (Some (Cat target)) answer before after is did = absurd (is_another is_of_reading answer BadCommandLine did.reads.own refl (bad_of_status answer is))
+bad_is_none (Some (Fsck target)) answer before after is did = absurd (is_another is_of_checking answer BadCommandLine did.own refl (bad_of_status answer is))
 bad_is_none (Some (Repair target)) answer before after is did = absurd (by (overlap target.vault target.lost) did.apart)
   where
     by : (b : Bool) → Either b (RefusesOverlap target.vault target.lost answer before.told after.told before.taken after.taken) (RepairsApart target answer before.told after.told before.taken after.taken) → ⊥
     by true refuses = elim refuses.answers [ inl overlaps ↦ let no = sym (bad_of_status answer is) ∙ overlaps in cc | inr memory ↦ let no = sym (bad_of_status answer is) ∙ memory in cc ]
-    by false repairs = let none : IsTrue (is_of_repairing BadCommandLine) = subst (λ a. IsTrue (is_of_repairing a)) (bad_of_status answer is) repairs.own in cc
+    by false repairs = is_another is_of_repairing answer BadCommandLine repairs.own refl (bad_of_status answer is)
 bad_is_none (Some (Init new)) answer before after is did = absurd (no_bad_vault new answer before after (bad_of_status answer is) did)
 bad_is_none (Some (Mkdir change)) answer before after is did = absurd (no_bad_directory change answer before after (bad_of_status answer is) did)
 bad_is_none (Some (Put change)) answer before after is did = absurd (no_bad_file change answer before after (bad_of_status answer is) did)

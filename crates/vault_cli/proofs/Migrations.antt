@@ -1,6 +1,7 @@
 -- Migrations that are led on: nothing is lost at any moment, and what was done where one wasn't begun, or its message found no memory.
 use Rattle.std.proofs.Common.{◌≡◌, ℕ, Bool, true, false, List, Option, Some, None, Result, Ok, Err, inl, inr, refl, sym, ap, ◌∙◌, subst, IsTrue, ◌⊎◌}
-use Rattle.std.specs.Prelude.{◌≢◌, ◌||◌, MatchOption, MatchResult, if◌then◌else◌}
+use Rattle.std.specs.Prelude.{◌≢◌, MatchOption, MatchResult, if◌then◌else◌}
+use Rattle.std.proofs.lemmas.Bool.{or_left}
 use Rattle.std.proofs.KnownBytes.{Keeps-refl}
 use Rattle.folder_spec.specs.Event.{Told}
 use Rattle.folder_spec.specs.Image.{Image, IsImage}
@@ -33,25 +34,24 @@ use Rattle.tree_match.specs.Guard.{Migration, Guarded, IsSafe, LosesNothing}
 use Rattle.tree_match.specs.declared.answer.Side.{Side}
 use Rattle.vault_read.specs.declared.fault.LoadFault.{LoadFault}
 use Rattle.vault_cli.specs.Answers.{is_plain}
-use Rattle.vault_cli.specs.Beginning.{is_of_beginning}
 use Rattle.vault_cli.specs.Migrate.{HasMigrated, IsAskedFor, MigratesApart, MigratesTree, Pair, RefusesTwo, first_overlap, pair}
 use Rattle.vault_cli.specs.Migrate as migrating
-use Rattle.vault_cli.specs.Moving.{AnswersMove, ArePhrases, Comes, FailPasses, KeepsAll, OfPasses, Outcome, RefusesPasses, RefusesUndrawn, done_text, is_of_end, is_of_migration, is_of_stop}
+use Rattle.vault_cli.specs.Moving.{AnswersMove, ArePhrases, Comes, FailPasses, KeepsAll, OfPasses, Outcome, RefusesPasses, RefusesUndrawn, done_text, is_of_migration, is_of_stop}
 use Rattle.vault_cli.specs.Opening.{IsPhrase, OfPassFile, passphrase_in}
 use Rattle.vault_cli.specs.Places.{overlap}
 use Rattle.vault_cli.specs.Printing.{PrintsText}
 use Rattle.vault_cli.specs.Refusing.{RefusesPass}
 use Rattle.vault_cli.specs.Resume.{HasResumed, IsResumedFor, Resumes, ResumesTree}
 use Rattle.vault_cli.specs.Resume as resuming_on
-use Rattle.vault_cli.specs.Shown.{refused}
+use Rattle.vault_cli.specs.Shown.{is_of_end, refused}
 use Rattle.vault_cli.specs.World.{World}
 use Rattle.vault_cli.specs.declared.answer.Answer.{Answer}
-use Rattle.vault_cli.specs.declared.answer.Answer.TheVariants.{Done, Findings, BadCommandLine, OutOfMemory, FolderFault, InputFault, OutputFault, RandomFault, Refused, WrongPass, NotFound, WrongKind, DamagedInput, Damaged, NotAllowed, NotClean, Overlap, NotEmpty, Begun, Unusable, Changed, Differ, ZeroRandom, Taken, Limit, Retired}
+use Rattle.vault_cli.specs.declared.answer.Answer.TheVariants.{BadCommandLine, OutOfMemory, FolderFault, Overlap}
 use Rattle.vault_cli.specs.declared.words.Moving.{Moving}
 use Rattle.vault_cli.specs.declared.words.Passes.{Passes}
 use Rattle.vault_cli.specs.declared.words.Resuming.{Resuming}
 use Rattle.vault_cli.proofs.Beginnings.{none_drawn}
-use Rattle.vault_cli.proofs.Printings.{IsPrinted, nothing_printed, print_lost, printed}
+use Rattle.vault_cli.proofs.Printings.{IsPrinted, is_another, nothing_printed, print_lost, printed, printed_is_own}
 use Rattle.vault_cli.proofs.Refusals.{pass_gives, pass_then, unless_then}
 
 -- ---- nothing is lost
@@ -111,12 +111,18 @@ asked_is g moving v source target are asked = record {
   opens_target = phrase_is_one (v moving.passes.target) g.target.pass target asked.phrases.target are.target;
 }
 
-pub resumed_is : (g : Migration) (resuming : Resuming) (v : View) (source target : List ℕ) → ArePhrases resuming.passes source target v → IsResumedFor g resuming v → IsResumed g resuming.work source target
+resumed_is : (g : Migration) (resuming : Resuming) (v : View) (source target : List ℕ) → ArePhrases resuming.passes source target v → IsResumedFor g resuming v → IsResumed g resuming.work source target
 resumed_is g resuming v source target are asked = record {
   work = asked.resumed.work;
   opens_source = phrase_is_one (v resuming.passes.source) g.source.pass source asked.phrases.source are.source;
   opens_target = phrase_is_one (v resuming.passes.target) g.target.pass target asked.phrases.target are.target;
 }
+
+-- so a call that goes on with it loses nothing
+pub keeps_resumed : AreSafe → (g : Migration) (resuming : Resuming) (v : View) (told mid told' : Option Told) (source target : List ℕ) → mid ≡ told → ArePhrases resuming.passes source target v
+    → (IsResumed g resuming.work source target → KeepsGuarded g mid told') → IsResumedFor g resuming v → KeepsAll g told told'
+keeps_resumed law g resuming v told mid told' source target same are guard asked =
+    keeps_all law g told told' (subst (λ t. KeepsGuarded g t told') same (guard (resumed_is g resuming v source target are asked)))
 
 -- ---- the journal
 
@@ -128,6 +134,12 @@ stands_found Special j reads = absurd reads
 
 pub journal_found : (work : Path) (v : View) (j : Journal) → ReadsAs (journal_bytes v work) (Ok j) → resuming_on.IsFoundJournal work v (Some j)
 journal_found work v j = stands_found (v (journal_path work)) j
+
+-- the root of a vault that isn't opened is that of the journal, where one is read
+pub root_read : (work : Path) (v : View) (side : Side) (found : Option Journal) (j : Journal) → resuming_on.IsFoundJournal work v found → ReadsAs (journal_bytes v work) (Ok j)
+    → (named : Option Journal → Path) → ((k : Journal) → named (Some k) ≡ resuming_on.root_in k side) → resuming_on.IsRootIn work v side (named found)
+root_read work v side (Some k) j is reads named same = (k, is.0, is.1, same k)
+root_read work v side None j is reads named same = let stands = stands_found (v (journal_path work)) j reads in absurd (is j stands.0 stands.1)
 
 -- a journal that stands is read
 pub journal_missing : (law : (j : Journal) (result : Result Journal JournalFault) → IsJournal j → ReadsAs (Some (journal_text j)) result → GivesBack j result)
@@ -170,54 +182,8 @@ move_printed work IsRoot answer done is_printed outcome is = subst (AnswersMove 
 
 -- ---- the answers
 
-pub beginning_stops : (answer : Answer) → IsTrue (is_of_beginning answer) → IsTrue (is_of_stop answer)
-beginning_stops Done is = is
-beginning_stops OutputFault is = is
-beginning_stops Findings is = is
-beginning_stops BadCommandLine is = is
-beginning_stops OutOfMemory is = refl
-beginning_stops FolderFault is = refl
-beginning_stops InputFault is = is
-beginning_stops RandomFault is = refl
-beginning_stops (Refused at why) is = refl
-beginning_stops (WrongPass root) is = refl
-beginning_stops (NotFound what) is = refl
-beginning_stops (WrongKind what) is = refl
-beginning_stops (DamagedInput fault) is = is
-beginning_stops (Damaged at how) is = refl
-beginning_stops (NotAllowed path) is = refl
-beginning_stops (NotClean at number) is = refl
-beginning_stops (Overlap first second) is = refl
-beginning_stops (NotEmpty at) is = refl
-beginning_stops (Begun work) is = refl
-beginning_stops (Unusable work why) is = refl
-beginning_stops (Changed plan items plan' items') is = refl
-beginning_stops (Differ path how) is = refl
-beginning_stops ZeroRandom is = refl
-beginning_stops (Taken at) is = refl
-beginning_stops (Limit which) is = refl
-beginning_stops (Retired work) is = refl
-
-pub not_done : (answer : Answer) → IsTrue (is_of_stop answer) → answer ≢ Done
-not_done answer own same = let none : IsTrue (is_of_stop Done) = subst (λ a. IsTrue (is_of_stop a)) same own in cc
-
-pub not_output : (answer : Answer) → IsTrue (is_of_stop answer) → answer ≢ OutputFault
-not_output answer own same = let none : IsTrue (is_of_stop OutputFault) = subst (λ a. IsTrue (is_of_stop a)) same own in cc
-
-pub or_left : (a b : Bool) → IsTrue a → IsTrue (a || b)
-or_left true b is = refl
-or_left false b is = cc
-
 pub stop_is_own : (answer : Answer) → IsTrue (is_of_stop answer) → IsTrue (is_of_migration answer)
 stop_is_own answer = or_left (is_of_stop answer) (is_of_end answer)
-
-pub printed_is_own : (answer : Answer) → IsPrinted answer → IsTrue (is_of_migration answer)
-printed_is_own answer (inl done) = subst (λ a. IsTrue (is_of_migration a)) (sym done) refl
-printed_is_own answer (inr (inl output)) = subst (λ a. IsTrue (is_of_migration a)) (sym output) refl
-printed_is_own answer (inr (inr memory)) = subst (λ a. IsTrue (is_of_migration a)) (sym memory) refl
-
-no_bad : (answer : Answer) → answer ≡ BadCommandLine → ¬ IsTrue (is_of_migration answer)
-no_bad answer bad own = let none : IsTrue (is_of_migration BadCommandLine) = subst (λ a. IsTrue (is_of_migration a)) bad own in cc
 
 -- ---- `migrate`
 
@@ -257,7 +223,7 @@ module _ (moving : Moving) where
     comes = comes;
     keeps = keeps;
     moves = moves;
-    prints = nothing_printed done_text (λ done. HasMigrated moving done told told') answer taken (not_done answer own) (not_output answer own);
+    prints = nothing_printed done_text (λ done. HasMigrated moving done told told') is_of_stop answer taken own refl refl;
   }
 
   pub migrate_printed : (done : moved.Done) (answer : Answer) (told told' : Option Told) (taken taken' : Option (List ℕ)) (stream stream' : Option ByteStream) → HasMigrated moving done told told'
@@ -265,7 +231,7 @@ module _ (moving : Moving) where
       → ((g : Migration) (v : View) → IsSeen told v → IsAskedFor g moving v → KeepsAll g told told') → MovesOnly moving.work moving.target told told'
       → PrintsText (done_text done) answer taken taken' → IsPrinted answer → MigratesApart moving answer told told' taken taken' stream stream'
   migrate_printed done answer told told' taken taken' stream stream' has comes keeps moves prints is_printed = record {
-    own = printed_is_own answer is_printed;
+    own = printed_is_own is_of_stop answer refl is_printed;
     comes = λ v is. inr (comes_as moving.passes (migrating.IsCaused moving v) (migrating.IsWritten moving told told' stream stream') v (λ outcome. outcome ≡ Ok done)
         (AnswersMove moving.work (migrating.IsRootOf moving) answer) (move_printed moving.work (migrating.IsRootOf moving) answer done is_printed) (comes v is));
     keeps = keeps;
@@ -308,7 +274,7 @@ module _ (moving : Moving) where
   no_bad_migration answer before after bad did = by (first_overlap moving) did.apart
     where
       by : (o : Option Pair) → MatchOption o (MigratesApart moving answer before.told after.told before.taken after.taken before.random after.random) (λ two. RefusesTwo two answer before.told after.told before.taken after.taken before.random after.random) → ⊥
-      by None migrates = no_bad answer bad migrates.own
+      by None migrates = is_another is_of_migration answer BadCommandLine migrates.own refl bad
       by (Some two) refused = elim refused.refuses.answers [ inl overlaps ↦ let no = sym bad ∙ overlaps in cc | inr memory ↦ let no = sym bad ∙ memory in cc ]
 
   pub refuses_two : (two : Pair) (answer : Answer) (told : Option Told) (taken : Option (List ℕ)) (stream : Option ByteStream) → (answer ≡ Overlap two.first two.second) ⊎ (answer ≡ OutOfMemory) → RefusesTwo two answer told told taken taken stream stream
@@ -328,7 +294,7 @@ module _ (resuming : Resuming) where
     comes = comes;
     keeps = keeps;
     moves = moves;
-    prints = nothing_printed done_text (λ done. HasResumed resuming done told told') answer taken (not_done answer own) (not_output answer own);
+    prints = nothing_printed done_text (λ done. HasResumed resuming done told told') is_of_stop answer taken own refl refl;
   }
 
   pub resume_printed : (done : moved.Done) (answer : Answer) (told told' : Option Told) (taken taken' : Option (List ℕ)) (stream stream' : Option ByteStream) → HasResumed resuming done told told'
@@ -336,7 +302,7 @@ module _ (resuming : Resuming) where
       → ((g : Migration) (v : View) → IsSeen told v → IsResumedFor g resuming v → KeepsAll g told told') → Brings told told'
       → PrintsText (done_text done) answer taken taken' → IsPrinted answer → Resumes resuming answer told told' taken taken' stream stream'
   resume_printed done answer told told' taken taken' stream stream' has comes keeps moves prints is_printed = record {
-    own = printed_is_own answer is_printed;
+    own = printed_is_own is_of_stop answer refl is_printed;
     comes = λ v is. inr (comes_as resuming.passes (resuming_on.IsCaused resuming v) (resuming_on.IsWritten resuming told told' stream stream' v) v (λ outcome. outcome ≡ Ok done)
         (AnswersMove resuming.work (resuming_on.IsRootOf resuming.work v) answer) (move_printed resuming.work (resuming_on.IsRootOf resuming.work v) answer done is_printed) (comes v is));
     keeps = keeps;
@@ -369,7 +335,7 @@ module _ (resuming : Resuming) where
           (AnswersMove resuming.work (resuming_on.IsRootOf resuming.work v) answer) (AnswersMove resuming.work (resuming_on.IsRootOf resuming.work v) OutOfMemory) (λ outcome x. move_lost resuming.work (resuming_on.IsRootOf resuming.work v) outcome) comes)
 
   pub no_bad_resuming : (answer : Answer) (before after : World) → answer ≡ BadCommandLine → ResumesTree resuming answer before after → ⊥
-  no_bad_resuming answer before after bad did = no_bad answer bad did.resumes.own
+  no_bad_resuming answer before after bad did = is_another is_of_migration answer BadCommandLine did.resumes.own refl bad
 
   -- the root that is named of a vault that isn't opened is the journal's
   module _ (v : View) where
@@ -389,10 +355,8 @@ module _ (resuming : Resuming) where
     load_root : (found : Option Journal) (side : Side) (f : LoadFault) → resuming_on.IsFoundJournal resuming.work v found → (tested : Result Journal JournalFault) (P : Journal → Type 0)
         → ReadsAs (journal_bytes v resuming.work) tested → MatchResult tested P (λ fault. stopped_by (moves.Load side f) ≡ stopped_by (causes.of_journal fault))
         → resuming_on.IsRootOf resuming.work v (moves.Load side f) (resuming_on.root_by resuming.work found (moves.Load side f))
-    load_root (Some j) side f is tested P reads match = (j, is.0, is.1, refl)
-    load_root None side f is (Ok j) P reads match =
-        let stands = stands_found (v (journal_path resuming.work)) j reads in absurd (is j stands.0 stands.1)
-    load_root None side f is (Err fault) P reads match = absurd (no_load side f fault (fault_is (moves.Load side f) (causes.of_journal fault) match))
+    load_root found side f is (Ok j) P reads match = root_read resuming.work v side found j is reads (λ o. resuming_on.root_by resuming.work o (moves.Load side f)) (λ k. refl)
+    load_root found side f is (Err fault) P reads match = absurd (no_load side f fault (fault_is (moves.Load side f) (causes.of_journal fault) match))
 
     pub journal_root : (found : Option Journal) (fault : MoveFault) → resuming_on.IsFoundJournal resuming.work v found → (s t : List ℕ) → resuming_on.IsCaused resuming v s t (Err fault)
         → resuming_on.IsRootOf resuming.work v fault (resuming_on.root_by resuming.work found fault)

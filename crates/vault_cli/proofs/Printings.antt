@@ -1,16 +1,27 @@
 -- What a command writes once it is done.
-use Rattle.std.proofs.Common.{◌≡◌, ◌⊎◌, false, ℕ, List, Option, inl, inr, refl, sym, subst}
-use Rattle.std.specs.Prelude.{◌≢◌}
+use Rattle.std.proofs.Common.{◌≡◌, ◌⊎◌, ◌∙◌, Bool, true, false, IsTrue, ℕ, List, Option, inl, inr, refl, sym, subst}
+use Rattle.std.specs.Prelude.{◌≢◌, ◌||◌}
+use Rattle.std.proofs.lemmas.Bool.{or_left, or_right}
 use Rattle.std.specs.Io.KnownBytes.{Keeps}
 use Rattle.std.proofs.KnownBytes.{Keeps-refl}
 use Rattle.vault_cli.specs.Answers.{is_plain}
 use Rattle.vault_cli.specs.Printing.{PrintsDone, PrintsText}
+use Rattle.vault_cli.specs.Shown.{is_of_end}
 use Rattle.vault_cli.specs.declared.answer.Answer.{Answer}
 use Rattle.vault_cli.specs.declared.answer.Answer.TheVariants.{Done, Findings, BadCommandLine, OutOfMemory, FolderFault, InputFault, OutputFault, RandomFault, Refused, WrongPass, NotFound, WrongKind, DamagedInput, Damaged, NotAllowed, NotClean, Overlap, NotEmpty, Begun, Unusable, Changed, Differ, ZeroRandom, Taken, Limit, Retired}
 
 -- the answers to a text that is printed
 abbrev pub IsPrinted : Answer → Type 0
 IsPrinted answer = (answer ≡ Done) ⊎ ((answer ≡ OutputFault) ⊎ (answer ≡ OutOfMemory))
+
+pub printed_is_own : (p : Answer → Bool) (answer : Answer) → IsTrue (p OutOfMemory) → IsPrinted answer → IsTrue (p answer || is_of_end answer)
+printed_is_own p answer memory (inl done) = subst (λ a. IsTrue (p a || is_of_end a)) (sym done) (or_right (p Done) true refl)
+printed_is_own p answer memory (inr (inl output)) = subst (λ a. IsTrue (p a || is_of_end a)) (sym output) (or_right (p OutputFault) true refl)
+printed_is_own p answer memory (inr (inr refused)) = subst (λ a. IsTrue (p a || is_of_end a)) (sym refused) (or_left (p OutOfMemory) false memory)
+
+-- an answer of which this holds is none of which it doesn't
+pub is_another : (p : Answer → Bool) (answer other : Answer) → IsTrue (p answer) → p other ≡ false → answer ≢ other
+is_another p answer other own none same = let no : true ≡ false = sym (subst (λ a. IsTrue (p a)) same own) ∙ none in cc
 
 module _ {X : Type 0} (text : X → List ℕ) (IsDone : X → Type 0) where
   -- another answer writes nothing
@@ -42,8 +53,9 @@ module _ {X : Type 0} (text : X → List ℕ) (IsDone : X → Type 0) where
   nothing_written (Limit which) taken taken' done output keeps = keeps
   nothing_written (Retired work) taken taken' done output keeps = keeps
 
-  pub nothing_printed : (answer : Answer) (taken : Option (List ℕ)) → answer ≢ Done → answer ≢ OutputFault → PrintsDone text IsDone answer taken taken
-  nothing_printed answer taken done output = nothing_written answer taken taken done output (Keeps-refl taken)
+  pub nothing_printed : (p : Answer → Bool) (answer : Answer) (taken : Option (List ℕ)) → IsTrue (p answer) → p Done ≡ false → p OutputFault ≡ false → PrintsDone text IsDone answer taken taken
+  nothing_printed p answer taken own done output =
+      nothing_written answer taken taken (is_another p answer Done own done) (is_another p answer OutputFault own output) (Keeps-refl taken)
 
   -- an answer that names something has printed nothing
   pub print_lost : (answer : Answer) (taken taken' : Option (List ℕ)) → is_plain answer ≡ false → PrintsDone text IsDone answer taken taken' → PrintsDone text IsDone OutOfMemory taken taken'

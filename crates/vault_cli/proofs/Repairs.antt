@@ -1,7 +1,7 @@
 -- What `repair` did, from what its parts say.
 use Rattle.std.proofs.Common.{◌≡◌, ℕ, false, List, [], Option, Some, None, Err, inl, inr, refl, sym, ◌∙◌, subst}
-use Rattle.std.specs.Prelude.{◌≢◌, ◌⊎◌, IsTrue, is_some}
-use Rattle.std.proofs.lemmas.Bool.{or_parts}
+use Rattle.std.specs.Prelude.{◌⊎◌, IsTrue, is_some}
+use Rattle.std.proofs.lemmas.Bool.{or_left, or_parts}
 use Rattle.port_model.specs.Counts.{CountRose}
 use Rattle.folder_model.specs.Answers.{Answers, Counts}
 use Rattle.folder_spec.specs.declared.FolderFault as folders
@@ -28,12 +28,12 @@ use Rattle.vault_cli.specs.Faults.{of_check, of_folder}
 use Rattle.vault_cli.specs.Opening.{Opens}
 use Rattle.vault_cli.specs.Refusing.{Unless, RefusesOpening}
 use Rattle.vault_cli.specs.Places.{OfDirectory, OfMissing, OfFree, overlap}
-use Rattle.vault_cli.specs.Repair.{IsOfMoving, TooMany, TooDeep, OfRepairing, MovesStrays, HasMovedStrays, RefusesOverlap, RepairsApart, is_of_moving, is_of_repairing, is_of_test, moved_text}
+use Rattle.vault_cli.specs.Repair.{IsOfMoving, TooMany, TooDeep, OfRepairing, MovesStrays, HasMovedStrays, RefusesOverlap, RepairsApart, is_of_moving, is_of_test, moved_text}
 use Rattle.vault_cli.specs.Printing.{PrintsText}
-use Rattle.vault_cli.proofs.Printings.{IsPrinted, nothing_printed, printed}
-use Rattle.vault_cli.specs.Shown.{IsCutShort, is_of_opening, refused}
+use Rattle.vault_cli.proofs.Printings.{IsPrinted, nothing_printed, printed, printed_is_own}
+use Rattle.vault_cli.specs.Shown.{IsCutShort, is_of_end, refused}
 use Rattle.vault_cli.specs.declared.answer.Answer.{Answer}
-use Rattle.vault_cli.specs.declared.answer.Answer.TheVariants.{Done, Findings, BadCommandLine, OutOfMemory, FolderFault, InputFault, OutputFault, RandomFault, Refused, WrongPass, NotFound, WrongKind, DamagedInput, Damaged, NotAllowed, NotClean, Overlap, NotEmpty, Begun, Unusable, Changed, Differ, ZeroRandom, Taken, Limit, Retired}
+use Rattle.vault_cli.specs.declared.answer.Answer.TheVariants.{Done, OutOfMemory, FolderFault, OutputFault}
 use Rattle.vault_cli.specs.declared.words.Repairing.{Repairing}
 use Rattle.vault_cli.proofs.Refusals.{opened_gives, unless_opened}
 
@@ -146,95 +146,28 @@ of_moving (check.Limit limit) = refl
 of_moving check.Failed = refl
 of_moving check.NoMemory = refl
 
-pub opening_moves : (answer : Answer) → IsTrue (is_of_opening answer) → IsTrue (is_of_moving answer)
-opening_moves Done is = is
-opening_moves Findings is = is
-opening_moves OutputFault is = is
-opening_moves BadCommandLine is = is
-opening_moves OutOfMemory is = is
-opening_moves FolderFault is = is
-opening_moves InputFault is = is
-opening_moves (Refused at why) is = is
-opening_moves (WrongPass root) is = is
-opening_moves (NotFound what) is = is
-opening_moves (WrongKind what) is = is
-opening_moves (DamagedInput fault) is = is
-opening_moves (Damaged at how) is = is
-opening_moves (Overlap first second) is = is
-opening_moves (NotEmpty at) is = refl
-opening_moves (Limit which) is = is
-opening_moves RandomFault is = is
-opening_moves (NotAllowed path) is = is
-opening_moves (Begun work) is = is
-opening_moves ZeroRandom is = is
-opening_moves (Taken at) is = is
-opening_moves (NotClean at number) is = is
-opening_moves (Unusable work why) is = is
-opening_moves (Changed plan items plan' items') is = is
-opening_moves (Differ path how) is = is
-opening_moves (Retired work) is = is
-
 -- ---- the whole
-
-of_repairing : (answer : Answer) → IsTrue (is_of_moving answer) → IsTrue (is_of_repairing answer)
-of_repairing Done is = refl
-of_repairing Findings is = is
-of_repairing OutputFault is = refl
-of_repairing BadCommandLine is = is
-of_repairing OutOfMemory is = is
-of_repairing FolderFault is = is
-of_repairing InputFault is = is
-of_repairing (Refused at why) is = is
-of_repairing (WrongPass root) is = is
-of_repairing (NotFound what) is = is
-of_repairing (WrongKind what) is = is
-of_repairing (DamagedInput fault) is = is
-of_repairing (Damaged at how) is = is
-of_repairing (Overlap first second) is = is
-of_repairing (NotEmpty at) is = is
-of_repairing (Limit which) is = is
-of_repairing RandomFault is = is
-of_repairing (NotAllowed path) is = is
-of_repairing (Begun work) is = is
-of_repairing ZeroRandom is = is
-of_repairing (Taken at) is = is
-of_repairing (NotClean at number) is = is
-of_repairing (Unusable work why) is = is
-of_repairing (Changed plan items plan' items') is = is
-of_repairing (Differ path how) is = is
-of_repairing (Retired work) is = is
 
 cut_or : (answer : Answer) (P : Type 0) → Unless answer P → IsCutShort answer ⊎ P
 cut_or answer P (inl failed) = inl (inl failed)
 cut_or answer P (inr (inl memory)) = inl (inr (inr memory))
 cut_or answer P (inr (inr holds)) = inr holds
 
-not_done : (answer : Answer) → IsTrue (is_of_moving answer) → answer ≢ Done
-not_done answer own same = let none : IsTrue (is_of_moving Done) = subst (λ a. IsTrue (is_of_moving a)) same own in cc
-
-not_output : (answer : Answer) → IsTrue (is_of_moving answer) → answer ≢ OutputFault
-not_output answer own same = let none : IsTrue (is_of_moving OutputFault) = subst (λ a. IsTrue (is_of_moving a)) same own in cc
-
 pub repair_refused : (target : Repairing) (answer : Answer) (told told' : Option Told) (taken : Option (List ℕ)) → IsTrue (is_of_moving answer)
     → ((v : View) → IsSeen told v → Unless answer (OfRepairing target v answer)) → (IsTrue (is_of_test answer) → told' ≡ told) → (told' ≡ told) ⊎ MovesStrays target told told'
     → RepairsApart target answer told told' taken taken
 repair_refused target answer told told' taken own cause tested moves = record {
-  own = of_repairing answer own;
+  own = or_left (is_of_moving answer) (is_of_end answer) own;
   cause = λ v is. cut_or answer (OfRepairing target v answer) (cause v is);
   tested = tested;
   moves = moves;
-  prints = nothing_printed moved_text (λ moved. HasMovedStrays target moved told told') answer taken (not_done answer own) (not_output answer own);
+  prints = nothing_printed moved_text (λ moved. HasMovedStrays target moved told told') is_of_moving answer taken own refl refl;
 }
 
 pub refused_apart : (target : Repairing) (answer : Answer) (told told' : Option Told) (taken : Option (List ℕ)) → overlap target.vault target.lost ≡ false → RepairsApart target answer told told' taken taken
     → Either (overlap target.vault target.lost) (RefusesOverlap target.vault target.lost answer told told' taken taken) (RepairsApart target answer told told' taken taken)
 refused_apart target answer told told' taken apart repairs =
     subst (λ b. Either b (RefusesOverlap target.vault target.lost answer told told' taken taken) (RepairsApart target answer told told' taken taken)) (sym apart) repairs
-
-own_printed : (answer : Answer) → IsPrinted answer → IsTrue (is_of_repairing answer)
-own_printed answer (inl done) = subst (λ a. IsTrue (is_of_repairing a)) (sym done) refl
-own_printed answer (inr (inl output)) = subst (λ a. IsTrue (is_of_repairing a)) (sym output) refl
-own_printed answer (inr (inr memory)) = subst (λ a. IsTrue (is_of_repairing a)) (sym memory) refl
 
 cause_printed : (target : Repairing) (v : View) (answer : Answer) → OfRepairing target v Done → IsPrinted answer → IsCutShort answer ⊎ OfRepairing target v answer
 cause_printed target v answer passed (inl done) = inr (subst (λ a. OfRepairing target v a) (sym done) passed)
@@ -249,7 +182,7 @@ pub repair_printed : (target : Repairing) (moved : List Path) (answer : Answer) 
     → ((v : View) → IsSeen told v → OfRepairing target v Done) → (told' ≡ told) ⊎ MovesStrays target told told' → PrintsText (moved_text moved) answer taken taken'
     → IsPrinted answer → RepairsApart target answer told told' taken taken'
 repair_printed target moved answer told told' taken taken' has passed moves prints is_printed = record {
-  own = own_printed answer is_printed;
+  own = printed_is_own is_of_moving answer refl is_printed;
   cause = λ v is. cause_printed target v answer (passed v is) is_printed;
   tested = λ test. absurd (not_of_test answer is_printed test);
   moves = moves;

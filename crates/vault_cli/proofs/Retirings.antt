@@ -1,68 +1,40 @@
 -- A source that is retired: what was done where the command wasn't begun or its message found no memory, and how it is answered.
-use Rattle.std.proofs.Common.{◌≡◌, false, ℕ, List, Option, Some, None, Ok, Err, inl, inr, refl, sym, subst, IsTrue}
-use Rattle.std.specs.Prelude.{◌≢◌}
+use Rattle.std.proofs.Common.{◌≡◌, false, ℕ, List, Option, Ok, Err, inl, inr, refl, sym, ◌∙◌, subst, IsTrue}
+use Rattle.std.specs.Prelude.{◌≢◌, MatchResult}
+use Rattle.std.proofs.lemmas.Bool.{or_left}
 use Rattle.std.proofs.KnownBytes.{Keeps-refl}
 use Rattle.folder_spec.specs.Event.{Told}
 use Rattle.folder_spec.specs.Path.{Path}
 use Rattle.folder_spec.specs.Seen.{IsSeen}
 use Rattle.folder_spec.specs.View.{View}
+use Rattle.move_journal.specs.Reading.{ReadsAs, journal_bytes}
 use Rattle.move_journal.specs.declared.journal.Journal.{Journal}
-use Rattle.retire_core.specs.Faults.{OfJournal}
+use Rattle.move_journal.specs.declared.journal.JournalFault.{JournalFault}
+use Rattle.move_journal.specs.declared.journal.JournalFault.TheVariants as journal
+use Rattle.retire_core.specs.Causes.{ReadsDone}
+use Rattle.retire_core.specs.Causes as tests
+use Rattle.retire_core.specs.Faults.{of_journal}
 use Rattle.retire_core.specs.declared.fault.RetireFault.{RetireFault}
 use Rattle.retire_core.specs.declared.fault.RetireFault.TheVariants as faults
 use Rattle.retire_core.specs.declared.retiring.Retired.{Retired}
 use Rattle.tree_match.specs.Guard.{Migration}
+use Rattle.tree_match.specs.declared.answer.Side.{Side}
+use Rattle.vault_read.specs.declared.fault.LoadFault.{LoadFault}
 use Rattle.vault_cli.specs.Answers.{is_plain}
-use Rattle.vault_cli.specs.Beginning.{is_of_beginning}
-use Rattle.vault_cli.specs.Moving.{KeepsAll, is_of_end}
+use Rattle.vault_cli.specs.Moving.{KeepsAll}
 use Rattle.vault_cli.specs.Printing.{PrintsText}
 use Rattle.vault_cli.specs.Resume.{IsFoundJournal, IsResumedFor}
 use Rattle.vault_cli.specs.Retire.{AnswersRetire, ComesTo, IsCaused, IsRetired, IsRootOf, MayCome, Outcome, Retires, RetiresSource, TouchesNoMore, is_of_refusal, is_of_retiring, retired_text, root_by}
+use Rattle.vault_cli.specs.Shown.{is_of_end}
 use Rattle.vault_cli.specs.World.{World}
 use Rattle.vault_cli.specs.declared.answer.Answer.{Answer}
-use Rattle.vault_cli.specs.declared.answer.Answer.TheVariants.{Done, Findings, BadCommandLine, OutOfMemory, FolderFault, InputFault, OutputFault, RandomFault, Refused, WrongPass, NotFound, WrongKind, DamagedInput, Damaged, NotAllowed, NotClean, Overlap, NotEmpty, Begun, Unusable, Changed, Differ, ZeroRandom, Taken, Limit, Retired as retired}
+use Rattle.vault_cli.specs.declared.answer.Answer.TheVariants.{BadCommandLine, OutOfMemory}
 use Rattle.vault_cli.specs.declared.words.Resuming.{Resuming}
-use Rattle.vault_cli.proofs.Migrations.{AreSafe, comes_as, keeps_same, or_left, passes_unread, refused_lost}
-use Rattle.vault_cli.proofs.Printings.{IsPrinted, nothing_printed, print_lost, printed}
+use Rattle.vault_cli.proofs.Migrations.{AreSafe, comes_as, keeps_same, passes_unread, refused_lost, root_read}
+use Rattle.vault_cli.proofs.Printings.{IsPrinted, is_another, nothing_printed, print_lost, printed, printed_is_own}
 
-pub beginning_refuses : (answer : Answer) → IsTrue (is_of_beginning answer) → IsTrue (is_of_refusal answer)
-beginning_refuses Done is = is
-beginning_refuses OutputFault is = is
-beginning_refuses Findings is = is
-beginning_refuses BadCommandLine is = is
-beginning_refuses OutOfMemory is = refl
-beginning_refuses FolderFault is = refl
-beginning_refuses InputFault is = is
-beginning_refuses RandomFault is = is
-beginning_refuses (Refused at why) is = refl
-beginning_refuses (WrongPass root) is = refl
-beginning_refuses (NotFound what) is = refl
-beginning_refuses (WrongKind what) is = refl
-beginning_refuses (DamagedInput fault) is = is
-beginning_refuses (Damaged at how) is = refl
-beginning_refuses (NotAllowed path) is = is
-beginning_refuses (NotClean at number) is = refl
-beginning_refuses (Overlap first second) is = refl
-beginning_refuses (NotEmpty at) is = refl
-beginning_refuses (Begun work) is = refl
-beginning_refuses (Unusable work why) is = refl
-beginning_refuses (Changed plan items plan' items') is = is
-beginning_refuses (Differ path how) is = refl
-beginning_refuses ZeroRandom is = is
-beginning_refuses (Taken at) is = is
-beginning_refuses (Limit which) is = refl
-beginning_refuses (retired work) is = is
-
-not_done : (answer : Answer) → IsTrue (is_of_refusal answer) → answer ≢ Done
-not_done answer own same = let none : IsTrue (is_of_refusal Done) = subst (λ a. IsTrue (is_of_refusal a)) same own in cc
-
-not_output : (answer : Answer) → IsTrue (is_of_refusal answer) → answer ≢ OutputFault
-not_output answer own same = let none : IsTrue (is_of_refusal OutputFault) = subst (λ a. IsTrue (is_of_refusal a)) same own in cc
-
-printed_is_own : (answer : Answer) → IsPrinted answer → IsTrue (is_of_retiring answer)
-printed_is_own answer (inl done) = subst (λ a. IsTrue (is_of_retiring a)) (sym done) refl
-printed_is_own answer (inr (inl output)) = subst (λ a. IsTrue (is_of_retiring a)) (sym output) refl
-printed_is_own answer (inr (inr memory)) = subst (λ a. IsTrue (is_of_retiring a)) (sym memory) refl
+abbrev refused_by : {X : Type 0} → RetireFault → tests.Answer X
+refused_by fault = Err fault
 
 retire_lost : (work : Path) (v : View) (outcome : Outcome) → AnswersRetire work v OutOfMemory outcome
 retire_lost work v (Ok done) = inr (inr refl)
@@ -78,14 +50,14 @@ module _ (resuming : Resuming) where
     own = or_left (is_of_refusal answer) (is_of_end answer) own;
     comes = comes;
     keeps = keeps;
-    prints = nothing_printed retired_text (IsRetired resuming told told') answer taken (not_done answer own) (not_output answer own);
+    prints = nothing_printed retired_text (IsRetired resuming told told') is_of_refusal answer taken own refl refl;
   }
 
   pub retire_printed : (done : Retired) (answer : Answer) (told told' : Option Told) (taken taken' : Option (List ℕ)) → IsRetired resuming told told' done
       → ((v : View) → IsSeen told v → ComesTo resuming (λ outcome. outcome ≡ Ok done) told told' v) → ((g : Migration) (v : View) → IsSeen told v → IsResumedFor g resuming v → KeepsAll g told told')
       → PrintsText (retired_text done) answer taken taken' → IsPrinted answer → Retires resuming answer told told' taken taken'
   retire_printed done answer told told' taken taken' has comes keeps prints is_printed = record {
-    own = printed_is_own answer is_printed;
+    own = printed_is_own is_of_refusal answer refl is_printed;
     comes = λ v is. inr (comes_as resuming.passes (IsCaused resuming v) (TouchesNoMore resuming told told' v) v (λ outcome. outcome ≡ Ok done) (AnswersRetire resuming.work v answer)
         (answers_printed resuming.work v answer done is_printed) (comes v is));
     keeps = keeps;
@@ -115,19 +87,42 @@ module _ (resuming : Resuming) where
           (λ outcome x. retire_lost resuming.work v outcome) comes)
 
   pub no_bad_retiring : (answer : Answer) (before after : World) → answer ≡ BadCommandLine → RetiresSource resuming answer before after → ⊥
-  no_bad_retiring answer before after bad did = let none : IsTrue (is_of_retiring BadCommandLine) = subst (λ a. IsTrue (is_of_retiring a)) bad did.retires.own in cc
+  no_bad_retiring answer before after bad did = is_another is_of_retiring answer BadCommandLine did.retires.own refl bad
 
   -- the root that is named of a vault that isn't opened is the journal's
-  pub retire_root : (v : View) (found : Option Journal) (fault : RetireFault) → IsFoundJournal resuming.work v found → OfJournal resuming.work v fault → IsRootOf resuming.work v fault (root_by resuming.work found fault)
-  retire_root v (Some j) (faults.Load side f) is says = (j, is.0, is.1, refl)
-  retire_root v None (faults.Load side f) is says = absurd (is says.journal says.is says.stands)
-  retire_root v found (faults.Work fault) is says = tt
-  retire_root v found (faults.Journal fault) is says = tt
-  retire_root v found faults.Unfinished is says = tt
-  retire_root v found (faults.Overlap first second) is says = tt
-  retire_root v found (faults.Walk fault) is says = tt
-  retire_root v found (faults.Match fault) is says = tt
-  retire_root v found (faults.Differ path how) is says = tt
-  retire_root v found faults.Depth is says = tt
-  retire_root v found faults.Failed is says = tt
-  retire_root v found faults.NoMemory is says = tt
+  module _ (v : View) where
+    no_load : (side : Side) (f : LoadFault) (fault : JournalFault) → faults.Load side f ≢ of_journal fault
+    no_load side f journal.NoJournal same = cc
+    no_load side f (journal.BadJournal number) same = cc
+    no_load side f journal.TooLarge same = cc
+    no_load side f journal.Failed same = cc
+    no_load side f journal.NoMemory same = cc
+
+    fault_is : {X : Type 0} (a b : RetireFault) → refused_by {X = X} a ≡ refused_by b → a ≡ b
+    fault_is a b same = cc
+
+    -- where a vault isn't opened, the journal was read
+    journal_read : (side : Side) (f : LoadFault) (tested : tests.Answer Journal) (P : Journal → Type 0) → ReadsDone resuming.work v tested
+        → MatchResult tested P (λ fault. refused_by {X = Retired} (faults.Load side f) ≡ refused_by fault) → (j : Journal) × ReadsAs (journal_bytes v resuming.work) (Ok j)
+    journal_read side f tested P (Ok j, reads, phase) match = (j, reads)
+    journal_read side f (Ok j) P (Err fault, reads, same) match = absurd cc
+    journal_read side f (Err other) P (Err fault, reads, same) match =
+        absurd (no_load side f fault (fault_is (faults.Load side f) other match ∙ fault_is {X = Journal} other (of_journal fault) same))
+
+    pub retire_root : (found : Option Journal) (fault : RetireFault) → IsFoundJournal resuming.work v found → (s t : List ℕ) → IsCaused resuming v s t (Err fault)
+        → IsRootOf resuming.work v fault (root_by resuming.work found fault)
+    retire_root found (faults.Load side f) is s t (inl failed) = let no = fault_is {X = Retired} (faults.Load side f) faults.Failed failed in cc
+    retire_root found (faults.Load side f) is s t (inr (inl memory)) = let no = fault_is {X = Retired} (faults.Load side f) faults.NoMemory memory in cc
+    retire_root found (faults.Load side f) is s t (inr (inr tested)) =
+        let read = journal_read side f tested.0 _ tested.1 tested.2 in
+        root_read resuming.work v side found read.0 is read.1 (λ o. root_by resuming.work o (faults.Load side f)) (λ k. refl)
+    retire_root found (faults.Work fault) is s t cause = tt
+    retire_root found (faults.Journal fault) is s t cause = tt
+    retire_root found faults.Unfinished is s t cause = tt
+    retire_root found (faults.Overlap first second) is s t cause = tt
+    retire_root found (faults.Walk fault) is s t cause = tt
+    retire_root found (faults.Match fault) is s t cause = tt
+    retire_root found (faults.Differ path how) is s t cause = tt
+    retire_root found faults.Depth is s t cause = tt
+    retire_root found faults.Failed is s t cause = tt
+    retire_root found faults.NoMemory is s t cause = tt

@@ -1,6 +1,7 @@
 -- How output and answer follow from what a command shows.
-use Rattle.std.proofs.Common.{◌≡◌, ◌≢◌, ℕ, zero, List, [], Option, inl, inr, refl, sym, ap, ◌∙◌, subst}
+use Rattle.std.proofs.Common.{◌≡◌, ℕ, zero, List, [], Option, inl, inr, refl, sym, ap, ◌∙◌, subst}
 use Rattle.std.specs.Prelude.{◌⊎◌, IsTrue}
+use Rattle.std.proofs.lemmas.Bool.{or_left}
 use Rattle.std.specs.Io.KnownBytes.{Appends, Keeps}
 use Rattle.std.proofs.KnownBytes.{Appends-nil, Appends-kept, Keeps-refl}
 use Rattle.folder_spec.specs.Event.{Told}
@@ -9,7 +10,7 @@ use Rattle.folder_spec.specs.Seen.{IsSeen}
 use Rattle.vault_cli.specs.declared.answer.Answer.{Answer}
 use Rattle.vault_cli.specs.declared.answer.Answer.TheVariants.{Done, Findings, BadCommandLine, OutOfMemory, FolderFault, InputFault, OutputFault, RandomFault, Refused, WrongPass, NotFound, WrongKind, DamagedInput, Damaged, NotAllowed, NotClean, Overlap, NotEmpty, Begun, Unusable, Changed, Differ, ZeroRandom, Taken, Limit, Retired}
 use Rattle.vault_cli.specs.Refusing.{Unless}
-use Rattle.vault_cli.specs.Shown.{Shown, refused, TakesAll, Follows, IsCutShort, Reads, is_of_opening, is_of_reading, is_refusal}
+use Rattle.vault_cli.specs.Shown.{Shown, refused, TakesAll, Follows, IsCutShort, Reads, is_of_end, is_of_reading, is_refusal}
 
 -- two things that are shown are one
 abbrev pub IsOne : (Shown → Type 0) → Type 0
@@ -99,69 +100,8 @@ reads_by Shows answer told told' taken taken' one same own follows = record {
   exactly = λ v shown is shows. exactly (Shows v) answer taken taken' shown (one v) shows (follows v is);
 }
 
-of_reading : (answer : Answer) → IsTrue (is_refusal answer) → IsTrue (is_of_reading answer)
-of_reading Done is = refl
-of_reading Findings is = is
-of_reading OutputFault is = refl
-of_reading BadCommandLine is = is
-of_reading OutOfMemory is = is
-of_reading FolderFault is = is
-of_reading InputFault is = is
-of_reading (Refused at why) is = is
-of_reading (WrongPass root) is = is
-of_reading (NotFound what) is = is
-of_reading (WrongKind what) is = is
-of_reading (DamagedInput fault) is = is
-of_reading (Damaged at how) is = is
-of_reading (Overlap first second) is = is
-of_reading (NotEmpty at) is = is
-of_reading (Limit which) is = is
-of_reading RandomFault is = is
-of_reading (NotAllowed path) is = is
-of_reading (Begun work) is = is
-of_reading ZeroRandom is = is
-of_reading (Taken at) is = is
-of_reading (NotClean at number) is = is
-of_reading (Unusable work why) is = is
-of_reading (Changed plan items plan' items') is = is
-of_reading (Differ path how) is = is
-of_reading (Retired work) is = is
-
--- a vault that isn't opened is a refusal
-pub opening_refuses : (answer : Answer) → IsTrue (is_of_opening answer) → IsTrue (is_refusal answer)
-opening_refuses Done is = is
-opening_refuses Findings is = is
-opening_refuses BadCommandLine is = is
-opening_refuses OutOfMemory is = is
-opening_refuses FolderFault is = is
-opening_refuses InputFault is = is
-opening_refuses OutputFault is = is
-opening_refuses (Refused at why) is = is
-opening_refuses (WrongPass root) is = is
-opening_refuses (NotFound what) is = is
-opening_refuses (WrongKind what) is = is
-opening_refuses (DamagedInput fault) is = is
-opening_refuses (Damaged at how) is = refl
-opening_refuses (Overlap first second) is = is
-opening_refuses (NotEmpty at) is = is
-opening_refuses (Limit which) is = is
-opening_refuses RandomFault is = is
-opening_refuses (NotAllowed path) is = is
-opening_refuses (Begun work) is = is
-opening_refuses ZeroRandom is = is
-opening_refuses (Taken at) is = is
-opening_refuses (NotClean at number) is = is
-opening_refuses (Unusable work why) is = is
-opening_refuses (Changed plan items plan' items') is = is
-opening_refuses (Differ path how) is = is
-opening_refuses (Retired work) is = is
-
--- a refusal is no fault of the output
-pub refusal_is_no_output_fault : (answer : Answer) → IsTrue (is_refusal answer) → answer ≢ OutputFault
-refusal_is_no_output_fault answer is fault = let none : IsTrue (is_refusal OutputFault) = subst (λ a. IsTrue (is_refusal a)) fault is in cc
-
 -- a command that was refused before it wrote anything
 pub reads_refused : (Shows : View → Shown → Type 0) (answer : Answer) (told told' : Option Told) (taken : Option (List ℕ)) → ((v : View) → IsOne (Shows v))
     → told' ≡ told → IsTrue (is_refusal answer) → ((v : View) → IsSeen told v → Unless answer (Shows v (refused answer))) → Reads Shows answer told told' taken taken
 reads_refused Shows answer told told' taken one same own shows =
-    reads_by Shows answer told told' taken taken one same (of_reading answer own) (λ v is. follows_unless (Shows v) answer taken taken (Keeps-refl taken) (shows v is))
+    reads_by Shows answer told told' taken taken one same (or_left (is_refusal answer) (is_of_end answer) own) (λ v is. follows_unless (Shows v) answer taken taken (Keeps-refl taken) (shows v is))

@@ -11,7 +11,7 @@ use Rattle.tree_match.specs.Guard.{Migration, Guarded, LosesNothing}
 use Rattle.vault_cli.specs.Faults.{of_move}
 use Rattle.vault_cli.specs.Opening.{IsPhrase, OfPassFile}
 use Rattle.vault_cli.specs.Refusing.{Unless}
-use Rattle.vault_cli.specs.Shown.{refused}
+use Rattle.vault_cli.specs.Shown.{is_of_end, refused}
 use Rattle.vault_cli.specs.declared.answer.Answer.{Answer}
 use Rattle.vault_cli.specs.declared.answer.Answer.TheVariants.{Done, Findings, BadCommandLine, OutOfMemory, InputFault, OutputFault, DamagedInput}
 use Rattle.vault_cli.specs.declared.words.Passes.{Passes}
@@ -73,12 +73,7 @@ is_of_stop OutputFault = false
 is_of_stop (DamagedInput fault) = false
 is_of_stop answer = true
 
--- and one that comes to its end
-abbrev pub is_of_end : Answer → Bool
-is_of_end Done = true
-is_of_end OutputFault = true
-is_of_end answer = false
-
+-- and any
 abbrev pub is_of_migration : Answer → Bool
 is_of_migration answer = is_of_stop answer || is_of_end answer
 

@@ -1,5 +1,5 @@
 -- `repair`: moving the strays of a vault into a folder of lost ones, where nothing stands.
-use Rattle.std.specs.Prelude.{◌≡◌, ◌⊎◌, ℕ, Bool, true, false, List, [], ◌∷◌, ◌++◌, codes, Option, IsTrue}
+use Rattle.std.specs.Prelude.{◌≡◌, ◌⊎◌, ℕ, Bool, true, false, ◌||◌, List, [], ◌∷◌, ◌++◌, codes, Option, IsTrue}
 use Rattle.std.specs.Io.KnownBytes.{Keeps}
 use Rattle.std.specs.List.{flat_map}
 use Rattle.folder_spec.specs.Path.{Path}
@@ -20,10 +20,10 @@ use Rattle.vault_check.specs.Repairing.{AreApart, AreMoved, IsRepairing, Repairs
 use Rattle.vault_cli.specs.Opening.{Opens, OfOpened}
 use Rattle.vault_cli.specs.Places.{OfFree, overlap}
 use Rattle.vault_cli.specs.Printing.{PrintsDone}
-use Rattle.vault_cli.specs.Shown.{IsCutShort, is_of_opening, refused}
+use Rattle.vault_cli.specs.Shown.{IsCutShort, is_of_end, is_of_opening, refused}
 use Rattle.vault_cli.specs.World.{World}
 use Rattle.vault_cli.specs.declared.answer.Answer.{Answer}
-use Rattle.vault_cli.specs.declared.answer.Answer.TheVariants.{Done, OutOfMemory, OutputFault, Refused, WrongPass, NotFound, WrongKind, Overlap, NotEmpty, Limit}
+use Rattle.vault_cli.specs.declared.answer.Answer.TheVariants.{Done, OutOfMemory, Refused, WrongPass, NotFound, WrongKind, Overlap, NotEmpty, Limit}
 use Rattle.vault_cli.specs.declared.answer.Limit.TheVariants as limit
 use Rattle.vault_cli.specs.declared.words.Repairing.{Repairing}
 
@@ -54,9 +54,7 @@ is_of_moving answer = is_of_opening answer
 
 -- and whether it may do so at all, where the folders don't overlap
 abbrev pub is_of_repairing : Answer → Bool
-is_of_repairing Done = true
-is_of_repairing OutputFault = true
-is_of_repairing answer = is_of_moving answer
+is_of_repairing answer = is_of_moving answer || is_of_end answer
 
 -- in a state in which strays of this vault are being moved, each image opens at each plain path what opened before, where nothing was
 -- pending then

@@ -43,9 +43,13 @@ abbrev pub root_in : Journal → Side → Path
 root_in journal Source = journal.source
 root_in journal Target = journal.target
 
+-- so the journal tells the root of the vault on this side
+abbrev pub IsRootIn : Path → View → Side → Path → Type 0
+IsRootIn work v side root = (journal : Journal) × IsJournal journal × StandsIn work journal v × (root ≡ root_in journal side)
+
 -- the root of the vault that isn't opened is the journal's
 abbrev pub IsRootOf : Path → View → MoveFault → Path → Type 0
-IsRootOf work v (Load side fault) root = (journal : Journal) × IsJournal journal × StandsIn work journal v × (root ≡ root_in journal side)
+IsRootOf work v (Load side fault) root = IsRootIn work v side root
 IsRootOf work v fault root = Unit {0}
 
 -- why `resume` comes to what it comes to under these passphrases, by what is seen at first; and what it draws and writes

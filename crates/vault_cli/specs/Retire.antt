@@ -16,9 +16,10 @@ use Rattle.retire_core.specs.declared.fault.RetireFault.TheVariants.{Load}
 use Rattle.retire_core.specs.declared.retiring.Retired.{Retired}
 use Rattle.tree_match.specs.Guard.{Migration}
 use Rattle.vault_cli.specs.Faults.{of_retire}
-use Rattle.vault_cli.specs.Moving.{Comes, KeepsAll, RefusesPasses, is_of_end}
+use Rattle.vault_cli.specs.Moving.{Comes, KeepsAll, RefusesPasses}
 use Rattle.vault_cli.specs.Printing.{PrintsDone}
-use Rattle.vault_cli.specs.Resume.{IsResumedFor, root_in}
+use Rattle.vault_cli.specs.Resume.{IsResumedFor, IsRootIn, root_in}
+use Rattle.vault_cli.specs.Shown.{is_of_end}
 use Rattle.vault_cli.specs.World.{World}
 use Rattle.vault_cli.specs.declared.answer.Answer.{Answer}
 use Rattle.vault_cli.specs.declared.answer.Answer.TheVariants.{Done, OutOfMemory, FolderFault, OutputFault, Refused, WrongPass, NotFound, WrongKind, Damaged, NotClean, Overlap, NotEmpty, Begun, Unusable, Differ, Limit}
@@ -51,7 +52,7 @@ Outcome = Result Retired RetireFault
 
 -- the root of the vault that isn't opened is the journal's
 abbrev pub IsRootOf : Path → View → RetireFault → Path → Type 0
-IsRootOf work v (Load side fault) root = (journal : Journal) × IsJournal journal × StandsIn work journal v × (root ≡ root_in journal side)
+IsRootOf work v (Load side fault) root = IsRootIn work v side root
 IsRootOf work v fault root = Unit {0}
 
 abbrev pub AnswersRetire : Path → View → Answer → Outcome → Type 0

@@ -1,5 +1,5 @@
 -- What a command that only reads shows of a folder, and how its output and its answer follow from that.
-use Rattle.std.specs.Prelude.{◌≡◌, ◌⊎◌, ℕ, Bool, true, false, IsTrue, List, [], take, Option}
+use Rattle.std.specs.Prelude.{◌≡◌, ◌⊎◌, ℕ, Bool, true, false, ◌||◌, IsTrue, List, [], take, Option}
 use Rattle.std.specs.Io.KnownBytes.{Appends, Keeps}
 use Rattle.std.specs.List.{concat}
 use Rattle.port_model.specs.Told.{AppendsPrefix}
@@ -53,16 +53,24 @@ is_of_opening (WrongKind what) = true
 is_of_opening (Limit which) = true
 is_of_opening answer = false
 
+-- whether a command that has come to its output may answer so
+abbrev pub is_of_end : Answer → Bool
+is_of_end Done = true
+is_of_end OutputFault = true
+is_of_end answer = false
+
+-- whether what stands in a vault is damaged
+abbrev pub is_of_damage : Answer → Bool
+is_of_damage (Damaged at how) = true
+is_of_damage answer = false
+
 -- whether a command that looks for a plain path may answer so before it writes anything
 abbrev pub is_refusal : Answer → Bool
-is_refusal (Damaged at how) = true
-is_refusal answer = is_of_opening answer
+is_refusal answer = is_of_opening answer || is_of_damage answer
 
 -- and whether it may do so at all
 abbrev pub is_of_reading : Answer → Bool
-is_of_reading Done = true
-is_of_reading OutputFault = true
-is_of_reading answer = is_refusal answer
+is_of_reading answer = is_refusal answer || is_of_end answer
 
 -- A command answers and writes what this shows of the folder, and changes nothing there. What is shown is the answer, unless it is
 -- cut short.

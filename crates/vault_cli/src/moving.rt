@@ -14,7 +14,7 @@ ghost use Rattle.vault_cli.specs.Resume.{IsFoundJournal};
 use crate::answer::{Answer, Flaw, Limit};
 use crate::opening::read_pass;
 use crate::reporting::print;
-use crate::words::Passes;
+use crate::words::{Passes, Resuming};
 use crate::{beginning, opening};
 use content_writing::PutFault;
 use folder_model::{FPath, Folder};
@@ -51,8 +51,35 @@ pub(crate) fn read_passes<F: Folder>(
     Ok(Phrases { source, target })
 }
 
-/// The journal, which tells the roots of the vaults; `None` where there is none of use.
-pub(crate) fn find_journal<F: Folder>(
+/// What a command knows that leads on a migration that was begun: the passphrases, and the journal where one is of use.
+#[derive(Drop)]
+pub(crate) struct Known {
+    pub(crate) phrases: Phrases,
+    pub(crate) journal: Option<Journal>,
+}
+
+/// The passphrases in two files, and the journal in the work folder.
+pub(crate) fn learn<F: Folder>(
+    alloc: Global,
+    folder: &mut F,
+    resuming: &Resuming,
+) -> Result<Known, Answer>
+    ensures told { F.told folder.new ≡ F.told folder.old }
+    ensures source { IfOk result (λ known. (v : View) → IsSeen (F.told folder.old) v → IsPhrase (v resuming.now.passes.source) known.phrases.source) }
+    ensures target { IfOk result (λ known. (v : View) → IsSeen (F.told folder.old) v → IsPhrase (v resuming.now.passes.target) known.phrases.target) }
+    ensures found { IfOk result (λ known. (v : View) → IsSeen (F.told folder.old) v → IsFoundJournal resuming.now.work v known.journal) }
+    ensures refused { IfErr result (λ answer. (v : View) → IsSeen (F.told folder.old) v → FailPasses resuming.now.passes v answer) }
+    ensures own { IfErr result (λ answer. IsTrue (is_of_beginning answer)) }
+    ensures grows { F.faults folder.old ≤ F.faults folder.new }
+    ensures failed { result ≡ Err Answer.FolderFault → CountRose (F.faults folder.old) (F.faults folder.new) }
+{
+    let phrases = read_passes(alloc, folder, &resuming.passes)?;
+    let journal = find_journal(alloc, folder, &resuming.work)?;
+    Ok(Known { phrases, journal })
+}
+
+// The journal, which tells the roots of the vaults; `None` where there is none of use.
+fn find_journal<F: Folder>(
     alloc: Global,
     folder: &mut F,
     work: &FPath,

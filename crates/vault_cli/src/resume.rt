@@ -13,7 +13,7 @@ ghost use Rattle.vault_cli.specs.Moving.{KeepsAll, is_of_stop};
 ghost use Rattle.vault_cli.specs.Resume.{ComesTo, HasResumed, IsResumedFor, MayCome, Resumes, root_by};
 
 use crate::answer::Answer;
-use crate::moving::{answer_to, find_journal, print_done, read_passes};
+use crate::moving::{answer_to, learn, print_done};
 use crate::words::Resuming;
 use content_writing::PutFault;
 use folder_model::{FPath, Folder};
@@ -60,18 +60,17 @@ fn go_on<F: Folder, R: Randoms>(
     ensures drawn { result ≡ Err Answer.RandomFault → CountRose (R.faults random.old) (R.faults random.new) }
 {
     guarded_migrations_are_safe();
-    let phrases = read_passes(alloc, folder, &resuming.passes)?;
-    let journal = find_journal(alloc, folder, &resuming.work)?;
+    let known = learn(alloc, folder, resuming)?;
     match migrate_core::resume(
         alloc,
         folder,
         &resuming.work,
-        phrases.source.as_slice(),
-        phrases.target.as_slice(),
+        known.phrases.source.as_slice(),
+        known.phrases.target.as_slice(),
         random,
     ) {
         Ok(done) => Ok(done),
-        Err(fault) => Err(stopped(&resuming.work, &journal, fault)),
+        Err(fault) => Err(stopped(&resuming.work, &known.journal, fault)),
     }
 }
 

@@ -12,7 +12,7 @@ ghost use Rattle.vault_cli.specs.Resume.{IsResumedFor};
 ghost use Rattle.vault_cli.specs.Retire.{ComesTo, IsRetired, MayCome, Retires, is_of_refusal, retired_text, root_by};
 
 use crate::answer::{Answer, Flaw, Limit};
-use crate::moving::{answer_to_journal, find_journal, read_passes, unusable};
+use crate::moving::{answer_to_journal, learn, unusable};
 use crate::reporting::print;
 use crate::words::Resuming;
 use crate::{beginning, opening};
@@ -51,17 +51,16 @@ fn remove<F: Folder>(alloc: Global, resuming: &Resuming, folder: &mut F) -> Resu
     ensures failed { result ≡ Err Answer.FolderFault → CountRose (F.faults folder.old) (F.faults folder.new) }
 {
     guarded_migrations_are_safe();
-    let phrases = read_passes(alloc, folder, &resuming.passes)?;
-    let journal = find_journal(alloc, folder, &resuming.work)?;
+    let known = learn(alloc, folder, resuming)?;
     match retire_core::retire(
         alloc,
         folder,
         &resuming.work,
-        phrases.source.as_slice(),
-        phrases.target.as_slice(),
+        known.phrases.source.as_slice(),
+        known.phrases.target.as_slice(),
     ) {
         Ok(retired) => Ok(retired),
-        Err(fault) => Err(refused(&resuming.work, &journal, fault)),
+        Err(fault) => Err(refused(&resuming.work, &known.journal, fault)),
     }
 }
 

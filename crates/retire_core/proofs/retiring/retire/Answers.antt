@@ -1,8 +1,5 @@
 use Rattle.std.proofs.Common.{subst, subst₂, sym}
-use Rattle.folder_spec.specs.Seen.{IsSeen}
-use Rattle.folder_spec.specs.View.{View}
-use Rattle.retire_core.proofs.Blaming.{if_err_both}
-use Rattle.retire_core.specs.Faults.{OfJournal, of_folder}
+use Rattle.retire_core.specs.Faults.{of_folder}
 use Rattle.retire_core.proofs.Courses.{folder_above, removes_settled, retired_earlier, settle_fell, settle_removes, settle_seen, settle_then, settle_touches, touches_then}
 use Rattle.retire_core.specs.Retiring.{retiring_by}
 use Rattle.retire_core.proofs.Causing.{folder_fails, folder_unless, refused_as, unless_completes}
@@ -48,14 +45,6 @@ returns-clause-retired g c =
     let t0 = g.F.Folder.told c.args.folder.now in
     let t1 = g.F.Folder.told c.settle.new.self in
     retired_earlier c.args.work.now t0 t1 (g.F.Folder.told c.retire_settled.new.folder) c.retire_settled.result (settle_seen t0 t1 c.in_ok-settle.field-0 c.in_ok-settle.ensures.changes) c.retire_settled.ensures.retired
-
-pub returns-clause-caused : goal.returns-clause-caused
-returns-clause-caused g c =
-    let t0 = g.F.Folder.told c.args.folder.now in
-    let t1 = g.F.Folder.told c.settle.new.self in
-    let work = c.args.work.now in
-    if_err_both (λ fault. (v : View) → IsSeen t1 v → OfJournal work v fault) (λ fault. (v : View) → IsSeen t0 v → OfJournal work v fault) c.retire_settled.result
-    (λ fault caused v seen. caused v (settle_seen t0 t1 c.in_ok-settle.field-0 c.in_ok-settle.ensures.changes v seen)) c.retire_settled.ensures.caused
 
 pub returns-in_err-settle-clause-cause : goal.returns-in_err-settle-clause-cause
 returns-in_err-settle-clause-cause g c v seen =

@@ -5,10 +5,9 @@ use Rattle.migrate_core.specs.Moved.{StandsIn}
 use Rattle.move_journal.specs.Journal.{journal_text}
 use Rattle.move_journal.specs.declared.journal.Journal.{Journal}
 use Rattle.std.proofs.lemmas.Result.{err_from_is_err_and}
-use Rattle.folder_spec.specs.View.{View}
 use Rattle.port_model.specs.Counts.{CountRose}
-use Rattle.retire_core.proofs.Blaming.{blamed_later, if_err_both, later_caused, later_own, work_caused}
-use Rattle.retire_core.specs.Faults.{Blamed, IsLaterFault, IsRetireFault, OfJournal, of_work}
+use Rattle.retire_core.proofs.Blaming.{blamed_later, if_err_both, later_own}
+use Rattle.retire_core.specs.Faults.{Blamed, IsLaterFault, IsRetireFault, of_work}
 use Rattle.retire_core.proofs.Courses.{folder_above, in_order, removes_same, retired_by, touches_same}
 use Rattle.retire_core.proofs.Going.{rest_same}
 use Rattle.retire_core.proofs.Starts.{one_journal}
@@ -98,29 +97,12 @@ returns-clause-retired g c =
     retired_by c.args.work.now c.in_ok-journal.journal (g.F.Folder.told c.args.folder.now) (g.F.Folder.told c.retire_told.new.folder) c.retire_told.result c.in_ok-journal.ensures.journal c.in_ok-journal.ensures.phase
     c.in_ok-journal.ensures.stands c.retire_told.ensures.source c.retire_told.ensures.work c.retire_told.ensures.items
 
-pub returns-in_err-journal-clause-caused : goal.returns-in_err-journal-clause-caused
-returns-in_err-journal-clause-caused g c =
-    let p = err_from_is_err_and c.from_residual.result c.from_residual.ensures.1 in
-    rw (p.1, p.2) c.in_err-journal.ensures.caused
-
 pub returns-in_err-test_apart-clause-blamed : goal.returns-in_err-test_apart-clause-blamed
 returns-in_err-test_apart-clause-blamed g c =
     let p = err_from_is_err_and c.from_residual-in_err-test_apart.result c.from_residual-in_err-test_apart.ensures.1 in
     let fault = c.in_err-test_apart.field-0.0 in
     let blamed = c.in_err-test_apart.ensures.blamed in
     rw (p.1, p.2) (record { own = later_own fault blamed.own; failed = λ is. absurd (blamed.failed is) })
-
-pub returns-in_err-test_apart-clause-caused : goal.returns-in_err-test_apart-clause-caused
-returns-in_err-test_apart-clause-caused g c =
-    let p = err_from_is_err_and c.from_residual-in_err-test_apart.result c.from_residual-in_err-test_apart.ensures.1 in
-    let read = c.in_ok-journal.ensures in
-    rw (p.1, p.2) (λ v seen. later_caused c.args.work.now v c.in_err-test_apart.field-0.0 c.in_err-test_apart.ensures.blamed.own (record { journal = c.in_ok-journal.journal; is = read.journal; in_phase = read.phase; stands = read.stands v seen }))
-
-pub returns-in_err-look_again-clause-caused : goal.returns-in_err-look_again-clause-caused
-returns-in_err-look_again-clause-caused g c =
-    let p = err_from_is_err_and c.from_residual-in_err-look_again.result c.from_residual-in_err-look_again.ensures.1 in
-    let read = c.in_ok-journal.ensures in
-    rw (p.1, p.2) (λ v seen. work_caused c.args.work.now v c.in_err-look_again.field-0.0 (record { journal = c.in_ok-journal.journal; is = read.journal; in_phase = read.phase; stands = read.stands v seen }))
 
 pub returns-clause-blamed : goal.returns-clause-blamed
 returns-clause-blamed g c =
@@ -131,16 +113,6 @@ returns-clause-blamed g c =
     let one : n0 ≤ n1 = c.read_done.ensures.grows in
     let two : n1 ≤ n2 = c.look_again.ensures.grows in
     if_err_both (Blamed IsLaterFault (CountRose n2 n3)) (Blamed IsRetireFault (CountRose n0 n3)) c.retire_told.result (λ fault b. blamed_later n0 n2 n3 (omega (arith, one, two)) fault b) c.retire_told.ensures.blamed
-
-pub returns-clause-caused : goal.returns-clause-caused
-returns-clause-caused g c =
-    let n2 = g.F.Folder.faults c.look_again.new.folder in
-    let n3 = g.F.Folder.faults c.retire_told.new.folder in
-    let t0 = g.F.Folder.told c.args.folder.now in
-    let work = c.args.work.now in
-    let read = c.in_ok-journal.ensures in
-    if_err_both (Blamed IsLaterFault (CountRose n2 n3)) (λ fault. (v : View) → IsSeen t0 v → OfJournal work v fault) c.retire_told.result
-    (λ fault b v seen. later_caused work v fault b.own (record { journal = c.in_ok-journal.journal; is = read.journal; in_phase = read.phase; stands = read.stands v seen })) c.retire_told.ensures.blamed
 
 pub returns-in_err-journal-clause-cause : goal.returns-in_err-journal-clause-cause
 returns-in_err-journal-clause-cause g c v seen =

@@ -1,28 +1,31 @@
-use Rattle.std.proofs.Common.{◌≡◌, ◌++◌, Ok, Err, sym, ap, ◌∙◌, subst, inl, inr}
+use Rattle.std.proofs.Common.{◌≡◌, ◌++◌, Ok, Err, sym, ap, ◌∙◌, refl, subst, inl, inr}
+use Rattle.std.proofs.lemmas.Bool.{or_left}
 use Rattle.std.specs.Prelude.{MatchResult}
 use Rattle.vault_read.specs.Contents.{IsCatFault, content_at}
 use Rattle.vault_spec.specs.Format.{file_bytes}
 use Rattle.vault_spec.specs.Vault.{format_of}
 use Rattle.vault_cli.specs.Cat.{ShowsContent, ShowsFile}
 use Rattle.vault_cli.specs.Finding.{answer_to_finding}
-use Rattle.vault_cli.specs.Shown.{Reads, refused}
+use Rattle.vault_cli.specs.Shown.{Reads, is_of_damage, is_of_opening, refused}
+use Rattle.vault_cli.specs.declared.answer.Answer.TheVariants.{OutputFault}
 use Rattle.vault_cli.proofs.Contents.{content_is_one, cat_reads, cat_fails, rose_after}
+use Rattle.vault_cli.proofs.Printings.{is_another}
 use Rattle.vault_cli.proofs.Refusals.{unless_opened}
-use Rattle.vault_cli.proofs.Showing.{opening_refuses, reads_refused, refusal_is_no_output_fault}
+use Rattle.vault_cli.proofs.Showing.{reads_refused}
 use Rattle.vault_cli.proofs.cat.cat.Goals as goal
 
 pub returns-in-Err-clause-reads : goal.returns-in-Err-clause-reads
 returns-in-Err-clause-reads g c =
     let target = c.args.target.now in
     reads_refused (ShowsContent target) c.in-Err.answer (g.F.Folder.told c.args.folder.now) (g.F.Folder.told c.open.new.folder) (g.O.Sink.taken c.args.out.now)
-    (content_is_one c.roots_have_one_answer.ensures target) c.in-Err.ensures.told (opening_refuses c.in-Err.answer c.in-Err.ensures.own)
+    (content_is_one c.roots_have_one_answer.ensures target) c.in-Err.ensures.told (or_left (is_of_opening c.in-Err.answer) (is_of_damage c.in-Err.answer) c.in-Err.ensures.own)
     (λ v is. unless_opened v target.vault target.pass c.in-Err.answer
     (λ vault. MatchResult (content_at (format_of vault) target.vault v target.path)
     (λ at. ShowsFile (format_of vault).content (target.vault ++ at) (file_bytes (v (target.vault ++ at))) (refused c.in-Err.answer))
     (λ refusal. refused c.in-Err.answer ≡ refused (answer_to_finding target.vault refusal))) (c.in-Err.ensures.refused v is))
 
 pub returns-in-Err-clause-output_fault : goal.returns-in-Err-clause-output_fault
-returns-in-Err-clause-output_fault g c = λ fault. absurd (refusal_is_no_output_fault c.in-Err.answer (opening_refuses c.in-Err.answer c.in-Err.ensures.own) fault)
+returns-in-Err-clause-output_fault g c = λ fault. absurd (is_another is_of_opening c.in-Err.answer OutputFault c.in-Err.ensures.own refl fault)
 
 pub returns-in-Ok-cat-clause-reads : goal.returns-in-Ok-cat-clause-reads
 returns-in-Ok-cat-clause-reads g c =

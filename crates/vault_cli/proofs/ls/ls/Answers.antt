@@ -3,8 +3,10 @@ use Rattle.std.specs.Io.KnownBytes.{Appends}
 use Rattle.std.proofs.lemmas.List.{append-nil}
 use Rattle.vault_cli.specs.Ls.{ShowsItems}
 use Rattle.vault_cli.proofs.Listings.{items_are_one}
-use Rattle.vault_cli.specs.declared.answer.Answer.TheVariants.{Done}
-use Rattle.vault_cli.proofs.Showing.{reads_by, reads_refused, refusal_is_no_output_fault}
+use Rattle.vault_cli.specs.declared.answer.Answer.TheVariants.{Done, OutputFault}
+use Rattle.vault_cli.specs.Shown.{is_refusal}
+use Rattle.vault_cli.proofs.Printings.{is_another}
+use Rattle.vault_cli.proofs.Showing.{reads_by, reads_refused}
 use Rattle.vault_cli.proofs.ls.ls.Goals as goal
 
 pub returns-in-Err-clause-reads : goal.returns-in-Err-clause-reads
@@ -13,7 +15,7 @@ returns-in-Err-clause-reads g c =
     (items_are_one c.roots_have_one_answer.ensures c.directories_have_one_list.ensures c.args.target.now) c.in-Err.ensures.told c.in-Err.ensures.own c.in-Err.ensures.refused
 
 pub returns-in-Err-clause-output_fault : goal.returns-in-Err-clause-output_fault
-returns-in-Err-clause-output_fault g c = λ fault. absurd (refusal_is_no_output_fault c.in-Err.answer c.in-Err.ensures.own fault)
+returns-in-Err-clause-output_fault g c = λ fault. absurd (is_another is_refusal c.in-Err.answer OutputFault c.in-Err.ensures.own refl fault)
 
 pub returns-in-Ok-put-clause-reads : goal.returns-in-Ok-put-clause-reads
 returns-in-Ok-put-clause-reads g c =

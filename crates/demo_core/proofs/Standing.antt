@@ -129,7 +129,19 @@ opened_as vault = Ok vault
 one_vault : (a b : Vault) → opened_as a ≡ opened_as b → a ≡ b
 one_vault a b e = cc e
 
-own_folders : (vault : Vault) (v : View) → kind_of vault ≡ kind.Gocryptfs → HasOwnFolders vault v
+-- the passphrase opens one vault
+pub same_vault : HaveOneAnswer → (v : View) (a b : Vault) → IsVault v phrase a → IsVault v phrase b → a ≡ b
+same_vault one v a b first second = one_vault a b (one v phrase (opened_as a) (opened_as b) first second)
+
+-- which is the new one where that stands
+new_vault : HaveOneAnswer → (kind : VaultKind) (root : Path) (vault : Vault) (s : State) → IsVault (under root (seen s)) phrase vault → (new : StandsNew kind root s) → new.vault ≡ vault
+new_vault one kind root vault s opens new =
+    same_vault one (under root new.view) new.vault vault new.new.opens (subst (λ u. IsVault u phrase vault) (seen_alone root s new.view new.alone) opens)
+
+pub new_kind : HaveOneAnswer → (kind : VaultKind) (root : Path) (vault : Vault) (s : State) → IsVault (under root (seen s)) phrase vault → StandsNew kind root s → kind_of vault ≡ kind
+new_kind one kind root vault s opens new = subst (λ x. kind_of x ≡ kind) (new_vault one kind root vault s opens new) new.is
+
+pub own_folders : (vault : Vault) (v : View) → kind_of vault ≡ kind.Gocryptfs → HasOwnFolders vault v
 own_folders (Gocryptfs keys) v is = tt
 own_folders (Cryptomator cm) v is = absurd (cc is)
 
@@ -148,7 +160,7 @@ pub holds_new : HaveOneAnswer → (vault : OpenedVault) (seed : ℕ) (s : State)
 holds_new one vault seed s sound opens orderly stands =
     let same : under vault.root (seen s) ≡ under vault.root stands.view = seen_alone vault.root s stands.view stands.alone in
     let opened : IsVault (under vault.root stands.view) phrase vault.vault = subst (λ u. IsVault u phrase vault.vault) same opens in
-    let is : stands.vault ≡ vault.vault = one_vault stands.vault vault.vault (one (under vault.root stands.view) phrase (opened_as stands.vault) (opened_as vault.vault) stands.new.opens opened) in
+    let is : stands.vault ≡ vault.vault = new_vault one kind.Gocryptfs vault.root vault.vault s opens stands in
     let empty : IsEmptyVault (format_of vault.vault) (under vault.root stands.view) = subst (λ x. IsEmptyVault (format_of x) (under vault.root stands.view)) is stands.new.empty in
     record {
       view = stands.view;
@@ -163,14 +175,15 @@ holds_new one vault seed s sound opens orderly stands =
     }
 
 -- what is known of the vault that stands alone, by what is seen
-pub holds_seen : (vault : OpenedVault) (root : Path) (seed count : ℕ) (t u : Option Told) → vault.root ≡ root → ((a : Told) → t ≡ Some a → HoldsAlone vault seed 0 a.state)
-    → FromTo (λ a b. HoldsAlone vault seed 0 a.state → HoldsAlone vault seed count b.state) t u → (v : View) → IsSeen u v → HoldsItems root seed count v
+pub holds_seen : (vault : OpenedVault) (root : Path) (seed count : ℕ) (t u : Option Told) → vault.root ≡ root → ((a : Told) → t ≡ Some a → kind_of vault.vault ≡ kind.Gocryptfs × HoldsAlone vault seed 0 a.state)
+    → FromTo (λ a b. HoldsAlone vault seed 0 a.state → HoldsAlone vault seed count b.state) t u → (v : View) → IsSeen u v → HoldsItems kind.Gocryptfs root seed count v
 holds_seen vault root seed count (Some a) (Some b) at first adds v is =
-    let holds : HoldsAlone vault seed count b.state = adds (first a refl) in
+    let holds : HoldsAlone vault seed count b.state = adds (first a refl).1 in
     let same : under root v ≡ under vault.root holds.view =
     ap (λ w. under root w) is ∙ ap (λ r. under r (seen b.state)) (sym at) ∙ seen_alone vault.root b.state holds.view holds.alone in
     record {
       vault = vault.vault;
+      is = (first a refl).0;
       opens = subst (λ u. IsVault u phrase vault.vault) (sym same) holds.opens;
       items = subst (λ u. HasItems seed count (tree (format_of vault.vault) u)) (sym same) holds.items;
     }

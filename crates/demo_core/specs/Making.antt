@@ -35,9 +35,10 @@ cost = record { n = 1024; r = 8; p = 1 }
 abbrev pub making_folder : Path
 making_folder = codes "w" ∷ []
 
--- A vault that the passphrase opens stands at a root, and its tree is that of so many items.
-pub record HoldsItems (root : Path) (seed count : ℕ) (v : View) : Type 0 where
+-- A vault of the kind that the passphrase opens stands at a root, and its tree is that of so many items.
+pub record HoldsItems (kind : VaultKind) (root : Path) (seed count : ℕ) (v : View) : Type 0 where
   pub vault : Vault
+  pub is : kind_of vault ≡ kind
   pub opens : IsVault (under root v) phrase vault
   pub items : HasItems seed count (tree (format_of vault) (under root v))
 

@@ -9,6 +9,7 @@ ghost use Rattle.folder_spec.specs.View.{View, kind_found};
 ghost use Rattle.move_journal.specs.Journal.{IsParsed};
 ghost use Rattle.port_model.specs.Counts.{CountRose};
 ghost use Rattle.work_folder.specs.Entering.{IsReady};
+ghost use Rattle.vault_read.specs.Opened.{kind_of};
 ghost use Rattle.vault_write.specs.Founding.{MayFound};
 ghost use Rattle.vault_write.specs.Making.{is_apart};
 ghost use Rattle.vault_write.specs.Placing.{MayMake};
@@ -66,7 +67,7 @@ pub fn make_first<F: Folder, R: Randoms>(
     random: &mut R,
 ) -> Result<(), MakeFault>
     requires count { count ≤ 2000 }
-    ensures holds { OnOk result ((v : View) → IsSeen (F.told folder.new) v → HoldsItems (codes "g" ∷ []) seed count v) }
+    ensures holds { OnOk result ((v : View) → IsSeen (F.told folder.new) v → HoldsItems VaultKind.Gocryptfs (codes "g" ∷ []) seed count v) }
     ensures beside { MakesBeside (codes "g" ∷ []) (F.told folder.old) (F.told folder.new) }
     ensures ready { OnOk result ((v : View) → IsSeen (F.told folder.new) v → IsReady v making_folder) }
     ensures failed { IfErr result (λ fault. IsFailed fault → CountRose (F.faults folder.old) (F.faults folder.new)) }
@@ -173,6 +174,7 @@ fn load<F: Folder>(alloc: Global, folder: &mut F, name: &str) -> Result<Vault, M
     ensures told { F.told folder.new ≡ F.told folder.old }
     ensures root { IfOk result (λ vault. vault.root ≡ parts_of name.now) }
     ensures holds { IfOk result (λ vault. (seed : ℕ) (a : Told) → F.told folder.new ≡ Some a → StandsNew VaultKind.Gocryptfs (parts_of name.now) a.state → HoldsAlone vault seed 0 a.state) }
+    ensures kind { IfOk result (λ vault. (a : Told) → F.told folder.new ≡ Some a → StandsNew VaultKind.Gocryptfs (parts_of name.now) a.state → kind_of vault.vault ≡ VaultKind.Gocryptfs) }
     ensures fault { IfErr result (λ fault. IsNotPut fault) }
     ensures failed { IfErr result (λ fault. IsFailed fault → CountRose (F.faults folder.old) (F.faults folder.new)) }
     ensures grows { F.faults folder.old ≤ F.faults folder.new }

@@ -1,5 +1,5 @@
 -- What the demonstration prints, part by part; and what it did where it wasn't begun, or where its message found no memory.
-use Rattle.std.proofs.Common.{◌≡◌, ◌∙◌, ◌+◌, ◌≤◌, ◌++◌, ◌∷◌, ◌⊎◌, [], ℕ, zero, suc, false, List, length, take, Option, Some, None, Result, Ok, Err, refl, sym, ap, subst, arith, append-nil, append_assoc, inl, inr, IsTrue}
+use Rattle.std.proofs.Common.{◌≡◌, ◌∙◌, ◌+◌, ◌≤◌, ◌++◌, ◌∷◌, ◌⊎◌, ◌≢◌, [], ℕ, zero, suc, false, List, length, take, Option, Some, None, Result, Ok, Err, refl, sym, ap, subst, arith, append-nil, append_assoc, inl, inr, IsTrue}
 use Rattle.std.specs.Io.KnownBytes.{Appends}
 use Rattle.std.proofs.KnownBytes.{Keeps-refl}
 use Rattle.std.proofs.Math.Seq.{take-append-add}
@@ -7,12 +7,12 @@ use Rattle.std.proofs.lemmas.List.{take_all}
 use Rattle.port_model.specs.Counts.{CountRose}
 use Rattle.port_model.specs.Told.{AppendsPrefix}
 use Rattle.vault_cli.specs.Answers.{is_plain}
-use Rattle.vault_cli.specs.Demo.{Demonstrates, IsLed, IsStatus, IsWay, IsWayBack, PrintsAll, PrintsBack, PrintsBy, PrintsDemonstration, PrintsLed, PrintsWay, TakesBy, back_text, is_of_demonstration, is_of_fault, led_text, made_text, moved_text, retired_text, way_text}
+use Rattle.vault_cli.specs.Demo.{Demonstrates, IsLed, IsStatus, IsWay, IsWayBack, OnArrival, OnEnd, PrintsAll, PrintsBack, PrintsBy, PrintsDemonstration, PrintsLed, PrintsWay, TakesBy, Way, StoppedThere, StoppedBack, Arrived, back_text, is_of_demonstration, is_of_fault, led_text, made_text, moved_text, retired_text, way_of, way_text}
 use Rattle.vault_cli.specs.World.{World}
 use Rattle.vault_cli.specs.declared.answer.Answer.{Answer}
 use Rattle.vault_cli.specs.declared.answer.Answer.TheVariants.{Done, Findings, BadCommandLine, OutOfMemory, FolderFault, InputFault, OutputFault, RandomFault, Refused, WrongPass, NotFound, WrongKind, DamagedInput, Damaged, NotAllowed, NotClean, Overlap, NotEmpty, Begun, Unusable, Changed, Differ, ZeroRandom, Taken, Limit, Retired}
-use Rattle.vault_cli.specs.declared.demo.Way.{Way}
-use Rattle.vault_cli.specs.declared.demo.Way.TheVariants.{StoppedThere, StoppedBack, Arrived}
+use Rattle.vault_cli.specs.declared.demo.Way.{Way as Ended}
+use Rattle.vault_cli.specs.declared.demo.Way.TheVariants as ways
 use Rattle.vault_cli.specs.declared.demo.Led.{Led}
 use Rattle.vault_cli.specs.declared.demo.Led.TheVariants as leds
 use Rattle.vault_cli.specs.declared.demo.Led.TheVariants.{Stopped}
@@ -72,10 +72,10 @@ module _ (F R F' R' : Type 0) (folder : F → F') (random : R → R') where
   way_more (Arrived first second) is = tt
 
   -- the way back follows the line of a first migration that is done
-  pub back_then : (result : Result Way Answer) (taken mid last : Option (List ℕ)) → Appends taken mid (moved_text There 0) → PrintsBack F R result mid last → PrintsWay F' R' result taken last
-  back_then (Ok (StoppedThere status)) taken mid last first next = absurd next.0
-  back_then (Ok (StoppedBack status)) taken mid last first next = ((next.0.0, status_more status next.0.1), all_then taken mid last (moved_text There 0) (moved_text Back status) first next.1)
-  back_then (Ok (Arrived one two)) taken mid last first next = (tt, all_then taken mid last (moved_text There 0) (moved_text Back 0 ++ retired_text one two) first next.1)
+  pub back_then : (result : Result Ended Answer) (taken mid last : Option (List ℕ)) → Appends taken mid (moved_text There 0) → PrintsBack F R result mid last → PrintsWay F' R' result taken last
+  back_then (Ok (ways.StoppedThere status)) taken mid last first next = absurd next.0
+  back_then (Ok (ways.StoppedBack status)) taken mid last first next = ((next.0.0, status_more status next.0.1), all_then taken mid last (moved_text There 0) (moved_text Back status) first next.1)
+  back_then (Ok (ways.Arrived one two)) taken mid last first next = (tt, all_then taken mid last (moved_text There 0) (moved_text Back 0 ++ retired_text one two) first next.1)
   back_then (Err answer) taken mid last first next = by_way next.0 next.1 next.2
     where
       by_way : (way : Way) → IsWayBack F R way → AppendsPrefix mid last (back_text way) → (way : Way) × IsWay F' R' way × AppendsPrefix taken last (way_text way)
@@ -84,8 +84,8 @@ module _ (F R F' R' : Type 0) (folder : F → F') (random : R → R') where
       by_way (Arrived one two) is front = (Arrived one two, tt, front_then taken mid last (moved_text There 0) (moved_text Back 0 ++ retired_text one two) first front)
 
   -- and all of it those of the items
-  pub made_then : (seed count : ℕ) (result : Result Way Answer) (taken mid last : Option (List ℕ)) → Appends taken mid (made_text seed count) → PrintsWay F R result mid last → PrintsAll F' R' seed count result taken last
-  made_then seed count (Ok way) taken mid last first next = (way_more way next.0, all_then taken mid last (made_text seed count) (way_text way) first next.1)
+  pub made_then : (seed count : ℕ) (result : Result Ended Answer) (taken mid last : Option (List ℕ)) → Appends taken mid (made_text seed count) → PrintsWay F R result mid last → PrintsAll F' R' seed count result taken last
+  made_then seed count (Ok way) taken mid last first next = (way_more (way_of way) next.0, all_then taken mid last (made_text seed count) (way_text (way_of way)) first next.1)
   made_then seed count (Err answer) taken mid last first next = (next.0, way_more next.0 next.1, front_then taken mid last (made_text seed count) (way_text next.0) first next.2)
 
 -- ---- one migration
@@ -119,7 +119,7 @@ some_back F R taken last it = by_led it.0 it.1 it.2
 pub led_stopped : (F R : Type 0) (leg : Leg) (result : Result Led Answer) (answer : Answer) (taken last : Option (List ℕ)) → result ≡ Err answer → SomeLed F R leg taken last → PrintsLed F R leg result taken last
 led_stopped F R leg result answer taken last is some = subst (λ r. PrintsLed F R leg r taken last) (sym is) some
 
-pub way_stopped : (Is : Way → Type 0) (text : Way → List ℕ) (result : Result Way Answer) (answer : Answer) (taken last : Option (List ℕ)) → result ≡ Err answer
+pub way_stopped : (Is : Way → Type 0) (text : Way → List ℕ) (result : Result Ended Answer) (answer : Answer) (taken last : Option (List ℕ)) → result ≡ Err answer
     → (way : Way) × Is way × AppendsPrefix taken last (text way) → PrintsBy Is text result taken last
 way_stopped Is text result answer taken last is some = subst (λ r. PrintsBy Is text r taken last) (sym is) some
 
@@ -154,6 +154,27 @@ takes_front (Taken at) taken taken' text own front = front
 takes_front (Limit which) taken taken' text own front = front
 takes_front (Retired work) taken taken' text own front = front
 
+-- all is done, or it stops
+module _ (F R B : Type 0) (seed count : ℕ) (none : R → ⊥) where
+  pub demonstrated : (ended : Ended) (taken taken' : Option (List ℕ)) → PrintsAll F R seed count (Ok ended) taken taken' → OnEnd B ended → PrintsDemonstration F B seed count Done taken taken'
+  demonstrated ended taken taken' prints brought = (way_of ended, way_more F R F ⊥ (λ failed. failed) none (way_of ended) prints.0, prints.1, λ same. brought)
+
+  pub stopped : (answer : Answer) (taken taken' : Option (List ℕ)) → IsTrue (is_of_fault answer) → PrintsAll F R seed count (Err answer) taken taken' → PrintsDemonstration F B seed count answer taken taken'
+  stopped answer taken taken' own prints =
+      (prints.0, way_more F R F ⊥ (λ failed. failed) none prints.0 prints.1, takes_front answer taken taken' (made_text seed count ++ way_text prints.0) own prints.2, λ same. absurd (not_done same))
+    where
+      not_done : answer ≢ Done
+      not_done same = let none : IsTrue (is_of_fault Done) = subst (λ a. IsTrue (is_of_fault a)) same own in cc
+
+-- in a folder in which no call fails
+pub steadily : (B : Type 0) (seed count : ℕ) (answer : Answer) (taken taken' : Option (List ℕ)) → PrintsDemonstration (CountRose 0 0) B seed count answer taken taken' → PrintsDemonstration ⊥ (Unit {0}) seed count answer taken taken'
+steadily B seed count answer taken taken' prints = (prints.0, way_more (CountRose 0 0) ⊥ ⊥ ⊥ none_rose (λ failed. failed) prints.0 prints.1, prints.2, λ same. arrived prints.0)
+  where
+    arrived : (way : Way) → OnArrival (Unit {0}) way
+    arrived (StoppedThere status) = tt
+    arrived (StoppedBack status) = tt
+    arrived (Arrived first second) = tt
+
 -- ---- the command
 
 -- it isn't begun, for want of memory
@@ -161,7 +182,7 @@ pub demonstrates_nothing : (demonstration : Demonstration) (w : World) → Demon
 demonstrates_nothing demonstration w = record {
   own = refl;
   steady = λ same. cc;
-  prints = (Arrived 0 0, tt, nothing_yet w.taken (made_text demonstration.seed demonstration.count ++ way_text (Arrived 0 0)));
+  prints = (Arrived 0 0, tt, nothing_yet w.taken (made_text demonstration.seed demonstration.count ++ way_text (Arrived 0 0)), λ same. cc);
   unchanged = refl;
   untouched = Keeps-refl w.left;
   undrawn = refl;
@@ -196,20 +217,20 @@ takes_lost (Limit which) taken taken' text named takes = takes
 takes_lost (Retired work) taken taken' text named takes = takes
 
 -- so is what was printed, and how it may be answered, told of the answer that a report gives back
-pub demonstration_told : (F : Type 0) (seed count : ℕ) (answer result : Answer) (taken taken' : Option (List ℕ)) → (result ≡ answer) ⊎ ((result ≡ OutOfMemory) × (is_plain answer ≡ false))
-    → IsTrue (is_of_demonstration answer) → PrintsDemonstration F seed count answer taken taken' → IsTrue (is_of_demonstration result) × PrintsDemonstration F seed count result taken taken'
-demonstration_told F seed count answer result taken taken' (inl same) own prints =
-    subst (λ a. IsTrue (is_of_demonstration a) × PrintsDemonstration F seed count a taken taken') (sym same) (own, prints)
-demonstration_told F seed count answer result taken taken' (inr memory) own prints =
-    subst (λ a. IsTrue (is_of_demonstration a) × PrintsDemonstration F seed count a taken taken') (sym memory.0)
-    (refl, (prints.0, prints.1, takes_lost answer taken taken' (made_text seed count ++ way_text prints.0) memory.1 prints.2))
+pub demonstration_told : (F B : Type 0) (seed count : ℕ) (answer result : Answer) (taken taken' : Option (List ℕ)) → (result ≡ answer) ⊎ ((result ≡ OutOfMemory) × (is_plain answer ≡ false))
+    → IsTrue (is_of_demonstration answer) → PrintsDemonstration F B seed count answer taken taken' → IsTrue (is_of_demonstration result) × PrintsDemonstration F B seed count result taken taken'
+demonstration_told F B seed count answer result taken taken' (inl same) own prints =
+    subst (λ a. IsTrue (is_of_demonstration a) × PrintsDemonstration F B seed count a taken taken') (sym same) (own, prints)
+demonstration_told F B seed count answer result taken taken' (inr memory) own prints =
+    subst (λ a. IsTrue (is_of_demonstration a) × PrintsDemonstration F B seed count a taken taken') (sym memory.0)
+    (refl, (prints.0, prints.1, takes_lost answer taken taken' (made_text seed count ++ way_text prints.0) memory.1 prints.2, λ same. cc))
 
 -- its message found no memory
 pub demonstration_lost : (demonstration : Demonstration) (answer : Answer) (before after : World) → is_plain answer ≡ false → Demonstrates demonstration answer before after → Demonstrates demonstration OutOfMemory before after
 demonstration_lost demonstration answer before after named did = record {
   own = refl;
   steady = λ same. cc;
-  prints = (did.prints.0, did.prints.1, takes_lost answer before.taken after.taken (made_text demonstration.seed demonstration.count ++ way_text did.prints.0) named did.prints.2);
+  prints = (did.prints.0, did.prints.1, takes_lost answer before.taken after.taken (made_text demonstration.seed demonstration.count ++ way_text did.prints.0) named did.prints.2, λ same. cc);
   unchanged = did.unchanged;
   untouched = did.untouched;
   undrawn = did.undrawn;

@@ -21,5 +21,5 @@ mod WholeFiles
 mod WrittenNumbers
 mod Demonstrations
 mod Statuses
-mod Keeping
 mod DemonstratedTrees
+mod Legs

@@ -28,5 +28,6 @@ pub mod Moving
 pub mod Migrate
 pub mod Resume
 pub mod Retire
+pub mod DemoTrees
 pub mod Demo
 pub mod Runs

@@ -1,12 +1,13 @@
 //! `demo`: makes a tree from a number, and moves it to the other format and back, in a folder of its own.
-ghost use Rattle.std.specs.Prelude.{◌≡◌, ◌≢◌, ◌≤◌, Ok, Err, IfErr, IfOk, IsTrue, string_bytes};
+ghost use Rattle.std.specs.Prelude.{◌≡◌, ◌≢◌, ◌≤◌, Ok, Err, IfErr, IfOk, OnOk, IsTrue, string_bytes};
 ghost use Rattle.move_journal.specs.Journal.{IsParsed};
 ghost use Rattle.port_model.specs.Counts.{CountRose};
-ghost use Rattle.demo_core.specs.Making.{IsFailed, IsMakeFault};
+ghost use Rattle.demo_core.specs.Making.{IsFailed, IsMakeFault, MakesBeside};
 ghost use Rattle.migrate_core.specs.Faults.{IsMoveFault};
 ghost use Rattle.retire_core.specs.Faults.{IsRetireFault};
 ghost use Rattle.vault_cli.specs.Answers.{TakesText, line_of, status_of};
-ghost use Rattle.vault_cli.specs.Demo.{IsStatus, PrintsAll, PrintsBack, PrintsDemonstration, PrintsLed, PrintsWay, TakesPart, is_of_demonstration, is_of_fault, is_of_telling, made_text, moved_text, retired_text};
+ghost use Rattle.vault_cli.specs.Demo.{IsStatus, OnEnd, OnRetired, PrintsAll, PrintsBack, PrintsDemonstration, PrintsLed, PrintsWay, TakesPart, is_of_demonstration, is_of_fault, is_of_telling, made_text, moved_text, retired_text};
+ghost use Rattle.vault_cli.specs.DemoTrees.{BringsItems, Carries, IsMoved, IsNewAt, Leads, LeadsBoth, LeavesAny, MakesItems, WhereTold, kind_to, second_root, source_of, target_of, third_root};
 ghost use Rattle.vault_cli.specs.Moving.{is_of_stop};
 ghost use Rattle.vault_cli.specs.Retire.{is_of_refusal};
 
@@ -19,12 +20,15 @@ use demo_core::{
     MakeFault, PASSPHRASE, SteadyFolder, make_first, make_vault, place, random_of, totals_of,
 };
 use folder_model::{FPath, Folder};
+use folder_spec::laws::roots_show_their_own;
 use migrate_core::MoveFault;
+use move_journal::laws::journals_are_read_back;
 use port_model::{Randoms, Sink};
 use retire_core::RetireFault;
 use std::alloc::{AllocError, Global};
 use tree_match::Side;
 use vault_read::VaultKind;
+use vault_read::laws::roots_have_one_answer;
 
 /// Makes a tree of so many items from a number in a gocryptfs vault at `g`, moves it into a new Cryptomator vault at `c`, retires `g`,
 /// moves it into a new gocryptfs vault at `h`, and retires `c`. `count` is at most 2,000. Of each part it writes to `out` what was done,
@@ -43,7 +47,7 @@ pub fn demo_in<F: Folder, O: Sink, E: Sink>(
     ensures answer { (answer : Answer) × (result ≡ status_of answer)
         × TakesText (E.taken err.old) (E.taken err.new) (E.faults err.old) (E.faults err.new) (line_of answer)
         × IsTrue (is_of_demonstration answer)
-        × PrintsDemonstration (CountRose (F.faults folder.old) (F.faults folder.new)) seed count answer (O.taken out.old) (O.taken out.new) }
+        × PrintsDemonstration (CountRose (F.faults folder.old) (F.faults folder.new)) (WhereTold (BringsItems seed count) (F.told folder.old) (F.told folder.new)) seed count answer (O.taken out.old) (O.taken out.new) }
     ensures folder_fault { result ≡ 4 → CountRose (F.faults folder.old) (F.faults folder.new) }
     ensures output_fault { result ≡ 6 → CountRose (O.faults out.old) (O.faults out.new) }
 {
@@ -56,7 +60,7 @@ pub fn demo_in<F: Folder, O: Sink, E: Sink>(
 pub(crate) fn demo<O: Sink>(alloc: Global, demonstration: &Demonstration, out: &mut O) -> Answer
     requires { demonstration.now.count ≤ 2000 }
     ensures own { IsTrue (is_of_demonstration result) }
-    ensures prints { PrintsDemonstration ⊥ demonstration.now.seed demonstration.now.count result (O.taken out.old) (O.taken out.new) }
+    ensures prints { PrintsDemonstration ⊥ (Unit {0}) demonstration.now.seed demonstration.now.count result (O.taken out.old) (O.taken out.new) }
     ensures no_folder { result ≢ Answer.FolderFault }
     ensures output_fault { result ≡ Answer.OutputFault → CountRose (O.faults out.old) (O.faults out.new) }
 {
@@ -76,7 +80,7 @@ fn demonstrate<F: Folder, O: Sink>(
 ) -> Answer
     requires { count ≤ 2000 }
     ensures own { IsTrue (is_of_demonstration result) }
-    ensures prints { PrintsDemonstration (CountRose (F.faults folder.old) (F.faults folder.new)) seed count result (O.taken out.old) (O.taken out.new) }
+    ensures prints { PrintsDemonstration (CountRose (F.faults folder.old) (F.faults folder.new)) (WhereTold (BringsItems seed count) (F.told folder.old) (F.told folder.new)) seed count result (O.taken out.old) (O.taken out.new) }
     ensures folder_fault { result ≡ Answer.FolderFault → CountRose (F.faults folder.old) (F.faults folder.new) }
     ensures output_fault { result ≡ Answer.OutputFault → CountRose (O.faults out.old) (O.faults out.new) }
 {
@@ -113,7 +117,9 @@ fn make_and_move<F: Folder, R: Randoms, O: Sink>(
     ensures folder_fault { result ≡ Err Answer.FolderFault → CountRose (F.faults folder.old) (F.faults folder.new) }
     ensures random_fault { result ≡ Err Answer.RandomFault → CountRose (R.faults random.old) (R.faults random.new) }
     ensures output_fault { result ≡ Err Answer.OutputFault → CountRose (O.faults out.old) (O.faults out.new) }
+    ensures brings { IfOk result (OnEnd (WhereTold (BringsItems seed count) (F.told folder.old) (F.told folder.new))) }
 {
+    roots_have_one_answer();
     make_items(alloc, folder, seed, count, random)?;
     tell_made(alloc, seed, count, out)?;
     move_there(alloc, folder, random, out)
@@ -133,6 +139,7 @@ fn make_items<F: Folder, R: Randoms>(
     ensures random_fault { result ≡ Err Answer.RandomFault → CountRose (R.faults random.old) (R.faults random.new) }
     ensures grows { F.faults folder.old ≤ F.faults folder.new }
     ensures counted { R.faults random.old ≤ R.faults random.new }
+    ensures makes { OnOk result (WhereTold (MakesItems seed count) (F.told folder.old) (F.told folder.new)) }
 {
     let root = place(alloc, "g")?;
     match make_first(alloc, folder, seed, count, random) {
@@ -153,6 +160,7 @@ fn move_there<F: Folder, R: Randoms, O: Sink>(
     ensures folder_fault { result ≡ Err Answer.FolderFault → CountRose (F.faults folder.old) (F.faults folder.new) }
     ensures random_fault { result ≡ Err Answer.RandomFault → CountRose (R.faults random.old) (R.faults random.new) }
     ensures output_fault { result ≡ Err Answer.OutputFault → CountRose (O.faults out.old) (O.faults out.new) }
+    ensures leads { IfOk result (OnEnd (WhereTold LeadsBoth (F.told folder.old) (F.told folder.new))) }
 {
     match lead(alloc, folder, Leg::There, random, out)? {
         Led::Stopped(status) => Ok(Way::StoppedThere(status)),
@@ -173,6 +181,7 @@ fn move_back<F: Folder, R: Randoms, O: Sink>(
     ensures folder_fault { result ≡ Err Answer.FolderFault → CountRose (F.faults folder.old) (F.faults folder.new) }
     ensures random_fault { result ≡ Err Answer.RandomFault → CountRose (R.faults random.old) (R.faults random.new) }
     ensures output_fault { result ≡ Err Answer.OutputFault → CountRose (O.faults out.old) (O.faults out.new) }
+    ensures leads { IfOk result (OnEnd (WhereTold (Leads VaultKind.Gocryptfs second_root third_root) (F.told folder.old) (F.told folder.new))) }
 {
     match lead(alloc, folder, Leg::Back, random, out)? {
         Led::Stopped(status) => Ok(Way::StoppedBack(status)),
@@ -192,7 +201,8 @@ enum Leg {
 
 impl Leg {
     fn source(self, alloc: Global) -> Result<FPath, AllocError>
-        ensures { IfOk result IsParsed }
+        ensures is { IfOk result (λ path. path ≡ source_of self) }
+        ensures parsed { IfOk result IsParsed }
     {
         match self {
             Leg::There => place(alloc, "g"),
@@ -201,7 +211,8 @@ impl Leg {
     }
 
     fn target(self, alloc: Global) -> Result<FPath, AllocError>
-        ensures { IfOk result IsParsed }
+        ensures is { IfOk result (λ path. path ≡ target_of self) }
+        ensures parsed { IfOk result IsParsed }
     {
         match self {
             Leg::There => place(alloc, "c"),
@@ -235,6 +246,7 @@ fn lead<F: Folder, R: Randoms, O: Sink>(
     ensures grows { F.faults folder.old ≤ F.faults folder.new }
     ensures counted { R.faults random.old ≤ R.faults random.new }
     ensures written { O.faults out.old ≤ O.faults out.new }
+    ensures leads { IfOk result (OnRetired (WhereTold (Leads (kind_to leg) (source_of leg) (target_of leg)) (F.told folder.old) (F.told folder.new))) }
 {
     let status = move_to(alloc, folder, leg, random)?;
     tell_moved(alloc, leg, status, out)?;
@@ -257,7 +269,10 @@ fn move_to<F: Folder, R: Randoms>(
     ensures random_fault { result ≡ Err Answer.RandomFault → CountRose (R.faults random.old) (R.faults random.new) }
     ensures grows { F.faults folder.old ≤ F.faults folder.new }
     ensures counted { R.faults random.old ≤ R.faults random.new }
+    ensures carries { IfOk result (λ status. status ≡ 0 → WhereTold (Carries (kind_to leg) (source_of leg) (target_of leg)) (F.told folder.old) (F.told folder.new)) }
 {
+    roots_show_their_own();
+    roots_have_one_answer();
     make_target(alloc, folder, leg, random)?;
     let source = leg.source(alloc)?;
     let target = leg.target(alloc)?;
@@ -276,6 +291,8 @@ fn make_target<F: Folder, R: Randoms>(
     ensures random_fault { result ≡ Err Answer.RandomFault → CountRose (R.faults random.old) (R.faults random.new) }
     ensures grows { F.faults folder.old ≤ F.faults folder.new }
     ensures counted { R.faults random.old ≤ R.faults random.new }
+    ensures beside { OnOk result (MakesBeside (target_of leg) (F.told folder.old) (F.told folder.new)) }
+    ensures new { OnOk result (IsNewAt (kind_to leg) (target_of leg) (F.told folder.new)) }
 {
     let root = leg.target(alloc)?;
     let made = match leg {
@@ -302,6 +319,7 @@ fn migrate<F: Folder, R: Randoms>(
     ensures memory { IfErr result (λ answer. answer ≡ Answer.OutOfMemory) }
     ensures grows { F.faults folder.old ≤ F.faults folder.new }
     ensures counted { R.faults random.old ≤ R.faults random.new }
+    ensures moved { IfOk result (λ status. status ≡ 0 → IsMoved source.now target.now (F.told folder.old) (F.told folder.new)) }
 {
     let work = place(alloc, "m")?;
     match migrate_core::begin(
@@ -316,6 +334,7 @@ fn migrate<F: Folder, R: Randoms>(
 fn status_of(work: &FPath, source: &FPath, target: &FPath, fault: MoveFault) -> Result<u8, Answer>
     ensures status { IfOk result (IsStatus (IsMoveFault fault → fault ≡ MoveFault.Failed) (fault ≡ MoveFault.Place PutFault.Random)) }
     ensures memory { IfErr result (λ answer. answer ≡ Answer.OutOfMemory) }
+    ensures stops { IsMoveFault fault → IfOk result (λ status. status ≢ 0) }
 {
     let root = match fault {
         MoveFault::Load(Side::Target, _) => target,
@@ -332,7 +351,10 @@ fn retire_source<F: Folder>(alloc: Global, folder: &mut F, leg: Leg) -> Result<u
     ensures own { IfErr result (λ answer. IsTrue (is_of_refusal answer)) }
     ensures folder_fault { result ≡ Err Answer.FolderFault → CountRose (F.faults folder.old) (F.faults folder.new) }
     ensures grows { F.faults folder.old ≤ F.faults folder.new }
+    ensures leaves { IfOk result (λ items. LeavesAny (F.told folder.old) (F.told folder.new)) }
 {
+    roots_show_their_own();
+    journals_are_read_back();
     let work = place(alloc, "m")?;
     let source = leg.source(alloc)?;
     let target = leg.target(alloc)?;

@@ -16,7 +16,9 @@ returns-in_err-place_items-clause-beside g c =
 pub returns-clause-holds : goal.returns-clause-holds
 returns-clause-holds g c =
     holds_seen c.in_ok-vault.vault (codes "g" ∷ []) c.args.seed c.args.count (g.F.Folder.told c.load.new.folder) (g.F.Folder.told c.place_items.new.folder) c.in_ok-vault.ensures.root
-    (λ a told. c.in_ok-vault.ensures.holds c.args.seed a told (c.in_ok-work.ensures.stands a (sym c.load.ensures.told ∙ told))) c.in_ok-place_items.ensures.adds
+    (λ a told.
+    let new = c.in_ok-work.ensures.stands a (sym c.load.ensures.told ∙ told) in
+    (c.in_ok-vault.ensures.kind a told new, c.in_ok-vault.ensures.holds c.args.seed a told new)) c.in_ok-place_items.ensures.adds
 
 pub returns-clause-beside : goal.returns-clause-beside
 returns-clause-beside g c =

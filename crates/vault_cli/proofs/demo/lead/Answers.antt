@@ -1,3 +1,5 @@
+use Rattle.vault_cli.specs.DemoTrees.{kind_to, source_of, target_of}
+use Rattle.vault_cli.proofs.Legs.{leg_leads}
 use Rattle.std.proofs.Common.{subst}
 use Rattle.std.specs.Io.KnownBytes.{Appends}
 use Rattle.std.proofs.lemmas.Result.{err_from_is_err_and}
@@ -32,3 +34,9 @@ returns-in_err-retire_source-clause-prints g c =
     led_stopped (CountRose (g.F.Folder.faults c.args.folder.now) (g.F.Folder.faults c.retire_source.new.folder)) (CountRose (g.R.Randoms.faults c.args.random.now) (g.R.Randoms.faults c.move_to.new.random))
     c.args.leg c.from_residual-in_err-retire_source.result p.0 taken last p.1
     (Retired 0, tt, whole_front taken last (moved_text c.args.leg 0) (subst (λ status. Appends taken last (moved_text c.args.leg status)) c.if-status-ne0.false c.in_ok-tell_moved.ensures.prints))
+
+pub returns-clause-leads : goal.returns-clause-leads
+returns-clause-leads g c =
+    let leg = c.args.leg in
+    leg_leads (kind_to leg) (source_of leg) (target_of leg) (g.F.Folder.told c.args.folder.now) (g.F.Folder.told c.move_to.new.folder) (g.F.Folder.told c.retire_source.new.folder)
+    (c.in_ok-status.ensures.carries c.if-status-ne0.false) c.in_ok-retire_source.ensures.leaves

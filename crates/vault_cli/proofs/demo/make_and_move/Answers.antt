@@ -1,8 +1,9 @@
+use Rattle.vault_cli.specs.DemoTrees.{BringsItems, LeadsBoth, WhereTold}
+use Rattle.vault_cli.proofs.Legs.{all_brought, on_end}
 use Rattle.std.proofs.lemmas.Result.{err_from_is_err_and}
 use Rattle.std.proofs.Common.{◌++◌}
 use Rattle.port_model.specs.Counts.{CountRose}
-use Rattle.vault_cli.specs.Demo.{IsWay, made_text, way_text}
-use Rattle.vault_cli.specs.declared.demo.Way.TheVariants.{Arrived}
+use Rattle.vault_cli.specs.Demo.{Arrived, IsWay, made_text, way_text}
 use Rattle.vault_cli.proofs.Contents.{rose_after}
 use Rattle.vault_cli.proofs.Demonstrations.{front_of_more, made_then, nothing_yet, way_stopped}
 use Rattle.vault_cli.proofs.demo.make_and_move.Goals as goal
@@ -34,3 +35,11 @@ returns-clause-prints g c =
     let r2 = g.R.Randoms.faults c.move_there.new.random in
     made_then (CountRose f1 f2) (CountRose r1 r2) (CountRose f0 f2) (CountRose r0 r2) (rose_after f0 f1 f2 c.make_items.ensures.grows) (rose_after r0 r1 r2 c.make_items.ensures.counted)
     c.args.seed c.args.count c.move_there.result (g.O.Sink.taken c.args.out.now) (g.O.Sink.taken c.tell_made.new.out) (g.O.Sink.taken c.move_there.new.out) c.in_ok-tell_made.ensures.prints c.move_there.ensures.prints
+
+pub returns-clause-brings : goal.returns-clause-brings
+returns-clause-brings g c =
+    let t = g.F.Folder.told c.args.folder.now in
+    let u = g.F.Folder.told c.make_items.new.folder in
+    let w = g.F.Folder.told c.move_there.new.folder in
+    on_end c.move_there.result (WhereTold LeadsBoth u w) (WhereTold (BringsItems c.args.seed c.args.count) t w)
+    (λ leads. all_brought c.roots_have_one_answer.ensures c.args.seed c.args.count t u w c.in_ok-make_items.ensures.makes leads) c.move_there.ensures.leads

@@ -1,10 +1,12 @@
+use Rattle.vault_cli.specs.Demo.{OnRetired}
+use Rattle.vault_cli.specs.DemoTrees.{Leads, WhereTold, second_root, third_root}
+use Rattle.vault_read.specs.declared.vault.VaultKind.TheVariants.{Gocryptfs}
 use Rattle.std.proofs.Common.{subst}
 use Rattle.std.specs.Io.KnownBytes.{Appends}
 use Rattle.std.proofs.lemmas.Result.{err_from_is_err_and}
 use Rattle.port_model.specs.Counts.{CountRose}
-use Rattle.vault_cli.specs.Demo.{IsLed, IsWayBack, back_text, led_text, moved_text, retired_text}
+use Rattle.vault_cli.specs.Demo.{Arrived, IsLed, IsWayBack, back_text, led_text, moved_text, retired_text}
 use Rattle.vault_cli.specs.declared.demo.Leg.TheVariants.{Back}
-use Rattle.vault_cli.specs.declared.demo.Way.TheVariants.{Arrived}
 use Rattle.vault_cli.proofs.Demonstrations.{all_then, front_then, some_back, way_stopped}
 use Rattle.vault_cli.proofs.demo.move_back.Goals as goal
 
@@ -44,3 +46,7 @@ returns-in_ok-tell_retired-in-Retired-clause-prints g c =
     let last = g.O.Sink.taken c.tell_retired.new.out in
     let led = subst (λ l. IsLed folder random l × Appends taken mid (led_text Back l)) c.in-Retired.is c.in_ok-status.ensures.prints in
     (tt, all_then taken mid last (moved_text Back 0) (retired_text c.args.first c.in-Retired.second) led.1 c.in_ok-tell_retired-in-Retired.ensures.prints)
+
+pub returns-in_ok-tell_retired-in-Retired-clause-leads : goal.returns-in_ok-tell_retired-in-Retired-clause-leads
+returns-in_ok-tell_retired-in-Retired-clause-leads g c =
+    subst (λ led. OnRetired (WhereTold (Leads Gocryptfs second_root third_root) (g.F.Folder.told c.args.folder.now) (g.F.Folder.told c.lead.new.folder)) led) c.in-Retired.is c.in_ok-status.ensures.leads

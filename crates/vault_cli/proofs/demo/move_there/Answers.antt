@@ -1,3 +1,7 @@
+use Rattle.vault_cli.specs.Demo.{OnRetired}
+use Rattle.vault_cli.specs.DemoTrees.{Leads, LeadsBoth, WhereTold, first_root, second_root, third_root}
+use Rattle.vault_cli.proofs.Legs.{both_lead, on_end}
+use Rattle.vault_read.specs.declared.vault.VaultKind.TheVariants as kind
 use Rattle.std.proofs.Common.{subst}
 use Rattle.std.specs.Io.KnownBytes.{Appends}
 use Rattle.std.proofs.lemmas.Result.{err_from_is_err_and}
@@ -36,3 +40,11 @@ returns-in-Retired-clause-prints g c =
     let led = subst (λ l. IsLed (CountRose f0 f1) (CountRose r0 r1) l × Appends taken mid (led_text There l)) c.in-Retired.is c.in_ok-status.ensures.prints in
     back_then (CountRose f1 f2) (CountRose r1 r2) (CountRose f0 f2) (CountRose r0 r2) (rose_after f0 f1 f2 c.in_ok-status.ensures.grows) (rose_after r0 r1 r2 c.in_ok-status.ensures.counted)
     c.move_back.result taken mid (g.O.Sink.taken c.move_back.new.out) led.1 c.move_back.ensures.prints
+
+pub returns-in-Retired-clause-leads : goal.returns-in-Retired-clause-leads
+returns-in-Retired-clause-leads g c =
+    let t = g.F.Folder.told c.args.folder.now in
+    let u = g.F.Folder.told c.lead.new.folder in
+    let w = g.F.Folder.told c.move_back.new.folder in
+    let there = subst (λ led. OnRetired (WhereTold (Leads kind.Cryptomator first_root second_root) t u) led) c.in-Retired.is c.in_ok-status.ensures.leads in
+    on_end c.move_back.result (WhereTold (Leads kind.Gocryptfs second_root third_root) u w) (WhereTold LeadsBoth t w) (λ back. both_lead t u w there back) c.move_back.ensures.leads

@@ -1,0 +1,121 @@
+-- The tree of the demonstration goes from vault to vault.
+use Rattle.std.specs.Prelude.{◌≡◌, ℕ, Bool, [], ◌∷◌, codes, Option, Some, IsTrue}
+use Rattle.demo_core.specs.Making.{HoldsItems, StandsNew, making_folder, phrase}
+use Rattle.folder_spec.specs.Event.{Told}
+use Rattle.folder_spec.specs.Moments.{Went}
+use Rattle.folder_spec.specs.Path.{Path}
+use Rattle.folder_spec.specs.Region.{apart_from_both, at_or_below}
+use Rattle.folder_spec.specs.Seen.{seen, under}
+use Rattle.folder_spec.specs.State.{State}
+use Rattle.folder_spec.specs.View.{NoEntry}
+use Rattle.migrate_core.specs.Moved.{MovesTree, SaysDone}
+use Rattle.migrate_core.specs.Moving.{MovesOnly}
+use Rattle.migrate_core.specs.declared.placing.Done.{Done}
+use Rattle.vault_read.specs.Laws.{HasOwnFolders}
+use Rattle.vault_read.specs.Opened.{kind_of}
+use Rattle.vault_read.specs.declared.vault.VaultKind.{VaultKind}
+use Rattle.vault_read.specs.declared.vault.VaultKind.TheVariants as kind
+use Rattle.vault_spec.specs.Vault.{Vault, IsVault}
+use Rattle.vault_cli.specs.declared.demo.Leg.{Leg}
+use Rattle.vault_cli.specs.declared.demo.Leg.TheVariants.{There, Back}
+
+-- the roots of the three vaults
+abbrev pub first_root : Path
+first_root = codes "g" ∷ []
+
+abbrev pub second_root : Path
+second_root = codes "c" ∷ []
+
+abbrev pub third_root : Path
+third_root = codes "h" ∷ []
+
+-- by its calls the folder came from one moment to the other
+abbrev pub GoesOn : Told → Told → Type 0
+GoesOn a b = Went (λ s. Unit {0}) (λ s e. Unit {0}) a b
+
+-- where a folder tells its state, R holds of what it tells before and after
+abbrev pub WhereTold : (Told → Told → Type 0) → Option Told → Option Told → Type 0
+WhereTold R told told' = (a : Told) → told ≡ Some a → (b : Told) × (told' ≡ Some b) × R a b
+
+-- no two directories of the vault at a root share a folder
+abbrev pub HasOwn : Path → State → Type 0
+HasOwn root s = (vault : Vault) → IsVault (under root (seen s)) phrase vault → HasOwnFolders vault (under root (seen s))
+
+-- The items stand in a gocryptfs vault at `g` first, then in a Cryptomator vault at `c`, and in a gocryptfs vault at `h` when all is done.
+-- By then the other two are gone. No two directories of the vault at `c` are to share a folder.
+pub record BringsItems (seed count : ℕ) (a b : Told) : Type 0 where
+  pub first : Told
+  pub second : Told
+  pub made : GoesOn a first
+  pub moved : GoesOn first second
+  pub moved_back : GoesOn second b
+  pub in_first : HoldsItems kind.Gocryptfs first_root seed count (seen first.state)
+  pub in_second : HasOwn second_root second.state → HoldsItems kind.Cryptomator second_root seed count (seen second.state)
+  pub in_third : HasOwn second_root second.state → HoldsItems kind.Gocryptfs third_root seed count (seen b.state)
+  pub first_gone : seen b.state first_root ≡ NoEntry
+  pub second_gone : seen b.state second_root ≡ NoEntry
+
+-- ---- private contracts
+
+abbrev pub source_of : Leg → Path
+source_of There = first_root
+source_of Back = second_root
+
+abbrev pub target_of : Leg → Path
+target_of There = second_root
+target_of Back = third_root
+
+abbrev pub kind_to : Leg → VaultKind
+kind_to There = kind.Cryptomator
+kind_to Back = kind.Gocryptfs
+
+-- a new vault of the kind stands at a root
+abbrev pub IsNewAt : VaultKind → Path → Option Told → Type 0
+IsNewAt kind root told = (a : Told) → told ≡ Some a → StandsNew kind root a.state
+
+-- the work folder of both migrations
+abbrev pub moving_folder : Path
+moving_folder = codes "m" ∷ []
+
+-- what is at the root and below it is of the region
+abbrev pub IsWithin : Path → (Path → Bool) → Type 0
+IsWithin root region = (q : Path) → IsTrue (at_or_below root q) → IsTrue (region q)
+
+-- the first items stand in the first vault
+abbrev pub MakesItems : ℕ → ℕ → Told → Told → Type 0
+MakesItems seed count a b = GoesOn a b × HoldsItems kind.Gocryptfs first_root seed count (seen b.state)
+
+-- a migration between these roots is done
+abbrev pub IsMoved : Path → Path → Option Told → Option Told → Type 0
+IsMoved from to told told' = (done : Done) × MovesTree from to moving_folder phrase phrase done told told' × MovesOnly moving_folder to told told'
+
+-- A vault of the kind is made and then the migration to it is done. What is apart from both work folders and the new vault stays.
+pub record Carries (kind : VaultKind) (from to : Path) (a b : Told) : Type 0 where
+  pub goes : GoesOn a b
+  pub is : (vault : Vault) → IsVault (under to (seen b.state)) phrase vault → kind_of vault ≡ kind
+  pub holds : (first : VaultKind) (seed count : ℕ) → HasOwn from a.state → HasOwn to b.state → HoldsItems first from seed count (seen a.state) → HoldsItems kind to seed count (seen b.state)
+  pub stays : (root : Path) → IsWithin root (apart_from_both making_folder to) → IsWithin root (apart_from_both moving_folder to) → under root (seen b.state) ≡ under root (seen a.state)
+  pub items : ℕ
+  pub says : SaysDone from to moving_folder items (seen b.state)
+
+-- Its source is retired. What is apart from that and from the work folder stays.
+pub record Leaves (from : Path) (a b : Told) : Type 0 where
+  pub goes : GoesOn a b
+  pub stays : (root : Path) → IsWithin root (apart_from_both from moving_folder) → under root (seen b.state) ≡ under root (seen a.state)
+  pub gone : seen b.state from ≡ NoEntry
+
+-- it is, of whichever migration the journal says that it is done
+abbrev pub LeavesAny : Option Told → Option Told → Type 0
+LeavesAny told told' = (from to : Path) → WhereTold (λ a b. (items : ℕ) → SaysDone from to moving_folder items (seen a.state) → Leaves from a b) told told'
+
+-- one after the other
+pub record Leads (kind : VaultKind) (from to : Path) (a b : Told) : Type 0 where
+  pub between : Told
+  pub carries : Carries kind from to a between
+  pub leaves : Leaves from between b
+
+-- both ways
+pub record LeadsBoth (a b : Told) : Type 0 where
+  pub between : Told
+  pub there : Leads kind.Cryptomator first_root second_root a between
+  pub back : Leads kind.Gocryptfs second_root third_root between b

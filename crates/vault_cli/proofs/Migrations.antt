@@ -3,6 +3,7 @@ use Rattle.std.proofs.Common.{◌≡◌, ℕ, Bool, true, false, List, Option, S
 use Rattle.std.specs.Prelude.{◌≢◌, MatchOption, MatchResult, if◌then◌else◌}
 use Rattle.std.proofs.lemmas.Bool.{or_left}
 use Rattle.std.proofs.KnownBytes.{Keeps-refl}
+use Rattle.content_writing.specs.declared.fault.PutFault.TheVariants as puts
 use Rattle.folder_spec.specs.Event.{Told}
 use Rattle.folder_spec.specs.Image.{Image, IsImage}
 use Rattle.folder_spec.specs.Moments.{Went}
@@ -14,6 +15,7 @@ use Rattle.folder_spec.specs.View.{Found, NoEntry, Folder, FileOf, Special, View
 use Rattle.folder_spec.proofs.Moments.{went_more, went_nowhere}
 use Rattle.folder_spec.proofs.Regions.{as_before}
 use Rattle.folder_spec.proofs.Tellings.{from_to_more, from_to_same}
+use Rattle.migrate_core.specs.Completing.{CanBegin, CanResume, IsOfChance}
 use Rattle.migrate_core.specs.Faults as causes
 use Rattle.migrate_core.specs.Leading.{KeepsGuarded}
 use Rattle.migrate_core.specs.Moved.{StandsIn}
@@ -31,16 +33,19 @@ use Rattle.move_journal.specs.declared.journal.Journal.{Journal}
 use Rattle.port_model.specs.Draws.{ByteStream}
 use Rattle.tree_match.specs.Alone.{StaysGuarded}
 use Rattle.tree_match.specs.Guard.{Migration, Guarded, IsSafe, LosesNothing}
+use Rattle.tree_match.specs.declared.answer.MatchFault.TheVariants as match
 use Rattle.tree_match.specs.declared.answer.Side.{Side}
+use Rattle.vault_read.specs.declared.fault.Limit.TheVariants as limit
 use Rattle.vault_read.specs.declared.fault.LoadFault.{LoadFault}
 use Rattle.vault_cli.specs.Answers.{is_plain}
 use Rattle.vault_cli.specs.Migrate.{HasMigrated, IsAskedFor, MigratesApart, MigratesTree, Pair, RefusesTwo, first_overlap, pair}
 use Rattle.vault_cli.specs.Migrate as migrating
-use Rattle.vault_cli.specs.Moving.{AnswersMove, ArePhrases, Comes, FailPasses, KeepsAll, OfPasses, Outcome, RefusesPasses, RefusesUndrawn, done_text, is_of_migration, is_of_stop}
+use Rattle.vault_cli.specs.Faults.{of_move}
+use Rattle.vault_cli.specs.Moving.{AnswersMove, ArePhrases, Comes, Completes, FailPasses, KeepsAll, OfPasses, Outcome, RefusesPasses, RefusesUndrawn, done_text, is_of_chance, is_of_migration, is_of_stop}
 use Rattle.vault_cli.specs.Opening.{IsPhrase, OfPassFile, passphrase_in}
 use Rattle.vault_cli.specs.Places.{overlap}
 use Rattle.vault_cli.specs.Printing.{PrintsText}
-use Rattle.vault_cli.specs.Refusing.{RefusesPass}
+use Rattle.vault_cli.specs.Refusing.{RefusesPass, Unless}
 use Rattle.vault_cli.specs.Resume.{HasResumed, IsResumedFor, Resumes, ResumesTree}
 use Rattle.vault_cli.specs.Resume as resuming_on
 use Rattle.vault_cli.specs.Shown.{is_of_end, refused}
@@ -52,7 +57,7 @@ use Rattle.vault_cli.specs.declared.words.Passes.{Passes}
 use Rattle.vault_cli.specs.declared.words.Resuming.{Resuming}
 use Rattle.vault_cli.proofs.Beginnings.{none_drawn}
 use Rattle.vault_cli.proofs.Printings.{IsPrinted, is_another, nothing_printed, print_lost, printed, printed_is_own}
-use Rattle.vault_cli.proofs.Refusals.{pass_gives, pass_then, unless_then}
+use Rattle.vault_cli.proofs.Refusals.{pass_gives, pass_taken, pass_then, unless_then}
 
 -- ---- nothing is lost
 
@@ -101,6 +106,13 @@ pub phrases_are : (passes : Passes) (source target source_pass target_pass : Lis
 phrases_are passes source target source_pass target_pass v first second is is' =
     record { source = subst (IsPhrase (v passes.source)) (sym first) is; target = subst (IsPhrase (v passes.target)) (sym second) is' }
 
+-- where both stand in their files, nothing of these refuses
+pub phrases_read : (passes : Passes) (source target : List ℕ) (v : View) (answer : Answer) (P : Type 0) → ArePhrases passes source target v → FailPasses passes v answer → Unless answer P
+phrases_read passes source target v answer P are =
+    unless_then (OfPasses passes v answer (λ s t. ⊥)) P answer (λ of.
+    absurd (pass_taken passes.target (v passes.target) (refused answer) (λ t. ⊥) target are.target
+    (pass_taken passes.source (v passes.source) (refused answer) (λ s. OfPassFile passes.target (v passes.target) (refused answer) (λ t. ⊥)) source are.source of)))
+
 -- the migration that is asked for is the one whose passphrases were read
 pub asked_is : (g : Migration) (moving : Moving) (v : View) (source target : List ℕ) → ArePhrases moving.passes source target v → IsAskedFor g moving v → IsAsked g moving.source moving.target moving.work source target
 asked_is g moving v source target are asked = record {
@@ -111,7 +123,7 @@ asked_is g moving v source target are asked = record {
   opens_target = phrase_is_one (v moving.passes.target) g.target.pass target asked.phrases.target are.target;
 }
 
-resumed_is : (g : Migration) (resuming : Resuming) (v : View) (source target : List ℕ) → ArePhrases resuming.passes source target v → IsResumedFor g resuming v → IsResumed g resuming.work source target
+pub resumed_is : (g : Migration) (resuming : Resuming) (v : View) (source target : List ℕ) → ArePhrases resuming.passes source target v → IsResumedFor g resuming v → IsResumed g resuming.work source target
 resumed_is g resuming v source target are asked = record {
   work = asked.resumed.work;
   opens_source = phrase_is_one (v resuming.passes.source) g.source.pass source asked.phrases.source are.source;
@@ -153,6 +165,51 @@ passes_unread passes answer told told' v same fail = record { answers = fail; un
 
 pub unread_undrawn : (passes : Passes) (answer : Answer) (told told' : Option Told) (stream : Option ByteStream) (v : View) → told' ≡ told → FailPasses passes v answer → RefusesUndrawn passes answer told told' stream stream v
 unread_undrawn passes answer told told' stream v same fail = (passes_unread passes answer told told' v same fail, none_drawn stream)
+
+cut_completes : (answer : Answer) → Unless answer ⊥ → Completes answer
+cut_completes answer (inl failed) = subst Completes (sym failed) refl
+cut_completes answer (inr (inl memory)) = subst Completes (sym memory) refl
+cut_completes answer (inr (inr none)) = absurd none
+
+-- where both passphrases stand in their files
+pub read_completes : (passes : Passes) (source target : List ℕ) (v : View) (answer : Answer) → ArePhrases passes source target v → FailPasses passes v answer → Completes answer
+read_completes passes source target v answer are fail = cut_completes answer (phrases_read passes source target v answer ⊥ are fail)
+
+chance : (work root : Path) (fault : MoveFault) → IsOfChance fault → IsTrue (is_of_chance (of_move work root fault))
+chance work root moves.Failed of = refl
+chance work root moves.NoMemory of = refl
+chance work root (moves.Place puts.Random) of = refl
+chance work root (moves.Place puts.ZeroRandom) of = refl
+chance work root (moves.Place (puts.Taken at)) of = refl
+chance work root (moves.Place (puts.Find fault)) of = absurd of
+chance work root (moves.Place (puts.NotAllowed path)) of = absurd of
+chance work root (moves.Place (puts.Damaged at fault)) of = absurd of
+chance work root (moves.Place (puts.Limit which)) of = absurd of
+chance work root (moves.Place puts.Source) of = absurd of
+chance work root (moves.Place puts.Failed) of = absurd of
+chance work root (moves.Place puts.NoMemory) of = absurd of
+chance work root (moves.Match (match.Limit (limit.Length at))) of = refl
+chance work root (moves.Match (match.Limit limit.Items)) of = absurd of
+chance work root (moves.Match (match.Limit limit.Depth)) of = absurd of
+chance work root (moves.Match (match.Limit limit.Input)) of = absurd of
+chance work root (moves.Match (match.Damaged at fault)) of = absurd of
+chance work root (moves.Match match.Failed) of = absurd of
+chance work root (moves.Match match.NoMemory) of = absurd of
+chance work root (moves.Work fault) of = absurd of
+chance work root (moves.Journal fault) of = absurd of
+chance work root (moves.Overlap first second) of = absurd of
+chance work root (moves.Load side fault) of = absurd of
+chance work root (moves.Walk fault) of = absurd of
+chance work root (moves.NotEmpty at) of = absurd of
+chance work root (moves.NotAllowed path) of = absurd of
+chance work root (moves.Changed plan items plan' items') of = absurd of
+chance work root (moves.Differ path how) of = absurd of
+chance work root moves.SourceGone of = absurd of
+
+-- what chance has it is answered as such
+pub chance_answered : (work root : Path) (fault : MoveFault) (answer : Answer) → IsOfChance fault → (answer ≡ OutOfMemory) ⊎ (answer ≡ of_move work root fault) → Completes answer
+chance_answered work root fault answer of (inl memory) = subst Completes (sym memory) refl
+chance_answered work root fault answer of (inr is) = or_left (is_of_chance answer) (is_of_end answer) (subst (λ a. IsTrue (is_of_chance a)) (sym is) (chance work root fault of))
 
 pub cut_short : (passes : Passes) (v : View) (answer : Answer) → (answer ≡ FolderFault) ⊎ (answer ≡ OutOfMemory) → FailPasses passes v answer
 cut_short passes v answer (inl failed) = inl failed
@@ -217,12 +274,14 @@ module _ (moving : Moving) where
 
   pub migrate_stopped : (answer : Answer) (told told' : Option Told) (taken : Option (List ℕ)) (stream stream' : Option ByteStream) → IsTrue (is_of_stop answer)
       → ((v : View) → IsSeen told v → migrating.MayCome moving answer told told' stream stream' v)
-      → ((g : Migration) (v : View) → IsSeen told v → IsAskedFor g moving v → KeepsAll g told told') → MovesOnly moving.work moving.target told told' → MigratesApart moving answer told told' taken taken stream stream'
-  migrate_stopped answer told told' taken stream stream' own comes keeps moves = record {
+      → ((g : Migration) (v : View) → IsSeen told v → IsAskedFor g moving v → KeepsAll g told told') → MovesOnly moving.work moving.target told told'
+      → ((g : Migration) (v : View) → IsSeen told v → IsAskedFor g moving v → CanBegin g v → Completes answer) → MigratesApart moving answer told told' taken taken stream stream'
+  migrate_stopped answer told told' taken stream stream' own comes keeps moves completes = record {
     own = stop_is_own answer own;
     comes = comes;
     keeps = keeps;
     moves = moves;
+    completes = completes;
     prints = nothing_printed done_text (λ done. HasMigrated moving done told told') is_of_stop answer taken own refl refl;
   }
 
@@ -236,13 +295,14 @@ module _ (moving : Moving) where
         (AnswersMove moving.work (migrating.IsRootOf moving) answer) (move_printed moving.work (migrating.IsRootOf moving) answer done is_printed) (comes v is));
     keeps = keeps;
     moves = moves;
+    completes = λ g v is asked can. printed_is_own is_of_chance answer refl is_printed;
     prints = printed done_text (λ done. HasMigrated moving done told told') done answer taken taken' has prints is_printed;
   }
 
   migrates_nothing_apart : AreSafe → (told : Option Told) (taken : Option (List ℕ)) (stream : Option ByteStream) → MigratesApart moving OutOfMemory told told taken taken stream stream
   migrates_nothing_apart law told taken stream =
       migrate_stopped OutOfMemory told told taken stream stream refl (λ v is. inl (unread_undrawn moving.passes OutOfMemory told told stream v refl (inr (inl refl)))) (λ g v is asked. keeps_same law g told told refl)
-      (moves_nothing moving.work moving.target told told refl)
+      (moves_nothing moving.work moving.target told told refl) (λ g v is asked can. refl)
 
   pub migrates_nothing : AreSafe → (w : World) → MigratesTree moving OutOfMemory w w
   migrates_nothing law w = record { apart = by (first_overlap moving); untouched = Keeps-refl w.left }
@@ -266,6 +326,7 @@ module _ (moving : Moving) where
         comes = λ v is. comes_lost v (migrates.comes v is);
         keeps = migrates.keeps;
         moves = migrates.moves;
+        completes = λ g v is asked can. refl;
         prints = print_lost done_text (λ done. HasMigrated moving done before.told after.told) answer before.taken after.taken named migrates.prints;
       }
       by (Some two) refused = record { refuses = record { answers = inr refl; unchanged = refused.refuses.unchanged; unwritten = refused.refuses.unwritten }; undrawn = refused.undrawn }
@@ -288,12 +349,14 @@ module _ (resuming : Resuming) where
 
   pub resume_stopped : (answer : Answer) (told told' : Option Told) (taken : Option (List ℕ)) (stream stream' : Option ByteStream) → IsTrue (is_of_stop answer)
       → ((v : View) → IsSeen told v → resuming_on.MayCome resuming answer told told' stream stream' v)
-      → ((g : Migration) (v : View) → IsSeen told v → IsResumedFor g resuming v → KeepsAll g told told') → Brings told told' → Resumes resuming answer told told' taken taken stream stream'
-  resume_stopped answer told told' taken stream stream' own comes keeps moves = record {
+      → ((g : Migration) (v : View) → IsSeen told v → IsResumedFor g resuming v → KeepsAll g told told') → Brings told told'
+      → ((g : Migration) (v : View) → IsSeen told v → IsResumedFor g resuming v → CanResume g v → Completes answer) → Resumes resuming answer told told' taken taken stream stream'
+  resume_stopped answer told told' taken stream stream' own comes keeps moves completes = record {
     own = stop_is_own answer own;
     comes = comes;
     keeps = keeps;
     moves = moves;
+    completes = completes;
     prints = nothing_printed done_text (λ done. HasResumed resuming done told told') is_of_stop answer taken own refl refl;
   }
 
@@ -307,13 +370,14 @@ module _ (resuming : Resuming) where
         (AnswersMove resuming.work (resuming_on.IsRootOf resuming.work v) answer) (move_printed resuming.work (resuming_on.IsRootOf resuming.work v) answer done is_printed) (comes v is));
     keeps = keeps;
     moves = moves;
+    completes = λ g v is asked can. printed_is_own is_of_chance answer refl is_printed;
     prints = printed done_text (λ done. HasResumed resuming done told told') done answer taken taken' has prints is_printed;
   }
 
   pub resumes_nothing : AreSafe → (w : World) → ResumesTree resuming OutOfMemory w w
   resumes_nothing law w = record {
     resumes = resume_stopped OutOfMemory w.told w.told w.taken w.random w.random refl (λ v is. inl (unread_undrawn resuming.passes OutOfMemory w.told w.told w.random v refl (inr (inl refl)))) (λ g v is asked. keeps_same law g w.told w.told refl)
-        (λ v journal is good stands. moves_nothing resuming.work journal.target w.told w.told refl);
+        (λ v journal is good stands. moves_nothing resuming.work journal.target w.told w.told refl) (λ g v is asked can. refl);
     untouched = Keeps-refl w.left;
   }
 
@@ -324,6 +388,7 @@ module _ (resuming : Resuming) where
       comes = λ v is. comes_lost v (did.resumes.comes v is);
       keeps = did.resumes.keeps;
       moves = did.resumes.moves;
+      completes = λ g v is asked can. refl;
       prints = print_lost done_text (λ done. HasResumed resuming done before.told after.told) answer before.taken after.taken named did.resumes.prints;
     };
     untouched = did.untouched;

@@ -111,6 +111,12 @@ pass_gives at there shown P phrase is holds =
     subst (λ x. OfPassFile at x shown P) (sym is.1)
     (subst (λ b. Either b (P (passphrase_in is.0)) (shown ≡ refused (Limit limit.PassFile))) (sym (le-leb (length is.0) 2048 is.2)) (subst P is.3 holds))
 
+pub pass_taken : (at : Path) (there : Found) (shown : Shown) (P : List ℕ → Type 0) (phrase : List ℕ) → IsPhrase there phrase → OfPassFile at there shown P → P phrase
+pass_taken at there shown P phrase is of =
+    subst P (sym is.3)
+    (subst (λ b. Either b (P (passphrase_in is.0)) (shown ≡ refused (Limit limit.PassFile))) (le-leb (length is.0) 2048 is.2)
+    (subst (λ x. OfPassFile at x shown P) is.1 of))
+
 -- what holds of the vault that is opened follows
 pub opened_gives : (v : View) (root pass : Path) (shown : Shown) (P : Vault → Type 0) (vault : Vault) → Opens v root pass vault → P vault → OfOpened v root pass shown P
 opened_gives v root pass shown P vault opens holds =

@@ -1,5 +1,5 @@
 -- A source that is retired: what was done where the command wasn't begun or its message found no memory, and how it is answered.
-use Rattle.std.proofs.Common.{◌≡◌, false, ℕ, List, Option, Ok, Err, inl, inr, refl, sym, ◌∙◌, subst, IsTrue}
+use Rattle.std.proofs.Common.{◌≡◌, false, ℕ, List, Option, Ok, Err, inl, inr, refl, sym, ap, ◌∙◌, subst, IsTrue, ◌⊎◌}
 use Rattle.std.specs.Prelude.{◌≢◌, MatchResult}
 use Rattle.std.proofs.lemmas.Bool.{or_left}
 use Rattle.std.proofs.KnownBytes.{Keeps-refl}
@@ -11,8 +11,9 @@ use Rattle.move_journal.specs.Reading.{ReadsAs, journal_bytes}
 use Rattle.move_journal.specs.declared.journal.Journal.{Journal}
 use Rattle.move_journal.specs.declared.journal.JournalFault.{JournalFault}
 use Rattle.move_journal.specs.declared.journal.JournalFault.TheVariants as journal
-use Rattle.retire_core.specs.Causes.{ReadsDone}
+use Rattle.retire_core.specs.Causes.{IsOfFolder, ReadsDone}
 use Rattle.retire_core.specs.Causes as tests
+use Rattle.retire_core.specs.Completing.{CanRetire}
 use Rattle.retire_core.specs.Faults.{of_journal}
 use Rattle.retire_core.specs.declared.fault.RetireFault.{RetireFault}
 use Rattle.retire_core.specs.declared.fault.RetireFault.TheVariants as faults
@@ -24,7 +25,8 @@ use Rattle.vault_cli.specs.Answers.{is_plain}
 use Rattle.vault_cli.specs.Moving.{KeepsAll}
 use Rattle.vault_cli.specs.Printing.{PrintsText}
 use Rattle.vault_cli.specs.Resume.{IsFoundJournal, IsResumedFor}
-use Rattle.vault_cli.specs.Retire.{AnswersRetire, ComesTo, IsCaused, IsRetired, IsRootOf, MayCome, Outcome, Retires, RetiresSource, TouchesNoMore, is_of_refusal, is_of_retiring, retired_text, root_by}
+use Rattle.vault_cli.specs.Faults.{of_retire}
+use Rattle.vault_cli.specs.Retire.{AnswersRetire, ComesTo, Completes, IsCaused, IsRetired, IsRootOf, MayCome, Outcome, Retires, RetiresSource, TouchesNoMore, is_of_refusal, is_of_retiring, retired_text, root_by}
 use Rattle.vault_cli.specs.Shown.{is_of_end}
 use Rattle.vault_cli.specs.World.{World}
 use Rattle.vault_cli.specs.declared.answer.Answer.{Answer}
@@ -36,6 +38,17 @@ use Rattle.vault_cli.proofs.Printings.{IsPrinted, is_another, nothing_printed, p
 abbrev refused_by : {X : Type 0} → RetireFault → tests.Answer X
 refused_by fault = Err fault
 
+printed_completes : (answer : Answer) → IsPrinted answer → Completes answer
+printed_completes answer (inl done) = inr (inr (subst (λ a. IsTrue (is_of_end a)) (sym done) refl))
+printed_completes answer (inr (inl output)) = inr (inr (subst (λ a. IsTrue (is_of_end a)) (sym output) refl))
+printed_completes answer (inr (inr memory)) = inr (inl memory)
+
+-- a failing folder and want of memory are answered as such
+pub folder_answered : (work root : Path) (fault : RetireFault) (answer : Answer) → IsOfFolder fault → (answer ≡ OutOfMemory) ⊎ (answer ≡ of_retire work root fault) → Completes answer
+folder_answered work root fault answer of (inl memory) = inr (inl memory)
+folder_answered work root fault answer (inl failed) (inr is) = inl (is ∙ ap (of_retire work root) failed)
+folder_answered work root fault answer (inr memory) (inr is) = inr (inl (is ∙ ap (of_retire work root) memory))
+
 retire_lost : (work : Path) (v : View) (outcome : Outcome) → AnswersRetire work v OutOfMemory outcome
 retire_lost work v (Ok done) = inr (inr refl)
 retire_lost work v (Err fault) = inl refl
@@ -45,11 +58,13 @@ answers_printed work v answer done is_printed outcome is = subst (AnswersRetire 
 
 module _ (resuming : Resuming) where
   pub retire_stopped : (answer : Answer) (told told' : Option Told) (taken : Option (List ℕ)) → IsTrue (is_of_refusal answer) → ((v : View) → IsSeen told v → MayCome resuming answer told told' v)
-      → ((g : Migration) (v : View) → IsSeen told v → IsResumedFor g resuming v → KeepsAll g told told') → Retires resuming answer told told' taken taken
-  retire_stopped answer told told' taken own comes keeps = record {
+      → ((g : Migration) (v : View) → IsSeen told v → IsResumedFor g resuming v → KeepsAll g told told')
+      → ((g : Migration) (v : View) → IsSeen told v → IsResumedFor g resuming v → CanRetire g v → Completes answer) → Retires resuming answer told told' taken taken
+  retire_stopped answer told told' taken own comes keeps completes = record {
     own = or_left (is_of_refusal answer) (is_of_end answer) own;
     comes = comes;
     keeps = keeps;
+    completes = completes;
     prints = nothing_printed retired_text (IsRetired resuming told told') is_of_refusal answer taken own refl refl;
   }
 
@@ -61,12 +76,14 @@ module _ (resuming : Resuming) where
     comes = λ v is. inr (comes_as resuming.passes (IsCaused resuming v) (TouchesNoMore resuming told told' v) v (λ outcome. outcome ≡ Ok done) (AnswersRetire resuming.work v answer)
         (answers_printed resuming.work v answer done is_printed) (comes v is));
     keeps = keeps;
+    completes = λ g v is asked can. printed_completes answer is_printed;
     prints = printed retired_text (IsRetired resuming told told') done answer taken taken' has prints is_printed;
   }
 
   pub retires_nothing : AreSafe → (w : World) → RetiresSource resuming OutOfMemory w w
   retires_nothing law w = record {
-    retires = retire_stopped OutOfMemory w.told w.told w.taken refl (λ v is. inl (passes_unread resuming.passes OutOfMemory w.told w.told v refl (inr (inl refl)))) (λ g v is asked. keeps_same law g w.told w.told refl);
+    retires = retire_stopped OutOfMemory w.told w.told w.taken refl (λ v is. inl (passes_unread resuming.passes OutOfMemory w.told w.told v refl (inr (inl refl)))) (λ g v is asked. keeps_same law g w.told w.told refl)
+        (λ g v is asked can. inr (inl refl));
     untouched = Keeps-refl w.left;
   }
 
@@ -76,6 +93,7 @@ module _ (resuming : Resuming) where
       own = refl;
       comes = λ v is. comes_lost v (did.retires.comes v is);
       keeps = did.retires.keeps;
+      completes = λ g v is asked can. inr (inl refl);
       prints = print_lost retired_text (IsRetired resuming before.told after.told) answer before.taken after.taken named did.retires.prints;
     };
     untouched = did.untouched;

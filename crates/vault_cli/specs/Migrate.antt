@@ -6,6 +6,7 @@ use Rattle.folder_spec.specs.Path.{Path}
 use Rattle.folder_spec.specs.Seen.{IsSeen}
 use Rattle.folder_spec.specs.View.{View}
 use Rattle.migrate_core.specs.Causes.{Begins, Unless}
+use Rattle.migrate_core.specs.Completing.{CanBegin}
 use Rattle.migrate_core.specs.Moved.{MovesTree}
 use Rattle.migrate_core.specs.Moving.{MovesOnly}
 use Rattle.migrate_core.specs.Sides.{IsAsked}
@@ -16,7 +17,7 @@ use Rattle.migrate_core.specs.declared.placing.Done as moved
 use Rattle.port_model.specs.Draws.{ByteStream, Draws}
 use Rattle.tree_match.specs.Guard.{Migration}
 use Rattle.tree_match.specs.declared.answer.Side.TheVariants.{Target}
-use Rattle.vault_cli.specs.Moving.{AnswersMove, ArePhrases, Comes, KeepsAll, Outcome, RefusesUndrawn, done_text, is_of_migration}
+use Rattle.vault_cli.specs.Moving.{AnswersMove, ArePhrases, Comes, Completes, KeepsAll, Outcome, RefusesUndrawn, done_text, is_of_migration}
 use Rattle.vault_cli.specs.Places.{overlap}
 use Rattle.vault_cli.specs.Printing.{PrintsDone}
 use Rattle.vault_cli.specs.Repair.{RefusesOverlap}
@@ -76,12 +77,13 @@ MayCome moving answer told told' stream stream' v =
     RefusesUndrawn moving.passes answer told told' stream stream' v ⊎ ComesTo moving (AnswersMove moving.work (IsRootOf moving) answer) told told' stream stream' v
 
 -- Of folders that don't overlap: whatever the answer is, nothing is lost; all but the work folder and the target stays as it was, and
--- nothing of the target is removed or replaced. At 0 the tree is moved.
+-- nothing of the target is removed or replaced. At 0 the tree is moved. Where no test can fail and no content is damaged, it comes to that.
 pub record MigratesApart (moving : Moving) (answer : Answer) (told told' : Option Told) (taken taken' : Option (List ℕ)) (stream stream' : Option ByteStream) : Type 0 where
   pub own : IsTrue (is_of_migration answer)
   pub comes : (v : View) → IsSeen told v → MayCome moving answer told told' stream stream' v
   pub keeps : (g : Migration) (v : View) → IsSeen told v → IsAskedFor g moving v → KeepsAll g told told'
   pub moves : MovesOnly moving.work moving.target told told'
+  pub completes : (g : Migration) (v : View) → IsSeen told v → IsAskedFor g moving v → CanBegin g v → Completes answer
   pub prints : PrintsDone done_text (λ done. HasMigrated moving done told told') answer taken taken'
 
 -- overlapping folders are refused by the words alone

@@ -1,5 +1,5 @@
 -- What the commands share that lead a migration on: its passphrases stand in two files, what is lost at no moment, and what is printed.
-use Rattle.std.specs.Prelude.{◌++◌, ◌∷◌, [], ℕ, Bool, true, false, ◌||◌, List, codes, decimal, Option, Result, Ok, Err, ◌⊎◌, ◌≡◌}
+use Rattle.std.specs.Prelude.{◌++◌, ◌∷◌, [], ℕ, Bool, true, false, ◌||◌, List, codes, decimal, Option, Result, Ok, Err, ◌⊎◌, ◌≡◌, IsTrue}
 use Rattle.folder_spec.specs.Event.{Told, FromTo}
 use Rattle.folder_spec.specs.Moments.{Went}
 use Rattle.folder_spec.specs.Path.{Path}
@@ -13,7 +13,10 @@ use Rattle.vault_cli.specs.Opening.{IsPhrase, OfPassFile}
 use Rattle.vault_cli.specs.Refusing.{Unless}
 use Rattle.vault_cli.specs.Shown.{is_of_end, refused}
 use Rattle.vault_cli.specs.declared.answer.Answer.{Answer}
-use Rattle.vault_cli.specs.declared.answer.Answer.TheVariants.{Done, Findings, BadCommandLine, OutOfMemory, InputFault, OutputFault, DamagedInput}
+use Rattle.vault_cli.specs.declared.answer.Answer.TheVariants.{Done, Findings, BadCommandLine, OutOfMemory, FolderFault, InputFault, OutputFault, RandomFault, DamagedInput, ZeroRandom, Taken}
+use Rattle.vault_cli.specs.declared.answer.Answer.TheVariants as answers
+use Rattle.vault_cli.specs.declared.answer.Limit as limits
+use Rattle.vault_cli.specs.declared.answer.Limit.TheVariants as limit
 use Rattle.vault_cli.specs.declared.words.Passes.{Passes}
 
 -- the two files hold these passphrases
@@ -76,6 +79,25 @@ is_of_stop answer = true
 -- and any
 abbrev pub is_of_migration : Answer → Bool
 is_of_migration answer = is_of_stop answer || is_of_end answer
+
+abbrev pub is_of_length : limits.Limit → Bool
+is_of_length (limit.Length at) = true
+is_of_length which = false
+
+-- Whether a migration that no test and no content stops may be answered so: the folder or the random source failed, or memory was
+-- refused; zeros were drawn, or the place of a new item was taken; or a content passes the limit where it is compared.
+abbrev pub is_of_chance : Answer → Bool
+is_of_chance OutOfMemory = true
+is_of_chance FolderFault = true
+is_of_chance RandomFault = true
+is_of_chance ZeroRandom = true
+is_of_chance (Taken at) = true
+is_of_chance (answers.Limit which) = is_of_length which
+is_of_chance answer = false
+
+-- it comes to its end, unless chance has it otherwise
+abbrev pub Completes : Answer → Type 0
+Completes answer = IsTrue (is_of_chance answer || is_of_end answer)
 
 -- why the passphrases aren't read (private contracts only)
 abbrev pub FailPasses : Passes → View → Answer → Type 0

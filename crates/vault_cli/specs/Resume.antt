@@ -7,6 +7,7 @@ use Rattle.folder_spec.specs.Seen.{IsSeen}
 use Rattle.folder_spec.specs.View.{View}
 use Rattle.migrate_core.specs.Causes.{Unless}
 use Rattle.migrate_core.specs.Causes as causes
+use Rattle.migrate_core.specs.Completing.{CanResume}
 use Rattle.migrate_core.specs.Moved.{MovesTold, StandsIn}
 use Rattle.migrate_core.specs.Moving.{MovesOnly}
 use Rattle.migrate_core.specs.Sides.{IsResumed}
@@ -20,7 +21,7 @@ use Rattle.port_model.specs.Draws.{ByteStream}
 use Rattle.tree_match.specs.Guard.{Migration}
 use Rattle.tree_match.specs.declared.answer.Side.{Side}
 use Rattle.tree_match.specs.declared.answer.Side.TheVariants.{Source, Target}
-use Rattle.vault_cli.specs.Moving.{AnswersMove, ArePhrases, Comes, KeepsAll, Outcome, RefusesUndrawn, done_text, is_of_migration}
+use Rattle.vault_cli.specs.Moving.{AnswersMove, ArePhrases, Comes, Completes, KeepsAll, Outcome, RefusesUndrawn, done_text, is_of_migration}
 use Rattle.vault_cli.specs.Printing.{PrintsDone}
 use Rattle.vault_cli.specs.World.{World}
 use Rattle.vault_cli.specs.declared.answer.Answer.{Answer}
@@ -68,12 +69,14 @@ MayCome resuming answer told told' stream stream' v =
     RefusesUndrawn resuming.passes answer told told' stream stream' v ⊎ ComesTo resuming (AnswersMove resuming.work (IsRootOf resuming.work v) answer) told told' stream stream' v
 
 -- Whatever the answer is, nothing is lost; where a journal stands in the work folder, all but that folder and the target stays as it was,
--- and nothing of the target is removed or replaced. At 0 the tree is moved.
+-- and nothing of the target is removed or replaced. At 0 the tree is moved. Where no test can fail and no content is damaged, it comes to
+-- that.
 pub record Resumes (resuming : Resuming) (answer : Answer) (told told' : Option Told) (taken taken' : Option (List ℕ)) (stream stream' : Option ByteStream) : Type 0 where
   pub own : IsTrue (is_of_migration answer)
   pub comes : (v : View) → IsSeen told v → MayCome resuming answer told told' stream stream' v
   pub keeps : (g : Migration) (v : View) → IsSeen told v → IsResumedFor g resuming v → KeepsAll g told told'
   pub moves : (v : View) (journal : Journal) → IsSeen told v → IsJournal journal → StandsIn resuming.work journal v → MovesOnly resuming.work journal.target told told'
+  pub completes : (g : Migration) (v : View) → IsSeen told v → IsResumedFor g resuming v → CanResume g v → Completes answer
   pub prints : PrintsDone done_text (λ done. HasResumed resuming done told told') answer taken taken'
 
 -- `resume`, which takes nothing of the input

@@ -10,6 +10,7 @@ use Rattle.move_journal.specs.Journal.{IsJournal}
 use Rattle.move_journal.specs.declared.journal.Journal.{Journal}
 use Rattle.retire_core.specs.Causes.{Unless}
 use Rattle.retire_core.specs.Causes as causes
+use Rattle.retire_core.specs.Completing.{CanRetire}
 use Rattle.retire_core.specs.Retiring.{HasRetired, RemovesOnly, TouchesOnly, retiring_by}
 use Rattle.retire_core.specs.declared.fault.RetireFault.{RetireFault}
 use Rattle.retire_core.specs.declared.fault.RetireFault.TheVariants.{Load}
@@ -18,6 +19,7 @@ use Rattle.tree_match.specs.Guard.{Migration}
 use Rattle.vault_cli.specs.Faults.{of_retire}
 use Rattle.vault_cli.specs.Moving.{Comes, KeepsAll, RefusesPasses}
 use Rattle.vault_cli.specs.Printing.{PrintsDone}
+use Rattle.vault_cli.specs.Refusing as folder
 use Rattle.vault_cli.specs.Resume.{IsResumedFor, IsRootIn, root_in}
 use Rattle.vault_cli.specs.Shown.{is_of_end}
 use Rattle.vault_cli.specs.World.{World}
@@ -84,11 +86,16 @@ retired_text retired = codes "retired " ++ decimal retired.items ++ 10 ∷ []
 abbrev pub IsRetired : Resuming → Option Told → Option Told → Retired → Type 0
 IsRetired resuming told told' retired = (v : View) → IsSeen told v → HasRetired resuming.work retired.items told' v
 
--- Whatever the answer is, nothing is lost, and no more is touched.
+-- it comes to its end, unless the folder failed or memory was refused
+abbrev pub Completes : Answer → Type 0
+Completes answer = folder.Unless answer (IsTrue (is_of_end answer))
+
+-- Whatever the answer is, nothing is lost, and no more is touched. Where no test can fail, the source is retired.
 pub record Retires (resuming : Resuming) (answer : Answer) (told told' : Option Told) (taken taken' : Option (List ℕ)) : Type 0 where
   pub own : IsTrue (is_of_retiring answer)
   pub comes : (v : View) → IsSeen told v → MayCome resuming answer told told' v
   pub keeps : (g : Migration) (v : View) → IsSeen told v → IsResumedFor g resuming v → KeepsAll g told told'
+  pub completes : (g : Migration) (v : View) → IsSeen told v → IsResumedFor g resuming v → CanRetire g v → Completes answer
   pub prints : PrintsDone retired_text (IsRetired resuming told told') answer taken taken'
 
 -- `retire`, which takes nothing of the input

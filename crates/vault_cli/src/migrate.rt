@@ -2,12 +2,13 @@
 ghost use Rattle.std.specs.Prelude.{◌≡◌, Ok, Err, IfErr, IfOk, IsTrue, MatchOption};
 ghost use Rattle.folder_spec.specs.Seen.{IsSeen};
 ghost use Rattle.folder_spec.specs.View.{View};
+ghost use Rattle.migrate_core.specs.Completing.{CanBegin};
 ghost use Rattle.migrate_core.specs.Moving.{MovesOnly};
 ghost use Rattle.port_model.specs.Counts.{CountRose};
 ghost use Rattle.tree_match.specs.Guard.{Migration};
 ghost use Rattle.vault_cli.specs.Commands.{AreWritten};
 ghost use Rattle.vault_cli.specs.Migrate.{ComesTo, HasMigrated, IsAskedFor, MayCome, MigratesApart, RefusesTwo, first_overlap, root_of};
-ghost use Rattle.vault_cli.specs.Moving.{KeepsAll, is_of_stop};
+ghost use Rattle.vault_cli.specs.Moving.{Completes, KeepsAll, is_of_stop};
 
 use crate::answer::Answer;
 use crate::moving::{answer_to, print_done, read_passes};
@@ -81,6 +82,7 @@ fn begin<F: Folder, R: Randoms>(
     ensures stopped { IfErr result (λ answer. (v : View) → IsSeen (F.told folder.old) v → MayCome moving.now answer (F.told folder.old) (F.told folder.new) (R.left random.old) (R.left random.new) v) }
     ensures keeps { (g : Migration) (v : View) → IsSeen (F.told folder.old) v → IsAskedFor g moving.now v → KeepsAll g (F.told folder.old) (F.told folder.new) }
     ensures moves { MovesOnly moving.now.work moving.now.target (F.told folder.old) (F.told folder.new) }
+    ensures completes { IfErr result (λ answer. (g : Migration) (v : View) → IsSeen (F.told folder.old) v → IsAskedFor g moving.now v → CanBegin g v → Completes answer) }
     ensures own { IfErr result (λ answer. IsTrue (is_of_stop answer)) }
     ensures failed { result ≡ Err Answer.FolderFault → CountRose (F.faults folder.old) (F.faults folder.new) }
     ensures drawn { result ≡ Err Answer.RandomFault → CountRose (R.faults random.old) (R.faults random.new) }

@@ -2,6 +2,7 @@
 ghost use Rattle.std.specs.Prelude.{◌≡◌, ◌⊎◌, ◌≤◌, Ok, Err, IfErr, IfOk, IsTrue};
 ghost use Rattle.folder_spec.specs.Seen.{IsSeen};
 ghost use Rattle.folder_spec.specs.View.{View};
+ghost use Rattle.migrate_core.specs.Completing.{CanResume};
 ghost use Rattle.migrate_core.specs.Faults.{IsMoveFault};
 ghost use Rattle.migrate_core.specs.Moved.{StandsIn};
 ghost use Rattle.migrate_core.specs.Moving.{MovesOnly};
@@ -9,7 +10,7 @@ ghost use Rattle.move_journal.specs.Journal.{IsJournal};
 ghost use Rattle.port_model.specs.Counts.{CountRose};
 ghost use Rattle.tree_match.specs.Guard.{Migration};
 ghost use Rattle.vault_cli.specs.Faults.{of_move};
-ghost use Rattle.vault_cli.specs.Moving.{KeepsAll, is_of_stop};
+ghost use Rattle.vault_cli.specs.Moving.{Completes, KeepsAll, is_of_stop};
 ghost use Rattle.vault_cli.specs.Resume.{ComesTo, HasResumed, IsResumedFor, MayCome, Resumes, root_by};
 
 use crate::answer::Answer;
@@ -55,6 +56,7 @@ fn go_on<F: Folder, R: Randoms>(
     ensures stopped { IfErr result (λ answer. (v : View) → IsSeen (F.told folder.old) v → MayCome resuming.now answer (F.told folder.old) (F.told folder.new) (R.left random.old) (R.left random.new) v) }
     ensures keeps { (g : Migration) (v : View) → IsSeen (F.told folder.old) v → IsResumedFor g resuming.now v → KeepsAll g (F.told folder.old) (F.told folder.new) }
     ensures moves { (v : View) (journal : Journal) → IsSeen (F.told folder.old) v → IsJournal journal → StandsIn resuming.now.work journal v → MovesOnly resuming.now.work journal.target (F.told folder.old) (F.told folder.new) }
+    ensures completes { IfErr result (λ answer. (g : Migration) (v : View) → IsSeen (F.told folder.old) v → IsResumedFor g resuming.now v → CanResume g v → Completes answer) }
     ensures own { IfErr result (λ answer. IsTrue (is_of_stop answer)) }
     ensures failed { result ≡ Err Answer.FolderFault → CountRose (F.faults folder.old) (F.faults folder.new) }
     ensures drawn { result ≡ Err Answer.RandomFault → CountRose (R.faults random.old) (R.faults random.new) }

@@ -3,13 +3,14 @@ ghost use Rattle.std.specs.Prelude.{◌≡◌, ◌⊎◌, Ok, Err, IfErr, IfOk, 
 ghost use Rattle.folder_spec.specs.Seen.{IsSeen};
 ghost use Rattle.folder_spec.specs.View.{View};
 ghost use Rattle.port_model.specs.Counts.{CountRose};
+ghost use Rattle.retire_core.specs.Completing.{CanRetire};
 ghost use Rattle.retire_core.specs.Faults.{IsRetireFault};
 ghost use Rattle.tree_match.specs.Guard.{Migration};
 ghost use Rattle.vault_cli.specs.Faults.{of_retire};
 ghost use Rattle.vault_cli.specs.Moving.{KeepsAll};
 ghost use Rattle.vault_cli.specs.Printing.{PrintsText};
 ghost use Rattle.vault_cli.specs.Resume.{IsResumedFor};
-ghost use Rattle.vault_cli.specs.Retire.{ComesTo, IsRetired, MayCome, Retires, is_of_refusal, retired_text, root_by};
+ghost use Rattle.vault_cli.specs.Retire.{ComesTo, Completes, IsRetired, MayCome, Retires, is_of_refusal, retired_text, root_by};
 
 use crate::answer::{Answer, Flaw, Limit};
 use crate::moving::{answer_to_journal, learn, unusable};
@@ -47,6 +48,7 @@ fn remove<F: Folder>(alloc: Global, resuming: &Resuming, folder: &mut F) -> Resu
     ensures came { IfOk result (λ retired. (v : View) → IsSeen (F.told folder.old) v → ComesTo resuming.now (λ outcome. outcome ≡ Ok retired) (F.told folder.old) (F.told folder.new) v) }
     ensures stopped { IfErr result (λ answer. (v : View) → IsSeen (F.told folder.old) v → MayCome resuming.now answer (F.told folder.old) (F.told folder.new) v) }
     ensures keeps { (g : Migration) (v : View) → IsSeen (F.told folder.old) v → IsResumedFor g resuming.now v → KeepsAll g (F.told folder.old) (F.told folder.new) }
+    ensures completes { IfErr result (λ answer. (g : Migration) (v : View) → IsSeen (F.told folder.old) v → IsResumedFor g resuming.now v → CanRetire g v → Completes answer) }
     ensures own { IfErr result (λ answer. IsTrue (is_of_refusal answer)) }
     ensures failed { result ≡ Err Answer.FolderFault → CountRose (F.faults folder.old) (F.faults folder.new) }
 {

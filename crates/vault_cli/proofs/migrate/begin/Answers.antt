@@ -4,9 +4,11 @@ use Rattle.folder_spec.specs.Seen.{IsSeen}
 use Rattle.folder_spec.specs.View.{View}
 use Rattle.migrate_core.specs.Leading.{KeepsGuarded}
 use Rattle.migrate_core.specs.Moved.{MovesTree}
-use Rattle.vault_cli.specs.Migrate.{IsWritten, MayCome}
-use Rattle.vault_cli.specs.Moving.{ArePhrases}
-use Rattle.vault_cli.proofs.Migrations.{asked_is, keeps_all, keeps_same, phrases_are, unread_undrawn}
+use Rattle.migrate_core.specs.Completing.{CanBegin}
+use Rattle.tree_match.specs.Guard.{Migration}
+use Rattle.vault_cli.specs.Migrate.{IsAskedFor, IsWritten, MayCome}
+use Rattle.vault_cli.specs.Moving.{ArePhrases, Completes}
+use Rattle.vault_cli.proofs.Migrations.{asked_is, chance_answered, keeps_all, keeps_same, phrases_are, read_completes, unread_undrawn}
 use Rattle.vault_cli.proofs.migrate.begin.Goals as goal
 
 pub returns-in_err-phrases-clause-keeps : goal.returns-in_err-phrases-clause-keeps
@@ -86,3 +88,20 @@ returns-clause-stopped g c = λ v is.
       does = subst (λ t. IsWritten moving t told' stream stream' c.as_slice.result.now c.as_slice-2.result.now (Err c.in-Err.fault)) c.in_ok-phrases.ensures.told (c.in-Err.ensures.written v seen);
       answers = elim c.answer_to.ensures.answers [ inl memory ↦ inl memory | inr same ↦ inr (c.root_of-root.result.now, c.root_of-root.ensures, same) ];
     })
+
+pub returns-in_err-phrases-clause-completes : goal.returns-in_err-phrases-clause-completes
+returns-in_err-phrases-clause-completes g c =
+    let moving = c.args.moving.now in
+    let told = g.F.Folder.told c.args.folder.now in
+    let p = err_from_is_err_and c.from_residual.result c.from_residual.ensures.1 in
+    subst (λ r. IfErr r (λ answer. (m : Migration) (v : View) → IsSeen told v → IsAskedFor m moving v → CanBegin m v → Completes answer)) (sym p.1) (λ m v is asked can.
+    subst Completes (sym p.2) (read_completes moving.passes m.source.pass m.target.pass v c.in_err-phrases.field-0.0 asked.phrases (c.in_err-phrases.ensures.refused v is)))
+
+pub returns-clause-completes : goal.returns-clause-completes
+returns-clause-completes g c = λ m v is asked can.
+    let moving = c.args.moving.now in
+    let seen = subst (λ t. IsSeen t v) (sym c.in_ok-phrases.ensures.told) is in
+    let are : ArePhrases moving.passes c.as_slice.result.now c.as_slice-2.result.now v = phrases_are moving.passes c.in_ok-phrases.phrases.source c.in_ok-phrases.phrases.target
+    c.as_slice.result.now c.as_slice-2.result.now v c.as_slice.ensures c.as_slice-2.ensures (c.in_ok-phrases.ensures.source v is) (c.in_ok-phrases.ensures.target v is) in
+    chance_answered moving.work c.root_of-root.result.now c.in-Err.fault c.answer_to.result
+    (c.in-Err.ensures.completes m v seen (asked_is m moving v c.as_slice.result.now c.as_slice-2.result.now are asked) can) c.answer_to.ensures.answers

@@ -3,8 +3,11 @@ use Rattle.std.proofs.lemmas.Result.{err_from_is_err_and}
 use Rattle.folder_spec.specs.Seen.{IsSeen}
 use Rattle.folder_spec.specs.View.{View}
 use Rattle.migrate_core.specs.Moved.{MovesTold}
-use Rattle.vault_cli.specs.Resume.{IsWritten, MayCome, root_by}
-use Rattle.vault_cli.proofs.Migrations.{journal_root, keeps_resumed, keeps_same, phrases_are, unread_undrawn}
+use Rattle.migrate_core.specs.Completing.{CanResume}
+use Rattle.tree_match.specs.Guard.{Migration}
+use Rattle.vault_cli.specs.Moving.{ArePhrases, Completes}
+use Rattle.vault_cli.specs.Resume.{IsResumedFor, IsWritten, MayCome, root_by}
+use Rattle.vault_cli.proofs.Migrations.{chance_answered, journal_root, keeps_resumed, keeps_same, phrases_are, read_completes, resumed_is, unread_undrawn}
 use Rattle.vault_cli.proofs.resume.go_on.Goals as goal
 
 pub returns-in_err-known-clause-keeps : goal.returns-in_err-known-clause-keeps
@@ -97,3 +100,21 @@ returns-clause-stopped g c = λ v is.
         )
       ];
     })
+
+pub returns-in_err-known-clause-completes : goal.returns-in_err-known-clause-completes
+returns-in_err-known-clause-completes g c =
+    let resuming = c.args.resuming.now in
+    let told = g.F.Folder.told c.args.folder.now in
+    let p = err_from_is_err_and c.from_residual.result c.from_residual.ensures.1 in
+    subst (λ r. IfErr r (λ answer. (m : Migration) (v : View) → IsSeen told v → IsResumedFor m resuming v → CanResume m v → Completes answer)) (sym p.1) (λ m v is asked can.
+    subst Completes (sym p.2) (read_completes resuming.passes m.source.pass m.target.pass v c.in_err-known.field-0.0 asked.phrases (c.in_err-known.ensures.refused v is)))
+
+pub returns-clause-completes : goal.returns-clause-completes
+returns-clause-completes g c = λ m v is asked can.
+    let resuming = c.args.resuming.now in
+    let known = c.in_ok-known.known in
+    let seen = subst (λ t. IsSeen t v) (sym c.in_ok-known.ensures.told) is in
+    let are : ArePhrases resuming.passes c.as_slice.result.now c.as_slice-2.result.now v = phrases_are resuming.passes known.phrases.source known.phrases.target
+    c.as_slice.result.now c.as_slice-2.result.now v c.as_slice.ensures c.as_slice-2.ensures (c.in_ok-known.ensures.source v is) (c.in_ok-known.ensures.target v is) in
+    chance_answered resuming.work (root_by resuming.work known.journal c.in-Err.fault) c.in-Err.fault c.stopped.result
+    (c.in-Err.ensures.completes m v seen (resumed_is m resuming v c.as_slice.result.now c.as_slice-2.result.now are asked) can) c.stopped.ensures.answers

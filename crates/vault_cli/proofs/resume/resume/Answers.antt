@@ -9,4 +9,4 @@ returns-in-Ok-clause-resumes g c =
 pub returns-in-Err-clause-resumes : goal.returns-in-Err-clause-resumes
 returns-in-Err-clause-resumes g c =
     resume_stopped c.args.resuming.now c.in-Err.answer (g.F.Folder.told c.args.folder.now) (g.F.Folder.told c.go_on.new.folder) (g.O.Sink.taken c.args.out.now)
-    (g.R.Randoms.left c.args.random.now) (g.R.Randoms.left c.go_on.new.random) c.in-Err.ensures.own c.in-Err.ensures.stopped c.in-Err.ensures.keeps c.in-Err.ensures.moves
+    (g.R.Randoms.left c.args.random.now) (g.R.Randoms.left c.go_on.new.random) c.in-Err.ensures.own c.in-Err.ensures.stopped c.in-Err.ensures.keeps c.in-Err.ensures.moves c.in-Err.ensures.completes

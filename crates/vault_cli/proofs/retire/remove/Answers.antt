@@ -2,9 +2,13 @@ use Rattle.std.proofs.Common.{Ok, Err, IfErr, inl, inr, refl, sym, subst}
 use Rattle.std.proofs.lemmas.Result.{err_from_is_err_and}
 use Rattle.folder_spec.specs.Seen.{IsSeen}
 use Rattle.folder_spec.specs.View.{View}
-use Rattle.vault_cli.specs.Retire.{MayCome, TouchesNoMore, root_by}
-use Rattle.vault_cli.proofs.Migrations.{keeps_resumed, keeps_same, passes_unread, phrases_are}
-use Rattle.vault_cli.proofs.Retirings.{retire_root}
+use Rattle.retire_core.specs.Completing.{CanRetire}
+use Rattle.tree_match.specs.Guard.{Migration}
+use Rattle.vault_cli.specs.Moving.{ArePhrases}
+use Rattle.vault_cli.specs.Resume.{IsResumedFor}
+use Rattle.vault_cli.specs.Retire.{Completes, MayCome, TouchesNoMore, root_by}
+use Rattle.vault_cli.proofs.Migrations.{keeps_resumed, keeps_same, passes_unread, phrases_are, phrases_read, resumed_is}
+use Rattle.vault_cli.proofs.Retirings.{folder_answered, retire_root}
 use Rattle.vault_cli.proofs.retire.remove.Goals as goal
 
 pub returns-in_err-known-clause-keeps : goal.returns-in_err-known-clause-keeps
@@ -84,3 +88,22 @@ returns-clause-stopped g c = λ v is.
         )
       ];
     })
+
+pub returns-in_err-known-clause-completes : goal.returns-in_err-known-clause-completes
+returns-in_err-known-clause-completes g c =
+    let resuming = c.args.resuming.now in
+    let told = g.F.Folder.told c.args.folder.now in
+    let p = err_from_is_err_and c.from_residual.result c.from_residual.ensures.1 in
+    subst (λ r. IfErr r (λ answer. (m : Migration) (v : View) → IsSeen told v → IsResumedFor m resuming v → CanRetire m v → Completes answer)) (sym p.1) (λ m v is asked can.
+    subst Completes (sym p.2)
+    (phrases_read resuming.passes m.source.pass m.target.pass v c.in_err-known.field-0.0 _ asked.phrases (c.in_err-known.ensures.refused v is)))
+
+pub returns-clause-completes : goal.returns-clause-completes
+returns-clause-completes g c = λ m v is asked can.
+    let resuming = c.args.resuming.now in
+    let known = c.in_ok-known.known in
+    let seen = subst (λ t. IsSeen t v) (sym c.in_ok-known.ensures.told) is in
+    let are : ArePhrases resuming.passes c.as_slice.result.now c.as_slice-2.result.now v = phrases_are resuming.passes known.phrases.source known.phrases.target
+    c.as_slice.result.now c.as_slice-2.result.now v c.as_slice.ensures c.as_slice-2.ensures (c.in_ok-known.ensures.source v is) (c.in_ok-known.ensures.target v is) in
+    folder_answered resuming.work (root_by resuming.work known.journal c.in-Err.fault) c.in-Err.fault c.refused.result
+    (c.in-Err.ensures.completes m v seen (resumed_is m resuming v c.as_slice.result.now c.as_slice-2.result.now are asked) can) c.refused.ensures.answers

@@ -8,4 +8,4 @@ returns-in-Ok-clause-retires g c =
 
 pub returns-in-Err-clause-retires : goal.returns-in-Err-clause-retires
 returns-in-Err-clause-retires g c =
-    retire_stopped c.args.resuming.now c.in-Err.answer (g.F.Folder.told c.args.folder.now) (g.F.Folder.told c.remove.new.folder) (g.O.Sink.taken c.args.out.now) c.in-Err.ensures.own c.in-Err.ensures.stopped c.in-Err.ensures.keeps
+    retire_stopped c.args.resuming.now c.in-Err.answer (g.F.Folder.told c.args.folder.now) (g.F.Folder.told c.remove.new.folder) (g.O.Sink.taken c.args.out.now) c.in-Err.ensures.own c.in-Err.ensures.stopped c.in-Err.ensures.keeps c.in-Err.ensures.completes

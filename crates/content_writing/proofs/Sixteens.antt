@@ -10,7 +10,7 @@ use Rattle.chunk_files.specs.Keys.{Keys, format_of}
 use Rattle.chunk_files.specs.Pieces.{first_pieces, pieces}
 use Rattle.content_writing.proofs.Drawing.{sixteen_drawn}
 use Rattle.content_writing.specs.Streaming.{WereAccepted}
-use Rattle.content_writing.specs.Writing.{DrewNoZeros, HasZeros, sixteen}
+use Rattle.content_writing.specs.Writing.{DrewNoZeros, sixteen}
 
 -- behind whole pieces of sixteen
 pub behind_whole : (number : ℕ) (front bytes : List ℕ) → length front ≡ 16 * number → sixteen number (front ++ bytes) ≡ take 16 bytes

@@ -1,5 +1,5 @@
 -- Where a migration can begin, no test of `begin` fails, and no content stops it.
-use Rattle.std.proofs.Common.{◌≡◌, ◌≢◌, ◌⊎◌, inl, inr, List, [], ◌∷◌, ◌++◌, ℕ, zero, suc, false, length, ◌≤◌, Option, Some, Result, Ok, Err, MatchResult, IfErr, Contains, IsTrue, refl, sym, ap, ◌∙◌, subst, subst₂, arith}
+use Rattle.std.proofs.Common.{◌≡◌, ◌≢◌, inl, inr, List, [], ◌∷◌, ◌++◌, ℕ, zero, suc, false, length, ◌≤◌, Some, Result, Ok, Err, MatchResult, IfErr, Contains, refl, sym, ap, ◌∙◌, subst, subst₂, arith}
 use Rattle.chunk_files.specs.Reading as reading
 use Rattle.content_writing.specs.declared.fault.PutFault.{PutFault}
 use Rattle.content_writing.specs.declared.fault.PutFault.TheVariants as put
@@ -14,7 +14,7 @@ use Rattle.folder_spec.specs.declared.Kind.TheVariants as kind
 use Rattle.vault_write.specs.Making.{is_inside}
 use Rattle.migrate_core.proofs.Planned.{own_folders}
 use Rattle.migrate_core.proofs.Writings.{in_second}
-use Rattle.migrate_core.specs.Causes.{Answer, AreItemsOf, Begins, BeginsApart, BeginsWith, EndsSo, ForbidsLast, IsOfMoving, IsStop, Moves, Opens, PassesOr, StopsAt, StopsMatch, TestsApart, TestsEmpty, TestsNames, TestsPair, Then, Unless, Walks, WalksBoth, of_refusal, own}
+use Rattle.migrate_core.specs.Causes.{Answer, Begins, BeginsApart, BeginsWith, EndsSo, ForbidsLast, IsOfMoving, IsStop, Moves, Opens, PassesOr, StopsAt, StopsMatch, TestsApart, TestsEmpty, TestsNames, TestsPair, Then, Unless, Walks, of_refusal, own}
 use Rattle.migrate_core.specs.Completing.{CanBegin, IsIntact, IsOfChance, IsShallow}
 use Rattle.migrate_core.specs.Copying.{HaveOwnFolders}
 use Rattle.migrate_core.specs.Faults.{Blamed, IsMoveFault, of_folder, of_walk, of_work}
@@ -39,7 +39,6 @@ use Rattle.vault_read.specs.Opened.{OpenedVault}
 use Rattle.vault_read.specs.declared.fault.Limit.TheVariants as limit
 use Rattle.vault_spec.proofs.Mapped.{contains_mapped}
 use Rattle.vault_spec.specs.Alike.{place_of}
-use Rattle.vault_spec.specs.Findings.{IsClean}
 use Rattle.vault_spec.specs.Format.{Format}
 use Rattle.vault_spec.specs.Listing.{node_of}
 use Rattle.vault_spec.specs.Opens.{Tree, tree}
@@ -51,7 +50,7 @@ use Rattle.vault_walk.specs.declared.fault.WalkFault.{WalkFault}
 use Rattle.vault_walk.specs.declared.fault.WalkFault.TheVariants as walk
 use Rattle.work_folder.specs.Entering.{Empties, EntersAs}
 use Rattle.work_folder.specs.Entries.{HasNoForeign, journal_path, stage_path}
-use Rattle.work_folder.specs.Looking.{Tests, TestsEntries, TestsJournal, TestsKind, TestsParent}
+use Rattle.work_folder.specs.Looking.{Tests, TestsJournal, TestsKind, TestsParent}
 use Rattle.work_folder.specs.Looking as looking
 use Rattle.work_folder.specs.declared.fault.WorkFault.TheVariants as works
 

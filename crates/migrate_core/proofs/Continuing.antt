@@ -6,13 +6,13 @@ use Rattle.std.specs.Cmp.Lexicographic.{lists_total, nat_list_cmp_total}
 use Rattle.std.specs.List.{flat_map}
 use Rattle.std.specs.Str.{bytes_eq}
 use Rattle.std.specs.declared.cmp.Ordering.TheVariants.{Equal, Less}
-use Rattle.std.proofs.Common.{◌≡◌, ◌≢◌, ◌⊎◌, ◌↔◌, ◌&&◌, ◌||◌, not, inl, inr, List, [], ◌∷◌, ◌++◌, ℕ, zero, suc, codes, length, map, AllPairs, Bool, true, false, Option, Some, None, Result, Ok, Err, MatchResult, IfErr, Contains, IsTrue, refl, sym, ap, ◌∙◌, subst, subst₂, arith, append-nil}
+use Rattle.std.proofs.Common.{◌≡◌, ◌≢◌, ◌⊎◌, ◌&&◌, ◌||◌, not, inl, inr, List, [], ◌∷◌, ◌++◌, ℕ, zero, suc, codes, length, map, AllPairs, Bool, true, false, Option, Some, None, Result, Ok, Err, MatchResult, IfErr, Contains, IsTrue, refl, sym, ap, ◌∙◌, subst, subst₂, arith, append-nil}
 use Rattle.std.proofs.lemmas.Cmp.{tied_itself}
 use Rattle.std.proofs.lemmas.List.{length-map}
 use Rattle.chunk_files.specs.Reading as reading
 use Rattle.folder_spec.proofs.Tables.{present_is_table}
 use Rattle.folder_spec.specs.Event.{Told}
-use Rattle.folder_spec.specs.Path.{Part, Path, child}
+use Rattle.folder_spec.specs.Path.{Path, child}
 use Rattle.folder_spec.specs.Seen.{IsSeen, under}
 use Rattle.folder_spec.specs.State.{present}
 use Rattle.folder_spec.specs.View.{FileOf, Folder, Found, NoEntry, Special, View, found, kind_found}
@@ -22,12 +22,11 @@ use Rattle.migrate_core.proofs.Completing.{Any, Only, TellsTree, apart_met, ends
 use Rattle.migrate_core.proofs.Movings.{AreSound}
 use Rattle.migrate_core.proofs.Planned.{own_folders}
 use Rattle.migrate_core.specs.Causes.{Answer, Compares, IsGone, IsOfMoving, Moves, Opens, Resumes, ResumesTold, ResumesWith, StopsAt, TestsApart, TestsHeld, TestsItems, TestsMatch, TestsNames, TestsSource, TestsTold, Then, Unless, Walks, is_done, of_refusal, own}
-use Rattle.migrate_core.specs.Completing.{CanResume, IsIntact, IsOfChance, IsShallow, IsToResume}
+use Rattle.migrate_core.specs.Completing.{CanResume, IsOfChance, IsToResume}
 use Rattle.migrate_core.specs.Copying.{HaveOwnFolders}
 use Rattle.migrate_core.specs.Faults.{IsMoveFault, of_journal, of_match, of_walk, of_work}
 use Rattle.migrate_core.specs.Moved.{opened_in}
 use Rattle.migrate_core.specs.Sides.{AreTold, IsResumed, side_of}
-use Rattle.migrate_core.specs.declared.fault.MoveFault.{MoveFault}
 use Rattle.migrate_core.specs.declared.fault.MoveFault.TheVariants.{Changed, SourceGone}
 use Rattle.move_journal.specs.Journal.{IsJournal, journal_text}
 use Rattle.move_journal.specs.Reading.{ReadsAs, file_bytes, journal_bytes}
@@ -41,11 +40,11 @@ use Rattle.plain_tree.specs.Names as plain
 use Rattle.plain_tree.specs.Order.{path_cmp}
 use Rattle.plain_tree.specs.Shown.{shown_path}
 use Rattle.plain_tree.specs.declared.NodeKind.{NodeKind}
-use Rattle.tree_match.proofs.HeldTrees.{FilesAreThere, IsNoDifference, PlansAreTheTree, first_or_among}
+use Rattle.tree_match.proofs.HeldTrees.{FilesAreThere, IsNoDifference, PlansAreTheTree}
 use Rattle.tree_match.proofs.SameTrees.{HoldsAllOrTooLong, part_matches}
 use Rattle.tree_match.specs.Comparing.{Answers, Is, Outcome, Stops}
 use Rattle.tree_match.specs.Guard as guard
-use Rattle.tree_match.specs.Guard.{AllowsTree, Case, HasJournal, HoldsSource, IsPartOf, IsThere, IsWhole, IsWork, Migration, Tells, kinds_in, old_path, tree_at}
+use Rattle.tree_match.specs.Guard.{AllowsTree, Case, HasJournal, HoldsSource, IsPartOf, IsThere, IsWhole, IsWork, Migration, kinds_in, old_path, tree_at}
 use Rattle.tree_match.specs.Trees.{AndFurther, AsSame, HoldsAllBy, IsWalkOf, match_of}
 use Rattle.tree_match.specs.declared.answer.Match.{Match}
 use Rattle.tree_match.specs.declared.answer.Match.TheVariants.{Contained, Differs, Same}
@@ -56,12 +55,12 @@ use Rattle.vault_read.specs.Laws.{HaveOneAnswer}
 use Rattle.vault_read.specs.Opened.{OpenedVault}
 use Rattle.vault_read.specs.declared.fault.Limit.TheVariants as limit
 use Rattle.vault_spec.specs.Alike.{HasFolders}
-use Rattle.vault_spec.specs.Opens.{NoItem, Tree}
+use Rattle.vault_spec.specs.Opens.{Tree}
 use Rattle.vault_spec.specs.Plan.{Planned}
 use Rattle.vault_spec.specs.Vault.{Loads, Vault, format_of}
-use Rattle.vault_walk.specs.Digest.{kind_letter, line_of, plan_digest, plan_text}
+use Rattle.vault_walk.specs.Digest.{kind_letter, plan_digest, plan_text}
 use Rattle.work_folder.specs.Entering.{Empties}
-use Rattle.work_folder.specs.Entries.{HasNoForeign, is_foreign, journal_path, stage_path}
+use Rattle.work_folder.specs.Entries.{HasNoForeign, is_foreign, journal_path}
 use Rattle.work_folder.specs.Looking.{TestsEntries}
 use Rattle.work_folder.specs.Looking as looking
 
@@ -105,9 +104,9 @@ same_paths (p ∷ ps) (q ∷ qs) one other there back =
     first = elim (head_or q qs p (there p (zero, omega arith, refl))) [
       | inl same ↦ sym same
       | inr p_later ↦ elim (head_or p ps q (back q (zero, omega arith, refl))) [
-          | inl same ↦ same
-          | inr q_later ↦ absurd (not_twice p q (head_first p ps one q q_later) (head_first q qs other p p_later))
-        ]
+        | inl same ↦ same
+        | inr q_later ↦ absurd (not_twice p q (head_first p ps one q q_later) (head_first q qs other p p_later))
+      ]
     ]
 
     not_itself : (x y : plain.Path) → x ≡ y → path_cmp x y ≡ Less → ⊥

@@ -17,7 +17,6 @@ use Rattle.tree_match.specs.Comparing.{Is, Outcome}
 use Rattle.tree_match.specs.Matching.{first_further, held_by, item_with}
 use Rattle.tree_match.specs.Trees.{Side, match_of}
 use Rattle.tree_match.specs.declared.answer.How.{How}
-use Rattle.tree_match.specs.declared.answer.How.TheVariants.{Missing}
 use Rattle.tree_match.specs.declared.answer.Match.TheVariants.{Same}
 use Rattle.vault_spec.proofs.Mapped.{all_pairs_mapped, contains_mapped, mapped_from}
 use Rattle.vault_spec.specs.Plan.{Planned}

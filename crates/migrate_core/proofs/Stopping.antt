@@ -1,9 +1,8 @@
 -- Why placing stops: a content that is damaged or passes the limit.
 use Rattle.std.proofs.Common.{◌≡◌, ◌≢◌, ℕ, zero, arith, List, [], ◌∷◌, ◌++◌, Contains, Option, Some, None, Result, Ok, Err, IfErr, inl, inr, refl, sym, ap, ◌∙◌, subst}
-use Rattle.chunk_files.specs.Keys.{Keys}
 use Rattle.chunk_files.specs.Reading as reading
 use Rattle.chunk_files.specs.declared.fault.ChunkFault.{ChunkFault}
-use Rattle.content_writing.specs.Content.{Coming, Ending, Damaged, TooLong, content_limit, coming_read, ending_of, held_before}
+use Rattle.content_writing.specs.Content.{Coming, Ending, Damaged, TooLong, ending_of}
 use Rattle.content_writing.specs.declared.fault.PutFault.{PutFault}
 use Rattle.content_writing.specs.declared.fault.PutFault.TheVariants as put
 use Rattle.folder_spec.proofs.Paths.{base_or_child}
@@ -24,7 +23,6 @@ use Rattle.vault_read.specs.Opened.{OpenedVault}
 use Rattle.vault_read.specs.declared.fault.Limit.{Limit}
 use Rattle.vault_read.specs.declared.fault.Limit.TheVariants as limit
 use Rattle.plain_tree.specs.Names as plain
-use Rattle.vault_spec.specs.Findings.{IsFileAt}
 use Rattle.vault_spec.specs.Making.{Allows, NewItem}
 use Rattle.vault_spec.specs.Plan.{Planned}
 use Rattle.vault_spec.specs.Vault.{format_of}
@@ -33,7 +31,7 @@ use Rattle.vault_write.specs.Faults.{IsDirectoryFault, IsFileFault}
 use Rattle.vault_write.specs.Making.{Placing}
 use Rattle.vault_write.specs.Refusing.{Answers, TakesRoot}
 use Rattle.migrate_core.proofs.Causing.{stop_more}
-use Rattle.migrate_core.proofs.Planned.{FilesFit, reader_of}
+use Rattle.migrate_core.proofs.Planned.{FilesFit}
 use Rattle.migrate_core.proofs.Writings.{Kept, ToldContent, content_told}
 use Rattle.migrate_core.specs.Causes.{Answer, EndsSo, IsStop, StopsAt, StopsLater, StopsSeen, nothing_stops}
 use Rattle.migrate_core.specs.Copying.{Enters}

@@ -1,5 +1,5 @@
 -- What is written, one item after the other.
-use Rattle.std.proofs.Common.{◌≡◌, ◌≢◌, IfErr, ◌+◌, inl, inr, ◌≤◌, ◌<◌, ℕ, zero, suc, nat_lt, Bool, true, false, not, cond, List, [], ◌∷◌, ◌++◌, length, take, drop, get_or, Contains, Option, Some, None, IsTrue, Result, Ok, Err, OnOk, refl, sym, ap, ◌∙◌, subst, subst₂, arith, append_assoc, append-nil}
+use Rattle.std.proofs.Common.{◌≡◌, ◌≢◌, IfErr, ◌+◌, inl, inr, ◌≤◌, ◌<◌, ℕ, zero, suc, nat_lt, Bool, true, false, not, cond, List, [], ◌∷◌, ◌++◌, length, take, drop, get_or, Contains, Option, Some, None, IsTrue, Result, Ok, Err, refl, sym, ap, ◌∙◌, subst, subst₂, arith, append_assoc, append-nil}
 use Rattle.std.specs.List.{concat}
 use Rattle.std.proofs.lemmas.Bool.{ltb-true, ltb-false}
 use Rattle.std.proofs.lemmas.List.Elements.{filter-append}
@@ -12,7 +12,7 @@ use Rattle.folder_spec.specs.Seen.{IsSeen, seen}
 use Rattle.folder_spec.specs.State.{Node, State, BeginsWith}
 use Rattle.folder_spec.specs.View.{Found, View}
 use Rattle.folder_spec.proofs.Moments.{went_by_call}
-use Rattle.folder_spec.proofs.Paths.{base_or_child, one_or_not}
+use Rattle.folder_spec.proofs.Paths.{base_or_child}
 use Rattle.folder_spec.specs.Event.{Changes, Settle, Steps, changed}
 use Rattle.folder_spec.specs.Path.{Path}
 use Rattle.folder_spec.specs.Region.{IsAsBefore, Spares, SparesOld, apart_from}
@@ -27,7 +27,6 @@ use Rattle.folder_spec.specs.declared.FolderFault.TheVariants as folder
 use Rattle.work_folder.specs.declared.fault.WorkFault.{WorkFault}
 use Rattle.work_folder.specs.declared.fault.WorkFault.TheVariants as works
 use Rattle.vault_write.specs.Refusing.{Answers, HasTaken}
-use Rattle.migrate_core.proofs.Leadings.{seen_then}
 use Rattle.move_journal.specs.declared.journal.JournalFault.{JournalFault}
 use Rattle.move_journal.specs.declared.journal.JournalFault.TheVariants as journals
 use Rattle.migrate_core.specs.Faults.{IsOfTest, of_folder, of_journal, of_put, of_work}
@@ -58,13 +57,12 @@ use Rattle.vault_write.specs.Placing.{IsMaking, making_at}
 use Rattle.work_folder.specs.Changing.{ChangesAt, ChangesOnly, IsChangingAt}
 use Rattle.vault_write.specs.Making.{is_apart}
 use Rattle.migrate_core.proofs.Movings.{AreSound, source_apart, source_beside}
-use Rattle.migrate_core.proofs.Placings.{below_root, no_answer}
+use Rattle.migrate_core.proofs.Placings.{below_root}
 use Rattle.migrate_core.proofs.WorkFolders.{apart_at, elsewhere_at, not_in_root, not_moved}
 use Rattle.tree_match.specs.Guard.{AreApart}
 use Rattle.migrate_core.proofs.Planned.{FilesFit, reader_of}
 use Rattle.migrate_core.specs.Moved.{StandsIn, done_of, is_there, opened_in}
-use Rattle.migrate_core.proofs.Causing.{Passed}
-use Rattle.migrate_core.specs.Causes.{IsStop, StopsLater, TestsItems, Unless, nothing_stops}
+use Rattle.migrate_core.specs.Causes.{IsStop, StopsLater, nothing_stops}
 use Rattle.folder_spec.specs.Region.{apart_from_both}
 use Rattle.vault_walk.specs.Survey.{IsOrdered}
 use Rattle.move_journal.specs.declared.journal.Phase.TheVariants.{Done}

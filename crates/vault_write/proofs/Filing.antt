@@ -4,10 +4,7 @@ use Rattle.std.specs.Result.{IsErr}
 use Rattle.std.proofs.Common.{arith, true, false, not, zero, suc, ◌≡◌, ◌≢◌, ℕ, ◌≤◌, List, [], ◌∷◌, ◌++◌, length, Option, Some, None, Result, Ok, Err, OnOk, refl, sym, ap, ◌∙◌, inl, inr, subst, append-nil, append_assoc, IsTrue, codes, ◌*◌}
 use Rattle.std.proofs.lemmas.List.Elements.{Contains-append_left, Contains-append_right}
 use Rattle.chunk_files.specs.Encrypt.{encrypt}
-use Rattle.chunk_files.specs.Keys as contents
 use Rattle.chunk_files.specs.Keys.{Keys}
-use Rattle.chunk_files.specs.declared.keys.Layout.{Layout}
-use Rattle.chunk_files.specs.declared.keys.Layout.TheVariants.{Go, CmGcm}
 use Rattle.port_model.specs.Draws.{ByteStream, Draws}
 use Rattle.folder_spec.specs.declared.FolderFault.{FolderFault}
 use Rattle.folder_spec.specs.declared.FolderFault.TheVariants as folder

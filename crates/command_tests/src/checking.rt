@@ -7,8 +7,8 @@ use std::alloc::Global;
 use std::process::Abort;
 use std::test::Fail;
 
-// Checks what `fsck` says of a changed vault.
-fn finds<F: Folder>(
+/// Checks what a command says of a changed vault.
+pub(crate) fn says<F: Folder>(
     rt: &impl Abort,
     alloc: Global,
     folder: &mut F,
@@ -16,6 +16,7 @@ fn finds<F: Folder>(
     lines: &str,
     status: u8,
     out: &str,
+    err: &str,
 ) -> Result<(), Fail> {
     put_vaults(alloc, folder)?;
     changes(alloc, folder, lines)?;
@@ -26,7 +27,7 @@ fn finds<F: Folder>(
         words,
         status,
         unmarked(alloc, out)?.as_str(),
-        "",
+        err,
     )
 }
 
@@ -76,7 +77,7 @@ fn gocryptfs_is_checked(rt: HostRuntime) -> Result<(), Fail> {
         ),
     ] {
         let mut folder = MemFolder::new(alloc)?;
-        finds(
+        says(
             &rt,
             alloc,
             &mut folder,
@@ -84,6 +85,7 @@ fn gocryptfs_is_checked(rt: HostRuntime) -> Result<(), Fail> {
             lines,
             status,
             out,
+            "",
         )?;
     }
     Ok(())
@@ -154,7 +156,7 @@ fn cryptomator_is_checked(rt: HostRuntime) -> Result<(), Fail> {
         ),
     ] {
         let mut folder = MemFolder::new(alloc)?;
-        finds(
+        says(
             &rt,
             alloc,
             &mut folder,
@@ -162,6 +164,7 @@ fn cryptomator_is_checked(rt: HostRuntime) -> Result<(), Fail> {
             lines,
             status,
             out,
+            "",
         )?;
     }
     Ok(())

@@ -1,7 +1,7 @@
 //! Runs of `decrypt-file`.
 ghost use Rattle.std.specs.Prelude.{◌≡◌, ◌+◌, ◌<◌, ◌≤◌, ◌==◌, Some, OnOk, length};
 
-use crate::runs::{Ended, Fails, NONE, ended, listed};
+use crate::runs::{Ended, Fails, NONE, listed, run_over};
 use chunk_files::{ChunkBuf, ContentKeys, Encoder, Layout};
 use folder_model::MemFolder;
 use port_model::{ListRandoms, MemSource, Source, SourceFault};
@@ -41,7 +41,7 @@ fn outcome(
     let words = listed(alloc, words)?;
     let mut source = MemSource::new(input.to_vec(alloc)?, fails.input.to_vec(alloc)?);
     let mut folder = MemFolder::new(alloc)?;
-    let ended = ended(
+    let ended = run_over(
         alloc,
         &mut folder,
         words.as_slice(),
@@ -284,7 +284,7 @@ fn a_byte_at_a_time(rt: HostRuntime) -> Result<(), Fail> {
     let source = MemSource::new(changed(alloc)?, Vec::new(alloc));
     let mut input = Trickle { source };
     let mut folder = MemFolder::new(alloc)?;
-    let outcome = ended(alloc, &mut folder, words.as_slice(), &[], &mut input, &NONE)?;
+    let outcome = run_over(alloc, &mut folder, words.as_slice(), &[], &mut input, &NONE)?;
     assert_eq!(rt; outcome.status, 12);
     assert_eq!(rt; outcome.out.bytes(), [1; 4096].as_slice());
     assert_eq!(rt;

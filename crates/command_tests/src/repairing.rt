@@ -1,34 +1,10 @@
 //! What `repair` moves out of vaults that other programs made, and how it answers.
+use crate::checking::says;
 use crate::runs::{Row, answers, reading, rows_come, status_of};
-use crate::vaults::{changes, crash, kind_at, put_vaults, unmarked, vaults};
+use crate::vaults::{changes, crash, kind_at, vaults};
 use folder_model::{Folder, Kind, MemFolder};
 use std::alloc::Global;
-use std::process::Abort;
 use std::test::Fail;
-
-// Checks what a command says of a changed vault.
-fn says<F: Folder>(
-    rt: &impl Abort,
-    alloc: Global,
-    folder: &mut F,
-    words: &str,
-    lines: &str,
-    status: u8,
-    out: &str,
-    err: &str,
-) -> Result<(), Fail> {
-    put_vaults(alloc, folder)?;
-    changes(alloc, folder, lines)?;
-    answers(
-        rt,
-        alloc,
-        folder,
-        words,
-        status,
-        unmarked(alloc, out)?.as_str(),
-        err,
-    )
-}
 
 #[test]
 fn strays_are_moved(rt: HostRuntime) -> Result<(), Fail> {

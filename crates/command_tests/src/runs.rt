@@ -70,7 +70,7 @@ pub(crate) struct Ended {
 }
 
 /// What a run over an input comes to.
-pub(crate) fn ended<F: Folder, I: Source>(
+pub(crate) fn run_over<F: Folder, I: Source>(
     alloc: Global,
     folder: &mut F,
     words: &[String],
@@ -115,7 +115,7 @@ fn words_of(alloc: Global, text: &str) -> Result<Vec<String>, Fail> {
 pub(crate) fn came<F: Folder>(alloc: Global, folder: &mut F, given: &Given) -> Result<Ended, Fail> {
     let words = words_of(alloc, given.words)?;
     let mut input = MemSource::new(given.input.to_vec(alloc)?, given.fails.input.to_vec(alloc)?);
-    ended(
+    run_over(
         alloc,
         folder,
         words.as_slice(),

@@ -14,3 +14,4 @@ mod WholeContents
 mod CutContents
 pub mod SameTrees
 pub mod HeldTrees
+pub mod SamePaths

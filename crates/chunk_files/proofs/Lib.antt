@@ -11,3 +11,4 @@ mod ChunkReadings
 mod StoredChunks
 mod FilesOf
 mod Encrypting
+mod Sizes

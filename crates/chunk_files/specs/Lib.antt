@@ -15,3 +15,4 @@ pub mod DrawFaults
 pub mod Decoding
 pub mod Steps
 pub mod Lending
+pub mod Sizes

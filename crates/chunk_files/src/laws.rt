@@ -7,6 +7,7 @@ ghost use Rattle.chunk_files.specs.Decoding.{Decoding, GivesNext, HasGiven, chun
 ghost use Rattle.chunk_files.specs.Encoding.{MadeIsAFront, MoreDrawnGiveMore};
 ghost use Rattle.chunk_files.specs.FileOf.{EncryptedFilesAreFiles, FilesAreWhatTheyGive, WholeFilesEnd};
 ghost use Rattle.chunk_files.specs.Keys.{Keys};
+ghost use Rattle.chunk_files.specs.Sizes.{FilesAreNotMuchLonger};
 
 use gcm_mode::laws::{sealed_texts_are_bytes, unsealing_undoes_sealing};
 
@@ -23,6 +24,14 @@ pub fn files_are_what_they_give()
 pub fn whole_files_end()
     ensures { WholeFilesEnd }
 {}
+
+/// The law that bytes in which reading meets no fault are at most 33 for each byte that is read of them, and 32,864 more.
+pub fn files_are_not_much_longer()
+    ensures { FilesAreNotMuchLonger }
+{
+    sealed_texts_are_bytes();
+    unsealing_undoes_sealing();
+}
 
 /// The law that what is encrypted under drawn bytes, of which neither the id nor a nonce is refused, is a
 /// file of its content.

@@ -15,3 +15,4 @@ mod CutContents
 pub mod SameTrees
 pub mod HeldTrees
 pub mod SamePaths
+pub mod CutItems

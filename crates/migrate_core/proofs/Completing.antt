@@ -4,7 +4,7 @@ use Rattle.chunk_files.specs.Reading as reading
 use Rattle.content_writing.specs.declared.fault.PutFault.{PutFault}
 use Rattle.content_writing.specs.declared.fault.PutFault.TheVariants as put
 use Rattle.folder_spec.proofs.Paths.{below-append}
-use Rattle.folder_spec.specs.Path.{Path, below, parent}
+use Rattle.folder_spec.specs.Path.{Path, parent}
 use Rattle.folder_spec.specs.Seen.{under}
 use Rattle.folder_spec.specs.View.{FileOf, Folder, Found, NoEntry, Special, View, kind_found}
 use Rattle.folder_spec.specs.declared.FolderFault.{FolderFault}
@@ -45,7 +45,7 @@ use Rattle.vault_spec.specs.Opens.{Tree, tree}
 use Rattle.vault_spec.specs.Plan.{Planned}
 use Rattle.vault_spec.specs.Standing as stood
 use Rattle.vault_spec.specs.Vault.{LoadRefusal, Loads, Vault, format_of}
-use Rattle.vault_walk.specs.Surveyed.{IsPlanOf, IsWithin}
+use Rattle.vault_walk.specs.Surveyed.{IsWithin}
 use Rattle.vault_walk.specs.declared.fault.WalkFault.{WalkFault}
 use Rattle.vault_walk.specs.declared.fault.WalkFault.TheVariants as walk
 use Rattle.work_folder.specs.Entering.{Empties, EntersAs}

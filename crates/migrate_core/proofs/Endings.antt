@@ -34,8 +34,11 @@ use Rattle.migrate_core.proofs.Leadings.{if_ok}
 use Rattle.migrate_core.proofs.Movings.{AreSound, moves_to, source_beside, turned_over, under_stays}
 use Rattle.migrate_core.proofs.Planned.{SeenAlone, seen_of, source_held, source_walk, walk_of}
 use Rattle.migrate_core.proofs.SameItems.{same_length}
+use Rattle.migrate_core.specs.Copying.{StayGood}
 use Rattle.migrate_core.specs.Leading.{FinishesFrom, Goes, Leads, progress_of}
 use Rattle.vault_walk.specs.Surveyed.{IsPlanOf}
+use Rattle.migrate_core.specs.Limits.{EndsBy}
+use Rattle.migrate_core.specs.declared.fault.MoveFault.{MoveFault}
 use Rattle.migrate_core.specs.declared.placing.Done.{Done}
 use Rattle.migrate_core.specs.Moved.{HasMoved, HasPlaced, HaveOneTree, Moved, MovesTold, MovesTree, Placed, StandsIn, done_of, lacking, opened_in}
 use Rattle.migrate_core.specs.Moving.{MovesOnly}
@@ -254,10 +257,10 @@ opened_still work to pass vault (Some a) None sound went opens clean v is = absu
 opened_is : (x : OpenedVault) (root : Path) → x.root ≡ root → x ≡ opened_in root x.vault
 opened_is x root is = ap (λ r. opened_in r x.vault) is
 
-pub tree_moved : {E : Type 0} (from to work : Path) (from_pass to_pass : List ℕ) (source target : OpenedVault) (t u : Option Told) (result : Result Done E) → source.root ≡ from → target.root ≡ to → AreSound t → MovesOnly work to t u
+pub tree_moved : (from to work : Path) (from_pass to_pass : List ℕ) (source target : OpenedVault) (t u : Option Told) (result : Result Done MoveFault) → source.root ≡ from → target.root ≡ to → AreSound t → MovesOnly work to t u
     → ((v : View) → IsSeen t v → IsVault (under from v) from_pass source.vault) → ((v : View) → IsSeen t v → IsVault (under to v) to_pass target.vault)
-    → Placed source target t result → Moved source target work u result → IfOk result (λ done. MovesTree from to work from_pass to_pass done t u)
-tree_moved from to work from_pass to_pass source target t u (Ok done) source_at target_at sound went opens opens_target placed moved = record {
+    → Placed source target t result → Moved source target work u result → EndsBy (StayGood source target t u) source target u result → IfOk result (λ done. MovesTree from to work from_pass to_pass done t u)
+tree_moved from to work from_pass to_pass source target t u (Ok done) source_at target_at sound went opens opens_target placed moved ends = record {
   source = source.vault;
   target = target.vault;
   opens_source = opens;
@@ -266,8 +269,9 @@ tree_moved from to work from_pass to_pass source target t u (Ok done) source_at 
   moved = λ v is. subst (λ x. HasMoved x (opened_in to target.vault) work done.items v) (opened_is source from source_at) (subst (λ y. HasMoved source y work done.items v) (opened_is target to target_at) (moved v is));
   opens_still = opened_still work to to_pass target.vault t u sound went opens_target
       (λ v is. subst (λ root. IsClean (format_of target.vault) (under root v)) target_at (moved v is).target);
+  stays_good = subst (λ x. StayGood x (opened_in to target.vault) t u) (opened_is source from source_at) (subst (λ y. StayGood source y t u) (opened_is target to target_at) ends);
 }
-tree_moved from to work from_pass to_pass source target t u (Err fault) source_at target_at sound went opens opens_target placed moved = tt
+tree_moved from to work from_pass to_pass source target t u (Err fault) source_at target_at sound went opens opens_target placed moved ends = tt
 
 -- what is seen at first is seen where the vaults are opened
 pub moved_before : (from to work : Path) (from_pass to_pass : List ℕ) (done : Done) (t0 t u : Option Told) → ((v : View) → IsSeen t0 v → IsSeen t v) → MovesTree from to work from_pass to_pass done t u → MovesTree from to work from_pass to_pass done t0 u
@@ -279,6 +283,7 @@ moved_before from to work from_pass to_pass done t0 t u before moves = record {
   placed = λ v is. moves.placed v (before v is);
   moved = moves.moved;
   opens_still = moves.opens_still;
+  stays_good = λ v w is. moves.stays_good v w (before v is);
 }
 
 pub told_before : (work : Path) (from_pass to_pass : List ℕ) (done : Done) (t0 t u : Option Told) → ((v : View) → IsSeen t0 v → IsSeen t v) → (v : View) → MovesTold work from_pass to_pass done t u v → MovesTold work from_pass to_pass done t0 u v

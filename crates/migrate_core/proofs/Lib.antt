@@ -10,6 +10,7 @@ mod Entered
 mod Fronts
 mod Keeping
 mod Leadings
+mod Limits
 mod Movings
 mod Placings
 mod Planned

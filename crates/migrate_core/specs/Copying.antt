@@ -64,3 +64,7 @@ CopiesAll from to there items told told' = (v w : View) → IsSeen told v → Is
 -- so it is where no two directories of either vault share a folder
 abbrev pub MayBegin : OpenedVault → OpenedVault → List Planned → Option Told → Type 0
 MayBegin from to there told = (v : View) → IsSeen told v → HaveOwnFolders from to v → HasCopied from to there v
+
+-- and in good order both are then
+abbrev pub StayGood : OpenedVault → OpenedVault → Option Told → Option Told → Type 0
+StayGood from to told told' = (v w : View) → IsSeen told v → IsSeen told' w → HaveOwnFolders from to v → ShowsVault (format_of from.vault) from.root w × ShowsVault (format_of to.vault) to.root w

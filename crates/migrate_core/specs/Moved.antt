@@ -18,6 +18,7 @@ use Rattle.vault_spec.specs.Opens.{tree}
 use Rattle.vault_spec.specs.Plan.{Planned}
 use Rattle.vault_spec.specs.Vault.{Vault, IsVault, format_of}
 use Rattle.vault_walk.specs.Surveyed.{IsPlanOf}
+use Rattle.migrate_core.specs.Copying.{StayGood}
 use Rattle.migrate_core.specs.declared.placing.Done.{Done}
 
 -- where no two directories of either vault share a folder, both open the same at each plain path
@@ -78,7 +79,8 @@ Placed from to told result = IfOk result (λ done. (v : View) → IsSeen told v 
 abbrev pub opened_in : Path → Vault → OpenedVault
 opened_in root vault = record { root = root; vault = vault }
 
--- of the vaults that two roots and their passphrases are, of which the target is opened so afterwards too
+-- Of the vaults that two roots and their passphrases are. The target is opened so afterwards too, and where no two directories of either
+-- shared a folder, both are in good order then.
 pub record MovesTree (from to work : Path) (from_pass to_pass : List ℕ) (done : Done) (told told' : Option Told) : Type 0 where
   pub source : Vault
   pub target : Vault
@@ -87,6 +89,7 @@ pub record MovesTree (from to work : Path) (from_pass to_pass : List ℕ) (done 
   pub placed : (v : View) → IsSeen told v → HasPlaced (opened_in from source) (opened_in to target) done.placed v
   pub moved : (v : View) → IsSeen told' v → HasMoved (opened_in from source) (opened_in to target) work done.items v
   pub opens_still : (v : View) → IsSeen told' v → IsVault (under to v) to_pass target
+  pub stays_good : StayGood (opened_in from source) (opened_in to target) told told'
 
 -- of the vaults that the journal tells which stands in the work folder
 pub record MovesTold (work : Path) (from_pass to_pass : List ℕ) (done : Done) (told told' : Option Told) (v : View) : Type 0 where

@@ -1,14 +1,21 @@
 //! Laws of the definitions. Each function does nothing, and its clauses are the laws.
 ghost use Rattle.std.specs.Prelude.{IfErr, Result};
+ghost use Rattle.folder_spec.specs.Path.{Path};
+ghost use Rattle.folder_spec.specs.Seen.{under};
 ghost use Rattle.folder_spec.specs.View.{View};
 ghost use Rattle.tree_match.specs.Guard.{Migration};
 ghost use Rattle.migrate_core.specs.Causes.{Begins, Resumes};
 ghost use Rattle.migrate_core.specs.Completing.{CanBegin, CanResume, IsOfChance};
+ghost use Rattle.migrate_core.specs.Copying.{tree_in};
 ghost use Rattle.migrate_core.specs.Faults.{IsMoveFault};
+ghost use Rattle.migrate_core.specs.Limits.{HasSmallContents, IsLonger, PassesLimit};
 ghost use Rattle.migrate_core.specs.declared.fault.MoveFault.{MoveFault};
 ghost use Rattle.migrate_core.specs.declared.placing.Done.{Done};
+ghost use Rattle.vault_read.specs.Laws.{HasOwnFolders};
+ghost use Rattle.vault_read.specs.Opened.{OpenedVault};
 ghost use Rattle.vault_spec.specs.Alike.{HasFolders};
 
+use chunk_files::laws::files_are_not_much_longer;
 use move_journal::laws::journals_are_read_back;
 use tree_match::laws::walks_tell_the_tree;
 use vault_read::laws::{files_have_their_contents, roots_have_one_answer};
@@ -31,4 +38,13 @@ pub fn what_can_resume_is_done()
     plans_are_the_tree();
     roots_have_one_answer();
     walks_tell_the_tree();
+}
+
+/// What comparing names past the limit has more than 2^40 bytes; and where all contents of the source are small, none passes it.
+pub fn small_contents_pass_no_limit()
+    ensures long { (from to : OpenedVault) (v : View) (at : Path) → PassesLimit from to v at → IsLonger v at }
+    ensures small { (from to : OpenedVault) (v : View) (at : Path) → HasOwnFolders from.vault (under from.root v) → HasSmallContents (tree_in from v) → ¬ PassesLimit from to v at }
+{
+    files_are_not_much_longer();
+    files_have_their_contents();
 }

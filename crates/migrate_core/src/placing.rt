@@ -13,6 +13,7 @@ ghost use Rattle.migrate_core.specs.Causes.{IsStop, StopsSeen, nothing_stops};
 ghost use Rattle.migrate_core.specs.Copying.{CopiesAll, CopiesMissing, CopiesOne, Enters, HasCopied};
 ghost use Rattle.migrate_core.specs.Faults.{Blamed};
 ghost use Rattle.migrate_core.specs.Leading.{LeadsEach};
+ghost use Rattle.migrate_core.specs.Limits.{ComparesNothing};
 ghost use Rattle.migrate_core.specs.Moved.{is_there, lacking};
 ghost use Rattle.migrate_core.specs.Moving.{MovesBeside};
 ghost use Rattle.migrate_core.specs.Written.{WritesBy, lacked};
@@ -50,6 +51,7 @@ pub(crate) fn journal_of(source: &FPath, target: &FPath, plan: &Plan) -> Result<
     ensures new { IfOk result (λ journal. journal ≡ new_journal source.now target.now plan.now.items) }
     ensures digest { IfOk result (λ journal. IsDigest journal.plan) }
     ensures blamed { IfErr result (Blamed ⊥ ⊥) }
+    ensures uncompared { IfErr result ComparesNothing }
     ensures moving { IfErr result (IsStop (Unit {0}) nothing_stops) }
 {
     Ok(Journal {
@@ -83,6 +85,7 @@ pub(crate) fn place_missing<F: Folder, R: Randoms>(
     ensures grows { F.faults folder.old ≤ F.faults folder.new }
     ensures random { R.faults random.old ≤ R.faults random.new }
     ensures blamed { IfErr result (Blamed (CountRose (F.faults folder.old) (F.faults folder.new)) (CountRose (R.faults random.old) (R.faults random.new))) }
+    ensures uncompared { IfErr result ComparesNothing }
     ensures copies { IfOk result (λ placed. CopiesAll sides.now.source sides.now.target there.now items.now (F.told folder.old) (F.told folder.new)) }
     ensures moving { IfErr result (StopsSeen (HasCopied sides.now.source sides.now.target there.now) (F.told folder.old) sides.now.source items.now) }
     ensures written { IsOrdered there.now → WritesBy result sides.now.source sides.now.target (lacked there.now items.now) [] (R.left random.old) (R.left random.new) (F.told folder.old) (F.told folder.new) }
@@ -125,6 +128,7 @@ fn place_missing_one<F: Folder, R: Randoms>(
     ensures grows { F.faults folder.old ≤ F.faults folder.new }
     ensures random { R.faults random.old ≤ R.faults random.new }
     ensures blamed { IfErr result (Blamed (CountRose (F.faults folder.old) (F.faults folder.new)) (CountRose (R.faults random.old) (R.faults random.new))) }
+    ensures uncompared { IfErr result ComparesNothing }
     ensures moving { IfErr result (StopsSeen (Enters sides.now.target item.now) (F.told folder.old) sides.now.source (item.now ∷ [])) }
     ensures written { IsOrdered there.now → WritesBy result sides.now.source sides.now.target (lacked there.now (item.now ∷ [])) [] (R.left random.old) (R.left random.new) (F.told folder.old) (F.told folder.new) }
 {
@@ -165,6 +169,7 @@ fn place<F: Folder, R: Randoms>(
     ensures grows { F.faults folder.old ≤ F.faults folder.new }
     ensures random { R.faults random.old ≤ R.faults random.new }
     ensures blamed { IfErr result (Blamed (CountRose (F.faults folder.old) (F.faults folder.new)) (CountRose (R.faults random.old) (R.faults random.new))) }
+    ensures uncompared { IfErr result ComparesNothing }
     ensures moving { IfErr result (StopsSeen (Enters sides.now.target item.now) (F.told folder.old) sides.now.source (item.now ∷ [])) }
     ensures written { WritesBy result sides.now.source sides.now.target (item.now ∷ []) [] (R.left random.old) (R.left random.new) (F.told folder.old) (F.told folder.new) }
 {
@@ -198,6 +203,7 @@ fn place_content<F: Folder, R: Randoms>(
     ensures grows { F.faults folder.old ≤ F.faults folder.new }
     ensures random { R.faults random.old ≤ R.faults random.new }
     ensures blamed { IfErr result (Blamed (CountRose (F.faults folder.old) (F.faults folder.new)) (CountRose (R.faults random.old) (R.faults random.new))) }
+    ensures uncompared { IfErr result ComparesNothing }
     ensures moving { IfErr result (StopsSeen (Enters sides.now.target item.now) (F.told folder.old) sides.now.source (item.now ∷ [])) }
     ensures written { WritesBy result sides.now.source sides.now.target (item.now ∷ []) [] (R.left random.old) (R.left random.new) (F.told folder.old) (F.told folder.new) }
 {

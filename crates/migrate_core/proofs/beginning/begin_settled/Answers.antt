@@ -20,6 +20,9 @@ use Rattle.std.proofs.lemmas.Result.{err_from_is_err_and}
 use Rattle.work_folder.specs.Looking.{Tests}
 use Rattle.migrate_core.proofs.Writings.{refusal_as, work_refuses, nothing_written, tree_of}
 use Rattle.migrate_core.specs.Written.{MayWrite}
+use Rattle.migrate_core.proofs.Limits.{limit_in_tree, none_compared, work_compares}
+use Rattle.migrate_core.specs.Copying.{StayGood}
+use Rattle.migrate_core.specs.Limits.{EndsBy}
 use Rattle.migrate_core.proofs.beginning.begin_settled.Goals as goal
 
 pub returns-in_err-look-clause-guard : goal.returns-in_err-look-clause-guard
@@ -85,6 +88,7 @@ returns-clause-moved g c =
     (subst (λ t. MovesOnly c.args.work.now sides.target.root t (g.F.Folder.told c.begin_with.new.folder)) (c.load_both.ensures.told ∙ c.look.ensures.told) c.begin_with.ensures.moves)) (λ v is. loads.opens_source v (subst (λ t. IsSeen t v) (sym c.look.ensures.told) is))
     (λ v is. loads.opens_target v (subst (λ t. IsSeen t v) (sym c.look.ensures.told) is))
     (subst (λ t. Placed sides.source sides.target t c.begin_with.result) (c.load_both.ensures.told ∙ c.look.ensures.told) c.begin_with.ensures.placed) c.begin_with.ensures.moved
+    (subst (λ t. EndsBy (StayGood sides.source sides.target t (g.F.Folder.told c.begin_with.new.folder)) sides.source sides.target (g.F.Folder.told c.begin_with.new.folder) c.begin_with.result) (c.load_both.ensures.told ∙ c.look.ensures.told) c.begin_with.ensures.ends)
 
 pub returns-in_err-look-clause-cause : goal.returns-in_err-look-clause-cause
 returns-in_err-look-clause-cause g c v seen =
@@ -149,3 +153,24 @@ returns-clause-written g c v seen =
     tree_of c.begin_with.result c.args.source.now c.args.target.now c.args.source_pass.now c.args.target_pass.now sides.source sides.target left left2 told after loads.source loads.target
     (λ w is. loads.opens_source w (subst (λ t. IsSeen t w) (sym c.look.ensures.told) is)) (λ w is. loads.opens_target w (subst (λ t. IsSeen t w) (sym c.look.ensures.told) is))
     (subst (λ t. MayWrite c.begin_with.result sides.source sides.target left left2 t after) (c.load_both.ensures.told ∙ c.look.ensures.told) c.begin_with.ensures.written)
+
+pub returns-in_err-look-clause-too_long : goal.returns-in_err-look-clause-too_long
+returns-in_err-look-clause-too_long g c =
+    let why = c.in_err-look.field-0.0 in
+    let p = err_from_is_err_and c.from_residual.result c.from_residual.ensures.1 in
+    none_compared _ c.from_residual.result p.0 (of_work why) p.1 p.2 (work_compares why)
+
+pub returns-in_err-sides-clause-too_long : goal.returns-in_err-sides-clause-too_long
+returns-in_err-sides-clause-too_long g c =
+    let p = err_from_is_err_and c.from_residual-in_err-sides.result c.from_residual-in_err-sides.ensures.1 in
+    none_compared _ c.from_residual-in_err-sides.result p.0 c.in_err-sides.field-0.0 p.1 p.2 c.in_err-sides.ensures.uncompared
+
+pub returns-clause-too_long : goal.returns-clause-too_long
+returns-clause-too_long g c =
+    let sides = c.in_ok-sides.sides in
+    let loads = c.in_ok-sides.ensures in
+    let here = g.F.Folder.told c.load_both.new.folder in
+    let after = g.F.Folder.told c.begin_with.new.folder in
+    limit_in_tree (StayGood sides.source sides.target here after) c.args.source.now c.args.target.now c.args.source_pass.now c.args.target_pass.now sides.source sides.target (g.F.Folder.told c.args.folder.now) after
+    c.begin_with.result loads.source loads.target (λ v is. loads.opens_source v (subst (λ t. IsSeen t v) (sym c.look.ensures.told) is)) (λ v is. loads.opens_target v (subst (λ t. IsSeen t v) (sym c.look.ensures.told) is))
+    c.begin_with.ensures.ends

@@ -21,6 +21,9 @@ use Rattle.migrate_core.proofs.Writings.{refusal_as, nothing_written}
 use Rattle.migrate_core.specs.Written.{WritesBy, journal_texts, lacked}
 use Rattle.migrate_core.proofs.Started.{empty_held, may_begin}
 use Rattle.migrate_core.specs.Copying.{MayBegin}
+use Rattle.migrate_core.proofs.Limits.{ends_uncompared}
+use Rattle.migrate_core.specs.Copying.{StayGood}
+use Rattle.migrate_core.specs.Limits.{EndsBy}
 use Rattle.migrate_core.proofs.beginning.begin_with.Goals as goal
 
 pub returns-in_err-plans-clause-guard : goal.returns-in_err-plans-clause-guard
@@ -183,3 +186,25 @@ move_all-requires-clause-copying g c =
     subst (MayBegin from to []) (sym c.walk_both.ensures.told)
     (may_begin c.walks_tell_the_tree.ensures.plan from to c.clean_vaults_are_orderly.ensures c.clean_vaults_are_orderly-2.ensures plans.source.items [] told (g.met.F.Folder.sound c.args.folder.now)
     c.in_ok-plans.ensures.source walked_to c.in_ok-plans.ensures.passed_source (empty_held c.walks_tell_the_tree.ensures.plan from to plans.source.items told))
+
+pub returns-in_err-plans-clause-ends : goal.returns-in_err-plans-clause-ends
+returns-in_err-plans-clause-ends g c =
+    let p = err_from_is_err_and c.from_residual.result c.from_residual.ensures.1 in
+    ends_uncompared _ c.args.sides.now.source c.args.sides.now.target (g.F.Folder.told c.walk_both.new.folder) c.from_residual.result p.0 c.in_err-plans.field-0.0 p.1 p.2 c.in_err-plans.ensures.uncompared
+
+pub returns-in_err-test_empty-clause-ends : goal.returns-in_err-test_empty-clause-ends
+returns-in_err-test_empty-clause-ends g c =
+    let p = err_from_is_err_and c.from_residual-in_err-test_empty.result c.from_residual-in_err-test_empty.ensures.1 in
+    ends_uncompared _ c.args.sides.now.source c.args.sides.now.target (g.F.Folder.told c.walk_both.new.folder) c.from_residual-in_err-test_empty.result p.0 c.in_err-test_empty.field-0.0 p.1 p.2 c.in_err-test_empty.ensures.uncompared
+
+pub returns-in_err-test_names-clause-ends : goal.returns-in_err-test_names-clause-ends
+returns-in_err-test_names-clause-ends g c =
+    let p = err_from_is_err_and c.from_residual-in_err-test_names.result c.from_residual-in_err-test_names.ensures.1 in
+    ends_uncompared _ c.args.sides.now.source c.args.sides.now.target (g.F.Folder.told c.walk_both.new.folder) c.from_residual-in_err-test_names.result p.0 c.in_err-test_names.field-0.0 p.1 p.2 c.in_err-test_names.ensures.uncompared
+
+pub returns-clause-ends : goal.returns-clause-ends
+returns-clause-ends g c =
+    let from = c.args.sides.now.source in
+    let to = c.args.sides.now.target in
+    let after = g.F.Folder.told c.move_all.new.folder in
+    subst (λ t. EndsBy (StayGood from to t after) from to after c.move_all.result) c.walk_both.ensures.told c.move_all.ensures.ends

@@ -19,8 +19,12 @@ use Rattle.tree_match.specs.Trees.{IsSameOrTooLong, match_of}
 use Rattle.migrate_core.proofs.Causing.{never_more, refused_as, stop_more}
 use Rattle.migrate_core.proofs.Compared.{copied_matches, copied_within, walk_stops}
 use Rattle.migrate_core.specs.Causes.{StopsLater, nothing_stops}
-use Rattle.migrate_core.specs.Copying.{HasCopied}
+use Rattle.migrate_core.specs.Copying.{CopiesAll, HasCopied}
 use Rattle.migrate_core.specs.Sides.{side_of}
+use Rattle.migrate_core.proofs.Limits.{ends_uncompared}
+use Rattle.migrate_core.proofs.Copyings.{copied_as}
+use Rattle.migrate_core.proofs.Movings.{moves_to, seen_stays, source_beside, turned_over}
+use Rattle.migrate_core.specs.Limits.{EndsBy}
 use Rattle.migrate_core.proofs.finishing.finish.Goals as goal
 
 pub returns-in_err-target-clause-guard : goal.returns-in_err-target-clause-guard
@@ -158,3 +162,39 @@ returns-in_err-say_done-clause-moving g c =
     let p = err_from_is_err_and c.from_residual-in_err-say_done.result c.from_residual-in_err-say_done.ensures.1 in
     refused_as (λ answer. IfErr answer (StopsLater (HasCopied from to items) (g.F.Folder.told c.args.folder.now))) c.from_residual-in_err-say_done.result p.0 fault p.1 p.2
     (λ v is. never_more (HasCopied from to items v) nothing_stops fault c.in_err-say_done.ensures.moving)
+
+pub returns-in_err-target-clause-ends : goal.returns-in_err-target-clause-ends
+returns-in_err-target-clause-ends g c =
+    let p = err_from_is_err_and c.from_residual.result c.from_residual.ensures.1 in
+    ends_uncompared _ c.args.sides.now.source c.args.sides.now.target (g.F.Folder.told c.walk_one.new.folder) c.from_residual.result p.0 c.in_err-target.field-0.0 p.1 p.2 c.in_err-target.ensures.uncompared
+
+pub returns-in_err-test_same-clause-ends : goal.returns-in_err-test_same-clause-ends
+returns-in_err-test_same-clause-ends g c =
+    let from = c.args.sides.now.source in
+    let to = c.args.sides.now.target in
+    let items = c.args.source.now.items in
+    let here = g.F.Folder.told c.test_same.new.folder in
+    let p = err_from_is_err_and c.from_residual-in_err-test_same.result c.from_residual-in_err-test_same.ensures.1 in
+    refused_as (λ answer. EndsBy (CopiesAll from to items items (g.F.Folder.told c.args.folder.now) here) from to here answer) c.from_residual-in_err-test_same.result p.0 c.in_err-test_same.field-0.0 p.1 p.2
+    (λ v is. c.in_err-test_same.ensures.limit v (subst (λ t. IsSeen t v) c.test_same.ensures.told is))
+
+pub returns-in_err-say_done-clause-ends : goal.returns-in_err-say_done-clause-ends
+returns-in_err-say_done-clause-ends g c =
+    let p = err_from_is_err_and c.from_residual-in_err-say_done.result c.from_residual-in_err-say_done.ensures.1 in
+    ends_uncompared _ c.args.sides.now.source c.args.sides.now.target (g.F.Folder.told c.say_done.new.folder) c.from_residual-in_err-say_done.result p.0 c.in_err-say_done.field-0.0 p.1 p.2 c.in_err-say_done.ensures.uncompared
+
+pub returns-clause-ends : goal.returns-clause-ends
+returns-clause-ends g c v w is_v is_w has =
+    let from = c.args.sides.now.source in
+    let to = c.args.sides.now.target in
+    let work = c.args.work.now in
+    let told = g.F.Folder.told c.args.folder.now in
+    let after = g.F.Folder.told c.say_done.new.folder in
+    let same = c.in_ok-test_same.ensures.told ∙ c.in_ok-target.ensures.told in
+    let region = apart_from_both work to.root in
+    let away = apart_from_both work from.root in
+    copied_as from to c.args.source.now.items v w
+    (seen_stays region from.root told after (g.met.F.Folder.sound c.args.folder.now) (λ rest. source_beside from.root to.root work rest c.requires.apart)
+    (moves_to region to.root told after (subst (λ t. MovesOnly work to.root t after) same (c.say_done.ensures.moves to.root c.requires.apart.target))) v w is_v is_w)
+    (seen_stays away to.root told after (g.met.F.Folder.sound c.args.folder.now) (λ rest. source_beside to.root from.root work rest (turned_over from.root to.root work c.requires.apart))
+    (moves_to away from.root told after (subst (λ t. MovesOnly work from.root t after) same (c.say_done.ensures.moves from.root c.requires.apart.source))) v w is_v is_w) has

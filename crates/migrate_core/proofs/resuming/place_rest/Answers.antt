@@ -28,6 +28,10 @@ use Rattle.migrate_core.specs.Written.{BringsOnlyTo, WritesBy, lacked}
 use Rattle.move_journal.specs.Journal.{journal_text}
 use Rattle.migrate_core.proofs.Blaming.{blamed_later}
 use Rattle.migrate_core.proofs.Stopping.{if_stops_before, seen_stops}
+use Rattle.migrate_core.proofs.Leadings.{seen_then}
+use Rattle.migrate_core.proofs.Limits.{ends_more, ends_uncompared, good_copies, work_compares}
+use Rattle.migrate_core.specs.Copying.{CopiesAll, StayGood}
+use Rattle.migrate_core.specs.Limits.{EndsBy}
 use Rattle.migrate_core.proofs.resuming.place_rest.Goals as goal
 
 pub again-requires-clause-folder : goal.again-requires-clause-folder
@@ -217,3 +221,29 @@ returns-clause-blamed g c =
     let random = g.R.Randoms.faults c.args.random.now in
     blamed_later (g.F.Folder.faults c.args.folder.now) (g.F.Folder.faults c.again.new.folder) (g.F.Folder.faults c.go_on.new.folder) random random (g.R.Randoms.faults c.go_on.new.random) c.go_on.result
     c.again.ensures.restages.grows (omega arith) c.go_on.ensures.blamed
+
+pub returns-in_err-again-clause-ends : goal.returns-in_err-again-clause-ends
+returns-in_err-again-clause-ends g c =
+    let why = c.in_err-again.field-0.0 in
+    let p = err_from_is_err_and c.from_residual.result c.from_residual.ensures.1 in
+    ends_uncompared _ c.args.sides.now.source c.args.sides.now.target (g.F.Folder.told c.again.new.folder) c.from_residual.result p.0 (of_work why) p.1 p.2 (work_compares why)
+
+pub returns-clause-ends : goal.returns-clause-ends
+returns-clause-ends g c =
+    let from = c.args.sides.now.source in
+    let to = c.args.sides.now.target in
+    let work = c.args.work.now in
+    let items = c.args.plans.now.source.items in
+    let there = c.args.plans.now.target.items in
+    let told = g.F.Folder.told c.args.folder.now in
+    let ready = g.F.Folder.told c.again.new.folder in
+    let after = g.F.Folder.told c.go_on.new.folder in
+    let region = apart_from_both work to.root in
+    let away = apart_from_both work from.root in
+    let moves = stage_moves work to.root told ready c.requires.apart.target c.again.ensures.restages.moments in
+    let moves_away = stage_moves work from.root told ready c.requires.apart.source c.again.ensures.restages.moments in
+    ends_more (CopiesAll from to there items ready after) (StayGood from to told after) from to after c.go_on.result
+    (good_copies from to there items told ready after c.requires.copying (seen_then _ told ready moves)
+    (seen_stays region from.root told ready (g.met.F.Folder.sound c.args.folder.now) (λ rest. source_beside from.root to.root work rest c.requires.apart) (moves_to region to.root told ready moves))
+    (seen_stays away to.root told ready (g.met.F.Folder.sound c.args.folder.now) (λ rest. source_beside to.root from.root work rest (turned_over from.root to.root work c.requires.apart)) (moves_to away from.root told ready moves_away)))
+    (subst (λ xs. EndsBy (CopiesAll from to xs items ready after) from to after c.go_on.result) c.as_slice-there.ensures c.go_on.ensures.ends)

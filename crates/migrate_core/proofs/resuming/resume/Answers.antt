@@ -14,6 +14,8 @@ use Rattle.std.proofs.Common.{IfErr, inl}
 use Rattle.migrate_core.proofs.Completing.{folder_chance, own_faults}
 use Rattle.migrate_core.proofs.Continuing.{folders_of, resume_completes}
 use Rattle.migrate_core.specs.Completing.{IsOfChance}
+use Rattle.migrate_core.proofs.Limits.{as_told_before, folder_compares, limit_more, none_compared}
+use Rattle.migrate_core.specs.Limits.{PassesAsTold}
 use Rattle.migrate_core.proofs.resuming.resume.Goals as goal
 
 pub returns-in_err-settle-clause-guard : goal.returns-in_err-settle-clause-guard
@@ -87,3 +89,20 @@ returns-clause-completes g c m v seen asked can =
     resume_completes m v c.args.work.now c.args.source_pass.now c.args.target_pass.now c.resume_settled.result asked
     (c.what_can_resume_is_done.ensures m v c.resume_settled.result (folders_of (g.F.Folder.told c.args.folder.now) (g.met.F.Folder.sound c.args.folder.now) v seen) can
     (own_faults c.resume_settled.result _ _ c.resume_settled.ensures.blamed)) (returns-clause-cause g c v seen)
+
+pub returns-in_err-settle-clause-too_long : goal.returns-in_err-settle-clause-too_long
+returns-in_err-settle-clause-too_long g c v seen =
+    let why = c.in_err-settle.field-0.0 in
+    let p = err_from_is_err_and c.from_residual.result c.from_residual.ensures.1 in
+    none_compared _ c.from_residual.result p.0 (of_folder why) p.1 p.2 (folder_compares why)
+
+pub returns-clause-too_long : goal.returns-clause-too_long
+returns-clause-too_long g c v seen =
+    let work = c.args.work.now in
+    let t0 = g.F.Folder.told c.args.folder.now in
+    let t1 = g.F.Folder.told c.settle.new.self in
+    let t2 = g.F.Folder.told c.resume_settled.new.folder in
+    let pass = c.args.source_pass.now in
+    let pass' = c.args.target_pass.now in
+    let known = settle_seen t0 t1 c.in_ok-settle.field-0 c.in_ok-settle.ensures.changes in
+    limit_more (PassesAsTold work pass pass' t1 t2 v) (PassesAsTold work pass pass' t0 t2 v) c.resume_settled.result (as_told_before work pass pass' t0 t1 t2 known v) (c.resume_settled.ensures.too_long v (known v seen))

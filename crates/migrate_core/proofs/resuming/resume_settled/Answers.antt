@@ -18,6 +18,8 @@ use Rattle.migrate_core.specs.declared.placing.Done.{Done}
 use Rattle.std.proofs.lemmas.Result.{err_from_is_err_and}
 use Rattle.migrate_core.proofs.Writings.{refusal_as, work_refuses, journal_refuses, nothing_written, told_of}
 use Rattle.migrate_core.specs.Written.{MayWriteTree}
+use Rattle.migrate_core.proofs.Limits.{journal_compares, limit_more, none_compared, work_compares}
+use Rattle.migrate_core.specs.Limits.{PassesAsTold, PassesInTree}
 use Rattle.migrate_core.proofs.resuming.resume_settled.Goals as goal
 
 pub returns-in_err-journal-clause-guard : goal.returns-in_err-journal-clause-guard
@@ -181,3 +183,37 @@ returns-clause-written g c v seen =
     let same = c.look_again.ensures.told ∙ c.read.ensures.told in
     told_of c.resume_told.result c.args.work.now pass pass' left left2 told after v read c.in_ok-journal.ensures.journal (journal_stands v c.args.work.now read (c.in_ok-journal.ensures.answer v seen))
     (subst (λ t. MayWriteTree c.resume_told.result read.source read.target pass pass' left left2 t after) same (c.resume_told.ensures.written v (subst (λ t. IsSeen t v) (sym same) seen)))
+
+pub returns-in_err-journal-clause-too_long : goal.returns-in_err-journal-clause-too_long
+returns-in_err-journal-clause-too_long g c v seen =
+    let why = c.in_err-journal.field-0.0 in
+    let p = err_from_is_err_and c.from_residual.result c.from_residual.ensures.1 in
+    none_compared _ c.from_residual.result p.0 (of_journal why) p.1 p.2 (journal_compares why)
+
+pub returns-in_err-test_apart-clause-too_long : goal.returns-in_err-test_apart-clause-too_long
+returns-in_err-test_apart-clause-too_long g c v seen =
+    let p = err_from_is_err_and c.from_residual-in_err-test_apart.result c.from_residual-in_err-test_apart.ensures.1 in
+    none_compared _ c.from_residual-in_err-test_apart.result p.0 c.in_err-test_apart.field-0.0 p.1 p.2 c.in_err-test_apart.ensures.uncompared
+
+pub returns-in_err-look_again-clause-too_long : goal.returns-in_err-look_again-clause-too_long
+returns-in_err-look_again-clause-too_long g c v seen =
+    let why = c.in_err-look_again.field-0.0 in
+    let p = err_from_is_err_and c.from_residual-in_err-look_again.result c.from_residual-in_err-look_again.ensures.1 in
+    none_compared _ c.from_residual-in_err-look_again.result p.0 (of_work why) p.1 p.2 (work_compares why)
+
+pub returns-clause-too_long : goal.returns-clause-too_long
+returns-clause-too_long g c v seen =
+    let work = c.args.work.now in
+    let t0 = g.F.Folder.told c.args.folder.now in
+    let t2 = g.F.Folder.told c.look_again.new.folder in
+    let t3 = g.F.Folder.told c.resume_told.new.folder in
+    let pass = c.args.source_pass.now in
+    let pass' = c.args.target_pass.now in
+    let read = c.in_ok-journal.journal in
+    limit_more (PassesInTree read.source read.target pass pass' t2 t3) (PassesAsTold work pass pass' t0 t3 v) c.resume_told.result
+    (λ at passes. record {
+      journal = read;
+      is = c.in_ok-journal.ensures.journal;
+      stands = journal_stands v work read (c.in_ok-journal.ensures.answer v seen);
+      passes = subst (λ t. PassesInTree read.source read.target pass pass' t t3 at) (c.look_again.ensures.told ∙ c.read.ensures.told) passes;
+    }) c.resume_told.ensures.too_long

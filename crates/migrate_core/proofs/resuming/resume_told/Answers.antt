@@ -16,6 +16,9 @@ use Rattle.migrate_core.specs.declared.placing.Done.{Done}
 use Rattle.std.proofs.lemmas.Result.{err_from_is_err_and}
 use Rattle.migrate_core.proofs.Writings.{refusal_as, nothing_written, tree_of}
 use Rattle.migrate_core.specs.Written.{MayWrite}
+use Rattle.migrate_core.proofs.Limits.{limit_in_tree, none_compared}
+use Rattle.migrate_core.specs.Copying.{StayGood}
+use Rattle.migrate_core.specs.Limits.{EndsBy}
 use Rattle.migrate_core.proofs.resuming.resume_told.Goals as goal
 
 pub returns-in_err-test_source-clause-guard : goal.returns-in_err-test_source-clause-guard
@@ -86,6 +89,7 @@ returns-clause-moved g c =
     (subst (λ t. MovesOnly c.args.work.now sides.target.root t (g.F.Folder.told c.resume_with.new.folder)) (c.load_both.ensures.told ∙ c.test_source.ensures.told) c.resume_with.ensures.moves)) (λ v is. loads.opens_source v (subst (λ t. IsSeen t v) (sym c.test_source.ensures.told) is))
     (λ v is. loads.opens_target v (subst (λ t. IsSeen t v) (sym c.test_source.ensures.told) is))
     (subst (λ t. Placed sides.source sides.target t c.resume_with.result) (c.load_both.ensures.told ∙ c.test_source.ensures.told) c.resume_with.ensures.placed) c.resume_with.ensures.moved
+    (subst (λ t. EndsBy (StayGood sides.source sides.target t (g.F.Folder.told c.resume_with.new.folder)) sides.source sides.target (g.F.Folder.told c.resume_with.new.folder) c.resume_with.result) (c.load_both.ensures.told ∙ c.test_source.ensures.told) c.resume_with.ensures.ends)
 
 pub returns-in_err-test_source-clause-cause : goal.returns-in_err-test_source-clause-cause
 returns-in_err-test_source-clause-cause g c v seen =
@@ -160,3 +164,23 @@ returns-clause-written g c v seen =
     tree_of c.resume_with.result c.args.journal.source c.args.journal.target c.args.source_pass.now c.args.target_pass.now sides.source sides.target left left2 told after loads.source loads.target
     (λ w is. loads.opens_source w (subst (λ t. IsSeen t w) (sym c.test_source.ensures.told) is)) (λ w is. loads.opens_target w (subst (λ t. IsSeen t w) (sym c.test_source.ensures.told) is))
     (subst (λ t. MayWrite c.resume_with.result sides.source sides.target left left2 t after) same (c.resume_with.ensures.written v (subst (λ t. IsSeen t v) (sym same) seen)))
+
+pub returns-in_err-test_source-clause-too_long : goal.returns-in_err-test_source-clause-too_long
+returns-in_err-test_source-clause-too_long g c =
+    let p = err_from_is_err_and c.from_residual.result c.from_residual.ensures.1 in
+    none_compared _ c.from_residual.result p.0 c.in_err-test_source.field-0.0 p.1 p.2 c.in_err-test_source.ensures.uncompared
+
+pub returns-in_err-sides-clause-too_long : goal.returns-in_err-sides-clause-too_long
+returns-in_err-sides-clause-too_long g c =
+    let p = err_from_is_err_and c.from_residual-in_err-sides.result c.from_residual-in_err-sides.ensures.1 in
+    none_compared _ c.from_residual-in_err-sides.result p.0 c.in_err-sides.field-0.0 p.1 p.2 c.in_err-sides.ensures.uncompared
+
+pub returns-clause-too_long : goal.returns-clause-too_long
+returns-clause-too_long g c =
+    let sides = c.in_ok-sides.sides in
+    let loads = c.in_ok-sides.ensures in
+    let here = g.F.Folder.told c.load_both.new.folder in
+    let after = g.F.Folder.told c.resume_with.new.folder in
+    limit_in_tree (StayGood sides.source sides.target here after) c.args.journal.source c.args.journal.target c.args.source_pass.now c.args.target_pass.now sides.source sides.target (g.F.Folder.told c.args.folder.now) after
+    c.resume_with.result loads.source loads.target (λ v is. loads.opens_source v (subst (λ t. IsSeen t v) (sym c.test_source.ensures.told) is)) (λ v is. loads.opens_target v (subst (λ t. IsSeen t v) (sym c.test_source.ensures.told) is))
+    c.resume_with.ensures.ends

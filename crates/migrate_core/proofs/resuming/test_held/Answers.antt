@@ -7,6 +7,9 @@ use Rattle.std.proofs.lemmas.Result.{err_from_is_err_and}
 use Rattle.tree_match.specs.Matching.{matched}
 use Rattle.std.proofs.Common.{Err, Ok, ap, inr, refl, subst, sym}
 use Rattle.migrate_core.specs.declared.fault.MoveFault.TheVariants.{Differ}
+use Rattle.migrate_core.proofs.Limits.{by_match, target_first}
+use Rattle.migrate_core.specs.Limits.{PassesLimit, PassesSeen}
+use Rattle.std.proofs.Common.{IfErr}
 use Rattle.migrate_core.proofs.resuming.test_held.Goals as goal
 
 pub holds_all-requires-clause-a : goal.holds_all-requires-clause-a
@@ -37,6 +40,7 @@ returns-in-Same g c =
       told = c.in_ok-holds_all.ensures.told;
       grows = c.in_ok-holds_all.ensures.grows;
       tested = tt;
+      limit = tt;
       blamed = tt;
       cause = λ v seen. then_passes of_match (Compares to items from others v) held (Ok tt) m (c.in_ok-holds_all.ensures.answers v seen)
           (own_passes (TestsHeld m) (λ _. Passed) (Ok tt) tt (inr (inr (none_differs m c.in-Same.is))) (inr (inr refl)));
@@ -55,3 +59,16 @@ returns-clause-cause g c v seen =
     then_passes of_match (Compares to items from others v) held (Err (Differ path place)) m (c.in_ok-holds_all.ensures.answers v seen)
     (own_refused (TestsHeld m) (λ _. Passed) (Differ path place)
     (inr (inr (subst (λ x. TestsHeld x (Err (Differ path place))) (sym c.in-Differs.is) (ap (λ w. Err (Differ path w)) c.where_of.ensures)))))
+
+pub returns-in_err-holds_all-clause-limit : goal.returns-in_err-holds_all-clause-limit
+returns-in_err-holds_all-clause-limit g c =
+    let from = c.args.sides.now.source in
+    let to = c.args.sides.now.target in
+    let items = c.args.plans.now.source.items in
+    let others = c.args.plans.now.target.items in
+    let told = g.F.Folder.told c.args.folder.now in
+    let why = c.in_err-holds_all.field-0.0 in
+    let p = err_from_is_err_and c.from_residual.result c.from_residual.ensures.1 in
+    refused_as (λ answer. IfErr answer (PassesSeen from to told)) c.from_residual.result p.0 (of_match why) p.1 p.2
+    (λ v is. by_match (PassesLimit from to v) (matched (format_of to.vault).content others (format_of from.vault).content items v) why (c.in_err-holds_all.ensures.answers v is)
+    (target_first from to items others told v c.requires.source c.requires.target is))

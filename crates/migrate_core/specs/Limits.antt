@@ -1,0 +1,100 @@
+-- At which content comparing the two vaults stops when it passes the limit.
+use Rattle.std.specs.Prelude.{◌≡◌, ◌⊎◌, ◌*◌, ◌+◌, ◌≤◌, ◌<◌, ◌++◌, ℕ, true, nat_eq, List, length, Option, Result, Ok, Err}
+use Rattle.std.specs.List.{starts_with}
+use Rattle.chunk_files.specs.Reading.{Wanting}
+use Rattle.folder_spec.specs.Event.{Told}
+use Rattle.folder_spec.specs.Path.{Path}
+use Rattle.folder_spec.specs.Seen.{IsSeen, under}
+use Rattle.folder_spec.specs.View.{FileOf, View}
+use Rattle.move_journal.specs.Journal.{IsJournal}
+use Rattle.move_journal.specs.declared.journal.Journal.{Journal}
+use Rattle.plain_tree.specs.Names as plain
+use Rattle.tree_match.specs.Comparing.{Content, content_at}
+use Rattle.tree_match.specs.declared.answer.MatchFault.TheVariants as match
+use Rattle.vault_read.specs.Contents.{content_limit}
+use Rattle.vault_read.specs.Laws.{HasOwnFolders}
+use Rattle.vault_read.specs.Opened.{OpenedVault}
+use Rattle.vault_read.specs.declared.fault.Limit.TheVariants as limit
+use Rattle.vault_spec.specs.Opens as opens
+use Rattle.vault_spec.specs.Opens.{Opened, Tree}
+use Rattle.vault_spec.specs.Standing.{File, standing}
+use Rattle.vault_spec.specs.Vault.{Vault, IsVault, format_of}
+use Rattle.migrate_core.specs.Moved.{StandsIn, opened_in}
+use Rattle.migrate_core.specs.declared.fault.MoveFault.{MoveFault}
+use Rattle.migrate_core.specs.declared.fault.MoveFault.TheVariants.{Match}
+
+-- reading the one ends at the limit, at this path, and the other begins with all that was read of it
+pub record IsCut (at : Path) (one other : Content) : Type 0 where
+  pub place : one.at ≡ at
+  pub wanting : one.ending ≡ Wanting
+  pub begins : starts_with nat_eq other.bytes one.bytes ≡ true
+
+-- where no two directories of the vault share a folder, this is where the content of the file at the plain path stands
+abbrev pub IsContentAt : OpenedVault → View → plain.Path → Path → Type 0
+IsContentAt a v path rest = HasOwnFolders a.vault (under a.root v) → standing (format_of a.vault) (under a.root v) path ≡ File rest
+
+abbrev pub content_in : OpenedVault → View → Path → Content
+content_in a v rest = content_at (format_of a.vault).content v (a.root ++ rest)
+
+-- both vaults have a file at a plain path, and of their two contents the one at this path passes the limit before they part
+pub record PassesLimit (from to : OpenedVault) (v : View) (at : Path) : Type 0 where
+  pub path : plain.Path
+  pub source : Path
+  pub target : Path
+  pub in_source : IsContentAt from v path source
+  pub in_target : IsContentAt to v path target
+  pub cut : IsCut at (content_in from v source) (content_in to v target) ⊎ IsCut at (content_in to v target) (content_in from v source)
+
+-- of a fault that names a content past the limit where the vaults are compared, this is so of its path
+abbrev pub IsOfLimit : (Path → Type 0) → MoveFault → Type 0
+IsOfLimit P (Match (match.Limit (limit.Length at))) = P at
+IsOfLimit P fault = Unit {0}
+
+-- so it is of the vaults that two roots and their passphrases are, as is seen when the call ends
+pub record PassesInTree (from to : Path) (from_pass to_pass : List ℕ) (told told' : Option Told) (at : Path) : Type 0 where
+  pub source : Vault
+  pub target : Vault
+  pub opens_source : (v : View) → IsSeen told v → IsVault (under from v) from_pass source
+  pub opens_target : (v : View) → IsSeen told v → IsVault (under to v) to_pass target
+  pub passes : (v : View) → IsSeen told' v → PassesLimit (opened_in from source) (opened_in to target) v at
+
+-- of those that the journal tells which stands in the work folder
+pub record PassesAsTold (work : Path) (from_pass to_pass : List ℕ) (told told' : Option Told) (v : View) (at : Path) : Type 0 where
+  pub journal : Journal
+  pub is : IsJournal journal
+  pub stands : StandsIn work journal v
+  pub passes : PassesInTree journal.source journal.target from_pass to_pass told told' at
+
+-- ---- small contents
+
+-- there are more bytes than the limit
+pub record IsLonger (v : View) (at : Path) : Type 0 where
+  pub bytes : List ℕ
+  pub file : v at ≡ FileOf bytes
+  pub more : content_limit < length bytes
+
+-- whatever opens there is whole, and so small that no content file of it passes the limit
+abbrev pub IsSmall : Opened → Type 0
+IsSmall opens.NoItem = Unit {0}
+IsSmall opens.Directory = Unit {0}
+IsSmall (opens.Content bytes) = 64 * (length bytes + 2) ≤ content_limit
+IsSmall (opens.Broken chunks fault) = ⊥
+
+abbrev pub HasSmallContents : Tree → Type 0
+HasSmallContents t = (path : plain.Path) → IsSmall (t path)
+
+-- ---- between two opened vaults (private contracts only)
+
+-- the fault isn't one of comparing
+abbrev pub ComparesNothing : MoveFault → Type 0
+ComparesNothing (Match fault) = ⊥
+ComparesNothing fault = Unit {0}
+
+-- where the fault says so, that is seen then
+abbrev pub PassesSeen : OpenedVault → OpenedVault → Option Told → MoveFault → Type 0
+PassesSeen from to told fault = (v : View) → IsSeen told v → IsOfLimit (PassesLimit from to v) fault
+
+-- after Ok this is so, and a fault says nothing of contents past the limit that isn't seen then
+abbrev pub EndsBy : {T : Type 0} → Type 0 → OpenedVault → OpenedVault → Option Told → Result T MoveFault → Type 0
+EndsBy P from to told (Ok value) = P
+EndsBy P from to told (Err fault) = PassesSeen from to told fault

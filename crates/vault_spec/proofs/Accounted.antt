@@ -1,11 +1,11 @@
 -- That each entry of a clean vault is accounted for.
-use Rattle.std.proofs.Common.{◌≡◌, ◌≢◌, ◌⊎◌, ℕ, Bool, true, false, ◌&&◌, not, List, codes, refl, sym, ◌∙◌, inl, inr, if◌then◌else◌}
+use Rattle.std.proofs.Common.{◌≡◌, ◌≢◌, ◌⊎◌, ℕ, Bool, true, false, ◌&&◌, not, List, codes, refl, sym, inl, inr, if◌then◌else◌}
 use Rattle.folder_spec.specs.Path.{Part, Path, child}
 use Rattle.folder_spec.specs.View.{Found, NoEntry, Folder, FileOf, Special, View}
-use Rattle.vault_spec.specs.Cryptomator.{cm_unnamed, lost_by}
+use Rattle.vault_spec.specs.Cryptomator.{lost_by}
 use Rattle.vault_spec.specs.Findings.{Belongs, IsClean, IsEntryOf, IsUnnamed}
 use Rattle.vault_spec.specs.Format.{Format, Directory}
-use Rattle.vault_spec.specs.Gocryptfs.{go_unnamed, has_long_form, is_full_name}
+use Rattle.vault_spec.specs.Gocryptfs.{has_long_form, is_full_name}
 use Rattle.vault_spec.specs.Reached.{IsReached}
 use Rattle.vault_spec.specs.RootFiles.{has_ending}
 use Rattle.vault_spec.specs.Vault.{Vault, Gocryptfs, Cryptomator, format_of}

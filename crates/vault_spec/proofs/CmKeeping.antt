@@ -1,4 +1,4 @@
--- A new item of Cryptomator keeps a vault clean at each of its edits.
+-- Each edit of a new item of Cryptomator keeps a vault clean.
 use Rattle.std.proofs.Common.{◌≡◌, ◌≢◌, ℕ, ◌+◌, Bool, true, false, ◌&&◌, ◌||◌, List, [], ◌∷◌, ◌++◌, Ok, Err, cond, refl, sym, ap, ◌∙◌, subst, Some, None, Option, IsTrue, is_some, length, append_assoc, take, drop, arith, bytes_eq}
 use Rattle.std.proofs.lemmas.Bool.{eq-eqb}
 use Rattle.std.specs.List.{list_all}
@@ -19,13 +19,11 @@ use Rattle.vault_spec.specs.Standing.{Standing, Absent, Strange, File, Dir, entr
 use Rattle.vault_spec.specs.Opens.{Opened, opened_file}
 use Rattle.vault_spec.specs.Opens as opens
 use Rattle.vault_spec.specs.Reached.{Leads}
-use Rattle.vault_spec.specs.Findings.{IsClean}
 use Rattle.vault_spec.specs.Alike.{IsOrderly}
-use Rattle.vault_spec.specs.Adding.{StaysClean, NewItemsStayClean}
 use Rattle.vault_spec.proofs.ByteKeys.{front_plain, right_plain}
 use Rattle.vault_spec.proofs.Grafts.{reached_right}
 use Rattle.vault_spec.proofs.Places.{orderly_is_rooted, IsSide, side_looks, side_orderly, brought, brought_there, IsNew, new_after_side}
-use Rattle.vault_spec.proofs.StaysClean.{IsBare, IsApart, stays_clean}
+use Rattle.vault_spec.proofs.StaysClean.{IsBare, IsApart, KeepEach, KeepsItems}
 use Rattle.vault_spec.proofs.Keeping.{free_is_apart, apart_on, HasPlace, side_keeps, BringsWhole, item_keeps, file_brings}
 use Rattle.vault_spec.proofs.CmVault.{CmTexts, cm_lawful, no_role_of_nothing}
 use Rattle.vault_spec.proofs.CmAdding.{three_parts, one_more, four_parts, entry_spares, file_arrives, new_file_comes, directory_at, its_item, its_full, its_id, arrives_then, directory_stands, folder_bare, HasEmptyFolder, folder_side, folder_ready, folder_apart, shelf_side, by_shelf, new_at, folder_free, new_after_shelf}
@@ -62,6 +60,12 @@ nothing_in : (rest : Path) (x : Part) → directory_view (rest ++ x ∷ []) ≡ 
 nothing_in [] x = refl
 nothing_in (a ∷ rest) x = refl
 
+-- so below it no folder of entries comes
+alone_at : (v : View) (at rest : Path) → cm_role (at ++ rest) (edited v (directory_edit at) (at ++ rest)) ≡ ContentFolder → rest ≡ []
+alone_at v at [] is = refl
+alone_at v at (a ∷ rest) is =
+    let clash : Expected ≡ ContentFolder = sym (no_role_of_nothing (at ++ a ∷ rest)) ∙ ap (cm_role (at ++ a ∷ rest)) (sym (brought v (directory_edit at) (a ∷ rest))) ∙ is in cc
+
 -- roles of folders
 top_role : (there : Found) → cm_role (top ∷ []) there ≢ ContentFolder
 top_role NoEntry is = cc
@@ -86,6 +90,7 @@ shelf_place vault texts folders v id = record {
   role = role;
   empty = λ rest x is. ap (edited v (directory_edit (shelf_named (cm_folder_of vault.keys id)))) (append_assoc (shelf_named (cm_folder_of vault.keys id)) rest (x ∷ []))
       ∙ brought v (directory_edit (shelf_named (cm_folder_of vault.keys id))) (rest ++ x ∷ []) ∙ nothing_in rest x;
+  alone = alone_at v (shelf_named (cm_folder_of vault.keys id));
   folder = λ at x is here. absurd (top_role (v (top ∷ [])) (ap (λ p. cm_role p (v p)) (sym (child-injective at (top ∷ []) x (take 2 (cm_folder_of vault.keys id)) here)) ∙ is));
 }
   where
@@ -110,6 +115,7 @@ folder_place vault texts folders v id = record {
   role = role;
   empty = λ rest x is. ap (edited v (directory_edit (content_folder vault.keys id))) (append_assoc (content_folder vault.keys id) rest (x ∷ []))
       ∙ brought v (directory_edit (content_folder vault.keys id)) (rest ++ x ∷ []) ∙ nothing_in rest x;
+  alone = alone_at v (content_folder vault.keys id);
   folder = λ at x is here. absurd (shelf_role (take 2 (cm_folder_of vault.keys id)) (v (shelf_named (cm_folder_of vault.keys id)))
       (ap (λ p. cm_role p (v p)) (sym (child-injective at (shelf_named (cm_folder_of vault.keys id)) x (drop 2 (cm_folder_of vault.keys id)) here)) ∙ is));
 }
@@ -127,6 +133,7 @@ entry_place vault texts v front dir name e new = record {
   inner = λ path other n x leads here long item there. absurd (no_inner vault texts v e.at not_five path other n x leads here);
   role = λ rest is. let clash : Expected ≡ Extra = sym (no_role rest (edited v e (e.at ++ rest))) ∙ is in cc;
   empty = λ rest x is. let clash : Expected ≡ ContentFolder = sym (no_role rest (edited v e (e.at ++ rest))) ∙ is in cc;
+  alone = λ rest is. let clash : Expected ≡ ContentFolder = sym (no_role rest (edited v e (e.at ++ rest))) ∙ is in cc;
   folder = λ at x is here. (front, dir, new.leads, sym (child-injective at dir.folder x (cm_stored vault.keys vault.threshold dir.key name).name (here ∙ sym new.place)));
 }
   where
@@ -197,17 +204,16 @@ file_whole vault u dir name bytes (Some text) named is =
     (ap (λ o. (cm_format vault).item (is_some o) (folder_view ((full_file, text) ∷ (content_file, bytes) ∷ []))) is)
     (λ x extra. file_inside text bytes x (ap (λ o. inner_role (is_some o) (FileItem (content_file ∷ [])) x (folder_view ((full_file, text) ∷ (content_file, bytes) ∷ []) (x ∷ []))) (sym is) ∙ extra)) refl
 
-new_file_clean : (vault : CmVault) (texts : CmTexts vault.keys) (v : View) (front : plain.Path) (dir : Directory) (name bytes : List ℕ)
-    → IsOrderly (cm_format vault) v → IsClean (cm_format vault) v → Leads (cm_format vault) v front dir → IsTrue (is_name name) → taken_entry v dir (cm_stored vault.keys vault.threshold dir.key name) ≡ None
-    → StaysClean (cm_format vault) v ((cm_format vault).new_file v dir (cm_stored vault.keys vault.threshold dir.key name) bytes)
-new_file_clean vault texts v front dir name bytes orderly clean leads named none = (
-  stays_clean (cm_format vault) (cm_lawful vault texts) v (new_file_edit (entry_at (cm_format vault) dir name) (cm_stored vault.keys vault.threshold dir.key name).full bytes)
-      (item_keeps (cm_format vault) (cm_lawful vault texts) v front dir name (new_file_edit (entry_at (cm_format vault) dir name) (cm_stored vault.keys vault.threshold dir.key name).full bytes)
+new_file_keeps : (vault : CmVault) (texts : CmTexts vault.keys) (v : View) (front : plain.Path) (dir : Directory) (name bytes : List ℕ)
+    → IsOrderly (cm_format vault) v → Leads (cm_format vault) v front dir → IsTrue (is_name name) → taken_entry v dir (cm_stored vault.keys vault.threshold dir.key name) ≡ None
+    → KeepEach (cm_format vault) (cm_lawful vault texts) v ((cm_format vault).new_file v dir (cm_stored vault.keys vault.threshold dir.key name) bytes)
+new_file_keeps vault texts v front dir name bytes orderly leads named none = (
+  item_keeps (cm_format vault) (cm_lawful vault texts) v front dir name (new_file_edit (entry_at (cm_format vault) dir name) (cm_stored vault.keys vault.threshold dir.key name).full bytes)
       (opened_file (cm_format vault).content (Some bytes)) orderly new
       (entry_spares vault texts v front dir name (new_file_edit (entry_at (cm_format vault) dir name) (cm_stored vault.keys vault.threshold dir.key name).full bytes) new)
-      (file_arrives vault v dir name bytes (cm_stored vault.keys vault.threshold dir.key name).full named refl) clean
+      (file_arrives vault v dir name bytes (cm_stored vault.keys vault.threshold dir.key name).full named refl)
       (entry_place vault texts v front dir name (new_file_edit (entry_at (cm_format vault) dir name) (cm_stored vault.keys vault.threshold dir.key name).full bytes) new)
-      (file_whole vault v dir name bytes (cm_stored vault.keys vault.threshold dir.key name).full named refl)),
+      (file_whole vault v dir name bytes (cm_stored vault.keys vault.threshold dir.key name).full named refl),
   record {},
 )
   where
@@ -259,23 +265,23 @@ directory_whole vault texts u front dir name id new is_id ready apart alone = re
         )
 
 -- the content folder and the entry, where the folder of content folders is there
-clean_after_shelf : (vault : CmVault) (texts : CmTexts vault.keys) → CmFolders vault.keys → (w : View) (front : plain.Path) (dir : Directory) (name id : List ℕ)
-    → IsOrderly (cm_format vault) w → IsClean (cm_format vault) w → IsNew (cm_format vault) w front dir name (directory_at vault dir name id) → directory_id id ≡ Some id
+keeps_after_shelf : (vault : CmVault) (texts : CmTexts vault.keys) → CmFolders vault.keys → (w : View) (front : plain.Path) (dir : Directory) (name id : List ℕ)
+    → IsOrderly (cm_format vault) w → IsNew (cm_format vault) w front dir name (directory_at vault dir name id) → directory_id id ≡ Some id
     → w (shelf_named (cm_folder_of vault.keys id)) ≡ Folder → w (content_folder vault.keys id) ≡ NoEntry
-    → StaysClean (cm_format vault) w (directory_edit (content_folder vault.keys id) ∷ directory_at vault dir name id ∷ [])
-clean_after_shelf vault texts folders w front dir name id orderly clean new is_id shelf free = (
-  clean_then,
+    → KeepEach (cm_format vault) (cm_lawful vault texts) w (directory_edit (content_folder vault.keys id) ∷ directory_at vault dir name id ∷ [])
+keeps_after_shelf vault texts folders w front dir name id orderly new is_id shelf free = (
+  side_keeps (cm_format vault) (cm_lawful vault texts) w (directory_edit (content_folder vault.keys id)) orderly side
+      (folder_place vault texts folders w id) (λ path other x leads here. absurd (no_child vault texts w (content_folder vault.keys id) (λ z. cc) path other x leads here)),
   (
-    stays_clean (cm_format vault) (cm_lawful vault texts) (edited w (directory_edit (content_folder vault.keys id))) (directory_at vault dir name id)
-        (item_keeps (cm_format vault) (cm_lawful vault texts) (edited w (directory_edit (content_folder vault.keys id))) front dir name (directory_at vault dir name id) opens.Directory
+    item_keeps (cm_format vault) (cm_lawful vault texts) (edited w (directory_edit (content_folder vault.keys id))) front dir name (directory_at vault dir name id) opens.Directory
         (side_orderly (cm_format vault) (cm_lawful vault texts) w (directory_edit (content_folder vault.keys id)) orderly side) new_then
         (entry_spares vault texts (edited w (directory_edit (content_folder vault.keys id))) front dir name (directory_at vault dir name id) new_then)
-        (arrives_then vault texts (edited w (directory_edit (content_folder vault.keys id))) front dir name id new_then is_id (folder_ready vault w id) apart) clean_then
+        (arrives_then vault texts (edited w (directory_edit (content_folder vault.keys id))) front dir name id new_then is_id (folder_ready vault w id) apart)
         (entry_place vault texts (edited w (directory_edit (content_folder vault.keys id))) front dir name (directory_at vault dir name id) new_then)
         (directory_whole vault texts (edited w (directory_edit (content_folder vault.keys id))) front dir name id new_then is_id (folder_ready vault w id) apart
         (apart_on (cm_format vault) w (edited w (directory_edit (content_folder vault.keys id))) (content_folder vault.keys id)
         (side_looks (cm_format vault) (cm_lawful vault texts) w (directory_edit (content_folder vault.keys id)) orderly side)
-        (free_is_apart (cm_format vault) w (content_folder vault.keys id) free)))),
+        (free_is_apart (cm_format vault) w (content_folder vault.keys id) free))),
     record {},
   ),
 )
@@ -286,24 +292,20 @@ clean_after_shelf vault texts folders w front dir name id orderly clean new is_i
     apart : dir.folder ≢ content_folder vault.keys id
     apart = folder_apart vault texts w front dir id new.leads free
 
-    clean_then : IsClean (cm_format vault) (edited w (directory_edit (content_folder vault.keys id)))
-    clean_then = stays_clean (cm_format vault) (cm_lawful vault texts) w (directory_edit (content_folder vault.keys id))
-        (side_keeps (cm_format vault) (cm_lawful vault texts) w (directory_edit (content_folder vault.keys id)) orderly side clean
-        (folder_place vault texts folders w id) (λ path other x leads here. absurd (no_child vault texts w (content_folder vault.keys id) (λ z. cc) path other x leads here)))
-
     new_then : IsNew (cm_format vault) (edited w (directory_edit (content_folder vault.keys id))) front dir name (directory_at vault dir name id)
     new_then = new_after_side (cm_format vault) (cm_lawful vault texts) w (directory_edit (content_folder vault.keys id)) front dir name (directory_at vault dir name id) side new
 
-new_directory_clean : (vault : CmVault) (texts : CmTexts vault.keys) → CmFolders vault.keys → (v : View) (front : plain.Path) (dir : Directory) (name id : List ℕ)
-    → IsOrderly (cm_format vault) v → IsClean (cm_format vault) v → Leads (cm_format vault) v front dir → IsTrue (is_name name) → directory_id id ≡ Some id
+new_directory_keeps : (vault : CmVault) (texts : CmTexts vault.keys) → CmFolders vault.keys → (v : View) (front : plain.Path) (dir : Directory) (name id : List ℕ)
+    → IsOrderly (cm_format vault) v → Leads (cm_format vault) v front dir → IsTrue (is_name name) → directory_id id ≡ Some id
     → (cm_format vault).taken_for_directory v dir (cm_stored vault.keys vault.threshold dir.key name) id ≡ None
-    → StaysClean (cm_format vault) v ((cm_format vault).new_directory v dir (cm_stored vault.keys vault.threshold dir.key name) id)
-new_directory_clean vault texts folders v front dir name id orderly clean leads named is_id none =
-    by_shelf vault v dir name id (StaysClean (cm_format vault) v) none (clean_after_shelf vault texts folders v front dir name id orderly clean new is_id)
+    → KeepEach (cm_format vault) (cm_lawful vault texts) v ((cm_format vault).new_directory v dir (cm_stored vault.keys vault.threshold dir.key name) id)
+new_directory_keeps vault texts folders v front dir name id orderly leads named is_id none =
+    by_shelf vault v dir name id (KeepEach (cm_format vault) (cm_lawful vault texts) v) none (keeps_after_shelf vault texts folders v front dir name id orderly new is_id)
     (λ free. (
-      clean_shelf free,
-      clean_after_shelf vault texts folders (edited v (directory_edit (shelf_named (cm_folder_of vault.keys id)))) front dir name id
-          (side_orderly (cm_format vault) (cm_lawful vault texts) v (directory_edit (shelf_named (cm_folder_of vault.keys id))) orderly (side free)) (clean_shelf free)
+      side_keeps (cm_format vault) (cm_lawful vault texts) v (directory_edit (shelf_named (cm_folder_of vault.keys id))) orderly (side free) (shelf_place vault texts folders v id)
+          (λ path other x leads_too here. absurd (no_child vault texts v (shelf_named (cm_folder_of vault.keys id)) (λ z. cc) path other x leads_too here)),
+      keeps_after_shelf vault texts folders (edited v (directory_edit (shelf_named (cm_folder_of vault.keys id)))) front dir name id
+          (side_orderly (cm_format vault) (cm_lawful vault texts) v (directory_edit (shelf_named (cm_folder_of vault.keys id))) orderly (side free))
           (new_after_shelf vault texts v front dir name id new free) is_id (brought_there v (directory_edit (shelf_named (cm_folder_of vault.keys id)))) (folder_free vault v id),
     ))
   where
@@ -313,11 +315,5 @@ new_directory_clean vault texts folders v front dir name id orderly clean leads 
     side : v (shelf_named (cm_folder_of vault.keys id)) ≡ NoEntry → IsSide (cm_format vault) (cm_lawful vault texts) v (directory_edit (shelf_named (cm_folder_of vault.keys id)))
     side = shelf_side vault texts v front dir id (orderly_is_rooted (cm_format vault) v orderly) leads
 
-    clean_shelf : v (shelf_named (cm_folder_of vault.keys id)) ≡ NoEntry → IsClean (cm_format vault) (edited v (directory_edit (shelf_named (cm_folder_of vault.keys id))))
-    clean_shelf free = stays_clean (cm_format vault) (cm_lawful vault texts) v (directory_edit (shelf_named (cm_folder_of vault.keys id)))
-        (side_keeps (cm_format vault) (cm_lawful vault texts) v (directory_edit (shelf_named (cm_folder_of vault.keys id))) orderly
-        (shelf_side vault texts v front dir id (orderly_is_rooted (cm_format vault) v orderly) leads free) clean (shelf_place vault texts folders v id)
-        (λ path other x leads_too here. absurd (no_child vault texts v (shelf_named (cm_folder_of vault.keys id)) (λ z. cc) path other x leads_too here)))
-
-pub new_items_clean : (vault : CmVault) → CmTexts vault.keys → CmFolders vault.keys → NewItemsStayClean (cm_format vault)
-new_items_clean vault texts folders = record { file = new_file_clean vault texts; directory = new_directory_clean vault texts folders }
+pub cm_keeps : (vault : CmVault) (texts : CmTexts vault.keys) → CmFolders vault.keys → KeepsItems (cm_format vault) (cm_lawful vault texts)
+cm_keeps vault texts folders = record { file = new_file_keeps vault texts; directory = new_directory_keeps vault texts folders }

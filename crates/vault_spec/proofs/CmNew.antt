@@ -86,7 +86,7 @@ folder_there master vault text = brought_there (with_shelf (new_files master vau
 in_folder : (master vault text : List ℕ) (c : Part) → new_root master vault text (child (folder_named text) c) ≡ NoEntry
 in_folder master vault text c = brought (with_shelf (new_files master vault) text) (directory_edit (folder_named text)) (c ∷ [])
 
-empty_root : (vault : CmVault) → CmTexts vault.keys → (m w : List ℕ) → HasEmptyRoot (cm_format vault) (new_root m w (cm_folder_of vault.keys [])) (top_of vault)
+pub empty_root : (vault : CmVault) → CmTexts vault.keys → (m w : List ℕ) → HasEmptyRoot (cm_format vault) (new_root m w (cm_folder_of vault.keys [])) (top_of vault)
 empty_root vault texts m w = record {
   root = ap (λ x. Dir [] (entered x)) (folder_there m w (cm_folder_of vault.keys []));
   empty = λ n. none_stands (cm_format vault) (cm_lawful vault texts) (new_root m w (cm_folder_of vault.keys [])) (top_of vault) n (in_folder m w (cm_folder_of vault.keys []) (cm_stored vault.keys vault.threshold [] n).name);
@@ -96,7 +96,7 @@ empty_root vault texts m w = record {
     entered x = cond (is_folder x) (Ok (top_of vault)) (Err lacks.NoFolder)
 
 -- roles that no path but one has
-no_content_folder : (master vault text : List ℕ) (at : Path) → cm_role at (new_root master vault text at) ≡ ContentFolder → at ≡ folder_named text
+pub no_content_folder : (master vault text : List ℕ) (at : Path) → cm_role at (new_root master vault text at) ≡ ContentFolder → at ≡ folder_named text
 no_content_folder master vault text [] role = cc
 no_content_folder master vault text (x ∷ []) role = absurd (root_role (bytes_eq x top) (new_root master vault text (x ∷ [])) role)
   where

@@ -1,6 +1,7 @@
 -- Entries by their texts, in either format: a text of at most so many characters is the entry's name, and a longer one stands in the
 -- long-name file of an entry that is named by it.
-use Rattle.std.proofs.Common.{◌≡◌, ◌≢◌, ◌⊎◌, ℕ, true, false, List, cond, refl, sym, ap, ◌∙◌, inl, inr, Some, None, is_some, length, nat_le, if◌then◌else◌}
+use Rattle.std.proofs.Common.{◌≡◌, ◌≢◌, ◌⊎◌, ℕ, true, false, List, cond, refl, sym, ap, ◌∙◌, inl, inr, Some, None, is_some, length, nat_le, bytes_eq, if◌then◌else◌}
+use Rattle.std.proofs.lemmas.Slice.Eq.{bytes_eq-Decides}
 use Rattle.vault_names.specs.declared.entry.Stored.{Stored}
 
 abbrev pub short_entry : List ℕ → Stored
@@ -42,3 +43,10 @@ same_forms named limit text other apart apart_too e = by_forms (entry_is named l
     by_forms (inr a) (inr b) = ap (λ (s : Stored). is_some s.full) a ∙ sym (ap (λ (s : Stored). is_some s.full) b)
     by_forms (inl a) (inr b) = absurd (apart (ap (λ (s : Stored). s.name) (sym a) ∙ e ∙ ap (λ (s : Stored). s.name) b))
     by_forms (inr a) (inl b) = absurd (apart_too (ap (λ (s : Stored). s.name) (sym b) ∙ sym e ∙ ap (λ (s : Stored). s.name) a))
+
+-- texts that aren't equal are told apart
+pub differ : (a b : List ℕ) → a ≢ b → bytes_eq a b ≡ false
+differ a b apart = elim (bytes_eq a b) as (λ t. bytes_eq a b ≡ t → t ≡ false) [
+  | true ↦ λ e. absurd (apart ((bytes_eq-Decides a b).0 e))
+  | false ↦ λ e. refl
+] refl

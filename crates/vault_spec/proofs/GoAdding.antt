@@ -28,15 +28,9 @@ use Rattle.vault_spec.proofs.PathEnds.{child-both}
 use Rattle.vault_spec.proofs.Lawful.{SparesConfiguration}
 use Rattle.vault_spec.proofs.Places.{IsSide, brought, brought_there, arrived, IsNew, new_after_side, Arrives, SparesAll, leads_from_root, file_alone, file_folders, folder_folders}
 use Rattle.vault_spec.proofs.MadeItems.{HasOwnFolder, IsLast, IsMade, MakesItems}
-use Rattle.vault_spec.proofs.Entries.{long_entry, IsShortOrLong, entry_is}
+use Rattle.vault_spec.proofs.Entries.{differ, long_entry, IsShortOrLong, entry_is}
 use Rattle.vault_spec.proofs.GoNames.{GoTexts, entry_not_key, entry_not_full, full_not_key}
 use Rattle.vault_spec.proofs.GoVault.{go_lawful, is_go_key, key_is, text_plain, entry_spares_configuration}
-
-pub differ : (a b : List ℕ) → a ≢ b → bytes_eq a b ≡ false
-differ a b apart = elim (bytes_eq a b) as (λ t. bytes_eq a b ≡ t → t ≡ false) [
-  | true ↦ λ e. absurd (apart ((bytes_eq-Decides a b).0 e))
-  | false ↦ λ e. refl
-] refl
 
 -- a place in a reached folder spares what is there, where its name is neither a key file's nor that of the long-name file of what is there
 go_spares : (texts : GoTexts) (keys : GoKeys) (v : View) (dir : Directory) (x : Part) → key_file ≢ x
@@ -90,7 +84,7 @@ long_is s of long = by_form (entry_is long_name 255 of.text)
     by_form (inl short) = let none : is_some s.full ≡ false = ap (λ (t : Stored). is_some t.full) (of.is ∙ short) in cc
     by_form (inr is_long) = (of.text, of.is ∙ is_long)
 
-name_not_full : GoTexts → (s other : Stored) → IsOfText s → IsOfText other → is_some other.full ≡ true → full_name other.name ≢ s.name
+pub name_not_full : GoTexts → (s other : Stored) → IsOfText s → IsOfText other → is_some other.full ≡ true → full_name other.name ≢ s.name
 name_not_full texts s other of of_other long same =
     let is_long : (text : List ℕ) × (other ≡ long_entry long_name text) = long_is other of_other long in
     entry_not_full of.text is_long.0 texts of.plain

@@ -1,4 +1,4 @@
--- A new item of gocryptfs keeps a vault clean at each of its edits.
+-- Each edit of a new item of gocryptfs keeps a vault clean.
 use Rattle.std.proofs.Common.{◌≡◌, ◌≢◌, ℕ, Bool, true, false, ◌||◌, List, [], ◌∷◌, ◌++◌, Ok, Err, cond, refl, sym, ap, ◌∙◌, subst, Some, None, IsTrue, is_some, bytes_eq}
 use Rattle.std.proofs.lemmas.Slice.Eq.{bytes_eq-Decides}
 use Rattle.folder_spec.specs.Path.{Part, Path, child}
@@ -15,13 +15,12 @@ use Rattle.vault_spec.specs.Standing.{Dir, entry_at, holds_full, standing_in}
 use Rattle.vault_spec.specs.Opens.{Opened, opened_file}
 use Rattle.vault_spec.specs.Opens as opens
 use Rattle.vault_spec.specs.Reached.{Leads}
-use Rattle.vault_spec.specs.Findings.{Belongs, IsClean}
+use Rattle.vault_spec.specs.Findings.{Belongs}
 use Rattle.vault_spec.specs.Alike.{IsOrderly}
-use Rattle.vault_spec.specs.Adding.{StaysClean, NewItemsStayClean}
 use Rattle.vault_spec.proofs.Entries.{long_entry}
 use Rattle.vault_spec.proofs.PathEnds.{child-both}
 use Rattle.vault_spec.proofs.Places.{brought_there, IsSide, side_orderly, IsNew, new_after_side}
-use Rattle.vault_spec.proofs.StaysClean.{IsBare, IsSideFile, IsApart, stays_clean}
+use Rattle.vault_spec.proofs.StaysClean.{IsBare, IsSideFile, IsApart, KeepsClean, KeepEach, KeepsItems}
 use Rattle.vault_spec.proofs.Keeping.{free_is_apart, HasPlace, side_keeps, BringsWhole, item_keeps, file_brings}
 use Rattle.vault_spec.proofs.GoNames.{GoTexts, full_is_full, name_is_not_full}
 use Rattle.vault_spec.proofs.GoVault.{go_lawful}
@@ -33,6 +32,7 @@ go_place keys v e = record {
   inner = λ path dir name x leads here long item there extra. cc;
   role = λ rest extra. cc;
   empty = λ rest x is. cc;
+  alone = λ rest is. cc;
   folder = λ at x is here. cc;
 }
 
@@ -71,37 +71,34 @@ abbrev WholeAnywhere : GoKeys → Directory → List ℕ → Edit → Type 0
 WholeAnywhere keys dir name e = (u : View) (front : plain.Path) → IsNew (go_format keys) u front dir name e
     → holds_full (go_format keys) (edited u e) dir (stored keys.names dir.key name) ≡ true → BringsWhole (go_format keys) u dir name e
 
--- an item that is new keeps the vault clean
-new_clean : (texts : GoTexts) (keys : GoKeys) (v : View) (front : plain.Path) (dir : Directory) (name : List ℕ) (e : Edit) (item : Opened)
-    → IsOrderly (go_format keys) v → IsClean (go_format keys) v → Leads (go_format keys) v front dir → IsTrue (is_name name) → entry_at (go_format keys) dir name ≡ e.at
+-- each edit of an item that is new comes so
+new_keeps : (texts : GoTexts) (keys : GoKeys) (v : View) (front : plain.Path) (dir : Directory) (name : List ℕ) (e : Edit) (item : Opened)
+    → IsOrderly (go_format keys) v → Leads (go_format keys) v front dir → IsTrue (is_name name) → entry_at (go_format keys) dir name ≡ e.at
     → ArrivesAnywhere keys dir name e item → WholeAnywhere keys dir name e → go_taken v dir (stored keys.names dir.key name) ≡ None
-    → StaysClean (go_format keys) v (full_edits v dir (stored keys.names dir.key name) ++ e ∷ [])
-new_clean texts keys v front dir name e item orderly clean leads named place arrives whole none =
-    by_edits keys v dir name e (StaysClean (go_format keys) v) none (λ held. (last v orderly new clean (still_held keys v front dir name e new held), record {})) in_turn
+    → KeepEach (go_format keys) (go_lawful texts keys) v (full_edits v dir (stored keys.names dir.key name) ++ e ∷ [])
+new_keeps texts keys v front dir name e item orderly leads named place arrives whole none =
+    by_edits keys v dir name e (KeepEach (go_format keys) (go_lawful texts keys) v) none (λ held. (last v orderly new (still_held keys v front dir name e new held), record {})) in_turn
   where
     new : IsNew (go_format keys) v front dir name e
     new = is_new texts keys v front dir name e orderly.folders leads named place none
 
-    last : (u : View) → IsOrderly (go_format keys) u → IsNew (go_format keys) u front dir name e → IsClean (go_format keys) u → holds_full (go_format keys) (edited u e) dir (stored keys.names dir.key name) ≡ true
-        → IsClean (go_format keys) (edited u e)
-    last u orderly_so is_so clean held = stays_clean (go_format keys) (go_lawful texts keys) u e
-        (item_keeps (go_format keys) (go_lawful texts keys) u front dir name e item orderly_so is_so (entry_spares texts keys u front dir name e is_so) (arrives u held) clean (go_place keys u e) (whole u front is_so held))
+    last : (u : View) → IsOrderly (go_format keys) u → IsNew (go_format keys) u front dir name e → holds_full (go_format keys) (edited u e) dir (stored keys.names dir.key name) ≡ true
+        → KeepsClean (go_format keys) (go_lawful texts keys) u e
+    last u orderly_so is_so held =
+        item_keeps (go_format keys) (go_lawful texts keys) u front dir name e item orderly_so is_so (entry_spares texts keys u front dir name e is_so) (arrives u held) (go_place keys u e) (whole u front is_so held)
 
     in_turn : (text : List ℕ) → (stored keys.names dir.key name).full ≡ Some text → v (full_place dir (stored keys.names dir.key name)) ≡ NoEntry
-        → StaysClean (go_format keys) v (file_edit (full_place dir (stored keys.names dir.key name)) text ∷ e ∷ [])
+        → KeepEach (go_format keys) (go_lawful texts keys) v (file_edit (full_place dir (stored keys.names dir.key name)) text ∷ e ∷ [])
     in_turn text is free =
         let side : IsSide (go_format keys) (go_lawful texts keys) v (file_edit (full_place dir (stored keys.names dir.key name)) text)
         = full_side texts keys v front dir name e text new is free in
-        let clean_then : IsClean (go_format keys) (edited v (file_edit (full_place dir (stored keys.names dir.key name)) text))
-        = stays_clean (go_format keys) (go_lawful texts keys) v (file_edit (full_place dir (stored keys.names dir.key name)) text)
-        (side_keeps (go_format keys) (go_lawful texts keys) v (file_edit (full_place dir (stored keys.names dir.key name)) text) orderly side clean
-        (go_place keys v (file_edit (full_place dir (stored keys.names dir.key name)) text)) (placed text is)) in
         let new_then : IsNew (go_format keys) (edited v (file_edit (full_place dir (stored keys.names dir.key name)) text)) front dir name e
         = new_after_side (go_format keys) (go_lawful texts keys) v (file_edit (full_place dir (stored keys.names dir.key name)) text) front dir name e side new in (
-          clean_then,
+          side_keeps (go_format keys) (go_lawful texts keys) v (file_edit (full_place dir (stored keys.names dir.key name)) text) orderly side
+              (go_place keys v (file_edit (full_place dir (stored keys.names dir.key name)) text)) (placed text is),
           (
             last (edited v (file_edit (full_place dir (stored keys.names dir.key name)) text))
-                (side_orderly (go_format keys) (go_lawful texts keys) v (file_edit (full_place dir (stored keys.names dir.key name)) text) orderly side) new_then clean_then
+                (side_orderly (go_format keys) (go_lawful texts keys) v (file_edit (full_place dir (stored keys.names dir.key name)) text) orderly side) new_then
                 (still_held keys (edited v (file_edit (full_place dir (stored keys.names dir.key name)) text)) front dir name e new_then
                 (now_held keys v dir name text (file_edit (full_place dir (stored keys.names dir.key name)) text) is refl refl)),
             record {},
@@ -119,7 +116,7 @@ new_clean texts keys v front dir name e item orderly clean leads named place arr
             (subst (IsSideFile (go_format keys) (edited v (file_edit (full_place dir (stored keys.names dir.key name)) text)) dir) (sym both.1)
             (full_belongs texts keys v front dir name e text new is))
 
-name_not_full : (texts : GoTexts) (keys : GoKeys) (u : View) (front : plain.Path) (dir : Directory) (name : List ℕ) (e : Edit) → IsNew (go_format keys) u front dir name e
+pub name_not_full : (texts : GoTexts) (keys : GoKeys) (u : View) (front : plain.Path) (dir : Directory) (name : List ℕ) (e : Edit) → IsNew (go_format keys) u front dir name e
     → is_full_name (stored keys.names dir.key name).name ≡ false
 name_not_full texts keys u front dir name e new =
     let of : IsOfText (stored keys.names dir.key name) = of_text texts keys u front dir name new.leads new.named in
@@ -176,14 +173,14 @@ directory_whole texts keys dir name key e made is_key u front new held = record 
           subst (IsBare (go_format keys) (edited u e)) one bare,
         )
 
-pub new_items_clean : GoTexts → (keys : GoKeys) → NewItemsStayClean (go_format keys)
-new_items_clean texts keys = record {
-  file = λ v front dir name bytes orderly clean leads named none.
-      new_clean texts keys v front dir name (file_edit (entry_at (go_format keys) dir name) bytes) (opened_file (go_format keys).content (Some bytes)) orderly clean leads named refl
+pub go_keeps : (texts : GoTexts) (keys : GoKeys) → KeepsItems (go_format keys) (go_lawful texts keys)
+go_keeps texts keys = record {
+  file = λ v front dir name bytes orderly leads named none.
+      new_keeps texts keys v front dir name (file_edit (entry_at (go_format keys) dir name) bytes) (opened_file (go_format keys).content (Some bytes)) orderly leads named refl
       (λ u held. file_arrives keys u dir name bytes (file_edit (entry_at (go_format keys) dir name) bytes) named refl refl held)
       (file_whole texts keys dir name bytes (file_edit (entry_at (go_format keys) dir name) bytes) refl) none;
-  directory = λ v front dir name key orderly clean leads named is_key none.
-      new_clean texts keys v front dir name (folder_edit (entry_at (go_format keys) dir name) ((key_file, key) ∷ [])) opens.Directory orderly clean leads named refl
+  directory = λ v front dir name key orderly leads named is_key none.
+      new_keeps texts keys v front dir name (folder_edit (entry_at (go_format keys) dir name) ((key_file, key) ∷ [])) opens.Directory orderly leads named refl
       (λ u held. directory_arrives texts keys u dir name key (folder_edit (entry_at (go_format keys) dir name) ((key_file, key) ∷ [])) named refl refl is_key held)
       (directory_whole texts keys dir name key (folder_edit (entry_at (go_format keys) dir name) ((key_file, key) ∷ [])) refl is_key) none;
 }

@@ -1,5 +1,5 @@
 -- What a gocryptfs vault's format needs of stored names, from the laws of texts.
-use Rattle.std.proofs.Common.{◌≡◌, ◌≢◌, ℕ, ◌+◌, ◌-◌, ◌⊎◌, Bool, true, false, List, ◌++◌, refl, sym, ap, ◌∙◌, inl, inr, IsTrue, length, take, codes, arith, length-append, drop, ◌&&◌}
+use Rattle.std.proofs.Common.{◌≡◌, ◌≢◌, ℕ, ◌+◌, ◌-◌, ◌⊎◌, Bool, true, false, List, ◌++◌, refl, sym, ap, ◌∙◌, inl, inr, IsTrue, length, take, codes, arith, length-append, drop, ◌&&◌, ◌||◌, [], ◌∷◌, bytes_eq}
 use Rattle.std.specs.List.{list_all}
 use Rattle.std.proofs.lemmas.List.{take-append-drop, take-append-le}
 use Rattle.std.proofs.Math.Seq.{drop-append_seam, drop-append-add}
@@ -9,10 +9,11 @@ use Rattle.json_fields.specs.Base64.{is_base64url}
 use Rattle.plain_tree.specs.Names.{is_name}
 use Rattle.vault_names.specs.Gocryptfs.{go_text, long_name, entry_of, IsTextOf}
 use Rattle.vault_names.specs.declared.entry.Stored.{Stored}
-use Rattle.vault_spec.specs.RootFiles.{has_ending}
+use Rattle.folder_spec.specs.Path.{Path}
+use Rattle.vault_spec.specs.RootFiles.{has_ending, is_root_file}
 use Rattle.vault_spec.proofs.ByteKeys.{front_plain, right_plain}
-use Rattle.vault_spec.proofs.Entries.{IsShortOrLong, entry_is}
-use Rattle.vault_spec.specs.Gocryptfs.{key_file, full_name, has_long_form, is_full_name}
+use Rattle.vault_spec.proofs.Entries.{differ, IsShortOrLong, entry_is}
+use Rattle.vault_spec.specs.Gocryptfs.{key_file, full_name, has_long_form, is_full_name, is_fixed_name}
 
 pub record GoTexts : Type 0 where
   pub one : (key iv text name other : List ℕ) → IsBlock iv → IsTextOf key iv name text → IsTextOf key iv other text → name ≡ other
@@ -88,14 +89,40 @@ full_is_full text texts = ap (λ b. b && has_ending (codes ".name") (full_name (
     ending = (bytes_eq-Decides (codes ".name") (drop (length (full_name (long_name text)) - 5) (full_name (long_name text)))).1
         (sym (ap (λ n. drop n (full_name (long_name text))) whole ∙ drop-append_seam (long_name text) (codes ".name")))
 
+not_so : (b : Bool) → (b ≡ true → ⊥) → b ≡ false
+not_so true never = absurd (never refl)
+not_so false never = refl
+
+-- what has only such characters has no other ending
+ends_plain : (text ending : List ℕ) → IsTrue (list_all is_base64url text) → list_all is_base64url ending ≡ false → has_ending ending text ≡ false
+ends_plain text ending plain dotted = not_so (has_ending ending text) (λ is.
+    let same : ending ≡ drop (length text - length ending) text = (bytes_eq-Decides ending (drop (length text - length ending) text)).0 is in
+    let rest : IsTrue (list_all is_base64url (drop (length text - length ending) text))
+    = right_plain is_base64url (take (length text - length ending) text) (drop (length text - length ending) text) (ap (list_all is_base64url) (take-append-drop (length text - length ending) text) ∙ plain) in
+    let clash : true ≡ false = sym rest ∙ ap (list_all is_base64url) (sym same) ∙ dotted in cc)
+
+-- nor has a long entry's name, behind its first 19 characters
+long_ends_plain : (text : List ℕ) → GoTexts → (ending : List ℕ) (before : ℕ) → length ending + before ≡ 43 → list_all is_base64url ending ≡ false → has_ending ending (long_name text) ≡ false
+long_ends_plain text texts ending before sizes dotted = not_so (has_ending ending (long_name text)) (λ is.
+    let same : ending ≡ drop (length (long_name text) - length ending) (long_name text)
+    = (bytes_eq-Decides ending (drop (length (long_name text) - length ending) (long_name text))).0 is in
+    let plain : IsTrue (list_all is_base64url (drop before (drop 19 (long_name text))))
+    = right_plain is_base64url (take before (drop 19 (long_name text))) (drop before (drop 19 (long_name text)))
+    (ap (list_all is_base64url) (take-append-drop before (drop 19 (long_name text))) ∙ texts.long_rest text) in
+    let clash : true ≡ false = sym plain ∙ ap (list_all is_base64url) (sym (same ∙ behind)) ∙ dotted in cc)
+  where
+    behind : drop (length (long_name text) - length ending) (long_name text) ≡ drop before (drop 19 (long_name text))
+    behind =
+        let size : length (long_name text) ≡ 62 = texts.long_size text in
+        let front : length (take 19 (long_name text)) ≡ 19 = ap length (texts.long_prefix text) in
+        let place : length (long_name text) - length ending ≡ length (take 19 (long_name text)) + before = omega (arith, size, front, sizes) in
+        ap (λ n. drop n (long_name text)) place ∙ ap (drop (length (take 19 (long_name text)) + before)) (sym (take-append-drop 19 (long_name text)))
+        ∙ drop-append-add (take 19 (long_name text)) (drop 19 (long_name text)) before
+
 -- no entry of a name has the name of a long-name file
 pub name_is_not_full : (text : List ℕ) → GoTexts → IsTrue (list_all is_base64url text) → is_full_name (entry_of text).name ≡ false
 name_is_not_full text texts plain = by_form (entry_is long_name 255 text)
   where
-    not_so : (b : Bool) → (b ≡ true → ⊥) → b ≡ false
-    not_so true never = absurd (never refl)
-    not_so false never = refl
-
     both : (a b : Bool) → (a ≡ false) ⊎ (b ≡ false) → (a && b) ≡ false
     both true b (inl is) = cc
     both true b (inr is) = is
@@ -109,26 +136,39 @@ name_is_not_full text texts plain = by_form (entry_is long_name 255 text)
         let dotted : IsTrue (list_all is_base64url (codes "gocryptfs.longname.")) = ap (list_all is_base64url) same ∙ front in
         cc
 
-    behind : drop 57 (long_name text) ≡ drop 38 (drop 19 (long_name text))
-    behind =
-        let size : length (long_name text) ≡ 62 = texts.long_size text in
-        let front : length (take 19 (long_name text)) ≡ 19 = ap length (texts.long_prefix text) in
-        ap (drop 57) (sym (take-append-drop 19 (long_name text))) ∙ ap (λ n. drop n (take 19 (long_name text) ++ drop 19 (long_name text))) (ap (λ n. n + 38) (sym front))
-        ∙ drop-append-add (take 19 (long_name text)) (drop 19 (long_name text)) 38
-
-    rest_plain : IsTrue (list_all is_base64url (drop 38 (drop 19 (long_name text))))
-    rest_plain = right_plain is_base64url (take 38 (drop 19 (long_name text))) (drop 38 (drop 19 (long_name text)))
-        (ap (list_all is_base64url) (take-append-drop 38 (drop 19 (long_name text))) ∙ texts.long_rest text)
-
     no_ending : has_ending (codes ".name") (long_name text) ≡ true → ⊥
     no_ending is =
-        let same : codes ".name" ≡ drop (length (long_name text) - 5) (long_name text) = (bytes_eq-Decides (codes ".name") (drop (length (long_name text) - 5) (long_name text))).0 is in
-        let size : length (long_name text) - 5 ≡ 57 = ap (λ n. n - 5) (texts.long_size text) in
-        let dotted : IsTrue (list_all is_base64url (codes ".name"))
-        = ap (list_all is_base64url) (same ∙ ap (λ n. drop n (long_name text)) size ∙ behind) ∙ rest_plain in
-        cc
+        let none : has_ending (codes ".name") (long_name text) ≡ false = long_ends_plain text texts (codes ".name") 38 refl refl in
+        let clash : true ≡ false = sym is ∙ none in cc
 
     by_form : IsShortOrLong long_name 255 text → is_full_name (entry_of text).name ≡ false
     by_form (inl short) = ap (λ (s : Stored). is_full_name s.name) short ∙ both (has_long_form text) (has_ending (codes ".name") text) (inl (not_so (has_long_form text) no_form))
     by_form (inr long) = ap (λ (s : Stored). is_full_name s.name) long
         ∙ both (has_long_form (long_name text)) (has_ending (codes ".name") (long_name text)) (inr (not_so (has_ending (codes ".name") (long_name text)) no_ending))
+
+-- no entry of a name has the ending of a file of the vault
+entry_ends : (text : List ℕ) → GoTexts → IsTrue (list_all is_base64url text) → (ending : List ℕ) (before : ℕ) → length ending + before ≡ 43 → list_all is_base64url ending ≡ false
+    → has_ending ending (entry_of text).name ≡ false
+entry_ends text texts plain ending before sizes dotted = by_form (entry_is long_name 255 text)
+  where
+    by_form : IsShortOrLong long_name 255 text → has_ending ending (entry_of text).name ≡ false
+    by_form (inl short) = ap (λ (s : Stored). has_ending ending s.name) short ∙ ends_plain text ending plain dotted
+    by_form (inr long) = ap (λ (s : Stored). has_ending ending s.name) long ∙ long_ends_plain text texts ending before sizes dotted
+
+neither : (a b : Bool) → a ≡ false → b ≡ false → (a || b) ≡ false
+neither a b one two = ap (λ x. x || b) one ∙ two
+
+not_fixed_by : (folder : Path) (name : List ℕ) → name ≢ key_file → name ≢ codes "gocryptfs.conf" → name ≢ codes "gocryptfs.conf.bak" → has_ending (codes ".rtf") name ≡ false → has_ending (codes ".bkup") name ≡ false
+    → is_fixed_name folder name ≡ false
+not_fixed_by [] name key conf copy readme backup =
+    neither (bytes_eq name key_file || bytes_eq name (codes "gocryptfs.conf")) (is_root_file name)
+    (neither (bytes_eq name key_file) (bytes_eq name (codes "gocryptfs.conf")) (differ name key_file key) (differ name (codes "gocryptfs.conf") conf))
+    (neither (bytes_eq name (codes "gocryptfs.conf.bak") || has_ending (codes ".rtf") name) (has_ending (codes ".bkup") name)
+    (neither (bytes_eq name (codes "gocryptfs.conf.bak")) (has_ending (codes ".rtf") name) (differ name (codes "gocryptfs.conf.bak") copy) readme) backup)
+not_fixed_by (a ∷ folder) name key conf copy readme backup = differ name key_file key
+
+-- so it is no file of the vault
+pub entry_not_fixed : (folder : Path) (text : List ℕ) → GoTexts → IsTrue (list_all is_base64url text) → is_fixed_name folder (entry_of text).name ≡ false
+entry_not_fixed folder text texts plain =
+    not_fixed_by folder (entry_of text).name (entry_not_key text texts plain) (entry_not (codes "gocryptfs.conf") refl (λ size. cc) text texts plain)
+    (entry_not (codes "gocryptfs.conf.bak") refl (λ size. cc) text texts plain) (entry_ends text texts plain (codes ".rtf") 39 refl refl) (entry_ends text texts plain (codes ".bkup") 38 refl refl)

@@ -24,7 +24,8 @@ use Rattle.vault_spec.proofs.StaysClean.{nothing_at}
 use Rattle.vault_spec.proofs.EmptyRoots.{HasEmptyRoot, root_opens, nothing_opens, only_top}
 use Rattle.vault_spec.proofs.GoNames.{GoTexts, entry_not, entry_not_key}
 use Rattle.vault_spec.proofs.GoVault.{go_lawful, key_is}
-use Rattle.vault_spec.proofs.GoAdding.{IsOfText, text_under, differ}
+use Rattle.vault_spec.proofs.Entries.{differ}
+use Rattle.vault_spec.proofs.GoAdding.{IsOfText, text_under}
 
 -- the root of a new vault, with a configuration and a key
 abbrev pub new_root : List ℕ → List ℕ → View
@@ -46,7 +47,7 @@ no_entry texts keys text key is_key n named =
     ap (λ b. cond b (FileOf text) (cond (bytes_eq key_file (stored keys.names key n).name) (FileOf key) NoEntry)) (differ (codes "gocryptfs.conf") (stored keys.names key n).name conf)
     ∙ ap (λ b. cond b (FileOf key) NoEntry) (differ key_file (stored keys.names key n).name no_key)
 
-empty_root : (texts : GoTexts) (keys : GoKeys) (text key : List ℕ) → directory_key key ≡ Some key → HasEmptyRoot (go_format keys) (new_root text key) (top_of key)
+pub empty_root : (texts : GoTexts) (keys : GoKeys) (text key : List ℕ) → directory_key key ≡ Some key → HasEmptyRoot (go_format keys) (new_root text key) (top_of key)
 empty_root texts keys text key is_key = record {
   root = ap (λ k. Dir [] (directory_with (go_format keys) (new_root text key) [] k)) is_key;
   empty = λ n. by_name n (is_name n) refl;
@@ -57,7 +58,7 @@ empty_root texts keys text key is_key = record {
     by_name n true named = none_stands (go_format keys) (go_lawful texts keys) (new_root text key) (top_of key) n (no_entry texts keys text key is_key n named)
 
 -- what is there belongs
-belongs : (keys : GoKeys) (text key : List ℕ) (x : Part) → new_root text key (x ∷ []) ≢ NoEntry → Belongs (go_format keys) (new_root text key) (top_of key) x × (is_full_name x ≡ false)
+pub belongs : (keys : GoKeys) (text key : List ℕ) (x : Part) → new_root text key (x ∷ []) ≢ NoEntry → Belongs (go_format keys) (new_root text key) (top_of key) x × (is_full_name x ≡ false)
 belongs keys text key x there = by_conf (bytes_eq (codes "gocryptfs.conf") x) refl
   where
     conf_there : Belongs (go_format keys) (new_root text key) (top_of key) (codes "gocryptfs.conf") × (is_full_name (codes "gocryptfs.conf") ≡ false)

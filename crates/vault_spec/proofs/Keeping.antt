@@ -13,7 +13,6 @@ use Rattle.vault_spec.specs.declared.Lack.{Lack}
 use Rattle.vault_spec.specs.Format.{Format, Directory, Item, FileItem, NoItem, ContentFolder, Extra}
 use Rattle.vault_spec.specs.Standing.{File, Dir, standing_of, root_of, entry_at, holds_full, item_at, standing_in, standing}
 use Rattle.vault_spec.specs.Reached.{Leads}
-use Rattle.vault_spec.specs.Findings.{IsClean}
 use Rattle.vault_spec.specs.Alike.{IsNoItem, AreAlike, LooksAlike, GainsItem, IsOrderly}
 use Rattle.vault_spec.specs.Opens.{Opened}
 use Rattle.vault_spec.proofs.Lawful.{IsLawful}
@@ -44,13 +43,13 @@ pub record HasPlace (f : Format) (v : View) (e : Edit) : Type 0 where
       → (long : Bool) (item : Item) (there : Found) → f.inner_role long item x there ≢ Extra
   pub role : (rest : Path) → f.role (e.at ++ rest) (edited v e (e.at ++ rest)) ≢ Extra
   pub empty : (rest : Path) (x : Part) → f.role (e.at ++ rest) (edited v e (e.at ++ rest)) ≡ ContentFolder → edited v e (child (e.at ++ rest) x) ≡ NoEntry
+  pub alone : (rest : Path) → f.role (e.at ++ rest) (edited v e (e.at ++ rest)) ≡ ContentFolder → rest ≡ []
   pub folder : (at : Path) (x : Part) → f.role at (v at) ≡ ContentFolder → child at x ≡ e.at → (path : plain.Path) × (dir : Directory) × Leads f v path dir × (dir.folder ≡ at)
 
-pub side_keeps : (f : Format) (lawful : IsLawful f) (v : View) (e : Edit) → IsOrderly f v → IsSide f lawful v e → IsClean f v → HasPlace f v e
+pub side_keeps : (f : Format) (lawful : IsLawful f) (v : View) (e : Edit) → IsOrderly f v → IsSide f lawful v e → HasPlace f v e
     → ((path : plain.Path) (dir : Directory) (x : Part) → Leads f v path dir → child dir.folder x ≡ e.at → IsSideFile f (edited v e) dir x) → KeepsClean f lawful v e
-side_keeps f lawful v e orderly side clean has placed = record {
+side_keeps f lawful v e orderly side has placed = record {
   orderly = orderly;
-  clean = clean;
   free = side.free;
   spares = side.spares;
   root = looks.root;
@@ -69,6 +68,7 @@ side_keeps f lawful v e orderly side clean has placed = record {
   inner = has.inner;
   role_new = has.role;
   folder_new = has.empty;
+  folder_at = has.alone;
   folder_old = has.folder;
 }
   where
@@ -87,10 +87,9 @@ pub record BringsWhole (f : Format) (v : View) (dir : Directory) (name : List �
   pub entered : (at : Path) (d : Directory) → standing_in f (edited v e) dir name ≡ Dir at (Ok d) → (at ≡ e.at) × IsApart f v d.folder × IsBare f (edited v e) d
 
 pub item_keeps : (f : Format) (lawful : IsLawful f) (v : View) (front : plain.Path) (dir : Directory) (name : List ℕ) (e : Edit) (opened : Opened)
-    → IsOrderly f v → IsNew f v front dir name e → SparesAll f lawful v e.at → Arrives f v dir name e opened → IsClean f v → HasPlace f v e → BringsWhole f v dir name e → KeepsClean f lawful v e
-item_keeps f lawful v front dir name e opened orderly new spares arrives clean has brings = record {
+    → IsOrderly f v → IsNew f v front dir name e → SparesAll f lawful v e.at → Arrives f v dir name e opened → HasPlace f v e → BringsWhole f v dir name e → KeepsClean f lawful v e
+item_keeps f lawful v front dir name e opened orderly new spares arrives has brings = record {
   orderly = orderly;
-  clean = clean;
   free = ap v (sym new.place) ∙ new.free;
   spares = spares;
   root = gains.root;
@@ -103,6 +102,7 @@ item_keeps f lawful v front dir name e opened orderly new spares arrives clean h
   inner = has.inner;
   role_new = has.role;
   folder_new = has.empty;
+  folder_at = has.alone;
   folder_old = has.folder;
 }
   where

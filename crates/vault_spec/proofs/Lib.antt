@@ -41,3 +41,9 @@ pub mod Endings
 mod Plans
 mod VaultPlans
 mod Accounted
+mod Tidying
+mod GoTidy
+mod CmTidy
+mod FreePlaces
+mod GoFree
+mod CmFree

@@ -23,14 +23,14 @@ use Rattle.vault_spec.proofs.Clean.{stands_as}
 use Rattle.vault_spec.proofs.Replacing.{IsReplaced, replaced_elsewhere, item_same, key_same, full_same, step_same, root_same, stands_same, where_file_stands}
 
 -- what a file's bytes tell nothing of stays
-by_file : (f : Format) (lawful : IsLawful f) (v : View) (at : Path) (old bytes : List ℕ) → IsReplaced f lawful v at old → {A : Type 0} (tells : Found → A) → ((a b : List ℕ) → tells (FileOf a) ≡ tells (FileOf b))
+pub by_file : (f : Format) (lawful : IsLawful f) (v : View) (at : Path) (old bytes : List ℕ) → IsReplaced f lawful v at old → {A : Type 0} (tells : Found → A) → ((a b : List ℕ) → tells (FileOf a) ≡ tells (FileOf b))
     → (q : Path) → tells (edited v (file_edit at bytes) q) ≡ tells (v q)
 by_file f lawful v at old bytes r tells alike q = elim (one_or_not q at) [
   | inl here ↦ ap (λ p. tells (edited v (file_edit at bytes) p)) here ∙ ap tells (brought_there v (file_edit at bytes)) ∙ alike bytes old ∙ ap tells (sym r.file) ∙ ap (λ p. tells (v p)) (sym here)
   | inr apart ↦ ap tells (replaced_elsewhere f lawful v at old bytes r q apart.0)
 ]
 
-file_back : (f : Format) (lawful : IsLawful f) (v : View) (at : Path) (old bytes : List ℕ) → IsReplaced f lawful v at old → (q : Path) → IsFileAt (edited v (file_edit at bytes)) q → IsFileAt v q
+pub file_back : (f : Format) (lawful : IsLawful f) (v : View) (at : Path) (old bytes : List ℕ) → IsReplaced f lawful v at old → (q : Path) → IsFileAt (edited v (file_edit at bytes)) q → IsFileAt v q
 file_back f lawful v at old bytes r q file = elim (one_or_not q at) [
   | inl here ↦ (old, ap v here ∙ r.file)
   | inr apart ↦ (file.0, sym (replaced_elsewhere f lawful v at old bytes r q apart.0) ∙ file.1)
@@ -51,10 +51,10 @@ there_back f lawful v at old bytes r q there none = elim (one_or_not q at) [
 pub led_back : (f : Format) (lawful : IsLawful f) (v : View) (at : Path) (old bytes : List ℕ) → IsReplaced f lawful v at old → (path : plain.Path) (dir : Directory) → Leads f (edited v (file_edit at bytes)) path dir → Leads f v path dir
 led_back f lawful v at old bytes r path dir leads = record { at = leads.at; stands = stands_same f lawful v at old bytes r path ∙ leads.stands }
 
-led_on : (f : Format) (lawful : IsLawful f) (v : View) (at : Path) (old bytes : List ℕ) → IsReplaced f lawful v at old → (path : plain.Path) (dir : Directory) → Leads f v path dir → Leads f (edited v (file_edit at bytes)) path dir
+pub led_on : (f : Format) (lawful : IsLawful f) (v : View) (at : Path) (old bytes : List ℕ) → IsReplaced f lawful v at old → (path : plain.Path) (dir : Directory) → Leads f v path dir → Leads f (edited v (file_edit at bytes)) path dir
 led_on f lawful v at old bytes r path dir leads = record { at = leads.at; stands = sym (stands_same f lawful v at old bytes r path) ∙ leads.stands }
 
-entry_back : (f : Format) (lawful : IsLawful f) (v : View) (at : Path) (old bytes : List ℕ) → IsReplaced f lawful v at old → (path : plain.Path) (dir : Directory) → Leads f v path dir
+pub entry_back : (f : Format) (lawful : IsLawful f) (v : View) (at : Path) (old bytes : List ℕ) → IsReplaced f lawful v at old → (path : plain.Path) (dir : Directory) → Leads f v path dir
     → (x : Part) (name : List ℕ) → IsEntryOf f (edited v (file_edit at bytes)) dir x name → IsEntryOf f v dir x name
 entry_back f lawful v at old bytes r path dir leads x name of = record { named = of.named; stores = of.stores; full = full_same f lawful v at old bytes r path dir name leads of.named ∙ of.full }
 

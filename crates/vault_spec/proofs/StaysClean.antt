@@ -1,5 +1,5 @@
 -- A clean vault stays clean where something comes to stand at a free place, from a few facts on that.
-use Rattle.std.proofs.Common.{◌≡◌, ◌≢◌, ◌⊎◌, ℕ, Bool, true, false, List, ◌++◌, Ok, Err, Result, refl, sym, ap, ◌∙◌, inl, inr, subst, append-nil, Some, None, Option, is_some}
+use Rattle.std.proofs.Common.{◌≡◌, ◌≢◌, ◌⊎◌, ℕ, Bool, true, false, List, [], ◌∷◌, ◌++◌, Ok, Err, Result, refl, sym, ap, ◌∙◌, inl, inr, subst, append-nil, Some, None, Option, IsTrue, is_some}
 use Rattle.folder_spec.specs.Path.{Part, Path, child}
 use Rattle.folder_spec.specs.View.{Found, NoEntry, Folder, FileOf, View}
 use Rattle.folder_spec.specs.Seen.{under}
@@ -17,6 +17,7 @@ use Rattle.vault_spec.specs.Reached.{Leads}
 use Rattle.vault_spec.specs.Findings.{IsFileAt, IsEntryOf, Belongs, IsUnnamed, IsDirectoryItem, IsLocked, IsFullTextOf, IsOrphanName, IsTwice, IsFixed, IsOrphanFolder, IsInside, IsExtra, IsFinding, IsClean}
 use Rattle.vault_spec.specs.Findings as findings
 use Rattle.vault_spec.specs.Alike.{IsNoItem, IsOrderly}
+use Rattle.vault_spec.specs.Adding.{StaysClean, NewItemsStayClean}
 use Rattle.vault_spec.proofs.Lawful.{IsLawful}
 use Rattle.vault_spec.proofs.Grafts.{reached_right, nothing_below, edited_elsewhere, edited_adds, none_stands, EntryStays, entry_stays, IsEntered, is_entered}
 use Rattle.vault_spec.proofs.Places.{SparesAll, none_or_there}
@@ -46,10 +47,9 @@ pub record IsWhole (f : Format) (w : View) (dir : Directory) (name : List ℕ) :
 abbrev pub IsApart : Format → View → Path → Type 0
 IsApart f v folder = (path : plain.Path) (dir : Directory) (name : List ℕ) (at : Path) (d : Directory) → Leads f v path dir → standing_in f v dir name ≡ Dir at (Ok d) → folder ≢ d.folder
 
--- What has to be known of an edit at a free place of a clean vault.
+-- What has to be known of an edit at a free place of an orderly vault.
 pub record KeepsClean (f : Format) (lawful : IsLawful f) (v : View) (e : Edit) : Type 0 where
   pub orderly : IsOrderly f v
-  pub clean : IsClean f v
   pub free : v e.at ≡ NoEntry
   pub spares : SparesAll f lawful v e.at
   pub root : root_of f v ≡ root_of f (edited v e)
@@ -65,17 +65,18 @@ pub record KeepsClean (f : Format) (lawful : IsLawful f) (v : View) (e : Edit) :
       → (long : Bool) (item : Item) (there : Found) → f.inner_role long item x there ≢ Extra
   pub role_new : (rest : Path) → f.role (e.at ++ rest) (edited v e (e.at ++ rest)) ≢ Extra
   pub folder_new : (rest : Path) (x : Part) → f.role (e.at ++ rest) (edited v e (e.at ++ rest)) ≡ ContentFolder → edited v e (child (e.at ++ rest) x) ≡ NoEntry
+  pub folder_at : (rest : Path) → f.role (e.at ++ rest) (edited v e (e.at ++ rest)) ≡ ContentFolder → rest ≡ []
   pub folder_old : (at : Path) (x : Part) → f.role at (v at) ≡ ContentFolder → child at x ≡ e.at → (path : plain.Path) × (dir : Directory) × Leads f v path dir × (dir.folder ≡ at)
 
 -- what is there was there, or is at the place or below it
-was : (v : View) (e : Edit) (q : Path) → edited v e q ≢ NoEntry → (v q ≢ NoEntry) ⊎ ((rest : Path) × (q ≡ e.at ++ rest))
+pub was : (v : View) (e : Edit) (q : Path) → edited v e q ≢ NoEntry → (v q ≢ NoEntry) ⊎ ((rest : Path) × (q ≡ e.at ++ rest))
 was v e q there = elim (begins_or_not e.at q) [
   | inl k ↦ inr k
   | inr none ↦ inl (λ z. there (edited_elsewhere v e q none ∙ z))
 ]
 
 -- below what is there, what is there was there or is at the place
-was_below : (f : Format) (lawful : IsLawful f) (v : View) (e : Edit) → KeepsClean f lawful v e → (up : Path) (x : Part) → v up ≢ NoEntry → edited v e (child up x) ≢ NoEntry
+pub was_below : (f : Format) (lawful : IsLawful f) (v : View) (e : Edit) → KeepsClean f lawful v e → (up : Path) (x : Part) → v up ≢ NoEntry → edited v e (child up x) ≢ NoEntry
     → (v (child up x) ≢ NoEntry) ⊎ (child up x ≡ e.at)
 was_below f lawful v e keeps up x above there = elim (was v e (child up x) there) [
   | inl old ↦ inl old
@@ -85,10 +86,10 @@ was_below f lawful v e keeps up x above there = elim (was v e (child up x) there
   ]
 ]
 
-stays : (f : Format) (lawful : IsLawful f) (v : View) (e : Edit) → KeepsClean f lawful v e → (q : Path) → v q ≢ NoEntry → edited v e q ≡ v q
+pub stays : (f : Format) (lawful : IsLawful f) (v : View) (e : Edit) → KeepsClean f lawful v e → (q : Path) → v q ≢ NoEntry → edited v e q ≡ v q
 stays f lawful v e keeps = edited_adds v e keeps.orderly.folders keeps.free
 
-folder_stands : (f : Format) (lawful : IsLawful f) (v : View) (path : plain.Path) (dir : Directory) → Leads f v path dir → v dir.folder ≢ NoEntry
+pub folder_stands : (f : Format) (lawful : IsLawful f) (v : View) (path : plain.Path) (dir : Directory) → Leads f v path dir → v dir.folder ≢ NoEntry
 folder_stands f lawful v path dir leads none = let there : v dir.folder ≡ Folder = (reached_right f lawful v path dir leads).there in cc
 
 -- files stay, and with them what belongs and what is an entry of a name
@@ -343,19 +344,45 @@ extra_back f lawful v e keeps at (inr role) = elim (none_or_there (edited v e at
 ]
 
 -- so the vault stays clean
-pub stays_clean : (f : Format) (lawful : IsLawful f) (v : View) (e : Edit) → KeepsClean f lawful v e → IsClean f (edited v e)
-stays_clean f lawful v e keeps is.BadStoredName at counts found = keeps.clean is.BadStoredName at refl (unnamed_back f lawful v e keeps is.BadStoredName at found)
-stays_clean f lawful v e keeps is.NoDirKey at counts found = keeps.clean is.NoDirKey at refl (locked_back f lawful v e keeps lacks.NoDirKey at found)
-stays_clean f lawful v e keeps is.LongNameLost at counts found = keeps.clean is.LongNameLost at refl (unnamed_back f lawful v e keeps is.LongNameLost at found)
-stays_clean f lawful v e keeps is.OrphanLongName at counts found = keeps.clean is.OrphanLongName at refl (orphan_back f lawful v e keeps at found)
-stays_clean f lawful v e keeps is.DirIdTwice at counts found = keeps.clean is.DirIdTwice at refl (twice_back f lawful v e keeps at found)
-stays_clean f lawful v e keeps is.NoFolder at counts found = keeps.clean is.NoFolder at refl (locked_back f lawful v e keeps lacks.NoFolder at found)
-stays_clean f lawful v e keeps is.OrphanFolder at counts found = keeps.clean is.OrphanFolder at refl (orphan_folder_back f lawful v e keeps at found)
-stays_clean f lawful v e keeps is.SymlinkFound at counts found = keeps.clean is.SymlinkFound at refl (no_item_back f lawful v e keeps is.SymlinkFound at found)
-stays_clean f lawful v e keeps is.WrongKind at counts (inl found) = keeps.clean is.WrongKind at refl (inl (unnamed_back f lawful v e keeps is.WrongKind at found))
-stays_clean f lawful v e keeps is.WrongKind at counts (inr found) = keeps.clean is.WrongKind at refl (inr (no_item_back f lawful v e keeps is.WrongKind at found))
-stays_clean f lawful v e keeps is.ExtraEntry at counts found = keeps.clean is.ExtraEntry at refl (extra_back f lawful v e keeps at found)
-stays_clean f lawful v e keeps is.TwoKinds at counts found = keeps.clean is.TwoKinds at refl (no_item_back f lawful v e keeps is.TwoKinds at found)
-stays_clean f lawful v e keeps is.HeaderDamaged at counts found = cc
-stays_clean f lawful v e keeps is.ChunkDamaged at counts found = cc
-stays_clean f lawful v e keeps is.EmptyOrphan at counts found = cc
+pub stays_clean : (f : Format) (lawful : IsLawful f) (v : View) (e : Edit) → KeepsClean f lawful v e → IsClean f v → IsClean f (edited v e)
+stays_clean f lawful v e keeps clean is.BadStoredName at counts found = clean is.BadStoredName at refl (unnamed_back f lawful v e keeps is.BadStoredName at found)
+stays_clean f lawful v e keeps clean is.NoDirKey at counts found = clean is.NoDirKey at refl (locked_back f lawful v e keeps lacks.NoDirKey at found)
+stays_clean f lawful v e keeps clean is.LongNameLost at counts found = clean is.LongNameLost at refl (unnamed_back f lawful v e keeps is.LongNameLost at found)
+stays_clean f lawful v e keeps clean is.OrphanLongName at counts found = clean is.OrphanLongName at refl (orphan_back f lawful v e keeps at found)
+stays_clean f lawful v e keeps clean is.DirIdTwice at counts found = clean is.DirIdTwice at refl (twice_back f lawful v e keeps at found)
+stays_clean f lawful v e keeps clean is.NoFolder at counts found = clean is.NoFolder at refl (locked_back f lawful v e keeps lacks.NoFolder at found)
+stays_clean f lawful v e keeps clean is.OrphanFolder at counts found = clean is.OrphanFolder at refl (orphan_folder_back f lawful v e keeps at found)
+stays_clean f lawful v e keeps clean is.SymlinkFound at counts found = clean is.SymlinkFound at refl (no_item_back f lawful v e keeps is.SymlinkFound at found)
+stays_clean f lawful v e keeps clean is.WrongKind at counts (inl found) = clean is.WrongKind at refl (inl (unnamed_back f lawful v e keeps is.WrongKind at found))
+stays_clean f lawful v e keeps clean is.WrongKind at counts (inr found) = clean is.WrongKind at refl (inr (no_item_back f lawful v e keeps is.WrongKind at found))
+stays_clean f lawful v e keeps clean is.ExtraEntry at counts found = clean is.ExtraEntry at refl (extra_back f lawful v e keeps at found)
+stays_clean f lawful v e keeps clean is.TwoKinds at counts found = clean is.TwoKinds at refl (no_item_back f lawful v e keeps is.TwoKinds at found)
+stays_clean f lawful v e keeps clean is.HeaderDamaged at counts found = cc
+stays_clean f lawful v e keeps clean is.ChunkDamaged at counts found = cc
+stays_clean f lawful v e keeps clean is.EmptyOrphan at counts found = cc
+
+-- From the view v on, each edit comes so.
+abbrev pub KeepEach : (f : Format) → IsLawful f → View → List Edit → Type 0
+KeepEach f lawful v [] = Unit {0}
+KeepEach f lawful v (e ∷ edits) = KeepsClean f lawful v e × KeepEach f lawful (edited v e) edits
+
+each_clean : (f : Format) (lawful : IsLawful f) (v : View) (edits : List Edit) → KeepEach f lawful v edits → IsClean f v → StaysClean f v edits
+each_clean f lawful v [] keep clean = record {}
+each_clean f lawful v (e ∷ edits) keep clean =
+    let clean_then : IsClean f (edited v e) = stays_clean f lawful v e keep.0 clean in
+    (clean_then, each_clean f lawful (edited v e) edits keep.1 clean_then)
+
+-- A format whose items are made so.
+pub record KeepsItems (f : Format) (lawful : IsLawful f) : Type 0 where
+  pub file : (v : View) (front : plain.Path) (dir : Directory) (name bytes : List ℕ) → IsOrderly f v → Leads f v front dir → IsTrue (is_name name)
+      → f.taken_for_file v dir (f.stored dir.key name) ≡ None → KeepEach f lawful v (f.new_file v dir (f.stored dir.key name) bytes)
+  pub directory : (v : View) (front : plain.Path) (dir : Directory) (name key : List ℕ) → IsOrderly f v → Leads f v front dir → IsTrue (is_name name)
+      → f.key_in key ≡ Some key → f.taken_for_directory v dir (f.stored dir.key name) key ≡ None → KeepEach f lawful v (f.new_directory v dir (f.stored dir.key name) key)
+
+pub new_items_clean : (f : Format) (lawful : IsLawful f) → KeepsItems f lawful → NewItemsStayClean f
+new_items_clean f lawful keeps = record {
+  file = λ v front dir name bytes orderly clean leads named none.
+      each_clean f lawful v (f.new_file v dir (f.stored dir.key name) bytes) (keeps.file v front dir name bytes orderly leads named none) clean;
+  directory = λ v front dir name key orderly clean leads named is_key none.
+      each_clean f lawful v (f.new_directory v dir (f.stored dir.key name) key) (keeps.directory v front dir name key orderly leads named is_key none) clean;
+}

@@ -19,3 +19,4 @@ pub mod Anywhere
 pub mod Staying
 pub mod Moving
 pub mod Empty
+pub mod Tidy

@@ -27,6 +27,7 @@ ghost use Rattle.vault_spec.specs.Plan.{Planned, IsPlan, paths_of, StandsBelow, 
 ghost use Rattle.vault_spec.specs.Reached.{Leads, IsReached, IsReachedIn, HaveOwnFolders};
 ghost use Rattle.vault_spec.specs.Standing.{Standing, File, Dir, standing, standing_in};
 ghost use Rattle.vault_spec.specs.Staying.{NewItemsStayVaults, ReplacedContentsStayVaults};
+ghost use Rattle.vault_spec.specs.Tidy.{IsTidy, OwnPlacesAreFree, NewItemsStayTidy, ReplacedContentsStayTidy};
 ghost use Rattle.vault_spec.specs.Vault.{Vault, format_of};
 ghost use Rattle.vault_spec.specs.declared.Lack.{Lack};
 
@@ -180,6 +181,52 @@ pub fn new_vaults_of_gocryptfs_are_empty()
 pub fn new_vaults_of_cryptomator_are_empty(keys: &CmKeys)
     ensures { (combo : Combo) (threshold : ℕ) (pass : List ℕ) (cost : Cost) (drawn : CmDraw) → keys.now ≡ keys_of drawn
         → IsEmptyVault (cm_format (record { keys = keys.now; combo = combo; threshold = threshold })) (new_cm_vault pass cost drawn) }
+{
+    cm_text_has_one_name(keys);
+    cm_texts_are_plain(keys);
+    cm_long_names_are_plain();
+    cm_folders_are_plain();
+}
+
+/// A new gocryptfs vault is tidy. Where no place is taken, a tidy one is tidy again once an item is made, and so it is where a content is
+/// replaced.
+pub fn vaults_of_gocryptfs_stay_tidy()
+    ensures made { (keys : GoKeys) (pass : List ℕ) (cost : Cost) (drawn : GoDraw) (key : List ℕ) → directory_key key ≡ Some key
+        → IsTidy (go_format keys) (new_go_vault pass cost drawn key) }
+    ensures new { (keys : GoKeys) → NewItemsStayTidy (go_format keys) }
+    ensures replaced { (keys : GoKeys) → ReplacedContentsStayTidy (go_format keys) }
+{
+    text_has_one_name();
+    texts_are_plain();
+    long_names_are_plain();
+}
+
+/// A new Cryptomator vault is tidy under its drawn keys. Where no place is taken, a tidy one is tidy again once an item is made, and so it
+/// is where a content is replaced.
+pub fn vaults_of_cryptomator_stay_tidy(keys: &CmKeys)
+    ensures made { (combo : Combo) (threshold : ℕ) (pass : List ℕ) (cost : Cost) (drawn : CmDraw) → keys.now ≡ keys_of drawn
+        → IsTidy (cm_format (record { keys = keys.now; combo = combo; threshold = threshold })) (new_cm_vault pass cost drawn) }
+    ensures replaced { (combo : Combo) (threshold : ℕ) → ReplacedContentsStayTidy (cm_format (record { keys = keys.now; combo = combo; threshold = threshold })) }
+    ensures new { (combo : Combo) (threshold : ℕ) → NewItemsStayTidy (cm_format (record { keys = keys.now; combo = combo; threshold = threshold })) }
+{
+    cm_text_has_one_name(keys);
+    cm_texts_are_plain(keys);
+    cm_long_names_are_plain();
+    cm_folders_are_plain();
+}
+
+/// In a clean and tidy gocryptfs vault no place of a new item is taken, unless another item shares it.
+pub fn places_of_gocryptfs_are_free_unless_shared()
+    ensures { (keys : GoKeys) → OwnPlacesAreFree (go_format keys) }
+{
+    text_has_one_name();
+    texts_are_plain();
+    long_names_are_plain();
+}
+
+/// In a clean and tidy Cryptomator vault no place of a new item is taken, unless another item shares it.
+pub fn places_of_cryptomator_are_free_unless_shared(keys: &CmKeys)
+    ensures { (combo : Combo) (threshold : ℕ) → OwnPlacesAreFree (cm_format (record { keys = keys.now; combo = combo; threshold = threshold })) }
 {
     cm_text_has_one_name(keys);
     cm_texts_are_plain(keys);

@@ -1,6 +1,7 @@
 use Rattle.vault_spec.specs.Cryptomator.{cm_format}
 use Rattle.vault_spec.proofs.CmVault.{CmTexts, cm_lawful}
-use Rattle.vault_spec.proofs.CmKeeping.{CmFolders, new_items_clean}
+use Rattle.vault_spec.proofs.CmKeeping.{CmFolders, cm_keeps}
+use Rattle.vault_spec.proofs.StaysClean.{new_items_clean}
 use Rattle.vault_spec.proofs.ReplacedClean.{content_clean}
 use Rattle.vault_spec.proofs.laws.new_items_of_cryptomator_keep_vaults_clean.Goals as goal
 
@@ -17,7 +18,9 @@ returns c =
       characters = λ id. c.cm_folders_are_plain.ensures.characters c.args.keys.now id;
     } in
     record {
-      new = λ combo threshold. new_items_clean (record { keys = c.args.keys.now; combo = combo; threshold = threshold }) texts folders;
+      new = λ combo threshold.
+          new_items_clean (cm_format (record { keys = c.args.keys.now; combo = combo; threshold = threshold }))
+          (cm_lawful (record { keys = c.args.keys.now; combo = combo; threshold = threshold }) texts) (cm_keeps (record { keys = c.args.keys.now; combo = combo; threshold = threshold }) texts folders);
       replaced = λ combo threshold.
           content_clean (cm_format (record { keys = c.args.keys.now; combo = combo; threshold = threshold }))
           (cm_lawful (record { keys = c.args.keys.now; combo = combo; threshold = threshold }) texts);

@@ -1,7 +1,8 @@
 use Rattle.vault_spec.specs.Gocryptfs.{go_format}
 use Rattle.vault_spec.proofs.GoNames.{GoTexts}
 use Rattle.vault_spec.proofs.GoVault.{go_lawful}
-use Rattle.vault_spec.proofs.GoKeeping.{new_items_clean}
+use Rattle.vault_spec.proofs.GoKeeping.{go_keeps}
+use Rattle.vault_spec.proofs.StaysClean.{new_items_clean}
 use Rattle.vault_spec.proofs.ReplacedClean.{content_clean}
 use Rattle.vault_spec.proofs.laws.new_items_of_gocryptfs_keep_vaults_clean.Goals as goal
 
@@ -14,4 +15,4 @@ returns c =
       long_prefix = c.long_names_are_plain.ensures.prefix;
       long_rest = c.long_names_are_plain.ensures.characters;
     } in
-    record { new = new_items_clean texts; replaced = λ keys. content_clean (go_format keys) (go_lawful texts keys) }
+    record { new = λ keys. new_items_clean (go_format keys) (go_lawful texts keys) (go_keeps texts keys); replaced = λ keys. content_clean (go_format keys) (go_lawful texts keys) }

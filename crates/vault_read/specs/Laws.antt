@@ -6,6 +6,7 @@ use Rattle.vault_spec.specs.Anywhere.{NewItemsComeAtLast, ContentsOpenAnew}
 use Rattle.vault_spec.specs.Format.{Format}
 use Rattle.vault_spec.specs.Reached.{HaveOwnFolders}
 use Rattle.vault_spec.specs.Staying.{NewItemsStayVaults, ReplacedContentsStayVaults}
+use Rattle.vault_spec.specs.Tidy.{NewItemsStayTidy, OwnPlacesAreFree, ReplacedContentsStayTidy}
 use Rattle.vault_spec.specs.Vault.{Answer, Loads, Vault, Gocryptfs, Cryptomator, format_of}
 
 -- a root and a passphrase have one answer at most
@@ -21,9 +22,12 @@ HasOwnFolders (Cryptomator cm) v = HaveOwnFolders (format_of (Cryptomator cm)) v
 pub record KeepsVaults (f : Format) : Type 0 where
   pub alone : NewItemsComeAlone f
   pub clean : NewItemsStayClean f
+  pub tidy : NewItemsStayTidy f
+  pub free : OwnPlacesAreFree f
   pub stay : NewItemsStayVaults f
   pub last : NewItemsComeAtLast f
   pub replaced_alone : ContentsAreReplacedAlone f
   pub replaced_clean : ReplacedContentsStayClean f
+  pub replaced_tidy : ReplacedContentsStayTidy f
   pub replaced_stay : ReplacedContentsStayVaults f
   pub replaced_anew : ContentsOpenAnew f

@@ -50,12 +50,16 @@ pub fn items_keep_vaults(vault: &Vault)
         VaultKeys::Gocryptfs(_) => {
             items::new_items_of_gocryptfs_come_alone();
             items::new_items_of_gocryptfs_keep_vaults_clean();
+            items::vaults_of_gocryptfs_stay_tidy();
+            items::places_of_gocryptfs_are_free_unless_shared();
             items::new_items_of_gocryptfs_keep_the_vault();
             items::new_items_of_gocryptfs_open_in_any_vault();
         }
         VaultKeys::Cryptomator(vault) => {
             items::new_items_of_cryptomator_come_alone(&vault.keys);
             items::new_items_of_cryptomator_keep_vaults_clean(&vault.keys);
+            items::vaults_of_cryptomator_stay_tidy(&vault.keys);
+            items::places_of_cryptomator_are_free_unless_shared(&vault.keys);
             items::new_items_of_cryptomator_keep_the_vault(&vault.keys);
             items::new_items_of_cryptomator_open_in_any_vault(&vault.keys);
         }

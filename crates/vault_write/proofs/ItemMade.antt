@@ -22,6 +22,7 @@ use Rattle.vault_spec.specs.Format.{Format}
 use Rattle.vault_spec.specs.Making.{draws}
 use Rattle.vault_spec.specs.Opens.{Opened, opened}
 use Rattle.vault_spec.specs.Staying.{StaysVault}
+use Rattle.vault_spec.specs.Tidy.{IsTidy}
 use Rattle.folder_spec.specs.declared.FolderFault.TheVariants as folder
 use Rattle.content_writing.specs.Faults.{of_folder}
 use Rattle.content_writing.specs.Content.{Ending, Whole}
@@ -59,10 +60,11 @@ all_opens f v w (e ∷ []) at item comes = comes
 all_opens f v w (e ∷ next ∷ edits) at item comes = all_opens f v (edited w e) (next ∷ edits) at item comes.1
 
 -- a vault in good order stays so
-all_stay : (f : Format) (u w : View) (edits : List Edit) (at : plain.Path) (item : Opened) → ComesAlone f u w edits at item → StaysClean f w edits → StaysVault f u w edits → StaysGood f u (view_after w edits)
-all_stay f u w [] at item comes clean vault = absurd comes
-all_stay f u w (e ∷ []) at item comes clean vault = record { clean = clean.0; orderly = vault.0.0; loads = vault.0.1 }
-all_stay f u w (e ∷ next ∷ edits) at item comes clean vault = all_stay f u (edited w e) (next ∷ edits) at item comes.1 clean.1 vault.1
+all_stay : (f : Format) (u w : View) (edits : List Edit) (at : plain.Path) (item : Opened) → ComesAlone f u w edits at item → StaysClean f w edits → (IsTidy f u → IsTidy f (view_after w edits))
+    → StaysVault f u w edits → StaysGood f u (view_after w edits)
+all_stay f u w [] at item comes clean tidy vault = absurd comes
+all_stay f u w (e ∷ []) at item comes clean tidy vault = record { clean = clean.0; tidy = tidy; orderly = vault.0.0; loads = vault.0.1 }
+all_stay f u w (e ∷ next ∷ edits) at item comes clean tidy vault = all_stay f u (edited w e) (next ∷ edits) at item comes.1 clean.1 tidy vault.1
 
 -- the first of some edits below a root are the first of these, below the root
 pub record IsSplit (root : Path) (edits done more : List Edit) : Type 0 where
@@ -138,7 +140,7 @@ module _ (shows : EditsShowTrees) (settles : SettledEditsShowTrees) (roots : Roo
         λ clean orderly.
             let made : MakeItem (format p) (under p.vault.root (seen a.state)) (path_of p) (opens_as p.item) begun.edits = begun.item (record { clean = clean; orderly = orderly }) in
             subst (λ w. StaysGood (format p) (under p.vault.root (seen a.state)) w) (sym now)
-            (all_stay (format p) (under p.vault.root (seen a.state)) (under p.vault.root (seen a.state)) begun.edits (path_of p) (opens_as p.item) made.alone made.clean made.vault),
+            (all_stay (format p) (under p.vault.root (seen a.state)) (under p.vault.root (seen a.state)) begun.edits (path_of p) (opens_as p.item) made.alone made.clean made.tidy made.vault),
       )
 
   -- after a failure some of the begun.edits are seen

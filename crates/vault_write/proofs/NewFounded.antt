@@ -21,13 +21,12 @@ use Rattle.kdf_suite.specs.ScryptCost.{Cost, IsCost}
 use Rattle.port_model.specs.Draws.{ByteStream}
 use Rattle.vault_names.specs.Cryptomator.{cm_folder_of}
 use Rattle.vault_spec.specs.Cryptomator.{cm_format}
-use Rattle.vault_spec.specs.Empty.{IsEmptyVault}
 use Rattle.vault_spec.specs.Gocryptfs.{key_file}
 use Rattle.vault_spec.specs.NewVault.{go_files, cm_files, new_go_vault, new_cm_vault}
 use Rattle.vault_write.specs.declared.drawing.GoParts.{GoParts}
 use Rattle.vault_write.specs.Founding.{MayFound, Founds, FoundsGo, FoundsCm, GoDrew, CmDrew, DrewGo, DrawsGo, DrawsCm, with_home}
 use Rattle.vault_write.proofs.Founded.{founds_none}
-use Rattle.vault_write.proofs.NewVaults.{GoEmpty, go_is_new, cm_is_new}
+use Rattle.vault_write.proofs.NewVaults.{GoEmpty, GoTidy, CmEmptyAndTidy, go_is_new, cm_is_new}
 
 -- the same, with another fault or answer
 as_fault : (work at : Path) (made : View) (files : List (List ℕ × List ℕ)) (t u : Option Told) (refused : FolderFault) (fault : PutFault)
@@ -115,9 +114,9 @@ module _ (work at : Path) (pass : List ℕ) (cost : Cost) (s s' : Option ByteStr
         vault = tt;
       }
 
-      pub go_done : go.MadeTextReturns → GoEmpty → IsCost cost → Founds {E = FolderFault} work at (folder_view (go_two conf parts.key)) (go_two conf parts.key) t u (Ok tt)
+      pub go_done : go.MadeTextReturns → GoEmpty → GoTidy → IsCost cost → Founds {E = FolderFault} work at (folder_view (go_two conf parts.key)) (go_two conf parts.key) t u (Ok tt)
           → FoundsGo work at pass cost s s' t u (Ok tt)
-      go_done returns empty is_cost f = record {
+      go_done returns empty tidy is_cost f = record {
         draw = h.draw;
         key = h.key;
         drawn = h.drawn;
@@ -125,7 +124,7 @@ module _ (work at : Path) (pass : List ℕ) (cost : Cost) (s s' : Option ByteStr
         were_drawn = h.were_drawn;
         drew = h.drew;
         founds = as_done work at (new_go_vault pass cost h.draw h.key) (go_files pass cost h.draw h.key) t u (at_these (Ok tt) f);
-        vault = go_is_new returns empty pass cost h.draw h.key is_cost h.sizes h.drew.root;
+        vault = go_is_new returns empty tidy pass cost h.draw h.key is_cost h.sizes h.drew.root;
       }
 
 -- ---- Cryptomator
@@ -197,16 +196,14 @@ module _ (work at : Path) (pass : List ℕ) (cost : Cost) (s s' : Option ByteStr
         vault = tt;
       }
 
-      pub cm_done : cm.MadeFilesReturn → IsCost cost
-          → IsEmptyVault (cm_format (record { keys = keys_of d; combo = SivGcm; threshold = 220 })) (new_cm_vault pass cost d) → Made master vault home (Ok tt)
+      pub cm_done : cm.MadeFilesReturn → IsCost cost → CmEmptyAndTidy pass cost d → Made master vault home (Ok tt)
           → FoundsCm work at pass cost s s' t u (Ok tt)
-      cm_done returns is_cost empty f = record {
+      cm_done returns is_cost both f = record {
         draw = h.draw;
         drawn = h.drawn;
         sizes = h.sizes;
         were_drawn = h.were_drawn;
         drew = h.drew;
         founds = as_done work at (new_cm_vault pass cost h.draw) (cm_files pass cost h.draw) t u (cm_at_these (Ok tt) f);
-        vault = cm_is_new returns pass cost h.draw is_cost h.sizes
-            (subst (λ (e : CmDraw). IsEmptyVault (cm_format (record { keys = keys_of e; combo = SivGcm; threshold = 220 })) (new_cm_vault pass cost e)) h.is empty);
+        vault = cm_is_new returns pass cost h.draw is_cost h.sizes (subst (CmEmptyAndTidy pass cost) h.is both);
       }

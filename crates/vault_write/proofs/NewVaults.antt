@@ -1,4 +1,4 @@
--- A new vault is what its passphrase opens, and empty.
+-- A new vault is what its passphrase opens, and empty and tidy.
 use Rattle.std.proofs.Common.{◌≡◌, ◌<◌, ℕ, suc, Bool, true, false, nat_le, List, [], ◌∷◌, length, slice_index, Some, Result, Ok, Err, MatchResult, refl, sym, subst, inl, eq-eqb, lt-ltb}
 use Rattle.std.proofs.lemmas.Bool.{le-leb}
 use Rattle.chunk_files.specs.Zeros.{is_all_zero}
@@ -17,6 +17,7 @@ use Rattle.vault_spec.specs.Format.{is_bytes}
 use Rattle.vault_spec.specs.Gocryptfs.{directory_key, go_format}
 use Rattle.vault_spec.specs.Cryptomator.{cm_format}
 use Rattle.vault_spec.specs.NewVault.{new_go_vault, new_cm_vault}
+use Rattle.vault_spec.specs.Tidy.{IsTidy}
 use Rattle.vault_spec.specs.Vault.{Vault, LoadRefusal, TooLarge, CmRefused, Either, TestsGo, TestsCm, UnlocksCm, IsVault, go_conf, master_file, vault_file}
 use Rattle.vault_write.specs.Founding.{AreBytes, IsGoDraw, IsCmDraw, IsNewVault, new_go, new_cm}
 
@@ -43,9 +44,13 @@ abbrev pub GoEmpty : Type 0
 GoEmpty = (keys : GoKeys) (pass : List ℕ) (cost : Cost) (drawn : GoDraw) (key : List ℕ) → directory_key key ≡ Some key
     → IsEmptyVault (go_format keys) (new_go_vault pass cost drawn key)
 
-pub go_is_new : go.MadeTextReturns → GoEmpty → (pass : List ℕ) (cost : Cost) (d : GoDraw) (key : List ℕ) → IsCost cost → IsGoDraw d key → is_all_zero key ≡ false
+abbrev pub GoTidy : Type 0
+GoTidy = (keys : GoKeys) (pass : List ℕ) (cost : Cost) (drawn : GoDraw) (key : List ℕ) → directory_key key ≡ Some key
+    → IsTidy (go_format keys) (new_go_vault pass cost drawn key)
+
+pub go_is_new : go.MadeTextReturns → GoEmpty → GoTidy → (pass : List ℕ) (cost : Cost) (d : GoDraw) (key : List ℕ) → IsCost cost → IsGoDraw d key → is_all_zero key ≡ false
     → IsNewVault (new_go_vault pass cost d key) pass (new_go d)
-go_is_new returns empty pass cost d key is_cost sizes some = record {
+go_is_new returns empty tidy pass cost d key is_cost sizes some = record {
   opens = go_opens pass cost d key (returns pass cost d is_cost (record {
     master_size = sizes.master.size;
     master_bytes = sizes.master.small;
@@ -55,6 +60,7 @@ go_is_new returns empty pass cost d key is_cost sizes some = record {
     nonce_bytes = sizes.nonce.small;
   }));
   empty = empty (gocryptfs.keys_of d.master) pass cost d key (is_key key sizes.root some);
+  tidy = tidy (gocryptfs.keys_of d.master) pass cost d key (is_key key sizes.root some);
 }
 
 -- ---- Cryptomator
@@ -81,15 +87,20 @@ cm_opens pass cost d sizes h =
           )),
     ))
 
-pub cm_is_new : cm.MadeFilesReturn → (pass : List ℕ) (cost : Cost) (d : CmDraw) → IsCost cost → IsCmDraw d
-    → IsEmptyVault (cm_format (record { keys = keys_of d; combo = SivGcm; threshold = 220 })) (new_cm_vault pass cost d)
-    → IsNewVault (new_cm_vault pass cost d) pass (new_cm d)
-cm_is_new returns pass cost d is_cost sizes empty = record {
+-- it is empty and tidy under the keys that it draws
+abbrev pub CmEmptyAndTidy : List ℕ → Cost → CmDraw → Type 0
+CmEmptyAndTidy pass cost d =
+    IsEmptyVault (cm_format (record { keys = keys_of d; combo = SivGcm; threshold = 220 })) (new_cm_vault pass cost d)
+    × IsTidy (cm_format (record { keys = keys_of d; combo = SivGcm; threshold = 220 })) (new_cm_vault pass cost d)
+
+pub cm_is_new : cm.MadeFilesReturn → (pass : List ℕ) (cost : Cost) (d : CmDraw) → IsCost cost → IsCmDraw d → CmEmptyAndTidy pass cost d → IsNewVault (new_cm_vault pass cost d) pass (new_cm d)
+cm_is_new returns pass cost d is_cost sizes both = record {
   opens = cm_opens pass cost d sizes (returns pass cost d is_cost (record {
     enc = record { thirty_two = sizes.enc.size; bytes = sizes.enc.small };
     mac = record { thirty_two = sizes.mac.size; bytes = sizes.mac.small };
     salt = sizes.salt.small;
     id_size = sizes.jti.size;
   }));
-  empty = empty;
+  empty = both.0;
+  tidy = both.1;
 }

@@ -71,6 +71,7 @@ is_replaced vault laws work front name content drawn at place a sound at_is ther
   item = λ good. record {
     alone = laws.replaced_alone (under vault.root (seen a.state)) (front ++ name ∷ []) place (encrypt (format_of vault.vault).content drawn content) good.orderly there;
     clean = (laws.replaced_clean (under vault.root (seen a.state)) (front ++ name ∷ []) place (encrypt (format_of vault.vault).content drawn content) good.orderly there good.clean, tt);
+    tidy = laws.replaced_tidy (under vault.root (seen a.state)) (front ++ name ∷ []) place (encrypt (format_of vault.vault).content drawn content) good.orderly there;
     vault = (laws.replaced_stay (under vault.root (seen a.state)) (front ++ name ∷ []) place (encrypt (format_of vault.vault).content drawn content) good.orderly there, tt);
   };
   anew = (laws.replaced_anew (under vault.root (seen a.state)) (front ++ name ∷ []) place (encrypt (format_of vault.vault).content drawn content) (folders_seen vault.root a.state sound) there).there (front ++ name ∷ []) there;
@@ -114,7 +115,7 @@ module _ (shows : EditsShowTrees) (settles : SettledEditsShowTrees) (roots : Roo
       λ orderly. subst (λ w. OpensWith (format p) u w (path_of p) (opens_as p.item)) (sym (all_seen h.views)) (k.alone orderly),
       λ clean orderly.
           let made : MakeItem (format p) u (path_of p) (opens_as p.item) (file_edit k.place bytes ∷ []) = k.item (record { clean = clean; orderly = orderly }) in
-          subst (λ w. StaysGood (format p) u w) (sym (all_seen h.views)) (record { clean = made.clean.0; orderly = made.vault.0.0; loads = made.vault.0.1 }),
+          subst (λ w. StaysGood (format p) u w) (sym (all_seen h.views)) (record { clean = made.clean.0; tidy = made.tidy; orderly = made.vault.0.0; loads = made.vault.0.1 }),
     )
 
     old_or_new_opens : Edits p.work p.vault.root (replace_making at bytes) a b → IsOrderly (format p) u → OpensAs (format p) u (under p.vault.root (seen b.state)) ⊎ OpensWith (format p) u (under p.vault.root (seen b.state)) (path_of p) (opens_as p.item)

@@ -25,6 +25,7 @@ use Rattle.work_folder.specs.Entering.{IsReady}
 use Rattle.vault_spec.specs.Cryptomator.{top, shelf_named, folder_named}
 use Rattle.vault_spec.specs.Empty.{IsEmptyVault}
 use Rattle.vault_spec.specs.NewVault.{go_files, cm_files, new_go_vault, new_cm_vault}
+use Rattle.vault_spec.specs.Tidy.{IsTidy}
 use Rattle.vault_spec.specs.Vault.{Vault, Gocryptfs, Cryptomator, format_of, IsVault}
 use Rattle.vault_write.specs.declared.drawing.GoParts.{GoParts}
 use Rattle.vault_write.specs.Making.{Making, is_unstaged, is_apart, StagesOrPlaces}
@@ -62,10 +63,11 @@ pub record Founds {E : Type 0} (work at : Path) (made : View) (files : List (Par
   pub done : OnOk result (FromTo (λ a b. HasSettledIn (is_unstaged work) (vault_edit at made ∷ []) a.state b.state) before after)
   pub ready : OnOk result ((v : View) → IsSeen after v → IsReady v work)
 
--- The passphrase opens the view as this vault, and it has no items.
+-- The passphrase opens the view as this vault, and it is tidy and has no items.
 pub record IsNewVault (made : View) (pass : List ℕ) (vault : Vault) : Type 0 where
   pub opens : IsVault made pass vault
   pub empty : IsEmptyVault (format_of vault) made
+  pub tidy : IsTidy (format_of vault) made
 
 -- ---- what a vault draws, in order
 

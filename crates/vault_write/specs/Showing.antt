@@ -1,7 +1,7 @@
 -- Why publishing an item's edits shows the old tree or the new one: what is to be known of the edits, and the law.
 use Rattle.std.specs.Prelude.{List, [], ◌∷◌, ◌++◌}
 use Rattle.folder_spec.specs.State.{State}
-use Rattle.folder_spec.specs.Edit.{Edit, edits_under, PublishesIn, HasSettledIn}
+use Rattle.folder_spec.specs.Edit.{Edit, edits_under, view_after, PublishesIn, HasSettledIn}
 use Rattle.folder_spec.specs.Seen.{seen, under}
 use Rattle.folder_spec.specs.View.{View}
 use Rattle.plain_tree.specs.Names as plain
@@ -9,15 +9,17 @@ use Rattle.vault_spec.specs.Adding.{ComesAlone, StaysClean}
 use Rattle.vault_spec.specs.Staying.{StaysVault}
 use Rattle.vault_spec.specs.Format.{Format}
 use Rattle.vault_spec.specs.Opens.{Opened}
+use Rattle.vault_spec.specs.Tidy.{IsTidy}
 use Rattle.content_writing.specs.Content.{Ending, Whole}
 use Rattle.vault_write.specs.Making.{Placing, format, path_of, is_unstaged}
 use Rattle.vault_write.specs.Placing.{ShowsOldOrNewTree, ShowsNewTree}
 use Rattle.vault_write.specs.Trees.{ShowsVault, opens_as}
 
--- by these edits an item comes alone to a vault, which stays clean and orderly
+-- by these edits an item comes alone to a vault, which stays clean and orderly, and is tidy after them where it was
 pub record MakeItem (f : Format) (u : View) (path : plain.Path) (item : Opened) (edits : List Edit) : Type 0 where
   pub alone : ComesAlone f u u edits path item
   pub clean : StaysClean f u edits
+  pub tidy : IsTidy f u → IsTidy f (view_after u edits)
   pub vault : StaysVault f u u edits
 
 -- something comes so, where the vault as it was seen is in good order

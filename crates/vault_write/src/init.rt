@@ -37,7 +37,10 @@ use port_model::Randoms;
 use std::alloc::Global;
 use vault_names::cm_folder;
 use vault_names::laws::cm_folders_are_plain;
-use vault_spec::laws::{new_vaults_of_cryptomator_are_empty, new_vaults_of_gocryptfs_are_empty};
+use vault_spec::laws::{
+    new_vaults_of_cryptomator_are_empty, new_vaults_of_gocryptfs_are_empty,
+    vaults_of_cryptomator_stay_tidy, vaults_of_gocryptfs_stay_tidy,
+};
 use work_folder::Work;
 
 /// Makes a new gocryptfs vault at a path where nothing stands. It comes there whole, at once, and lasts.
@@ -61,6 +64,7 @@ pub fn init_go<F: Folder, R: Randoms>(
 {
     made_texts_give_back_their_keys();
     new_vaults_of_gocryptfs_are_empty();
+    vaults_of_gocryptfs_stay_tidy();
     cost_is_one(cost);
     let drawn = draw_go(random)?;
     let conf = gocrypt_conf::make(alloc, pass, cost, &drawn.draw)?;
@@ -95,6 +99,7 @@ pub fn init_cm<F: Folder, R: Randoms>(
         mac: drawn.mac,
     };
     new_vaults_of_cryptomator_are_empty(&keys);
+    vaults_of_cryptomator_stay_tidy(&keys);
     let files = cryptomator_conf::make(alloc, pass, cost, &drawn)?;
     let home = cm_folder(alloc, &keys, &[])?;
     let master = files.master.as_slice();

@@ -29,4 +29,4 @@ returns-in_err-found_go-clause-founds g c =
 
 pub returns-clause-founds : goal.returns-clause-founds
 returns-clause-founds g c =
-    go_done c.args.work.now c.args.at.now c.args.pass.now c.args.cost.now (g.R.Randoms.left c.args.random.now) (g.R.Randoms.left c.draw_go.new.random) (g.F.Folder.told c.args.folder.now) (g.met.F.Folder.sound c.args.folder.now) c.requires c.in_ok-drawn.drawn c.in_ok-drawn.ensures.draws c.as_slice.result.now (c.as_slice.ensures.value ∙ c.in_ok-conf.ensures) (g.F.Folder.told c.found_go.new.folder) c.made_texts_give_back_their_keys.ensures c.new_vaults_of_gocryptfs_are_empty.ensures c.cost_is_one.ensures c.in_ok-found_go.ensures.founds
+    go_done c.args.work.now c.args.at.now c.args.pass.now c.args.cost.now (g.R.Randoms.left c.args.random.now) (g.R.Randoms.left c.draw_go.new.random) (g.F.Folder.told c.args.folder.now) (g.met.F.Folder.sound c.args.folder.now) c.requires c.in_ok-drawn.drawn c.in_ok-drawn.ensures.draws c.as_slice.result.now (c.as_slice.ensures.value ∙ c.in_ok-conf.ensures) (g.F.Folder.told c.found_go.new.folder) c.made_texts_give_back_their_keys.ensures c.new_vaults_of_gocryptfs_are_empty.ensures c.vaults_of_gocryptfs_stay_tidy.ensures.made c.cost_is_one.ensures c.in_ok-found_go.ensures.founds

@@ -1,16 +1,14 @@
 -- A clean vault's root is a folder.
-use Rattle.std.proofs.Common.{◌≡◌, ◌≢◌, ◌⊎◌, inl, inr, ℕ, zero, suc, ◌+◌, Bool, true, false, List, [], ◌∷◌, ◌++◌, Option, Some, None, Result, Ok, Err, if◌then◌else◌, refl, sym, ap, ◌∙◌, subst, length, length-append, arith}
-use Rattle.std.specs.Prelude.{IsTrue}
+use Rattle.std.proofs.Common.{◌≡◌, ◌⊎◌, inl, inr, ℕ, zero, suc, ◌+◌, Bool, true, false, List, [], ◌∷◌, ◌++◌, Option, Some, None, Ok, Err, if◌then◌else◌, refl, sym, ap, ◌∙◌, length, length-append, arith}
 use Rattle.folder_spec.specs.Path.{Path, Part, child}
 use Rattle.folder_spec.specs.View.{Found, NoEntry, Folder, FileOf, Special, View}
 use Rattle.folder_spec.proofs.Paths.{base_or_child}
 use Rattle.vault_spec.specs.Alike.{HasFolders}
 use Rattle.vault_spec.specs.Findings.{IsClean}
 use Rattle.vault_spec.specs.Format.{Format, Directory, is_folder}
-use Rattle.vault_spec.specs.Standing.{Dir, directory_with, root_of}
+use Rattle.vault_spec.specs.Standing.{Dir, directory_with}
 use Rattle.vault_spec.specs.declared.Finding.TheVariants as is
-use Rattle.vault_spec.specs.declared.Lack.{Lack}
-use Rattle.vault_spec.specs.declared.Lack.TheVariants.{NoDirKey, NoFolder}
+use Rattle.vault_spec.specs.declared.Lack.TheVariants.{NoFolder}
 
 none_long : (p : Path) → length p ≡ 0 → p ≡ []
 none_long [] e = refl

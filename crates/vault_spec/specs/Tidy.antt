@@ -1,5 +1,5 @@
--- A vault in which no call that stopped has left anything over. In one that is clean too, a new item's place is taken only where another
--- item shares it.
+-- A vault in which no call that stopped has left over anything that takes a place. In one that is clean too, the place of a new item is
+-- taken only where another item shares it.
 use Rattle.std.specs.Prelude.{◌≡◌, ◌≢◌, ℕ, List, Some, None, IsTrue}
 use Rattle.folder_spec.specs.Path.{Path}
 use Rattle.folder_spec.specs.View.{View}

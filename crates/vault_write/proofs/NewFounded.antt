@@ -4,7 +4,6 @@ use Rattle.content_writing.specs.declared.fault.PutFault.{PutFault}
 use Rattle.content_writing.specs.declared.fault.PutFault.TheVariants as puts
 use Rattle.content_writing.specs.Faults.{of_folder}
 use Rattle.cryptomator_conf.specs.declared.conf.CmDraw.{CmDraw}
-use Rattle.cryptomator_conf.specs.declared.conf.Combo.TheVariants.{SivGcm}
 use Rattle.cryptomator_conf.specs.Laws as cm
 use Rattle.cryptomator_conf.specs.Text.{keys_of, made_master, master_text, vault_text, version_bytes, version_mac}
 use Rattle.folder_spec.specs.declared.FolderFault.{FolderFault}
@@ -20,7 +19,6 @@ use Rattle.gocrypt_conf.specs.Text.{conf_text, made_conf}
 use Rattle.kdf_suite.specs.ScryptCost.{Cost, IsCost}
 use Rattle.port_model.specs.Draws.{ByteStream}
 use Rattle.vault_names.specs.Cryptomator.{cm_folder_of}
-use Rattle.vault_spec.specs.Cryptomator.{cm_format}
 use Rattle.vault_spec.specs.Gocryptfs.{key_file}
 use Rattle.vault_spec.specs.NewVault.{go_files, cm_files, new_go_vault, new_cm_vault}
 use Rattle.vault_write.specs.declared.drawing.GoParts.{GoParts}

@@ -1,9 +1,6 @@
-use Rattle.std.proofs.Common.{◌≡◌, ◌&&◌, ap, ◌∙◌, sym, subst}
-use Rattle.std.proofs.lemmas.Bool.{and_parts}
-use Rattle.std.specs.Str.{bytes_eq}
-use Rattle.folder_spec.specs.Seen.{IsSeen, under}
+use Rattle.std.proofs.Common.{◌≡◌, ap, ◌∙◌, subst}
+use Rattle.folder_spec.specs.Seen.{under}
 use Rattle.vault_spec.specs.Format.{Directory}
-use Rattle.vault_spec.specs.Vault.{format_of}
 use Rattle.vault_read.specs.Listing.{TellsNames, is_long}
 use Rattle.vault_read.specs.Opened.{kind_of}
 use Rattle.vault_read.proofs.Entries.{entry_found, one_name, no_entry_text, no_entry_name}

@@ -27,7 +27,7 @@ pub record CmSizes (keys : CmKeys) : Type 0 where
   pub text : (id name : List ℕ) → length (cm_text keys id name) ≡ 4 * ((length name + 16 + 2) / 3) + 4
   pub long : (text : List ℕ) → length (cm_long_name text) ≡ 32
 
-nothing_there : (long : Bool) (v : View) (x : Found) → cm_item_of long v x ≡ Nothing → x ≡ NoEntry
+pub nothing_there : (long : Bool) (v : View) (x : Found) → cm_item_of long v x ≡ Nothing → x ≡ NoEntry
 nothing_there long v NoEntry is = refl
 nothing_there true v (FileOf bytes) is = cc
 nothing_there false v (FileOf bytes) is = cc
@@ -51,7 +51,7 @@ nothing_there long v Folder is = by_files long (has_file v content_file) (has_fi
     by_files true false true true is = cc
     by_files false false true true is = cc
 
-faults : (long : Bool) (v : View) (x : Found) (finding : Finding) → cm_item_of long v x ≡ NoItem finding → OfNoItem finding
+pub faults : (long : Bool) (v : View) (x : Found) (finding : Finding) → cm_item_of long v x ≡ NoItem finding → OfNoItem finding
 faults long v NoEntry finding is = cc
 faults true v (FileOf bytes) finding is = inr (inl cc)
 faults false v (FileOf bytes) finding is = cc

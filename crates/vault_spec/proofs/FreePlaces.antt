@@ -31,7 +31,7 @@ pub record KnowsEntries (f : Format) (lawful : IsLawful f) : Type 0 where
   pub not_fixed : (folder : Path) (key name : List ℕ) → IsTrue (lawful.is_key key) → IsTrue (is_name name)
       → (f.is_fixed folder (f.stored key name).name || f.is_full (f.stored key name).name) ≡ false
 
-fault_found : (f : Format) (v : View) (finding : Finding) (at : Path) → IsClean f v → findings.IsNoItem f v finding at → OfNoItem finding → ⊥
+pub fault_found : (f : Format) (v : View) (finding : Finding) (at : Path) → IsClean f v → findings.IsNoItem f v finding at → OfNoItem finding → ⊥
 fault_found f v finding at clean found (inl link) = clean is.SymlinkFound at refl (subst (λ x. findings.IsNoItem f v x at) link found)
 fault_found f v finding at clean found (inr (inl kind)) = clean is.WrongKind at refl (inr (subst (λ x. findings.IsNoItem f v x at) kind found))
 fault_found f v finding at clean found (inr (inr two)) = clean is.TwoKinds at refl (subst (λ x. findings.IsNoItem f v x at) two found)

@@ -47,3 +47,6 @@ mod CmTidy
 mod FreePlaces
 mod GoFree
 mod CmFree
+mod GoDepth
+mod CmDepth
+mod Depths

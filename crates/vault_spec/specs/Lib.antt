@@ -8,6 +8,7 @@ pub mod Find
 pub mod Listing
 pub mod Opens
 pub mod Reached
+pub mod Depth
 pub mod Findings
 pub mod Vault
 pub mod Making

@@ -1,5 +1,5 @@
 //! Laws of the definitions. Each function gives nothing, and its clauses are the laws.
-ghost use Rattle.std.specs.Prelude.{◌≡◌, ◌≢◌, ◌↔◌, ◌++◌, ◌∷◌, [], ℕ, suc, List, Some, Contains, Result, Ok};
+ghost use Rattle.std.specs.Prelude.{◌≡◌, ◌≢◌, ◌↔◌, ◌<◌, ◌+◌, ◌++◌, ◌∷◌, [], ℕ, suc, List, length, Some, Contains, Result, Ok};
 ghost use Rattle.cryptomator_conf.specs.declared.conf.Combo.{Combo};
 ghost use Rattle.cryptomator_conf.specs.declared.conf.CmDraw.{CmDraw};
 ghost use Rattle.cryptomator_conf.specs.Text.{keys_of};
@@ -14,6 +14,7 @@ ghost use Rattle.vault_spec.specs.Adding.{NewItemsComeAlone, NewItemsStayClean, 
 ghost use Rattle.vault_spec.specs.Anywhere.{NewItemsComeAtLast, ContentsOpenAnew};
 ghost use Rattle.vault_spec.specs.Alike.{LooksAlike, GainsItem, HasFolders, IsOrderly, HaveOwnPlaces, place_of};
 ghost use Rattle.vault_spec.specs.Cryptomator.{cm_format};
+ghost use Rattle.vault_spec.specs.Depth.{IsWithinSteps};
 ghost use Rattle.vault_spec.specs.Empty.{IsEmptyVault};
 ghost use Rattle.vault_spec.specs.Find.{find, enter};
 ghost use Rattle.vault_spec.specs.Findings.{IsClean, Belongs, IsEntryOf};
@@ -250,6 +251,13 @@ pub fn what_is_found_stands()
 pub fn entries_of_clean_vaults_are_accounted_for()
     ensures { (vault : Vault) (v : View) (dir : Directory) (entry : folder.Part) → IsClean (format_of vault) v → IsReached (format_of vault) v dir
         → v (folder.child dir.folder entry) ≢ NoEntry → ¬ Belongs (format_of vault) v dir entry → ¬ ((name : List ℕ) → ¬ IsEntryOf (format_of vault) v dir entry name) }
+{}
+
+/// In a clean and orderly vault with no item in a directory that is reached in so many steps, nothing stands more than five parts deeper
+/// than that.
+pub fn clean_vaults_are_shallow()
+    ensures { (vault : Vault) (v : View) (steps : ℕ) → IsOrderly (format_of vault) v → IsClean (format_of vault) v → IsWithinSteps (format_of vault) v steps
+        → (at : folder.Path) → steps + 5 < length at → v at ≡ NoEntry }
 {}
 
 /// A directory has one list of its items.

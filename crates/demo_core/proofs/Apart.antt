@@ -54,7 +54,7 @@ names_tell true false i j one other few less e = absurd (omega (arith, ap first_
 names_tell false true i j one other few less e = absurd (omega (arith, ap first_of e))
 names_tell false false i j one other few less e = digits_tell 6 i j (omega arith) (omega arith) (ap (λ name. take 6 (drop 4 name)) e)
 
-abbrev above_of : ℕ → Path
+abbrev pub above_of : ℕ → Path
 above_of zero = []
 above_of (suc count) = cond (nat_eq (suc count % 4) 0) [] (directory_path count)
 

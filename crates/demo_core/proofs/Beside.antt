@@ -1,9 +1,9 @@
 -- Calls that leave a region as it was, one after the other.
-use Rattle.std.proofs.Common.{◌≡◌, ℕ, Bool, List, Option, Result, Some, None, IsTrue, ◌∙◌, ◌&&◌, true, false, not, is_none, ap, subst, sym, refl}
+use Rattle.std.proofs.Common.{◌≡◌, ◌≢◌, ℕ, Bool, List, Option, Result, Some, None, IsTrue, ◌∙◌, ◌&&◌, true, false, not, is_none, ap, subst, sym, refl}
 use Rattle.content_writing.specs.declared.fault.PutFault.{PutFault}
 use Rattle.vault_write.specs.Founding.{Founds, MayFound, IsFounding, founding, texts, vault_edit}
 use Rattle.vault_write.specs.Making.{StagesOrPlaces, is_apart, is_inside, is_unstaged}
-use Rattle.folder_spec.specs.Event.{Event, Told}
+use Rattle.folder_spec.specs.Event.{Event, FromTo, Told}
 use Rattle.folder_spec.specs.Moments.{Moments, Went}
 use Rattle.folder_spec.specs.Path.{Part, Path, below}
 use Rattle.folder_spec.specs.Region.{IsAsBefore, SparesOld, apart_from, apart_from_both}
@@ -62,6 +62,32 @@ seen_beside region (Some a) (Some b) sound went w is =
 seen_beside region None None sound went w is = absurd is
 seen_beside region (Some a) None sound went w is = absurd is
 seen_beside region None (Some b) sound went w is = absurd went
+
+-- ---- from what is told before
+
+pub carried : (R : Told → Told → Type 0) (t u : Option Told) → FromTo R t u → (a : Told) → t ≡ Some a → (b : Told) × (u ≡ Some b) × R a b
+carried R (Some x) (Some y) went a told = (y, refl, subst (λ z. R z y) (let same : x ≡ a = cc told in same) went)
+carried R None None went a told = cc told
+carried R (Some x) None went a told = absurd went
+carried R None (Some y) went a told = absurd went
+
+pub still_told : (R : Told → Told → Type 0) (t u : Option Told) → FromTo R t u → t ≢ None → u ≢ None
+still_told R None u went told = absurd (told refl)
+still_told R (Some x) (Some y) went told = λ e. cc e
+still_told R (Some x) None went told = absurd went
+
+seen_told : (t : Option Told) (v : View) → IsSeen t v → (a : Told) × (t ≡ Some a)
+seen_told (Some a) v is = (a, refl)
+seen_told None v is = absurd is
+
+-- what is seen before is told, and something after
+pub told_after : (R : Told → Told → Type 0) (t u : Option Told) → FromTo R t u → (v : View) → IsSeen t v → (b : Told) × (u ≡ Some b)
+told_after R t u went v is =
+    let first = seen_told t v is in
+    let now = carried R t u went first.0 first.1 in (now.0, now.1)
+
+pub shown_told : (t : Option Told) (a : Told) → t ≡ Some a → IsSeen t (seen a.state)
+shown_told t a told = subst (λ x. IsSeen x (seen a.state)) (sym told) refl
 
 -- ---- the region beside the work folder and a vault
 

@@ -1,37 +1,46 @@
 -- An item that is made in a vault comes to its tree.
-use Rattle.std.proofs.Common.{◌≡◌, ◌≢◌, ◌∙◌, ◌∷◌, ◌++◌, ◌+◌, ◌<◌, [], ℕ, true, false, List, Option, None, Result, Ok, Err, IfErr, OnOk, refl, sym, ap, subst}
+use Rattle.std.proofs.Common.{◌≡◌, ◌≢◌, ◌∙◌, ◌∷◌, ◌++◌, ◌+◌, ◌<◌, [], ℕ, true, false, List, Option, Some, None, Result, Ok, Err, IfErr, OnOk, refl, sym, ap, subst}
 use Rattle.folder_spec.specs.Event.{FromTo, Told}
 use Rattle.folder_spec.specs.Path.{Path, below}
 use Rattle.folder_spec.specs.Region.{at_or_below}
 use Rattle.folder_spec.specs.View.{View, ShowsAmong}
-use Rattle.folder_spec.specs.Seen.{IsSeen, under}
+use Rattle.folder_spec.specs.Seen.{IsSeen, seen, under}
 use Rattle.folder_spec.proofs.Tellings.{from_to_more}
 use Rattle.std.proofs.lemmas.Result.{on_ok_weaker}
 use Rattle.plain_tree.specs.Names as plain
 use Rattle.vault_spec.specs.Adding.{OpensWith}
 use Rattle.work_folder.specs.Entering.{IsReady}
-use Rattle.content_writing.specs.Content.{Ending}
+use Rattle.content_writing.specs.Content.{Ending, Whole}
 use Rattle.content_writing.specs.declared.fault.PutFault.{PutFault}
 use Rattle.content_writing.specs.declared.fault.PutFault.TheVariants as put
-use Rattle.cryptomator_conf.specs.declared.conf.CmDraw.{CmDraw}
-use Rattle.gocrypt_conf.specs.declared.conf.GoDraw.{GoDraw}
+use Rattle.folder_spec.specs.State.{State}
 use Rattle.vault_write.specs.Faults.{IsDirectoryFault, IsFileFault}
-use Rattle.vault_write.specs.Founding.{CmDrew, GoDrew}
-use Rattle.vault_read.specs.Opened.{OpenedVault}
-use Rattle.vault_spec.specs.Making.{NewItem}
-use Rattle.vault_spec.specs.Opens.{Content, Directory}
-use Rattle.vault_spec.specs.Vault.{format_of}
+use Rattle.vault_read.specs.Contents.{IsOfPath}
+use Rattle.vault_read.specs.Finding as finding
+use Rattle.vault_read.specs.Opened.{OpenedVault, kind_of}
+use Rattle.vault_read.specs.declared.fault.FindFault.{FindFault}
+use Rattle.vault_read.specs.declared.fault.FindFault.TheVariants as find
+use Rattle.vault_read.specs.declared.vault.VaultKind.TheVariants as kind
+use Rattle.vault_spec.specs.Find.{enter}
+use Rattle.vault_spec.specs.Format.{Directory}
+use Rattle.vault_spec.specs.Making.{Allows, NewItem}
+use Rattle.vault_spec.specs.Opens as opens
+use Rattle.vault_spec.specs.Vault.{Cryptomator, Gocryptfs, Vault, format_of}
 use Rattle.vault_write.specs.Calls.{MakesAt, MakesOne, New, making_by}
 use Rattle.vault_write.specs.Making.{Placing, StagesOrPlaces, is_apart}
 use Rattle.vault_write.specs.Placing.{HasVault, IsMaking, ShowsNewTree, making_at}
+use Rattle.vault_write.specs.Refusing.{Answers}
 use Rattle.vault_write.specs.Trees.{GainsItem}
 use Rattle.vault_write.specs.Trees as trees
+use Rattle.demo_core.specs.Drawing.{HasZeroRun}
 use Rattle.demo_core.specs.Demonstration.{bytes_from, content_of, is_directory, path_of, size_of}
-use Rattle.demo_core.specs.Making.{HoldsAlone, IsBeside, IsItemFault, phrase}
+use Rattle.demo_core.specs.Making.{HoldsAlone, IsBeside, IsItemFault, IsOfItem, IsPutOfChance, phrase}
 use Rattle.demo_core.specs.Tree.{opens_as}
 use Rattle.demo_core.proofs.Apart.{item_front, item_name, items_more, path_ends}
 use Rattle.demo_core.proofs.Beside.{beside_by}
-use Rattle.demo_core.proofs.Standing.{not_staged}
+use Rattle.demo_core.proofs.Drawn.{run_refused}
+use Rattle.demo_core.proofs.Entered.{EnteredLeads, StandBelow, front_entered}
+use Rattle.demo_core.proofs.Standing.{not_staged, seen_alone}
 
 -- ---- the item
 
@@ -59,38 +68,23 @@ adds vault work seed number item a b few one other opens tree holds =
 
 -- ---- what an item opens as
 
-pub directory_opens : (seed number : ℕ) → is_directory number ≡ true → Directory ≡ opens_as seed number
+pub directory_opens : (seed number : ℕ) → is_directory number ≡ true → opens.Directory ≡ opens_as seed number
 directory_opens seed number is = rw is refl
 
-pub file_opens : (seed number s n g l : ℕ) (content : List ℕ) → is_directory number ≡ false → s ≡ seed → n ≡ number → g ≡ 0 → l ≡ size_of seed number → bytes_from s n g l ≡ content → Content content ≡ opens_as seed number
+pub file_opens : (seed number s n g l : ℕ) (content : List ℕ) → is_directory number ≡ false → s ≡ seed → n ≡ number → g ≡ 0 → l ≡ size_of seed number → bytes_from s n g l ≡ content → opens.Content content ≡ opens_as seed number
 file_opens seed number s n g l content is one two three four same =
     let whole : bytes_from s n g l ≡ content_of seed number =
     ap (λ x. bytes_from x n g l) one ∙ ap (λ x. bytes_from seed x g l) two ∙ ap (λ x. bytes_from seed number x l) three ∙ ap (λ x. bytes_from seed number 0 x) four in
-    rw is (ap Content (sym same ∙ whole))
-
--- ---- a call
-
-module _ (vault : OpenedVault) (work : Path) (seed number : ℕ) (path : plain.Path) (item : NewItem) (ending : Ending) (drawn : List ℕ) (t u : Option Told) (result : Result (Unit {0}) PutFault)
-    (is : path ≡ path_of number) (makes : MakesAt New vault work path item ending drawn t u result) where
-  made : MakesOne New (placing vault work number item) ending drawn t u result
-  made = makes.named (item_front (is_directory number) number) (item_name (is_directory number) number) (is ∙ path_ends number)
-
-  pub item_ready : OnOk result ((v : View) → IsSeen u v → IsReady v work)
-  item_ready = made.makes.ready
-
-  pub item_beside : IsBeside (is_apart work vault.root) t u
-  item_beside = beside_by (is_apart work vault.root) (is_apart work vault.root)
-      (λ s0 s. IsMaking (placing vault work number item) ending (making_at (placing vault work number item) (making_by New (placing vault work number item) drawn) s0) s0 s)
-      (λ s0 s e. StagesOrPlaces work (making_at (placing vault work number item) (making_by New (placing vault work number item) drawn) s0) s e.call)
-      t u (λ q inside. inside) (λ s0 s here. here.others) made.makes.moments
-
-  pub item_adds : number < 10000 → below work vault.root ≡ None → below vault.root work ≡ None → trees.opens_as item ≡ opens_as seed number
-      → OnOk result (FromTo (λ a b. HoldsAlone vault seed number a.state → HoldsAlone vault seed (number + 1) b.state) t u)
-  item_adds few one other opens = on_ok_weaker result
-      (λ done. from_to_more (λ a b. ShowsNewTree (placing vault work number item) a.state b.state) (λ a b. HoldsAlone vault seed number a.state → HoldsAlone vault seed (number + 1) b.state) t u
-      (λ a b told tree. adds vault work seed number item a b few one other opens tree) done) made.makes.done
+    rw is (ap opens.Content (sym same ∙ whole))
 
 -- ---- faults
+
+pub if_err : (result : Result (Unit {0}) PutFault) (P : PutFault → Type 0) → ((fault : PutFault) → result ≡ Err fault → P fault) → IfErr result P
+if_err (Ok done) P each = tt
+if_err (Err fault) P each = each fault refl
+
+pub at_err : (result : Result (Unit {0}) PutFault) (P : PutFault → Type 0) (fault : PutFault) → result ≡ Err fault → IfErr result P → P fault
+at_err result P fault is holds = subst (λ r. IfErr r P) is holds
 
 pub directory_own : (fault : PutFault) → IsDirectoryFault fault → IsItemFault fault
 directory_own (put.Find fault) own = own
@@ -116,28 +110,88 @@ file_own put.Random own other = tt
 file_own put.Failed own other = tt
 file_own put.NoMemory own other = tt
 
-pub go_own : (draw : GoDraw) (key drawn : List ℕ) (result : Result (Unit {0}) PutFault) → GoDrew draw key drawn result → IfErr result IsItemFault
-go_own draw key drawn (Ok value) drew = tt
-go_own draw key drawn (Err (put.Find fault)) drew = absurd drew
-go_own draw key drawn (Err (put.NotAllowed path)) drew = tt
-go_own draw key drawn (Err (put.Taken at)) drew = tt
-go_own draw key drawn (Err (put.Damaged at fault)) drew = tt
-go_own draw key drawn (Err (put.Limit limit)) drew = tt
-go_own draw key drawn (Err put.ZeroRandom) drew = tt
-go_own draw key drawn (Err put.Source) drew = absurd drew
-go_own draw key drawn (Err put.Random) drew = tt
-go_own draw key drawn (Err put.Failed) drew = tt
-go_own draw key drawn (Err put.NoMemory) drew = tt
+pub chance_own : (fault : PutFault) → IsPutOfChance fault → IsItemFault fault
+chance_own (put.Find fault) chance = absurd chance
+chance_own (put.NotAllowed path) chance = tt
+chance_own (put.Taken at) chance = tt
+chance_own (put.Damaged at fault) chance = tt
+chance_own (put.Limit limit) chance = tt
+chance_own put.ZeroRandom chance = tt
+chance_own put.Source chance = chance
+chance_own put.Random chance = tt
+chance_own put.Failed chance = tt
+chance_own put.NoMemory chance = tt
 
-pub cm_own : (draw : CmDraw) (drawn : List ℕ) (result : Result (Unit {0}) PutFault) → CmDrew draw drawn result → IfErr result IsItemFault
-cm_own draw drawn (Ok value) drew = tt
-cm_own draw drawn (Err (put.Find fault)) drew = absurd drew
-cm_own draw drawn (Err (put.NotAllowed path)) drew = tt
-cm_own draw drawn (Err (put.Taken at)) drew = tt
-cm_own draw drawn (Err (put.Damaged at fault)) drew = tt
-cm_own draw drawn (Err (put.Limit limit)) drew = tt
-cm_own draw drawn (Err put.ZeroRandom) drew = tt
-cm_own draw drawn (Err put.Source) drew = absurd drew
-cm_own draw drawn (Err put.Random) drew = tt
-cm_own draw drawn (Err put.Failed) drew = tt
-cm_own draw drawn (Err put.NoMemory) drew = tt
+-- in a gocryptfs vault each name is allowed
+allows_all : (vault : Vault) (name : List ℕ) → kind_of vault ≡ kind.Gocryptfs → Allows (format_of vault) name
+allows_all (Gocryptfs keys) name is = λ needs. cc needs
+allows_all (Cryptomator cm) name is = cc is
+
+-- an item is refused by chance alone or as its place is taken, where the directory above it is there
+module _ (below_law : StandBelow) (entered : EnteredLeads) (vault : OpenedVault) (work : Path) (seed number : ℕ) (item : NewItem) (drawn : List ℕ) (s : State)
+    (is_go : kind_of vault.vault ≡ kind.Gocryptfs) (holds : HoldsAlone vault seed number s) where
+  front_there : (dir : Directory) × (enter (format_of vault.vault) (under vault.root (seen s)) (item_front (is_directory number) number) ≡ Ok dir)
+  front_there = subst (λ u. (dir : Directory) × (enter (format_of vault.vault) u (item_front (is_directory number) number) ≡ Ok dir)) (sym (seen_alone vault.root s holds.view holds.alone))
+      (front_entered below_law entered seed number (format_of vault.vault) (under vault.root holds.view) holds.good.orderly holds.items)
+
+  not_refused : (fault : FindFault) → IsOfPath fault → ¬ finding.Refuses vault.root (enter (format_of vault.vault) (under vault.root (seen s)) (item_front (is_directory number) number)) fault
+  not_refused (find.NotFound path) own refuses = let never : Ok front_there.0 ≡ Err _ = sym front_there.1 ∙ refuses in cc never
+  not_refused (find.WrongKind path) own refuses = let never : Ok front_there.0 ≡ Err _ = sym front_there.1 ∙ refuses in cc never
+  not_refused (find.NoDirKey path) own refuses = let never : Ok front_there.0 ≡ Err _ = sym front_there.1 ∙ refuses.2 in cc never
+  not_refused (find.NoFolder path) own refuses = let never : Ok front_there.0 ≡ Err _ = sym front_there.1 ∙ refuses.2 in cc never
+  not_refused find.Failed own refuses = own
+  not_refused find.NoMemory own refuses = own
+
+  pub item_refused : (fault : PutFault) → IsItemFault fault → Answers (placing vault work number item) drawn Whole (under vault.root (seen s)) (Err fault) → IsOfItem fault
+  item_refused (put.Find fault) own answer = absurd (not_refused fault own answer.0)
+  item_refused (put.NotAllowed path) own answer = absurd (answer.1.forbidden (allows_all vault.vault _ is_go))
+  item_refused (put.Taken at) own answer = tt
+  item_refused (put.Damaged at fault) own answer = cc (answer.1)
+  item_refused (put.Limit limit) own answer = cc (answer.1)
+  item_refused put.ZeroRandom own answer = tt
+  item_refused put.Source own answer = own
+  item_refused put.Random own answer = tt
+  item_refused put.Failed own answer = tt
+  item_refused put.NoMemory own answer = tt
+
+-- ---- a call
+
+-- a folder that tells its state shows a view
+shown : (t : Option Told) → t ≢ None → (v : View) × IsSeen t v
+shown None told = absurd (told refl)
+shown (Some a) told = (seen a.state, refl)
+
+module _ (vault : OpenedVault) (work : Path) (seed number : ℕ) (path : plain.Path) (item : NewItem) (ending : Ending) (drawn : List ℕ) (t u : Option Told) (result : Result (Unit {0}) PutFault)
+    (is : path ≡ path_of number) (makes : MakesAt New vault work path item ending drawn t u result) where
+  made : MakesOne New (placing vault work number item) ending drawn t u result
+  made = makes.named (item_front (is_directory number) number) (item_name (is_directory number) number) (is ∙ path_ends number)
+
+  pub item_ready : OnOk result ((v : View) → IsSeen u v → IsReady v work)
+  item_ready = made.makes.ready
+
+  pub item_beside : IsBeside (is_apart work vault.root) t u
+  item_beside = beside_by (is_apart work vault.root) (is_apart work vault.root)
+      (λ s0 s. IsMaking (placing vault work number item) ending (making_at (placing vault work number item) (making_by New (placing vault work number item) drawn) s0) s0 s)
+      (λ s0 s e. StagesOrPlaces work (making_at (placing vault work number item) (making_by New (placing vault work number item) drawn) s0) s e.call)
+      t u (λ q inside. inside) (λ s0 s here. here.others) made.makes.moments
+
+  pub item_adds : number < 10000 → below work vault.root ≡ None → below vault.root work ≡ None → trees.opens_as item ≡ opens_as seed number
+      → OnOk result (FromTo (λ a b. HoldsAlone vault seed number a.state → HoldsAlone vault seed (number + 1) b.state) t u)
+  item_adds few one other opens = on_ok_weaker result
+      (λ done. from_to_more (λ a b. ShowsNewTree (placing vault work number item) a.state b.state) (λ a b. HoldsAlone vault seed number a.state → HoldsAlone vault seed (number + 1) b.state) t u
+      (λ a b told tree. adds vault work seed number item a b few one other opens tree) done) made.makes.done
+
+  -- zeros that end it are sixteen in a row
+  pub item_zeros : (t ≢ None) × (result ≡ Err put.ZeroRandom) → HasZeroRun drawn
+  item_zeros why =
+      let view = shown t why.0 in
+      run_refused (format_of vault.vault).content drawn
+      (subst (λ r. Answers (placing vault work number item) drawn ending (under vault.root view.0) r) why.1 (made.answer view.0 view.1))
+
+  -- and what refuses it
+  pub item_chance : StandBelow → EnteredLeads → ending ≡ Whole → IfErr result IsItemFault → IfErr result (λ fault. (a : Told) → t ≡ Some a → kind_of vault.vault ≡ kind.Gocryptfs → HoldsAlone vault seed number a.state → IsOfItem fault)
+  item_chance below_law entered whole own = if_err result _
+      (λ fault err a told is_go holds. item_refused below_law entered vault work seed number item drawn a.state is_go holds fault (at_err result IsItemFault fault err own)
+      (subst (λ e. Answers (placing vault work number item) drawn e (under vault.root (seen a.state)) (Err fault)) whole
+      (subst (λ r. Answers (placing vault work number item) drawn ending (under vault.root (seen a.state)) r) err
+      (made.answer (seen a.state) (subst (λ x. IsSeen x (seen a.state)) (sym told) refl)))))

@@ -1,6 +1,12 @@
 pub mod Naming
 pub mod Giving
 pub mod Apart
+pub mod Numbered
+pub mod Allowed
+pub mod Within
+pub mod Entered
+pub mod Drawn
 pub mod Standing
 pub mod Beside
+pub mod Chances
 pub mod Filling

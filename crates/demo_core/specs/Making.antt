@@ -1,12 +1,12 @@
 -- The vaults of the demonstration.
-use Rattle.std.specs.Prelude.{◌≡◌, ℕ, Bool, List, [], ◌∷◌, codes, Option}
+use Rattle.std.specs.Prelude.{◌≡◌, ◌⊎◌, ℕ, Bool, List, [], ◌∷◌, codes, Option}
 use Rattle.folder_spec.specs.Event.{Told}
 use Rattle.folder_spec.specs.Moments.{Moments}
-use Rattle.folder_spec.specs.Path.{Path}
+use Rattle.folder_spec.specs.Path.{Path, parent}
 use Rattle.folder_spec.specs.Region.{IsAsBefore, apart_from_both, at_or_below}
-use Rattle.folder_spec.specs.Seen.{under}
+use Rattle.folder_spec.specs.Seen.{ShowsFree, under}
 use Rattle.folder_spec.specs.State.{State}
-use Rattle.folder_spec.specs.View.{View, ShowsAmong}
+use Rattle.folder_spec.specs.View.{Folder, NoEntry, View, ShowsAmong}
 use Rattle.content_writing.specs.declared.fault.PutFault.{PutFault}
 use Rattle.content_writing.specs.declared.fault.PutFault.TheVariants as put
 use Rattle.vault_read.specs.declared.fault.LoadFault.TheVariants as load
@@ -18,10 +18,11 @@ use Rattle.vault_spec.specs.Opens.{tree}
 use Rattle.vault_spec.specs.Vault.{Vault, IsVault, format_of}
 use Rattle.vault_write.specs.Founding.{IsNewVault}
 use Rattle.vault_write.specs.Trees.{ShowsVault}
+use Rattle.work_folder.specs.Entering.{IsFresh}
 use Rattle.work_folder.specs.declared.fault.WorkFault.TheVariants as work
 use Rattle.demo_core.specs.Tree.{HasItems}
 use Rattle.demo_core.specs.declared.fault.MakeFault.{MakeFault}
-use Rattle.demo_core.specs.declared.fault.MakeFault.TheVariants.{Work, Load, Put}
+use Rattle.demo_core.specs.declared.fault.MakeFault.TheVariants.{Work, Load, Put, NoMemory}
 
 -- the passphrase of all vaults
 abbrev pub phrase : List ℕ
@@ -59,6 +60,42 @@ abbrev pub IsMakeFault : MakeFault → Type 0
 IsMakeFault (Put fault) = IsItemFault fault
 IsMakeFault fault = Unit {0}
 
+-- The faults of chance: the folder or the random source failed, memory ran out, or zeros were drawn.
+abbrev pub IsPutOfChance : PutFault → Type 0
+IsPutOfChance put.Failed = Unit {0}
+IsPutOfChance put.NoMemory = Unit {0}
+IsPutOfChance put.Random = Unit {0}
+IsPutOfChance put.ZeroRandom = Unit {0}
+IsPutOfChance fault = ⊥
+
+abbrev pub IsOfChance : MakeFault → Type 0
+IsOfChance (Work work.Failed) = Unit {0}
+IsOfChance (Work work.NoMemory) = Unit {0}
+IsOfChance (Work fault) = ⊥
+IsOfChance (Load load.Failed) = Unit {0}
+IsOfChance (Load load.NoMemory) = Unit {0}
+IsOfChance (Load fault) = ⊥
+IsOfChance (Put fault) = IsPutOfChance fault
+IsOfChance NoMemory = Unit {0}
+
+-- and, of an item, that its place is taken
+abbrev pub IsOfItem : PutFault → Type 0
+IsOfItem (put.Taken at) = Unit {0}
+IsOfItem fault = IsPutOfChance fault
+
+abbrev pub IsOfItems : MakeFault → Type 0
+IsOfItems (Put fault) = IsOfItem fault
+IsOfItems fault = IsOfChance fault
+
+-- The work folder can be entered: it is below a directory, and nothing stands there, or a work folder with a bare stage and no more.
+abbrev pub CanEnter : View → Path → Type 0
+CanEnter v work = (v (parent work) ≡ Folder) × ((v work ≡ NoEntry) ⊎ IsFresh v work)
+
+-- A vault can be made at a path: the work folder can be entered, and nothing stands at the path, in a directory.
+pub record CanMake (at : Path) (v : View) : Type 0 where
+  pub work : CanEnter v making_folder
+  pub free : ShowsFree v at
+
 -- at every moment a region is as it was
 abbrev pub IsBeside : (Path → Bool) → Option Told → Option Told → Type 0
 IsBeside region = Moments (IsAsBefore region) (λ s0 s e. Unit {0})
@@ -67,15 +104,14 @@ IsBeside region = Moments (IsAsBefore region) (λ s0 s e. Unit {0})
 abbrev pub MakesBeside : Path → Option Told → Option Told → Type 0
 MakesBeside at = IsBeside (apart_from_both making_folder at)
 
--- A new vault of the kind stands alone at a root, without items.
+-- A new vault of the kind stands alone at a root, in good order and without items.
 pub record StandsNew (kind : VaultKind) (root : Path) (s : State) : Type 0 where
   pub view : View
   pub alone : ShowsAmong (at_or_below root) s (view ∷ [])
   pub vault : Vault
   pub new : IsNewVault (under root view) phrase vault
+  pub good : ShowsVault (format_of vault) root view
   pub is : kind_of vault ≡ kind
-
--- ---- private contracts
 
 -- This vault stands alone at its root, in good order, and has so many items.
 pub record HoldsAlone (vault : OpenedVault) (seed count : ℕ) (s : State) : Type 0 where
@@ -84,6 +120,15 @@ pub record HoldsAlone (vault : OpenedVault) (seed count : ℕ) (s : State) : Typ
   pub good : ShowsVault (format_of vault.vault) vault.root view
   pub opens : IsVault (under vault.root view) phrase vault.vault
   pub items : HasItems seed count (tree (format_of vault.vault) (under vault.root view))
+
+-- and it is the one of this kind that stands at a root
+pub record HoldsInOrder (kind : VaultKind) (root : Path) (seed count : ℕ) (s : State) : Type 0 where
+  pub vault : OpenedVault
+  pub at : vault.root ≡ root
+  pub is : kind_of vault.vault ≡ kind
+  pub holds : HoldsAlone vault seed count s
+
+-- ---- private contracts
 
 -- no making is at fault
 abbrev pub IsNotPut : MakeFault → Type 0

@@ -4,6 +4,7 @@
 pub mod bytes;
 pub mod fault;
 pub mod items;
+pub mod laws;
 pub mod making;
 pub mod steady;
 

@@ -8,12 +8,13 @@ ghost use Rattle.folder_spec.specs.Seen.{IsSeen, ShowsFree};
 ghost use Rattle.folder_spec.specs.View.{View, kind_found};
 ghost use Rattle.move_journal.specs.Journal.{IsParsed};
 ghost use Rattle.port_model.specs.Counts.{CountRose};
-ghost use Rattle.work_folder.specs.Entering.{IsReady};
+ghost use Rattle.work_folder.specs.Entering.{IsFresh, IsReady};
 ghost use Rattle.vault_read.specs.Opened.{kind_of};
 ghost use Rattle.vault_write.specs.Founding.{MayFound};
 ghost use Rattle.vault_write.specs.Making.{is_apart};
 ghost use Rattle.vault_write.specs.Placing.{MayMake};
-ghost use Rattle.demo_core.specs.Making.{HoldsAlone, HoldsItems, IsBeside, IsFailed, IsItemFault, IsMakeFault, IsNotPut, MakesBeside, StandsNew, making_folder, phrase};
+ghost use Rattle.demo_core.specs.Drawing.{Drew, seed_stream};
+ghost use Rattle.demo_core.specs.Making.{CanMake, HoldsAlone, HoldsInOrder, HoldsItems, IsBeside, IsFailed, IsItemFault, IsMakeFault, IsNotPut, IsOfChance, IsOfItem, IsOfItems, IsPutOfChance, MakesBeside, StandsNew, making_folder, phrase};
 
 use crate::bytes::MadeBytes;
 use crate::fault::MakeFault;
@@ -23,12 +24,14 @@ use folder_model::{FPath, FPathFault, Folder, Kind};
 use folder_spec::FolderFault;
 use folder_spec::laws::roots_show_their_own;
 use kdf_suite::ScryptCost;
+use port_model::laws::draws_compose;
 use port_model::{MemRandoms, Randoms};
 use rand_chacha::ChaCha20Rng;
 use rand_core::SeedableRng;
 use std::alloc::{AllocError, Global};
-use vault_read::laws::{clean_vaults_are_orderly, roots_have_one_answer};
+use vault_read::laws::roots_have_one_answer;
 use vault_read::{Vault, VaultKind};
+use vault_spec::laws::{what_is_found_stands, what_stands_is_found_step_by_step};
 use vault_write::{init_cm, init_go, place_dir, place_file};
 use work_folder::Work;
 
@@ -37,7 +40,8 @@ pub const PASSPHRASE: &[u8] = b"demo";
 
 /// The random source of the demonstration: the stream of ChaCha20 whose seed is this number, in 32 bytes from the lowest.
 pub fn random_of(seed: u64) -> MemRandoms<ChaCha20Rng>
-    ensures { ⟦<MemRandoms<ChaCha20Rng> as Randoms>⟧.faults result ≡ 0 }
+    ensures stream { ⟦<MemRandoms<ChaCha20Rng> as Randoms>⟧.left result ≡ Some (seed_stream seed) }
+    ensures faults { ⟦<MemRandoms<ChaCha20Rng> as Randoms>⟧.faults result ≡ 0 }
 {
     let mut bytes = [0; 32];
     bytes[..8].copy_from_slice(&seed.to_le_bytes());
@@ -69,13 +73,17 @@ pub fn make_first<F: Folder, R: Randoms>(
     requires count { count ≤ 2000 }
     ensures holds { OnOk result ((v : View) → IsSeen (F.told folder.new) v → HoldsItems VaultKind.Gocryptfs (codes "g" ∷ []) seed count v) }
     ensures beside { MakesBeside (codes "g" ∷ []) (F.told folder.old) (F.told folder.new) }
-    ensures ready { OnOk result ((v : View) → IsSeen (F.told folder.new) v → IsReady v making_folder) }
+    ensures alone { OnOk result ((a : Told) → F.told folder.new ≡ Some a → HoldsInOrder VaultKind.Gocryptfs (codes "g" ∷ []) seed count a.state) }
+    ensures fresh { OnOk result ((v : View) → IsSeen (F.told folder.new) v → IsFresh v making_folder) }
     ensures failed { IfErr result (λ fault. IsFailed fault → CountRose (F.faults folder.old) (F.faults folder.new)) }
     ensures own { IfErr result (λ fault. IsMakeFault fault) }
+    ensures chance { IfErr result (λ fault. (v : View) → IsSeen (F.told folder.old) v → CanMake (codes "g" ∷ []) v → IsOfItems fault) }
     ensures random { result ≡ Err (MakeFault.Put PutFault.Random) → CountRose (R.faults random.old) (R.faults random.new) }
+    ensures drew { Drew ((F.told folder.old ≢ None) × (result ≡ Err (MakeFault.Put PutFault.ZeroRandom))) (R.left random.old) (R.left random.new) }
     ensures grows { F.faults folder.old ≤ F.faults folder.new }
     ensures counted { R.faults random.old ≤ R.faults random.new }
 {
+    draws_compose();
     let work = make_vault(alloc, folder, VaultKind::Gocryptfs, "g", random)?;
     let vault = load(alloc, folder, "g")?;
     Ok(place_items(alloc, folder, &work, &vault, seed, count, random)?)
@@ -93,15 +101,18 @@ pub fn make_vault<F: Folder, R: Randoms>(
     requires apart { below making_folder (parts_of name.now) ≡ None }
     requires beside { below (parts_of name.now) making_folder ≡ None }
     ensures work { IfOk result (λ work. work ≡ making_folder) }
-    ensures ready { IfOk result (λ work. (v : View) → IsSeen (F.told folder.new) v → IsReady v work) }
+    ensures fresh { IfOk result (λ work. (v : View) → IsSeen (F.told folder.new) v → IsFresh v work) }
     ensures stands { IfOk result (λ work. (a : Told) → F.told folder.new ≡ Some a → StandsNew kind (parts_of name.now) a.state) }
     ensures beside { MakesBeside (parts_of name.now) (F.told folder.old) (F.told folder.new) }
     ensures failed { IfErr result (λ fault. IsFailed fault → CountRose (F.faults folder.old) (F.faults folder.new)) }
     ensures own { IfErr result (λ fault. IsMakeFault fault) }
+    ensures chance { IfErr result (λ fault. (v : View) → IsSeen (F.told folder.old) v → CanMake (parts_of name.now) v → IsOfChance fault) }
     ensures random { result ≡ Err (MakeFault.Put PutFault.Random) → CountRose (R.faults random.old) (R.faults random.new) }
+    ensures drew { Drew (result ≡ Err (MakeFault.Put PutFault.ZeroRandom)) (R.left random.old) (R.left random.new) }
     ensures grows { F.faults folder.old ≤ F.faults folder.new }
     ensures counted { R.faults random.old ≤ R.faults random.new }
 {
+    draws_compose();
     let at = place(alloc, name)?;
     let work = Work::enter(folder, &place(alloc, "w")?)?;
     test_free(folder, &at)?;
@@ -114,6 +125,7 @@ fn test_free<F: Folder>(folder: &mut F, at: &FPath) -> Result<(), PutFault>
     ensures told { F.told folder.new ≡ F.told folder.old }
     ensures free { OnOk result ((v : View) → IsSeen (F.told folder.old) v → ShowsFree v at.now) }
     ensures fault { IfErr result (λ fault. (fault ≡ PutFault.Taken at.now) ⊎ ((fault ≡ PutFault.Failed) ⊎ (fault ≡ PutFault.NoMemory))) }
+    ensures chance { IfErr result (λ fault. (v : View) → IsSeen (F.told folder.old) v → ShowsFree v at.now → IsPutOfChance fault) }
     ensures failed { result ≡ Err PutFault.Failed → CountRose (F.faults folder.old) (F.faults folder.new) }
     ensures grows { F.faults folder.old ≤ F.faults folder.new }
 {
@@ -156,7 +168,9 @@ fn found<F: Folder, R: Randoms>(
     ensures beside { IsBeside (is_apart work.now at.now) (F.told folder.old) (F.told folder.new) }
     ensures failed { result ≡ Err PutFault.Failed → CountRose (F.faults folder.old) (F.faults folder.new) }
     ensures own { IfErr result (λ fault. IsItemFault fault) }
+    ensures chance { IfErr result (λ fault. IsPutOfChance fault) }
     ensures random { result ≡ Err PutFault.Random → CountRose (R.faults random.old) (R.faults random.new) }
+    ensures drew { Drew (result ≡ Err PutFault.ZeroRandom) (R.left random.old) (R.left random.new) }
     ensures grows { F.faults folder.old ≤ F.faults folder.new }
     ensures counted { R.faults random.old ≤ R.faults random.new }
 {
@@ -176,15 +190,14 @@ fn load<F: Folder>(alloc: Global, folder: &mut F, name: &str) -> Result<Vault, M
     ensures holds { IfOk result (λ vault. (seed : ℕ) (a : Told) → F.told folder.new ≡ Some a → StandsNew VaultKind.Gocryptfs (parts_of name.now) a.state → HoldsAlone vault seed 0 a.state) }
     ensures kind { IfOk result (λ vault. (a : Told) → F.told folder.new ≡ Some a → StandsNew VaultKind.Gocryptfs (parts_of name.now) a.state → kind_of vault.vault ≡ VaultKind.Gocryptfs) }
     ensures fault { IfErr result (λ fault. IsNotPut fault) }
+    ensures chance { IfErr result (λ fault. (a : Told) → F.told folder.new ≡ Some a → StandsNew VaultKind.Gocryptfs (parts_of name.now) a.state → IsOfChance fault) }
     ensures failed { IfErr result (λ fault. IsFailed fault → CountRose (F.faults folder.old) (F.faults folder.new)) }
     ensures grows { F.faults folder.old ≤ F.faults folder.new }
 {
     roots_have_one_answer();
     roots_show_their_own();
     let at = place(alloc, name)?;
-    let vault = Vault::load(alloc, folder, &at, PASSPHRASE)?;
-    clean_vaults_are_orderly(&vault);
-    Ok(vault)
+    Ok(Vault::load(alloc, folder, &at, PASSPHRASE)?)
 }
 
 // Makes the items one after the other.
@@ -204,10 +217,13 @@ fn place_items<F: Folder, R: Randoms>(
     ensures beside { IsBeside (is_apart work.now vault.now.root) (F.told folder.old) (F.told folder.new) }
     ensures failed { result ≡ Err PutFault.Failed → CountRose (F.faults folder.old) (F.faults folder.new) }
     ensures own { IfErr result (λ fault. IsItemFault fault) }
+    ensures chance { IfErr result (λ fault. (a : Told) → F.told folder.old ≡ Some a → kind_of vault.now.vault ≡ VaultKind.Gocryptfs → HoldsAlone vault.now seed 0 a.state → IsOfItem fault) }
     ensures random { result ≡ Err PutFault.Random → CountRose (R.faults random.old) (R.faults random.new) }
+    ensures drew { Drew ((F.told folder.old ≢ None) × (result ≡ Err PutFault.ZeroRandom)) (R.left random.old) (R.left random.new) }
     ensures grows { F.faults folder.old ≤ F.faults folder.new }
     ensures counted { R.faults random.old ≤ R.faults random.new }
 {
+    draws_compose();
     for number in 0..count {
         place_item(alloc, folder, work, vault, seed, number, random)?;
     }
@@ -230,10 +246,15 @@ fn place_item<F: Folder, R: Randoms>(
     ensures beside { IsBeside (is_apart work.now vault.now.root) (F.told folder.old) (F.told folder.new) }
     ensures failed { result ≡ Err PutFault.Failed → CountRose (F.faults folder.old) (F.faults folder.new) }
     ensures own { IfErr result (λ fault. IsItemFault fault) }
+    ensures chance { IfErr result (λ fault. (a : Told) → F.told folder.old ≡ Some a → kind_of vault.now.vault ≡ VaultKind.Gocryptfs → HoldsAlone vault.now seed number a.state → IsOfItem fault) }
     ensures random { result ≡ Err PutFault.Random → CountRose (R.faults random.old) (R.faults random.new) }
+    ensures drew { Drew ((F.told folder.old ≢ None) × (result ≡ Err PutFault.ZeroRandom)) (R.left random.old) (R.left random.new) }
     ensures grows { F.faults folder.old ≤ F.faults folder.new }
     ensures counted { R.faults random.old ≤ R.faults random.new }
 {
+    draws_compose();
+    what_is_found_stands();
+    what_stands_is_found_step_by_step();
     let path = path_of(alloc, number)?;
     if is_directory(number) {
         return place_dir(alloc, folder, work, vault, &path, random);

@@ -42,7 +42,7 @@ use Rattle.migrate_core.specs.declared.fault.MoveFault.{MoveFault}
 use Rattle.migrate_core.specs.declared.placing.Done.{Done}
 use Rattle.migrate_core.specs.Moved.{HasMoved, HasPlaced, HaveOneTree, Moved, MovesTold, MovesTree, Placed, StandsIn, done_of, lacking, opened_in}
 use Rattle.migrate_core.specs.Moving.{MovesOnly}
-use Rattle.migrate_core.specs.Sides.{AreSeparate, AreSides, IsWalked, opened_at, side_of}
+use Rattle.migrate_core.specs.Sides.{AreSeparate, AreSides, AreTold, IsWalked, opened_at, side_of}
 
 -- the target is there, however far the migration has come
 pub target_in : (g : Migration) (p : Progress) (v : View) → IsIn g p v → IsThere g.target v
@@ -200,7 +200,7 @@ one_tree held_part same_part from to items others t walked walked_target same v 
 
 -- what is seen of two vaults that are left alone
 pub has_moved : HeldIsPart → SameIsPart → (from to : OpenedVault) (work : Path) (items others : List Planned) (journal : Journal) (t u : Option Told) → AreSeparate from.root to.root work → AreSound t
-    → IsJournal journal → journal.source ≡ from.root → journal.target ≡ to.root → journal.items ≡ length items → IsWalked t from items → IsWalked t to others
+    → IsJournal journal → journal.source ≡ from.root → journal.target ≡ to.root → AreTold journal items → IsWalked t from items → IsWalked t to others
     → ((v : View) → IsSeen t v → match_of v (side_of from items) (side_of to others) ≡ Is Same)
     → MovesOnly work to.root t u → MovesOnly work from.root t u → ((v : View) → IsSeen u v → StandsIn work (done_of journal) v)
     → (count : ℕ) → count ≡ length others → (v : View) → IsSeen u v → HasMoved from to work count v
@@ -214,7 +214,9 @@ has_moved held_part same_part from to work items others journal (Some a) (Some b
           ∙ ap (λ x. tree (format_of from.vault) x path) (sym from_same);
       items = λ own.
           (others, subst (λ x. IsPlanOf to.root (format_of to.vault) x others) (sym to_same) (walked_target.plan w refl (subst (HasOwnFolders to.vault) to_same own)), counted);
-      says = record { journal = done_of journal; is = done_is journal is; phase = refl; source = source; target = target; items = told_items ∙ same_length w (side_of from items) (side_of to others) (walked.ordered w refl) (walked_target.ordered w refl) (same w refl) ∙ sym counted; stands = says v seen_is };
+      says = record { journal = done_of journal; is = done_is journal is; phase = refl; source = source; target = target; items = told_items.1 ∙ same_length w (side_of from items) (side_of to others) (walked.ordered w refl) (walked_target.ordered w refl) (same w refl) ∙ sym counted; stands = says v seen_is };
+      tells = λ own.
+          (items, subst (λ x. IsPlanOf from.root (format_of from.vault) x items) (sym from_same) (walked.plan w refl (subst (HasOwnFolders from.vault) from_same own)), told_items);
     }
   where
     w : View

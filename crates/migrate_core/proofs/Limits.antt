@@ -128,26 +128,37 @@ unfolding opened
 small_stands f u path at bytes stands there small =
     small_file f.content bytes (subst IsSmall (ap (opened_at f u) stands ∙ ap (λ found. opened_file f.content (file_bytes found)) there) small)
 
+-- the content file of an item that opens as a small content is read whole
+record IsReadWhole (keys : Keys) (found : Found) : Type 0 where
+  bytes : List ℕ
+  file : IsSmallFile keys bytes
+  read : limited_reading keys (bytes_found found) ≡ readable keys bytes
+
+small_read : FilesAreNotMuchLonger → FilesAreThere → (a : OpenedVault) (v : View) (path : plain.Path) (at : Path) → HasSmallContents (tree_in a v) → standing (format_of a.vault) (under a.root v) path ≡ File at
+    → IsReadWhole (format_of a.vault).content (v (a.root ++ at))
+small_read short files a v path at small stands =
+    let keys = (format_of a.vault).content in
+    let there : ShowsFile (under a.root v) at = files a.vault (under a.root v) path at stands in
+    let file : IsSmallFile keys there.0 = small_stands (format_of a.vault) (under a.root v) path at there.0 stands there.1 (small path) in
+    record { bytes = there.0; file = file; read = ap (λ found. limited_reading keys (bytes_found found)) there.1 ∙ small_whole content_limit at_limit short keys there.0 file.whole file.small }
+
+pub small_ends : FilesAreNotMuchLonger → FilesAreThere → (a : OpenedVault) (v : View) (path : plain.Path) (at : Path) → HasSmallContents (tree_in a v) → standing (format_of a.vault) (under a.root v) path ≡ File at
+    → (content_at (format_of a.vault).content v (a.root ++ at)).ending ≡ Whole
+small_ends short files a v path at small stands =
+    let whole = small_read short files a v path at small stands in
+    ap (λ (r : Reading). r.ending) whole.read ∙ whole.file.whole
+
 pub small_passes : FilesAreNotMuchLonger → FilesAreThere → (from to : OpenedVault) (v : View) (at : Path) → HasOwnFolders from.vault (under from.root v) → HasSmallContents (tree_in from v) → PassesLimit from to v at → ⊥
 small_passes short files from to v at own small p = by p.cut
   where
-    keys : Keys
-    keys = (format_of from.vault).content
-
-    there : ShowsFile (under from.root v) p.source
-    there = files from.vault (under from.root v) p.path p.source (p.in_source own)
-
-    file : IsSmallFile keys there.0
-    file = small_stands (format_of from.vault) (under from.root v) p.path p.source there.0 (p.in_source own) there.1 (small p.path)
-
-    read : limited_reading keys (bytes_found (v (from.root ++ p.source))) ≡ readable keys there.0
-    read = ap (λ found. limited_reading keys (bytes_found found)) there.1 ∙ small_whole content_limit at_limit short keys there.0 file.whole file.small
+    whole : IsReadWhole (format_of from.vault).content (v (from.root ++ p.source))
+    whole = small_read short files from v p.path p.source small (p.in_source own)
 
     by : IsCut at (content_in from v p.source) (content_in to v p.target) ⊎ IsCut at (content_in to v p.target) (content_in from v p.source) → ⊥
-    by (inl cut) = let never : Whole ≡ Wanting = sym file.whole ∙ ap (λ (r : Reading). r.ending) (sym read) ∙ cut.wanting in cc never
+    by (inl cut) = let never : Whole ≡ Wanting = sym (ap (λ (r : Reading). r.ending) whole.read ∙ whole.file.whole) ∙ cut.wanting in cc never
     by (inr cut) =
-        not_within content_limit at_limit short (format_of to.vault).content (bytes_found (v (to.root ++ p.target))) cut.wanting (concat (readable keys there.0).chunks) file.small
-        (subst (λ (r : Reading). starts_with nat_eq (concat r.chunks) (content_in to v p.target).bytes ≡ true) read cut.begins)
+        not_within content_limit at_limit short (format_of to.vault).content (bytes_found (v (to.root ++ p.target))) cut.wanting (concat (readable (format_of from.vault).content whole.bytes).chunks) whole.file.small
+        (subst (λ (r : Reading). starts_with nat_eq (concat r.chunks) (content_in to v p.target).bytes ≡ true) whole.read cut.begins)
 
 -- ---- comparing
 

@@ -1,14 +1,16 @@
 -- What making a work folder ready and writing a journal move; and what stays in the work folder.
+use Rattle.std.specs.Cmp.Lexicographic.{bytes_decides}
+use Rattle.std.specs.Str.{bytes_eq}
 use Rattle.std.proofs.Common.{◌≡◌, ◌≢◌, ◌&&◌, Bool, true, false, not, ℕ, List, ◌++◌, ◌∷◌, [], Option, Some, None, refl, sym, ap, ◌∙◌, subst, inl, inr, append-nil, append_assoc, codes, IsTrue, is_none}
-use Rattle.folder_spec.specs.Path.{Path, below}
+use Rattle.folder_spec.specs.Path.{Part, Path, below, child}
 use Rattle.folder_spec.specs.State.{Node, State}
 use Rattle.folder_spec.specs.Event.{Call, MakeDir, Create, Append, Sync, Settle, Rename, RemoveFile, RemoveDir, Told, FromTo}
 use Rattle.folder_spec.specs.Moments.{Went}
 use Rattle.folder_spec.specs.Region.{IsAsBefore, Spares, SparesOld, apart_from, apart_from_both}
 use Rattle.folder_spec.specs.Seen.{IsSeen, ShowsNothingOrFile, seen}
-use Rattle.folder_spec.specs.View.{View, FileOf, found}
-use Rattle.folder_spec.proofs.Moments.{went_more}
-use Rattle.folder_spec.proofs.Paths.{begins_or_not, below-append, below-apart, below-both}
+use Rattle.folder_spec.specs.View.{View, FileOf, NoEntry, found}
+use Rattle.folder_spec.proofs.Moments.{went_more, went_to}
+use Rattle.folder_spec.proofs.Paths.{begins_or_not, below-append, below-apart, below-both, below-sibling}
 use Rattle.folder_spec.proofs.Replaces.{apart-below}
 use Rattle.folder_spec.proofs.Tellings.{from_to_more}
 use Rattle.move_journal.specs.Journal.{journal_text}
@@ -22,7 +24,7 @@ use Rattle.work_folder.specs.Changing.{ChangesAt, ChangesOnly, IsChangingAt}
 use Rattle.work_folder.specs.Entering.{IsReady, IsFresh}
 use Rattle.work_folder.specs.Entries.{journal_path, stage_path}
 use Rattle.migrate_core.proofs.Movings.{AreSound, apart_of, both, moves_within}
-use Rattle.migrate_core.specs.Moved.{StandsIn}
+use Rattle.migrate_core.specs.Moved.{IsTidyWork, StandsIn, StaysTidyWork}
 use Rattle.migrate_core.specs.Moving.{OnlyBrings, MovesBeside, MovesOnly}
 
 -- ---- calls that spare a region with the target in it
@@ -117,6 +119,11 @@ writing_as work text s0 s writing = record {
   nodes = writing.journal.nodes;
   made = writing.journal.made;
 }
+
+pub written_beside : (work : Path) (j : Journal) (t u : Option Told) → Writes work j t u → FromTo (λ a b. IsAsBefore (elsewhere work) a.state b.state) t u
+written_beside work j t u writes =
+    from_to_more (λ a b. Went (IsWriting work (journal_text j) a.state) (λ s e. SparesOld (elsewhere work) a.state s e.call) a b) (λ a b. IsAsBefore (elsewhere work) a.state b.state) t u
+    (λ a b is went. writing_as work (journal_text j) a.state b.state (went_to (IsWriting work (journal_text j) a.state) (λ s e. SparesOld (elsewhere work) a.state s e.call) a b went)) writes
 
 pub writing_moves : (work root : Path) (j : Journal) (t u : Option Told) → AreApart root work → Writes work j t u → MovesBeside (elsewhere work) root t u
 writing_moves work root j t u apart writes =
@@ -221,3 +228,63 @@ written_folder work j None (Some b) sound stayed written was v is = absurd staye
 pub journal_stays : (region : Path → Bool) (work : Path) (journal : Journal) (t u : Option Told) → IsTrue (region (journal_path work)) → AreSound t → FromTo (λ a b. IsAsBefore region a.state b.state) t u
     → ((v : View) → IsSeen t v → StandsIn work journal v) → (v : View) → IsSeen u v → StandsIn work journal v
 journal_stays region work journal t u inside sound stayed = stays (StandsIn work journal) region t u sound stayed (λ v w same stands. same (journal_path work) inside ∙ stands)
+
+-- ---- nothing but an empty stage and a journal
+
+-- an entry that is neither of the two journals is elsewhere
+other_entry : (work : Path) (name : Part) → name ≢ codes "journal.new" → name ≢ codes "journal" → IsTrue (elsewhere work (work ++ name ∷ []))
+other_entry work name new journal = elsewhere_in work (name ∷ []) (apart_entry (codes "journal.new") name new) (apart_entry (codes "journal") name journal)
+  where
+    apart_entry : (a b : Part) → b ≢ a → below (a ∷ []) (b ∷ []) ≡ None
+    apart_entry a b other = by (bytes_eq a b) refl
+      where
+        by : (is : Bool) → bytes_eq a b ≡ is → below (a ∷ []) (b ∷ []) ≡ None
+        by true same = absurd (other (sym ((bytes_decides a b).0 same)))
+        by false apart = below-sibling [] a b apart
+
+-- writing a journal leaves no more than that
+pub tidy_written : (work : Path) (j : Journal) (t u : Option Told) → AreSound t → FromTo (λ a b. IsAsBefore (elsewhere work) a.state b.state) t u → HasWritten work j t u → StaysTidyWork work t u
+tidy_written work j (Some a) (Some b) sound stayed written was v is = record {
+  ready = ready_stays work (Some a) (Some b) sound stayed (λ w seen_w. (was w seen_w).ready) v is;
+  alone = λ name stage journal. by name stage journal (bytes_eq name (codes "journal.new")) refl;
+}
+  where
+    by : (name : Part) → name ≢ codes "stage" → name ≢ codes "journal" → (new : Bool) → bytes_eq name (codes "journal.new") ≡ new → v (child work name) ≡ NoEntry
+    by name stage journal true same =
+        ap (λ n. v (child work n)) ((bytes_decides name (codes "journal.new")).0 same) ∙ ap (λ w. w (new_journal_path work)) is ∙ ap (found (λ n. (b.state.nodes n).now)) written.new_journal
+    by name stage journal false other =
+        ap (λ w. w (child work name)) is ∙ seen_as_before (elsewhere work) a.state b.state (sound a refl) stayed (child work name)
+        (other_entry work name (λ e. let never : true ≡ false = sym ((bytes_decides name (codes "journal.new")).1 e) ∙ other in cc never) journal) ∙ (was (seen a.state) refl).alone name stage journal
+tidy_written work j None None sound stayed written was v is = absurd is
+tidy_written work j (Some a) None sound stayed written was v is = absurd stayed
+tidy_written work j None (Some b) sound stayed written was v is = absurd stayed
+
+-- nor does placing items, after which the stage is ready again
+pub tidy_placed : (work root : Path) (t u : Option Told) → AreApart root work → AreSound t → FromTo (λ a b. IsAsBefore (is_apart work root) a.state b.state) t u
+    → ((v : View) → IsSeen u v → IsReady v work) → StaysTidyWork work t u
+tidy_placed work root (Some a) (Some b) apart sound stayed ready was v is = record {
+  ready = ready v is;
+  alone = λ name stage journal. ap (λ w. w (child work name)) is ∙ seen_as_before (is_apart work root) a.state b.state (sound a refl) stayed (child work name) (inside name stage) ∙ (was (seen a.state) refl).alone name stage journal;
+}
+  where
+    outside : (name : Part) → name ≢ codes "stage" → is_inside (below (codes "stage" ∷ []) (name ∷ [])) ≡ false
+    outside name stage = by (bytes_eq (codes "stage") name) refl
+      where
+        by : (same : Bool) → bytes_eq (codes "stage") name ≡ same → is_inside (below (codes "stage" ∷ []) (name ∷ [])) ≡ false
+        by true same = absurd (stage (sym ((bytes_decides (codes "stage") name).0 same)))
+        by false other = ap is_inside (below-sibling [] (codes "stage") name other)
+
+    inside : (name : Part) → name ≢ codes "stage" → IsTrue (is_apart work root (child work name))
+    inside name stage =
+        both (not (is_staged work (work ++ name ∷ []))) (apart_from root (work ++ name ∷ [])) (ap not (staged_in work (name ∷ []) ∙ outside name stage)) (ap is_none (below-apart root work (name ∷ []) apart.one apart.other))
+tidy_placed work root None None apart sound stayed ready was v is = absurd is
+tidy_placed work root (Some a) None apart sound stayed ready was v is = absurd stayed
+tidy_placed work root None (Some b) apart sound stayed ready was v is = absurd stayed
+
+-- a work folder that was just entered has only its stage
+pub fresh_tidy : (v : View) (work : Path) → IsFresh v work → IsTidyWork work v
+fresh_tidy v work fresh = record { ready = fresh.ready; alone = λ name stage journal. fresh.alone name stage }
+
+-- calls that change nothing
+pub tidy_unchanged : (work : Path) (t u : Option Told) → u ≡ t → StaysTidyWork work t u
+tidy_unchanged work t u same = subst (StaysTidyWork work t) (sym same) (λ was. was)

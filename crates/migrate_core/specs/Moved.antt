@@ -1,10 +1,10 @@
 -- What is so once a migration is done.
-use Rattle.std.specs.Prelude.{◌≡◌, ◌≢◌, ℕ, Bool, not, is_some, List, [], length, Option, Result, IfOk}
+use Rattle.std.specs.Prelude.{◌≡◌, ◌≢◌, ℕ, Bool, not, is_some, List, [], length, codes, Option, Result, IfOk}
 use Rattle.std.specs.List.{filter}
-use Rattle.folder_spec.specs.Path.{Path}
+use Rattle.folder_spec.specs.Path.{Part, Path, child}
 use Rattle.folder_spec.specs.Event.{Told}
 use Rattle.folder_spec.specs.Seen.{IsSeen, under}
-use Rattle.folder_spec.specs.View.{FileOf, View}
+use Rattle.folder_spec.specs.View.{FileOf, NoEntry, View}
 use Rattle.move_journal.specs.Journal.{IsJournal, journal_text}
 use Rattle.move_journal.specs.Reading.{journal_path}
 use Rattle.move_journal.specs.declared.journal.Journal.{Journal}
@@ -18,6 +18,8 @@ use Rattle.vault_spec.specs.Opens.{tree}
 use Rattle.vault_spec.specs.Plan.{Planned}
 use Rattle.vault_spec.specs.Vault.{Vault, IsVault, format_of}
 use Rattle.vault_walk.specs.Surveyed.{IsPlanOf}
+use Rattle.work_folder.specs.Entering.{IsReady}
+use Rattle.migrate_core.specs.Sides.{AreTold}
 use Rattle.migrate_core.specs.Copying.{StayGood}
 use Rattle.migrate_core.specs.declared.placing.Done.{Done}
 
@@ -48,13 +50,18 @@ pub record SaysDone (from to work : Path) (count : ℕ) (v : View) : Type 0 wher
 abbrev pub HasItems : OpenedVault → ℕ → View → Type 0
 HasItems a count v = HasOwnFolders a.vault (under a.root v) → (items : List Planned) × IsPlanOf a.root (format_of a.vault) (under a.root v) items × (count ≡ length items)
 
--- both vaults are clean and have one tree, of so many items, and the journal says so
+-- these are the items of the vault that the journal tells, where no two of its directories share a folder
+abbrev pub TellsItems : OpenedVault → Journal → View → Type 0
+TellsItems a journal v = HasOwnFolders a.vault (under a.root v) → (items : List Planned) × IsPlanOf a.root (format_of a.vault) (under a.root v) items × AreTold journal items
+
+-- both vaults are clean and have one tree, of so many items, and the journal says so and tells them
 pub record HasMoved (from to : OpenedVault) (work : Path) (count : ℕ) (v : View) : Type 0 where
   pub source : IsClean (format_of from.vault) (under from.root v)
   pub target : IsClean (format_of to.vault) (under to.root v)
   pub trees : HaveOneTree from to v
   pub items : HasItems to count v
   pub says : SaysDone from.root to.root work count v
+  pub tells : TellsItems from says.journal v
 
 -- whether one of these has the item's path
 abbrev pub is_there : List Planned → Planned → Bool
@@ -63,6 +70,15 @@ is_there there item = is_some (item_with item.path there)
 -- how many items have no path among these
 abbrev pub lacking : List Planned → List Planned → ℕ
 lacking there items = length (filter (λ item. not (is_there there item)) items)
+
+-- an empty stage and perhaps a journal stand in the work folder, and nothing else
+pub record IsTidyWork (work : Path) (v : View) : Type 0 where
+  pub ready : IsReady v work
+  pub alone : (name : Part) → name ≢ codes "stage" → name ≢ codes "journal" → v (child work name) ≡ NoEntry
+
+-- where it was so it is so still
+abbrev pub StaysTidyWork : Path → Option Told → Option Told → Type 0
+StaysTidyWork work told told' = ((v : View) → IsSeen told v → IsTidyWork work v) → (v : View) → IsSeen told' v → IsTidyWork work v
 
 -- after Ok, of so many items
 abbrev pub Moved : {E : Type 0} → OpenedVault → OpenedVault → Path → Option Told → Result Done E → Type 0

@@ -14,7 +14,7 @@ ghost use Rattle.migrate_core.specs.Copying.{MayBegin, StayGood};
 ghost use Rattle.migrate_core.specs.Faults.{Blamed, IsOfTest};
 ghost use Rattle.migrate_core.specs.Leading.{KeepsGuarded, KeepsSettled, LeadsEach};
 ghost use Rattle.migrate_core.specs.Limits.{ComparesNothing, EndsBy, IsOfLimit, PassesInTree};
-ghost use Rattle.migrate_core.specs.Moved.{Moved, MovesTree, Placed, lacking};
+ghost use Rattle.migrate_core.specs.Moved.{IsTidyWork, Moved, MovesTree, Placed, lacking};
 ghost use Rattle.migrate_core.specs.Moving.{MovesOnly};
 ghost use Rattle.migrate_core.specs.Written.{MayWrite, MayWriteTree, WritesBy, journal_texts, lacked};
 ghost use Rattle.migrate_core.specs.Sides.{AllowsEach, AreSeparate, IsAsked, IsWalked};
@@ -56,6 +56,7 @@ pub fn begin<F: Folder, R: Randoms>(
     requires target { IsParsed target.now }
     ensures moved { IfOk result (λ done. MovesTree source.now target.now work.now source_pass.now target_pass.now done (F.told folder.old) (F.told folder.new)) }
     ensures guard { (g : Migration) → IsAsked g source.now target.now work.now source_pass.now target_pass.now → KeepsGuarded g (F.told folder.old) (F.told folder.new) }
+    ensures tidy { IfOk result (λ done. (v : View) → IsSeen (F.told folder.new) v → IsTidyWork work.now v) }
     ensures moves { MovesOnly work.now target.now (F.told folder.old) (F.told folder.new) }
     ensures grows { F.faults folder.old ≤ F.faults folder.new }
     ensures random { R.faults random.old ≤ R.faults random.new }
@@ -98,6 +99,7 @@ fn begin_settled<F: Folder, R: Randoms>(
     requires apart { AreSeparate source.now target.now work.now }
     ensures moved { IfOk result (λ done. MovesTree source.now target.now work.now source_pass.now target_pass.now done (F.told folder.old) (F.told folder.new)) }
     ensures guard { (g : Migration) → IsAsked g source.now target.now work.now source_pass.now target_pass.now → KeepsSettled g (F.told folder.old) (F.told folder.new) }
+    ensures tidy { IfOk result (λ done. (v : View) → IsSeen (F.told folder.new) v → IsTidyWork work.now v) }
     ensures moves { MovesOnly work.now target.now (F.told folder.old) (F.told folder.new) }
     ensures grows { F.faults folder.old ≤ F.faults folder.new }
     ensures random { R.faults random.old ≤ R.faults random.new }
@@ -128,6 +130,7 @@ fn begin_with<F: Folder, R: Randoms>(
     ensures moved { Moved sides.now.source sides.now.target work.now (F.told folder.new) result }
     ensures placed { Placed sides.now.source sides.now.target (F.told folder.old) result }
     ensures guard { LeadsEach sides.now.source sides.now.target work.now Unbegun Finished (F.told folder.old) (F.told folder.new) result }
+    ensures tidy { IfOk result (λ done. (v : View) → IsSeen (F.told folder.new) v → IsTidyWork work.now v) }
     ensures moves { MovesOnly work.now sides.now.target.root (F.told folder.old) (F.told folder.new) }
     ensures grows { F.faults folder.old ≤ F.faults folder.new }
     ensures random { R.faults random.old ≤ R.faults random.new }
@@ -178,6 +181,7 @@ fn move_all<F: Folder, R: Randoms>(
     ensures moved { Moved sides.now.source sides.now.target work.now (F.told folder.new) result }
     ensures placed { IfOk result (λ done. (v : View) → IsSeen (F.told folder.old) v → done.placed ≡ lacking [] plan.now.items) }
     ensures guard { LeadsEach sides.now.source sides.now.target work.now Unbegun Finished (F.told folder.old) (F.told folder.new) result }
+    ensures tidy { IfOk result (λ done. (v : View) → IsSeen (F.told folder.new) v → IsTidyWork work.now v) }
     ensures moves { MovesOnly work.now sides.now.target.root (F.told folder.old) (F.told folder.new) }
     ensures grows { F.faults folder.old ≤ F.faults folder.new }
     ensures random { R.faults random.old ≤ R.faults random.new }

@@ -1,5 +1,5 @@
 //! Ending a migration.
-ghost use Rattle.std.specs.Prelude.{◌≡◌, ◌≤◌, ◌∷◌, [], length, Contains, IfErr, IfOk, OnOk};
+ghost use Rattle.std.specs.Prelude.{◌≡◌, ◌≤◌, ◌∷◌, [], Contains, IfErr, IfOk, OnOk};
 ghost use Rattle.port_model.specs.Counts.{CountRose};
 ghost use Rattle.folder_spec.specs.Path.{Path};
 ghost use Rattle.folder_spec.specs.Seen.{IsSeen};
@@ -19,10 +19,10 @@ ghost use Rattle.migrate_core.specs.Copying.{CopiesAll, HasCopied};
 ghost use Rattle.migrate_core.specs.Faults.{Blamed};
 ghost use Rattle.migrate_core.specs.Leading.{FinishesEach, LeadsTold, progress_of};
 ghost use Rattle.migrate_core.specs.Limits.{ComparesNothing, EndsBy, PassesSeen};
-ghost use Rattle.migrate_core.specs.Moved.{Moved, StandsIn, done_of, lacking};
+ghost use Rattle.migrate_core.specs.Moved.{Moved, StandsIn, StaysTidyWork, done_of, lacking};
 ghost use Rattle.migrate_core.specs.Moving.{MovesOnly};
 ghost use Rattle.migrate_core.specs.Written.{WritesBeside, WritesBy, lacked};
-ghost use Rattle.migrate_core.specs.Sides.{AllowsEach, AreSeparate, IsWalked, StandAll, side_of};
+ghost use Rattle.migrate_core.specs.Sides.{AllowsEach, AreSeparate, AreTold, IsWalked, StandAll, side_of};
 
 use crate::fault::MoveFault;
 use crate::placing::{Done, place_missing};
@@ -63,11 +63,12 @@ pub(crate) fn go_on<F: Folder, R: Randoms>(
     requires stands { journal.phase ≡ Phase.Done → (v : View) → IsSeen (F.told folder.old) v → StandsIn work.now journal v }
     requires source { journal.source ≡ sides.now.source.root }
     requires target { journal.target ≡ sides.now.target.root }
-    requires items { journal.items ≡ length source.now.items }
+    requires items { AreTold journal source.now.items }
     ensures moved { Moved sides.now.source sides.now.target work.now (F.told folder.new) result }
     ensures placed { IfOk result (λ done. (v : View) → IsSeen (F.told folder.old) v → done.placed ≡ lacking there.now source.now.items) }
     ensures building { journal.phase ≡ Phase.Building → LeadsTold sides.now.source sides.now.target work.now journal Begun Finished (F.told folder.old) (F.told folder.new) result }
     ensures done { journal.phase ≡ Phase.Done → StandAll source.now.items there.now → LeadsTold sides.now.source sides.now.target work.now journal Finished Finished (F.told folder.old) (F.told folder.new) result }
+    ensures tidy { IfOk result (λ done. StaysTidyWork work.now (F.told folder.old) (F.told folder.new)) }
     ensures moves { MovesOnly work.now sides.now.target.root (F.told folder.old) (F.told folder.new) }
     ensures grows { F.faults folder.old ≤ F.faults folder.new }
     ensures random { R.faults random.old ≤ R.faults random.new }
@@ -99,10 +100,11 @@ pub(crate) fn finish<F: Folder>(
     requires stands { journal.phase ≡ Phase.Done → (v : View) → IsSeen (F.told folder.old) v → StandsIn work.now journal v }
     requires source { journal.source ≡ sides.now.source.root }
     requires target { journal.target ≡ sides.now.target.root }
-    requires items { journal.items ≡ length source.now.items }
+    requires items { AreTold journal source.now.items }
     ensures moved { Moved sides.now.source sides.now.target work.now (F.told folder.new) result }
     ensures placed { IfOk result (λ done. done.placed ≡ placed) }
     ensures guard { LeadsTold sides.now.source sides.now.target work.now journal (progress_of journal.phase) Finished (F.told folder.old) (F.told folder.new) result }
+    ensures tidy { IfOk result (λ done. StaysTidyWork work.now (F.told folder.old) (F.told folder.new)) }
     ensures moves { MovesOnly work.now sides.now.target.root (F.told folder.old) (F.told folder.new) }
     ensures grows { F.faults folder.old ≤ F.faults folder.new }
     ensures blamed { IfErr result (Blamed (CountRose (F.faults folder.old) (F.faults folder.new)) ⊥) }
@@ -167,6 +169,7 @@ fn say_done<F: Folder>(
     requires work_folder { (v : View) → IsSeen (F.told folder.old) v → IsWorkFolder v work.now }
     requires stands { journal.phase ≡ Phase.Done → (v : View) → IsSeen (F.told folder.old) v → StandsIn work.now journal v }
     ensures says { OnOk result ((v : View) → IsSeen (F.told folder.new) v → StandsIn work.now (done_of journal) v) }
+    ensures tidy { OnOk result (StaysTidyWork work.now (F.told folder.old) (F.told folder.new)) }
     ensures guard { FinishesEach work.now journal (F.told folder.old) (F.told folder.new) result }
     ensures moves { (root : Path) → AreApart root work.now → MovesOnly work.now root (F.told folder.old) (F.told folder.new) }
     ensures grows { F.faults folder.old ≤ F.faults folder.new }

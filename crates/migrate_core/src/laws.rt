@@ -1,8 +1,11 @@
 //! Laws of the definitions. Each function does nothing, and its clauses are the laws.
-ghost use Rattle.std.specs.Prelude.{IfErr, Result};
+ghost use Rattle.std.specs.Prelude.{◌≡◌, ◌++◌, IfErr, Result};
+ghost use Rattle.chunk_files.specs.Reading.{Whole};
 ghost use Rattle.folder_spec.specs.Path.{Path};
 ghost use Rattle.folder_spec.specs.Seen.{under};
 ghost use Rattle.folder_spec.specs.View.{View};
+ghost use Rattle.plain_tree.specs.Names as plain;
+ghost use Rattle.tree_match.specs.Comparing.{content_at};
 ghost use Rattle.tree_match.specs.Guard.{Migration};
 ghost use Rattle.migrate_core.specs.Causes.{Begins, Resumes};
 ghost use Rattle.migrate_core.specs.Completing.{CanBegin, CanResume, IsOfChance};
@@ -14,6 +17,8 @@ ghost use Rattle.migrate_core.specs.declared.placing.Done.{Done};
 ghost use Rattle.vault_read.specs.Laws.{HasOwnFolders};
 ghost use Rattle.vault_read.specs.Opened.{OpenedVault};
 ghost use Rattle.vault_spec.specs.Alike.{HasFolders};
+ghost use Rattle.vault_spec.specs.Standing.{File, standing};
+ghost use Rattle.vault_spec.specs.Vault.{format_of};
 
 use chunk_files::laws::files_are_not_much_longer;
 use move_journal::laws::journals_are_read_back;
@@ -40,9 +45,11 @@ pub fn what_can_resume_is_done()
     walks_tell_the_tree();
 }
 
-/// What comparing names past the limit has more than 2^40 bytes; and where all contents of the source are small, none passes it.
+/// What comparing names past the limit has more than 2^40 bytes. Where all contents of a vault are small, each is read whole, and where those
+/// of the source are, none passes it.
 pub fn small_contents_pass_no_limit()
     ensures long { (from to : OpenedVault) (v : View) (at : Path) → PassesLimit from to v at → IsLonger v at }
+    ensures whole { (a : OpenedVault) (v : View) (path : plain.Path) (at : Path) → HasSmallContents (tree_in a v) → standing (format_of a.vault) (under a.root v) path ≡ File at → (content_at (format_of a.vault).content v (a.root ++ at)).ending ≡ Whole }
     ensures small { (from to : OpenedVault) (v : View) (at : Path) → HasOwnFolders from.vault (under from.root v) → HasSmallContents (tree_in from v) → ¬ PassesLimit from to v at }
 {
     files_are_not_much_longer();

@@ -80,6 +80,7 @@ pub(crate) fn place_missing<F: Folder, R: Randoms>(
     requires there { (v : View) → IsSeen (F.told folder.old) v → IsOrdered there.now }
     ensures guard { LeadsEach sides.now.source sides.now.target work.now Begun Begun (F.told folder.old) (F.told folder.new) result }
     ensures moves { MovesBeside (is_apart work.now sides.now.target.root) sides.now.target.root (F.told folder.old) (F.told folder.new) }
+    ensures ready { IfOk result (λ placed. (v : View) → IsSeen (F.told folder.new) v → IsReady v work.now) }
     ensures none { StandAll items.now there.now → F.told folder.new ≡ F.told folder.old }
     ensures counted { IfOk result (λ placed. IsOrdered there.now → placed ≡ lacking there.now items.now) }
     ensures grows { F.faults folder.old ≤ F.faults folder.new }

@@ -1,4 +1,4 @@
-use Rattle.std.proofs.Common.{◌≡◌, [], Result, ◌∙◌, Ok, sym, ap, subst, Err, Contains, ◌∷◌}
+use Rattle.std.proofs.Common.{◌≡◌, [], Result, ◌∙◌, Ok, IfOk, sym, ap, subst, Err, Contains, ◌∷◌}
 use Rattle.folder_spec.specs.declared.FolderFault.{FolderFault}
 use Rattle.std.proofs.lemmas.Result.{err_from_is_err_and}
 use Rattle.folder_spec.specs.Region.{apart_from_both}
@@ -12,12 +12,12 @@ use Rattle.work_folder.specs.Entering.{IsLeftOver, IsReady, IsWorkOrStage, Enter
 use Rattle.migrate_core.proofs.Beginnings.{enters_goes, told_goes, written_goes}
 use Rattle.migrate_core.proofs.Leadings.{goes_failed, goes_on, then_known}
 use Rattle.migrate_core.proofs.Movings.{moves_on, moves_to, seen_stays, source_beside, turned_over, walked_stays}
-use Rattle.migrate_core.proofs.WorkFolders.{entered_moves, fresh_folder, ready_stays, writing_moves, written_folder, written_moves}
+use Rattle.migrate_core.proofs.WorkFolders.{entered_moves, fresh_folder, fresh_tidy, ready_stays, tidy_written, writing_moves, written_beside, written_folder, written_moves}
 use Rattle.migrate_core.specs.Leading.{LeadsTold}
 use Rattle.migrate_core.specs.Moving.{MovesOnly}
 use Rattle.migrate_core.specs.Sides.{new_journal}
 use Rattle.migrate_core.proofs.Endings.{if_ok_more}
-use Rattle.migrate_core.specs.Moved.{Moved, lacking, done_of}
+use Rattle.migrate_core.specs.Moved.{IsTidyWork, Moved, StaysTidyWork, lacking, done_of}
 use Rattle.migrate_core.proofs.Causing.{folder_unless, moves_pass, never_more, refused_as, work_refused}
 use Rattle.migrate_core.specs.Causes.{IsOfMoving, Moves, Unless, StopsAt}
 use Rattle.migrate_core.specs.Copying.{HasCopied, HaveOwnFolders}
@@ -180,7 +180,7 @@ pub go_on-requires-clause-target : goal.go_on-requires-clause-target
 go_on-requires-clause-target g c = ap (λ (j : Journal). j.target) c.in_ok-journal.ensures.new ∙ c.root-2.ensures
 
 pub go_on-requires-clause-items : goal.go_on-requires-clause-items
-go_on-requires-clause-items g c = ap (λ (j : Journal). j.items) c.in_ok-journal.ensures.new
+go_on-requires-clause-items g c = (ap (λ (j : Journal). j.plan) c.in_ok-journal.ensures.new, ap (λ (j : Journal). j.items) c.in_ok-journal.ensures.new)
 
 pub returns-clause-moved : goal.returns-clause-moved
 returns-clause-moved g c = subst (λ w. Moved c.args.sides.now.source c.args.sides.now.target w (g.F.Folder.told c.go_on.new.folder) c.go_on.result) c.in_ok-entered.ensures.path c.go_on.ensures.moved
@@ -331,6 +331,18 @@ returns-clause-written g c =
     (written_moves work to.root j entered written c.requires.apart.target c.write.ensures.moments))) in
     texts_then c.draws_compose.ensures.composed from to (lacked [] items) first last left left left2 told written after c.go_on.result kept (c.draws_compose.ensures.none left) so_far
     (subst (λ (k : Journal). WritesBy c.go_on.result from to (lacked [] items) (journal_text (done_of k) ∷ []) left left2 written after) is (c.go_on.ensures.written none_ordered))
+
+pub returns-clause-tidy : goal.returns-clause-tidy
+returns-clause-tidy g c =
+    let work = c.args.work.now in
+    let entered = g.F.Folder.told c.enter.new.folder in
+    let written = g.F.Folder.told c.write.new.folder in
+    let after = g.F.Folder.told c.go_on.new.folder in
+    let j = c.in_ok-journal.journal in
+    let here = tidy_written work j entered written (g.met.F.Folder.sound c.enter.new.folder) (written_beside work j entered written c.write.ensures.moments) c.in_ok-write.ensures.written
+    (λ v is. fresh_tidy v work (c.in_ok-entered.ensures.enters.ready v is)) in
+    if_ok_more (λ done. StaysTidyWork work written after) (λ done. (v : View) → IsSeen after v → IsTidyWork work v) c.go_on.result (λ done stays. stays here)
+    (subst (λ w. IfOk c.go_on.result (λ done. StaysTidyWork w written after)) c.in_ok-entered.ensures.path c.go_on.ensures.tidy)
 
 pub returns-in_err-entered-clause-ends : goal.returns-in_err-entered-clause-ends
 returns-in_err-entered-clause-ends g c =

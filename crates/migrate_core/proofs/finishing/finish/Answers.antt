@@ -10,7 +10,7 @@ use Rattle.migrate_core.proofs.Movings.{moves_nowhere}
 use Rattle.migrate_core.specs.Leading.{Goes, progress_of}
 use Rattle.migrate_core.specs.Moving.{MovesOnly}
 use Rattle.migrate_core.specs.Sides.{IsWalked}
-use Rattle.migrate_core.specs.Moved.{done_of}
+use Rattle.migrate_core.specs.Moved.{StaysTidyWork, done_of}
 use Rattle.migrate_core.proofs.Writings.{only_nowhere}
 use Rattle.move_journal.specs.Journal.{journal_text}
 use Rattle.migrate_core.specs.Written.{BringsOnlyTo, WritesBeside}
@@ -162,6 +162,9 @@ returns-in_err-say_done-clause-moving g c =
     let p = err_from_is_err_and c.from_residual-in_err-say_done.result c.from_residual-in_err-say_done.ensures.1 in
     refused_as (λ answer. IfErr answer (StopsLater (HasCopied from to items) (g.F.Folder.told c.args.folder.now))) c.from_residual-in_err-say_done.result p.0 fault p.1 p.2
     (λ v is. never_more (HasCopied from to items v) nothing_stops fault c.in_err-say_done.ensures.moving)
+
+pub returns-clause-tidy : goal.returns-clause-tidy
+returns-clause-tidy g c = subst (λ t. StaysTidyWork c.args.work.now t (g.F.Folder.told c.say_done.new.folder)) (c.in_ok-test_same.ensures.told ∙ c.in_ok-target.ensures.told) c.in_ok-say_done.ensures.tidy
 
 pub returns-in_err-target-clause-ends : goal.returns-in_err-target-clause-ends
 returns-in_err-target-clause-ends g c =

@@ -1,4 +1,4 @@
-use Rattle.std.proofs.Common.{◌≡◌, ◌∙◌, ap, sym, subst, [], arith, ◌∷◌, IfErr}
+use Rattle.std.proofs.Common.{◌≡◌, ◌∙◌, ap, sym, subst, [], arith, ◌∷◌, IfErr, IfOk}
 use Rattle.std.proofs.lemmas.Result.{err_from_is_err_and}
 use Rattle.folder_spec.specs.Region.{apart_from_both}
 use Rattle.folder_spec.specs.Seen.{IsSeen}
@@ -8,10 +8,10 @@ use Rattle.tree_match.specs.Alone.{Begun, Finished}
 use Rattle.vault_write.specs.Making.{is_apart}
 use Rattle.migrate_core.proofs.Leadings.{goes_failed, goes_on, refused_nowhere, seen_then}
 use Rattle.migrate_core.proofs.Movings.{moves_on, moves_to, moves_within, source_apart, walked_stays}
-use Rattle.migrate_core.proofs.WorkFolders.{beside_staged, journal_stays, placing_has, work_folder_stays}
+use Rattle.migrate_core.proofs.WorkFolders.{beside_staged, journal_stays, placing_has, tidy_placed, work_folder_stays}
 use Rattle.migrate_core.specs.Leading.{Goes, progress_of}
 use Rattle.migrate_core.proofs.Endings.{if_ok_more}
-use Rattle.migrate_core.specs.Moved.{Moved, StandsIn, lacking, done_of}
+use Rattle.migrate_core.specs.Moved.{Moved, StandsIn, StaysTidyWork, lacking, done_of}
 use Rattle.migrate_core.specs.Moving.{MovesOnly}
 use Rattle.migrate_core.specs.Copying.{CopiesAll, HasCopied}
 use Rattle.migrate_core.specs.Sides.{AllowsEach, IsWalked, StandAll}
@@ -161,6 +161,17 @@ returns-clause-moving g c =
 
 pub place_missing-requires-clause-allowed : goal.place_missing-requires-clause-allowed
 place_missing-requires-clause-allowed g c = subst (λ items. AllowsEach (format_of c.args.sides.now.target.vault) items) (sym c.as_slice-items.ensures) c.requires.allowed
+
+pub returns-clause-tidy : goal.returns-clause-tidy
+returns-clause-tidy g c =
+    let work = c.args.work.now in
+    let root = c.args.sides.now.target.root in
+    let told = g.F.Folder.told c.args.folder.now in
+    let here = g.F.Folder.told c.place_missing.new.folder in
+    let after = g.F.Folder.told c.finish.new.folder in
+    if_ok_more (λ done. StaysTidyWork work here after) (λ done. StaysTidyWork work told after) c.finish.result
+    (λ done stays was. stays (tidy_placed work root told here c.requires.apart.target (g.met.F.Folder.sound c.args.folder.now) (moves_to (is_apart work root) root told here c.place_missing.ensures.moves) c.in_ok-placed.ensures.ready was))
+    (subst (λ w. IfOk c.finish.result (λ done. StaysTidyWork w here after)) c.at.ensures c.finish.ensures.tidy)
 
 pub returns-in_err-placed-clause-ends : goal.returns-in_err-placed-clause-ends
 returns-in_err-placed-clause-ends g c =

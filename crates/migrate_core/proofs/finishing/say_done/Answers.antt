@@ -2,7 +2,7 @@ use Rattle.std.proofs.Common.{Ok, subst, Contains, [], refl, ◌∷◌}
 use Rattle.std.proofs.lemmas.Result.{err_from_is_err_and}
 use Rattle.migrate_core.proofs.Endings.{says_done_here, says_failed, written_stands}
 use Rattle.migrate_core.specs.Moved.{StandsIn, done_of}
-use Rattle.migrate_core.proofs.WorkFolders.{written_moves}
+use Rattle.migrate_core.proofs.WorkFolders.{tidy_unchanged, tidy_written, written_beside, written_moves}
 use Rattle.migrate_core.proofs.Writings.{journal_written, only_nowhere}
 use Rattle.migrate_core.specs.Written.{BringsOnlyTo}
 use Rattle.move_journal.specs.Journal.{journal_text}
@@ -47,3 +47,13 @@ returns-in_ok-write-in-Building-clause-written g c root apart = journal_written 
 
 pub returns-in_err-write-in-Building-clause-written : goal.returns-in_err-write-in-Building-clause-written
 returns-in_err-write-in-Building-clause-written g c root apart = journal_written c.args.work.now root apart (done_of c.args.journal) (g.F.Folder.told c.args.folder.now) (g.F.Folder.told c.write.new.folder) c.write.ensures.moments
+
+pub returns-in-Done-clause-tidy : goal.returns-in-Done-clause-tidy
+returns-in-Done-clause-tidy g c = tidy_unchanged c.args.work.now (g.F.Folder.told c.args.folder.now) (g.F.Folder.told c.args.folder.now) refl
+
+pub returns-in_ok-write-in-Building-clause-tidy : goal.returns-in_ok-write-in-Building-clause-tidy
+returns-in_ok-write-in-Building-clause-tidy g c =
+    let work = c.args.work.now in
+    let t = g.F.Folder.told c.args.folder.now in
+    let u = g.F.Folder.told c.write.new.folder in
+    tidy_written work (done_of c.args.journal) t u (g.met.F.Folder.sound c.args.folder.now) (written_beside work (done_of c.args.journal) t u c.write.ensures.moments) c.in_ok-write-in-Building.ensures.written

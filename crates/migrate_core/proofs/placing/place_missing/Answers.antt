@@ -101,6 +101,9 @@ returns-clause-guard g c = c.loop-item.invariant.led
 pub returns-clause-moves : goal.returns-clause-moves
 returns-clause-moves g c = c.loop-item.invariant.moves
 
+pub returns-clause-ready : goal.returns-clause-ready
+returns-clause-ready g c = c.loop-item.invariant.ready
+
 pub returns-clause-none : goal.returns-clause-none
 returns-clause-none g c = c.loop-item.invariant.none
 

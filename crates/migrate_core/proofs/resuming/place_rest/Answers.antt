@@ -88,7 +88,7 @@ go_on-requires-clause-work_folder g c = λ v seen.
     (stage_stays work c.args.sides.now.target.root t0 t1 c.requires.apart.target c.again.ensures.restages.moments) (λ w was. (c.requires.used w was).folder) v seen)
 
 pub go_on-requires-clause-items : goal.go_on-requires-clause-items
-go_on-requires-clause-items g c = c.requires.items_named.1
+go_on-requires-clause-items g c = c.requires.items_named
 
 pub returns-clause-moves : goal.returns-clause-moves
 returns-clause-moves g c =

@@ -82,6 +82,11 @@ module _ (from to : OpenedVault) (work : Path) (planned : Planned) (item : NewIt
           | inl one ↦ some_item item (sym gains.there ∙ ap (tree_in to w) (sym one) ∙ none)
           | inr other ↦ there (sym (gains.others path other.0) ∙ none)
         ];
+        gains = λ path there. elim (one_or_not path planned.path) [
+          | inl one ↦ inl one
+          | inr other ↦ inr (λ none. there (gains.others path other.0 ∙ none))
+        ];
+        tidy = stays.tidy;
       }
 
 module _ (from to : OpenedVault) (work : Path) (item : Planned) (t u : Option Told) (separate : AreSeparate from.root to.root work) (sound : AreSound t) (moves : MovesBeside (is_apart work to.root) to.root t u) (of : IsItemOf t from item) where
@@ -116,6 +121,8 @@ stands_copied from to there item v w same stands h = subst (Copies from to item 
   copying = h.copying;
   has = subst (λ path. tree_in to v path ≢ NoItem) stands.2 (h.has stands.0 stands.1);
   keeps = λ path is. is;
+  gains = λ path is. inr is;
+  tidy = λ is. is;
 })
 
 pub none_copied : (from to : OpenedVault) (there : List Planned) (v w : View) → w ≡ v → HasCopied from to there v → HasCopied from to (there ++ []) w

@@ -259,10 +259,10 @@ opened_still work to pass vault (Some a) None sound went opens clean v is = absu
 opened_is : (x : OpenedVault) (root : Path) → x.root ≡ root → x ≡ opened_in root x.vault
 opened_is x root is = ap (λ r. opened_in r x.vault) is
 
-pub tree_moved : (from to work : Path) (from_pass to_pass : List ℕ) (source target : OpenedVault) (t u : Option Told) (result : Result Done MoveFault) → source.root ≡ from → target.root ≡ to → AreSound t → MovesOnly work to t u
+pub tree_moved : (Q : Type 0) (from to work : Path) (from_pass to_pass : List ℕ) (source target : OpenedVault) (t u : Option Told) (result : Result Done MoveFault) → source.root ≡ from → target.root ≡ to → AreSound t → MovesOnly work to t u
     → ((v : View) → IsSeen t v → IsVault (under from v) from_pass source.vault) → ((v : View) → IsSeen t v → IsVault (under to v) to_pass target.vault)
-    → Placed source target t result → Moved source target work u result → EndsBy (StayGood source target t u) source target u result → IfOk result (λ done. MovesTree from to work from_pass to_pass done t u)
-tree_moved from to work from_pass to_pass source target t u (Ok done) source_at target_at sound went opens opens_target placed moved ends = record {
+    → Placed source target t result → Moved source target work u result → EndsBy (StayGood source target t u) Q source target u result → IfOk result (λ done. MovesTree from to work from_pass to_pass done t u)
+tree_moved Q from to work from_pass to_pass source target t u (Ok done) source_at target_at sound went opens opens_target placed moved ends = record {
   source = source.vault;
   target = target.vault;
   opens_source = opens;
@@ -273,7 +273,7 @@ tree_moved from to work from_pass to_pass source target t u (Ok done) source_at 
       (λ v is. subst (λ root. IsClean (format_of target.vault) (under root v)) target_at (moved v is).target);
   stays_good = subst (λ x. StayGood x (opened_in to target.vault) t u) (opened_is source from source_at) (subst (λ y. StayGood source y t u) (opened_is target to target_at) ends);
 }
-tree_moved from to work from_pass to_pass source target t u (Err fault) source_at target_at sound went opens opens_target placed moved ends = tt
+tree_moved Q from to work from_pass to_pass source target t u (Err fault) source_at target_at sound went opens opens_target placed moved ends = tt
 
 -- what is seen at first is seen where the vaults are opened
 pub moved_before : (from to work : Path) (from_pass to_pass : List ℕ) (done : Done) (t0 t u : Option Told) → ((v : View) → IsSeen t0 v → IsSeen t v) → MovesTree from to work from_pass to_pass done t u → MovesTree from to work from_pass to_pass done t0 u

@@ -73,7 +73,7 @@ in_front (y ∷ xs) zero j x before inside at = absurd (omega (arith, before))
 in_front (y ∷ xs) (suc k) zero x before inside at = (0, omega arith, at)
 in_front (y ∷ xs) (suc k) (suc j) x before inside at = let c = in_front xs k j x (omega (arith, before)) (omega (arith, inside)) at in (suc c.0, omega (arith, c.1), c.2)
 
-paths_total : IsTotalOrder path_cmp
+pub paths_total : IsTotalOrder path_cmp
 paths_total = lists_total nat_list_cmp_total
 
 -- what has an earlier path comes before

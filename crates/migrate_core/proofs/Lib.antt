@@ -19,6 +19,7 @@ mod Restaged
 mod SameItems
 mod Searched
 mod Settled
+mod Sharing
 mod Started
 mod Stopping
 mod Within

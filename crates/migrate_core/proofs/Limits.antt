@@ -41,10 +41,13 @@ use Rattle.work_folder.specs.declared.fault.WorkFault.{WorkFault}
 use Rattle.work_folder.specs.declared.fault.WorkFault.TheVariants as works
 use Rattle.migrate_core.proofs.Causing.{refused_as}
 use Rattle.migrate_core.proofs.Copyings.{copied_as}
+use Rattle.migrate_core.proofs.Sharing.{later_taken, share_in_tree, stops_more, taken_for, taken_more}
 use Rattle.migrate_core.proofs.Within.{FilesAreThere}
+use Rattle.migrate_core.specs.Causes.{StopsLater}
 use Rattle.migrate_core.specs.Copying.{CopiesAll, HasCopied, MayBegin, StayGood, tree_in}
 use Rattle.migrate_core.specs.Faults.{of_folder, of_journal, of_match, of_work}
-use Rattle.migrate_core.specs.Limits.{ComparesNothing, EndsBy, HasSmallContents, IsContentAt, IsCut, IsLonger, IsOfLimit, IsSmall, PassesAsTold, PassesInTree, PassesLimit, content_in}
+use Rattle.migrate_core.specs.Sharing.{IsOfTaken, SharesInTree, SharesWhereTidy}
+use Rattle.migrate_core.specs.Limits.{StopsElsewhere, StopsFor, EndsBy, HasSmallContents, IsContentAt, IsCut, IsLonger, IsOfLimit, IsSmall, PassesAsTold, PassesInTree, PassesLimit, content_in}
 use Rattle.migrate_core.specs.Moved.{opened_in}
 use Rattle.migrate_core.specs.Sides.{IsWalked, side_of}
 use Rattle.migrate_core.specs.declared.fault.MoveFault.{MoveFault}
@@ -248,28 +251,31 @@ by_match P outcome match.NoMemory answers passes = tt
 
 -- ---- other faults
 
-pub uncompared : (P : Path → Type 0) (fault : MoveFault) → ComparesNothing fault → IsOfLimit P fault
-uncompared P (Matching why) none = absurd none
-uncompared P (Work fault) none = tt
-uncompared P (Unread fault) none = tt
-uncompared P (Overlap p q) none = tt
-uncompared P (Load side fault) none = tt
-uncompared P (Walk fault) none = tt
-uncompared P (NotEmpty at) none = tt
-uncompared P (NotAllowed path) none = tt
-uncompared P (Changed plan items plan' items') none = tt
-uncompared P (Differ path how) none = tt
-uncompared P (Place fault) none = tt
-uncompared P SourceGone none = tt
-uncompared P Failed none = tt
-uncompared P NoMemory none = tt
+not_compared : (P : Path → Type 0) (Q : Type 0) (fault : MoveFault) → StopsFor Q fault → IsOfLimit P fault
+not_compared P Q (Matching why) none = absurd none
+not_compared P Q (Work fault) none = tt
+not_compared P Q (Unread fault) none = tt
+not_compared P Q (Overlap p q) none = tt
+not_compared P Q (Load side fault) none = tt
+not_compared P Q (Walk fault) none = tt
+not_compared P Q (NotEmpty at) none = tt
+not_compared P Q (NotAllowed path) none = tt
+not_compared P Q (Changed plan items plan' items') none = tt
+not_compared P Q (Differ path how) none = tt
+not_compared P Q (Place fault) none = tt
+not_compared P Q SourceGone none = tt
+not_compared P Q Failed none = tt
+not_compared P Q NoMemory none = tt
 
-pub folder_compares : (fault : FolderFault) → ComparesNothing (of_folder fault)
+pub uncompared : (P : Path → Type 0) (fault : MoveFault) → StopsElsewhere fault → IsOfLimit P fault
+uncompared P fault none = not_compared P ⊥ fault none
+
+pub folder_compares : (fault : FolderFault) → StopsElsewhere (of_folder fault)
 folder_compares folder.Failed = tt
 folder_compares folder.Refused = tt
 folder_compares folder.NoMemory = tt
 
-pub work_compares : (fault : WorkFault) → ComparesNothing (of_work fault)
+pub work_compares : (fault : WorkFault) → StopsElsewhere (of_work fault)
 work_compares (works.NoParent p) = tt
 work_compares (works.WrongKind p) = tt
 work_compares (works.Foreign p) = tt
@@ -278,7 +284,7 @@ work_compares works.Depth = tt
 work_compares works.Failed = tt
 work_compares works.NoMemory = tt
 
-pub journal_compares : (fault : JournalFault) → ComparesNothing (of_journal fault)
+pub journal_compares : (fault : JournalFault) → StopsElsewhere (of_journal fault)
 journal_compares journals.NoJournal = tt
 journal_compares (journals.BadJournal number) = tt
 journal_compares journals.TooLarge = tt
@@ -314,22 +320,39 @@ pub limit_more : {T : Type 0} (P Q : Path → Type 0) (result : Result T MoveFau
 limit_more P Q (Ok value) more h = tt
 limit_more P Q (Err fault) more h = limit_all (λ v. Unit {0}) (λ v. P) Q fault (λ at all. more at (all (λ q. NoEntry) tt)) (λ v s. h)
 
-pub none_compared : {T : Type 0} (Q : Path → Type 0) (result : Result T MoveFault) (fault why : MoveFault) → result ≡ Err fault → fault ≡ why → ComparesNothing why → IfErr result (IsOfLimit Q)
+pub none_compared : {T : Type 0} (Q : Path → Type 0) (result : Result T MoveFault) (fault why : MoveFault) → result ≡ Err fault → fault ≡ why → StopsElsewhere why → IfErr result (IsOfLimit Q)
 none_compared Q result fault why is same none = refused_as (λ answer. IfErr answer (IsOfLimit Q)) result fault why is same (uncompared Q why none)
 
-pub ends_uncompared : {T : Type 0} (P : Type 0) (from to : OpenedVault) (t : Option Told) (result : Result T MoveFault) (fault why : MoveFault) → result ≡ Err fault → fault ≡ why → ComparesNothing why → EndsBy P from to t result
-ends_uncompared P from to t result fault why is same none = refused_as (λ answer. EndsBy P from to t answer) result fault why is same (λ v seen. uncompared (PassesLimit from to v) why none)
+pub ends_stopped : {T : Type 0} (P Q : Type 0) (from to : OpenedVault) (t : Option Told) (result : Result T MoveFault) (fault why : MoveFault) → result ≡ Err fault → fault ≡ why → StopsFor Q why → EndsBy P Q from to t result
+ends_stopped P Q from to t result fault why is same stops =
+    refused_as (λ answer. EndsBy P Q from to t answer) result fault why is same ((λ v seen. not_compared (PassesLimit from to v) Q why stops), taken_for Q Q why (λ h. h) stops)
 
-pub ends_more : {T : Type 0} (P Q : Type 0) (from to : OpenedVault) (t : Option Told) (result : Result T MoveFault) → (P → Q) → EndsBy P from to t result → EndsBy Q from to t result
-ends_more P Q from to t (Ok value) more ends = more ends
-ends_more P Q from to t (Err fault) more ends = ends
+pub ends_uncompared : {T : Type 0} (P Q : Type 0) (from to : OpenedVault) (t : Option Told) (result : Result T MoveFault) (fault why : MoveFault) → result ≡ Err fault → fault ≡ why → StopsElsewhere why → EndsBy P Q from to t result
+ends_uncompared P Q from to t result fault why is same none = ends_stopped P Q from to t result fault why is same (stops_more ⊥ Q why (λ never. absurd never) none)
+
+pub ends_more : {T : Type 0} (P Q R S : Type 0) (from to : OpenedVault) (t : Option Told) (result : Result T MoveFault) → (P → Q) → (R → S) → EndsBy P R from to t result → EndsBy Q S from to t result
+ends_more P Q R S from to t (Ok value) more further ends = more ends
+ends_more P Q R S from to t (Err fault) more further ends = (ends.0, taken_more R S fault further ends.1)
+
+-- where no item is placed any more
+pub ends_later : {T : Type 0} (P Q : Type 0) (Is R : View → Type 0) (from to : OpenedVault) (t u w : Option Told) (result : Result T MoveFault) → (P → Q) → ((v : View) → IsSeen t v → (x : View) × IsSeen u x)
+    → IfErr result (StopsLater Is u) → EndsBy P (Unit {0}) from to w result → EndsBy Q ((v : View) → IsSeen t v → R v) from to w result
+ends_later P Q Is R from to t u w (Ok value) more after later ends = more ends
+ends_later P Q Is R from to t u w (Err fault) more after later ends = (ends.0, later_taken Is R t u fault after later)
+
+pub none_taken : {T : Type 0} (Q : Type 0) (result : Result T MoveFault) (fault why : MoveFault) → result ≡ Err fault → fault ≡ why → StopsElsewhere why → IfErr result (IsOfTaken Q)
+none_taken Q result fault why is same none = refused_as (λ answer. IfErr answer (IsOfTaken Q)) result fault why is same (taken_for ⊥ Q why (λ never. absurd never) none)
+
+pub if_taken : {T : Type 0} (P Q : Type 0) (result : Result T MoveFault) → (P → Q) → IfErr result (IsOfTaken P) → IfErr result (IsOfTaken Q)
+if_taken P Q (Ok value) more h = tt
+if_taken P Q (Err fault) more h = taken_more P Q fault more h
 
 -- of the vaults that two roots and their passphrases are
-pub limit_in_tree : {T : Type 0} (P : Type 0) (from to : Path) (pass pass' : List ℕ) (source target : OpenedVault) (t u : Option Told) (result : Result T MoveFault) → source.root ≡ from → target.root ≡ to
+pub limit_in_tree : {T : Type 0} (P Q : Type 0) (from to : Path) (pass pass' : List ℕ) (source target : OpenedVault) (t u : Option Told) (result : Result T MoveFault) → source.root ≡ from → target.root ≡ to
     → ((v : View) → IsSeen t v → IsVault (under from v) pass source.vault) → ((v : View) → IsSeen t v → IsVault (under to v) pass' target.vault)
-    → EndsBy P source target u result → IfErr result (IsOfLimit (PassesInTree from to pass pass' t u))
-limit_in_tree P from to pass pass' source target t u (Ok value) at_from at_to opens opens_to ends = tt
-limit_in_tree P from to pass pass' source target t u (Err fault) at_from at_to opens opens_to ends =
+    → EndsBy P Q source target u result → IfErr result (IsOfLimit (PassesInTree from to pass pass' t u))
+limit_in_tree P Q from to pass pass' source target t u (Ok value) at_from at_to opens opens_to ends = tt
+limit_in_tree P Q from to pass pass' source target t u (Err fault) at_from at_to opens opens_to ends =
     limit_all (IsSeen u) (PassesLimit source target) (PassesInTree from to pass pass' t u) fault
     (λ at passes. record {
       source = source.vault;
@@ -337,7 +360,14 @@ limit_in_tree P from to pass pass' source target t u (Err fault) at_from at_to o
       opens_source = opens;
       opens_target = opens_to;
       passes = λ v is. subst₂ (λ p q. PassesLimit (opened_in p source.vault) (opened_in q target.vault) v at) at_from at_to (passes v is);
-    }) ends
+    }) ends.0
+
+pub shared_in_tree : {T : Type 0} (P : Type 0) (from to : Path) (pass pass' : List ℕ) (source target : OpenedVault) (t u : Option Told) (result : Result T MoveFault) → source.root ≡ from → target.root ≡ to
+    → ((v : View) → IsSeen t v → IsVault (under from v) pass source.vault) → ((v : View) → IsSeen t v → IsVault (under to v) pass' target.vault)
+    → EndsBy P (SharesWhereTidy source target t u) source target u result → IfErr result (IsOfTaken (SharesInTree from to pass pass' t u))
+shared_in_tree P from to pass pass' source target t u (Ok value) at_from at_to opens opens_to ends = tt
+shared_in_tree P from to pass pass' source target t u (Err fault) at_from at_to opens opens_to ends =
+    taken_more (SharesWhereTidy source target t u) (SharesInTree from to pass pass' t u) fault (share_in_tree from to pass pass' source target t u at_from at_to opens opens_to) ends.1
 
 -- what is seen at first is seen where the vaults are opened
 pub in_tree_before : (from to : Path) (pass pass' : List ℕ) (t0 t u : Option Told) → ((v : View) → IsSeen t0 v → IsSeen t v) → (at : Path) → PassesInTree from to pass pass' t u at → PassesInTree from to pass pass' t0 u at

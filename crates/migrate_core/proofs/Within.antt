@@ -36,7 +36,7 @@ FilesAreThere = (vault : Vault) (v : View) (path : plain.Path) (at : folder.Path
 
 -- ---- what stands opens
 
-content_opens : (keys : Keys) (bytes : List ℕ) → opened_file keys (Some bytes) ≢ NoItem
+pub content_opens : (keys : Keys) (bytes : List ℕ) → opened_file keys (Some bytes) ≢ NoItem
 content_opens keys bytes = by (readable keys bytes).ending (whole_ends keys bytes)
   where
     by : (ending : Ending) → ending ≢ Wanting → opened_by (readable keys bytes).chunks ending ≢ NoItem

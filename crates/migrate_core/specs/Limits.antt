@@ -2,6 +2,7 @@
 use Rattle.std.specs.Prelude.{◌≡◌, ◌⊎◌, ◌*◌, ◌+◌, ◌≤◌, ◌<◌, ◌++◌, ℕ, true, nat_eq, List, length, Option, Result, Ok, Err}
 use Rattle.std.specs.List.{starts_with}
 use Rattle.chunk_files.specs.Reading.{Wanting}
+use Rattle.content_writing.specs.declared.fault.PutFault.TheVariants as put
 use Rattle.folder_spec.specs.Event.{Told}
 use Rattle.folder_spec.specs.Path.{Path}
 use Rattle.folder_spec.specs.Seen.{IsSeen, under}
@@ -21,7 +22,8 @@ use Rattle.vault_spec.specs.Standing.{File, standing}
 use Rattle.vault_spec.specs.Vault.{Vault, IsVault, format_of}
 use Rattle.migrate_core.specs.Moved.{StandsIn, opened_in}
 use Rattle.migrate_core.specs.declared.fault.MoveFault.{MoveFault}
-use Rattle.migrate_core.specs.declared.fault.MoveFault.TheVariants.{Match}
+use Rattle.migrate_core.specs.Sharing.{IsOfTaken}
+use Rattle.migrate_core.specs.declared.fault.MoveFault.TheVariants.{Match, Place}
 
 -- reading the one ends at the limit, at this path, and the other begins with all that was read of it
 pub record IsCut (at : Path) (one other : Content) : Type 0 where
@@ -85,16 +87,21 @@ HasSmallContents t = (path : plain.Path) → IsSmall (t path)
 
 -- ---- between two opened vaults (private contracts only)
 
--- the fault isn't one of comparing
-abbrev pub ComparesNothing : MoveFault → Type 0
-ComparesNothing (Match fault) = ⊥
-ComparesNothing fault = Unit {0}
+-- the fault isn't one of comparing, and of a taken place this is so
+abbrev pub StopsFor : Type 0 → MoveFault → Type 0
+StopsFor P (Match fault) = ⊥
+StopsFor P (Place (put.Taken at)) = P
+StopsFor P fault = Unit {0}
+
+-- it is neither
+abbrev pub StopsElsewhere : MoveFault → Type 0
+StopsElsewhere fault = StopsFor ⊥ fault
 
 -- where the fault says so, that is seen then
 abbrev pub PassesSeen : OpenedVault → OpenedVault → Option Told → MoveFault → Type 0
 PassesSeen from to told fault = (v : View) → IsSeen told v → IsOfLimit (PassesLimit from to v) fault
 
--- after Ok this is so, and a fault says nothing of contents past the limit that isn't seen then
-abbrev pub EndsBy : {T : Type 0} → Type 0 → OpenedVault → OpenedVault → Option Told → Result T MoveFault → Type 0
-EndsBy P from to told (Ok value) = P
-EndsBy P from to told (Err fault) = PassesSeen from to told fault
+-- by the answer: this, or why it stopped at a content or at a taken place
+abbrev pub EndsBy : {T : Type 0} → Type 0 → Type 0 → OpenedVault → OpenedVault → Option Told → Result T MoveFault → Type 0
+EndsBy P Q from to told (Ok value) = P
+EndsBy P Q from to told (Err fault) = PassesSeen from to told fault × IsOfTaken Q fault

@@ -18,10 +18,11 @@ ghost use Rattle.migrate_core.specs.Causes.{IsStop, StopsLater, StopsSeen, nothi
 ghost use Rattle.migrate_core.specs.Copying.{CopiesAll, HasCopied};
 ghost use Rattle.migrate_core.specs.Faults.{Blamed};
 ghost use Rattle.migrate_core.specs.Leading.{FinishesEach, LeadsTold, progress_of};
-ghost use Rattle.migrate_core.specs.Limits.{ComparesNothing, EndsBy, PassesSeen};
+ghost use Rattle.migrate_core.specs.Limits.{StopsElsewhere, EndsBy, PassesSeen};
 ghost use Rattle.migrate_core.specs.Moved.{Moved, StandsIn, StaysTidyWork, done_of, lacking};
 ghost use Rattle.migrate_core.specs.Moving.{MovesOnly};
 ghost use Rattle.migrate_core.specs.Written.{WritesBeside, WritesBy, lacked};
+ghost use Rattle.migrate_core.specs.Sharing.{IsFilled, SharesFrom};
 ghost use Rattle.migrate_core.specs.Sides.{AllowsEach, AreSeparate, AreTold, IsWalked, StandAll, side_of};
 
 use crate::fault::MoveFault;
@@ -74,7 +75,7 @@ pub(crate) fn go_on<F: Folder, R: Randoms>(
     ensures random { R.faults random.old ≤ R.faults random.new }
     ensures blamed { IfErr result (Blamed (CountRose (F.faults folder.old) (F.faults folder.new)) (CountRose (R.faults random.old) (R.faults random.new))) }
     ensures moving { IfErr result (StopsSeen (HasCopied sides.now.source sides.now.target there.now) (F.told folder.old) sides.now.source source.now.items) }
-    ensures ends { EndsBy (CopiesAll sides.now.source sides.now.target there.now source.now.items (F.told folder.old) (F.told folder.new)) sides.now.source sides.now.target (F.told folder.new) result }
+    ensures ends { EndsBy (CopiesAll sides.now.source sides.now.target there.now source.now.items (F.told folder.old) (F.told folder.new)) (SharesFrom (IsFilled sides.now.source sides.now.target there.now) sides.now.target source.now.items (F.told folder.old) (F.told folder.new)) sides.now.source sides.now.target (F.told folder.new) result }
     ensures written { IsOrdered there.now → WritesBy result sides.now.source sides.now.target (lacked there.now source.now.items) (journal_text (done_of journal) ∷ []) (R.left random.old) (R.left random.new) (F.told folder.old) (F.told folder.new) }
 {
     draws_compose();
@@ -109,7 +110,7 @@ pub(crate) fn finish<F: Folder>(
     ensures grows { F.faults folder.old ≤ F.faults folder.new }
     ensures blamed { IfErr result (Blamed (CountRose (F.faults folder.old) (F.faults folder.new)) ⊥) }
     ensures moving { IfErr result (StopsLater (HasCopied sides.now.source sides.now.target source.now.items) (F.told folder.old)) }
-    ensures ends { EndsBy (CopiesAll sides.now.source sides.now.target source.now.items source.now.items (F.told folder.old) (F.told folder.new)) sides.now.source sides.now.target (F.told folder.new) result }
+    ensures ends { EndsBy (CopiesAll sides.now.source sides.now.target source.now.items source.now.items (F.told folder.old) (F.told folder.new)) (Unit {0}) sides.now.source sides.now.target (F.told folder.new) result }
     ensures written { WritesBeside sides.now.target.root (λ file. Contains (journal_text (done_of journal) ∷ []) file) (F.told folder.old) (F.told folder.new) }
 {
     files_have_their_contents();
@@ -174,7 +175,7 @@ fn say_done<F: Folder>(
     ensures moves { (root : Path) → AreApart root work.now → MovesOnly work.now root (F.told folder.old) (F.told folder.new) }
     ensures grows { F.faults folder.old ≤ F.faults folder.new }
     ensures blamed { IfErr result (Blamed (CountRose (F.faults folder.old) (F.faults folder.new)) ⊥) }
-    ensures uncompared { IfErr result ComparesNothing }
+    ensures uncompared { IfErr result StopsElsewhere }
     ensures moving { IfErr result (IsStop (Unit {0}) nothing_stops) }
     ensures written { (root : Path) → AreApart root work.now → WritesBeside root (λ file. Contains (journal_text (done_of journal) ∷ []) file) (F.told folder.old) (F.told folder.new) }
 {

@@ -13,10 +13,11 @@ ghost use Rattle.migrate_core.specs.Causes.{IsStop, StopsSeen, nothing_stops};
 ghost use Rattle.migrate_core.specs.Copying.{CopiesAll, CopiesMissing, CopiesOne, Enters, HasCopied};
 ghost use Rattle.migrate_core.specs.Faults.{Blamed};
 ghost use Rattle.migrate_core.specs.Leading.{LeadsEach};
-ghost use Rattle.migrate_core.specs.Limits.{ComparesNothing};
+ghost use Rattle.migrate_core.specs.Limits.{StopsElsewhere, StopsFor};
 ghost use Rattle.migrate_core.specs.Moved.{is_there, lacking};
 ghost use Rattle.migrate_core.specs.Moving.{MovesBeside};
 ghost use Rattle.migrate_core.specs.Written.{WritesBy, lacked};
+ghost use Rattle.migrate_core.specs.Sharing.{IsFilled, Lacks, SharesFrom};
 ghost use Rattle.migrate_core.specs.Sides.{AllowsEach, AllowsLast, AreSeparate, IsItemOf, IsWalked, StandAll, StandsIn, new_journal};
 
 use crate::fault::MoveFault;
@@ -34,6 +35,7 @@ use tree_match::laws::{
     guarded_migrations_are_seen, placing_keeps_migrations_guarded, walks_tell_the_tree,
 };
 use vault_read::ContentReader;
+use vault_read::laws::{files_have_their_contents, items_keep_vaults};
 use vault_spec::laws::{what_is_found_stands, what_stands_is_found_step_by_step};
 use vault_walk::{Plan, PlanItem, plan_digest};
 use vault_write::{place_dir, place_file};
@@ -51,7 +53,7 @@ pub(crate) fn journal_of(source: &FPath, target: &FPath, plan: &Plan) -> Result<
     ensures new { IfOk result (λ journal. journal ≡ new_journal source.now target.now plan.now.items) }
     ensures digest { IfOk result (λ journal. IsDigest journal.plan) }
     ensures blamed { IfErr result (Blamed ⊥ ⊥) }
-    ensures uncompared { IfErr result ComparesNothing }
+    ensures uncompared { IfErr result StopsElsewhere }
     ensures moving { IfErr result (IsStop (Unit {0}) nothing_stops) }
 {
     Ok(Journal {
@@ -86,7 +88,7 @@ pub(crate) fn place_missing<F: Folder, R: Randoms>(
     ensures grows { F.faults folder.old ≤ F.faults folder.new }
     ensures random { R.faults random.old ≤ R.faults random.new }
     ensures blamed { IfErr result (Blamed (CountRose (F.faults folder.old) (F.faults folder.new)) (CountRose (R.faults random.old) (R.faults random.new))) }
-    ensures uncompared { IfErr result ComparesNothing }
+    ensures stops { IfErr result (StopsFor (SharesFrom (IsFilled sides.now.source sides.now.target there.now) sides.now.target items.now (F.told folder.old) (F.told folder.new))) }
     ensures copies { IfOk result (λ placed. CopiesAll sides.now.source sides.now.target there.now items.now (F.told folder.old) (F.told folder.new)) }
     ensures moving { IfErr result (StopsSeen (HasCopied sides.now.source sides.now.target there.now) (F.told folder.old) sides.now.source items.now) }
     ensures written { IsOrdered there.now → WritesBy result sides.now.source sides.now.target (lacked there.now items.now) [] (R.left random.old) (R.left random.new) (F.told folder.old) (F.told folder.new) }
@@ -129,7 +131,7 @@ fn place_missing_one<F: Folder, R: Randoms>(
     ensures grows { F.faults folder.old ≤ F.faults folder.new }
     ensures random { R.faults random.old ≤ R.faults random.new }
     ensures blamed { IfErr result (Blamed (CountRose (F.faults folder.old) (F.faults folder.new)) (CountRose (R.faults random.old) (R.faults random.new))) }
-    ensures uncompared { IfErr result ComparesNothing }
+    ensures stops { IfErr result (StopsFor (SharesFrom (Lacks sides.now.source sides.now.target item.now) sides.now.target (item.now ∷ []) (F.told folder.old) (F.told folder.new))) }
     ensures moving { IfErr result (StopsSeen (Enters sides.now.target item.now) (F.told folder.old) sides.now.source (item.now ∷ [])) }
     ensures written { IsOrdered there.now → WritesBy result sides.now.source sides.now.target (lacked there.now (item.now ∷ [])) [] (R.left random.old) (R.left random.new) (F.told folder.old) (F.told folder.new) }
 {
@@ -170,13 +172,17 @@ fn place<F: Folder, R: Randoms>(
     ensures grows { F.faults folder.old ≤ F.faults folder.new }
     ensures random { R.faults random.old ≤ R.faults random.new }
     ensures blamed { IfErr result (Blamed (CountRose (F.faults folder.old) (F.faults folder.new)) (CountRose (R.faults random.old) (R.faults random.new))) }
-    ensures uncompared { IfErr result ComparesNothing }
+    ensures stops { IfErr result (StopsFor (SharesFrom (Lacks sides.now.source sides.now.target item.now) sides.now.target (item.now ∷ []) (F.told folder.old) (F.told folder.new))) }
     ensures moving { IfErr result (StopsSeen (Enters sides.now.target item.now) (F.told folder.old) sides.now.source (item.now ∷ [])) }
     ensures written { WritesBy result sides.now.source sides.now.target (item.now ∷ []) [] (R.left random.old) (R.left random.new) (F.told folder.old) (F.told folder.new) }
 {
+    files_have_their_contents();
     guarded_migrations_are_seen();
+    items_keep_vaults(&sides.target);
     placing_keeps_migrations_guarded();
     walks_tell_the_tree();
+    what_is_found_stands();
+    what_stands_is_found_step_by_step();
     match item.node {
         NodeKind::Dir => Ok(place_dir(alloc, folder, work, &sides.target, &item.path, random)?),
         NodeKind::File => place_content(alloc, folder, work, sides, item, random),
@@ -204,15 +210,19 @@ fn place_content<F: Folder, R: Randoms>(
     ensures grows { F.faults folder.old ≤ F.faults folder.new }
     ensures random { R.faults random.old ≤ R.faults random.new }
     ensures blamed { IfErr result (Blamed (CountRose (F.faults folder.old) (F.faults folder.new)) (CountRose (R.faults random.old) (R.faults random.new))) }
-    ensures uncompared { IfErr result ComparesNothing }
+    ensures stops { IfErr result (StopsFor (SharesFrom (Lacks sides.now.source sides.now.target item.now) sides.now.target (item.now ∷ []) (F.told folder.old) (F.told folder.new))) }
     ensures moving { IfErr result (StopsSeen (Enters sides.now.target item.now) (F.told folder.old) sides.now.source (item.now ∷ [])) }
     ensures written { WritesBy result sides.now.source sides.now.target (item.now ∷ []) [] (R.left random.old) (R.left random.new) (F.told folder.old) (F.told folder.new) }
 {
     draws_compose();
     files_fit_as_contents();
+    files_have_their_contents();
     guarded_migrations_are_seen();
+    items_keep_vaults(&sides.target);
     placing_keeps_migrations_guarded();
     walks_tell_the_tree();
+    what_is_found_stands();
+    what_stands_is_found_step_by_step();
     let reader = ContentReader::start(alloc, &sides.source, &item.at)?;
     let mut content = VaultContent::new(alloc, reader);
     Ok(place_file(

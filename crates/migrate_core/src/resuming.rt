@@ -14,7 +14,7 @@ ghost use Rattle.migrate_core.specs.Completing.{CanResume, IsOfChance};
 ghost use Rattle.migrate_core.specs.Copying.{MayBegin, StayGood};
 ghost use Rattle.migrate_core.specs.Faults.{Blamed, IsOfTest};
 ghost use Rattle.migrate_core.specs.Leading.{KeepsGuarded, KeepsSettled, LeadsTold, progress_of};
-ghost use Rattle.migrate_core.specs.Limits.{ComparesNothing, EndsBy, IsOfLimit, PassesAsTold, PassesInTree, PassesSeen};
+ghost use Rattle.migrate_core.specs.Limits.{StopsElsewhere, EndsBy, IsOfLimit, PassesAsTold, PassesInTree, PassesSeen};
 ghost use Rattle.migrate_core.specs.Moved.{done_of, Moved, MovesTold, MovesTree, Placed, lacking};
 ghost use Rattle.migrate_core.specs.Moving.{MovesOnly};
 ghost use Rattle.migrate_core.specs.Written.{MayWrite, MayWriteTold, MayWriteTree, WritesBy, lacked};
@@ -163,7 +163,7 @@ fn test_source<F: Folder>(folder: &mut F, journal: &Journal, work: &FPath) -> Re
     ensures there { OnOk result ((journal.now.phase ≡ Phase.Building) ⊎ ((v : View) → IsSeen (F.told folder.old) v → v journal.now.source ≢ NoEntry)) }
     ensures grows { F.faults folder.old ≤ F.faults folder.new }
     ensures tested { IfErr result IsOfTest }
-    ensures uncompared { IfErr result ComparesNothing }
+    ensures uncompared { IfErr result StopsElsewhere }
     ensures blamed { IfErr result (Blamed (CountRose (F.faults folder.old) (F.faults folder.new)) ⊥) }
     ensures cause { (v : View) → IsSeen (F.told folder.old) v → Unless result (TestsSource journal.now.phase work.now journal.now.source v result) }
 {
@@ -199,7 +199,7 @@ fn resume_with<F: Folder, R: Randoms>(
     ensures random { R.faults random.old ≤ R.faults random.new }
     ensures blamed { IfErr result (Blamed (CountRose (F.faults folder.old) (F.faults folder.new)) (CountRose (R.faults random.old) (R.faults random.new))) }
     ensures cause { (v : View) → IsSeen (F.told folder.old) v → Unless result (ResumesWith sides.now.source sides.now.target work.now journal v result) }
-    ensures ends { EndsBy (StayGood sides.now.source sides.now.target (F.told folder.old) (F.told folder.new)) sides.now.source sides.now.target (F.told folder.new) result }
+    ensures ends { EndsBy (StayGood sides.now.source sides.now.target (F.told folder.old) (F.told folder.new)) (Unit {0}) sides.now.source sides.now.target (F.told folder.new) result }
     ensures written { (v : View) → IsSeen (F.told folder.old) v → MayWrite result sides.now.source sides.now.target (R.left random.old) (R.left random.new) (F.told folder.old) (F.told folder.new) }
 {
     draws_compose();
@@ -240,7 +240,7 @@ fn test_plans<F: Folder>(
 fn test_changed(journal: &Journal, plans: &Plans) -> Result<(), MoveFault>
     ensures told { OnOk result (AreTold journal.now plans.now.source.items) }
     ensures tested { IfErr result IsOfTest }
-    ensures uncompared { IfErr result ComparesNothing }
+    ensures uncompared { IfErr result StopsElsewhere }
     ensures blamed { IfErr result (Blamed ⊥ ⊥) }
     ensures cause { Unless result (TestsTold journal.now plans.now.source.items result) }
 {
@@ -320,7 +320,7 @@ fn place_rest<F: Folder, R: Randoms>(
     ensures random { R.faults random.old ≤ R.faults random.new }
     ensures blamed { IfErr result (Blamed (CountRose (F.faults folder.old) (F.faults folder.new)) (CountRose (R.faults random.old) (R.faults random.new))) }
     ensures cause { (v : View) → IsSeen (F.told folder.old) v → Unless result (Moves (Empties v work.now) sides.now.source sides.now.target v plans.now.source.items result) }
-    ensures ends { EndsBy (StayGood sides.now.source sides.now.target (F.told folder.old) (F.told folder.new)) sides.now.source sides.now.target (F.told folder.new) result }
+    ensures ends { EndsBy (StayGood sides.now.source sides.now.target (F.told folder.old) (F.told folder.new)) (Unit {0}) sides.now.source sides.now.target (F.told folder.new) result }
     ensures written { (v : View) → IsSeen (F.told folder.old) v → WritesBy result sides.now.source sides.now.target (lacked plans.now.target.items plans.now.source.items) (journal_text (done_of journal) ∷ []) (R.left random.old) (R.left random.new) (F.told folder.old) (F.told folder.new) }
 {
     draws_compose();

@@ -8,7 +8,7 @@ ghost use Rattle.vault_spec.specs.Making.{Allows};
 ghost use Rattle.vault_spec.specs.Vault.{IsVault, format_of};
 ghost use Rattle.migrate_core.specs.Causes.{ForbidsLast, RefusesBoth, RefusesLoad, RefusesWalk, RefusesWalks, TestsApart, TestsNames, TestsPair, Unless, Walks};
 ghost use Rattle.migrate_core.specs.Faults.{Blamed, IsOfTest};
-ghost use Rattle.migrate_core.specs.Limits.{ComparesNothing};
+ghost use Rattle.migrate_core.specs.Limits.{StopsElsewhere};
 ghost use Rattle.migrate_core.specs.declared.fault.MoveFault.TheVariants.{NoMemory};
 ghost use Rattle.migrate_core.specs.Sides.{AllowsEach, AllowsLast, AreSeparate, IsWalked};
 
@@ -50,7 +50,7 @@ pub(crate) fn load_both<F: Folder>(
     ensures opens_target { IfOk result (λ sides. (v : View) → IsSeen (F.told folder.old) v → IsVault (under target.now v) target_pass.now sides.target.vault) }
     ensures grows { F.faults folder.old ≤ F.faults folder.new }
     ensures tested { IfErr result IsOfTest }
-    ensures uncompared { IfErr result ComparesNothing }
+    ensures uncompared { IfErr result StopsElsewhere }
     ensures blamed { IfErr result (Blamed (CountRose (F.faults folder.old) (F.faults folder.new)) ⊥) }
     ensures cause { IfErr result (λ fault. (v : View) → IsSeen (F.told folder.old) v → RefusesBoth v source.now target.now source_pass.now target_pass.now fault) }
 {
@@ -71,7 +71,7 @@ fn load<F: Folder>(
     ensures vault { IfOk result (λ vault. (v : View) → IsSeen (F.told folder.old) v → IsVault (under root.now v) pass.now vault.vault) }
     ensures grows { F.faults folder.old ≤ F.faults folder.new }
     ensures tested { IfErr result IsOfTest }
-    ensures uncompared { IfErr result ComparesNothing }
+    ensures uncompared { IfErr result StopsElsewhere }
     ensures blamed { IfErr result (Blamed (CountRose (F.faults folder.old) (F.faults folder.new)) ⊥) }
     ensures cause { IfErr result (λ fault. (v : View) → IsSeen (F.told folder.old) v → RefusesLoad side v root.now pass.now fault) }
 {
@@ -94,7 +94,7 @@ pub(crate) fn walk_both<F: Folder>(
     ensures target { IfOk result (λ plans. IsWalked (F.told folder.old) sides.now.target plans.target.items) }
     ensures grows { F.faults folder.old ≤ F.faults folder.new }
     ensures tested { IfErr result IsOfTest }
-    ensures uncompared { IfErr result ComparesNothing }
+    ensures uncompared { IfErr result StopsElsewhere }
     ensures blamed { IfErr result (Blamed (CountRose (F.faults folder.old) (F.faults folder.new)) ⊥) }
     ensures passed_source { IfOk result (λ plans. (v : View) → IsSeen (F.told folder.old) v → Walks sides.now.source v (Ok plans.source.items)) }
     ensures passed_target { IfOk result (λ plans. (v : View) → IsSeen (F.told folder.old) v → Walks sides.now.target v (Ok plans.target.items)) }
@@ -115,7 +115,7 @@ pub(crate) fn walk_one<F: Folder>(
     ensures walked { IfOk result (λ plan. IsWalked (F.told folder.old) vault.now plan.items) }
     ensures grows { F.faults folder.old ≤ F.faults folder.new }
     ensures tested { IfErr result IsOfTest }
-    ensures uncompared { IfErr result ComparesNothing }
+    ensures uncompared { IfErr result StopsElsewhere }
     ensures blamed { IfErr result (Blamed (CountRose (F.faults folder.old) (F.faults folder.new)) ⊥) }
     ensures passed { IfOk result (λ plan. (v : View) → IsSeen (F.told folder.old) v → Walks vault.now v (Ok plan.items)) }
     ensures cause { IfErr result (λ fault. (v : View) → IsSeen (F.told folder.old) v → RefusesWalk vault.now v fault) }
@@ -127,7 +127,7 @@ pub(crate) fn walk_one<F: Folder>(
 pub(crate) fn test_apart(source: &FPath, target: &FPath, work: &FPath) -> Result<(), MoveFault>
     ensures apart { OnOk result (AreSeparate source.now target.now work.now) }
     ensures tested { IfErr result IsOfTest }
-    ensures uncompared { IfErr result ComparesNothing }
+    ensures uncompared { IfErr result StopsElsewhere }
     ensures blamed { IfErr result (Blamed ⊥ ⊥) }
     ensures cause { Unless result (TestsApart source.now target.now work.now result) }
 {
@@ -139,7 +139,7 @@ pub(crate) fn test_apart(source: &FPath, target: &FPath, work: &FPath) -> Result
 fn test_pair(first: &FPath, second: &FPath) -> Result<(), MoveFault>
     ensures apart { OnOk result (AreApart first.now second.now) }
     ensures tested { IfErr result IsOfTest }
-    ensures uncompared { IfErr result ComparesNothing }
+    ensures uncompared { IfErr result StopsElsewhere }
     ensures blamed { IfErr result (Blamed ⊥ ⊥) }
     ensures cause { Unless result (TestsPair first.now second.now result) }
 {
@@ -153,7 +153,7 @@ fn test_pair(first: &FPath, second: &FPath) -> Result<(), MoveFault>
 pub(crate) fn test_names(vault: &Vault, items: &[PlanItem]) -> Result<(), MoveFault>
     ensures allowed { OnOk result (AllowsEach (format_of vault.now.vault) items.now) }
     ensures tested { IfErr result IsOfTest }
-    ensures uncompared { IfErr result ComparesNothing }
+    ensures uncompared { IfErr result StopsElsewhere }
     ensures blamed { IfErr result (Blamed ⊥ ⊥) }
     ensures cause { Unless result (TestsNames (format_of vault.now.vault) items.now result) }
 {
@@ -167,7 +167,7 @@ pub(crate) fn test_names(vault: &Vault, items: &[PlanItem]) -> Result<(), MoveFa
 fn test_name(vault: &Vault, path: &PlainPath) -> Result<(), MoveFault>
     ensures allowed { OnOk result (AllowsLast (format_of vault.now.vault) path.now) }
     ensures tested { IfErr result IsOfTest }
-    ensures uncompared { IfErr result ComparesNothing }
+    ensures uncompared { IfErr result StopsElsewhere }
     ensures blamed { IfErr result (Blamed ⊥ ⊥) }
     ensures forbids { IfErr result (λ fault. (fault ≡ NoMemory) ⊎ (ForbidsLast (format_of vault.now.vault) path.now × (fault ≡ MoveFault.NotAllowed path.now))) }
 {
@@ -181,7 +181,7 @@ fn test_name(vault: &Vault, path: &PlainPath) -> Result<(), MoveFault>
 fn allow(vault: &Vault, path: &PlainPath, name: &Name) -> Result<(), MoveFault>
     ensures allowed { OnOk result (Allows (format_of vault.now.vault) name.now) }
     ensures tested { IfErr result IsOfTest }
-    ensures uncompared { IfErr result ComparesNothing }
+    ensures uncompared { IfErr result StopsElsewhere }
     ensures blamed { IfErr result (Blamed ⊥ ⊥) }
     ensures forbids { IfErr result (λ fault. (fault ≡ NoMemory) ⊎ ((¬ Allows (format_of vault.now.vault) name.now) × (fault ≡ MoveFault.NotAllowed path.now))) }
 {

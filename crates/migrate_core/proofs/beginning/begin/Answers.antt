@@ -14,8 +14,10 @@ use Rattle.migrate_core.proofs.Writings.{refusal_as, folder_refuses, may_write_a
 use Rattle.migrate_core.proofs.Completing.{begin_completes, folder_chance, own_faults}
 use Rattle.migrate_core.specs.Completing.{IsOfChance}
 use Rattle.migrate_core.specs.Faults.{IsMoveFault}
-use Rattle.migrate_core.proofs.Limits.{folder_compares, in_tree_before, limit_more, none_compared}
+use Rattle.migrate_core.proofs.Limits.{folder_compares, if_taken, in_tree_before, limit_more, none_compared, none_taken}
 use Rattle.migrate_core.specs.Limits.{PassesInTree}
+use Rattle.migrate_core.proofs.Sharing.{in_tree_since}
+use Rattle.migrate_core.specs.Sharing.{SharesInTree}
 use Rattle.migrate_core.proofs.beginning.begin.Goals as goal
 
 pub returns-in_err-test_apart-clause-guard : goal.returns-in_err-test_apart-clause-guard
@@ -147,3 +149,27 @@ returns-clause-too_long g c =
     let t2 = g.F.Folder.told c.begin_settled.new.folder in
     limit_more (PassesInTree from to pass pass' t1 t2) (PassesInTree from to pass pass' t0 t2) c.begin_settled.result
     (in_tree_before from to pass pass' t0 t1 t2 (settle_seen t0 t1 c.in_ok-settle.field-0 c.in_ok-settle.ensures.changes)) c.begin_settled.ensures.too_long
+
+pub returns-in_err-test_apart-clause-shared : goal.returns-in_err-test_apart-clause-shared
+returns-in_err-test_apart-clause-shared g c =
+    let p = err_from_is_err_and c.from_residual.result c.from_residual.ensures.1 in
+    none_taken _ c.from_residual.result p.0 c.in_err-test_apart.field-0.0 p.1 p.2 c.in_err-test_apart.ensures.uncompared
+
+pub returns-in_err-settle-clause-shared : goal.returns-in_err-settle-clause-shared
+returns-in_err-settle-clause-shared g c =
+    let why = c.in_err-settle.field-0.0 in
+    let p = err_from_is_err_and c.from_residual-in_err-settle.result c.from_residual-in_err-settle.ensures.1 in
+    none_taken _ c.from_residual-in_err-settle.result p.0 (of_folder why) p.1 p.2 (folder_compares why)
+
+pub returns-clause-shared : goal.returns-clause-shared
+returns-clause-shared g c =
+    let from = c.args.source.now in
+    let to = c.args.target.now in
+    let pass = c.args.source_pass.now in
+    let pass' = c.args.target_pass.now in
+    let t0 = g.F.Folder.told c.args.folder.now in
+    let t1 = g.F.Folder.told c.settle.new.self in
+    let t2 = g.F.Folder.told c.begin_settled.new.folder in
+    let region = apart_from_both c.args.work.now to in
+    if_taken (SharesInTree from to pass pass' t1 t2) (SharesInTree from to pass pass' t0 t2) c.begin_settled.result
+    (in_tree_since region to from to pass pass' t0 t1 t2 (settle_moves region to t0 t1 c.settle.result c.settle.ensures.changes) (settle_seen t0 t1 c.in_ok-settle.field-0 c.in_ok-settle.ensures.changes)) c.begin_settled.ensures.shared

@@ -20,9 +20,10 @@ use Rattle.std.proofs.lemmas.Result.{err_from_is_err_and}
 use Rattle.work_folder.specs.Looking.{Tests}
 use Rattle.migrate_core.proofs.Writings.{refusal_as, work_refuses, nothing_written, tree_of}
 use Rattle.migrate_core.specs.Written.{MayWrite}
-use Rattle.migrate_core.proofs.Limits.{limit_in_tree, none_compared, work_compares}
+use Rattle.migrate_core.proofs.Limits.{limit_in_tree, none_compared, none_taken, shared_in_tree, work_compares}
 use Rattle.migrate_core.specs.Copying.{StayGood}
 use Rattle.migrate_core.specs.Limits.{EndsBy}
+use Rattle.migrate_core.specs.Sharing.{SharesWhereTidy}
 use Rattle.migrate_core.proofs.beginning.begin_settled.Goals as goal
 
 pub returns-in_err-look-clause-guard : goal.returns-in_err-look-clause-guard
@@ -82,13 +83,13 @@ pub returns-clause-moved : goal.returns-clause-moved
 returns-clause-moved g c =
     let sides = c.in_ok-sides.sides in
     let loads = c.in_ok-sides.ensures in
-    tree_moved c.args.source.now c.args.target.now c.args.work.now c.args.source_pass.now c.args.target_pass.now sides.source sides.target (g.F.Folder.told c.args.folder.now) (g.F.Folder.told c.begin_with.new.folder)
+    tree_moved (SharesWhereTidy sides.source sides.target (g.F.Folder.told c.args.folder.now) (g.F.Folder.told c.begin_with.new.folder)) c.args.source.now c.args.target.now c.args.work.now c.args.source_pass.now c.args.target_pass.now sides.source sides.target (g.F.Folder.told c.args.folder.now) (g.F.Folder.told c.begin_with.new.folder)
     c.begin_with.result loads.source loads.target (g.met.F.Folder.sound c.args.folder.now)
     (subst (λ root. MovesOnly c.args.work.now root (g.F.Folder.told c.args.folder.now) (g.F.Folder.told c.begin_with.new.folder)) loads.target
     (subst (λ t. MovesOnly c.args.work.now sides.target.root t (g.F.Folder.told c.begin_with.new.folder)) (c.load_both.ensures.told ∙ c.look.ensures.told) c.begin_with.ensures.moves)) (λ v is. loads.opens_source v (subst (λ t. IsSeen t v) (sym c.look.ensures.told) is))
     (λ v is. loads.opens_target v (subst (λ t. IsSeen t v) (sym c.look.ensures.told) is))
     (subst (λ t. Placed sides.source sides.target t c.begin_with.result) (c.load_both.ensures.told ∙ c.look.ensures.told) c.begin_with.ensures.placed) c.begin_with.ensures.moved
-    (subst (λ t. EndsBy (StayGood sides.source sides.target t (g.F.Folder.told c.begin_with.new.folder)) sides.source sides.target (g.F.Folder.told c.begin_with.new.folder) c.begin_with.result) (c.load_both.ensures.told ∙ c.look.ensures.told) c.begin_with.ensures.ends)
+    (subst (λ t. EndsBy (StayGood sides.source sides.target t (g.F.Folder.told c.begin_with.new.folder)) (SharesWhereTidy sides.source sides.target t (g.F.Folder.told c.begin_with.new.folder)) sides.source sides.target (g.F.Folder.told c.begin_with.new.folder) c.begin_with.result) (c.load_both.ensures.told ∙ c.look.ensures.told) c.begin_with.ensures.ends)
 
 pub returns-in_err-look-clause-cause : goal.returns-in_err-look-clause-cause
 returns-in_err-look-clause-cause g c v seen =
@@ -171,6 +172,27 @@ returns-clause-too_long g c =
     let loads = c.in_ok-sides.ensures in
     let here = g.F.Folder.told c.load_both.new.folder in
     let after = g.F.Folder.told c.begin_with.new.folder in
-    limit_in_tree (StayGood sides.source sides.target here after) c.args.source.now c.args.target.now c.args.source_pass.now c.args.target_pass.now sides.source sides.target (g.F.Folder.told c.args.folder.now) after
+    limit_in_tree (StayGood sides.source sides.target here after) (SharesWhereTidy sides.source sides.target here after) c.args.source.now c.args.target.now c.args.source_pass.now c.args.target_pass.now sides.source sides.target (g.F.Folder.told c.args.folder.now) after
     c.begin_with.result loads.source loads.target (λ v is. loads.opens_source v (subst (λ t. IsSeen t v) (sym c.look.ensures.told) is)) (λ v is. loads.opens_target v (subst (λ t. IsSeen t v) (sym c.look.ensures.told) is))
     c.begin_with.ensures.ends
+
+pub returns-in_err-look-clause-shared : goal.returns-in_err-look-clause-shared
+returns-in_err-look-clause-shared g c =
+    let why = c.in_err-look.field-0.0 in
+    let p = err_from_is_err_and c.from_residual.result c.from_residual.ensures.1 in
+    none_taken _ c.from_residual.result p.0 (of_work why) p.1 p.2 (work_compares why)
+
+pub returns-in_err-sides-clause-shared : goal.returns-in_err-sides-clause-shared
+returns-in_err-sides-clause-shared g c =
+    let p = err_from_is_err_and c.from_residual-in_err-sides.result c.from_residual-in_err-sides.ensures.1 in
+    none_taken _ c.from_residual-in_err-sides.result p.0 c.in_err-sides.field-0.0 p.1 p.2 c.in_err-sides.ensures.uncompared
+
+pub returns-clause-shared : goal.returns-clause-shared
+returns-clause-shared g c =
+    let sides = c.in_ok-sides.sides in
+    let loads = c.in_ok-sides.ensures in
+    let told = g.F.Folder.told c.args.folder.now in
+    let after = g.F.Folder.told c.begin_with.new.folder in
+    shared_in_tree (StayGood sides.source sides.target told after) c.args.source.now c.args.target.now c.args.source_pass.now c.args.target_pass.now sides.source sides.target told after
+    c.begin_with.result loads.source loads.target (λ v is. loads.opens_source v (subst (λ t. IsSeen t v) (sym c.look.ensures.told) is)) (λ v is. loads.opens_target v (subst (λ t. IsSeen t v) (sym c.look.ensures.told) is))
+    (subst (λ t. EndsBy (StayGood sides.source sides.target t after) (SharesWhereTidy sides.source sides.target t after) sides.source sides.target after c.begin_with.result) (c.load_both.ensures.told ∙ c.look.ensures.told) c.begin_with.ensures.ends)

@@ -21,9 +21,11 @@ use Rattle.migrate_core.proofs.Writings.{refusal_as, nothing_written}
 use Rattle.migrate_core.specs.Written.{WritesBy, journal_texts, lacked}
 use Rattle.migrate_core.proofs.Started.{empty_held, may_begin}
 use Rattle.migrate_core.specs.Copying.{MayBegin}
-use Rattle.migrate_core.proofs.Limits.{ends_uncompared}
+use Rattle.migrate_core.proofs.Limits.{ends_more, ends_uncompared}
 use Rattle.migrate_core.specs.Copying.{StayGood}
 use Rattle.migrate_core.specs.Limits.{EndsBy}
+use Rattle.migrate_core.proofs.Sharing.{source_shares}
+use Rattle.migrate_core.specs.Sharing.{IsFilled, SharesFrom, SharesWhereTidy}
 use Rattle.migrate_core.proofs.beginning.begin_with.Goals as goal
 
 pub returns-in_err-plans-clause-guard : goal.returns-in_err-plans-clause-guard
@@ -190,21 +192,29 @@ move_all-requires-clause-copying g c =
 pub returns-in_err-plans-clause-ends : goal.returns-in_err-plans-clause-ends
 returns-in_err-plans-clause-ends g c =
     let p = err_from_is_err_and c.from_residual.result c.from_residual.ensures.1 in
-    ends_uncompared _ c.args.sides.now.source c.args.sides.now.target (g.F.Folder.told c.walk_both.new.folder) c.from_residual.result p.0 c.in_err-plans.field-0.0 p.1 p.2 c.in_err-plans.ensures.uncompared
+    ends_uncompared _ _ c.args.sides.now.source c.args.sides.now.target (g.F.Folder.told c.walk_both.new.folder) c.from_residual.result p.0 c.in_err-plans.field-0.0 p.1 p.2 c.in_err-plans.ensures.uncompared
 
 pub returns-in_err-test_empty-clause-ends : goal.returns-in_err-test_empty-clause-ends
 returns-in_err-test_empty-clause-ends g c =
     let p = err_from_is_err_and c.from_residual-in_err-test_empty.result c.from_residual-in_err-test_empty.ensures.1 in
-    ends_uncompared _ c.args.sides.now.source c.args.sides.now.target (g.F.Folder.told c.walk_both.new.folder) c.from_residual-in_err-test_empty.result p.0 c.in_err-test_empty.field-0.0 p.1 p.2 c.in_err-test_empty.ensures.uncompared
+    ends_uncompared _ _ c.args.sides.now.source c.args.sides.now.target (g.F.Folder.told c.walk_both.new.folder) c.from_residual-in_err-test_empty.result p.0 c.in_err-test_empty.field-0.0 p.1 p.2 c.in_err-test_empty.ensures.uncompared
 
 pub returns-in_err-test_names-clause-ends : goal.returns-in_err-test_names-clause-ends
 returns-in_err-test_names-clause-ends g c =
     let p = err_from_is_err_and c.from_residual-in_err-test_names.result c.from_residual-in_err-test_names.ensures.1 in
-    ends_uncompared _ c.args.sides.now.source c.args.sides.now.target (g.F.Folder.told c.walk_both.new.folder) c.from_residual-in_err-test_names.result p.0 c.in_err-test_names.field-0.0 p.1 p.2 c.in_err-test_names.ensures.uncompared
+    ends_uncompared _ _ c.args.sides.now.source c.args.sides.now.target (g.F.Folder.told c.walk_both.new.folder) c.from_residual-in_err-test_names.result p.0 c.in_err-test_names.field-0.0 p.1 p.2 c.in_err-test_names.ensures.uncompared
 
 pub returns-clause-ends : goal.returns-clause-ends
 returns-clause-ends g c =
     let from = c.args.sides.now.source in
     let to = c.args.sides.now.target in
     let after = g.F.Folder.told c.move_all.new.folder in
-    subst (λ t. EndsBy (StayGood from to t after) from to after c.move_all.result) c.walk_both.ensures.told c.move_all.ensures.ends
+    let told = g.F.Folder.told c.args.folder.now in
+    let plans = c.in_ok-plans.plans in
+    let items = plans.source.items in
+    let walked_to = subst (IsWalked told to) (sym c.as_slice.ensures ∙ c.in_ok-test_empty.ensures.empty) c.in_ok-plans.ensures.target in
+    let may = may_begin c.walks_tell_the_tree.ensures.plan from to c.clean_vaults_are_orderly.ensures c.clean_vaults_are_orderly-2.ensures items [] told (g.met.F.Folder.sound c.args.folder.now)
+    c.in_ok-plans.ensures.source walked_to c.in_ok-plans.ensures.passed_source (empty_held c.walks_tell_the_tree.ensures.plan from to items told) in
+    ends_more (StayGood from to told after) (StayGood from to told after) (SharesFrom (IsFilled from to []) to items told after) (SharesWhereTidy from to told after) from to after c.move_all.result (λ good. good)
+    (source_shares c.walks_tell_the_tree.ensures.plan from to items told after may c.in_ok-plans.ensures.source walked_to)
+    (subst (λ t. EndsBy (StayGood from to t after) (SharesFrom (IsFilled from to []) to items t after) from to after c.move_all.result) c.walk_both.ensures.told c.move_all.ensures.ends)

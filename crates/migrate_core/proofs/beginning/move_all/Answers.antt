@@ -30,6 +30,8 @@ use Rattle.migrate_core.proofs.Stopping.{if_stops_before, seen_stops}
 use Rattle.migrate_core.proofs.Leadings.{seen_then}
 use Rattle.migrate_core.proofs.Limits.{ends_more, ends_uncompared, folder_compares, good_copies, work_compares}
 use Rattle.migrate_core.specs.Copying.{CopiesAll, StayGood}
+use Rattle.migrate_core.proofs.Sharing.{filled_as, shares_before}
+use Rattle.migrate_core.specs.Sharing.{IsFilled, SharesFrom}
 use Rattle.migrate_core.proofs.beginning.move_all.Goals as goal
 
 pub returns-in_err-entered-clause-guard : goal.returns-in_err-entered-clause-guard
@@ -348,18 +350,18 @@ pub returns-in_err-entered-clause-ends : goal.returns-in_err-entered-clause-ends
 returns-in_err-entered-clause-ends g c =
     let why = c.in_err-entered.field-0.0 in
     let p = err_from_is_err_and c.from_residual.result c.from_residual.ensures.1 in
-    ends_uncompared _ c.args.sides.now.source c.args.sides.now.target (g.F.Folder.told c.enter.new.folder) c.from_residual.result p.0 (of_work why) p.1 p.2 (work_compares why)
+    ends_uncompared _ _ c.args.sides.now.source c.args.sides.now.target (g.F.Folder.told c.enter.new.folder) c.from_residual.result p.0 (of_work why) p.1 p.2 (work_compares why)
 
 pub returns-in_err-journal-clause-ends : goal.returns-in_err-journal-clause-ends
 returns-in_err-journal-clause-ends g c =
     let p = err_from_is_err_and c.from_residual-in_err-journal.result c.from_residual-in_err-journal.ensures.1 in
-    ends_uncompared _ c.args.sides.now.source c.args.sides.now.target (g.F.Folder.told c.enter.new.folder) c.from_residual-in_err-journal.result p.0 c.in_err-journal.field-0.0 p.1 p.2 c.in_err-journal.ensures.uncompared
+    ends_uncompared _ _ c.args.sides.now.source c.args.sides.now.target (g.F.Folder.told c.enter.new.folder) c.from_residual-in_err-journal.result p.0 c.in_err-journal.field-0.0 p.1 p.2 c.in_err-journal.ensures.uncompared
 
 pub returns-in_err-write-clause-ends : goal.returns-in_err-write-clause-ends
 returns-in_err-write-clause-ends g c =
     let why = c.in_err-write.field-0.0 in
     let p = err_from_is_err_and c.from_residual-in_err-write.result c.from_residual-in_err-write.ensures.1 in
-    ends_uncompared _ c.args.sides.now.source c.args.sides.now.target (g.F.Folder.told c.write.new.folder) c.from_residual-in_err-write.result p.0 (of_folder why) p.1 p.2 (folder_compares why)
+    ends_uncompared _ _ c.args.sides.now.source c.args.sides.now.target (g.F.Folder.told c.write.new.folder) c.from_residual-in_err-write.result p.0 (of_folder why) p.1 p.2 (folder_compares why)
 
 pub returns-clause-ends : goal.returns-clause-ends
 returns-clause-ends g c =
@@ -377,8 +379,10 @@ returns-clause-ends g c =
     (written_moves work to.root c.in_ok-journal.journal entered written c.requires.apart.target c.write.ensures.moments) in
     let moves_away = moves_on away from.root told entered written (entered_moves work from.root (IsWorkOrStage work) (IsLeftOver work) told entered c.requires.apart.source c.enter.ensures.enters.moments)
     (written_moves work from.root c.in_ok-journal.journal entered written c.requires.apart.source c.write.ensures.moments) in
-    ends_more (CopiesAll from to [] items written after) (StayGood from to told after) from to after c.go_on.result
-    (good_copies from to [] items told written after c.requires.copying (seen_then _ told written moves)
-    (seen_stays region from.root told written (g.met.F.Folder.sound c.args.folder.now) (λ rest. source_beside from.root to.root work rest c.requires.apart) (moves_to region to.root told written moves))
-    (seen_stays away to.root told written (g.met.F.Folder.sound c.args.folder.now) (λ rest. source_beside to.root from.root work rest (turned_over from.root to.root work c.requires.apart)) (moves_to away from.root told written moves_away)))
+    let source_is = seen_stays region from.root told written (g.met.F.Folder.sound c.args.folder.now) (λ rest. source_beside from.root to.root work rest c.requires.apart) (moves_to region to.root told written moves) in
+    let target_is = seen_stays away to.root told written (g.met.F.Folder.sound c.args.folder.now) (λ rest. source_beside to.root from.root work rest (turned_over from.root to.root work c.requires.apart)) (moves_to away from.root told written moves_away) in
+    ends_more (CopiesAll from to [] items written after) (StayGood from to told after) (SharesFrom (IsFilled from to []) to items written after) (SharesFrom (IsFilled from to []) to items told after) from to after c.go_on.result
+    (good_copies from to [] items told written after c.requires.copying (seen_then _ told written moves) source_is target_is)
+    (shares_before region to.root (IsFilled from to []) (IsFilled from to []) to items items told written after moves
+    (λ v w is_v is_w. filled_as from to [] v w (source_is v w is_v is_w) (target_is v w is_v is_w)) (λ item among. among))
     c.go_on.ensures.ends

@@ -25,6 +25,7 @@ use Rattle.migrate_core.proofs.Limits.{ends_uncompared}
 use Rattle.migrate_core.proofs.Copyings.{copied_as}
 use Rattle.migrate_core.proofs.Movings.{moves_to, seen_stays, source_beside, turned_over}
 use Rattle.migrate_core.specs.Limits.{EndsBy}
+use Rattle.migrate_core.proofs.Sharing.{whichever_taken}
 use Rattle.migrate_core.proofs.finishing.finish.Goals as goal
 
 pub returns-in_err-target-clause-guard : goal.returns-in_err-target-clause-guard
@@ -169,7 +170,7 @@ returns-clause-tidy g c = subst (λ t. StaysTidyWork c.args.work.now t (g.F.Fold
 pub returns-in_err-target-clause-ends : goal.returns-in_err-target-clause-ends
 returns-in_err-target-clause-ends g c =
     let p = err_from_is_err_and c.from_residual.result c.from_residual.ensures.1 in
-    ends_uncompared _ c.args.sides.now.source c.args.sides.now.target (g.F.Folder.told c.walk_one.new.folder) c.from_residual.result p.0 c.in_err-target.field-0.0 p.1 p.2 c.in_err-target.ensures.uncompared
+    ends_uncompared _ _ c.args.sides.now.source c.args.sides.now.target (g.F.Folder.told c.walk_one.new.folder) c.from_residual.result p.0 c.in_err-target.field-0.0 p.1 p.2 c.in_err-target.ensures.uncompared
 
 pub returns-in_err-test_same-clause-ends : goal.returns-in_err-test_same-clause-ends
 returns-in_err-test_same-clause-ends g c =
@@ -178,13 +179,13 @@ returns-in_err-test_same-clause-ends g c =
     let items = c.args.source.now.items in
     let here = g.F.Folder.told c.test_same.new.folder in
     let p = err_from_is_err_and c.from_residual-in_err-test_same.result c.from_residual-in_err-test_same.ensures.1 in
-    refused_as (λ answer. EndsBy (CopiesAll from to items items (g.F.Folder.told c.args.folder.now) here) from to here answer) c.from_residual-in_err-test_same.result p.0 c.in_err-test_same.field-0.0 p.1 p.2
-    (λ v is. c.in_err-test_same.ensures.limit v (subst (λ t. IsSeen t v) c.test_same.ensures.told is))
+    refused_as (λ answer. EndsBy (CopiesAll from to items items (g.F.Folder.told c.args.folder.now) here) (Unit {0}) from to here answer) c.from_residual-in_err-test_same.result p.0 c.in_err-test_same.field-0.0 p.1 p.2
+    ((λ v is. c.in_err-test_same.ensures.limit v (subst (λ t. IsSeen t v) c.test_same.ensures.told is)), whichever_taken c.in_err-test_same.field-0.0)
 
 pub returns-in_err-say_done-clause-ends : goal.returns-in_err-say_done-clause-ends
 returns-in_err-say_done-clause-ends g c =
     let p = err_from_is_err_and c.from_residual-in_err-say_done.result c.from_residual-in_err-say_done.ensures.1 in
-    ends_uncompared _ c.args.sides.now.source c.args.sides.now.target (g.F.Folder.told c.say_done.new.folder) c.from_residual-in_err-say_done.result p.0 c.in_err-say_done.field-0.0 p.1 p.2 c.in_err-say_done.ensures.uncompared
+    ends_uncompared _ _ c.args.sides.now.source c.args.sides.now.target (g.F.Folder.told c.say_done.new.folder) c.from_residual-in_err-say_done.result p.0 c.in_err-say_done.field-0.0 p.1 p.2 c.in_err-say_done.ensures.uncompared
 
 pub returns-clause-ends : goal.returns-clause-ends
 returns-clause-ends g c v w is_v is_w has =

@@ -22,7 +22,9 @@ use Rattle.migrate_core.proofs.Causing.{refused_as}
 use Rattle.move_journal.specs.Journal.{journal_text}
 use Rattle.migrate_core.proofs.Stopping.{later_seen}
 use Rattle.migrate_core.specs.Causes.{StopsSeen}
-use Rattle.migrate_core.proofs.Limits.{ends_more, ends_uncompared}
+use Rattle.migrate_core.proofs.Limits.{ends_later, ends_stopped}
+use Rattle.migrate_core.specs.Limits.{StopsFor}
+use Rattle.migrate_core.specs.Sharing.{IsFilled, OneShares, SharesFrom}
 use Rattle.migrate_core.proofs.finishing.go_on.Goals as goal
 
 pub place_missing-requires-clause-walked : goal.place_missing-requires-clause-walked
@@ -175,8 +177,14 @@ returns-clause-tidy g c =
 
 pub returns-in_err-placed-clause-ends : goal.returns-in_err-placed-clause-ends
 returns-in_err-placed-clause-ends g c =
+    let from = c.args.sides.now.source in
+    let to = c.args.sides.now.target in
+    let told = g.F.Folder.told c.args.folder.now in
+    let here = g.F.Folder.told c.place_missing.new.folder in
+    let fault = c.in_err-placed.field-0.0 in
     let p = err_from_is_err_and c.from_residual.result c.from_residual.ensures.1 in
-    ends_uncompared _ c.args.sides.now.source c.args.sides.now.target (g.F.Folder.told c.place_missing.new.folder) c.from_residual.result p.0 c.in_err-placed.field-0.0 p.1 p.2 c.in_err-placed.ensures.uncompared
+    ends_stopped _ (SharesFrom (IsFilled from to c.args.there.now) to c.args.source.now.items told here) from to here c.from_residual.result p.0 fault p.1 p.2
+    (subst (λ xs. StopsFor (SharesFrom (IsFilled from to c.args.there.now) to xs told here) fault) c.as_slice-items.ensures c.in_err-placed.ensures.stops)
 
 pub returns-clause-ends : goal.returns-clause-ends
 returns-clause-ends g c =
@@ -188,5 +196,6 @@ returns-clause-ends g c =
     let here = g.F.Folder.told c.place_missing.new.folder in
     let after = g.F.Folder.told c.finish.new.folder in
     let copies : CopiesAll from to there items told here = subst (λ xs. CopiesAll from to there xs told here) c.as_slice-items.ensures c.in_ok-placed.ensures.copies in
-    ends_more (CopiesAll from to items items here after) (CopiesAll from to there items told after) from to after c.finish.result
-    (λ stays v w is_v is_w has. let u = seen_then _ told here c.place_missing.ensures.moves v is_v in stays u.0 w u.1 is_w (copies v u.0 is_v u.1 has)) c.finish.ensures.ends
+    ends_later (CopiesAll from to items items here after) (CopiesAll from to there items told after) (HasCopied from to items) (λ v. IsFilled from to there v → OneShares to items told after) from to told here after c.finish.result
+    (λ stays v w is_v is_w has. let u = seen_then _ told here c.place_missing.ensures.moves v is_v in stays u.0 w u.1 is_w (copies v u.0 is_v u.1 has)) (seen_then _ told here c.place_missing.ensures.moves)
+    c.finish.ensures.moving c.finish.ensures.ends

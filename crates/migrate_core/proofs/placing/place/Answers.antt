@@ -1,10 +1,9 @@
-use Rattle.std.proofs.Common.{Err, Ok, sym, ap, ◌∙◌, subst, [], ◌∷◌, IfErr}
+use Rattle.std.proofs.Common.{Err, Ok, refl, sym, ap, ◌∙◌, subst, [], ◌∷◌, IfErr}
 use Rattle.std.proofs.lemmas.Result.{err_from_is_err_and}
 use Rattle.content_writing.specs.Content.{Whole}
 use Rattle.tree_match.specs.Alone.{Begun}
 use Rattle.vault_spec.specs.Making.{NewDirectory}
 use Rattle.vault_spec.specs.Plan.{Planned}
-use Rattle.vault_write.specs.Calls.{MakesDirectory}
 use Rattle.migrate_core.proofs.Leadings.{goes_failed}
 use Rattle.migrate_core.proofs.Placings.{directory_goes, made_moves, made_ready}
 use Rattle.migrate_core.proofs.Causing.{refused_as, put_stop}
@@ -15,6 +14,10 @@ use Rattle.migrate_core.proofs.Stopping.{directory_stops, refusal_tells}
 use Rattle.migrate_core.specs.Causes.{StopsAt, StopsSeen}
 use Rattle.migrate_core.specs.Copying.{Enters}
 use Rattle.migrate_core.proofs.Copyings.{directory_copies}
+use Rattle.migrate_core.proofs.Sharing.{item_stops}
+use Rattle.migrate_core.specs.Limits.{StopsFor}
+use Rattle.migrate_core.specs.Sharing.{IsMadeFor, Lacks, SharesFrom}
+use Rattle.vault_write.specs.Calls.{MakesAt, MakesDirectory, New}
 use Rattle.migrate_core.proofs.placing.place.Goals as goal
 
 pub returns-in_ok-place_dir-in-Dir-clause-guard : goal.returns-in_ok-place_dir-in-Dir-clause-guard
@@ -125,3 +128,19 @@ returns-in_ok-place_dir-in-Dir-clause-copies g c =
     directory_copies from to work c.args.item.now told told' c.requires.apart (g.met.F.Folder.sound c.args.folder.now)
     (made_moves to work c.args.item.now.path NewDirectory Whole made.drawn told told' (Ok tt) made.makes c.requires.apart.target) c.requires.item c.walks_tell_the_tree.ensures.directory
     (sym (ap (λ (x : Planned). x.node) c.item.view_is) ∙ c.in-Dir.is) left left' made
+
+pub returns-in_err-place_dir-in-Dir-clause-stops : goal.returns-in_err-place_dir-in-Dir-clause-stops
+returns-in_err-place_dir-in-Dir-clause-stops g c =
+    let from = c.args.sides.now.source in
+    let to = c.args.sides.now.target in
+    let item = c.args.item.now in
+    let told = g.F.Folder.told c.args.folder.now in
+    let told' = g.F.Folder.told c.place_dir.new.folder in
+    let why = c.in_err-place_dir-in-Dir.field-0.0 in
+    let made = c.in_err-place_dir-in-Dir.ensures.made in
+    let node = sym (ap (λ (x : Planned). x.node) c.item.view_is) ∙ c.in-Dir.is in
+    let p = err_from_is_err_and c.from_residual.result c.from_residual.ensures.1 in
+    refused_as (λ answer. IfErr answer (StopsFor (SharesFrom (Lacks from to item) to (item ∷ []) told told'))) c.from_residual.result p.0 (of_put why) p.1 p.2
+    (item_stops c.what_stands_is_found_step_by_step.ensures.below c.what_stands_is_found_step_by_step.ensures.behind c.files_have_their_contents.ensures c.what_is_found_stands.ensures.enters c.walks_tell_the_tree.ensures.plan
+    from to c.items_keep_vaults.ensures c.args.work.now item NewDirectory Whole made.drawn told told' c.requires.item (subst (λ kind. IsMadeFor kind NewDirectory) (sym node) refl) c.requires.apart.target why
+    (subst (λ q. MakesAt New to c.args.work.now q NewDirectory Whole made.drawn told told' (Err why)) (ap (λ (x : Planned). x.path) c.item.view_is) made.makes))

@@ -1,4 +1,4 @@
-use Rattle.std.proofs.Common.{Err, Ok, arith, refl, ap, ◌∙◌, subst, [], ◌∷◌, IfErr}
+use Rattle.std.proofs.Common.{Err, Ok, arith, refl, sym, ap, ◌∙◌, subst, [], ◌∷◌, IfErr}
 use Rattle.std.proofs.lemmas.Result.{err_from_is_err_and}
 use Rattle.chunk_files.specs.Decoding.{started}
 use Rattle.content_writing.specs.Content.{still_coming}
@@ -23,6 +23,9 @@ use Rattle.migrate_core.specs.declared.fault.MoveFault.TheVariants.{NoMemory}
 use Rattle.migrate_core.specs.Faults.{of_put}
 use Rattle.migrate_core.specs.Copying.{Enters}
 use Rattle.migrate_core.proofs.Copyings.{file_copies}
+use Rattle.migrate_core.proofs.Sharing.{item_stops}
+use Rattle.migrate_core.specs.Limits.{StopsFor}
+use Rattle.migrate_core.specs.Sharing.{IsMadeFor, Lacks, SharesFrom}
 use Rattle.migrate_core.proofs.placing.place_content.Goals as goal
 
 pub returns-in_err-reader-clause-moves : goal.returns-in_err-reader-clause-moves
@@ -204,3 +207,19 @@ returns-clause-copies g c =
     file_copies from to work item told told' c.requires.apart (g.met.F.Folder.sound c.args.folder.now)
     (made_moves to work item.path (NewFile w.content) w.ending w.drawn told told' (Ok tt) makes c.requires.apart.target) c.requires.item c.walks_tell_the_tree.ensures.file c.files_fit_as_contents.ensures c.requires.file w.content w.drawn w.ending
     (λ a is coming comes. made.takes.told coming (ap (λ t. still_coming (path_of content) t (coming_of content)) is ∙ content_coming from item content gives a ∙ comes)) makes
+
+pub returns-in_err-place_file-clause-stops : goal.returns-in_err-place_file-clause-stops
+returns-in_err-place_file-clause-stops g c =
+    let from = c.args.sides.now.source in
+    let to = c.args.sides.now.target in
+    let item = c.args.item.now in
+    let told = g.F.Folder.told c.args.folder.now in
+    let told' = g.F.Folder.told c.place_file.new.folder in
+    let why = c.in_err-place_file.field-0.0 in
+    let made = c.in_err-place_file.ensures.made in
+    let w = made.writing in
+    let p = err_from_is_err_and c.from_residual-in_err-place_file.result c.from_residual-in_err-place_file.ensures.1 in
+    refused_as (λ answer. IfErr answer (StopsFor (SharesFrom (Lacks from to item) to (item ∷ []) told told'))) c.from_residual-in_err-place_file.result p.0 (of_put why) p.1 p.2
+    (item_stops c.what_stands_is_found_step_by_step.ensures.below c.what_stands_is_found_step_by_step.ensures.behind c.files_have_their_contents.ensures c.what_is_found_stands.ensures.enters c.walks_tell_the_tree.ensures.plan
+    from to c.items_keep_vaults.ensures c.args.work.now item (NewFile w.content) w.ending w.drawn told told' c.requires.item (subst (λ kind. IsMadeFor kind (NewFile w.content)) (sym c.requires.file) (w.content, refl)) c.requires.apart.target why
+    (subst (λ q. MakesAt New to c.args.work.now q (NewFile w.content) w.ending w.drawn told told' (Err why)) (ap (λ (x : Planned). x.path) c.item.view_is) made.makes))

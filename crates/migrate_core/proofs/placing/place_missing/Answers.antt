@@ -18,6 +18,9 @@ use Rattle.migrate_core.proofs.Entered.{next_enters}
 use Rattle.migrate_core.proofs.Planned.{walk_of}
 use Rattle.migrate_core.specs.Copying.{Enters, HasCopied}
 use Rattle.migrate_core.specs.Sides.{side_of}
+use Rattle.migrate_core.proofs.Sharing.{next_lacks, none_filled, one_filled, shares_before, stops_more}
+use Rattle.migrate_core.specs.Limits.{StopsFor}
+use Rattle.migrate_core.specs.Sharing.{IsFilled, Lacks, SharesFrom}
 use Rattle.migrate_core.proofs.placing.place_missing.Goals as goal
 use Rattle.migrate_core.proofs.placing.place_missing.Goals.{then-branch, else-branch}
 
@@ -36,6 +39,7 @@ loop-item-init g c =
           (c.draws_compose.ensures.none (g.R.Randoms.left c.args.random.now)) (only_nowhere (BringsOnlyTo c.args.sides.now.target.root (λ at. ⊥)) (λ file. Contains [] file) told told refl);
       copied = λ v w is_v is_w h. none_copied c.args.sides.now.source c.args.sides.now.target c.args.there.now v w (one_view told v w is_v is_w) h;
       none = λ all. refl;
+      fills = λ v w is_v is_w h. none_filled c.args.sides.now.target v w (one_view told v w is_v is_w) h.1;
     }
 
 pub place_missing_one-requires-clause-item : goal.place_missing_one-requires-clause-item
@@ -156,6 +160,10 @@ loop-item-preserved g c =
           let before = i.copied v mid.0 is_v mid.1 h in
           one_copied from to there items k item mid.0 w c.loop-item-test.true c.item-item.is before
           (c.in_ok-place_missing_one.ensures.copies mid.0 w mid.1 is_w (there_copied from to there (take k items) mid.0 before));
+      fills = λ v w is_v is_w h.
+          let mid = seen_before _ here told' c.place_missing_one.ensures.moves w is_w in
+          one_filled from to items k item mid.0 w c.loop-item-test.true c.item-item.is (i.fills v mid.0 is_v mid.1 h)
+          (c.in_ok-place_missing_one.ensures.copies mid.0 w mid.1 is_w (there_copied from to there (take k items) mid.0 (i.copied v mid.0 is_v mid.1 h.0)));
       none = λ all. c.place_missing_one.ensures.none (all c.item-item.result (c.loop-item.item-index, c.loop-item-test.true, sym c.item-item.is)) ∙ i.none all;
     }
 
@@ -228,3 +236,29 @@ returns-clause-copies g c v w is_v is_w h =
     let there = c.args.there.now in
     all_copied from to there c.args.items.now w
     (subst (λ xs. HasCopied from to (there ++ xs) w) (take_all c.loop-item.item-index c.args.items.now c.loop-item-test.false) (c.loop-item.invariant.copied v w is_v is_w h))
+
+pub returns-in_err-place_missing_one-clause-stops : goal.returns-in_err-place_missing_one-clause-stops
+returns-in_err-place_missing_one-clause-stops g c =
+    let from = c.args.sides.now.source in
+    let to = c.args.sides.now.target in
+    let work = c.args.work.now in
+    let items = c.args.items.now in
+    let there = c.args.there.now in
+    let told = g.F.Folder.told c.args.folder.now in
+    let here = g.F.Folder.told c.loop-item.folder in
+    let told' = g.F.Folder.told c.place_missing_one.new.folder in
+    let k = c.loop-item.item-index in
+    let item = c.item-item.result in
+    let fault = c.in_err-place_missing_one.field-0.0 in
+    let i = c.loop-item.invariant in
+    let walked = walked_stays (is_apart work to.root) from items told here (λ rest. source_apart from.root to.root work rest c.requires.apart) (g.met.F.Folder.sound c.args.folder.now)
+    (moves_to (is_apart work to.root) to.root told here i.moves) c.requires.walked in
+    let p = err_from_is_err_and c.from_residual.result c.from_residual.ensures.1 in
+    refused_as (λ answer. IfErr answer (StopsFor (SharesFrom (IsFilled from to there) to items told told'))) c.from_residual.result p.0 fault p.1 p.2
+    (stops_more (SharesFrom (Lacks from to item) to (item ∷ []) here told') (SharesFrom (IsFilled from to there) to items told told') fault
+    (shares_before (is_apart work to.root) to.root (Lacks from to item) (IsFilled from to there) to (item ∷ []) items told here told' i.moves
+    (λ v w is_v is_w h.
+    let copied = i.copied v w is_v is_w h.0 in
+    next_lacks from to there items k item w (c.walks_tell_the_tree.ensures.plan w (side_of from items) (walk_of from items here w walked is_w copied.copying.source.orderly)) (walked.ordered w is_w) c.loop-item-test.true c.item-item.is
+    copied (i.fills v w is_v is_w h))
+    (next_among items k item c.loop-item-test.true c.item-item.is)) c.in_err-place_missing_one.ensures.stops)

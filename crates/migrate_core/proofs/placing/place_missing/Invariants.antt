@@ -9,6 +9,7 @@ use Rattle.migrate_core.specs.Copying.{CopiesAll}
 use Rattle.migrate_core.specs.Leading.{HasLed}
 use Rattle.migrate_core.specs.Moved.{lacking}
 use Rattle.migrate_core.specs.Moving.{MovesBeside}
+use Rattle.migrate_core.specs.Sharing.{FillsOnly}
 use Rattle.migrate_core.specs.Sides.{StandAll}
 use Rattle.migrate_core.specs.Written.{WritesAll, lacked}
 use Rattle.migrate_core.proofs.placing.place_missing.Given as goal
@@ -25,5 +26,6 @@ invariant-loop-item g l = record {
   written : IsOrdered l.there → WritesAll l.sides.source l.sides.target (lacked l.there (take l.item-index l.items)) [] (g.R.Randoms.left l.initial.random) (g.R.Randoms.left l.random)
       (g.F.Folder.told l.initial.folder) (g.F.Folder.told l.folder);
   copied : CopiesAll l.sides.source l.sides.target l.there (l.there ++ take l.item-index l.items) (g.F.Folder.told l.initial.folder) (g.F.Folder.told l.folder);
+  fills : FillsOnly l.sides.source l.sides.target l.there (take l.item-index l.items) (g.F.Folder.told l.initial.folder) (g.F.Folder.told l.folder);
   none : StandAll l.items l.there → g.F.Folder.told l.folder ≡ g.F.Folder.told l.initial.folder;
 }

@@ -13,6 +13,8 @@ use Rattle.migrate_core.specs.Written.{BringsOnlyTo, WritesAll, WritesBy, Writes
 use Rattle.migrate_core.specs.Causes.{StopsSeen}
 use Rattle.migrate_core.specs.Copying.{Enters}
 use Rattle.migrate_core.proofs.Copyings.{stands_copied}
+use Rattle.migrate_core.specs.Limits.{StopsFor}
+use Rattle.migrate_core.specs.Sharing.{Lacks, SharesFrom}
 use Rattle.migrate_core.proofs.placing.place_missing_one.Goals as goal
 
 pub returns-in_err-place-clause-none : goal.returns-in_err-place-clause-none
@@ -85,3 +87,12 @@ returns-then-stands-clause-copies g c v w is_v is_w h =
 
 pub returns-clause-copies : goal.returns-clause-copies
 returns-clause-copies g c v w is_v is_w h = c.in_ok-place.ensures.copies v w is_v is_w h.copying
+
+pub returns-in_err-place-clause-stops : goal.returns-in_err-place-clause-stops
+returns-in_err-place-clause-stops g c =
+    let from = c.args.sides.now.source in
+    let to = c.args.sides.now.target in
+    let item = c.args.item.now in
+    let p = err_from_is_err_and c.from_residual.result c.from_residual.ensures.1 in
+    refused_as (λ answer. IfErr answer (StopsFor (SharesFrom (Lacks from to item) to (item ∷ []) (g.F.Folder.told c.args.folder.now) (g.F.Folder.told c.place.new.folder)))) c.from_residual.result p.0 c.in_err-place.field-0.0 p.1 p.2
+    c.in_err-place.ensures.stops

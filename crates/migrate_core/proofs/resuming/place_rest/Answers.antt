@@ -32,6 +32,7 @@ use Rattle.migrate_core.proofs.Leadings.{seen_then}
 use Rattle.migrate_core.proofs.Limits.{ends_more, ends_uncompared, good_copies, work_compares}
 use Rattle.migrate_core.specs.Copying.{CopiesAll, StayGood}
 use Rattle.migrate_core.specs.Limits.{EndsBy}
+use Rattle.migrate_core.specs.Sharing.{IsFilled, SharesFrom}
 use Rattle.migrate_core.proofs.resuming.place_rest.Goals as goal
 
 pub again-requires-clause-folder : goal.again-requires-clause-folder
@@ -226,7 +227,7 @@ pub returns-in_err-again-clause-ends : goal.returns-in_err-again-clause-ends
 returns-in_err-again-clause-ends g c =
     let why = c.in_err-again.field-0.0 in
     let p = err_from_is_err_and c.from_residual.result c.from_residual.ensures.1 in
-    ends_uncompared _ c.args.sides.now.source c.args.sides.now.target (g.F.Folder.told c.again.new.folder) c.from_residual.result p.0 (of_work why) p.1 p.2 (work_compares why)
+    ends_uncompared _ _ c.args.sides.now.source c.args.sides.now.target (g.F.Folder.told c.again.new.folder) c.from_residual.result p.0 (of_work why) p.1 p.2 (work_compares why)
 
 pub returns-clause-ends : goal.returns-clause-ends
 returns-clause-ends g c =
@@ -242,8 +243,9 @@ returns-clause-ends g c =
     let away = apart_from_both work from.root in
     let moves = stage_moves work to.root told ready c.requires.apart.target c.again.ensures.restages.moments in
     let moves_away = stage_moves work from.root told ready c.requires.apart.source c.again.ensures.restages.moments in
-    ends_more (CopiesAll from to there items ready after) (StayGood from to told after) from to after c.go_on.result
+    ends_more (CopiesAll from to there items ready after) (StayGood from to told after) (SharesFrom (IsFilled from to there) to items ready after) (Unit {0}) from to after c.go_on.result
     (good_copies from to there items told ready after c.requires.copying (seen_then _ told ready moves)
     (seen_stays region from.root told ready (g.met.F.Folder.sound c.args.folder.now) (λ rest. source_beside from.root to.root work rest c.requires.apart) (moves_to region to.root told ready moves))
     (seen_stays away to.root told ready (g.met.F.Folder.sound c.args.folder.now) (λ rest. source_beside to.root from.root work rest (turned_over from.root to.root work c.requires.apart)) (moves_to away from.root told ready moves_away)))
-    (subst (λ xs. EndsBy (CopiesAll from to xs items ready after) from to after c.go_on.result) c.as_slice-there.ensures c.go_on.ensures.ends)
+    (λ shares. tt)
+    (subst (λ xs. EndsBy (CopiesAll from to xs items ready after) (SharesFrom (IsFilled from to xs) to items ready after) from to after c.go_on.result) c.as_slice-there.ensures c.go_on.ensures.ends)

@@ -83,13 +83,13 @@ pub returns-clause-moved : goal.returns-clause-moved
 returns-clause-moved g c =
     let sides = c.in_ok-sides.sides in
     let loads = c.in_ok-sides.ensures in
-    tree_moved c.args.journal.source c.args.journal.target c.args.work.now c.args.source_pass.now c.args.target_pass.now sides.source sides.target (g.F.Folder.told c.args.folder.now)
+    tree_moved (Unit {0}) c.args.journal.source c.args.journal.target c.args.work.now c.args.source_pass.now c.args.target_pass.now sides.source sides.target (g.F.Folder.told c.args.folder.now)
     (g.F.Folder.told c.resume_with.new.folder) c.resume_with.result loads.source loads.target (g.met.F.Folder.sound c.args.folder.now)
     (subst (λ root. MovesOnly c.args.work.now root (g.F.Folder.told c.args.folder.now) (g.F.Folder.told c.resume_with.new.folder)) loads.target
     (subst (λ t. MovesOnly c.args.work.now sides.target.root t (g.F.Folder.told c.resume_with.new.folder)) (c.load_both.ensures.told ∙ c.test_source.ensures.told) c.resume_with.ensures.moves)) (λ v is. loads.opens_source v (subst (λ t. IsSeen t v) (sym c.test_source.ensures.told) is))
     (λ v is. loads.opens_target v (subst (λ t. IsSeen t v) (sym c.test_source.ensures.told) is))
     (subst (λ t. Placed sides.source sides.target t c.resume_with.result) (c.load_both.ensures.told ∙ c.test_source.ensures.told) c.resume_with.ensures.placed) c.resume_with.ensures.moved
-    (subst (λ t. EndsBy (StayGood sides.source sides.target t (g.F.Folder.told c.resume_with.new.folder)) sides.source sides.target (g.F.Folder.told c.resume_with.new.folder) c.resume_with.result) (c.load_both.ensures.told ∙ c.test_source.ensures.told) c.resume_with.ensures.ends)
+    (subst (λ t. EndsBy (StayGood sides.source sides.target t (g.F.Folder.told c.resume_with.new.folder)) (Unit {0}) sides.source sides.target (g.F.Folder.told c.resume_with.new.folder) c.resume_with.result) (c.load_both.ensures.told ∙ c.test_source.ensures.told) c.resume_with.ensures.ends)
 
 pub returns-in_err-test_source-clause-cause : goal.returns-in_err-test_source-clause-cause
 returns-in_err-test_source-clause-cause g c v seen =
@@ -181,6 +181,6 @@ returns-clause-too_long g c =
     let loads = c.in_ok-sides.ensures in
     let here = g.F.Folder.told c.load_both.new.folder in
     let after = g.F.Folder.told c.resume_with.new.folder in
-    limit_in_tree (StayGood sides.source sides.target here after) c.args.journal.source c.args.journal.target c.args.source_pass.now c.args.target_pass.now sides.source sides.target (g.F.Folder.told c.args.folder.now) after
+    limit_in_tree (StayGood sides.source sides.target here after) (Unit {0}) c.args.journal.source c.args.journal.target c.args.source_pass.now c.args.target_pass.now sides.source sides.target (g.F.Folder.told c.args.folder.now) after
     c.resume_with.result loads.source loads.target (λ v is. loads.opens_source v (subst (λ t. IsSeen t v) (sym c.test_source.ensures.told) is)) (λ v is. loads.opens_target v (subst (λ t. IsSeen t v) (sym c.test_source.ensures.told) is))
     c.resume_with.ensures.ends

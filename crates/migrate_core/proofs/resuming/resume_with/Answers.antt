@@ -24,6 +24,7 @@ use Rattle.migrate_core.specs.Copying.{MayBegin}
 use Rattle.migrate_core.proofs.Limits.{ends_uncompared}
 use Rattle.migrate_core.specs.Copying.{StayGood}
 use Rattle.migrate_core.specs.Limits.{EndsBy}
+use Rattle.migrate_core.proofs.Sharing.{whichever_taken}
 use Rattle.migrate_core.proofs.resuming.resume_with.Goals as goal
 
 pub returns-in_err-plans-clause-guard : goal.returns-in_err-plans-clause-guard
@@ -178,7 +179,7 @@ place_rest-requires-clause-copying g c =
 pub returns-in_err-plans-clause-ends : goal.returns-in_err-plans-clause-ends
 returns-in_err-plans-clause-ends g c =
     let p = err_from_is_err_and c.from_residual.result c.from_residual.ensures.1 in
-    ends_uncompared _ c.args.sides.now.source c.args.sides.now.target (g.F.Folder.told c.walk_both.new.folder) c.from_residual.result p.0 c.in_err-plans.field-0.0 p.1 p.2 c.in_err-plans.ensures.uncompared
+    ends_uncompared _ _ c.args.sides.now.source c.args.sides.now.target (g.F.Folder.told c.walk_both.new.folder) c.from_residual.result p.0 c.in_err-plans.field-0.0 p.1 p.2 c.in_err-plans.ensures.uncompared
 
 pub returns-in_err-test_plans-clause-ends : goal.returns-in_err-test_plans-clause-ends
 returns-in_err-test_plans-clause-ends g c =
@@ -186,12 +187,12 @@ returns-in_err-test_plans-clause-ends g c =
     let from = c.args.sides.now.source in
     let to = c.args.sides.now.target in
     let here = g.F.Folder.told c.test_plans.new.folder in
-    refused_as (λ answer. EndsBy (StayGood from to (g.F.Folder.told c.args.folder.now) here) from to here answer) c.from_residual-in_err-test_plans.result p.0 c.in_err-test_plans.field-0.0 p.1 p.2
-    (λ v is. c.in_err-test_plans.ensures.limit v (subst (λ t. IsSeen t v) c.test_plans.ensures.told is))
+    refused_as (λ answer. EndsBy (StayGood from to (g.F.Folder.told c.args.folder.now) here) (Unit {0}) from to here answer) c.from_residual-in_err-test_plans.result p.0 c.in_err-test_plans.field-0.0 p.1 p.2
+    ((λ v is. c.in_err-test_plans.ensures.limit v (subst (λ t. IsSeen t v) c.test_plans.ensures.told is)), whichever_taken c.in_err-test_plans.field-0.0)
 
 pub returns-clause-ends : goal.returns-clause-ends
 returns-clause-ends g c =
     let from = c.args.sides.now.source in
     let to = c.args.sides.now.target in
     let after = g.F.Folder.told c.place_rest.new.folder in
-    subst (λ t. EndsBy (StayGood from to t after) from to after c.place_rest.result) (c.test_plans.ensures.told ∙ c.walk_both.ensures.told) c.place_rest.ensures.ends
+    subst (λ t. EndsBy (StayGood from to t after) (Unit {0}) from to after c.place_rest.result) (c.test_plans.ensures.told ∙ c.walk_both.ensures.told) c.place_rest.ensures.ends

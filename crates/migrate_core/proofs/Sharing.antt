@@ -1,0 +1,351 @@
+-- That only an item which shares its place stops at a taken one, where the target is tidy.
+use Rattle.std.proofs.Common.{◌≡◌, ◌≢◌, ◌⊎◌, inl, inr, ◌<◌, ◌+◌, ℕ, zero, suc, Bool, true, false, cond, List, [], ◌∷◌, ◌++◌, length, take, get_or, Contains, IsTrue, Option, Some, None, Result, Ok, Err, IfErr, refl, sym, ap, ◌∙◌, subst, subst₂, arith}
+use Rattle.std.proofs.lemmas.Cmp.{tied_itself}
+use Rattle.std.proofs.lemmas.List.{get_or_default, take_more}
+use Rattle.std.proofs.lemmas.List.Elements.{Contains-append_left, Contains-append_right}
+use Rattle.std.specs.declared.cmp.Ordering.TheVariants.{Less, Equal}
+use Rattle.content_writing.specs.Content.{Ending}
+use Rattle.content_writing.specs.declared.fault.PutFault.{PutFault}
+use Rattle.content_writing.specs.declared.fault.PutFault.TheVariants as put
+use Rattle.folder_spec.proofs.Moments.{went_more, went_nowhere, went_on}
+use Rattle.folder_spec.proofs.Paths.{base_or_child, child-injective, child-last}
+use Rattle.folder_spec.proofs.Tellings.{from_to_on}
+use Rattle.folder_spec.specs.Event.{Told}
+use Rattle.folder_spec.specs.Moments.{Went}
+use Rattle.folder_spec.specs.Path.{Path, child}
+use Rattle.folder_spec.specs.Region.{IsAsBefore}
+use Rattle.folder_spec.specs.Seen.{IsSeen, seen, under}
+use Rattle.folder_spec.specs.View.{View}
+use Rattle.plain_tree.specs.Names as plain
+use Rattle.plain_tree.specs.Names.{is_name}
+use Rattle.plain_tree.specs.Order.{path_cmp}
+use Rattle.tree_match.specs.Guard.{AreApart, IsPlanOf}
+use Rattle.tree_match.specs.Trees.{IsWalkOf}
+use Rattle.vault_read.specs.Laws.{KeepsVaults}
+use Rattle.vault_read.specs.Opened.{OpenedVault}
+use Rattle.vault_spec.proofs.Mapped.{contains_mapped}
+use Rattle.vault_spec.specs.Alike.{IsNoItem}
+use Rattle.vault_spec.specs.Format.{Directory, Format, file_bytes}
+use Rattle.vault_spec.specs.Making.{NewItem}
+use Rattle.vault_spec.specs.Opens as opens
+use Rattle.vault_spec.specs.Opens.{NoItem, Opened, opened, opened_file, tree}
+use Rattle.vault_spec.specs.Plan.{Planned, StandsBelow}
+use Rattle.vault_spec.specs.Reached.{Leads}
+use Rattle.vault_spec.specs.Standing.{Absent, Dir, File, Standing, Strange, holds_full, item_at, standing, standing_in, standing_of}
+use Rattle.vault_spec.specs.Tidy.{IsTidy}
+use Rattle.vault_spec.specs.Vault.{IsVault, Vault, format_of}
+use Rattle.vault_walk.specs.Survey.{IsOrdered}
+use Rattle.vault_write.specs.Calls.{MakesAt, MakesOne, New}
+use Rattle.vault_write.specs.Making.{Placing, is_apart}
+use Rattle.vault_write.specs.Refusing.{Answers}
+use Rattle.migrate_core.proofs.Compared.{TellsTree, planned_at}
+use Rattle.migrate_core.proofs.Copyings.{copied_as}
+use Rattle.migrate_core.proofs.Endings.{root_directory}
+use Rattle.migrate_core.proofs.Entered.{EnteredLeads, paths_total}
+use Rattle.migrate_core.proofs.Fronts.{StandBelow, stands_in}
+use Rattle.migrate_core.proofs.Leadings.{seen_then}
+use Rattle.migrate_core.proofs.Placings.{made_moves}
+use Rattle.migrate_core.proofs.Planned.{walk_of}
+use Rattle.migrate_core.proofs.Stopping.{Stays}
+use Rattle.migrate_core.proofs.Within.{FilesAreThere, StandBehind, content_opens}
+use Rattle.migrate_core.specs.Causes.{IsStop, StopsLater, nothing_stops}
+use Rattle.migrate_core.specs.Copying.{Copies, HasCopied, MayBegin, tree_in}
+use Rattle.migrate_core.specs.Faults.{of_put}
+use Rattle.migrate_core.specs.Limits.{StopsElsewhere, StopsFor}
+use Rattle.migrate_core.specs.Moved.{opened_in}
+use Rattle.migrate_core.specs.Moving.{MovesBeside, OnlyBrings}
+use Rattle.migrate_core.specs.Sharing.{HasOnly, IsFilled, IsFresh, IsMadeFor, IsOfTaken, Lacks, OneShares, SharesFrom, SharesInTree, SharesPlace, SharesWhereTidy}
+use Rattle.migrate_core.specs.Sides.{IsItemOf, IsWalked, side_of}
+use Rattle.migrate_core.specs.Written.{HasGone, WasSeen}
+use Rattle.migrate_core.specs.declared.fault.MoveFault.{MoveFault}
+use Rattle.migrate_core.specs.declared.fault.MoveFault.TheVariants.{Work, Journal as Unread, Overlap, Load, Walk, NotEmpty, NotAllowed, Changed, Match as Matching, Differ, Place, SourceGone, Failed, NoMemory}
+
+-- ---- faults
+
+by_taken : (Q : Type 0) (fault : MoveFault) → ((at : Path) → fault ≡ Place (put.Taken at) → Q) → IsOfTaken Q fault
+by_taken Q (Place (put.Taken at)) is = is at refl
+by_taken Q (Place (put.Find why)) is = tt
+by_taken Q (Place (put.NotAllowed path)) is = tt
+by_taken Q (Place (put.Damaged at why)) is = tt
+by_taken Q (Place (put.Limit which)) is = tt
+by_taken Q (Place put.ZeroRandom) is = tt
+by_taken Q (Place put.Source) is = tt
+by_taken Q (Place put.Random) is = tt
+by_taken Q (Place put.Failed) is = tt
+by_taken Q (Place put.NoMemory) is = tt
+by_taken Q (Matching why) is = tt
+by_taken Q (Work why) is = tt
+by_taken Q (Unread why) is = tt
+by_taken Q (Overlap p q) is = tt
+by_taken Q (Load side why) is = tt
+by_taken Q (Walk why) is = tt
+by_taken Q (NotEmpty at) is = tt
+by_taken Q (NotAllowed path) is = tt
+by_taken Q (Changed plan items plan' items') is = tt
+by_taken Q (Differ path how) is = tt
+by_taken Q SourceGone is = tt
+by_taken Q Failed is = tt
+by_taken Q NoMemory is = tt
+
+pub taken_more : (P Q : Type 0) (fault : MoveFault) → (P → Q) → IsOfTaken P fault → IsOfTaken Q fault
+taken_more P Q fault more h = by_taken Q fault (λ at is. more (subst (IsOfTaken P) is h))
+
+pub taken_for : (P Q : Type 0) (fault : MoveFault) → (P → Q) → StopsFor P fault → IsOfTaken Q fault
+taken_for P Q fault more h = by_taken Q fault (λ at is. more (subst (StopsFor P) is h))
+
+pub whichever_taken : (fault : MoveFault) → IsOfTaken (Unit {0}) fault
+whichever_taken fault = by_taken (Unit {0}) fault (λ at is. tt)
+
+-- where no item is placed, none is taken
+pub later_taken : (Is R : View → Type 0) (t u : Option Told) (fault : MoveFault) → ((v : View) → IsSeen t v → (w : View) × IsSeen u w) → StopsLater Is u fault → IsOfTaken ((v : View) → IsSeen t v → R v) fault
+later_taken Is R t u fault after later =
+    by_taken ((v : View) → IsSeen t v → R v) fault (λ at is v seen. let w : (w : View) × IsSeen u w = after v seen in absurd (subst (IsStop (Is w.0) nothing_stops) is (later w.0 w.1)))
+
+pub stops_more : (P Q : Type 0) (fault : MoveFault) → (P → Q) → StopsFor P fault → StopsFor Q fault
+stops_more P Q (Place (put.Taken at)) more h = more h
+stops_more P Q (Place (put.Find why)) more h = tt
+stops_more P Q (Place (put.NotAllowed path)) more h = tt
+stops_more P Q (Place (put.Damaged at why)) more h = tt
+stops_more P Q (Place (put.Limit which)) more h = tt
+stops_more P Q (Place put.ZeroRandom) more h = tt
+stops_more P Q (Place put.Source) more h = tt
+stops_more P Q (Place put.Random) more h = tt
+stops_more P Q (Place put.Failed) more h = tt
+stops_more P Q (Place put.NoMemory) more h = tt
+stops_more P Q (Matching why) more h = absurd h
+stops_more P Q (Work why) more h = tt
+stops_more P Q (Unread why) more h = tt
+stops_more P Q (Overlap p q) more h = tt
+stops_more P Q (Load side why) more h = tt
+stops_more P Q (Walk why) more h = tt
+stops_more P Q (NotEmpty at) more h = tt
+stops_more P Q (NotAllowed path) more h = tt
+stops_more P Q (Changed plan items plan' items') more h = tt
+stops_more P Q (Differ path how) more h = tt
+stops_more P Q SourceGone more h = tt
+stops_more P Q Failed more h = tt
+stops_more P Q NoMemory more h = tt
+
+put_stops : (Q : Type 0) (why : PutFault) → ((at : Path) → why ≡ put.Taken at → Q) → StopsFor Q (of_put why)
+put_stops Q (put.Taken at) is = is at refl
+put_stops Q (put.Find why) is = tt
+put_stops Q (put.NotAllowed path) is = tt
+put_stops Q (put.Damaged at why) is = tt
+put_stops Q (put.Limit which) is = tt
+put_stops Q put.ZeroRandom is = tt
+put_stops Q put.Source is = tt
+put_stops Q put.Random is = tt
+put_stops Q put.Failed is = tt
+put_stops Q put.NoMemory is = tt
+
+-- ---- what is seen at a moment
+
+module _ (region : Path → Bool) (root : Path) where
+  abbrev Moved : Told → Told → Type 0
+  Moved a b = Went (IsAsBefore region a.state) (λ s e. OnlyBrings root s e.call) a b
+
+  gone : (a b : Told) → Moved a b → HasGone a b
+  gone a b went = went_more (IsAsBefore region a.state) (λ s. Unit {0}) (λ s e. OnlyBrings root s e.call) (λ s e. Unit {0}) a b (λ s h. tt) (λ s e h. tt) went
+
+  pub seen_at_first : (t u : Option Told) (v : View) → MovesBeside region root t u → IsSeen t v → WasSeen t u v
+  seen_at_first (Some a) (Some b) v went is = (a, went_nowhere (λ s. Unit {0}) (λ s e. Unit {0}) a tt, gone a b went, is)
+  seen_at_first (Some a) None v went is = absurd went
+  seen_at_first None u v went is = absurd is
+
+  pub seen_behind : (t u w : Option Told) (v : View) → MovesBeside region root t u → WasSeen u w v → WasSeen t w v
+  seen_behind t u w v =
+      from_to_on Moved (λ b e. (c : Told) × HasGone b c × HasGone c e × (v ≡ seen c.state)) (λ a e. (c : Told) × HasGone a c × HasGone c e × (v ≡ seen c.state)) t u w
+      (λ a b e went was. (was.0, went_on (λ s. Unit {0}) (λ s e. Unit {0}) a b was.0 (gone a b went) was.1, was.2, was.3))
+
+  pub shares_before : (Is More : View → Type 0) (to : OpenedVault) (items more : List Planned) (t u w : Option Told) → MovesBeside region root t u → Stays More Is t u → ((item : Planned) → Contains items item → Contains more item)
+      → SharesFrom Is to items u w → SharesFrom More to more t w
+  shares_before Is More to items more t u w went stays within shares v is given =
+      let x : (x : View) × IsSeen u x = seen_then _ t u went v is in
+      let s : OneShares to items u w = shares x.0 x.1 (stays v x.0 is x.1 given) in
+      record { item = s.item; among = within s.item s.among; moment = s.moment; seen = seen_behind t u w s.moment went s.seen; shares = s.shares }
+
+  pub in_tree_since : (from to : Path) (pass pass' : List ℕ) (t u w : Option Told) → MovesBeside region root t u → ((v : View) → IsSeen t v → IsSeen u v) → SharesInTree from to pass pass' u w → SharesInTree from to pass pass' t w
+  in_tree_since from to pass pass' t u w went known h = record {
+    source = h.source;
+    target = h.target;
+    opens_source = λ v is. h.opens_source v (known v is);
+    opens_target = λ v is. h.opens_target v (known v is);
+    shares = λ v is own tidy.
+        let one = h.shares v (known v is) own tidy in
+        record {
+          items = one.items;
+          items_are = one.items_are;
+          shares = record { item = one.shares.item; among = one.shares.among; moment = one.shares.moment; seen = seen_behind t u w one.shares.moment went one.shares.seen; shares = one.shares.shares };
+        };
+  }
+
+-- ---- one item
+
+no_item : FilesAreThere → (vault : Vault) (u : View) (path : plain.Path) → tree (format_of vault) u path ≡ NoItem → IsNoItem (standing (format_of vault) u path)
+unfolding opened
+no_item files vault u path none = by (standing (format_of vault) u path) refl none
+  where
+    by : (s : Standing) → standing (format_of vault) u path ≡ s → opens.opened_at (format_of vault) u s ≡ NoItem → IsNoItem s
+    by Absent e n = tt
+    by (Strange at) e n = tt
+    by (Dir at directory) e n = cc n
+    by (File at) e n =
+        let there = files vault u path at e in
+        absurd (content_opens (format_of vault).content there.0 (ap (λ x. opened_file (format_of vault).content (file_bytes x)) (sym there.1) ∙ n))
+
+-- the last name of what opens is a name
+last_name : StandBelow → (f : Format) (v : View) (front : plain.Path) (name : List ℕ) → tree f v (front ++ name ∷ []) ≢ NoItem → IsTrue (is_name name)
+unfolding opened standing_in
+last_name below f v front name there = by (is_name name) refl
+  where
+    up : StandsBelow f v (front ++ name ∷ [])
+    up = stands_in below f v front name there
+
+    same : name ≡ up.name
+    same = child-last up.front name up.name (ap (λ p. p ++ name ∷ []) (sym (child-injective front up.front name up.name up.is)) ∙ up.is)
+
+    unnamed : (other : List ℕ) → is_name other ≡ false → standing_in f v up.dir other ≡ Absent
+    unnamed other is =
+        let s = f.stored up.dir.key other in
+        ap (λ b. cond b (standing_of f v (child up.dir.folder s.name) (holds_full f v up.dir s) (item_at f v up.dir s)) Absent) is
+
+    by : (b : Bool) → is_name name ≡ b → IsTrue (is_name name)
+    by true is = is
+    by false is = absurd (there (ap (opens.opened_at f v) (sym up.stands ∙ unnamed up.name (sym (ap is_name same) ∙ is))))
+
+module _ (below : StandBelow) (behind : StandBehind) (files : FilesAreThere) (leads : EnteredLeads) (tells : TellsTree) (from to : OpenedVault) (laws : KeepsVaults (format_of to.vault)) (work : Path) (planned : Planned)
+    (item : NewItem) (ending : Ending) (drawn : List ℕ) (t u : Option Told) (of : IsItemOf t from planned) (kind : IsMadeFor planned.node item) where
+  taken_shares : (at : Path) → MakesAt New to work planned.path item ending drawn t u (Err (put.Taken at)) → (v : View) → IsSeen t v → Lacks from to planned v → SharesPlace to planned v
+  taken_shares at made v is l = elim (base_or_child planned.path) [
+    | inl root ↦ absurd (no_directory (sym (root_directory (format_of to.vault) (under to.root v) l.copying.target.orderly) ∙ ap (tree_in to v) (sym root) ∙ l.lacks))
+    | inr named ↦ shares named.0 named.1 named.2 ((made.named named.0 named.1 named.2).answer v is)
+  ]
+    where
+      no_directory : opens.Directory ≢ NoItem
+      no_directory e = cc e
+
+      plan : IsPlanOf (tree_in from v) of.items
+      plan = tells v (side_of from of.items) (walk_of from of.items t v of.walked is l.copying.source.orderly)
+
+      in_source : tree_in from v planned.path ≢ NoItem
+      in_source = ((plan.items.items planned.path).0 (contains_mapped (λ (x : Planned). x.path) of.items planned of.among)).1
+
+      shares : (front : plain.Path) (name : List ℕ) → planned.path ≡ front ++ name ∷ []
+          → Answers (record { vault = to; work = work; front = front; name = name; item = item }) drawn ending (under to.root v) (Err (put.Taken at)) → SharesPlace to planned v
+      shares front name named a = record {
+        good = l.copying.target;
+        tidy = l.tidy;
+        front = front;
+        name = name;
+        is = named;
+        dir = a.2.dir;
+        entered = a.2.there.entered;
+        missing = missing;
+        item = item;
+        kind = kind;
+        drawn = drawn;
+        shares = λ own.
+            let never : Some a.0 ≡ None = sym a.2.is ∙ laws.free (under to.root v) front a.2.dir name item drawn l.copying.target.clean l.tidy way
+                (last_name below (format_of from.vault) (under from.root v) front name (subst (λ p. tree_in from v p ≢ NoItem) named in_source)) missing own in
+            cc never;
+      }
+        where
+          way : Leads (format_of to.vault) (under to.root v) front a.2.dir
+          way = (leads (format_of to.vault) (under to.root v) front a.2.dir).0 a.2.there.entered
+
+          missing : IsNoItem (standing_in (format_of to.vault) (under to.root v) a.2.dir name)
+          missing = subst IsNoItem (behind (format_of to.vault) (under to.root v) front a.2.dir name way)
+              (no_item files to.vault (under to.root v) (front ++ name ∷ []) (subst (λ p. tree_in to v p ≡ NoItem) named l.lacks))
+
+  pub item_stops : AreApart to.root work → (why : PutFault) → MakesAt New to work planned.path item ending drawn t u (Err why) → StopsFor (SharesFrom (Lacks from to planned) to (planned ∷ []) t u) (of_put why)
+  item_stops apart why made = put_stops (SharesFrom (Lacks from to planned) to (planned ∷ []) t u) why
+      (λ at same v is l. record {
+        item = planned;
+        among = (0, omega arith, refl);
+        moment = v;
+        seen = seen_at_first (is_apart work to.root) to.root t u v (made_moves to work planned.path item ending drawn t u (Err why) made apart) is;
+        shares = taken_shares at (subst (λ (y : PutFault). MakesAt New to work planned.path item ending drawn t u (Err y)) same made) v is l;
+      })
+
+-- ---- one after the other
+
+nothing_else : (o : Opened) → (o ≢ NoItem → ⊥) → o ≡ NoItem
+nothing_else NoItem some = refl
+nothing_else opens.Directory some = absurd (some (λ e. cc e))
+nothing_else (opens.Content bytes) some = absurd (some (λ e. cc e))
+nothing_else (opens.Broken chunks fault) some = absurd (some (λ e. cc e))
+
+pub filled_as : (from to : OpenedVault) (there : List Planned) (v w : View) → under from.root w ≡ under from.root v → under to.root w ≡ under to.root v → IsFilled from to there v → IsFilled from to there w
+filled_as from to there v w same_from same_to h = (
+  copied_as from to there v w same_from same_to h.0,
+  record {
+    tidy = subst (IsTidy (format_of to.vault)) (sym same_to) h.1.tidy;
+    empty = λ path named. ap (λ x. tree (format_of to.vault) x path) same_to ∙ h.1.empty path named;
+  },
+)
+
+pub none_filled : (to : OpenedVault) (v w : View) → w ≡ v → IsFresh to v → HasOnly to [] w
+none_filled to v w same h = subst (HasOnly to []) (sym same) (record { tidy = h.tidy; only = λ path named there. absurd (there (h.empty path named)) })
+
+pub one_filled : (from to : OpenedVault) (items : List Planned) (k : ℕ) (item : Planned) (v w : View) → k < length items → item ≡ get_or items k item → HasOnly to (take k items) v → Copies from to item v w
+    → HasOnly to (take (k + 1) items) w
+one_filled from to items k item v w inside at h copies =
+    subst (λ xs. HasOnly to xs w) (ap (λ x. take k items ++ x ∷ []) at ∙ sym (take_more items k item inside)) (record {
+      tidy = copies.tidy h.tidy;
+      only = λ path named there. elim (copies.gains path there) [
+        | inl same ↦ (item, Contains-append_right (take k items) (item ∷ []) item (0, omega arith, refl), sym same)
+        | inr was ↦ let x = h.only path named was in (x.0, Contains-append_left (take k items) (item ∷ []) x.0 x.1, x.2)
+      ];
+    })
+
+-- where an item of the first ones is
+in_take : (xs : List Planned) (k : ℕ) (x : Planned) → Contains (take k xs) x → (j : ℕ) × (j < k) × (j < length xs) × (get_or xs j x ≡ x)
+in_take xs zero x c = absurd (omega (arith, c.1))
+in_take [] (suc k) x c = absurd (omega (arith, c.1))
+in_take (y ∷ xs) (suc k) x (zero, lt, at) = (0, omega arith, omega arith, at)
+in_take (y ∷ xs) (suc k) x (suc j, lt, at) = let c = in_take xs k x (j, omega (arith, lt), at) in (suc c.0, omega (arith, c.1), omega (arith, c.2), c.3)
+
+-- the next item isn't there yet
+pub next_lacks : (from to : OpenedVault) (there items : List Planned) (k : ℕ) (item : Planned) (v : View) → IsPlanOf (tree_in from v) items → IsOrdered items → k < length items → item ≡ get_or items k item
+    → HasCopied from to (there ++ take k items) v → HasOnly to (take k items) v → Lacks from to item v
+next_lacks from to there items k item v plan ordered inside at copied only = record { copying = copied.copying; tidy = only.tidy; lacks = nothing_else (tree_in to v item.path) lacks }
+  where
+    named : item.path ≢ []
+    named = ((plan.items.items item.path).0 (contains_mapped (λ (x : Planned). x.path) items item (k, inside, sym at))).0
+
+    never_less : Equal ≢ Less
+    never_less e = cc e
+
+    lacks : tree_in to v item.path ≢ NoItem → ⊥
+    lacks there =
+        let x : (x : Planned) × Contains (take k items) x × (x.path ≡ item.path) = only.only item.path named there in
+        let j : (j : ℕ) × (j < k) × (j < length items) × (get_or items j x.0 ≡ x.0) = in_take items k x.0 x.1 in
+        let less : path_cmp (get_or items j.0 item).path (get_or items k item).path ≡ Less = ordered j.0 k item j.1 inside in
+        let same : (get_or items j.0 item).path ≡ item.path = ap (λ (z : Planned). z.path) (sym (get_or_default items j.0 x.0 item j.2) ∙ j.3) ∙ x.2 in
+        never_less (sym (tied_itself paths_total item.path) ∙ ap (λ p. path_cmp p item.path) (sym same) ∙ ap (λ (z : Planned). path_cmp (get_or items j.0 item).path z.path) at ∙ less)
+
+-- ---- of the vaults
+
+pub source_shares : TellsTree → (from to : OpenedVault) (items : List Planned) (t u : Option Told) → MayBegin from to [] t → IsWalked t from items → IsWalked t to [] → SharesFrom (IsFilled from to []) to items t u → SharesWhereTidy from to t u
+source_shares tells from to items t u may walked walked_to shares v is own tidy = record {
+  items = items;
+  items_are = walked.plan v is own.source;
+  shares = shares v is (may v is own, record {
+    tidy = tidy;
+    empty = λ path named. nothing_else (tree_in to v path)
+        (λ there. let x : (x : Planned) × Contains [] x × (x.path ≡ path) = planned_at (tree_in to v) [] (tells v (side_of to []) b) path named there in omega (arith, x.1.1));
+  });
+}
+  where
+    b : IsWalkOf v (side_of to [])
+    b = walked_to.plan v is own.target
+
+pub share_in_tree : (from to : Path) (pass pass' : List ℕ) (source target : OpenedVault) (t u : Option Told) → source.root ≡ from → target.root ≡ to → ((v : View) → IsSeen t v → IsVault (under from v) pass source.vault)
+    → ((v : View) → IsSeen t v → IsVault (under to v) pass' target.vault) → SharesWhereTidy source target t u → SharesInTree from to pass pass' t u
+share_in_tree from to pass pass' source target t u at_from at_to opens opens_to shares = record {
+  source = source.vault;
+  target = target.vault;
+  opens_source = opens;
+  opens_target = opens_to;
+  shares = subst₂ (λ p q. SharesWhereTidy (opened_in p source.vault) (opened_in q target.vault) t u) at_from at_to shares;
+}

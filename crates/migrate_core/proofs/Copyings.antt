@@ -87,6 +87,7 @@ module _ (from to : OpenedVault) (work : Path) (planned : Planned) (item : NewIt
           | inr other ↦ inr (λ none. there (gains.others path other.0 ∙ none))
         ];
         tidy = stays.tidy;
+        loads = stays.loads;
       }
 
 module _ (from to : OpenedVault) (work : Path) (item : Planned) (t u : Option Told) (separate : AreSeparate from.root to.root work) (sound : AreSound t) (moves : MovesBeside (is_apart work to.root) to.root t u) (of : IsItemOf t from item) where
@@ -123,6 +124,7 @@ stands_copied from to there item v w same stands h = subst (Copies from to item 
   keeps = λ path is. is;
   gains = λ path is. inr is;
   tidy = λ is. is;
+  loads = λ pass vault is. is;
 })
 
 pub none_copied : (from to : OpenedVault) (there : List Planned) (v w : View) → w ≡ v → HasCopied from to there v → HasCopied from to (there ++ []) w

@@ -32,6 +32,7 @@ use Rattle.vault_spec.specs.Opens.{NoItem, Opened, opened, opened_file, tree}
 use Rattle.vault_spec.specs.Plan.{Planned, StandsBelow}
 use Rattle.vault_spec.specs.Reached.{Leads}
 use Rattle.vault_spec.specs.Standing.{Absent, Dir, File, Standing, Strange, holds_full, item_at, standing, standing_in, standing_of}
+use Rattle.vault_spec.specs.Staying.{LoadsAlike}
 use Rattle.vault_spec.specs.Tidy.{IsTidy}
 use Rattle.vault_spec.specs.Vault.{IsVault, Vault, format_of}
 use Rattle.vault_walk.specs.Survey.{IsOrdered}
@@ -157,12 +158,19 @@ module _ (region : Path → Bool) (root : Path) where
       from_to_on Moved (λ b e. (c : Told) × HasGone b c × HasGone c e × (v ≡ seen c.state)) (λ a e. (c : Told) × HasGone a c × HasGone c e × (v ≡ seen c.state)) t u w
       (λ a b e went was. (was.0, went_on (λ s. Unit {0}) (λ s e. Unit {0}) a b was.0 (gone a b went) was.1, was.2, was.3))
 
-  pub shares_before : (Is More : View → Type 0) (to : OpenedVault) (items more : List Planned) (t u w : Option Told) → MovesBeside region root t u → Stays More Is t u → ((item : Planned) → Contains items item → Contains more item)
-      → SharesFrom Is to items u w → SharesFrom More to more t w
-  shares_before Is More to items more t u w went stays within shares v is given =
+  pub shares_before : (Is More : View → Type 0) (to : OpenedVault) (items more : List Planned) (t u w : Option Told) → MovesBeside region root t u → Stays More Is t u
+      → ((v x : View) → IsSeen t v → IsSeen u x → More v → LoadsAlike (under to.root v) (under to.root x)) → ((item : Planned) → Contains items item → Contains more item) → SharesFrom Is to items u w → SharesFrom More to more t w
+  shares_before Is More to items more t u w went stays alike within shares v is given =
       let x : (x : View) × IsSeen u x = seen_then _ t u went v is in
-      let s : OneShares to items u w = shares x.0 x.1 (stays v x.0 is x.1 given) in
-      record { item = s.item; among = within s.item s.among; moment = s.moment; seen = seen_behind t u w s.moment went s.seen; shares = s.shares }
+      let s : OneShares to items x.0 u w = shares x.0 x.1 (stays v x.0 is x.1 given) in
+      record {
+        item = s.item;
+        among = within s.item s.among;
+        moment = s.moment;
+        seen = seen_behind t u w s.moment went s.seen;
+        loads = λ pass vault opens. s.loads pass vault (alike v x.0 is x.1 given pass vault opens);
+        shares = s.shares;
+      }
 
   pub in_tree_since : (from to : Path) (pass pass' : List ℕ) (t u w : Option Told) → MovesBeside region root t u → ((v : View) → IsSeen t v → IsSeen u v) → SharesInTree from to pass pass' u w → SharesInTree from to pass pass' t w
   in_tree_since from to pass pass' t u w went known h = record {
@@ -175,7 +183,14 @@ module _ (region : Path → Bool) (root : Path) where
         record {
           items = one.items;
           items_are = one.items_are;
-          shares = record { item = one.shares.item; among = one.shares.among; moment = one.shares.moment; seen = seen_behind t u w one.shares.moment went one.shares.seen; shares = one.shares.shares };
+          shares = record {
+            item = one.shares.item;
+            among = one.shares.among;
+            moment = one.shares.moment;
+            seen = seen_behind t u w one.shares.moment went one.shares.seen;
+            loads = one.shares.loads;
+            shares = one.shares.shares;
+          };
         };
   }
 
@@ -263,6 +278,7 @@ module _ (below : StandBelow) (behind : StandBehind) (files : FilesAreThere) (le
         item = planned;
         among = (0, omega arith, refl);
         moment = v;
+        loads = λ pass vault opens. opens;
         seen = seen_at_first (is_apart work to.root) to.root t u v (made_moves to work planned.path item ending drawn t u (Err why) made apart) is;
         shares = taken_shares at (subst (λ (y : PutFault). MakesAt New to work planned.path item ending drawn t u (Err y)) same made) v is l;
       })
@@ -284,19 +300,24 @@ filled_as from to there v w same_from same_to h = (
   },
 )
 
-pub none_filled : (to : OpenedVault) (v w : View) → w ≡ v → IsFresh to v → HasOnly to [] w
-none_filled to v w same h = subst (HasOnly to []) (sym same) (record { tidy = h.tidy; only = λ path named there. absurd (there (h.empty path named)) })
+pub none_filled : (to : OpenedVault) (v w : View) → w ≡ v → IsFresh to v → HasOnly to [] w × LoadsAlike (under to.root v) (under to.root w)
+none_filled to v w same h = (
+  subst (HasOnly to []) (sym same) (record { tidy = h.tidy; only = λ path named there. absurd (there (h.empty path named)) }),
+  subst (λ y. LoadsAlike (under to.root v) (under to.root y)) (sym same) (λ pass vault opens. opens),
+)
 
-pub one_filled : (from to : OpenedVault) (items : List Planned) (k : ℕ) (item : Planned) (v w : View) → k < length items → item ≡ get_or items k item → HasOnly to (take k items) v → Copies from to item v w
-    → HasOnly to (take (k + 1) items) w
-one_filled from to items k item v w inside at h copies =
+pub one_filled : (from to : OpenedVault) (items : List Planned) (k : ℕ) (item : Planned) (x v w : View) → k < length items → item ≡ get_or items k item → HasOnly to (take k items) v × LoadsAlike (under to.root x) (under to.root v)
+    → Copies from to item v w → HasOnly to (take (k + 1) items) w × LoadsAlike (under to.root x) (under to.root w)
+one_filled from to items k item x v w inside at h copies = (
     subst (λ xs. HasOnly to xs w) (ap (λ x. take k items ++ x ∷ []) at ∙ sym (take_more items k item inside)) (record {
-      tidy = copies.tidy h.tidy;
+      tidy = copies.tidy h.0.tidy;
       only = λ path named there. elim (copies.gains path there) [
         | inl same ↦ (item, Contains-append_right (take k items) (item ∷ []) item (0, omega arith, refl), sym same)
-        | inr was ↦ let x = h.only path named was in (x.0, Contains-append_left (take k items) (item ∷ []) x.0 x.1, x.2)
+        | inr was ↦ let y = h.0.only path named was in (y.0, Contains-append_left (take k items) (item ∷ []) y.0 y.1, y.2)
       ];
-    })
+    }),
+    λ pass vault opens. copies.loads pass vault (h.1 pass vault opens),
+)
 
 -- where an item of the first ones is
 in_take : (xs : List Planned) (k : ℕ) (x : Planned) → Contains (take k xs) x → (j : ℕ) × (j < k) × (j < length xs) × (get_or xs j x ≡ x)

@@ -11,6 +11,7 @@ use Rattle.vault_spec.specs.Find.{enter}
 use Rattle.vault_spec.specs.Format.{Directory}
 use Rattle.vault_spec.specs.Opens.{Tree, NoItem, tree}
 use Rattle.vault_spec.specs.Plan.{Planned}
+use Rattle.vault_spec.specs.Staying.{LoadsAlike}
 use Rattle.vault_spec.specs.Tidy.{IsTidy}
 use Rattle.vault_spec.specs.Vault.{format_of}
 use Rattle.vault_walk.specs.Surveyed.{IsWithin}
@@ -44,13 +45,15 @@ pub record HasCopied (from to : OpenedVault) (items : List Planned) (v : View) :
 abbrev pub Enters : OpenedVault → Planned → View → Type 0
 Enters to item v = (front : plain.Path) (name : List ℕ) → item.path ≡ front ++ name ∷ [] → (dir : Directory) × (enter (format_of to.vault) (under to.root v) front ≡ Ok dir)
 
--- from the one view to the other the target gained the item and no other, and lost none; and where it was tidy it is so still
+-- from the one view to the other the target gained the item and no other, and lost none; where it was tidy it is so still; and
+-- each passphrase opens it as it did
 pub record Copies (from to : OpenedVault) (item : Planned) (v w : View) : Type 0 where
   pub copying : IsCopying from to w
   pub has : HasItem to w item
   pub keeps : (path : plain.Path) → tree_in to v path ≢ NoItem → tree_in to w path ≢ NoItem
   pub gains : (path : plain.Path) → tree_in to w path ≢ NoItem → (path ≡ item.path) ⊎ (tree_in to v path ≢ NoItem)
   pub tidy : IsTidy (format_of to.vault) (under to.root v) → IsTidy (format_of to.vault) (under to.root w)
+  pub loads : LoadsAlike (under to.root v) (under to.root w)
 
 -- it does so, where it was being copied into
 abbrev pub CopiesOne : OpenedVault → OpenedVault → Planned → Option Told → Option Told → Type 0

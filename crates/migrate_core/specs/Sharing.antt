@@ -16,6 +16,7 @@ use Rattle.vault_spec.specs.Making.{NewItem, NewDirectory, NewFile}
 use Rattle.vault_spec.specs.Opens.{NoItem}
 use Rattle.vault_spec.specs.Plan.{Planned}
 use Rattle.vault_spec.specs.Standing.{standing_in}
+use Rattle.vault_spec.specs.Staying.{LoadsAlike}
 use Rattle.vault_spec.specs.Tidy.{HasOwnPlace, IsTidy}
 use Rattle.vault_spec.specs.Vault.{Vault, IsVault, format_of}
 use Rattle.vault_walk.specs.Surveyed.{IsPlanOf}
@@ -51,19 +52,20 @@ pub record SharesPlace (to : OpenedVault) (planned : Planned) (v : View) : Type 
   pub drawn : List ℕ
   pub shares : ¬ HasOwnPlace (format_of to.vault) (under to.root v) dir name item drawn
 
--- one of these items does, by what is seen at a moment of the call
-pub record OneShares (to : OpenedVault) (items : List Planned) (told told' : Option Told) : Type 0 where
+-- One of these items does, by what is seen at a moment of the call. Each passphrase opens the target then as it did at first.
+pub record OneShares (to : OpenedVault) (items : List Planned) (first : View) (told told' : Option Told) : Type 0 where
   pub item : Planned
   pub among : Contains items item
   pub moment : View
   pub seen : WasSeen told told' moment
+  pub loads : LoadsAlike (under to.root first) (under to.root moment)
   pub shares : SharesPlace to item moment
 
 -- an item of the source does
 pub record OneOfSourceShares (from to : OpenedVault) (told told' : Option Told) (v : View) : Type 0 where
   pub items : List Planned
   pub items_are : IsPlanOf from.root (format_of from.vault) (under from.root v) items
-  pub shares : OneShares to items told told'
+  pub shares : OneShares to items v told told'
 
 -- where at first no two directories of either vault share a folder, and the target is tidy
 abbrev pub SharesWhereTidy : OpenedVault → OpenedVault → Option Told → Option Told → Type 0
@@ -86,7 +88,7 @@ IsOfTaken P fault = Unit {0}
 
 -- where this is so of all that is seen at first
 abbrev pub SharesFrom : (View → Type 0) → OpenedVault → List Planned → Option Told → Option Told → Type 0
-SharesFrom Is to items told told' = (v : View) → IsSeen told v → Is v → OneShares to items told told'
+SharesFrom Is to items told told' = (v : View) → IsSeen told v → Is v → OneShares to items v told told'
 
 -- the target is copied into, is tidy, and doesn't have the item yet
 pub record Lacks (from to : OpenedVault) (item : Planned) (v : View) : Type 0 where
@@ -108,6 +110,7 @@ pub record HasOnly (to : OpenedVault) (items : List Planned) (v : View) : Type 0
   pub tidy : IsTidyAt to v
   pub only : (path : plain.Path) → path ≢ [] → tree_in to v path ≢ NoItem → (item : Planned) × Contains items item × (item.path ≡ path)
 
--- it was fresh, and has only these of the items
+-- it was fresh, and has only these of the items; and each passphrase opens it as it did
 abbrev pub FillsOnly : OpenedVault → OpenedVault → List Planned → List Planned → Option Told → Option Told → Type 0
-FillsOnly from to there items told told' = (v w : View) → IsSeen told v → IsSeen told' w → IsFilled from to there v → HasOnly to items w
+FillsOnly from to there items told told' = (v w : View) → IsSeen told v → IsSeen told' w → IsFilled from to there v
+    → HasOnly to items w × LoadsAlike (under to.root v) (under to.root w)

@@ -32,6 +32,8 @@ use Rattle.migrate_core.proofs.Limits.{ends_more, ends_uncompared, folder_compar
 use Rattle.migrate_core.specs.Copying.{CopiesAll, StayGood}
 use Rattle.migrate_core.proofs.Sharing.{filled_as, shares_before}
 use Rattle.migrate_core.specs.Sharing.{IsFilled, SharesFrom}
+use Rattle.vault_spec.specs.Staying.{LoadsAlike}
+use Rattle.folder_spec.specs.Seen.{under}
 use Rattle.migrate_core.proofs.beginning.move_all.Goals as goal
 
 pub returns-in_err-entered-clause-guard : goal.returns-in_err-entered-clause-guard
@@ -384,5 +386,6 @@ returns-clause-ends g c =
     ends_more (CopiesAll from to [] items written after) (StayGood from to told after) (SharesFrom (IsFilled from to []) to items written after) (SharesFrom (IsFilled from to []) to items told after) from to after c.go_on.result
     (good_copies from to [] items told written after c.requires.copying (seen_then _ told written moves) source_is target_is)
     (shares_before region to.root (IsFilled from to []) (IsFilled from to []) to items items told written after moves
-    (λ v w is_v is_w. filled_as from to [] v w (source_is v w is_v is_w) (target_is v w is_v is_w)) (λ item among. among))
+    (λ v w is_v is_w. filled_as from to [] v w (source_is v w is_v is_w) (target_is v w is_v is_w))
+    (λ v w is_v is_w filled. subst (LoadsAlike (under to.root v)) (sym (target_is v w is_v is_w)) (λ pass vault opens. opens)) (λ item among. among))
     c.go_on.ensures.ends

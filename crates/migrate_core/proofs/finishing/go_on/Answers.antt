@@ -196,6 +196,6 @@ returns-clause-ends g c =
     let here = g.F.Folder.told c.place_missing.new.folder in
     let after = g.F.Folder.told c.finish.new.folder in
     let copies : CopiesAll from to there items told here = subst (λ xs. CopiesAll from to there xs told here) c.as_slice-items.ensures c.in_ok-placed.ensures.copies in
-    ends_later (CopiesAll from to items items here after) (CopiesAll from to there items told after) (HasCopied from to items) (λ v. IsFilled from to there v → OneShares to items told after) from to told here after c.finish.result
+    ends_later (CopiesAll from to items items here after) (CopiesAll from to there items told after) (HasCopied from to items) (λ v. IsFilled from to there v → OneShares to items v told after) from to told here after c.finish.result
     (λ stays v w is_v is_w has. let u = seen_then _ told here c.place_missing.ensures.moves v is_v in stays u.0 w u.1 is_w (copies v u.0 is_v u.1 has)) (seen_then _ told here c.place_missing.ensures.moves)
     c.finish.ensures.moving c.finish.ensures.ends

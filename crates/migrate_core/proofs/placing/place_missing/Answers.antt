@@ -162,7 +162,7 @@ loop-item-preserved g c =
           (c.in_ok-place_missing_one.ensures.copies mid.0 w mid.1 is_w (there_copied from to there (take k items) mid.0 before));
       fills = λ v w is_v is_w h.
           let mid = seen_before _ here told' c.place_missing_one.ensures.moves w is_w in
-          one_filled from to items k item mid.0 w c.loop-item-test.true c.item-item.is (i.fills v mid.0 is_v mid.1 h)
+          one_filled from to items k item v mid.0 w c.loop-item-test.true c.item-item.is (i.fills v mid.0 is_v mid.1 h)
           (c.in_ok-place_missing_one.ensures.copies mid.0 w mid.1 is_w (there_copied from to there (take k items) mid.0 (i.copied v mid.0 is_v mid.1 h.0)));
       none = λ all. c.place_missing_one.ensures.none (all c.item-item.result (c.loop-item.item-index, c.loop-item-test.true, sym c.item-item.is)) ∙ i.none all;
     }
@@ -260,5 +260,5 @@ returns-in_err-place_missing_one-clause-stops g c =
     (λ v w is_v is_w h.
     let copied = i.copied v w is_v is_w h.0 in
     next_lacks from to there items k item w (c.walks_tell_the_tree.ensures.plan w (side_of from items) (walk_of from items here w walked is_w copied.copying.source.orderly)) (walked.ordered w is_w) c.loop-item-test.true c.item-item.is
-    copied (i.fills v w is_v is_w h))
-    (next_among items k item c.loop-item-test.true c.item-item.is)) c.in_err-place_missing_one.ensures.stops)
+    copied (i.fills v w is_v is_w h).0)
+    (λ v w is_v is_w h. (i.fills v w is_v is_w h).1) (next_among items k item c.loop-item-test.true c.item-item.is)) c.in_err-place_missing_one.ensures.stops)

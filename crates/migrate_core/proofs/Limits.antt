@@ -18,6 +18,7 @@ use Rattle.folder_spec.specs.declared.FolderFault.TheVariants as folder
 use Rattle.move_journal.specs.declared.journal.JournalFault.{JournalFault}
 use Rattle.move_journal.specs.declared.journal.JournalFault.TheVariants as journals
 use Rattle.plain_tree.specs.Names as plain
+use Rattle.port_model.specs.Draws.{ByteStream}
 use Rattle.plain_tree.specs.declared.NodeKind.TheVariants as node
 use Rattle.tree_match.proofs.CutItems.{EndsWithin, IsCutItem, cut_content, cut_item}
 use Rattle.tree_match.proofs.HeldTrees.{file_stands, planned}
@@ -362,12 +363,12 @@ limit_in_tree P Q from to pass pass' source target t u (Err fault) at_from at_to
       passes = λ v is. subst₂ (λ p q. PassesLimit (opened_in p source.vault) (opened_in q target.vault) v at) at_from at_to (passes v is);
     }) ends.0
 
-pub shared_in_tree : {T : Type 0} (P : Type 0) (from to : Path) (pass pass' : List ℕ) (source target : OpenedVault) (t u : Option Told) (result : Result T MoveFault) → source.root ≡ from → target.root ≡ to
+pub shared_in_tree : {T : Type 0} (P : Type 0) (from to : Path) (pass pass' : List ℕ) (source target : OpenedVault) (s s' : Option ByteStream) (t u : Option Told) (result : Result T MoveFault) → source.root ≡ from → target.root ≡ to
     → ((v : View) → IsSeen t v → IsVault (under from v) pass source.vault) → ((v : View) → IsSeen t v → IsVault (under to v) pass' target.vault)
-    → EndsBy P (SharesWhereTidy source target t u) source target u result → IfErr result (IsOfTaken (SharesInTree from to pass pass' t u))
-shared_in_tree P from to pass pass' source target t u (Ok value) at_from at_to opens opens_to ends = tt
-shared_in_tree P from to pass pass' source target t u (Err fault) at_from at_to opens opens_to ends =
-    taken_more (SharesWhereTidy source target t u) (SharesInTree from to pass pass' t u) fault (share_in_tree from to pass pass' source target t u at_from at_to opens opens_to) ends.1
+    → EndsBy P (SharesWhereTidy source target s s' t u) source target u result → IfErr result (IsOfTaken (SharesInTree from to pass pass' s s' t u))
+shared_in_tree P from to pass pass' source target s s' t u (Ok value) at_from at_to opens opens_to ends = tt
+shared_in_tree P from to pass pass' source target s s' t u (Err fault) at_from at_to opens opens_to ends =
+    taken_more (SharesWhereTidy source target s s' t u) (SharesInTree from to pass pass' s s' t u) fault (share_in_tree from to pass pass' source target s s' t u at_from at_to opens opens_to) ends.1
 
 -- what is seen at first is seen where the vaults are opened
 pub in_tree_before : (from to : Path) (pass pass' : List ℕ) (t0 t u : Option Told) → ((v : View) → IsSeen t0 v → IsSeen t v) → (at : Path) → PassesInTree from to pass pass' t u at → PassesInTree from to pass pass' t0 u at

@@ -1,5 +1,5 @@
 -- That only an item which shares its place stops at a taken one, where the target is tidy.
-use Rattle.std.proofs.Common.{◌≡◌, ◌≢◌, ◌⊎◌, inl, inr, ◌<◌, ◌+◌, ℕ, zero, suc, Bool, true, false, cond, List, [], ◌∷◌, ◌++◌, length, take, get_or, Contains, IsTrue, Option, Some, None, Result, Ok, Err, IfErr, refl, sym, ap, ◌∙◌, subst, subst₂, arith}
+use Rattle.std.proofs.Common.{◌≡◌, ◌≢◌, ◌⊎◌, inl, inr, ◌<◌, ◌+◌, ℕ, zero, suc, Bool, true, false, cond, List, [], ◌∷◌, ◌++◌, length, take, get_or, Contains, IsTrue, Option, Some, None, Result, Ok, Err, IfErr, refl, sym, ap, ◌∙◌, subst, subst₂, append_assoc, arith}
 use Rattle.std.proofs.lemmas.Cmp.{tied_itself}
 use Rattle.std.proofs.lemmas.List.{get_or_default, take_more}
 use Rattle.std.proofs.lemmas.List.Elements.{Contains-append_left, Contains-append_right}
@@ -19,6 +19,7 @@ use Rattle.folder_spec.specs.View.{View}
 use Rattle.plain_tree.specs.Names as plain
 use Rattle.plain_tree.specs.Names.{is_name}
 use Rattle.plain_tree.specs.Order.{path_cmp}
+use Rattle.port_model.specs.Draws.{ByteStream, Draws}
 use Rattle.tree_match.specs.Guard.{AreApart, IsPlanOf}
 use Rattle.tree_match.specs.Trees.{IsWalkOf}
 use Rattle.vault_read.specs.Laws.{KeepsVaults}
@@ -141,6 +142,9 @@ put_stops Q put.NoMemory is = tt
 
 -- ---- what is seen at a moment
 
+abbrev Composed : Type 0
+Composed = (first second third : Option ByteStream) (xs ys : List ℕ) → Draws first second xs → Draws second third ys → Draws first third (xs ++ ys)
+
 module _ (region : Path → Bool) (root : Path) where
   abbrev Moved : Told → Told → Type 0
   Moved a b = Went (IsAsBefore region a.state) (λ s e. OnlyBrings root s e.call) a b
@@ -158,22 +162,28 @@ module _ (region : Path → Bool) (root : Path) where
       from_to_on Moved (λ b e. (c : Told) × HasGone b c × HasGone c e × (v ≡ seen c.state)) (λ a e. (c : Told) × HasGone a c × HasGone c e × (v ≡ seen c.state)) t u w
       (λ a b e went was. (was.0, went_on (λ s. Unit {0}) (λ s e. Unit {0}) a b was.0 (gone a b went) was.1, was.2, was.3))
 
-  pub shares_before : (Is More : View → Type 0) (to : OpenedVault) (items more : List Planned) (t u w : Option Told) → MovesBeside region root t u → Stays More Is t u
-      → ((v x : View) → IsSeen t v → IsSeen u x → More v → LoadsAlike (under to.root v) (under to.root x)) → ((item : Planned) → Contains items item → Contains more item) → SharesFrom Is to items u w → SharesFrom More to more t w
-  shares_before Is More to items more t u w went stays alike within shares v is given =
+  pub shares_before : (Is More : View → Type 0) (to : OpenedVault) (items more : List Planned) (r s s' : Option ByteStream) (t u w : Option Told) → MovesBeside region root t u → Stays More Is t u
+      → ((v x : View) → IsSeen t v → IsSeen u x → More v → LoadsAlike (under to.root v) (under to.root x)) → ((item : Planned) → Contains items item → Contains more item) → Composed → ((v : View) → IsSeen t v → (xs : List ℕ) × Draws r s xs)
+      → SharesFrom Is to items s s' u w → SharesFrom More to more r s' t w
+  shares_before Is More to items more r s s' t u w went stays alike within composed drew shares v is given =
       let x : (x : View) × IsSeen u x = seen_then _ t u went v is in
-      let s : OneShares to items x.0 u w = shares x.0 x.1 (stays v x.0 is x.1 given) in
+      let one : OneShares to items x.0 s s' u w = shares x.0 x.1 (stays v x.0 is x.1 given) in
+      let before : (xs : List ℕ) × Draws r s xs = drew v is in
       record {
-        item = s.item;
-        among = within s.item s.among;
-        moment = s.moment;
-        seen = seen_behind t u w s.moment went s.seen;
-        loads = λ pass vault opens. s.loads pass vault (alike v x.0 is x.1 given pass vault opens);
-        shares = s.shares;
+        item = one.item;
+        among = within one.item one.among;
+        earlier = before.0 ++ one.earlier;
+        drawn = one.drawn;
+        were_drawn = subst (Draws r s') (sym (append_assoc before.0 one.earlier one.drawn)) (composed r s s' before.0 (one.earlier ++ one.drawn) before.1 one.were_drawn);
+        moment = one.moment;
+        seen = seen_behind t u w one.moment went one.seen;
+        loads = λ pass vault opens. one.loads pass vault (alike v x.0 is x.1 given pass vault opens);
+        shares = one.shares;
       }
 
-  pub in_tree_since : (from to : Path) (pass pass' : List ℕ) (t u w : Option Told) → MovesBeside region root t u → ((v : View) → IsSeen t v → IsSeen u v) → SharesInTree from to pass pass' u w → SharesInTree from to pass pass' t w
-  in_tree_since from to pass pass' t u w went known h = record {
+  pub in_tree_since : (from to : Path) (pass pass' : List ℕ) (s s' : Option ByteStream) (t u w : Option Told) → MovesBeside region root t u → ((v : View) → IsSeen t v → IsSeen u v) → SharesInTree from to pass pass' s s' u w
+      → SharesInTree from to pass pass' s s' t w
+  in_tree_since from to pass pass' s s' t u w went known h = record {
     source = h.source;
     target = h.target;
     opens_source = λ v is. h.opens_source v (known v is);
@@ -186,6 +196,9 @@ module _ (region : Path → Bool) (root : Path) where
           shares = record {
             item = one.shares.item;
             among = one.shares.among;
+            earlier = one.shares.earlier;
+            drawn = one.shares.drawn;
+            were_drawn = one.shares.were_drawn;
             moment = one.shares.moment;
             seen = seen_behind t u w one.shares.moment went one.shares.seen;
             loads = one.shares.loads;
@@ -229,8 +242,8 @@ last_name below f v front name there = by (is_name name) refl
     by false is = absurd (there (ap (opens.opened_at f v) (sym up.stands ∙ unnamed up.name (sym (ap is_name same) ∙ is))))
 
 module _ (below : StandBelow) (behind : StandBehind) (files : FilesAreThere) (leads : EnteredLeads) (tells : TellsTree) (from to : OpenedVault) (laws : KeepsVaults (format_of to.vault)) (work : Path) (planned : Planned)
-    (item : NewItem) (ending : Ending) (drawn : List ℕ) (t u : Option Told) (of : IsItemOf t from planned) (kind : IsMadeFor planned.node item) where
-  taken_shares : (at : Path) → MakesAt New to work planned.path item ending drawn t u (Err (put.Taken at)) → (v : View) → IsSeen t v → Lacks from to planned v → SharesPlace to planned v
+    (item : NewItem) (ending : Ending) (drawn : List ℕ) (s s' : Option ByteStream) (were_drawn : Draws s s' drawn) (t u : Option Told) (of : IsItemOf t from planned) (kind : IsMadeFor planned.node item) where
+  taken_shares : (at : Path) → MakesAt New to work planned.path item ending drawn t u (Err (put.Taken at)) → (v : View) → IsSeen t v → Lacks from to planned v → SharesPlace to planned drawn v
   taken_shares at made v is l = elim (base_or_child planned.path) [
     | inl root ↦ absurd (no_directory (sym (root_directory (format_of to.vault) (under to.root v) l.copying.target.orderly) ∙ ap (tree_in to v) (sym root) ∙ l.lacks))
     | inr named ↦ shares named.0 named.1 named.2 ((made.named named.0 named.1 named.2).answer v is)
@@ -246,7 +259,7 @@ module _ (below : StandBelow) (behind : StandBehind) (files : FilesAreThere) (le
       in_source = ((plan.items.items planned.path).0 (contains_mapped (λ (x : Planned). x.path) of.items planned of.among)).1
 
       shares : (front : plain.Path) (name : List ℕ) → planned.path ≡ front ++ name ∷ []
-          → Answers (record { vault = to; work = work; front = front; name = name; item = item }) drawn ending (under to.root v) (Err (put.Taken at)) → SharesPlace to planned v
+          → Answers (record { vault = to; work = work; front = front; name = name; item = item }) drawn ending (under to.root v) (Err (put.Taken at)) → SharesPlace to planned drawn v
       shares front name named a = record {
         good = l.copying.target;
         tidy = l.tidy;
@@ -258,7 +271,6 @@ module _ (below : StandBelow) (behind : StandBehind) (files : FilesAreThere) (le
         missing = missing;
         item = item;
         kind = kind;
-        drawn = drawn;
         shares = λ own.
             let never : Some a.0 ≡ None = sym a.2.is ∙ laws.free (under to.root v) front a.2.dir name item drawn l.copying.target.clean l.tidy way
                 (last_name below (format_of from.vault) (under from.root v) front name (subst (λ p. tree_in from v p ≢ NoItem) named in_source)) missing own in
@@ -272,11 +284,14 @@ module _ (below : StandBelow) (behind : StandBehind) (files : FilesAreThere) (le
           missing = subst IsNoItem (behind (format_of to.vault) (under to.root v) front a.2.dir name way)
               (no_item files to.vault (under to.root v) (front ++ name ∷ []) (subst (λ p. tree_in to v p ≡ NoItem) named l.lacks))
 
-  pub item_stops : AreApart to.root work → (why : PutFault) → MakesAt New to work planned.path item ending drawn t u (Err why) → StopsFor (SharesFrom (Lacks from to planned) to (planned ∷ []) t u) (of_put why)
-  item_stops apart why made = put_stops (SharesFrom (Lacks from to planned) to (planned ∷ []) t u) why
+  pub item_stops : AreApart to.root work → (why : PutFault) → MakesAt New to work planned.path item ending drawn t u (Err why) → StopsFor (SharesFrom (Lacks from to planned) to (planned ∷ []) s s' t u) (of_put why)
+  item_stops apart why made = put_stops (SharesFrom (Lacks from to planned) to (planned ∷ []) s s' t u) why
       (λ at same v is l. record {
         item = planned;
         among = (0, omega arith, refl);
+        earlier = [];
+        drawn = drawn;
+        were_drawn = were_drawn;
         moment = v;
         loads = λ pass vault opens. opens;
         seen = seen_at_first (is_apart work to.root) to.root t u v (made_moves to work planned.path item ending drawn t u (Err why) made apart) is;
@@ -347,8 +362,8 @@ next_lacks from to there items k item v plan ordered inside at copied only = rec
 
 -- ---- of the vaults
 
-pub source_shares : TellsTree → (from to : OpenedVault) (items : List Planned) (t u : Option Told) → MayBegin from to [] t → IsWalked t from items → IsWalked t to [] → SharesFrom (IsFilled from to []) to items t u → SharesWhereTidy from to t u
-source_shares tells from to items t u may walked walked_to shares v is own tidy = record {
+pub source_shares : TellsTree → (from to : OpenedVault) (items : List Planned) (s s' : Option ByteStream) (t u : Option Told) → MayBegin from to [] t → IsWalked t from items → IsWalked t to [] → SharesFrom (IsFilled from to []) to items s s' t u → SharesWhereTidy from to s s' t u
+source_shares tells from to items s s' t u may walked walked_to shares v is own tidy = record {
   items = items;
   items_are = walked.plan v is own.source;
   shares = shares v is (may v is own, record {
@@ -361,12 +376,12 @@ source_shares tells from to items t u may walked walked_to shares v is own tidy 
     b : IsWalkOf v (side_of to [])
     b = walked_to.plan v is own.target
 
-pub share_in_tree : (from to : Path) (pass pass' : List ℕ) (source target : OpenedVault) (t u : Option Told) → source.root ≡ from → target.root ≡ to → ((v : View) → IsSeen t v → IsVault (under from v) pass source.vault)
-    → ((v : View) → IsSeen t v → IsVault (under to v) pass' target.vault) → SharesWhereTidy source target t u → SharesInTree from to pass pass' t u
-share_in_tree from to pass pass' source target t u at_from at_to opens opens_to shares = record {
+pub share_in_tree : (from to : Path) (pass pass' : List ℕ) (source target : OpenedVault) (s s' : Option ByteStream) (t u : Option Told) → source.root ≡ from → target.root ≡ to → ((v : View) → IsSeen t v → IsVault (under from v) pass source.vault)
+    → ((v : View) → IsSeen t v → IsVault (under to v) pass' target.vault) → SharesWhereTidy source target s s' t u → SharesInTree from to pass pass' s s' t u
+share_in_tree from to pass pass' source target s s' t u at_from at_to opens opens_to shares = record {
   source = source.vault;
   target = target.vault;
   opens_source = opens;
   opens_target = opens_to;
-  shares = subst₂ (λ p q. SharesWhereTidy (opened_in p source.vault) (opened_in q target.vault) t u) at_from at_to shares;
+  shares = subst₂ (λ p q. SharesWhereTidy (opened_in p source.vault) (opened_in q target.vault) s s' t u) at_from at_to shares;
 }

@@ -7,6 +7,7 @@ use Rattle.folder_spec.specs.View.{View}
 use Rattle.plain_tree.specs.Names as plain
 use Rattle.plain_tree.specs.declared.NodeKind.{NodeKind}
 use Rattle.plain_tree.specs.declared.NodeKind.TheVariants.{Dir, File}
+use Rattle.port_model.specs.Draws.{ByteStream, Draws}
 use Rattle.content_writing.specs.declared.fault.PutFault.TheVariants as put
 use Rattle.vault_read.specs.Opened.{OpenedVault}
 use Rattle.vault_spec.specs.Alike.{IsNoItem}
@@ -37,8 +38,8 @@ IsMadeFor Dir item = item ≡ NewDirectory
 IsMadeFor File item = (content : List ℕ) × (item ≡ NewFile content)
 
 -- The target is in good order and tidy, and has the directory that is to have the item, but not the item. And the place that the item
--- gets isn't its own: another item is stored under its stored name, or a directory has the folder that it gets.
-pub record SharesPlace (to : OpenedVault) (planned : Planned) (v : View) : Type 0 where
+-- gets by these bytes isn't its own: another item is stored under its stored name, or a directory has the folder that it gets.
+pub record SharesPlace (to : OpenedVault) (planned : Planned) (drawn : List ℕ) (v : View) : Type 0 where
   pub good : ShowsVault (format_of to.vault) to.root v
   pub tidy : IsTidyAt to v
   pub front : plain.Path
@@ -49,35 +50,39 @@ pub record SharesPlace (to : OpenedVault) (planned : Planned) (v : View) : Type 
   pub missing : IsNoItem (standing_in (format_of to.vault) (under to.root v) dir name)
   pub item : NewItem
   pub kind : IsMadeFor planned.node item
-  pub drawn : List ℕ
   pub shares : ¬ HasOwnPlace (format_of to.vault) (under to.root v) dir name item drawn
 
--- One of these items does, by what is seen at a moment of the call. Each passphrase opens the target then as it did at first.
-pub record OneShares (to : OpenedVault) (items : List Planned) (first : View) (told told' : Option Told) : Type 0 where
+-- One of these items does, by the bytes that were drawn last and by what is seen at a moment of the call. Each passphrase opens the
+-- target then as it did at first.
+pub record OneShares (to : OpenedVault) (items : List Planned) (first : View) (stream stream' : Option ByteStream) (told told' : Option Told) : Type 0 where
   pub item : Planned
   pub among : Contains items item
+  pub earlier : List ℕ
+  pub drawn : List ℕ
+  pub were_drawn : Draws stream stream' (earlier ++ drawn)
   pub moment : View
   pub seen : WasSeen told told' moment
   pub loads : LoadsAlike (under to.root first) (under to.root moment)
-  pub shares : SharesPlace to item moment
+  pub shares : SharesPlace to item drawn moment
 
 -- an item of the source does
-pub record OneOfSourceShares (from to : OpenedVault) (told told' : Option Told) (v : View) : Type 0 where
+pub record OneOfSourceShares (from to : OpenedVault) (stream stream' : Option ByteStream) (told told' : Option Told) (v : View) : Type 0 where
   pub items : List Planned
   pub items_are : IsPlanOf from.root (format_of from.vault) (under from.root v) items
-  pub shares : OneShares to items v told told'
+  pub shares : OneShares to items v stream stream' told told'
 
 -- where at first no two directories of either vault share a folder, and the target is tidy
-abbrev pub SharesWhereTidy : OpenedVault → OpenedVault → Option Told → Option Told → Type 0
-SharesWhereTidy from to told told' = (v : View) → IsSeen told v → HaveOwnFolders from to v → IsTidyAt to v → OneOfSourceShares from to told told' v
+abbrev pub SharesWhereTidy : OpenedVault → OpenedVault → Option ByteStream → Option ByteStream → Option Told → Option Told → Type 0
+SharesWhereTidy from to stream stream' told told' = (v : View) → IsSeen told v → HaveOwnFolders from to v → IsTidyAt to v
+    → OneOfSourceShares from to stream stream' told told' v
 
 -- of the vaults that two roots and their passphrases are
-pub record SharesInTree (from to : Path) (from_pass to_pass : List ℕ) (told told' : Option Told) : Type 0 where
+pub record SharesInTree (from to : Path) (from_pass to_pass : List ℕ) (stream stream' : Option ByteStream) (told told' : Option Told) : Type 0 where
   pub source : Vault
   pub target : Vault
   pub opens_source : (v : View) → IsSeen told v → IsVault (under from v) from_pass source
   pub opens_target : (v : View) → IsSeen told v → IsVault (under to v) to_pass target
-  pub shares : SharesWhereTidy (opened_in from source) (opened_in to target) told told'
+  pub shares : SharesWhereTidy (opened_in from source) (opened_in to target) stream stream' told told'
 
 -- of a fault that names a taken place, this is so
 abbrev pub IsOfTaken : Type 0 → MoveFault → Type 0
@@ -87,8 +92,8 @@ IsOfTaken P fault = Unit {0}
 -- ---- between two opened vaults (private contracts only)
 
 -- where this is so of all that is seen at first
-abbrev pub SharesFrom : (View → Type 0) → OpenedVault → List Planned → Option Told → Option Told → Type 0
-SharesFrom Is to items told told' = (v : View) → IsSeen told v → Is v → OneShares to items v told told'
+abbrev pub SharesFrom : (View → Type 0) → OpenedVault → List Planned → Option ByteStream → Option ByteStream → Option Told → Option Told → Type 0
+SharesFrom Is to items stream stream' told told' = (v : View) → IsSeen told v → Is v → OneShares to items v stream stream' told told'
 
 -- the target is copied into, is tidy, and doesn't have the item yet
 pub record Lacks (from to : OpenedVault) (item : Planned) (v : View) : Type 0 where

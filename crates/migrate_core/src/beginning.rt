@@ -66,7 +66,7 @@ pub fn begin<F: Folder, R: Randoms>(
     ensures written { (v : View) → IsSeen (F.told folder.old) v → MayWriteTree result source.now target.now source_pass.now target_pass.now (R.left random.old) (R.left random.new) (F.told folder.old) (F.told folder.new) }
     ensures completes { (g : Migration) (v : View) → IsSeen (F.told folder.old) v → IsAsked g source.now target.now work.now source_pass.now target_pass.now → CanBegin g v → IfErr result IsOfChance }
     ensures too_long { IfErr result (IsOfLimit (PassesInTree source.now target.now source_pass.now target_pass.now (F.told folder.old) (F.told folder.new))) }
-    ensures shared { IfErr result (IsOfTaken (SharesInTree source.now target.now source_pass.now target_pass.now (F.told folder.old) (F.told folder.new))) }
+    ensures shared { IfErr result (IsOfTaken (SharesInTree source.now target.now source_pass.now target_pass.now (R.left random.old) (R.left random.new) (F.told folder.old) (F.told folder.new))) }
 {
     draws_compose();
     what_can_begin_is_done();
@@ -108,7 +108,7 @@ fn begin_settled<F: Folder, R: Randoms>(
     ensures blamed { IfErr result (Blamed (CountRose (F.faults folder.old) (F.faults folder.new)) (CountRose (R.faults random.old) (R.faults random.new))) }
     ensures cause { (v : View) → IsSeen (F.told folder.old) v → Unless result (BeginsApart source.now target.now work.now source_pass.now target_pass.now v result) }
     ensures too_long { IfErr result (IsOfLimit (PassesInTree source.now target.now source_pass.now target_pass.now (F.told folder.old) (F.told folder.new))) }
-    ensures shared { IfErr result (IsOfTaken (SharesInTree source.now target.now source_pass.now target_pass.now (F.told folder.old) (F.told folder.new))) }
+    ensures shared { IfErr result (IsOfTaken (SharesInTree source.now target.now source_pass.now target_pass.now (R.left random.old) (R.left random.new) (F.told folder.old) (F.told folder.new))) }
     ensures written { (v : View) → IsSeen (F.told folder.old) v → MayWriteTree result source.now target.now source_pass.now target_pass.now (R.left random.old) (R.left random.new) (F.told folder.old) (F.told folder.new) }
 {
     draws_compose();
@@ -139,7 +139,7 @@ fn begin_with<F: Folder, R: Randoms>(
     ensures random { R.faults random.old ≤ R.faults random.new }
     ensures blamed { IfErr result (Blamed (CountRose (F.faults folder.old) (F.faults folder.new)) (CountRose (R.faults random.old) (R.faults random.new))) }
     ensures cause { (v : View) → IsSeen (F.told folder.old) v → Unless result (BeginsWith sides.now.source sides.now.target work.now v result) }
-    ensures ends { EndsBy (StayGood sides.now.source sides.now.target (F.told folder.old) (F.told folder.new)) (SharesWhereTidy sides.now.source sides.now.target (F.told folder.old) (F.told folder.new)) sides.now.source sides.now.target (F.told folder.new) result }
+    ensures ends { EndsBy (StayGood sides.now.source sides.now.target (F.told folder.old) (F.told folder.new)) (SharesWhereTidy sides.now.source sides.now.target (R.left random.old) (R.left random.new) (F.told folder.old) (F.told folder.new)) sides.now.source sides.now.target (F.told folder.new) result }
     ensures written { MayWrite result sides.now.source sides.now.target (R.left random.old) (R.left random.new) (F.told folder.old) (F.told folder.new) }
 {
     draws_compose();
@@ -190,7 +190,7 @@ fn move_all<F: Folder, R: Randoms>(
     ensures random { R.faults random.old ≤ R.faults random.new }
     ensures blamed { IfErr result (Blamed (CountRose (F.faults folder.old) (F.faults folder.new)) (CountRose (R.faults random.old) (R.faults random.new))) }
     ensures cause { (v : View) → IsSeen (F.told folder.old) v → Unless result (Moves (EntersAs v work.now) sides.now.source sides.now.target v plan.now.items result) }
-    ensures ends { EndsBy (StayGood sides.now.source sides.now.target (F.told folder.old) (F.told folder.new)) (SharesFrom (IsFilled sides.now.source sides.now.target []) sides.now.target plan.now.items (F.told folder.old) (F.told folder.new)) sides.now.source sides.now.target (F.told folder.new) result }
+    ensures ends { EndsBy (StayGood sides.now.source sides.now.target (F.told folder.old) (F.told folder.new)) (SharesFrom (IsFilled sides.now.source sides.now.target []) sides.now.target plan.now.items (R.left random.old) (R.left random.new) (F.told folder.old) (F.told folder.new)) sides.now.source sides.now.target (F.told folder.new) result }
     ensures written { WritesBy result sides.now.source sides.now.target (lacked [] plan.now.items) (journal_texts sides.now.source.root sides.now.target.root plan.now.items) (R.left random.old) (R.left random.new) (F.told folder.old) (F.told folder.new) }
 {
     draws_compose();

@@ -75,7 +75,7 @@ pub(crate) fn go_on<F: Folder, R: Randoms>(
     ensures random { R.faults random.old ≤ R.faults random.new }
     ensures blamed { IfErr result (Blamed (CountRose (F.faults folder.old) (F.faults folder.new)) (CountRose (R.faults random.old) (R.faults random.new))) }
     ensures moving { IfErr result (StopsSeen (HasCopied sides.now.source sides.now.target there.now) (F.told folder.old) sides.now.source source.now.items) }
-    ensures ends { EndsBy (CopiesAll sides.now.source sides.now.target there.now source.now.items (F.told folder.old) (F.told folder.new)) (SharesFrom (IsFilled sides.now.source sides.now.target there.now) sides.now.target source.now.items (F.told folder.old) (F.told folder.new)) sides.now.source sides.now.target (F.told folder.new) result }
+    ensures ends { EndsBy (CopiesAll sides.now.source sides.now.target there.now source.now.items (F.told folder.old) (F.told folder.new)) (SharesFrom (IsFilled sides.now.source sides.now.target there.now) sides.now.target source.now.items (R.left random.old) (R.left random.new) (F.told folder.old) (F.told folder.new)) sides.now.source sides.now.target (F.told folder.new) result }
     ensures written { IsOrdered there.now → WritesBy result sides.now.source sides.now.target (lacked there.now source.now.items) (journal_text (done_of journal) ∷ []) (R.left random.old) (R.left random.new) (F.told folder.old) (F.told folder.new) }
 {
     draws_compose();

@@ -88,7 +88,7 @@ pub(crate) fn place_missing<F: Folder, R: Randoms>(
     ensures grows { F.faults folder.old ≤ F.faults folder.new }
     ensures random { R.faults random.old ≤ R.faults random.new }
     ensures blamed { IfErr result (Blamed (CountRose (F.faults folder.old) (F.faults folder.new)) (CountRose (R.faults random.old) (R.faults random.new))) }
-    ensures stops { IfErr result (StopsFor (SharesFrom (IsFilled sides.now.source sides.now.target there.now) sides.now.target items.now (F.told folder.old) (F.told folder.new))) }
+    ensures stops { IfErr result (StopsFor (SharesFrom (IsFilled sides.now.source sides.now.target there.now) sides.now.target items.now (R.left random.old) (R.left random.new) (F.told folder.old) (F.told folder.new))) }
     ensures copies { IfOk result (λ placed. CopiesAll sides.now.source sides.now.target there.now items.now (F.told folder.old) (F.told folder.new)) }
     ensures moving { IfErr result (StopsSeen (HasCopied sides.now.source sides.now.target there.now) (F.told folder.old) sides.now.source items.now) }
     ensures written { IsOrdered there.now → WritesBy result sides.now.source sides.now.target (lacked there.now items.now) [] (R.left random.old) (R.left random.new) (F.told folder.old) (F.told folder.new) }
@@ -131,7 +131,7 @@ fn place_missing_one<F: Folder, R: Randoms>(
     ensures grows { F.faults folder.old ≤ F.faults folder.new }
     ensures random { R.faults random.old ≤ R.faults random.new }
     ensures blamed { IfErr result (Blamed (CountRose (F.faults folder.old) (F.faults folder.new)) (CountRose (R.faults random.old) (R.faults random.new))) }
-    ensures stops { IfErr result (StopsFor (SharesFrom (Lacks sides.now.source sides.now.target item.now) sides.now.target (item.now ∷ []) (F.told folder.old) (F.told folder.new))) }
+    ensures stops { IfErr result (StopsFor (SharesFrom (Lacks sides.now.source sides.now.target item.now) sides.now.target (item.now ∷ []) (R.left random.old) (R.left random.new) (F.told folder.old) (F.told folder.new))) }
     ensures moving { IfErr result (StopsSeen (Enters sides.now.target item.now) (F.told folder.old) sides.now.source (item.now ∷ [])) }
     ensures written { IsOrdered there.now → WritesBy result sides.now.source sides.now.target (lacked there.now (item.now ∷ [])) [] (R.left random.old) (R.left random.new) (F.told folder.old) (F.told folder.new) }
 {
@@ -172,7 +172,7 @@ fn place<F: Folder, R: Randoms>(
     ensures grows { F.faults folder.old ≤ F.faults folder.new }
     ensures random { R.faults random.old ≤ R.faults random.new }
     ensures blamed { IfErr result (Blamed (CountRose (F.faults folder.old) (F.faults folder.new)) (CountRose (R.faults random.old) (R.faults random.new))) }
-    ensures stops { IfErr result (StopsFor (SharesFrom (Lacks sides.now.source sides.now.target item.now) sides.now.target (item.now ∷ []) (F.told folder.old) (F.told folder.new))) }
+    ensures stops { IfErr result (StopsFor (SharesFrom (Lacks sides.now.source sides.now.target item.now) sides.now.target (item.now ∷ []) (R.left random.old) (R.left random.new) (F.told folder.old) (F.told folder.new))) }
     ensures moving { IfErr result (StopsSeen (Enters sides.now.target item.now) (F.told folder.old) sides.now.source (item.now ∷ [])) }
     ensures written { WritesBy result sides.now.source sides.now.target (item.now ∷ []) [] (R.left random.old) (R.left random.new) (F.told folder.old) (F.told folder.new) }
 {
@@ -210,7 +210,7 @@ fn place_content<F: Folder, R: Randoms>(
     ensures grows { F.faults folder.old ≤ F.faults folder.new }
     ensures random { R.faults random.old ≤ R.faults random.new }
     ensures blamed { IfErr result (Blamed (CountRose (F.faults folder.old) (F.faults folder.new)) (CountRose (R.faults random.old) (R.faults random.new))) }
-    ensures stops { IfErr result (StopsFor (SharesFrom (Lacks sides.now.source sides.now.target item.now) sides.now.target (item.now ∷ []) (F.told folder.old) (F.told folder.new))) }
+    ensures stops { IfErr result (StopsFor (SharesFrom (Lacks sides.now.source sides.now.target item.now) sides.now.target (item.now ∷ []) (R.left random.old) (R.left random.new) (F.told folder.old) (F.told folder.new))) }
     ensures moving { IfErr result (StopsSeen (Enters sides.now.target item.now) (F.told folder.old) sides.now.source (item.now ∷ [])) }
     ensures written { WritesBy result sides.now.source sides.now.target (item.now ∷ []) [] (R.left random.old) (R.left random.new) (F.told folder.old) (F.told folder.new) }
 {

@@ -167,9 +167,11 @@ returns-clause-shared g c =
     let to = c.args.target.now in
     let pass = c.args.source_pass.now in
     let pass' = c.args.target_pass.now in
+    let left = g.R.Randoms.left c.args.random.now in
+    let left' = g.R.Randoms.left c.begin_settled.new.random in
     let t0 = g.F.Folder.told c.args.folder.now in
     let t1 = g.F.Folder.told c.settle.new.self in
     let t2 = g.F.Folder.told c.begin_settled.new.folder in
     let region = apart_from_both c.args.work.now to in
-    if_taken (SharesInTree from to pass pass' t1 t2) (SharesInTree from to pass pass' t0 t2) c.begin_settled.result
-    (in_tree_since region to from to pass pass' t0 t1 t2 (settle_moves region to t0 t1 c.settle.result c.settle.ensures.changes) (settle_seen t0 t1 c.in_ok-settle.field-0 c.in_ok-settle.ensures.changes)) c.begin_settled.ensures.shared
+    if_taken (SharesInTree from to pass pass' left left' t1 t2) (SharesInTree from to pass pass' left left' t0 t2) c.begin_settled.result
+    (in_tree_since region to from to pass pass' left left' t0 t1 t2 (settle_moves region to t0 t1 c.settle.result c.settle.ensures.changes) (settle_seen t0 t1 c.in_ok-settle.field-0 c.in_ok-settle.ensures.changes)) c.begin_settled.ensures.shared

@@ -82,14 +82,16 @@ returns-clause-moves g c =
 pub returns-clause-moved : goal.returns-clause-moved
 returns-clause-moved g c =
     let sides = c.in_ok-sides.sides in
+    let left = g.R.Randoms.left c.args.random.now in
+    let left' = g.R.Randoms.left c.begin_with.new.random in
     let loads = c.in_ok-sides.ensures in
-    tree_moved (SharesWhereTidy sides.source sides.target (g.F.Folder.told c.args.folder.now) (g.F.Folder.told c.begin_with.new.folder)) c.args.source.now c.args.target.now c.args.work.now c.args.source_pass.now c.args.target_pass.now sides.source sides.target (g.F.Folder.told c.args.folder.now) (g.F.Folder.told c.begin_with.new.folder)
+    tree_moved (SharesWhereTidy sides.source sides.target left left' (g.F.Folder.told c.args.folder.now) (g.F.Folder.told c.begin_with.new.folder)) c.args.source.now c.args.target.now c.args.work.now c.args.source_pass.now c.args.target_pass.now sides.source sides.target (g.F.Folder.told c.args.folder.now) (g.F.Folder.told c.begin_with.new.folder)
     c.begin_with.result loads.source loads.target (g.met.F.Folder.sound c.args.folder.now)
     (subst (λ root. MovesOnly c.args.work.now root (g.F.Folder.told c.args.folder.now) (g.F.Folder.told c.begin_with.new.folder)) loads.target
     (subst (λ t. MovesOnly c.args.work.now sides.target.root t (g.F.Folder.told c.begin_with.new.folder)) (c.load_both.ensures.told ∙ c.look.ensures.told) c.begin_with.ensures.moves)) (λ v is. loads.opens_source v (subst (λ t. IsSeen t v) (sym c.look.ensures.told) is))
     (λ v is. loads.opens_target v (subst (λ t. IsSeen t v) (sym c.look.ensures.told) is))
     (subst (λ t. Placed sides.source sides.target t c.begin_with.result) (c.load_both.ensures.told ∙ c.look.ensures.told) c.begin_with.ensures.placed) c.begin_with.ensures.moved
-    (subst (λ t. EndsBy (StayGood sides.source sides.target t (g.F.Folder.told c.begin_with.new.folder)) (SharesWhereTidy sides.source sides.target t (g.F.Folder.told c.begin_with.new.folder)) sides.source sides.target (g.F.Folder.told c.begin_with.new.folder) c.begin_with.result) (c.load_both.ensures.told ∙ c.look.ensures.told) c.begin_with.ensures.ends)
+    (subst (λ t. EndsBy (StayGood sides.source sides.target t (g.F.Folder.told c.begin_with.new.folder)) (SharesWhereTidy sides.source sides.target left left' t (g.F.Folder.told c.begin_with.new.folder)) sides.source sides.target (g.F.Folder.told c.begin_with.new.folder) c.begin_with.result) (c.load_both.ensures.told ∙ c.look.ensures.told) c.begin_with.ensures.ends)
 
 pub returns-in_err-look-clause-cause : goal.returns-in_err-look-clause-cause
 returns-in_err-look-clause-cause g c v seen =
@@ -172,7 +174,7 @@ returns-clause-too_long g c =
     let loads = c.in_ok-sides.ensures in
     let here = g.F.Folder.told c.load_both.new.folder in
     let after = g.F.Folder.told c.begin_with.new.folder in
-    limit_in_tree (StayGood sides.source sides.target here after) (SharesWhereTidy sides.source sides.target here after) c.args.source.now c.args.target.now c.args.source_pass.now c.args.target_pass.now sides.source sides.target (g.F.Folder.told c.args.folder.now) after
+    limit_in_tree (StayGood sides.source sides.target here after) (SharesWhereTidy sides.source sides.target (g.R.Randoms.left c.args.random.now) (g.R.Randoms.left c.begin_with.new.random) here after) c.args.source.now c.args.target.now c.args.source_pass.now c.args.target_pass.now sides.source sides.target (g.F.Folder.told c.args.folder.now) after
     c.begin_with.result loads.source loads.target (λ v is. loads.opens_source v (subst (λ t. IsSeen t v) (sym c.look.ensures.told) is)) (λ v is. loads.opens_target v (subst (λ t. IsSeen t v) (sym c.look.ensures.told) is))
     c.begin_with.ensures.ends
 
@@ -191,8 +193,10 @@ pub returns-clause-shared : goal.returns-clause-shared
 returns-clause-shared g c =
     let sides = c.in_ok-sides.sides in
     let loads = c.in_ok-sides.ensures in
+    let left = g.R.Randoms.left c.args.random.now in
+    let left' = g.R.Randoms.left c.begin_with.new.random in
     let told = g.F.Folder.told c.args.folder.now in
     let after = g.F.Folder.told c.begin_with.new.folder in
-    shared_in_tree (StayGood sides.source sides.target told after) c.args.source.now c.args.target.now c.args.source_pass.now c.args.target_pass.now sides.source sides.target told after
+    shared_in_tree (StayGood sides.source sides.target told after) c.args.source.now c.args.target.now c.args.source_pass.now c.args.target_pass.now sides.source sides.target left left' told after
     c.begin_with.result loads.source loads.target (λ v is. loads.opens_source v (subst (λ t. IsSeen t v) (sym c.look.ensures.told) is)) (λ v is. loads.opens_target v (subst (λ t. IsSeen t v) (sym c.look.ensures.told) is))
-    (subst (λ t. EndsBy (StayGood sides.source sides.target t after) (SharesWhereTidy sides.source sides.target t after) sides.source sides.target after c.begin_with.result) (c.load_both.ensures.told ∙ c.look.ensures.told) c.begin_with.ensures.ends)
+    (subst (λ t. EndsBy (StayGood sides.source sides.target t after) (SharesWhereTidy sides.source sides.target left left' t after) sides.source sides.target after c.begin_with.result) (c.load_both.ensures.told ∙ c.look.ensures.told) c.begin_with.ensures.ends)

@@ -210,11 +210,13 @@ returns-clause-ends g c =
     let to = c.args.sides.now.target in
     let after = g.F.Folder.told c.move_all.new.folder in
     let told = g.F.Folder.told c.args.folder.now in
+    let left = g.R.Randoms.left c.args.random.now in
+    let left' = g.R.Randoms.left c.move_all.new.random in
     let plans = c.in_ok-plans.plans in
     let items = plans.source.items in
     let walked_to = subst (IsWalked told to) (sym c.as_slice.ensures ∙ c.in_ok-test_empty.ensures.empty) c.in_ok-plans.ensures.target in
     let may = may_begin c.walks_tell_the_tree.ensures.plan from to c.clean_vaults_are_orderly.ensures c.clean_vaults_are_orderly-2.ensures items [] told (g.met.F.Folder.sound c.args.folder.now)
     c.in_ok-plans.ensures.source walked_to c.in_ok-plans.ensures.passed_source (empty_held c.walks_tell_the_tree.ensures.plan from to items told) in
-    ends_more (StayGood from to told after) (StayGood from to told after) (SharesFrom (IsFilled from to []) to items told after) (SharesWhereTidy from to told after) from to after c.move_all.result (λ good. good)
-    (source_shares c.walks_tell_the_tree.ensures.plan from to items told after may c.in_ok-plans.ensures.source walked_to)
-    (subst (λ t. EndsBy (StayGood from to t after) (SharesFrom (IsFilled from to []) to items t after) from to after c.move_all.result) c.walk_both.ensures.told c.move_all.ensures.ends)
+    ends_more (StayGood from to told after) (StayGood from to told after) (SharesFrom (IsFilled from to []) to items left left' told after) (SharesWhereTidy from to left left' told after) from to after c.move_all.result (λ good. good)
+    (source_shares c.walks_tell_the_tree.ensures.plan from to items left left' told after may c.in_ok-plans.ensures.source walked_to)
+    (subst (λ t. EndsBy (StayGood from to t after) (SharesFrom (IsFilled from to []) to items left left' t after) from to after c.move_all.result) c.walk_both.ensures.told c.move_all.ensures.ends)

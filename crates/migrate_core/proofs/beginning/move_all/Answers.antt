@@ -375,6 +375,8 @@ returns-clause-ends g c =
     let entered = g.F.Folder.told c.enter.new.folder in
     let written = g.F.Folder.told c.write.new.folder in
     let after = g.F.Folder.told c.go_on.new.folder in
+    let left = g.R.Randoms.left c.args.random.now in
+    let left' = g.R.Randoms.left c.go_on.new.random in
     let region = apart_from_both work to.root in
     let away = apart_from_both work from.root in
     let moves = moves_on region to.root told entered written (entered_moves work to.root (IsWorkOrStage work) (IsLeftOver work) told entered c.requires.apart.target c.enter.ensures.enters.moments)
@@ -383,9 +385,9 @@ returns-clause-ends g c =
     (written_moves work from.root c.in_ok-journal.journal entered written c.requires.apart.source c.write.ensures.moments) in
     let source_is = seen_stays region from.root told written (g.met.F.Folder.sound c.args.folder.now) (λ rest. source_beside from.root to.root work rest c.requires.apart) (moves_to region to.root told written moves) in
     let target_is = seen_stays away to.root told written (g.met.F.Folder.sound c.args.folder.now) (λ rest. source_beside to.root from.root work rest (turned_over from.root to.root work c.requires.apart)) (moves_to away from.root told written moves_away) in
-    ends_more (CopiesAll from to [] items written after) (StayGood from to told after) (SharesFrom (IsFilled from to []) to items written after) (SharesFrom (IsFilled from to []) to items told after) from to after c.go_on.result
+    ends_more (CopiesAll from to [] items written after) (StayGood from to told after) (SharesFrom (IsFilled from to []) to items left left' written after) (SharesFrom (IsFilled from to []) to items left left' told after) from to after c.go_on.result
     (good_copies from to [] items told written after c.requires.copying (seen_then _ told written moves) source_is target_is)
-    (shares_before region to.root (IsFilled from to []) (IsFilled from to []) to items items told written after moves
+    (shares_before region to.root (IsFilled from to []) (IsFilled from to []) to items items left left left' told written after moves
     (λ v w is_v is_w. filled_as from to [] v w (source_is v w is_v is_w) (target_is v w is_v is_w))
-    (λ v w is_v is_w filled. subst (LoadsAlike (under to.root v)) (sym (target_is v w is_v is_w)) (λ pass vault opens. opens)) (λ item among. among))
+    (λ v w is_v is_w filled. subst (LoadsAlike (under to.root v)) (sym (target_is v w is_v is_w)) (λ pass vault opens. opens)) (λ item among. among) c.draws_compose.ensures.composed (λ v is. ([], c.draws_compose.ensures.none left)))
     c.go_on.ensures.ends

@@ -181,10 +181,12 @@ returns-in_err-placed-clause-ends g c =
     let to = c.args.sides.now.target in
     let told = g.F.Folder.told c.args.folder.now in
     let here = g.F.Folder.told c.place_missing.new.folder in
+    let left = g.R.Randoms.left c.args.random.now in
+    let left1 = g.R.Randoms.left c.place_missing.new.random in
     let fault = c.in_err-placed.field-0.0 in
     let p = err_from_is_err_and c.from_residual.result c.from_residual.ensures.1 in
-    ends_stopped _ (SharesFrom (IsFilled from to c.args.there.now) to c.args.source.now.items told here) from to here c.from_residual.result p.0 fault p.1 p.2
-    (subst (λ xs. StopsFor (SharesFrom (IsFilled from to c.args.there.now) to xs told here) fault) c.as_slice-items.ensures c.in_err-placed.ensures.stops)
+    ends_stopped _ (SharesFrom (IsFilled from to c.args.there.now) to c.args.source.now.items left left1 told here) from to here c.from_residual.result p.0 fault p.1 p.2
+    (subst (λ xs. StopsFor (SharesFrom (IsFilled from to c.args.there.now) to xs left left1 told here) fault) c.as_slice-items.ensures c.in_err-placed.ensures.stops)
 
 pub returns-clause-ends : goal.returns-clause-ends
 returns-clause-ends g c =
@@ -196,6 +198,6 @@ returns-clause-ends g c =
     let here = g.F.Folder.told c.place_missing.new.folder in
     let after = g.F.Folder.told c.finish.new.folder in
     let copies : CopiesAll from to there items told here = subst (λ xs. CopiesAll from to there xs told here) c.as_slice-items.ensures c.in_ok-placed.ensures.copies in
-    ends_later (CopiesAll from to items items here after) (CopiesAll from to there items told after) (HasCopied from to items) (λ v. IsFilled from to there v → OneShares to items v told after) from to told here after c.finish.result
+    ends_later (CopiesAll from to items items here after) (CopiesAll from to there items told after) (HasCopied from to items) (λ v. IsFilled from to there v → OneShares to items v (g.R.Randoms.left c.args.random.now) (g.R.Randoms.left c.place_missing.new.random) told after) from to told here after c.finish.result
     (λ stays v w is_v is_w has. let u = seen_then _ told here c.place_missing.ensures.moves v is_v in stays u.0 w u.1 is_w (copies v u.0 is_v u.1 has)) (seen_then _ told here c.place_missing.ensures.moves)
     c.finish.ensures.moving c.finish.ensures.ends

@@ -8,7 +8,7 @@ use Rattle.vault_write.specs.Making.{is_apart}
 use Rattle.migrate_core.proofs.Blaming.{blamed_since}
 use Rattle.migrate_core.proofs.Leadings.{goes_failed, goes_on, guards_on, leads_on, one_view, seen_before, still_guards, still_leads}
 use Rattle.migrate_core.proofs.Movings.{moves_nowhere, moves_on, moves_to, source_apart, walked_stays}
-use Rattle.migrate_core.specs.Written.{BringsOnlyTo, WritesAll, WritesBy, WritesFirst, lacked}
+use Rattle.migrate_core.specs.Written.{BringsOnlyTo, WritesAll, WritesBy, WritesFirst, lacked, slices}
 use Rattle.migrate_core.proofs.Writings.{all_on, first_of_more, first_on, kept_by, lacked_is, lacked_next, lacked_split, next_among, only_nowhere, source_place, texts_alone}
 use Rattle.migrate_core.proofs.Causing.{refused_as}
 use Rattle.migrate_core.proofs.Stopping.{stops_before}
@@ -247,6 +247,9 @@ returns-in_err-place_missing_one-clause-stops g c =
     let told = g.F.Folder.told c.args.folder.now in
     let here = g.F.Folder.told c.loop-item.folder in
     let told' = g.F.Folder.told c.place_missing_one.new.folder in
+    let left = g.R.Randoms.left c.args.random.now in
+    let left1 = g.R.Randoms.left c.loop-item.random in
+    let left2 = g.R.Randoms.left c.place_missing_one.new.random in
     let k = c.loop-item.item-index in
     let item = c.item-item.result in
     let fault = c.in_err-place_missing_one.field-0.0 in
@@ -254,11 +257,12 @@ returns-in_err-place_missing_one-clause-stops g c =
     let walked = walked_stays (is_apart work to.root) from items told here (λ rest. source_apart from.root to.root work rest c.requires.apart) (g.met.F.Folder.sound c.args.folder.now)
     (moves_to (is_apart work to.root) to.root told here i.moves) c.requires.walked in
     let p = err_from_is_err_and c.from_residual.result c.from_residual.ensures.1 in
-    refused_as (λ answer. IfErr answer (StopsFor (SharesFrom (IsFilled from to there) to items told told'))) c.from_residual.result p.0 fault p.1 p.2
-    (stops_more (SharesFrom (Lacks from to item) to (item ∷ []) here told') (SharesFrom (IsFilled from to there) to items told told') fault
-    (shares_before (is_apart work to.root) to.root (Lacks from to item) (IsFilled from to there) to (item ∷ []) items told here told' i.moves
+    refused_as (λ answer. IfErr answer (StopsFor (SharesFrom (IsFilled from to there) to items left left2 told told'))) c.from_residual.result p.0 fault p.1 p.2
+    (stops_more (SharesFrom (Lacks from to item) to (item ∷ []) left1 left2 here told') (SharesFrom (IsFilled from to there) to items left left2 told told') fault
+    (shares_before (is_apart work to.root) to.root (Lacks from to item) (IsFilled from to there) to (item ∷ []) items left left1 left2 told here told' i.moves
     (λ v w is_v is_w h.
     let copied = i.copied v w is_v is_w h.0 in
     next_lacks from to there items k item w (c.walks_tell_the_tree.ensures.plan w (side_of from items) (walk_of from items here w walked is_w copied.copying.source.orderly)) (walked.ordered w is_w) c.loop-item-test.true c.item-item.is
     copied (i.fills v w is_v is_w h).0)
-    (λ v w is_v is_w h. (i.fills v w is_v is_w h).1) (next_among items k item c.loop-item-test.true c.item-item.is)) c.in_err-place_missing_one.ensures.stops)
+    (λ v w is_v is_w h. (i.fills v w is_v is_w h).1) (next_among items k item c.loop-item-test.true c.item-item.is) c.draws_compose.ensures.composed
+    (λ v is. let w = i.written (c.requires.there v is) in (slices w.made, w.writes.drawn))) c.in_err-place_missing_one.ensures.stops)

@@ -94,5 +94,5 @@ returns-in_err-place-clause-stops g c =
     let to = c.args.sides.now.target in
     let item = c.args.item.now in
     let p = err_from_is_err_and c.from_residual.result c.from_residual.ensures.1 in
-    refused_as (λ answer. IfErr answer (StopsFor (SharesFrom (Lacks from to item) to (item ∷ []) (g.F.Folder.told c.args.folder.now) (g.F.Folder.told c.place.new.folder)))) c.from_residual.result p.0 c.in_err-place.field-0.0 p.1 p.2
+    refused_as (λ answer. IfErr answer (StopsFor (SharesFrom (Lacks from to item) to (item ∷ []) (g.R.Randoms.left c.args.random.now) (g.R.Randoms.left c.place.new.random) (g.F.Folder.told c.args.folder.now) (g.F.Folder.told c.place.new.folder)))) c.from_residual.result p.0 c.in_err-place.field-0.0 p.1 p.2
     c.in_err-place.ensures.stops

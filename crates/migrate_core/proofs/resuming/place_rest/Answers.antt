@@ -239,13 +239,15 @@ returns-clause-ends g c =
     let told = g.F.Folder.told c.args.folder.now in
     let ready = g.F.Folder.told c.again.new.folder in
     let after = g.F.Folder.told c.go_on.new.folder in
+    let left = g.R.Randoms.left c.args.random.now in
+    let left' = g.R.Randoms.left c.go_on.new.random in
     let region = apart_from_both work to.root in
     let away = apart_from_both work from.root in
     let moves = stage_moves work to.root told ready c.requires.apart.target c.again.ensures.restages.moments in
     let moves_away = stage_moves work from.root told ready c.requires.apart.source c.again.ensures.restages.moments in
-    ends_more (CopiesAll from to there items ready after) (StayGood from to told after) (SharesFrom (IsFilled from to there) to items ready after) (Unit {0}) from to after c.go_on.result
+    ends_more (CopiesAll from to there items ready after) (StayGood from to told after) (SharesFrom (IsFilled from to there) to items left left' ready after) (Unit {0}) from to after c.go_on.result
     (good_copies from to there items told ready after c.requires.copying (seen_then _ told ready moves)
     (seen_stays region from.root told ready (g.met.F.Folder.sound c.args.folder.now) (λ rest. source_beside from.root to.root work rest c.requires.apart) (moves_to region to.root told ready moves))
     (seen_stays away to.root told ready (g.met.F.Folder.sound c.args.folder.now) (λ rest. source_beside to.root from.root work rest (turned_over from.root to.root work c.requires.apart)) (moves_to away from.root told ready moves_away)))
     (λ shares. tt)
-    (subst (λ xs. EndsBy (CopiesAll from to xs items ready after) (SharesFrom (IsFilled from to xs) to items ready after) from to after c.go_on.result) c.as_slice-there.ensures c.go_on.ensures.ends)
+    (subst (λ xs. EndsBy (CopiesAll from to xs items ready after) (SharesFrom (IsFilled from to xs) to items left left' ready after) from to after c.go_on.result) c.as_slice-there.ensures c.go_on.ensures.ends)

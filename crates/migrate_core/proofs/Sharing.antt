@@ -1,5 +1,5 @@
 -- That only an item which shares its place stops at a taken one, where the target is tidy.
-use Rattle.std.proofs.Common.{◌≡◌, ◌≢◌, ◌⊎◌, inl, inr, ◌<◌, ◌+◌, ℕ, zero, suc, Bool, true, false, cond, List, [], ◌∷◌, ◌++◌, length, take, get_or, Contains, IsTrue, Option, Some, None, Result, Ok, Err, IfErr, refl, sym, ap, ◌∙◌, subst, subst₂, append_assoc, arith}
+use Rattle.std.proofs.Common.{◌≡◌, ◌≢◌, inl, inr, ◌<◌, ◌+◌, ℕ, zero, suc, Bool, true, false, cond, List, [], ◌∷◌, ◌++◌, length, take, get_or, Contains, IsTrue, Option, Some, None, Err, refl, sym, ap, ◌∙◌, subst, subst₂, append_assoc, arith}
 use Rattle.std.proofs.lemmas.Cmp.{tied_itself}
 use Rattle.std.proofs.lemmas.List.{get_or_default, take_more}
 use Rattle.std.proofs.lemmas.List.Elements.{Contains-append_left, Contains-append_right}
@@ -26,7 +26,7 @@ use Rattle.vault_read.specs.Laws.{KeepsVaults}
 use Rattle.vault_read.specs.Opened.{OpenedVault}
 use Rattle.vault_spec.proofs.Mapped.{contains_mapped}
 use Rattle.vault_spec.specs.Alike.{IsNoItem}
-use Rattle.vault_spec.specs.Format.{Directory, Format, file_bytes}
+use Rattle.vault_spec.specs.Format.{Format, file_bytes}
 use Rattle.vault_spec.specs.Making.{NewItem}
 use Rattle.vault_spec.specs.Opens as opens
 use Rattle.vault_spec.specs.Opens.{NoItem, Opened, opened, opened_file, tree}
@@ -37,8 +37,8 @@ use Rattle.vault_spec.specs.Staying.{LoadsAlike}
 use Rattle.vault_spec.specs.Tidy.{IsTidy}
 use Rattle.vault_spec.specs.Vault.{IsVault, Vault, format_of}
 use Rattle.vault_walk.specs.Survey.{IsOrdered}
-use Rattle.vault_write.specs.Calls.{MakesAt, MakesOne, New}
-use Rattle.vault_write.specs.Making.{Placing, is_apart}
+use Rattle.vault_write.specs.Calls.{MakesAt, New}
+use Rattle.vault_write.specs.Making.{is_apart}
 use Rattle.vault_write.specs.Refusing.{Answers}
 use Rattle.migrate_core.proofs.Compared.{TellsTree, planned_at}
 use Rattle.migrate_core.proofs.Copyings.{copied_as}
@@ -53,7 +53,7 @@ use Rattle.migrate_core.proofs.Within.{FilesAreThere, StandBehind, content_opens
 use Rattle.migrate_core.specs.Causes.{IsStop, StopsLater, nothing_stops}
 use Rattle.migrate_core.specs.Copying.{Copies, HasCopied, MayBegin, tree_in}
 use Rattle.migrate_core.specs.Faults.{of_put}
-use Rattle.migrate_core.specs.Limits.{StopsElsewhere, StopsFor}
+use Rattle.migrate_core.specs.Limits.{StopsFor}
 use Rattle.migrate_core.specs.Moved.{opened_in}
 use Rattle.migrate_core.specs.Moving.{MovesBeside, OnlyBrings}
 use Rattle.migrate_core.specs.Sharing.{HasOnly, IsFilled, IsFresh, IsMadeFor, IsOfTaken, Lacks, OneShares, SharesFrom, SharesInTree, SharesPlace, SharesWhereTidy}
@@ -273,7 +273,7 @@ module _ (below : StandBelow) (behind : StandBehind) (files : FilesAreThere) (le
         kind = kind;
         shares = λ own.
             let never : Some a.0 ≡ None = sym a.2.is ∙ laws.free (under to.root v) front a.2.dir name item drawn l.copying.target.clean l.tidy way
-                (last_name below (format_of from.vault) (under from.root v) front name (subst (λ p. tree_in from v p ≢ NoItem) named in_source)) missing own in
+            (last_name below (format_of from.vault) (under from.root v) front name (subst (λ p. tree_in from v p ≢ NoItem) named in_source)) missing own in
             cc never;
       }
         where
@@ -324,14 +324,14 @@ none_filled to v w same h = (
 pub one_filled : (from to : OpenedVault) (items : List Planned) (k : ℕ) (item : Planned) (x v w : View) → k < length items → item ≡ get_or items k item → HasOnly to (take k items) v × LoadsAlike (under to.root x) (under to.root v)
     → Copies from to item v w → HasOnly to (take (k + 1) items) w × LoadsAlike (under to.root x) (under to.root w)
 one_filled from to items k item x v w inside at h copies = (
-    subst (λ xs. HasOnly to xs w) (ap (λ x. take k items ++ x ∷ []) at ∙ sym (take_more items k item inside)) (record {
-      tidy = copies.tidy h.0.tidy;
-      only = λ path named there. elim (copies.gains path there) [
-        | inl same ↦ (item, Contains-append_right (take k items) (item ∷ []) item (0, omega arith, refl), sym same)
-        | inr was ↦ let y = h.0.only path named was in (y.0, Contains-append_left (take k items) (item ∷ []) y.0 y.1, y.2)
-      ];
-    }),
-    λ pass vault opens. copies.loads pass vault (h.1 pass vault opens),
+  subst (λ xs. HasOnly to xs w) (ap (λ x. take k items ++ x ∷ []) at ∙ sym (take_more items k item inside)) (record {
+    tidy = copies.tidy h.0.tidy;
+    only = λ path named there. elim (copies.gains path there) [
+      | inl same ↦ (item, Contains-append_right (take k items) (item ∷ []) item (0, omega arith, refl), sym same)
+      | inr was ↦ let y = h.0.only path named was in (y.0, Contains-append_left (take k items) (item ∷ []) y.0 y.1, y.2)
+    ];
+  }),
+  λ pass vault opens. copies.loads pass vault (h.1 pass vault opens),
 )
 
 -- where an item of the first ones is
@@ -366,11 +366,14 @@ pub source_shares : TellsTree → (from to : OpenedVault) (items : List Planned)
 source_shares tells from to items s s' t u may walked walked_to shares v is own tidy = record {
   items = items;
   items_are = walked.plan v is own.source;
-  shares = shares v is (may v is own, record {
-    tidy = tidy;
-    empty = λ path named. nothing_else (tree_in to v path)
-        (λ there. let x : (x : Planned) × Contains [] x × (x.path ≡ path) = planned_at (tree_in to v) [] (tells v (side_of to []) b) path named there in omega (arith, x.1.1));
-  });
+  shares = shares v is (
+    may v is own,
+    record {
+      tidy = tidy;
+      empty = λ path named. nothing_else (tree_in to v path)
+          (λ there. let x : (x : Planned) × Contains [] x × (x.path ≡ path) = planned_at (tree_in to v) [] (tells v (side_of to []) b) path named there in omega (arith, x.1.1));
+    },
+  );
 }
   where
     b : IsWalkOf v (side_of to [])

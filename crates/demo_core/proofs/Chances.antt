@@ -29,7 +29,7 @@ use Rattle.work_folder.specs.declared.fault.WorkFault.{WorkFault}
 use Rattle.work_folder.specs.declared.fault.WorkFault.TheVariants as work
 use Rattle.demo_core.proofs.Beside.{seen_beside}
 use Rattle.demo_core.proofs.Standing.{nothing_seen}
-use Rattle.demo_core.specs.Making.{CanEnter, IsBeside, IsOfChance, IsOfItems, IsPutOfChance}
+use Rattle.demo_core.specs.Making.{CanEnter, IsBeside, IsNotPut, IsOfChance, IsOfItems, IsPutOfChance, IsPutTaken, IsTaken}
 use Rattle.demo_core.specs.declared.fault.MakeFault.{MakeFault}
 use Rattle.demo_core.specs.declared.fault.MakeFault.TheVariants.{Load, NoMemory, Put, Work}
 
@@ -192,3 +192,29 @@ chance_items (Put (put.Damaged at fault)) chance = chance
 chance_items (Put (put.Limit limit)) chance = chance
 chance_items (Put put.Source) chance = chance
 chance_items NoMemory chance = tt
+
+-- ---- no place is taken
+
+chance_puts : (fault : PutFault) → IsPutOfChance fault → ¬ IsPutTaken fault
+chance_puts (put.Find fault) chance taken = taken
+chance_puts (put.NotAllowed path) chance taken = taken
+chance_puts (put.Taken at) chance taken = chance
+chance_puts (put.Damaged at fault) chance taken = taken
+chance_puts (put.Limit limit) chance taken = taken
+chance_puts put.ZeroRandom chance taken = taken
+chance_puts put.Source chance taken = taken
+chance_puts put.Random chance taken = taken
+chance_puts put.Failed chance taken = taken
+chance_puts put.NoMemory chance taken = taken
+
+pub chance_free : (fault : MakeFault) → IsOfChance fault → ¬ IsTaken fault
+chance_free (Work fault) chance taken = taken
+chance_free (Load fault) chance taken = taken
+chance_free (Put fault) chance taken = chance_puts fault chance taken
+chance_free NoMemory chance taken = taken
+
+pub load_free : (fault : MakeFault) → IsNotPut fault → ¬ IsTaken fault
+load_free (Work fault) other taken = taken
+load_free (Load fault) other taken = taken
+load_free (Put fault) other taken = other
+load_free NoMemory other taken = taken

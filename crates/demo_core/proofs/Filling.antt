@@ -5,10 +5,11 @@ use Rattle.folder_spec.specs.Path.{Path, below}
 use Rattle.folder_spec.specs.Region.{at_or_below}
 use Rattle.folder_spec.specs.View.{View, ShowsAmong}
 use Rattle.folder_spec.specs.Seen.{IsSeen, seen, under}
-use Rattle.folder_spec.proofs.Tellings.{from_to_more}
-use Rattle.std.proofs.lemmas.Result.{on_ok_weaker}
+use Rattle.folder_spec.proofs.Tellings.{from_to_more, from_to_then}
 use Rattle.plain_tree.specs.Names as plain
 use Rattle.vault_spec.specs.Adding.{OpensWith}
+use Rattle.vault_spec.specs.Alike.{IsOrderly}
+use Rattle.vault_spec.specs.Findings.{IsClean}
 use Rattle.work_folder.specs.Entering.{IsReady}
 use Rattle.content_writing.specs.Content.{Ending, Whole}
 use Rattle.content_writing.specs.declared.fault.PutFault.{PutFault}
@@ -22,39 +23,51 @@ use Rattle.vault_read.specs.declared.fault.FindFault.{FindFault}
 use Rattle.vault_read.specs.declared.fault.FindFault.TheVariants as find
 use Rattle.vault_read.specs.declared.vault.VaultKind.TheVariants as kind
 use Rattle.vault_spec.specs.Find.{enter}
-use Rattle.vault_spec.specs.Format.{Directory}
+use Rattle.vault_spec.specs.Format.{Directory, Format}
 use Rattle.vault_spec.specs.Making.{Allows, NewItem}
 use Rattle.vault_spec.specs.Opens as opens
+use Rattle.vault_spec.specs.Tidy.{IsTidy, OwnPlacesAreFree}
 use Rattle.vault_spec.specs.Vault.{Cryptomator, Gocryptfs, Vault, format_of}
 use Rattle.vault_write.specs.Calls.{MakesAt, MakesOne, New, making_by}
 use Rattle.vault_write.specs.Making.{Placing, StagesOrPlaces, is_apart}
-use Rattle.vault_write.specs.Placing.{HasVault, IsMaking, ShowsNewTree, making_at}
-use Rattle.vault_write.specs.Refusing.{Answers}
-use Rattle.vault_write.specs.Trees.{GainsItem}
+use Rattle.vault_write.specs.Placing.{EndsAs, HasVault, IsMaking, ShowsNewTree, making_at}
+use Rattle.vault_write.specs.Refusing.{Answers, HasTaken}
+use Rattle.vault_write.specs.Trees.{GainsItem, StaysGood}
 use Rattle.vault_write.specs.Trees as trees
 use Rattle.demo_core.specs.Drawing.{HasZeroRun}
 use Rattle.demo_core.specs.Demonstration.{bytes_from, content_of, is_directory, path_of, size_of}
-use Rattle.demo_core.specs.Making.{HoldsAlone, IsBeside, IsItemFault, IsOfItem, IsPutOfChance, phrase}
+use Rattle.demo_core.specs.Making.{HoldsAlone, IsBeside, IsItemFault, IsOfItem, IsPutOfChance, IsPutTaken, phrase}
+use Rattle.demo_core.specs.Sharing.{LacksOwnPlace}
 use Rattle.demo_core.specs.Tree.{opens_as}
 use Rattle.demo_core.proofs.Apart.{item_front, item_name, items_more, path_ends}
 use Rattle.demo_core.proofs.Beside.{beside_by}
 use Rattle.demo_core.proofs.Drawn.{run_refused}
 use Rattle.demo_core.proofs.Entered.{EnteredLeads, StandBelow, front_entered}
+use Rattle.demo_core.proofs.Shared.{HaveContents, lacks_place_at}
 use Rattle.demo_core.proofs.Standing.{not_staged, seen_alone}
+use Rattle.demo_core.proofs.Within.{StandBehind}
 
 -- ---- the item
 
 abbrev placing : OpenedVault → Path → ℕ → NewItem → Placing
 placing vault work number item = record { vault = vault; work = work; front = item_front (is_directory number) number; name = item_name (is_directory number) number; item = item }
 
+-- a vault in good order stays so
+abbrev StaysInOrder : Format → View → View → Type 0
+StaysInOrder f v w = IsClean f v → IsOrderly f v → StaysGood f v w
+
 adds : (vault : OpenedVault) (work : Path) (seed number : ℕ) (item : NewItem) (a b : Told) → number < 10000 → below work vault.root ≡ None → below vault.root work ≡ None
-    → trees.opens_as item ≡ opens_as seed number → ShowsNewTree (placing vault work number item) a.state b.state → HoldsAlone vault seed number a.state → HoldsAlone vault seed (number + 1) b.state
-adds vault work seed number item a b few one other opens tree holds =
+    → trees.opens_as item ≡ opens_as seed number → ShowsNewTree (placing vault work number item) a.state b.state
+    → StaysInOrder (format_of vault.vault) (under vault.root (seen a.state)) (under vault.root (seen b.state)) → HoldsAlone vault seed number a.state → HoldsAlone vault seed (number + 1) b.state
+adds vault work seed number item a b few one other opens tree stays holds =
+    let f = format_of vault.vault in
     let region = at_or_below vault.root in
     let p = placing vault work number item in
     let has : HasVault p region = record { vault = λ q inside. inside; unstaged = λ q inside. not_staged work vault.root q one other inside } in
     let shown : (w : View) × ShowsAmong region b.state (w ∷ []) × GainsItem (format_of vault.vault) vault.root (item_front (is_directory number) number ++ item_name (is_directory number) number ∷ []) (trees.opens_as item) holds.view w =
     tree.tree region holds.view (record { has = has; alone = holds.alone; good = holds.good }) in
+    let good : StaysGood f (under vault.root holds.view) (under vault.root (seen b.state)) =
+    subst (λ u. StaysInOrder f u (under vault.root (seen b.state))) (seen_alone vault.root a.state holds.view holds.alone) stays holds.good.clean holds.good.orderly in
     let opens_with : OpensWith (format_of vault.vault) (under vault.root holds.view) (under vault.root shown.0) (path_of number) (opens_as seed number) =
     subst (λ path. OpensWith (format_of vault.vault) (under vault.root holds.view) (under vault.root shown.0) path (opens_as seed number)) (sym (path_ends number))
     (subst (λ opened. OpensWith (format_of vault.vault) (under vault.root holds.view) (under vault.root shown.0) (item_front (is_directory number) number ++ item_name (is_directory number) number ∷ []) opened) opens shown.2.opens) in
@@ -62,6 +75,7 @@ adds vault work seed number item a b few one other opens tree holds =
       view = shown.0;
       alone = shown.1;
       good = shown.2.vault.good;
+      tidy = subst (IsTidy f) (seen_alone vault.root b.state shown.0 shown.1) (good.tidy holds.tidy);
       opens = shown.2.vault.loads phrase vault.vault holds.opens;
       items = items_more seed number (format_of vault.vault) (under vault.root holds.view) (under vault.root shown.0) few holds.items opens_with;
     }
@@ -154,7 +168,28 @@ module _ (below_law : StandBelow) (entered : EnteredLeads) (vault : OpenedVault)
   item_refused put.Failed own answer = tt
   item_refused put.NoMemory own answer = tt
 
+-- where its place is taken, it shares it
+lacks_place : StandBehind → EnteredLeads → HaveContents → (vault : OpenedVault) (work : Path) (seed number : ℕ) → number < 10000 → (item : NewItem) (drawn : List ℕ) (ending : Ending) (s : State)
+    → OwnPlacesAreFree (format_of vault.vault) → HoldsAlone vault seed number s → (fault : PutFault) → IsPutTaken fault
+    → Answers (placing vault work number item) drawn ending (under vault.root (seen s)) (Err fault) → LacksOwnPlace number
+lacks_place behind entered shows vault work seed number few item drawn ending s free holds (put.Taken at) taken answer =
+    let has : HasTaken (placing vault work number item) drawn (under vault.root holds.view) (Some answer.0) =
+    subst (λ u. HasTaken (placing vault work number item) drawn u (Some answer.0)) (seen_alone vault.root s holds.view holds.alone) answer.2 in
+    lacks_place_at behind entered shows vault.vault (under vault.root holds.view) seed number few holds.opens holds.good.clean holds.tidy holds.items item drawn has.dir answer.0 has.there.entered free has.is
+lacks_place behind entered shows vault work seed number few item drawn ending s free holds (put.Find fault) taken answer = absurd taken
+lacks_place behind entered shows vault work seed number few item drawn ending s free holds (put.NotAllowed path) taken answer = absurd taken
+lacks_place behind entered shows vault work seed number few item drawn ending s free holds (put.Damaged at fault) taken answer = absurd taken
+lacks_place behind entered shows vault work seed number few item drawn ending s free holds (put.Limit limit) taken answer = absurd taken
+lacks_place behind entered shows vault work seed number few item drawn ending s free holds put.ZeroRandom taken answer = absurd taken
+lacks_place behind entered shows vault work seed number few item drawn ending s free holds put.Source taken answer = absurd taken
+lacks_place behind entered shows vault work seed number few item drawn ending s free holds put.Random taken answer = absurd taken
+lacks_place behind entered shows vault work seed number few item drawn ending s free holds put.Failed taken answer = absurd taken
+lacks_place behind entered shows vault work seed number few item drawn ending s free holds put.NoMemory taken answer = absurd taken
+
 -- ---- a call
+
+seen_of : (t : Option Told) (a : Told) → t ≡ Some a → IsSeen t (seen a.state)
+seen_of t a told = subst (λ x. IsSeen x (seen a.state)) (sym told) refl
 
 -- a folder that tells its state shows a view
 shown : (t : Option Told) → t ≢ None → (v : View) × IsSeen t v
@@ -177,9 +212,16 @@ module _ (vault : OpenedVault) (work : Path) (seed number : ℕ) (path : plain.P
 
   pub item_adds : number < 10000 → below work vault.root ≡ None → below vault.root work ≡ None → trees.opens_as item ≡ opens_as seed number
       → OnOk result (FromTo (λ a b. HoldsAlone vault seed number a.state → HoldsAlone vault seed (number + 1) b.state) t u)
-  item_adds few one other opens = on_ok_weaker result
-      (λ done. from_to_more (λ a b. ShowsNewTree (placing vault work number item) a.state b.state) (λ a b. HoldsAlone vault seed number a.state → HoldsAlone vault seed (number + 1) b.state) t u
-      (λ a b told tree. adds vault work seed number item a b few one other opens tree) done) made.makes.done
+  item_adds few one other opens = by result made.makes.done made.makes.ends
+    where
+      by : (r : Result (Unit {0}) PutFault) → OnOk r (FromTo (λ a b. ShowsNewTree (placing vault work number item) a.state b.state) t u)
+          → ((v w : View) → IsSeen t v → IsSeen u w → EndsAs (placing vault work number item) (under vault.root v) (under vault.root w) r)
+          → OnOk r (FromTo (λ a b. HoldsAlone vault seed number a.state → HoldsAlone vault seed (number + 1) b.state) t u)
+      by (Err fault) done ends = tt
+      by (Ok one_made) done ends =
+          from_to_more (λ a b. ShowsNewTree (placing vault work number item) a.state b.state × (u ≡ Some b)) (λ a b. HoldsAlone vault seed number a.state → HoldsAlone vault seed (number + 1) b.state) t u
+          (λ a b told here. adds vault work seed number item a b few one other opens here.0 (ends (seen a.state) (seen b.state) (seen_of t a told) (seen_of u b here.1)).2)
+          (from_to_then (λ a b. ShowsNewTree (placing vault work number item) a.state b.state) (λ b. u ≡ Some b) t u (λ b is. is) done)
 
   -- zeros that end it are sixteen in a row
   pub item_zeros : (t ≢ None) × (result ≡ Err put.ZeroRandom) → HasZeroRun drawn
@@ -194,4 +236,11 @@ module _ (vault : OpenedVault) (work : Path) (seed number : ℕ) (path : plain.P
       (λ fault err a told is_go holds. item_refused below_law entered vault work seed number item drawn a.state is_go holds fault (at_err result IsItemFault fault err own)
       (subst (λ e. Answers (placing vault work number item) drawn e (under vault.root (seen a.state)) (Err fault)) whole
       (subst (λ r. Answers (placing vault work number item) drawn ending (under vault.root (seen a.state)) r) err
-      (made.answer (seen a.state) (subst (λ x. IsSeen x (seen a.state)) (sym told) refl)))))
+      (made.answer (seen a.state) (seen_of t a told)))))
+
+  -- and where it shares a place
+  pub item_shares : StandBehind → EnteredLeads → (shows : HaveContents) → OwnPlacesAreFree (format_of vault.vault) → number < 10000
+      → IfErr result (λ fault. IsPutTaken fault → (a : Told) → t ≡ Some a → HoldsAlone vault seed number a.state → LacksOwnPlace number)
+  item_shares behind entered shows free few = if_err result _
+      (λ fault err taken a told holds. lacks_place behind entered shows vault work seed number few item drawn ending a.state free holds fault taken
+      (subst (λ r. Answers (placing vault work number item) drawn ending (under vault.root (seen a.state)) r) err (made.answer (seen a.state) (seen_of t a told))))

@@ -10,3 +10,4 @@ pub mod Standing
 pub mod Beside
 pub mod Chances
 pub mod Filling
+pub mod Shared

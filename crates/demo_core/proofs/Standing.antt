@@ -23,6 +23,7 @@ use Rattle.vault_read.specs.declared.vault.VaultKind.TheVariants as kind
 use Rattle.vault_spec.specs.Alike.{HasFolders}
 use Rattle.vault_spec.specs.Empty.{IsEmptyVault}
 use Rattle.vault_spec.specs.Opens.{NoItem, tree}
+use Rattle.vault_spec.specs.Tidy.{IsTidy}
 use Rattle.vault_spec.specs.Vault.{Answer, IsVault, Vault, format_of}
 use Rattle.vault_write.specs.Founding.{IsNewVault, vault_edit}
 use Rattle.vault_write.specs.Making.{is_inside, is_staged, is_unstaged}
@@ -173,6 +174,7 @@ holds_new one vault kind seed s opens stands =
       view = stands.view;
       alone = stands.alone;
       good = subst (λ x. ShowsVault (format_of x) vault.root stands.view) is stands.good;
+      tidy = subst (λ x. IsTidy (format_of x) (under vault.root stands.view)) is stands.new.tidy;
       opens = subst (λ u. IsVault u phrase vault.vault) (seen_alone vault.root s stands.view stands.alone) opens;
       items = no_items seed vault.vault (under vault.root stands.view) (subst (λ x. IsEmptyVault (format_of x) (under vault.root stands.view)) is stands.new.empty);
     }

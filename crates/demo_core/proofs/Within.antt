@@ -49,7 +49,7 @@ few_names number = by (is_directory number)
 
 -- ---- what stands opens
 
-content_opens : (keys : Keys) (bytes : List ℕ) → opened_file keys (Some bytes) ≢ NoItem
+pub content_opens : (keys : Keys) (bytes : List ℕ) → opened_file keys (Some bytes) ≢ NoItem
 content_opens keys bytes = by (readable keys bytes).ending (whole_ends keys bytes)
   where
     by : (ending : Ending) → ending ≢ Wanting → opened_by (readable keys bytes).chunks ending ≢ NoItem

@@ -4,3 +4,4 @@ pub mod Laws
 pub mod Tree
 pub mod Drawing
 pub mod Making
+pub mod Sharing

@@ -15,6 +15,7 @@ use Rattle.vault_read.specs.Contents.{IsOfPath}
 use Rattle.vault_read.specs.Opened.{OpenedVault, kind_of}
 use Rattle.kdf_suite.specs.ScryptCost.{Cost}
 use Rattle.vault_spec.specs.Opens.{tree}
+use Rattle.vault_spec.specs.Tidy.{IsTidy}
 use Rattle.vault_spec.specs.Vault.{Vault, IsVault, format_of}
 use Rattle.vault_write.specs.Founding.{IsNewVault}
 use Rattle.vault_write.specs.Trees.{ShowsVault}
@@ -87,6 +88,15 @@ abbrev pub IsOfItems : MakeFault → Type 0
 IsOfItems (Put fault) = IsOfItem fault
 IsOfItems fault = IsOfChance fault
 
+-- the fault says that a place is taken
+abbrev pub IsPutTaken : PutFault → Type 0
+IsPutTaken (put.Taken at) = Unit {0}
+IsPutTaken fault = ⊥
+
+abbrev pub IsTaken : MakeFault → Type 0
+IsTaken (Put fault) = IsPutTaken fault
+IsTaken fault = ⊥
+
 -- The work folder can be entered: it is below a directory, and nothing stands there, or a work folder with a bare stage and no more.
 abbrev pub CanEnter : View → Path → Type 0
 CanEnter v work = (v (parent work) ≡ Folder) × ((v work ≡ NoEntry) ⊎ IsFresh v work)
@@ -113,11 +123,12 @@ pub record StandsNew (kind : VaultKind) (root : Path) (s : State) : Type 0 where
   pub good : ShowsVault (format_of vault) root view
   pub is : kind_of vault ≡ kind
 
--- This vault stands alone at its root, in good order, and has so many items.
+-- This vault stands alone at its root, in good order and tidy, and has so many items.
 pub record HoldsAlone (vault : OpenedVault) (seed count : ℕ) (s : State) : Type 0 where
   pub view : View
   pub alone : ShowsAmong (at_or_below vault.root) s (view ∷ [])
   pub good : ShowsVault (format_of vault.vault) vault.root view
+  pub tidy : IsTidy (format_of vault.vault) (under vault.root view)
   pub opens : IsVault (under vault.root view) phrase vault.vault
   pub items : HasItems seed count (tree (format_of vault.vault) (under vault.root view))
 

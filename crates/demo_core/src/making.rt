@@ -14,7 +14,8 @@ ghost use Rattle.vault_write.specs.Founding.{MayFound};
 ghost use Rattle.vault_write.specs.Making.{is_apart};
 ghost use Rattle.vault_write.specs.Placing.{MayMake};
 ghost use Rattle.demo_core.specs.Drawing.{Drew, seed_stream};
-ghost use Rattle.demo_core.specs.Making.{CanMake, HoldsAlone, HoldsInOrder, HoldsItems, IsBeside, IsFailed, IsItemFault, IsMakeFault, IsNotPut, IsOfChance, IsOfItem, IsOfItems, IsPutOfChance, MakesBeside, StandsNew, making_folder, phrase};
+ghost use Rattle.demo_core.specs.Making.{CanMake, HoldsAlone, HoldsInOrder, HoldsItems, IsBeside, IsFailed, IsItemFault, IsMakeFault, IsNotPut, IsOfChance, IsOfItem, IsOfItems, IsPutOfChance, IsPutTaken, IsTaken, MakesBeside, StandsNew, making_folder, phrase};
+ghost use Rattle.demo_core.specs.Sharing.{LacksOwnPlace, SharesPlace};
 
 use crate::bytes::MadeBytes;
 use crate::fault::MakeFault;
@@ -29,7 +30,7 @@ use port_model::{MemRandoms, Randoms};
 use rand_chacha::ChaCha20Rng;
 use rand_core::SeedableRng;
 use std::alloc::{AllocError, Global};
-use vault_read::laws::roots_have_one_answer;
+use vault_read::laws::{files_have_their_contents, items_keep_vaults, roots_have_one_answer};
 use vault_read::{Vault, VaultKind};
 use vault_spec::laws::{what_is_found_stands, what_stands_is_found_step_by_step};
 use vault_write::{init_cm, init_go, place_dir, place_file};
@@ -78,6 +79,7 @@ pub fn make_first<F: Folder, R: Randoms>(
     ensures failed { IfErr result (λ fault. IsFailed fault → CountRose (F.faults folder.old) (F.faults folder.new)) }
     ensures own { IfErr result (λ fault. IsMakeFault fault) }
     ensures chance { IfErr result (λ fault. (v : View) → IsSeen (F.told folder.old) v → CanMake (codes "g" ∷ []) v → IsOfItems fault) }
+    ensures shared { IfErr result (λ fault. IsTaken fault → (v : View) → IsSeen (F.told folder.old) v → CanMake (codes "g" ∷ []) v → SharesPlace count) }
     ensures random { result ≡ Err (MakeFault.Put PutFault.Random) → CountRose (R.faults random.old) (R.faults random.new) }
     ensures drew { Drew ((F.told folder.old ≢ None) × (result ≡ Err (MakeFault.Put PutFault.ZeroRandom))) (R.left random.old) (R.left random.new) }
     ensures grows { F.faults folder.old ≤ F.faults folder.new }
@@ -218,6 +220,7 @@ fn place_items<F: Folder, R: Randoms>(
     ensures failed { result ≡ Err PutFault.Failed → CountRose (F.faults folder.old) (F.faults folder.new) }
     ensures own { IfErr result (λ fault. IsItemFault fault) }
     ensures chance { IfErr result (λ fault. (a : Told) → F.told folder.old ≡ Some a → kind_of vault.now.vault ≡ VaultKind.Gocryptfs → HoldsAlone vault.now seed 0 a.state → IsOfItem fault) }
+    ensures shared { IfErr result (λ fault. IsPutTaken fault → (a : Told) → F.told folder.old ≡ Some a → HoldsAlone vault.now seed 0 a.state → SharesPlace count) }
     ensures random { result ≡ Err PutFault.Random → CountRose (R.faults random.old) (R.faults random.new) }
     ensures drew { Drew ((F.told folder.old ≢ None) × (result ≡ Err PutFault.ZeroRandom)) (R.left random.old) (R.left random.new) }
     ensures grows { F.faults folder.old ≤ F.faults folder.new }
@@ -247,6 +250,7 @@ fn place_item<F: Folder, R: Randoms>(
     ensures failed { result ≡ Err PutFault.Failed → CountRose (F.faults folder.old) (F.faults folder.new) }
     ensures own { IfErr result (λ fault. IsItemFault fault) }
     ensures chance { IfErr result (λ fault. (a : Told) → F.told folder.old ≡ Some a → kind_of vault.now.vault ≡ VaultKind.Gocryptfs → HoldsAlone vault.now seed number a.state → IsOfItem fault) }
+    ensures shared { IfErr result (λ fault. IsPutTaken fault → (a : Told) → F.told folder.old ≡ Some a → HoldsAlone vault.now seed number a.state → LacksOwnPlace number) }
     ensures random { result ≡ Err PutFault.Random → CountRose (R.faults random.old) (R.faults random.new) }
     ensures drew { Drew ((F.told folder.old ≢ None) × (result ≡ Err PutFault.ZeroRandom)) (R.left random.old) (R.left random.new) }
     ensures grows { F.faults folder.old ≤ F.faults folder.new }
@@ -255,6 +259,8 @@ fn place_item<F: Folder, R: Randoms>(
     draws_compose();
     what_is_found_stands();
     what_stands_is_found_step_by_step();
+    files_have_their_contents();
+    items_keep_vaults(vault);
     let path = path_of(alloc, number)?;
     if is_directory(number) {
         return place_dir(alloc, folder, work, vault, &path, random);

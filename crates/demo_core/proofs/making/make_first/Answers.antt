@@ -8,7 +8,7 @@ use Rattle.vault_write.specs.Making.{is_apart}
 use Rattle.work_folder.specs.Entering.{IsFresh, IsReady}
 use Rattle.demo_core.specs.Making.{IsBeside, making_folder}
 use Rattle.demo_core.proofs.Beside.{beside_then, made_beside, still_told, told_after}
-use Rattle.demo_core.proofs.Chances.{chance_items, fresh_stays}
+use Rattle.demo_core.proofs.Chances.{chance_free, chance_items, fresh_stays, load_free}
 use Rattle.demo_core.proofs.Drawn.{drew_then}
 use Rattle.demo_core.proofs.Standing.{holds_in_order, holds_seen}
 use Rattle.demo_core.proofs.making.make_first.Goals as goal
@@ -81,3 +81,24 @@ returns-in_err-place_items-clause-drew g c =
 pub returns-clause-drew : goal.returns-clause-drew
 returns-clause-drew g c =
     drew_then c.draws_compose.ensures.composed _ _ _ _ _ _ (λ zeros. let never : Ok tt ≡ Err _ = zeros.1 in cc never) c.make_vault.ensures.drew c.place_items.ensures.drew
+
+pub returns-in_err-work-clause-shared : goal.returns-in_err-work-clause-shared
+returns-in_err-work-clause-shared g c =
+    let why = c.in_err-work.field-0.0 in
+    let p = err_from_is_err_and c.from_residual.result c.from_residual.ensures.1 in
+    rw (p.1, p.2) (λ taken v is can. absurd (chance_free why (c.in_err-work.ensures.chance v is can) taken))
+
+pub returns-in_err-vault-clause-shared : goal.returns-in_err-vault-clause-shared
+returns-in_err-vault-clause-shared g c =
+    let why = c.in_err-vault.field-0.0 in
+    let p = err_from_is_err_and c.from_residual-in_err-vault.result c.from_residual-in_err-vault.ensures.1 in
+    rw (p.1, p.2) (λ taken v is can. absurd (load_free why c.in_err-vault.ensures.fault taken))
+
+pub returns-in_err-place_items-clause-shared : goal.returns-in_err-place_items-clause-shared
+returns-in_err-place_items-clause-shared g c =
+    let p = err_from_is_err_and c.from_residual-in_err-place_items.result c.from_residual-in_err-place_items.ensures.1 in
+    rw (p.1, p.2) (λ taken v is can.
+    let now = told_after _ (g.F.Folder.told c.args.folder.now) (g.F.Folder.told c.make_vault.new.folder) c.make_vault.ensures.beside v is in
+    let new = c.in_ok-work.ensures.stands now.0 now.1 in
+    let told = c.load.ensures.told ∙ now.1 in
+    c.in_err-place_items.ensures.shared taken now.0 told (c.in_ok-vault.ensures.holds c.args.seed now.0 told new))

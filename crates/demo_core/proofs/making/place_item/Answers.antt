@@ -1,7 +1,7 @@
 use Rattle.std.proofs.Common.{◌∙◌, Err, inl, inr, refl, sym, ap, arith}
 use Rattle.port_model.specs.Counts.{CountRose}
 use Rattle.vault_spec.specs.Making.{NewDirectory, NewFile}
-use Rattle.demo_core.proofs.Filling.{at_err, directory_opens, directory_own, file_opens, file_own, if_err, item_adds, item_beside, item_chance, item_ready, item_zeros}
+use Rattle.demo_core.proofs.Filling.{at_err, directory_opens, directory_own, file_opens, file_own, if_err, item_adds, item_beside, item_chance, item_ready, item_shares, item_zeros}
 use Rattle.std.proofs.lemmas.Result.{IfErr-weaker}
 use Rattle.demo_core.specs.Contents.{coming_of}
 use Rattle.demo_core.proofs.making.place_item.Goals as goal
@@ -80,3 +80,15 @@ returns-clause-chance g c =
     c.what_stands_is_found_step_by_step.ensures.below c.what_is_found_stands.ensures.enters
     (sym (ap (λ x. x.ending) (made.takes.told (coming_of it.seed it.number it.given it.left) refl)))
     (if_err c.place_file.result _ (λ fault err. file_own fault (at_err c.place_file.result _ fault err c.place_file.ensures.fault) (λ same. no_rise (c.place_file.ensures.source.1 (err ∙ ap Err same)))))
+
+pub returns-then-is_directory-clause-shared : goal.returns-then-is_directory-clause-shared
+returns-then-is_directory-clause-shared g c =
+    let made = c.place_dir.ensures.made in
+    item_shares c.args.vault.now c.args.work.now c.args.seed c.args.number c.in_ok-path.path NewDirectory _ made.drawn _ _ c.place_dir.result c.in_ok-path.ensures made.makes
+    c.what_stands_is_found_step_by_step.ensures.behind c.what_is_found_stands.ensures.enters c.files_have_their_contents.ensures c.items_keep_vaults.ensures.free c.requires.number
+
+pub returns-clause-shared : goal.returns-clause-shared
+returns-clause-shared g c =
+    let made = c.place_file.ensures.made in
+    item_shares c.args.vault.now c.args.work.now c.args.seed c.args.number c.in_ok-path.path (NewFile made.writing.content) _ made.writing.drawn _ _ c.place_file.result c.in_ok-path.ensures made.makes
+    c.what_stands_is_found_step_by_step.ensures.behind c.what_is_found_stands.ensures.enters c.files_have_their_contents.ensures c.items_keep_vaults.ensures.free c.requires.number

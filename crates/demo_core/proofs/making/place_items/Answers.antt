@@ -54,3 +54,11 @@ returns-in_err-place_item-clause-chance g c =
 
 pub returns-clause-drew : goal.returns-clause-drew
 returns-clause-drew g c = drew_for _ ⊥ _ _ (λ why. let never : Ok tt ≡ Err _ = why.1 in cc never) c.loop-number.invariant.drew
+
+pub returns-in_err-place_item-clause-shared : goal.returns-in_err-place_item-clause-shared
+returns-in_err-place_item-clause-shared g c =
+    let p = err_from_is_err_and c.from_residual.result c.from_residual.ensures.1 in
+    rw (p.1, p.2) (λ taken a told holds.
+    let now = carried (λ a b. HoldsAlone c.args.vault.now c.args.seed 0 a.state → HoldsAlone c.args.vault.now c.args.seed c.loop-number.number b.state)
+    (g.F.Folder.told c.args.folder.now) (g.F.Folder.told c.loop-number.folder) c.loop-number.invariant.adds a told in
+    (c.loop-number.number, omega arith, c.in_err-place_item.ensures.shared taken now.0 now.1 (now.2 holds)))

@@ -1,0 +1,90 @@
+-- In a clean and tidy vault the place of the next item is taken only where it shares it.
+use Rattle.std.proofs.Common.{◌≡◌, ◌≢◌, ◌∙◌, ◌∷◌, ◌++◌, ◌<◌, ◌%◌, ◌/◌, [], ℕ, Bool, true, false, cond, nat_eq, codes, replicate, List, Some, None, Ok, IsTrue, arith, append-nil, refl, sym, ap, subst}
+use Rattle.folder_spec.specs.Path as folder
+use Rattle.folder_spec.specs.Seen.{ShowsFile}
+use Rattle.folder_spec.specs.View.{View}
+use Rattle.plain_tree.specs.Names as plain
+use Rattle.plain_tree.specs.Names.{is_name}
+use Rattle.vault_spec.specs.Alike.{IsNoItem}
+use Rattle.vault_spec.specs.Find.{enter}
+use Rattle.vault_spec.specs.Findings.{IsClean}
+use Rattle.vault_spec.specs.Format.{Directory, Format, file_bytes}
+use Rattle.vault_spec.specs.Making.{NewItem, taken}
+use Rattle.vault_spec.specs.Opens as opens
+use Rattle.vault_spec.specs.Opens.{NoItem, opened, opened_at, opened_file, tree}
+use Rattle.vault_spec.specs.Reached.{Leads}
+use Rattle.vault_spec.specs.Standing.{Absent, Dir, File, Standing, Strange, standing, standing_in}
+use Rattle.vault_spec.specs.Tidy.{IsTidy, OwnPlacesAreFree}
+use Rattle.vault_spec.specs.Vault.{IsVault, Vault, format_of}
+use Rattle.demo_core.specs.Demonstration.{digits, is_directory, path_of}
+use Rattle.demo_core.specs.Making.{phrase}
+use Rattle.demo_core.specs.Sharing.{LacksOwnPlace}
+use Rattle.demo_core.specs.Tree.{HasItems}
+use Rattle.demo_core.proofs.Apart.{item_front, item_name, path_ends, paths_tell}
+use Rattle.demo_core.proofs.Entered.{EnteredLeads}
+use Rattle.demo_core.proofs.Naming.{is_name-directory, is_name-long, is_name-short}
+use Rattle.demo_core.proofs.Within.{StandBehind, content_opens}
+
+abbrev pub HaveContents : Type 0
+HaveContents = (vault : Vault) (v : View) (path : plain.Path) (at : folder.Path) → standing (format_of vault) v path ≡ File at → ShowsFile v at
+
+named : (b : Bool) (number : ℕ) → IsTrue (is_name (item_name b number))
+named true number = is_name-directory (number / 10)
+named false number = by (nat_eq (number % 25) 7)
+  where
+    by : (b : Bool) → IsTrue (is_name (codes "file" ++ digits 6 number ++ cond b (replicate 180 120) []))
+    by true = is_name-long number
+    by false = subst (λ end. IsTrue (is_name (codes "file" ++ end))) (sym (append-nil (digits 6 number))) (is_name-short number)
+
+-- where nothing opens no item stands
+no_item : (f : Format) (v : View) (s : Standing) → ((at : folder.Path) → s ≡ File at → ShowsFile v at) → opened_at f v s ≡ NoItem → IsNoItem s
+no_item f v Absent has none = tt
+no_item f v (Strange at) has none = tt
+no_item f v (File at) has none =
+    let there : ShowsFile v at = has at refl in
+    absurd (content_opens f.content there.0 (ap (λ x. opened_file f.content (file_bytes x)) (sym there.1) ∙ none))
+no_item f v (Dir at directory) has none = let never : opens.Directory ≡ NoItem = none in cc never
+
+module _ (behind : StandBehind) (entered : EnteredLeads) (shows : HaveContents) (vault : Vault) (v : View) (seed number : ℕ) (few : number < 10000) where
+  -- the next item isn't there yet
+  next_opens : HasItems seed number (tree (format_of vault) v) → tree (format_of vault) v (path_of number) ≡ NoItem
+  next_opens has =
+      has.others (path_of number) (λ none. ends (item_front (is_directory number) number) (sym (path_ends number) ∙ none))
+      (λ other less same. let is : number ≡ other = paths_tell number other few (omega (arith, less, few)) same in omega (arith, less, is))
+    where
+      ends : (front : plain.Path) → front ++ item_name (is_directory number) number ∷ [] ≢ []
+      ends [] e = cc e
+      ends (a ∷ front) e = cc e
+
+  next_free : HasItems seed number (tree (format_of vault) v) → (dir : Directory) → Leads (format_of vault) v (item_front (is_directory number) number) dir
+      → IsNoItem (standing_in (format_of vault) v dir (item_name (is_directory number) number))
+  unfolding opened
+  next_free has dir leads =
+      subst IsNoItem (ap (standing (format_of vault) v) (path_ends number) ∙ behind (format_of vault) v (item_front (is_directory number) number) dir (item_name (is_directory number) number) leads)
+      (no_item (format_of vault) v (standing (format_of vault) v (path_of number)) (shows vault v (path_of number)) (next_opens has))
+
+  pub lacks_place_at : IsVault v phrase vault → IsClean (format_of vault) v → IsTidy (format_of vault) v → HasItems seed number (tree (format_of vault) v) → (item : NewItem) (drawn : List ℕ) (dir : Directory)
+      (place : folder.Path) → enter (format_of vault) v (item_front (is_directory number) number) ≡ Ok dir → OwnPlacesAreFree (format_of vault)
+      → taken (format_of vault) v dir (item_name (is_directory number) number) item drawn ≡ Some place → LacksOwnPlace number
+  lacks_place_at opens clean tidy has item drawn dir place enters free is =
+      let leads = (entered (format_of vault) v (item_front (is_directory number) number) dir).0 enters in
+      let none = next_free has dir leads in
+      record {
+        vault = vault;
+        view = v;
+        opens = opens;
+        clean = clean;
+        tidy = tidy;
+        front = item_front (is_directory number) number;
+        name = item_name (is_directory number) number;
+        path = path_ends number;
+        dir = dir;
+        entered = enters;
+        free = none;
+        item = item;
+        drawn = drawn;
+        shared = λ own. clash (sym is ∙ free v (item_front (is_directory number) number) dir (item_name (is_directory number) number) item drawn clean tidy leads (named (is_directory number) number) none own);
+      }
+    where
+      clash : Some place ≡ None → ⊥
+      clash e = cc e

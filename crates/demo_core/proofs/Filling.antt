@@ -1,5 +1,5 @@
 -- An item that is made in a vault comes to its tree.
-use Rattle.std.proofs.Common.{◌≡◌, ◌≢◌, ◌∙◌, ◌∷◌, ◌++◌, ◌+◌, ◌<◌, [], ℕ, true, false, List, Option, Some, None, Result, Ok, Err, IfErr, OnOk, refl, sym, ap, subst}
+use Rattle.std.proofs.Common.{◌≡◌, ◌≢◌, ◌∙◌, ◌∷◌, ◌++◌, ◌+◌, ◌<◌, [], ℕ, true, false, List, Option, Some, None, Result, Ok, Err, IfErr, IsTrue, OnOk, append-nil, arith, refl, sym, ap, subst}
 use Rattle.folder_spec.specs.Event.{FromTo, Told}
 use Rattle.folder_spec.specs.Path.{Path, below}
 use Rattle.folder_spec.specs.Region.{at_or_below}
@@ -22,12 +22,14 @@ use Rattle.vault_read.specs.Opened.{OpenedVault, kind_of}
 use Rattle.vault_read.specs.declared.fault.FindFault.{FindFault}
 use Rattle.vault_read.specs.declared.fault.FindFault.TheVariants as find
 use Rattle.vault_read.specs.declared.vault.VaultKind.TheVariants as kind
+use Rattle.port_model.specs.Draws.{ByteStream, Draws}
 use Rattle.vault_spec.specs.Find.{enter}
 use Rattle.vault_spec.specs.Format.{Directory, Format}
-use Rattle.vault_spec.specs.Making.{Allows, NewItem}
+use Rattle.vault_spec.specs.Making.{Allows, NewDirectory, NewItem}
 use Rattle.vault_spec.specs.Opens as opens
+use Rattle.vault_spec.specs.Opens.{tree}
 use Rattle.vault_spec.specs.Tidy.{IsTidy, OwnPlacesAreFree}
-use Rattle.vault_spec.specs.Vault.{Cryptomator, Gocryptfs, Vault, format_of}
+use Rattle.vault_spec.specs.Vault.{Cryptomator, Gocryptfs, IsVault, Vault, format_of}
 use Rattle.vault_write.specs.Calls.{MakesAt, MakesOne, New, making_by}
 use Rattle.vault_write.specs.Making.{Placing, StagesOrPlaces, is_apart}
 use Rattle.vault_write.specs.Placing.{EndsAs, HasVault, IsMaking, ShowsNewTree, making_at}
@@ -37,13 +39,13 @@ use Rattle.vault_write.specs.Trees as trees
 use Rattle.demo_core.specs.Drawing.{HasZeroRun}
 use Rattle.demo_core.specs.Demonstration.{bytes_from, content_of, is_directory, path_of, size_of}
 use Rattle.demo_core.specs.Making.{HoldsAlone, IsBeside, IsItemFault, IsOfItem, IsPutOfChance, IsPutTaken, phrase}
-use Rattle.demo_core.specs.Sharing.{LacksOwnPlace}
-use Rattle.demo_core.specs.Tree.{opens_as}
+use Rattle.demo_core.specs.Sharing.{GoesOn, LacksOwnPlace, SharesPlace}
+use Rattle.demo_core.specs.Tree.{HasItems, opens_as}
 use Rattle.demo_core.proofs.Apart.{item_front, item_name, items_more, path_ends}
 use Rattle.demo_core.proofs.Beside.{beside_by}
 use Rattle.demo_core.proofs.Drawn.{run_refused}
 use Rattle.demo_core.proofs.Entered.{EnteredLeads, StandBelow, front_entered}
-use Rattle.demo_core.proofs.Shared.{HaveContents, lacks_place_at}
+use Rattle.demo_core.proofs.Shared.{HaveContents, goes_beside, goes_nowhere, lacks_place_at}
 use Rattle.demo_core.proofs.Standing.{not_staged, seen_alone}
 use Rattle.demo_core.proofs.Within.{StandBehind}
 
@@ -169,22 +171,25 @@ module _ (below_law : StandBelow) (entered : EnteredLeads) (vault : OpenedVault)
   item_refused put.NoMemory own answer = tt
 
 -- where its place is taken, it shares it
-lacks_place : StandBehind → EnteredLeads → HaveContents → (vault : OpenedVault) (work : Path) (seed number : ℕ) → number < 10000 → (item : NewItem) (drawn : List ℕ) (ending : Ending) (s : State)
-    → OwnPlacesAreFree (format_of vault.vault) → HoldsAlone vault seed number s → (fault : PutFault) → IsPutTaken fault
-    → Answers (placing vault work number item) drawn ending (under vault.root (seen s)) (Err fault) → LacksOwnPlace number
-lacks_place behind entered shows vault work seed number few item drawn ending s free holds (put.Taken at) taken answer =
-    let has : HasTaken (placing vault work number item) drawn (under vault.root holds.view) (Some answer.0) =
-    subst (λ u. HasTaken (placing vault work number item) drawn u (Some answer.0)) (seen_alone vault.root s holds.view holds.alone) answer.2 in
-    lacks_place_at behind entered shows vault.vault (under vault.root holds.view) seed number few holds.opens holds.good.clean holds.tidy holds.items item drawn has.dir answer.0 has.there.entered free has.is
-lacks_place behind entered shows vault work seed number few item drawn ending s free holds (put.Find fault) taken answer = absurd taken
-lacks_place behind entered shows vault work seed number few item drawn ending s free holds (put.NotAllowed path) taken answer = absurd taken
-lacks_place behind entered shows vault work seed number few item drawn ending s free holds (put.Damaged at fault) taken answer = absurd taken
-lacks_place behind entered shows vault work seed number few item drawn ending s free holds (put.Limit limit) taken answer = absurd taken
-lacks_place behind entered shows vault work seed number few item drawn ending s free holds put.ZeroRandom taken answer = absurd taken
-lacks_place behind entered shows vault work seed number few item drawn ending s free holds put.Source taken answer = absurd taken
-lacks_place behind entered shows vault work seed number few item drawn ending s free holds put.Random taken answer = absurd taken
-lacks_place behind entered shows vault work seed number few item drawn ending s free holds put.Failed taken answer = absurd taken
-lacks_place behind entered shows vault work seed number few item drawn ending s free holds put.NoMemory taken answer = absurd taken
+lacks_place : StandBehind → EnteredLeads → HaveContents → (vault : OpenedVault) (work : Path) (seed number : ℕ) → number < 10000 → (item : NewItem) → (item ≡ NewDirectory → IsTrue (is_directory number))
+    → (drawn : List ℕ) (ending : Ending) (s : State) → OwnPlacesAreFree (format_of vault.vault) → HoldsAlone vault seed number s → (fault : PutFault) → IsPutTaken fault
+    → Answers (placing vault work number item) drawn ending (under vault.root (seen s)) (Err fault) → LacksOwnPlace number (under vault.root (seen s)) drawn
+lacks_place behind entered shows vault work seed number few item directory drawn ending s free holds (put.Taken at) taken answer =
+    let f = format_of vault.vault in
+    let same : under vault.root holds.view ≡ under vault.root (seen s) = sym (seen_alone vault.root s holds.view holds.alone) in
+    let has : HasTaken (placing vault work number item) drawn (under vault.root (seen s)) (Some answer.0) = answer.2 in
+    lacks_place_at behind entered shows vault.vault (under vault.root (seen s)) seed number few (subst (λ u. IsVault u phrase vault.vault) same holds.opens)
+    (subst (IsClean f) same holds.good.clean) (subst (IsTidy f) same holds.tidy) (subst (λ u. HasItems seed number (tree f u)) same holds.items)
+    item directory drawn has.dir answer.0 has.there.entered free has.is
+lacks_place behind entered shows vault work seed number few item directory drawn ending s free holds (put.Find fault) taken answer = absurd taken
+lacks_place behind entered shows vault work seed number few item directory drawn ending s free holds (put.NotAllowed path) taken answer = absurd taken
+lacks_place behind entered shows vault work seed number few item directory drawn ending s free holds (put.Damaged at fault) taken answer = absurd taken
+lacks_place behind entered shows vault work seed number few item directory drawn ending s free holds (put.Limit limit) taken answer = absurd taken
+lacks_place behind entered shows vault work seed number few item directory drawn ending s free holds put.ZeroRandom taken answer = absurd taken
+lacks_place behind entered shows vault work seed number few item directory drawn ending s free holds put.Source taken answer = absurd taken
+lacks_place behind entered shows vault work seed number few item directory drawn ending s free holds put.Random taken answer = absurd taken
+lacks_place behind entered shows vault work seed number few item directory drawn ending s free holds put.Failed taken answer = absurd taken
+lacks_place behind entered shows vault work seed number few item directory drawn ending s free holds put.NoMemory taken answer = absurd taken
 
 -- ---- a call
 
@@ -239,8 +244,20 @@ module _ (vault : OpenedVault) (work : Path) (seed number : ℕ) (path : plain.P
       (made.answer (seen a.state) (seen_of t a told)))))
 
   -- and where it shares a place
-  pub item_shares : StandBehind → EnteredLeads → (shows : HaveContents) → OwnPlacesAreFree (format_of vault.vault) → number < 10000
-      → IfErr result (λ fault. IsPutTaken fault → (a : Told) → t ≡ Some a → HoldsAlone vault seed number a.state → LacksOwnPlace number)
-  item_shares behind entered shows free few = if_err result _
-      (λ fault err taken a told holds. lacks_place behind entered shows vault work seed number few item drawn ending a.state free holds fault taken
-      (subst (λ r. Answers (placing vault work number item) drawn ending (under vault.root (seen a.state)) r) err (made.answer (seen a.state) (seen_of t a told))))
+  pub item_shares : StandBehind → EnteredLeads → (shows : HaveContents) → OwnPlacesAreFree (format_of vault.vault) → number < 10000 → (item ≡ NewDirectory → IsTrue (is_directory number))
+      → (x y : Option ByteStream) → Draws x y drawn
+      → IfErr result (λ fault. IsPutTaken fault → (a : Told) → t ≡ Some a → HoldsAlone vault seed number a.state → SharesPlace vault.root t u x y (number + 1))
+  item_shares behind entered shows free few directory x y drew = if_err result _
+      (λ fault err taken a told holds. record {
+        now = a;
+        since = goes_nowhere t (Some a) (sym told);
+        until = subst (λ o. GoesOn o u) told (goes_beside (is_apart work vault.root) t u item_beside);
+        earlier = [];
+        drawn = drawn;
+        later = [];
+        were_drawn = subst (Draws x y) (sym (append-nil drawn)) drew;
+        number = number;
+        first = omega arith;
+        lacks = lacks_place behind entered shows vault work seed number few item directory drawn ending a.state free holds fault taken
+            (subst (λ r. Answers (placing vault work number item) drawn ending (under vault.root (seen a.state)) r) err (made.answer (seen a.state) (seen_of t a told)));
+      })

@@ -1,15 +1,22 @@
 -- In a clean and tidy vault the place of the next item is taken only where it shares it.
-use Rattle.std.proofs.Common.{◌≡◌, ◌≢◌, ◌∙◌, ◌∷◌, ◌++◌, ◌<◌, ◌%◌, ◌/◌, [], ℕ, Bool, true, false, cond, nat_eq, codes, replicate, List, Some, None, Ok, IsTrue, arith, append-nil, refl, sym, ap, subst}
+use Rattle.std.proofs.Common.{◌≡◌, ◌≢◌, ◌∙◌, ◌∷◌, ◌++◌, ◌<◌, ◌≤◌, ◌%◌, ◌/◌, [], ℕ, append_assoc, Option, Bool, true, false, cond, nat_eq, codes, replicate, List, Some, None, Ok, IsTrue, arith, append-nil, refl, sym, ap, subst}
+use Rattle.folder_spec.proofs.Moments.{went_more, went_nowhere, went_on}
+use Rattle.folder_spec.proofs.Tellings.{from_to_more, from_to_on, from_to_same}
+use Rattle.folder_spec.specs.Event.{Event, Told}
+use Rattle.folder_spec.specs.Moments.{Moments, Went}
 use Rattle.folder_spec.specs.Path as folder
+use Rattle.folder_spec.specs.Region.{IsAsBefore}
+use Rattle.folder_spec.specs.State.{State}
 use Rattle.folder_spec.specs.Seen.{ShowsFile}
 use Rattle.folder_spec.specs.View.{View}
 use Rattle.plain_tree.specs.Names as plain
 use Rattle.plain_tree.specs.Names.{is_name}
+use Rattle.port_model.specs.Draws.{ByteStream, Draws}
 use Rattle.vault_spec.specs.Alike.{IsNoItem}
 use Rattle.vault_spec.specs.Find.{enter}
 use Rattle.vault_spec.specs.Findings.{IsClean}
 use Rattle.vault_spec.specs.Format.{Directory, Format, file_bytes}
-use Rattle.vault_spec.specs.Making.{NewItem, taken}
+use Rattle.vault_spec.specs.Making.{NewItem, NewDirectory, taken}
 use Rattle.vault_spec.specs.Opens as opens
 use Rattle.vault_spec.specs.Opens.{NoItem, opened, opened_at, opened_file, tree}
 use Rattle.vault_spec.specs.Reached.{Leads}
@@ -17,10 +24,11 @@ use Rattle.vault_spec.specs.Standing.{Absent, Dir, File, Standing, Strange, stan
 use Rattle.vault_spec.specs.Tidy.{IsTidy, OwnPlacesAreFree}
 use Rattle.vault_spec.specs.Vault.{IsVault, Vault, format_of}
 use Rattle.demo_core.specs.Demonstration.{digits, is_directory, path_of}
-use Rattle.demo_core.specs.Making.{phrase}
-use Rattle.demo_core.specs.Sharing.{LacksOwnPlace}
+use Rattle.demo_core.specs.Making.{IsBeside, phrase}
+use Rattle.demo_core.specs.Sharing.{GoesOn, LacksOwnPlace, SharesPlace}
 use Rattle.demo_core.specs.Tree.{HasItems}
 use Rattle.demo_core.proofs.Apart.{item_front, item_name, path_ends, paths_tell}
+use Rattle.demo_core.proofs.Drawn.{Compose}
 use Rattle.demo_core.proofs.Entered.{EnteredLeads}
 use Rattle.demo_core.proofs.Naming.{is_name-directory, is_name-long, is_name-short}
 use Rattle.demo_core.proofs.Within.{StandBehind, content_opens}
@@ -63,15 +71,14 @@ module _ (behind : StandBehind) (entered : EnteredLeads) (shows : HaveContents) 
       subst IsNoItem (ap (standing (format_of vault) v) (path_ends number) ∙ behind (format_of vault) v (item_front (is_directory number) number) dir (item_name (is_directory number) number) leads)
       (no_item (format_of vault) v (standing (format_of vault) v (path_of number)) (shows vault v (path_of number)) (next_opens has))
 
-  pub lacks_place_at : IsVault v phrase vault → IsClean (format_of vault) v → IsTidy (format_of vault) v → HasItems seed number (tree (format_of vault) v) → (item : NewItem) (drawn : List ℕ) (dir : Directory)
+  pub lacks_place_at : IsVault v phrase vault → IsClean (format_of vault) v → IsTidy (format_of vault) v → HasItems seed number (tree (format_of vault) v) → (item : NewItem) → (item ≡ NewDirectory → IsTrue (is_directory number)) → (drawn : List ℕ) (dir : Directory)
       (place : folder.Path) → enter (format_of vault) v (item_front (is_directory number) number) ≡ Ok dir → OwnPlacesAreFree (format_of vault)
-      → taken (format_of vault) v dir (item_name (is_directory number) number) item drawn ≡ Some place → LacksOwnPlace number
-  lacks_place_at opens clean tidy has item drawn dir place enters free is =
+      → taken (format_of vault) v dir (item_name (is_directory number) number) item drawn ≡ Some place → LacksOwnPlace number v drawn
+  lacks_place_at opens clean tidy has item directory drawn dir place enters free is =
       let leads = (entered (format_of vault) v (item_front (is_directory number) number) dir).0 enters in
       let none = next_free has dir leads in
       record {
         vault = vault;
-        view = v;
         opens = opens;
         clean = clean;
         tidy = tidy;
@@ -82,9 +89,51 @@ module _ (behind : StandBehind) (entered : EnteredLeads) (shows : HaveContents) 
         entered = enters;
         free = none;
         item = item;
-        drawn = drawn;
+        directory = directory;
         shared = λ own. clash (sym is ∙ free v (item_front (is_directory number) number) dir (item_name (is_directory number) number) item drawn clean tidy leads (named (is_directory number) number) none own);
       }
     where
       clash : Some place ≡ None → ⊥
       clash e = cc e
+
+-- ---- a folder goes on
+
+abbrev Any : State → Type 0
+Any = λ s. Unit {0}
+
+abbrev AnyEvent : State → Event → Type 0
+AnyEvent = λ s e. Unit {0}
+
+pub goes_nowhere : (t u : Option Told) → u ≡ t → GoesOn t u
+goes_nowhere t u is = from_to_same (λ a b. Went Any AnyEvent a b) t u is (λ a. went_nowhere Any AnyEvent a tt)
+
+pub goes_then : (t u w : Option Told) → GoesOn t u → GoesOn u w → GoesOn t w
+goes_then t u w first later =
+    let R : Told → Told → Type 0 = λ a b. Went Any AnyEvent a b in
+    from_to_on R R R t u w (λ a b c one two. went_on Any AnyEvent a b c one two) first later
+
+pub goes_by : (P : State → State → Type 0) (Q : State → State → Event → Type 0) (t u : Option Told) → Moments P Q t u → GoesOn t u
+goes_by P Q t u moments =
+    from_to_more (λ a b. Went (P a.state) (Q a.state) a b) (λ a b. Went Any AnyEvent a b) t u
+    (λ a b is went. went_more (P a.state) Any (Q a.state) AnyEvent a b (λ s here. tt) (λ s e is. tt) went) moments
+
+pub goes_beside : (region : folder.Path → Bool) (t u : Option Told) → IsBeside region t u → GoesOn t u
+goes_beside region t u beside = goes_by (IsAsBefore region) (λ s0 s e. Unit {0}) t u beside
+
+-- what is so after some calls is so of these and those
+pub shares_since : Compose → (root : folder.Path) (t u w : Option Told) (x y z : Option ByteStream) (k count : ℕ) (earlier : List ℕ) → k ≤ count → GoesOn t u → Draws x y earlier → SharesPlace root u w y z k
+    → SharesPlace root t w x z count
+shares_since compose root t u w x y z k count earlier less goes drew shares = record {
+  now = shares.now;
+  since = goes_then t u (Some shares.now) goes shares.since;
+  until = shares.until;
+  earlier = earlier ++ shares.earlier;
+  drawn = shares.drawn;
+  later = shares.later;
+  were_drawn = subst (Draws x z)
+      (sym (ap (λ l. l ++ shares.later) (append_assoc earlier shares.earlier shares.drawn) ∙ append_assoc earlier (shares.earlier ++ shares.drawn) shares.later))
+      (compose x y z earlier (shares.earlier ++ shares.drawn ++ shares.later) drew shares.were_drawn);
+  number = shares.number;
+  first = omega (arith, less, shares.first);
+  lacks = shares.lacks;
+}

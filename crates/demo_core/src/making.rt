@@ -15,7 +15,7 @@ ghost use Rattle.vault_write.specs.Making.{is_apart};
 ghost use Rattle.vault_write.specs.Placing.{MayMake};
 ghost use Rattle.demo_core.specs.Drawing.{Drew, seed_stream};
 ghost use Rattle.demo_core.specs.Making.{CanMake, HoldsAlone, HoldsInOrder, HoldsItems, IsBeside, IsFailed, IsItemFault, IsMakeFault, IsNotPut, IsOfChance, IsOfItem, IsOfItems, IsPutOfChance, IsPutTaken, IsTaken, MakesBeside, StandsNew, making_folder, phrase};
-ghost use Rattle.demo_core.specs.Sharing.{LacksOwnPlace, SharesPlace};
+ghost use Rattle.demo_core.specs.Sharing.{SharesPlace};
 
 use crate::bytes::MadeBytes;
 use crate::fault::MakeFault;
@@ -79,7 +79,7 @@ pub fn make_first<F: Folder, R: Randoms>(
     ensures failed { IfErr result (λ fault. IsFailed fault → CountRose (F.faults folder.old) (F.faults folder.new)) }
     ensures own { IfErr result (λ fault. IsMakeFault fault) }
     ensures chance { IfErr result (λ fault. (v : View) → IsSeen (F.told folder.old) v → CanMake (codes "g" ∷ []) v → IsOfItems fault) }
-    ensures shared { IfErr result (λ fault. IsTaken fault → (v : View) → IsSeen (F.told folder.old) v → CanMake (codes "g" ∷ []) v → SharesPlace count) }
+    ensures shared { IfErr result (λ fault. IsTaken fault → (v : View) → IsSeen (F.told folder.old) v → CanMake (codes "g" ∷ []) v → SharesPlace (codes "g" ∷ []) (F.told folder.old) (F.told folder.new) (R.left random.old) (R.left random.new) count) }
     ensures random { result ≡ Err (MakeFault.Put PutFault.Random) → CountRose (R.faults random.old) (R.faults random.new) }
     ensures drew { Drew ((F.told folder.old ≢ None) × (result ≡ Err (MakeFault.Put PutFault.ZeroRandom))) (R.left random.old) (R.left random.new) }
     ensures grows { F.faults folder.old ≤ F.faults folder.new }
@@ -220,7 +220,7 @@ fn place_items<F: Folder, R: Randoms>(
     ensures failed { result ≡ Err PutFault.Failed → CountRose (F.faults folder.old) (F.faults folder.new) }
     ensures own { IfErr result (λ fault. IsItemFault fault) }
     ensures chance { IfErr result (λ fault. (a : Told) → F.told folder.old ≡ Some a → kind_of vault.now.vault ≡ VaultKind.Gocryptfs → HoldsAlone vault.now seed 0 a.state → IsOfItem fault) }
-    ensures shared { IfErr result (λ fault. IsPutTaken fault → (a : Told) → F.told folder.old ≡ Some a → HoldsAlone vault.now seed 0 a.state → SharesPlace count) }
+    ensures shared { IfErr result (λ fault. IsPutTaken fault → (a : Told) → F.told folder.old ≡ Some a → HoldsAlone vault.now seed 0 a.state → SharesPlace vault.now.root (F.told folder.old) (F.told folder.new) (R.left random.old) (R.left random.new) count) }
     ensures random { result ≡ Err PutFault.Random → CountRose (R.faults random.old) (R.faults random.new) }
     ensures drew { Drew ((F.told folder.old ≢ None) × (result ≡ Err PutFault.ZeroRandom)) (R.left random.old) (R.left random.new) }
     ensures grows { F.faults folder.old ≤ F.faults folder.new }
@@ -250,7 +250,7 @@ fn place_item<F: Folder, R: Randoms>(
     ensures failed { result ≡ Err PutFault.Failed → CountRose (F.faults folder.old) (F.faults folder.new) }
     ensures own { IfErr result (λ fault. IsItemFault fault) }
     ensures chance { IfErr result (λ fault. (a : Told) → F.told folder.old ≡ Some a → kind_of vault.now.vault ≡ VaultKind.Gocryptfs → HoldsAlone vault.now seed number a.state → IsOfItem fault) }
-    ensures shared { IfErr result (λ fault. IsPutTaken fault → (a : Told) → F.told folder.old ≡ Some a → HoldsAlone vault.now seed number a.state → LacksOwnPlace number) }
+    ensures shared { IfErr result (λ fault. IsPutTaken fault → (a : Told) → F.told folder.old ≡ Some a → HoldsAlone vault.now seed number a.state → SharesPlace vault.now.root (F.told folder.old) (F.told folder.new) (R.left random.old) (R.left random.new) (number + 1)) }
     ensures random { result ≡ Err PutFault.Random → CountRose (R.faults random.old) (R.faults random.new) }
     ensures drew { Drew ((F.told folder.old ≢ None) × (result ≡ Err PutFault.ZeroRandom)) (R.left random.old) (R.left random.new) }
     ensures grows { F.faults folder.old ≤ F.faults folder.new }

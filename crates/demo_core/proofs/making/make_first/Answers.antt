@@ -1,4 +1,4 @@
-use Rattle.std.proofs.Common.{◌≡◌, ◌≢◌, ◌∙◌, ◌∷◌, [], None, Ok, Err, codes, inr, refl, sym, ap, subst}
+use Rattle.std.proofs.Common.{◌≡◌, ◌≢◌, ◌∙◌, ◌∷◌, [], None, Ok, Err, codes, arith, inr, refl, sym, ap, subst}
 use Rattle.std.proofs.lemmas.Result.{err_from_is_err_and}
 use Rattle.content_writing.specs.declared.fault.PutFault.TheVariants as put
 use Rattle.folder_spec.specs.Region.{apart_from_both}
@@ -7,6 +7,8 @@ use Rattle.vault_read.specs.declared.vault.VaultKind.TheVariants as kind
 use Rattle.vault_write.specs.Making.{is_apart}
 use Rattle.work_folder.specs.Entering.{IsFresh, IsReady}
 use Rattle.demo_core.specs.Making.{IsBeside, making_folder}
+use Rattle.demo_core.specs.Sharing.{GoesOn, SharesPlace}
+use Rattle.demo_core.proofs.Shared.{goes_beside, shares_since}
 use Rattle.demo_core.proofs.Beside.{beside_then, made_beside, still_told, told_after}
 use Rattle.demo_core.proofs.Chances.{chance_free, chance_items, fresh_stays, load_free}
 use Rattle.demo_core.proofs.Drawn.{drew_then}
@@ -101,4 +103,9 @@ returns-in_err-place_items-clause-shared g c =
     let now = told_after _ (g.F.Folder.told c.args.folder.now) (g.F.Folder.told c.make_vault.new.folder) c.make_vault.ensures.beside v is in
     let new = c.in_ok-work.ensures.stands now.0 now.1 in
     let told = c.load.ensures.told ∙ now.1 in
-    c.in_err-place_items.ensures.shared taken now.0 told (c.in_ok-vault.ensures.holds c.args.seed now.0 told new))
+    let start = g.F.Folder.told c.args.folder.now in
+    let root = codes "g" ∷ [] in
+    shares_since c.draws_compose.ensures.composed root start (g.F.Folder.told c.load.new.folder) (g.F.Folder.told c.place_items.new.folder) _ _ _ c.args.count c.args.count c.make_vault.ensures.drew.drawn (omega arith)
+    (subst (GoesOn start) (sym c.load.ensures.told) (goes_beside (apart_from_both making_folder root) start (g.F.Folder.told c.make_vault.new.folder) c.make_vault.ensures.beside)) c.make_vault.ensures.drew.were_drawn
+    (subst (λ r. SharesPlace r (g.F.Folder.told c.load.new.folder) (g.F.Folder.told c.place_items.new.folder) (g.R.Randoms.left c.make_vault.new.random) (g.R.Randoms.left c.place_items.new.random) c.args.count) c.in_ok-vault.ensures.root
+    (c.in_err-place_items.ensures.shared taken now.0 told (c.in_ok-vault.ensures.holds c.args.seed now.0 told new))))

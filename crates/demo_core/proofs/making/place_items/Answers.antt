@@ -5,6 +5,7 @@ use Rattle.vault_write.specs.Making.{is_apart}
 use Rattle.demo_core.specs.Making.{HoldsAlone}
 use Rattle.demo_core.proofs.Beside.{beside_nowhere, beside_then, carried, still_told}
 use Rattle.demo_core.proofs.Drawn.{drew_for, drew_nothing, drew_then}
+use Rattle.demo_core.proofs.Shared.{goes_beside, shares_since}
 use Rattle.demo_core.proofs.making.place_items.Goals as goal
 
 pub returns-in_err-place_item-clause-beside : goal.returns-in_err-place_item-clause-beside
@@ -61,4 +62,6 @@ returns-in_err-place_item-clause-shared g c =
     rw (p.1, p.2) (λ taken a told holds.
     let now = carried (λ a b. HoldsAlone c.args.vault.now c.args.seed 0 a.state → HoldsAlone c.args.vault.now c.args.seed c.loop-number.number b.state)
     (g.F.Folder.told c.args.folder.now) (g.F.Folder.told c.loop-number.folder) c.loop-number.invariant.adds a told in
-    (c.loop-number.number, omega arith, c.in_err-place_item.ensures.shared taken now.0 now.1 (now.2 holds)))
+    shares_since c.draws_compose.ensures.composed c.args.vault.now.root (g.F.Folder.told c.args.folder.now) (g.F.Folder.told c.loop-number.folder) _ _ _ _ (c.loop-number.number + 1) c.args.count
+    c.loop-number.invariant.drew.drawn (omega arith) (goes_beside (is_apart c.args.work.now c.args.vault.now.root) _ _ c.loop-number.invariant.beside) c.loop-number.invariant.drew.were_drawn
+    (c.in_err-place_item.ensures.shared taken now.0 now.1 (now.2 holds)))

@@ -1,5 +1,5 @@
 -- An item that is made in a vault comes to its tree.
-use Rattle.std.proofs.Common.{◌≡◌, ◌≢◌, ◌∙◌, ◌∷◌, ◌++◌, ◌+◌, ◌<◌, [], ℕ, true, false, List, Option, Some, None, Result, Ok, Err, IfErr, IsTrue, OnOk, append-nil, arith, refl, sym, ap, subst}
+use Rattle.std.proofs.Common.{◌≡◌, ◌≢◌, ◌∙◌, ◌∷◌, ◌++◌, ◌+◌, ◌<◌, [], ℕ, true, false, List, Option, Some, None, Result, Ok, Err, IfErr, IsTrue, OnOk, arith, refl, sym, ap, subst}
 use Rattle.folder_spec.specs.Event.{FromTo, Told}
 use Rattle.folder_spec.specs.Path.{Path, below}
 use Rattle.folder_spec.specs.Region.{at_or_below}
@@ -254,8 +254,7 @@ module _ (vault : OpenedVault) (work : Path) (seed number : ℕ) (path : plain.P
         until = subst (λ o. GoesOn o u) told (goes_beside (is_apart work vault.root) t u item_beside);
         earlier = [];
         drawn = drawn;
-        later = [];
-        were_drawn = subst (Draws x y) (sym (append-nil drawn)) drew;
+        were_drawn = drew;
         number = number;
         first = omega arith;
         lacks = lacks_place behind entered shows vault work seed number few item directory drawn ending a.state free holds fault taken

@@ -129,10 +129,7 @@ shares_since compose root t u w x y z k count earlier less goes drew shares = re
   until = shares.until;
   earlier = earlier ++ shares.earlier;
   drawn = shares.drawn;
-  later = shares.later;
-  were_drawn = subst (Draws x z)
-      (sym (ap (λ l. l ++ shares.later) (append_assoc earlier shares.earlier shares.drawn) ∙ append_assoc earlier (shares.earlier ++ shares.drawn) shares.later))
-      (compose x y z earlier (shares.earlier ++ shares.drawn ++ shares.later) drew shares.were_drawn);
+  were_drawn = subst (Draws x z) (sym (append_assoc earlier shares.earlier shares.drawn)) (compose x y z earlier (shares.earlier ++ shares.drawn) drew shares.were_drawn);
   number = shares.number;
   first = omega (arith, less, shares.first);
   lacks = shares.lacks;

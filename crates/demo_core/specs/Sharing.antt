@@ -39,15 +39,14 @@ pub record LacksOwnPlace (number : ℕ) (view : View) (drawn : List ℕ) : Type 
 abbrev pub GoesOn : Option Told → Option Told → Type 0
 GoesOn = Moments (λ s0 s. Unit {0}) (λ s0 s e. Unit {0})
 
--- At some moment of a call, and with some of the bytes that it drew, one of the first items has no place of its own in the vault at a root.
+-- At some moment of a call, and with the bytes that it drew last, one of the first items has no place of its own in the vault at a root.
 pub record SharesPlace (root : folder.Path) (before after : Option Told) (stream stream' : Option ByteStream) (count : ℕ) : Type 0 where
   pub now : Told
   pub since : GoesOn before (Some now)
   pub until : GoesOn (Some now) after
   pub earlier : List ℕ
   pub drawn : List ℕ
-  pub later : List ℕ
-  pub were_drawn : Draws stream stream' (earlier ++ drawn ++ later)
+  pub were_drawn : Draws stream stream' (earlier ++ drawn)
   pub number : ℕ
   pub first : number < count
   pub lacks : LacksOwnPlace number (under root (seen now.state)) drawn

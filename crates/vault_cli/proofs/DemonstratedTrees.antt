@@ -31,7 +31,7 @@ no_root (part ∷ front) name same = cc
 not_root : (number : ℕ) → path_of number ≢ []
 not_root number same = no_root (item_front (is_directory number) number) (item_name (is_directory number) number) (sym (path_ends number) ∙ same)
 
-items_alike : (seed count : ℕ) (t t' : Tree) → ((path : plain.Path) → path ≢ [] → t' path ≡ t path) → HasItems seed count t → HasItems seed count t'
+pub items_alike : (seed count : ℕ) (t t' : Tree) → ((path : plain.Path) → path ≢ [] → t' path ≡ t path) → HasItems seed count t → HasItems seed count t'
 items_alike seed count t t' same items = record {
   each = λ number few. same (path_of number) (not_root number) ∙ items.each number few;
   others = λ path proper apart. same path proper ∙ items.others path proper apart;

@@ -1,13 +1,19 @@
 -- What the demonstration prints, part by part; and what it did where it wasn't begun, or where its message found no memory.
-use Rattle.std.proofs.Common.{◌≡◌, ◌∙◌, ◌+◌, ◌≤◌, ◌++◌, ◌∷◌, ◌⊎◌, ◌≢◌, [], ℕ, zero, suc, false, List, length, take, Option, Some, None, Result, Ok, Err, refl, sym, ap, subst, arith, append-nil, append_assoc, inl, inr, IsTrue}
+use Rattle.std.proofs.Common.{◌≡◌, ◌∙◌, ◌+◌, ◌≤◌, ◌++◌, ◌∷◌, ◌⊎◌, ◌≢◌, ◌||◌, [], ℕ, zero, suc, Bool, true, false, List, length, take, Option, Some, None, Result, Ok, Err, refl, sym, ap, subst, arith, append-nil, append_assoc, inl, inr, IsTrue}
 use Rattle.std.specs.Io.KnownBytes.{Appends}
 use Rattle.std.proofs.KnownBytes.{Keeps-refl}
 use Rattle.std.proofs.Math.Seq.{take-append-add}
 use Rattle.std.proofs.lemmas.List.{take_all}
+use Rattle.demo_core.specs.Drawing.{Drew, seed_stream}
+use Rattle.demo_core.proofs.Drawn.{Compose}
+use Rattle.folder_model.specs.Memory.{new_told}
+use Rattle.folder_spec.specs.Event.{Told}
+use Rattle.folder_spec.specs.Seen.{seen}
 use Rattle.port_model.specs.Counts.{CountRose}
+use Rattle.port_model.specs.Draws.{ByteStream}
 use Rattle.port_model.specs.Told.{AppendsPrefix}
 use Rattle.vault_cli.specs.Answers.{is_plain}
-use Rattle.vault_cli.specs.Demo.{Demonstrates, IsLed, IsStatus, IsWay, IsWayBack, OnArrival, OnEnd, PrintsAll, PrintsBack, PrintsBy, PrintsDemonstration, PrintsLed, PrintsWay, TakesBy, Way, StoppedThere, StoppedBack, Arrived, back_text, is_of_demonstration, is_of_fault, led_text, made_text, moved_text, retired_text, way_of, way_text}
+use Rattle.vault_cli.specs.Demo.{Chances, Demonstrates, EndsSo, EndsWork, IsBare, IsLed, IsStatus, IsWay, IsWayBack, OnArrival, OnEnd, PrintsAll, PrintsBack, PrintsBy, PrintsDemonstration, PrintsLed, PrintsWay, TakesBy, Way, StoppedThere, StoppedBack, Arrived, back_text, chances, chances_of, is_of_chance, is_of_demonstration, is_of_fault, is_of_folder, is_of_telling, led_text, made_text, moved_text, retired_text, way_of, way_text}
 use Rattle.vault_cli.specs.World.{World}
 use Rattle.vault_cli.specs.declared.answer.Answer.{Answer}
 use Rattle.vault_cli.specs.declared.answer.Answer.TheVariants.{Done, Findings, BadCommandLine, OutOfMemory, FolderFault, InputFault, OutputFault, RandomFault, Refused, WrongPass, NotFound, WrongKind, DamagedInput, Damaged, NotAllowed, NotClean, Overlap, NotEmpty, Begun, Unusable, Changed, Differ, ZeroRandom, Taken, Limit, Retired}
@@ -19,6 +25,8 @@ use Rattle.vault_cli.specs.declared.demo.Led.TheVariants.{Stopped}
 use Rattle.vault_cli.specs.declared.demo.Leg.{Leg}
 use Rattle.vault_cli.specs.declared.demo.Leg.TheVariants.{There, Back}
 use Rattle.vault_cli.specs.declared.words.Demonstration.{Demonstration}
+use Rattle.vault_cli.proofs.Contents.{rose_after}
+use Rattle.vault_cli.proofs.DemoDraws.{drew_after}
 
 -- nothing is a front part of any text
 pub nothing_yet : (taken : Option (List ℕ)) (text : List ℕ) → AppendsPrefix taken taken text
@@ -62,66 +70,158 @@ pub none_rose : CountRose 0 0 → ⊥
 none_rose (inl more) = omega (arith, more)
 none_rose (inr top) = omega (arith, top)
 
-module _ (F R F' R' : Type 0) (folder : F → F') (random : R → R') where
-  pub status_more : (status : ℕ) → IsStatus F R status → IsStatus F' R' status
-  status_more status is = record { memory = is.memory; folder = λ same. folder (is.folder same); random = λ same. random (is.random same) }
+-- what befalls a part befalls the whole, where as much is known of the part
+pub record IsPart (c c' : Chances) : Type 0 where
+  pub folder : c.folder → c'.folder
+  pub random : c.random → c'.random
+  pub zeros : c'.known → c.zeros → c'.zeros
+  pub known : c'.known → c.known
 
-  pub way_more : (way : Way) → IsWay F R way → IsWay F' R' way
-  way_more (StoppedThere status) is = (is.0, status_more status is.1)
-  way_more (StoppedBack status) is = (is.0, status_more status is.1)
-  way_more (Arrived first second) is = tt
+module _ (c c' : Chances) (part : IsPart c c') where
+  pub ends_more : (status : ℕ) → EndsWork c status → EndsWork c' status
+  ends_more status is = record {
+    stops = is.stops;
+    memory = is.memory;
+    folder = λ same. part.folder (is.folder same);
+    random = λ same. part.random (is.random same);
+    zeros = λ known same. part.zeros known (is.zeros (part.known known) same);
+    others = λ known. is.others (part.known known);
+  }
+
+  pub way_more : (count : ℕ) (way : Way) → IsWay c count way → IsWay c' count way
+  way_more count (StoppedThere status) is = ends_more status is
+  way_more count (StoppedBack status) is = ends_more status is
+  way_more count (Arrived first second) is = λ known. is (part.known known)
+
+  pub so_more : (answer : Answer) → EndsSo c answer → EndsSo c' answer
+  so_more answer so = record { zeros = λ known same. part.zeros known (so.zeros (part.known known) same); others = λ known. so.others (part.known known) }
 
   -- the way back follows the line of a first migration that is done
-  pub back_then : (result : Result Ended Answer) (taken mid last : Option (List ℕ)) → Appends taken mid (moved_text There 0) → PrintsBack F R result mid last → PrintsWay F' R' result taken last
-  back_then (Ok (ways.StoppedThere status)) taken mid last first next = absurd next.0
-  back_then (Ok (ways.StoppedBack status)) taken mid last first next = ((next.0.0, status_more status next.0.1), all_then taken mid last (moved_text There 0) (moved_text Back status) first next.1)
-  back_then (Ok (ways.Arrived one two)) taken mid last first next = (tt, all_then taken mid last (moved_text There 0) (moved_text Back 0 ++ retired_text one two) first next.1)
-  back_then (Err answer) taken mid last first next = by_way next.0 next.1 next.2
+  pub back_then : (count retired : ℕ) (result : Result Ended Answer) (taken mid last : Option (List ℕ)) → (c'.known → retired ≡ count) → Appends taken mid (moved_text There 0) → PrintsBack c count retired result mid last
+      → PrintsWay c' count result taken last
+  back_then count retired (Ok (ways.StoppedThere status)) taken mid last all first next = absurd next.0
+  back_then count retired (Ok (ways.StoppedBack status)) taken mid last all first next = (ends_more status next.0, all_then taken mid last (moved_text There 0) (moved_text Back status) first next.1)
+  back_then count retired (Ok (ways.Arrived one two)) taken mid last all first next =
+      (λ known. (next.0.0 ∙ all known, next.0.1 (part.known known)), all_then taken mid last (moved_text There 0) (moved_text Back 0 ++ retired_text one two) first next.1)
+  back_then count retired (Err answer) taken mid last all first next = by_way next.0 next.1 next.2
     where
-      by_way : (way : Way) → IsWayBack F R way → AppendsPrefix mid last (back_text way) → (way : Way) × IsWay F' R' way × AppendsPrefix taken last (way_text way)
+      by_way : (way : Way) → IsWayBack c count retired way → AppendsPrefix mid last (back_text way) → (way : Way) × IsWay c' count way × AppendsPrefix taken last (way_text way)
       by_way (StoppedThere status) is front = absurd is
-      by_way (StoppedBack status) is front = (StoppedBack status, (is.0, status_more status is.1), front_then taken mid last (moved_text There 0) (moved_text Back status) first front)
-      by_way (Arrived one two) is front = (Arrived one two, tt, front_then taken mid last (moved_text There 0) (moved_text Back 0 ++ retired_text one two) first front)
+      by_way (StoppedBack status) is front = (StoppedBack status, ends_more status is, front_then taken mid last (moved_text There 0) (moved_text Back status) first front)
+      by_way (Arrived one two) is front =
+          (Arrived one two, (λ known. (is.0 ∙ all known, is.1 (part.known known))), front_then taken mid last (moved_text There 0) (moved_text Back 0 ++ retired_text one two) first front)
 
   -- and all of it those of the items
-  pub made_then : (seed count : ℕ) (result : Result Ended Answer) (taken mid last : Option (List ℕ)) → Appends taken mid (made_text seed count) → PrintsWay F R result mid last → PrintsAll F' R' seed count result taken last
-  made_then seed count (Ok way) taken mid last first next = (way_more (way_of way) next.0, all_then taken mid last (made_text seed count) (way_text (way_of way)) first next.1)
-  made_then seed count (Err answer) taken mid last first next = (next.0, way_more next.0 next.1, front_then taken mid last (made_text seed count) (way_text next.0) first next.2)
+  pub made_then : (seed count : ℕ) (result : Result Ended Answer) (taken mid last : Option (List ℕ)) → Appends taken mid (made_text seed count) → PrintsWay c count result mid last → PrintsAll c' seed count result taken last
+  made_then seed count (Ok way) taken mid last first next = (way_more count (way_of way) next.0, all_then taken mid last (made_text seed count) (way_text (way_of way)) first next.1)
+  made_then seed count (Err answer) taken mid last first next = (next.0, way_more count next.0 next.1, front_then taken mid last (made_text seed count) (way_text next.0) first next.2)
+
+-- what follows on something of which as much is known, and which draws some
+pub part_after : Compose → (f0 f1 f2 r0 r1 r2 : ℕ) (s0 s1 s2 : Option ByteStream) (K K' : Type 0) → f0 ≤ f1 → r0 ≤ r1 → (K' → Drew ⊥ s0 s1) → (K' → K) → IsPart (chances f1 f2 r1 r2 s1 s2 K) (chances f0 f2 r0 r2 s0 s2 K')
+part_after compose f0 f1 f2 r0 r1 r2 s0 s1 s2 K K' folder random drew known = record {
+  folder = rose_after f0 f1 f2 folder;
+  random = rose_after r0 r1 r2 random;
+  zeros = λ k zeros. drew_after compose s0 s1 s2 (drew k) zeros;
+  known = known;
+}
+
+-- want of memory is always a chance
+pub memory_ends : (c : Chances) → EndsSo c OutOfMemory
+memory_ends c = record { zeros = λ known same. cc; others = λ known. refl }
+
+-- the output's fault, the folder's and want of memory are of chance
+plain_chance : (answer : Answer) → IsTrue (is_of_folder answer || is_of_telling answer) → IsTrue (is_of_chance answer)
+plain_chance Done is = refl
+plain_chance Findings is = cc is
+plain_chance BadCommandLine is = cc is
+plain_chance OutOfMemory is = refl
+plain_chance FolderFault is = refl
+plain_chance InputFault is = cc is
+plain_chance OutputFault is = refl
+plain_chance RandomFault is = refl
+plain_chance ZeroRandom is = refl
+plain_chance (Refused at why) is = cc is
+plain_chance (WrongPass root) is = cc is
+plain_chance (NotFound what) is = cc is
+plain_chance (WrongKind what) is = cc is
+plain_chance (DamagedInput fault) is = cc is
+plain_chance (Damaged at how) is = cc is
+plain_chance (NotAllowed path) is = cc is
+plain_chance (NotClean at number) is = cc is
+plain_chance (Overlap first second) is = cc is
+plain_chance (NotEmpty at) is = cc is
+plain_chance (Begun work) is = cc is
+plain_chance (Unusable work why) is = cc is
+plain_chance (Changed plan items plan' items') is = cc is
+plain_chance (Differ path how) is = cc is
+plain_chance (Taken at) is = refl
+plain_chance (Limit which) is = cc is
+plain_chance (Retired work) is = cc is
+
+no_zeros : (answer : Answer) → IsTrue (is_of_folder answer || is_of_telling answer) → answer ≢ ZeroRandom
+no_zeros answer is same = let none : IsTrue (is_of_folder ZeroRandom || is_of_telling ZeroRandom) = subst (λ a. IsTrue (is_of_folder a || is_of_telling a)) same is in cc none
+
+pub plain_ends : (c : Chances) (answer : Answer) → (c.known → IsTrue (is_of_folder answer || is_of_telling answer)) → EndsSo c answer
+plain_ends c answer is = record { zeros = λ known same. absurd (no_zeros answer (is known) same); others = λ known. plain_chance answer (is known) }
+
+either : (a b : Bool) → IsTrue b → IsTrue (a || b)
+either true b is = refl
+either false b is = is
+
+or_else : (a b : Bool) → IsTrue a → IsTrue (a || b)
+or_else true b is = refl
+or_else false b is = cc is
+
+pub telling_ends : (c : Chances) (answer : Answer) → IsTrue (is_of_telling answer) → EndsSo c answer
+telling_ends c answer is = plain_ends c answer (λ known. either (is_of_folder answer) (is_of_telling answer) is)
+
+pub folder_ends : (c : Chances) (answer : Answer) → (c.known → IsTrue (is_of_folder answer)) → EndsSo c answer
+folder_ends c answer is = plain_ends c answer (λ known. or_else (is_of_folder answer) (is_of_telling answer) (is known))
 
 -- ---- one migration
 
-abbrev pub SomeLed : Type 0 → Type 0 → Leg → Option (List ℕ) → Option (List ℕ) → Type 0
-SomeLed F R leg taken last = (led : Led) × IsLed F R led × AppendsPrefix taken last (led_text leg led)
+abbrev pub SomeLed : Chances → ℕ → Leg → Option (List ℕ) → Option (List ℕ) → Type 0
+SomeLed c count leg taken last = (led : Led) × IsLed c count led × AppendsPrefix taken last (led_text leg led)
 
 -- its line was begun
-pub some_led : (F R : Type 0) (leg : Leg) (status : ℕ) (taken last : Option (List ℕ)) → IsStatus F R status → AppendsPrefix taken last (moved_text leg status) → SomeLed F R leg taken last
-some_led F R leg zero taken last is front = (leds.Retired 0, tt, front)
-some_led F R leg (suc n) taken last is front = (Stopped (suc n), ((λ none. cc), is), front)
+pub some_led : (c : Chances) (count : ℕ) (leg : Leg) (status : ℕ) (taken last : Option (List ℕ)) → IsStatus c status → AppendsPrefix taken last (moved_text leg status) → SomeLed c count leg taken last
+some_led c count leg zero taken last is front = (leds.Retired count, (λ known. refl), front)
+some_led c count leg (suc n) taken last is front = (Stopped (suc n), is (λ none. cc), front)
 
 -- it ends the way there, or is followed by more
-pub some_way : (F R : Type 0) (taken last : Option (List ℕ)) → SomeLed F R There taken last → (way : Way) × IsWay F R way × AppendsPrefix taken last (way_text way)
-some_way F R taken last it = by_led it.0 it.1 it.2
+pub some_way : (c : Chances) (count : ℕ) (taken last : Option (List ℕ)) → SomeLed c count There taken last → (way : Way) × IsWay c count way × AppendsPrefix taken last (way_text way)
+some_way c count taken last it = by_led it.0 it.1 it.2
   where
-    by_led : (led : Led) → IsLed F R led → AppendsPrefix taken last (led_text There led) → (way : Way) × IsWay F R way × AppendsPrefix taken last (way_text way)
+    by_led : (led : Led) → IsLed c count led → AppendsPrefix taken last (led_text There led) → (way : Way) × IsWay c count way × AppendsPrefix taken last (way_text way)
     by_led (Stopped status) is front = (StoppedThere status, is, front)
-    by_led (leds.Retired items) is front = (Arrived 0 0, tt, front_of_more taken last (moved_text There 0) (moved_text Back 0 ++ retired_text 0 0) front)
+    by_led (leds.Retired items) is front = (Arrived count count, (λ known. (refl, refl)), front_of_more taken last (moved_text There 0) (moved_text Back 0 ++ retired_text count count) front)
 
 -- or the way back
-pub some_back : (F R : Type 0) (taken last : Option (List ℕ)) → SomeLed F R Back taken last → (way : Way) × IsWayBack F R way × AppendsPrefix taken last (back_text way)
-some_back F R taken last it = by_led it.0 it.1 it.2
+pub some_back : (c : Chances) (count retired : ℕ) (taken last : Option (List ℕ)) → SomeLed c count Back taken last → (way : Way) × IsWayBack c count retired way × AppendsPrefix taken last (back_text way)
+some_back c count retired taken last it = by_led it.0 it.1 it.2
   where
-    by_led : (led : Led) → IsLed F R led → AppendsPrefix taken last (led_text Back led) → (way : Way) × IsWayBack F R way × AppendsPrefix taken last (back_text way)
+    by_led : (led : Led) → IsLed c count led → AppendsPrefix taken last (led_text Back led) → (way : Way) × IsWayBack c count retired way × AppendsPrefix taken last (back_text way)
     by_led (Stopped status) is front = (StoppedBack status, is, front)
-    by_led (leds.Retired items) is front = (Arrived 0 0, tt, front_of_more taken last (moved_text Back 0) (retired_text 0 0) front)
+    by_led (leds.Retired items) is front = (Arrived retired count, (refl, λ known. refl), front_of_more taken last (moved_text Back 0) (retired_text retired count) front)
 
 -- ---- what stops with an answer
 
-pub led_stopped : (F R : Type 0) (leg : Leg) (result : Result Led Answer) (answer : Answer) (taken last : Option (List ℕ)) → result ≡ Err answer → SomeLed F R leg taken last → PrintsLed F R leg result taken last
-led_stopped F R leg result answer taken last is some = subst (λ r. PrintsLed F R leg r taken last) (sym is) some
+pub led_stopped : (c : Chances) (count : ℕ) (leg : Leg) (result : Result Led Answer) (answer : Answer) (taken last : Option (List ℕ)) → result ≡ Err answer → SomeLed c count leg taken last → PrintsLed c count leg result taken last
+led_stopped c count leg result answer taken last is some = subst (λ r. PrintsLed c count leg r taken last) (sym is) some
 
 pub way_stopped : (Is : Way → Type 0) (text : Way → List ℕ) (result : Result Ended Answer) (answer : Answer) (taken last : Option (List ℕ)) → result ≡ Err answer
     → (way : Way) × Is way × AppendsPrefix taken last (text way) → PrintsBy Is text result taken last
 way_stopped Is text result answer taken last is some = subst (λ r. PrintsBy Is text r taken last) (sym is) some
+
+-- ---- its own random source
+
+pub of_seed : (f f' seed : ℕ) (s s' : Option ByteStream) (known : Type 0) → s ≡ Some (seed_stream seed) → IsPart (chances f f' 0 0 s s' known) (chances_of (CountRose f f') known seed)
+of_seed f f' seed s s' known is = record {
+  folder = λ failed. failed;
+  random = none_rose;
+  zeros = λ k zeros. (s', subst (λ o. Drew (Unit {0}) o s') is zeros);
+  known = λ k. k;
+}
 
 -- ---- the answer
 
@@ -155,20 +255,26 @@ takes_front (Limit which) taken taken' text own front = front
 takes_front (Retired work) taken taken' text own front = front
 
 -- all is done, or it stops
-module _ (F R B : Type 0) (seed count : ℕ) (none : R → ⊥) where
-  pub demonstrated : (ended : Ended) (taken taken' : Option (List ℕ)) → PrintsAll F R seed count (Ok ended) taken taken' → OnEnd B ended → PrintsDemonstration F B seed count Done taken taken'
-  demonstrated ended taken taken' prints brought = (way_of ended, way_more F R F ⊥ (λ failed. failed) none (way_of ended) prints.0, prints.1, λ same. brought)
+module _ (c c' : Chances) (part : IsPart c c') (B : Type 0) (seed count : ℕ) where
+  pub demonstrated : (ended : Ended) (taken taken' : Option (List ℕ)) → PrintsAll c seed count (Ok ended) taken taken' → OnEnd B ended → PrintsDemonstration c' B seed count Done taken taken'
+  demonstrated ended taken taken' prints brought = (way_of ended, way_more c c' part count (way_of ended) prints.0, prints.1, λ same. brought)
 
-  pub stopped : (answer : Answer) (taken taken' : Option (List ℕ)) → IsTrue (is_of_fault answer) → PrintsAll F R seed count (Err answer) taken taken' → PrintsDemonstration F B seed count answer taken taken'
+  pub stopped : (answer : Answer) (taken taken' : Option (List ℕ)) → IsTrue (is_of_fault answer) → PrintsAll c seed count (Err answer) taken taken' → PrintsDemonstration c' B seed count answer taken taken'
   stopped answer taken taken' own prints =
-      (prints.0, way_more F R F ⊥ (λ failed. failed) none prints.0 prints.1, takes_front answer taken taken' (made_text seed count ++ way_text prints.0) own prints.2, λ same. absurd (not_done same))
+      (prints.0, way_more c c' part count prints.0 prints.1, takes_front answer taken taken' (made_text seed count ++ way_text prints.0) own prints.2, λ same. absurd (not_done same))
     where
       not_done : answer ≢ Done
       not_done same = let none : IsTrue (is_of_fault Done) = subst (λ a. IsTrue (is_of_fault a)) same own in cc
 
--- in a folder in which no call fails
-pub steadily : (B : Type 0) (seed count : ℕ) (answer : Answer) (taken taken' : Option (List ℕ)) → PrintsDemonstration (CountRose 0 0) B seed count answer taken taken' → PrintsDemonstration ⊥ (Unit {0}) seed count answer taken taken'
-steadily B seed count answer taken taken' prints = (prints.0, way_more (CountRose 0 0) ⊥ ⊥ ⊥ none_rose (λ failed. failed) prints.0 prints.1, prints.2, λ same. arrived prints.0)
+-- in a folder in which no call fails, and of which all is known
+bare_new : IsBare (Some new_told)
+bare_new = record { view = seen new_told.state; seen = refl; base = refl; entries = λ name. refl }
+
+pub steady_part : (told : Option Told) (seed : ℕ) → told ≡ Some new_told → IsPart (chances_of (CountRose 0 0) (IsBare told) seed) (chances_of ⊥ (Unit {0}) seed)
+steady_part told seed is = record { folder = none_rose; random = λ failed. failed; zeros = λ known zeros. zeros; known = λ known. subst IsBare (sym is) bare_new }
+
+pub steadily : (c c' : Chances) → IsPart c c' → (B : Type 0) (seed count : ℕ) (answer : Answer) (taken taken' : Option (List ℕ)) → PrintsDemonstration c B seed count answer taken taken' → PrintsDemonstration c' (Unit {0}) seed count answer taken taken'
+steadily c c' part B seed count answer taken taken' prints = (prints.0, way_more c c' part count prints.0 prints.1, prints.2, λ same. arrived prints.0)
   where
     arrived : (way : Way) → OnArrival (Unit {0}) way
     arrived (StoppedThere status) = tt
@@ -182,7 +288,8 @@ pub demonstrates_nothing : (demonstration : Demonstration) (w : World) → Demon
 demonstrates_nothing demonstration w = record {
   own = refl;
   steady = λ same. cc;
-  prints = (Arrived 0 0, tt, nothing_yet w.taken (made_text demonstration.seed demonstration.count ++ way_text (Arrived 0 0)), λ same. cc);
+  ends = memory_ends (chances_of ⊥ (Unit {0}) demonstration.seed);
+  prints = (Arrived demonstration.count demonstration.count, (λ known. (refl, refl)), nothing_yet w.taken (made_text demonstration.seed demonstration.count ++ way_text (Arrived demonstration.count demonstration.count)), λ same. cc);
   unchanged = refl;
   untouched = Keeps-refl w.left;
   undrawn = refl;
@@ -217,19 +324,20 @@ takes_lost (Limit which) taken taken' text named takes = takes
 takes_lost (Retired work) taken taken' text named takes = takes
 
 -- so is what was printed, and how it may be answered, told of the answer that a report gives back
-pub demonstration_told : (F B : Type 0) (seed count : ℕ) (answer result : Answer) (taken taken' : Option (List ℕ)) → (result ≡ answer) ⊎ ((result ≡ OutOfMemory) × (is_plain answer ≡ false))
-    → IsTrue (is_of_demonstration answer) → PrintsDemonstration F B seed count answer taken taken' → IsTrue (is_of_demonstration result) × PrintsDemonstration F B seed count result taken taken'
-demonstration_told F B seed count answer result taken taken' (inl same) own prints =
-    subst (λ a. IsTrue (is_of_demonstration a) × PrintsDemonstration F B seed count a taken taken') (sym same) (own, prints)
-demonstration_told F B seed count answer result taken taken' (inr memory) own prints =
-    subst (λ a. IsTrue (is_of_demonstration a) × PrintsDemonstration F B seed count a taken taken') (sym memory.0)
-    (refl, (prints.0, prints.1, takes_lost answer taken taken' (made_text seed count ++ way_text prints.0) memory.1 prints.2, λ same. cc))
+pub demonstration_told : (c : Chances) (B : Type 0) (seed count : ℕ) (answer result : Answer) (taken taken' : Option (List ℕ)) → (result ≡ answer) ⊎ ((result ≡ OutOfMemory) × (is_plain answer ≡ false))
+    → IsTrue (is_of_demonstration answer) → EndsSo c answer → PrintsDemonstration c B seed count answer taken taken' → IsTrue (is_of_demonstration result) × EndsSo c result × PrintsDemonstration c B seed count result taken taken'
+demonstration_told c B seed count answer result taken taken' (inl same) own ends prints =
+    subst (λ a. IsTrue (is_of_demonstration a) × EndsSo c a × PrintsDemonstration c B seed count a taken taken') (sym same) (own, ends, prints)
+demonstration_told c B seed count answer result taken taken' (inr memory) own ends prints =
+    subst (λ a. IsTrue (is_of_demonstration a) × EndsSo c a × PrintsDemonstration c B seed count a taken taken') (sym memory.0)
+    (refl, memory_ends c, (prints.0, prints.1, takes_lost answer taken taken' (made_text seed count ++ way_text prints.0) memory.1 prints.2, λ same. cc))
 
 -- its message found no memory
 pub demonstration_lost : (demonstration : Demonstration) (answer : Answer) (before after : World) → is_plain answer ≡ false → Demonstrates demonstration answer before after → Demonstrates demonstration OutOfMemory before after
 demonstration_lost demonstration answer before after named did = record {
   own = refl;
   steady = λ same. cc;
+  ends = memory_ends (chances_of ⊥ (Unit {0}) demonstration.seed);
   prints = (did.prints.0, did.prints.1, takes_lost answer before.taken after.taken (made_text demonstration.seed demonstration.count ++ way_text did.prints.0) named did.prints.2, λ same. cc);
   unchanged = did.unchanged;
   untouched = did.untouched;

@@ -1,7 +1,7 @@
 -- The tree of the demonstration through both migrations.
 use Rattle.std.proofs.Common.{◌≡◌, ◌++◌, [], ℕ, Bool, true, false, Option, Some, None, Result, Ok, Err, IfOk, IsTrue, inl, inr, is_some, refl, sym, ap, subst, ◌∙◌}
 use Rattle.demo_core.specs.Making.{HoldsItems, MakesBeside, StandsNew, making_folder, phrase}
-use Rattle.demo_core.proofs.Standing.{new_kind, own_folders, same_vault}
+use Rattle.demo_core.proofs.Standing.{new_kind, same_vault}
 use Rattle.folder_spec.specs.Event.{Event, FromTo, Told}
 use Rattle.folder_spec.specs.Moments.{Went}
 use Rattle.folder_spec.specs.Path.{Path}
@@ -9,7 +9,7 @@ use Rattle.folder_spec.specs.Region.{IsAsBefore, apart_from_both}
 use Rattle.folder_spec.specs.Seen.{IsSeen, seen, under}
 use Rattle.folder_spec.specs.State.{IsSound, State}
 use Rattle.folder_spec.specs.View.{FileOf, NoEntry, View}
-use Rattle.folder_spec.proofs.Moments.{went_more, went_on}
+use Rattle.folder_spec.proofs.Moments.{went_more, went_on, went_to}
 use Rattle.folder_spec.proofs.Paths.{begins_or_not}
 use Rattle.migrate_core.specs.Moved.{MovesTree, SaysDone, StandsIn}
 use Rattle.migrate_core.specs.Moving.{MovesOnly, OnlyBrings}
@@ -23,27 +23,29 @@ use Rattle.vault_read.specs.declared.vault.VaultKind.{VaultKind}
 use Rattle.vault_read.specs.declared.vault.VaultKind.TheVariants as kind
 use Rattle.vault_spec.specs.Vault.{IsVault}
 use Rattle.vault_cli.specs.Demo.{OnEnd}
-use Rattle.vault_cli.specs.DemoTrees.{BringsItems, Carries, GoesOn, HasOwn, IsMoved, IsNewAt, IsWithin, Leads, LeadsBoth, Leaves, LeavesAny, MakesItems, first_root, kind_to, moving_folder, second_root, WhereTold, source_of, target_of, third_root}
+use Rattle.vault_cli.specs.DemoTrees.{BringsItems, Carries, GoesOn, HasOwn, IsMoved, IsNewAt, IsWithin, Leads, LeadsBoth, Leaves, LeavesSource, MakesItems, first_root, kind_to, moving_folder, second_root, WhereTold, source_of, target_of, third_root}
 use Rattle.vault_cli.specs.declared.answer.Answer.{Answer}
 use Rattle.vault_cli.specs.declared.demo.Way.{Way as Ended}
 use Rattle.vault_cli.specs.declared.demo.Way.TheVariants as ways
 use Rattle.vault_cli.specs.declared.demo.Leg.{Leg}
 use Rattle.vault_cli.specs.declared.demo.Leg.TheVariants.{There, Back}
+use Rattle.vault_write.proofs.Runs.{seen_as_before}
 use Rattle.vault_cli.proofs.DemonstratedTrees.{AreAlike, held_alike, held_moved, region_stays}
+use Rattle.vault_cli.proofs.GoodOrder.{new_own, own_folders, own_of_good}
 
 -- ---- roots
 
-within : (root : Path) (region : Path → Bool) → ((rest : Path) → IsTrue (region (root ++ rest))) → IsWithin root region
+pub within : (root : Path) (region : Path → Bool) → ((rest : Path) → IsTrue (region (root ++ rest))) → IsWithin root region
 within root region all q at = elim (begins_or_not root q) [
   | inl it ↦ subst (λ p. IsTrue (region p)) (sym it.1) (all it.0)
   | inr none ↦ let no : false ≡ true = sym (ap is_some none) ∙ at in cc
 ]
 
-apart_making : (leg : Leg) → IsWithin (source_of leg) (apart_from_both making_folder (target_of leg))
+pub apart_making : (leg : Leg) → IsWithin (source_of leg) (apart_from_both making_folder (target_of leg))
 apart_making There = within first_root (apart_from_both making_folder second_root) (λ rest. refl)
 apart_making Back = within second_root (apart_from_both making_folder third_root) (λ rest. refl)
 
-apart_moving : (leg : Leg) → IsWithin (source_of leg) (apart_from_both moving_folder (target_of leg))
+pub apart_moving : (leg : Leg) → IsWithin (source_of leg) (apart_from_both moving_folder (target_of leg))
 apart_moving There = within first_root (apart_from_both moving_folder second_root) (λ rest. refl)
 apart_moving Back = within second_root (apart_from_both moving_folder third_root) (λ rest. refl)
 
@@ -86,10 +88,10 @@ carries : AreAlike → HaveOneAnswer → (second : VaultKind) (from to : Path) (
 carries alike one second from to done a b c sound_a sound_b beside apart made new moves only = record {
   goes = go_then a b c (goes_on (IsAsBefore (apart_from_both making_folder to) a.state) (λ s e. Unit {0}) a b made) (goes_on (IsAsBefore (apart_from_both moving_folder to) b.state) (λ s e. OnlyBrings to s e.call) b c only);
   is = λ vault opened. subst (λ x. kind_of x ≡ second) (same_vault one (under to (seen c.state)) moves.target vault opens opened) is;
-  holds = λ first seed count own_from own_to held.
-      let own : HasOwnFolders moves.source (under from (seen a.state)) = own_from moves.source (subst (λ u. IsVault u phrase moves.source) (stays_first from beside) (moves.opens_source (seen b.state) refl)) in
+  own = λ own_from vault opened. subst (λ x. HasOwnFolders x (under to (seen c.state))) (same_vault one (under to (seen c.state)) moves.target vault opens opened) (own_to own_from);
+  holds = λ first seed count own_from held.
       held_moved one first second from to moving_folder done seed count (Some b) (Some c) (seen b.state) (seen c.state) moves refl refl (stays_then from apart)
-      (subst (HasOwnFolders moves.source) (sym (stays_then from apart ∙ stays_first from beside)) own) (own_to moves.target opens) is
+      (subst (HasOwnFolders moves.source) (sym (stays_then from apart ∙ stays_first from beside)) (own_source own_from)) (own_to own_from) is
       (held_alike first from seed count (seen a.state) (seen b.state) (stays_first from beside) held);
   stays = λ root one two. stays_then root two ∙ stays_first root one;
   items = done.items;
@@ -107,6 +109,17 @@ carries alike one second from to done a b c sound_a sound_b beside apart made ne
 
     stays_then : (root : Path) → IsWithin root (apart_from_both moving_folder to) → under root (seen c.state) ≡ under root (seen b.state)
     stays_then root inside = region_stays alike root (apart_from_both moving_folder to) (λ s e. OnlyBrings to s e.call) b c sound_b inside only
+
+    own_source : HasOwn from a.state → HasOwnFolders moves.source (under from (seen a.state))
+    own_source own_from = own_from moves.source (subst (λ u. IsVault u phrase moves.source) (stays_first from beside) (moves.opens_source (seen b.state) refl))
+
+    own_to : HasOwn from a.state → HasOwnFolders moves.target (under to (seen c.state))
+    own_to own_from =
+        own_of_good moves.target to (seen c.state)
+        (moves.stays_good (seen b.state) (seen c.state) refl refl (record {
+          source = subst (HasOwnFolders moves.source) (sym (stays_first from beside)) (own_source own_from);
+          target = new_own one second to moves.target b.state (moves.opens_target (seen b.state) refl) new;
+        })).1
 
 leg_told : AreAlike → HaveOneAnswer → (leg : Leg) (t u w : Option Told) → ((a : Told) → t ≡ Some a → IsSound a.state) → ((a : Told) → u ≡ Some a → IsSound a.state) → MakesBeside (target_of leg) t u
     → IsNewAt (kind_to leg) (target_of leg) u → IsMoved (source_of leg) (target_of leg) u w → FromTo (Carries (kind_to leg) (source_of leg) (target_of leg)) t w
@@ -127,10 +140,10 @@ leg_carries alike one leg t u w first second made new moved = where_told (Carrie
 abbrev pub AreOne : Type 0
 AreOne = (j k : Journal) → IsJournal j → IsJournal k → journal_text j ≡ journal_text k → j ≡ k
 
-leaves : AreAlike → AreOne → (from to : Path) (count items : ℕ) (a b : Told) → IsSound a.state → HasRetired moving_folder count (Some b) (seen a.state)
+leaves : AreAlike → AreOne → (from to : Path) (retired moved : ℕ) (a b : Told) → IsSound a.state → HasRetired moving_folder retired (Some b) (seen a.state)
     → ((journal : Journal) → IsJournal journal → StandsIn moving_folder journal (seen a.state) → TouchesOnly (retiring_by moving_folder phrase phrase journal) (Some a) (Some b))
-    → SaysDone from to moving_folder items (seen a.state) → Leaves from a b
-leaves alike one from to count items a b sound retired touches says =
+    → IsTrue (apart_from_both from moving_folder []) → SaysDone from to moving_folder moved (seen a.state) → Leaves from moved retired a b
+leaves alike one from to count items a b sound retired touches apart says =
     let texts : FileOf (journal_text says.journal) ≡ FileOf (journal_text retired.journal) = sym says.stands ∙ retired.stands in
     let same : says.journal ≡ retired.journal = one says.journal retired.journal says.is retired.is (cc texts) in
     let source : retired.journal.source ≡ from = sym (ap (λ (j : Journal). j.source) same) ∙ says.source in
@@ -139,23 +152,32 @@ leaves alike one from to count items a b sound retired touches says =
     record {
       goes = goes_on (IsAsBefore (apart_from_both from moving_folder) a.state) Q a b went;
       stays = λ root inside. region_stays alike root (apart_from_both from moving_folder) Q a b sound inside went;
+      base = seen_as_before (apart_from_both from moving_folder) a.state b.state sound (went_to (IsAsBefore (apart_from_both from moving_folder) a.state) Q a b went) [] apart;
       gone = subst (λ p. seen b.state p ≡ NoEntry) source (retired.source_gone (seen b.state) refl);
+      work_gone = retired.work_gone (seen b.state) refl;
+      all = retired.items ∙ ap (λ (j : Journal). j.items) (sym same) ∙ says.items;
     }
 
-pub leaves_any : AreAlike → AreOne → (count : ℕ) (t u : Option Told) → ((a : Told) → t ≡ Some a → IsSound a.state) → ((v : View) → IsSeen t v → HasRetired moving_folder count u v)
-    → ((v : View) (journal : Journal) → IsSeen t v → IsJournal journal → StandsIn moving_folder journal v → TouchesOnly (retiring_by moving_folder phrase phrase journal) t u) → LeavesAny t u
-leaves_any alike one count (Some a) (Some b) sound retired touches from to x is =
-    let same : a ≡ x = cc is in
-    let left : (items : ℕ) → SaysDone from to moving_folder items (seen a.state) → Leaves from a b = λ items. leaves alike one from to count items a b (sound a refl) (retired (seen a.state) refl) (λ journal is stands. touches (seen a.state) journal refl is stands) in
-    (b, refl, subst (λ y. (items : ℕ) → SaysDone from to moving_folder items (seen y.state) → Leaves from y b) same left)
-leaves_any alike one count (Some a) None sound retired touches from to x is =
-    let here : HasRetired moving_folder count None (seen a.state) = retired (seen a.state) refl in absurd (touches (seen a.state) here.journal refl here.is here.stands)
-leaves_any alike one count None u sound retired touches from to x is = cc is
+base_apart : (leg : Leg) → IsTrue (apart_from_both (source_of leg) moving_folder [])
+base_apart There = refl
+base_apart Back = refl
 
-pub leg_leads : (kind : VaultKind) (from to : Path) (t u w : Option Told) → WhereTold (Carries kind from to) t u → LeavesAny u w → WhereTold (Leads kind from to) t w
-leg_leads kind from to t u w carried left =
-    where_on (Carries kind from to) (λ a b. (items : ℕ) → SaysDone from to moving_folder items (seen a.state) → Leaves from a b) (Leads kind from to) t u w
-    (λ a b c one two. record { between = b; carries = one; leaves = two one.items one.says }) carried (left from to)
+pub leaves_source : AreAlike → AreOne → (leg : Leg) (retired : ℕ) (t u : Option Told) → ((a : Told) → t ≡ Some a → IsSound a.state) → ((v : View) → IsSeen t v → HasRetired moving_folder retired u v)
+    → ((v : View) (journal : Journal) → IsSeen t v → IsJournal journal → StandsIn moving_folder journal v → TouchesOnly (retiring_by moving_folder phrase phrase journal) t u) → LeavesSource leg retired t u
+leaves_source alike one leg retired (Some a) (Some b) sound has touches x is =
+    let same : a ≡ x = cc is in
+    let left : (moved : ℕ) → SaysDone (source_of leg) (target_of leg) moving_folder moved (seen a.state) → Leaves (source_of leg) moved retired a b =
+    λ moved says. leaves alike one (source_of leg) (target_of leg) retired moved a b (sound a refl) (has (seen a.state) refl) (λ journal is stands. touches (seen a.state) journal refl is stands) (base_apart leg) says in
+    (b, refl, subst (λ y. (moved : ℕ) → SaysDone (source_of leg) (target_of leg) moving_folder moved (seen y.state) → Leaves (source_of leg) moved retired y b) same left)
+leaves_source alike one leg retired (Some a) None sound has touches x is =
+    let here : HasRetired moving_folder retired None (seen a.state) = has (seen a.state) refl in absurd (touches (seen a.state) here.journal refl here.is here.stands)
+leaves_source alike one leg retired None u sound has touches x is = cc is
+
+pub leg_leads : (leg : Leg) (retired : ℕ) (t u w : Option Told) → WhereTold (Carries (kind_to leg) (source_of leg) (target_of leg)) t u → LeavesSource leg retired u w
+    → WhereTold (Leads (kind_to leg) (source_of leg) (target_of leg)) t w
+leg_leads leg retired t u w carried left =
+    where_on (Carries (kind_to leg) (source_of leg) (target_of leg)) (λ a b. (moved : ℕ) → SaysDone (source_of leg) (target_of leg) moving_folder moved (seen a.state) → Leaves (source_of leg) moved retired a b)
+    (Leads (kind_to leg) (source_of leg) (target_of leg)) t u w (λ a b c one two. record { between = b; carries = one; retired = retired; leaves = two one.items one.says }) carried left
 
 -- ---- both: out to the second vault, and home to the third
 
@@ -177,11 +199,10 @@ brings one seed count a b c made leads = record {
   moved_back = go_then at_second leads.between c leads.there.leaves.goes (go_then leads.between leads.back.between c leads.back.carries.goes leads.back.leaves.goes);
   in_first = made.1;
   in_second = in_second;
-  in_third = λ own.
+  in_third =
       held_alike kind.Gocryptfs third_root seed count (seen leads.back.between.state) (seen c.state) third_stays
-      (leads.back.carries.holds kind.Cryptomator seed count (own_alike second_root at_second.state leads.between.state second_stays own)
-      (λ vault opens. own_folders vault (under third_root (seen leads.back.between.state)) (leads.back.carries.is vault opens))
-      (held_alike kind.Cryptomator second_root seed count (seen at_second.state) (seen leads.between.state) second_stays (in_second own)));
+      (leads.back.carries.holds kind.Cryptomator seed count (own_alike second_root at_second.state leads.between.state second_stays (leads.there.carries.own own_first))
+      (held_alike kind.Cryptomator second_root seed count (seen at_second.state) (seen leads.between.state) second_stays in_second));
   first_gone = ap (λ (u : View). u []) first_stays ∙ leads.there.leaves.gone;
   second_gone = leads.back.leaves.gone;
 }
@@ -196,8 +217,8 @@ brings one seed count a b c made leads = record {
     own_first vault opens =
         own_folders vault (under first_root (seen b.state)) (subst (λ x. kind_of x ≡ kind.Gocryptfs) (same_vault one (under first_root (seen b.state)) made.1.vault vault made.1.opens opens) made.1.is)
 
-    in_second : HasOwn second_root leads.there.between.state → HoldsItems kind.Cryptomator second_root seed count (seen leads.there.between.state)
-    in_second own = leads.there.carries.holds kind.Gocryptfs seed count own_first own made.1
+    in_second : HoldsItems kind.Cryptomator second_root seed count (seen leads.there.between.state)
+    in_second = leads.there.carries.holds kind.Gocryptfs seed count own_first made.1
 
     second_stays : under second_root (seen leads.between.state) ≡ under second_root (seen leads.there.between.state)
     second_stays = leads.there.leaves.stays second_root (within second_root (apart_from_both first_root moving_folder) (λ rest. refl))

@@ -23,3 +23,8 @@ mod Demonstrations
 mod Statuses
 mod DemonstratedTrees
 mod Legs
+mod GoodOrder
+mod DemoDraws
+mod Steps
+mod Movable
+mod Beginnable

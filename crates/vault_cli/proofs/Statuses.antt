@@ -1,20 +1,95 @@
--- What the status of a migration tells of its answer.
-use Rattle.std.proofs.Common.{◌≡◌, ◌≢◌, ℕ, arith, sym, subst, ◌∙◌, IsTrue}
+-- What the status of a migration tells of its answer, and of its fault.
+use Rattle.std.proofs.Common.{◌≡◌, ◌≢◌, ◌⊎◌, ℕ, arith, inl, inr, refl, sym, subst, ◌∙◌, IsTrue}
+use Rattle.content_writing.specs.declared.fault.PutFault.TheVariants as put
+use Rattle.folder_spec.specs.Path.{Path}
+use Rattle.migrate_core.specs.Completing.{IsOfChance}
+use Rattle.migrate_core.specs.Faults.{IsMoveFault}
+use Rattle.migrate_core.specs.declared.fault.MoveFault.{MoveFault}
+use Rattle.migrate_core.specs.declared.fault.MoveFault.TheVariants as move
+use Rattle.tree_match.specs.declared.answer.MatchFault.TheVariants as match
+use Rattle.vault_read.specs.declared.fault.Limit.TheVariants as limit
 use Rattle.vault_cli.specs.Answers.{status_of}
-use Rattle.vault_cli.specs.Demo.{IsStatus}
+use Rattle.vault_cli.specs.Demo.{EndsWork, chances_by, is_status_of_chance}
+use Rattle.vault_cli.specs.Faults.{of_move}
 use Rattle.vault_cli.specs.Moving.{is_of_stop}
 use Rattle.vault_cli.specs.declared.answer.Answer.{Answer}
-use Rattle.vault_cli.specs.declared.answer.Answer.TheVariants.{Done, OutOfMemory, FolderFault, RandomFault}
+use Rattle.vault_cli.specs.declared.answer.Answer.TheVariants.{Done, Findings, BadCommandLine, OutOfMemory, FolderFault, InputFault, OutputFault, RandomFault, Refused, WrongPass, NotFound, WrongKind, DamagedInput, Damaged, NotAllowed, NotClean, Overlap, NotEmpty, Begun, Unusable, Changed, Differ, ZeroRandom, Taken, Limit, Retired}
 use Rattle.vault_cli.proofs.Executions.{with_status}
 
-pub is_status : (F R : Type 0) (answer : Answer) (status : ℕ) → status ≡ status_of answer → answer ≢ OutOfMemory → (answer ≡ FolderFault → F) → (answer ≡ RandomFault → R) → IsStatus F R status
-is_status F R answer status is memory folder random = record {
+-- only zeros have their status
+zeros_of : (answer : Answer) → status_of answer ≡ 21 → answer ≡ ZeroRandom
+zeros_of Done is = absurd (omega (arith, is))
+zeros_of Findings is = absurd (omega (arith, is))
+zeros_of BadCommandLine is = absurd (omega (arith, is))
+zeros_of OutOfMemory is = absurd (omega (arith, is))
+zeros_of FolderFault is = absurd (omega (arith, is))
+zeros_of InputFault is = absurd (omega (arith, is))
+zeros_of OutputFault is = absurd (omega (arith, is))
+zeros_of RandomFault is = absurd (omega (arith, is))
+zeros_of ZeroRandom is = refl
+zeros_of (Refused at why) is = absurd (omega (arith, is))
+zeros_of (WrongPass root) is = absurd (omega (arith, is))
+zeros_of (NotFound what) is = absurd (omega (arith, is))
+zeros_of (WrongKind what) is = absurd (omega (arith, is))
+zeros_of (DamagedInput fault) is = absurd (omega (arith, is))
+zeros_of (Damaged at how) is = absurd (omega (arith, is))
+zeros_of (NotAllowed path) is = absurd (omega (arith, is))
+zeros_of (NotClean at number) is = absurd (omega (arith, is))
+zeros_of (Overlap first second) is = absurd (omega (arith, is))
+zeros_of (NotEmpty at) is = absurd (omega (arith, is))
+zeros_of (Begun work) is = absurd (omega (arith, is))
+zeros_of (Unusable work why) is = absurd (omega (arith, is))
+zeros_of (Changed plan items plan' items') is = absurd (omega (arith, is))
+zeros_of (Differ path how) is = absurd (omega (arith, is))
+zeros_of (Taken at) is = absurd (omega (arith, is))
+zeros_of (Limit which) is = absurd (omega (arith, is))
+zeros_of (Retired work) is = absurd (omega (arith, is))
+
+-- the statuses of chance
+chance_status : (work root : Path) (fault : MoveFault) → IsOfChance fault → ((at : Path) → fault ≢ move.Match (match.Limit (limit.Length at))) → of_move work root fault ≢ OutOfMemory → IsTrue (is_status_of_chance (status_of (of_move work root fault)))
+chance_status work root (move.Work fault) is small some = absurd is
+chance_status work root (move.Journal fault) is small some = absurd is
+chance_status work root (move.Overlap first second) is small some = absurd is
+chance_status work root (move.Load side fault) is small some = absurd is
+chance_status work root (move.Walk fault) is small some = absurd is
+chance_status work root (move.NotEmpty at) is small some = absurd is
+chance_status work root (move.NotAllowed path) is small some = absurd is
+chance_status work root (move.Changed plan items plan' items') is small some = absurd is
+chance_status work root (move.Differ path how) is small some = absurd is
+chance_status work root move.SourceGone is small some = absurd is
+chance_status work root (move.Match (match.Limit (limit.Length at))) is small some = absurd (small at refl)
+chance_status work root (move.Match (match.Limit limit.Items)) is small some = absurd is
+chance_status work root (move.Match (match.Limit limit.Depth)) is small some = absurd is
+chance_status work root (move.Match (match.Limit limit.Input)) is small some = absurd is
+chance_status work root (move.Match (match.Damaged at fault)) is small some = absurd is
+chance_status work root (move.Match match.Failed) is small some = absurd is
+chance_status work root (move.Match match.NoMemory) is small some = absurd is
+chance_status work root (move.Place put.Random) is small some = refl
+chance_status work root (move.Place put.ZeroRandom) is small some = refl
+chance_status work root (move.Place (put.Taken at)) is small some = refl
+chance_status work root (move.Place (put.Find fault)) is small some = absurd is
+chance_status work root (move.Place (put.NotAllowed path)) is small some = absurd is
+chance_status work root (move.Place (put.Damaged at fault)) is small some = absurd is
+chance_status work root (move.Place (put.Limit which)) is small some = absurd is
+chance_status work root (move.Place put.Source) is small some = absurd is
+chance_status work root (move.Place put.Failed) is small some = absurd is
+chance_status work root (move.Place put.NoMemory) is small some = absurd is
+chance_status work root move.Failed is small some = refl
+chance_status work root move.NoMemory is small some = absurd (some refl)
+
+-- a migration that stops ends the work with the status of its fault
+pub ends_work : (work root : Path) (fault : MoveFault) (answer : Answer) (status : ℕ) → status ≡ status_of answer → answer ≢ OutOfMemory → (answer ≡ OutOfMemory) ⊎ (answer ≡ of_move work root fault)
+    → (answer ≡ FolderFault → fault ≡ move.Failed) → (answer ≡ RandomFault → fault ≡ move.Place put.Random) → (answer ≡ ZeroRandom → fault ≡ move.Place put.ZeroRandom) → IsTrue (is_of_stop answer)
+    → EndsWork (chances_by fault) status
+ends_work work root fault answer status is memory told folder random zeros own = record {
+  stops = λ same. let none : IsTrue (is_of_stop Done) = subst (λ a. IsTrue (is_of_stop a)) (with_status answer 0 (omega arith) (sym is ∙ same)) own in cc;
   memory = λ same. memory (with_status answer 3 (omega arith) (sym is ∙ same));
   folder = λ same. folder (with_status answer 4 (omega arith) (sym is ∙ same));
   random = λ same. random (with_status answer 7 (omega arith) (sym is ∙ same));
+  zeros = λ known same. zeros (zeros_of answer (sym is ∙ same));
+  others = λ known. subst (λ s. IsTrue (is_status_of_chance s)) (sym is) (by_told known.0 known.1 told);
 }
-
--- a migration that stops has another status than 0
-pub stops : (answer : Answer) (status : ℕ) → status ≡ status_of answer → IsTrue (is_of_stop answer) → status ≢ 0
-stops answer status is own same =
-    let none : IsTrue (is_of_stop Done) = subst (λ a. IsTrue (is_of_stop a)) (with_status answer 0 (omega arith) (sym is ∙ same)) own in cc
+  where
+    by_told : IsOfChance fault → ((at : Path) → fault ≢ move.Match (match.Limit (limit.Length at))) → (answer ≡ OutOfMemory) ⊎ (answer ≡ of_move work root fault) → IsTrue (is_status_of_chance (status_of answer))
+    by_told chance small (inl none) = absurd (memory none)
+    by_told chance small (inr same) = subst (λ a. IsTrue (is_status_of_chance (status_of a))) (sym same) (chance_status work root fault chance small (λ none. memory (same ∙ none)))

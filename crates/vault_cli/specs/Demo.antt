@@ -1,12 +1,25 @@
 -- `demo`: what it prints, and how it ends.
-use Rattle.std.specs.Prelude.{◌≡◌, ◌≢◌, ℕ, Bool, true, false, List, [], ◌∷◌, ◌++◌, codes, decimal, Option, Result, Ok, Err, IsTrue}
+use Rattle.std.specs.Prelude.{◌≡◌, ◌≢◌, ◌==◌, ◌||◌, ℕ, Bool, true, false, List, [], ◌∷◌, ◌++◌, codes, decimal, Option, Some, Result, Ok, Err, IsTrue}
 use Rattle.std.specs.Io.KnownBytes.{Appends, Keeps}
 use Rattle.demo_core.specs.Demonstration.{totals_of}
+use Rattle.demo_core.specs.Drawing.{Drew, seed_stream}
+use Rattle.folder_spec.specs.Event.{Told}
+use Rattle.folder_spec.specs.Path.{Part, Path}
+use Rattle.folder_spec.specs.Seen.{IsSeen}
+use Rattle.folder_spec.specs.View.{Folder, NoEntry, View}
+use Rattle.content_writing.specs.declared.fault.PutFault.TheVariants as put
+use Rattle.migrate_core.specs.Completing.{IsOfChance}
+use Rattle.migrate_core.specs.declared.fault.MoveFault.{MoveFault}
+use Rattle.migrate_core.specs.declared.fault.MoveFault.TheVariants.{Failed, Match as Matching, Place}
+use Rattle.port_model.specs.Counts.{CountRose}
+use Rattle.port_model.specs.Draws.{ByteStream}
 use Rattle.port_model.specs.Told.{AppendsPrefix}
+use Rattle.tree_match.specs.declared.answer.MatchFault.TheVariants as match
+use Rattle.vault_read.specs.declared.fault.Limit.TheVariants as limit
 use Rattle.vault_cli.specs.Moving.{is_of_stop}
 use Rattle.vault_cli.specs.World.{World}
 use Rattle.vault_cli.specs.declared.answer.Answer.{Answer}
-use Rattle.vault_cli.specs.declared.answer.Answer.TheVariants.{Done, OutOfMemory, FolderFault, OutputFault, RandomFault}
+use Rattle.vault_cli.specs.declared.answer.Answer.TheVariants.{Done, OutOfMemory, FolderFault, OutputFault, RandomFault, ZeroRandom, Taken}
 use Rattle.vault_cli.specs.declared.demo.Led.{Led}
 use Rattle.vault_cli.specs.declared.demo.Led.TheVariants.{Stopped, Retired}
 use Rattle.vault_cli.specs.declared.demo.Leg.{Leg}
@@ -46,20 +59,32 @@ way_text (StoppedThere status) = to_cryptomator_text status
 way_text (StoppedBack status) = to_cryptomator_text 0 ++ to_gocryptfs_text status
 way_text (Arrived first second) = to_cryptomator_text 0 ++ (to_gocryptfs_text 0 ++ retired_text first second)
 
--- The status of a migration, which isn't want of memory; it is that of the folder or of the random source only where this one failed.
-pub record IsStatus (folder_failed random_failed : Type 0) (status : ℕ) : Type 0 where
+-- What may befall the demonstration: the folder fails, or the random source does, or sixteen zero bytes in a row are drawn. And what may be
+-- known when it begins; then nothing else stops it but a taken place and want of memory.
+pub record Chances : Type 1 where
+  pub folder : Type 0
+  pub random : Type 0
+  pub zeros : Type 0
+  pub known : Type 0
+
+-- the statuses of these: 4, 7 and 21, and 22 of a place that is taken
+abbrev pub is_status_of_chance : ℕ → Bool
+is_status_of_chance status = status == 4 || (status == 7 || (status == 21 || status == 22))
+
+-- The status of a migration that isn't 0. It isn't want of memory, which ends the work.
+pub record EndsWork (c : Chances) (status : ℕ) : Type 0 where
+  pub stops : status ≢ 0
   pub memory : status ≢ 3
-  pub folder : status ≡ 4 → folder_failed
-  pub random : status ≡ 7 → random_failed
+  pub folder : status ≡ 4 → c.folder
+  pub random : status ≡ 7 → c.random
+  pub zeros : c.known → status ≡ 21 → c.zeros
+  pub others : c.known → IsTrue (is_status_of_chance status)
 
--- which isn't 0
-abbrev pub EndsWork : Type 0 → Type 0 → ℕ → Type 0
-EndsWork folder_failed random_failed status = (status ≢ 0) × IsStatus folder_failed random_failed status
-
-abbrev pub IsWay : Type 0 → Type 0 → Way → Type 0
-IsWay folder_failed random_failed (StoppedThere status) = EndsWork folder_failed random_failed status
-IsWay folder_failed random_failed (StoppedBack status) = EndsWork folder_failed random_failed status
-IsWay folder_failed random_failed (Arrived first second) = Unit {0}
+-- a way of a demonstration of so many items: both vaults that are retired have all of them
+abbrev pub IsWay : Chances → ℕ → Way → Type 0
+IsWay c count (StoppedThere status) = EndsWork c status
+IsWay c count (StoppedBack status) = EndsWork c status
+IsWay c count (Arrived first second) = c.known → (first ≡ count) × (second ≡ count)
 
 -- the output took all of a text where the work was done, and else a front part
 abbrev pub TakesBy : Answer → Option (List ℕ) → Option (List ℕ) → List ℕ → Type 0
@@ -72,10 +97,10 @@ OnArrival brought (StoppedThere status) = Unit {0}
 OnArrival brought (StoppedBack status) = Unit {0}
 OnArrival brought (Arrived first second) = brought
 
--- The lines of the demonstration, and what was brought about where all is done. Its random source never fails.
-abbrev pub PrintsDemonstration : (folder_failed brought : Type 0) → ℕ → ℕ → Answer → Option (List ℕ) → Option (List ℕ) → Type 0
-PrintsDemonstration folder_failed brought seed count answer taken taken' =
-    (way : Way) × IsWay folder_failed ⊥ way × TakesBy answer taken taken' (made_text seed count ++ way_text way) × (answer ≡ Done → OnArrival brought way)
+-- the lines of the demonstration, and what was brought about where all is done
+abbrev pub PrintsDemonstration : Chances → (brought : Type 0) → ℕ → ℕ → Answer → Option (List ℕ) → Option (List ℕ) → Type 0
+PrintsDemonstration c brought seed count answer taken taken' =
+    (way : Way) × IsWay c count way × TakesBy answer taken taken' (made_text seed count ++ way_text way) × (answer ≡ Done → OnArrival brought way)
 
 -- whether a demonstration may be answered so
 abbrev pub is_of_fault : Answer → Bool
@@ -87,16 +112,72 @@ is_of_demonstration Done = true
 is_of_demonstration RandomFault = false
 is_of_demonstration answer = is_of_fault answer
 
--- `demo`, which uses neither the folder nor the input nor the random source: its own folder never fails
+-- whether an answer is one of these chances, or want of memory, or the output's, or none
+abbrev pub is_of_chance : Answer → Bool
+is_of_chance Done = true
+is_of_chance OutOfMemory = true
+is_of_chance FolderFault = true
+is_of_chance OutputFault = true
+is_of_chance RandomFault = true
+is_of_chance ZeroRandom = true
+is_of_chance (Taken at) = true
+is_of_chance answer = false
+
+-- how the work may end, by what is known when it begins
+pub record EndsSo (c : Chances) (answer : Answer) : Type 0 where
+  pub zeros : c.known → answer ≡ ZeroRandom → c.zeros
+  pub others : c.known → IsTrue (is_of_chance answer)
+
+-- the chances of a demonstration, whose random source is the stream of its seed, and never fails
+abbrev pub chances_of : (folder_failed known : Type 0) → ℕ → Chances
+chances_of folder_failed known seed = record {
+  folder = folder_failed;
+  random = ⊥;
+  zeros = (rest : Option ByteStream) × Drew (Unit {0}) (Some (seed_stream seed)) rest;
+  known = known;
+}
+
+-- the folder tells its state, and nothing stands in it
+pub record IsBare (told : Option Told) : Type 0 where
+  pub view : View
+  pub seen : IsSeen told view
+  pub base : view [] ≡ Folder
+  pub entries : (name : Part) → view (name ∷ []) ≡ NoEntry
+
+-- `demo`, which uses neither the folder nor the input nor the random source: its own folder never fails, and all is known of it
 pub record Demonstrates (demonstration : Demonstration) (answer : Answer) (before after : World) : Type 0 where
   pub own : IsTrue (is_of_demonstration answer)
   pub steady : answer ≢ FolderFault
-  pub prints : PrintsDemonstration ⊥ (Unit {0}) demonstration.seed demonstration.count answer before.taken after.taken
+  pub ends : EndsSo (chances_of ⊥ (Unit {0}) demonstration.seed) answer
+  pub prints : PrintsDemonstration (chances_of ⊥ (Unit {0}) demonstration.seed) (Unit {0}) demonstration.seed demonstration.count answer before.taken after.taken
   pub unchanged : after.told ≡ before.told
   pub untouched : Keeps before.left after.left
   pub undrawn : after.random ≡ before.random
 
 -- ---- private contracts
+
+-- the chances of a part of the work: by both counts of faults, and by what is drawn and known
+abbrev pub chances : (f f' r r' : ℕ) → Option ByteStream → Option ByteStream → Type 0 → Chances
+chances f f' r r' stream stream' known = record { folder = CountRose f f'; random = CountRose r r'; zeros = Drew (Unit {0}) stream stream'; known = known }
+
+-- those of a migration, by the fault with which it stops: known is that it is one of chance, and no content passes the limit
+abbrev pub chances_by : MoveFault → Chances
+chances_by fault = record {
+  folder = fault ≡ Failed;
+  random = fault ≡ Place put.Random;
+  zeros = fault ≡ Place put.ZeroRandom;
+  known = IsOfChance fault × ((at : Path) → fault ≢ Matching (match.Limit (limit.Length at)));
+}
+
+-- the status of a migration, whichever it is
+abbrev pub IsStatus : Chances → ℕ → Type 0
+IsStatus c status = status ≢ 0 → EndsWork c status
+
+-- the folder failed, or memory was refused
+abbrev pub is_of_folder : Answer → Bool
+is_of_folder FolderFault = true
+is_of_folder OutOfMemory = true
+is_of_folder answer = false
 
 abbrev pub is_of_telling : Answer → Bool
 is_of_telling OutputFault = true
@@ -118,19 +199,19 @@ abbrev pub led_text : Leg → Led → List ℕ
 led_text leg (Stopped status) = moved_text leg status
 led_text leg (Retired items) = moved_text leg 0
 
-abbrev pub IsLed : Type 0 → Type 0 → Led → Type 0
-IsLed folder_failed random_failed (Stopped status) = EndsWork folder_failed random_failed status
-IsLed folder_failed random_failed (Retired items) = Unit {0}
+abbrev pub IsLed : Chances → ℕ → Led → Type 0
+IsLed c count (Stopped status) = EndsWork c status
+IsLed c count (Retired items) = c.known → items ≡ count
 
 -- where its source is retired
 abbrev pub OnRetired : Type 0 → Led → Type 0
 OnRetired left (Stopped status) = Unit {0}
 OnRetired left (Retired items) = left
 
--- one migration, by the way that it went, or some way
-abbrev pub PrintsLed : Type 0 → Type 0 → Leg → Result Led Answer → Option (List ℕ) → Option (List ℕ) → Type 0
-PrintsLed folder_failed random_failed leg (Ok led) taken taken' = IsLed folder_failed random_failed led × Appends taken taken' (led_text leg led)
-PrintsLed folder_failed random_failed leg (Err answer) taken taken' = (led : Led) × IsLed folder_failed random_failed led × AppendsPrefix taken taken' (led_text leg led)
+-- by the way that it went, or some way
+abbrev pub PrintsLed : Chances → ℕ → Leg → Result Led Answer → Option (List ℕ) → Option (List ℕ) → Type 0
+PrintsLed c count leg (Ok led) taken taken' = IsLed c count led × Appends taken taken' (led_text leg led)
+PrintsLed c count leg (Err answer) taken taken' = (led : Led) × IsLed c count led × AppendsPrefix taken taken' (led_text leg led)
 
 abbrev pub way_of : Ended → Way
 way_of (ways.StoppedThere status) = StoppedThere status
@@ -145,22 +226,22 @@ abbrev pub PrintsBy : (Way → Type 0) → (Way → List ℕ) → Result Ended A
 PrintsBy Is text (Ok way) taken taken' = Is (way_of way) × Appends taken taken' (text (way_of way))
 PrintsBy Is text (Err answer) taken taken' = (way : Way) × Is way × AppendsPrefix taken taken' (text way)
 
-abbrev pub PrintsAll : Type 0 → Type 0 → ℕ → ℕ → Result Ended Answer → Option (List ℕ) → Option (List ℕ) → Type 0
-PrintsAll folder_failed random_failed seed count = PrintsBy (IsWay folder_failed random_failed) (λ way. made_text seed count ++ way_text way)
+abbrev pub PrintsAll : Chances → ℕ → ℕ → Result Ended Answer → Option (List ℕ) → Option (List ℕ) → Type 0
+PrintsAll c seed count = PrintsBy (IsWay c count) (λ way. made_text seed count ++ way_text way)
 
-abbrev pub PrintsWay : Type 0 → Type 0 → Result Ended Answer → Option (List ℕ) → Option (List ℕ) → Type 0
-PrintsWay folder_failed random_failed = PrintsBy (IsWay folder_failed random_failed) way_text
+abbrev pub PrintsWay : Chances → ℕ → Result Ended Answer → Option (List ℕ) → Option (List ℕ) → Type 0
+PrintsWay c count = PrintsBy (IsWay c count) way_text
 
--- the way back, which the first migration doesn't end
-abbrev pub IsWayBack : Type 0 → Type 0 → Way → Type 0
-IsWayBack folder_failed random_failed (StoppedThere status) = ⊥
-IsWayBack folder_failed random_failed (StoppedBack status) = EndsWork folder_failed random_failed status
-IsWayBack folder_failed random_failed (Arrived first second) = Unit {0}
+-- the way back, which the first migration doesn't end, but retires so many
+abbrev pub IsWayBack : Chances → (count retired : ℕ) → Way → Type 0
+IsWayBack c count retired (StoppedThere status) = ⊥
+IsWayBack c count retired (StoppedBack status) = EndsWork c status
+IsWayBack c count retired (Arrived first second) = (first ≡ retired) × (c.known → second ≡ count)
 
 abbrev pub back_text : Way → List ℕ
 back_text (StoppedThere status) = []
 back_text (StoppedBack status) = to_gocryptfs_text status
 back_text (Arrived first second) = to_gocryptfs_text 0 ++ retired_text first second
 
-abbrev pub PrintsBack : Type 0 → Type 0 → Result Ended Answer → Option (List ℕ) → Option (List ℕ) → Type 0
-PrintsBack folder_failed random_failed = PrintsBy (IsWayBack folder_failed random_failed) back_text
+abbrev pub PrintsBack : Chances → (count retired : ℕ) → Result Ended Answer → Option (List ℕ) → Option (List ℕ) → Type 0
+PrintsBack c count retired = PrintsBy (IsWayBack c count retired) back_text

@@ -37,12 +37,8 @@ GoesOn a b = Went (λ s. Unit {0}) (λ s e. Unit {0}) a b
 abbrev pub WhereTold : (Told → Told → Type 0) → Option Told → Option Told → Type 0
 WhereTold R told told' = (a : Told) → told ≡ Some a → (b : Told) × (told' ≡ Some b) × R a b
 
--- no two directories of the vault at a root share a folder
-abbrev pub HasOwn : Path → State → Type 0
-HasOwn root s = (vault : Vault) → IsVault (under root (seen s)) phrase vault → HasOwnFolders vault (under root (seen s))
-
 -- The items stand in a gocryptfs vault at `g` first, then in a Cryptomator vault at `c`, and in a gocryptfs vault at `h` when all is done.
--- By then the other two are gone. No two directories of the vault at `c` are to share a folder.
+-- By then the other two are gone.
 pub record BringsItems (seed count : ℕ) (a b : Told) : Type 0 where
   pub first : Told
   pub second : Told
@@ -50,8 +46,8 @@ pub record BringsItems (seed count : ℕ) (a b : Told) : Type 0 where
   pub moved : GoesOn first second
   pub moved_back : GoesOn second b
   pub in_first : HoldsItems kind.Gocryptfs first_root seed count (seen first.state)
-  pub in_second : HasOwn second_root second.state → HoldsItems kind.Cryptomator second_root seed count (seen second.state)
-  pub in_third : HasOwn second_root second.state → HoldsItems kind.Gocryptfs third_root seed count (seen b.state)
+  pub in_second : HoldsItems kind.Cryptomator second_root seed count (seen second.state)
+  pub in_third : HoldsItems kind.Gocryptfs third_root seed count (seen b.state)
   pub first_gone : seen b.state first_root ≡ NoEntry
   pub second_gone : seen b.state second_root ≡ NoEntry
 
@@ -68,6 +64,10 @@ target_of Back = third_root
 abbrev pub kind_to : Leg → VaultKind
 kind_to There = kind.Cryptomator
 kind_to Back = kind.Gocryptfs
+
+-- no two directories of the vault at a root share a folder
+abbrev pub HasOwn : Path → State → Type 0
+HasOwn root s = (vault : Vault) → IsVault (under root (seen s)) phrase vault → HasOwnFolders vault (under root (seen s))
 
 -- a new vault of the kind stands at a root
 abbrev pub IsNewAt : VaultKind → Path → Option Told → Type 0
@@ -93,26 +93,32 @@ IsMoved from to told told' = (done : Done) × MovesTree from to moving_folder ph
 pub record Carries (kind : VaultKind) (from to : Path) (a b : Told) : Type 0 where
   pub goes : GoesOn a b
   pub is : (vault : Vault) → IsVault (under to (seen b.state)) phrase vault → kind_of vault ≡ kind
-  pub holds : (first : VaultKind) (seed count : ℕ) → HasOwn from a.state → HasOwn to b.state → HoldsItems first from seed count (seen a.state) → HoldsItems kind to seed count (seen b.state)
+  pub own : HasOwn from a.state → HasOwn to b.state
+  pub holds : (first : VaultKind) (seed count : ℕ) → HasOwn from a.state → HoldsItems first from seed count (seen a.state) → HoldsItems kind to seed count (seen b.state)
   pub stays : (root : Path) → IsWithin root (apart_from_both making_folder to) → IsWithin root (apart_from_both moving_folder to) → under root (seen b.state) ≡ under root (seen a.state)
   pub items : ℕ
   pub says : SaysDone from to moving_folder items (seen b.state)
 
--- Its source is retired. What is apart from that and from the work folder stays.
-pub record Leaves (from : Path) (a b : Told) : Type 0 where
+-- Its source is retired, with as many items as were moved, and the work folder is gone. What is apart from both stays.
+pub record Leaves (from : Path) (moved retired : ℕ) (a b : Told) : Type 0 where
   pub goes : GoesOn a b
   pub stays : (root : Path) → IsWithin root (apart_from_both from moving_folder) → under root (seen b.state) ≡ under root (seen a.state)
+  pub base : seen b.state [] ≡ seen a.state []
   pub gone : seen b.state from ≡ NoEntry
+  pub work_gone : seen b.state moving_folder ≡ NoEntry
+  pub all : retired ≡ moved
 
--- it is, of whichever migration the journal says that it is done
-abbrev pub LeavesAny : Option Told → Option Told → Type 0
-LeavesAny told told' = (from to : Path) → WhereTold (λ a b. (items : ℕ) → SaysDone from to moving_folder items (seen a.state) → Leaves from a b) told told'
+-- it is, where the journal says that the migration is done
+abbrev pub LeavesSource : Leg → ℕ → Option Told → Option Told → Type 0
+LeavesSource leg retired =
+    WhereTold (λ a b. (moved : ℕ) → SaysDone (source_of leg) (target_of leg) moving_folder moved (seen a.state) → Leaves (source_of leg) moved retired a b)
 
 -- one after the other
 pub record Leads (kind : VaultKind) (from to : Path) (a b : Told) : Type 0 where
   pub between : Told
   pub carries : Carries kind from to a between
-  pub leaves : Leaves from between b
+  pub retired : ℕ
+  pub leaves : Leaves from carries.items retired between b
 
 -- both ways
 pub record LeadsBoth (a b : Told) : Type 0 where

@@ -30,4 +30,5 @@ pub mod Resume
 pub mod Retire
 pub mod DemoTrees
 pub mod Demo
+pub mod DemoSteps
 pub mod Runs

@@ -1,13 +1,20 @@
 //! `demo`: makes a tree from a number, and moves it to the other format and back, in a folder of its own.
-ghost use Rattle.std.specs.Prelude.{◌≡◌, ◌≢◌, ◌≤◌, Ok, Err, IfErr, IfOk, OnOk, IsTrue, string_bytes};
+ghost use Rattle.std.specs.Prelude.{◌≡◌, ◌≢◌, ◌≤◌, ℕ, Ok, Err, IfErr, IfOk, OnOk, IsTrue, string_bytes};
 ghost use Rattle.move_journal.specs.Journal.{IsParsed};
 ghost use Rattle.port_model.specs.Counts.{CountRose};
-ghost use Rattle.demo_core.specs.Making.{IsFailed, IsMakeFault, MakesBeside};
-ghost use Rattle.migrate_core.specs.Faults.{IsMoveFault};
+ghost use Rattle.demo_core.specs.Drawing.{Drew};
+ghost use Rattle.folder_spec.specs.Seen.{IsSeen};
+ghost use Rattle.folder_spec.specs.View.{View};
+ghost use Rattle.work_folder.specs.Entering.{IsFresh};
+ghost use Rattle.demo_core.specs.Making as making;
+ghost use Rattle.demo_core.specs.Making.{CanMake, IsFailed, IsMakeFault, IsOfItems, MakesBeside, making_folder};
+ghost use Rattle.retire_core.specs.Causes.{IsOfFolder};
 ghost use Rattle.retire_core.specs.Faults.{IsRetireFault};
+ghost use Rattle.migrate_core.specs.Faults.{IsMoveFault};
 ghost use Rattle.vault_cli.specs.Answers.{TakesText, line_of, status_of};
-ghost use Rattle.vault_cli.specs.Demo.{IsStatus, OnEnd, OnRetired, PrintsAll, PrintsBack, PrintsDemonstration, PrintsLed, PrintsWay, TakesPart, is_of_demonstration, is_of_fault, is_of_telling, made_text, moved_text, retired_text};
-ghost use Rattle.vault_cli.specs.DemoTrees.{BringsItems, Carries, IsMoved, IsNewAt, Leads, LeadsBoth, LeavesAny, MakesItems, WhereTold, kind_to, second_root, source_of, target_of, third_root};
+ghost use Rattle.vault_cli.specs.Demo.{EndsSo, EndsWork, IsBare, IsStatus, OnEnd, OnRetired, PrintsAll, PrintsBack, PrintsDemonstration, PrintsLed, PrintsWay, TakesPart, chances, chances_by, chances_of, is_of_chance, is_of_demonstration, is_of_fault, is_of_folder, is_of_telling, made_text, moved_text, retired_text};
+ghost use Rattle.vault_cli.specs.DemoSteps.{CanCarry, CanLead, HasCarried, Sees};
+ghost use Rattle.vault_cli.specs.DemoTrees.{BringsItems, Carries, IsMoved, IsNewAt, Leads, LeadsBoth, LeavesSource, MakesItems, WhereTold, kind_to, second_root, source_of, target_of, third_root};
 ghost use Rattle.vault_cli.specs.Moving.{is_of_stop};
 ghost use Rattle.vault_cli.specs.Retire.{is_of_refusal};
 
@@ -16,19 +23,28 @@ use crate::reporting::report;
 use crate::words::Demonstration;
 use crate::{beginning, moving, opening, retire};
 use content_writing::PutFault;
+use demo_core::laws::{
+    items_are_directories_or_short_files, names_of_items_are_allowed, trees_have_so_many_items,
+    trees_of_items_pass_no_limit,
+};
 use demo_core::{
     MakeFault, PASSPHRASE, SteadyFolder, make_first, make_vault, place, random_of, totals_of,
 };
 use folder_model::{FPath, Folder};
 use folder_spec::laws::roots_show_their_own;
 use migrate_core::MoveFault;
+use migrate_core::laws::small_contents_pass_no_limit;
 use move_journal::laws::journals_are_read_back;
+use port_model::laws::draws_compose;
 use port_model::{Randoms, Sink};
 use retire_core::RetireFault;
 use std::alloc::{AllocError, Global};
 use tree_match::Side;
+use tree_match::laws::walks_tell_the_tree;
 use vault_read::VaultKind;
 use vault_read::laws::roots_have_one_answer;
+use vault_spec::laws::{clean_vaults_are_shallow, plans_are_the_tree};
+use work_folder::Work;
 
 /// Makes a tree of so many items from a number in a gocryptfs vault at `g`, moves it into a new Cryptomator vault at `c`, retires `g`,
 /// moves it into a new gocryptfs vault at `h`, and retires `c`. `count` is at most 2,000. Of each part it writes to `out` what was done,
@@ -47,7 +63,8 @@ pub fn demo_in<F: Folder, O: Sink, E: Sink>(
     ensures answer { (answer : Answer) × (result ≡ status_of answer)
         × TakesText (E.taken err.old) (E.taken err.new) (E.faults err.old) (E.faults err.new) (line_of answer)
         × IsTrue (is_of_demonstration answer)
-        × PrintsDemonstration (CountRose (F.faults folder.old) (F.faults folder.new)) (WhereTold (BringsItems seed count) (F.told folder.old) (F.told folder.new)) seed count answer (O.taken out.old) (O.taken out.new) }
+        × EndsSo (chances_of (CountRose (F.faults folder.old) (F.faults folder.new)) (IsBare (F.told folder.old)) seed) answer
+        × PrintsDemonstration (chances_of (CountRose (F.faults folder.old) (F.faults folder.new)) (IsBare (F.told folder.old)) seed) (WhereTold (BringsItems seed count) (F.told folder.old) (F.told folder.new)) seed count answer (O.taken out.old) (O.taken out.new) }
     ensures folder_fault { result ≡ 4 → CountRose (F.faults folder.old) (F.faults folder.new) }
     ensures output_fault { result ≡ 6 → CountRose (O.faults out.old) (O.faults out.new) }
 {
@@ -60,7 +77,8 @@ pub fn demo_in<F: Folder, O: Sink, E: Sink>(
 pub(crate) fn demo<O: Sink>(alloc: Global, demonstration: &Demonstration, out: &mut O) -> Answer
     requires { demonstration.now.count ≤ 2000 }
     ensures own { IsTrue (is_of_demonstration result) }
-    ensures prints { PrintsDemonstration ⊥ (Unit {0}) demonstration.now.seed demonstration.now.count result (O.taken out.old) (O.taken out.new) }
+    ensures ends { EndsSo (chances_of ⊥ (Unit {0}) demonstration.now.seed) result }
+    ensures prints { PrintsDemonstration (chances_of ⊥ (Unit {0}) demonstration.now.seed) (Unit {0}) demonstration.now.seed demonstration.now.count result (O.taken out.old) (O.taken out.new) }
     ensures no_folder { result ≢ Answer.FolderFault }
     ensures output_fault { result ≡ Answer.OutputFault → CountRose (O.faults out.old) (O.faults out.new) }
 {
@@ -80,7 +98,8 @@ fn demonstrate<F: Folder, O: Sink>(
 ) -> Answer
     requires { count ≤ 2000 }
     ensures own { IsTrue (is_of_demonstration result) }
-    ensures prints { PrintsDemonstration (CountRose (F.faults folder.old) (F.faults folder.new)) (WhereTold (BringsItems seed count) (F.told folder.old) (F.told folder.new)) seed count result (O.taken out.old) (O.taken out.new) }
+    ensures ends { EndsSo (chances_of (CountRose (F.faults folder.old) (F.faults folder.new)) (IsBare (F.told folder.old)) seed) result }
+    ensures prints { PrintsDemonstration (chances_of (CountRose (F.faults folder.old) (F.faults folder.new)) (IsBare (F.told folder.old)) seed) (WhereTold (BringsItems seed count) (F.told folder.old) (F.told folder.new)) seed count result (O.taken out.old) (O.taken out.new) }
     ensures folder_fault { result ≡ Answer.FolderFault → CountRose (F.faults folder.old) (F.faults folder.new) }
     ensures output_fault { result ≡ Answer.OutputFault → CountRose (O.faults out.old) (O.faults out.new) }
 {
@@ -113,12 +132,14 @@ fn make_and_move<F: Folder, R: Randoms, O: Sink>(
 ) -> Result<Way, Answer>
     requires { count ≤ 2000 }
     ensures own { IfErr result (λ answer. IsTrue (is_of_fault answer)) }
-    ensures prints { PrintsAll (CountRose (F.faults folder.old) (F.faults folder.new)) (CountRose (R.faults random.old) (R.faults random.new)) seed count result (O.taken out.old) (O.taken out.new) }
+    ensures ends { IfErr result (EndsSo (chances (F.faults folder.old) (F.faults folder.new) (R.faults random.old) (R.faults random.new) (R.left random.old) (R.left random.new) (IsBare (F.told folder.old)))) }
+    ensures prints { PrintsAll (chances (F.faults folder.old) (F.faults folder.new) (R.faults random.old) (R.faults random.new) (R.left random.old) (R.left random.new) (IsBare (F.told folder.old))) seed count result (O.taken out.old) (O.taken out.new) }
     ensures folder_fault { result ≡ Err Answer.FolderFault → CountRose (F.faults folder.old) (F.faults folder.new) }
     ensures random_fault { result ≡ Err Answer.RandomFault → CountRose (R.faults random.old) (R.faults random.new) }
     ensures output_fault { result ≡ Err Answer.OutputFault → CountRose (O.faults out.old) (O.faults out.new) }
     ensures brings { IfOk result (OnEnd (WhereTold (BringsItems seed count) (F.told folder.old) (F.told folder.new))) }
 {
+    draws_compose();
     roots_have_one_answer();
     make_items(alloc, folder, seed, count, random)?;
     tell_made(alloc, seed, count, out)?;
@@ -139,8 +160,12 @@ fn make_items<F: Folder, R: Randoms>(
     ensures random_fault { result ≡ Err Answer.RandomFault → CountRose (R.faults random.old) (R.faults random.new) }
     ensures grows { F.faults folder.old ≤ F.faults folder.new }
     ensures counted { R.faults random.old ≤ R.faults random.new }
+    ensures drew { Drew ⊥ (R.left random.old) (R.left random.new) }
+    ensures ends { IfErr result (EndsSo (chances (F.faults folder.old) (F.faults folder.new) (R.faults random.old) (R.faults random.new) (R.left random.old) (R.left random.new) (IsBare (F.told folder.old)))) }
+    ensures stands { OnOk result (IsBare (F.told folder.old) → Sees (CanLead Leg.There) count (F.told folder.new)) }
     ensures makes { OnOk result (WhereTold (MakesItems seed count) (F.told folder.old) (F.told folder.new)) }
 {
+    draws_compose();
     let root = place(alloc, "g")?;
     match make_first(alloc, folder, seed, count, random) {
         Ok(()) => Ok(()),
@@ -156,12 +181,14 @@ fn move_there<F: Folder, R: Randoms, O: Sink>(
     out: &mut O,
 ) -> Result<Way, Answer>
     ensures own { IfErr result (λ answer. IsTrue (is_of_fault answer)) }
-    ensures prints { PrintsWay (CountRose (F.faults folder.old) (F.faults folder.new)) (CountRose (R.faults random.old) (R.faults random.new)) result (O.taken out.old) (O.taken out.new) }
+    ensures ends { (count : ℕ) → IfErr result (EndsSo (chances (F.faults folder.old) (F.faults folder.new) (R.faults random.old) (R.faults random.new) (R.left random.old) (R.left random.new) (Sees (CanLead Leg.There) count (F.told folder.old)))) }
+    ensures prints { (count : ℕ) → PrintsWay (chances (F.faults folder.old) (F.faults folder.new) (R.faults random.old) (R.faults random.new) (R.left random.old) (R.left random.new) (Sees (CanLead Leg.There) count (F.told folder.old))) count result (O.taken out.old) (O.taken out.new) }
     ensures folder_fault { result ≡ Err Answer.FolderFault → CountRose (F.faults folder.old) (F.faults folder.new) }
     ensures random_fault { result ≡ Err Answer.RandomFault → CountRose (R.faults random.old) (R.faults random.new) }
     ensures output_fault { result ≡ Err Answer.OutputFault → CountRose (O.faults out.old) (O.faults out.new) }
     ensures leads { IfOk result (OnEnd (WhereTold LeadsBoth (F.told folder.old) (F.told folder.new))) }
 {
+    draws_compose();
     match lead(alloc, folder, Leg::There, random, out)? {
         Led::Stopped(status) => Ok(Way::StoppedThere(status)),
         Led::Retired(items) => move_back(alloc, folder, items, random, out),
@@ -177,7 +204,8 @@ fn move_back<F: Folder, R: Randoms, O: Sink>(
     out: &mut O,
 ) -> Result<Way, Answer>
     ensures own { IfErr result (λ answer. IsTrue (is_of_fault answer)) }
-    ensures prints { PrintsBack (CountRose (F.faults folder.old) (F.faults folder.new)) (CountRose (R.faults random.old) (R.faults random.new)) result (O.taken out.old) (O.taken out.new) }
+    ensures ends { (count : ℕ) → IfErr result (EndsSo (chances (F.faults folder.old) (F.faults folder.new) (R.faults random.old) (R.faults random.new) (R.left random.old) (R.left random.new) (Sees (CanLead Leg.Back) count (F.told folder.old)))) }
+    ensures prints { (count : ℕ) → PrintsBack (chances (F.faults folder.old) (F.faults folder.new) (R.faults random.old) (R.faults random.new) (R.left random.old) (R.left random.new) (Sees (CanLead Leg.Back) count (F.told folder.old))) count first result (O.taken out.old) (O.taken out.new) }
     ensures folder_fault { result ≡ Err Answer.FolderFault → CountRose (F.faults folder.old) (F.faults folder.new) }
     ensures random_fault { result ≡ Err Answer.RandomFault → CountRose (R.faults random.old) (R.faults random.new) }
     ensures output_fault { result ≡ Err Answer.OutputFault → CountRose (O.faults out.old) (O.faults out.new) }
@@ -239,7 +267,10 @@ fn lead<F: Folder, R: Randoms, O: Sink>(
     out: &mut O,
 ) -> Result<Led, Answer>
     ensures own { IfErr result (λ answer. IsTrue (is_of_fault answer)) }
-    ensures prints { PrintsLed (CountRose (F.faults folder.old) (F.faults folder.new)) (CountRose (R.faults random.old) (R.faults random.new)) leg result (O.taken out.old) (O.taken out.new) }
+    ensures ends { (count : ℕ) → IfErr result (EndsSo (chances (F.faults folder.old) (F.faults folder.new) (R.faults random.old) (R.faults random.new) (R.left random.old) (R.left random.new) (Sees (CanLead leg) count (F.told folder.old)))) }
+    ensures prints { (count : ℕ) → PrintsLed (chances (F.faults folder.old) (F.faults folder.new) (R.faults random.old) (R.faults random.new) (R.left random.old) (R.left random.new) (Sees (CanLead leg) count (F.told folder.old))) count leg result (O.taken out.old) (O.taken out.new) }
+    ensures drew { (count : ℕ) → Sees (CanLead leg) count (F.told folder.old) → Drew ⊥ (R.left random.old) (R.left random.new) }
+    ensures next { IfOk result (OnRetired ((count : ℕ) → leg ≡ Leg.There → Sees (CanLead leg) count (F.told folder.old) → Sees (CanLead Leg.Back) count (F.told folder.new))) }
     ensures folder_fault { result ≡ Err Answer.FolderFault → CountRose (F.faults folder.old) (F.faults folder.new) }
     ensures random_fault { result ≡ Err Answer.RandomFault → CountRose (R.faults random.old) (R.faults random.new) }
     ensures output_fault { result ≡ Err Answer.OutputFault → CountRose (O.faults out.old) (O.faults out.new) }
@@ -263,7 +294,10 @@ fn move_to<F: Folder, R: Randoms>(
     leg: Leg,
     random: &mut R,
 ) -> Result<u8, Answer>
-    ensures status { IfOk result (IsStatus (CountRose (F.faults folder.old) (F.faults folder.new)) (CountRose (R.faults random.old) (R.faults random.new))) }
+    ensures status { (count : ℕ) → IfOk result (IsStatus (chances (F.faults folder.old) (F.faults folder.new) (R.faults random.old) (R.faults random.new) (R.left random.old) (R.left random.new) (Sees (CanLead leg) count (F.told folder.old)))) }
+    ensures ends { (count : ℕ) → IfErr result (EndsSo (chances (F.faults folder.old) (F.faults folder.new) (R.faults random.old) (R.faults random.new) (R.left random.old) (R.left random.new) (Sees (CanLead leg) count (F.told folder.old)))) }
+    ensures drew { (count : ℕ) → Sees (CanLead leg) count (F.told folder.old) → Drew ⊥ (R.left random.old) (R.left random.new) }
+    ensures carried { IfOk result (λ status. status ≡ 0 → (count : ℕ) → Sees (CanLead leg) count (F.told folder.old) → Sees (HasCarried leg) count (F.told folder.new)) }
     ensures own { IfErr result (λ answer. IsTrue (is_of_stop answer)) }
     ensures folder_fault { result ≡ Err Answer.FolderFault → CountRose (F.faults folder.old) (F.faults folder.new) }
     ensures random_fault { result ≡ Err Answer.RandomFault → CountRose (R.faults random.old) (R.faults random.new) }
@@ -271,12 +305,11 @@ fn move_to<F: Folder, R: Randoms>(
     ensures counted { R.faults random.old ≤ R.faults random.new }
     ensures carries { IfOk result (λ status. status ≡ 0 → WhereTold (Carries (kind_to leg) (source_of leg) (target_of leg)) (F.told folder.old) (F.told folder.new)) }
 {
-    roots_show_their_own();
+    draws_compose();
     roots_have_one_answer();
+    roots_show_their_own();
     make_target(alloc, folder, leg, random)?;
-    let source = leg.source(alloc)?;
-    let target = leg.target(alloc)?;
-    migrate(alloc, folder, &source, &target, random)
+    migrate(alloc, folder, leg, random)
 }
 
 // Makes the target of a migration.
@@ -291,17 +324,42 @@ fn make_target<F: Folder, R: Randoms>(
     ensures random_fault { result ≡ Err Answer.RandomFault → CountRose (R.faults random.old) (R.faults random.new) }
     ensures grows { F.faults folder.old ≤ F.faults folder.new }
     ensures counted { R.faults random.old ≤ R.faults random.new }
+    ensures drew { Drew ⊥ (R.left random.old) (R.left random.new) }
+    ensures ends { (count : ℕ) → IfErr result (EndsSo (chances (F.faults folder.old) (F.faults folder.new) (R.faults random.old) (R.faults random.new) (R.left random.old) (R.left random.new) (Sees (CanLead leg) count (F.told folder.old)))) }
+    ensures stands { OnOk result ((count : ℕ) → Sees (CanLead leg) count (F.told folder.old) → Sees (CanCarry leg) count (F.told folder.new)) }
     ensures beside { OnOk result (MakesBeside (target_of leg) (F.told folder.old) (F.told folder.new)) }
     ensures new { OnOk result (IsNewAt (kind_to leg) (target_of leg) (F.told folder.new)) }
 {
+    draws_compose();
+    roots_show_their_own();
     let root = leg.target(alloc)?;
-    let made = match leg {
-        Leg::There => make_vault(alloc, folder, VaultKind::Cryptomator, "c", random),
-        Leg::Back => make_vault(alloc, folder, VaultKind::Gocryptfs, "h", random),
-    };
-    match made {
+    match make_vault_of(alloc, folder, leg, random) {
         Ok(_) => Ok(()),
         Err(fault) => Err(answer_to(alloc, &root, fault)),
+    }
+}
+
+// Makes the vault that a migration goes to.
+fn make_vault_of<F: Folder, R: Randoms>(
+    alloc: Global,
+    folder: &mut F,
+    leg: Leg,
+    random: &mut R,
+) -> Result<Work, MakeFault>
+    ensures fresh { IfOk result (λ work. (v : View) → IsSeen (F.told folder.new) v → IsFresh v making_folder) }
+    ensures stands { IfOk result (λ work. IsNewAt (kind_to leg) (target_of leg) (F.told folder.new)) }
+    ensures beside { MakesBeside (target_of leg) (F.told folder.old) (F.told folder.new) }
+    ensures failed { IfErr result (λ fault. IsFailed fault → CountRose (F.faults folder.old) (F.faults folder.new)) }
+    ensures own { IfErr result (λ fault. IsMakeFault fault) }
+    ensures chance { IfErr result (λ fault. (v : View) → IsSeen (F.told folder.old) v → CanMake (target_of leg) v → making.IsOfChance fault) }
+    ensures random { result ≡ Err (MakeFault.Put PutFault.Random) → CountRose (R.faults random.old) (R.faults random.new) }
+    ensures drew { Drew (result ≡ Err (MakeFault.Put PutFault.ZeroRandom)) (R.left random.old) (R.left random.new) }
+    ensures grows { F.faults folder.old ≤ F.faults folder.new }
+    ensures counted { R.faults random.old ≤ R.faults random.new }
+{
+    match leg {
+        Leg::There => make_vault(alloc, folder, VaultKind::Cryptomator, "c", random),
+        Leg::Back => make_vault(alloc, folder, VaultKind::Gocryptfs, "h", random),
     }
 }
 
@@ -309,32 +367,41 @@ fn make_target<F: Folder, R: Randoms>(
 fn migrate<F: Folder, R: Randoms>(
     alloc: Global,
     folder: &mut F,
-    source: &FPath,
-    target: &FPath,
+    leg: Leg,
     random: &mut R,
 ) -> Result<u8, Answer>
-    requires source { IsParsed source.now }
-    requires target { IsParsed target.now }
-    ensures status { IfOk result (IsStatus (CountRose (F.faults folder.old) (F.faults folder.new)) (CountRose (R.faults random.old) (R.faults random.new))) }
+    ensures status { (count : ℕ) → IfOk result (IsStatus (chances (F.faults folder.old) (F.faults folder.new) (R.faults random.old) (R.faults random.new) (R.left random.old) (R.left random.new) (Sees (CanCarry leg) count (F.told folder.old)))) }
     ensures memory { IfErr result (λ answer. answer ≡ Answer.OutOfMemory) }
     ensures grows { F.faults folder.old ≤ F.faults folder.new }
     ensures counted { R.faults random.old ≤ R.faults random.new }
-    ensures moved { IfOk result (λ status. status ≡ 0 → IsMoved source.now target.now (F.told folder.old) (F.told folder.new)) }
+    ensures drew { (count : ℕ) → Sees (CanCarry leg) count (F.told folder.old) → Drew ⊥ (R.left random.old) (R.left random.new) }
+    ensures carried { IfOk result (λ status. status ≡ 0 → (count : ℕ) → Sees (CanCarry leg) count (F.told folder.old) → Sees (HasCarried leg) count (F.told folder.new)) }
+    ensures moved { IfOk result (λ status. status ≡ 0 → IsMoved (source_of leg) (target_of leg) (F.told folder.old) (F.told folder.new)) }
 {
+    draws_compose();
+    items_are_directories_or_short_files();
+    names_of_items_are_allowed();
+    plans_are_the_tree();
+    roots_have_one_answer();
+    roots_show_their_own();
+    small_contents_pass_no_limit();
+    trees_have_so_many_items();
+    trees_of_items_pass_no_limit();
+    let source = leg.source(alloc)?;
+    let target = leg.target(alloc)?;
     let work = place(alloc, "m")?;
     match migrate_core::begin(
-        alloc, folder, source, target, &work, PASSPHRASE, PASSPHRASE, random,
+        alloc, folder, &source, &target, &work, PASSPHRASE, PASSPHRASE, random,
     ) {
         Ok(_) => Ok(0),
-        Err(fault) => status_of(&work, source, target, fault),
+        Err(fault) => status_of(&work, &source, &target, fault),
     }
 }
 
 // The status of a migration that stops.
 fn status_of(work: &FPath, source: &FPath, target: &FPath, fault: MoveFault) -> Result<u8, Answer>
-    ensures status { IfOk result (IsStatus (IsMoveFault fault → fault ≡ MoveFault.Failed) (fault ≡ MoveFault.Place PutFault.Random)) }
+    ensures status { IsMoveFault fault → IfOk result (EndsWork (chances_by fault)) }
     ensures memory { IfErr result (λ answer. answer ≡ Answer.OutOfMemory) }
-    ensures stops { IsMoveFault fault → IfOk result (λ status. status ≢ 0) }
 {
     let root = match fault {
         MoveFault::Load(Side::Target, _) => target,
@@ -351,10 +418,19 @@ fn retire_source<F: Folder>(alloc: Global, folder: &mut F, leg: Leg) -> Result<u
     ensures own { IfErr result (λ answer. IsTrue (is_of_refusal answer)) }
     ensures folder_fault { result ≡ Err Answer.FolderFault → CountRose (F.faults folder.old) (F.faults folder.new) }
     ensures grows { F.faults folder.old ≤ F.faults folder.new }
-    ensures leaves { IfOk result (λ items. LeavesAny (F.told folder.old) (F.told folder.new)) }
+    ensures ends { (count : ℕ) → Sees (HasCarried leg) count (F.told folder.old) → IfErr result (λ answer. IsTrue (is_of_folder answer)) }
+    ensures items { IfOk result (λ items. (count : ℕ) → Sees (HasCarried leg) count (F.told folder.old) → items ≡ count) }
+    ensures next { IfOk result (λ items. (count : ℕ) → leg ≡ Leg.There → Sees (HasCarried leg) count (F.told folder.old) → Sees (CanLead Leg.Back) count (F.told folder.new)) }
+    ensures leaves { IfOk result (λ items. LeavesSource leg items (F.told folder.old) (F.told folder.new)) }
 {
-    roots_show_their_own();
+    clean_vaults_are_shallow();
+    items_are_directories_or_short_files();
     journals_are_read_back();
+    names_of_items_are_allowed();
+    roots_show_their_own();
+    small_contents_pass_no_limit();
+    trees_of_items_pass_no_limit();
+    walks_tell_the_tree();
     let work = place(alloc, "m")?;
     let source = leg.source(alloc)?;
     let target = leg.target(alloc)?;
@@ -368,6 +444,7 @@ fn retire_source<F: Folder>(alloc: Global, folder: &mut F, leg: Leg) -> Result<u
 fn refused(work: &FPath, source: &FPath, target: &FPath, fault: RetireFault) -> Answer
     ensures own { IsRetireFault fault → IsTrue (is_of_refusal result) }
     ensures failed { result ≡ Answer.FolderFault → IsRetireFault fault → fault ≡ RetireFault.Failed }
+    ensures folder { IsOfFolder fault → IsTrue (is_of_folder result) }
 {
     let root = match fault {
         RetireFault::Load(Side::Target, _) => target,
@@ -381,6 +458,8 @@ fn answer_to(alloc: Global, root: &FPath, fault: MakeFault) -> Answer
     ensures own { IsMakeFault fault → IsTrue (is_of_stop result) }
     ensures failed { result ≡ Answer.FolderFault → IsMakeFault fault → IsFailed fault }
     ensures drawn { result ≡ Answer.RandomFault → fault ≡ MakeFault.Put PutFault.Random }
+    ensures zeros { result ≡ Answer.ZeroRandom → fault ≡ MakeFault.Put PutFault.ZeroRandom }
+    ensures chance { IsOfItems fault → IsTrue (is_of_chance result) }
 {
     match fault {
         MakeFault::Work(fault) => match place(alloc, "w") {

@@ -129,6 +129,7 @@ pub(crate) fn answer_to(work: &FPath, root: &FPath, fault: MoveFault) -> Answer
     ensures answers { (result ≡ Answer.OutOfMemory) ⊎ (result ≡ of_move work.now root.now fault) }
     ensures failed { result ≡ Answer.FolderFault → IsMoveFault fault → fault ≡ MoveFault.Failed }
     ensures drawn { result ≡ Answer.RandomFault → fault ≡ MoveFault.Place PutFault.Random }
+    ensures zeros { result ≡ Answer.ZeroRandom → fault ≡ MoveFault.Place PutFault.ZeroRandom }
     ensures own { IsMoveFault fault → IsTrue (is_of_stop result) }
 {
     match fault {

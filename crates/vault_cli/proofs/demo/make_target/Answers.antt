@@ -1,13 +1,26 @@
-use Rattle.std.proofs.Common.{ap}
-use Rattle.vault_cli.specs.declared.demo.Leg.TheVariants.{There, Back}
-use Rattle.vault_cli.proofs.Legs.{new_told}
+use Rattle.std.proofs.Common.{◌≡◌, ◌∙◌, Err, ap}
+use Rattle.content_writing.specs.declared.fault.PutFault.TheVariants.{ZeroRandom}
+use Rattle.demo_core.specs.declared.fault.MakeFault.TheVariants.{Put}
+use Rattle.demo_core.proofs.Drawn.{drew_for}
+use Rattle.vault_cli.proofs.DemoDraws.{drew_none, drew_some}
+use Rattle.vault_cli.proofs.Steps.{can_make_target, item_of_chance, target_stands}
 use Rattle.vault_cli.proofs.demo.make_target.Goals as goal
-use Rattle.vault_cli.proofs.demo.make_target.Goals.{in-There, in-Back}
 
-pub returns-in-Ok-clause-new : goal.returns-in-Ok-clause-new
-returns-in-Ok-clause-new g c = elim c.match-leg.branch [
-  | in-There w ↦ new_told c.args.leg There c.match-leg.made w.make_vault-made.result c.in-Ok.field-0 (g.F.Folder.told c.match-leg.folder) (g.F.Folder.told w.make_vault-made.new.folder) w.in-There.is
-      (ap g.F.Folder.told w.folder-is) w.made-is c.in-Ok.is w.make_vault-made.ensures.stands
-  | in-Back w ↦ new_told c.args.leg Back c.match-leg.made w.make_vault-made-in-Back.result c.in-Ok.field-0 (g.F.Folder.told c.match-leg.folder) (g.F.Folder.told w.make_vault-made-in-Back.new.folder) w.in-Back.is
-      (ap g.F.Folder.told w.folder-is) w.made-is c.in-Ok.is w.make_vault-made-in-Back.ensures.stands
-]
+pub returns-in_err-root-clause-drew : goal.returns-in_err-root-clause-drew
+returns-in_err-root-clause-drew g c = drew_none c.draws_compose.ensures.none (g.R.Randoms.left c.args.random.now)
+
+pub returns-in-Ok-clause-drew : goal.returns-in-Ok-clause-drew
+returns-in-Ok-clause-drew g c = drew_some _ (g.R.Randoms.left c.args.random.now) (g.R.Randoms.left c.make_vault_of.new.random) c.make_vault_of.ensures.drew
+
+pub returns-in-Ok-clause-stands : goal.returns-in-Ok-clause-stands
+returns-in-Ok-clause-stands g c count sees =
+    target_stands c.roots_show_their_own.ensures.alike c.args.leg count (g.F.Folder.told c.args.folder.now) (g.F.Folder.told c.make_vault_of.new.folder) (λ a is. g.met.F.Folder.sound c.args.folder.now a is)
+    c.make_vault_of.ensures.beside c.in-Ok.ensures.stands c.in-Ok.ensures.fresh sees
+
+pub returns-clause-ends : goal.returns-clause-ends
+returns-clause-ends g c count = record {
+  zeros = λ sees same.
+      drew_for (Unit {0}) (c.make_vault_of.result ≡ Err (Put ZeroRandom)) (g.R.Randoms.left c.args.random.now) (g.R.Randoms.left c.make_vault_of.new.random) (λ _. c.in-Err.is ∙ ap Err (c.answer_to.ensures.zeros same)) c.make_vault_of.ensures.drew;
+  others = λ sees.
+      c.answer_to.ensures.chance (item_of_chance c.in-Err.fault (c.in-Err.ensures.chance sees.view sees.seen (can_make_target c.args.leg count (g.F.Folder.told c.args.folder.now) sees sees.view sees.seen)));
+}

@@ -1,9 +1,7 @@
-use Rattle.vault_cli.proofs.Statuses.{stops}
-use Rattle.vault_cli.proofs.Statuses.{is_status}
+use Rattle.vault_cli.proofs.Statuses.{ends_work}
 use Rattle.vault_cli.proofs.demo.status_of.Goals as goal
 
 pub returns-in_default-answer_to-clause-status : goal.returns-in_default-answer_to-clause-status
-returns-in_default-answer_to-clause-status c = is_status _ _ c.answer_to.result c.status.result (c.status.ensures) c.in_default-answer_to.not-OutOfMemory c.answer_to.ensures.failed c.answer_to.ensures.drawn
-
-pub returns-in_default-answer_to-clause-stops : goal.returns-in_default-answer_to-clause-stops
-returns-in_default-answer_to-clause-stops c fault = stops c.answer_to.result c.status.result c.status.ensures (c.answer_to.ensures.own fault)
+returns-in_default-answer_to-clause-status c own =
+    ends_work c.args.work.now _ c.args.fault c.answer_to.result c.status.result c.status.ensures c.in_default-answer_to.not-OutOfMemory c.answer_to.ensures.answers
+    (λ is. c.answer_to.ensures.failed is own) c.answer_to.ensures.drawn c.answer_to.ensures.zeros (c.answer_to.ensures.own own)

@@ -1,24 +1,23 @@
 -- How a migration of the demonstration stops, by what is seen when it begins.
-use Rattle.std.proofs.Common.{◌≡◌, ◌≢◌, ◌≤◌, ◌⊎◌, ℕ, Option, Some, None, Result, Ok, Err, IfErr, IfOk, inl, inr, refl, sym, ap, subst, ◌∙◌}
-use Rattle.content_writing.specs.declared.fault.PutFault.TheVariants as put
-use Rattle.demo_core.specs.Drawing.{Drew}
+use Rattle.std.proofs.Common.{◌≡◌, ◌≢◌, ℕ, Option, Some, None, Result, Ok, Err, IfErr, IfOk, refl, sym, subst}
 use Rattle.demo_core.specs.Making.{phrase}
 use Rattle.folder_spec.specs.Event.{Told}
 use Rattle.folder_spec.specs.Path.{Path}
-use Rattle.folder_spec.specs.Region.{apart_from_both}
+use Rattle.folder_spec.specs.Region.{IsAsBefore, apart_from_both}
 use Rattle.folder_spec.specs.Seen.{IsSeen, seen, under}
-use Rattle.folder_spec.specs.State.{IsSound, State}
+use Rattle.folder_spec.specs.State.{IsSound}
 use Rattle.folder_spec.specs.View.{View}
 use Rattle.migrate_core.specs.Completing.{CanBegin, IsOfChance}
-use Rattle.migrate_core.specs.Faults.{Blamed, IsMoveFault}
+use Rattle.migrate_core.specs.Faults.{Blamed}
 use Rattle.migrate_core.specs.Limits.{HasSmallContents, IsOfLimit, PassesInTree, PassesLimit}
 use Rattle.migrate_core.specs.Copying.{tree_in}
 use Rattle.migrate_core.specs.Moved.{opened_in}
 use Rattle.migrate_core.specs.Moving.{MovesOnly, OnlyBrings}
+use Rattle.migrate_core.specs.Sharing.{IsOfTaken, SharesInTree}
 use Rattle.migrate_core.specs.Sides.{IsAsked}
 use Rattle.migrate_core.specs.Written.{MayWriteTree}
 use Rattle.migrate_core.specs.declared.fault.MoveFault.{MoveFault}
-use Rattle.migrate_core.specs.declared.fault.MoveFault.TheVariants.{Match as Matching, Place}
+use Rattle.migrate_core.specs.declared.fault.MoveFault.TheVariants.{Match as Matching}
 use Rattle.migrate_core.specs.declared.placing.Done.{Done}
 use Rattle.port_model.specs.Counts.{CountRose}
 use Rattle.port_model.specs.Draws.{ByteStream}
@@ -33,13 +32,15 @@ use Rattle.vault_cli.specs.declared.answer.Answer.{Answer}
 use Rattle.vault_cli.specs.DemoSteps.{CanCarry, HoldsWell, Sees, kind_from}
 use Rattle.vault_cli.specs.DemoTrees.{moving_folder, source_of, target_of}
 use Rattle.vault_cli.specs.declared.demo.Leg.{Leg}
+use Rattle.demo_core.proofs.Shared.{goes_by}
 use Rattle.demo_core.proofs.Standing.{same_vault}
 use Rattle.vault_cli.proofs.DemoDraws.{moving_zeros}
 use Rattle.vault_cli.proofs.DemonstratedTrees.{AreAlike, region_stays}
 use Rattle.vault_cli.proofs.Demonstrations.{IsPart, ends_more, so_more}
 use Rattle.vault_cli.proofs.GoodOrder.{own_of_good, well_alike}
 use Rattle.vault_cli.proofs.Legs.{apart_moving}
-use Rattle.vault_cli.proofs.Movable.{AreMovable, can_begin, is_asked, migration_of, small_contents}
+use Rattle.vault_cli.proofs.SharedPlaces.{leg_shares}
+use Rattle.vault_cli.proofs.Movable.{AreMovable, PlansTell, can_begin, is_asked, migration_of, small_contents}
 
 abbrev pub SmallPass : Type 0
 SmallPass = (from to : OpenedVault) (v : View) (at : Path) → HasOwnFolders from.vault (under from.root v) → HasSmallContents (tree_in from v) → ¬ PassesLimit from to v at
@@ -50,6 +51,7 @@ pub record StopsAt (from to work : Path) (fault : MoveFault) (f f' r r' : ℕ) (
   pub completes : (g : Migration) (v : View) → IsSeen t v → IsAsked g from to work phrase phrase → CanBegin g v → IsOfChance fault
   pub too_long : IsOfLimit (PassesInTree from to phrase phrase t t') fault
   pub written : (v : View) → IsSeen t v → MayWriteTree {T = Done} (Err fault) from to phrase phrase s s' t t'
+  pub shared : IsOfTaken (SharesInTree from to phrase phrase s s' t t') fault
   pub moves : MovesOnly work to t t'
 
 abbrev pub Stops : Leg → MoveFault → (f f' r r' : ℕ) → Option ByteStream → Option ByteStream → Option Told → Option Told → Type 0
@@ -61,7 +63,7 @@ stops_by leg from to work fault f f' r r' s s' t t' one other third stops =
     subst (λ p. StopsAt p (target_of leg) moving_folder fault f f' r r' s s' t t') one
     (subst (λ p. StopsAt from p moving_folder fault f f' r r' s s' t t') other (subst (λ p. StopsAt from to p fault f f' r r' s s' t t') third stops))
 
-module _ (alike : AreAlike) (one : HaveOneAnswer) (laws : AreMovable) (passes : SmallPass) (leg : Leg) (fault : MoveFault) (f f' r r' : ℕ) (s s' : Option ByteStream) where
+module _ (alike : AreAlike) (one : HaveOneAnswer) (laws : AreMovable) (plans : PlansTell) (passes : SmallPass) (leg : Leg) (fault : MoveFault) (f f' r r' : ℕ) (s s' : Option ByteStream) where
   -- no content passes the limit
   no_limit : (count : ℕ) (t t' : Option Told) → ((a : Told) → t ≡ Some a → IsSound a.state) → Stops leg fault f f' r r' s s' t t' → Sees (CanCarry leg) count t → (at : Path) → fault ≢ Matching (match.Limit (limit.Length at))
   no_limit count (Some a) (Some b) sound stops sees at is =
@@ -87,7 +89,6 @@ module _ (alike : AreAlike) (one : HaveOneAnswer) (laws : AreMovable) (passes : 
 
       vault : there.items.vault ≡ tree.source
       vault = same_vault one (under from (seen b.state)) there.items.vault tree.source there.items.opens (subst (λ u. IsVault u phrase tree.source) (sym same) (tree.opens_source (seen a.state) refl))
-
   no_limit count None t' sound stops sees at is = absurd sees.seen
   no_limit count (Some a) None sound stops sees at is = absurd stops.moves
 
@@ -99,12 +100,18 @@ module _ (alike : AreAlike) (one : HaveOneAnswer) (laws : AreMovable) (passes : 
   of_chance count None t' sound stops sees = absurd sees.seen
 
   pub begun_ends : (count : ℕ) (t t' : Option Told) (status : ℕ) → ((a : Told) → t ≡ Some a → IsSound a.state) → Stops leg fault f f' r r' s s' t t' → EndsWork (chances_by fault) status
-      → EndsWork (chances f f' r r' s s' (Sees (CanCarry leg) count t)) status
-  begun_ends count t t' status sound stops ends = ends_more (chances_by fault) (chances f f' r r' s s' (Sees (CanCarry leg) count t)) (record {
+      → EndsWork (chances f f' r r' s s' t t' count (Sees (CanCarry leg) count t)) status
+  begun_ends count t t' status sound stops ends = ends_more (chances_by fault) (chances f f' r r' s s' t t' count (Sees (CanCarry leg) count t)) (record {
     folder = stops.blamed.failed;
     random = stops.blamed.drawn;
     zeros = λ sees is. moving_zeros (source_of leg) (target_of leg) phrase phrase s s' t t' sees.view sees.seen
         (subst (λ why. MayWriteTree {T = Done} (Err why) (source_of leg) (target_of leg) phrase phrase s s' t t') is (stops.written sees.view sees.seen));
+    shared = λ sees taken. (
+      target_of leg,
+      leg_shares one plans leg count s s' t t'
+          (goes_by (λ s0 here. IsAsBefore (apart_from_both moving_folder (target_of leg)) s0 here) (λ s0 here e. OnlyBrings (target_of leg) here e.call) t t' stops.moves)
+          (subst (IsOfTaken (SharesInTree (source_of leg) (target_of leg) phrase phrase s s' t t')) taken.1 stops.shared) sees,
+    );
     known = λ sees. (of_chance count t t' sound stops sees, no_limit count t t' sound stops sees);
   }) status ends
 

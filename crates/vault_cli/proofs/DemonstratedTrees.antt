@@ -24,7 +24,7 @@ use Rattle.vault_spec.specs.Vault.{IsVault, format_of}
 use Rattle.vault_write.proofs.Runs.{seen_as_before}
 use Rattle.vault_cli.specs.DemoTrees.{IsWithin}
 
-no_root : (front : plain.Path) (name : List ℕ) → front ++ name ∷ [] ≢ []
+pub no_root : (front : plain.Path) (name : List ℕ) → front ++ name ∷ [] ≢ []
 no_root [] name same = cc
 no_root (part ∷ front) name same = cc
 

@@ -5,7 +5,10 @@ use Rattle.std.proofs.KnownBytes.{Keeps-refl}
 use Rattle.std.proofs.Math.Seq.{take-append-add}
 use Rattle.std.proofs.lemmas.List.{take_all}
 use Rattle.demo_core.specs.Drawing.{Drew, seed_stream}
+use Rattle.demo_core.specs.Sharing.{GoesOn}
 use Rattle.demo_core.proofs.Drawn.{Compose}
+use Rattle.demo_core.proofs.Shared.{shares_since}
+use Rattle.folder_spec.specs.Path.{Path}
 use Rattle.folder_model.specs.Memory.{new_told}
 use Rattle.folder_spec.specs.Event.{Told}
 use Rattle.folder_spec.specs.Seen.{seen}
@@ -13,7 +16,7 @@ use Rattle.port_model.specs.Counts.{CountRose}
 use Rattle.port_model.specs.Draws.{ByteStream}
 use Rattle.port_model.specs.Told.{AppendsPrefix}
 use Rattle.vault_cli.specs.Answers.{is_plain}
-use Rattle.vault_cli.specs.Demo.{Chances, Demonstrates, EndsSo, EndsWork, IsBare, IsLed, IsStatus, IsWay, IsWayBack, OnArrival, OnEnd, PrintsAll, PrintsBack, PrintsBy, PrintsDemonstration, PrintsLed, PrintsWay, TakesBy, Way, StoppedThere, StoppedBack, Arrived, back_text, chances, chances_of, is_of_chance, is_of_demonstration, is_of_fault, is_of_folder, is_of_telling, led_text, made_text, moved_text, retired_text, way_of, way_text}
+use Rattle.vault_cli.specs.Demo.{Chances, Demonstrates, EndsSo, EndsWork, IsBare, IsLed, IsStatus, IsWay, IsWayBack, OnArrival, OnEnd, PrintsAll, PrintsBack, PrintsBy, PrintsDemonstration, PrintsLed, PrintsWay, TakesBy, Way, StoppedThere, StoppedBack, Arrived, SharesOne, back_text, chances, chances_of, is_of_chance, is_of_demonstration, is_of_fault, is_of_folder, is_of_telling, led_text, made_text, moved_text, retired_text, way_of, way_text}
 use Rattle.vault_cli.specs.World.{World}
 use Rattle.vault_cli.specs.declared.answer.Answer.{Answer}
 use Rattle.vault_cli.specs.declared.answer.Answer.TheVariants.{Done, Findings, BadCommandLine, OutOfMemory, FolderFault, InputFault, OutputFault, RandomFault, Refused, WrongPass, NotFound, WrongKind, DamagedInput, Damaged, NotAllowed, NotClean, Overlap, NotEmpty, Begun, Unusable, Changed, Differ, ZeroRandom, Taken, Limit, Retired}
@@ -75,6 +78,7 @@ pub record IsPart (c c' : Chances) : Type 0 where
   pub folder : c.folder → c'.folder
   pub random : c.random → c'.random
   pub zeros : c'.known → c.zeros → c'.zeros
+  pub shared : c'.known → c.shared → c'.shared
   pub known : c'.known → c.known
 
 module _ (c c' : Chances) (part : IsPart c c') where
@@ -85,6 +89,7 @@ module _ (c c' : Chances) (part : IsPart c c') where
     folder = λ same. part.folder (is.folder same);
     random = λ same. part.random (is.random same);
     zeros = λ known same. part.zeros known (is.zeros (part.known known) same);
+    shared = λ known same. part.shared known (is.shared (part.known known) same);
     others = λ known. is.others (part.known known);
   }
 
@@ -94,7 +99,11 @@ module _ (c c' : Chances) (part : IsPart c c') where
   way_more count (Arrived first second) is = λ known. is (part.known known)
 
   pub so_more : (answer : Answer) → EndsSo c answer → EndsSo c' answer
-  so_more answer so = record { zeros = λ known same. part.zeros known (so.zeros (part.known known) same); others = λ known. so.others (part.known known) }
+  so_more answer so = record {
+    zeros = λ known same. part.zeros known (so.zeros (part.known known) same);
+    shared = λ known at same. part.shared known (so.shared (part.known known) at same);
+    others = λ known. so.others (part.known known);
+  }
 
   -- the way back follows the line of a first migration that is done
   pub back_then : (count retired : ℕ) (result : Result Ended Answer) (taken mid last : Option (List ℕ)) → (c'.known → retired ≡ count) → Appends taken mid (moved_text There 0) → PrintsBack c count retired result mid last
@@ -116,18 +125,20 @@ module _ (c c' : Chances) (part : IsPart c c') where
   made_then seed count (Ok way) taken mid last first next = (way_more count (way_of way) next.0, all_then taken mid last (made_text seed count) (way_text (way_of way)) first next.1)
   made_then seed count (Err answer) taken mid last first next = (next.0, way_more count next.0 next.1, front_then taken mid last (made_text seed count) (way_text next.0) first next.2)
 
--- what follows on something of which as much is known, and which draws some
-pub part_after : Compose → (f0 f1 f2 r0 r1 r2 : ℕ) (s0 s1 s2 : Option ByteStream) (K K' : Type 0) → f0 ≤ f1 → r0 ≤ r1 → (K' → Drew ⊥ s0 s1) → (K' → K) → IsPart (chances f1 f2 r1 r2 s1 s2 K) (chances f0 f2 r0 r2 s0 s2 K')
-part_after compose f0 f1 f2 r0 r1 r2 s0 s1 s2 K K' folder random drew known = record {
+-- what follows on something of which as much is known, which draws some
+pub part_after : Compose → (f0 f1 f2 r0 r1 r2 : ℕ) (s0 s1 s2 : Option ByteStream) (t0 t1 t2 : Option Told) (count : ℕ) (K K' : Type 0) → f0 ≤ f1 → r0 ≤ r1 → (K' → Drew ⊥ s0 s1) → (K' → GoesOn t0 t1) → (K' → K)
+    → IsPart (chances f1 f2 r1 r2 s1 s2 t1 t2 count K) (chances f0 f2 r0 r2 s0 s2 t0 t2 count K')
+part_after compose f0 f1 f2 r0 r1 r2 s0 s1 s2 t0 t1 t2 count K K' folder random drew goes known = record {
   folder = rose_after f0 f1 f2 folder;
   random = rose_after r0 r1 r2 random;
   zeros = λ k zeros. drew_after compose s0 s1 s2 (drew k) zeros;
+  shared = λ k shares. (shares.0, shares_since compose shares.0 t0 t1 t2 s0 s1 s2 count count (drew k).drawn (omega arith) (goes k) (drew k).were_drawn shares.1);
   known = known;
 }
 
 -- want of memory is always a chance
 pub memory_ends : (c : Chances) → EndsSo c OutOfMemory
-memory_ends c = record { zeros = λ known same. cc; others = λ known. refl }
+memory_ends c = record { zeros = λ known same. cc same; shared = λ known at same. cc same; others = λ known. refl }
 
 -- the output's fault, the folder's and want of memory are of chance
 plain_chance : (answer : Answer) → IsTrue (is_of_folder answer || is_of_telling answer) → IsTrue (is_of_chance answer)
@@ -161,8 +172,15 @@ plain_chance (Retired work) is = cc is
 no_zeros : (answer : Answer) → IsTrue (is_of_folder answer || is_of_telling answer) → answer ≢ ZeroRandom
 no_zeros answer is same = let none : IsTrue (is_of_folder ZeroRandom || is_of_telling ZeroRandom) = subst (λ a. IsTrue (is_of_folder a || is_of_telling a)) same is in cc none
 
+none_taken : (answer : Answer) → IsTrue (is_of_folder answer || is_of_telling answer) → (at : Path) → answer ≢ Taken at
+none_taken answer is at same = let none : IsTrue (is_of_folder (Taken at) || is_of_telling (Taken at)) = subst (λ a. IsTrue (is_of_folder a || is_of_telling a)) same is in cc none
+
 pub plain_ends : (c : Chances) (answer : Answer) → (c.known → IsTrue (is_of_folder answer || is_of_telling answer)) → EndsSo c answer
-plain_ends c answer is = record { zeros = λ known same. absurd (no_zeros answer (is known) same); others = λ known. plain_chance answer (is known) }
+plain_ends c answer is = record {
+  zeros = λ known same. absurd (no_zeros answer (is known) same);
+  shared = λ known at same. absurd (none_taken answer (is known) at same);
+  others = λ known. plain_chance answer (is known);
+}
 
 either : (a b : Bool) → IsTrue b → IsTrue (a || b)
 either true b is = refl
@@ -215,11 +233,13 @@ way_stopped Is text result answer taken last is some = subst (λ r. PrintsBy Is 
 
 -- ---- its own random source
 
-pub of_seed : (f f' seed : ℕ) (s s' : Option ByteStream) (known : Type 0) → s ≡ Some (seed_stream seed) → IsPart (chances f f' 0 0 s s' known) (chances_of (CountRose f f') known seed)
-of_seed f f' seed s s' known is = record {
+pub of_seed : (f f' seed count : ℕ) (s s' : Option ByteStream) (t t' : Option Told) (known : Type 0) → s ≡ Some (seed_stream seed)
+    → IsPart (chances f f' 0 0 s s' t t' count known) (chances_of (CountRose f f') known seed count t t')
+of_seed f f' seed count s s' t t' known is = record {
   folder = λ failed. failed;
   random = none_rose;
   zeros = λ k zeros. (s', subst (λ o. Drew (Unit {0}) o s') is zeros);
+  shared = λ k shares. (s', subst (λ o. SharesOne t t' o s' count) is shares);
   known = λ k. k;
 }
 
@@ -270,8 +290,14 @@ module _ (c c' : Chances) (part : IsPart c c') (B : Type 0) (seed count : ℕ) w
 bare_new : IsBare (Some new_told)
 bare_new = record { view = seen new_told.state; seen = refl; base = refl; entries = λ name. refl }
 
-pub steady_part : (told : Option Told) (seed : ℕ) → told ≡ Some new_told → IsPart (chances_of (CountRose 0 0) (IsBare told) seed) (chances_of ⊥ (Unit {0}) seed)
-steady_part told seed is = record { folder = none_rose; random = λ failed. failed; zeros = λ known zeros. zeros; known = λ known. subst IsBare (sym is) bare_new }
+pub steady_part : (told told' : Option Told) (seed count : ℕ) → told ≡ Some new_told → IsPart (chances_of (CountRose 0 0) (IsBare told) seed count told told') (chances_of ⊥ (Unit {0}) seed count (Some new_told) told')
+steady_part told told' seed count is = record {
+  folder = none_rose;
+  random = λ failed. failed;
+  zeros = λ known zeros. zeros;
+  shared = λ known shares. subst (λ t. (rest : Option ByteStream) × SharesOne t told' (Some (seed_stream seed)) rest count) is shares;
+  known = λ known. subst IsBare (sym is) bare_new;
+}
 
 pub steadily : (c c' : Chances) → IsPart c c' → (B : Type 0) (seed count : ℕ) (answer : Answer) (taken taken' : Option (List ℕ)) → PrintsDemonstration c B seed count answer taken taken' → PrintsDemonstration c' (Unit {0}) seed count answer taken taken'
 steadily c c' part B seed count answer taken taken' prints = (prints.0, way_more c c' part count prints.0 prints.1, prints.2, λ same. arrived prints.0)
@@ -288,7 +314,8 @@ pub demonstrates_nothing : (demonstration : Demonstration) (w : World) → Demon
 demonstrates_nothing demonstration w = record {
   own = refl;
   steady = λ same. cc;
-  ends = memory_ends (chances_of ⊥ (Unit {0}) demonstration.seed);
+  told = None;
+  ends = memory_ends (chances_of ⊥ (Unit {0}) demonstration.seed demonstration.count (Some new_told) None);
   prints = (Arrived demonstration.count demonstration.count, (λ known. (refl, refl)), nothing_yet w.taken (made_text demonstration.seed demonstration.count ++ way_text (Arrived demonstration.count demonstration.count)), λ same. cc);
   unchanged = refl;
   untouched = Keeps-refl w.left;
@@ -337,7 +364,8 @@ pub demonstration_lost : (demonstration : Demonstration) (answer : Answer) (befo
 demonstration_lost demonstration answer before after named did = record {
   own = refl;
   steady = λ same. cc;
-  ends = memory_ends (chances_of ⊥ (Unit {0}) demonstration.seed);
+  told = did.told;
+  ends = memory_ends (chances_of ⊥ (Unit {0}) demonstration.seed demonstration.count (Some new_told) did.told);
   prints = (did.prints.0, did.prints.1, takes_lost answer before.taken after.taken (made_text demonstration.seed demonstration.count ++ way_text did.prints.0) named did.prints.2, λ same. cc);
   unchanged = did.unchanged;
   untouched = did.untouched;

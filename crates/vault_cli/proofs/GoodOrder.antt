@@ -1,6 +1,6 @@
 -- Vaults in good order at the roots of the demonstration.
 use Rattle.std.proofs.Common.{◌≡◌, ◌≢◌, ◌∷◌, [], ℕ, refl, sym, subst, arith}
-use Rattle.demo_core.specs.Making.{HoldsInOrder, HoldsItems, StandsNew, phrase}
+use Rattle.demo_core.specs.Making.{HoldsInOrder, StandsNew, phrase}
 use Rattle.demo_core.specs.Tree.{HasItems}
 use Rattle.demo_core.proofs.Standing.{same_vault, seen_alone}
 use Rattle.folder_spec.specs.Path.{Path}
@@ -17,6 +17,7 @@ use Rattle.vault_spec.specs.Alike.{IsOrderly}
 use Rattle.vault_spec.specs.Empty.{IsEmptyVault}
 use Rattle.vault_spec.specs.Findings.{IsClean}
 use Rattle.vault_spec.specs.Opens.{NoItem, opened, tree}
+use Rattle.vault_spec.specs.Tidy.{IsTidy}
 use Rattle.vault_spec.specs.Vault.{Cryptomator, Gocryptfs, IsVault, Vault, format_of}
 use Rattle.vault_write.specs.Trees.{ShowsVault}
 use Rattle.vault_cli.specs.DemoSteps.{HoldsWell}
@@ -69,13 +70,21 @@ none_of_them seed vault v empty = record {
     by [] proper = absurd (proper refl)
     by (name ∷ rest) proper = empty.others name rest
 
-pub new_well : (kind : VaultKind) (root : Path) (seed : ℕ) (s : State) → StandsNew kind root s → HoldsWell kind root seed 0 (seen s)
+pub record IsNewWell (kind : VaultKind) (root : Path) (seed : ℕ) (v : View) : Type 0 where
+  pub well : HoldsWell kind root seed 0 v
+  pub tidy : IsTidy (format_of well.items.vault) (under root v)
+
+pub new_well : (kind : VaultKind) (root : Path) (seed : ℕ) (s : State) → StandsNew kind root s → IsNewWell kind root seed (seen s)
+unfolding well_alike
 new_well kind root seed s new =
     let same : under root (seen s) ≡ under root new.view = seen_alone root s new.view new.alone in
-    well_alike kind root seed 0 new.view (seen s) same (record {
-      items = record { vault = new.vault; is = new.is; opens = new.new.opens; items = none_of_them seed new.vault (under root new.view) new.new.empty };
-      good = new.good;
-    })
+    record {
+      well = well_alike kind root seed 0 new.view (seen s) same (record {
+        items = record { vault = new.vault; is = new.is; opens = new.new.opens; items = none_of_them seed new.vault (under root new.view) new.new.empty };
+        good = new.good;
+      });
+      tidy = subst (IsTidy (format_of new.vault)) (sym same) new.new.tidy;
+    }
 
 -- ---- the first vault
 

@@ -28,3 +28,4 @@ mod DemoDraws
 mod Steps
 mod Movable
 mod Beginnable
+mod SharedPlaces

@@ -1,9 +1,9 @@
 -- What the demonstration holds can be moved, and then retired.
 use Rattle.std.specs.Cmp.Lexicographic.{bytes_decides}
 use Rattle.std.specs.Str.{bytes_eq}
-use Rattle.std.proofs.Common.{◌≡◌, ◌≢◌, ◌⊎◌, ◌≤◌, ◌<◌, ◌*◌, ◌+◌, ◌∙◌, ◌++◌, ◌∷◌, [], ℕ, Bool, true, false, List, length, Contains, Option, Some, None, codes, inl, inr, IsTrue, is_some, refl, sym, ap, subst, arith}
+use Rattle.std.proofs.Common.{◌≡◌, ◌≢◌, ◌⊎◌, ◌≤◌, ◌<◌, ◌+◌, ◌∙◌, ◌++◌, ◌∷◌, [], ℕ, Bool, true, false, List, length, Contains, Option, Some, None, codes, inl, inr, IsTrue, refl, sym, ap, subst, arith}
 use Rattle.chunk_files.specs.Reading.{Wanting, Whole}
-use Rattle.demo_core.specs.Making.{HoldsItems, phrase}
+use Rattle.demo_core.specs.Making.{phrase}
 use Rattle.demo_core.specs.Tree.{HasItems}
 use Rattle.demo_core.proofs.Standing.{nothing_seen}
 use Rattle.folder_spec.specs.Path.{Path, below, child}
@@ -13,9 +13,9 @@ use Rattle.folder_spec.specs.State.{IsSound, State}
 use Rattle.folder_spec.specs.View.{FileOf, Folder, NoEntry, View, kind_found}
 use Rattle.folder_spec.specs.declared.Kind.TheVariants as kinds
 use Rattle.folder_spec.proofs.Paths.{begins_or_not, below-append}
-use Rattle.migrate_core.specs.Completing.{CanBegin, IsIntact, IsShallow}
+use Rattle.migrate_core.specs.Completing.{CanBegin}
 use Rattle.migrate_core.specs.Copying.{tree_in}
-use Rattle.migrate_core.specs.Limits.{HasSmallContents, IsSmall, PassesLimit}
+use Rattle.migrate_core.specs.Limits.{HasSmallContents, IsSmall}
 use Rattle.migrate_core.specs.Moved.{IsTidyWork, opened_in}
 use Rattle.migrate_core.specs.Sides.{AreTold, IsAsked, IsResumed}
 use Rattle.move_journal.specs.Journal.{journal_text}
@@ -24,8 +24,6 @@ use Rattle.retire_core.specs.Completing.{CanRetire, KeepsLimits}
 use Rattle.tree_match.specs.Comparing.{content_at}
 use Rattle.tree_match.specs.Guard.{Done, IsPlanOf, IsSeparate, IsWhole, IsWork, Migration, VaultAt, kinds_in, old_path}
 use Rattle.tree_match.specs.Trees.{IsWalkOf, Side}
-use Rattle.vault_read.specs.Contents.{content_limit}
-use Rattle.vault_read.specs.Laws.{HasOwnFolders}
 use Rattle.vault_read.specs.Opened.{OpenedVault}
 use Rattle.vault_spec.specs.Alike.{IsOrderly}
 use Rattle.vault_spec.specs.Depth.{IsWithinSteps}

@@ -3,7 +3,6 @@ use Rattle.std.proofs.Common.{◌≡◌, ◌≢◌, ◌⊎◌, ℕ, arith, inl, 
 use Rattle.content_writing.specs.declared.fault.PutFault.TheVariants as put
 use Rattle.folder_spec.specs.Path.{Path}
 use Rattle.migrate_core.specs.Completing.{IsOfChance}
-use Rattle.migrate_core.specs.Faults.{IsMoveFault}
 use Rattle.migrate_core.specs.declared.fault.MoveFault.{MoveFault}
 use Rattle.migrate_core.specs.declared.fault.MoveFault.TheVariants as move
 use Rattle.tree_match.specs.declared.answer.MatchFault.TheVariants as match
@@ -45,6 +44,35 @@ zeros_of (Taken at) is = absurd (omega (arith, is))
 zeros_of (Limit which) is = absurd (omega (arith, is))
 zeros_of (Retired work) is = absurd (omega (arith, is))
 
+-- only a taken place has its
+taken_of : (answer : Answer) → status_of answer ≡ 22 → (at : Path) × (answer ≡ Taken at)
+taken_of Done is = absurd (omega (arith, is))
+taken_of Findings is = absurd (omega (arith, is))
+taken_of BadCommandLine is = absurd (omega (arith, is))
+taken_of OutOfMemory is = absurd (omega (arith, is))
+taken_of FolderFault is = absurd (omega (arith, is))
+taken_of InputFault is = absurd (omega (arith, is))
+taken_of OutputFault is = absurd (omega (arith, is))
+taken_of RandomFault is = absurd (omega (arith, is))
+taken_of ZeroRandom is = absurd (omega (arith, is))
+taken_of (Refused at why) is = absurd (omega (arith, is))
+taken_of (WrongPass root) is = absurd (omega (arith, is))
+taken_of (NotFound what) is = absurd (omega (arith, is))
+taken_of (WrongKind what) is = absurd (omega (arith, is))
+taken_of (DamagedInput fault) is = absurd (omega (arith, is))
+taken_of (Damaged at how) is = absurd (omega (arith, is))
+taken_of (NotAllowed path) is = absurd (omega (arith, is))
+taken_of (NotClean at number) is = absurd (omega (arith, is))
+taken_of (Overlap first second) is = absurd (omega (arith, is))
+taken_of (NotEmpty at) is = absurd (omega (arith, is))
+taken_of (Begun work) is = absurd (omega (arith, is))
+taken_of (Unusable work why) is = absurd (omega (arith, is))
+taken_of (Changed plan items plan' items') is = absurd (omega (arith, is))
+taken_of (Differ path how) is = absurd (omega (arith, is))
+taken_of (Taken at) is = (at, refl)
+taken_of (Limit which) is = absurd (omega (arith, is))
+taken_of (Retired work) is = absurd (omega (arith, is))
+
 -- the statuses of chance
 chance_status : (work root : Path) (fault : MoveFault) → IsOfChance fault → ((at : Path) → fault ≢ move.Match (match.Limit (limit.Length at))) → of_move work root fault ≢ OutOfMemory → IsTrue (is_status_of_chance (status_of (of_move work root fault)))
 chance_status work root (move.Work fault) is small some = absurd is
@@ -79,14 +107,16 @@ chance_status work root move.NoMemory is small some = absurd (some refl)
 
 -- a migration that stops ends the work with the status of its fault
 pub ends_work : (work root : Path) (fault : MoveFault) (answer : Answer) (status : ℕ) → status ≡ status_of answer → answer ≢ OutOfMemory → (answer ≡ OutOfMemory) ⊎ (answer ≡ of_move work root fault)
-    → (answer ≡ FolderFault → fault ≡ move.Failed) → (answer ≡ RandomFault → fault ≡ move.Place put.Random) → (answer ≡ ZeroRandom → fault ≡ move.Place put.ZeroRandom) → IsTrue (is_of_stop answer)
+    → (answer ≡ FolderFault → fault ≡ move.Failed) → (answer ≡ RandomFault → fault ≡ move.Place put.Random) → (answer ≡ ZeroRandom → fault ≡ move.Place put.ZeroRandom)
+    → ((at : Path) → answer ≡ Taken at → fault ≡ move.Place (put.Taken at)) → IsTrue (is_of_stop answer)
     → EndsWork (chances_by fault) status
-ends_work work root fault answer status is memory told folder random zeros own = record {
+ends_work work root fault answer status is memory told folder random zeros taken own = record {
   stops = λ same. let none : IsTrue (is_of_stop Done) = subst (λ a. IsTrue (is_of_stop a)) (with_status answer 0 (omega arith) (sym is ∙ same)) own in cc;
   memory = λ same. memory (with_status answer 3 (omega arith) (sym is ∙ same));
   folder = λ same. folder (with_status answer 4 (omega arith) (sym is ∙ same));
   random = λ same. random (with_status answer 7 (omega arith) (sym is ∙ same));
   zeros = λ known same. zeros (zeros_of answer (sym is ∙ same));
+  shared = λ known same. let place = taken_of answer (sym is ∙ same) in (place.0, taken place.0 place.1);
   others = λ known. subst (λ s. IsTrue (is_status_of_chance s)) (sym is) (by_told known.0 known.1 told);
 }
   where

@@ -1,11 +1,13 @@
 -- What is seen between the steps of the demonstration, from step to step.
-use Rattle.std.proofs.Common.{◌≡◌, ◌≢◌, ◌≤◌, ◌∙◌, ◌++◌, ◌∷◌, [], ℕ, Bool, List, length, map, Option, Some, None, codes, inl, inr, IsTrue, refl, sym, ap, subst, arith}
+use Rattle.std.proofs.Common.{◌≡◌, ◌≢◌, ◌≤◌, ◌∙◌, ◌++◌, ◌∷◌, [], ℕ, Bool, List, length, Option, Some, None, codes, inl, inr, IsTrue, refl, sym, ap, subst, arith}
 use Rattle.std.proofs.lemmas.List.{length-map}
 use Rattle.content_writing.specs.declared.fault.PutFault.TheVariants as put
-use Rattle.demo_core.specs.Making.{CanEnter, CanMake, HoldsInOrder, IsOfChance, IsOfItems, MakesBeside, making_folder, phrase}
+use Rattle.demo_core.specs.Making.{CanEnter, CanMake, HoldsInOrder, IsOfChance, IsOfItems, IsTaken, MakesBeside, making_folder, phrase}
 use Rattle.demo_core.specs.declared.fault.MakeFault.{MakeFault}
 use Rattle.demo_core.specs.declared.fault.MakeFault.TheVariants.{Work, Load, Put, NoMemory}
 use Rattle.demo_core.specs.Tree.{HasItems}
+use Rattle.demo_core.specs.Sharing.{GoesOn}
+use Rattle.demo_core.proofs.Shared.{goes_then}
 use Rattle.demo_core.proofs.Standing.{same_vault}
 use Rattle.folder_spec.specs.Event.{Event, Told}
 use Rattle.folder_spec.specs.Moments.{Went}
@@ -21,7 +23,6 @@ use Rattle.migrate_core.specs.Moving.{MovesOnly, OnlyBrings}
 use Rattle.migrate_core.specs.declared.placing.Done.{Done}
 use Rattle.plain_tree.specs.Names as plain
 use Rattle.vault_read.specs.Laws.{HasOwnFolders, HaveOneAnswer}
-use Rattle.vault_read.specs.declared.vault.VaultKind.{VaultKind}
 use Rattle.vault_read.specs.declared.vault.VaultKind.TheVariants as kind
 use Rattle.vault_read.specs.Opened.{kind_of}
 use Rattle.vault_spec.specs.Opens.{AreItems, Tree, tree}
@@ -37,7 +38,7 @@ use Rattle.vault_cli.specs.DemoTrees.{IsMoved, IsNewAt, IsWithin, Leaves, Leaves
 use Rattle.vault_cli.specs.declared.demo.Leg.{Leg}
 use Rattle.vault_cli.specs.declared.demo.Leg.TheVariants.{There, Back}
 use Rattle.vault_cli.proofs.DemonstratedTrees.{AreAlike, items_alike, region_stays}
-use Rattle.vault_cli.proofs.GoodOrder.{first_well, good_alike, new_well, own_of_good, well_alike}
+use Rattle.vault_cli.proofs.GoodOrder.{IsNewWell, first_well, new_well, own_of_good, well_alike}
 use Rattle.vault_cli.proofs.Legs.{apart_making, apart_moving, within}
 
 -- ---- what stays
@@ -51,9 +52,11 @@ module _ (alike : AreAlike) (region : Path → Bool) (Q : State → Event → Ty
 
 -- a work folder can be entered as it could
 enter_alike : (v w : View) → w [] ≡ Folder → under making_folder w ≡ under making_folder v → CanEnter v making_folder → CanEnter w making_folder
-enter_alike v w base same can = (base, elim can.1 [
-  | inl none ↦ inl (at [] ∙ none)
-  | inr fresh ↦ inr (record {
+enter_alike v w base same can = (
+  base,
+  elim can.1 [
+    | inl none ↦ inl (at [] ∙ none)
+    | inr fresh ↦ inr (record {
       ready = record {
         folder = at [] ∙ fresh.ready.folder;
         stage = at (codes "stage" ∷ []) ∙ fresh.ready.stage;
@@ -61,7 +64,8 @@ enter_alike v w base same can = (base, elim can.1 [
       };
       alone = λ name other. at (name ∷ []) ∙ fresh.alone name other;
     })
-])
+  ],
+)
   where
     at : (rest : Path) → w (codes "w" ∷ rest) ≡ v (codes "w" ∷ rest)
     at rest = ap (λ (u : View). u rest) same
@@ -155,6 +159,7 @@ pub target_stands : AreAlike → (leg : Leg) (count : ℕ) (t u : Option Told) �
     → ((v : View) → IsSeen u v → IsFresh v making_folder) → Sees (CanLead leg) count t → Sees (CanCarry leg) count u
 target_stands alike leg count (Some a) (Some b) sound beside new fresh sees =
     let can : CanLead leg sees.seed count (seen a.state) = subst (CanLead leg sees.seed count) sees.seen sees.shown in
+    let made : IsNewWell (kind_to leg) (target_of leg) sees.seed (seen b.state) = new_well (kind_to leg) (target_of leg) sees.seed b.state (new b refl) in
     record {
       few = sees.few;
       seed = sees.seed;
@@ -167,7 +172,8 @@ target_stands alike leg count (Some a) (Some b) sound beside new fresh sees =
           next = λ is. at third_root (third_making leg is) ∙ can.beside.next is;
         };
         source = well_alike (kind_from leg) (source_of leg) sees.seed count (seen a.state) (seen b.state) (region_stays alike (source_of leg) region (λ s e. Unit {0}) a b (sound a refl) (apart_making leg) beside) can.source;
-        target = new_well (kind_to leg) (target_of leg) sees.seed b.state (new b refl);
+        target = made.well;
+        tidy = made.tidy;
         work = at moving_folder (work_making leg) ∙ can.work;
       };
     }
@@ -338,6 +344,14 @@ pub leg_next : (leg : Leg) (retired count : ℕ) (t u : Option Told) → leg ≡
 leg_next There retired count t u is leaves sees = next_leads retired count t u leaves sees
 leg_next Back retired count t u is leaves sees = cc is
 
+-- the folder went on
+pub leg_goes : (leg : Leg) (count retired : ℕ) (t u w : Option Told) → GoesOn t u → Sees (HasCarried leg) count u → LeavesSource leg retired u w → GoesOn t w
+leg_goes leg count retired t (Some a) w goes sees leaves =
+    let can : HasCarried leg sees.seed count (seen a.state) = subst (HasCarried leg sees.seed count) sees.seen sees.shown in
+    let left = leaves a refl in
+    goes_then t (Some a) w goes (subst (GoesOn (Some a)) (sym left.1) (left.2 can.moved can.says).goes)
+leg_goes leg count retired t None w goes sees leaves = absurd sees.seen
+
 -- ---- faults of making
 
 pub item_of_chance : (fault : MakeFault) → IsOfChance fault → IsOfItems fault
@@ -354,3 +368,18 @@ item_of_chance (Put (put.NotAllowed path)) is = absurd is
 item_of_chance (Put (put.Damaged at fault)) is = absurd is
 item_of_chance (Put (put.Limit which)) is = absurd is
 item_of_chance (Put put.Source) is = absurd is
+
+pub never_taken : (fault : MakeFault) → IsOfChance fault → IsTaken fault → ⊥
+never_taken (Work fault) is taken = taken
+never_taken (Load fault) is taken = taken
+never_taken NoMemory is taken = taken
+never_taken (Put put.Failed) is taken = taken
+never_taken (Put put.NoMemory) is taken = taken
+never_taken (Put put.Random) is taken = taken
+never_taken (Put put.ZeroRandom) is taken = taken
+never_taken (Put (put.Taken at)) is taken = is
+never_taken (Put (put.Find fault)) is taken = taken
+never_taken (Put (put.NotAllowed path)) is taken = taken
+never_taken (Put (put.Damaged at fault)) is taken = taken
+never_taken (Put (put.Limit which)) is taken = taken
+never_taken (Put put.Source) is taken = taken

@@ -3,6 +3,8 @@ use Rattle.std.specs.Prelude.{◌≡◌, ◌≢◌, ◌==◌, ◌||◌, ℕ, Boo
 use Rattle.std.specs.Io.KnownBytes.{Appends, Keeps}
 use Rattle.demo_core.specs.Demonstration.{totals_of}
 use Rattle.demo_core.specs.Drawing.{Drew, seed_stream}
+use Rattle.demo_core.specs.Sharing.{SharesPlace}
+use Rattle.folder_model.specs.Memory.{new_told}
 use Rattle.folder_spec.specs.Event.{Told}
 use Rattle.folder_spec.specs.Path.{Part, Path}
 use Rattle.folder_spec.specs.Seen.{IsSeen}
@@ -59,15 +61,16 @@ way_text (StoppedThere status) = to_cryptomator_text status
 way_text (StoppedBack status) = to_cryptomator_text 0 ++ to_gocryptfs_text status
 way_text (Arrived first second) = to_cryptomator_text 0 ++ (to_gocryptfs_text 0 ++ retired_text first second)
 
--- What may befall the demonstration: the folder fails, or the random source does, or sixteen zero bytes in a row are drawn. And what may be
--- known when it begins; then nothing else stops it but a taken place and want of memory.
+-- What may befall the demonstration: the folder fails, or the random source does, or sixteen zero bytes in a row are drawn, or an item has no
+-- place of its own. And what may be known when it begins; then nothing else stops it but want of memory.
 pub record Chances : Type 1 where
   pub folder : Type 0
   pub random : Type 0
   pub zeros : Type 0
+  pub shared : Type 0
   pub known : Type 0
 
--- the statuses of these: 4, 7 and 21, and 22 of a place that is taken
+-- the statuses of these
 abbrev pub is_status_of_chance : ℕ → Bool
 is_status_of_chance status = status == 4 || (status == 7 || (status == 21 || status == 22))
 
@@ -78,6 +81,7 @@ pub record EndsWork (c : Chances) (status : ℕ) : Type 0 where
   pub folder : status ≡ 4 → c.folder
   pub random : status ≡ 7 → c.random
   pub zeros : c.known → status ≡ 21 → c.zeros
+  pub shared : c.known → status ≡ 22 → c.shared
   pub others : c.known → IsTrue (is_status_of_chance status)
 
 -- a way of a demonstration of so many items: both vaults that are retired have all of them
@@ -126,14 +130,20 @@ is_of_chance answer = false
 -- how the work may end, by what is known when it begins
 pub record EndsSo (c : Chances) (answer : Answer) : Type 0 where
   pub zeros : c.known → answer ≡ ZeroRandom → c.zeros
+  pub shared : c.known → (at : Path) → answer ≡ Taken at → c.shared
   pub others : c.known → IsTrue (is_of_chance answer)
 
--- the chances of a demonstration, whose random source is the stream of its seed, and never fails
-abbrev pub chances_of : (folder_failed known : Type 0) → ℕ → Chances
-chances_of folder_failed known seed = record {
+-- in one of the vaults
+abbrev pub SharesOne : Option Told → Option Told → Option ByteStream → Option ByteStream → ℕ → Type 0
+SharesOne told told' stream stream' count = (root : Path) × SharesPlace root told told' stream stream' count
+
+-- The chances of a demonstration in a folder that tells so before and after it. Its random source is the stream of its seed, and never fails.
+abbrev pub chances_of : (folder_failed known : Type 0) → (seed count : ℕ) → Option Told → Option Told → Chances
+chances_of folder_failed known seed count told told' = record {
   folder = folder_failed;
   random = ⊥;
   zeros = (rest : Option ByteStream) × Drew (Unit {0}) (Some (seed_stream seed)) rest;
+  shared = (rest : Option ByteStream) × SharesOne told told' (Some (seed_stream seed)) rest count;
   known = known;
 }
 
@@ -148,17 +158,24 @@ pub record IsBare (told : Option Told) : Type 0 where
 pub record Demonstrates (demonstration : Demonstration) (answer : Answer) (before after : World) : Type 0 where
   pub own : IsTrue (is_of_demonstration answer)
   pub steady : answer ≢ FolderFault
-  pub ends : EndsSo (chances_of ⊥ (Unit {0}) demonstration.seed) answer
-  pub prints : PrintsDemonstration (chances_of ⊥ (Unit {0}) demonstration.seed) (Unit {0}) demonstration.seed demonstration.count answer before.taken after.taken
+  pub told : Option Told
+  pub ends : EndsSo (chances_of ⊥ (Unit {0}) demonstration.seed demonstration.count (Some new_told) told) answer
+  pub prints : PrintsDemonstration (chances_of ⊥ (Unit {0}) demonstration.seed demonstration.count (Some new_told) told) (Unit {0}) demonstration.seed demonstration.count answer before.taken after.taken
   pub unchanged : after.told ≡ before.told
   pub untouched : Keeps before.left after.left
   pub undrawn : after.random ≡ before.random
 
 -- ---- private contracts
 
--- the chances of a part of the work: by both counts of faults, and by what is drawn and known
-abbrev pub chances : (f f' r r' : ℕ) → Option ByteStream → Option ByteStream → Type 0 → Chances
-chances f f' r r' stream stream' known = record { folder = CountRose f f'; random = CountRose r r'; zeros = Drew (Unit {0}) stream stream'; known = known }
+-- the chances of a part of the work: by both counts of faults, and by what is drawn, told and known, of so many items
+abbrev pub chances : (f f' r r' : ℕ) → Option ByteStream → Option ByteStream → Option Told → Option Told → ℕ → Type 0 → Chances
+chances f f' r r' stream stream' told told' count known = record {
+  folder = CountRose f f';
+  random = CountRose r r';
+  zeros = Drew (Unit {0}) stream stream';
+  shared = SharesOne told told' stream stream' count;
+  known = known;
+}
 
 -- those of a migration, by the fault with which it stops: known is that it is one of chance, and no content passes the limit
 abbrev pub chances_by : MoveFault → Chances
@@ -166,6 +183,7 @@ chances_by fault = record {
   folder = fault ≡ Failed;
   random = fault ≡ Place put.Random;
   zeros = fault ≡ Place put.ZeroRandom;
+  shared = (at : Path) × (fault ≡ Place (put.Taken at));
   known = IsOfChance fault × ((at : Path) → fault ≢ Matching (match.Limit (limit.Length at)));
 }
 

@@ -3,11 +3,12 @@ use Rattle.std.specs.Prelude.{◌≡◌, ◌≤◌, ℕ, [], Option}
 use Rattle.demo_core.specs.Making.{CanEnter, HoldsItems, making_folder}
 use Rattle.folder_spec.specs.Event.{Told}
 use Rattle.folder_spec.specs.Path.{Path}
-use Rattle.folder_spec.specs.Seen.{IsSeen}
+use Rattle.folder_spec.specs.Seen.{IsSeen, under}
 use Rattle.folder_spec.specs.View.{Folder, NoEntry, View}
 use Rattle.migrate_core.specs.Moved.{HaveOneTree, IsTidyWork, SaysDone, TellsItems, opened_in}
 use Rattle.vault_read.specs.declared.vault.VaultKind.{VaultKind}
 use Rattle.vault_read.specs.declared.vault.VaultKind.TheVariants as kind
+use Rattle.vault_spec.specs.Tidy.{IsTidy}
 use Rattle.vault_spec.specs.Vault.{format_of}
 use Rattle.vault_write.specs.Trees.{ShowsVault}
 use Rattle.vault_cli.specs.DemoTrees.{kind_to, moving_folder, source_of, target_of, third_root}
@@ -36,11 +37,12 @@ pub record CanLead (leg : Leg) (seed count : ℕ) (v : View) : Type 0 where
   pub target : v (target_of leg) ≡ NoEntry
   pub work : v moving_folder ≡ NoEntry
 
--- its target is there, without items
+-- its target is there, tidy and without items
 pub record CanCarry (leg : Leg) (seed count : ℕ) (v : View) : Type 0 where
   pub beside : IsBeside leg v
   pub source : HoldsWell (kind_from leg) (source_of leg) seed count v
   pub target : HoldsWell (kind_to leg) (target_of leg) seed 0 v
+  pub tidy : IsTidy (format_of target.items.vault) (under (target_of leg) v)
   pub work : v moving_folder ≡ NoEntry
 
 -- it is done, and its journal says so

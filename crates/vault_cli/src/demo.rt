@@ -1,13 +1,17 @@
 //! `demo`: makes a tree from a number, and moves it to the other format and back, in a folder of its own.
-ghost use Rattle.std.specs.Prelude.{◌≡◌, ◌≢◌, ◌≤◌, ℕ, Ok, Err, IfErr, IfOk, OnOk, IsTrue, string_bytes};
+ghost use Rattle.std.specs.Prelude.{◌≡◌, ◌≢◌, ◌≤◌, ℕ, Option, Some, Ok, Err, IfErr, IfOk, OnOk, IsTrue, string_bytes};
 ghost use Rattle.move_journal.specs.Journal.{IsParsed};
 ghost use Rattle.port_model.specs.Counts.{CountRose};
 ghost use Rattle.demo_core.specs.Drawing.{Drew};
+ghost use Rattle.demo_core.specs.Sharing.{GoesOn};
+ghost use Rattle.folder_model.specs.Memory.{new_told};
+ghost use Rattle.folder_spec.specs.Event.{Told};
+ghost use Rattle.folder_spec.specs.Path.{Path};
 ghost use Rattle.folder_spec.specs.Seen.{IsSeen};
 ghost use Rattle.folder_spec.specs.View.{View};
 ghost use Rattle.work_folder.specs.Entering.{IsFresh};
 ghost use Rattle.demo_core.specs.Making as making;
-ghost use Rattle.demo_core.specs.Making.{CanMake, IsFailed, IsMakeFault, IsOfItems, MakesBeside, making_folder};
+ghost use Rattle.demo_core.specs.Making.{CanMake, IsFailed, IsMakeFault, IsOfItems, IsTaken, MakesBeside, making_folder};
 ghost use Rattle.retire_core.specs.Causes.{IsOfFolder};
 ghost use Rattle.retire_core.specs.Faults.{IsRetireFault};
 ghost use Rattle.migrate_core.specs.Faults.{IsMoveFault};
@@ -63,8 +67,8 @@ pub fn demo_in<F: Folder, O: Sink, E: Sink>(
     ensures answer { (answer : Answer) × (result ≡ status_of answer)
         × TakesText (E.taken err.old) (E.taken err.new) (E.faults err.old) (E.faults err.new) (line_of answer)
         × IsTrue (is_of_demonstration answer)
-        × EndsSo (chances_of (CountRose (F.faults folder.old) (F.faults folder.new)) (IsBare (F.told folder.old)) seed) answer
-        × PrintsDemonstration (chances_of (CountRose (F.faults folder.old) (F.faults folder.new)) (IsBare (F.told folder.old)) seed) (WhereTold (BringsItems seed count) (F.told folder.old) (F.told folder.new)) seed count answer (O.taken out.old) (O.taken out.new) }
+        × EndsSo (chances_of (CountRose (F.faults folder.old) (F.faults folder.new)) (IsBare (F.told folder.old)) seed count (F.told folder.old) (F.told folder.new)) answer
+        × PrintsDemonstration (chances_of (CountRose (F.faults folder.old) (F.faults folder.new)) (IsBare (F.told folder.old)) seed count (F.told folder.old) (F.told folder.new)) (WhereTold (BringsItems seed count) (F.told folder.old) (F.told folder.new)) seed count answer (O.taken out.old) (O.taken out.new) }
     ensures folder_fault { result ≡ 4 → CountRose (F.faults folder.old) (F.faults folder.new) }
     ensures output_fault { result ≡ 6 → CountRose (O.faults out.old) (O.faults out.new) }
 {
@@ -77,8 +81,8 @@ pub fn demo_in<F: Folder, O: Sink, E: Sink>(
 pub(crate) fn demo<O: Sink>(alloc: Global, demonstration: &Demonstration, out: &mut O) -> Answer
     requires { demonstration.now.count ≤ 2000 }
     ensures own { IsTrue (is_of_demonstration result) }
-    ensures ends { EndsSo (chances_of ⊥ (Unit {0}) demonstration.now.seed) result }
-    ensures prints { PrintsDemonstration (chances_of ⊥ (Unit {0}) demonstration.now.seed) (Unit {0}) demonstration.now.seed demonstration.now.count result (O.taken out.old) (O.taken out.new) }
+    ensures does { (told : Option Told) × EndsSo (chances_of ⊥ (Unit {0}) demonstration.now.seed demonstration.now.count (Some new_told) told) result
+        × PrintsDemonstration (chances_of ⊥ (Unit {0}) demonstration.now.seed demonstration.now.count (Some new_told) told) (Unit {0}) demonstration.now.seed demonstration.now.count result (O.taken out.old) (O.taken out.new) }
     ensures no_folder { result ≢ Answer.FolderFault }
     ensures output_fault { result ≡ Answer.OutputFault → CountRose (O.faults out.old) (O.faults out.new) }
 {
@@ -98,8 +102,8 @@ fn demonstrate<F: Folder, O: Sink>(
 ) -> Answer
     requires { count ≤ 2000 }
     ensures own { IsTrue (is_of_demonstration result) }
-    ensures ends { EndsSo (chances_of (CountRose (F.faults folder.old) (F.faults folder.new)) (IsBare (F.told folder.old)) seed) result }
-    ensures prints { PrintsDemonstration (chances_of (CountRose (F.faults folder.old) (F.faults folder.new)) (IsBare (F.told folder.old)) seed) (WhereTold (BringsItems seed count) (F.told folder.old) (F.told folder.new)) seed count result (O.taken out.old) (O.taken out.new) }
+    ensures ends { EndsSo (chances_of (CountRose (F.faults folder.old) (F.faults folder.new)) (IsBare (F.told folder.old)) seed count (F.told folder.old) (F.told folder.new)) result }
+    ensures prints { PrintsDemonstration (chances_of (CountRose (F.faults folder.old) (F.faults folder.new)) (IsBare (F.told folder.old)) seed count (F.told folder.old) (F.told folder.new)) (WhereTold (BringsItems seed count) (F.told folder.old) (F.told folder.new)) seed count result (O.taken out.old) (O.taken out.new) }
     ensures folder_fault { result ≡ Answer.FolderFault → CountRose (F.faults folder.old) (F.faults folder.new) }
     ensures output_fault { result ≡ Answer.OutputFault → CountRose (O.faults out.old) (O.faults out.new) }
 {
@@ -132,8 +136,8 @@ fn make_and_move<F: Folder, R: Randoms, O: Sink>(
 ) -> Result<Way, Answer>
     requires { count ≤ 2000 }
     ensures own { IfErr result (λ answer. IsTrue (is_of_fault answer)) }
-    ensures ends { IfErr result (EndsSo (chances (F.faults folder.old) (F.faults folder.new) (R.faults random.old) (R.faults random.new) (R.left random.old) (R.left random.new) (IsBare (F.told folder.old)))) }
-    ensures prints { PrintsAll (chances (F.faults folder.old) (F.faults folder.new) (R.faults random.old) (R.faults random.new) (R.left random.old) (R.left random.new) (IsBare (F.told folder.old))) seed count result (O.taken out.old) (O.taken out.new) }
+    ensures ends { IfErr result (EndsSo (chances (F.faults folder.old) (F.faults folder.new) (R.faults random.old) (R.faults random.new) (R.left random.old) (R.left random.new) (F.told folder.old) (F.told folder.new) count (IsBare (F.told folder.old)))) }
+    ensures prints { PrintsAll (chances (F.faults folder.old) (F.faults folder.new) (R.faults random.old) (R.faults random.new) (R.left random.old) (R.left random.new) (F.told folder.old) (F.told folder.new) count (IsBare (F.told folder.old))) seed count result (O.taken out.old) (O.taken out.new) }
     ensures folder_fault { result ≡ Err Answer.FolderFault → CountRose (F.faults folder.old) (F.faults folder.new) }
     ensures random_fault { result ≡ Err Answer.RandomFault → CountRose (R.faults random.old) (R.faults random.new) }
     ensures output_fault { result ≡ Err Answer.OutputFault → CountRose (O.faults out.old) (O.faults out.new) }
@@ -160,8 +164,9 @@ fn make_items<F: Folder, R: Randoms>(
     ensures random_fault { result ≡ Err Answer.RandomFault → CountRose (R.faults random.old) (R.faults random.new) }
     ensures grows { F.faults folder.old ≤ F.faults folder.new }
     ensures counted { R.faults random.old ≤ R.faults random.new }
+    ensures goes { GoesOn (F.told folder.old) (F.told folder.new) }
     ensures drew { Drew ⊥ (R.left random.old) (R.left random.new) }
-    ensures ends { IfErr result (EndsSo (chances (F.faults folder.old) (F.faults folder.new) (R.faults random.old) (R.faults random.new) (R.left random.old) (R.left random.new) (IsBare (F.told folder.old)))) }
+    ensures ends { IfErr result (EndsSo (chances (F.faults folder.old) (F.faults folder.new) (R.faults random.old) (R.faults random.new) (R.left random.old) (R.left random.new) (F.told folder.old) (F.told folder.new) count (IsBare (F.told folder.old)))) }
     ensures stands { OnOk result (IsBare (F.told folder.old) → Sees (CanLead Leg.There) count (F.told folder.new)) }
     ensures makes { OnOk result (WhereTold (MakesItems seed count) (F.told folder.old) (F.told folder.new)) }
 {
@@ -181,8 +186,8 @@ fn move_there<F: Folder, R: Randoms, O: Sink>(
     out: &mut O,
 ) -> Result<Way, Answer>
     ensures own { IfErr result (λ answer. IsTrue (is_of_fault answer)) }
-    ensures ends { (count : ℕ) → IfErr result (EndsSo (chances (F.faults folder.old) (F.faults folder.new) (R.faults random.old) (R.faults random.new) (R.left random.old) (R.left random.new) (Sees (CanLead Leg.There) count (F.told folder.old)))) }
-    ensures prints { (count : ℕ) → PrintsWay (chances (F.faults folder.old) (F.faults folder.new) (R.faults random.old) (R.faults random.new) (R.left random.old) (R.left random.new) (Sees (CanLead Leg.There) count (F.told folder.old))) count result (O.taken out.old) (O.taken out.new) }
+    ensures ends { (count : ℕ) → IfErr result (EndsSo (chances (F.faults folder.old) (F.faults folder.new) (R.faults random.old) (R.faults random.new) (R.left random.old) (R.left random.new) (F.told folder.old) (F.told folder.new) count (Sees (CanLead Leg.There) count (F.told folder.old)))) }
+    ensures prints { (count : ℕ) → PrintsWay (chances (F.faults folder.old) (F.faults folder.new) (R.faults random.old) (R.faults random.new) (R.left random.old) (R.left random.new) (F.told folder.old) (F.told folder.new) count (Sees (CanLead Leg.There) count (F.told folder.old))) count result (O.taken out.old) (O.taken out.new) }
     ensures folder_fault { result ≡ Err Answer.FolderFault → CountRose (F.faults folder.old) (F.faults folder.new) }
     ensures random_fault { result ≡ Err Answer.RandomFault → CountRose (R.faults random.old) (R.faults random.new) }
     ensures output_fault { result ≡ Err Answer.OutputFault → CountRose (O.faults out.old) (O.faults out.new) }
@@ -204,8 +209,8 @@ fn move_back<F: Folder, R: Randoms, O: Sink>(
     out: &mut O,
 ) -> Result<Way, Answer>
     ensures own { IfErr result (λ answer. IsTrue (is_of_fault answer)) }
-    ensures ends { (count : ℕ) → IfErr result (EndsSo (chances (F.faults folder.old) (F.faults folder.new) (R.faults random.old) (R.faults random.new) (R.left random.old) (R.left random.new) (Sees (CanLead Leg.Back) count (F.told folder.old)))) }
-    ensures prints { (count : ℕ) → PrintsBack (chances (F.faults folder.old) (F.faults folder.new) (R.faults random.old) (R.faults random.new) (R.left random.old) (R.left random.new) (Sees (CanLead Leg.Back) count (F.told folder.old))) count first result (O.taken out.old) (O.taken out.new) }
+    ensures ends { (count : ℕ) → IfErr result (EndsSo (chances (F.faults folder.old) (F.faults folder.new) (R.faults random.old) (R.faults random.new) (R.left random.old) (R.left random.new) (F.told folder.old) (F.told folder.new) count (Sees (CanLead Leg.Back) count (F.told folder.old)))) }
+    ensures prints { (count : ℕ) → PrintsBack (chances (F.faults folder.old) (F.faults folder.new) (R.faults random.old) (R.faults random.new) (R.left random.old) (R.left random.new) (F.told folder.old) (F.told folder.new) count (Sees (CanLead Leg.Back) count (F.told folder.old))) count first result (O.taken out.old) (O.taken out.new) }
     ensures folder_fault { result ≡ Err Answer.FolderFault → CountRose (F.faults folder.old) (F.faults folder.new) }
     ensures random_fault { result ≡ Err Answer.RandomFault → CountRose (R.faults random.old) (R.faults random.new) }
     ensures output_fault { result ≡ Err Answer.OutputFault → CountRose (O.faults out.old) (O.faults out.new) }
@@ -267,9 +272,10 @@ fn lead<F: Folder, R: Randoms, O: Sink>(
     out: &mut O,
 ) -> Result<Led, Answer>
     ensures own { IfErr result (λ answer. IsTrue (is_of_fault answer)) }
-    ensures ends { (count : ℕ) → IfErr result (EndsSo (chances (F.faults folder.old) (F.faults folder.new) (R.faults random.old) (R.faults random.new) (R.left random.old) (R.left random.new) (Sees (CanLead leg) count (F.told folder.old)))) }
-    ensures prints { (count : ℕ) → PrintsLed (chances (F.faults folder.old) (F.faults folder.new) (R.faults random.old) (R.faults random.new) (R.left random.old) (R.left random.new) (Sees (CanLead leg) count (F.told folder.old))) count leg result (O.taken out.old) (O.taken out.new) }
+    ensures ends { (count : ℕ) → IfErr result (EndsSo (chances (F.faults folder.old) (F.faults folder.new) (R.faults random.old) (R.faults random.new) (R.left random.old) (R.left random.new) (F.told folder.old) (F.told folder.new) count (Sees (CanLead leg) count (F.told folder.old)))) }
+    ensures prints { (count : ℕ) → PrintsLed (chances (F.faults folder.old) (F.faults folder.new) (R.faults random.old) (R.faults random.new) (R.left random.old) (R.left random.new) (F.told folder.old) (F.told folder.new) count (Sees (CanLead leg) count (F.told folder.old))) count leg result (O.taken out.old) (O.taken out.new) }
     ensures drew { (count : ℕ) → Sees (CanLead leg) count (F.told folder.old) → Drew ⊥ (R.left random.old) (R.left random.new) }
+    ensures goes { IfOk result (OnRetired ((count : ℕ) → Sees (CanLead leg) count (F.told folder.old) → GoesOn (F.told folder.old) (F.told folder.new))) }
     ensures next { IfOk result (OnRetired ((count : ℕ) → leg ≡ Leg.There → Sees (CanLead leg) count (F.told folder.old) → Sees (CanLead Leg.Back) count (F.told folder.new))) }
     ensures folder_fault { result ≡ Err Answer.FolderFault → CountRose (F.faults folder.old) (F.faults folder.new) }
     ensures random_fault { result ≡ Err Answer.RandomFault → CountRose (R.faults random.old) (R.faults random.new) }
@@ -294,8 +300,9 @@ fn move_to<F: Folder, R: Randoms>(
     leg: Leg,
     random: &mut R,
 ) -> Result<u8, Answer>
-    ensures status { (count : ℕ) → IfOk result (IsStatus (chances (F.faults folder.old) (F.faults folder.new) (R.faults random.old) (R.faults random.new) (R.left random.old) (R.left random.new) (Sees (CanLead leg) count (F.told folder.old)))) }
-    ensures ends { (count : ℕ) → IfErr result (EndsSo (chances (F.faults folder.old) (F.faults folder.new) (R.faults random.old) (R.faults random.new) (R.left random.old) (R.left random.new) (Sees (CanLead leg) count (F.told folder.old)))) }
+    ensures status { (count : ℕ) → IfOk result (IsStatus (chances (F.faults folder.old) (F.faults folder.new) (R.faults random.old) (R.faults random.new) (R.left random.old) (R.left random.new) (F.told folder.old) (F.told folder.new) count (Sees (CanLead leg) count (F.told folder.old)))) }
+    ensures ends { (count : ℕ) → IfErr result (EndsSo (chances (F.faults folder.old) (F.faults folder.new) (R.faults random.old) (R.faults random.new) (R.left random.old) (R.left random.new) (F.told folder.old) (F.told folder.new) count (Sees (CanLead leg) count (F.told folder.old)))) }
+    ensures goes { GoesOn (F.told folder.old) (F.told folder.new) }
     ensures drew { (count : ℕ) → Sees (CanLead leg) count (F.told folder.old) → Drew ⊥ (R.left random.old) (R.left random.new) }
     ensures carried { IfOk result (λ status. status ≡ 0 → (count : ℕ) → Sees (CanLead leg) count (F.told folder.old) → Sees (HasCarried leg) count (F.told folder.new)) }
     ensures own { IfErr result (λ answer. IsTrue (is_of_stop answer)) }
@@ -324,8 +331,9 @@ fn make_target<F: Folder, R: Randoms>(
     ensures random_fault { result ≡ Err Answer.RandomFault → CountRose (R.faults random.old) (R.faults random.new) }
     ensures grows { F.faults folder.old ≤ F.faults folder.new }
     ensures counted { R.faults random.old ≤ R.faults random.new }
+    ensures goes { GoesOn (F.told folder.old) (F.told folder.new) }
     ensures drew { Drew ⊥ (R.left random.old) (R.left random.new) }
-    ensures ends { (count : ℕ) → IfErr result (EndsSo (chances (F.faults folder.old) (F.faults folder.new) (R.faults random.old) (R.faults random.new) (R.left random.old) (R.left random.new) (Sees (CanLead leg) count (F.told folder.old)))) }
+    ensures ends { (count : ℕ) → IfErr result (EndsSo (chances (F.faults folder.old) (F.faults folder.new) (R.faults random.old) (R.faults random.new) (R.left random.old) (R.left random.new) (F.told folder.old) (F.told folder.new) count (Sees (CanLead leg) count (F.told folder.old)))) }
     ensures stands { OnOk result ((count : ℕ) → Sees (CanLead leg) count (F.told folder.old) → Sees (CanCarry leg) count (F.told folder.new)) }
     ensures beside { OnOk result (MakesBeside (target_of leg) (F.told folder.old) (F.told folder.new)) }
     ensures new { OnOk result (IsNewAt (kind_to leg) (target_of leg) (F.told folder.new)) }
@@ -353,6 +361,7 @@ fn make_vault_of<F: Folder, R: Randoms>(
     ensures own { IfErr result (λ fault. IsMakeFault fault) }
     ensures chance { IfErr result (λ fault. (v : View) → IsSeen (F.told folder.old) v → CanMake (target_of leg) v → making.IsOfChance fault) }
     ensures random { result ≡ Err (MakeFault.Put PutFault.Random) → CountRose (R.faults random.old) (R.faults random.new) }
+    ensures goes { GoesOn (F.told folder.old) (F.told folder.new) }
     ensures drew { Drew (result ≡ Err (MakeFault.Put PutFault.ZeroRandom)) (R.left random.old) (R.left random.new) }
     ensures grows { F.faults folder.old ≤ F.faults folder.new }
     ensures counted { R.faults random.old ≤ R.faults random.new }
@@ -370,10 +379,11 @@ fn migrate<F: Folder, R: Randoms>(
     leg: Leg,
     random: &mut R,
 ) -> Result<u8, Answer>
-    ensures status { (count : ℕ) → IfOk result (IsStatus (chances (F.faults folder.old) (F.faults folder.new) (R.faults random.old) (R.faults random.new) (R.left random.old) (R.left random.new) (Sees (CanCarry leg) count (F.told folder.old)))) }
+    ensures status { (count : ℕ) → IfOk result (IsStatus (chances (F.faults folder.old) (F.faults folder.new) (R.faults random.old) (R.faults random.new) (R.left random.old) (R.left random.new) (F.told folder.old) (F.told folder.new) count (Sees (CanCarry leg) count (F.told folder.old)))) }
     ensures memory { IfErr result (λ answer. answer ≡ Answer.OutOfMemory) }
     ensures grows { F.faults folder.old ≤ F.faults folder.new }
     ensures counted { R.faults random.old ≤ R.faults random.new }
+    ensures goes { GoesOn (F.told folder.old) (F.told folder.new) }
     ensures drew { (count : ℕ) → Sees (CanCarry leg) count (F.told folder.old) → Drew ⊥ (R.left random.old) (R.left random.new) }
     ensures carried { IfOk result (λ status. status ≡ 0 → (count : ℕ) → Sees (CanCarry leg) count (F.told folder.old) → Sees (HasCarried leg) count (F.told folder.new)) }
     ensures moved { IfOk result (λ status. status ≡ 0 → IsMoved (source_of leg) (target_of leg) (F.told folder.old) (F.told folder.new)) }
@@ -387,6 +397,7 @@ fn migrate<F: Folder, R: Randoms>(
     small_contents_pass_no_limit();
     trees_have_so_many_items();
     trees_of_items_pass_no_limit();
+    walks_tell_the_tree();
     let source = leg.source(alloc)?;
     let target = leg.target(alloc)?;
     let work = place(alloc, "m")?;
@@ -459,6 +470,7 @@ fn answer_to(alloc: Global, root: &FPath, fault: MakeFault) -> Answer
     ensures failed { result ≡ Answer.FolderFault → IsMakeFault fault → IsFailed fault }
     ensures drawn { result ≡ Answer.RandomFault → fault ≡ MakeFault.Put PutFault.Random }
     ensures zeros { result ≡ Answer.ZeroRandom → fault ≡ MakeFault.Put PutFault.ZeroRandom }
+    ensures taken { (at : Path) → result ≡ Answer.Taken at → IsTaken fault }
     ensures chance { IsOfItems fault → IsTrue (is_of_chance result) }
 {
     match fault {

@@ -1,5 +1,6 @@
 //! What the commands share that lead a migration on.
 ghost use Rattle.std.specs.Prelude.{◌≡◌, ◌⊎◌, ◌≤◌, Err, IfErr, IfOk, IsTrue, string_bytes};
+ghost use Rattle.folder_spec.specs.Path.{Path};
 ghost use Rattle.folder_spec.specs.Seen.{IsSeen};
 ghost use Rattle.folder_spec.specs.View.{View};
 ghost use Rattle.migrate_core.specs.Faults.{IsMoveFault};
@@ -130,6 +131,7 @@ pub(crate) fn answer_to(work: &FPath, root: &FPath, fault: MoveFault) -> Answer
     ensures failed { result ≡ Answer.FolderFault → IsMoveFault fault → fault ≡ MoveFault.Failed }
     ensures drawn { result ≡ Answer.RandomFault → fault ≡ MoveFault.Place PutFault.Random }
     ensures zeros { result ≡ Answer.ZeroRandom → fault ≡ MoveFault.Place PutFault.ZeroRandom }
+    ensures taken { (at : Path) → result ≡ Answer.Taken at → fault ≡ MoveFault.Place (PutFault.Taken at) }
     ensures own { IsMoveFault fault → IsTrue (is_of_stop result) }
 {
     match fault {

@@ -9,7 +9,7 @@ use Rattle.vault_cli.proofs.demo.demo_in.Goals as goal
 
 pub returns-clause-answer : goal.returns-clause-answer
 returns-clause-answer g c =
-    let told = demonstration_told (chances_of (CountRose (g.F.Folder.faults c.args.folder.now) (g.F.Folder.faults c.demonstrate-answer.new.folder)) (IsBare (g.F.Folder.told c.args.folder.now)) c.args.seed)
+    let told = demonstration_told (chances_of (CountRose (g.F.Folder.faults c.args.folder.now) (g.F.Folder.faults c.demonstrate-answer.new.folder)) (IsBare (g.F.Folder.told c.args.folder.now)) c.args.seed c.args.count (g.F.Folder.told c.args.folder.now) (g.F.Folder.told c.demonstrate-answer.new.folder))
     (WhereTold (BringsItems c.args.seed c.args.count) (g.F.Folder.told c.args.folder.now) (g.F.Folder.told c.demonstrate-answer.new.folder)) c.args.seed c.args.count c.demonstrate-answer.result c.report-answer.result
     (g.O.Sink.taken c.args.out.now) (g.O.Sink.taken c.demonstrate-answer.new.out) c.report-answer.ensures.kept c.demonstrate-answer.ensures.own c.demonstrate-answer.ensures.ends c.demonstrate-answer.ensures.prints in
     (c.report-answer.result, c.status.ensures, c.report-answer.ensures.line, told.0, told.1, told.2)

@@ -1,9 +1,10 @@
-use Rattle.std.proofs.Common.{refl}
-use Rattle.std.proofs.lemmas.Result.{err_from_is_err_and}
-use Rattle.demo_core.specs.Making.{CanMake}
-use Rattle.vault_cli.specs.Demo.{IsBare, chances}
+use Rattle.std.proofs.Common.{◌≡◌, ◌≢◌, ◌∙◌, Err, None, ap, refl}
+use Rattle.content_writing.specs.declared.fault.PutFault.TheVariants.{ZeroRandom}
+use Rattle.demo_core.specs.declared.fault.MakeFault.TheVariants.{Put}
+use Rattle.demo_core.proofs.Drawn.{drew_for}
+use Rattle.demo_core.proofs.Shared.{goes_beside, goes_nowhere}
+use Rattle.vault_cli.specs.DemoTrees.{first_root}
 use Rattle.vault_cli.proofs.DemoDraws.{drew_none, drew_some}
-use Rattle.vault_cli.proofs.Demonstrations.{memory_ends}
 use Rattle.vault_cli.proofs.Legs.{items_made}
 use Rattle.vault_cli.proofs.Steps.{bare_told, can_make_first, first_stands}
 use Rattle.vault_cli.proofs.demo.make_items.Goals as goal
@@ -21,3 +22,20 @@ pub returns-in-Ok-clause-stands : goal.returns-in-Ok-clause-stands
 returns-in-Ok-clause-stands g c bare =
     first_stands c.args.seed c.args.count (g.F.Folder.told c.args.folder.now) (g.F.Folder.told c.make_first.new.folder) c.requires (λ a is. g.met.F.Folder.sound c.args.folder.now a is) bare
     c.make_first.ensures.beside c.in-Ok.ensures.alone c.in-Ok.ensures.fresh
+
+pub returns-in_err-root-clause-goes : goal.returns-in_err-root-clause-goes
+returns-in_err-root-clause-goes g c = goes_nowhere (g.F.Folder.told c.args.folder.now) (g.F.Folder.told c.args.folder.now) refl
+
+pub returns-in-Ok-clause-goes : goal.returns-in-Ok-clause-goes
+returns-in-Ok-clause-goes g c = goes_beside _ (g.F.Folder.told c.args.folder.now) (g.F.Folder.told c.make_first.new.folder) c.make_first.ensures.beside
+
+pub returns-clause-ends : goal.returns-clause-ends
+returns-clause-ends g c =
+    let t = g.F.Folder.told c.args.folder.now in
+    record {
+      zeros = λ bare same.
+          drew_for (Unit {0}) ((t ≢ None) × (c.make_first.result ≡ Err (Put ZeroRandom))) (g.R.Randoms.left c.args.random.now) (g.R.Randoms.left c.make_first.new.random)
+          (λ _. (bare_told t bare, c.in-Err.is ∙ ap Err (c.answer_to.ensures.zeros same))) c.make_first.ensures.drew;
+      shared = λ bare at same. (first_root, c.in-Err.ensures.shared (c.answer_to.ensures.taken at same) bare.view bare.seen (can_make_first t bare bare.view bare.seen));
+      others = λ bare. c.answer_to.ensures.chance (c.in-Err.ensures.chance bare.view bare.seen (can_make_first t bare bare.view bare.seen));
+    }

@@ -1,9 +1,10 @@
-use Rattle.std.proofs.Common.{◌≡◌, ◌∙◌, Err, ap}
+use Rattle.std.proofs.Common.{refl, ◌≡◌, ◌∙◌, Err, ap}
 use Rattle.content_writing.specs.declared.fault.PutFault.TheVariants.{ZeroRandom}
 use Rattle.demo_core.specs.declared.fault.MakeFault.TheVariants.{Put}
 use Rattle.demo_core.proofs.Drawn.{drew_for}
 use Rattle.vault_cli.proofs.DemoDraws.{drew_none, drew_some}
-use Rattle.vault_cli.proofs.Steps.{can_make_target, item_of_chance, target_stands}
+use Rattle.vault_cli.proofs.Steps.{can_make_target, item_of_chance, never_taken, target_stands}
+use Rattle.demo_core.proofs.Shared.{goes_beside, goes_nowhere}
 use Rattle.vault_cli.proofs.demo.make_target.Goals as goal
 
 pub returns-in_err-root-clause-drew : goal.returns-in_err-root-clause-drew
@@ -21,6 +22,14 @@ pub returns-clause-ends : goal.returns-clause-ends
 returns-clause-ends g c count = record {
   zeros = λ sees same.
       drew_for (Unit {0}) (c.make_vault_of.result ≡ Err (Put ZeroRandom)) (g.R.Randoms.left c.args.random.now) (g.R.Randoms.left c.make_vault_of.new.random) (λ _. c.in-Err.is ∙ ap Err (c.answer_to.ensures.zeros same)) c.make_vault_of.ensures.drew;
+  shared = λ sees at same.
+      absurd (never_taken c.in-Err.fault (c.in-Err.ensures.chance sees.view sees.seen (can_make_target c.args.leg count (g.F.Folder.told c.args.folder.now) sees sees.view sees.seen)) (c.answer_to.ensures.taken at same));
   others = λ sees.
       c.answer_to.ensures.chance (item_of_chance c.in-Err.fault (c.in-Err.ensures.chance sees.view sees.seen (can_make_target c.args.leg count (g.F.Folder.told c.args.folder.now) sees sees.view sees.seen)));
 }
+
+pub returns-in_err-root-clause-goes : goal.returns-in_err-root-clause-goes
+returns-in_err-root-clause-goes g c = goes_nowhere (g.F.Folder.told c.args.folder.now) (g.F.Folder.told c.args.folder.now) refl
+
+pub returns-in-Ok-clause-goes : goal.returns-in-Ok-clause-goes
+returns-in-Ok-clause-goes g c = goes_beside _ (g.F.Folder.told c.args.folder.now) (g.F.Folder.told c.make_vault_of.new.folder) c.make_vault_of.ensures.beside

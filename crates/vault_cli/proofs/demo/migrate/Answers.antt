@@ -1,10 +1,10 @@
-use Rattle.std.proofs.Common.{◌≡◌, Err, refl, subst}
+use Rattle.std.proofs.Common.{refl, subst}
 use Rattle.demo_core.specs.Making.{phrase}
+use Rattle.demo_core.proofs.Shared.{goes_by, goes_nowhere}
 use Rattle.folder_spec.specs.Seen.{IsSeen}
 use Rattle.folder_spec.specs.View.{View}
 use Rattle.migrate_core.specs.Moved.{IsTidyWork, MovesTree}
 use Rattle.migrate_core.specs.Moving.{MovesOnly}
-use Rattle.migrate_core.specs.Written.{MayWriteTree}
 use Rattle.vault_cli.specs.Demo.{chances, chances_by}
 use Rattle.vault_cli.specs.DemoSteps.{CanCarry, Sees}
 use Rattle.vault_cli.specs.DemoTrees.{moving_folder, target_of}
@@ -27,12 +27,13 @@ pub returns-in-Ok-clause-moved : goal.returns-in-Ok-clause-moved
 returns-in-Ok-clause-moved g c same =
     let t = g.F.Folder.told c.args.folder.now in
     let u = g.F.Folder.told c.begin.new.folder in
-    let leg = c.args.leg in
-    (c.in-Ok.field-0,
-    subst (λ p. MovesTree p (target_of leg) moving_folder phrase phrase c.in-Ok.field-0 t u) c.in_ok-source.ensures.is
-    (subst (λ p. MovesTree c.in_ok-source.source p moving_folder phrase phrase c.in-Ok.field-0 t u) c.in_ok-target.ensures.is
-    (subst (λ w. MovesTree c.in_ok-source.source c.in_ok-target.target w phrase phrase c.in-Ok.field-0 t u) c.in_ok-work.ensures.is c.in-Ok.ensures.moved)),
-    subst (λ p. MovesOnly moving_folder p t u) c.in_ok-target.ensures.is (subst (λ w. MovesOnly w c.in_ok-target.target t u) c.in_ok-work.ensures.is c.begin.ensures.moves))
+    let leg = c.args.leg in (
+      c.in-Ok.field-0,
+      subst (λ p. MovesTree p (target_of leg) moving_folder phrase phrase c.in-Ok.field-0 t u) c.in_ok-source.ensures.is
+          (subst (λ p. MovesTree c.in_ok-source.source p moving_folder phrase phrase c.in-Ok.field-0 t u) c.in_ok-target.ensures.is
+          (subst (λ w. MovesTree c.in_ok-source.source c.in_ok-target.target w phrase phrase c.in-Ok.field-0 t u) c.in_ok-work.ensures.is c.in-Ok.ensures.moved)),
+      subst (λ p. MovesOnly moving_folder p t u) c.in_ok-target.ensures.is (subst (λ w. MovesOnly w c.in_ok-target.target t u) c.in_ok-work.ensures.is c.begin.ensures.moves),
+    )
 
 pub returns-in-Ok-clause-carried : goal.returns-in-Ok-clause-carried
 returns-in-Ok-clause-carried g c same count sees =
@@ -55,9 +56,9 @@ returns-clause-status g c count =
     let t' = g.F.Folder.told c.begin.new.folder in
     let laws : AreMovable = record { names = c.names_of_items_are_allowed.ensures; short = c.items_are_directories_or_short_files.ensures; fits = c.trees_of_items_pass_no_limit.ensures; whole = c.small_contents_pass_no_limit.ensures.whole } in
     let stops : Stops leg fault f f' r r' s s' t t' = stops_by leg c.in_ok-source.source c.in_ok-target.target c.in_ok-work.work fault f f' r r' s s' t t' c.in_ok-source.ensures.is c.in_ok-target.ensures.is c.in_ok-work.ensures.is
-    (record { blamed = c.in-Err.ensures.blamed; completes = c.in-Err.ensures.completes; too_long = c.in-Err.ensures.too_long; written = c.in-Err.ensures.written; moves = c.begin.ensures.moves }) in
-    status_ends (chances_by fault) (chances f f' r r' s s' (Sees (CanCarry leg) count t)) c.status_of.result
-    (λ status. begun_ends c.roots_show_their_own.ensures.alike c.roots_have_one_answer.ensures laws c.small_contents_pass_no_limit.ensures.small leg fault f f' r r' s s' count t t' status (λ a is. g.met.F.Folder.sound c.args.folder.now a is) stops)
+    (record { blamed = c.in-Err.ensures.blamed; completes = c.in-Err.ensures.completes; too_long = c.in-Err.ensures.too_long; shared = c.in-Err.ensures.shared; written = c.in-Err.ensures.written; moves = c.begin.ensures.moves }) in
+    status_ends (chances_by fault) (chances f f' r r' s s' t t' count (Sees (CanCarry leg) count t)) c.status_of.result
+    (λ status. begun_ends c.roots_show_their_own.ensures.alike c.roots_have_one_answer.ensures laws c.walks_tell_the_tree.ensures.plan c.small_contents_pass_no_limit.ensures.small leg fault f f' r r' s s' count t t' status (λ a is. g.met.F.Folder.sound c.args.folder.now a is) stops)
     (c.status_of.ensures.status c.in-Err.ensures.blamed.own)
 
 pub returns-in-Ok-clause-drew : goal.returns-in-Ok-clause-drew
@@ -67,3 +68,18 @@ returns-in-Ok-clause-drew g c count sees = moving_drew c.begin.result c.in_ok-so
 pub returns-clause-drew : goal.returns-clause-drew
 returns-clause-drew g c count sees = moving_drew c.begin.result c.in_ok-source.source c.in_ok-target.target phrase phrase (g.R.Randoms.left c.args.random.now) (g.R.Randoms.left c.begin.new.random) (g.F.Folder.told c.args.folder.now)
     (g.F.Folder.told c.begin.new.folder) (c.begin.ensures.written sees.view sees.seen)
+
+pub returns-in_err-source-clause-goes : goal.returns-in_err-source-clause-goes
+returns-in_err-source-clause-goes g c = goes_nowhere (g.F.Folder.told c.args.folder.now) (g.F.Folder.told c.args.folder.now) refl
+
+pub returns-in_err-target-clause-goes : goal.returns-in_err-target-clause-goes
+returns-in_err-target-clause-goes g c = goes_nowhere (g.F.Folder.told c.args.folder.now) (g.F.Folder.told c.args.folder.now) refl
+
+pub returns-in_err-work-clause-goes : goal.returns-in_err-work-clause-goes
+returns-in_err-work-clause-goes g c = goes_nowhere (g.F.Folder.told c.args.folder.now) (g.F.Folder.told c.args.folder.now) refl
+
+pub returns-in-Ok-clause-goes : goal.returns-in-Ok-clause-goes
+returns-in-Ok-clause-goes g c = goes_by _ _ (g.F.Folder.told c.args.folder.now) (g.F.Folder.told c.begin.new.folder) c.begin.ensures.moves
+
+pub returns-clause-goes : goal.returns-clause-goes
+returns-clause-goes g c = goes_by _ _ (g.F.Folder.told c.args.folder.now) (g.F.Folder.told c.begin.new.folder) c.begin.ensures.moves

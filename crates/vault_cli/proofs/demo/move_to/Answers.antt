@@ -1,4 +1,5 @@
 use Rattle.std.proofs.Common.{ℕ}
+use Rattle.demo_core.proofs.Shared.{goes_then}
 use Rattle.vault_cli.specs.Demo.{chances}
 use Rattle.vault_cli.specs.DemoSteps.{CanCarry, CanLead, HasCarried, Sees}
 use Rattle.vault_cli.specs.DemoTrees.{Carries, IsMoved, WhereTold, kind_to, source_of, target_of}
@@ -34,10 +35,13 @@ returns-clause-status g c count =
     let s0 = g.R.Randoms.left c.args.random.now in
     let s1 = g.R.Randoms.left c.make_target.new.random in
     let s2 = g.R.Randoms.left c.migrate.new.random in
+    let t0 = g.F.Folder.told c.args.folder.now in
+    let t1 = g.F.Folder.told c.make_target.new.folder in
+    let t2 = g.F.Folder.told c.migrate.new.folder in
     let K = Sees (CanLead c.args.leg) count (g.F.Folder.told c.args.folder.now) in
     let K1 = Sees (CanCarry c.args.leg) count (g.F.Folder.told c.make_target.new.folder) in
-    status_more (chances f1 f2 r1 r2 s1 s2 K1) (chances f0 f2 r0 r2 s0 s2 K)
-    (part_after c.draws_compose.ensures.composed f0 f1 f2 r0 r1 r2 s0 s1 s2 K1 K c.make_target.ensures.grows c.make_target.ensures.counted (λ sees. c.make_target.ensures.drew) (c.in_ok-make_target.ensures.stands count))
+    status_more (chances f1 f2 r1 r2 s1 s2 t1 t2 count K1) (chances f0 f2 r0 r2 s0 s2 t0 t2 count K)
+    (part_after c.draws_compose.ensures.composed f0 f1 f2 r0 r1 r2 s0 s1 s2 t0 t1 t2 count K1 K c.make_target.ensures.grows c.make_target.ensures.counted (λ sees. c.make_target.ensures.drew) (λ sees. c.make_target.ensures.goes) (c.in_ok-make_target.ensures.stands count))
     c.migrate.result (c.migrate.ensures.status count)
 
 pub returns-clause-carried : goal.returns-clause-carried
@@ -48,3 +52,6 @@ returns-clause-carried g c =
     let w = g.F.Folder.told c.migrate.new.folder in
     on_zero c.migrate.result ((count : ℕ) → Sees (CanCarry leg) count u → Sees (HasCarried leg) count w) ((count : ℕ) → Sees (CanLead leg) count t → Sees (HasCarried leg) count w)
     (λ carried count sees. carried count (c.in_ok-make_target.ensures.stands count sees)) c.migrate.ensures.carried
+
+pub returns-clause-goes : goal.returns-clause-goes
+returns-clause-goes g c = goes_then (g.F.Folder.told c.args.folder.now) (g.F.Folder.told c.make_target.new.folder) (g.F.Folder.told c.migrate.new.folder) c.make_target.ensures.goes c.migrate.ensures.goes

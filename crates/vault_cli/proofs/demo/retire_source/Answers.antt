@@ -3,7 +3,7 @@ use Rattle.demo_core.specs.Making.{phrase}
 use Rattle.migrate_core.specs.Moved.{StandsIn}
 use Rattle.retire_core.specs.Causes.{IsOfFolder}
 use Rattle.retire_core.specs.Retiring.{HasRetired, TouchesOnly, retiring_by}
-use Rattle.vault_cli.specs.DemoTrees.{LeavesSource, moving_folder}
+use Rattle.vault_cli.specs.DemoTrees.{moving_folder}
 use Rattle.vault_cli.proofs.Legs.{leaves_source}
 use Rattle.vault_cli.proofs.Movable.{AreMovable, carried_retires}
 use Rattle.vault_cli.proofs.Steps.{all_retired, leg_next}

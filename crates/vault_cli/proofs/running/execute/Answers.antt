@@ -55,5 +55,5 @@ returns-in-Ok-Some-Demo-clause-executes g c =
     let before : World = record { told = told; left = left; ended = ended; taken = g.O.Sink.taken c.args.out.now; random = random } in
     let after : World = record { told = told; left = left; ended = ended; taken = g.O.Sink.taken c.demo.new.out; random = random } in
     let did : Demonstrates arm.demonstration c.demo.result before after =
-    record { own = c.demo.ensures.own; steady = c.demo.ensures.no_folder; ends = c.demo.ensures.ends; prints = c.demo.ensures.prints; unchanged = refl; untouched = Keeps-refl left; undrawn = refl } in
+    record { own = c.demo.ensures.own; steady = c.demo.ensures.no_folder; told = c.demo.ensures.does.0; ends = c.demo.ensures.does.1; prints = c.demo.ensures.does.2; unchanged = refl; untouched = Keeps-refl left; undrawn = refl } in
     subst (λ command. Executes command c.demo.result before after) (ap Some (sym arm.field-0-0-is) ∙ sym arm.field-0-is ∙ arm.ensures.is) did

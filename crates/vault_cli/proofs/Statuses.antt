@@ -1,5 +1,5 @@
 -- What the status of a migration tells of its answer, and of its fault.
-use Rattle.std.proofs.Common.{◌≡◌, ◌≢◌, ◌⊎◌, ℕ, arith, inl, inr, refl, sym, subst, ◌∙◌, IsTrue}
+use Rattle.std.proofs.Common.{◌≡◌, ◌≢◌, ◌⊎◌, ◌≤◌, ℕ, arith, inl, inr, refl, sym, ap, subst, ◌∙◌, IsTrue}
 use Rattle.content_writing.specs.declared.fault.PutFault.TheVariants as put
 use Rattle.folder_spec.specs.Path.{Path}
 use Rattle.migrate_core.specs.Completing.{IsOfChance}
@@ -15,63 +15,46 @@ use Rattle.vault_cli.specs.declared.answer.Answer.{Answer}
 use Rattle.vault_cli.specs.declared.answer.Answer.TheVariants.{Done, Findings, BadCommandLine, OutOfMemory, FolderFault, InputFault, OutputFault, RandomFault, Refused, WrongPass, NotFound, WrongKind, DamagedInput, Damaged, NotAllowed, NotClean, Overlap, NotEmpty, Begun, Unusable, Changed, Differ, ZeroRandom, Taken, Limit, Retired}
 use Rattle.vault_cli.proofs.Executions.{with_status}
 
--- only zeros have their status
-zeros_of : (answer : Answer) → status_of answer ≡ 21 → answer ≡ ZeroRandom
-zeros_of Done is = absurd (omega (arith, is))
-zeros_of Findings is = absurd (omega (arith, is))
-zeros_of BadCommandLine is = absurd (omega (arith, is))
-zeros_of OutOfMemory is = absurd (omega (arith, is))
-zeros_of FolderFault is = absurd (omega (arith, is))
-zeros_of InputFault is = absurd (omega (arith, is))
-zeros_of OutputFault is = absurd (omega (arith, is))
-zeros_of RandomFault is = absurd (omega (arith, is))
-zeros_of ZeroRandom is = refl
-zeros_of (Refused at why) is = absurd (omega (arith, is))
-zeros_of (WrongPass root) is = absurd (omega (arith, is))
-zeros_of (NotFound what) is = absurd (omega (arith, is))
-zeros_of (WrongKind what) is = absurd (omega (arith, is))
-zeros_of (DamagedInput fault) is = absurd (omega (arith, is))
-zeros_of (Damaged at how) is = absurd (omega (arith, is))
-zeros_of (NotAllowed path) is = absurd (omega (arith, is))
-zeros_of (NotClean at number) is = absurd (omega (arith, is))
-zeros_of (Overlap first second) is = absurd (omega (arith, is))
-zeros_of (NotEmpty at) is = absurd (omega (arith, is))
-zeros_of (Begun work) is = absurd (omega (arith, is))
-zeros_of (Unusable work why) is = absurd (omega (arith, is))
-zeros_of (Changed plan items plan' items') is = absurd (omega (arith, is))
-zeros_of (Differ path how) is = absurd (omega (arith, is))
-zeros_of (Taken at) is = absurd (omega (arith, is))
-zeros_of (Limit which) is = absurd (omega (arith, is))
-zeros_of (Retired work) is = absurd (omega (arith, is))
+-- only zeros and a taken place have one of their statuses
+drawn_or_taken : (answer : Answer) → 21 ≤ status_of answer → status_of answer ≤ 22 → (answer ≡ ZeroRandom) ⊎ ((at : Path) × (answer ≡ Taken at))
+drawn_or_taken Done least most = absurd (omega (arith, least, most))
+drawn_or_taken Findings least most = absurd (omega (arith, least, most))
+drawn_or_taken BadCommandLine least most = absurd (omega (arith, least, most))
+drawn_or_taken OutOfMemory least most = absurd (omega (arith, least, most))
+drawn_or_taken FolderFault least most = absurd (omega (arith, least, most))
+drawn_or_taken InputFault least most = absurd (omega (arith, least, most))
+drawn_or_taken OutputFault least most = absurd (omega (arith, least, most))
+drawn_or_taken RandomFault least most = absurd (omega (arith, least, most))
+drawn_or_taken ZeroRandom least most = inl refl
+drawn_or_taken (Refused at why) least most = absurd (omega (arith, least, most))
+drawn_or_taken (WrongPass root) least most = absurd (omega (arith, least, most))
+drawn_or_taken (NotFound what) least most = absurd (omega (arith, least, most))
+drawn_or_taken (WrongKind what) least most = absurd (omega (arith, least, most))
+drawn_or_taken (DamagedInput fault) least most = absurd (omega (arith, least, most))
+drawn_or_taken (Damaged at how) least most = absurd (omega (arith, least, most))
+drawn_or_taken (NotAllowed path) least most = absurd (omega (arith, least, most))
+drawn_or_taken (NotClean at number) least most = absurd (omega (arith, least, most))
+drawn_or_taken (Overlap first second) least most = absurd (omega (arith, least, most))
+drawn_or_taken (NotEmpty at) least most = absurd (omega (arith, least, most))
+drawn_or_taken (Begun work) least most = absurd (omega (arith, least, most))
+drawn_or_taken (Unusable work why) least most = absurd (omega (arith, least, most))
+drawn_or_taken (Changed plan items plan' items') least most = absurd (omega (arith, least, most))
+drawn_or_taken (Differ path how) least most = absurd (omega (arith, least, most))
+drawn_or_taken (Taken at) least most = inr (at, refl)
+drawn_or_taken (Limit which) least most = absurd (omega (arith, least, most))
+drawn_or_taken (Retired work) least most = absurd (omega (arith, least, most))
 
--- only a taken place has its
+zeros_of : (answer : Answer) → status_of answer ≡ 21 → answer ≡ ZeroRandom
+zeros_of answer is = elim (drawn_or_taken answer (omega (arith, is)) (omega (arith, is))) [
+  | inl zeros ↦ zeros
+  | inr taken ↦ let never : 21 ≡ 22 = sym is ∙ ap status_of taken.1 in absurd (omega (arith, never))
+]
+
 taken_of : (answer : Answer) → status_of answer ≡ 22 → (at : Path) × (answer ≡ Taken at)
-taken_of Done is = absurd (omega (arith, is))
-taken_of Findings is = absurd (omega (arith, is))
-taken_of BadCommandLine is = absurd (omega (arith, is))
-taken_of OutOfMemory is = absurd (omega (arith, is))
-taken_of FolderFault is = absurd (omega (arith, is))
-taken_of InputFault is = absurd (omega (arith, is))
-taken_of OutputFault is = absurd (omega (arith, is))
-taken_of RandomFault is = absurd (omega (arith, is))
-taken_of ZeroRandom is = absurd (omega (arith, is))
-taken_of (Refused at why) is = absurd (omega (arith, is))
-taken_of (WrongPass root) is = absurd (omega (arith, is))
-taken_of (NotFound what) is = absurd (omega (arith, is))
-taken_of (WrongKind what) is = absurd (omega (arith, is))
-taken_of (DamagedInput fault) is = absurd (omega (arith, is))
-taken_of (Damaged at how) is = absurd (omega (arith, is))
-taken_of (NotAllowed path) is = absurd (omega (arith, is))
-taken_of (NotClean at number) is = absurd (omega (arith, is))
-taken_of (Overlap first second) is = absurd (omega (arith, is))
-taken_of (NotEmpty at) is = absurd (omega (arith, is))
-taken_of (Begun work) is = absurd (omega (arith, is))
-taken_of (Unusable work why) is = absurd (omega (arith, is))
-taken_of (Changed plan items plan' items') is = absurd (omega (arith, is))
-taken_of (Differ path how) is = absurd (omega (arith, is))
-taken_of (Taken at) is = (at, refl)
-taken_of (Limit which) is = absurd (omega (arith, is))
-taken_of (Retired work) is = absurd (omega (arith, is))
+taken_of answer is = elim (drawn_or_taken answer (omega (arith, is)) (omega (arith, is))) [
+  | inl zeros ↦ let never : 22 ≡ 21 = sym is ∙ ap status_of zeros in absurd (omega (arith, never))
+  | inr taken ↦ taken
+]
 
 -- the statuses of chance
 chance_status : (work root : Path) (fault : MoveFault) → IsOfChance fault → ((at : Path) → fault ≢ move.Match (match.Limit (limit.Length at))) → of_move work root fault ≢ OutOfMemory → IsTrue (is_status_of_chance (status_of (of_move work root fault)))

@@ -1,7 +1,6 @@
 // The key schedule, over words of which the first byte is highest (FIPS 197, section 5.2).
 
-ghost use Rattle.std.specs.Prelude.{◌≡◌, ℕ, ◌+◌, ◌-◌, ◌*◌, ◌/◌, ◌^◌, ◌<◌, ◌≤◌, length};
-ghost use Rattle.aes_lanes.specs.Field.{power};
+ghost use Rattle.std.specs.Prelude.{◌≡◌, ◌+◌, ◌-◌, ◌*◌, ◌/◌, ◌^◌, ◌<◌, ◌≤◌, length};
 ghost use Rattle.aes_lanes.specs.Schedule.{expanded_key, rot_word, round_constant, schedule_step, sub_word, word_at};
 
 use crate::tables::sbox;

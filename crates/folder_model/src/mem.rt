@@ -46,7 +46,7 @@ pub struct MemFolder {
 impl MemFolder {
     ghost use Rattle.std.specs.Prelude.{◌≡◌, ◌↔◌, ◌+◌, ◌++◌, Some, vec_len, vec_capacity, IfOk, OnOk, OnErr, IsTrue, [], ◌∷◌};
     ghost use Rattle.folder_spec.specs.State.{present, HasFile, IsSound};
-    ghost use Rattle.folder_spec.specs.Event.{IsFree, IsEmptyDir, Allowed, AllowedIn, with_table, changed, Create, Settle, Append, Sync, Rename, RemoveDir, Steps};
+    ghost use Rattle.folder_spec.specs.Event.{IsFree, Allowed, AllowedIn, with_table, changed, Create, Settle, Append, Sync, Rename, RemoveDir, Steps};
     ghost use Rattle.folder_spec.specs.View.{Folder, kind_found};
     ghost use Rattle.folder_spec.specs.Seen.{seen, ShowsFile};
     ghost use Rattle.folder_spec.specs.Listing.{IsListing};

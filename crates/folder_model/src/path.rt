@@ -1,5 +1,5 @@
 //! Folder paths.
-ghost use Rattle.std.specs.Prelude.{◌≡◌, ◌+◌, ◌<◌, ◌≤◌, [], ◌++◌, ◌∷◌, map, length, vec_len, string_bytes, Some, None, is_some, IfOk, OnOk, MatchOption, ◌≢◌, IsTrue, IsFalse, slice_index_or};
+ghost use Rattle.std.specs.Prelude.{◌≡◌, ◌+◌, ◌<◌, [], ◌++◌, map, length, string_bytes, Some, None, is_some, IfOk, OnOk, MatchOption, ◌≢◌, IsTrue, IsFalse};
 ghost use Rattle.std.specs.List.{list_all};
 ghost use Rattle.std.specs.Option.{option_map};
 ghost use Rattle.folder_spec.specs.Path.{Part, path_eq, below, parent, child};

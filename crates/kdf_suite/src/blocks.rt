@@ -1,6 +1,6 @@
 // Output that is made of numbered blocks of 32 bytes.
 
-ghost use Rattle.std.specs.Prelude.{◌≡◌, ℕ, ◌+◌, ◌-◌, ◌*◌, ◌/◌, ◌≤◌, List, ◌++◌, length, take, drop, bit_xor};
+ghost use Rattle.std.specs.Prelude.{◌≡◌, ◌+◌, ◌-◌, ◌≤◌, ◌++◌, length, take, drop, bit_xor};
 ghost use Rattle.std.specs.Simd.Lanes.{zip2};
 
 pub(crate) const BLOCK_LEN: usize = 32;

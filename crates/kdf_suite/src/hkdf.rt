@@ -1,6 +1,6 @@
 // HKDF (RFC 5869) over HMAC-SHA-256.
 
-ghost use Rattle.std.specs.Prelude.{◌≡◌, ℕ, ◌+◌, ◌*◌, ◌/◌, ◌≤◌, List, [], ◌∷◌, ◌++◌, length};
+ghost use Rattle.std.specs.Prelude.{◌≡◌, ◌+◌, ◌*◌, ◌≤◌, [], ◌∷◌, ◌++◌, length};
 ghost use Rattle.kdf_suite.specs.Hkdf.{hkdf_sha256};
 ghost use Rattle.kdf_suite.specs.Hmac.{hmac_sha256};
 

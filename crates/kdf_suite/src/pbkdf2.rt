@@ -1,6 +1,6 @@
 // PBKDF2 (RFC 8018, section 5.2) over HMAC-SHA-256.
 
-ghost use Rattle.std.specs.Prelude.{◌≡◌, ℕ, ◌+◌, ◌*◌, ◌/◌, ◌^◌, ◌≤◌, List, ◌++◌, length};
+ghost use Rattle.std.specs.Prelude.{◌≡◌, ◌+◌, ◌*◌, ◌^◌, ◌≤◌, length};
 ghost use Rattle.kdf_suite.specs.Pbkdf2.{pbkdf2_block, pbkdf2_sha256, pbkdf2_u};
 
 use crate::blocks::{BLOCK_LEN, write_front, xor_into};

@@ -3,7 +3,7 @@
 ghost use Rattle.std.specs.Prelude.{◌≡◌, ℕ, ◌+◌, ◌-◌, ◌*◌, ◌%◌, ◌^◌, ◌<◌, ◌≤◌, List, ◌++◌, length, take, drop, bit_xor, IfOk};
 ghost use Rattle.std.specs.Int.{IsPowerOfTwo};
 ghost use Rattle.std.specs.Simd.Lanes.{zip2};
-ghost use Rattle.kdf_suite.specs.RoMix.{block_at, block_mix, integerify, mixed_times, ro_mix};
+ghost use Rattle.kdf_suite.specs.RoMix.{block_mix, integerify, mixed_times, ro_mix};
 ghost use Rattle.kdf_suite.specs.Salsa.{salsa20_8};
 ghost use Rattle.kdf_suite.specs.Table.{IsTable};
 

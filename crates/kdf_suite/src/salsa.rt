@@ -1,7 +1,7 @@
 // The Salsa20/8 core (RFC 7914, section 3).
 
-ghost use Rattle.std.specs.Prelude.{◌≡◌, ℕ, List};
-ghost use Rattle.kdf_suite.specs.Salsa.{add32, column_round, double_rounds, quarter_round, row_round, salsa20_8, xor_rotated};
+ghost use Rattle.std.specs.Prelude.{◌≡◌};
+ghost use Rattle.kdf_suite.specs.Salsa.{column_round, double_rounds, quarter_round, row_round, salsa20_8, xor_rotated};
 
 // The words of a block of 64 bytes.
 pub(crate) type Block = [u32; 16];

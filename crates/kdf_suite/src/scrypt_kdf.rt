@@ -1,6 +1,6 @@
 // scrypt (RFC 7914, section 6).
 
-ghost use Rattle.std.specs.Prelude.{◌≡◌, ℕ, ◌+◌, ◌*◌, ◌^◌, ◌<◌, ◌≤◌, List, ◌++◌, length, IfOk, OnOk, OnErr};
+ghost use Rattle.std.specs.Prelude.{◌≡◌, ◌+◌, ◌*◌, ◌^◌, ◌<◌, ◌≤◌, ◌++◌, length, IfOk, OnOk, OnErr};
 ghost use Rattle.std.specs.Int.{IsPowerOfTwo};
 ghost use Rattle.kdf_suite.specs.Blocks.{joined};
 ghost use Rattle.kdf_suite.specs.Scrypt.{bytes_of, mixed_part, scrypt_key, word_at, words_of};

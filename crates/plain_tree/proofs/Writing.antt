@@ -1,5 +1,5 @@
 -- Steps of reading a text, byte by byte and part by part.
-use Rattle.std.proofs.Common.{Bool, true, false, cond, nat_lt, ◌==◌, ◌≡◌, ℕ, zero, suc, ◌+◌, ◌-◌, ◌<◌, ◌≤◌, List, [], ◌∷◌, ◌++◌, length, get_or, drop, Option, Some, None, refl, sym, ap, ◌∙◌, append_assoc, arith}
+use Rattle.std.proofs.Common.{Bool, true, false, cond, nat_lt, ◌==◌, ◌≡◌, ℕ, zero, suc, ◌+◌, ◌<◌, ◌≤◌, List, [], ◌∷◌, ◌++◌, length, get_or, drop, Option, Some, None, refl, sym, ap, ◌∙◌, append_assoc, arith}
 use Rattle.std.proofs.lemmas.List.{drop-drop}
 use Rattle.std.specs.Option.{option_map, option_and_then}
 use Rattle.std.specs.List.{list_all}
@@ -7,7 +7,7 @@ use Rattle.std.proofs.lemmas.Bool.{and_from}
 use Rattle.std.proofs.lemmas.Bool.Decides.{nat_tests}
 use Rattle.plain_tree.specs.Names.{Path, is_name}
 use Rattle.plain_tree.specs.FirstByte.{byte_behind, first_written}
-use Rattle.plain_tree.specs.Reading.{escaped_byte, written, before, read_name, read_names, read_path, parts_of}
+use Rattle.plain_tree.specs.Reading.{written, before, read_name, read_names, read_path, parts_of}
 
 before-some : {A : Type 0} (value : A) (others : Option (List A)) → before (Some value) others ≡ option_map (λ rest. value ∷ rest) others
 before-some value None = refl

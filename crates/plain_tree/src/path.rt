@@ -1,9 +1,7 @@
 //! Paths of the plain tree.
-ghost use Rattle.std.specs.Prelude.{◌≡◌, ◌≤◌, [], ◌∷◌, ◌++◌, IsTrue, IfOk, Some, None, string_bytes, refl, length};
+ghost use Rattle.std.specs.Prelude.{◌≡◌, ◌≤◌, [], ◌∷◌, ◌++◌, IsTrue, IfOk, Some, None, string_bytes, length};
 ghost use Rattle.std.specs.List.{list_all, flat_map};
-ghost use Rattle.std.specs.Cmp.{partial_equiv_from_equiv};
 ghost use Rattle.plain_tree.specs.Names.{is_name};
-ghost use Rattle.plain_tree.specs.Order.{path_cmp, path_eq};
 ghost use Rattle.plain_tree.specs.Shown.{shown, shown_path};
 ghost use Rattle.plain_tree.specs.Reading.{read_path};
 

@@ -2,7 +2,6 @@
 ghost use Rattle.std.specs.Prelude.{◌≡◌, ◌<◌, ◌++◌, IfOk, OnOk, string_bytes};
 ghost use Rattle.std.specs.Char.{digit_char};
 ghost use Rattle.std.specs.Str.{is_utf8};
-ghost use Rattle.std.specs.List.{flat_map};
 ghost use Rattle.plain_tree.specs.Shown.{is_escaped, escape, shown_byte, shown};
 
 use std::alloc::{AllocError, Global};

@@ -1,4 +1,4 @@
-ghost use Rattle.std.specs.Prelude.{◌≡◌, ℕ, ◌≤◌, ◌↔◌, List, [], ◌++◌, length, drop, Some, IsTrue, IsErr, OnOk, OnErr, is_err, if◌then◌else◌, slice_get};
+ghost use Rattle.std.specs.Prelude.{◌≡◌, ◌≤◌, ◌↔◌, [], ◌++◌, length, drop, Some, IsTrue, IsErr, OnOk, OnErr, is_err, if◌then◌else◌, slice_get};
 ghost use Rattle.port_model.specs.Counts.{CountRose, IsCounted, counted_up};
 ghost use Rattle.port_model.specs.Draws.{Draws};
 ghost use Rattle.port_model.specs.Fakes.{Unread, unread, lacks};

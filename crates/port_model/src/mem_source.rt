@@ -1,5 +1,4 @@
-ghost use Rattle.std.specs.Prelude.{◌≡◌, ℕ, ◌<◌, ◌≤◌, ◌↔◌, List, [], ◌++◌, length, take, drop, min, Some, Bool, IsTrue, IsErr, IfOk, OnErr, is_err, if◌then◌else◌, nat_eq, ◌==◌};
-ghost use Rattle.std.specs.Io.KnownBytes.{Consumes, IsAtEnd, Keeps};
+ghost use Rattle.std.specs.Prelude.{◌≡◌, ◌<◌, ◌≤◌, ◌↔◌, [], ◌++◌, length, take, drop, min, Some, IsTrue, IsErr, IfOk, OnErr, is_err, if◌then◌else◌, ◌==◌};
 ghost use Rattle.port_model.specs.Counts.{CountRose, IsCounted, counted_up};
 ghost use Rattle.port_model.specs.Fakes.{Unread, unread, fails_next};
 

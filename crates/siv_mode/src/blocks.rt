@@ -1,6 +1,6 @@
 // Blocks that are doubled and padded, and byte strings as blocks.
 
-ghost use Rattle.std.specs.Prelude.{◌≡◌, ◌<◌, ◌≤◌, length};
+ghost use Rattle.std.specs.Prelude.{◌≡◌, ◌<◌, length};
 ghost use Rattle.aes_lanes.specs.Bytes.{xor_bytes};
 ghost use Rattle.siv_mode.specs.Blocks.{double, padded_block};
 

@@ -1,6 +1,6 @@
 // SIV (RFC 5297, sections 2.6 and 2.7).
 
-ghost use Rattle.std.specs.Prelude.{◌≡◌, ◌<◌, ◌≤◌, ◌↔◌, length, IfOk, IsErrOf};
+ghost use Rattle.std.specs.Prelude.{◌≡◌, ◌<◌, ◌↔◌, length, IfOk, IsErrOf};
 ghost use Rattle.siv_mode.specs.Siv.{first_counter as first_counter_of, siv_encrypt, Opens, OpensToNothing};
 ghost use Rattle.siv_mode.specs.S2v.{associated, s2v as s2v_of};
 ghost use Rattle.siv_mode.specs.declared.siv.SivFault.TheVariants.{Short, BadTag};

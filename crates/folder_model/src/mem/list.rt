@@ -1,5 +1,5 @@
 //! The entries of a directory, in order.
-ghost use Rattle.std.specs.Prelude.{◌≡◌, IfOk, OnOk, MatchOption, string_bytes};
+ghost use Rattle.std.specs.Prelude.{◌≡◌, OnOk, MatchOption, string_bytes};
 ghost use Rattle.folder_spec.specs.State.{Table, kind_of};
 ghost use Rattle.folder_spec.specs.Path.{Path, child};
 ghost use Rattle.folder_model.specs.Entries.{HasName, IsPlace, AddsItem, AddsEntry};

@@ -1,5 +1,5 @@
 //! The bytes of a file, and how many of them are kept.
-ghost use Rattle.std.specs.Prelude.{◌≡◌, ◌+◌, ◌≤◌, [], ◌++◌, length, IfOk, OnOk, OnErr, take, drop, min, ◌-◌};
+ghost use Rattle.std.specs.Prelude.{◌≡◌, ◌+◌, ◌≤◌, ◌++◌, length, IfOk, OnOk, OnErr, take, drop, min, ◌-◌};
 ghost use Rattle.folder_spec.specs.Event.{empty_node, grown, synced};
 
 use std::alloc::{AllocError, Global};

@@ -1,5 +1,5 @@
 //! The steps that made a name table, and what stands in it.
-ghost use Rattle.std.specs.Prelude.{◌≡◌, ◌≢◌, ◌+◌, ◌<◌, ◌≤◌, ◌∷◌, [], ◌++◌, ℕ, map, length, IfOk, OnOk, MatchOption, Contains, string_bytes, take};
+ghost use Rattle.std.specs.Prelude.{◌≡◌, ◌≢◌, ◌<◌, map, IfOk, OnOk, MatchOption, Contains, string_bytes};
 ghost use Rattle.folder_spec.specs.declared.Spot.TheVariants.{Nothing};
 ghost use Rattle.folder_spec.specs.Path.{Part, child};
 ghost use Rattle.folder_spec.specs.State.{Table};

@@ -1,6 +1,6 @@
 //! A name table as an ordered map.
 ghost use Rattle.std.specs.Prelude.{◌≡◌, ◌≢◌, ◌≤◌, ◌∷◌, None, map, length, drop, IfOk, OnOk, OnErr, string_bytes};
-ghost use Rattle.folder_spec.specs.Path.{Path, below};
+ghost use Rattle.folder_spec.specs.Path.{below};
 ghost use Rattle.folder_spec.specs.State.{Table, IsAmong, put, moved};
 ghost use Rattle.folder_model.specs.Steps.{base_table, step_table, replay, tables_after};
 ghost use Rattle.folder_model.specs.Tables.{table_of, names_of, placed, HasParents, AddsName, AddsNames, MovesPath};

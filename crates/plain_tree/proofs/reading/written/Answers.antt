@@ -1,4 +1,4 @@
-use Rattle.std.proofs.Common.{◌≡◌, Some, None, ◌<◌, ◌++◌, List, ℕ, drop, length, arith, ◌∙◌, sym, ap}
+use Rattle.std.proofs.Common.{◌≡◌, Some, None, ◌<◌, ◌++◌, drop, length, arith, ◌∙◌, sym, ap}
 use Rattle.std.specs.Option.{option_map}
 use Rattle.std.proofs.lemmas.List.{length-drop, take_rest}
 use Rattle.plain_tree.specs.FirstByte.{first_written}

@@ -1,0 +1,93 @@
+//! Which rows are right.
+
+use std::alloc::{AllocError, Global};
+
+/// How many rows were right, and the names of the wrong ones.
+#[derive(Drop)]
+pub struct Tally {
+    right: u64,
+    wrong: u64,
+    names: String,
+}
+
+// The most bytes of names that are kept, so that all of them stand in the end of an output that is shown.
+const MOST: usize = 400;
+
+impl Tally {
+    pub fn new(alloc: Global) -> Tally {
+        Tally {
+            right: 0,
+            wrong: 0,
+            names: String::new(alloc),
+        }
+    }
+
+    /// Counts a row with its answer: the expected lines and the found ones. What is to be printed is
+    /// `right: NAME`, or `wrong: NAME` with both answers below.
+    pub fn compared(
+        &mut self,
+        alloc: Global,
+        name: &str,
+        expected: &str,
+        found: &str,
+    ) -> Result<String, AllocError> {
+        if expected == found {
+            self.right = self.right.saturating_add(1);
+            return format!(in alloc; "right: {name}\n");
+        }
+        self.count_wrong(name)?;
+        let place = first_difference(expected, found);
+        format!(in alloc;
+            "wrong: {name}\n  they differ from byte {place} on\n  expected:\n{expected}\n  found:\n{found}\n"
+        )
+    }
+
+    /// Counts a row that isn't read as a wrong one. What is to be printed is `wrong: NAME` with the reason below.
+    pub fn unread(&mut self, alloc: Global, name: &str, why: &str) -> Result<String, AllocError> {
+        self.count_wrong(name)?;
+        format!(in alloc; "wrong: {name}\n  not read: {why}\n")
+    }
+
+    // Counts a wrong row, and keeps its name while there is room for it.
+    fn count_wrong(&mut self, name: &str) -> Result<(), AllocError> {
+        self.wrong = self.wrong.saturating_add(1);
+        if self.names.len() < MOST {
+            self.names.push_str("wrong: ")?;
+            self.names.push_str(name)?;
+            self.names.push('\n')?;
+        }
+        Ok(())
+    }
+
+    /// The number of rows that were right.
+    pub fn right(&self) -> u64 {
+        self.right
+    }
+
+    /// The number of rows that were wrong.
+    pub fn wrong(&self) -> u64 {
+        self.wrong
+    }
+
+    /// The names of wrong rows, a line each, as far as some hundred bytes hold them, and how many rows were wrong;
+    /// nothing where none was.
+    pub fn wrong_names(&self, alloc: Global) -> Result<String, AllocError> {
+        if self.wrong == 0 {
+            return Ok(String::new(alloc));
+        }
+        let (names, wrong) = (self.names.as_str(), self.wrong);
+        format!(in alloc; "{names}{wrong} rows are wrong\n")
+    }
+}
+
+/// The place of the first byte in which two texts differ, or the shorter one's length.
+pub fn first_difference(one: &str, other: &str) -> usize {
+    let mut place = 0usize;
+    for (left, right) in one.as_bytes().iter().zip(other.as_bytes()) {
+        if left != right {
+            return place;
+        }
+        place = place.saturating_add(1);
+    }
+    place
+}

@@ -1,10 +1,10 @@
 -- The circuits behind the S-box and its inverse as lists of gates, on bits and on planes of bits.
-use Rattle.std.proofs.Common.{◌≡◌, ℕ, zero, suc, ◌/◌, ◌%◌, ◌^◌, ◌<◌, List, [], ◌∷◌, map, get_or, replicate, bit_and, bit_xor, refl, ap, ap₂, ◌∙◌, lit<}
+use Rattle.std.proofs.Common.{◌≡◌, ℕ, zero, suc, ◌/◌, ◌%◌, ◌^◌, ◌<◌, List, [], ◌∷◌, map, get_or, replicate, bit_and, bit_xor, refl, sym, ap, ap₂, ◌∙◌, lit<}
 use Rattle.std.specs.Simd.Lanes.{zip2}
 use Rattle.std.proofs.lemmas.List.{get_or-replicate}
 use Rattle.std.proofs.Math.Nat.{zero-div}
-use Rattle.aes_lanes.specs.Field.{xtimes, partial_product, multiply, power, inverse, affine_map, inverse_affine_map, inverse_sbox, sbox}
-use Rattle.aes_lanes.specs.Laws.Field.{at_each}
+use Rattle.aes_lanes.specs.Field.{affine_map, inverse_affine_map, inverse_sbox, sbox}
+use Rattle.aes_lanes.specs.Laws.Field.{at_each, inverses, inverse_by_table, sbox_by_table, sbox-by_table, inverse_affine_map-lt, inverse_sbox_by_table, inverse_sbox-by_table}
 use Rattle.aes_lanes.specs.Planes.{IsPlane, bit, byte_of, byte_at}
 use Rattle.aes_lanes.proofs.PlaneBits.{IsPlane-sum, IsPlane-both, IsPlane-splat, bit-sum, bit-both, bit-lt, eight, eight_same, bits_of, on_bits}
 
@@ -71,8 +71,10 @@ by_gates gates places x = byte_of (chosen 0 places (values bit_xor bit_and 0 gat
 
 -- what they are on all 256 bytes
 pub sbox-by_gates : (x : ℕ) → x < 256 → by_gates sbox_gates (6 ∷ 7 ∷ 2 ∷ 3 ∷ 4 ∷ 0 ∷ 1 ∷ 8 ∷ []) x ≡ bit_xor (sbox x) 0x63
-unfolding by_gates byte_of bits_of values sbox_gates xtimes partial_product multiply power inverse affine_map sbox
-sbox-by_gates = at_each (by_gates sbox_gates (6 ∷ 7 ∷ 2 ∷ 3 ∷ 4 ∷ 0 ∷ 1 ∷ 8 ∷ [])) (λ x. bit_xor (sbox x) 0x63) refl
+unfolding by_gates byte_of bits_of values sbox_gates inverses inverse_by_table affine_map sbox_by_table
+sbox-by_gates x h =
+    at_each (by_gates sbox_gates (6 ∷ 7 ∷ 2 ∷ 3 ∷ 4 ∷ 0 ∷ 1 ∷ 8 ∷ [])) (λ x. bit_xor (sbox_by_table x) 0x63) refl x h
+    ∙ ap (λ s. bit_xor s 0x63) (sym (sbox-by_table x h))
 
 pub linear-by_gates : (x : ℕ) → x < 256 → by_gates linear_gates (14 ∷ 12 ∷ 10 ∷ 8 ∷ 6 ∷ 4 ∷ 2 ∷ 0 ∷ []) x ≡ bit_xor (inverse_affine_map x) 0x05
 unfolding by_gates byte_of bits_of values linear_gates inverse_affine_map
@@ -88,8 +90,11 @@ sum05-by_gates = at_each (by_gates gates_05 (1 ∷ 8 ∷ 0 ∷ 6 ∷ 5 ∷ 4 ∷
 
 -- the inverse S-box, by the S-box between linear parts
 pub unsbox-by_sbox : (x : ℕ) → x < 256 → bit_xor (inverse_affine_map (bit_xor (sbox (inverse_affine_map x)) 0x63)) 0x05 ≡ inverse_sbox x
-unfolding xtimes partial_product multiply power inverse affine_map sbox inverse_affine_map inverse_sbox
-unsbox-by_sbox = at_each (λ x. bit_xor (inverse_affine_map (bit_xor (sbox (inverse_affine_map x)) 0x63)) 0x05) inverse_sbox refl
+unfolding inverses inverse_by_table affine_map sbox_by_table inverse_affine_map inverse_sbox_by_table
+unsbox-by_sbox x h =
+    ap (λ s. bit_xor (inverse_affine_map (bit_xor s 0x63)) 0x05) (sbox-by_table (inverse_affine_map x) (inverse_affine_map-lt x h))
+    ∙ at_each (λ x. bit_xor (inverse_affine_map (bit_xor (sbox_by_table (inverse_affine_map x)) 0x63)) 0x05) inverse_sbox_by_table refl x h
+    ∙ sym (inverse_sbox-by_table x h)
 
 -- a plane with this bit in a place
 pub record HasBit (p k : ℕ) (v : List ℕ) (b : ℕ) : Type 0 where

@@ -6,8 +6,8 @@ use Rattle.std.proofs.lemmas.Simd.{get_or-zip2, length-zip2, zip2_of_maps}
 use lib.Bits.{and_mask, xor_assoc, xor_zero_l, xor_zero_r}
 use Rattle.aes_lanes.specs.Bytes.{AreBytes}
 use Rattle.aes_lanes.specs.Private.{AreLanes}
-use Rattle.aes_lanes.specs.Field.{xtimes, partial_product, multiply, power, inverse, affine_map, inverse_affine_map}
-use Rattle.aes_lanes.specs.Laws.Field.{at_each, xtimes-lt}
+use Rattle.aes_lanes.specs.Field.{xtimes, partial_product, multiply, inverse, affine_map, inverse_affine_map}
+use Rattle.aes_lanes.specs.Laws.Field.{at_each, inverses, inverse_by_table, inverse-by_table, xtimes-lt}
 
 -- functions that agree on bytes agree on lanes
 pub map-agree : (f g : ℕ → ℕ) → ((x : ℕ) → x < 256 → f x ≡ g x) → (xs : List ℕ) → AreBytes xs → map f xs ≡ map g xs
@@ -75,8 +75,8 @@ unfoldable pub power254 : ℕ → ℕ
 power254 x = multiply (power252 x) (power2 x)
 
 pub power254-is : (x : ℕ) → x < 256 → power254 x ≡ inverse x
-unfolding power2 power3 power6 power12 power15 power30 power60 power120 power240 power252 power254 xtimes partial_product multiply power inverse
-power254-is = at_each power254 inverse refl
+unfolding power2 power3 power6 power12 power15 power30 power60 power120 power240 power252 power254 xtimes partial_product multiply inverses inverse_by_table
+power254-is x h = at_each power254 inverse_by_table refl x h ∙ sym (inverse-by_table x h)
 
 -- what the code does to one lane
 unfoldable pub times_x_lane : ℕ → ℕ

@@ -5,7 +5,8 @@ use Rattle.std.proofs.lemmas.List.FromFn.{get_or-range_with_len}
 use Rattle.std.specs.List.{range_with_len}
 use Rattle.std.specs.Int.{w32, rotate_right, to_be_bytes}
 use Rattle.aes_lanes.specs.declared.tables.TheConstants.{SBOX, INVERSE_SBOX, COLUMNS, INVERSE_COLUMNS}
-use Rattle.aes_lanes.specs.Field.{xtimes, partial_product, multiply, power, inverse, affine_map, sbox, inverse_affine_map, inverse_sbox}
+use Rattle.aes_lanes.specs.Field.{xtimes, partial_product, multiply, affine_map, sbox, inverse_affine_map, inverse_sbox}
+use Rattle.aes_lanes.specs.Laws.Field.{inverses, inverse_by_table, sbox_by_table, sbox-by_table, inverse_sbox_by_table, inverse_sbox-by_table}
 use Rattle.aes_lanes.specs.Bytes.{xor_bytes}
 use Rattle.aes_lanes.specs.Rounds.{column_product, inverse_column_product}
 use Rattle.aes_lanes.proofs.WordBytes.{xor_words}
@@ -27,19 +28,19 @@ values f g d xs e h x lt =
     let same : slice_index bytes x ≡ x = get_or-range_with_len 0 256 x 0 lt ∙ omega arith in
     entries f g d xs bytes e x (omega arith) lt ∙ ap g same
 
-SBOX_is : map (λ s. s) SBOX ≡ map sbox bytes
-unfolding xtimes partial_product multiply power inverse affine_map sbox
+SBOX_is : map (λ s. s) SBOX ≡ map sbox_by_table bytes
+unfolding inverses inverse_by_table affine_map sbox_by_table
 SBOX_is = refl
 
-INVERSE_SBOX_is : map (λ s. s) INVERSE_SBOX ≡ map inverse_sbox bytes
-unfolding xtimes partial_product multiply power inverse inverse_affine_map inverse_sbox
+INVERSE_SBOX_is : map (λ s. s) INVERSE_SBOX ≡ map inverse_sbox_by_table bytes
+unfolding inverses inverse_by_table inverse_affine_map inverse_sbox_by_table
 INVERSE_SBOX_is = refl
 
 pub sbox_at : (x : ℕ) → x < 256 → slice_index SBOX x ≡ sbox x
-sbox_at = values (λ s. s) sbox 0 SBOX SBOX_is refl
+sbox_at x h = values (λ s. s) sbox_by_table 0 SBOX SBOX_is refl x h ∙ sym (sbox-by_table x h)
 
 pub inverse_sbox_at : (x : ℕ) → x < 256 → slice_index INVERSE_SBOX x ≡ inverse_sbox x
-inverse_sbox_at = values (λ s. s) inverse_sbox 0 INVERSE_SBOX INVERSE_SBOX_is refl
+inverse_sbox_at x h = values (λ s. s) inverse_sbox_by_table 0 INVERSE_SBOX INVERSE_SBOX_is refl x h ∙ sym (inverse_sbox-by_table x h)
 
 -- the bytes of a word rotated by k bits
 abbrev turned : ℕ → ℕ → List ℕ

@@ -1,5 +1,5 @@
 -- Laws of the field's sum and product, and of bytes.
-use Rattle.std.proofs.Common.{◌≡◌, ℕ, zero, suc, ◌<◌, ◌*◌, ◌/◌, ◌%◌, ◌^◌, map, get_or, bit_xor, min, refl, sym, ap, ◌∙◌, arith, inl, inr, zero-mul}
+use Rattle.std.proofs.Common.{◌≡◌, ℕ, zero, suc, ◌<◌, ◌*◌, ◌/◌, ◌%◌, ◌^◌, List, [], ◌∷◌, map, get_or, bit_xor, min, refl, sym, ap, ◌∙◌, arith, inl, inr, zero-mul}
 use Rattle.std.proofs.lemmas.List.FromFn.{get_or-map-range_with_len}
 use Rattle.std.proofs.lemmas.Bool.{cases_lt}
 use Rattle.std.specs.List.{range_with_len}
@@ -117,30 +117,83 @@ pub sum_of-lt : (a b c d : ℕ) → a < 256 → b < 256 → c < 256 → d < 256 
 sum_of-lt a b c d ha hb hc hd =
     xor_lt 8 (bit_xor (bit_xor a b) c) d (xor_lt 8 (bit_xor a b) c (xor_lt 8 a b ha hb) hc) hd
 
+-- the inverse of each byte, in order. The power 254 is computed here alone: what follows goes by this table
+unfoldable pub inverses : List ℕ
+inverses =
+    0x00 ∷ 0x01 ∷ 0x8d ∷ 0xf6 ∷ 0xcb ∷ 0x52 ∷ 0x7b ∷ 0xd1 ∷ 0xe8 ∷ 0x4f ∷ 0x29 ∷ 0xc0 ∷ 0xb0 ∷ 0xe1 ∷ 0xe5 ∷ 0xc7 ∷
+    0x74 ∷ 0xb4 ∷ 0xaa ∷ 0x4b ∷ 0x99 ∷ 0x2b ∷ 0x60 ∷ 0x5f ∷ 0x58 ∷ 0x3f ∷ 0xfd ∷ 0xcc ∷ 0xff ∷ 0x40 ∷ 0xee ∷ 0xb2 ∷
+    0x3a ∷ 0x6e ∷ 0x5a ∷ 0xf1 ∷ 0x55 ∷ 0x4d ∷ 0xa8 ∷ 0xc9 ∷ 0xc1 ∷ 0x0a ∷ 0x98 ∷ 0x15 ∷ 0x30 ∷ 0x44 ∷ 0xa2 ∷ 0xc2 ∷
+    0x2c ∷ 0x45 ∷ 0x92 ∷ 0x6c ∷ 0xf3 ∷ 0x39 ∷ 0x66 ∷ 0x42 ∷ 0xf2 ∷ 0x35 ∷ 0x20 ∷ 0x6f ∷ 0x77 ∷ 0xbb ∷ 0x59 ∷ 0x19 ∷
+    0x1d ∷ 0xfe ∷ 0x37 ∷ 0x67 ∷ 0x2d ∷ 0x31 ∷ 0xf5 ∷ 0x69 ∷ 0xa7 ∷ 0x64 ∷ 0xab ∷ 0x13 ∷ 0x54 ∷ 0x25 ∷ 0xe9 ∷ 0x09 ∷
+    0xed ∷ 0x5c ∷ 0x05 ∷ 0xca ∷ 0x4c ∷ 0x24 ∷ 0x87 ∷ 0xbf ∷ 0x18 ∷ 0x3e ∷ 0x22 ∷ 0xf0 ∷ 0x51 ∷ 0xec ∷ 0x61 ∷ 0x17 ∷
+    0x16 ∷ 0x5e ∷ 0xaf ∷ 0xd3 ∷ 0x49 ∷ 0xa6 ∷ 0x36 ∷ 0x43 ∷ 0xf4 ∷ 0x47 ∷ 0x91 ∷ 0xdf ∷ 0x33 ∷ 0x93 ∷ 0x21 ∷ 0x3b ∷
+    0x79 ∷ 0xb7 ∷ 0x97 ∷ 0x85 ∷ 0x10 ∷ 0xb5 ∷ 0xba ∷ 0x3c ∷ 0xb6 ∷ 0x70 ∷ 0xd0 ∷ 0x06 ∷ 0xa1 ∷ 0xfa ∷ 0x81 ∷ 0x82 ∷
+    0x83 ∷ 0x7e ∷ 0x7f ∷ 0x80 ∷ 0x96 ∷ 0x73 ∷ 0xbe ∷ 0x56 ∷ 0x9b ∷ 0x9e ∷ 0x95 ∷ 0xd9 ∷ 0xf7 ∷ 0x02 ∷ 0xb9 ∷ 0xa4 ∷
+    0xde ∷ 0x6a ∷ 0x32 ∷ 0x6d ∷ 0xd8 ∷ 0x8a ∷ 0x84 ∷ 0x72 ∷ 0x2a ∷ 0x14 ∷ 0x9f ∷ 0x88 ∷ 0xf9 ∷ 0xdc ∷ 0x89 ∷ 0x9a ∷
+    0xfb ∷ 0x7c ∷ 0x2e ∷ 0xc3 ∷ 0x8f ∷ 0xb8 ∷ 0x65 ∷ 0x48 ∷ 0x26 ∷ 0xc8 ∷ 0x12 ∷ 0x4a ∷ 0xce ∷ 0xe7 ∷ 0xd2 ∷ 0x62 ∷
+    0x0c ∷ 0xe0 ∷ 0x1f ∷ 0xef ∷ 0x11 ∷ 0x75 ∷ 0x78 ∷ 0x71 ∷ 0xa5 ∷ 0x8e ∷ 0x76 ∷ 0x3d ∷ 0xbd ∷ 0xbc ∷ 0x86 ∷ 0x57 ∷
+    0x0b ∷ 0x28 ∷ 0x2f ∷ 0xa3 ∷ 0xda ∷ 0xd4 ∷ 0xe4 ∷ 0x0f ∷ 0xa9 ∷ 0x27 ∷ 0x53 ∷ 0x04 ∷ 0x1b ∷ 0xfc ∷ 0xac ∷ 0xe6 ∷
+    0x7a ∷ 0x07 ∷ 0xae ∷ 0x63 ∷ 0xc5 ∷ 0xdb ∷ 0xe2 ∷ 0xea ∷ 0x94 ∷ 0x8b ∷ 0xc4 ∷ 0xd5 ∷ 0x9d ∷ 0xf8 ∷ 0x90 ∷ 0x6b ∷
+    0xb1 ∷ 0x0d ∷ 0xd6 ∷ 0xeb ∷ 0xc6 ∷ 0x0e ∷ 0xcf ∷ 0xad ∷ 0x08 ∷ 0x4e ∷ 0xd7 ∷ 0xe3 ∷ 0x5d ∷ 0x50 ∷ 0x1e ∷ 0xb3 ∷
+    0x5b ∷ 0x23 ∷ 0x38 ∷ 0x34 ∷ 0x68 ∷ 0x46 ∷ 0x03 ∷ 0x8c ∷ 0xdd ∷ 0x9c ∷ 0x7d ∷ 0xa0 ∷ 0xcd ∷ 0x1a ∷ 0x41 ∷ 0x1c ∷ []
+
+unfoldable pub inverse_by_table : ℕ → ℕ
+inverse_by_table x = get_or inverses x 0
+
+pub inverse-by_table : (x : ℕ) → x < 256 → inverse x ≡ inverse_by_table x
+unfolding xtimes partial_product multiply power inverse inverses inverse_by_table
+inverse-by_table = at_each inverse inverse_by_table refl
+
+unfoldable pub sbox_by_table : ℕ → ℕ
+sbox_by_table x = affine_map (inverse_by_table x)
+
+pub sbox-by_table : (x : ℕ) → x < 256 → sbox x ≡ sbox_by_table x
+unfolding sbox sbox_by_table
+sbox-by_table x h = ap affine_map (inverse-by_table x h)
+
+inverse_affine_map-mod : (x : ℕ) → x < 256 → inverse_affine_map x % 256 ≡ inverse_affine_map x
+unfolding inverse_affine_map
+inverse_affine_map-mod = at_each (λ x. inverse_affine_map x % 256) inverse_affine_map refl
+
+pub inverse_affine_map-lt : (x : ℕ) → x < 256 → inverse_affine_map x < 256
+inverse_affine_map-lt x h = let e = inverse_affine_map-mod x h in omega (arith, e)
+
+unfoldable pub inverse_sbox_by_table : ℕ → ℕ
+inverse_sbox_by_table x = inverse_by_table (inverse_affine_map x)
+
+pub inverse_sbox-by_table : (x : ℕ) → x < 256 → inverse_sbox x ≡ inverse_sbox_by_table x
+unfolding inverse_sbox inverse_sbox_by_table
+inverse_sbox-by_table x h = inverse-by_table (inverse_affine_map x) (inverse_affine_map-lt x h)
+
 -- each byte times its inverse, and 0 at 0
 pub multiply-inverse : (x : ℕ) → x < 256 → multiply x (inverse x) ≡ min x 1
-unfolding xtimes partial_product multiply power inverse
-multiply-inverse = at_each (λ x. multiply x (inverse x)) (λ x. min x 1) refl
+unfolding xtimes partial_product multiply inverses inverse_by_table
+multiply-inverse x h =
+    ap (multiply x) (inverse-by_table x h) ∙ at_each (λ x. multiply x (inverse_by_table x)) (λ x. min x 1) refl x h
 
 -- the S-box and its inverse take bytes to bytes, and undo each other
-sbox-mod : (x : ℕ) → x < 256 → sbox x % 256 ≡ sbox x
-unfolding xtimes partial_product multiply power inverse affine_map sbox
-sbox-mod = at_each (λ x. sbox x % 256) sbox refl
+sbox-mod : (x : ℕ) → x < 256 → sbox_by_table x % 256 ≡ sbox_by_table x
+unfolding inverses inverse_by_table affine_map sbox_by_table
+sbox-mod = at_each (λ x. sbox_by_table x % 256) sbox_by_table refl
 
 pub sbox-lt : (x : ℕ) → x < 256 → sbox x < 256
-sbox-lt x h = let e = sbox-mod x h in omega (arith, e)
+sbox-lt x h = let e = sbox-by_table x h in let low = sbox-mod x h in omega (arith, e, low)
 
-inverse_sbox-mod : (x : ℕ) → x < 256 → inverse_sbox x % 256 ≡ inverse_sbox x
-unfolding xtimes partial_product multiply power inverse inverse_affine_map inverse_sbox
-inverse_sbox-mod = at_each (λ x. inverse_sbox x % 256) inverse_sbox refl
+inverse_sbox-mod : (x : ℕ) → x < 256 → inverse_sbox_by_table x % 256 ≡ inverse_sbox_by_table x
+unfolding inverses inverse_by_table inverse_affine_map inverse_sbox_by_table
+inverse_sbox-mod = at_each (λ x. inverse_sbox_by_table x % 256) inverse_sbox_by_table refl
 
 pub inverse_sbox-lt : (x : ℕ) → x < 256 → inverse_sbox x < 256
-inverse_sbox-lt x h = let e = inverse_sbox-mod x h in omega (arith, e)
+inverse_sbox-lt x h = let e = inverse_sbox-by_table x h in let low = inverse_sbox-mod x h in omega (arith, e, low)
 
 pub inverse_sbox-sbox : (x : ℕ) → x < 256 → inverse_sbox (sbox x) ≡ x
-unfolding xtimes partial_product multiply power inverse affine_map sbox inverse_affine_map inverse_sbox
-inverse_sbox-sbox = at_each (λ x. inverse_sbox (sbox x)) (λ x. x) refl
+unfolding inverses inverse_by_table affine_map sbox_by_table inverse_affine_map inverse_sbox_by_table
+inverse_sbox-sbox x h =
+    inverse_sbox-by_table (sbox x) (sbox-lt x h) ∙ ap inverse_sbox_by_table (sbox-by_table x h)
+    ∙ at_each (λ x. inverse_sbox_by_table (sbox_by_table x)) (λ x. x) refl x h
 
 pub sbox-inverse_sbox : (x : ℕ) → x < 256 → sbox (inverse_sbox x) ≡ x
-unfolding xtimes partial_product multiply power inverse affine_map sbox inverse_affine_map inverse_sbox
-sbox-inverse_sbox = at_each (λ x. sbox (inverse_sbox x)) (λ x. x) refl
+unfolding inverses inverse_by_table affine_map sbox_by_table inverse_affine_map inverse_sbox_by_table
+sbox-inverse_sbox x h =
+    sbox-by_table (inverse_sbox x) (inverse_sbox-lt x h) ∙ ap sbox_by_table (inverse_sbox-by_table x h)
+    ∙ at_each (λ x. sbox_by_table (inverse_sbox_by_table x)) (λ x. x) refl x h

@@ -1,0 +1,24 @@
+# Completion of vaultmove's commands, options, folders and files for fish.
+complete -c vaultmove -f
+set -l commands cat decrypt-file demo fsck init ls migrate mkdir put repair resume retire
+set -l none "not __fish_seen_subcommand_from $commands"
+complete -c vaultmove -n $none -a cat -d 'write the content of a file of a vault'
+complete -c vaultmove -n $none -a decrypt-file -d 'decrypt a content file of gocryptfs from the input'
+complete -c vaultmove -n $none -a demo -d 'make a tree in memory and move it there and back'
+complete -c vaultmove -n $none -a fsck -d 'check the structure and the contents of a vault'
+complete -c vaultmove -n $none -a init -d 'make a vault'
+complete -c vaultmove -n $none -a ls -d 'list a directory of a vault'
+complete -c vaultmove -n $none -a migrate -d 'move the tree of one vault into another'
+complete -c vaultmove -n $none -a mkdir -d 'make a directory in a vault'
+complete -c vaultmove -n $none -a put -d 'store the input as a file of a vault'
+complete -c vaultmove -n $none -a repair -d 'move strays out of a vault'
+complete -c vaultmove -n $none -a resume -d 'go on with a migration that was stopped'
+complete -c vaultmove -n $none -a retire -d 'remove the source of a finished migration'
+set -l one '__fish_seen_subcommand_from cat fsck init ls mkdir put repair'
+set -l two '__fish_seen_subcommand_from migrate resume retire'
+complete -c vaultmove -n $one -l pass -r -F -d 'file with the passphrase'
+complete -c vaultmove -n '__fish_seen_subcommand_from init mkdir put' -l work -x -a '(__fish_complete_directories)' -d 'work folder'
+complete -c vaultmove -n $two -l from-pass -r -F -d 'file with the passphrase of the source'
+complete -c vaultmove -n $two -l to-pass -r -F -d 'file with the passphrase of the target'
+complete -c vaultmove -n '__fish_seen_subcommand_from init' -a 'gocryptfs cryptomator'
+complete -c vaultmove -n "$one; or $two" -a '(__fish_complete_directories)'

@@ -15,10 +15,9 @@ mod planes;
 mod rounds;
 mod schedule;
 mod tables;
-#[cfg(test)]
-mod tests;
 
 pub use block::{Block, same_bytes, xor_into};
 pub use cipher::Cipher;
 pub use counter::{ctr32_xor, ctr128_xor};
 pub use key::{Key128, Key256};
+pub use tables::{inverse_sbox, sbox};

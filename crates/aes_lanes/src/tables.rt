@@ -115,15 +115,17 @@ const INVERSE_COLUMNS: [u32; 256] = [
     0xa779b492, 0xa970b999, 0xbb6bae84, 0xb562a38f, 0x9f5d80be, 0x91548db5, 0x834f9aa8, 0x8d4697a3,
 ];
 
+/// The S-box of a byte (section 5.1.1), by its published table.
 #[inline(always)]
-pub(crate) fn sbox(x: u8) -> u8
+pub fn sbox(x: u8) -> u8
     ensures { result ≡ sbox x }
 {
     SBOX[x as usize]
 }
 
+/// The inverse S-box of a byte (section 5.3.2), by its published table.
 #[inline(always)]
-pub(crate) fn inverse_sbox(x: u8) -> u8
+pub fn inverse_sbox(x: u8) -> u8
     ensures { result ≡ inverse_sbox x }
 {
     INVERSE_SBOX[x as usize]

@@ -14,8 +14,6 @@ pub mod keys;
 pub mod laws;
 mod sealed;
 pub mod step;
-#[cfg(test)]
-mod tests;
 mod told;
 mod zeros;
 

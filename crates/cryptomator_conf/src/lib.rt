@@ -23,6 +23,3 @@ pub use master::read_master;
 pub use signing::check_signature;
 pub use unlocking::unlock;
 pub use vault::read_vault;
-
-#[cfg(test)]
-mod tests;

@@ -12,8 +12,6 @@ use laws::directions_undo_each_other;
 use std::marker::Model;
 
 pub mod laws;
-#[cfg(test)]
-mod tests;
 
 /// EME under one AES-256 key. A clause sees the key's 32 bytes.
 #[derive(Drop)]

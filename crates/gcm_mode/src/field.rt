@@ -27,7 +27,8 @@ pub fn times_u4(value: u128) -> u128
     times_u(times_u(times_u(times_u(value))))
 }
 
-// The product of two blocks, bit by bit.
+/// The product of two blocks in GF(2^128) (section 6.3), bit by bit, where GHASH looks its products up in
+/// tables.
 pub fn product(x: u128, y: u128) -> u128
     ensures { result ≡ product_of x y }
 {

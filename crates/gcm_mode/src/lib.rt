@@ -17,10 +17,9 @@ mod field;
 mod hash;
 pub mod laws;
 mod products;
-#[cfg(test)]
-mod tests;
 
 use counter::{next_counter, short_counter};
+pub use field::product;
 use hash::{bit_length, hash_on};
 use products::Powers;
 

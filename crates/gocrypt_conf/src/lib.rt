@@ -18,6 +18,3 @@ pub use keys::GoKeys;
 pub use making::make;
 pub use reading::read;
 pub use unlocking::unlock;
-
-#[cfg(test)]
-mod tests;

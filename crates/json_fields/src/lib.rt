@@ -11,6 +11,3 @@ pub use base64_text::{Alphabet, decode};
 pub use fault::FieldFault;
 pub use fields::{bytes_at, number_at, object_at, text_at, texts_at};
 pub use object::json_object;
-
-#[cfg(test)]
-mod tests;

@@ -11,8 +11,6 @@ mod ro_mix;
 mod salsa;
 mod scrypt_cost;
 mod scrypt_kdf;
-#[cfg(test)]
-mod tests;
 
 pub use hkdf::hkdf256;
 pub use hmac::{HmacPieces, hmac256, hmac384, hmac512};

@@ -11,8 +11,6 @@ ghost use Rattle.key_wrap.specs.Private.{IsState};
 use aes_lanes::{Block, Cipher, Key256, same_bytes};
 
 pub mod laws;
-#[cfg(test)]
-mod tests;
 
 /// No key wraps to these bytes.
 #[derive(Clone, Copy, Debug, PartialEq, Eq)]

@@ -13,9 +13,6 @@ pub use path::{PathFault, PlainPath};
 pub use reading::MAX_PARTS;
 pub use shown::shown_text;
 
-#[cfg(test)]
-mod tests;
-
 /// What a path of the plain tree leads to.
 #[derive(Clone, Copy, Debug, PartialEq, Eq)]
 pub enum NodeKind {

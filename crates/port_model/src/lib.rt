@@ -23,6 +23,3 @@ pub use sink::{Sink, SinkFault};
 pub use source::{Source, SourceFault};
 pub use std_sink::StdSink;
 pub use std_source::StdSource;
-
-#[cfg(test)]
-mod tests;

@@ -8,8 +8,6 @@ pub mod laws;
 mod mac;
 mod siv;
 mod strings;
-#[cfg(test)]
-mod tests;
 
 pub use mac::cmac;
 pub use siv::{Siv, SivFault};

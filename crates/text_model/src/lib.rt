@@ -6,6 +6,3 @@ pub mod text;
 
 pub use bytes::Bytes;
 pub use text::Text;
-
-#[cfg(test)]
-mod tests;

@@ -12,8 +12,3 @@ pub use base32::base32_of;
 pub use cryptomator::{cm_folder, cm_long, cm_read, cm_store, new_dir_id};
 pub use entry::{NameFault, Stored};
 pub use gocryptfs::{go_long, go_read, go_store};
-
-#[cfg(test)]
-mod cm_tests;
-#[cfg(test)]
-mod tests;

@@ -1,6 +1,0 @@
-use Rattle.std.proofs.Common.{◌≡◌, ◌≤◌, length}
-use Rattle.chunk_files.proofs.tests.read.Given as goal
-
--- so many bytes of the file were fed
-abbrev pub invariant-rounds : goal.invariant-rounds
-invariant-rounds l = (l.at ≤ length l.file) × (l.decoder.taken ≡ l.at)

@@ -1,15 +1,13 @@
 #!/usr/bin/env python3
-"""Prints the vaults that the tests of `fsck` and `repair` change, as crates/command_tests/src/check_samples.rt.
+"""Prints the definitions of the vaults that the rows of `fsck` and `repair` change, as crates/command_rows/data/written.rows.
 
-The vault `g` is that of samples.rt, which gocryptfs 2.3 wrote while it was mounted; only its configuration is written anew, for a cheap
-scrypt, and a file with a long name is added. The vault `c` is written here.
+The vault `g` is the first of vaults.rows, which gocryptfs 2.3 wrote while it was mounted; only its configuration is written anew, for a
+cheap scrypt, and a file with a long name is added. The vault `c` is written here.
 """
-import ast
 import base64
 import json
 import os
 import re
-import sys
 
 from cryptography.hazmat.primitives.ciphers.aead import AESGCM
 from cryptography.hazmat.primitives.hashes import SHA256
@@ -17,10 +15,19 @@ from cryptography.hazmat.primitives.kdf.hkdf import HKDF
 
 from vault_writer import Cryptomator, CryptomatorTree, Gocryptfs, GocryptfsTree, scrypt
 
-SAMPLES = os.path.join(os.path.dirname(__file__), "../crates/command_tests/src/samples.rt")
+VAULTS = os.path.join(os.path.dirname(__file__), "../crates/command_rows/data/vaults.rows")
+
+
+def read_bytes(word):
+    if not word.startswith("'"):
+        return bytes.fromhex(word)
+    marks = {"n": "\n", "t": "\t", "\\": "\\"}
+    return re.sub(r"\\(.)", lambda mark: marks[mark[1]], word[1:]).encode()
+
+
 OLD = {
-    path: ast.literal_eval(text)
-    for path, text in re.findall(r'\(\s*"(g/[^"]*)",\s*(b"(?:[^"\\]|\\.)*"),?\s*\)', open(SAMPLES).read())
+    path: read_bytes(word)
+    for path, word in re.findall(r"(?m)^file (g/\S+) ?(.*)$", open(VAULTS).read())
 }
 
 
@@ -34,44 +41,48 @@ def master_of(configuration, passphrase):
     return AESGCM(key).decrypt(sealed[:16], sealed[16:], bytes(8))
 
 
-def literal(some):
-    text = "".join(chr(b) if 32 <= b < 127 and chr(b) not in '"\\' else f"\\x{b:02x}" for b in some)
-    return f'b"{text}"'
+def word_of(some):
+    if all(32 <= b < 127 and b != ord("\\") for b in some):
+        return "'" + some.decode()
+    return some.hex()
 
 
-def constant(name, doc, text):
-    print(f"\n// {doc}\npub const {name}: &str =\n    \"{text}\";")
-
-
-def entries(prefix, root, folders, files):
-    print(f"\npub const {prefix}_DIRS: &[&str] = &[")
+def begin(root, doc, folders, files):
+    print(f"\n# {doc}\ndef {root}")
     for folder in [root] + [f"{root}/{folder}" for folder in folders]:
-        print(f'    "{folder}",')
-    print("];")
-    print(f"\npub const {prefix}_FILES: &[(&str, &[u8])] = &[")
+        print(f"dir {folder}")
     for at, content in files:
-        print(f'    (\n        "{root}/{at}",\n        {literal(content)},\n    ),')
-    print("];")
+        print(f"file {root}/{at} {word_of(content)}")
 
 
-print("//! The vaults that the tests of `fsck` and `repair` change, written by scripts/samples.py. `g` is the vault of gocryptfs 2.3 with a")
-print("//! cheap scrypt and a file with a long name, `c` is written by Python's package cryptography, with names of more than 36 letters")
-print("//! long. Both have the passphrase `secret`, and each a directory `a` with a file `x` of `hello`.")
+def name(what, path):
+    print(f"name {what} {path}")
 
-go = Gocryptfs(master_of(OLD["g/gocryptfs.conf"], b"secret"))
+
+print("# The vaults that the rows of `fsck` and `repair` change, written by scripts/samples.py. Both have the passphrase `secret`, and each a")
+print("# directory `a` with a file `x` of `hello`.")
+
+master = master_of(OLD["g/gocryptfs.conf"], b"secret")
+go = Gocryptfs(master)
 tree = GocryptfsTree(go)
 tree.root(go.configuration(b"secret", 2, 1), OLD["g/gocryptfs.diriv"])
 inner, _ = go.name(OLD["g/gocryptfs.diriv"], b"a")
 tree.folders.append(inner)
 tree.files += [(path[2:], content) for path, content in OLD.items() if path not in ("g/gocryptfs.conf", "g/gocryptfs.diriv")]
 long_file = tree.file("", b"n" * 176, b"")
-entries("G", "g", tree.folders, tree.files)
+begin("g", "The vault of gocryptfs 2.3 with a cheap scrypt, an empty file `e` and a file with a long name.", tree.folders, tree.files)
+print("# the directory `a` and the file `x`; the file with a long name, and the text of another long name")
 x, _ = go.name(OLD[f"g/{inner}/gocryptfs.diriv"], b"x")
-constant("G_A", "The directory `a`, and in it the file `x`.", f"g/{inner}")
-constant("G_X", "The file `x`.", f"g/{inner}/{x}")
-constant("G_LONG", "The file with a long name, and the text of another long name.", f"g/{long_file}")
-constant("G_TEXT", "The text of another long name.", go.name(OLD["g/gocryptfs.diriv"], b"m" * 176)[1])
-constant("G_D", "The entry of the name `d` in a directory whose key is sixteen times `k`.", go.name(b"k" * 16, b"d")[0])
+name("g.a", f"g/{inner}")
+name("g.x", f"g/{inner}/{x}")
+name("g.long", f"g/{long_file}")
+name("g.text", go.name(OLD["g/gocryptfs.diriv"], b"m" * 176)[1])
+print("# the key of its contents")
+key = HKDF(algorithm=SHA256(), length=32, salt=None, info=b"AES-GCM file content encryption").derive(master)
+name("g.key", key.hex())
+print("# the entry of the name `d` in a directory whose key is sixteen times `k`")
+name("g.d", go.name(b"k" * 16, b"d")[0])
+print("end")
 
 cm = Cryptomator(b"key of 32 bytes for the contents", b"key of 32 bytes for names and id", 36)
 tree = CryptomatorTree(cm)
@@ -81,14 +92,18 @@ x = tree.file(b"1111", b"x", b"hello")
 f = tree.file(b"", b"f", b"some")
 long_file = tree.file(b"", b"long_file", b"long")
 long_dir = tree.directory(b"", b"long_dirs", b"2222")
-entries("C", "c", tree.folders, tree.files)
-constant("C_TOP", "The content folder of the root.", f"c/{top}")
-constant("C_A", "The directory `a`.", f"c/{a}")
-constant("C_INNER", "The content folder of `a`, whose id is 1111.", f"c/{cm.folder(b'1111')}")
-constant("C_X", "The file `x` in it.", f"c/{x}")
-constant("C_F", "The file `f`.", f"c/{f}")
-constant("C_LONG", "The file with a long name.", f"c/{long_file}")
-constant("C_LONG_DIR", "The directory with a long name.", f"c/{long_dir}")
-constant("C_OTHER", "The content folder of that directory, whose id is 2222.", f"c/{cm.folder(b'2222')}")
-constant("C_B", "The entry of the name `b` in `a`.", f"c/{cm.folder(b'1111')}/{cm.name(b'1111', b'b')[0]}")
-constant("C_C", "The entry of the name `c` in the directory with a long name.", f"c/{cm.folder(b'2222')}/{cm.name(b'2222', b'c')[0]}")
+begin("c", "A vault of Python's package cryptography, in which names of more than 36 letters are long.", tree.folders, tree.files)
+print("# the content folder of the root; the directory `a`, whose id is 1111, its content folder, and the file `x` in it; the file `f`")
+name("c.top", f"c/{top}")
+name("c.a", f"c/{a}")
+name("c.inner", f"c/{cm.folder(b'1111')}")
+name("c.x", f"c/{x}")
+name("c.f", f"c/{f}")
+print("# the file and the directory with long names, and the content folder of this directory, whose id is 2222")
+name("c.long", f"c/{long_file}")
+name("c.longdir", f"c/{long_dir}")
+name("c.other", f"c/{cm.folder(b'2222')}")
+print("# the entry of the name `b` in `a`, and that of the name `c` in the directory with a long name")
+name("c.b", f"c/{cm.folder(b'1111')}/{cm.name(b'1111', b'b')[0]}")
+name("c.c", f"c/{cm.folder(b'2222')}/{cm.name(b'2222', b'c')[0]}")
+print("end")

@@ -1,0 +1,45 @@
+//! Reads rows from the files that its arguments name, plays each over a folder in memory, and prints whether it comes to what it expects.
+#![tactic(auto)]
+
+mod book;
+mod course;
+mod handed;
+mod layer;
+mod looking;
+mod names;
+mod places;
+mod playing;
+mod setting;
+mod stage;
+mod stand;
+mod stop;
+
+use book::Book;
+use std::process::ExitCode;
+use std::{env, fs, io};
+
+fn main(rt: HostRuntime) -> ExitCode {
+    match play_files(&rt) {
+        Ok(true) => ExitCode::from(0),
+        Ok(false) => ExitCode::from(1),
+        Err(_) => ExitCode::from(3),
+    }
+}
+
+// Plays the rows of each file, and says whether all are right.
+fn play_files(rt: &HostRuntime) -> io::Result<bool> {
+    let mut book = Book::new(rt.alloc());
+    for name in env::args(rt)?.skip(1) {
+        let text = fs::read_to_string(rt, name.as_str())?;
+        book.open(name.as_str())?;
+        for line in text.as_str().lines() {
+            let said = book.take(line)?;
+            print!(rt; "{said}")?;
+        }
+        let said = book.close()?;
+        print!(rt; "{said}")?;
+    }
+    let wrong = book.wrong();
+    eprint!(rt; "{wrong}")?;
+    Ok(wrong.is_empty())
+}

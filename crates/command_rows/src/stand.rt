@@ -1,0 +1,195 @@
+//! The folder that rows play in.
+ghost use Rattle.std.specs.Prelude.{◌≡◌, ◌≤◌, length, IfOk, None};
+ghost use Rattle.folder_model.specs.Answers.{Counts, KeepsUnlessRun};
+
+use folder_model::{Entry, FPath, Folder, FolderFault, Kind, MemFolder, Pick};
+use std::alloc::{AllocError, Global};
+use std::mem;
+
+// The last call that can be made to fail.
+const MOST_CALLS: u64 = 10_000;
+
+/// A folder in memory, in which one entry may be neither a file nor a directory. It tells nothing, and counts its calls.
+#[derive(Drop)]
+pub struct Stand {
+    folder: MemFolder,
+    other: Option<FPath>,
+    calls: u64,
+    changes: u64,
+    // The last call of a run that is to fail.
+    last: u64,
+    faults: u64,
+}
+
+impl Stand {
+    pub fn new(alloc: Global) -> Result<Stand, AllocError> {
+        Ok(Stand {
+            folder: MemFolder::new(alloc)?,
+            other: None,
+            calls: 0,
+            changes: 0,
+            last: 0,
+            faults: 0,
+        })
+    }
+
+    /// The folder that a crash leaves.
+    pub fn crash(&mut self, alloc: Global, pick: &Pick) -> Result<(), AllocError> {
+        let folder = mem::replace(&mut self.folder, MemFolder::new(alloc)?);
+        self.folder = folder.crash(pick)?;
+        Ok(())
+    }
+
+    /// Has the entry at this path be neither a file nor a directory.
+    pub fn place_other(&mut self, at: FPath) {
+        self.other = Some(at);
+    }
+
+    /// Begins a run in which these calls fail: calls are counted anew.
+    pub fn begin_run(&mut self, fails: &[u64]) -> Result<(), AllocError> {
+        self.calls = 0;
+        self.changes = 0;
+        self.last = 0;
+        for call in fails {
+            self.last = self.last.max(*call);
+            self.folder.fail_at(*call)?;
+        }
+        Ok(())
+    }
+
+    /// Ends a run: calls that were to fail and weren't made pass.
+    pub fn end_run(&mut self, alloc: Global) {
+        let base = FPath::base(alloc);
+        for _ in self.calls..self.last.min(MOST_CALLS) {
+            let _ = self.folder.kind(&base);
+        }
+        self.last = 0;
+    }
+
+    /// How many calls there were.
+    pub fn calls(&self) -> u64 {
+        self.calls
+    }
+
+    /// How many of them were to change the folder.
+    pub fn changes(&self) -> u64 {
+        self.changes
+    }
+
+    fn is_other(&self, at: &FPath) -> bool {
+        match &self.other {
+            Some(other) => other.is(at),
+            None => false,
+        }
+    }
+
+    // The answer, of which a fault is counted.
+    fn counted<T>(&mut self, answer: Result<T, FolderFault>) -> Result<T, FolderFault>
+        ensures same { result ≡ answer }
+        ensures counts { Counts None self.old.faults self.new.faults result }
+    {
+        let faults = self.faults;
+        self.calls = self.calls.saturating_add(1);
+        match &answer {
+            Err(FolderFault::Failed) => self.faults = faults.saturating_add(1),
+            Err(FolderFault::Refused) => self.faults = faults.saturating_add(1),
+            _ => {}
+        }
+        answer
+    }
+
+    // The answer to a call that is to change the folder.
+    fn changed(&mut self, answer: Result<(), FolderFault>) -> Result<(), FolderFault>
+        ensures same { result ≡ answer }
+        ensures counts { Counts None self.old.faults self.new.faults result }
+    {
+        self.changes = self.changes.saturating_add(1);
+        self.counted(answer)
+    }
+
+    // The entries of a directory, with the one that is another.
+    fn entries(&mut self, at: &FPath) -> Result<Vec<Entry>, FolderFault>
+        ensures { self.new.faults ≡ self.old.faults }
+    {
+        let mut entries = self.folder.list(at)?;
+        if self.other.is_none() {
+            return Ok(entries);
+        }
+        for entry in entries.iter_mut() {
+            let below = at.child(entry.name.as_str())?;
+            if self.is_other(&below) {
+                entry.kind = Kind::Other;
+            }
+        }
+        Ok(entries)
+    }
+}
+
+impl Folder for Stand {
+    ghost use Rattle.std.proofs.lemmas.Option.{none-some};
+
+    ghost told = { λ f. None };
+
+    ghost faults = { λ f. f.faults };
+
+    ghost sound = { λ f a is. absurd (none-some a is) };
+
+    fn kind(&mut self, at: &FPath) -> Result<Kind, FolderFault> {
+        let answer = if self.is_other(at) {
+            Ok(Kind::Other)
+        } else {
+            self.folder.kind(at)
+        };
+        self.counted(answer)
+    }
+
+    fn list(&mut self, at: &FPath) -> Result<Vec<Entry>, FolderFault> {
+        let answer = self.entries(at);
+        self.counted(answer)
+    }
+
+    fn read(&mut self, at: &FPath, start: u64, out: &mut [u8]) -> Result<usize, FolderFault> {
+        let answer = self.folder.read(at, start, out);
+        self.counted(answer)
+    }
+
+    fn make_dir(&mut self, at: &FPath) -> Result<(), FolderFault> {
+        let answer = self.folder.make_dir(at);
+        self.changed(answer)
+    }
+
+    fn create(&mut self, at: &FPath) -> Result<(), FolderFault> {
+        let answer = self.folder.create(at);
+        self.changed(answer)
+    }
+
+    fn append(&mut self, at: &FPath, piece: &[u8]) -> Result<(), FolderFault> {
+        let answer = self.folder.append(at, piece);
+        self.changed(answer)
+    }
+
+    fn sync(&mut self, at: &FPath) -> Result<(), FolderFault> {
+        let answer = self.folder.sync(at);
+        self.changed(answer)
+    }
+
+    fn settle(&mut self) -> Result<(), FolderFault> {
+        let answer = self.folder.settle();
+        self.changed(answer)
+    }
+
+    fn rename(&mut self, old: &FPath, new: &FPath) -> Result<(), FolderFault> {
+        let answer = self.folder.rename(old, new);
+        self.changed(answer)
+    }
+
+    fn remove_file(&mut self, at: &FPath) -> Result<(), FolderFault> {
+        let answer = self.folder.remove_file(at);
+        self.changed(answer)
+    }
+
+    fn remove_dir(&mut self, at: &FPath) -> Result<(), FolderFault> {
+        let answer = self.folder.remove_dir(at);
+        self.changed(answer)
+    }
+}

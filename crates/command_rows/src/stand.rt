@@ -33,6 +33,31 @@ impl Stand {
         })
     }
 
+    /// Lets a later call fail, over all calls from now on.
+    pub fn fail_at(&mut self, call: u64) -> Result<(), AllocError> {
+        self.folder.fail_at(call)
+    }
+
+    /// Lets a later call fail, which adds so many first bytes of its piece where it is an append.
+    pub fn fail_append_at(&mut self, call: u64, added: u64) -> Result<(), AllocError> {
+        self.folder.fail_append_at(call, added)
+    }
+
+    /// Lets a later changing call fail, and every call after it.
+    pub fn stop_at(&mut self, event: u64) {
+        self.folder.stop_at(event);
+    }
+
+    /// Places an entry that is neither a file nor a directory in a folder where nothing is pending, and says whether it may stand
+    /// there.
+    pub fn place(&mut self, at: &FPath) -> Result<bool, AllocError> {
+        if !self.folder.may_place(at)? {
+            return Ok(false);
+        }
+        self.folder.place_other(at)?;
+        Ok(true)
+    }
+
     /// The folder that a crash leaves.
     pub fn crash(&mut self, alloc: Global, pick: &Pick) -> Result<(), AllocError> {
         let folder = mem::replace(&mut self.folder, MemFolder::new(alloc)?);

@@ -1,5 +1,5 @@
 //! A folder in memory in which no call fails.
-ghost use Rattle.std.specs.Prelude.{◌≡◌, IfOk, Some, []};
+ghost use Rattle.std.specs.Prelude.{◌≡◌, IfOk, Some, None, []};
 ghost use Rattle.folder_model.specs.Memory.{new_told, plan_of};
 
 use folder_model::{Entry, FPath, Folder, MemFolder};
@@ -11,6 +11,7 @@ use std::alloc::{AllocError, Global};
 pub struct SteadyFolder {
     memory: MemFolder,
     ghost steady: { (plan_of memory).fails ≡ [] },
+    ghost unstopped: { (plan_of memory).stop ≡ None },
 }
 
 impl SteadyFolder {

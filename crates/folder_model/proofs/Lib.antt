@@ -3,6 +3,7 @@ mod StepLemmas
 mod NameTables
 mod States
 mod FileNodes
+mod Others
 mod Entries
 mod Crashes
 pub mod Counting

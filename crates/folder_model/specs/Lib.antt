@@ -5,6 +5,7 @@ pub mod Nodes
 pub mod Steps
 pub mod Tables
 pub mod Calls
+pub mod Plan
 pub mod Memory
 pub mod Entries
 pub mod Sound

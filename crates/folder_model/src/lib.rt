@@ -7,8 +7,6 @@ pub mod folder;
 pub mod mem;
 mod order;
 pub mod path;
-#[cfg(test)]
-mod tests;
 
 pub use entry::Entry;
 pub use folder::Folder;

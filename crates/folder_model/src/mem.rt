@@ -4,10 +4,11 @@ mod call;
 mod crash;
 mod list;
 mod node;
+mod plan;
 mod step;
 mod table;
 
-ghost use Rattle.std.specs.Prelude.{◌≤◌, length};
+ghost use Rattle.std.specs.Prelude.{◌≡◌, ◌≤◌, length, take, min};
 ghost use Rattle.folder_model.specs.Nodes.{KeepsFronts};
 ghost use Rattle.folder_model.specs.Steps.{AreSoundTables};
 ghost use Rattle.folder_model.specs.Tables.{names_of};
@@ -18,7 +19,8 @@ use call::{Call, Logged, Outcome};
 pub use crash::Pick;
 use folder_spec::{FolderFault, Kind, Spot};
 use list::{add_spot, kind_at};
-use node::{FileBytes, read_from};
+use node::{FileBytes, are_clean, read_from};
+use plan::CallPlan;
 use std::alloc::{AllocError, Global};
 use step::{Step, look, names};
 use table::{NameTable, absorb_all};
@@ -35,18 +37,25 @@ pub struct MemFolder {
     steps: Vec<Step>,
     kept: usize,
     log: Vec<Logged>,
-    calls: u64,
-    fails: Vec<u64>,
+    plan: CallPlan,
     faults: u64,
     ghost within: { kept ≤ length steps.items },
     ghost fronts: { KeepsFronts nodes.items },
     ghost sound: { AreSoundTables (length nodes.items) (names_of base) steps.items },
 }
 
+// So many first bytes, or all where there are fewer.
+fn front_of(bytes: &[u8], count: u64) -> &[u8]
+    ensures { result.now ≡ take (min count (length bytes.now)) bytes.now }
+{
+    let count = bytes.len().min(count as usize);
+    &bytes[..count]
+}
+
 impl MemFolder {
-    ghost use Rattle.std.specs.Prelude.{◌≡◌, ◌↔◌, ◌+◌, ◌++◌, Some, vec_len, vec_capacity, IfOk, OnOk, OnErr, IsTrue, [], ◌∷◌};
+    ghost use Rattle.std.specs.Prelude.{◌≡◌, ◌↔◌, ◌+◌, ◌++◌, Some, true, min, length, vec_len, vec_capacity, IfOk, OnOk, OnErr, IsTrue, [], ◌∷◌};
     ghost use Rattle.folder_spec.specs.State.{present, HasFile, IsSound};
-    ghost use Rattle.folder_spec.specs.Event.{IsFree, Allowed, AllowedIn, with_table, changed, Create, Settle, Append, Sync, Rename, RemoveDir, Steps};
+    ghost use Rattle.folder_spec.specs.Event.{IsFree, IsEmptyDir, Allowed, AllowedIn, with_table, changed, Create, Settle, Append, Sync, Rename, RemoveDir, Steps, fallen, piece_of};
     ghost use Rattle.folder_spec.specs.View.{Folder, kind_found};
     ghost use Rattle.folder_spec.specs.Seen.{seen, ShowsFile};
     ghost use Rattle.folder_spec.specs.Listing.{IsListing};
@@ -54,7 +63,8 @@ impl MemFolder {
     ghost use Rattle.folder_model.specs.Answers.{AnswersBy, Counts, Reads};
     ghost use Rattle.folder_model.specs.Calls.{call_of, outcome_of};
     ghost use Rattle.folder_model.specs.Steps.{step_table};
-    ghost use Rattle.folder_model.specs.Memory.{state_of, told_of, faults_of, new_told, KeepsRest, plan_of, new_plan, with_failing, counted, fails_next, FailsAs};
+    ghost use Rattle.folder_model.specs.Memory.{state_of, told_of, faults_of, new_told, KeepsRest, plan_of, MayPlace, with_other, FellBy};
+    ghost use Rattle.folder_model.specs.Plan.{new_plan, with_failing, with_append_failing, with_stop, counted, counted_change, due, is_due, fails_next, change_fails_next, added_next, FailsAs};
 
     fn spot(&self, at: &FPath) -> Result<Spot, AllocError>
         ensures { IfOk result (λ spot. spot ≡ present (state_of self.now) at.now) }
@@ -206,7 +216,7 @@ impl MemFolder {
         }
     }
 
-    // Counts a call, and says whether it is to fail.
+    // Counts a call that changes nothing, and says whether it is to fail.
     fn is_due(&mut self) -> bool
         ensures due { result ≡ fails_next (plan_of self.old) }
         ensures plan { plan_of self.new ≡ counted (plan_of self.old) }
@@ -215,8 +225,21 @@ impl MemFolder {
         ensures log { self.new.log ≡ self.old.log }
         ensures faults { self.new.faults ≡ self.old.faults }
     {
-        self.calls = self.calls.saturating_add(1);
-        self.fails.contains(&self.calls)
+        self.plan.count_call();
+        self.plan.due().is_some()
+    }
+
+    // Counts a changing call, and says what it adds where it is an append, if it is to fail.
+    fn change_due(&mut self) -> Option<u64>
+        ensures due { result ≡ due (counted_change (plan_of self.old)) }
+        ensures plan { plan_of self.new ≡ counted_change (plan_of self.old) }
+        ensures told { told_of self.new ≡ told_of self.old }
+        ensures state { state_of self.new ≡ state_of self.old }
+        ensures log { self.new.log ≡ self.old.log }
+        ensures faults { self.new.faults ≡ self.old.faults }
+    {
+        self.plan.count_change();
+        self.plan.due()
     }
 
     // Whether the call's condition holds.
@@ -256,26 +279,69 @@ impl MemFolder {
         self.faults = self.faults.saturating_add(1);
     }
 
-    // Answers a call for which there is no memory. It is counted too.
+    // Answers a changing call for which there is no memory. It is counted too.
     fn want_memory(&mut self) -> Result<(), FolderFault>
         ensures answer { result ≡ Err FolderFault.NoMemory }
-        ensures plan { plan_of self.new ≡ counted (plan_of self.old) }
+        ensures plan { plan_of self.new ≡ counted_change (plan_of self.old) }
         ensures told { told_of self.new ≡ told_of self.old }
         ensures faults { self.new.faults ≡ self.old.faults }
     {
-        let _ = self.is_due();
+        let _ = self.change_due();
         Err(FolderFault::NoMemory)
     }
 
-    // Answers a call that changes the folder. It does all of the change or nothing of it.
+    // Adds so many first bytes of an append's piece, or all where it has fewer, and says how many.
+    fn add_front(&mut self, call: &Call, added: u64) -> Result<usize, AllocError>
+        requires { Allowed (state_of self.old) (call_of call.now) }
+        ensures count { IfOk result (λ n. n ≡ min added (length (piece_of (call_of call.now)))) }
+        ensures ok { IfOk result (λ n. state_of self.new ≡ fallen (state_of self.old) (call_of call.now) n) }
+        ensures err { OnErr result (state_of self.new ≡ state_of self.old) }
+        ensures rest { KeepsRest self.old self.new }
+    {
+        match call {
+            Call::Append(at, piece) => {
+                let front = front_of(piece.as_slice(), added);
+                self.grow_file(at, front)?;
+                Ok(front.len())
+            }
+            Call::MakeDir(_) => Ok(0),
+            Call::Create(_) => Ok(0),
+            Call::Sync(_) => Ok(0),
+            Call::Settle => Ok(0),
+            Call::Rename(_, _) => Ok(0),
+            Call::RemoveFile(_) => Ok(0),
+            Call::RemoveDir(_) => Ok(0),
+        }
+    }
+
+    // Fails a call that is allowed, and that there is room to log.
+    fn fall(&mut self, call: Call, added: u64) -> Result<(), FolderFault>
+        requires allowed { Allowed (state_of self.old) (call_of call) }
+        requires room { vec_len self.old.log + 1 ≤ vec_capacity self.old.log }
+        ensures answer { FailsAs true result }
+        ensures changes { Steps (call_of call) (told_of self.old) (told_of self.new) result }
+        ensures added { FellBy added (call_of call) (told_of self.old) (told_of self.new) result }
+        ensures counts { Counts (Some (told_of self.old)) self.old.faults self.new.faults result }
+        ensures plan { plan_of self.new ≡ plan_of self.old }
+    {
+        let Ok(added) = self.add_front(&call, added) else {
+            return Err(FolderFault::NoMemory);
+        };
+        self.count_fault();
+        self.note(call, Outcome::Failed(added));
+        Err(FolderFault::Failed)
+    }
+
+    // Answers a call that changes the folder. It does all of the change or nothing of it, but for
+    // an append that fails.
     fn run(&mut self, call: Call) -> Result<(), FolderFault>
         ensures changes { Steps (call_of call) (told_of self.old) (told_of self.new) result }
-        ensures whole { OnErr result (state_of self.new ≡ state_of self.old) }
+        ensures added { FellBy (added_next (plan_of self.old)) (call_of call) (told_of self.old) (told_of self.new) result }
         ensures counts { Counts (Some (told_of self.old)) self.old.faults self.new.faults result }
-        ensures plan { plan_of self.new ≡ counted (plan_of self.old) }
-        ensures due { FailsAs (fails_next (plan_of self.old)) result }
+        ensures plan { plan_of self.new ≡ counted_change (plan_of self.old) }
+        ensures due { FailsAs (change_fails_next (plan_of self.old)) result }
     {
-        let due = self.is_due();
+        let due = self.change_due();
         if self.log.reserve(1).is_err() {
             return Err(FolderFault::NoMemory);
         }
@@ -286,10 +352,8 @@ impl MemFolder {
             self.note(call, Outcome::Refused);
             return Err(FolderFault::Refused);
         }
-        if due {
-            self.count_fault();
-            self.note(call, Outcome::Failed(0));
-            return Err(FolderFault::Failed);
+        if let Some(added) = due {
+            return self.fall(call, added);
         }
         if self.apply(&call).is_err() {
             return Err(FolderFault::NoMemory);
@@ -344,20 +408,69 @@ impl MemFolder {
             steps: Vec::new(alloc),
             kept: 0,
             log: Vec::new(alloc),
-            calls: 0,
-            fails: Vec::new(alloc),
+            plan: CallPlan::new(alloc),
             faults: 0,
         })
     }
 
-    /// Lets a later call fail, by its number from 1 on over all calls from now on.
+    /// Lets a later call fail, by its number from 1 on over all calls from now on. An append then
+    /// adds nothing.
     pub fn fail_at(&mut self, call: u64) -> Result<(), AllocError>
         ensures ok { OnOk result (plan_of self.new ≡ with_failing (plan_of self.old) call) }
         ensures err { OnErr result (plan_of self.new ≡ plan_of self.old) }
         ensures told { told_of self.new ≡ told_of self.old }
         ensures faults { faults_of self.new ≡ faults_of self.old }
     {
-        self.fails.push(self.calls.saturating_add(call))?;
+        self.plan.fail(call, 0)
+    }
+
+    /// Lets a later call fail as `fail_at` does. Where it is an append, it then adds the first
+    /// `added` bytes of its piece, or all where it has fewer.
+    pub fn fail_append_at(&mut self, call: u64, added: u64) -> Result<(), AllocError>
+        ensures ok { OnOk result (plan_of self.new ≡ with_append_failing (plan_of self.old) call added) }
+        ensures err { OnErr result (plan_of self.new ≡ plan_of self.old) }
+        ensures told { told_of self.new ≡ told_of self.old }
+        ensures faults { faults_of self.new ≡ faults_of self.old }
+    {
+        self.plan.fail(call, added)
+    }
+
+    /// Lets a later changing call fail and every call after it, by the number of that call from 1
+    /// on over the changing calls from now on. At 0 every call from now on fails.
+    pub fn stop_at(&mut self, event: u64)
+        ensures plan { plan_of self.new ≡ with_stop (plan_of self.old) event }
+        ensures told { told_of self.new ≡ told_of self.old }
+        ensures faults { faults_of self.new ≡ faults_of self.old }
+    {
+        self.plan.stop(event);
+    }
+
+    /// Whether an entry of another kind may be placed: nothing is pending, nothing stands at the
+    /// path, and a directory stands above it.
+    pub fn may_place(&self, at: &FPath) -> Result<bool, AllocError>
+        ensures { IfOk result (λ may. IsTrue may ↔ MayPlace (state_of self.now) at.now) }
+    {
+        if self.kept < self.steps.len() {
+            return Ok(false);
+        }
+        if !are_clean(self.nodes.as_slice()) {
+            return Ok(false);
+        }
+        self.is_free(at)
+    }
+
+    /// Places an entry that is neither a file nor a directory, and empties the log.
+    pub fn place_other(&mut self, at: &FPath) -> Result<(), AllocError>
+        requires { MayPlace (state_of self.old) at.now }
+        ensures ok { OnOk result (told_of self.new ≡ record { state = with_other (state_of self.old) at.now; log = [] }) }
+        ensures err { OnErr result (told_of self.new ≡ told_of self.old) }
+        ensures plan { plan_of self.new ≡ plan_of self.old }
+        ensures faults { faults_of self.new ≡ faults_of self.old }
+    {
+        let step = Step::Put(at.copy()?, Spot::Odd);
+        self.push_step(step)?;
+        self.settle_all();
+        self.log.clear();
         Ok(())
     }
 

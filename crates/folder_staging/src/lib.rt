@@ -11,8 +11,6 @@ pub mod laws;
 pub mod publishing;
 pub mod removal;
 pub mod staging;
-#[cfg(test)]
-mod tests;
 
 pub use folders::{begin_folder, place_folder, publish_folder};
 pub use publishing::{publish_file, publish_staged_file, replace_file, replace_with_side_file};

@@ -18,8 +18,6 @@ pub mod laws;
 mod line;
 mod parse;
 pub mod reading;
-#[cfg(test)]
-mod tests;
 mod text;
 pub mod writing;
 

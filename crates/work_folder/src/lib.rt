@@ -7,8 +7,6 @@
 mod changing;
 pub mod fault;
 mod looking;
-#[cfg(test)]
-mod tests;
 pub mod work;
 
 pub use fault::WorkFault;

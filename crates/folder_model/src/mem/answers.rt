@@ -13,7 +13,8 @@ impl Folder for MemFolder {
     ghost use Rattle.folder_spec.specs.Event.{Steps, MakeDir, Create, Append, Sync, Settle, Rename, RemoveFile, RemoveDir};
     ghost use Rattle.folder_spec.specs.Listing.{IsListing};
     ghost use Rattle.folder_model.specs.Answers.{Answers, Counts, Reads};
-    ghost use Rattle.folder_model.specs.Memory.{state_of, told_of, faults_of, plan_of, counted, fails_next, FailsAs};
+    ghost use Rattle.folder_model.specs.Memory.{state_of, told_of, faults_of, plan_of, FellBy};
+    ghost use Rattle.folder_model.specs.Plan.{counted, counted_change, fails_next, change_fails_next, added_next, FailsAs};
     ghost use Rattle.folder_model.specs.Calls.{event_of};
     ghost use Rattle.folder_model.specs.Sound.{told_from, told_sound};
     ghost use Rattle.folder_model.specs.Tables.{names_of};
@@ -59,8 +60,8 @@ impl Folder for MemFolder {
     fn make_dir(&mut self, at: &FPath) -> Result<(), FolderFault>
         ensures changes { Steps (MakeDir at.now) (told_of self.old) (told_of self.new) result }
         ensures counts { Counts (Some (told_of self.old)) (faults_of self.old) (faults_of self.new) result }
-        ensures plan { plan_of self.new ≡ counted (plan_of self.old) }
-        ensures due { FailsAs (fails_next (plan_of self.old)) result }
+        ensures plan { plan_of self.new ≡ counted_change (plan_of self.old) }
+        ensures due { FailsAs (change_fails_next (plan_of self.old)) result }
     {
         let Ok(at) = at.copy() else {
             return self.want_memory();
@@ -71,8 +72,8 @@ impl Folder for MemFolder {
     fn create(&mut self, at: &FPath) -> Result<(), FolderFault>
         ensures changes { Steps (Create at.now) (told_of self.old) (told_of self.new) result }
         ensures counts { Counts (Some (told_of self.old)) (faults_of self.old) (faults_of self.new) result }
-        ensures plan { plan_of self.new ≡ counted (plan_of self.old) }
-        ensures due { FailsAs (fails_next (plan_of self.old)) result }
+        ensures plan { plan_of self.new ≡ counted_change (plan_of self.old) }
+        ensures due { FailsAs (change_fails_next (plan_of self.old)) result }
     {
         let Ok(at) = at.copy() else {
             return self.want_memory();
@@ -82,10 +83,11 @@ impl Folder for MemFolder {
 
     fn append(&mut self, at: &FPath, piece: &[u8]) -> Result<(), FolderFault>
         ensures changes { Steps (Append at.now piece.now) (told_of self.old) (told_of self.new) result }
-        ensures whole { OnErr result (state_of self.new ≡ state_of self.old) }
+        ensures added { FellBy (added_next (plan_of self.old)) (Append at.now piece.now) (told_of self.old) (told_of self.new) result }
+        ensures whole { added_next (plan_of self.old) ≡ 0 → OnErr result (state_of self.new ≡ state_of self.old) }
         ensures counts { Counts (Some (told_of self.old)) (faults_of self.old) (faults_of self.new) result }
-        ensures plan { plan_of self.new ≡ counted (plan_of self.old) }
-        ensures due { FailsAs (fails_next (plan_of self.old)) result }
+        ensures plan { plan_of self.new ≡ counted_change (plan_of self.old) }
+        ensures due { FailsAs (change_fails_next (plan_of self.old)) result }
     {
         let Ok(at) = at.copy() else {
             return self.want_memory();
@@ -99,8 +101,8 @@ impl Folder for MemFolder {
     fn sync(&mut self, at: &FPath) -> Result<(), FolderFault>
         ensures changes { Steps (Sync at.now) (told_of self.old) (told_of self.new) result }
         ensures counts { Counts (Some (told_of self.old)) (faults_of self.old) (faults_of self.new) result }
-        ensures plan { plan_of self.new ≡ counted (plan_of self.old) }
-        ensures due { FailsAs (fails_next (plan_of self.old)) result }
+        ensures plan { plan_of self.new ≡ counted_change (plan_of self.old) }
+        ensures due { FailsAs (change_fails_next (plan_of self.old)) result }
     {
         let Ok(at) = at.copy() else {
             return self.want_memory();
@@ -111,8 +113,8 @@ impl Folder for MemFolder {
     fn settle(&mut self) -> Result<(), FolderFault>
         ensures changes { Steps Settle (told_of self.old) (told_of self.new) result }
         ensures counts { Counts (Some (told_of self.old)) (faults_of self.old) (faults_of self.new) result }
-        ensures plan { plan_of self.new ≡ counted (plan_of self.old) }
-        ensures due { FailsAs (fails_next (plan_of self.old)) result }
+        ensures plan { plan_of self.new ≡ counted_change (plan_of self.old) }
+        ensures due { FailsAs (change_fails_next (plan_of self.old)) result }
     {
         self.run(Call::Settle)
     }
@@ -120,8 +122,8 @@ impl Folder for MemFolder {
     fn rename(&mut self, old: &FPath, new: &FPath) -> Result<(), FolderFault>
         ensures changes { Steps (Rename old.now new.now) (told_of self.old) (told_of self.new) result }
         ensures counts { Counts (Some (told_of self.old)) (faults_of self.old) (faults_of self.new) result }
-        ensures plan { plan_of self.new ≡ counted (plan_of self.old) }
-        ensures due { FailsAs (fails_next (plan_of self.old)) result }
+        ensures plan { plan_of self.new ≡ counted_change (plan_of self.old) }
+        ensures due { FailsAs (change_fails_next (plan_of self.old)) result }
     {
         let Ok(old) = old.copy() else {
             return self.want_memory();
@@ -135,8 +137,8 @@ impl Folder for MemFolder {
     fn remove_file(&mut self, at: &FPath) -> Result<(), FolderFault>
         ensures changes { Steps (RemoveFile at.now) (told_of self.old) (told_of self.new) result }
         ensures counts { Counts (Some (told_of self.old)) (faults_of self.old) (faults_of self.new) result }
-        ensures plan { plan_of self.new ≡ counted (plan_of self.old) }
-        ensures due { FailsAs (fails_next (plan_of self.old)) result }
+        ensures plan { plan_of self.new ≡ counted_change (plan_of self.old) }
+        ensures due { FailsAs (change_fails_next (plan_of self.old)) result }
     {
         let Ok(at) = at.copy() else {
             return self.want_memory();
@@ -147,8 +149,8 @@ impl Folder for MemFolder {
     fn remove_dir(&mut self, at: &FPath) -> Result<(), FolderFault>
         ensures changes { Steps (RemoveDir at.now) (told_of self.old) (told_of self.new) result }
         ensures counts { Counts (Some (told_of self.old)) (faults_of self.old) (faults_of self.new) result }
-        ensures plan { plan_of self.new ≡ counted (plan_of self.old) }
-        ensures due { FailsAs (fails_next (plan_of self.old)) result }
+        ensures plan { plan_of self.new ≡ counted_change (plan_of self.old) }
+        ensures due { FailsAs (change_fails_next (plan_of self.old)) result }
     {
         let Ok(at) = at.copy() else {
             return self.want_memory();

@@ -4,6 +4,7 @@ ghost use Rattle.folder_model.specs.Crash.{node_left};
 
 use crate::mem::MemFolder;
 use crate::mem::node::FileBytes;
+use crate::mem::plan::CallPlan;
 use crate::mem::step::Step;
 use std::alloc::{AllocError, Global};
 
@@ -42,7 +43,8 @@ fn steps_to(mut steps: Vec<Step>, kept: usize, table: usize) -> Vec<Step>
 impl MemFolder {
     ghost use Rattle.folder_spec.specs.Image.{IsImage, seen_now};
     ghost use Rattle.folder_model.specs.Crash.{picked, told_by};
-    ghost use Rattle.folder_model.specs.Memory.{state_of, told_of, faults_of, plan_of, new_plan};
+    ghost use Rattle.folder_model.specs.Memory.{state_of, told_of, faults_of, plan_of};
+    ghost use Rattle.folder_model.specs.Plan.{new_plan};
 
     /// The folder after a crash: the picked image, with an empty log, no faults and no call to fail.
     pub fn crash(self, pick: &Pick) -> Result<MemFolder, AllocError>
@@ -62,8 +64,7 @@ impl MemFolder {
             steps,
             kept,
             log: Vec::new(alloc),
-            calls: 0,
-            fails: Vec::new(alloc),
+            plan: CallPlan::new(alloc),
             faults: 0,
         })
     }

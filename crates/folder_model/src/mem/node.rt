@@ -1,5 +1,6 @@
 //! The bytes of a file, and how many of them are kept.
-ghost use Rattle.std.specs.Prelude.{◌≡◌, ◌+◌, ◌≤◌, ◌++◌, length, IfOk, OnOk, OnErr, take, drop, min, ◌-◌};
+ghost use Rattle.std.specs.Prelude.{◌≡◌, ◌↔◌, ℕ, ◌+◌, ◌≤◌, [], ◌++◌, length, IfOk, OnOk, OnErr, IsTrue, take, drop, min, ◌-◌, slice_index_or};
+ghost use Rattle.folder_spec.specs.State.{IsClean};
 ghost use Rattle.folder_spec.specs.Event.{empty_node, grown, synced};
 
 use std::alloc::{AllocError, Global};
@@ -39,6 +40,18 @@ pub fn read_from(bytes: &[u8], start: u64, out: &mut [u8]) -> usize
     count
 }
 
+/// Whether all bytes of each file are kept.
+pub fn are_clean(nodes: &[FileBytes]) -> bool
+    ensures { IsTrue result ↔ ((n : ℕ) → IsClean (slice_index_or nodes.now n empty_node)) }
+{
+    for node in nodes {
+        if !node.is_clean() {
+            return false;
+        }
+    }
+    true
+}
+
 impl FileBytes {
     ghost use Rattle.folder_model.specs.Nodes.{KeepsFront};
     ghost use Rattle.folder_model.specs.Crash.{node_left};
@@ -56,6 +69,13 @@ impl FileBytes {
         ensures { result.now ≡ self.now.now }
     {
         self.bytes.as_slice()
+    }
+
+    /// Whether all bytes are kept.
+    pub fn is_clean(&self) -> bool
+        ensures { IsTrue result ↔ IsClean self.now }
+    {
+        self.kept == self.bytes.len()
     }
 
     pub fn grow(&mut self, piece: &[u8]) -> Result<(), AllocError>

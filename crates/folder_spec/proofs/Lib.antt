@@ -4,7 +4,7 @@ pub mod Sound
 pub mod Images
 pub mod Moments
 pub mod Regions
-mod Written
+pub mod Written
 pub mod Replaces
 pub mod Tellings
 pub mod Stages

@@ -1,10 +1,11 @@
 -- A region of paths that calls leave as it was, and one path there that gets a new file.
-use Rattle.std.proofs.Common.{◌≡◌, ◌≢◌, ◌⊎◌, ℕ, ◌<◌, ◌≤◌, Bool, true, false, List, None, refl, sym, ap, ◌∙◌, subst, inl, inr, arith, cond, ne_eqb, nat_lt, ltb-true, lt-ltb}
+use Rattle.std.proofs.Common.{◌≡◌, ◌≢◌, ◌⊎◌, ℕ, ◌<◌, ◌≤◌, Bool, true, false, IsTrue, List, None, refl, sym, ap, ◌∙◌, subst, inl, inr, arith, cond, ne_eqb, nat_lt, ltb-true, lt-ltb}
 use Rattle.folder_spec.specs.Path.{Path, below}
 use Rattle.folder_spec.specs.State.{Spot, Nothing, Directory, FileNode, Odd, Table, Node, State, present, IsTableOf, IsNothingOrFile, put, moved, put_node, IsSoundTable, IsSound}
 use Rattle.folder_spec.specs.Event.{Call, MakeDir, Create, Append, Sync, Settle, Rename, RemoveFile, RemoveDir, with_table, with_file, grown, synced, empty_node, changed}
 use Rattle.folder_spec.specs.Image.{Image, IsLeftOf, IsImage}
-use Rattle.folder_spec.specs.View.{found, view_of, AgreeIn}
+use Rattle.folder_spec.specs.View.{FileOf, found, view_of, AgreeIn}
+use Rattle.folder_spec.specs.Seen.{seen}
 use Rattle.folder_spec.specs.Region.{Spares, AlikeIn, IsAsBefore, WritesOnlyNew, HasOldOrFile, PutsOnlyFiles}
 use Rattle.folder_spec.proofs.Paths.{one_or_not, begins_or_not}
 use Rattle.folder_spec.proofs.Tables.{put-same, put-other, moved-old, moved-other, present_is_table, among-push, last_of-push}
@@ -73,6 +74,38 @@ spared_present region s call spares q inside = by_call call spares
 pub as_before : (region : Path → Bool) (s : State) → IsAsBefore region s s
 as_before region s =
     record { tables = λ t h. (t, h, λ q inside. refl); seen = λ q inside. refl; nodes = λ n h. refl; made = omega arith }
+
+-- what was as before in a larger region, and then in a smaller one
+pub as_before_then : (region within : Path → Bool) (s0 s1 s : State) → ((q : Path) → IsTrue (region q) → IsTrue (within q)) → IsAsBefore region s0 s1 → IsAsBefore within s1 s
+    → IsAsBefore region s0 s
+as_before_then region within s0 s1 s more first second = record {
+  tables = λ t is_table.
+      let mid : (u : Table) × IsTableOf s1 u × AlikeIn within t u = second.tables t is_table in
+      let old : (w : Table) × IsTableOf s0 w × AlikeIn region mid.0 w = first.tables (mid.0) mid.1 in
+      (old.0, old.1, λ q inside. mid.2 q (more q inside) ∙ old.2 q inside);
+  seen = λ q inside. second.seen q (more q inside) ∙ first.seen q inside;
+  nodes = λ n less. (let made : s0.made ≤ s1.made = first.made in second.nodes n (omega (arith, less, made)) ∙ first.nodes n less);
+  made = (let one : s0.made ≤ s1.made = first.made in let two : s1.made ≤ s.made = second.made in omega (arith, one, two));
+}
+
+pub as_before_within : (region within : Path → Bool) (s0 s : State) → ((q : Path) → IsTrue (region q) → IsTrue (within q)) → IsAsBefore within s0 s → IsAsBefore region s0 s
+as_before_within region within s0 s more h = record {
+  tables = λ t is_table. let old : (u : Table) × IsTableOf s0 u × AlikeIn within t u = h.tables t is_table in (old.0, old.1, λ q inside. old.2 q (more q inside));
+  seen = λ q inside. h.seen q (more q inside);
+  nodes = h.nodes;
+  made = h.made;
+}
+
+-- the same is seen there
+pub seen_as_before : (region : Path → Bool) (s0 s : State) → IsSound s0 → IsAsBefore region s0 s → (q : Path) → IsTrue (region q) → seen s q ≡ seen s0 q
+seen_as_before region s0 s sound h q inside =
+    ap (found (λ n. (s.nodes n).now)) (h.seen q inside) ∙ same (present s0 q) (λ n here. (sound.tables (present s0) (present_is_table s0)).is_made q n here)
+  where
+    same : (x : Spot) → ((n : ℕ) → x ≡ FileNode n → n < s0.made) → found (λ n. (s.nodes n).now) x ≡ found (λ n. (s0.nodes n).now) x
+    same Nothing made = refl
+    same Directory made = refl
+    same Odd made = refl
+    same (FileNode n) made = ap (λ (node : Node). FileOf node.now) (h.nodes n (made n refl))
 
 pub put_node-other : (nodes : ℕ → Node) (n : ℕ) (node : Node) (k : ℕ) → n ≢ k → put_node nodes n node k ≡ nodes k
 put_node-other nodes n node k apart = rw (ne_eqb n k apart) refl

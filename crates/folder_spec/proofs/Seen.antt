@@ -11,6 +11,14 @@ use Rattle.folder_spec.proofs.Paths.{path_eq-Decides, one_or_not}
 use Rattle.folder_spec.proofs.Tables.{put-same, put-other, last_of-push, present_is_table}
 use Rattle.folder_spec.proofs.Regions.{put_node-other}
 
+-- the present view is the one that is seen, where the state is told
+pub seen_of : (t : Option Told) (a : Told) → t ≡ Some a → IsSeen t (seen a.state)
+seen_of t a is = subst (λ o. IsSeen o (seen a.state)) (sym is) refl
+
+pub one_view : (t : Option Told) (v w : View) → IsSeen t v → IsSeen t w → v ≡ w
+one_view (Some a) v w is_v is_w = is_v ∙ sym is_w
+one_view None v w is_v is_w = absurd is_v
+
 now_of : State → ℕ → List ℕ
 now_of s = λ n. (s.nodes n).now
 

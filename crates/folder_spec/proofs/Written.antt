@@ -81,7 +81,16 @@ fronts_on_failure files s0 s (Rename old new) added within h = h
 fronts_on_failure files s0 s (RemoveFile p) added within h = h
 fronts_on_failure files s0 s (RemoveDir p) added within h = h
 
--- one stretch of calls after another, which leaves the files of the first as they were
+-- one stretch of calls after another, of the same files
+pub fronts_then : (files : List (List ℕ)) (s0 s1 s : State) → HoldFronts files s0 s1 → HoldFronts files s1 s → ((n : ℕ) → n < s1.made → s.nodes n ≡ s1.nodes n) → HoldFronts files s0 s
+fronts_then files s0 s1 s first second stay n new made = elim (nat_lt n s1.made) as (λ b. nat_lt n s1.made ≡ b → IsFrontOfOne files (s.nodes n).now) [
+  | true ↦ λ e.
+      let old : n < s1.made = ltb-true n s1.made e in
+      subst (λ (node : Node). IsFrontOfOne files node.now) (sym (stay n old)) (first n new old)
+  | false ↦ λ e. second n (ltb-false n s1.made e) made
+] refl
+
+-- and of others
 pub fronts_compose : (files more : List (List ℕ)) (s0 s1 s : State) → HoldFronts files s0 s1 → HoldFronts more s1 s → ((n : ℕ) → n < s1.made → s.nodes n ≡ s1.nodes n)
     → HoldFronts (files ++ more) s0 s
 fronts_compose files more s0 s1 s first then_ stay n new made =

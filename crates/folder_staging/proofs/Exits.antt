@@ -8,7 +8,7 @@ use Rattle.folder_spec.specs.State.{present, HasFile, IsSound}
 use Rattle.folder_spec.specs.Event.{Rename, IsFree, IsFilePlace, Allowed, Told, Changes, FromTo}
 use Rattle.folder_spec.specs.View.{Found, NoEntry, Folder, FileOf, Special, View, kind_found}
 use Rattle.folder_spec.specs.Seen.{seen, IsSeen, ShowsFile, ShowsFree, ShowsFilePlace}
-use Rattle.folder_spec.proofs.Seen.{free_seen, has_file_seen, file_place_seen, file_place_shown, may_call_allowed}
+use Rattle.folder_spec.proofs.Seen.{free_seen, has_file_seen, file_place_seen, file_place_shown, may_call_allowed, seen_of}
 use Rattle.folder_spec.specs.Replace.{IsNewFile}
 use Rattle.folder_spec.proofs.Tellings.{from_to_both, from_to_more}
 use Rattle.folder_spec.proofs.Stages.{Staging, IsStagedFile, Replacing, IsRenamed, staging_so_far, place_stays, renaming_from, renamed_from}
@@ -43,7 +43,7 @@ found_free (Some a) u at kind apart same answer place =
 -- A staged file is published.
 pub staged_allowed : (t : Option Told) (staged at : Path) → MayPublishStaged t staged at → (a : Told) → t ≡ Some a → Allowed a.state (Rename staged at)
 staged_allowed t staged at may a is =
-    let shown : IsSeen t (seen a.state) = subst (λ o. IsSeen o (seen a.state)) (sym is) refl in
+    let shown : IsSeen t (seen a.state) = seen_of t a is in
     let file : ShowsFile (seen a.state) staged = may.there (seen a.state) shown in
     may_call_allowed a.state (Rename staged at) (
       may.below_base,

@@ -1,5 +1,5 @@
 -- A file is begun, written and made to last, call by call.
-use Rattle.std.proofs.Common.{◌≡◌, ℕ, List, [], ◌++◌, Option, Some, None, Result, Ok, Err, refl, sym, ap, ◌∙◌, subst}
+use Rattle.std.proofs.Common.{◌≡◌, ℕ, List, [], ◌++◌, Option, Some, None, Result, Ok, Err, ap, ◌∙◌, subst}
 use Rattle.folder_spec.specs.declared.FolderFault.{FolderFault}
 use Rattle.folder_spec.specs.Path.{Path}
 use Rattle.folder_spec.specs.State.{Node, present}
@@ -8,7 +8,7 @@ use Rattle.folder_spec.specs.View.{FileOf, View, found}
 use Rattle.folder_spec.specs.Seen.{seen, IsSeen, ShowsFile}
 use Rattle.folder_spec.specs.Replace.{IsNewNode, IsNewFile}
 use Rattle.folder_spec.proofs.Tellings.{from_to_both, from_to_more}
-use Rattle.folder_spec.proofs.Seen.{has_file_seen}
+use Rattle.folder_spec.proofs.Seen.{has_file_seen, seen_of}
 use Rattle.folder_spec.proofs.Stages.{Staging, IsStagedAs, creating_from, created_from, appending_from, appended_from, syncing_from, synced_from, staging_of_none}
 use Rattle.folder_staging.specs.Pieces.{IsWriting, Begins, Adds, Finishes}
 
@@ -66,7 +66,7 @@ writing_seen files at bytes before now h v is = new_file_seen at (record { now =
 
 -- so a call on it is allowed
 pub file_allowed : (t : Option Told) (at : Path) → ((v : View) → IsSeen t v → ShowsFile v at) → (a : Told) → t ≡ Some a → Allowed a.state (Sync at)
-file_allowed t at shown a is = has_file_seen a.state at (shown (seen a.state) (subst (λ o. IsSeen o (seen a.state)) (sym is) refl))
+file_allowed t at shown a is = has_file_seen a.state at (shown (seen a.state) (seen_of t a is))
 
 pub free_allowed : (at : Path) (t u : Option Told) → FromTo (λ a b. IsFree (present b.state) at) t u → (a : Told) → u ≡ Some a → Allowed a.state (Create at)
 free_allowed at (Some a) (Some b) free c is = let same : b ≡ c = cc is in subst (λ (d : Told). IsFree (present d.state) at) same free

@@ -21,7 +21,7 @@ use Rattle.folder_spec.proofs.Paths.{not_below, path_eq-same, one_or_not, append
 use Rattle.folder_spec.proofs.Tables.{put-same, put-other, present_is_table, last_of-push, among-push}
 use Rattle.folder_spec.proofs.Moments.{went_nowhere, went_on, went_by_call, went_more, went_to}
 use Rattle.folder_spec.proofs.Tellings.{from_to_more, from_to_on, from_to_same}
-use Rattle.folder_spec.proofs.Seen.{none_seen, seen_changed, has_file_seen, may_call_allowed}
+use Rattle.folder_spec.proofs.Seen.{none_seen, seen_changed, has_file_seen, may_call_allowed, seen_of}
 use Rattle.folder_model.specs.Answers.{Answers, Counts, CountsAbove}
 use Rattle.folder_model.proofs.Counting.{never_falls, rose_since, counts_after, counts_at_fault}
 use Rattle.folder_spec.proofs.Edits.{nothing_below_file}
@@ -341,7 +341,7 @@ pub file_exit : (at : Path) (most : ℕ) (t u : Option Told) (n0 n1 : ℕ) (resu
     → Changes (RemoveFile at) t u result → Counts t n0 n1 result → Removes (from at most) t u n0 n1 (ended_as result)
 file_exit at most t u n0 n1 result before sound kind changes counts =
     call_exit at most (RemoveFile at) t u n0 n1 result (itself at most)
-    (λ a is. has_file_seen a.state at (file (seen a.state at) (kind (seen a.state) (subst (λ o. IsSeen o (seen a.state)) (sym is) refl))))
+    (λ a is. has_file_seen a.state at (file (seen a.state at) (kind (seen a.state) (seen_of t a is))))
     (λ a b is steps. removed_seen at (RemoveFile at) a b (before a is) refl steps) sound changes counts
   where
     file : (x : Found) → File ≡ kind_found x → (bytes : List ℕ) × (x ≡ FileOf bytes)

@@ -1,30 +1,30 @@
 -- A folder is begun, gains files and directories, and is published.
 use mathlib.Core.Path.{fun_ext}
-use Rattle.std.proofs.Common.{◌≡◌, ℕ, ◌<◌, ◌≤◌, Bool, true, false, cond, bytes_eq, List, [], ◌∷◌, ◌++◌, Option, Some, None, Result, Ok, Err, OnOk, refl, sym, ap, ◌∙◌, subst, inl, inr, arith, append-nil, append_assoc, nat_lt, ltb-true, ltb-false, IsTrue}
+use Rattle.std.proofs.Common.{◌≡◌, ℕ, ◌<◌, ◌≤◌, Bool, true, false, cond, bytes_eq, List, [], ◌∷◌, ◌++◌, Option, Some, None, Result, Ok, Err, OnOk, refl, sym, ap, ◌∙◌, subst, inl, inr, arith, append-nil, append_assoc, IsTrue}
 use Rattle.std.specs.Prelude.{is_some}
 use Rattle.std.specs.Cmp.{first_so}
 use Rattle.folder_spec.specs.declared.FolderFault.{FolderFault}
 use Rattle.folder_spec.specs.declared.Spot.{Spot}
 use Rattle.folder_spec.specs.declared.Spot.TheVariants.{Nothing, Directory, FileNode, Odd}
 use Rattle.folder_spec.specs.Path.{Part, Path, below, child}
-use Rattle.folder_spec.specs.State.{Table, Node, State, present, put, IsTableOf, IsClean, IsSound}
+use Rattle.folder_spec.specs.State.{Node, State, present, put, IsClean, IsSound}
 use Rattle.folder_spec.specs.Event.{Call, MakeDir, Create, Append, Sync, Settle, Rename, RemoveFile, RemoveDir, IsFree, Allowed, Event, Told, Steps, Changes, FromTo, changed}
 use Rattle.folder_spec.specs.Moments.{Went}
-use Rattle.folder_spec.specs.Region.{AlikeIn, IsAsBefore, WorksAt, StagesAt, StagesOrPuts, WritesOnlyNew, apart_from, apart_from_both, at_or_below}
-use Rattle.folder_spec.specs.Written.{IsFrontOfOne, HoldFronts}
+use Rattle.folder_spec.specs.Region.{IsAsBefore, WorksAt, StagesAt, StagesOrPuts, WritesOnlyNew, apart_from, apart_from_both, at_or_below}
 use Rattle.folder_spec.specs.Replace.{IsNewFile, IsStaging}
 use Rattle.folder_spec.specs.View.{NoEntry, Folder, FileOf, View, found}
 use Rattle.folder_spec.specs.Seen.{seen, IsSeen, ShowsFree}
 use Rattle.folder_spec.specs.Edit.{Edit, grafted, edited, directory_view, directory_edit, file_among, file_view, file_edit, folder_view, IsStagedView, HasPublished}
 use Rattle.folder_spec.proofs.Paths.{below-append, below-both, begins_or_not, not_below}
 use Rattle.folder_spec.proofs.Tables.{put-same, put-other, present_is_table, last_of-push}
-use Rattle.folder_spec.proofs.Regions.{as_before, as_before_on}
+use Rattle.folder_spec.proofs.Regions.{as_before, as_before_on, as_before_then}
 use Rattle.folder_spec.proofs.Replaces.{apart-below, apart-not_same, apart-from_below}
 use Rattle.folder_spec.proofs.Moments.{went_on, went_by_call, went_more, went_to}
 use Rattle.folder_spec.proofs.Tellings.{from_to_both, from_to_more, from_to_on, from_to_then}
-use Rattle.folder_spec.proofs.Seen.{free_seen, may_call_allowed}
+use Rattle.folder_spec.proofs.Seen.{free_seen, may_call_allowed, seen_of}
 use Rattle.folder_spec.proofs.Edits.{nothing_below_file, publishes_nothing, published, settle_publishes, settled, at_edit, off_edit}
 use Rattle.folder_spec.proofs.Stages.{Staging, at_itself, stages_or_puts, puts_spare, gone_renamed_on, new_file_view}
+use Rattle.folder_spec.proofs.Written.{fronts_then, fronts_of_none}
 use Rattle.folder_staging.specs.Pieces.{Stages}
 use Rattle.folder_staging.specs.Folders.{IsStagingFolder, StagesFolder, HasStaged, IsStagedFolder, BeginsFolder, MayPublishFolder, IsPublishingFolder, PublishingFolder, HasPublishedFolder, HasPlacedFolder, PublishesFolder, PlacesFolder}
 
@@ -35,14 +35,11 @@ StagingFolder fronts at a b = Went (IsStagingFolder fronts at a.state) (λ s e. 
 begun_run : (fronts : List (List ℕ)) (at : Path) (a b : Told) (result : Result (Unit {0}) FolderFault) → Steps (MakeDir at) a b result → StagingFolder fronts at a b
 begun_run fronts at a b result steps =
     went_by_call (IsStagingFolder fronts at a.state) (λ s e. StagesAt at a.state s e.call) (MakeDir at) a b result here
-    (λ allowed. record { others = as_before_on (apart_from at) a.state a.state (MakeDir at) (apart-not_same at) tt (as_before (apart_from at) a.state); fronts = no_files })
+    (λ allowed. record { others = as_before_on (apart_from at) a.state a.state (MakeDir at) (apart-not_same at) tt (as_before (apart_from at) a.state); fronts = fronts_of_none fronts a.state })
     (λ added allowed. here) (λ outcome. (at_itself at, tt)) steps
   where
-    no_files : HoldFronts fronts a.state a.state
-    no_files n new made = absurd (omega (arith, new, made))
-
     here : IsStagingFolder fronts at a.state a.state
-    here = record { others = as_before (apart_from at) a.state; fronts = no_files }
+    here = record { others = as_before (apart_from at) a.state; fronts = fronts_of_none fronts a.state }
 
 made_view : (at : Path) (s : State) → IsSound s → IsFree (present s) at → IsStagedView (changed s (MakeDir at)) (present (changed s (MakeDir at))) at (folder_view [])
 made_view at s sound free = subst (λ t. IsStagedView (changed s (MakeDir at)) t at (folder_view [])) (sym (last_of-push s.kept s.later (put (present s) at Directory))) (record {
@@ -93,26 +90,6 @@ inside_apart at rest q apart = apart-from_below (at ++ rest) q (elim (begins_or_
   | inl k ↦ absurd (not_below at (rest ++ k.0) (ap (below at) (sym (k.1 ∙ append_assoc at rest k.0)) ∙ apart-below at q apart))
   | inr none ↦ none
 ])
-
-as_before_then : (region within : Path → Bool) (s0 s1 s : State) → ((q : Path) → IsTrue (region q) → IsTrue (within q)) → IsAsBefore region s0 s1 → IsAsBefore within s1 s
-    → IsAsBefore region s0 s
-as_before_then region within s0 s1 s more first second = record {
-  tables = λ t is_table.
-      let mid : (u : Table) × IsTableOf s1 u × AlikeIn within t u = second.tables t is_table in
-      let old : (w : Table) × IsTableOf s0 w × AlikeIn region (mid.0) w = first.tables (mid.0) mid.1 in
-      (old.0, old.1, λ q inside. mid.2 q (more q inside) ∙ old.2 q inside);
-  seen = λ q inside. second.seen q (more q inside) ∙ first.seen q inside;
-  nodes = λ n less. (let made : s0.made ≤ s1.made = first.made in second.nodes n (omega (arith, less, made)) ∙ first.nodes n less);
-  made = (let one : s0.made ≤ s1.made = first.made in let two : s1.made ≤ s.made = second.made in omega (arith, one, two));
-}
-
-fronts_then : (files : List (List ℕ)) (s0 s1 s : State) → HoldFronts files s0 s1 → HoldFronts files s1 s → ((n : ℕ) → n < s1.made → s.nodes n ≡ s1.nodes n) → HoldFronts files s0 s
-fronts_then files s0 s1 s first second stay n new made = elim (nat_lt n s1.made) as (λ b. nat_lt n s1.made ≡ b → IsFrontOfOne files (s.nodes n).now) [
-  | true ↦ λ e.
-      let old : n < s1.made = ltb-true n s1.made e in
-      subst (λ (node : Node). IsFrontOfOne files node.now) (sym (stay n old)) (first n new old)
-  | false ↦ λ e. second n (ltb-false n s1.made e) made
-] refl
 
 staging_then : (fronts : List (List ℕ)) (at rest : Path) (s0 s1 s : State) → IsStagingFolder fronts at s0 s1 → IsStagingFolder fronts (at ++ rest) s1 s
     → IsStagingFolder fronts at s0 s
@@ -405,10 +382,10 @@ places_folder staged at t u v result apart publishes changes before fronts made 
 
 -- the two calls are allowed
 pub free_place : (t : Option Told) (at : Path) → ((v : View) → IsSeen t v → ShowsFree v at) → (a : Told) → t ≡ Some a → Allowed a.state (MakeDir at)
-free_place t at free a is = free_seen a.state at (free (seen a.state) (subst (λ o. IsSeen o (seen a.state)) (sym is) refl))
+free_place t at free a is = free_seen a.state at (free (seen a.state) (seen_of t a is))
 
 pub folder_allowed : (t : Option Told) (staged at : Path) → MayPublishFolder t staged at → (a : Told) → t ≡ Some a → Allowed a.state (Rename staged at)
 folder_allowed t staged at may a is =
-    let shown : IsSeen t (seen a.state) = subst (λ o. IsSeen o (seen a.state)) (sym is) refl in
+    let shown : IsSeen t (seen a.state) = seen_of t a is in
     may_call_allowed a.state (Rename staged at)
     (may.below_base, λ none. (let both : NoEntry ≡ Folder = sym none ∙ may.there (seen a.state) shown in cc), may.apart.apart, inl (may.free (seen a.state) shown))

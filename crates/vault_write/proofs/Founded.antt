@@ -18,7 +18,7 @@ use Rattle.folder_spec.proofs.Regions.{as_before}
 use Rattle.folder_spec.proofs.Moments.{went_nowhere, went_more, went_to}
 use Rattle.folder_spec.proofs.Tellings.{from_to_more, from_to_both}
 use Rattle.folder_spec.proofs.Edits.{nothing_below_file, publishes_nothing, publishes_in_part, settled_in_part}
-use Rattle.folder_spec.proofs.Seen.{free_seen}
+use Rattle.folder_spec.proofs.Seen.{free_seen, seen_of}
 use Rattle.folder_spec.proofs.Stages.{at_itself}
 use Rattle.folder_staging.specs.Folders.{IsStagingFolder, StagesFolder, HasStaged, MayPublishFolder, IsPublishingFolder, PublishingFolder, HasPlacedFolder, PlacesFolder}
 use Rattle.work_folder.specs.Entries.{stage_path}
@@ -204,7 +204,7 @@ module _ (work at : Path) (made : View) (files : List (Part × List ℕ)) (apart
       }
     where
       free : (a : Told) → t ≡ Some a → IsFree (present a.state) at
-      free a is = free_seen a.state at (may.free (seen a.state) (subst (λ o. IsSeen o (seen a.state)) (sym is) refl))
+      free a is = free_seen a.state at (may.free (seen a.state) (seen_of t a is))
 
       done : (result : Result (Unit {0}) FolderFault) → OnOk result (FromTo (λ a b. HasPlacedFolder (entry_of work) (vault_edit at made) a.state b.state) t w)
           → OnOk result (FromTo (λ a b. HasSettledIn (is_unstaged work) (vault_edit at made ∷ []) a.state b.state) t w)

@@ -1,6 +1,6 @@
 //! Draws for headers and nonces.
 
-ghost use Rattle.std.specs.Prelude.{◌≡◌, ◌≤◌, ◌<◌, List, ℕ, [], IfOk, IfErr, OnErr, false, length, take};
+ghost use Rattle.std.specs.Prelude.{◌≡◌, ◌≤◌, ◌<◌, [], IfOk, IfErr, OnErr, false, length, take};
 ghost use Rattle.port_model.specs.Counts.{CountRose, IsCounted};
 ghost use Rattle.port_model.specs.Draws.{Draws};
 ghost use Rattle.chunk_files.specs.Contents.{is_refused};

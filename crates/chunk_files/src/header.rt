@@ -1,10 +1,9 @@
 //! Headers, read and made.
 
-ghost use Rattle.std.specs.Prelude.{◌≡◌, ◌++◌, length, drop, take};
+ghost use Rattle.std.specs.Prelude.{◌≡◌, length};
 ghost use Rattle.chunk_files.specs.Gocryptfs.{go_header_of, read_go_header};
-ghost use Rattle.chunk_files.specs.CryptomatorGcm.{new_plain, read_cm_header};
+ghost use Rattle.chunk_files.specs.CryptomatorGcm.{read_cm_header};
 ghost use Rattle.chunk_files.specs.Keys.{format_of};
-ghost use Rattle.chunk_files.specs.Sealed.{sealed_text};
 
 use crate::fault::ChunkFault;
 use crate::keys::{ContentKeys, Layout};

@@ -1,4 +1,4 @@
-ghost use Rattle.std.specs.Prelude.{◌≡◌, ◌+◌, ◌<◌, ◌≤◌, ◌==◌, ◌&&◌, List, ℕ};
+ghost use Rattle.std.specs.Prelude.{◌≡◌, ◌<◌, ◌≤◌, ◌==◌, ◌&&◌, List, ℕ};
 ghost use Rattle.chunk_files.specs.Format.{stored_size};
 ghost use Rattle.chunk_files.specs.Keys.{Keys, cm_gcm_keys, format_by, full_size, go_keys};
 

@@ -1,8 +1,8 @@
 //! Texts sealed by GCM, stored with their nonce and tag.
 
-ghost use Rattle.std.specs.Prelude.{◌≡◌, ◌<◌, ◌≤◌, ◌+◌, ◌-◌, length, take};
+ghost use Rattle.std.specs.Prelude.{◌≡◌, ◌<◌, ◌≤◌, ◌+◌, ◌-◌, length};
 ghost use Rattle.std.specs.Bool.{OnTrue};
-ghost use Rattle.chunk_files.specs.Sealed.{is_tag_right, plain_text, sealed_text};
+ghost use Rattle.chunk_files.specs.Sealed.{is_tag_right, plain_text};
 
 use gcm_mode::Gcm;
 use gcm_mode::laws::unsealing_undoes_sealing;

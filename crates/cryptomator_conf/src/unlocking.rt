@@ -1,6 +1,6 @@
 //! The keys that `masterkey.cryptomator` and a passphrase give.
 
-ghost use Rattle.std.specs.Prelude.{◌≡◌, length, IfOk, Err};
+ghost use Rattle.std.specs.Prelude.{◌≡◌, IfOk, Err};
 ghost use Rattle.cryptomator_conf.specs.declared.keys.CmKeys.{CmKeys};
 ghost use Rattle.cryptomator_conf.specs.declared.fault.UnlockFault.TheVariants.{WrongPass};
 ghost use Rattle.cryptomator_conf.specs.Keys.{AreKeys, Unlocks};

@@ -1,5 +1,4 @@
 //! Staging a folder whole, and publishing it.
-ghost use Rattle.std.specs.Prelude.{◌≢◌, []};
 ghost use Rattle.folder_spec.specs.View.{View};
 ghost use Rattle.folder_spec.specs.Seen.{IsSeen, ShowsFree};
 ghost use Rattle.folder_model.specs.Answers.{CountsAbove};

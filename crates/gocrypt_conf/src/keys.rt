@@ -1,7 +1,7 @@
 //! The keys of a gocryptfs vault.
 
 ghost use Rattle.std.specs.Prelude.{◌≡◌, IfOk};
-ghost use Rattle.gocrypt_conf.specs.Keys.{derived_key, keys_of, unlocking_key, content_info, names_info};
+ghost use Rattle.gocrypt_conf.specs.Keys.{derived_key, keys_of, unlocking_key};
 
 use kdf_suite::{ScryptCost, hkdf256, scrypt};
 use std::alloc::{AllocError, Global};

@@ -1,5 +1,5 @@
 //! The text of a journal.
-ghost use Rattle.std.specs.Prelude.{◌≡◌, codes, string_bytes, IfOk};
+ghost use Rattle.std.specs.Prelude.{◌≡◌, string_bytes, IfOk};
 ghost use Rattle.move_journal.specs.Journal.{phase_line, journal_text};
 
 use crate::journal::{Journal, Phase};

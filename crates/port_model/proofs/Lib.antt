@@ -1,3 +1,3 @@
 mod Moves
-mod Draws
+pub mod Draws
 mod Words

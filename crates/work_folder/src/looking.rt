@@ -1,5 +1,5 @@
 //! The tests of a work folder.
-ghost use Rattle.std.specs.Prelude.{◌≡◌, IfOk};
+ghost use Rattle.std.specs.Prelude.{◌≡◌};
 ghost use Rattle.folder_spec.specs.View.{Folder, View};
 ghost use Rattle.folder_spec.specs.Seen.{IsSeen};
 ghost use Rattle.work_folder.specs.Entries.{is_foreign, journal_path};

@@ -1,5 +1,5 @@
 //! Base32 (RFC 4648, section 6) of hashes of twenty bytes.
-ghost use Rattle.std.specs.Prelude.{◌≡◌, ◌<◌, ◌^◌};
+ghost use Rattle.std.specs.Prelude.{◌≡◌, ◌<◌};
 ghost use Rattle.vault_names.specs.Base32.{base32, group_text, number_of, symbol};
 
 /// The base32 text of a hash. It takes no memory.

@@ -1,7 +1,7 @@
 //! Stored names of gocryptfs, on-disk format 2: EME over AES-256 on padded names, in base64url without padding.
 ghost use Rattle.std.specs.Prelude.{◌≡◌, ℕ, ◌%◌, ◌↔◌, List, length, IfOk, MatchOption, IsTrue, Err, string_bytes};
 ghost use Rattle.vault_names.specs.Blocks.{AreBlocksOf, IsPaddedName, IsSizeOfBlocks};
-ghost use Rattle.vault_names.specs.Gocryptfs.{go_text, long_name, stored, IsTextOf, base64url, bytes_of};
+ghost use Rattle.vault_names.specs.Gocryptfs.{go_text, long_name, stored, IsTextOf};
 
 use crate::entry::{NameFault, Stored};
 use crate::padding::{BLOCK_SIZE, padded_bytes, unpadded_bytes};

@@ -156,14 +156,8 @@ module _ (f : Format) (root : Path) (v : View) (path : plain.Path) where
   pub cats_unread : (fault : CatFault) (taken : Option (List ℕ)) → (fault ≡ Failed) ⊎ (fault ≡ NoMemory) → Cats f root v path (Err fault) taken taken
   cats_unread Failed taken cause = inl (Keeps-refl taken)
   cats_unread NoMemory taken cause = inl (Keeps-refl taken)
-  cats_unread (Find fault) taken (inl is) = cc is
-  cats_unread (Find fault) taken (inr is) = cc is
-  cats_unread (Damaged at fault) taken (inl is) = cc is
-  cats_unread (Damaged at fault) taken (inr is) = cc is
-  cats_unread (Limit limit) taken (inl is) = cc is
-  cats_unread (Limit limit) taken (inr is) = cc is
-  cats_unread Sink taken (inl is) = cc is
-  cats_unread Sink taken (inr is) = cc is
+  cats_unread fault taken (inl is) = cc is
+  cats_unread fault taken (inr is) = cc is
 
   pub cats_unfound : (fault : FindFault) (taken : Option (List ℕ)) → Refuses root (content_at f root v path) fault → Cats f root v path (Err (of_find fault)) taken taken
   cats_unfound (finds.NotFound at) taken h = (h, Keeps-refl taken)

@@ -1,14 +1,13 @@
 //! Writing the content of a file of a vault.
-ghost use Rattle.std.specs.Prelude.{◌≡◌, ◌≢◌, ◌≤◌, ◌++◌, ℕ, List, IfOk, IfErr, Ok, Err};
+ghost use Rattle.std.specs.Prelude.{◌≡◌, ◌≢◌, ◌≤◌, ℕ, List, IfOk, IfErr, Ok, Err};
 ghost use Rattle.std.specs.Io.KnownBytes.{Keeps};
 ghost use Rattle.port_model.specs.Counts.{CountRose};
-ghost use Rattle.folder_spec.specs.Path.{Path};
 ghost use Rattle.folder_spec.specs.View.{View, FileOf};
 ghost use Rattle.folder_spec.specs.Seen.{IsSeen};
 ghost use Rattle.vault_spec.specs.Vault.{format_of};
 ghost use Rattle.vault_read.specs.Finding.{Refuses};
 ghost use Rattle.vault_read.specs.Reading.{IsContentAt};
-ghost use Rattle.vault_read.specs.Contents.{Suits, IsBeingRead, still, content_at, IsCatFault, Writes, Cats};
+ghost use Rattle.vault_read.specs.Contents.{IsBeingRead, still, content_at, IsCatFault, Writes, Cats};
 
 use crate::fault::{CatFault, FindFault};
 use crate::finding::find;

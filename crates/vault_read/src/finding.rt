@@ -4,7 +4,7 @@ ghost use Rattle.folder_spec.specs.Path.{Path};
 ghost use Rattle.folder_spec.specs.View.{View};
 ghost use Rattle.folder_spec.specs.Seen.{IsSeen, under};
 ghost use Rattle.port_model.specs.Counts.{CountRose};
-ghost use Rattle.vault_spec.specs.Format.{Format, Directory};
+ghost use Rattle.vault_spec.specs.Format.{Directory};
 ghost use Rattle.vault_spec.specs.Standing as stands;
 ghost use Rattle.vault_spec.specs.Standing.{root_of, standing};
 ghost use Rattle.vault_spec.specs.Find as spec;

@@ -25,14 +25,7 @@ front_of_file front file h = record { file = file; among = (0, omega arith, refl
 abbrev pub ending_by : PutFault → Ending
 ending_by (puts.Damaged at fault) = Damaged at fault
 ending_by (puts.Limit limit) = TooLong limit
-ending_by puts.Source = Whole
-ending_by puts.Failed = Whole
-ending_by puts.NoMemory = Whole
-ending_by puts.ZeroRandom = Whole
-ending_by puts.Random = Whole
-ending_by (puts.Find fault) = Whole
-ending_by (puts.NotAllowed path) = Whole
-ending_by (puts.Taken at) = Whole
+ending_by fault = Whole
 
 module _ (w : Start) (given : List ℕ) (left : Option Coming) (gave : Gave given w.coming left) (ending : Ending) where
   abbrev whole : Coming

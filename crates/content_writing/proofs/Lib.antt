@@ -2,7 +2,7 @@ mod Sourced
 mod Comings
 mod Drawing
 pub mod Sixteens
-mod Standing
+pub mod Standing
 mod Exits
 mod StoredParts
 mod Refills

@@ -1,42 +1,26 @@
 -- What stands at a path apart from a staged one stays, and with it what a content tells.
-use Rattle.std.proofs.Common.{◌≡◌, ℕ, List, [], ◌∷◌, ◌++◌, Option, Some, None, is_none, refl, sym, ap, ◌∙◌, subst, append_assoc}
-use Rattle.folder_spec.specs.declared.Spot.{Spot}
-use Rattle.folder_spec.specs.declared.Spot.TheVariants.{Nothing, Directory, FileNode, Odd}
+use Rattle.std.proofs.Common.{◌≡◌, ℕ, List, [], ◌∷◌, Option, Some, None, is_none, refl, sym, ap, ◌∙◌, subst}
 use Rattle.folder_spec.specs.Path.{Path, below}
-use Rattle.folder_spec.specs.State.{State, present, IsSound}
+use Rattle.folder_spec.specs.State.{IsSound}
 use Rattle.folder_spec.specs.Event.{Told, FromTo}
-use Rattle.folder_spec.specs.Region.{IsAsBefore, apart_from}
+use Rattle.folder_spec.specs.Region.{apart_from}
 use Rattle.folder_spec.specs.Replace.{IsStaging}
-use Rattle.folder_spec.specs.Written.{IsFrontOfOne}
-use Rattle.folder_spec.specs.View.{Found, View, found}
+use Rattle.folder_spec.specs.View.{Found, View}
 use Rattle.folder_spec.specs.Seen.{seen}
-use Rattle.folder_spec.proofs.Tables.{present_is_table}
 use Rattle.folder_spec.proofs.Moments.{went_to}
 use Rattle.folder_spec.proofs.Tellings.{from_to_more, from_to_same}
 use Rattle.folder_spec.proofs.Stages.{Staging, staging_none, one_file}
+use Rattle.folder_spec.proofs.Regions.{seen_as_before}
 use Rattle.folder_staging.specs.Pieces.{Stages}
 use Rattle.content_writing.specs.Content.{Coming, IsReady, IsTold, still_coming}
 use Rattle.content_writing.specs.Streaming.{IsStaged, StagesFront}
 use Rattle.content_writing.specs.Writing.{ReadsApart}
 
-found_same : (a b : State) (x : Spot) → ((n : ℕ) → x ≡ FileNode n → b.nodes n ≡ a.nodes n) → found (λ n. (b.nodes n).now) x ≡ found (λ n. (a.nodes n).now) x
-found_same a b Nothing same = refl
-found_same a b Directory same = refl
-found_same a b Odd same = refl
-found_same a b (FileNode n) same = ap (λ node. found (λ k. node.now) (FileNode n)) (same n refl)
-
--- a region that is as before shows the same
-seen_same : (at q : Path) (a b : State) → IsSound a → IsAsBefore (apart_from at) a b → below at q ≡ None → seen b q ≡ seen a q
-seen_same at q a b sound as_was apart =
-    let here : present b q ≡ present a q = as_was.seen q (ap is_none apart) in
-    ap (found (λ n. (b.nodes n).now)) here
-    ∙ found_same a b (present a q) (λ n is. as_was.nodes n ((sound.tables (present a) (present_is_table a)).is_made q n is))
-
 pub stays : (files : List (List ℕ)) (at q : Path) (t u : Option Told) → ((a : Told) → t ≡ Some a → IsSound a.state) → Stages files at t u → below at q ≡ None
     → FromTo (λ a b. seen b.state q ≡ seen a.state q) t u
 stays files at q t u sound stages apart =
     from_to_more (Staging files at) (λ a b. seen b.state q ≡ seen a.state q) t u
-    (λ a b is h. seen_same at q a.state b.state (sound a is) (went_to (IsStaging files at a.state) _ a b h).others apart) stages
+    (λ a b is h. seen_as_before (apart_from at) a.state b.state (sound a is) (went_to (IsStaging files at a.state) _ a b h).others q (ap is_none apart)) stages
 
 -- what a content reads is still as it was
 abbrev pub IsStill : Option Path → Option Told → Option Told → Type 0
@@ -71,10 +55,7 @@ ready_before (Some q) (Some a) (Some b) still f ready =
 ready_before (Some q) None (Some b) still f ready = absurd still
 ready_before (Some q) (Some a) None still f ready = absurd still
 
--- ---- fronts
-
-pub shorter_front : (files : List (List ℕ)) (bytes more : List ℕ) → IsFrontOfOne files (bytes ++ more) → IsFrontOfOne files bytes
-shorter_front files bytes more h = record { file = h.file; among = h.among; front = (more ++ h.front.0, h.front.1 ∙ append_assoc bytes more h.front.0) }
+-- ---- what is staged
 
 pub staged_stages : (at : Path) (made : List ℕ) (t u : Option Told) → IsStaged at made t u → StagesFront at made t u
 staged_stages at made t u staged files front = (staged files front).stages

@@ -17,13 +17,14 @@ use Rattle.folder_spec.specs.Written.{IsFrontOfOne}
 use Rattle.folder_spec.specs.View.{FileOf, View}
 use Rattle.folder_spec.specs.Seen.{IsSeen, ShowsFile}
 use Rattle.folder_spec.proofs.Stages.{one_file}
+use Rattle.folder_spec.proofs.Written.{shorter_front}
 use Rattle.folder_staging.specs.Pieces.{IsWriting, Begins, Adds}
 use Rattle.content_writing.specs.Faults.{of_folder, of_encoding}
 use Rattle.content_writing.specs.Streaming.{FailsToStore, IsMadeFor, StagesFront, BeginsContent, IsNextChunk, StoresChunk, WereAccepted}
 use Rattle.content_writing.specs.declared.fault.PutFault.{PutFault}
 use Rattle.content_writing.specs.declared.fault.PutFault.TheVariants as puts
 use Rattle.content_writing.proofs.Drawing.{has_bytes, none_accepted, zeros_drawn, header_enough, none_in_front, whole_made, front_made, header_made, next_made, next_goes_on}
-use Rattle.content_writing.proofs.Standing.{shorter_front, staged_stages, stages_none}
+use Rattle.content_writing.proofs.Standing.{staged_stages, stages_none}
 
 pub folder_fails : (keys : Keys) (drawn : List ℕ) (fault : FolderFault) → FailsToStore keys drawn (of_folder fault)
 folder_fails keys drawn folder.Failed = tt

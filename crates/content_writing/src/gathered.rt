@@ -1,5 +1,5 @@
 //! A chunk that is gathered piece by piece.
-ghost use Rattle.std.specs.Prelude.{◌≡◌, ◌≤◌, ◌+◌, ◌++◌, ◌==◌, ℕ, List, take, length, [], IfOk};
+ghost use Rattle.std.specs.Prelude.{◌≡◌, ◌≤◌, ◌+◌, ◌++◌, ℕ, List, take, length, [], IfOk};
 
 use chunk_files::ChunkBuf;
 use std::alloc::{AllocError, Global};

@@ -1,9 +1,6 @@
 //! The content that a source gives.
-ghost use Rattle.std.specs.Prelude.{◌≡◌, ◌≤◌, ◌+◌, ◌-◌, ◌<◌, ℕ, List, Option, Some, None, true, false, IfOk, IfErr, Ok, Err, length, take, []};
-ghost use Rattle.std.specs.Io.KnownBytes.{Consumes, IsAtEnd, Keeps};
-ghost use Rattle.port_model.specs.Counts.{CountRose};
-ghost use Rattle.folder_spec.specs.View.{Found};
-ghost use Rattle.content_writing.specs.Content.{content_limit, coming_from, Stands, IsReady, Gives, IsContentFault};
+ghost use Rattle.std.specs.Prelude.{◌≡◌, ◌-◌, ◌<◌, None, false, take};
+ghost use Rattle.content_writing.specs.Content.{content_limit, coming_from};
 
 use crate::content::Content;
 use crate::fault::PutFault;
@@ -11,7 +8,6 @@ use crate::room::Room;
 use chunk_files::ChunkBuf;
 use folder_model::Folder;
 use port_model::Source;
-use vault_read::Limit;
 
 /// What a source has left, as the content of a file. Past 2^40 bytes it passes the limit of an input.
 #[derive(Drop)]

@@ -1,5 +1,5 @@
 //! Storing the header and the chunks of a content file in a staged file.
-ghost use Rattle.std.specs.Prelude.{◌≡◌, ◌≤◌, ◌<◌, ◌+◌, ◌-◌, ◌^◌, length};
+ghost use Rattle.std.specs.Prelude.{◌≤◌, ◌<◌, ◌+◌, ◌-◌, ◌^◌, length};
 ghost use Rattle.chunk_files.specs.Keys.{format_of};
 ghost use Rattle.folder_spec.specs.View.{View};
 ghost use Rattle.folder_spec.specs.Seen.{IsSeen, ShowsFile};

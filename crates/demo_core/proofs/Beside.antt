@@ -11,9 +11,8 @@ use Rattle.folder_spec.specs.Seen.{IsSeen, ShowsFree, seen}
 use Rattle.folder_spec.specs.State.{IsSound, State}
 use Rattle.folder_spec.specs.View.{View}
 use Rattle.folder_spec.proofs.Moments.{went_nowhere, went_on, went_more, went_to}
-use Rattle.folder_spec.proofs.Regions.{as_before}
+use Rattle.folder_spec.proofs.Regions.{as_before, as_before_then, as_before_within, seen_as_before}
 use Rattle.folder_spec.proofs.Tellings.{from_to_more, from_to_on, from_to_same}
-use Rattle.vault_write.proofs.Runs.{as_before_then, as_before_within, seen_as_before}
 use Rattle.work_folder.specs.Entering.{IsReady}
 use Rattle.work_folder.specs.Changing.{ChangesAt, ChangesOnly, IsChangingAt}
 use Rattle.demo_core.proofs.Standing.{off_stage}

@@ -11,7 +11,7 @@ use Rattle.folder_spec.specs.Seen.{IsSeen, seen, under}
 use Rattle.folder_spec.specs.View.{View}
 use Rattle.folder_spec.proofs.Moments.{went_nowhere, went_on, went_more, went_to, went_by_call}
 use Rattle.folder_spec.proofs.Paths.{below-apart}
-use Rattle.folder_spec.proofs.Regions.{as_before, as_before_on}
+use Rattle.folder_spec.proofs.Regions.{as_before, as_before_on, as_before_then, as_before_within, seen_as_before}
 use Rattle.folder_spec.proofs.Tellings.{from_to_more, from_to_on, from_to_same}
 use Rattle.tree_match.proofs.Kept.{not_staged, turned}
 use Rattle.vault_read.specs.Laws.{HasOwnFolders}
@@ -20,7 +20,6 @@ use Rattle.vault_spec.specs.Findings.{IsClean, IsFileAt}
 use Rattle.vault_spec.specs.Plan.{Planned}
 use Rattle.vault_spec.specs.Vault.{format_of}
 use Rattle.vault_walk.specs.Surveyed.{IsPlanOf}
-use Rattle.vault_write.proofs.Runs.{as_before_then, as_before_within, seen_as_before}
 use Rattle.vault_write.specs.Making.{is_apart, is_staged}
 use Rattle.migrate_core.specs.Moving.{OnlyBrings, MovesBeside}
 use Rattle.migrate_core.specs.Sides.{AreSeparate, IsWalked}

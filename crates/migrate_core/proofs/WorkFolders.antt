@@ -13,12 +13,12 @@ use Rattle.folder_spec.proofs.Moments.{went_more, went_to}
 use Rattle.folder_spec.proofs.Paths.{begins_or_not, below-append, below-apart, below-both, below-sibling}
 use Rattle.folder_spec.proofs.Replaces.{apart-below}
 use Rattle.folder_spec.proofs.Tellings.{from_to_more}
+use Rattle.folder_spec.proofs.Regions.{seen_as_before}
 use Rattle.move_journal.specs.Journal.{journal_text}
 use Rattle.move_journal.specs.Writing.{IsWorkFolder, IsWriting, Writes, HasWritten, elsewhere, new_journal_path}
 use Rattle.move_journal.specs.declared.journal.Journal.{Journal}
 use Rattle.tree_match.proofs.Kept.{behind_none, entry_inside, staged_in}
 use Rattle.tree_match.specs.Guard.{AreApart}
-use Rattle.vault_write.proofs.Runs.{seen_as_before}
 use Rattle.vault_write.specs.Making.{is_apart, is_inside, is_staged}
 use Rattle.work_folder.specs.Changing.{ChangesAt, ChangesOnly, IsChangingAt}
 use Rattle.work_folder.specs.Entering.{IsReady, IsFresh}

@@ -13,6 +13,7 @@ use Rattle.folder_spec.specs.State.{Node, State, BeginsWith}
 use Rattle.folder_spec.specs.View.{Found, View}
 use Rattle.folder_spec.proofs.Moments.{went_by_call}
 use Rattle.folder_spec.proofs.Paths.{base_or_child}
+use Rattle.folder_spec.proofs.Regions.{seen_as_before}
 use Rattle.folder_spec.specs.Event.{Changes, Settle, Steps, changed}
 use Rattle.folder_spec.specs.Path.{Path}
 use Rattle.folder_spec.specs.Region.{IsAsBefore, Spares, SparesOld, apart_from}
@@ -50,7 +51,6 @@ use Rattle.vault_spec.specs.Making.{NewDirectory, NewFile, NewItem, draws}
 use Rattle.vault_spec.specs.Plan.{Planned}
 use Rattle.vault_spec.specs.Vault.{IsVault, format_of}
 use Rattle.chunk_files.specs.Keys.{Keys}
-use Rattle.vault_write.proofs.Runs.{seen_as_before}
 use Rattle.vault_write.specs.Calls.{MakesAt, MakesOne, New}
 use Rattle.vault_write.specs.Making.{IsPlace, Making, Placing, StagesOrPlaces, format, making_in, new_item, path_of}
 use Rattle.vault_write.specs.Placing.{IsMaking, making_at}

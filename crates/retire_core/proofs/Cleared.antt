@@ -3,7 +3,7 @@ use Rattle.std.proofs.Common.{◌≡◌, ◌≢◌, ℕ, Bool, true, false, [], 
 use Rattle.std.proofs.lemmas.Slice.Eq.{bytes_eq-Decides}
 use Rattle.folder_spec.proofs.Moments.{went_by_call, went_more, went_nowhere, went_on, went_to}
 use Rattle.folder_spec.proofs.Paths.{below-both, child-apart, child-last, path_eq-apart, path_eq-same}
-use Rattle.folder_spec.proofs.Regions.{as_before, as_before_on}
+use Rattle.folder_spec.proofs.Regions.{as_before, as_before_on, as_before_then, as_before_within, seen_as_before}
 use Rattle.folder_spec.proofs.Seen.{may_call_allowed, seen_changed}
 use Rattle.folder_spec.proofs.Tellings.{from_to_more, from_to_on, from_to_same}
 use Rattle.folder_spec.specs.declared.FolderFault.{FolderFault}
@@ -18,7 +18,6 @@ use Rattle.folder_staging.specs.Removal.{IsBare, IsRemoving, IsWithin, Reach, Re
 use Rattle.folder_staging.specs.declared.removal.RemovalFault.{RemovalFault}
 use Rattle.tree_match.proofs.Kept.{behind_none, is_below}
 use Rattle.tree_match.specs.Guard.{old_path}
-use Rattle.vault_write.proofs.Runs.{as_before_then, as_before_within, seen_as_before}
 use Rattle.work_folder.specs.Entries.{journal_path}
 use Rattle.retire_core.proofs.Going.{AreSound, IsWhole, behind_inside, fallen_same}
 use Rattle.retire_core.specs.Clearing.{Clears, ClearsAt, ClearsBeside, ClearsEntry, ClearsOnly, ClearsRest, HasOnlyJournal, IsGone, IsInOrder, Leaves}

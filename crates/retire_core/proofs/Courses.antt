@@ -2,7 +2,7 @@
 use Rattle.std.proofs.Common.{IfOk, OnOk, ◌≡◌, ◌≢◌, ℕ, List, [], Bool, true, false, Option, Some, None, Result, Ok, Err, refl, sym, ap, ◌∙◌, inl, inr, subst, codes, bytes_eq, is_none, is_some, IsTrue}
 use Rattle.std.proofs.lemmas.Slice.Eq.{bytes_eq-Decides}
 use Rattle.folder_spec.proofs.Moments.{went_by_call, went_more, went_nowhere, went_on, went_to}
-use Rattle.folder_spec.proofs.Regions.{as_before, as_before_on}
+use Rattle.folder_spec.proofs.Regions.{as_before, as_before_on, as_before_then, seen_as_before}
 use Rattle.folder_spec.proofs.Tables.{present_is_table}
 use Rattle.folder_spec.proofs.Tellings.{from_to_more, from_to_on, from_to_same}
 use Rattle.folder_spec.specs.declared.FolderFault.{FolderFault}
@@ -21,7 +21,7 @@ use Rattle.move_journal.specs.declared.journal.Phase.TheVariants as phase
 use Rattle.tree_match.proofs.Guards.{ImagesShow, RootsAreAlike}
 use Rattle.tree_match.specs.Alone.{StaysGuarded}
 use Rattle.tree_match.specs.Guard.{AreApart, Guarded, Migration, old_path}
-use Rattle.vault_write.proofs.Runs.{as_before_then, seen_as_before, went_with}
+use Rattle.vault_write.proofs.Runs.{went_with}
 use Rattle.work_folder.specs.Entries.{HasNoForeign, is_foreign, journal_path}
 use Rattle.work_folder.specs.Looking.{TestsEntries}
 use Rattle.retire_core.proofs.Away.{SettlesGuarded, beside_both}

@@ -13,6 +13,7 @@ use Rattle.folder_spec.specs.Seen.{IsSeen, seen, under}
 use Rattle.folder_spec.specs.State.{IsSound, State}
 use Rattle.folder_spec.specs.View.{AgreeIn, View}
 use Rattle.folder_spec.proofs.Moments.{went_to}
+use Rattle.folder_spec.proofs.Regions.{seen_as_before}
 use Rattle.migrate_core.specs.Moved.{MovesTree}
 use Rattle.migrate_core.specs.declared.placing.Done.{Done}
 use Rattle.plain_tree.specs.Names as plain
@@ -21,7 +22,6 @@ use Rattle.vault_read.specs.Opened.{kind_of}
 use Rattle.vault_read.specs.declared.vault.VaultKind.{VaultKind}
 use Rattle.vault_spec.specs.Opens.{Tree, tree}
 use Rattle.vault_spec.specs.Vault.{IsVault, format_of}
-use Rattle.vault_write.proofs.Runs.{seen_as_before}
 use Rattle.vault_cli.specs.DemoTrees.{IsWithin}
 
 pub no_root : (front : plain.Path) (name : List ℕ) → front ++ name ∷ [] ≢ []

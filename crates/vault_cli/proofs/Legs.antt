@@ -11,6 +11,7 @@ use Rattle.folder_spec.specs.State.{IsSound, State}
 use Rattle.folder_spec.specs.View.{FileOf, NoEntry, View}
 use Rattle.folder_spec.proofs.Moments.{went_more, went_on, went_to}
 use Rattle.folder_spec.proofs.Paths.{begins_or_not}
+use Rattle.folder_spec.proofs.Regions.{seen_as_before}
 use Rattle.migrate_core.specs.Moved.{MovesTree, SaysDone, StandsIn}
 use Rattle.migrate_core.specs.Moving.{MovesOnly, OnlyBrings}
 use Rattle.migrate_core.specs.declared.placing.Done.{Done}
@@ -29,7 +30,6 @@ use Rattle.vault_cli.specs.declared.demo.Way.{Way as Ended}
 use Rattle.vault_cli.specs.declared.demo.Way.TheVariants as ways
 use Rattle.vault_cli.specs.declared.demo.Leg.{Leg}
 use Rattle.vault_cli.specs.declared.demo.Leg.TheVariants.{There, Back}
-use Rattle.vault_write.proofs.Runs.{seen_as_before}
 use Rattle.vault_cli.proofs.DemonstratedTrees.{AreAlike, held_alike, held_moved, region_stays}
 use Rattle.vault_cli.proofs.GoodOrder.{new_own, own_folders, own_of_good}
 

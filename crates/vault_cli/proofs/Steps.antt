@@ -17,6 +17,7 @@ use Rattle.folder_spec.specs.Seen.{IsSeen, seen, under}
 use Rattle.folder_spec.specs.State.{IsSound, State}
 use Rattle.folder_spec.specs.View.{Folder, NoEntry, View}
 use Rattle.folder_spec.proofs.Moments.{went_to}
+use Rattle.folder_spec.proofs.Regions.{seen_as_before}
 use Rattle.migrate_core.specs.Moved.{HasMoved, IsTidyWork, MovesTree, TellsItems, opened_in}
 use Rattle.migrate_core.specs.Sides.{AreTold}
 use Rattle.migrate_core.specs.Moving.{MovesOnly, OnlyBrings}
@@ -30,7 +31,6 @@ use Rattle.vault_spec.specs.Plan.{IsPlan, Planned, paths_of}
 use Rattle.vault_spec.specs.Vault.{IsVault, Vault, format_of}
 use Rattle.vault_walk.specs.Surveyed.{IsPlanOf, placed}
 use Rattle.vault_write.specs.Trees.{ShowsVault}
-use Rattle.vault_write.proofs.Runs.{seen_as_before}
 use Rattle.work_folder.specs.Entering.{IsFresh}
 use Rattle.vault_cli.specs.Demo.{IsBare}
 use Rattle.vault_cli.specs.DemoSteps.{CanCarry, CanLead, HasCarried, HoldsWell, IsBeside, Sees, kind_from}

@@ -4,7 +4,7 @@ use Rattle.std.proofs.lemmas.List.Elements.{Contains-append_left, Contains-appen
 use Rattle.std.proofs.Common.{true, false, inr, ◌≡◌, ◌≢◌, ℕ, List, [], ◌∷◌, ◌++◌, Option, Some, None, Result, Ok, Err, OnOk, refl, sym, ap, ◌∙◌, inl, subst, append-nil, append_assoc}
 use Rattle.folder_spec.specs.declared.FolderFault.{FolderFault}
 use Rattle.folder_spec.specs.Path.{Part, Path, below, child, parent}
-use Rattle.folder_spec.specs.State.{State, present, IsSound}
+use Rattle.folder_spec.specs.State.{present, IsSound}
 use Rattle.folder_spec.specs.Edit.{Edit, directory_edit, file_edit, file_view, IsStagedView}
 use Rattle.std.specs.Result.{IsErr}
 use Rattle.folder_spec.specs.Event.{MakeDir, Settle, Rename, Allowed, Told, Steps, Changes, FromTo}
@@ -15,10 +15,11 @@ use Rattle.folder_spec.specs.View.{NoEntry, View}
 use Rattle.folder_spec.proofs.Moments.{went_more, went_to}
 use Rattle.folder_spec.proofs.Paths.{begins_or_not, not_below, parent-child, below-parent, child-not_base}
 use Rattle.folder_spec.proofs.Replaces.{apart-from_below}
-use Rattle.folder_spec.proofs.Seen.{may_call_allowed}
+use Rattle.folder_spec.proofs.Seen.{may_call_allowed, seen_of}
 use Rattle.folder_spec.proofs.Stages.{Staging, new_file_view}
 use Rattle.folder_spec.proofs.Tellings.{from_to_on, from_to_more, from_to_both}
-use Rattle.folder_spec.specs.Written.{IsFrontOfOne, HoldFronts}
+use Rattle.folder_spec.proofs.Written.{fronts_of_more}
+use Rattle.folder_spec.proofs.Regions.{seen_as_before}
 use Rattle.folder_staging.specs.Folders.{IsStagingFolder}
 use Rattle.folder_staging.specs.Pieces.{Stages}
 use Rattle.folder_staging.specs.Places.{IsStage}
@@ -26,11 +27,7 @@ use Rattle.work_folder.specs.Entering.{IsReady}
 use Rattle.work_folder.specs.Entries.{stage_path}
 use Rattle.vault_write.specs.Making.{Making}
 use Rattle.vault_write.specs.Editing.{Edits, HasEdited, HasFinished, AddsEdits, MayCome}
-use Rattle.vault_write.proofs.Runs.{seen_as_before}
 use Rattle.vault_write.proofs.Edited.{StagingAt, staging_edits, renamed_edits, renamed_done, made_edits, made_done, settled_edits, settled_done, some_part}
-
-pub shown : (t : Option Told) (a : Told) → t ≡ Some a → IsSeen t (seen a.state)
-shown t a is = subst (λ o. IsSeen o (seen a.state)) (sym is) refl
 
 -- nothing was changed
 pub adds_nothing : (work : Path) (edits : List Edit) (files : List (List ℕ)) (t : Option Told) (fault : FolderFault) → AddsEdits work edits files t t (Err fault)
@@ -72,11 +69,6 @@ adds_first work one two files more_files t u fault first root m done more before
   tt,
 )
 
-fronts_of_more : (files more : List (List ℕ)) (s0 s : State) → ((file : List ℕ) → Contains files file → Contains more file) → HoldFronts files s0 s → HoldFronts more s0 s
-fronts_of_more files more s0 s within h n new made =
-    let front : IsFrontOfOne files (s.nodes n).now = h n new made in
-    record { file = front.file; among = within front.file front.among; front = front.front }
-
 staging_within : (files more : List (List ℕ)) (at : Path) (a b : Told) → ((file : List ℕ) → Contains files file → Contains more file) → StagingAt files at a b → StagingAt more at a b
 staging_within files more at a b within went =
     went_more (IsStagingFolder files at a.state) (IsStagingFolder more at a.state) (λ s e. StagesAt at a.state s e.call) (λ s e. StagesAt at a.state s e.call) a b
@@ -111,7 +103,7 @@ adds_renamed work x e files t u w result staged free changes root m done more be
     renames = from_to_on (λ a c. IsStagedWhole files (child (stage_path work) x) e.made a c × ShowsFree (seen a.state) e.at) (λ c d. Steps (Rename (child (stage_path work) x) e.at) c d result)
         (Renames files (child (stage_path work) x) e result) t u w (λ a c d k l. (c, k.0, k.1, l))
         (from_to_more (IsStagedWhole files (child (stage_path work) x) e.made) (λ a c. IsStagedWhole files (child (stage_path work) x) e.made a c × ShowsFree (seen a.state) e.at) t u
-        (λ a c is k. (k, free (seen a.state) (shown t a is))) staged) changes
+        (λ a c is k. (k, free (seen a.state) (seen_of t a is))) staged) changes
 
     by_result : (result : Result (Unit {0}) FolderFault) → FromTo (Renames files (child (stage_path work) x) e result) t w → OnOk result (FromTo (HasEdited work root m (done ++ e ∷ []) more) before w)
     by_result (Err fault) l = tt
@@ -129,7 +121,7 @@ adds_made work at files t u result free changes root m done more before within h
   where
     steps : (result : Result (Unit {0}) FolderFault) → Changes (MakeDir at) t u result → FromTo (λ b c. ShowsFree (seen b.state) at × Steps (MakeDir at) b c result) t u
     steps result changes = from_to_more (λ b c. Steps (MakeDir at) b c result) (λ b c. ShowsFree (seen b.state) at × Steps (MakeDir at) b c result) t u
-        (λ b c is k. (free (seen b.state) (shown t b is), k)) changes
+        (λ b c is k. (free (seen b.state) (seen_of t b is), k)) changes
 
     by_result : (result : Result (Unit {0}) FolderFault) → Changes (MakeDir at) t u result → OnOk result (FromTo (HasEdited work root m (done ++ directory_edit at ∷ []) more) before u)
     by_result (Err fault) l = tt

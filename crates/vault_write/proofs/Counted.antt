@@ -55,28 +55,16 @@ pub place_is_directory_fault : (fault : PutFault) → IsPlaceFault fault → IsD
 place_is_directory_fault (puts.Find fault) place = place
 place_is_directory_fault (puts.NotAllowed path) place = tt
 place_is_directory_fault (puts.Taken at) place = tt
-place_is_directory_fault (puts.Damaged at fault) place = absurd place
-place_is_directory_fault (puts.Limit limit) place = absurd place
-place_is_directory_fault puts.ZeroRandom place = absurd place
-place_is_directory_fault puts.Source place = absurd place
-place_is_directory_fault puts.Random place = absurd place
 place_is_directory_fault puts.Failed place = tt
 place_is_directory_fault puts.NoMemory place = tt
+place_is_directory_fault fault place = absurd place
 
 pub is_directory_fault : (fault : PutFault) (result : Result (Unit {0}) PutFault) → IsDirectoryFault fault → result ≡ Err fault → IfErr result IsDirectoryFault
 is_directory_fault fault result directory is = subst (λ r. IfErr r IsDirectoryFault) (sym is) directory
 
 pub place_is_file_fault : (fault : PutFault) → IsPlaceFault fault → IsFileFault fault
 place_is_file_fault (puts.Find fault) place = place
-place_is_file_fault (puts.NotAllowed path) place = tt
-place_is_file_fault (puts.Taken at) place = tt
-place_is_file_fault (puts.Damaged at fault) place = tt
-place_is_file_fault (puts.Limit limit) place = tt
-place_is_file_fault puts.ZeroRandom place = tt
-place_is_file_fault puts.Source place = tt
-place_is_file_fault puts.Random place = tt
-place_is_file_fault puts.Failed place = tt
-place_is_file_fault puts.NoMemory place = tt
+place_is_file_fault fault place = tt
 
 pub directory_is_file_fault : (vault : OpenedVault) (path : plain.Path) (told : Option Told) (fault : PutFault) → IsAtDirectory vault path told fault → IsFileFault fault
 directory_is_file_fault vault path told fault (inl failed) = subst IsFileFault (sym failed) tt
@@ -86,15 +74,7 @@ directory_is_file_fault vault path told fault (inr (inr found)) = subst IsFileFa
 -- writing a content looks for no path
 pub stop_is_file_fault : (keys : Keys) (w : Writing) (fault : PutFault) → StopsBy keys w fault → IsFileFault fault
 stop_is_file_fault keys w (puts.Find fault) stops = absurd stops
-stop_is_file_fault keys w (puts.NotAllowed path) stops = tt
-stop_is_file_fault keys w (puts.Taken at) stops = tt
-stop_is_file_fault keys w (puts.Damaged at fault) stops = tt
-stop_is_file_fault keys w (puts.Limit limit) stops = tt
-stop_is_file_fault keys w puts.ZeroRandom stops = tt
-stop_is_file_fault keys w puts.Source stops = tt
-stop_is_file_fault keys w puts.Random stops = tt
-stop_is_file_fault keys w puts.Failed stops = tt
-stop_is_file_fault keys w puts.NoMemory stops = tt
+stop_is_file_fault keys w fault stops = tt
 
 pub placing_is_file_fault : (keys : Keys) (w : Writing) (Does : Result (Unit {0}) FolderFault → Type 0) (Only : Type 0) (result : Result (Unit {0}) PutFault) → PlacesBy keys w Does Only result → IfErr result IsFileFault
 placing_is_file_fault keys w Does Only (Ok value) ends = tt

@@ -21,6 +21,7 @@ use Rattle.cryptomator_conf.specs.declared.keys.CmKeys.{CmKeys}
 use Rattle.folder_spec.specs.declared.FolderFault.{FolderFault}
 use Rattle.folder_spec.specs.Path.{Path, parent}
 use Rattle.folder_spec.proofs.Paths.{child-not_base}
+use Rattle.folder_spec.proofs.Seen.{seen_of}
 use Rattle.folder_spec.specs.State.{IsSound}
 use Rattle.folder_spec.specs.Event.{Told, FromTo}
 use Rattle.folder_spec.specs.Seen.{seen, IsSeen, under}
@@ -46,7 +47,6 @@ use Rattle.vault_write.specs.Placing.{MayMake}
 use Rattle.vault_write.specs.Refusing.{Answers, TakesRoot}
 use Rattle.vault_write.specs.Showing.{EditsShowTrees, SettledEditsShowTrees}
 use Rattle.vault_write.specs.Slots.{IsSlot, IsTakenAt, IsShelfTaken, IsHomeTaken, DrewAtMost, PlacesOne, wants_text, placing}
-use Rattle.vault_write.proofs.Adding.{shown}
 use Rattle.vault_write.proofs.Begun.{FoldersStand, has_begun}
 use Rattle.vault_write.proofs.CmBegun.{cm_begun, cm_places, shelf_above}
 use Rattle.vault_write.proofs.Found.{Enters, taken_there}
@@ -99,8 +99,8 @@ go_may enters folders root (Gocryptfs keys) is laws work front name named t may 
 }
   where
     begun_at : (a : Told) → t ≡ Some a → IsBegun (placing (record { root = root; vault = Gocryptfs keys }) work front name NewDirectory) key (go_making wants side at full key) a
-    begun_at a told = go_begun enters keys laws root work front name key named is_key sixteen a at side full wants (sound a told) (slot (seen a.state) (shown t a told))
-        (side_is (seen a.state) (shown t a told)).0 (side_is (seen a.state) (shown t a told)).1 may.apart may.beside
+    begun_at a told = go_begun enters keys laws root work front name key named is_key sixteen a at side full wants (sound a told) (slot (seen a.state) (seen_of t a told))
+        (side_is (seen a.state) (seen_of t a told)).0 (side_is (seen a.state) (seen_of t a told)).1 may.apart may.beside
 go_may enters folders root (Cryptomator cm) is laws work front name named t may sound at side full slot wants key side_is is_key sixteen = let clash : kind.Cryptomator ≡ kind.Gocryptfs = is in cc
 
 pub drew_key : (s s' : Stream) (key : List ℕ) → DrawsSome s s' (Ok key) → directory_key key ≡ Some key
@@ -137,26 +137,12 @@ go_undrawn vault is work front name s s' t u fault result h same e =
     few : (fault : PutFault) → SomeDrew h.bytes h.drawn (Err fault) → length h.drawn ≤ 16
     few puts.ZeroRandom k = let size : length h.drawn ≡ 16 = ap length k.0 ∙ h.sizes.size in omega (arith, size)
     few puts.Random k = let size : length h.drawn ≡ 0 = ap length k in omega (arith, size)
-    few puts.Failed k = absurd k
-    few puts.NoMemory k = absurd k
-    few (puts.Find f) k = absurd k
-    few (puts.NotAllowed path) k = absurd k
-    few (puts.Taken at) k = absurd k
-    few (puts.Damaged at f) k = absurd k
-    few (puts.Limit limit) k = absurd k
-    few puts.Source k = absurd k
+    few fault k = absurd k
 
     answer : (fault : PutFault) (v : View) → SomeDrew h.bytes h.drawn (Err fault) → Answers (placing vault work front name NewDirectory) h.drawn Whole v (Err fault)
     answer puts.ZeroRandom v k = (0, record { refused = refuses_zeros vault.vault is; zeros = ap (take 16) (k.0 ∙ zeros_are 16 h.bytes h.sizes.size k.1) }, ap length k.0 ∙ h.sizes.size)
     answer puts.Random v k = tt
-    answer puts.Failed v k = absurd k
-    answer puts.NoMemory v k = absurd k
-    answer (puts.Find f) v k = absurd k
-    answer (puts.NotAllowed path) v k = absurd k
-    answer (puts.Taken at) v k = absurd k
-    answer (puts.Damaged at f) v k = absurd k
-    answer (puts.Limit limit) v k = absurd k
-    answer puts.Source v k = absurd k
+    answer fault v k = absurd k
 
 -- ---- Cryptomator
 
@@ -173,13 +159,13 @@ cm_may enters folders root (Cryptomator cm) is laws work front name named t may 
 }
   where
     begun_at : (a : Told) → t ≡ Some a → IsBegun (placing (record { root = root; vault = Cryptomator cm }) work front name NewDirectory) drawn (cm_making wants shelf home at full id) a
-    begun_at a told = cm_begun enters cm root work front name id a at side full shelf home wants (sound a told) (slot (seen a.state) (shown t a told)) home_is shelf_is
-        (home_free (seen a.state) (shown t a told)) (shelf_by (seen a.state) (shown t a told)) may.apart may.beside laws named drawn id_is is_id sixteen
+    begun_at a told = cm_begun enters cm root work front name id a at side full shelf home wants (sound a told) (slot (seen a.state) (seen_of t a told)) home_is shelf_is
+        (home_free (seen a.state) (seen_of t a told)) (shelf_by (seen a.state) (seen_of t a told)) may.apart may.beside laws named drawn id_is is_id sixteen
 
     places_at : (o : Option Told) → t ≡ o → (v : View) → IsSeen o v → CmPlaces v work wants shelf home at
     places_at (Some a) told v s = subst (λ z. CmPlaces z work wants shelf home at) (sym s)
-        (cm_places enters cm root work front name id a at side full shelf home wants (sound a told) (slot (seen a.state) (shown t a told)) home_is shelf_is
-        (home_free (seen a.state) (shown t a told)) (shelf_by (seen a.state) (shown t a told)) may.apart may.beside folders (may.ready (seen a.state) (shown t a told)))
+        (cm_places enters cm root work front name id a at side full shelf home wants (sound a told) (slot (seen a.state) (seen_of t a told)) home_is shelf_is
+        (home_free (seen a.state) (seen_of t a told)) (shelf_by (seen a.state) (seen_of t a told)) may.apart may.beside folders (may.ready (seen a.state) (seen_of t a told)))
     places_at None told v s = absurd s
 cm_may enters folders root (Gocryptfs keys) is laws work front name named t may sound at side full slot shelf home wants id drawn home_is shelf_is home_free shelf_by id_is is_id sixteen = let clash : kind.Gocryptfs ≡ kind.Cryptomator = is in cc
 

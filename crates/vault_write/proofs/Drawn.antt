@@ -67,14 +67,7 @@ module _ (law : DrawsCompose) (s s1 : Stream) (master : List ℕ) (has_master : 
             → GoDrew {T = GoParts} (record { master = master; salt = salt; nonce = h.bytes }) (replicate 16 0) (master ++ salt ++ h.drawn) (Err fault)
         by_fault puts.ZeroRandom k = inl (ap (λ x. master ++ salt ++ x) k.0, k.1)
         by_fault puts.Random k = inr (inr (inl (ap (λ x. master ++ salt ++ x) k ∙ append-nil (master ++ salt))))
-        by_fault puts.Failed k = absurd k
-        by_fault puts.NoMemory k = absurd k
-        by_fault (puts.Find f) k = absurd k
-        by_fault (puts.NotAllowed path) k = absurd k
-        by_fault (puts.Taken at) k = absurd k
-        by_fault (puts.Damaged at f) k = absurd k
-        by_fault (puts.Limit limit) k = absurd k
-        by_fault puts.Source k = absurd k
+        by_fault fault k = absurd k
 
     module _ (s3 : Stream) (nonce : List ℕ) (three : DrawsSome s2 s3 (Ok nonce)) where
       most : Draws s s3 (master ++ salt ++ three.drawn)
@@ -98,14 +91,7 @@ module _ (law : DrawsCompose) (s s1 : Stream) (master : List ℕ) (has_master : 
               → GoDrew {T = GoParts} (record { master = master; salt = salt; nonce = three.bytes }) (h.bytes) (master ++ salt ++ three.drawn ++ h.drawn) (Err fault)
           by_fault puts.ZeroRandom k = inr (ap (λ x. x ++ h.drawn) same ∙ ap (λ x. master ++ salt ++ three.bytes ++ x) k.0, three.drew.2, k.1)
           by_fault puts.Random k = inr (inr (inr (ap (λ x. x ++ h.drawn) same ∙ ap (λ x. master ++ salt ++ three.bytes ++ x) k ∙ append-nil (master ++ salt ++ three.bytes), three.drew.2)))
-          by_fault puts.Failed k = absurd k
-          by_fault puts.NoMemory k = absurd k
-          by_fault (puts.Find f) k = absurd k
-          by_fault (puts.NotAllowed path) k = absurd k
-          by_fault (puts.Taken at) k = absurd k
-          by_fault (puts.Damaged at f) k = absurd k
-          by_fault (puts.Limit limit) k = absurd k
-          by_fault puts.Source k = absurd k
+          by_fault fault k = absurd k
 
       pub go_all : (s' : Stream) (key : List ℕ) → DrawsSome s3 s' (Ok key) → DrawsGo s s' (Ok (record { draw = record { master = master; salt = salt; nonce = nonce }; key = key }))
       go_all s' key h = record {

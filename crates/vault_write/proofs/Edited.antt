@@ -13,14 +13,14 @@ use Rattle.folder_spec.specs.Region.{StagesAt, apart_from, at_or_below}
 use Rattle.folder_spec.specs.Seen.{seen, put_found, moved_view, moved_found, ShowsFree}
 use Rattle.folder_spec.specs.View.{NoEntry, Folder, View, found}
 use Rattle.folder_spec.proofs.Tables.{present_is_table}
-use Rattle.folder_spec.specs.Written.{HoldFronts}
 use Rattle.folder_spec.proofs.Paths.{begins_or_not, below-append, below-parent, not_below, one_or_not, path_eq-same}
 use Rattle.folder_spec.proofs.Moments.{went_on, went_nowhere, went_by_call, went_to}
-use Rattle.folder_spec.proofs.Regions.{as_before, as_before_on}
+use Rattle.folder_spec.proofs.Regions.{as_before, as_before_on, as_before_then, as_before_within, seen_as_before}
 use Rattle.folder_spec.proofs.Replaces.{apart-from_below}
 use Rattle.folder_spec.proofs.Edits.{publishes_nothing, publishes_more, publishes_joined, published_joined, published, directory_published, nothing_below_file, settle_publishes, settled, at_edit, off_edit}
 use Rattle.folder_spec.proofs.Seen.{free_seen, seen_changed}
 use Rattle.folder_spec.proofs.Sound.{changed_sound}
+use Rattle.folder_spec.proofs.Written.{fronts_of_none, fronts_then}
 use Rattle.folder_staging.specs.Folders.{IsStagingFolder}
 use Rattle.work_folder.specs.Entries.{stage_path}
 use Rattle.folder_staging.specs.Removal.{IsBare}
@@ -28,7 +28,7 @@ use Rattle.work_folder.specs.Entering.{IsReady, below_stage}
 use Rattle.vault_write.specs.Making.{Making, is_unstaged, is_apart, MayCome, StagesOrPlaces}
 use Rattle.vault_write.specs.Editing.{IsEditing, Edits, HasEdited, HasFinished}
 use Rattle.vault_write.proofs.Stages.{in_stage, unstaged_below, unstaged_apart, apart_unstaged, apart_root, at_root, root_unstaged, work_beside, stage_beside, staged_beside, work_unstaged, stage_unstaged}
-use Rattle.vault_write.proofs.Runs.{went_with, works_in_stage, as_before_then, as_before_within, fronts_then, seen_as_before}
+use Rattle.vault_write.proofs.Runs.{went_with, works_in_stage}
 
 -- what is staged at a place, all else as it was
 abbrev pub StagingAt : List (List ℕ) → Path → Told → Told → Type 0
@@ -52,12 +52,9 @@ pub some_part : (y : Part) (rest : Path) → 1 ≤ length (y ∷ rest)
 some_part y rest = let size : length (y ∷ rest) ≡ suc (length rest) = refl in omega (arith, size)
 
 -- the stage is bare where nothing is seen in it
-bare_of : (v : View) (work : Path) → ((y : Part) (rest : Path) → v (stage_path work ++ y ∷ rest) ≡ NoEntry) → IsBare (below_stage work) v
+pub bare_of : (v : View) (work : Path) → ((y : Part) (rest : Path) → v (stage_path work ++ y ∷ rest) ≡ NoEntry) → IsBare (below_stage work) v
 bare_of v work none [] more = absurd (omega (arith, more))
 bare_of v work none (y ∷ rest) more = none y rest
-
-no_files : (files : List (List ℕ)) (s : State) → HoldFronts files s s
-no_files files s n new made = absurd (omega (arith, new, made))
 
 module _ (work root : Path) (m : Making) where
   so_far : (done more : List Edit) (a b : Told) → HasEdited work root m done more a b → IsEditing work root m a.state b.state
@@ -71,7 +68,7 @@ module _ (work root : Path) (m : Making) where
     went = went_nowhere (IsEditing work root m a.state) (λ s e. StagesOrPlaces work m s e.call) a (record {
       publishes = publishes_nothing (is_unstaged work) m.edits a.state a.state sound (as_before (is_unstaged work) a.state);
       others = as_before (is_apart work root) a.state;
-      fronts = no_files m.files a.state;
+      fronts = fronts_of_none m.files a.state;
       sees = record { done = []; more = m.edits; is = refl; views = λ q unstaged. refl };
     });
     published = record {

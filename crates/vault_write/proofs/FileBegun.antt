@@ -11,6 +11,7 @@ use Rattle.folder_spec.specs.Edit.{Edit, edit_under, edits_under, file_edit, vie
 use Rattle.folder_spec.specs.Event.{Told}
 use Rattle.folder_spec.specs.Seen.{seen, IsSeen, under}
 use Rattle.folder_spec.specs.View.{Found, NoEntry, Folder, FileOf, Special, View}
+use Rattle.folder_spec.proofs.Seen.{seen_of}
 use Rattle.gocrypt_conf.specs.declared.keys.GoKeys.{GoKeys}
 use Rattle.plain_tree.specs.Names as plain
 use Rattle.plain_tree.specs.Names.{is_name}
@@ -228,9 +229,6 @@ IsFiledIn vault work front name content drawn firsts at inside full a =
 abbrev pub SlotAt : Path → Vault → plain.Path → List ℕ → Option Told → Path → Path → Option (List ℕ) → Type 0
 SlotAt root vault front name t at side full = (v : View) → IsSeen t v → IsSlot (record { root = root; vault = vault }) (format_of vault) front name (under root v) at side full
 
-shown_at : (t : Option Told) (a : Told) → t ≡ Some a → IsSeen t (seen a.state)
-shown_at t a is = subst (λ o. IsSeen o (seen a.state)) (sym is) refl
-
 no_go : kind.Cryptomator ≡ kind.Gocryptfs → ⊥
 no_go is = cc
 
@@ -242,15 +240,15 @@ pub filed_in_go : Enters → (root : Path) (vault : Vault) → kind_of vault ≡
     → ((v : View) → IsSeen t v → (wants ≡ wants_text (v side) full) × (taken_unless side (v side) full ≡ None))
     → (content drawn : List ℕ) (a : Told) → t ≡ Some a → IsFiledIn (record { root = root; vault = vault }) work front name content drawn (side_edits wants side full) at None full a
 filed_in_go enters root (Gocryptfs keys) is laws work front name named t sound may at side full wants slot side_is content drawn a told =
-    go_filed enters keys laws root work front name content drawn named a (sound a told) at side full wants (slot (seen a.state) (shown_at t a told)) (side_is (seen a.state) (shown_at t a told)).0
-    (side_is (seen a.state) (shown_at t a told)).1 may.apart may.beside
+    go_filed enters keys laws root work front name content drawn named a (sound a told) at side full wants (slot (seen a.state) (seen_of t a told)) (side_is (seen a.state) (seen_of t a told)).0
+    (side_is (seen a.state) (seen_of t a told)).1 may.apart may.beside
 filed_in_go enters root (Cryptomator cm) is laws work front name named t sound may at side full wants slot side_is content drawn a told = absurd (no_go is)
 
 pub filed_in_cm : Enters → (root : Path) (vault : Vault) → kind_of vault ≡ kind.Cryptomator → KeepsVaults (format_of vault) → (work : Path) (front : plain.Path) (name : List ℕ) → IsTrue (is_name name) → (t : Option Told)
     → ((a : Told) → t ≡ Some a → IsSound a.state) → MayMake t work root → (at side : Path) (full : Option (List ℕ)) → SlotAt root vault front name t at side full
     → (content drawn : List ℕ) (a : Told) → t ≡ Some a → IsFiledIn (record { root = root; vault = vault }) work front name content drawn [] at full full a
 filed_in_cm enters root (Cryptomator cm) is laws work front name named t sound may at side full slot content drawn a told =
-    cm_filed enters cm laws root work front name content drawn named a (sound a told) at side full (slot (seen a.state) (shown_at t a told)) may.apart may.beside
+    cm_filed enters cm laws root work front name content drawn named a (sound a told) at side full (slot (seen a.state) (seen_of t a told)) may.apart may.beside
 filed_in_cm enters root (Gocryptfs keys) is laws work front name named t sound may at side full slot content drawn a told = absurd (no_cm is)
 
 pub side_refused : (root : Path) (vault : Vault) → kind_of vault ≡ kind.Gocryptfs → (front : plain.Path) (name content : List ℕ) (t : Option Told) (at side : Path) (full : Option (List ℕ)) (fault : PutFault)

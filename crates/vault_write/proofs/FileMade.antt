@@ -20,6 +20,7 @@ use Rattle.folder_spec.specs.View.{Found, View}
 use Rattle.folder_spec.proofs.Moments.{went_more, went_to}
 use Rattle.folder_spec.proofs.Paths.{child-injective, child-last, child-not_base}
 use Rattle.folder_spec.proofs.Tellings.{from_to_more}
+use Rattle.content_writing.proofs.Standing.{IsStill, ready_now, still_same}
 use Rattle.plain_tree.specs.Names as plain
 use Rattle.plain_tree.specs.Names.{is_name}
 use Rattle.vault_read.specs.Laws.{KeepsVaults}
@@ -50,9 +51,9 @@ use Rattle.vault_write.proofs.Adding.{adds_none}
 use Rattle.vault_write.proofs.Begun.{FoldersStand, all_are, all_below}
 use Rattle.vault_write.proofs.Edited.{begun}
 use Rattle.vault_write.proofs.FileBegun.{IsFiled, SlotAt, file_making, file_places, filed_in_cm, filed_in_go, is_begun, opens_whole}
-use Rattle.vault_write.proofs.Filing.{IsStill, edits_still, placed_still, ready_still, still_same, stops_folder, takes_none, untaken}
+use Rattle.vault_write.proofs.Filing.{edits_still, placed_still, stops_folder, takes_none, untaken}
 use Rattle.vault_write.proofs.Found.{Enters}
-use Rattle.vault_write.proofs.ItemMade.{IsBegun, IsSplit, RootsShow, at_itself, one_failed, one_ok, one_refused, split}
+use Rattle.vault_write.proofs.ItemMade.{IsBegun, IsSplit, RootsShow, at_itself, one_failed, one_ok, one_refused, split, ends_stopped}
 use Rattle.vault_write.proofs.Placed.{doing_first, entry_may, none_among}
 use Rattle.vault_write.proofs.Stages.{root_unstaged}
 
@@ -84,18 +85,6 @@ pub first_shown : RootsShow → (p : Placing) → below p.work p.vault.root ≡ 
 first_shown roots p apart beside a b first done is views =
     fun_ext (λ rest. views (p.vault.root ++ rest) (root_unstaged p.work p.vault.root (p.vault.root ++ rest) apart beside (at_itself p.vault.root rest)))
     ∙ ap (λ es. under p.vault.root (view_after (seen a.state) es)) is ∙ roots p.vault.root (seen a.state) first
-
-pub ends_stopped : (p : Placing) (fault : PutFault) (u v : View) → OpensAs (format p) u v → EndsAs p u v (Err fault)
-ends_stopped p puts.Failed u v same = λ orderly. inl same
-ends_stopped p puts.NoMemory u v same = λ orderly. inl same
-ends_stopped p (puts.Find fault) u v same = same
-ends_stopped p (puts.NotAllowed at) u v same = same
-ends_stopped p (puts.Taken at) u v same = same
-ends_stopped p (puts.Damaged at fault) u v same = same
-ends_stopped p (puts.Limit limit) u v same = same
-ends_stopped p puts.ZeroRandom u v same = same
-ends_stopped p puts.Source u v same = same
-ends_stopped p puts.Random u v same = same
 
 module _ (keeps : EditsBeforeTheLastKeepTrees) (roots : RootsShow) (p : Placing) (opens : Opened) (drawn : List ℕ) (firsts : List Edit) (e : Edit) (some_files : List (List ℕ)) where
   module _ (ending : Ending) (a b : Told) (filed : IsFiled p opens drawn firsts e some_files a) where
@@ -322,7 +311,7 @@ module _ (shows : EditsShowTrees) (keeps : EditsBeforeTheLastKeepTrees) (settles
         still = edits_still reads work vault.root (stopped_making (side_edits wants side full) (full_texts full ++ encrypt (format_of vault.vault).content [] [] ∷ [])) (side_edits wants side full) [] t u elsewhere side_done
 
         pub go_ready : IsReady reads t f → IsReady reads u f
-        go_ready ready = ready_still reads t u still f ready
+        go_ready ready = ready_now reads t u still f ready
 
         pub go_placed : (f' : Found → Option Coming) (stream stream' : Option ByteStream) (s : Option Told) (result : Result (Unit {0}) PutFault)
             → PlacesEntry (format_of vault.vault).content work at None (still_coming reads u f) (still_coming reads u f') stream stream' u s result

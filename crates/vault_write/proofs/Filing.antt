@@ -5,7 +5,7 @@ use Rattle.std.proofs.Common.{arith, true, false, not, zero, suc, ◌≡◌, ◌
 use Rattle.std.proofs.lemmas.List.Elements.{Contains-append_left, Contains-append_right}
 use Rattle.chunk_files.specs.Encrypt.{encrypt}
 use Rattle.chunk_files.specs.Keys.{Keys}
-use Rattle.port_model.specs.Draws.{ByteStream, Draws}
+use Rattle.port_model.specs.Draws.{ByteStream}
 use Rattle.folder_spec.specs.declared.FolderFault.{FolderFault}
 use Rattle.folder_spec.specs.declared.FolderFault.TheVariants as folder
 use Rattle.folder_spec.specs.Path.{Part, Path, below, child}
@@ -22,14 +22,17 @@ use Rattle.folder_spec.proofs.Moments.{went_to}
 use Rattle.folder_spec.proofs.Replaces.{apart-from_below}
 use Rattle.folder_spec.proofs.Stages.{Staging}
 use Rattle.folder_spec.proofs.Tellings.{from_to_more}
+use Rattle.folder_spec.proofs.Regions.{seen_as_before}
+use Rattle.port_model.proofs.Draws.{Draws-nil}
 use Rattle.folder_staging.specs.Folders.{BeginsFolder, IsStagingFolder, StagesFolder, HasStaged, IsStagedFolder}
 use Rattle.folder_staging.specs.Pieces.{Stages}
 use Rattle.work_folder.specs.Entries.{stage_path}
 use Rattle.vault_spec.specs.Cryptomator.{content_file, full_file}
-use Rattle.content_writing.specs.Content.{Coming, Whole, Gave, IsReady, IsTold, ends, still_coming}
+use Rattle.content_writing.specs.Content.{Coming, Whole, Gave, IsReady, ends, still_coming}
 use Rattle.content_writing.specs.Faults.{of_folder}
 use Rattle.content_writing.specs.Writing.{DrewNoZeros, EndsBy, ReadsApart, WritesContent}
 use Rattle.content_writing.proofs.Sixteens.{drawn_so_far}
+use Rattle.content_writing.proofs.Standing.{IsStill, ready_now, still_same}
 use Rattle.content_writing.specs.declared.fault.PutFault.{PutFault}
 use Rattle.content_writing.specs.declared.fault.PutFault.TheVariants as puts
 use Rattle.vault_write.specs.Calls.{ReadsElsewhere, TakesContent, Writing}
@@ -39,7 +42,6 @@ use Rattle.vault_write.specs.Making.{Making, is_inside, is_unstaged}
 use Rattle.vault_write.proofs.Adding.{adds_nothing, adds_renamed, adds_staging, file_staged, file_staging, finishes, IsStagedWhole, renames_allowed, staged_below}
 use Rattle.vault_write.proofs.Directories.{Are, AreSeen, Gain, gains, name_place, whole_staged}
 use Rattle.vault_write.proofs.Edited.{StagingAt}
-use Rattle.vault_write.proofs.Runs.{seen_as_before}
 use Rattle.vault_write.proofs.Stages.{at_root}
 
 -- ---- nothing was drawn or given
@@ -51,10 +53,6 @@ or_whole (Some c) = c
 -- a content of which nothing was taken
 abbrev pub untaken : Option Coming → Writing
 untaken coming = record { drawn = []; content = (or_whole coming).bytes; given = []; ending = (or_whole coming).ending }
-
-none_drawn : (stream : Option ByteStream) → Draws stream stream []
-none_drawn None = tt
-none_drawn (Some bytes) = λ place. refl
 
 none_given : (coming : Option Coming) → Gave [] coming coming
 none_given None = tt
@@ -69,7 +67,7 @@ told_so (Some d) c is = let same : d ≡ c = cc in sym same
 
 pub takes_none : (keys : Keys) (coming : Option Coming) (stream : Option ByteStream) (fault : PutFault) → TakesContent keys (untaken coming) coming coming stream stream (Err fault)
 takes_none keys coming stream fault = record {
-  were_drawn = none_drawn stream;
+  were_drawn = Draws-nil stream;
   accepted = λ other. no_zeros_in_none keys;
   told = told_so coming;
   gave = none_given coming;
@@ -93,25 +91,6 @@ stops_folder keys w folder.Refused = tt
 stops_folder keys w folder.NoMemory = tt
 
 -- ---- what a content reads is as it was
-
-abbrev pub IsStill : Option Path → Option Told → Option Told → Type 0
-IsStill None t u = Unit {0}
-IsStill (Some q) t u = FromTo (λ a b. seen b.state q ≡ seen a.state q) t u
-
-pub still_same : (reads : Option Path) (t u : Option Told) → IsStill reads t u → (f : Found → Option Coming) → still_coming reads u f ≡ still_coming reads t f
-still_same None t u still f = refl
-still_same (Some q) None None still f = refl
-still_same (Some q) (Some a) (Some b) still f = ap f still
-still_same (Some q) None (Some b) still f = absurd still
-still_same (Some q) (Some a) None still f = absurd still
-
-pub ready_still : (reads : Option Path) (t u : Option Told) → IsStill reads t u → (f : Found → Option Coming) → IsReady reads t f → IsReady reads u f
-ready_still None t u still f ready = tt
-ready_still (Some q) None None still f ready = λ v is. absurd is
-ready_still (Some q) (Some a) (Some b) still f ready =
-    λ v is. subst (λ x. IsTold (f x)) (sym still ∙ sym (ap (λ (w : View). w q) is)) (ready (seen a.state) refl)
-ready_still (Some q) None (Some b) still f ready = absurd still
-ready_still (Some q) (Some a) None still f ready = absurd still
 
 -- while something is staged elsewhere
 pub staging_still : (reads : Option Path) (staged : Path) (files : List (List ℕ)) (t u : Option Told) → ((a : Told) → t ≡ Some a → IsSound a.state) → ReadsApart reads staged → StagesFolder files staged t u → IsStill reads t u
@@ -370,7 +349,7 @@ placed_still keys work at inside coming coming' left left' stream stream' t u re
 
 pub still_ready : (reads : Option Path) (staged : Path) (f : Found → Option Coming) (t s : Option Told) → ((a : Told) → t ≡ Some a → IsSound a.state) → ReadsApart reads staged → StagesFolder [] staged t s
     → IsReady reads t f → IsReady reads s f
-still_ready reads staged f t s sound apart stages ready = ready_still reads t s (staging_still reads staged [] t s sound apart stages) f ready
+still_ready reads staged f t s sound apart stages ready = ready_now reads t s (staging_still reads staged [] t s sound apart stages) f ready
 
 -- an exit by a fault
 pub at_fault : (P : Result (Unit {0}) PutFault → Type 0) (result : Result (Unit {0}) PutFault) (fault : PutFault) → IsErrAnd result (λ y. y ≡ fault) → P (Err fault) → P result

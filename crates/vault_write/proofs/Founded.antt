@@ -1,52 +1,35 @@
 -- A vault is staged whole below the stage of a work folder, and put in its place.
-use Rattle.std.proofs.Common.{◌≡◌, ℕ, ◌<◌, Bool, ◌&&◌, List, [], ◌∷◌, ◌++◌, Option, Some, None, Result, Ok, Err, OnOk, refl, sym, ap, ◌∙◌, subst, inl, inr, arith, append-nil, append_assoc, IsTrue, codes}
+use Rattle.std.proofs.Common.{◌≡◌, ℕ, Bool, ◌&&◌, List, [], ◌∷◌, ◌++◌, Option, Some, None, Result, Ok, Err, OnOk, refl, sym, ap, ◌∙◌, subst, inl, inr, arith, append-nil, append_assoc, IsTrue, codes}
 use Rattle.folder_spec.specs.declared.FolderFault.{FolderFault}
-use Rattle.folder_spec.specs.declared.Spot.{Spot}
-use Rattle.folder_spec.specs.declared.Spot.TheVariants.{Nothing, Directory, FileNode, Odd}
+use Rattle.folder_spec.specs.declared.Spot.TheVariants.{Nothing, Directory}
 use Rattle.folder_spec.specs.Path.{Part, Path, below, parent, child}
-use Rattle.folder_spec.specs.State.{Table, State, present, IsTableOf, IsSound}
+use Rattle.folder_spec.specs.State.{State, present, IsSound}
 use Rattle.folder_spec.specs.Edit.{IsStagedView, HasSettledIn}
 use Rattle.folder_spec.specs.Event.{Call, MakeDir, Create, Append, Sync, Settle, Rename, RemoveFile, RemoveDir, IsFree, Told, FromTo}
 use Rattle.folder_spec.specs.Moments.{Went}
-use Rattle.folder_spec.specs.Region.{AlikeIn, IsAsBefore, WorksAt, StagesAt, StagesOrPuts, apart_from, apart_from_both, at_or_below}
+use Rattle.folder_spec.specs.Region.{IsAsBefore, StagesAt, StagesOrPuts, apart_from, apart_from_both}
 use Rattle.folder_spec.specs.Seen.{seen, IsSeen, ShowsFree}
-use Rattle.folder_spec.specs.View.{NoEntry, Folder, FileOf, View, found}
+use Rattle.folder_spec.specs.View.{NoEntry, Folder, View, found}
 use Rattle.folder_spec.proofs.Paths.{begins_or_not, not_below, below-parent, parent-child, child-not_base}
 use Rattle.folder_spec.proofs.Tables.{present_is_table}
 use Rattle.folder_spec.proofs.Replaces.{apart-below, apart-from_below}
-use Rattle.folder_spec.proofs.Regions.{as_before}
+use Rattle.folder_spec.proofs.Regions.{as_before, as_before_within, seen_as_before}
 use Rattle.folder_spec.proofs.Moments.{went_nowhere, went_more, went_to}
 use Rattle.folder_spec.proofs.Tellings.{from_to_more, from_to_both}
 use Rattle.folder_spec.proofs.Edits.{nothing_below_file, publishes_nothing, publishes_in_part, settled_in_part}
 use Rattle.folder_spec.proofs.Seen.{free_seen, seen_of}
 use Rattle.folder_spec.proofs.Stages.{at_itself}
+use Rattle.folder_spec.proofs.Written.{fronts_of_none}
 use Rattle.folder_staging.specs.Folders.{IsStagingFolder, StagesFolder, HasStaged, MayPublishFolder, IsPublishingFolder, PublishingFolder, HasPlacedFolder, PlacesFolder}
 use Rattle.work_folder.specs.Entries.{stage_path}
 use Rattle.work_folder.specs.Entering.{IsReady}
-use Rattle.vault_write.specs.Making.{Making, is_staged, is_unstaged, is_apart, StagesOrPlaces}
+use Rattle.vault_write.specs.Making.{is_unstaged, is_apart, StagesOrPlaces}
 use Rattle.vault_write.specs.Founding.{MayFound, texts, vault_edit, founding, IsFounding, Founds, StagesWhole}
-use Rattle.vault_write.proofs.Stages.{in_stage, unstaged_apart, apart_unstaged, apart_root, at_root, staged_beside, work_beside, stage_beside, work_unstaged, stage_unstaged}
+use Rattle.vault_write.proofs.Stages.{in_stage, unstaged_apart, apart_unstaged, apart_root, staged_beside, work_beside, stage_beside, work_unstaged, stage_unstaged}
+use Rattle.vault_write.proofs.Runs.{works_in_stage}
 
 both_true : (a b : Bool) → IsTrue a → IsTrue b → IsTrue (a && b)
 both_true a b one two = rw (one, two) refl
-
-as_before_within : (region within : Path → Bool) (s0 s : State) → ((q : Path) → IsTrue (region q) → IsTrue (within q)) → IsAsBefore within s0 s → IsAsBefore region s0 s
-as_before_within region within s0 s more h = record {
-  tables = λ t is_table. let old : (u : Table) × IsTableOf s0 u × AlikeIn within t u = h.tables t is_table in (old.0, old.1, λ q inside. old.2 q (more q inside));
-  seen = λ q inside. h.seen q (more q inside);
-  nodes = h.nodes;
-  made = h.made;
-}
-
-seen_as_before : (region : Path → Bool) (s0 s : State) → IsSound s0 → IsAsBefore region s0 s → (q : Path) → IsTrue (region q) → seen s q ≡ seen s0 q
-seen_as_before region s0 s sound h q inside =
-    ap (found (λ n. (s.nodes n).now)) (h.seen q inside) ∙ same (present s0 q) (λ n here. (sound.tables (present s0) (present_is_table s0)).is_made q n here)
-  where
-    same : (x : Spot) → ((n : ℕ) → x ≡ FileNode n → n < s0.made) → found (λ n. (s.nodes n).now) x ≡ found (λ n. (s0.nodes n).now) x
-    same Nothing made = refl
-    same Directory made = refl
-    same Odd made = refl
-    same (FileNode n) made = ap (λ node. FileOf node.now) (h.nodes n (made n refl))
 
 -- where a vault is staged
 abbrev pub entry_of : Path → Path
@@ -63,23 +46,6 @@ pub entry_beside : (work at : Path) → below work at ≡ None → below at work
 entry_beside work at apart beside = staged_beside work at at (codes "f" ∷ []) apart beside (at_itself at)
 
 -- ---- what each call does
-
--- what works at a place in the stage stages
-pub works_in_stage : (work : Path) (m : Making) (x : Part) (s0 s : State) (call : Call) → StagesAt (child (stage_path work) x) s0 s call → StagesOrPlaces work m s call
-works_in_stage work m x s0 s call h = by_call call h.0
-  where
-    staged : (p : Path) → IsTrue (at_or_below (child (stage_path work) x) p) → IsTrue (is_staged work p)
-    staged p is = let k : (rest : Path) × (p ≡ child (stage_path work) x ++ rest) = at_root (child (stage_path work) x) p is in in_stage work x k.0 p k.1
-
-    by_call : (call : Call) → WorksAt (child (stage_path work) x) call → StagesOrPlaces work m s call
-    by_call (MakeDir p) is = inl (staged p is)
-    by_call (Create p) is = staged p is
-    by_call (Append p piece) is = staged p is
-    by_call (Sync p) is = staged p is
-    by_call Settle is = absurd is
-    by_call (Rename old new) is = absurd is
-    by_call (RemoveFile p) is = staged p is
-    by_call (RemoveDir p) is = staged p is
 
 -- A vault of this view is put at a path apart from the work folder.
 module _ (work at : Path) (made : View) (files : List (Part × List ℕ)) (apart : below work at ≡ None) (beside : below at work ≡ None) where
@@ -148,7 +114,7 @@ module _ (work at : Path) (made : View) (files : List (Part × List ℕ)) (apart
   none_yet None sound = tt
   none_yet (Some a) sound =
       went_nowhere (IsFounding work (vault_edit at made) (texts files) a.state) (λ s e. StagesOrPlaces work (founding at made files) s e.call) a
-      (not_yet a.state a.state (sound a refl) (record { others = as_before (apart_from (entry_of work)) a.state; fronts = λ n new old. absurd (omega (arith, new, old)) }))
+      (not_yet a.state a.state (sound a refl) (record { others = as_before (apart_from (entry_of work)) a.state; fronts = fronts_of_none (texts files) a.state }))
 
   -- ---- after Ok
 

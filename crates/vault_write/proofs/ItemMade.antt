@@ -14,6 +14,7 @@ use Rattle.folder_spec.proofs.Paths.{below-append}
 use Rattle.folder_spec.proofs.Moments.{went_more, went_nowhere, went_to}
 use Rattle.folder_spec.proofs.Regions.{as_before}
 use Rattle.folder_spec.proofs.Tellings.{from_to_more, from_to_same}
+use Rattle.folder_spec.proofs.Seen.{one_view}
 use Rattle.plain_tree.specs.Names as plain
 use Rattle.vault_spec.specs.Adding.{OpensAs, OpensWith, ComesAlone, StaysClean}
 use Rattle.vault_spec.specs.Alike.{IsOrderly}
@@ -222,6 +223,12 @@ module _ (shows : EditsShowTrees) (settles : SettledEditsShowTrees) (roots : Roo
       answer folder.Refused u = tt
       answer folder.NoMemory u = tt
 
+-- where what opens stayed
+pub ends_stopped : (p : Placing) (fault : PutFault) (u v : View) → OpensAs (format p) u v → EndsAs p u v (Err fault)
+ends_stopped p puts.Failed u v same = λ orderly. inl same
+ends_stopped p puts.NoMemory u v same = λ orderly. inl same
+ends_stopped p fault u v same = same
+
 -- ---- where nothing was changed
 
 pub one_refused : (p : Placing) (ending : Ending) (drawn : List ℕ) (t : Option Told) (fault : PutFault) → length drawn ≤ draws (format p) p.item
@@ -237,23 +244,7 @@ one_refused p ending drawn t fault enough answer = record {
         }));
     done = tt;
     ready = tt;
-    ends = λ v w is_v is_w. subst (λ x. EndsAs p (under p.vault.root v) (under p.vault.root x) (Err fault)) (one_view t v w is_v is_w) (ends fault (under p.vault.root v));
+    ends = λ v w is_v is_w. subst (λ x. EndsAs p (under p.vault.root v) (under p.vault.root x) (Err fault)) (one_view t v w is_v is_w) (ends_stopped p fault (under p.vault.root v) (under p.vault.root v) (λ path. refl));
   };
   answer = answer;
 }
-  where
-    one_view : (t : Option Told) (v w : View) → IsSeen t v → IsSeen t w → v ≡ w
-    one_view (Some a) v w is_v is_w = is_v ∙ sym is_w
-    one_view None v w is_v is_w = absurd is_v
-
-    ends : (fault : PutFault) (u : View) → EndsAs p u u (Err fault)
-    ends puts.Failed u = λ orderly. inl (λ path. refl)
-    ends puts.NoMemory u = λ orderly. inl (λ path. refl)
-    ends (puts.Find fault) u = λ path. refl
-    ends (puts.NotAllowed at) u = λ path. refl
-    ends (puts.Taken at) u = λ path. refl
-    ends (puts.Damaged at fault) u = λ path. refl
-    ends (puts.Limit limit) u = λ path. refl
-    ends puts.ZeroRandom u = λ path. refl
-    ends puts.Source u = λ path. refl
-    ends puts.Random u = λ path. refl

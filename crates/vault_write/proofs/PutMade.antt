@@ -12,6 +12,7 @@ use Rattle.folder_spec.specs.View.{View}
 use Rattle.folder_spec.proofs.Moments.{went_nowhere}
 use Rattle.folder_spec.proofs.Regions.{as_before}
 use Rattle.folder_spec.proofs.Tellings.{from_to_more, from_to_same}
+use Rattle.folder_spec.proofs.Seen.{seen_of, one_view}
 use Rattle.plain_tree.specs.Names as plain
 use Rattle.vault_read.specs.Finding.{Refuses}
 use Rattle.vault_read.specs.Laws.{KeepsVaults}
@@ -19,7 +20,7 @@ use Rattle.vault_read.specs.Opened.{OpenedVault}
 use Rattle.vault_read.specs.declared.fault.FindFault.{FindFault}
 use Rattle.vault_read.specs.declared.fault.FindFault.TheVariants as finds
 use Rattle.vault_spec.specs.Find as spec
-use Rattle.vault_spec.specs.Find.{Refusal, enter, find}
+use Rattle.vault_spec.specs.Find.{Refusal, enter}
 use Rattle.vault_spec.specs.declared.Lack.TheVariants as lacks
 use Rattle.vault_spec.specs.Format.{Format, Directory}
 use Rattle.vault_spec.specs.Making.{NewFile, Allows}
@@ -37,18 +38,13 @@ use Rattle.vault_write.specs.Making.{Placing, format, path_of, is_elsewhere, put
 use Rattle.vault_write.specs.Placing.{EndsAs, IsMaking, MayMake, making_at}
 use Rattle.vault_write.specs.Refusing.{Answers, AnswersPut, AnswersPutBy, ForbidsName}
 use Rattle.vault_write.specs.Slots.{RefusesItem, placing}
-use Rattle.vault_write.proofs.FileMade.{ends_stopped}
 use Rattle.vault_write.proofs.Filing.{takes_none, untaken}
 use Rattle.vault_write.proofs.Found.{Enters}
-use Rattle.vault_write.proofs.ItemMade.{at_itself}
+use Rattle.vault_write.proofs.ItemMade.{at_itself, ends_stopped}
 use Rattle.vault_write.proofs.ReplacedMade.{IsReplaced, is_replaced}
 use Rattle.vault_write.proofs.TreesShown.{old_alone}
 
 -- ---- where nothing was changed
-
-one_view : (t : Option Told) (v w : View) → IsSeen t v → IsSeen t w → v ≡ w
-one_view (Some a) v w is_v is_w = is_v ∙ sym is_w
-one_view None v w is_v is_w = absurd is_v
 
 put_refused_one : (p : Placing) (ending : Ending) (t : Option Told) (fault : PutFault) → ((v : View) → IsSeen t v → AnswersPut p [] ending (under p.vault.root v) (Err fault)) → MakesOne InPlace p ending [] t t (Err fault)
 put_refused_one p ending t fault answer = record {
@@ -190,9 +186,6 @@ answers_new (Strange at) p drawn ending u result is answers = answers
 answers_new (File at) p drawn ending u result is answers = absurd is
 answers_new (Dir at directory) p drawn ending u result is answers = absurd is
 
-shown_at : (t : Option Told) (a : Told) → t ≡ Some a → IsSeen t (seen a.state)
-shown_at t a is = subst (λ o. IsSeen o (seen a.state)) (sym is) refl
-
 pub put_new : (vault : OpenedVault) (work : Path) (front : plain.Path) (name : List ℕ) (coming left : Option Coming) (stream stream' : Option ByteStream) (t u : Option Told) (result : Result (Unit {0}) PutFault)
     → ((v : View) → IsSeen t v → StandsAs vault.root (standing (format_of vault.vault) (under vault.root v) (front ++ name ∷ [])) None)
     → PlacesFile New vault work front name coming left stream stream' t u result → PlacesFile InPlace vault work front name coming left stream stream' t u result
@@ -223,7 +216,7 @@ put_new vault work front name coming left stream stream' t u result stands k = r
     stands_at a = standing (format_of vault.vault) (under vault.root (seen a.state)) (front ++ name ∷ [])
 
     is_new : (a : Told) → t ≡ Some a → IsNewAt (stands_at a)
-    is_new a is = new_at (stands_at a) vault.root (stands (seen a.state) (shown_at t a is))
+    is_new a is = new_at (stands_at a) vault.root (stands (seen a.state) (seen_of t a is))
 
 -- ---- a file that stands
 
@@ -240,11 +233,11 @@ pub may_replace : HaveContents → (vault : OpenedVault) (work : Path) (front : 
     → StandsUnder vault front name t at → (a : Told) → t ≡ Some a → MayReplace work vault.root at a
 may_replace contents vault work front name at t sound may stands a is =
     let k : (place : Path) × (standing (format_of vault.vault) (under vault.root (seen a.state)) (front ++ name ∷ []) ≡ File place) × (at ≡ vault.root ++ place) =
-    stands_file (standing (format_of vault.vault) (under vault.root (seen a.state)) (front ++ name ∷ [])) vault.root at (stands (seen a.state) (shown_at t a is)) in
+    stands_file (standing (format_of vault.vault) (under vault.root (seen a.state)) (front ++ name ∷ [])) vault.root at (stands (seen a.state) (seen_of t a is)) in
     let file : ShowsFile (under vault.root (seen a.state)) k.0 = contents vault.vault (under vault.root (seen a.state)) (front ++ name ∷ []) k.0 k.1 in
     record {
       sound = sound a is;
-      ready = may.ready (seen a.state) (shown_at t a is);
+      ready = may.ready (seen a.state) (seen_of t a is);
       apart = may.apart;
       beside = may.beside;
       inside = subst (λ q. IsTrue (at_or_below vault.root q)) (sym k.2) (at_itself vault.root k.0);
@@ -256,7 +249,7 @@ pub replaced_at : (vault : OpenedVault) → KeepsVaults (format_of vault.vault) 
     → IsReplaced (placing vault work front name (NewFile content)) (opened_file (format_of vault.vault).content (Some (encrypt (format_of vault.vault).content drawn content))) drawn at (encrypt (format_of vault.vault).content drawn content) a
 replaced_at vault laws work front name at t sound may stands content drawn a is =
     let k : (place : Path) × (standing (format_of vault.vault) (under vault.root (seen a.state)) (front ++ name ∷ []) ≡ File place) × (at ≡ vault.root ++ place) =
-    stands_file (standing (format_of vault.vault) (under vault.root (seen a.state)) (front ++ name ∷ [])) vault.root at (stands (seen a.state) (shown_at t a is)) in
+    stands_file (standing (format_of vault.vault) (under vault.root (seen a.state)) (front ++ name ∷ [])) vault.root at (stands (seen a.state) (seen_of t a is)) in
     is_replaced vault laws work front name content drawn at k.0 a (sound a is) k.2 k.1 may.apart may.beside
 
 -- what stands under a name, by what stands at its path

@@ -25,7 +25,7 @@ use Rattle.vault_spec.specs.Making as making
 use Rattle.vault_spec.specs.Making.{NewFile, Allows}
 use Rattle.vault_spec.specs.Opens.{Opened, opened, opened_file}
 use Rattle.vault_spec.specs.Standing as stands
-use Rattle.vault_spec.specs.Standing.{Standing, standing}
+use Rattle.vault_spec.specs.Standing.{standing}
 use Rattle.vault_spec.specs.Vault.{format_of}
 use Rattle.work_folder.specs.Entering.{IsReady}
 use Rattle.content_writing.specs.Content.{Coming, Ending, Whole}
@@ -44,8 +44,8 @@ use Rattle.vault_write.specs.Slots.{placing}
 use Rattle.vault_write.specs.Trees.{StaysGood, opens_as}
 use Rattle.vault_write.proofs.Begun.{folders_seen}
 use Rattle.vault_write.proofs.FileBegun.{opens_whole}
-use Rattle.vault_write.proofs.FileMade.{begins_at, ends_stopped, first_shown, stopped_making}
-use Rattle.vault_write.proofs.ItemMade.{RootsShow}
+use Rattle.vault_write.proofs.FileMade.{begins_at, first_shown, stopped_making}
+use Rattle.vault_write.proofs.ItemMade.{RootsShow, ends_stopped}
 
 -- Where the edit is done, this opens there.
 pub record IsReplaced (p : Placing) (opens : Opened) (drawn : List ℕ) (at : Path) (bytes : List ℕ) (a : Told) : Type 0 where

@@ -15,7 +15,7 @@ use Rattle.folder_spec.specs.View.{NoEntry, FileOf, View}
 use Rattle.folder_spec.proofs.Edits.{at_edit, off_edit, published, publishes_nothing, settle_publishes, settled}
 use Rattle.folder_spec.proofs.Moments.{went_on, went_by_call, went_to}
 use Rattle.folder_spec.proofs.Paths.{begins_or_not, below-append, child-not_base}
-use Rattle.folder_spec.proofs.Regions.{as_before_on}
+use Rattle.folder_spec.proofs.Regions.{as_before_on, as_before_within, seen_as_before}
 use Rattle.folder_spec.proofs.Replaces.{apart-from_below}
 use Rattle.folder_spec.proofs.Seen.{has_file_seen, may_call_allowed, seen_changed}
 use Rattle.folder_spec.proofs.Sound.{changed_sound}
@@ -30,17 +30,11 @@ use Rattle.vault_write.specs.Editing.{IsEditing, Edits, HasFinished}
 use Rattle.vault_write.specs.Filing.{DoesReplace, MayReplace, ReplacesContent, ReplacesEntry, StagesEntry, StopsBy, file_of, replace_making}
 use Rattle.vault_write.specs.Making.{StagesOrPlaces, is_apart, is_unstaged}
 use Rattle.vault_write.proofs.Adding.{IsStagedWhole, adds_nothing, free_in_stage}
-use Rattle.vault_write.proofs.Edited.{StagingAt, some_part}
+use Rattle.vault_write.proofs.Edited.{StagingAt, some_part, bare_of}
 use Rattle.vault_write.proofs.Directories.{whole_staged}
 use Rattle.vault_write.proofs.Filing.{off_root, only_stages, stops_folder, takes_none, takes_then, untaken}
-use Rattle.vault_write.proofs.Runs.{went_with, works_in_stage, as_before_within, seen_as_before}
+use Rattle.vault_write.proofs.Runs.{went_with, works_in_stage}
 use Rattle.vault_write.proofs.Stages.{in_stage, unstaged_below, unstaged_apart, apart_unstaged, apart_root, root_unstaged, work_beside, stage_beside, staged_beside, work_unstaged, stage_unstaged}
-use Rattle.folder_staging.specs.Removal.{IsBare}
-use Rattle.work_folder.specs.Entering.{below_stage}
-
-bare_of : (v : View) (work : Path) → ((y : Part) (rest : Path) → v (stage_path work ++ y ∷ rest) ≡ NoEntry) → IsBare (below_stage work) v
-bare_of v work none [] more = absurd (omega (arith, more))
-bare_of v work none (y ∷ rest) more = none y rest
 
 module _ (work root at : Path) (bytes : List ℕ) (x : Part) (a : Told) (may : MayReplace work root at a) where
   abbrev staged : Path

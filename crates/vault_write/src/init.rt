@@ -5,7 +5,7 @@ ghost use Rattle.kdf_suite.specs.ScryptCost.{IsCost};
 ghost use Rattle.port_model.specs.Counts.{CountRose};
 ghost use Rattle.folder_spec.specs.Path.{child};
 ghost use Rattle.folder_spec.specs.State.{present};
-ghost use Rattle.folder_spec.specs.Event.{FromTo, Told};
+ghost use Rattle.folder_spec.specs.Event.{FromTo};
 ghost use Rattle.folder_spec.specs.Edit.{folder_view};
 ghost use Rattle.folder_spec.specs.Replace.{IsNewFile};
 ghost use Rattle.folder_spec.specs.Seen.{IsSeen, ShowsFree};

@@ -1,6 +1,6 @@
 //! Staging what an item consists of, and putting it in its places.
 ghost use Rattle.std.specs.Prelude.{codes, ◌≢◌, ◌≡◌, ◌∷◌, ◌++◌, [], true, List, ℕ, IfOk, Contains, OnOk, Option};
-ghost use Rattle.folder_spec.specs.Path.{Path, Part, child};
+ghost use Rattle.folder_spec.specs.Path.{Path, child};
 ghost use Rattle.folder_spec.specs.Edit.{directory_edit, file_edit, folder_edit};
 ghost use Rattle.folder_spec.specs.Event.{FromTo};
 ghost use Rattle.folder_spec.specs.Seen.{seen, IsSeen, ShowsFree, put_found};

@@ -13,7 +13,10 @@ pub enum Claims {
     /// The command changes nothing.
     Nothing,
     /// It changes what stands in a vault, and in another folder beside it.
-    Beside { vault: FPath, other: FPath },
+    Beside {
+        vault: FPath,
+        other: FPath,
+    },
     /// It reads a source, and changes a target and a work folder.
     Migration {
         source: FPath,

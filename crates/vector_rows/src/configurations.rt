@@ -19,9 +19,10 @@ pub fn answer(alloc: Global, call: &[&str]) -> Result<Option<Answer>, Stop> {
         ["go-cost", word] => cost_shown(alloc, &go_conf(alloc, word)?.cost),
         ["go-salt", word] => go_salt(alloc, go_conf(alloc, word)?),
         ["go-unlock", word, pass] => go_unlock(alloc, &go_conf(alloc, word)?, pass),
-        ["go-make", pass, n, r, p, master, salt, nonce] => {
-            go_make(alloc, pass, &cost(n, r, p)?, master, salt, nonce)
-        }
+        ["go-make", pass, n, r, p, master, salt, nonce] => match cost(n, r, p) {
+            Ok(cost) => go_make(alloc, pass, &cost, master, salt, nonce),
+            Err(stop) => Err(stop),
+        },
         _ => return cm_answer(alloc, call),
     };
     Ok(Some(answer?))
@@ -134,12 +135,12 @@ fn made_answer(alloc: Global, call: &[&str]) -> Result<Option<Answer>, Stop> {
     let answer = match call {
         ["cm-make-master", pass, n, r, p, enc, mac, salt, jti] => {
             let drawn = cm_draw(alloc, enc, mac, salt, jti)?;
-            let files = cm_make(alloc, pass, &cost(n, r, p)?, &drawn)?;
+            let files = cm_make(alloc, pass, [n, r, p], &drawn)?;
             Ok(Answer::Bytes(files.master.into_vec()))
         }
         ["cm-make-vault", pass, n, r, p, enc, mac, salt, jti] => {
             let drawn = cm_draw(alloc, enc, mac, salt, jti)?;
-            let files = cm_make(alloc, pass, &cost(n, r, p)?, &drawn)?;
+            let files = cm_make(alloc, pass, [n, r, p], &drawn)?;
             Ok(Answer::Bytes(files.vault.into_vec()))
         }
         ["cm-version-tag", mac, version] => version_tag(alloc, mac, version),
@@ -226,9 +227,12 @@ fn cm_draw(alloc: Global, enc: &str, mac: &str, salt: &str, jti: &str) -> Result
     })
 }
 
-fn cm_make(alloc: Global, pass: &str, cost: &ScryptCost, drawn: &CmDraw) -> Result<CmFiles, Stop> {
+fn cm_make(alloc: Global, pass: &str, numbers: [&str; 3], drawn: &CmDraw) -> Result<CmFiles, Stop> {
     let pass = bytes(alloc, pass)?;
-    Ok(cryptomator_conf::make(alloc, pass.as_slice(), cost, drawn)?)
+    match cost(numbers[0], numbers[1], numbers[2]) {
+        Ok(cost) => Ok(cryptomator_conf::make(alloc, pass.as_slice(), &cost, drawn)?),
+        Err(stop) => Err(stop),
+    }
 }
 
 // The base64 of the tag of a version, whose four bytes are given.

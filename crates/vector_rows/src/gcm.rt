@@ -140,7 +140,7 @@ fn plain_stream(key: &Key256, start: u128, text: &mut [u8]) {
 
 // Encrypts a text in place by the plain bodies, and gives its tag.
 fn plain_seal(key: &Key256, iv: &[u8; 12], ad: &[u8], text: &mut [u8]) -> Block {
-    let start = block_number(iv) + 1;
+    let start = block_number(iv).wrapping_add(1);
     let mut blocks = [[0; 16], start.to_be_bytes()];
     key.encrypt_blocks(&mut blocks);
     plain_stream(key, start, text);

@@ -14,7 +14,10 @@ pub fn answer(alloc: Global, call: &[&str]) -> Result<Option<Answer>, Stop> {
         ["hmac-256-pieces", key, first, second] => pieces(alloc, key, first, second),
         ["hkdf-256", secret, salt, info, size] => derived(alloc, secret, salt, info, size),
         ["pbkdf2-256", pass, salt, rounds, size] => stretched(alloc, pass, salt, rounds, size),
-        ["scrypt", pass, salt, n, r, p, size] => { mixed(alloc, pass, salt, &cost(n, r, p)?, size) }
+        ["scrypt", pass, salt, n, r, p, size] => match cost(n, r, p) {
+            Ok(cost) => mixed(alloc, pass, salt, &cost, size),
+            Err(stop) => Err(stop),
+        },
         ["scrypt-cost", n, r, p] => cost_read(alloc, n, r, p),
         _ => return Ok(None),
     };

@@ -78,13 +78,14 @@ fn short(alloc: Global, stored: Stored) -> Result<Answer, Stop> {
 }
 
 // The answer of an entry's name, where this text stands behind it.
-fn long(alloc: Global, stored: Stored, full: &str) -> Result<Answer, Stop> {
-    match stored.full {
-        Some(text) => {
-            if text.as_str() != full {
-                return Ok(Answer::Words(text.into_string()));
+fn long(alloc: Global, stored: Stored, wanted: &str) -> Result<Answer, Stop> {
+    let Stored { name, full } = stored;
+    match full {
+        Some(full) => {
+            if full.as_str() != wanted {
+                return Ok(Answer::Words(full.into_string()));
             }
-            Ok(Answer::Words(stored.name.into_string()))
+            Ok(Answer::Words(name.into_string()))
         }
         None => words(alloc, "a short name"),
     }

@@ -1,6 +1,6 @@
 //! The lines of a file of rows.
 
-use crate::answer::Stop;
+use crate::answer::{Answer, Stop};
 use crate::calls::answer;
 use row_words::{Tally, cut, words_of};
 use std::alloc::{AllocError, Global};
@@ -146,7 +146,7 @@ fn play_row(
 }
 
 // What a call answers, whose words may name values.
-fn called(alloc: Global, given: &Given, call: &str) -> Result<crate::answer::Answer, Stop> {
+fn called(alloc: Global, given: &Given, call: &str) -> Result<Answer, Stop> {
     let mut texts = Vec::new(alloc);
     for word in words_of(alloc, call)? {
         match given.written_out(alloc, word)? {

@@ -102,24 +102,29 @@ impl Stage {
         Ok(())
     }
 
-    // Plays a line unless the last call did its work.
-    fn or(&mut self, words: &str) -> Result<(), Stop> {
+    /// Says no more of a call that did its work than that.
+    pub fn drop_done(&mut self) -> Result<(), Stop> {
         if self.status == 0 {
-            return Ok(());
+            let _ = self.take_said();
+            self.said.push_str("done\n")?;
         }
-        let (verb, words) = cut(words);
-        self.call_layer(verb, words)
+        Ok(())
     }
 
     // Plays a line, and says of it no more than its fault.
     fn ends(&mut self, words: &str) -> Result<(), Stop> {
         let (verb, words) = cut(words);
         self.call_layer(verb, words)?;
+        self.drop_done()
+    }
+
+    // Plays a line, and says of it no more than the first word.
+    fn fault(&mut self, words: &str) -> Result<(), Stop> {
+        let (verb, words) = cut(words);
+        self.call_layer(verb, words)?;
         let said = self.take_said();
-        if self.status == 0 {
-            return self.say_done("done");
-        }
-        self.said = said;
+        let (word, _) = cut(said.as_str());
+        writeln!(self.said, "{word}")?;
         Ok(())
     }
 
@@ -136,8 +141,8 @@ impl Stage {
         match verb {
             "turn" => self.turn(words),
             "fail_at" | "fail_append" | "stop" => self.let_fail(verb, words),
-            "or" => self.or(words),
             "ends" => self.ends(words),
+            "fault" => self.fault(words),
             "quiet" => self.quiet(words),
             "many" | "count_many" => self.many(verb, words),
             "deep" => self.deep(words),
@@ -171,9 +176,16 @@ impl Stage {
             "load" | "find" | "enter" | "items" | "cat" => self.call_reading(verb, words, handed),
             "survey" | "walk" | "digest" | "check" | "repair" => self.call_walking(verb, words),
             "holds_all" => self.call_matching(words),
-            "init_go" | "init_cm" | "place_dir" | "place_file" | "put_file" | "write_content"
+            "init_go"
+            | "init_cm"
+            | "place_dir"
+            | "place_file"
+            | "put_file"
+            | "write_content"
             | "copy_content" => self.call_writing(verb, words, handed),
-            "begin" | "resume" | "retire" => self.call_moving(verb, words, handed),
+            "begin" | "go_on" | "resume" | "retire" | "retire_on" => {
+                self.call_moving(verb, words, handed)
+            }
             "demo_item" | "demo_totals" | "demo_first" => self.call_demonstration(verb, words),
             _ => Err(Stop::Line),
         }

@@ -248,16 +248,21 @@ impl Stage {
             self.due = None;
         }
         self.folder.end_run(self.alloc);
+        self.count_left(&mut handed.input)
+    }
+
+    // Counts the bytes that are left of an input. A call that fails takes none.
+    fn count_left(&mut self, input: &mut Pieces) -> Result<(), Stop> {
         self.left = 0;
         let mut piece = [0; 4_096];
-        for _ in 0..1_000u32 {
-            let count = handed.input.source.take(&mut piece).unwrap_or(0);
-            if count == 0 {
-                break;
+        for _ in 0..MOST_TAKEN {
+            match input.source.take(&mut piece) {
+                Ok(0) => return Ok(()),
+                Ok(count) => self.left = self.left.saturating_add(count as u64),
+                Err(_) => {}
             }
-            self.left = self.left.saturating_add(count as u64);
         }
-        Ok(())
+        Err(Stop::Line)
     }
 
     // The words of a run.

@@ -6,7 +6,8 @@ use crate::stage::{Handed, Stage};
 use crate::stop::Stop;
 use folder_model::FPath;
 use migrate_core::{Done, MoveFault, begin, resume};
-use retire_core::retire;
+use move_journal::JournalFault;
+use retire_core::{RetireFault, retire};
 use row_words::cut;
 
 impl Stage {
@@ -59,19 +60,49 @@ impl Stage {
         }
     }
 
-    /// Plays `begin FROM TO WORK`, `resume WORK` and `retire WORK`.
+    // Goes on with a migration, or begins it where no journal says of one: `FROM TO WORK`. It says a fault alone.
+    fn call_go_on(&mut self, words: &str, handed: &mut Handed) -> Result<(), Stop> {
+        let (_, places) = cut(words);
+        let (_, work) = cut(places);
+        let work = self.path(work)?;
+        let (folder, random) = (&mut self.folder, &mut handed.random);
+        let answer = resume(self.alloc, folder, &work, PASSPHRASE, PASSPHRASE, random);
+        if let Err(MoveFault::Journal(JournalFault::NoJournal)) = answer {
+            self.call_begin(words, handed)?;
+        } else {
+            self.say_moved(answer)?;
+        }
+        self.drop_done()
+    }
+
+    // Goes on with a retirement, of which no journal is left where it came to its end. It says a fault alone.
+    fn call_retire_on(&mut self, work: &FPath) -> Result<(), Stop> {
+        match retire(self.alloc, &mut self.folder, work, PASSPHRASE, PASSPHRASE) {
+            Ok(_) => self.say_done("done"),
+            Err(RetireFault::Journal(JournalFault::NoJournal)) => self.say_done("done"),
+            Err(fault) => {
+                let text = retire_fault(self.alloc, fault)?;
+                self.say_fault(text.as_str())
+            }
+        }
+    }
+
+    /// Plays `begin FROM TO WORK`, `resume WORK` and `retire WORK`, and `go_on FROM TO WORK` and `retire_on WORK` after a stop.
     pub fn call_moving(
         &mut self,
         verb: &str,
         words: &str,
         handed: &mut Handed,
     ) -> Result<(), Stop> {
-        if verb == "begin" {
-            return self.call_begin(words, handed);
+        match verb {
+            "begin" => return self.call_begin(words, handed),
+            "go_on" => return self.call_go_on(words, handed),
+            _ => {}
         }
         let work = self.path(words)?;
         match verb {
             "resume" => self.call_resume(&work, handed),
+            "retire_on" => self.call_retire_on(&work),
             _ => self.call_retire(&work),
         }
     }

@@ -68,12 +68,7 @@ impl Stage {
     }
 
     // Puts a staged folder in its place: `STAGED AT`.
-    fn call_publish_folder(
-        &mut self,
-        verb: &str,
-        staged: &FPath,
-        at: &FPath,
-    ) -> Result<(), Stop> {
+    fn call_publish_folder(&mut self, verb: &str, staged: &FPath, at: &FPath) -> Result<(), Stop> {
         if staged.depth() == 0 || !are_places_apart(staged, at) {
             return Err(Stop::Line);
         }

@@ -1,38 +1,17 @@
-//! A folder of files that tells nothing.
-ghost use Rattle.std.specs.Prelude.{◌≡◌, ◌≤◌, length};
+//! A folder that tells nothing.
+ghost use Rattle.std.specs.Prelude.{◌≡◌};
 ghost use Rattle.port_model.specs.Counts.{CountRose, IsCounted};
 
 use folder_model::{Entry, FPath, Folder, FolderFault, Kind};
-use std::alloc::Global;
-use std::test::Fail;
 
+/// A folder that tells neither its state nor its log, as one on a disk. It finds nothing at any path, refuses to list
+/// it, and fails at all other calls.
 #[derive(Drop)]
-struct FileAt {
-    at: FPath,
-    bytes: Vec<u8>,
+pub struct Silent {
+    pub faults: u64,
 }
 
-/// Files at paths, which can be read. All other calls fail.
-#[derive(Drop)]
-pub(crate) struct Files {
-    files: Vec<FileAt>,
-    faults: u64,
-}
-
-impl Files {
-    pub(crate) fn new(alloc: Global) -> Files {
-        Files {
-            files: Vec::new(alloc),
-            faults: 0,
-        }
-    }
-
-    pub(crate) fn put(&mut self, at: &FPath, bytes: Vec<u8>) -> Result<(), Fail> {
-        let at = at.copy()?;
-        self.files.push(FileAt { at, bytes })?;
-        Ok(())
-    }
-
+impl Silent {
     fn count_fault(&mut self)
         ensures { IsCounted self.old.faults self.new.faults × CountRose self.old.faults self.new.faults }
     {
@@ -48,27 +27,7 @@ impl Files {
     }
 }
 
-// The bytes of the file at a path, and none where there is no file.
-fn bytes_at<'a>(files: &'a [FileAt], at: &FPath) -> &'a [u8] {
-    for file in files {
-        if file.at.is(at) {
-            return file.bytes.as_slice();
-        }
-    }
-    &[]
-}
-
-// Copies bytes from a place on, as many as there are and fit.
-fn copy_from(bytes: &[u8], start: u64, out: &mut [u8]) -> usize
-    ensures { result ≤ length out.old }
-{
-    let start = (start as usize).min(bytes.len());
-    let count = out.len().min(bytes.len() - start);
-    out[..count].copy_from_slice(&bytes[start..start + count]);
-    count
-}
-
-impl Folder for Files {
+impl Folder for Silent {
     ghost use Rattle.std.specs.Prelude.{None};
     ghost use Rattle.std.proofs.lemmas.Option.{none-some};
 
@@ -80,7 +39,7 @@ impl Folder for Files {
 
     fn kind(&mut self, _at: &FPath) -> Result<Kind, FolderFault> {
         let _before = self.faults;
-        Ok(Kind::File)
+        Ok(Kind::Missing)
     }
 
     fn list(&mut self, _at: &FPath) -> Result<Vec<Entry>, FolderFault> {
@@ -88,9 +47,9 @@ impl Folder for Files {
         Err(FolderFault::Refused)
     }
 
-    fn read(&mut self, at: &FPath, start: u64, out: &mut [u8]) -> Result<usize, FolderFault> {
-        let _before = self.faults;
-        Ok(copy_from(bytes_at(self.files.as_slice(), at), start, out))
+    fn read(&mut self, _at: &FPath, _start: u64, _out: &mut [u8]) -> Result<usize, FolderFault> {
+        self.count_fault();
+        Err(FolderFault::Failed)
     }
 
     fn make_dir(&mut self, _at: &FPath) -> Result<(), FolderFault> {

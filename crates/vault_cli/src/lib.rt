@@ -6,6 +6,7 @@ pub mod answer;
 mod arguments;
 mod beginning;
 mod cat;
+pub mod claims;
 mod decrypt;
 mod demo;
 mod fsck;
@@ -26,6 +27,7 @@ mod running;
 pub mod words;
 
 pub use answer::Answer;
+pub use claims::{Claims, claims_of};
 pub use demo::demo_in;
 pub use reporting::report;
 pub use running::run;

@@ -1,95 +1,280 @@
 //! A folder of the machine.
 
-ghost use Rattle.std.specs.Prelude.{◌≡◌, ◌≤◌, ◌↔◌, ◌≢◌, ◌⊎◌, [], IfOk, OnErr, OnOk, IsTrue, None, length};
+ghost use Rattle.std.specs.Prelude.{◌≡◌, ◌≤◌, ◌↔◌, ◌≢◌, ◌⊎◌, [], true, false, IfErr, IfOk, OnErr, OnOk, IsTrue, IsSome, None, length};
 ghost use Rattle.std.specs.Cmp.Lexicographic.{slice_cmp};
 ghost use Rattle.std.specs.List.Sorted.{IsSortedByKey};
 ghost use Rattle.std.specs.Ordering.{nat_cmp};
 ghost use Rattle.folder_spec.specs.Listing.{Item};
-ghost use Rattle.folder_spec.specs.Path.{parent};
+ghost use Rattle.folder_spec.specs.Path.{Path, parent};
+ghost use Rattle.folder_spec.specs.declared.FolderFault.TheVariants.{Failed};
 ghost use Rattle.folder_spec.specs.declared.Kind.TheVariants.{File, Missing};
 ghost use Rattle.folder_model.specs.Answers.{Counts, KeepsUnlessRun};
+ghost use Rattle.host_ports.specs.Causes.{IsFailure, fault_by};
+ghost use Rattle.host_ports.specs.Noted.{IsJust, IsSettled, Sees, SeesBut, has, same};
 ghost use Rattle.host_ports.specs.Places.{names_entries};
-ghost use Rattle.host_ports.specs.Unsettled.{IsKept, not_below, noted};
 
-use crate::faults::fault_of;
+use crate::causes::{Cause, Trouble, cause_of, fault_of};
+use crate::claims::{Claims, Wanted};
+use crate::handles::{Handles, Made, Opened};
 use crate::listing::entries_of;
-use crate::pieces::fill;
-use crate::places::{Place, look, place_of};
-use crate::unsettled::{note, without};
+use crate::noted::Noted;
+use crate::pieces::{fill_from, put};
+use crate::places::{Node, Place, look, reach, test_names, text_of};
+use crate::sign_of_life::SignOfLife;
 use folder_model::{Entry, FPath, Folder, FolderFault, Kind};
-use port_model::{Sink, StdSink};
 use std::alloc::{AllocError, Global};
 use std::fs;
-use std::fs::{OpenFile, OpenOptions};
-use std::io::{Seek, SeekFrom};
+use std::fs::{DirBuilder, OpenOptions};
+use std::io::ErrorKind;
 use std::marker::Model;
-use std::rt::Runtime;
+use std::os::unix::fs::{DirBuilderExt, OpenOptionsExt, PermissionsExt};
+
+// Who may use what is made: its owner alone.
+const FILE_MODE: u32 = 0o600;
+
+const DIRECTORY_MODE: u32 = 0o700;
 
 /// A folder of the machine, below a base directory. It tells nothing of its contents.
 ///
 /// It follows no link below the base: what stands there is `Other`, and nothing stands below it. A call is refused where
-/// the machine has something in its way. What was refused is counted too.
+/// the machine has something in its way. What was refused is counted too. Once a claim isn't had, no call changes anything.
 #[derive(Drop)]
-pub struct HostFolder<R: Runtime> {
-    rt: R,
+pub struct HostFolder {
+    rt: HostRuntime,
     alloc: Global,
     base: String,
-    dirs: Vec<FPath>,
+    noted: Noted,
+    claims: Claims,
+    handles: Handles,
+    life: SignOfLife,
+    trouble: Option<Trouble>,
+    barred: bool,
     faults: u64,
 }
 
-impl<R: Runtime> Model for HostFolder<R> {
-    ghost use Rattle.host_ports.specs.Unsettled.{Unsettled};
+impl Model for HostFolder {
+    ghost use Rattle.host_ports.specs.Noted.{Ground};
 
-    ghost Value = { Unsettled };
+    ghost Value = { Ground };
 
-    ghost view = { λ f. record { dirs = f.dirs.items; faults = f.faults } };
+    ghost view = { λ f. record { dirs = f.noted; barred = f.barred; faults = f.faults } };
 }
 
-impl<R: Runtime> HostFolder<R> {
+impl HostFolder {
     /// The folder below the directory at this text, or below the working directory where the text is empty.
-    pub fn new(rt: R, alloc: Global, base: &str) -> Result<HostFolder<R>, AllocError>
-        ensures { IfOk result (λ f. f ≡ record { dirs = []; faults = 0 }) }
+    pub fn new(rt: HostRuntime, alloc: Global, base: &str) -> Result<HostFolder, AllocError>
+        ensures { IfOk result (λ f. f ≡ record { dirs = record { known = []; seen = []; changed = [] }; barred = false; faults = 0 }) }
     {
         let base = if base.is_empty() { "." } else { base };
         Ok(HostFolder {
             rt,
             alloc,
             base: String::from_str(alloc, base)?,
-            dirs: Vec::new(alloc),
+            noted: Noted::new(alloc),
+            claims: Claims::new(alloc),
+            handles: Handles::new(),
+            life: SignOfLife::hidden(),
+            trouble: None,
+            barred: false,
             faults: 0,
         })
     }
 
-    // Counts a call that failed or was refused.
-    fn counted<T>(&mut self, answer: Result<T, FolderFault>) -> Result<T, FolderFault>
-        ensures same { result ≡ answer }
+    /// Claims paths for this run, in their order, by locks of the directories that stand there and above them. Where another run
+    /// holds one, nothing is changed any more.
+    pub fn claim(&mut self, wanted: &mut [Wanted]) -> Result<(), FolderFault>
+        ensures barred { OnErr result (self.new.barred ≡ true) }
+        ensures stays { self.old.barred ≡ true → self.new.barred ≡ true }
+        ensures dirs { self.new.dirs ≡ self.old.dirs }
+    {
+        wanted.sort_unstable_by(|one, other| one.at.cmp(&other.at));
+        for one in wanted {
+            self.claim_one(one)?;
+        }
+        Ok(())
+    }
+
+    fn claim_one(&mut self, wanted: &Wanted) -> Result<(), FolderFault>
+        ensures barred { OnErr result (self.new.barred ≡ true) }
+        ensures stays { self.old.barred ≡ true → self.new.barred ≡ true }
+        ensures dirs { self.new.dirs ≡ self.old.dirs }
+    {
+        match self
+            .claims
+            .add(&self.rt, self.alloc, self.base.as_str(), wanted)
+        {
+            Ok(()) => Ok(()),
+            Err(cause) => {
+                self.bar(&wanted.at, cause);
+                Err(fault_of(cause))
+            }
+        }
+    }
+
+    // Nothing is changed from here on.
+    fn bar(&mut self, at: &FPath, cause: Cause)
+        ensures barred { self.new.barred ≡ true }
+        ensures dirs { self.new.dirs ≡ self.old.dirs }
+        ensures faults { self.new.faults ≡ self.old.faults }
+    {
+        self.barred = true;
+        self.trouble = Some(Trouble::new(at, cause));
+    }
+
+    /// Sees to it that what stands at two claimed paths, or else above them, is on one file system. Otherwise nothing is changed any
+    /// more.
+    pub fn keep_on_one_file_system(&mut self, one: &FPath, other: &FPath)
+        ensures stays { self.old.barred ≡ true → self.new.barred ≡ true }
+        ensures dirs { self.new.dirs ≡ self.old.dirs }
+    {
+        let (here, there) = (self.claims.device_of(one), self.claims.device_of(other));
+        if here.is_some() && there.is_some() && here != there && !self.barred {
+            self.bar(other, Cause::OtherFileSystem);
+        }
+    }
+
+    /// From here on a run that goes on for more than a second shows on the terminal how far it has come.
+    pub fn show_life(&mut self)
+        ensures { self.new ≡ self.old }
+    {
+        self.life.show(&self.rt);
+    }
+
+    /// Takes the line that tells how far the run has come off the terminal.
+    pub fn wipe(&mut self)
+        ensures { self.new ≡ self.old }
+    {
+        self.life.wipe(&self.rt);
+    }
+
+    /// Where and why a call failed last, or why nothing is changed any more.
+    pub fn trouble(&self) -> &Option<Trouble> {
+        &self.trouble
+    }
+
+    // The answer to a call at a path: why it failed is kept, and it is counted.
+    fn answered<T>(&mut self, at: &FPath, answer: Result<T, Cause>) -> Result<T, FolderFault>
         ensures counts { Counts None self.old.faults self.new.faults result }
-        ensures kept { self.new.dirs ≡ self.old.dirs }
+        ensures ok { IfOk answer (λ value. result ≡ Ok value) }
+        ensures err { IfErr answer (λ cause. result ≡ Err (fault_by cause)) }
+        ensures dirs { self.new.dirs ≡ self.old.dirs }
+        ensures barred { self.new.barred ≡ self.old.barred }
+    {
+        if let Err(cause) = &answer {
+            self.keep_trouble(Trouble::new(at, *cause));
+        }
+        self.life.beat(&self.rt, self.alloc);
+        self.counted(answer)
+    }
+
+    // Keeps why a call failed, unless it did since nothing may change.
+    fn keep_trouble(&mut self, trouble: Trouble)
+        ensures { self.new ≡ self.old }
+    {
+        if !self.barred {
+            self.trouble = Some(trouble);
+        }
+    }
+
+    // Counts a call that failed or was refused.
+    fn counted<T>(&mut self, answer: Result<T, Cause>) -> Result<T, FolderFault>
+        ensures counts { Counts None self.old.faults self.new.faults result }
+        ensures ok { IfOk answer (λ value. result ≡ Ok value) }
+        ensures err { IfErr answer (λ cause. result ≡ Err (fault_by cause)) }
+        ensures dirs { self.new.dirs ≡ self.old.dirs }
+        ensures barred { self.new.barred ≡ self.old.barred }
     {
         let faults = self.faults;
-        match &answer {
-            Err(FolderFault::Failed) => self.faults = faults.saturating_add(1),
-            Err(FolderFault::Refused) => self.faults = faults.saturating_add(1),
-            _ => {}
+        match answer {
+            Ok(value) => Ok(value),
+            Err(cause) => {
+                let fault = fault_of(cause);
+                if fault != FolderFault::NoMemory {
+                    self.faults = faults.saturating_add(1);
+                }
+                Err(fault)
+            }
         }
-        answer
     }
 
-    fn look(&self, at: &FPath) -> Result<Place, FolderFault>
-        ensures { OnOk result (IsTrue (names_entries at.now)) }
+    // A call may change what stands at a path: no claim is missing, and what stands now at the claimed paths at or above it is held.
+    fn may_change(&mut self, at: &FPath) -> Result<(), Cause>
+        ensures barred { self.old.barred ≡ true → result ≡ Err Cause.Held }
+        ensures same { self.new ≡ self.old }
     {
-        look(&self.rt, self.alloc, self.base.as_str(), at)
+        self.test_barred()?;
+        self.claims
+            .renew(&self.rt, self.alloc, self.base.as_str(), at)
     }
 
-    fn place_of(&self, at: &FPath, kind: Kind) -> Result<String, FolderFault>
-        ensures { OnOk result (IsTrue (names_entries at.now)) }
+    fn test_barred(&self) -> Result<(), Cause>
+        ensures { self.now.barred ≡ true → result ≡ Err Cause.Held }
     {
-        place_of(&self.rt, self.alloc, self.base.as_str(), at, kind)
+        if self.barred {
+            Err(Cause::Held)
+        } else {
+            Ok(())
+        }
     }
 
-    fn kind_of(&self, at: &FPath) -> Result<Kind, FolderFault>
-        ensures { OnOk result (IsTrue (names_entries at.now)) }
+    fn look(&mut self, at: &FPath) -> Result<Place, Cause>
+        ensures names { OnOk result (IsTrue (names_entries at.now)) }
+        ensures known { IfOk result (λ place. IsSome place.kind → IsTrue (has self.new.dirs.known (parent at.now))) }
+        ensures sees { Sees self.old.dirs self.new.dirs }
+        ensures bar { self.new.barred ≡ self.old.barred }
+        ensures faults { self.new.faults ≡ self.old.faults }
+    {
+        look(
+            &self.rt,
+            self.alloc,
+            self.base.as_str(),
+            &mut self.noted,
+            at,
+        )
+    }
+
+    // The text of a path at which this stands.
+    fn place_of(&mut self, at: &FPath, kind: Kind) -> Result<String, Cause>
+        ensures names { OnOk result (IsTrue (names_entries at.now)) }
+        ensures known { OnOk result (IsTrue (has self.new.dirs.known (parent at.now))) }
+        ensures sees { Sees self.old.dirs self.new.dirs }
+        ensures bar { self.new.barred ≡ self.old.barred }
+        ensures faults { self.new.faults ≡ self.old.faults }
+    {
+        let place = self.look(at)?;
+        if place.kind == Some(kind) {
+            Ok(place.text)
+        } else {
+            Err(Cause::InTheWay)
+        }
+    }
+
+    // The text of a path above which a directory stands.
+    fn room_at(&mut self, at: &FPath) -> Result<String, Cause>
+        ensures names { OnOk result (IsTrue (names_entries at.now)) }
+        ensures known { OnOk result (IsTrue (has self.new.dirs.known (parent at.now))) }
+        ensures sees { Sees self.old.dirs self.new.dirs }
+        ensures bar { self.new.barred ≡ self.old.barred }
+        ensures faults { self.new.faults ≡ self.old.faults }
+    {
+        match reach(
+            &self.rt,
+            self.alloc,
+            self.base.as_str(),
+            &mut self.noted,
+            at,
+        )? {
+            Some(text) => Ok(text),
+            None => Err(Cause::InTheWay),
+        }
+    }
+
+    fn kind_of(&mut self, at: &FPath) -> Result<Kind, Cause>
+        ensures names { OnOk result (IsTrue (names_entries at.now)) }
+        ensures known { IfOk result (λ kind. kind ≢ Missing → IsTrue (has self.new.dirs.known (parent at.now))) }
+        ensures sees { Sees self.old.dirs self.new.dirs }
+        ensures bar { self.new.barred ≡ self.old.barred }
+        ensures faults { self.new.faults ≡ self.old.faults }
     {
         match self.look(at)?.kind {
             Some(kind) => Ok(kind),
@@ -97,165 +282,411 @@ impl<R: Runtime> HostFolder<R> {
         }
     }
 
-    fn entries(&self, at: &FPath) -> Result<Vec<Entry>, FolderFault>
+    #[tactic(auto, using(crate::proofs::Dirs::sees_same, crate::proofs::Dirs::sees_after))]
+    fn entries(&mut self, at: &FPath) -> Result<Vec<Entry>, Cause>
         ensures names { OnOk result (IsTrue (names_entries at.now)) }
         ensures sorted { IfOk result (λ entries. IsSortedByKey (λ (entry : Item). entry.name) (slice_cmp nat_cmp) entries.items) }
+        ensures known { OnOk result (IsTrue (has self.new.dirs.known at.now)) }
+        ensures sees { Sees self.old.dirs self.new.dirs }
+        ensures bar { self.new.barred ≡ self.old.barred }
+        ensures faults { self.new.faults ≡ self.old.faults }
     {
         let text = self.place_of(at, Kind::Dir)?;
+        self.noted.see(at)?;
         entries_of(&self.rt, self.alloc, text.as_str())
     }
 
-    fn bytes(&self, at: &FPath, start: u64, out: &mut [u8]) -> Result<usize, FolderFault>
+    #[tactic(auto, using(crate::proofs::Dirs::sees_same, crate::proofs::Dirs::sees_after))]
+    fn bytes(&mut self, at: &FPath, start: u64, out: &mut [u8]) -> Result<usize, Cause>
         ensures names { OnOk result (IsTrue (names_entries at.now)) }
         ensures within { IfOk result (λ n. n ≤ length out.old) }
-        ensures unread { KeepsUnlessRun result (out.new ≡ out.old) }
+        ensures unread { IfErr result (λ cause. IsFailure cause ⊎ (out.new ≡ out.old)) }
+        ensures sees { Sees self.old.dirs self.new.dirs }
+        ensures bar { self.new.barred ≡ self.old.barred }
+        ensures faults { self.new.faults ≡ self.old.faults }
     {
-        let text = self.place_of(at, Kind::File)?;
-        let mut file = fs::open(&self.rt, text.as_str()).map_err(|error| fault_of(&error))?;
-        match file.seek(SeekFrom::Start(start)) {
-            Ok(_) => fill(&mut file, out),
-            Err(_) => Err(FolderFault::Failed),
+        test_names(at)?;
+        if let Some(opened) = self.handles.opened_at(at) {
+            return fill_from(&opened.file, start, out);
         }
+        let text = self.place_of(at, Kind::File)?;
+        let opened = Opened {
+            at: at.copy()?,
+            file: fs::open(&self.rt, text.as_str()).map_err(|error| cause_of(&error))?,
+        };
+        let answer = fill_from(&opened.file, start, out);
+        self.handles.keep_opened(opened);
+        answer
     }
 
     // Notes that the directory above a path changes.
     fn note_above(&mut self, at: &FPath) -> Result<(), AllocError>
-        ensures noted { OnOk result (self.new.dirs ≡ noted self.old.dirs (parent at.now)) }
-        ensures kept { OnErr result (self.new.dirs ≡ self.old.dirs) }
+        ensures changed { OnOk result (IsTrue (has self.new.dirs.changed (parent at.now))) }
+        ensures keeps { (dir : Path) → IsTrue (has self.old.dirs.changed dir) → IsTrue (has self.new.dirs.changed dir) }
+        ensures just { (dir : Path) → IsTrue (has self.new.dirs.changed dir) → IsTrue (has self.old.dirs.changed dir) ⊎ IsTrue (same (parent at.now) dir) }
+        ensures seen { self.new.dirs.seen ≡ self.old.dirs.seen }
+        ensures sees { Sees self.old.dirs self.new.dirs }
+        ensures bar { self.new.barred ≡ self.old.barred }
         ensures faults { self.new.faults ≡ self.old.faults }
     {
         let above = at.parent()?;
-        note(&mut self.dirs, above)
+        self.noted.change(&above)
     }
 
-    fn add_dir(&mut self, at: &FPath) -> Result<(), FolderFault>
+    // The text of a path at which a change may be made, where a directory stands above it, which is noted.
+    #[tactic(auto, using(crate::proofs::Dirs::sees_same, crate::proofs::Dirs::sees_after))]
+    fn make_room(&mut self, at: &FPath) -> Result<String, Cause>
         ensures names { OnOk result (IsTrue (names_entries at.now)) }
-        ensures noted { OnOk result (self.new.dirs ≡ noted self.old.dirs (parent at.now)) }
-        ensures kept { OnErr result (IsKept self.old.dirs self.new.dirs (parent at.now)) }
+        ensures changed { OnOk result (IsTrue (has self.new.dirs.changed (parent at.now))) }
+        ensures sees { Sees self.old.dirs self.new.dirs }
+        ensures bar { self.new.barred ≡ self.old.barred }
         ensures faults { self.new.faults ≡ self.old.faults }
+        ensures barred { self.old.barred ≡ true → (result ≡ Err Cause.Held) × (self.new ≡ self.old) }
     {
-        let text = self.place_of(at, Kind::Missing)?;
+        self.may_change(at)?;
+        let text = self.room_at(at)?;
         self.note_above(at)?;
-        fs::create_dir(&self.rt, text.as_str()).map_err(|error| fault_of(&error))
+        Ok(text)
     }
 
-    fn add_file(&mut self, at: &FPath) -> Result<(), FolderFault>
+    // The text of a file that may be removed. The directory above it is noted.
+    #[tactic(auto, using(crate::proofs::Dirs::sees_same, crate::proofs::Dirs::sees_after))]
+    fn take_file(&mut self, at: &FPath) -> Result<String, Cause>
         ensures names { OnOk result (IsTrue (names_entries at.now)) }
-        ensures noted { OnOk result (self.new.dirs ≡ noted self.old.dirs (parent at.now)) }
-        ensures kept { OnErr result (IsKept self.old.dirs self.new.dirs (parent at.now)) }
+        ensures changed { OnOk result (IsTrue (has self.new.dirs.changed (parent at.now))) }
+        ensures sees { Sees self.old.dirs self.new.dirs }
+        ensures bar { self.new.barred ≡ self.old.barred }
         ensures faults { self.new.faults ≡ self.old.faults }
+        ensures barred { self.old.barred ≡ true → (result ≡ Err Cause.Held) × (self.new ≡ self.old) }
     {
-        let text = self.place_of(at, Kind::Missing)?;
-        self.note_above(at)?;
-        let mut options = OpenOptions::new();
-        options.write(true).create_new(true);
-        match options.open(&self.rt, text.as_str()) {
-            Ok(_) => Ok(()),
-            Err(error) => Err(fault_of(&error)),
-        }
-    }
-
-    fn grow(&self, at: &FPath, piece: &[u8]) -> Result<(), FolderFault>
-        ensures { OnOk result (IsTrue (names_entries at.now)) }
-    {
+        self.may_change(at)?;
         let text = self.place_of(at, Kind::File)?;
+        self.note_above(at)?;
+        Ok(text)
+    }
+
+    #[tactic(auto, using(crate::proofs::Dirs::sees_same, crate::proofs::Dirs::sees_after))]
+    fn add_dir(&mut self, at: &FPath) -> Result<(), Cause>
+        ensures names { OnOk result (IsTrue (names_entries at.now)) }
+        ensures changed { OnOk result (IsTrue (has self.new.dirs.changed (parent at.now))) }
+        ensures sees { Sees self.old.dirs self.new.dirs }
+        ensures bar { self.new.barred ≡ self.old.barred }
+        ensures faults { self.new.faults ≡ self.old.faults }
+        ensures barred { self.old.barred ≡ true → (result ≡ Err Cause.Held) × (self.new ≡ self.old) }
+    {
+        let text = self.make_room(at)?;
+        let mut builder = DirBuilder::new();
+        builder.mode(DIRECTORY_MODE);
+        builder
+            .create(&self.rt, text.as_str())
+            .map_err(|error| cause_of(&error))?;
+        self.claims
+            .hold_made(&self.rt, self.alloc, self.base.as_str(), at)
+    }
+
+    #[tactic(auto, using(crate::proofs::Dirs::sees_same, crate::proofs::Dirs::sees_after))]
+    fn add_file(&mut self, at: &FPath) -> Result<(), Cause>
+        ensures names { OnOk result (IsTrue (names_entries at.now)) }
+        ensures changed { OnOk result (IsTrue (has self.new.dirs.changed (parent at.now))) }
+        ensures sees { Sees self.old.dirs self.new.dirs }
+        ensures bar { self.new.barred ≡ self.old.barred }
+        ensures faults { self.new.faults ≡ self.old.faults }
+        ensures barred { self.old.barred ≡ true → (result ≡ Err Cause.Held) × (self.new ≡ self.old) }
+    {
+        let text = self.make_room(at)?;
+        let copy = at.copy()?;
         let mut options = OpenOptions::new();
-        options.append(true);
+        options.append(true).create_new(true).mode(FILE_MODE);
         let file = options
             .open(&self.rt, text.as_str())
-            .map_err(|error| fault_of(&error))?;
-        let mut sink = StdSink::new(file);
-        sink.put(piece).map_err(|_fault| FolderFault::Failed)
-    }
-
-    // Syncs what stands at a text.
-    fn sync_at(&self, text: &str) -> Result<(), FolderFault> {
-        let file = fs::open(&self.rt, text).map_err(|error| fault_of(&error))?;
-        file.sync_all().map_err(|error| fault_of(&error))
-    }
-
-    fn sync_file(&self, at: &FPath) -> Result<(), FolderFault>
-        ensures { OnOk result (IsTrue (names_entries at.now)) }
-    {
-        let text = self.place_of(at, Kind::File)?;
-        self.sync_at(text.as_str())
-    }
-
-    fn sync_dir(&self, at: &FPath) -> Result<(), FolderFault> {
-        let text = self.place_of(at, Kind::Dir)?;
-        self.sync_at(text.as_str())
-    }
-
-    fn sync_dirs(&mut self) -> Result<(), FolderFault>
-        ensures settled { OnOk result (self.new.dirs ≡ []) }
-        ensures kept { OnErr result (self.new.dirs ≡ self.old.dirs) }
-        ensures faults { self.new.faults ≡ self.old.faults }
-    {
-        self.sync_below(&FPath::base(self.alloc))?;
-        self.dirs.clear();
+            .map_err(|error| cause_of(&error))?;
+        self.keep_made(copy, file);
         Ok(())
     }
 
-    // Syncs the directories that changed at a path and below it.
-    fn sync_below(&self, at: &FPath) -> Result<(), FolderFault> {
-        for dir in &self.dirs {
-            if dir.starts_with(at) {
-                self.sync_dir(dir)?;
+    // Keeps a file open that was just made.
+    fn keep_made(&mut self, at: FPath, file: fs::File)
+        ensures { self.new ≡ self.old }
+    {
+        if let Ok(metadata) = file.metadata() {
+            self.handles.keep_made(Made {
+                at,
+                file,
+                node: Node::of(&metadata),
+                mode: metadata.permissions().mode(),
+            });
+        }
+    }
+
+    #[tactic(auto, using(crate::proofs::Dirs::sees_same, crate::proofs::Dirs::sees_after))]
+    fn grow(&mut self, at: &FPath, piece: &[u8]) -> Result<(), Cause>
+        ensures names { OnOk result (IsTrue (names_entries at.now)) }
+        ensures sees { Sees self.old.dirs self.new.dirs }
+        ensures bar { self.new.barred ≡ self.old.barred }
+        ensures faults { self.new.faults ≡ self.old.faults }
+        ensures barred { self.old.barred ≡ true → (result ≡ Err Cause.Held) × (self.new ≡ self.old) }
+    {
+        self.test_barred()?;
+        test_names(at)?;
+        if let Some(made) = self.handles.made_at(at) {
+            return put(&mut &made.file, piece);
+        }
+        self.may_change(at)?;
+        let text = self.place_of(at, Kind::File)?;
+        let mut options = OpenOptions::new();
+        options.append(true);
+        let mut file = options
+            .open(&self.rt, text.as_str())
+            .map_err(|error| cause_of(&error))?;
+        put(&mut file, piece)
+    }
+
+    // Syncs what stands at a text.
+    fn sync_at(&self, text: &str) -> Result<(), Cause> {
+        let file = fs::open(&self.rt, text).map_err(|error| cause_of(&error))?;
+        file.sync_all().map_err(|error| cause_of(&error))
+    }
+
+    #[tactic(auto, using(crate::proofs::Dirs::sees_same, crate::proofs::Dirs::sees_after))]
+    fn sync_file(&mut self, at: &FPath) -> Result<(), Cause>
+        ensures names { OnOk result (IsTrue (names_entries at.now)) }
+        ensures sees { Sees self.old.dirs self.new.dirs }
+        ensures bar { self.new.barred ≡ self.old.barred }
+        ensures faults { self.new.faults ≡ self.old.faults }
+        ensures barred { self.old.barred ≡ true → (result ≡ Err Cause.Held) × (self.new ≡ self.old) }
+    {
+        self.test_barred()?;
+        test_names(at)?;
+        if let Some(made) = self.handles.made_at(at) {
+            return made.file.sync_all().map_err(|error| cause_of(&error));
+        }
+        self.may_change(at)?;
+        let text = self.place_of(at, Kind::File)?;
+        self.sync_at(text.as_str())
+    }
+
+    fn settle_now(&mut self) -> Result<(), Cause>
+        ensures settled { OnOk result (IsSettled self.new.dirs) }
+        ensures kept { OnErr result (self.new.dirs ≡ self.old.dirs) }
+        ensures known { self.new.dirs.known ≡ self.old.dirs.known }
+        ensures bar { self.new.barred ≡ self.old.barred }
+        ensures faults { self.new.faults ≡ self.old.faults }
+        ensures barred { self.old.barred ≡ true → (result ≡ Err Cause.Held) × (self.new ≡ self.old) }
+    {
+        self.test_barred()?;
+        self.sync_noted()
+    }
+
+    // Syncs what is noted, and lets it go.
+    fn sync_noted(&mut self) -> Result<(), Cause>
+        ensures settled { OnOk result (IsSettled self.new.dirs) }
+        ensures kept { OnErr result (self.new.dirs ≡ self.old.dirs) }
+        ensures known { self.new.dirs.known ≡ self.old.dirs.known }
+        ensures bar { self.new.barred ≡ self.old.barred }
+        ensures faults { self.new.faults ≡ self.old.faults }
+    {
+        match self.sync_each() {
+            Ok(()) => {
+                self.noted.let_go();
+                Ok(())
+            }
+            Err(trouble) => {
+                let cause = trouble.cause;
+                self.keep_trouble(trouble);
+                Err(cause)
+            }
+        }
+    }
+
+    // Syncs each directory that is noted. One that this process hasn't changed is passed over where it can't be synced.
+    fn sync_each(&self) -> Result<(), Trouble> {
+        for dir in self.noted.changed() {
+            self.sync_dir(dir)
+                .map_err(|cause| Trouble::new(dir, cause))?;
+        }
+        for dir in self.noted.seen() {
+            match self.sync_dir(dir) {
+                Err(cause) if !is_passed_over(cause) => return Err(Trouble::new(dir, cause)),
+                _ => {}
             }
         }
         Ok(())
     }
 
-    // Moves what may move, once the directories that changed at and below it are synced.
-    fn rename_now(&mut self, old: &FPath, new: &FPath) -> Result<(), FolderFault>
+    // Syncs a directory. What stands there is opened only if it is one.
+    fn sync_dir(&self, dir: &FPath) -> Result<(), Cause> {
+        let mut text = text_of(self.alloc, self.base.as_str(), dir.parts())?;
+        text.push_str("/.")?;
+        self.sync_at(text.as_str())
+    }
+
+    // Moves what may move. Before a directory moves, all that is noted is synced.
+    #[tactic(auto, using(crate::proofs::Dirs::sees_same, crate::proofs::Dirs::sees_after))]
+    fn rename_now(&mut self, old: &FPath, new: &FPath) -> Result<(), Cause>
         ensures names { OnOk result (IsTrue (names_entries old.now) × IsTrue (names_entries new.now)) }
-        ensures noted { OnOk result (self.new.dirs ≡ not_below old.now (noted (noted self.old.dirs (parent old.now)) (parent new.now))) }
-        ensures kept { OnErr result (IsKept self.old.dirs self.new.dirs (parent old.now) ⊎ (self.new.dirs ≡ noted (noted self.old.dirs (parent old.now)) (parent new.now))) }
+        ensures changed { OnOk result (IsTrue (has self.new.dirs.changed (parent old.now)) × IsTrue (has self.new.dirs.changed (parent new.now))) }
+        ensures sees { Sees self.old.dirs self.new.dirs ⊎ IsJust self.new.dirs (parent old.now) (parent new.now) }
+        ensures bar { self.new.barred ≡ self.old.barred }
+        ensures faults { self.new.faults ≡ self.old.faults }
+        ensures barred { self.old.barred ≡ true → (result ≡ Err Cause.Held) × (self.new ≡ self.old) }
+    {
+        self.test_barred()?;
+        let (from, to) = self.look_both(old, new)?;
+        if old.depth() == 0 || new.starts_with(old) || !may_move(from.kind, to.kind) {
+            return Err(Cause::InTheWay);
+        }
+        if from.kind == Some(Kind::Dir) {
+            self.move_dir(old, new, &from, &to)
+        } else {
+            self.move_file(old, new, &from, &to)
+        }
+    }
+
+    #[tactic(auto, using(crate::proofs::Dirs::sees_same, crate::proofs::Dirs::sees_after))]
+    fn look_both(&mut self, old: &FPath, new: &FPath) -> Result<(Place, Place), Cause>
+        ensures names { OnOk result (IsTrue (names_entries old.now) × IsTrue (names_entries new.now)) }
+        ensures sees { Sees self.old.dirs self.new.dirs }
+        ensures bar { self.new.barred ≡ self.old.barred }
         ensures faults { self.new.faults ≡ self.old.faults }
     {
         let from = self.look(old)?;
         let to = self.look(new)?;
-        if old.depth() == 0 || new.starts_with(old) || !may_move(from.kind, to.kind) {
-            return Err(FolderFault::Refused);
-        }
-        self.sync_below(old)?;
+        Ok((from, to))
+    }
+
+    // Notes that the directories above two paths change.
+    #[tactic(auto, using(crate::proofs::Dirs::sees_same, crate::proofs::Dirs::sees_after))]
+    fn note_both(&mut self, old: &FPath, new: &FPath) -> Result<(), AllocError>
+        ensures changed { OnOk result (IsTrue (has self.new.dirs.changed (parent old.now)) × IsTrue (has self.new.dirs.changed (parent new.now))) }
+        ensures sees { Sees self.old.dirs self.new.dirs }
+        ensures just { IsSettled self.old.dirs → IsJust self.new.dirs (parent old.now) (parent new.now) }
+        ensures bar { self.new.barred ≡ self.old.barred }
+        ensures faults { self.new.faults ≡ self.old.faults }
+    {
         self.note_above(old)?;
         self.note_above(new)?;
-        let left = without(self.alloc, self.dirs.as_slice(), old)?;
-        fs::rename(&self.rt, from.text.as_str(), to.text.as_str()).map_err(|error| fault_of(
+        Ok(())
+    }
+
+    // What may be moved from one path to another: no claim of either is missing.
+    fn may_move_there(&mut self, old: &FPath, new: &FPath) -> Result<(), Cause>
+        ensures { self.new ≡ self.old }
+    {
+        self.may_change(old)?;
+        self.may_change(new)
+    }
+
+    #[tactic(auto, using(crate::proofs::Dirs::sees_same, crate::proofs::Dirs::sees_after))]
+    fn move_file(&mut self, old: &FPath, new: &FPath, from: &Place, to: &Place) -> Result<(), Cause>
+        ensures changed { OnOk result (IsTrue (has self.new.dirs.changed (parent old.now)) × IsTrue (has self.new.dirs.changed (parent new.now))) }
+        ensures sees { Sees self.old.dirs self.new.dirs }
+        ensures bar { self.new.barred ≡ self.old.barred }
+        ensures faults { self.new.faults ≡ self.old.faults }
+    {
+        self.may_move_there(old, new)?;
+        if let Some(made) = self.handles.made_at(old) {
+            fit(made, from, to)?;
+        }
+        self.note_both(old, new)?;
+        self.rename_there(old, new, from, to)?;
+        self.life.count_placed();
+        Ok(())
+    }
+
+    #[tactic(auto, using(crate::proofs::Dirs::sees_same, crate::proofs::Dirs::sees_after))]
+    fn move_dir(&mut self, old: &FPath, new: &FPath, from: &Place, to: &Place) -> Result<(), Cause>
+        ensures changed { OnOk result (IsTrue (has self.new.dirs.changed (parent old.now)) × IsTrue (has self.new.dirs.changed (parent new.now))) }
+        ensures sees { Sees self.old.dirs self.new.dirs ⊎ IsJust self.new.dirs (parent old.now) (parent new.now) }
+        ensures bar { self.new.barred ≡ self.old.barred }
+        ensures faults { self.new.faults ≡ self.old.faults }
+    {
+        self.sync_noted()?;
+        self.may_move_there(old, new)?;
+        let below = self.noted.known_below(old)?;
+        self.note_both(old, new)?;
+        self.claims.hold_moved(&self.rt, from.text.as_str(), new)?;
+        self.rename_there(old, new, from, to)?;
+        self.noted.unknow(below.as_slice());
+        Ok(())
+    }
+
+    // Moves what stands at one text to another, and closes what was open at and below them.
+    fn rename_there(
+        &mut self,
+        old: &FPath,
+        new: &FPath,
+        from: &Place,
+        to: &Place,
+    ) -> Result<(), Cause>
+        ensures { self.new ≡ self.old }
+    {
+        fs::rename(&self.rt, from.text.as_str(), to.text.as_str()).map_err(|error| cause_of(
             &error,
         ))?;
-        self.dirs = left;
+        self.handles.close_below(old);
+        self.handles.close_below(new);
         Ok(())
     }
 
-    fn remove_file_now(&mut self, at: &FPath) -> Result<(), FolderFault>
+    #[tactic(auto, using(crate::proofs::Dirs::sees_same, crate::proofs::Dirs::sees_after))]
+    fn remove_file_now(&mut self, at: &FPath) -> Result<(), Cause>
         ensures names { OnOk result (IsTrue (names_entries at.now)) }
-        ensures noted { OnOk result (self.new.dirs ≡ noted self.old.dirs (parent at.now)) }
-        ensures kept { OnErr result (IsKept self.old.dirs self.new.dirs (parent at.now)) }
+        ensures changed { OnOk result (IsTrue (has self.new.dirs.changed (parent at.now))) }
+        ensures sees { Sees self.old.dirs self.new.dirs }
+        ensures bar { self.new.barred ≡ self.old.barred }
         ensures faults { self.new.faults ≡ self.old.faults }
+        ensures barred { self.old.barred ≡ true → (result ≡ Err Cause.Held) × (self.new ≡ self.old) }
     {
-        let text = self.place_of(at, Kind::File)?;
-        self.note_above(at)?;
-        fs::remove_file(&self.rt, text.as_str()).map_err(|error| fault_of(&error))
+        let text = self.take_file(at)?;
+        fs::remove_file(&self.rt, text.as_str()).map_err(|error| cause_of(&error))?;
+        self.handles.close_below(at);
+        Ok(())
     }
 
-    fn remove_dir_now(&mut self, at: &FPath) -> Result<(), FolderFault>
+    #[tactic(auto, using(crate::proofs::Dirs::sees_but, crate::proofs::Dirs::sees_but_after, crate::proofs::Dirs::below_apart))]
+    fn remove_dir_now(&mut self, at: &FPath) -> Result<(), Cause>
         ensures names { OnOk result (IsTrue (names_entries at.now)) }
-        ensures noted { OnOk result (self.new.dirs ≡ not_below at.now (noted self.old.dirs (parent at.now))) }
-        ensures kept { OnErr result (IsKept self.old.dirs self.new.dirs (parent at.now)) }
+        ensures changed { OnOk result (IsTrue (has self.new.dirs.changed (parent at.now))) }
+        ensures sees { SeesBut at.now self.old.dirs self.new.dirs }
+        ensures bar { self.new.barred ≡ self.old.barred }
         ensures faults { self.new.faults ≡ self.old.faults }
+        ensures barred { self.old.barred ≡ true → (result ≡ Err Cause.Held) × (self.new ≡ self.old) }
     {
-        let text = self.place_of(at, Kind::Dir)?;
+        self.test_barred()?;
         if at.depth() == 0 {
-            return Err(FolderFault::Refused);
+            return Err(Cause::InTheWay);
         }
-        self.note_above(at)?;
-        let left = without(self.alloc, self.dirs.as_slice(), at)?;
-        fs::remove_dir(&self.rt, text.as_str()).map_err(|error| fault_of(&error))?;
-        self.dirs = left;
+        let text = self.make_room(at)?;
+        fs::remove_dir(&self.rt, text.as_str()).map_err(|error| cause_of(&error))?;
+        self.handles.close_below(at);
+        self.noted.forget(at);
         Ok(())
     }
+}
+
+// The file that was made must be the one that stands there, and takes on the mode of the one that it replaces.
+fn fit(made: &Made, from: &Place, to: &Place) -> Result<(), Cause> {
+    if from.metadata.as_ref().map(Node::of) != Some(made.node) {
+        return Err(Cause::Replaced);
+    }
+    if let Some(replaced) = &to.metadata {
+        let permissions = replaced.permissions();
+        if permissions.mode() != made.mode {
+            let _ = made.file.set_permissions(permissions);
+        }
+    }
+    Ok(())
+}
+
+// Whether a directory that this process hasn't changed is passed over where a sync of it fails for this cause: it may not be opened, or
+// its file system has no sync of directories.
+fn is_passed_over(cause: Cause) -> bool {
+    matches!(
+        cause,
+        Cause::Machine(
+            ErrorKind::PermissionDenied | ErrorKind::InvalidInput | ErrorKind::ReadOnlyFilesystem
+        )
+    )
 }
 
 // Whether what stands at one place may move to another: onto nothing, or a file onto a file.
@@ -270,7 +701,7 @@ fn may_move(from: Option<Kind>, to: Option<Kind>) -> bool
     }
 }
 
-impl<R: Runtime> Folder for HostFolder<R> {
+impl Folder for HostFolder {
     ghost use Rattle.std.proofs.lemmas.Option.{none-some};
 
     ghost told = { λ f. None };
@@ -282,20 +713,24 @@ impl<R: Runtime> Folder for HostFolder<R> {
     fn kind(&mut self, at: &FPath) -> Result<Kind, FolderFault>
         ensures counts { Counts None self.old.faults self.new.faults result }
         ensures names { OnOk result (IsTrue (names_entries at.now)) }
-        ensures kept { self.new.dirs ≡ self.old.dirs }
+        ensures known { IfOk result (λ kind. kind ≢ Missing → IsTrue (has self.new.dirs.known (parent at.now))) }
+        ensures sees { Sees self.old.dirs self.new.dirs }
+        ensures bar { self.new.barred ≡ self.old.barred }
     {
         let answer = self.kind_of(at);
-        self.counted(answer)
+        self.answered(at, answer)
     }
 
     fn list(&mut self, at: &FPath) -> Result<Vec<Entry>, FolderFault>
         ensures counts { Counts None self.old.faults self.new.faults result }
         ensures names { OnOk result (IsTrue (names_entries at.now)) }
         ensures sorted { IfOk result (λ entries. IsSortedByKey (λ (entry : Item). entry.name) (slice_cmp nat_cmp) entries.items) }
-        ensures kept { self.new.dirs ≡ self.old.dirs }
+        ensures known { OnOk result (IsTrue (has self.new.dirs.known at.now)) }
+        ensures sees { Sees self.old.dirs self.new.dirs }
+        ensures bar { self.new.barred ≡ self.old.barred }
     {
         let answer = self.entries(at);
-        self.counted(answer)
+        self.answered(at, answer)
     }
 
     fn read(&mut self, at: &FPath, start: u64, out: &mut [u8]) -> Result<usize, FolderFault>
@@ -303,86 +738,109 @@ impl<R: Runtime> Folder for HostFolder<R> {
         ensures names { OnOk result (IsTrue (names_entries at.now)) }
         ensures within { IfOk result (λ n. n ≤ length out.old) }
         ensures unread { KeepsUnlessRun result (out.new ≡ out.old) }
-        ensures kept { self.new.dirs ≡ self.old.dirs }
+        ensures sees { Sees self.old.dirs self.new.dirs }
+        ensures bar { self.new.barred ≡ self.old.barred }
     {
         let answer = self.bytes(at, start, out);
-        self.counted(answer)
+        if let Ok(count) = &answer {
+            self.life.count_read(*count);
+        }
+        self.answered(at, answer)
     }
 
     fn make_dir(&mut self, at: &FPath) -> Result<(), FolderFault>
         ensures counts { Counts None self.old.faults self.new.faults result }
         ensures names { OnOk result (IsTrue (names_entries at.now)) }
-        ensures noted { OnOk result (self.new.dirs ≡ noted self.old.dirs (parent at.now)) }
-        ensures kept { OnErr result (IsKept self.old.dirs self.new.dirs (parent at.now)) }
+        ensures changed { OnOk result (IsTrue (has self.new.dirs.changed (parent at.now))) }
+        ensures sees { Sees self.old.dirs self.new.dirs }
+        ensures bar { self.new.barred ≡ self.old.barred }
+        ensures barred { self.old.barred ≡ true → (result ≡ Err Failed) × (self.new.dirs ≡ self.old.dirs) }
     {
         let answer = self.add_dir(at);
-        self.counted(answer)
+        self.answered(at, answer)
     }
 
     fn create(&mut self, at: &FPath) -> Result<(), FolderFault>
         ensures counts { Counts None self.old.faults self.new.faults result }
         ensures names { OnOk result (IsTrue (names_entries at.now)) }
-        ensures noted { OnOk result (self.new.dirs ≡ noted self.old.dirs (parent at.now)) }
-        ensures kept { OnErr result (IsKept self.old.dirs self.new.dirs (parent at.now)) }
+        ensures changed { OnOk result (IsTrue (has self.new.dirs.changed (parent at.now))) }
+        ensures sees { Sees self.old.dirs self.new.dirs }
+        ensures bar { self.new.barred ≡ self.old.barred }
+        ensures barred { self.old.barred ≡ true → (result ≡ Err Failed) × (self.new.dirs ≡ self.old.dirs) }
     {
         let answer = self.add_file(at);
-        self.counted(answer)
+        self.answered(at, answer)
     }
 
     fn append(&mut self, at: &FPath, piece: &[u8]) -> Result<(), FolderFault>
         ensures counts { Counts None self.old.faults self.new.faults result }
         ensures names { OnOk result (IsTrue (names_entries at.now)) }
-        ensures kept { self.new.dirs ≡ self.old.dirs }
+        ensures sees { Sees self.old.dirs self.new.dirs }
+        ensures bar { self.new.barred ≡ self.old.barred }
+        ensures barred { self.old.barred ≡ true → (result ≡ Err Failed) × (self.new.dirs ≡ self.old.dirs) }
     {
         let answer = self.grow(at, piece);
-        self.counted(answer)
+        self.life.count_written(piece.len());
+        self.answered(at, answer)
     }
 
     fn sync(&mut self, at: &FPath) -> Result<(), FolderFault>
         ensures counts { Counts None self.old.faults self.new.faults result }
         ensures names { OnOk result (IsTrue (names_entries at.now)) }
-        ensures kept { self.new.dirs ≡ self.old.dirs }
+        ensures sees { Sees self.old.dirs self.new.dirs }
+        ensures bar { self.new.barred ≡ self.old.barred }
+        ensures barred { self.old.barred ≡ true → (result ≡ Err Failed) × (self.new.dirs ≡ self.old.dirs) }
     {
         let answer = self.sync_file(at);
-        self.counted(answer)
+        self.answered(at, answer)
     }
 
     fn settle(&mut self) -> Result<(), FolderFault>
         ensures counts { Counts None self.old.faults self.new.faults result }
-        ensures settled { OnOk result (self.new.dirs ≡ []) }
+        ensures settled { OnOk result (IsSettled self.new.dirs) }
         ensures kept { OnErr result (self.new.dirs ≡ self.old.dirs) }
+        ensures known { self.new.dirs.known ≡ self.old.dirs.known }
+        ensures bar { self.new.barred ≡ self.old.barred }
+        ensures barred { self.old.barred ≡ true → (result ≡ Err Failed) × (self.new.dirs ≡ self.old.dirs) }
     {
-        let answer = self.sync_dirs();
+        let answer = self.settle_now();
+        self.life.beat(&self.rt, self.alloc);
         self.counted(answer)
     }
 
     fn rename(&mut self, old: &FPath, new: &FPath) -> Result<(), FolderFault>
         ensures counts { Counts None self.old.faults self.new.faults result }
         ensures names { OnOk result (IsTrue (names_entries old.now) × IsTrue (names_entries new.now)) }
-        ensures noted { OnOk result (self.new.dirs ≡ not_below old.now (noted (noted self.old.dirs (parent old.now)) (parent new.now))) }
-        ensures kept { OnErr result (IsKept self.old.dirs self.new.dirs (parent old.now) ⊎ (self.new.dirs ≡ noted (noted self.old.dirs (parent old.now)) (parent new.now))) }
+        ensures changed { OnOk result (IsTrue (has self.new.dirs.changed (parent old.now)) × IsTrue (has self.new.dirs.changed (parent new.now))) }
+        ensures sees { Sees self.old.dirs self.new.dirs ⊎ IsJust self.new.dirs (parent old.now) (parent new.now) }
+        ensures bar { self.new.barred ≡ self.old.barred }
+        ensures barred { self.old.barred ≡ true → (result ≡ Err Failed) × (self.new.dirs ≡ self.old.dirs) }
     {
         let answer = self.rename_now(old, new);
-        self.counted(answer)
+        self.answered(old, answer)
     }
 
     fn remove_file(&mut self, at: &FPath) -> Result<(), FolderFault>
         ensures counts { Counts None self.old.faults self.new.faults result }
         ensures names { OnOk result (IsTrue (names_entries at.now)) }
-        ensures noted { OnOk result (self.new.dirs ≡ noted self.old.dirs (parent at.now)) }
-        ensures kept { OnErr result (IsKept self.old.dirs self.new.dirs (parent at.now)) }
+        ensures changed { OnOk result (IsTrue (has self.new.dirs.changed (parent at.now))) }
+        ensures sees { Sees self.old.dirs self.new.dirs }
+        ensures bar { self.new.barred ≡ self.old.barred }
+        ensures barred { self.old.barred ≡ true → (result ≡ Err Failed) × (self.new.dirs ≡ self.old.dirs) }
     {
         let answer = self.remove_file_now(at);
-        self.counted(answer)
+        self.answered(at, answer)
     }
 
     fn remove_dir(&mut self, at: &FPath) -> Result<(), FolderFault>
         ensures counts { Counts None self.old.faults self.new.faults result }
         ensures names { OnOk result (IsTrue (names_entries at.now)) }
-        ensures noted { OnOk result (self.new.dirs ≡ not_below at.now (noted self.old.dirs (parent at.now))) }
-        ensures kept { OnErr result (IsKept self.old.dirs self.new.dirs (parent at.now)) }
+        ensures changed { OnOk result (IsTrue (has self.new.dirs.changed (parent at.now))) }
+        ensures sees { SeesBut at.now self.old.dirs self.new.dirs }
+        ensures bar { self.new.barred ≡ self.old.barred }
+        ensures barred { self.old.barred ≡ true → (result ≡ Err Failed) × (self.new.dirs ≡ self.old.dirs) }
     {
         let answer = self.remove_dir_now(at);
-        self.counted(answer)
+        self.answered(at, answer)
     }
 }

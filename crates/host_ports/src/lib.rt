@@ -1,16 +1,23 @@
 //! The folder and the random bytes of the machine itself, over the runtime. What they do there is trusted: contracts say when
-//! they fail and count it, and which directories a settle still has to sync, but nothing of contents.
+//! they fail and count it, which directories a settle still has to sync, and that nothing changes where a claim isn't had, but
+//! nothing of contents.
 #![tactic(auto)]
 
-mod faults;
+mod causes;
+mod claims;
+mod handles;
 mod host_folder;
 mod host_randoms;
 mod listing;
+mod noted;
 mod pieces;
 mod places;
+mod sign_of_life;
 #[cfg(test)]
 mod tests;
-mod unsettled;
 
+pub use causes::{Cause, Trouble};
+pub use claims::{Hold, Wanted};
 pub use host_folder::HostFolder;
 pub use host_randoms::HostRandoms;
+pub use sign_of_life::{clear_line, is_late};

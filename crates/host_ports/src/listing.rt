@@ -6,40 +6,48 @@ ghost use Rattle.std.specs.List.Sorted.{IsSortedByKey};
 ghost use Rattle.std.specs.Ordering.{nat_cmp};
 ghost use Rattle.folder_spec.specs.Listing.{Item};
 
-use crate::faults::{fault_of, kind_of};
-use folder_model::{Entry, FolderFault};
+use crate::causes::{Cause, cause_of, kind_of};
+use folder_model::Entry;
 use std::alloc::Global;
 use std::fs::DirEntry;
-use std::rt::Runtime;
+use std::io::ErrorKind;
 use std::{fs, io};
 
 // The entries of the directory at a text, in byte order of their names.
-pub fn entries_of<R: Runtime>(rt: &R, alloc: Global, text: &str) -> Result<Vec<Entry>, FolderFault>
+pub fn entries_of(rt: &HostRuntime, alloc: Global, text: &str) -> Result<Vec<Entry>, Cause>
     ensures { IfOk result (λ entries. IsSortedByKey (λ (entry : Item). entry.name) (slice_cmp nat_cmp) entries.items) }
 {
-    let found = fs::read_dir(rt, text).map_err(|error| fault_of(&error))?;
+    let found = fs::read_dir(rt, text).map_err(|error| cause_of(&error))?;
     let mut entries = Vec::new(alloc);
     for entry in found {
-        add_found::<R>(alloc, &mut entries, entry)?;
+        add_found(alloc, &mut entries, entry)?;
     }
     sort(entries.as_mut_slice());
     Ok(entries)
 }
 
-// Adds an entry that was found. A name that isn't UTF-8 is found as an error.
-fn add_found<R: Runtime>(
+// Adds an entry that was found.
+fn add_found(
     alloc: Global,
     entries: &mut Vec<Entry>,
-    found: io::Result<DirEntry<R, R::A>>,
-) -> Result<(), FolderFault>
+    found: io::Result<DirEntry<HostRuntime, Global>>,
+) -> Result<(), Cause>
     ensures { IsErr found → IsErr result }
 {
-    let entry = found.map_err(|error| fault_of(&error))?;
-    let stands = entry.file_type().map_err(|error| fault_of(&error))?;
+    let entry = found.map_err(|error| unlisted(&error))?;
+    let stands = entry.file_type().map_err(|error| cause_of(&error))?;
     let name = String::from_str(alloc, entry.file_name())?;
     match entries.push(Entry::new(name, kind_of(stands))) {
         Ok(()) => Ok(()),
-        Err(_) => Err(FolderFault::NoMemory),
+        Err(_) => Err(Cause::NoMemory),
+    }
+}
+
+// Why an entry isn't listed. A name that isn't UTF-8 is found as an error.
+fn unlisted(error: &io::Error) -> Cause {
+    match error.kind() {
+        ErrorKind::InvalidFilename => Cause::NotText,
+        _ => cause_of(error),
     }
 }
 

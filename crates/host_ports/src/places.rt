@@ -1,22 +1,43 @@
-//! Where the paths of a folder stand on the machine.
+//! Where the paths of a folder stand on the machine, and what stands there.
 
-ghost use Rattle.std.specs.Prelude.{◌≡◌, ◌==◌, ◌||◌, not, map, IfOk, IsSome, IsTrue, OnOk, string_bytes};
+ghost use Rattle.std.specs.Prelude.{◌≡◌, ◌==◌, ◌||◌, not, map, IfOk, IfSome, IsSome, IsTrue, OnOk, string_bytes};
 ghost use Rattle.std.specs.List.{list_all};
 ghost use Rattle.folder_model.specs.Text.{is_plain_part};
+ghost use Rattle.folder_spec.specs.Path.{parent};
+ghost use Rattle.host_ports.specs.Noted.{Sees, has};
 ghost use Rattle.host_ports.specs.Places.{is_entry_name, names_entries, place_text};
 
-use crate::faults::{fault_of, kind_of};
-use folder_model::{FPath, FolderFault, Kind};
-use std::alloc::Global;
+use crate::causes::{Cause, cause_of, kind_of};
+use crate::noted::Noted;
+use folder_model::{FPath, Kind};
+use std::alloc::{AllocError, Global};
 use std::fs;
+use std::fs::Metadata;
 use std::io::ErrorKind;
-use std::rt::Runtime;
+use std::os::unix::fs::MetadataExt;
 
 // What was found at a path: its text on the machine and what stands there, or none where no directory stands above it.
 #[derive(Drop)]
 pub struct Place {
     pub text: String,
     pub kind: Option<Kind>,
+    pub metadata: Option<Metadata>,
+}
+
+// Which of the machine's nodes a file or directory is.
+#[derive(Clone, Copy, Debug, PartialEq, Eq)]
+pub struct Node {
+    pub device: u64,
+    pub number: u64,
+}
+
+impl Node {
+    pub fn of(metadata: &Metadata) -> Node {
+        Node {
+            device: metadata.dev(),
+            number: metadata.ino(),
+        }
+    }
 }
 
 // Whether the part isn't empty, `.` or `..`.
@@ -47,68 +68,168 @@ fn are_entry_names(parts: &[String]) -> bool
     parts.iter().all(|part| is_entry_name(part.as_str()))
 }
 
-// What stands at a text, without following a link there.
-fn kind_at<R: Runtime>(rt: &R, text: &str) -> Result<Kind, FolderFault> {
-    match fs::symlink_metadata(rt, text) {
-        Ok(metadata) => Ok(kind_of(metadata.file_type())),
-        Err(error) if error.kind() == ErrorKind::NotFound => Ok(Kind::Missing),
-        Err(error) => Err(fault_of(&error)),
+// Each part of a path must name an entry.
+pub fn test_names(at: &FPath) -> Result<(), Cause>
+    ensures { OnOk result (IsTrue (names_entries at.now)) }
+{
+    if are_entry_names(at.parts()) {
+        Ok(())
+    } else {
+        Err(Cause::BadName)
     }
 }
 
-// Goes down these parts from a base, which is taken to be a directory, and looks at each path on the way.
-fn walk<R: Runtime>(
-    rt: &R,
-    alloc: Global,
-    base: &str,
-    parts: &[String],
-) -> Result<Place, FolderFault>
-    ensures { IfOk result (λ place. IsSome place.kind
-        → string_bytes place.text ≡ place_text base.now (map (λ s. string_bytes s) parts.now)) }
+// What the machine says of what stands at a text, without following a link there; `None` where nothing does.
+pub fn metadata_at(rt: &HostRuntime, text: &str) -> Result<Option<Metadata>, Cause> {
+    match fs::symlink_metadata(rt, text) {
+        Ok(metadata) => Ok(Some(metadata)),
+        Err(error) if error.kind() == ErrorKind::NotFound => Ok(None),
+        Err(error) => Err(cause_of(&error)),
+    }
+}
+
+// Whether a directory stands at a text.
+fn is_directory(rt: &HostRuntime, text: &str) -> Result<bool, Cause> {
+    match metadata_at(rt, text)? {
+        Some(metadata) => Ok(metadata.is_dir()),
+        None => Ok(false),
+    }
+}
+
+// The text of the path with these parts.
+pub fn text_of(alloc: Global, base: &str, parts: &[String]) -> Result<String, AllocError>
+    ensures { IfOk result (λ text. string_bytes text ≡ place_text base.now (map (λ s. string_bytes s) parts.now)) }
 {
     let mut text = String::from_str(alloc, base)?;
-    let mut kind = Kind::Dir;
     for part in parts {
-        if kind != Kind::Dir {
-            return Ok(Place { text, kind: None });
-        }
         text.push_str("/")?;
         text.push_str(part.as_str())?;
-        kind = kind_at(rt, text.as_str())?;
     }
-    Ok(Place {
-        text,
-        kind: Some(kind),
+    Ok(text)
+}
+
+// The first of these parts, at most so many.
+pub fn up_to(parts: &[String], most: usize) -> &[String] {
+    let count = most.min(parts.len());
+    &parts[..count]
+}
+
+// How far down a directory was reached: how many of its parts were looked at, and whether each is a directory.
+#[derive(Clone, Copy)]
+struct Walked {
+    looked: usize,
+    reached: bool,
+}
+
+// Goes down these parts from a base, which is taken to be a directory, and looks at each path on the way: whether it is a directory,
+// and no link leads there.
+fn walk(rt: &HostRuntime, alloc: Global, base: &str, parts: &[String]) -> Result<Walked, Cause> {
+    let mut text = String::from_str(alloc, base)?;
+    for (index, part) in parts.iter().enumerate() {
+        text.push_str("/")?;
+        text.push_str(part.as_str())?;
+        if !is_directory(rt, text.as_str())? {
+            return Ok(Walked {
+                looked: index.saturating_add(1),
+                reached: false,
+            });
+        }
+    }
+    Ok(Walked {
+        looked: parts.len(),
+        reached: true,
     })
 }
 
-// Looks at a path below the base and at each path above it, so that no link is followed.
-pub fn look<R: Runtime>(rt: &R, alloc: Global, base: &str, at: &FPath) -> Result<Place, FolderFault>
+// Whether a directory stands at a path, and no link leads there. What stands above it is looked at once.
+#[tactic(auto, using(crate::proofs::Dirs::sees_same, crate::proofs::Dirs::sees_after))]
+fn reaches(
+    rt: &HostRuntime,
+    alloc: Global,
+    base: &str,
+    noted: &mut Noted,
+    dir: &FPath,
+) -> Result<bool, Cause>
+    ensures sees { Sees noted.old noted.new }
+    ensures known { IfOk result (λ reached. IsTrue reached → IsTrue (has noted.new.known dir.now)) }
+    ensures changed { noted.new.changed ≡ noted.old.changed }
+{
+    if dir.depth() > 0 && noted.knows(dir) {
+        let text = text_of(alloc, base, dir.parts())?;
+        return is_directory(rt, text.as_str());
+    }
+    let walked = walk(rt, alloc, base, dir.parts())?;
+    noted.see_down(dir, walked.looked, walked.reached)?;
+    Ok(walked.reached)
+}
+
+// Looks at what stands above a path, and notes that an entry there is seen: the path's text, or `None` where no directory stands
+// above it.
+#[tactic(auto, using(crate::proofs::Dirs::sees_same, crate::proofs::Dirs::sees_after))]
+pub fn reach(
+    rt: &HostRuntime,
+    alloc: Global,
+    base: &str,
+    noted: &mut Noted,
+    at: &FPath,
+) -> Result<Option<String>, Cause>
+    ensures names { OnOk result (IsTrue (names_entries at.now)) }
+    ensures text { IfOk result (λ reached. IfSome reached (λ text. string_bytes text ≡ place_text base.now at.now)) }
+    ensures sees { Sees noted.old noted.new }
+    ensures known { IfOk result (λ reached. IsSome reached → IsTrue (has noted.new.known (parent at.now))) }
+    ensures changed { noted.new.changed ≡ noted.old.changed }
+{
+    test_names(at)?;
+    if !reaches(rt, alloc, base, noted, &at.parent()?)? {
+        return Ok(None);
+    }
+    Ok(Some(text_of(alloc, base, at.parts())?))
+}
+
+// Looks at a path, and at what stands above it.
+#[tactic(auto, using(crate::proofs::Dirs::sees_same, crate::proofs::Dirs::sees_after))]
+pub fn look(
+    rt: &HostRuntime,
+    alloc: Global,
+    base: &str,
+    noted: &mut Noted,
+    at: &FPath,
+) -> Result<Place, Cause>
     ensures names { OnOk result (IsTrue (names_entries at.now)) }
     ensures text { IfOk result (λ place. IsSome place.kind → string_bytes place.text ≡ place_text base.now at.now) }
+    ensures sees { Sees noted.old noted.new }
+    ensures known { IfOk result (λ place. IsSome place.kind → IsTrue (has noted.new.known (parent at.now))) }
+    ensures changed { noted.new.changed ≡ noted.old.changed }
 {
-    if are_entry_names(at.parts()) {
-        walk(rt, alloc, base, at.parts())
-    } else {
-        Err(FolderFault::Failed)
+    match reach(rt, alloc, base, noted, at)? {
+        Some(text) => place_at(rt, text, at.depth()),
+        None => Ok(Place {
+            text: String::new(alloc),
+            kind: None,
+            metadata: None,
+        }),
     }
 }
 
-// The text of a path at which this stands.
-pub fn place_of<R: Runtime>(
-    rt: &R,
-    alloc: Global,
-    base: &str,
-    at: &FPath,
-    kind: Kind,
-) -> Result<String, FolderFault>
-    ensures names { OnOk result (IsTrue (names_entries at.now)) }
-    ensures text { IfOk result (λ text. string_bytes text ≡ place_text base.now at.now) }
+// What stands at the text of a path of so many parts. The base is taken to be a directory.
+fn place_at(rt: &HostRuntime, text: String, depth: usize) -> Result<Place, Cause>
+    ensures { IfOk result (λ place. string_bytes place.text ≡ string_bytes text) }
 {
-    let place = look(rt, alloc, base, at)?;
-    if place.kind == Some(kind) {
-        Ok(place.text)
-    } else {
-        Err(FolderFault::Refused)
+    if depth == 0 {
+        return Ok(Place {
+            text,
+            kind: Some(Kind::Dir),
+            metadata: None,
+        });
     }
+    let metadata = metadata_at(rt, text.as_str())?;
+    let kind = match &metadata {
+        Some(metadata) => kind_of(metadata.file_type()),
+        None => Kind::Missing,
+    };
+    Ok(Place {
+        text,
+        kind: Some(kind),
+        metadata,
+    })
 }

@@ -1,35 +1,71 @@
 //! The program: the command line over the working directory, between the standard streams.
 #![tactic(auto)]
 
+mod claiming;
+mod streams;
+
+use crate::claiming::claim;
+use crate::streams::{WipedSink, prints_as_it_goes, tell};
 use host_ports::{HostFolder, HostRandoms};
 use port_model::{StdSink, StdSource};
+use std::io::IsTerminal;
 use std::process::ExitCode;
 use std::{env, io};
 use vault_cli::{Answer, report, run};
 
+// The status of a run whose folder failed.
+const FOLDER_FAULT: u8 = 4;
+
 fn main(rt: HostRuntime) -> ExitCode {
-    let mut err = StdSink::new(rt.stderr());
-    match status(&rt, &mut err) {
+    match status(&rt) {
         Ok(status) => ExitCode::from(status),
-        Err(answer) => ExitCode::from(report(rt.alloc(), answer, &mut err).status()),
+        Err(answer) => {
+            let mut err = StdSink::new(rt.stderr());
+            ExitCode::from(report(rt.alloc(), answer, &mut err).status())
+        }
     }
 }
 
 // Runs the command that the words make.
-fn status(rt: &HostRuntime, err: &mut StdSink<io::Stderr>) -> Result<u8, Answer> {
+fn status(rt: &HostRuntime) -> Result<u8, Answer> {
     let words = words(rt)?;
     let mut folder = HostFolder::new(rt.clone()?, rt.alloc(), "")?;
+    claim(rt.alloc(), words.as_slice(), &mut folder)?;
+    let terminal = rt.stderr().is_terminal();
+    let shared = terminal && rt.stdout().is_terminal();
+    let shows = terminal && !(shared && prints_as_it_goes(words.as_slice()));
+    if shows {
+        folder.show_life();
+    }
+    let status = run_in(rt, words.as_slice(), &mut folder, shows, shared)?;
+    folder.wipe();
+    if terminal && status == FOLDER_FAULT {
+        tell(rt, &folder);
+    }
+    Ok(status)
+}
+
+// Runs the command over the folder. Where the folder shows on the terminal how far it has come, its line is wiped before anything else
+// is printed there.
+fn run_in(
+    rt: &HostRuntime,
+    words: &[String],
+    folder: &mut HostFolder,
+    shows: bool,
+    shared: bool,
+) -> Result<u8, Answer> {
     let mut random = HostRandoms::new(rt.clone()?);
     let mut input = StdSource::new(rt.stdin());
-    let mut out = StdSink::new(rt.stdout());
+    let mut out = WipedSink::new(StdSink::new(rt.stdout()), rt.clone()?, shows && shared);
+    let mut err = WipedSink::new(StdSink::new(rt.stderr()), rt.clone()?, shows);
     Ok(run(
         rt.alloc(),
-        words.as_slice(),
-        &mut folder,
+        words,
+        folder,
         &mut random,
         &mut input,
         &mut out,
-        err,
+        &mut err,
     ))
 }
 

@@ -1,0 +1,171 @@
+//! The directories that a settle has to sync.
+
+ghost use Rattle.std.specs.Prelude.{◌≡◌, ◌⊎◌, [], IfOk, IsFalse, IsTrue, OnErr, OnOk};
+ghost use Rattle.folder_spec.specs.Path.{Path};
+ghost use Rattle.host_ports.specs.Noted.{Sees, SeesBut, has, same};
+
+use crate::places::up_to;
+use folder_model::FPath;
+use std::alloc::{AllocError, Global};
+use std::collections::BTreeSet;
+use std::marker::Model;
+use std::ops::Bound;
+
+/// The directories of which this process has seen entries, and those of them that still have to be synced: since it saw
+/// what an earlier process may have left unsynced there, or since it changed their entries.
+#[derive(Drop)]
+pub struct Noted {
+    alloc: Global,
+    known: BTreeSet<FPath, Global>,
+    seen: BTreeSet<FPath, Global>,
+    changed: BTreeSet<FPath, Global>,
+}
+
+impl Model for Noted {
+    ghost use Rattle.host_ports.specs.Noted.{Dirs};
+
+    ghost Value = { Dirs };
+
+    ghost view = { λ n. record { known = n.known.keys; seen = n.seen.keys; changed = n.changed.keys } };
+}
+
+impl Noted {
+    pub fn new(alloc: Global) -> Noted
+        ensures { result ≡ record { known = []; seen = []; changed = [] } }
+    {
+        Noted {
+            alloc,
+            known: BTreeSet::new(alloc),
+            seen: BTreeSet::new(alloc),
+            changed: BTreeSet::new(alloc),
+        }
+    }
+
+    /// Whether an entry of the directory was seen, and nothing at it or above it was moved or removed since.
+    pub fn knows(&self, dir: &FPath) -> bool
+        ensures { result ≡ has self.now.known dir.now }
+    {
+        self.known.contains(dir)
+    }
+
+    /// Notes a directory of which an entry is seen, if it is the first one.
+    #[tactic(auto, using(crate::proofs::Dirs::sees_same, crate::proofs::Dirs::sees_after))]
+    pub fn see(&mut self, dir: &FPath) -> Result<(), AllocError>
+        ensures sees { Sees self.old self.new }
+        ensures known { OnOk result (IsTrue (has self.new.known dir.now)) }
+        ensures changed { self.new.changed ≡ self.old.changed }
+    {
+        if self.known.contains(dir) {
+            return Ok(());
+        }
+        self.seen.insert(dir.copy()?)?;
+        self.known.insert(dir.copy()?)?;
+        Ok(())
+    }
+
+    /// Notes the directories above a directory, as many as were looked into, and the directory itself where it was reached.
+    #[tactic(auto, using(crate::proofs::Dirs::sees_same, crate::proofs::Dirs::sees_after))]
+    pub fn see_down(&mut self, dir: &FPath, looked: usize, reached: bool) -> Result<(), AllocError>
+        ensures sees { Sees self.old self.new }
+        ensures known { OnOk result (IsTrue reached → IsTrue (has self.new.known dir.now)) }
+        ensures changed { self.new.changed ≡ self.old.changed }
+    {
+        self.see_above(dir, looked)?;
+        if reached {
+            self.see(dir)?;
+        }
+        Ok(())
+    }
+
+    #[tactic(auto, using(crate::proofs::Dirs::sees_same, crate::proofs::Dirs::sees_after))]
+    fn see_above(&mut self, dir: &FPath, looked: usize) -> Result<(), AllocError>
+        ensures sees { Sees self.old self.new }
+        ensures changed { self.new.changed ≡ self.old.changed }
+    {
+        let mut above = FPath::base(self.alloc);
+        for part in up_to(dir.parts(), looked) {
+            self.see(&above)?;
+            above = above.child(part.as_str())?;
+        }
+        Ok(())
+    }
+
+    /// Notes a directory whose entries change.
+    #[tactic(auto, using(crate::proofs::Dirs::sees_same, crate::proofs::Dirs::sees_after))]
+    pub fn change(&mut self, dir: &FPath) -> Result<(), AllocError>
+        ensures sees { Sees self.old self.new }
+        ensures changed { OnOk result (IsTrue (has self.new.changed dir.now)) }
+        ensures keeps { (at : Path) → IsTrue (has self.old.changed at) → IsTrue (has self.new.changed at) }
+        ensures just { (at : Path) → IsTrue (has self.new.changed at) → IsTrue (has self.old.changed at) ⊎ IsTrue (same dir.now at) }
+        ensures seen { self.new.seen ≡ self.old.seen }
+    {
+        self.changed.insert(dir.copy()?)?;
+        Ok(())
+    }
+
+    /// Lets go of what is noted, once it is synced.
+    pub fn let_go(&mut self)
+        ensures seen { self.new.seen ≡ [] }
+        ensures changed { self.new.changed ≡ [] }
+        ensures known { self.new.known ≡ self.old.known }
+    {
+        self.seen.clear();
+        self.changed.clear();
+    }
+
+    /// Forgets a directory that is removed.
+    pub fn forget(&mut self, dir: &FPath)
+        ensures sees { SeesBut dir.now self.old self.new }
+        ensures keeps { (at : Path) → IsFalse (same dir.now at) → IsTrue (has self.old.changed at) → IsTrue (has self.new.changed at) }
+    {
+        self.known.remove(dir);
+        self.seen.remove(dir);
+        self.changed.remove(dir);
+    }
+
+    /// Forgets of which directories entries were seen.
+    #[tactic(auto, using(crate::proofs::Dirs::sees_same, crate::proofs::Dirs::sees_after))]
+    pub fn unknow(&mut self, dirs: &[FPath])
+        ensures sees { Sees self.old self.new }
+        ensures seen { self.new.seen ≡ self.old.seen }
+        ensures changed { self.new.changed ≡ self.old.changed }
+    {
+        for dir in dirs {
+            self.unknow_one(dir);
+        }
+    }
+
+    fn unknow_one(&mut self, dir: &FPath)
+        ensures sees { Sees self.old self.new }
+        ensures seen { self.new.seen ≡ self.old.seen }
+        ensures changed { self.new.changed ≡ self.old.changed }
+    {
+        self.known.remove(dir);
+    }
+
+    /// The directories at and below a path of which entries were seen.
+    pub fn known_below(&self, at: &FPath) -> Result<Vec<FPath>, AllocError> {
+        let mut below = Vec::new(self.alloc);
+        for dir in self.known.range((Bound::Included(at), Bound::Unbounded)) {
+            if !dir.starts_with(at) {
+                break;
+            }
+            below.push(dir.copy()?)?;
+        }
+        Ok(below)
+    }
+
+    /// The directories whose entries changed.
+    pub fn changed(&self) -> &BTreeSet<FPath, Global>
+        ensures { result.now.keys ≡ self.now.changed }
+    {
+        &self.changed
+    }
+
+    /// The directories of which entries were seen.
+    pub fn seen(&self) -> &BTreeSet<FPath, Global>
+        ensures { result.now.keys ≡ self.now.seen }
+    {
+        &self.seen
+    }
+}

@@ -1,0 +1,94 @@
+//! What a run claims of the machine's folder before the command begins.
+
+use folder_model::{FPath, FolderFault};
+use host_ports::{Hold, HostFolder, Wanted};
+use move_journal::{Journal, JournalFault, read};
+use std::alloc::{AllocError, Global};
+use vault_cli::{Answer, Claims, claims_of};
+
+/// Claims what the command of these words may change. Where a claim isn't had, or what has to be renamed would cross from one file
+/// system to another, the folder changes nothing any more, and the command ends where it would change something.
+pub fn claim(alloc: Global, words: &[String], folder: &mut HostFolder) -> Result<(), Answer> {
+    match claims_of(alloc, words)? {
+        Claims::Nothing => Ok(()),
+        Claims::Beside { vault, other } => {
+            hold(folder, &mut [alone(&vault)?, alone(&other)?])?;
+            folder.keep_on_one_file_system(&vault, &other);
+            Ok(())
+        }
+        Claims::Migration {
+            source,
+            target,
+            work,
+        } => {
+            hold(
+                folder,
+                &mut [shared(&source)?, alone(&target)?, alone(&work)?],
+            )?;
+            folder.keep_on_one_file_system(&target, &work);
+            Ok(())
+        }
+        Claims::Resumption(work) => claim_resumption(alloc, &work, folder),
+        Claims::Retirement(work) => claim_retirement(alloc, &work, folder),
+    }
+}
+
+// Claims the work folder, and then the vaults that its journal names. The source is only read.
+fn claim_resumption(alloc: Global, work: &FPath, folder: &mut HostFolder) -> Result<(), Answer> {
+    if let Some(journal) = claim_work(alloc, work, folder)? {
+        hold(
+            folder,
+            &mut [shared(&journal.source)?, alone(&journal.target)?],
+        )?;
+        folder.keep_on_one_file_system(&journal.target, work);
+    }
+    Ok(())
+}
+
+// Claims the work folder, and then the vaults that its journal names. The source is to be moved into the work folder.
+fn claim_retirement(alloc: Global, work: &FPath, folder: &mut HostFolder) -> Result<(), Answer> {
+    if let Some(journal) = claim_work(alloc, work, folder)? {
+        hold(
+            folder,
+            &mut [alone(&journal.source)?, alone(&journal.target)?],
+        )?;
+        folder.keep_on_one_file_system(&journal.source, work);
+    }
+    Ok(())
+}
+
+// Claims the work folder, and reads its journal, if one of use is there.
+fn claim_work(
+    alloc: Global,
+    work: &FPath,
+    folder: &mut HostFolder,
+) -> Result<Option<Journal>, Answer> {
+    hold(folder, &mut [alone(work)?])?;
+    match read(alloc, folder, work) {
+        Ok(journal) => Ok(Some(journal)),
+        Err(JournalFault::NoMemory) => Err(Answer::OutOfMemory),
+        Err(_) => Ok(None),
+    }
+}
+
+// Claims these paths. That another run holds one is left to the command to meet.
+fn hold(folder: &mut HostFolder, wanted: &mut [Wanted]) -> Result<(), Answer> {
+    match folder.claim(wanted) {
+        Err(FolderFault::NoMemory) => Err(Answer::OutOfMemory),
+        _ => Ok(()),
+    }
+}
+
+fn alone(at: &FPath) -> Result<Wanted, AllocError> {
+    Ok(Wanted {
+        at: at.copy()?,
+        hold: Hold::Alone,
+    })
+}
+
+fn shared(at: &FPath) -> Result<Wanted, AllocError> {
+    Ok(Wanted {
+        at: at.copy()?,
+        hold: Hold::Shared,
+    })
+}

@@ -7,7 +7,7 @@ mod matching;
 mod moving;
 mod paths;
 mod reading;
-mod staging;
+pub mod staging;
 mod walking;
 mod work;
 mod writing;

@@ -1,4 +1,5 @@
 //! Lines that make vaults and what is in them, or name what stands in a vault's folder.
+use crate::layer::staging::is_not_below;
 use crate::stage::Stage;
 use crate::stop::Stop;
 use folder_model::FPath;
@@ -8,7 +9,6 @@ use port_model::MemSink;
 use row_words::cut;
 use vault_read::{Vault, cat, enter, find, list};
 use vault_write::{init_cm, init_go};
-use work_folder::Work;
 
 /// The passphrase of the vaults in rows.
 pub const PASSPHRASE: &[u8] = b"secret";
@@ -40,21 +40,22 @@ impl Stage {
     // Makes a vault of a format at the smallest cost of scrypt.
     fn make_vault(&mut self, words: &str) -> Result<(), Stop> {
         let (format, at) = cut(words);
-        let at = self.path(at)?;
-        let work = self.path(WORK)?;
+        if format != "gocryptfs" && format != "cryptomator" {
+            return Err(Stop::Line);
+        }
+        let (place, at) = (self.path(WORK)?, self.path(at)?);
         let Ok(cost) = ScryptCost::new(2, 1, 1) else {
             return Err(Stop::Line);
         };
         let mut handed = self.hand()?;
-        let Ok(work) = Work::enter(&mut self.folder, &work) else {
-            return Err(Stop::Vault);
-        };
-        let folder = &mut self.folder;
-        let random = &mut handed.random;
+        let work = self.entered(&place)?;
+        if !is_not_below(work.at(), &at) || !is_not_below(&at, work.at()) {
+            return Err(Stop::Line);
+        }
+        let (alloc, folder, random) = (self.alloc, &mut self.folder, &mut handed.random);
         let made = match format {
-            "gocryptfs" => init_go(self.alloc, folder, &work, &at, PASSPHRASE, &cost, random),
-            "cryptomator" => init_cm(self.alloc, folder, &work, &at, PASSPHRASE, &cost, random),
-            _ => return Err(Stop::Line),
+            "gocryptfs" => init_go(alloc, folder, &work, &at, PASSPHRASE, &cost, random),
+            _ => init_cm(alloc, folder, &work, &at, PASSPHRASE, &cost, random),
         };
         match made {
             Ok(()) => Ok(()),

@@ -88,6 +88,11 @@ impl Claims {
         self.claims.iter().any(|claim| claim.at.starts_with(at) || at.starts_with(&claim.at))
     }
 
+    /// Whether a path is a claimed one or lies below one.
+    pub fn cover(&self, at: &FPath) -> bool {
+        self.claims.iter().any(|claim| at.starts_with(&claim.at))
+    }
+
     /// Sees to it that what stands now at each claimed path at or above this one is held.
     pub fn renew(
         &mut self,

@@ -1,8 +1,9 @@
-//! Files that stay open from one piece of their content to the next.
+//! Files and directories that stay open from one call to the next.
 
 use crate::places::Node;
 use folder_model::FPath;
 use std::fs::File;
+use std::mem;
 
 // A file that was made, the path at which it was, the node that it is, and its mode.
 #[derive(Drop)]
@@ -13,25 +14,70 @@ pub struct Made {
     pub mode: u32,
 }
 
-// A file that is read, and the path at which it was opened.
+// A file or directory that is open, and the path at which it was opened.
 #[derive(Drop)]
 pub struct Opened {
     pub at: FPath,
     pub file: File,
 }
 
-// The file that was made last, and the one that was read last.
+// The two that were used last.
+#[derive(Drop)]
+pub struct Pair {
+    last: Option<Opened>,
+    other: Option<Opened>,
+}
+
+impl Pair {
+    pub fn new() -> Pair {
+        Pair {
+            last: None,
+            other: None,
+        }
+    }
+
+    // The one that is open at this path.
+    pub fn open_at(&mut self, at: &FPath) -> Option<&Opened> {
+        if is_at(&self.other, at) {
+            mem::swap(&mut self.last, &mut self.other);
+        }
+        match &self.last {
+            Some(opened) if opened.at.is(at) => Some(opened),
+            _ => None,
+        }
+    }
+
+    // Keeps one more, in the place of the one that wasn't used last.
+    pub fn keep(&mut self, opened: Opened) {
+        mem::swap(&mut self.last, &mut self.other);
+        self.last = Some(opened);
+    }
+
+    // Closes what was opened at or below a path.
+    pub fn close_below(&mut self, at: &FPath) {
+        if lies_below(&self.last, at) {
+            self.last = None;
+        }
+        if lies_below(&self.other, at) {
+            self.other = None;
+        }
+    }
+}
+
+// The file that was made last, what was read last, and the directories that were synced last.
 #[derive(Drop)]
 pub struct Handles {
     made: Option<Made>,
-    opened: Option<Opened>,
+    pub read: Pair,
+    pub synced: Pair,
 }
 
 impl Handles {
     pub fn new() -> Handles {
         Handles {
             made: None,
-            opened: None,
+            read: Pair::new(),
+            synced: Pair::new(),
         }
     }
 
@@ -39,22 +85,10 @@ impl Handles {
         self.made = Some(made);
     }
 
-    pub fn keep_opened(&mut self, opened: Opened) {
-        self.opened = Some(opened);
-    }
-
     // The file that was made at this path.
     pub fn made_at(&self, at: &FPath) -> Option<&Made> {
         match &self.made {
             Some(made) if made.at.is(at) => Some(made),
-            _ => None,
-        }
-    }
-
-    // The file that is read at this path.
-    pub fn opened_at(&self, at: &FPath) -> Option<&Opened> {
-        match &self.opened {
-            Some(opened) if opened.at.is(at) => Some(opened),
             _ => None,
         }
     }
@@ -68,12 +102,21 @@ impl Handles {
         {
             self.made = None;
         }
-        if self
-            .opened
-            .as_ref()
-            .is_some_and(|opened| opened.at.starts_with(at))
-        {
-            self.opened = None;
-        }
+        self.read.close_below(at);
+        self.synced.close_below(at);
+    }
+}
+
+fn is_at(opened: &Option<Opened>, at: &FPath) -> bool {
+    match opened {
+        Some(opened) => opened.at.is(at),
+        None => false,
+    }
+}
+
+fn lies_below(opened: &Option<Opened>, at: &FPath) -> bool {
+    match opened {
+        Some(opened) => opened.at.starts_with(at),
+        None => false,
     }
 }

@@ -15,7 +15,8 @@ ghost use Rattle.host_ports.specs.Places.{names_entries};
 
 use crate::causes::{Cause, Trouble, cause_of, fault_of};
 use crate::claims::{Claims, Wanted};
-use crate::handles::{Handles, Made, Opened};
+use crate::handles::{Handles, Made, Opened, Pair};
+use crate::kinds::Kinds;
 use crate::listing::entries_of;
 use crate::noted::Noted;
 use crate::pieces::{fill_from, put};
@@ -46,6 +47,7 @@ pub struct HostFolder {
     noted: Noted,
     claims: Claims,
     handles: Handles,
+    kinds: Kinds,
     life: SignOfLife,
     trouble: Option<Trouble>,
     barred: bool,
@@ -73,6 +75,7 @@ impl HostFolder {
             noted: Noted::new(alloc),
             claims: Claims::new(alloc),
             handles: Handles::new(),
+            kinds: Kinds::new(alloc),
             life: SignOfLife::hidden(),
             trouble: None,
             barred: false,
@@ -269,6 +272,7 @@ impl HostFolder {
         }
     }
 
+    #[tactic(auto, using(crate::proofs::Dirs::sees_same, crate::proofs::Dirs::sees_after))]
     fn kind_of(&mut self, at: &FPath) -> Result<Kind, Cause>
         ensures names { OnOk result (IsTrue (names_entries at.now)) }
         ensures known { IfOk result (λ kind. kind ≢ Missing → IsTrue (has self.new.dirs.known (parent at.now))) }
@@ -276,10 +280,36 @@ impl HostFolder {
         ensures bar { self.new.barred ≡ self.old.barred }
         ensures faults { self.new.faults ≡ self.old.faults }
     {
-        match self.look(at)?.kind {
-            Some(kind) => Ok(kind),
-            None => Ok(Kind::Missing),
+        test_names(at)?;
+        if self.noted.knows(&at.parent()?) {
+            if let Some(kind) = self.kinds.kind_at(at) {
+                return Ok(kind);
+            }
         }
+        let kind = match self.look(at)?.kind {
+            Some(kind) => kind,
+            None => Kind::Missing,
+        };
+        self.keep_kind(at, kind)?;
+        Ok(kind)
+    }
+
+    // Keeps what stands at a path where no other run changes it.
+    fn keep_kind(&mut self, at: &FPath, kind: Kind) -> Result<(), AllocError>
+        ensures { self.new ≡ self.old }
+    {
+        if self.claims.cover(at) {
+            self.kinds.keep(at, kind)?;
+        }
+        Ok(())
+    }
+
+    // Forgets what was open and what stood at and below a path, where something else comes to stand.
+    fn forget_below(&mut self, at: &FPath)
+        ensures { self.new ≡ self.old }
+    {
+        self.handles.close_below(at);
+        self.kinds.forget_below(at);
     }
 
     #[tactic(auto, using(crate::proofs::Dirs::sees_same, crate::proofs::Dirs::sees_after))]
@@ -306,7 +336,7 @@ impl HostFolder {
         ensures faults { self.new.faults ≡ self.old.faults }
     {
         test_names(at)?;
-        if let Some(opened) = self.handles.opened_at(at) {
+        if let Some(opened) = self.handles.read.open_at(at) {
             return fill_from(&opened.file, start, out);
         }
         let text = self.place_of(at, Kind::File)?;
@@ -315,7 +345,7 @@ impl HostFolder {
             file: fs::open(&self.rt, text.as_str()).map_err(|error| cause_of(&error))?,
         };
         let answer = fill_from(&opened.file, start, out);
-        self.handles.keep_opened(opened);
+        self.handles.read.keep(opened);
         answer
     }
 
@@ -377,6 +407,7 @@ impl HostFolder {
         let text = self.make_room(at)?;
         let mut builder = DirBuilder::new();
         builder.mode(DIRECTORY_MODE);
+        self.forget_below(at);
         builder
             .create(&self.rt, text.as_str())
             .map_err(|error| cause_of(&error))?;
@@ -397,6 +428,7 @@ impl HostFolder {
         let copy = at.copy()?;
         let mut options = OpenOptions::new();
         options.append(true).create_new(true).mode(FILE_MODE);
+        self.forget_below(at);
         let file = options
             .open(&self.rt, text.as_str())
             .map_err(|error| cause_of(&error))?;
@@ -485,7 +517,13 @@ impl HostFolder {
         ensures bar { self.new.barred ≡ self.old.barred }
         ensures faults { self.new.faults ≡ self.old.faults }
     {
-        match self.sync_each() {
+        match sync_each(
+            &self.rt,
+            self.alloc,
+            self.base.as_str(),
+            &self.noted,
+            &mut self.handles.synced,
+        ) {
             Ok(()) => {
                 self.noted.let_go();
                 Ok(())
@@ -496,28 +534,6 @@ impl HostFolder {
                 Err(cause)
             }
         }
-    }
-
-    // Syncs each directory that is noted. One that this process hasn't changed is passed over where it can't be synced.
-    fn sync_each(&self) -> Result<(), Trouble> {
-        for dir in self.noted.changed() {
-            self.sync_dir(dir)
-                .map_err(|cause| Trouble::new(dir, cause))?;
-        }
-        for dir in self.noted.seen() {
-            match self.sync_dir(dir) {
-                Err(cause) if !is_passed_over(cause) => return Err(Trouble::new(dir, cause)),
-                _ => {}
-            }
-        }
-        Ok(())
-    }
-
-    // Syncs a directory. What stands there is opened only if it is one.
-    fn sync_dir(&self, dir: &FPath) -> Result<(), Cause> {
-        let mut text = text_of(self.alloc, self.base.as_str(), dir.parts())?;
-        text.push_str("/.")?;
-        self.sync_at(text.as_str())
     }
 
     // Moves what may move. Before a directory moves, all that is noted is synced.
@@ -583,14 +599,22 @@ impl HostFolder {
         ensures bar { self.new.barred ≡ self.old.barred }
         ensures faults { self.new.faults ≡ self.old.faults }
     {
-        self.may_move_there(old, new)?;
-        if let Some(made) = self.handles.made_at(old) {
-            fit(made, from, to)?;
-        }
+        self.test_made(old, from, to)?;
+        self.may_change(new)?;
         self.note_both(old, new)?;
         self.rename_there(old, new, from, to)?;
         self.life.count_placed();
         Ok(())
+    }
+
+    // What is moved must be the file that was made there, if one was, or no claim of it may be missing.
+    fn test_made(&mut self, old: &FPath, from: &Place, to: &Place) -> Result<(), Cause>
+        ensures { self.new ≡ self.old }
+    {
+        match self.handles.made_at(old) {
+            Some(made) => fit(made, from, to),
+            None => self.may_change(old),
+        }
     }
 
     #[tactic(auto, using(crate::proofs::Dirs::sees_same, crate::proofs::Dirs::sees_after))]
@@ -623,8 +647,9 @@ impl HostFolder {
         fs::rename(&self.rt, from.text.as_str(), to.text.as_str()).map_err(|error| cause_of(
             &error,
         ))?;
-        self.handles.close_below(old);
-        self.handles.close_below(new);
+        self.forget_below(old);
+        self.forget_below(new);
+        let _ = self.keep_kind(old, Kind::Missing);
         Ok(())
     }
 
@@ -639,7 +664,7 @@ impl HostFolder {
     {
         let text = self.take_file(at)?;
         fs::remove_file(&self.rt, text.as_str()).map_err(|error| cause_of(&error))?;
-        self.handles.close_below(at);
+        self.forget_below(at);
         Ok(())
     }
 
@@ -658,10 +683,52 @@ impl HostFolder {
         }
         let text = self.make_room(at)?;
         fs::remove_dir(&self.rt, text.as_str()).map_err(|error| cause_of(&error))?;
-        self.handles.close_below(at);
+        self.forget_below(at);
         self.noted.forget(at);
         Ok(())
     }
+}
+
+// Syncs each directory that is noted. One that this process hasn't changed is passed over where it can't be synced.
+fn sync_each(
+    rt: &HostRuntime,
+    alloc: Global,
+    base: &str,
+    noted: &Noted,
+    synced: &mut Pair,
+) -> Result<(), Trouble> {
+    for dir in noted.changed() {
+        sync_dir(rt, alloc, base, synced, dir).map_err(|cause| Trouble::new(dir, cause))?;
+    }
+    for dir in noted.seen() {
+        match sync_dir(rt, alloc, base, synced, dir) {
+            Err(cause) if !is_passed_over(cause) => return Err(Trouble::new(dir, cause)),
+            _ => {}
+        }
+    }
+    Ok(())
+}
+
+// Syncs a directory. What stands there is opened only if it is one.
+fn sync_dir(
+    rt: &HostRuntime,
+    alloc: Global,
+    base: &str,
+    synced: &mut Pair,
+    dir: &FPath,
+) -> Result<(), Cause> {
+    if let Some(opened) = synced.open_at(dir) {
+        return opened.file.sync_all().map_err(|error| cause_of(&error));
+    }
+    let mut text = text_of(alloc, base, dir.parts())?;
+    text.push_str("/.")?;
+    let opened = Opened {
+        at: dir.copy()?,
+        file: fs::open(rt, text.as_str()).map_err(|error| cause_of(&error))?,
+    };
+    let answer = opened.file.sync_all().map_err(|error| cause_of(&error));
+    synced.keep(opened);
+    answer
 }
 
 // The file that was made must be the one that stands there, and takes on the mode of the one that it replaces.

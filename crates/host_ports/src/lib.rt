@@ -8,6 +8,7 @@ mod claims;
 mod handles;
 mod host_folder;
 mod host_randoms;
+mod kinds;
 mod listing;
 mod noted;
 mod pieces;

@@ -141,7 +141,7 @@ fn walk(rt: &HostRuntime, alloc: Global, base: &str, parts: &[String]) -> Result
     })
 }
 
-// Whether a directory stands at a path, and no link leads there. What stands above it is looked at once.
+// Whether a directory stands at a path, and no link leads there. What was found once isn't looked at again.
 #[tactic(auto, using(crate::proofs::Dirs::sees_same, crate::proofs::Dirs::sees_after))]
 fn reaches(
     rt: &HostRuntime,
@@ -154,9 +154,8 @@ fn reaches(
     ensures known { IfOk result (λ reached. IsTrue reached → IsTrue (has noted.new.known dir.now)) }
     ensures changed { noted.new.changed ≡ noted.old.changed }
 {
-    if dir.depth() > 0 && noted.knows(dir) {
-        let text = text_of(alloc, base, dir.parts())?;
-        return is_directory(rt, text.as_str());
+    if noted.knows(dir) {
+        return Ok(true);
     }
     let walked = walk(rt, alloc, base, dir.parts())?;
     noted.see_down(dir, walked.looked, walked.reached)?;
@@ -186,7 +185,7 @@ pub fn reach(
     Ok(Some(text_of(alloc, base, at.parts())?))
 }
 
-// Looks at a path, and at what stands above it.
+// Looks at a path, and at what stands above it. A directory of which an entry was seen isn't looked at again.
 #[tactic(auto, using(crate::proofs::Dirs::sees_same, crate::proofs::Dirs::sees_after))]
 pub fn look(
     rt: &HostRuntime,
@@ -202,6 +201,11 @@ pub fn look(
     ensures changed { noted.new.changed ≡ noted.old.changed }
 {
     match reach(rt, alloc, base, noted, at)? {
+        Some(text) if noted.knows(at) => Ok(Place {
+            text,
+            kind: Some(Kind::Dir),
+            metadata: None,
+        }),
         Some(text) => place_at(rt, text, at.depth()),
         None => Ok(Place {
             text: String::new(alloc),

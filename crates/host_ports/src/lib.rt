@@ -14,8 +14,6 @@ mod noted;
 mod pieces;
 mod places;
 mod sign_of_life;
-#[cfg(test)]
-mod tests;
 
 pub use causes::{Cause, Trouble};
 pub use claims::{Hold, Wanted};

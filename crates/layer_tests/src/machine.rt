@@ -1,5 +1,6 @@
-use crate::{HostFolder, HostRandoms};
+//! The folder and the random bytes of the machine itself.
 use folder_model::{Entry, FPath, Folder, FolderFault, Kind};
+use host_ports::{HostFolder, HostRandoms};
 use port_model::Randoms;
 use std::alloc::Global;
 use std::fs;

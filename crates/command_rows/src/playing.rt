@@ -17,7 +17,7 @@ const MOST_TURNS: u64 = 5_000;
 
 const MOST_PLAYS: usize = 1_000;
 
-// The place of the line that begins what is expected of a sweep, or the number of lines where there is none.
+// How many lines stand before what is expected of a sweep.
 fn first_group(lines: &[Line]) -> usize {
     let mut place = 0usize;
     for line in lines {
@@ -27,7 +27,7 @@ fn first_group(lines: &[Line]) -> usize {
         }
         place = place.saturating_add(1);
     }
-    place.min(lines.len())
+    place
 }
 
 // The values of a line `for NAME VALUE | VALUE ..`.
@@ -221,7 +221,7 @@ fn judge_play(
 /// What is wrong with a row or a sweep, where anything is.
 pub fn judge(alloc: Global, block: &Block) -> Result<Option<String>, AllocError> {
     let all = block.lines.as_slice();
-    let (lines, groups) = all.split_at(first_group(all));
+    let (lines, groups) = all.split_at(all.len().min(first_group(all)));
     let fors = fors_of(alloc, lines)?;
     let fors = fors.as_slice();
     let plays = plays(fors);

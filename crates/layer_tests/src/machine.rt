@@ -35,6 +35,13 @@ fn publish<F: Folder>(alloc: Global, folder: &mut F) -> Result<(), Fail> {
     Ok(())
 }
 
+// Two directories, and a file in one of them that was staged.
+fn fill<F: Folder>(alloc: Global, folder: &mut F) -> Result<(), Fail> {
+    make_dirs(alloc, folder)?;
+    stage(alloc, folder)?;
+    publish(alloc, folder)
+}
+
 // The bytes of the file from these places on.
 fn reads<F: Folder>(rt: &impl Abort, alloc: Global, folder: &mut F) -> Result<(), Fail> {
     let file = path(alloc, "dir/b file")?;
@@ -97,6 +104,15 @@ fn follows_no_link<F: Folder>(rt: &impl Abort, alloc: Global, folder: &mut F) ->
     Ok(())
 }
 
+// What the folder answers where these and a link to a directory stand.
+fn answers<F: Folder>(rt: &impl Abort, alloc: Global, folder: &mut F) -> Result<(), Fail> {
+    reads(rt, alloc, folder)?;
+    lists(rt, alloc, folder)?;
+    kinds(rt, alloc, folder)?;
+    refuses(rt, alloc, folder)?;
+    follows_no_link(rt, alloc, folder)
+}
+
 fn remove<F: Folder>(alloc: Global, folder: &mut F) -> Result<(), Fail> {
     folder.remove_file(&path(alloc, "dir/b file")?)?;
     folder.remove_dir(&path(alloc, "dir/c")?)?;
@@ -109,19 +125,13 @@ fn remove<F: Folder>(alloc: Global, folder: &mut F) -> Result<(), Fail> {
 fn a_folder_of_the_machine(rt: HostRuntime) -> Result<(), Fail> {
     let alloc = rt.alloc();
     let mut folder = HostFolder::new(rt.clone()?, alloc, "")?;
-    make_dirs(alloc, &mut folder)?;
-    stage(alloc, &mut folder)?;
-    publish(alloc, &mut folder)?;
+    fill(alloc, &mut folder)?;
     assert_eq!(rt;
         fs::read(&rt, "dir/b file")?.as_slice(),
         b"abcdef".as_slice()
     );
     rt.symlink("../dir", "dir/a link")?;
-    reads(&rt, alloc, &mut folder)?;
-    lists(&rt, alloc, &mut folder)?;
-    kinds(&rt, alloc, &mut folder)?;
-    refuses(&rt, alloc, &mut folder)?;
-    follows_no_link(&rt, alloc, &mut folder)?;
+    answers(&rt, alloc, &mut folder)?;
     fs::remove_file(&rt, "dir/a link")?;
     remove(alloc, &mut folder)?;
     assert_eq!(rt; fs::exists(&rt, "dir")?, false);

@@ -107,18 +107,15 @@ impl Course {
         self.end_line()?;
         self.last = format!(in alloc; "{at}: {text}")?;
         match self.stage.play(text, turn) {
-            Ok(()) => {}
-            Err(Stop::NoMemory) => return Err(AllocError),
-            Err(stop) => {
-                let stop = format!(in alloc; "{stop:?}")?;
-                self.is_wrong("a line that can be played", stop.as_str())?;
+            Ok(said) => {
+                for line in said.as_str().lines() {
+                    self.said.push(String::from_str(alloc, line)?)?;
+                }
+                Ok(())
             }
+            Err(Stop::NoMemory) => Err(AllocError),
+            Err(stop) => self.is_wrong("a line that can be played", stop.text()),
         }
-        let said = self.stage.take_said();
-        for line in said.as_str().lines() {
-            self.said.push(String::from_str(alloc, line)?)?;
-        }
-        Ok(())
     }
 
     // Compares an expected line with the next one that was said.

@@ -5,86 +5,102 @@ use folder_model::{FPath, Folder, Kind};
 
 impl Stage {
     // Says what stands below a directory, in the order of paths.
-    fn list(&mut self, word: &str) -> Result<(), Stop> {
+    fn list(&mut self, word: &str) {
         let mut left = Vec::new(self.alloc);
-        let top = self.path(word)?;
-        self.push_below(&top, &mut left)?;
+        let top = self.path(word);
+        self.push_below(&top, &mut left);
         for _ in 0..10_000u32 {
             let Some(at) = left.pop() else {
                 break;
             };
-            let text = at.text()?;
-            match self.folder.kind(&at)? {
-                Kind::Dir => {
-                    writeln!(self.said, "d {text}")?;
-                    self.push_below(&at, &mut left)?;
-                }
-                Kind::File => {
-                    let size = self.read(&at)?.len();
-                    writeln!(self.said, "f {text} {size}")?;
-                }
-                _ => writeln!(self.said, "o {text}")?,
-            }
+            self.list_at(&at, &mut left);
         }
-        Ok(())
-    }
-
-    // Adds the paths of the entries of a directory, the last first.
-    fn push_below(&mut self, at: &FPath, left: &mut Vec<FPath>) -> Result<(), Stop> {
-        let entries = self.folder.list(at)?;
-        for entry in entries.iter().rev() {
-            left.push(at.child(entry.name.as_str())?)?;
-        }
-        Ok(())
-    }
-
-    // Says the bytes of a file.
-    fn show(&mut self, word: &str) -> Result<(), Stop> {
-        let at = self.path(word)?;
-        let bytes = self.read(&at)?;
-        self.say_bytes(bytes.as_slice())
-    }
-
-    // Says how many bytes a file has.
-    fn length(&mut self, word: &str) -> Result<(), Stop> {
-        let at = self.path(word)?;
-        let length = self.read(&at)?.len();
-        writeln!(self.said, "{length}")?;
-        Ok(())
     }
 
     // Says what stands at a path.
-    fn kind(&mut self, word: &str) -> Result<(), Stop> {
-        let at = self.path(word)?;
-        let kind = match self.folder.kind(&at)? {
-            Kind::Missing => "missing",
-            Kind::Dir => "dir",
-            Kind::File => "file",
-            Kind::Other => "other",
-        };
-        writeln!(self.said, "{kind}")?;
-        Ok(())
+    fn list_at(&mut self, at: &FPath, left: &mut Vec<FPath>) {
+        match self.folder.kind(at) {
+            Ok(Kind::Dir) => {
+                self.said.word("d");
+                self.said.made(at.text());
+                self.push_below(at, left);
+            }
+            Ok(Kind::File) => {
+                self.said.word("f");
+                self.said.made(at.text());
+                let size = self.read(at).len();
+                self.said.shows(&size);
+            }
+            Ok(_) => {
+                self.said.word("o");
+                self.said.made(at.text());
+            }
+            Err(fault) => self.stop(Stop::from(fault)),
+        }
+        self.said.end();
+    }
+
+    // Adds the paths of the entries of a directory, the last first.
+    fn push_below(&mut self, at: &FPath, left: &mut Vec<FPath>) {
+        match self.folder.list(at) {
+            Ok(entries) => {
+                for entry in entries.iter().rev() {
+                    match at.child(entry.name.as_str()) {
+                        Ok(below) => {
+                            if left.push(below).is_err() {
+                                self.stop(Stop::NoMemory);
+                            }
+                        }
+                        Err(_) => self.stop(Stop::NoMemory),
+                    }
+                }
+            }
+            Err(fault) => self.stop(Stop::from(fault)),
+        }
+    }
+
+    // Says what stands at a path.
+    fn kind(&mut self, at: &FPath) {
+        match self.folder.kind(at) {
+            Ok(Kind::Missing) => self.said.word("missing"),
+            Ok(Kind::Dir) => self.said.word("dir"),
+            Ok(Kind::File) => self.said.word("file"),
+            Ok(Kind::Other) => self.said.word("other"),
+            Err(fault) => self.stop(Stop::from(fault)),
+        }
+        self.said.end();
     }
 
     // Says how many bytes of its input the last run left, or that it left at least so many.
-    fn left(&mut self, least: &str) -> Result<(), Stop> {
-        let left = self.left;
-        if !least.is_empty() && self.number(least)? <= left {
-            writeln!(self.said, "at least {least}")?;
+    fn left(&mut self, least: &str) {
+        if !least.is_empty() && self.number(least) <= self.left {
+            self.said.word("at least");
+            self.said.word(least);
         } else {
-            writeln!(self.said, "{left}")?;
+            self.said.shows(&self.left);
         }
-        Ok(())
+        self.said.end();
     }
 
     /// Plays a line that looks.
-    pub fn look(&mut self, verb: &str, words: &str) -> Result<(), Stop> {
+    pub fn look(&mut self, verb: &str, words: &str) {
         match verb {
-            "list" => self.list(words),
-            "show" => self.show(words),
-            "length" => self.length(words),
-            "kind" => self.kind(words),
-            _ => self.left(words),
+            "list" => return self.list(words),
+            "left" => return self.left(words),
+            _ => {}
+        }
+        let at = self.path(words);
+        match verb {
+            "show" => {
+                let bytes = self.read(&at);
+                self.say_bytes(bytes.as_slice());
+            }
+            "length" => {
+                let length = self.read(&at).len();
+                self.said.shows(&length);
+                self.said.end();
+            }
+            _ => self.kind(&at),
         }
     }
 }

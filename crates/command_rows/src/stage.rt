@@ -3,9 +3,9 @@ use crate::handed::{Drawn, Pieces, Taken};
 use crate::names::Names;
 use crate::stand::Stand;
 use crate::stop::Stop;
-use folder_model::FPath;
+use folder_model::{FPath, FolderFault};
 use port_model::{ListRandoms, MemSink, MemSource, Source};
-use row_words::{bytes_of, cut, number, push_shown};
+use row_words::{Said, bytes_of, cut, number};
 use std::alloc::{AllocError, Global};
 use std::mem;
 use vault_cli::{demo_in, run};
@@ -17,11 +17,9 @@ pub const MOST_SHOWN: usize = 1_000;
 const MOST_TAKEN: usize = 1_000_000;
 
 /// Whose call fails.
-#[derive(Clone, Copy, Debug, PartialEq, Eq, Drop)]
+#[derive(Clone, Copy, Drop)]
 pub enum Object {
     Folder,
-    /// A call that changes the folder.
-    Changes,
     Random,
     Input,
     Out,
@@ -81,7 +79,9 @@ pub struct Stage {
     /// How many bytes of its input the last run left.
     pub left: u64,
     /// The lines that were said and not yet taken.
-    pub said: String,
+    pub said: Said,
+    // Why the line that is played can't be, first.
+    stop: Option<Stop>,
 }
 
 impl Stage {
@@ -98,13 +98,9 @@ impl Stage {
             hit: false,
             status: 0,
             left: 0,
-            said: String::new(alloc),
+            said: Said::new(alloc),
+            stop: None,
         })
-    }
-
-    /// Takes what was said.
-    pub fn take_said(&mut self) -> String {
-        mem::replace(&mut self.said, String::new(self.alloc))
     }
 
     /// Whether the call that fails in turn was made.
@@ -112,47 +108,79 @@ impl Stage {
         self.hit
     }
 
+    // ---- what goes wrong
+
+    /// The line that is played can't be. What it does from here on doesn't count.
+    pub fn stop(&mut self, stop: Stop) {
+        if self.stop.is_none() {
+            self.stop = Some(stop);
+        }
+    }
+
+    /// A change that the line asks for has to be made.
+    pub fn well(&mut self, answer: Result<(), FolderFault>) {
+        if let Err(fault) = answer {
+            self.stop(Stop::from(fault));
+        }
+    }
+
+    /// There has to be memory for what the line asks for.
+    pub fn whole(&mut self, answer: Result<(), AllocError>) {
+        if answer.is_err() {
+            self.stop(Stop::NoMemory);
+        }
+    }
+
     // ---- words
 
     /// The path that a word writes, of any length; the empty word is the base.
-    pub fn path(&self, word: &str) -> Result<FPath, Stop> {
+    pub fn path(&mut self, word: &str) -> FPath {
         let mut parts = Vec::new(self.alloc);
-        if word.is_empty() {
-            return Ok(FPath::from_parts(parts));
-        }
-        for part in word.split('/') {
-            if part.is_empty() {
-                return Err(Stop::Line);
+        if !word.is_empty() {
+            for part in word.split('/') {
+                if part.is_empty() {
+                    self.stop(Stop::Line);
+                }
+                match String::from_str(self.alloc, part) {
+                    Ok(part) => self.whole(parts.push(part).map_err(|_| AllocError)),
+                    Err(_) => self.stop(Stop::NoMemory),
+                }
             }
-            parts.push(String::from_str(self.alloc, part)?)?;
         }
-        Ok(FPath::from_parts(parts))
+        FPath::from_parts(parts)
     }
 
     /// The bytes that a word writes.
-    pub fn bytes(&self, word: &str) -> Result<Vec<u8>, Stop> {
-        match bytes_of(self.alloc, word)? {
-            Some(bytes) => Ok(bytes),
-            None => Err(Stop::Line),
+    pub fn bytes(&mut self, word: &str) -> Vec<u8> {
+        match bytes_of(self.alloc, word) {
+            Ok(Some(bytes)) => return bytes,
+            Ok(None) => self.stop(Stop::Line),
+            Err(_) => self.stop(Stop::NoMemory),
         }
+        Vec::new(self.alloc)
     }
 
     /// The number that a word writes.
-    pub fn number(&self, word: &str) -> Result<u64, Stop> {
-        number(word).ok_or(Stop::Line)
+    pub fn number(&mut self, word: &str) -> u64 {
+        match number(word) {
+            Some(number) => number,
+            None => {
+                self.stop(Stop::Line);
+                0
+            }
+        }
     }
 
     /// Says bytes on a line of their own.
-    pub fn say_bytes(&mut self, bytes: &[u8]) -> Result<(), Stop> {
-        push_shown(&mut self.said, bytes, MOST_SHOWN)?;
-        self.said.push('\n')?;
-        Ok(())
+    pub fn say_bytes(&mut self, bytes: &[u8]) {
+        self.said.bytes(bytes, MOST_SHOWN);
+        self.said.end();
     }
 
     // ---- calls that fail
 
     /// Lets a call of the next run fail: `OBJECT CALL`, or `OBJECT CALL COUNT` for so many in a row. `each` is the call that fails in turn.
-    fn fail(&mut self, words: &str, turn: u64) -> Result<(), Stop> {
+    fn fail(&mut self, words: &str, turn: u64) {
         let (object, words) = cut(words);
         let (call, count) = cut(words);
         let object = match object {
@@ -161,55 +189,54 @@ impl Stage {
             "input" => Object::Input,
             "out" => Object::Out,
             "err" => Object::Err,
-            _ => return Err(Stop::Line),
+            _ => return self.stop(Stop::Line),
         };
-        let call = self.call(object, call, turn)?;
+        let call = self.call(object, call, turn);
         let count = if count.is_empty() {
             1
         } else {
-            self.number(count)?
+            self.number(count)
         };
-        for further in 0..count {
-            self.fail_call(object, call.saturating_add(further))?;
+        for further in 0..count.min(10_000) {
+            self.fail_call(object, call.saturating_add(further));
         }
-        Ok(())
     }
 
     /// The number of a call that is to fail, which is `each` for the call that fails in turn.
-    pub fn call(&mut self, object: Object, word: &str, turn: u64) -> Result<u64, Stop> {
+    pub fn call(&mut self, object: Object, word: &str, turn: u64) -> u64 {
         if word != "each" {
             return self.number(word);
         }
         if turn == 0 || self.due.is_some() {
-            return Err(Stop::Line);
+            self.stop(Stop::Line);
         }
         self.due = Some((object, turn));
-        Ok(turn)
+        turn
     }
 
-    fn fail_call(&mut self, object: Object, call: u64) -> Result<(), Stop> {
-        match object {
-            Object::Folder => self.fails.folder.push(call)?,
-            Object::Random => self.fails.random.push(call)?,
-            Object::Input => self.fails.input.push(call)?,
-            Object::Out => self.fails.out.push(call)?,
-            Object::Err => self.fails.err.push(call)?,
-            Object::Changes => return Err(Stop::Line),
+    fn fail_call(&mut self, object: Object, call: u64) {
+        let added = match object {
+            Object::Folder => self.fails.folder.push(call),
+            Object::Random => self.fails.random.push(call),
+            Object::Input => self.fails.input.push(call),
+            Object::Out => self.fails.out.push(call),
+            Object::Err => self.fails.err.push(call),
+        };
+        if added.is_err() {
+            self.stop(Stop::NoMemory);
         }
-        Ok(())
     }
 
     // ---- runs
 
     /// What the next run is handed beside the folder. Calls of the folder are counted from here on.
-    pub fn hand(&mut self) -> Result<Handed, Stop> {
+    pub fn hand(&mut self) -> Result<Handed, AllocError> {
         let alloc = self.alloc;
         let fails = mem::replace(&mut self.fails, Fails::none(alloc));
         let input = mem::replace(&mut self.input, Vec::new(alloc));
-        let drawn = self.drawn.as_slice().to_vec(alloc)?;
         self.folder.begin_run(fails.folder.as_slice())?;
         let random = Drawn {
-            list: ListRandoms::new(drawn, fails.random),
+            list: ListRandoms::new(self.drawn.clone()?, fails.random),
             calls: 0,
         };
         let input = Pieces {
@@ -217,28 +244,19 @@ impl Stage {
             most: self.most as usize,
             calls: 0,
         };
-        let out = Taken {
-            sink: MemSink::new(alloc, MOST_TAKEN, fails.out)?,
-            calls: 0,
-        };
-        let err = Taken {
-            sink: MemSink::new(alloc, MOST_TAKEN, fails.err)?,
-            calls: 0,
-        };
         Ok(Handed {
             random,
             input,
-            out,
-            err,
+            out: taken(alloc, fails.out)?,
+            err: taken(alloc, fails.err)?,
         })
     }
 
     /// Notes what a run left of its input, and whether the call that fails in turn was made.
-    pub fn take_back(&mut self, handed: &mut Handed) -> Result<(), Stop> {
+    pub fn take_back(&mut self, handed: &mut Handed) {
         if let Some((object, call)) = self.due {
             let made = match object {
                 Object::Folder => self.folder.calls(),
-                Object::Changes => self.folder.changes(),
                 Object::Random => handed.random.calls,
                 Object::Input => handed.input.calls,
                 Object::Out => handed.out.calls,
@@ -248,39 +266,28 @@ impl Stage {
             self.due = None;
         }
         self.folder.end_run(self.alloc);
-        self.count_left(&mut handed.input)
+        self.count_left(&mut handed.input);
     }
 
     // Counts the bytes that are left of an input. A call that fails takes none.
-    fn count_left(&mut self, input: &mut Pieces) -> Result<(), Stop> {
+    fn count_left(&mut self, input: &mut Pieces) {
         self.left = 0;
         let mut piece = [0; 4_096];
         for _ in 0..MOST_TAKEN {
             match input.source.take(&mut piece) {
-                Ok(0) => return Ok(()),
+                Ok(0) => return,
                 Ok(count) => self.left = self.left.saturating_add(count as u64),
                 Err(_) => {}
             }
         }
-        Err(Stop::Line)
-    }
-
-    // The words of a run.
-    fn words(&self, text: &str) -> Result<Vec<String>, Stop> {
-        let mut words = Vec::new(self.alloc);
-        if text.is_empty() {
-            return Ok(words);
-        }
-        for word in text.split(' ') {
-            words.push(String::from_str(self.alloc, word)?)?;
-        }
-        Ok(words)
+        self.stop(Stop::Line);
     }
 
     /// Runs words, and says the status, and what both streams took.
-    pub fn run(&mut self, text: &str) -> Result<(), Stop> {
-        let words = self.words(text)?;
-        let mut handed = self.hand()?;
+    pub fn run(&mut self, text: &str) {
+        let (Ok(words), Ok(mut handed)) = (words(self.alloc, text), self.hand()) else {
+            return self.stop(Stop::NoMemory);
+        };
         self.status = run(
             self.alloc,
             words.as_slice(),
@@ -290,18 +297,17 @@ impl Stage {
             &mut handed.out,
             &mut handed.err,
         );
-        self.take_back(&mut handed)?;
-        self.say(handed.out.sink.bytes(), handed.err.sink.bytes())
+        self.take_back(&mut handed);
+        self.say(handed.out.sink.bytes(), handed.err.sink.bytes());
     }
 
     // Runs a demonstration of `SEED COUNT` in the folder.
-    fn demo(&mut self, words: &str) -> Result<(), Stop> {
+    fn demo(&mut self, words: &str) {
         let (seed, count) = cut(words);
-        let (seed, count) = (self.number(seed)?, self.number(count)?);
-        if count > 2_000 {
-            return Err(Stop::Line);
-        }
-        let mut handed = self.hand()?;
+        let (seed, count) = (self.number(seed), self.number(count).min(2_000));
+        let Ok(mut handed) = self.hand() else {
+            return self.stop(Stop::NoMemory);
+        };
         self.status = demo_in(
             self.alloc,
             &mut self.folder,
@@ -310,62 +316,37 @@ impl Stage {
             &mut handed.out,
             &mut handed.err,
         );
-        self.take_back(&mut handed)?;
-        self.say(handed.out.sink.bytes(), handed.err.sink.bytes())
+        self.take_back(&mut handed);
+        self.say(handed.out.sink.bytes(), handed.err.sink.bytes());
     }
 
-    fn say(&mut self, out: &[u8], err: &[u8]) -> Result<(), Stop> {
-        let status = self.status;
-        write!(self.said, "{status}")?;
+    fn say(&mut self, out: &[u8], err: &[u8]) {
+        self.said.shows(&self.status);
         if !out.is_empty() {
-            self.said.push(' ')?;
-            push_shown(&mut self.said, out, MOST_SHOWN)?;
+            self.said.bytes(out, MOST_SHOWN);
         }
         if !err.is_empty() {
-            self.said.push_str(" err ")?;
-            push_shown(&mut self.said, err, MOST_SHOWN)?;
+            self.said.word("err");
+            self.said.bytes(err, MOST_SHOWN);
         }
-        self.said.push('\n')?;
-        Ok(())
+        self.said.end();
     }
 
     // ---- lines
 
-    /// Plays a line, in which names were replaced. `turn` is the call that fails in turn, 0 where none does.
-    pub fn play(&mut self, line: &str, turn: u64) -> Result<(), Stop> {
+    /// Plays a line, in which names were replaced, and gives the lines that it says. `turn` is the call that fails in turn, 0 where none
+    /// does.
+    pub fn play(&mut self, line: &str, turn: u64) -> Result<String, Stop> {
         let (verb, words) = cut(line);
         match verb {
-            "name" => {
-                let (name, text) = cut(words);
-                self.names.set(name, text)?;
-            }
-            "draw" => self.drawn = self.bytes(words)?,
-            "in" => {
-                let bytes = self.bytes(words)?;
-                self.input.extend_from_slice(bytes.as_slice())?;
-            }
-            "take" => {
-                let at = self.path(words)?;
-                let bytes = self.read(&at)?;
-                self.input.extend_from_slice(bytes.as_slice())?;
-            }
-            "piece" => self.most = self.number(words)?,
-            "fail" => self.fail(words, turn)?,
-            "run" => self.run(words)?,
+            "fail" => self.fail(words, turn),
+            "run" => self.run(words),
             "else" => {
                 if self.status != 0 {
-                    self.run(words)?;
+                    self.run(words);
                 }
             }
-            "demo" => self.demo(words)?,
-            _ => return self.play_other(verb, words),
-        }
-        Ok(())
-    }
-
-    // Plays a line that changes the folder, looks at it, or calls a layer.
-    fn play_other(&mut self, verb: &str, words: &str) -> Result<(), Stop> {
-        match verb {
+            "demo" => self.demo(words),
             "settle"
             | "crash"
             | "dir"
@@ -376,10 +357,58 @@ impl Stage {
             | "copy"
             | "flip"
             | "cut"
-            | "other" => self.change(verb, words),
+            | "other" => { self.change(verb, words) }
             "list" | "show" | "length" | "kind" | "left" => self.look(verb, words),
             "vault" | "item" | "inside" | "mkdir" | "put" | "tree" => self.place(verb, words),
+            "name" | "draw" | "in" | "take" | "piece" => self.give(verb, words),
             _ => self.layer(verb, words),
         }
+        match self.stop.take() {
+            Some(stop) => Err(stop),
+            None => Ok(self.said.take()?),
+        }
     }
+
+    // Plays a line that says what a name stands for, or what the next run is given.
+    fn give(&mut self, verb: &str, words: &str) {
+        match verb {
+            "name" => {
+                let (name, text) = cut(words);
+                let set = self.names.set(name, text);
+                self.whole(set);
+            }
+            "draw" => self.drawn = self.bytes(words),
+            "piece" => self.most = self.number(words),
+            _ => {
+                let bytes = if verb == "take" {
+                    let at = self.path(words);
+                    self.read(&at)
+                } else {
+                    self.bytes(words)
+                };
+                let added = self.input.extend_from_slice(bytes.as_slice());
+                self.whole(added);
+            }
+        }
+    }
+}
+
+// An output of which these calls fail.
+fn taken(alloc: Global, fails: Vec<u64>) -> Result<Taken, AllocError> {
+    Ok(Taken {
+        sink: MemSink::new(alloc, MOST_TAKEN, fails)?,
+        calls: 0,
+    })
+}
+
+// The words of a run.
+fn words(alloc: Global, text: &str) -> Result<Vec<String>, AllocError> {
+    let mut words = Vec::new(alloc);
+    if text.is_empty() {
+        return Ok(words);
+    }
+    for word in text.split(' ') {
+        words.push(String::from_str(alloc, word)?)?;
+    }
+    Ok(words)
 }

@@ -15,7 +15,6 @@ pub struct Stand {
     folder: MemFolder,
     other: Option<FPath>,
     calls: u64,
-    changes: u64,
     // The last call of a run that is to fail.
     last: u64,
     faults: u64,
@@ -27,7 +26,6 @@ impl Stand {
             folder: MemFolder::new(alloc)?,
             other: None,
             calls: 0,
-            changes: 0,
             last: 0,
             faults: 0,
         })
@@ -73,7 +71,6 @@ impl Stand {
     /// Begins a run in which these calls fail: calls are counted anew.
     pub fn begin_run(&mut self, fails: &[u64]) -> Result<(), AllocError> {
         self.calls = 0;
-        self.changes = 0;
         self.last = 0;
         for call in fails {
             self.last = self.last.max(*call);
@@ -96,11 +93,6 @@ impl Stand {
         self.calls
     }
 
-    /// How many of them were to change the folder.
-    pub fn changes(&self) -> u64 {
-        self.changes
-    }
-
     fn is_other(&self, at: &FPath) -> bool {
         match &self.other {
             Some(other) => other.is(at),
@@ -121,15 +113,6 @@ impl Stand {
             _ => {}
         }
         answer
-    }
-
-    // The answer to a call that is to change the folder.
-    fn changed(&mut self, answer: Result<(), FolderFault>) -> Result<(), FolderFault>
-        ensures same { result ≡ answer }
-        ensures counts { Counts None self.old.faults self.new.faults result }
-    {
-        self.changes = self.changes.saturating_add(1);
-        self.counted(answer)
     }
 
     // The entries of a directory, with the one that is another.
@@ -180,41 +163,41 @@ impl Folder for Stand {
 
     fn make_dir(&mut self, at: &FPath) -> Result<(), FolderFault> {
         let answer = self.folder.make_dir(at);
-        self.changed(answer)
+        self.counted(answer)
     }
 
     fn create(&mut self, at: &FPath) -> Result<(), FolderFault> {
         let answer = self.folder.create(at);
-        self.changed(answer)
+        self.counted(answer)
     }
 
     fn append(&mut self, at: &FPath, piece: &[u8]) -> Result<(), FolderFault> {
         let answer = self.folder.append(at, piece);
-        self.changed(answer)
+        self.counted(answer)
     }
 
     fn sync(&mut self, at: &FPath) -> Result<(), FolderFault> {
         let answer = self.folder.sync(at);
-        self.changed(answer)
+        self.counted(answer)
     }
 
     fn settle(&mut self) -> Result<(), FolderFault> {
         let answer = self.folder.settle();
-        self.changed(answer)
+        self.counted(answer)
     }
 
     fn rename(&mut self, old: &FPath, new: &FPath) -> Result<(), FolderFault> {
         let answer = self.folder.rename(old, new);
-        self.changed(answer)
+        self.counted(answer)
     }
 
     fn remove_file(&mut self, at: &FPath) -> Result<(), FolderFault> {
         let answer = self.folder.remove_file(at);
-        self.changed(answer)
+        self.counted(answer)
     }
 
     fn remove_dir(&mut self, at: &FPath) -> Result<(), FolderFault> {
         let answer = self.folder.remove_dir(at);
-        self.changed(answer)
+        self.counted(answer)
     }
 }

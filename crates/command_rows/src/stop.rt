@@ -1,8 +1,8 @@
 //! Why a row can't be played.
 use folder_model::FolderFault;
-use std::alloc::{AllocError, AllocFailed};
+use std::alloc::AllocError;
 
-#[derive(Clone, Copy, Debug, PartialEq, Eq, Drop)]
+#[derive(Clone, Copy, Drop)]
 pub enum Stop {
     /// It can't be read.
     Line,
@@ -13,14 +13,20 @@ pub enum Stop {
     NoMemory,
 }
 
-impl From<AllocError> for Stop {
-    fn from(_fault: AllocError) -> Stop {
-        Stop::NoMemory
+impl Stop {
+    /// What is said of it.
+    pub fn text(self) -> &'static str {
+        match self {
+            Stop::Line => "a line that can't be read",
+            Stop::Folder => "a change that the folder doesn't make",
+            Stop::Vault => "no such vault, or nothing at that place in it",
+            Stop::NoMemory => "no memory",
+        }
     }
 }
 
-impl<T: Drop> From<AllocFailed<T>> for Stop {
-    fn from(_fault: AllocFailed<T>) -> Stop {
+impl From<AllocError> for Stop {
+    fn from(_fault: AllocError) -> Stop {
         Stop::NoMemory
     }
 }

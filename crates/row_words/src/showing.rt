@@ -1,6 +1,6 @@
 //! Bytes as answers show them.
 
-use std::alloc::{AllocError, Global};
+use std::alloc::AllocError;
 
 const DIGITS: [char; 16] = [
     '0', '1', '2', '3', '4', '5', '6', '7', '8', '9', 'a', 'b', 'c', 'd', 'e', 'f',
@@ -43,8 +43,8 @@ pub fn push_text(text: &mut String, bytes: &[u8]) -> Result<(), AllocError> {
     Ok(())
 }
 
-/// The number that stands for bytes where they are too many to be shown (FNV-1a, of 64 bits).
-pub fn sum_of(bytes: &[u8]) -> u64 {
+// The number that stands for bytes where they are too many to be shown (FNV-1a, of 64 bits).
+fn sum_of(bytes: &[u8]) -> u64 {
     let mut sum = 0xcbf2_9ce4_8422_2325u64;
     for byte in bytes {
         sum = (sum ^ u64::from(*byte)).wrapping_mul(0x0100_0000_01b3);
@@ -60,11 +60,4 @@ pub fn push_shown(text: &mut String, bytes: &[u8], most: usize) -> Result<(), Al
     }
     text.push('\'')?;
     push_text(text, bytes)
-}
-
-/// Bytes as `push_shown` adds them.
-pub fn shown(alloc: Global, bytes: &[u8], most: usize) -> Result<String, AllocError> {
-    let mut text = String::new(alloc);
-    push_shown(&mut text, bytes, most)?;
-    Ok(text)
 }

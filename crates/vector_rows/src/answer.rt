@@ -1,76 +1,97 @@
-//! What a call answers, and why a row has no answer.
+//! What a call answers.
 
-use row_words::{bytes_of, push_hex, push_shown};
-use std::alloc::{AllocError, AllocFailed, Global};
+ghost use Rattle.std.specs.Prelude.{◌≤◌, length};
+
+use row_words::{Said, bytes_of, push_hex, push_shown};
+use std::alloc::{AllocError, Global};
 use std::fmt;
 
-/// What a call answers.
+/// The answer of a call: bytes, which a row writes as it writes arguments, or words, which it writes as they are. That memory was
+/// wanting for a part of it is kept, and told at its end.
 #[derive(Drop)]
-pub enum Answer {
-    /// Bytes, which a row writes as it writes arguments.
-    Bytes(Vec<u8>),
-    /// Words, which a row writes as they are.
-    Words(String),
-}
-
-/// Why a row has no answer.
-#[derive(Clone, Copy, Debug, PartialEq, Eq, Drop)]
-pub enum Stop {
-    /// A part of it isn't what its call wants.
-    Unread(&'static str),
-    NoMemory,
-}
-
-impl From<AllocError> for Stop {
-    fn from(_fault: AllocError) -> Stop {
-        Stop::NoMemory
-    }
-}
-
-impl<T: Drop> From<AllocFailed<T>> for Stop {
-    fn from(_fault: AllocFailed<T>) -> Stop {
-        Stop::NoMemory
-    }
-}
-
-/// The answer of these words.
-pub fn words(alloc: Global, text: &str) -> Result<Answer, Stop> {
-    Ok(Answer::Words(String::from_str(alloc, text)?))
-}
-
-/// The answer of a text that a value shows.
-pub fn display<T: fmt::Display>(alloc: Global, value: &T) -> Result<Answer, Stop> {
-    Ok(Answer::Words(format!(in alloc; "{value}")?))
-}
-
-/// The answer of a copy of some bytes.
-pub fn copied(alloc: Global, bytes: &[u8]) -> Result<Answer, Stop> {
-    Ok(Answer::Bytes(Vec::from_slice(alloc, bytes)?))
-}
-
-/// `yes` or `no`.
-pub fn yes_or_no(alloc: Global, yes: bool) -> Result<Answer, Stop> {
-    words(alloc, if yes { "yes" } else { "no" })
+pub struct Answer {
+    alloc: Global,
+    bytes: Vec<u8>,
+    said: Said,
 }
 
 impl Answer {
-    /// How the answer is shown.
-    pub fn shown(&self, alloc: Global) -> Result<String, AllocError> {
-        match self {
-            Answer::Bytes(bytes) => shown_bytes(alloc, bytes.as_slice()),
-            Answer::Words(text) => String::from_str(alloc, text.as_str()),
+    /// No bytes and no words.
+    pub fn new(alloc: Global) -> Answer {
+        Answer {
+            alloc,
+            bytes: Vec::new(alloc),
+            said: Said::new(alloc),
         }
     }
 
-    /// How the answer that a row expects is shown, where it has the form of this one.
-    pub fn expected(&self, alloc: Global, text: &str) -> Result<String, AllocError> {
-        match self {
-            Answer::Bytes(_) => match bytes_of(alloc, text)? {
-                Some(bytes) => shown_bytes(alloc, bytes.as_slice()),
-                None => String::from_str(alloc, text),
-            },
-            Answer::Words(_) => String::from_str(alloc, text),
+    /// Where the answer's memory is from.
+    pub fn alloc(&self) -> Global {
+        self.alloc
+    }
+
+    /// Memory was wanting for a part of the answer.
+    pub fn lacks(&mut self) {
+        self.said.lacks();
+    }
+
+    /// Adds bytes.
+    pub fn bytes(&mut self, bytes: &[u8]) {
+        if self.bytes.extend_from_slice(bytes).is_err() {
+            self.said.lacks();
         }
+    }
+
+    /// Adds zero bytes, at most 8,000, and gives them to be changed.
+    pub fn room(&mut self, count: usize) -> &mut [u8]
+        ensures { length result.now ≤ 8000 }
+    {
+        match vec![in self.alloc; 0; count.min(8_000)] {
+            Ok(zeros) => self.bytes = zeros,
+            Err(_) => self.said.lacks(),
+        }
+        let most = self.bytes.len().min(8_000);
+        &mut self.bytes[..most]
+    }
+
+    /// Adds a word, with a blank between two.
+    pub fn word(&mut self, text: &str) {
+        self.said.word(text);
+    }
+
+    /// Adds bytes in hexadecimal as a word.
+    pub fn hex(&mut self, bytes: &[u8]) {
+        self.said.hex(bytes);
+    }
+
+    /// Adds what a value shows as a word.
+    pub fn shows<T: fmt::Display>(&mut self, value: &T) {
+        self.said.shows(value);
+    }
+
+    /// Adds a word that was made, where there was memory for it.
+    pub fn made(&mut self, word: Result<String, AllocError>) {
+        self.said.made(word);
+    }
+
+    /// Adds `yes` or `no`.
+    pub fn yes_or_no(&mut self, yes: bool) {
+        self.said.word(if yes { "yes" } else { "no" });
+    }
+
+    /// How the answer is shown, and how the one that a row expects is, where it has the form of this one. Words are the answer where
+    /// there are any.
+    pub fn shown(&mut self, expected: &str) -> Result<(String, String), AllocError> {
+        let alloc = self.alloc;
+        let words = self.said.take()?;
+        if !words.is_empty() {
+            return Ok((words, String::from_str(alloc, expected)?));
+        }
+        let expected = match bytes_of(alloc, expected)? {
+            Some(bytes) => shown_bytes(alloc, bytes.as_slice())?,
+            None => String::from_str(alloc, expected)?,
+        };
+        Ok((shown_bytes(alloc, self.bytes.as_slice())?, expected))
     }
 }
 

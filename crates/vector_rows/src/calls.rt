@@ -1,43 +1,20 @@
 //! All calls.
 
-use crate::answer::{Answer, Stop};
+use crate::answer::Answer;
+use crate::arguments::Arguments;
 use crate::{aes, configurations, contents, gcm, keys, laws, modes, names, paths, ports, texts};
-use std::alloc::Global;
 
-/// What the call of these words answers. A call's first word is its name, which one module knows.
-pub fn answer(alloc: Global, words: &[&str]) -> Result<Answer, Stop> {
-    if let Some(answer) = aes::answer(alloc, words)? {
-        return Ok(answer);
-    }
-    if let Some(answer) = gcm::answer(alloc, words)? {
-        return Ok(answer);
-    }
-    if let Some(answer) = modes::answer(alloc, words)? {
-        return Ok(answer);
-    }
-    if let Some(answer) = keys::answer(alloc, words)? {
-        return Ok(answer);
-    }
-    if let Some(answer) = texts::answer(alloc, words)? {
-        return Ok(answer);
-    }
-    if let Some(answer) = configurations::answer(alloc, words)? {
-        return Ok(answer);
-    }
-    if let Some(answer) = paths::answer(alloc, words)? {
-        return Ok(answer);
-    }
-    if let Some(answer) = names::answer(alloc, words)? {
-        return Ok(answer);
-    }
-    if let Some(answer) = contents::answer(alloc, words)? {
-        return Ok(answer);
-    }
-    if let Some(answer) = ports::answer(alloc, words)? {
-        return Ok(answer);
-    }
-    if let Some(answer) = laws::answer(alloc, words)? {
-        return Ok(answer);
-    }
-    Err(Stop::Unread("no such call"))
+/// Makes the call of this name, which one module knows, and says whether there is one.
+pub fn answer(name: &str, args: &mut Arguments, answer: &mut Answer) -> bool {
+    aes::answer(name, args, answer)
+        || gcm::answer(name, args, answer)
+        || modes::answer(name, args, answer)
+        || keys::answer(name, args, answer)
+        || texts::answer(name, args, answer)
+        || configurations::answer(name, args, answer)
+        || paths::answer(name, args, answer)
+        || names::answer(name, args, answer)
+        || contents::answer(name, args, answer)
+        || ports::answer(name, args, answer)
+        || laws::answer(name, answer)
 }

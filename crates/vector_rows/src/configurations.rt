@@ -1,248 +1,229 @@
 //! Calls of gocrypt_conf and cryptomator_conf.
 
-use crate::answer::{Answer, Stop, copied, display, words};
-use crate::arguments::{array, bytes, text};
+ghost use Rattle.std.specs.Prelude.{◌<◌};
+
+use crate::answer::Answer;
+use crate::arguments::Arguments;
 use crate::keys::{cost, cost_shown};
 use base64::engine::general_purpose::{STANDARD, URL_SAFE_NO_PAD};
-use cryptomator_conf::{CmDraw, CmFiles, CmKeys, MasterFile, VaultFile};
+use cryptomator_conf::{CmDraw, CmFiles, CmKeys, check_signature, id_text, read_master};
 use gocrypt_conf::{GoConf, GoDraw};
-use kdf_suite::{ScryptCost, hmac256};
+use kdf_suite::hmac256;
 use std::alloc::{AllocError, Global};
 
-/// What a call of this module answers.
-pub fn answer(alloc: Global, call: &[&str]) -> Result<Option<Answer>, Stop> {
-    let answer = match call {
-        ["go-conf", word] => go_read(alloc, bytes(alloc, word)?.as_slice()),
-        ["go-conf-with", word, old, new] => {
-            go_read(alloc, replaced(alloc, word, old, new)?.as_bytes())
-        }
-        ["go-cost", word] => cost_shown(alloc, &go_conf(alloc, word)?.cost),
-        ["go-salt", word] => go_salt(alloc, go_conf(alloc, word)?),
-        ["go-unlock", word, pass] => go_unlock(alloc, &go_conf(alloc, word)?, pass),
-        ["go-make", pass, n, r, p, master, salt, nonce] => match cost(n, r, p) {
-            Ok(cost) => go_make(alloc, pass, &cost, master, salt, nonce),
-            Err(stop) => Err(stop),
+/// Makes a call of this module, and says whether there is one of this name.
+pub fn answer(name: &str, args: &mut Arguments, answer: &mut Answer) -> bool {
+    match name {
+        "go-conf" => go_read(args.bytes(0), answer),
+        "go-conf-with" => go_read(changed(args.text(0), args, 1, answer).as_bytes(), answer),
+        "go-make" => go_make(args, answer),
+        "go-cost" | "go-salt" | "go-unlock" => go_answer(name, args, answer),
+        _ => return cm_answer(name, args, answer),
+    }
+    true
+}
+
+// A text with the first place of one part of it replaced: two arguments from a place on write the part and what it becomes.
+fn changed(whole: &str, args: &Arguments, place: usize, answer: &mut Answer) -> String
+    requires { place < 100 }
+{
+    let alloc = answer.alloc();
+    let (old, new) = (args.text(place), args.text(place + 1));
+    match whole.split_once(old) {
+        Some((before, after)) => match format!(in alloc; "{before}{new}{after}") {
+            Ok(text) => return text,
+            Err(_) => answer.lacks(),
         },
-        _ => return cm_answer(alloc, call),
-    };
-    Ok(Some(answer?))
+        None => answer.word("a part that isn't there"),
+    }
+    String::new(alloc)
 }
 
-// A text with the first place of one part of it replaced.
-fn replaced(alloc: Global, word: &str, old: &str, new: &str) -> Result<String, Stop> {
-    let (whole, old, new) = (text(alloc, word)?, text(alloc, old)?, text(alloc, new)?);
-    let Some((before, after)) = whole.as_str().split_once(old.as_str()) else {
-        return Err(Stop::Unread("a part that isn't there"));
-    };
-    Ok(format!(in alloc; "{before}{new}{after}")?)
-}
-
-fn go_read(alloc: Global, bytes: &[u8]) -> Result<Answer, Stop> {
-    match gocrypt_conf::read(alloc, bytes) {
-        Ok(_) => words(alloc, "read"),
-        Err(fault) => display(alloc, &fault),
+fn go_read(bytes: &[u8], answer: &mut Answer) {
+    match gocrypt_conf::read(answer.alloc(), bytes) {
+        Ok(_) => answer.word("read"),
+        Err(fault) => answer.shows(&fault),
     }
 }
 
-fn go_conf(alloc: Global, word: &str) -> Result<GoConf, Stop> {
-    match gocrypt_conf::read(alloc, bytes(alloc, word)?.as_slice()) {
-        Ok(conf) => Ok(conf),
-        Err(_) => Err(Stop::Unread("no configuration")),
+// What a call on a configuration that can be read answers.
+fn go_answer(name: &str, args: &Arguments, answer: &mut Answer) {
+    let Ok(conf) = gocrypt_conf::read(answer.alloc(), args.bytes(0)) else {
+        return answer.word("no configuration");
+    };
+    match name {
+        "go-cost" => cost_shown(&conf.cost, answer),
+        "go-salt" => go_salt(conf, answer),
+        _ => go_unlock(&conf, args.bytes(1), answer),
     }
 }
 
 // The salt, whose vector is as long.
-fn go_salt(alloc: Global, conf: GoConf) -> Result<Answer, Stop> {
-    let seen = copied(alloc, conf.salt.as_slice());
-    let size = conf.salt.as_slice().len();
+fn go_salt(conf: GoConf, answer: &mut Answer) {
     let GoConf { salt, .. } = conf;
+    answer.bytes(salt.as_slice());
+    let size = salt.as_slice().len();
     if salt.into_vec().len() != size {
-        return words(alloc, "another vector");
-    }
-    seen
-}
-
-fn two_keys(alloc: Global, first: &[u8; 32], second: &[u8; 32]) -> Result<Answer, Stop> {
-    let mut both = Vec::from_slice(alloc, first)?;
-    both.extend_from_slice(second)?;
-    Ok(Answer::Bytes(both))
-}
-
-fn go_unlock(alloc: Global, conf: &GoConf, pass: &str) -> Result<Answer, Stop> {
-    match gocrypt_conf::unlock(alloc, conf, bytes(alloc, pass)?.as_slice()) {
-        Ok(keys) => two_keys(alloc, &keys.content, &keys.names),
-        Err(gocrypt_conf::UnlockFault::WrongPass) => words(alloc, "wrong passphrase"),
-        Err(gocrypt_conf::UnlockFault::NoMemory) => Err(Stop::NoMemory),
+        answer.word("another vector");
     }
 }
 
-fn go_make(
-    alloc: Global,
-    pass: &str,
-    cost: &ScryptCost,
-    master: &str,
-    salt: &str,
-    nonce: &str,
-) -> Result<Answer, Stop> {
+fn go_unlock(conf: &GoConf, pass: &[u8], answer: &mut Answer) {
+    match gocrypt_conf::unlock(answer.alloc(), conf, pass) {
+        Ok(keys) => {
+            answer.bytes(&keys.content);
+            answer.bytes(&keys.names);
+        }
+        Err(gocrypt_conf::UnlockFault::WrongPass) => answer.word("wrong passphrase"),
+        Err(gocrypt_conf::UnlockFault::NoMemory) => answer.lacks(),
+    }
+}
+
+fn go_make(args: &Arguments, answer: &mut Answer) {
     let drawn = GoDraw {
-        master: array(alloc, master)?,
-        salt: array(alloc, salt)?,
-        nonce: array(alloc, nonce)?,
+        master: args.array(4),
+        salt: args.array(5),
+        nonce: args.array(6),
     };
-    let pass = bytes(alloc, pass)?;
-    let made = gocrypt_conf::make(alloc, pass.as_slice(), cost, &drawn)?;
-    Ok(Answer::Bytes(made))
-}
-
-// What a call of cryptomator_conf answers.
-fn cm_answer(alloc: Global, call: &[&str]) -> Result<Option<Answer>, Stop> {
-    let answer = match call {
-        ["cm-master-with", word, old, new] => {
-            master_read(alloc, replaced(alloc, word, old, new)?.as_bytes())
-        }
-        ["cm-vault", word] => vault_read(alloc, bytes(alloc, word)?.as_slice()),
-        ["cm-header-with", header, payload, old, new] => {
-            let header = replaced(alloc, header, old, new)?;
-            token_read(alloc, header.as_str(), text(alloc, payload)?.as_str())
-        }
-        ["cm-payload-with", header, payload, old, new] => {
-            let payload = replaced(alloc, payload, old, new)?;
-            token_read(alloc, text(alloc, header)?.as_str(), payload.as_str())
-        }
-        ["cm-unlock", word, pass] => cm_unlock(alloc, &master_of(alloc, word)?, pass),
-        ["cm-signature", enc, mac, word] => {
-            signature(
-                alloc,
-                bytes(alloc, word)?.as_slice(),
-                &keys(alloc, enc, mac)?,
-            )
-        }
-        ["cm-signature-before", after, enc, mac, word] => {
-            let followed = followed_by(alloc, word, after)?;
-            signature(alloc, followed.as_slice(), &keys(alloc, enc, mac)?)
-        }
-        ["cm-signature-with", enc, mac, word, old, new] => {
-            let changed = replaced(alloc, word, old, new)?;
-            signature(alloc, changed.as_bytes(), &keys(alloc, enc, mac)?)
-        }
-        _ => return made_answer(alloc, call),
+    let Some(cost) = cost(args, 1) else {
+        return answer.word("no cost");
     };
-    Ok(Some(answer?))
-}
-
-// What a call that makes files of Cryptomator, or parts of them, answers.
-fn made_answer(alloc: Global, call: &[&str]) -> Result<Option<Answer>, Stop> {
-    let answer = match call {
-        ["cm-make-master", pass, n, r, p, enc, mac, salt, jti] => {
-            let drawn = cm_draw(alloc, enc, mac, salt, jti)?;
-            let files = cm_make(alloc, pass, [n, r, p], &drawn)?;
-            Ok(Answer::Bytes(files.master.into_vec()))
-        }
-        ["cm-make-vault", pass, n, r, p, enc, mac, salt, jti] => {
-            let drawn = cm_draw(alloc, enc, mac, salt, jti)?;
-            let files = cm_make(alloc, pass, [n, r, p], &drawn)?;
-            Ok(Answer::Bytes(files.vault.into_vec()))
-        }
-        ["cm-version-tag", mac, version] => version_tag(alloc, mac, version),
-        ["cm-id", drawn] => id(alloc, drawn),
-        _ => return Ok(None),
-    };
-    Ok(Some(answer?))
-}
-
-fn master_read(alloc: Global, bytes: &[u8]) -> Result<Answer, Stop> {
-    match cryptomator_conf::read_master(alloc, bytes) {
-        Ok(_) => words(alloc, "read"),
-        Err(fault) => display(alloc, &fault),
+    match gocrypt_conf::make(answer.alloc(), args.bytes(0), &cost, &drawn) {
+        Ok(made) => answer.bytes(made.as_slice()),
+        Err(_) => answer.lacks(),
     }
 }
 
-fn vault_read(alloc: Global, bytes: &[u8]) -> Result<Answer, Stop> {
-    match cryptomator_conf::read_vault(alloc, bytes) {
-        Ok(_) => words(alloc, "read"),
-        Err(fault) => display(alloc, &fault),
+// Makes a call of cryptomator_conf.
+fn cm_answer(name: &str, args: &Arguments, answer: &mut Answer) -> bool {
+    match name {
+        "cm-master-with" => master_read(changed(args.text(0), args, 1, answer).as_bytes(), answer),
+        "cm-vault" => vault_read(args.bytes(0), answer),
+        "cm-header-with" => {
+            let header = changed(args.text(0), args, 2, answer);
+            token_read(header.as_bytes(), args.bytes(1), answer);
+        }
+        "cm-payload-with" => {
+            let payload = changed(args.text(1), args, 2, answer);
+            token_read(args.bytes(0), payload.as_bytes(), answer);
+        }
+        "cm-unlock" => cm_unlock(args, answer),
+        "cm-signature" => signature(args.bytes(2), &keys(args, 0), answer),
+        "cm-signature-before" => {
+            let followed = followed(args.bytes(3), args.bytes(0), answer);
+            signature(followed.as_slice(), &keys(args, 1), answer);
+        }
+        "cm-signature-with" => {
+            let changed = changed(args.text(2), args, 3, answer);
+            signature(changed.as_bytes(), &keys(args, 0), answer);
+        }
+        "cm-make-master" => made(args, answer, true),
+        "cm-make-vault" => made(args, answer, false),
+        "cm-version-tag" => version_tag(args, answer),
+        "cm-id" => answer.made(id_text(answer.alloc(), &args.array(0))),
+        _ => return false,
+    }
+    true
+}
+
+fn master_read(bytes: &[u8], answer: &mut Answer) {
+    match read_master(answer.alloc(), bytes) {
+        Ok(_) => answer.word("read"),
+        Err(fault) => answer.shows(&fault),
+    }
+}
+
+fn vault_read(bytes: &[u8], answer: &mut Answer) {
+    match cryptomator_conf::read_vault(answer.alloc(), bytes) {
+        Ok(_) => answer.word("read"),
+        Err(fault) => answer.shows(&fault),
     }
 }
 
 // A token of two objects, with a signature of one byte.
-fn token(alloc: Global, header: &str, payload: &str) -> Result<String, AllocError> {
-    let header = URL_SAFE_NO_PAD.encode(alloc, header.as_bytes())?;
-    let payload = URL_SAFE_NO_PAD.encode(alloc, payload.as_bytes())?;
+fn token(alloc: Global, header: &[u8], payload: &[u8]) -> Result<String, AllocError> {
+    let header = URL_SAFE_NO_PAD.encode(alloc, header)?;
+    let payload = URL_SAFE_NO_PAD.encode(alloc, payload)?;
     format!(in alloc; "{header}.{payload}.AA")
 }
 
-fn token_read(alloc: Global, header: &str, payload: &str) -> Result<Answer, Stop> {
-    vault_read(alloc, token(alloc, header, payload)?.as_bytes())
-}
-
-fn master_of(alloc: Global, word: &str) -> Result<MasterFile, Stop> {
-    match cryptomator_conf::read_master(alloc, bytes(alloc, word)?.as_slice()) {
-        Ok(file) => Ok(file),
-        Err(_) => Err(Stop::Unread("no masterkey.cryptomator")),
+fn token_read(header: &[u8], payload: &[u8], answer: &mut Answer) {
+    match token(answer.alloc(), header, payload) {
+        Ok(token) => vault_read(token.as_bytes(), answer),
+        Err(_) => answer.lacks(),
     }
 }
 
-fn vault_of(alloc: Global, bytes: &[u8]) -> Result<VaultFile, Stop> {
-    match cryptomator_conf::read_vault(alloc, bytes) {
-        Ok(file) => Ok(file),
-        Err(_) => Err(Stop::Unread("no vault.cryptomator")),
+/// The keys that two arguments write, from this place on.
+pub fn keys(args: &Arguments, place: usize) -> CmKeys
+    requires { place < 100 }
+{
+    CmKeys {
+        enc: args.array(place),
+        mac: args.array(place + 1),
     }
 }
 
-/// The keys that two arguments write.
-pub fn keys(alloc: Global, enc: &str, mac: &str) -> Result<CmKeys, Stop> {
-    Ok(CmKeys {
-        enc: array(alloc, enc)?,
-        mac: array(alloc, mac)?,
-    })
-}
-
-fn cm_unlock(alloc: Global, file: &MasterFile, pass: &str) -> Result<Answer, Stop> {
-    match cryptomator_conf::unlock(alloc, file, bytes(alloc, pass)?.as_slice()) {
-        Ok(keys) => two_keys(alloc, &keys.enc, &keys.mac),
-        Err(cryptomator_conf::UnlockFault::WrongPass) => words(alloc, "wrong passphrase"),
-        Err(cryptomator_conf::UnlockFault::NoMemory) => Err(Stop::NoMemory),
+fn cm_unlock(args: &Arguments, answer: &mut Answer) {
+    let Ok(file) = read_master(answer.alloc(), args.bytes(0)) else {
+        return answer.word("no masterkey.cryptomator");
+    };
+    match cryptomator_conf::unlock(answer.alloc(), &file, args.bytes(1)) {
+        Ok(keys) => {
+            answer.bytes(&keys.enc);
+            answer.bytes(&keys.mac);
+        }
+        Err(cryptomator_conf::UnlockFault::WrongPass) => answer.word("wrong passphrase"),
+        Err(cryptomator_conf::UnlockFault::NoMemory) => answer.lacks(),
     }
 }
 
-fn signature(alloc: Global, bytes: &[u8], keys: &CmKeys) -> Result<Answer, Stop> {
-    match cryptomator_conf::check_signature(&vault_of(alloc, bytes)?, keys) {
-        Ok(()) => words(alloc, "right"),
-        Err(wrong) => display(alloc, &wrong),
+fn signature(bytes: &[u8], keys: &CmKeys, answer: &mut Answer) {
+    let Ok(file) = cryptomator_conf::read_vault(answer.alloc(), bytes) else {
+        return answer.word("no vault.cryptomator");
+    };
+    match check_signature(&file, keys) {
+        Ok(()) => answer.word("right"),
+        Err(wrong) => answer.shows(&wrong),
     }
 }
 
-fn followed_by(alloc: Global, word: &str, after: &str) -> Result<Vec<u8>, Stop> {
-    let mut all = bytes(alloc, word)?;
-    all.extend_from_slice(bytes(alloc, after)?.as_slice())?;
-    Ok(all)
+// Some bytes, and others behind them.
+fn followed(bytes: &[u8], more: &[u8], answer: &mut Answer) -> Vec<u8> {
+    let mut all = Vec::new(answer.alloc());
+    if all.extend_from_slice(bytes).is_err() || all.extend_from_slice(more).is_err() {
+        answer.lacks();
+    }
+    all
 }
 
-fn cm_draw(alloc: Global, enc: &str, mac: &str, salt: &str, jti: &str) -> Result<CmDraw, Stop> {
-    Ok(CmDraw {
-        enc: array(alloc, enc)?,
-        mac: array(alloc, mac)?,
-        salt: array(alloc, salt)?,
-        jti: array(alloc, jti)?,
-    })
+fn cm_make(args: &Arguments, alloc: Global) -> Option<CmFiles> {
+    let drawn = CmDraw {
+        enc: args.array(4),
+        mac: args.array(5),
+        salt: args.array(6),
+        jti: args.array(7),
+    };
+    let cost = cost(args, 1)?;
+    cryptomator_conf::make(alloc, args.bytes(0), &cost, &drawn).ok()
 }
 
-fn cm_make(alloc: Global, pass: &str, numbers: [&str; 3], drawn: &CmDraw) -> Result<CmFiles, Stop> {
-    let pass = bytes(alloc, pass)?;
-    match cost(numbers[0], numbers[1], numbers[2]) {
-        Ok(cost) => Ok(cryptomator_conf::make(alloc, pass.as_slice(), &cost, drawn)?),
-        Err(stop) => Err(stop),
+// One of the two files that are made, where there is memory for them and the cost is one.
+fn made(args: &Arguments, answer: &mut Answer, is_master: bool) {
+    match cm_make(args, answer.alloc()) {
+        Some(files) => {
+            if is_master {
+                answer.bytes(files.master.as_slice());
+            } else {
+                answer.bytes(files.vault.as_slice());
+            }
+        }
+        None => answer.word("none"),
     }
 }
 
 // The base64 of the tag of a version, whose four bytes are given.
-fn version_tag(alloc: Global, mac: &str, version: &str) -> Result<Answer, Stop> {
-    let (mac, version) = (bytes(alloc, mac)?, bytes(alloc, version)?);
-    let tag = hmac256(mac.as_slice(), version.as_slice());
-    Ok(Answer::Words(STANDARD.encode(alloc, &tag)?))
-}
-
-fn id(alloc: Global, drawn: &str) -> Result<Answer, Stop> {
-    let id = cryptomator_conf::id_text(alloc, &array(alloc, drawn)?)?;
-    Ok(Answer::Words(id))
+fn version_tag(args: &Arguments, answer: &mut Answer) {
+    let tag = hmac256(args.bytes(0), args.bytes(1));
+    answer.made(STANDARD.encode(answer.alloc(), &tag));
 }

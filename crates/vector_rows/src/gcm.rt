@@ -2,23 +2,20 @@
 
 ghost use Rattle.std.specs.Prelude.{◌≡◌, ◌<◌, ◌≤◌, ◌^◌, length, IsOk};
 
-use crate::answer::{Answer, Stop, words};
-use crate::arguments::{array, byte, bytes, count};
+use crate::answer::Answer;
+use crate::arguments::Arguments;
 use aes_lanes::{Block, Cipher, Key256, same_bytes};
 use gcm_mode::laws::{opens_to_one_text, unsealing_undoes_sealing};
 use gcm_mode::{BadTag, Gcm, product};
-use std::alloc::Global;
 
-/// What a call of this module answers.
-pub fn answer(alloc: Global, call: &[&str]) -> Result<Option<Answer>, Stop> {
-    let answer = match call {
-        ["gcm-256", key, iv, ad, text] => sealed(alloc, key, iv, ad, text),
-        ["gcm-256-lengths", key, iv, ad, byte, least, most] => {
-            lengths(alloc, key, iv, ad, byte, least, most)
-        }
-        _ => return Ok(None),
-    };
-    Ok(Some(answer?))
+/// Makes a call of this module, and says whether there is one of this name.
+pub fn answer(name: &str, args: &mut Arguments, answer: &mut Answer) -> bool {
+    match name {
+        "gcm-256" => sealed(args, answer),
+        "gcm-256-lengths" => lengths(args, answer),
+        _ => return false,
+    }
+    true
 }
 
 // Unsealing a text that was sealed gives it back, whatever it is.
@@ -47,7 +44,7 @@ fn wrong_in(
     tag: &Block,
     sealed: &[u8],
     plain: &[u8],
-) -> Option<&'static str>
+) -> &'static str
     requires some_iv { 0 < length iv.now }
     requires iv_within { length iv.now ≤ 200000 }
     requires ad_within { length ad.now ≤ 200000 }
@@ -56,56 +53,42 @@ fn wrong_in(
     let mut wrong = *tag;
     wrong[12] ^= 1;
     if gcm.unseal(iv, ad, text, &wrong).is_ok() {
-        return Some("another tag opens it");
+        return "another tag opens it";
     }
     if !same_bytes(text, sealed) {
-        return Some("another tag changes it");
+        return "another tag changes it";
     }
     if gcm.unseal(iv, ad, text, tag).is_err() {
-        return Some("its tag doesn't open it");
+        return "its tag doesn't open it";
     }
     if !same_bytes(text, plain) {
-        return Some("it opens to another text");
+        return "it opens to another text";
     }
     if seal_and_unseal(gcm, iv, ad, text).is_err() {
-        return Some("it doesn't open a second time");
+        return "it doesn't open a second time";
     }
-    None
+    ""
 }
 
-// A text sealed in place, and its tag behind it.
-fn seal(
-    alloc: Global,
-    gcm: &Gcm,
-    iv: &[u8],
-    ad: &[u8],
-    plain: &[u8],
-    text: &mut [u8],
-) -> Result<Answer, Stop>
-    requires some_iv { 0 < length iv.now }
-    requires iv_within { length iv.now ≤ 200000 }
-    requires ad_within { length ad.now ≤ 200000 }
-    requires text_within { length text.old ≤ 200000 }
-{
-    let tag = gcm.seal(iv, ad, text);
-    let mut sealed = Vec::from_slice(alloc, text)?;
-    if let Some(wrong) = wrong_in(gcm, iv, ad, text, &tag, sealed.as_slice(), plain) {
-        return words(alloc, wrong);
-    }
-    sealed.extend_from_slice(&tag)?;
-    Ok(Answer::Bytes(sealed))
-}
-
-fn sealed(alloc: Global, key: &str, iv: &str, ad: &str, text: &str) -> Result<Answer, Stop> {
-    let gcm = Gcm::new(Key256::new(&array(alloc, key)?));
-    let (iv, ad) = (bytes(alloc, iv)?, bytes(alloc, ad)?);
-    let plain = bytes(alloc, text)?;
-    let mut text = bytes(alloc, text)?;
+fn sealed(args: &mut Arguments, answer: &mut Answer) {
+    let gcm = Gcm::new(Key256::new(&args.array(0)));
+    let (iv, ad, plain) = (args.bytes(1), args.bytes(2), args.bytes(3));
     if iv.is_empty() {
-        return Err(Stop::Unread("an initialization vector of no bytes"));
+        return answer.word("an initialization vector of no bytes");
     }
-    let (iv, ad, plain) = (iv.as_slice(), ad.as_slice(), plain.as_slice());
-    seal(alloc, &gcm, iv, ad, plain, text.as_mut_slice())
+    let alloc = answer.alloc();
+    let (Ok(mut text), Ok(mut sealed)) = (plain.to_vec(alloc), plain.to_vec(alloc)) else {
+        return answer.lacks();
+    };
+    let (text, sealed) = (text.as_mut_slice(), sealed.as_mut_slice());
+    let tag = gcm.seal(iv, ad, text);
+    let again = gcm.seal(iv, ad, sealed);
+    answer.bytes(sealed);
+    answer.bytes(&tag);
+    if tag != again {
+        answer.word("another tag the second time");
+    }
+    answer.word(wrong_in(&gcm, iv, ad, text, &tag, sealed, plain));
 }
 
 // A number of sixteen bytes, padded with zeros behind.
@@ -169,26 +152,29 @@ fn is_sealed_as_plain(
 }
 
 // Compares what texts of each length from one to another seal to with what the plain bodies make of them.
-fn lengths(
-    alloc: Global,
-    key: &str,
-    iv: &str,
-    ad: &str,
-    value: &str,
-    least: &str,
-    most: &str,
-) -> Result<Answer, Stop> {
-    let (key, iv) = (array(alloc, key)?, array(alloc, iv)?);
-    let (ad, value) = (bytes(alloc, ad)?, byte(alloc, value)?);
+fn lengths(args: &mut Arguments, answer: &mut Answer) {
+    let (key, iv, ad) = (args.array(0), args.array(1), args.bytes(2));
+    let value = args.byte(3);
     let gcm = Gcm::new(Key256::new(&key));
-    let (least, most) = (count(least)?, count(most)?);
-    for length in least..=most {
-        let mut text = vec![in alloc; value; length]?;
-        let mut plain = vec![in alloc; value; length]?;
-        let (text, plain) = (text.as_mut_slice(), plain.as_mut_slice());
-        if !is_sealed_as_plain(&key, &gcm, &iv, ad.as_slice(), text, plain) {
-            return Ok(Answer::Words(format!(in alloc; "others of {length}")?));
+    let alloc = answer.alloc();
+    for length in args.few(4)..=args.few(5) {
+        let (Ok(mut text), Ok(mut plain)) = (
+            vec![in alloc; value; length],
+            vec![in alloc; value; length],
+        ) else {
+            return answer.lacks();
+        };
+        if !is_sealed_as_plain(
+            &key,
+            &gcm,
+            &iv,
+            ad,
+            text.as_mut_slice(),
+            plain.as_mut_slice(),
+        ) {
+            answer.word("others of");
+            return answer.shows(&length);
         }
     }
-    words(alloc, "plain")
+    answer.word("plain");
 }

@@ -1,20 +1,18 @@
 //! The laws, each called once: they compute nothing, and a call of each stands for it.
 
-use crate::answer::{Answer, Stop, words};
+use crate::answer::Answer;
 use cryptomator_conf::CmKeys;
-use std::alloc::Global;
 
-/// What a call of this module answers.
-pub fn answer(alloc: Global, call: &[&str]) -> Result<Option<Answer>, Stop> {
-    match call {
-        ["laws"] => {
-            of_contents();
-            of_configurations();
-            of_names();
-            Ok(Some(words(alloc, "called")?))
-        }
-        _ => Ok(None),
+/// Calls each law.
+pub fn answer(name: &str, answer: &mut Answer) -> bool {
+    if name != "laws" {
+        return false;
     }
+    of_contents();
+    of_configurations();
+    of_names();
+    answer.word("called");
+    true
 }
 
 fn of_contents() {

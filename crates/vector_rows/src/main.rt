@@ -62,7 +62,7 @@ fn play<R: Print + AllocGlobal>(
     let mut given = rows::Given::new(rt.alloc());
     for (place, line) in text.lines().enumerate() {
         let place = place.saturating_add(1);
-        let said = rows::play(rt.alloc(), &mut given, tally, file, place, line)?;
+        let said = rows::play(&mut given, tally, file, place, line)?;
         print!(rt; "{said}")?;
     }
     let right = tally.right().saturating_sub(before);

@@ -1,64 +1,68 @@
 //! Calls of vault_names.
 
-use crate::answer::{Answer, Stop, copied, words};
-use crate::arguments::{array, bytes, text};
+use crate::answer::Answer;
+use crate::arguments::Arguments;
 use crate::configurations::keys;
 use crate::paths::name;
 use aes_lanes::Block;
 use cryptomator_conf::CmKeys;
 use gocrypt_conf::GoKeys;
 use plain_tree::Name;
-use std::alloc::Global;
+use std::alloc::AllocError;
 use vault_names::{
     NameFault, Stored, base32_of, cm_folder, cm_long, cm_read, cm_store, go_long, go_read,
     go_store, new_dir_id,
 };
 
-/// What a call of this module answers.
-pub fn answer(alloc: Global, call: &[&str]) -> Result<Option<Answer>, Stop> {
-    let answer = match call {
-        ["size", word] => size(alloc, bytes(alloc, word)?.len()),
-        ["go-name", names, iv, word] => go_short(alloc, &go(alloc, names, iv)?, word),
-        ["go-long-name", names, iv, word, full] => {
-            go_long_name(alloc, &go(alloc, names, iv)?, word, full)
-        }
-        ["go-read", names, iv, word] => go_name(alloc, &go(alloc, names, iv)?, word),
-        ["cm-name", enc, mac, id, word] => cm_short(alloc, &cm(alloc, enc, mac, id)?, word),
-        ["cm-long-name", enc, mac, id, word, full] => {
-            cm_long_name(alloc, &cm(alloc, enc, mac, id)?, word, full)
-        }
-        ["cm-read", enc, mac, id, word] => cm_name(alloc, &cm(alloc, enc, mac, id)?, word),
-        ["cm-folder", enc, mac, id] => folder(alloc, &cm(alloc, enc, mac, id)?),
-        ["cm-dir-id", drawn] => {
-            let id = new_dir_id(alloc, &array(alloc, drawn)?)?;
-            Ok(Answer::Words(id))
-        }
-        ["base32", hash] => copied(alloc, &base32_of(&array(alloc, hash)?)),
-        _ => return Ok(None),
-    };
-    Ok(Some(answer?))
+/// Makes a call of this module, and says whether there is one of this name.
+pub fn answer(name: &str, args: &mut Arguments, answer: &mut Answer) -> bool {
+    match name {
+        "size" => answer.shows(&args.bytes(0).len()),
+        "go-name" => go_short(args, answer),
+        "go-long-name" => go_long_name(args, answer),
+        "go-read" => read_answer(go_read_text(args, answer), answer),
+        "cm-name" => cm_short(args, answer),
+        "cm-long-name" => cm_long_name(args, answer),
+        "cm-read" => read_answer(cm_read_text(args, answer), answer),
+        "cm-folder" => answer.made(cm_folder(answer.alloc(), &keys(args, 0), args.bytes(2))),
+        "cm-dir-id" => answer.made(new_dir_id(answer.alloc(), &args.array(0))),
+        "base32" => answer.bytes(&base32_of(&args.array(0))),
+        _ => return false,
+    }
+    true
 }
 
-fn size(alloc: Global, size: usize) -> Result<Answer, Stop> {
-    Ok(Answer::Words(format!(in alloc; "{size}")?))
+// The keys of a vault of gocryptfs; that of contents is zeros.
+fn go_keys(args: &Arguments) -> GoKeys {
+    GoKeys {
+        content: [0; 32],
+        names: args.array(0),
+    }
 }
 
-// A directory of gocryptfs: the keys of its vault, of which that of contents is zeros, and what its
-// `gocryptfs.diriv` holds.
-#[derive(Drop)]
-struct GoDirectory {
-    keys: GoKeys,
-    iv: Block,
+// What the `gocryptfs.diriv` of a directory holds.
+fn go_iv(args: &Arguments) -> Block {
+    args.array(1)
 }
 
-fn go(alloc: Global, names: &str, iv: &str) -> Result<GoDirectory, Stop> {
-    Ok(GoDirectory {
-        keys: GoKeys {
-            content: [0; 32],
-            names: array(alloc, names)?,
-        },
-        iv: array(alloc, iv)?,
-    })
+// The name whose text the last argument writes, in a directory of gocryptfs.
+fn go_read_text(args: &Arguments, answer: &Answer) -> Result<Name, NameFault> {
+    let text = args.text(args.count().saturating_sub(1));
+    go_read(answer.alloc(), &go_keys(args), &go_iv(args), text)
+}
+
+// The name whose text the last argument writes, in a directory of Cryptomator.
+fn cm_read_text(args: &Arguments, answer: &Answer) -> Result<Name, NameFault> {
+    let text = args.text(args.count().saturating_sub(1));
+    cm_read(answer.alloc(), &keys(args, 0), args.bytes(2), text)
+}
+
+fn read_answer(read: Result<Name, NameFault>, answer: &mut Answer) {
+    match read {
+        Ok(name) => answer.bytes(name.bytes()),
+        Err(NameFault::NotStored) => answer.word("not stored"),
+        Err(NameFault::NoMemory) => answer.lacks(),
+    }
 }
 
 // Whether a text that was read is that of a name.
@@ -69,114 +73,116 @@ fn is_read_as(read: Result<Name, NameFault>, name: &Name) -> bool {
     }
 }
 
-// The answer of an entry's name, where nothing stands behind it.
-fn short(alloc: Global, stored: Stored) -> Result<Answer, Stop> {
+// The answer of an entry's name, where nothing stands behind it and its text is read back.
+fn short(stored: &Stored, read: Result<Name, NameFault>, name: &Name, answer: &mut Answer) {
     if stored.full.is_some() {
-        return words(alloc, "a long name");
+        answer.word("a long name:");
     }
-    Ok(Answer::Words(stored.name.into_string()))
+    if !is_read_as(read, name) {
+        answer.word("it isn't read back:");
+    }
+    answer.word(stored.name.as_str());
 }
 
-// The answer of an entry's name, where this text stands behind it.
-fn long(alloc: Global, stored: Stored, wanted: &str) -> Result<Answer, Stop> {
-    let Stored { name, full } = stored;
-    match full {
+// The answer of an entry's name, behind which a text stands that gives the entry's name.
+fn long(stored: &Stored, wanted: &str, entry: Result<String, AllocError>, answer: &mut Answer) {
+    match &stored.full {
         Some(full) => {
             if full.as_str() != wanted {
-                return Ok(Answer::Words(full.into_string()));
+                answer.word("another text:");
             }
-            Ok(Answer::Words(name.into_string()))
         }
-        None => words(alloc, "a short name"),
+        None => answer.word("a short name:"),
     }
-}
-
-// The entry's name of a short name, which is read back.
-fn go_short(alloc: Global, at: &GoDirectory, word: &str) -> Result<Answer, Stop> {
-    let name = name(alloc, word)?;
-    let stored = go_store(alloc, &at.keys, &at.iv, &name)?;
-    let read = go_read(alloc, &at.keys, &at.iv, stored.name.as_str());
-    if !is_read_as(read, &name) {
-        return words(alloc, "it isn't read back");
+    match entry {
+        Ok(entry) => {
+            if entry.as_str() != stored.name.as_str() {
+                answer.word("its text has another entry:");
+            }
+        }
+        Err(_) => answer.lacks(),
     }
-    short(alloc, stored)
+    answer.word(stored.name.as_str());
 }
 
-// The entry's name of a long name, behind which a text stands that is read back and gives the entry's name.
-fn go_long_name(alloc: Global, at: &GoDirectory, word: &str, full: &str) -> Result<Answer, Stop> {
-    let (name, full) = (name(alloc, word)?, text(alloc, full)?);
-    let stored = go_store(alloc, &at.keys, &at.iv, &name)?;
-    if !is_read_as(go_read(alloc, &at.keys, &at.iv, full.as_str()), &name) {
-        return words(alloc, "it isn't read back");
+// How a name is stored in a directory of gocryptfs.
+fn go_stored(name: &Name, args: &Arguments, answer: &mut Answer) -> Option<Stored> {
+    let stored = go_store(answer.alloc(), &go_keys(args), &go_iv(args), name);
+    if stored.is_err() {
+        answer.lacks();
     }
-    if go_long(alloc, full.as_str())?.as_str() != stored.name.as_str() {
-        return words(alloc, "its text has another entry");
+    stored.ok()
+}
+
+// How a name is stored in a directory of Cryptomator.
+fn cm_stored(name: &Name, args: &Arguments, answer: &mut Answer) -> Option<Stored> {
+    let stored = cm_store(
+        answer.alloc(),
+        &keys(args, 0),
+        THRESHOLD,
+        args.bytes(2),
+        name,
+    );
+    if stored.is_err() {
+        answer.lacks();
     }
-    long(alloc, stored, full.as_str())
-}
-
-fn read_answer(alloc: Global, read: Result<Name, NameFault>) -> Result<Answer, Stop> {
-    match read {
-        Ok(name) => copied(alloc, name.bytes()),
-        Err(NameFault::NotStored) => words(alloc, "not stored"),
-        Err(NameFault::NoMemory) => Err(Stop::NoMemory),
-    }
-}
-
-fn go_name(alloc: Global, at: &GoDirectory, word: &str) -> Result<Answer, Stop> {
-    let text = text(alloc, word)?;
-    read_answer(alloc, go_read(alloc, &at.keys, &at.iv, text.as_str()))
-}
-
-// A directory of Cryptomator: the keys of its vault, and its id.
-#[derive(Drop)]
-struct CmDirectory {
-    keys: CmKeys,
-    id: Vec<u8>,
-}
-
-fn cm(alloc: Global, enc: &str, mac: &str, id: &str) -> Result<CmDirectory, Stop> {
-    Ok(CmDirectory {
-        keys: keys(alloc, enc, mac)?,
-        id: bytes(alloc, id)?,
-    })
+    stored.ok()
 }
 
 const THRESHOLD: u32 = 220;
 
-// The entry's name of a short name, which is read back.
-fn cm_short(alloc: Global, at: &CmDirectory, word: &str) -> Result<Answer, Stop> {
-    let name = name(alloc, word)?;
-    let stored = cm_store(alloc, &at.keys, THRESHOLD, at.id.as_slice(), &name)?;
-    let read = cm_read(alloc, &at.keys, at.id.as_slice(), stored.name.as_str());
-    if !is_read_as(read, &name) {
-        return words(alloc, "it isn't read back");
+fn go_short(args: &Arguments, answer: &mut Answer) {
+    let Some(name) = name(args, 2, answer) else {
+        return;
+    };
+    if let Some(stored) = go_stored(&name, args, answer) {
+        let read = go_read(
+            answer.alloc(),
+            &go_keys(args),
+            &go_iv(args),
+            stored.name.as_str(),
+        );
+        short(&stored, read, &name, answer);
     }
-    short(alloc, stored)
 }
 
-// The entry's name of a long name, behind which a text stands that is read back and gives the entry's name.
-fn cm_long_name(alloc: Global, at: &CmDirectory, word: &str, full: &str) -> Result<Answer, Stop> {
-    let (name, full) = (name(alloc, word)?, text(alloc, full)?);
-    let stored = cm_store(alloc, &at.keys, THRESHOLD, at.id.as_slice(), &name)?;
-    let read = cm_read(alloc, &at.keys, at.id.as_slice(), full.as_str());
-    if !is_read_as(read, &name) {
-        return words(alloc, "it isn't read back");
+fn cm_short(args: &Arguments, answer: &mut Answer) {
+    let Some(name) = name(args, 3, answer) else {
+        return;
+    };
+    if let Some(stored) = cm_stored(&name, args, answer) {
+        let read = cm_read(
+            answer.alloc(),
+            &keys(args, 0),
+            args.bytes(2),
+            stored.name.as_str(),
+        );
+        short(&stored, read, &name, answer);
     }
-    if cm_long(alloc, full.as_str())?.as_str() != stored.name.as_str() {
-        return words(alloc, "its text has another entry");
-    }
-    long(alloc, stored, full.as_str())
 }
 
-fn cm_name(alloc: Global, at: &CmDirectory, word: &str) -> Result<Answer, Stop> {
-    let text = text(alloc, word)?;
-    read_answer(
-        alloc,
-        cm_read(alloc, &at.keys, at.id.as_slice(), text.as_str()),
-    )
+fn go_long_name(args: &Arguments, answer: &mut Answer) {
+    let Some(name) = name(args, 2, answer) else {
+        return;
+    };
+    if !is_read_as(go_read_text(args, answer), &name) {
+        answer.word("it isn't read back:");
+    }
+    if let Some(stored) = go_stored(&name, args, answer) {
+        let entry = go_long(answer.alloc(), args.text(3));
+        long(&stored, args.text(3), entry, answer);
+    }
 }
 
-fn folder(alloc: Global, at: &CmDirectory) -> Result<Answer, Stop> {
-    Ok(Answer::Words(cm_folder(alloc, &at.keys, at.id.as_slice())?))
+fn cm_long_name(args: &Arguments, answer: &mut Answer) {
+    let Some(name) = name(args, 3, answer) else {
+        return;
+    };
+    if !is_read_as(cm_read_text(args, answer), &name) {
+        answer.word("it isn't read back:");
+    }
+    if let Some(stored) = cm_stored(&name, args, answer) {
+        let entry = cm_long(answer.alloc(), args.text(4));
+        long(&stored, args.text(4), entry, answer);
+    }
 }

@@ -1,101 +1,118 @@
 //! Calls of plain_tree.
 
-use crate::answer::{Answer, Stop, copied, words, yes_or_no};
-use crate::arguments::{bytes, text};
+use crate::answer::Answer;
+use crate::arguments::Arguments;
 use plain_tree::{Name, NameNewFault, NodeKind, PathFault, PlainPath, shown_text};
 use std::alloc::Global;
 use std::cmp::Ordering;
 
-/// What a call of this module answers.
-pub fn answer(alloc: Global, call: &[&str]) -> Result<Option<Answer>, Stop> {
-    let answer = match call {
-        ["name", word] => name_back(alloc, word),
-        ["shown", word] => shown(alloc, word),
-        ["nfc", word] => yes_or_no(alloc, name(alloc, word)?.is_nfc()?),
-        ["path", word] => path_back(alloc, word),
-        ["order", left, right] => order(alloc, left, right),
-        ["kinds"] => yes_or_no(alloc, NodeKind::Dir == NodeKind::File),
-        _ => return Ok(None),
-    };
-    Ok(Some(answer?))
+/// Makes a call of this module, and says whether there is one of this name.
+pub fn answer(name: &str, args: &mut Arguments, answer: &mut Answer) -> bool {
+    match name {
+        "name" => name_back(args, answer),
+        "shown" => shown(args, answer),
+        "nfc" => nfc(args, answer),
+        "path" => path_back(args, answer),
+        "order" => order(args, answer),
+        "kinds" => answer.yes_or_no(NodeKind::Dir == NodeKind::File),
+        _ => return false,
+    }
+    true
 }
 
-/// The name that an argument writes.
-pub fn name(alloc: Global, word: &str) -> Result<Name, Stop> {
-    match Name::new(alloc, bytes(alloc, word)?.as_slice()) {
-        Ok(name) => Ok(name),
-        Err(_) => Err(Stop::Unread("no name")),
+/// The name that an argument writes; none where it writes no name, which the answer says.
+pub fn name(args: &Arguments, place: usize, answer: &mut Answer) -> Option<Name> {
+    match Name::new(answer.alloc(), args.bytes(place)) {
+        Ok(name) => Some(name),
+        Err(NameNewFault::BadName) => {
+            answer.word("bad name");
+            None
+        }
+        Err(NameNewFault::NoMemory) => {
+            answer.lacks();
+            None
+        }
     }
 }
 
 // The bytes of a name, which equals its copy.
-fn name_back(alloc: Global, word: &str) -> Result<Answer, Stop> {
-    match Name::new(alloc, bytes(alloc, word)?.as_slice()) {
-        Ok(name) => {
-            if name.copy()? != name {
-                return words(alloc, "its copy is another");
+fn name_back(args: &Arguments, answer: &mut Answer) {
+    let Some(name) = name(args, 0, answer) else {
+        return;
+    };
+    answer.bytes(name.bytes());
+    match name.copy() {
+        Ok(copy) => {
+            if copy != name {
+                answer.word("its copy is another");
             }
-            copied(alloc, name.bytes())
         }
-        Err(NameNewFault::BadName) => words(alloc, "bad name"),
-        Err(NameNewFault::NoMemory) => Err(Stop::NoMemory),
+        Err(_) => answer.lacks(),
     }
 }
 
 // The shown form of a name, which is that of its bytes.
-fn shown(alloc: Global, word: &str) -> Result<Answer, Stop> {
-    let shown = name(alloc, word)?.shown()?;
-    let of_bytes = shown_text(alloc, bytes(alloc, word)?.as_slice())?;
+fn shown(args: &Arguments, answer: &mut Answer) {
+    let Some(name) = name(args, 0, answer) else {
+        return;
+    };
+    let (Ok(shown), Ok(of_bytes)) = (name.shown(), shown_text(answer.alloc(), args.bytes(0))) else {
+        return answer.lacks();
+    };
     if shown.as_str() != of_bytes.as_str() {
-        return words(alloc, "its bytes are shown otherwise");
+        answer.word("its bytes are shown otherwise:");
     }
-    Ok(Answer::Words(shown))
+    answer.word(shown.as_str());
+}
+
+fn nfc(args: &Arguments, answer: &mut Answer) {
+    let Some(name) = name(args, 0, answer) else {
+        return;
+    };
+    match name.is_nfc() {
+        Ok(is_nfc) => answer.yes_or_no(is_nfc),
+        Err(_) => answer.lacks(),
+    }
 }
 
 // How many names a path has. It shows itself as it was written, and equals its copy.
-fn path_back(alloc: Global, word: &str) -> Result<Answer, Stop> {
-    let text = text(alloc, word)?;
-    match PlainPath::parse(alloc, text.as_str()) {
-        Ok(path) => {
-            if path.shown()?.as_str() != text.as_str() {
-                return words(alloc, "it is shown otherwise");
-            }
-            if path.copy()? != path {
-                return words(alloc, "its copy is another");
-            }
-            let count = path.names().len();
-            Ok(Answer::Words(format!(in alloc; "{count}")?))
-        }
-        Err(PathFault::BadPath) => words(alloc, "bad path"),
-        Err(PathFault::NoMemory) => Err(Stop::NoMemory),
+fn path_back(args: &Arguments, answer: &mut Answer) {
+    let path = match PlainPath::parse(answer.alloc(), args.text(0)) {
+        Ok(path) => path,
+        Err(PathFault::BadPath) => return answer.word("bad path"),
+        Err(PathFault::NoMemory) => return answer.lacks(),
+    };
+    let (Ok(shown), Ok(copy)) = (path.shown(), path.copy()) else {
+        return answer.lacks();
+    };
+    if shown.as_str() != args.text(0) {
+        answer.word("it is shown otherwise:");
     }
+    if copy != path {
+        answer.word("its copy is another:");
+    }
+    answer.shows(&path.names().len());
 }
 
 // The path that an argument writes, name below name from the root.
-fn path(alloc: Global, word: &str) -> Result<PlainPath, Stop> {
-    let text = text(alloc, word)?;
-    let Ok(parsed) = PlainPath::parse(alloc, text.as_str()) else {
-        return Err(Stop::Unread("no path"));
-    };
+fn path(alloc: Global, text: &str) -> Option<PlainPath> {
+    let parsed = PlainPath::parse(alloc, text).ok()?;
     let mut path = PlainPath::root(alloc);
     for name in parsed.names() {
-        let below = path.child(name)?;
+        let below = path.child(name).ok()?;
         path = below;
     }
-    if path != parsed {
-        return Err(Stop::Unread("a path that isn't that of its names"));
-    }
-    Ok(path)
+    if path == parsed { Some(path) } else { None }
 }
 
-fn order(alloc: Global, left: &str, right: &str) -> Result<Answer, Stop> {
-    let (left, right) = (path(alloc, left)?, path(alloc, right)?);
-    words(
-        alloc,
-        match left.cmp(&right) {
-            Ordering::Less => "less",
-            Ordering::Equal => "equal",
-            Ordering::Greater => "greater",
-        },
-    )
+fn order(args: &Arguments, answer: &mut Answer) {
+    let alloc = answer.alloc();
+    let (Some(left), Some(right)) = (path(alloc, args.text(0)), path(alloc, args.text(1))) else {
+        return answer.word("no two paths, each that of its names");
+    };
+    answer.word(match left.cmp(&right) {
+        Ordering::Less => "less",
+        Ordering::Equal => "equal",
+        Ordering::Greater => "greater",
+    });
 }

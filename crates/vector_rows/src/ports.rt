@@ -3,109 +3,122 @@
 ghost use Rattle.std.specs.Prelude.{ℕ, ◌+◌, ◌%◌, ◌^◌};
 ghost use Rattle.rand_core.specs.Steps.{stream_of, steps_u32};
 
-use crate::answer::{Answer, Stop};
-use crate::arguments::{array, bytes, count, numbers};
+use crate::answer::Answer;
+use crate::arguments::Arguments;
 use port_model::{
     ListRandoms, MemRandoms, MemSink, MemSource, Randoms, Sink, Source, StdSink, StdSource,
 };
 use rand_core::Rng;
 use rand_core::utils::{NextWord, fill_bytes_via_u32, next_u64_via_u32};
-use row_words::push_hex;
-use std::alloc::{AllocError, Global};
+use row_words::number;
 use std::marker::Model;
 
-/// What a call of this module answers. The numbers of calls that fail come before what is called: the sizes that
-/// are asked for, or the pieces that are put.
-pub fn answer(alloc: Global, call: &[&str]) -> Result<Option<Answer>, Stop> {
-    let answer = match call {
-        ["mem-source", text, fails, sizes @ ..] => {
-            let mut source = MemSource::new(bytes(alloc, text)?, numbers(alloc, fails)?);
-            taken(alloc, &mut source, sizes)
+/// Makes a call of this module, and says whether there is one of this name. The numbers of calls that fail come before what is called:
+/// the sizes that are asked for, or the pieces that are put.
+pub fn answer(name: &str, args: &mut Arguments, answer: &mut Answer) -> bool {
+    match name {
+        "mem-source" => {
+            let mut source = MemSource::new(held(args, 0, answer), fails(args, answer));
+            taken(&mut source, 2, args, answer);
         }
-        ["std-source", text, sizes @ ..] => {
-            let text = bytes(alloc, text)?;
-            taken(alloc, &mut StdSource::new(text.as_slice()), sizes)
+        "std-source" => taken(&mut StdSource::new(args.bytes(0)), 1, args, answer),
+        "mem-sink" => mem_sink(args, answer),
+        "std-sink" => put(&mut StdSink::new(Vec::new(answer.alloc())), 0, args, answer),
+        "list-randoms" => {
+            let mut randoms = ListRandoms::new(held(args, 0, answer), fails(args, answer));
+            drawn(&mut randoms, 2, args, answer);
         }
-        ["mem-sink", room, fails, pieces @ ..] => mem_sink(alloc, room, fails, pieces),
-        ["std-sink", pieces @ ..] => {
-            let answers = put(alloc, &mut StdSink::new(Vec::new(alloc)), pieces)?;
-            Ok(Answer::Words(answers))
+        "ascending-randoms" => {
+            let first = u32::from_le_bytes(args.array(0));
+            drawn(&mut MemRandoms::new(Ascending(first)), 1, args, answer);
         }
-        ["list-randoms", text, fails, sizes @ ..] => {
-            let mut randoms = ListRandoms::new(bytes(alloc, text)?, numbers(alloc, fails)?);
-            drawn(alloc, &mut randoms, sizes)
+        _ => return false,
+    }
+    true
+}
+
+// The bytes of an argument in a vector of its own.
+fn held(args: &Arguments, place: usize, answer: &mut Answer) -> Vec<u8> {
+    let alloc = answer.alloc();
+    match args.bytes(place).to_vec(alloc) {
+        Ok(bytes) => bytes,
+        Err(_) => {
+            answer.lacks();
+            Vec::new(alloc)
         }
-        ["ascending-randoms", first, sizes @ ..] => {
-            let first = u32::from_le_bytes(array(alloc, first)?);
-            drawn(alloc, &mut MemRandoms::new(Ascending(first)), sizes)
+    }
+}
+
+// The numbers that the second argument writes, with commas between them.
+fn fails(args: &Arguments, answer: &mut Answer) -> Vec<u64> {
+    let mut numbers = Vec::new(answer.alloc());
+    for part in args.word(1).split(',') {
+        if let Some(number) = number(part) {
+            if numbers.push(number).is_err() {
+                answer.lacks();
+            }
         }
-        _ => return Ok(None),
-    };
-    Ok(Some(answer?))
+    }
+    numbers
 }
 
 // Adds the answer of a call: some bytes, `nothing` or `fault`.
-fn push_answer(text: &mut String, bytes: Option<&[u8]>) -> Result<(), AllocError> {
-    if !text.is_empty() {
-        text.push(' ')?;
-    }
+fn add(bytes: Option<&[u8]>, answer: &mut Answer) {
     match bytes {
-        Some([]) => text.push_str("nothing"),
-        Some(bytes) => push_hex(text, bytes),
-        None => text.push_str("fault"),
+        Some([]) => answer.word("nothing"),
+        Some(bytes) => answer.hex(bytes),
+        None => answer.word("fault"),
     }
 }
 
-// What a source gives where these many bytes are asked for.
-fn taken<S: Source>(alloc: Global, source: &mut S, sizes: &[&str]) -> Result<Answer, Stop> {
-    let mut text = String::new(alloc);
-    for size in sizes {
-        let mut out = vec![in alloc; 0; count(size)?]?;
-        let taken = source.take(out.as_mut_slice());
-        push_answer(&mut text, taken_bytes(out.as_slice(), taken.ok()))?;
+// How many bytes are asked for at once at most.
+const MOST: usize = 1_000;
+
+// What a source gives where the arguments from a place on ask for so many bytes.
+fn taken<S: Source>(source: &mut S, first: usize, args: &Arguments, answer: &mut Answer) {
+    let mut room = [0; MOST];
+    for place in first..args.count() {
+        let out = &mut room[..args.few(place).min(MOST)];
+        let count = source.take(out).ok();
+        add(taken_bytes(out, count), answer);
     }
-    Ok(Answer::Words(text))
 }
 
 fn taken_bytes(out: &[u8], count: Option<usize>) -> Option<&[u8]> {
     out.get(..count?)
 }
 
-// What a sink answers to pieces.
-fn put<S: Sink>(alloc: Global, sink: &mut S, pieces: &[&str]) -> Result<String, Stop> {
-    let mut text = String::new(alloc);
-    for piece in pieces {
-        if !text.is_empty() {
-            text.push(' ')?;
-        }
-        text.push_str(match sink.put(bytes(alloc, piece)?.as_slice()) {
+// What a sink answers to the pieces that the arguments from a place on write.
+fn put<S: Sink>(sink: &mut S, first: usize, args: &Arguments, answer: &mut Answer) {
+    for place in first..args.count() {
+        answer.word(match sink.put(args.bytes(place)) {
             Ok(()) => "ok",
             Err(_) => "fault",
-        })?;
+        });
     }
-    Ok(text)
 }
 
 // What a sink in memory with so much room answers to pieces, and what it took.
-fn mem_sink(alloc: Global, room: &str, fails: &str, pieces: &[&str]) -> Result<Answer, Stop> {
-    let mut sink = MemSink::new(alloc, count(room)?, numbers(alloc, fails)?)?;
-    let mut text = put(alloc, &mut sink, pieces)?;
-    text.push_str(": ")?;
-    push_hex(&mut text, sink.bytes())?;
-    Ok(Answer::Words(text))
+fn mem_sink(args: &Arguments, answer: &mut Answer) {
+    let fails = fails(args, answer);
+    let Ok(mut sink) = MemSink::new(answer.alloc(), args.few(0), fails) else {
+        return answer.lacks();
+    };
+    put(&mut sink, 2, args, answer);
+    answer.word("took");
+    answer.hex(sink.bytes());
 }
 
-// What a random source gives where these many bytes are drawn.
-fn drawn<R: Randoms>(alloc: Global, randoms: &mut R, sizes: &[&str]) -> Result<Answer, Stop> {
-    let mut text = String::new(alloc);
-    for size in sizes {
-        let mut out = vec![in alloc; 0; count(size)?]?;
-        match randoms.fill(out.as_mut_slice()) {
-            Ok(()) => push_answer(&mut text, Some(out.as_slice()))?,
-            Err(_) => push_answer(&mut text, None)?,
+// What a random source gives where the arguments from a place on draw so many bytes.
+fn drawn<R: Randoms>(randoms: &mut R, first: usize, args: &Arguments, answer: &mut Answer) {
+    let mut room = [0; MOST];
+    for place in first..args.count() {
+        let out = &mut room[..args.few(place).min(MOST)];
+        match randoms.fill(out) {
+            Ok(()) => add(Some(out), answer),
+            Err(_) => add(None, answer),
         }
     }
-    Ok(Answer::Words(text))
 }
 
 // A generator whose words' bytes count up, where it begins at 0x03020100.

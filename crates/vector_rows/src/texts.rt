@@ -1,177 +1,196 @@
 //! Calls of text_model and json_fields.
 
-use crate::answer::{Answer, Stop, copied, display, words, yes_or_no};
-use crate::arguments::{bytes, text};
+use crate::answer::Answer;
+use crate::arguments::Arguments;
 use json_fields::{
     Alphabet, FieldFault, bytes_at, decode, json_object, number_at, object_at, text_at, texts_at,
 };
 use serde_json::Value;
-use std::alloc::Global;
 use text_model::{Bytes, Text};
 
-/// What a call of this module answers.
-pub fn answer(alloc: Global, call: &[&str]) -> Result<Option<Answer>, Stop> {
-    let answer = match call {
-        ["text", text] => text_back(alloc, text),
-        ["text-copied", text] => text_copied(alloc, text),
-        ["text-after", front, text] => text_after(alloc, front, text),
-        ["texts-equal", left, right] => texts_equal(alloc, left, right),
-        ["bytes", word] => bytes_back(alloc, word),
-        ["bytes-equal", left, right] => bytes_equal(alloc, left, right),
-        ["json-object", word] => {
-            let object = json_object(alloc, bytes(alloc, word)?.as_slice())?;
-            yes_or_no(alloc, object.is_some())
+/// Makes a call of this module, and says whether there is one of this name.
+pub fn answer(name: &str, args: &mut Arguments, answer: &mut Answer) -> bool {
+    match name {
+        "text" => text_back(args, answer),
+        "text-copied" => text_copied(args, answer),
+        "text-after" => text_after(args, answer),
+        "texts-equal" => texts_equal(args, answer),
+        "bytes" => bytes_back(args, answer),
+        "bytes-equal" => bytes_equal(args, answer),
+        "base64" => decoded(args, answer),
+        _ => return json_answer(name, args, answer),
+    }
+    true
+}
+
+// The text of an argument, which a string of its own holds.
+fn text(args: &Arguments, place: usize, answer: &mut Answer) -> Text {
+    let alloc = answer.alloc();
+    match String::from_str(alloc, args.text(place)) {
+        Ok(text) => Text::new(text),
+        Err(_) => {
+            answer.lacks();
+            Text::new(String::new(alloc))
         }
-        ["base64", alphabet, text] => decoded(alloc, alphabet_of(alphabet)?, text),
-        _ => return json_answer(alloc, call),
-    };
-    Ok(Some(answer?))
+    }
 }
 
 // The text of a string, which is given back.
-fn text_back(alloc: Global, word: &str) -> Result<Answer, Stop> {
-    let held = Text::new(text(alloc, word)?);
-    let seen = copied(alloc, held.as_str().as_bytes());
-    let given = held.into_string();
-    if given.as_str() != text(alloc, word)?.as_str() {
-        return words(alloc, "another string is given back");
+fn text_back(args: &Arguments, answer: &mut Answer) {
+    let held = text(args, 0, answer);
+    answer.bytes(held.as_str().as_bytes());
+    if held.into_string().as_str() != args.text(0) {
+        answer.word("another string is given back");
     }
-    seen
 }
 
-fn text_copied(alloc: Global, word: &str) -> Result<Answer, Stop> {
-    let held = Text::copy_of(alloc, text(alloc, word)?.as_str())?;
-    Ok(Answer::Bytes(held.into_string().into_bytes()))
+fn text_copied(args: &Arguments, answer: &mut Answer) {
+    match Text::copy_of(answer.alloc(), args.text(0)) {
+        Ok(held) => answer.bytes(held.as_str().as_bytes()),
+        Err(_) => answer.lacks(),
+    }
 }
 
 // A text behind another one, as it shows itself.
-fn text_after(alloc: Global, front: &str, word: &str) -> Result<Answer, Stop> {
-    let (front, held) = (text(alloc, front)?, Text::new(text(alloc, word)?));
-    let both = format!(in alloc; "{front}{held}")?;
-    Ok(Answer::Bytes(both.into_bytes()))
+fn text_after(args: &Arguments, answer: &mut Answer) {
+    let (alloc, front, held) = (answer.alloc(), args.text(0), text(args, 1, answer));
+    match format!(in alloc; "{front}{held}") {
+        Ok(both) => answer.bytes(both.as_bytes()),
+        Err(_) => answer.lacks(),
+    }
 }
 
-fn texts_equal(alloc: Global, left: &str, right: &str) -> Result<Answer, Stop> {
-    let (left, right) = (
-        Text::new(text(alloc, left)?),
-        Text::new(text(alloc, right)?),
-    );
-    yes_or_no(alloc, left == right)
+fn texts_equal(args: &Arguments, answer: &mut Answer) {
+    let (left, right) = (text(args, 0, answer), text(args, 1, answer));
+    answer.yes_or_no(left == right);
+}
+
+// The bytes of an argument, which a vector of its own holds.
+fn bytes(args: &Arguments, place: usize, answer: &mut Answer) -> Bytes {
+    let alloc = answer.alloc();
+    match args.bytes(place).to_vec(alloc) {
+        Ok(bytes) => Bytes::new(bytes),
+        Err(_) => {
+            answer.lacks();
+            Bytes::new(Vec::new(alloc))
+        }
+    }
 }
 
 // The bytes of a vector, which is given back.
-fn bytes_back(alloc: Global, word: &str) -> Result<Answer, Stop> {
-    let held = Bytes::new(bytes(alloc, word)?);
-    let seen = copied(alloc, held.as_slice());
-    if held.into_vec().as_slice() != bytes(alloc, word)?.as_slice() {
-        return words(alloc, "another vector is given back");
-    }
-    seen
-}
-
-fn bytes_equal(alloc: Global, left: &str, right: &str) -> Result<Answer, Stop> {
-    let (left, right) = (
-        Bytes::new(bytes(alloc, left)?),
-        Bytes::new(bytes(alloc, right)?),
-    );
-    yes_or_no(alloc, left == right)
-}
-
-fn alphabet_of(word: &str) -> Result<Alphabet, Stop> {
-    match word {
-        "standard" => Ok(Alphabet::Standard),
-        "url" => Ok(Alphabet::UrlSafe),
-        _ => Err(Stop::Unread("no alphabet")),
+fn bytes_back(args: &Arguments, answer: &mut Answer) {
+    let held = bytes(args, 0, answer);
+    answer.bytes(held.as_slice());
+    if held.into_vec().as_slice() != args.bytes(0) {
+        answer.word("another vector is given back");
     }
 }
 
-fn decoded(alloc: Global, alphabet: Alphabet, text: &str) -> Result<Answer, Stop> {
-    match decode(alloc, alphabet, bytes(alloc, text)?.as_slice())? {
-        Some(bytes) => Ok(Answer::Bytes(bytes)),
-        None => words(alloc, "none"),
+fn bytes_equal(args: &Arguments, answer: &mut Answer) {
+    let (left, right) = (bytes(args, 0, answer), bytes(args, 1, answer));
+    answer.yes_or_no(left == right);
+}
+
+// The alphabet that an argument names: `standard`, or else that of addresses.
+fn alphabet(args: &Arguments) -> Alphabet {
+    if args.word(0) == "standard" {
+        Alphabet::Standard
+    } else {
+        Alphabet::UrlSafe
     }
 }
 
-// What a call of the fields of an object answers.
-fn json_answer(alloc: Global, call: &[&str]) -> Result<Option<Answer>, Stop> {
-    let answer = match call {
-        ["json-number", name, word] => number(alloc, name, &object(alloc, word)?),
-        ["json-number-in", outer, name, word] => {
-            number_in(alloc, outer, name, &object(alloc, word)?)
-        }
-        ["json-text", name, word] => text_of(alloc, name, &object(alloc, word)?),
-        ["json-bytes", alphabet, name, word] => {
-            bytes_of(alloc, alphabet_of(alphabet)?, name, &object(alloc, word)?)
-        }
-        ["json-object-at", name, word] => is_object(alloc, name, &object(alloc, word)?),
-        ["json-texts", name, word] => texts(alloc, name, &object(alloc, word)?),
-        _ => return Ok(None),
-    };
-    Ok(Some(answer?))
+fn decoded(args: &Arguments, answer: &mut Answer) {
+    match decode(answer.alloc(), alphabet(args), args.bytes(1)) {
+        Ok(Some(bytes)) => answer.bytes(bytes.as_slice()),
+        Ok(None) => answer.word("none"),
+        Err(_) => answer.lacks(),
+    }
 }
 
-fn object(alloc: Global, word: &str) -> Result<Value, Stop> {
-    json_object(alloc, bytes(alloc, word)?.as_slice())?.ok_or(Stop::Unread("no JSON object"))
+// Makes a call that reads a JSON object, which is the last argument.
+fn json_answer(name: &str, args: &Arguments, answer: &mut Answer) -> bool {
+    if !name.starts_with("json-") {
+        return false;
+    }
+    let last = args.count().saturating_sub(1);
+    match json_object(answer.alloc(), args.bytes(last)) {
+        Ok(Some(object)) => return object_answer(name, args, &object, answer),
+        Ok(None) => answer.word("no"),
+        Err(_) => answer.lacks(),
+    }
+    true
+}
+
+// Makes a call on an object that was read.
+fn object_answer(name: &str, args: &Arguments, object: &Value, answer: &mut Answer) -> bool {
+    match name {
+        "json-object" => answer.word("yes"),
+        "json-number" => number(args.word(0), object, answer),
+        "json-number-in" => number_in(args, object, answer),
+        "json-text" => text_of(args, object, answer),
+        "json-bytes" => bytes_of(args, object, answer),
+        "json-object-at" => is_object(args, object, answer),
+        "json-texts" => texts(args, object, answer),
+        _ => return false,
+    }
+    true
 }
 
 // The fault of a field, which names it.
-fn fault(alloc: Global, fault: FieldFault) -> Result<Answer, Stop> {
+fn fault(fault: FieldFault, answer: &mut Answer) {
     match fault {
-        FieldFault::Wrong(name) => Ok(Answer::Words(format!(in alloc; "field {name}")?)),
-        FieldFault::NoMemory => Err(Stop::NoMemory),
+        FieldFault::Wrong(name) => {
+            answer.word("field");
+            answer.shows(&name);
+        }
+        FieldFault::NoMemory => answer.lacks(),
     }
 }
 
-fn number(alloc: Global, name: &str, object: &Value) -> Result<Answer, Stop> {
-    match number_at(alloc, name, object) {
-        Ok(number) => display(alloc, &number),
-        Err(wrong) => fault(alloc, wrong),
+fn number(name: &str, object: &Value, answer: &mut Answer) {
+    match number_at(answer.alloc(), name, object) {
+        Ok(number) => answer.shows(&number),
+        Err(wrong) => fault(wrong, answer),
     }
 }
 
-fn number_in(alloc: Global, outer: &str, name: &str, object: &Value) -> Result<Answer, Stop> {
-    match object_at(alloc, outer, object) {
-        Ok(inner) => number(alloc, name, inner),
-        Err(wrong) => fault(alloc, wrong),
+fn number_in(args: &Arguments, object: &Value, answer: &mut Answer) {
+    match object_at(answer.alloc(), args.word(0), object) {
+        Ok(inner) => number(args.word(1), inner, answer),
+        Err(wrong) => fault(wrong, answer),
     }
 }
 
-fn text_of(alloc: Global, name: &str, object: &Value) -> Result<Answer, Stop> {
-    match text_at(alloc, name, object) {
-        Ok(text) => copied(alloc, text.as_bytes()),
-        Err(wrong) => fault(alloc, wrong),
+fn text_of(args: &Arguments, object: &Value, answer: &mut Answer) {
+    match text_at(answer.alloc(), args.word(0), object) {
+        Ok(text) => answer.bytes(text.as_bytes()),
+        Err(wrong) => fault(wrong, answer),
     }
 }
 
-fn bytes_of(alloc: Global, alphabet: Alphabet, name: &str, object: &Value) -> Result<Answer, Stop> {
-    match bytes_at(alloc, alphabet, name, object) {
-        Ok(bytes) => Ok(Answer::Bytes(bytes)),
-        Err(wrong) => fault(alloc, wrong),
+fn bytes_of(args: &Arguments, object: &Value, answer: &mut Answer) {
+    match bytes_at(answer.alloc(), alphabet(args), args.word(1), object) {
+        Ok(bytes) => answer.bytes(bytes.as_slice()),
+        Err(wrong) => fault(wrong, answer),
     }
 }
 
-fn is_object(alloc: Global, name: &str, object: &Value) -> Result<Answer, Stop> {
-    match object_at(alloc, name, object) {
-        Ok(_) => words(alloc, "object"),
-        Err(wrong) => fault(alloc, wrong),
+fn is_object(args: &Arguments, object: &Value, answer: &mut Answer) {
+    match object_at(answer.alloc(), args.word(0), object) {
+        Ok(_) => answer.word("object"),
+        Err(wrong) => fault(wrong, answer),
     }
 }
 
 // The texts of an array, with a blank between each two.
-fn texts(alloc: Global, name: &str, object: &Value) -> Result<Answer, Stop> {
-    match texts_at(alloc, name, object) {
-        Ok(texts) => joined(alloc, texts.as_slice()),
-        Err(wrong) => fault(alloc, wrong),
-    }
-}
-
-fn joined(alloc: Global, texts: &[&str]) -> Result<Answer, Stop> {
-    let mut all = String::new(alloc);
-    for text in texts {
-        if !all.is_empty() {
-            all.push(' ')?;
+fn texts(args: &Arguments, object: &Value, answer: &mut Answer) {
+    match texts_at(answer.alloc(), args.word(0), object) {
+        Ok(texts) => {
+            for text in &texts {
+                answer.word(text);
+            }
         }
-        all.push_str(text)?;
+        Err(wrong) => fault(wrong, answer),
     }
-    Ok(Answer::Words(all))
 }

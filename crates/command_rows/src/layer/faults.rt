@@ -5,8 +5,7 @@ use migrate_core::MoveFault;
 use move_journal::JournalFault;
 use plain_tree::PlainPath;
 use retire_core::RetireFault;
-use row_words::push_hex;
-use std::alloc::{AllocError, Global};
+use row_words::Said;
 use tree_match::{MatchFault, Side, Where};
 use vault_check::CheckFault;
 use vault_read::{CatFault, FindFault, Limit, LoadFault};
@@ -23,220 +22,210 @@ pub fn folder_word(fault: FolderFault) -> &'static str {
     }
 }
 
-/// A word alone.
-fn word(alloc: Global, word: &str) -> Result<String, AllocError> {
-    String::from_str(alloc, word)
-}
-
 /// A word with a path of the folder.
-pub fn path_fault(alloc: Global, word: &str, at: &FPath) -> Result<String, AllocError> {
-    let at = at.text()?;
-    format!(in alloc; "{word} {at}")
+pub fn path_fault(said: &mut Said, word: &str, at: &FPath) {
+    said.word(word);
+    said.made(at.text());
 }
 
 /// A word with a plain path.
-pub fn plain_fault(alloc: Global, word: &str, path: &PlainPath) -> Result<String, AllocError> {
-    let path = path.shown()?;
-    format!(in alloc; "{word} {path}")
+fn plain_fault(said: &mut Said, word: &str, path: &PlainPath) {
+    said.word(word);
+    said.made(path.shown());
 }
 
 // A content file with its fault.
-fn damaged(alloc: Global, at: &FPath, fault: ChunkFault) -> Result<String, AllocError> {
-    let at = at.text()?;
-    format!(in alloc; "Damaged {at} {fault}")
+fn damaged(said: &mut Said, at: &FPath, fault: ChunkFault) {
+    path_fault(said, "Damaged", at);
+    said.shows(&fault);
 }
 
-fn limit_fault(alloc: Global, limit: Limit) -> Result<String, AllocError> {
+fn limit_fault(said: &mut Said, limit: Limit) {
     match limit {
-        Limit::Depth => word(alloc, "Limit Depth"),
-        Limit::Items => word(alloc, "Limit Items"),
-        Limit::Length(at) => path_fault(alloc, "Limit Length", &at),
-        Limit::Input => word(alloc, "Limit Input"),
+        Limit::Depth => said.word("Limit Depth"),
+        Limit::Items => said.word("Limit Items"),
+        Limit::Length(at) => path_fault(said, "Limit Length", &at),
+        Limit::Input => said.word("Limit Input"),
     }
 }
 
-pub fn journal_fault(alloc: Global, fault: JournalFault) -> Result<String, AllocError> {
+pub fn journal_fault(said: &mut Said, fault: JournalFault) {
     match fault {
-        JournalFault::NoJournal => word(alloc, "NoJournal"),
-        JournalFault::BadJournal(line) => format!(in alloc; "BadJournal {line}"),
-        JournalFault::TooLarge => word(alloc, "TooLarge"),
-        JournalFault::Failed => word(alloc, "Failed"),
-        JournalFault::NoMemory => word(alloc, "NoMemory"),
+        JournalFault::NoJournal => said.word("NoJournal"),
+        JournalFault::BadJournal(line) => {
+            said.word("BadJournal");
+            said.shows(&line);
+        }
+        JournalFault::TooLarge => said.word("TooLarge"),
+        JournalFault::Failed => said.word("Failed"),
+        JournalFault::NoMemory => said.word("NoMemory"),
     }
 }
 
-pub fn work_fault(alloc: Global, fault: WorkFault) -> Result<String, AllocError> {
+pub fn work_fault(said: &mut Said, fault: WorkFault) {
     match fault {
-        WorkFault::NoParent(at) => path_fault(alloc, "NoParent", &at),
-        WorkFault::WrongKind(at) => path_fault(alloc, "WrongKind", &at),
-        WorkFault::Foreign(at) => path_fault(alloc, "Foreign", &at),
-        WorkFault::Begun => word(alloc, "Begun"),
-        WorkFault::Depth => word(alloc, "Depth"),
-        WorkFault::Failed => word(alloc, "Failed"),
-        WorkFault::NoMemory => word(alloc, "NoMemory"),
+        WorkFault::NoParent(at) => path_fault(said, "NoParent", &at),
+        WorkFault::WrongKind(at) => path_fault(said, "WrongKind", &at),
+        WorkFault::Foreign(at) => path_fault(said, "Foreign", &at),
+        WorkFault::Begun => said.word("Begun"),
+        WorkFault::Depth => said.word("Depth"),
+        WorkFault::Failed => said.word("Failed"),
+        WorkFault::NoMemory => said.word("NoMemory"),
     }
 }
 
-pub fn load_fault(alloc: Global, fault: LoadFault) -> Result<String, AllocError> {
+pub fn load_fault(said: &mut Said, fault: LoadFault) {
     match fault {
-        LoadFault::Missing(at) => path_fault(alloc, "Missing", &at),
-        LoadFault::WrongKind(at) => path_fault(alloc, "WrongKind", &at),
-        LoadFault::TooLarge(at) => path_fault(alloc, "TooLarge", &at),
-        LoadFault::Go(_) => word(alloc, "Go"),
-        LoadFault::Cm(at, _) => path_fault(alloc, "Cm", &at),
-        LoadFault::WrongPass => word(alloc, "WrongPass"),
-        LoadFault::BadSignature => word(alloc, "BadSignature"),
-        LoadFault::Failed => word(alloc, "Failed"),
-        LoadFault::NoMemory => word(alloc, "NoMemory"),
+        LoadFault::Missing(at) => path_fault(said, "Missing", &at),
+        LoadFault::WrongKind(at) => path_fault(said, "WrongKind", &at),
+        LoadFault::TooLarge(at) => path_fault(said, "TooLarge", &at),
+        LoadFault::Go(_) => said.word("Go"),
+        LoadFault::Cm(at, _) => path_fault(said, "Cm", &at),
+        LoadFault::WrongPass => said.word("WrongPass"),
+        LoadFault::BadSignature => said.word("BadSignature"),
+        LoadFault::Failed => said.word("Failed"),
+        LoadFault::NoMemory => said.word("NoMemory"),
     }
 }
 
-pub fn find_fault(alloc: Global, fault: FindFault) -> Result<String, AllocError> {
+pub fn find_fault(said: &mut Said, fault: FindFault) {
     match fault {
-        FindFault::NotFound(path) => plain_fault(alloc, "NotFound", &path),
-        FindFault::WrongKind(path) => plain_fault(alloc, "WrongKind", &path),
-        FindFault::NoDirKey(at) => path_fault(alloc, "NoDirKey", &at),
-        FindFault::NoFolder(at) => path_fault(alloc, "NoFolder", &at),
-        FindFault::Failed => word(alloc, "Failed"),
-        FindFault::NoMemory => word(alloc, "NoMemory"),
+        FindFault::NotFound(path) => plain_fault(said, "NotFound", &path),
+        FindFault::WrongKind(path) => plain_fault(said, "WrongKind", &path),
+        FindFault::NoDirKey(at) => path_fault(said, "NoDirKey", &at),
+        FindFault::NoFolder(at) => path_fault(said, "NoFolder", &at),
+        FindFault::Failed => said.word("Failed"),
+        FindFault::NoMemory => said.word("NoMemory"),
     }
 }
 
-pub fn cat_fault(alloc: Global, fault: CatFault) -> Result<String, AllocError> {
+pub fn cat_fault(said: &mut Said, fault: CatFault) {
     match fault {
-        CatFault::Find(fault) => find_fault(alloc, fault),
-        CatFault::Damaged(at, fault) => damaged(alloc, &at, fault),
-        CatFault::Limit(limit) => limit_fault(alloc, limit),
-        CatFault::Sink => word(alloc, "Sink"),
-        CatFault::Failed => word(alloc, "Failed"),
-        CatFault::NoMemory => word(alloc, "NoMemory"),
+        CatFault::Find(fault) => find_fault(said, fault),
+        CatFault::Damaged(at, fault) => damaged(said, &at, fault),
+        CatFault::Limit(limit) => limit_fault(said, limit),
+        CatFault::Sink => said.word("Sink"),
+        CatFault::Failed => said.word("Failed"),
+        CatFault::NoMemory => said.word("NoMemory"),
     }
 }
 
 /// A finding with its number, its path, and the fault of a content.
-pub fn finding_line(alloc: Global, finding: &Finding) -> Result<String, AllocError> {
-    let number = finding.number;
-    let at = finding.at.text()?;
-    match finding.fault {
-        Some(fault) => format!(in alloc; "{number} {at} {fault}"),
-        None => format!(in alloc; "{number} {at}"),
+pub fn finding_line(said: &mut Said, finding: &Finding) {
+    said.shows(&finding.number);
+    said.made(finding.at.text());
+    if let Some(fault) = finding.fault {
+        said.shows(&fault);
     }
 }
 
-pub fn walk_fault(alloc: Global, fault: WalkFault) -> Result<String, AllocError> {
+pub fn walk_fault(said: &mut Said, fault: WalkFault) {
     match fault {
         WalkFault::NotClean(finding) => {
-            let finding = finding_line(alloc, &finding)?;
-            format!(in alloc; "NotClean {finding}")
+            said.word("NotClean");
+            finding_line(said, &finding);
         }
-        WalkFault::Limit(limit) => limit_fault(alloc, limit),
-        WalkFault::Failed => word(alloc, "Failed"),
-        WalkFault::NoMemory => word(alloc, "NoMemory"),
+        WalkFault::Limit(limit) => limit_fault(said, limit),
+        WalkFault::Failed => said.word("Failed"),
+        WalkFault::NoMemory => said.word("NoMemory"),
     }
 }
 
-pub fn check_fault(alloc: Global, fault: CheckFault) -> Result<String, AllocError> {
+pub fn check_fault(said: &mut Said, fault: CheckFault) {
     match fault {
-        CheckFault::Limit(limit) => limit_fault(alloc, limit),
-        CheckFault::Failed => word(alloc, "Failed"),
-        CheckFault::NoMemory => word(alloc, "NoMemory"),
+        CheckFault::Limit(limit) => limit_fault(said, limit),
+        CheckFault::Failed => said.word("Failed"),
+        CheckFault::NoMemory => said.word("NoMemory"),
     }
 }
 
-pub fn match_fault(alloc: Global, fault: MatchFault) -> Result<String, AllocError> {
+pub fn match_fault(said: &mut Said, fault: MatchFault) {
     match fault {
-        MatchFault::Damaged(at, fault) => damaged(alloc, &at, fault),
-        MatchFault::Limit(limit) => limit_fault(alloc, limit),
-        MatchFault::Failed => word(alloc, "Failed"),
-        MatchFault::NoMemory => word(alloc, "NoMemory"),
+        MatchFault::Damaged(at, fault) => damaged(said, &at, fault),
+        MatchFault::Limit(limit) => limit_fault(said, limit),
+        MatchFault::Failed => said.word("Failed"),
+        MatchFault::NoMemory => said.word("NoMemory"),
     }
 }
 
-pub fn put_fault(alloc: Global, fault: PutFault) -> Result<String, AllocError> {
+pub fn put_fault(said: &mut Said, fault: PutFault) {
     match fault {
-        PutFault::Find(fault) => find_fault(alloc, fault),
-        PutFault::NotAllowed(path) => plain_fault(alloc, "NotAllowed", &path),
-        PutFault::Taken(at) => path_fault(alloc, "Taken", &at),
-        PutFault::Damaged(at, fault) => damaged(alloc, &at, fault),
-        PutFault::Limit(limit) => limit_fault(alloc, limit),
-        PutFault::ZeroRandom => word(alloc, "ZeroRandom"),
-        PutFault::Source => word(alloc, "Source"),
-        PutFault::Random => word(alloc, "Random"),
-        PutFault::Failed => word(alloc, "Failed"),
-        PutFault::NoMemory => word(alloc, "NoMemory"),
+        PutFault::Find(fault) => find_fault(said, fault),
+        PutFault::NotAllowed(path) => plain_fault(said, "NotAllowed", &path),
+        PutFault::Taken(at) => path_fault(said, "Taken", &at),
+        PutFault::Damaged(at, fault) => damaged(said, &at, fault),
+        PutFault::Limit(limit) => limit_fault(said, limit),
+        PutFault::ZeroRandom => said.word("ZeroRandom"),
+        PutFault::Source => said.word("Source"),
+        PutFault::Random => said.word("Random"),
+        PutFault::Failed => said.word("Failed"),
+        PutFault::NoMemory => said.word("NoMemory"),
     }
 }
 
-fn overlap(alloc: Global, one: &FPath, other: &FPath) -> Result<String, AllocError> {
-    let (one, other) = (one.text()?, other.text()?);
-    format!(in alloc; "Overlap {one} {other}")
+fn overlap(said: &mut Said, one: &FPath, other: &FPath) {
+    path_fault(said, "Overlap", one);
+    said.made(other.text());
 }
 
-fn side_fault(alloc: Global, side: Side, fault: LoadFault) -> Result<String, AllocError> {
-    let fault = load_fault(alloc, fault)?;
+fn side_fault(said: &mut Said, side: Side, fault: LoadFault) {
     match side {
-        Side::Source => format!(in alloc; "Source {fault}"),
-        Side::Target => format!(in alloc; "Target {fault}"),
+        Side::Source => said.word("Source"),
+        Side::Target => said.word("Target"),
     }
+    load_fault(said, fault);
 }
 
-fn differ(alloc: Global, path: &PlainPath, how: Where) -> Result<String, AllocError> {
-    let path = path.shown()?;
-    let how = match how {
+fn differ(said: &mut Said, path: &PlainPath, how: Where) {
+    plain_fault(said, "Differ", path);
+    said.word(match how {
         Where::Missing => "Missing",
         Where::Kind => "Kind",
         Where::Content => "Content",
         Where::Extra => "Extra",
-    };
-    format!(in alloc; "Differ {path} {how}")
+    });
 }
 
 // What a journal says of a plan, and how the plan is.
-fn changed(
-    alloc: Global,
-    was: &[u8; 32],
-    items: u64,
-    is: &[u8; 32],
-    now: u64,
-) -> Result<String, AllocError> {
-    let mut text = format!(in alloc; "Changed {items} ")?;
-    push_hex(&mut text, was.as_slice())?;
-    write!(text, " {now} ")?;
-    push_hex(&mut text, is.as_slice())?;
-    Ok(text)
+fn changed(said: &mut Said, was: &[u8; 32], items: u64, is: &[u8; 32], now: u64) {
+    said.word("Changed");
+    said.shows(&items);
+    said.hex(was);
+    said.shows(&now);
+    said.hex(is);
 }
 
-pub fn move_fault(alloc: Global, fault: MoveFault) -> Result<String, AllocError> {
+pub fn move_fault(said: &mut Said, fault: MoveFault) {
     match fault {
-        MoveFault::Work(fault) => work_fault(alloc, fault),
-        MoveFault::Journal(fault) => journal_fault(alloc, fault),
-        MoveFault::Overlap(one, other) => overlap(alloc, &one, &other),
-        MoveFault::Load(side, fault) => side_fault(alloc, side, fault),
-        MoveFault::Walk(fault) => walk_fault(alloc, fault),
-        MoveFault::NotEmpty(at) => path_fault(alloc, "NotEmpty", &at),
-        MoveFault::NotAllowed(path) => plain_fault(alloc, "NotAllowed", &path),
-        MoveFault::Changed(was, items, is, now) => changed(alloc, &was, items, &is, now),
-        MoveFault::Match(fault) => match_fault(alloc, fault),
-        MoveFault::Differ(path, how) => differ(alloc, &path, how),
-        MoveFault::Place(fault) => put_fault(alloc, fault),
-        MoveFault::SourceGone => word(alloc, "SourceGone"),
-        MoveFault::Failed => word(alloc, "Failed"),
-        MoveFault::NoMemory => word(alloc, "NoMemory"),
+        MoveFault::Work(fault) => work_fault(said, fault),
+        MoveFault::Journal(fault) => journal_fault(said, fault),
+        MoveFault::Overlap(one, other) => overlap(said, &one, &other),
+        MoveFault::Load(side, fault) => side_fault(said, side, fault),
+        MoveFault::Walk(fault) => walk_fault(said, fault),
+        MoveFault::NotEmpty(at) => path_fault(said, "NotEmpty", &at),
+        MoveFault::NotAllowed(path) => plain_fault(said, "NotAllowed", &path),
+        MoveFault::Changed(was, items, is, now) => changed(said, &was, items, &is, now),
+        MoveFault::Match(fault) => match_fault(said, fault),
+        MoveFault::Differ(path, how) => differ(said, &path, how),
+        MoveFault::Place(fault) => put_fault(said, fault),
+        MoveFault::SourceGone => said.word("SourceGone"),
+        MoveFault::Failed => said.word("Failed"),
+        MoveFault::NoMemory => said.word("NoMemory"),
     }
 }
 
-pub fn retire_fault(alloc: Global, fault: RetireFault) -> Result<String, AllocError> {
+pub fn retire_fault(said: &mut Said, fault: RetireFault) {
     match fault {
-        RetireFault::Work(fault) => work_fault(alloc, fault),
-        RetireFault::Journal(fault) => journal_fault(alloc, fault),
-        RetireFault::Unfinished => word(alloc, "Unfinished"),
-        RetireFault::Overlap(one, other) => overlap(alloc, &one, &other),
-        RetireFault::Load(side, fault) => side_fault(alloc, side, fault),
-        RetireFault::Walk(fault) => walk_fault(alloc, fault),
-        RetireFault::Match(fault) => match_fault(alloc, fault),
-        RetireFault::Differ(path, how) => differ(alloc, &path, how),
-        RetireFault::Depth => word(alloc, "Depth"),
-        RetireFault::Failed => word(alloc, "Failed"),
-        RetireFault::NoMemory => word(alloc, "NoMemory"),
+        RetireFault::Work(fault) => work_fault(said, fault),
+        RetireFault::Journal(fault) => journal_fault(said, fault),
+        RetireFault::Unfinished => said.word("Unfinished"),
+        RetireFault::Overlap(one, other) => overlap(said, &one, &other),
+        RetireFault::Load(side, fault) => side_fault(said, side, fault),
+        RetireFault::Walk(fault) => walk_fault(said, fault),
+        RetireFault::Match(fault) => match_fault(said, fault),
+        RetireFault::Differ(path, how) => differ(said, &path, how),
+        RetireFault::Depth => said.word("Depth"),
+        RetireFault::Failed => said.word("Failed"),
+        RetireFault::NoMemory => said.word("NoMemory"),
     }
 }

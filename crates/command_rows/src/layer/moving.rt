@@ -1,109 +1,107 @@
 //! Calls of migrate_core and retire_core.
 use crate::layer::faults::{move_fault, retire_fault};
-use crate::layer::journals::parsed;
 use crate::places::PASSPHRASE;
 use crate::stage::{Handed, Stage};
-use crate::stop::Stop;
 use folder_model::FPath;
 use migrate_core::{Done, MoveFault, begin, resume};
 use move_journal::JournalFault;
-use retire_core::{RetireFault, retire};
+use retire_core::{RetireFault, Retired, retire};
 use row_words::cut;
 
 impl Stage {
-    fn say_moved(&mut self, answer: Result<Done, MoveFault>) -> Result<(), Stop> {
-        let alloc = self.alloc;
+    fn say_moved(&mut self, answer: Result<Done, MoveFault>) {
         match answer {
             Ok(Done { placed, items }) => {
-                let text = format!(in alloc; "placed {placed} of {items}")?;
-                self.say_done(text.as_str())
+                self.said.word("placed");
+                self.said.shows(&placed);
+                self.said.word("of");
+                self.said.shows(&items);
+                self.ended(0);
             }
             Err(fault) => {
-                let text = move_fault(alloc, fault)?;
-                self.say_fault(text.as_str())
+                move_fault(&mut self.said, fault);
+                self.ended(1);
+            }
+        }
+    }
+
+    fn say_retired(&mut self, answer: Result<Retired, RetireFault>) {
+        match answer {
+            Ok(retired) => {
+                self.said.word("retired");
+                self.said.shows(&retired.items);
+                self.ended(0);
+            }
+            Err(fault) => {
+                retire_fault(&mut self.said, fault);
+                self.ended(1);
             }
         }
     }
 
     // Begins to move: `FROM TO WORK`.
-    fn call_begin(&mut self, words: &str, handed: &mut Handed) -> Result<(), Stop> {
-        let alloc = self.alloc;
+    fn call_begin(&mut self, words: &str, handed: &mut Handed) {
         let (from, words) = cut(words);
         let (to, work) = cut(words);
-        let (from, to) = (parsed(alloc, from)?, parsed(alloc, to)?);
-        let work = self.path(work)?;
-        let (folder, random) = (&mut self.folder, &mut handed.random);
+        let work = self.path(work);
+        let (Some(from), Some(to)) = (self.parsed(from), self.parsed(to)) else {
+            return;
+        };
+        let (alloc, folder, random) = (self.alloc, &mut self.folder, &mut handed.random);
         let answer = begin(
             alloc, folder, &from, &to, &work, PASSPHRASE, PASSPHRASE, random,
         );
-        self.say_moved(answer)
+        self.say_moved(answer);
     }
 
-    fn call_resume(&mut self, work: &FPath, handed: &mut Handed) -> Result<(), Stop> {
+    fn resumed(&mut self, work: &FPath, handed: &mut Handed) -> Result<Done, MoveFault> {
         let (folder, random) = (&mut self.folder, &mut handed.random);
-        let answer = resume(self.alloc, folder, work, PASSPHRASE, PASSPHRASE, random);
-        self.say_moved(answer)
+        resume(self.alloc, folder, work, PASSPHRASE, PASSPHRASE, random)
     }
 
-    fn call_retire(&mut self, work: &FPath) -> Result<(), Stop> {
-        let alloc = self.alloc;
-        match retire(alloc, &mut self.folder, work, PASSPHRASE, PASSPHRASE) {
-            Ok(retired) => {
-                let items = retired.items;
-                let text = format!(in alloc; "retired {items}")?;
-                self.say_done(text.as_str())
-            }
-            Err(fault) => {
-                let text = retire_fault(alloc, fault)?;
-                self.say_fault(text.as_str())
-            }
-        }
+    fn retired(&mut self, work: &FPath) -> Result<Retired, RetireFault> {
+        retire(self.alloc, &mut self.folder, work, PASSPHRASE, PASSPHRASE)
     }
 
     // Goes on with a migration, or begins it where no journal says of one: `FROM TO WORK`. It says a fault alone.
-    fn call_go_on(&mut self, words: &str, handed: &mut Handed) -> Result<(), Stop> {
+    fn call_go_on(&mut self, words: &str, handed: &mut Handed) {
         let (_, places) = cut(words);
         let (_, work) = cut(places);
-        let work = self.path(work)?;
-        let (folder, random) = (&mut self.folder, &mut handed.random);
-        let answer = resume(self.alloc, folder, &work, PASSPHRASE, PASSPHRASE, random);
-        if let Err(MoveFault::Journal(JournalFault::NoJournal)) = answer {
-            self.call_begin(words, handed)?;
-        } else {
-            self.say_moved(answer)?;
+        let work = self.path(work);
+        match self.resumed(&work, handed) {
+            Err(MoveFault::Journal(JournalFault::NoJournal)) => self.call_begin(words, handed),
+            answer => self.say_moved(answer),
         }
-        self.drop_done()
+        self.drop_done();
     }
 
     // Goes on with a retirement, of which no journal is left where it came to its end. It says a fault alone.
-    fn call_retire_on(&mut self, work: &FPath) -> Result<(), Stop> {
-        match retire(self.alloc, &mut self.folder, work, PASSPHRASE, PASSPHRASE) {
-            Ok(_) => self.say_done("done"),
-            Err(RetireFault::Journal(JournalFault::NoJournal)) => self.say_done("done"),
-            Err(fault) => {
-                let text = retire_fault(self.alloc, fault)?;
-                self.say_fault(text.as_str())
-            }
+    fn call_retire_on(&mut self, work: &FPath) {
+        match self.retired(work) {
+            Err(RetireFault::Journal(JournalFault::NoJournal)) => self.done("done"),
+            answer => self.say_retired(answer),
         }
+        self.drop_done();
     }
 
     /// Plays `begin FROM TO WORK`, `resume WORK` and `retire WORK`, and `go_on FROM TO WORK` and `retire_on WORK` after a stop.
-    pub fn call_moving(
-        &mut self,
-        verb: &str,
-        words: &str,
-        handed: &mut Handed,
-    ) -> Result<(), Stop> {
+    pub fn call_moving(&mut self, verb: &str, words: &str, handed: &mut Handed) {
         match verb {
             "begin" => return self.call_begin(words, handed),
             "go_on" => return self.call_go_on(words, handed),
             _ => {}
         }
-        let work = self.path(words)?;
+        let work = self.path(words);
         match verb {
-            "resume" => self.call_resume(&work, handed),
+            "resume" => {
+                let answer = self.resumed(&work, handed);
+                self.say_moved(answer);
+            }
             "retire_on" => self.call_retire_on(&work),
-            _ => self.call_retire(&work),
+            _ => {
+                let answer = self.retired(&work);
+                self.say_retired(answer);
+            }
         }
     }
 }

@@ -3,6 +3,7 @@ use crate::stage::Stage;
 use crate::stop::Stop;
 use folder_model::{Entry, FPath, Kind};
 use row_words::{cut, push_text};
+use std::alloc::AllocError;
 
 /// How a kind is said.
 pub fn kind_word(kind: Kind) -> &'static str {
@@ -15,94 +16,87 @@ pub fn kind_word(kind: Kind) -> &'static str {
 }
 
 impl Stage {
-    // Says a path; that of the base has no text.
-    fn say_path(&mut self, at: &FPath) -> Result<(), Stop> {
-        let text = at.text()?;
-        self.say_done(text.as_str())
+    // Says a path that was made; that of the base has no text.
+    fn say_path(&mut self, at: Result<FPath, AllocError>) {
+        match at {
+            Ok(at) => self.said.made(at.text()),
+            Err(_) => self.said.lacks(),
+        }
+        self.ended(0);
     }
 
-    fn say_truth(&mut self, is: bool) -> Result<(), Stop> {
-        self.say_done(if is { "yes" } else { "no" })
+    fn say_truth(&mut self, is: bool) {
+        self.done(if is { "yes" } else { "no" });
     }
 
-    // Says the bytes of a path.
-    fn say_path_bytes(&mut self, at: &FPath) -> Result<(), Stop> {
+    // The bytes of a path as a text.
+    fn shown_path(&self, at: &FPath) -> Result<String, AllocError> {
         let mut text = String::new(self.alloc);
         push_text(&mut text, at.text()?.as_bytes())?;
-        self.say_done(text.as_str())
+        Ok(text)
     }
 
-    // Reads a path from bytes.
-    fn read_path(&mut self, word: &str) -> Result<(), Stop> {
-        let bytes = self.bytes(word)?;
-        let Ok(text) = String::from_utf8(bytes) else {
-            return Err(Stop::Line);
+    // Reads a path from bytes, and says its bytes.
+    fn read_path(&mut self, word: &str) {
+        let Ok(text) = String::from_utf8(self.bytes(word)) else {
+            return self.stop(Stop::Line);
         };
         match FPath::parse(self.alloc, text.as_str()) {
-            Ok(path) => self.say_path_bytes(&path),
-            Err(_) => self.say_fault("BadPath"),
+            Ok(path) => {
+                let shown = self.shown_path(&path);
+                self.said.made(shown);
+                self.ended(0);
+            }
+            Err(_) => self.failed("BadPath"),
         }
     }
 
     // Says the parts of a path that was made from its parts.
-    fn say_parts(&mut self, path: FPath) -> Result<(), Stop> {
+    fn say_parts(&mut self, path: FPath) {
         let again = FPath::from_parts(path.into_parts());
         for part in again.parts() {
-            let part = part.as_str();
-            writeln!(self.said, "{part}")?;
+            self.done(part.as_str());
         }
-        Ok(())
     }
 
-    fn of_path(&mut self, verb: &str, path: FPath) -> Result<(), Stop> {
+    fn of_path(&mut self, verb: &str, path: FPath, other: &str) {
         match verb {
             "depth" => {
-                let depth = path.depth();
-                writeln!(self.said, "{depth}")?;
-                Ok(())
+                self.said.shows(&path.depth());
+                self.ended(0);
             }
-            "parent" => {
-                let above = path.parent()?;
-                self.say_path(&above)
-            }
-            "copy" => {
-                let copy = path.copy()?;
-                self.say_path(&copy)
-            }
+            "parent" => self.say_path(path.parent()),
+            "copy" => self.say_path(path.copy()),
             "parts" => self.say_parts(path),
-            _ => Err(Stop::Line),
-        }
-    }
-
-    fn of_two_paths(&mut self, verb: &str, path: FPath, other: &str) -> Result<(), Stop> {
-        if verb == "child" {
-            let below = path.child(other)?;
-            return self.say_path(&below);
-        }
-        let other = self.path(other)?;
-        match verb {
-            "starts_with" => self.say_truth(path.starts_with(&other)),
-            "is" => self.say_truth(path.is(&other)),
-            _ => Err(Stop::Line),
+            "child" => self.say_path(path.child(other)),
+            _ => {
+                let other = self.path(other);
+                self.say_truth(if verb == "is" {
+                    path.is(&other)
+                } else {
+                    path.starts_with(&other)
+                });
+            }
         }
     }
 
     // Makes an entry: `NAME KIND`.
-    fn make_entry(&mut self, words: &str) -> Result<(), Stop> {
+    fn make_entry(&mut self, words: &str) {
         let (name, kind) = cut(words);
-        let kind = match kind {
-            "dir" => Kind::Dir,
-            "file" => Kind::File,
-            _ => return Err(Stop::Line),
-        };
-        let entry = Entry::new(String::from_str(self.alloc, name)?, kind);
-        let (name, kind) = (entry.name.as_str(), kind_word(entry.kind));
-        writeln!(self.said, "{name} {kind}")?;
-        Ok(())
+        let kind = if kind == "dir" { Kind::Dir } else { Kind::File };
+        match String::from_str(self.alloc, name) {
+            Ok(name) => {
+                let entry = Entry::new(name, kind);
+                self.said.word(entry.name.as_str());
+                self.said.word(kind_word(entry.kind));
+            }
+            Err(_) => self.said.lacks(),
+        }
+        self.ended(0);
     }
 
     /// Plays `path read BYTES`, `path depth P`, `path starts_with P Q` and their like, and `entry NAME KIND`.
-    pub fn call_paths(&mut self, verb: &str, words: &str) -> Result<(), Stop> {
+    pub fn call_paths(&mut self, verb: &str, words: &str) {
         if verb == "entry" {
             return self.make_entry(words);
         }
@@ -111,10 +105,7 @@ impl Stage {
             return self.read_path(words);
         }
         let (path, other) = cut(words);
-        let path = self.path(path)?;
-        match verb {
-            "child" | "starts_with" | "is" => self.of_two_paths(verb, path, other),
-            _ => self.of_path(verb, path),
-        }
+        let path = self.path(path);
+        self.of_path(verb, path, other);
     }
 }

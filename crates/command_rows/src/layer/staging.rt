@@ -34,83 +34,67 @@ pub fn is_not_below(one: &FPath, other: &FPath) -> bool
 }
 
 impl Stage {
-    fn say_removal(&mut self, answer: Result<(), RemovalFault>) -> Result<(), Stop> {
+    fn say_removal(&mut self, answer: Result<(), RemovalFault>) {
         match answer {
-            Ok(()) => self.say_done("done"),
-            Err(RemovalFault::Depth) => self.say_fault("Depth"),
+            Ok(()) => self.done("done"),
+            Err(RemovalFault::Depth) => self.failed("Depth"),
             Err(RemovalFault::Other(at)) => {
-                let text = path_fault(self.alloc, "Other", &at)?;
-                self.say_fault(text.as_str())
+                path_fault(&mut self.said, "Other", &at);
+                self.ended(1);
             }
-            Err(RemovalFault::Failed) => self.say_fault("Failed"),
-            Err(RemovalFault::NoMemory) => self.say_fault("NoMemory"),
+            Err(RemovalFault::Failed) => self.failed("Failed"),
+            Err(RemovalFault::NoMemory) => self.failed("NoMemory"),
         }
     }
 
-    fn call_remove(&mut self, verb: &str, at: &FPath) -> Result<(), Stop> {
+    fn call_remove(&mut self, verb: &str, at: &FPath) {
         if verb == "remove_below" {
             let answer = remove_below(&mut self.folder, at);
             return self.say_removal(answer);
         }
         if at.depth() == 0 {
-            return Err(Stop::Line);
+            return self.stop(Stop::Line);
         }
         let answer = remove_all(&mut self.folder, at);
-        self.say_removal(answer)
+        self.say_removal(answer);
     }
 
-    fn call_stage_file(&mut self, at: &FPath, bytes: &[u8]) -> Result<(), Stop> {
+    fn call_stage_file(&mut self, at: &FPath, bytes: &[u8]) {
         if at.depth() == 0 {
-            return Err(Stop::Line);
+            return self.stop(Stop::Line);
         }
         let answer = stage_file(&mut self.folder, at, bytes);
-        self.say_folder(answer)
+        self.say_folder(answer);
     }
 
-    // Puts a staged folder in its place: `STAGED AT`.
-    fn call_publish_folder(&mut self, verb: &str, staged: &FPath, at: &FPath) -> Result<(), Stop> {
+    // Puts what is staged in its place, of a file with these bytes: `STAGED AT`, `STAGED AT BYTES`.
+    fn call_publish(&mut self, verb: &str, staged: &FPath, at: &FPath, bytes: &[u8]) {
         if staged.depth() == 0 || !are_places_apart(staged, at) {
-            return Err(Stop::Line);
+            return self.stop(Stop::Line);
         }
         let answer = match verb {
             "publish_folder" => publish_folder(&mut self.folder, staged, at),
-            _ => place_folder(&mut self.folder, staged, at),
-        };
-        self.say_folder(answer)
-    }
-
-    // Puts a file with these bytes in its place: `STAGED AT BYTES`.
-    fn call_publish_file(
-        &mut self,
-        verb: &str,
-        staged: &FPath,
-        at: &FPath,
-        bytes: &[u8],
-    ) -> Result<(), Stop> {
-        if staged.depth() == 0 || !are_places_apart(staged, at) {
-            return Err(Stop::Line);
-        }
-        let answer = match verb {
+            "place_folder" => place_folder(&mut self.folder, staged, at),
             "publish_file" => publish_file(&mut self.folder, staged, at, bytes),
             _ => replace_file(&mut self.folder, staged, at, bytes),
         };
-        self.say_folder(answer)
+        self.say_folder(answer);
     }
 
     // Puts a side file and then a file in their places: `STAGED SIDE BYTES AT BYTES`.
-    fn call_side_file(&mut self, words: &str) -> Result<(), Stop> {
+    fn call_side_file(&mut self, words: &str) {
         let (staged, words) = cut(words);
         let (side, words) = cut(words);
         let (side_bytes, words) = cut(words);
         let (at, bytes) = cut(words);
-        let (staged, side, at) = (self.path(staged)?, self.path(side)?, self.path(at)?);
-        let (side_bytes, bytes) = (self.bytes(side_bytes)?, self.bytes(bytes)?);
+        let (staged, side, at) = (self.path(staged), self.path(side), self.path(at));
+        let (side_bytes, bytes) = (self.bytes(side_bytes), self.bytes(bytes));
         if staged.depth() == 0
             || !are_places_apart(&staged, &side)
             || !are_places_apart(&staged, &at)
             || !is_not_below(&side, &at)
         {
-            return Err(Stop::Line);
+            return self.stop(Stop::Line);
         }
         let answer = replace_with_side_file(
             &mut self.folder,
@@ -120,40 +104,31 @@ impl Stage {
             &at,
             bytes.as_slice(),
         );
-        self.say_folder(answer)
-    }
-
-    // Calls that take two paths.
-    fn call_publish(&mut self, verb: &str, staged: &FPath, words: &str) -> Result<(), Stop> {
-        let (at, bytes) = cut(words);
-        let at = self.path(at)?;
-        match verb {
-            "publish_folder" | "place_folder" => self.call_publish_folder(verb, staged, &at),
-            _ => {
-                let bytes = self.bytes(bytes)?;
-                self.call_publish_file(verb, staged, &at, bytes.as_slice())
-            }
-        }
+        self.say_folder(answer);
     }
 
     /// Plays a line that stages, publishes or removes.
-    pub fn call_staging(&mut self, verb: &str, words: &str) -> Result<(), Stop> {
+    pub fn call_staging(&mut self, verb: &str, words: &str) {
         if verb == "replace_with_side_file" {
             return self.call_side_file(words);
         }
         let (first, rest) = cut(words);
-        let first = self.path(first)?;
+        let first = self.path(first);
         match verb {
             "begin_folder" => {
                 let answer = begin_folder(&mut self.folder, &first);
-                self.say_folder(answer)
+                self.say_folder(answer);
             }
             "stage_file" => {
-                let bytes = self.bytes(rest)?;
-                self.call_stage_file(&first, bytes.as_slice())
+                let bytes = self.bytes(rest);
+                self.call_stage_file(&first, bytes.as_slice());
             }
             "remove_below" | "remove_all" => self.call_remove(verb, &first),
-            _ => self.call_publish(verb, &first, rest),
+            _ => {
+                let (at, bytes) = cut(rest);
+                let (at, bytes) = (self.path(at), self.bytes(bytes));
+                self.call_publish(verb, &first, &at, bytes.as_slice());
+            }
         }
     }
 }

@@ -1,70 +1,69 @@
 //! Calls of vault_walk and vault_check.
 use crate::layer::faults::{check_fault, finding_line, walk_fault};
-use crate::layer::matching::plan_of;
 use crate::layer::reading::node_letter;
 use crate::stage::Stage;
-use crate::stop::Stop;
 use folder_model::FPath;
-use row_words::{cut, push_hex};
+use row_words::cut;
 use vault_check::{CheckFault, check, repair};
 use vault_read::Vault;
 use vault_walk::{Finding, Plan, WalkFault, plan_digest, survey, walk};
 
 impl Stage {
     // Says each item with where it is stored.
-    fn say_plan(&mut self, plan: &Plan) -> Result<(), Stop> {
+    fn say_plan(&mut self, plan: &Plan) {
         for item in plan.items.as_slice() {
-            let letter = node_letter(item.node);
-            let (path, at) = (item.path.shown()?, item.at.text()?);
-            writeln!(self.said, "{letter} {path} {at}")?;
+            self.said.word(node_letter(item.node));
+            self.said.made(item.path.shown());
+            self.said.made(item.at.text());
+            self.said.end();
         }
-        Ok(())
     }
 
     // Says each finding, and then each note.
-    fn say_findings(&mut self, findings: &[Finding], notes: &[FPath]) -> Result<(), Stop> {
+    fn say_findings(&mut self, findings: &[Finding], notes: &[FPath]) {
         for finding in findings {
-            let line = finding_line(self.alloc, finding)?;
-            writeln!(self.said, "{line}")?;
+            finding_line(&mut self.said, finding);
+            self.said.end();
         }
         for note in notes {
-            let at = note.text()?;
-            writeln!(self.said, "note {at}")?;
+            self.said.word("note");
+            self.said.made(note.text());
+            self.said.end();
         }
-        self.say_done("done")
+        self.done("done");
     }
 
-    fn say_walk_fault(&mut self, fault: WalkFault) -> Result<(), Stop> {
-        let text = walk_fault(self.alloc, fault)?;
-        self.say_fault(text.as_str())
+    fn say_walk_fault(&mut self, fault: WalkFault) {
+        walk_fault(&mut self.said, fault);
+        self.ended(1);
     }
 
-    fn say_check_fault(&mut self, fault: CheckFault) -> Result<(), Stop> {
-        let text = check_fault(self.alloc, fault)?;
-        self.say_fault(text.as_str())
+    fn say_check_fault(&mut self, fault: CheckFault) {
+        check_fault(&mut self.said, fault);
+        self.ended(1);
     }
 
-    fn call_survey(&mut self, vault: &Vault) -> Result<(), Stop> {
+    fn call_survey(&mut self, vault: &Vault) {
         match survey(self.alloc, &mut self.folder, vault) {
             Ok(found) => {
-                self.say_plan(&found.plan)?;
-                self.say_findings(found.findings.as_slice(), found.notes.as_slice())
+                self.say_plan(&found.plan);
+                self.say_findings(found.findings.as_slice(), found.notes.as_slice());
             }
             Err(fault) => self.say_walk_fault(fault),
         }
     }
 
-    fn call_walk(&mut self, vault: &Vault) -> Result<(), Stop> {
+    fn call_walk(&mut self, vault: &Vault) {
         match walk(self.alloc, &mut self.folder, vault) {
             Ok(plan) => {
-                self.say_plan(&plan)?;
-                self.say_done("done")
+                self.say_plan(&plan);
+                self.done("done");
             }
             Err(fault) => self.say_walk_fault(fault),
         }
     }
 
-    fn call_check(&mut self, vault: &Vault) -> Result<(), Stop> {
+    fn call_check(&mut self, vault: &Vault) {
         match check(self.alloc, &mut self.folder, vault) {
             Ok(report) => self.say_findings(report.findings.as_slice(), report.notes.as_slice()),
             Err(fault) => self.say_check_fault(fault),
@@ -72,42 +71,43 @@ impl Stage {
     }
 
     // Says where each stray stood that was moved.
-    fn call_repair(&mut self, vault: &Vault, lost: &FPath) -> Result<(), Stop> {
+    fn call_repair(&mut self, vault: &Vault, lost: &FPath) {
         match repair(self.alloc, &mut self.folder, vault, lost) {
             Ok(strays) => {
                 for stray in &strays {
-                    let at = stray.text()?;
-                    writeln!(self.said, "{at}")?;
+                    self.said.made(stray.text());
+                    self.said.end();
                 }
-                self.say_done("done")
+                self.done("done");
             }
             Err(fault) => self.say_check_fault(fault),
         }
     }
 
-    fn call_digest(&mut self, items: &str) -> Result<(), Stop> {
-        let plan = plan_of(self.alloc, items)?;
-        let digest = plan_digest(&plan)?;
-        let mut text = String::new(self.alloc);
-        push_hex(&mut text, digest.as_slice())?;
-        self.say_done(text.as_str())
+    fn call_digest(&mut self, items: &str) {
+        let plan = self.plan(items);
+        match plan_digest(&plan) {
+            Ok(digest) => self.said.hex(digest.as_slice()),
+            Err(_) => self.said.lacks(),
+        }
+        self.ended(0);
     }
 
     /// Plays `survey VAULT`, `walk VAULT`, `check VAULT`, `repair VAULT LOST` and `digest PLAN`.
-    pub fn call_walking(&mut self, verb: &str, words: &str) -> Result<(), Stop> {
+    pub fn call_walking(&mut self, verb: &str, words: &str) {
         if verb == "digest" {
             return self.call_digest(words);
         }
         let (vault, lost) = cut(words);
-        let vault = self.vault_named(vault)?;
+        let lost = self.path(lost);
+        let Some(vault) = self.vault_named(vault) else {
+            return;
+        };
         match verb {
             "survey" => self.call_survey(&vault),
             "walk" => self.call_walk(&vault),
             "check" => self.call_check(&vault),
-            _ => {
-                let lost = self.path(lost)?;
-                self.call_repair(&vault, &lost)
-            }
+            _ => self.call_repair(&vault, &lost),
         }
     }
 }

@@ -88,9 +88,18 @@ impl Claims {
         self.claims.iter().any(|claim| claim.at.starts_with(at) || at.starts_with(&claim.at))
     }
 
-    /// Whether a path is a claimed one or lies below one.
-    pub fn cover(&self, at: &FPath) -> bool {
-        self.claims.iter().any(|claim| at.starts_with(&claim.at))
+    /// Whether a path is that of a claimed directory that is held, or lies below one.
+    pub fn hold(&self, at: &FPath) -> bool {
+        self.claims
+            .iter()
+            .any(|claim| claim.is_held() && at.starts_with(&claim.at))
+    }
+
+    /// Whether a path lies below a claimed directory that is held.
+    pub fn hold_above(&self, at: &FPath) -> bool {
+        self.claims.iter().any(|claim| claim.is_held()
+            && claim.at.depth() < at.depth()
+            && at.starts_with(&claim.at))
     }
 
     /// Sees to it that what stands now at each claimed path at or above this one is held.
@@ -143,10 +152,15 @@ impl Claims {
 }
 
 impl Claim {
+    // Whether the directory at the path itself is held, and not only ones above it.
+    fn is_held(&self) -> bool {
+        self.held.len() > self.at.depth()
+    }
+
     // Holds what stands at the path now, and above it. Where another directory stands at the path than the one that is held, all is
     // let go and held anew.
     fn renew(&mut self, rt: &HostRuntime, alloc: Global, base: &str) -> Result<(), Cause> {
-        if self.held.len() > self.at.depth() {
+        if self.is_held() {
             if self.stands(rt, alloc, base)? {
                 return Ok(());
             }

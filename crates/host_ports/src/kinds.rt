@@ -1,9 +1,10 @@
 //! What stood at the paths of claimed folders that were looked at last.
 
-use folder_model::{FPath, Kind};
+use crate::listed::Listings;
+use folder_model::{Entry, FPath, Kind};
 use std::alloc::{AllocError, Global};
 
-// How many are kept.
+// How many are kept beside what stands in whole directories.
 const MOST: usize = 8;
 
 #[derive(Drop)]
@@ -16,23 +17,35 @@ struct Seen {
 #[derive(Drop)]
 pub struct Kinds {
     seen: Vec<Seen>,
+    listed: Listings,
 }
 
 impl Kinds {
     pub fn new(alloc: Global) -> Kinds {
         Kinds {
             seen: Vec::new(alloc),
+            listed: Listings::new(alloc),
         }
     }
 
-    pub fn kind_at(&self, at: &FPath) -> Option<Kind> {
+    pub fn kind_at(&mut self, at: &FPath) -> Option<Kind> {
+        match self.listed.kind_at(at) {
+            Some(kind) => Some(kind),
+            None => self.kind_seen(at),
+        }
+    }
+
+    fn kind_seen(&self, at: &FPath) -> Option<Kind> {
         let seen = self.seen.iter().find(|seen| seen.at.is(at))?;
         Some(seen.kind)
     }
 
-    // Keeps what stands at a path, in the place of what was kept first.
+    // Keeps what stands at a path: with what stands in its directory, or in the place of what was kept first.
     pub fn keep(&mut self, at: &FPath, kind: Kind) -> Result<(), AllocError> {
-        self.forget_below(at);
+        self.seen.retain(|seen| !seen.at.is(at));
+        if self.listed.put(at, Some(kind)) {
+            return Ok(());
+        }
         if self.seen.len() >= MOST {
             self.seen.remove(0);
         }
@@ -43,8 +56,19 @@ impl Kinds {
         Ok(())
     }
 
+    // Keeps what this process has brought about at a path, where what stands in its directory is kept.
+    pub fn learn(&mut self, at: &FPath, kind: Kind) {
+        self.listed.put(at, Some(kind));
+    }
+
+    // Keeps what stands in a directory.
+    pub fn keep_all(&mut self, dir: &FPath, entries: &[Entry]) {
+        self.listed.keep(dir, entries);
+    }
+
     // Forgets what stood at and below a path.
     pub fn forget_below(&mut self, at: &FPath) {
         self.seen.retain(|seen| !seen.at.starts_with(at));
+        self.listed.forget_below(at);
     }
 }

@@ -9,6 +9,7 @@ mod handles;
 mod host_folder;
 mod host_randoms;
 mod kinds;
+mod listed;
 mod listing;
 mod noted;
 mod pieces;

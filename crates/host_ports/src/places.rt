@@ -121,14 +121,22 @@ struct Walked {
     reached: bool,
 }
 
-// Goes down these parts from a base, which is taken to be a directory, and looks at each path on the way: whether it is a directory,
-// and no link leads there.
-fn walk(rt: &HostRuntime, alloc: Global, base: &str, parts: &[String]) -> Result<Walked, Cause> {
+// Goes down to a directory from a base, which is taken to be one, and looks at each path on the way of which no entry was seen: whether
+// it is a directory, and no link leads there.
+fn walk(
+    rt: &HostRuntime,
+    alloc: Global,
+    base: &str,
+    noted: &Noted,
+    dir: &FPath,
+) -> Result<Walked, Cause> {
+    let mut here = FPath::base(alloc);
     let mut text = String::from_str(alloc, base)?;
-    for (index, part) in parts.iter().enumerate() {
+    for (index, part) in dir.parts().iter().enumerate() {
+        here = here.child(part.as_str())?;
         text.push_str("/")?;
         text.push_str(part.as_str())?;
-        if !is_directory(rt, text.as_str())? {
+        if !noted.knows(&here) && !is_directory(rt, text.as_str())? {
             return Ok(Walked {
                 looked: index.saturating_add(1),
                 reached: false,
@@ -136,7 +144,7 @@ fn walk(rt: &HostRuntime, alloc: Global, base: &str, parts: &[String]) -> Result
         }
     }
     Ok(Walked {
-        looked: parts.len(),
+        looked: dir.depth(),
         reached: true,
     })
 }
@@ -157,7 +165,7 @@ fn reaches(
     if noted.knows(dir) {
         return Ok(true);
     }
-    let walked = walk(rt, alloc, base, dir.parts())?;
+    let walked = walk(rt, alloc, base, noted, dir)?;
     noted.see_down(dir, walked.looked, walked.reached)?;
     Ok(walked.reached)
 }

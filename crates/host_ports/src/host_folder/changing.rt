@@ -1,0 +1,177 @@
+//! What the machine's folder makes, writes and removes.
+
+ghost use Rattle.std.specs.Prelude.{◌≡◌, ◌⊎◌, true, OnOk, IsTrue};
+ghost use Rattle.folder_spec.specs.Path.{Path, parent};
+ghost use Rattle.host_ports.specs.Calls.{ChangesAt, HeedsBar, LooksAt};
+ghost use Rattle.host_ports.specs.Noted.{Sees, SeesBut, has, same};
+ghost use Rattle.host_ports.specs.Places.{names_entries};
+
+use crate::causes::{Cause, cause_of};
+use crate::handles::Made;
+use crate::host_folder::HostFolder;
+use crate::pieces::put;
+use crate::places::{Node, test_names};
+use folder_model::{FPath, Kind};
+use std::alloc::AllocError;
+use std::fs;
+use std::fs::{DirBuilder, OpenOptions};
+use std::os::unix::fs::{DirBuilderExt, OpenOptionsExt, PermissionsExt};
+
+// Who may use what is made: its owner alone.
+const FILE_MODE: u32 = 0o600;
+
+const DIRECTORY_MODE: u32 = 0o700;
+
+#[tactic(auto, using(crate::proofs::Dirs::sees_same, crate::proofs::Dirs::sees_after))]
+impl HostFolder {
+    // Notes that the directory above a path changes.
+    pub(super) fn note_above(&mut self, at: &FPath) -> Result<(), AllocError>
+        ensures changed { OnOk result (IsTrue (has self.new.dirs.changed (parent at.now))) }
+        ensures keeps { (dir : Path) → IsTrue (has self.old.dirs.changed dir) → IsTrue (has self.new.dirs.changed dir) }
+        ensures just { (dir : Path) → IsTrue (has self.new.dirs.changed dir) → IsTrue (has self.old.dirs.changed dir) ⊎ IsTrue (same (parent at.now) dir) }
+        ensures seen { self.new.dirs.seen ≡ self.old.dirs.seen }
+        ensures sees { Sees self.old.dirs self.new.dirs }
+        ensures bar { self.new.barred ≡ self.old.barred }
+        ensures faults { self.new.faults ≡ self.old.faults }
+    {
+        let above = at.parent()?;
+        self.noted.change(&above)
+    }
+
+    // The text of a path at which a change may be made, where a directory stands above it, which is noted.
+    fn make_room(&mut self, at: &FPath) -> Result<String, Cause>
+        ensures changes { ChangesAt at.now self.old.dirs self.new.dirs result }
+        ensures bar { HeedsBar Cause.Held self.old self.new result }
+        ensures faults { self.new.faults ≡ self.old.faults }
+    {
+        self.may_change(at)?;
+        let text = self.room_at(at)?;
+        self.note_above(at)?;
+        Ok(text)
+    }
+
+    // The text of a file that may be removed. The directory above it is noted.
+    fn take_file(&mut self, at: &FPath) -> Result<String, Cause>
+        ensures changes { ChangesAt at.now self.old.dirs self.new.dirs result }
+        ensures bar { HeedsBar Cause.Held self.old self.new result }
+        ensures faults { self.new.faults ≡ self.old.faults }
+    {
+        self.may_change(at)?;
+        let text = self.place_of(at, Kind::File)?;
+        self.note_above(at)?;
+        Ok(text)
+    }
+
+    pub(super) fn add_dir(&mut self, at: &FPath) -> Result<(), Cause>
+        ensures changes { ChangesAt at.now self.old.dirs self.new.dirs result }
+        ensures bar { HeedsBar Cause.Held self.old self.new result }
+        ensures faults { self.new.faults ≡ self.old.faults }
+    {
+        let text = self.make_room(at)?;
+        let mut builder = DirBuilder::new();
+        builder.mode(DIRECTORY_MODE);
+        self.forget_below(at);
+        builder
+            .create(&self.rt, text.as_str())
+            .map_err(|error| cause_of(&error))?;
+        self.claims
+            .hold_made(&self.rt, self.alloc, self.base.as_str(), at)?;
+        self.keep_new_dir(at);
+        Ok(())
+    }
+
+    // Keeps that nothing stands in a directory that was just made. Where it is a claimed one itself, another run may have held it before
+    // this one did.
+    fn keep_new_dir(&mut self, at: &FPath)
+        ensures { self.new ≡ self.old }
+    {
+        self.kinds.learn(at, Kind::Dir);
+        if self.claims.hold_above(at) {
+            self.kinds.keep_all(at, &[]);
+        }
+    }
+
+    pub(super) fn add_file(&mut self, at: &FPath) -> Result<(), Cause>
+        ensures changes { ChangesAt at.now self.old.dirs self.new.dirs result }
+        ensures bar { HeedsBar Cause.Held self.old self.new result }
+        ensures faults { self.new.faults ≡ self.old.faults }
+    {
+        let text = self.make_room(at)?;
+        let copy = at.copy()?;
+        let mut options = OpenOptions::new();
+        options.append(true).create_new(true).mode(FILE_MODE);
+        self.forget_below(at);
+        let file = options
+            .open(&self.rt, text.as_str())
+            .map_err(|error| cause_of(&error))?;
+        self.kinds.learn(at, Kind::File);
+        self.keep_made(copy, file);
+        Ok(())
+    }
+
+    // Keeps a file open that was just made.
+    fn keep_made(&mut self, at: FPath, file: fs::File)
+        ensures { self.new ≡ self.old }
+    {
+        if let Ok(metadata) = file.metadata() {
+            self.handles.keep_made(Made {
+                at,
+                file,
+                node: Node::of(&metadata),
+                mode: metadata.permissions().mode(),
+            });
+        }
+    }
+
+    pub(super) fn grow(&mut self, at: &FPath, piece: &[u8]) -> Result<(), Cause>
+        ensures looks { LooksAt at.now self.old.dirs self.new.dirs result }
+        ensures bar { HeedsBar Cause.Held self.old self.new result }
+        ensures faults { self.new.faults ≡ self.old.faults }
+    {
+        self.test_barred()?;
+        test_names(at)?;
+        if let Some(made) = self.handles.made_at(at) {
+            return put(&mut &made.file, piece);
+        }
+        self.may_change(at)?;
+        let text = self.place_of(at, Kind::File)?;
+        let mut options = OpenOptions::new();
+        options.append(true);
+        let mut file = options
+            .open(&self.rt, text.as_str())
+            .map_err(|error| cause_of(&error))?;
+        put(&mut file, piece)
+    }
+
+    pub(super) fn remove_file_now(&mut self, at: &FPath) -> Result<(), Cause>
+        ensures changes { ChangesAt at.now self.old.dirs self.new.dirs result }
+        ensures bar { HeedsBar Cause.Held self.old self.new result }
+        ensures faults { self.new.faults ≡ self.old.faults }
+    {
+        let text = self.take_file(at)?;
+        fs::remove_file(&self.rt, text.as_str()).map_err(|error| cause_of(&error))?;
+        self.forget_below(at);
+        self.kinds.learn(at, Kind::Missing);
+        Ok(())
+    }
+
+    #[tactic(auto, using(crate::proofs::Dirs::sees_but, crate::proofs::Dirs::sees_but_after, crate::proofs::Dirs::below_apart))]
+    pub(super) fn remove_dir_now(&mut self, at: &FPath) -> Result<(), Cause>
+        ensures names { OnOk result (IsTrue (names_entries at.now)) }
+        ensures changed { OnOk result (IsTrue (has self.new.dirs.changed (parent at.now))) }
+        ensures sees { SeesBut at.now self.old.dirs self.new.dirs }
+        ensures bar { HeedsBar Cause.Held self.old self.new result }
+        ensures faults { self.new.faults ≡ self.old.faults }
+    {
+        self.test_barred()?;
+        if at.depth() == 0 {
+            return Err(Cause::InTheWay);
+        }
+        let text = self.make_room(at)?;
+        fs::remove_dir(&self.rt, text.as_str()).map_err(|error| cause_of(&error))?;
+        self.forget_below(at);
+        self.kinds.learn(at, Kind::Missing);
+        self.noted.forget(at);
+        Ok(())
+    }
+}

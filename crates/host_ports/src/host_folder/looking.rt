@@ -1,0 +1,154 @@
+//! What the machine's folder looks at and reads.
+
+ghost use Rattle.std.specs.Prelude.{◌≡◌, ◌≤◌, ◌≢◌, ◌⊎◌, IfErr, IfOk, OnOk, IsTrue, IsSome, length};
+ghost use Rattle.std.specs.Cmp.Lexicographic.{slice_cmp};
+ghost use Rattle.std.specs.List.Sorted.{IsSortedByKey};
+ghost use Rattle.std.specs.Ordering.{nat_cmp};
+ghost use Rattle.folder_spec.specs.Listing.{Item};
+ghost use Rattle.folder_spec.specs.Path.{parent};
+ghost use Rattle.folder_spec.specs.declared.Kind.TheVariants.{Missing};
+ghost use Rattle.host_ports.specs.Causes.{IsFailure};
+ghost use Rattle.host_ports.specs.Calls.{LooksAt};
+ghost use Rattle.host_ports.specs.Noted.{has};
+
+use crate::causes::{Cause, cause_of};
+use crate::handles::Opened;
+use crate::host_folder::HostFolder;
+use crate::listing::entries_of;
+use crate::pieces::fill_from;
+use crate::places::{Place, look, reach, test_names};
+use folder_model::{Entry, FPath, Kind};
+use std::fs;
+
+#[tactic(auto, using(crate::proofs::Dirs::sees_same, crate::proofs::Dirs::sees_after))]
+impl HostFolder {
+    pub(super) fn look(&mut self, at: &FPath) -> Result<Place, Cause>
+        ensures looks { LooksAt at.now self.old.dirs self.new.dirs result }
+        ensures known { IfOk result (λ place. IsSome place.kind → IsTrue (has self.new.dirs.known (parent at.now))) }
+        ensures bar { self.new.barred ≡ self.old.barred }
+        ensures faults { self.new.faults ≡ self.old.faults }
+    {
+        look(
+            &self.rt,
+            self.alloc,
+            self.base.as_str(),
+            &mut self.noted,
+            at,
+        )
+    }
+
+    // The text of a path at which this stands.
+    pub(super) fn place_of(&mut self, at: &FPath, kind: Kind) -> Result<String, Cause>
+        ensures looks { LooksAt at.now self.old.dirs self.new.dirs result }
+        ensures known { OnOk result (IsTrue (has self.new.dirs.known (parent at.now))) }
+        ensures bar { self.new.barred ≡ self.old.barred }
+        ensures faults { self.new.faults ≡ self.old.faults }
+    {
+        let place = self.look(at)?;
+        if place.kind == Some(kind) {
+            Ok(place.text)
+        } else {
+            Err(Cause::InTheWay)
+        }
+    }
+
+    // The text of a path above which a directory stands.
+    pub(super) fn room_at(&mut self, at: &FPath) -> Result<String, Cause>
+        ensures looks { LooksAt at.now self.old.dirs self.new.dirs result }
+        ensures known { OnOk result (IsTrue (has self.new.dirs.known (parent at.now))) }
+        ensures bar { self.new.barred ≡ self.old.barred }
+        ensures faults { self.new.faults ≡ self.old.faults }
+    {
+        match reach(
+            &self.rt,
+            self.alloc,
+            self.base.as_str(),
+            &mut self.noted,
+            at,
+        )? {
+            Some(text) => Ok(text),
+            None => Err(Cause::InTheWay),
+        }
+    }
+
+    pub(super) fn kind_of(&mut self, at: &FPath) -> Result<Kind, Cause>
+        ensures looks { LooksAt at.now self.old.dirs self.new.dirs result }
+        ensures known { IfOk result (λ kind. kind ≢ Missing → IsTrue (has self.new.dirs.known (parent at.now))) }
+        ensures bar { self.new.barred ≡ self.old.barred }
+        ensures faults { self.new.faults ≡ self.old.faults }
+    {
+        test_names(at)?;
+        if self.noted.knows(&at.parent()?) {
+            if let Some(kind) = self.kinds.kind_at(at) {
+                return Ok(kind);
+            }
+        }
+        let kind = match self.look(at)?.kind {
+            Some(kind) => kind,
+            None => Kind::Missing,
+        };
+        self.keep_kind(at, kind);
+        Ok(kind)
+    }
+
+    // Keeps what stands at a path where no other run changes it, as far as there is memory for it.
+    pub(super) fn keep_kind(&mut self, at: &FPath, kind: Kind)
+        ensures { self.new ≡ self.old }
+    {
+        if self.claims.hold(at) {
+            let _ = self.kinds.keep(at, kind);
+        }
+    }
+
+    // Keeps what stands in a directory where no other run changes it.
+    fn keep_entries(&mut self, at: &FPath, entries: &[Entry])
+        ensures { self.new ≡ self.old }
+    {
+        if self.claims.hold(at) {
+            self.kinds.keep_all(at, entries);
+        }
+    }
+
+    // Forgets what was open and what stood at and below a path, where something else comes to stand.
+    pub(super) fn forget_below(&mut self, at: &FPath)
+        ensures { self.new ≡ self.old }
+    {
+        self.handles.close_below(at);
+        self.kinds.forget_below(at);
+    }
+
+    pub(super) fn entries(&mut self, at: &FPath) -> Result<Vec<Entry>, Cause>
+        ensures looks { LooksAt at.now self.old.dirs self.new.dirs result }
+        ensures sorted { IfOk result (λ entries. IsSortedByKey (λ (entry : Item). entry.name) (slice_cmp nat_cmp) entries.items) }
+        ensures known { OnOk result (IsTrue (has self.new.dirs.known at.now)) }
+        ensures bar { self.new.barred ≡ self.old.barred }
+        ensures faults { self.new.faults ≡ self.old.faults }
+    {
+        let text = self.place_of(at, Kind::Dir)?;
+        self.noted.see(at)?;
+        let entries = entries_of(&self.rt, self.alloc, text.as_str())?;
+        self.keep_entries(at, entries.as_slice());
+        Ok(entries)
+    }
+
+    pub(super) fn bytes(&mut self, at: &FPath, start: u64, out: &mut [u8]) -> Result<usize, Cause>
+        ensures looks { LooksAt at.now self.old.dirs self.new.dirs result }
+        ensures within { IfOk result (λ n. n ≤ length out.old) }
+        ensures unread { IfErr result (λ cause. IsFailure cause ⊎ (out.new ≡ out.old)) }
+        ensures bar { self.new.barred ≡ self.old.barred }
+        ensures faults { self.new.faults ≡ self.old.faults }
+    {
+        test_names(at)?;
+        if let Some(opened) = self.handles.read.open_at(at) {
+            return fill_from(&opened.file, start, out);
+        }
+        let text = self.place_of(at, Kind::File)?;
+        let opened = Opened {
+            at: at.copy()?,
+            file: fs::open(&self.rt, text.as_str()).map_err(|error| cause_of(&error))?,
+        };
+        let answer = fill_from(&opened.file, start, out);
+        self.handles.read.keep(opened);
+        answer
+    }
+}

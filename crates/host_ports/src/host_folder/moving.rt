@@ -1,0 +1,175 @@
+//! How the machine's folder moves files and directories.
+
+ghost use Rattle.std.specs.Prelude.{◌≡◌, ◌↔◌, ◌≢◌, ◌⊎◌, true, OnOk, IsTrue, None};
+ghost use Rattle.folder_spec.specs.Path.{parent};
+ghost use Rattle.folder_spec.specs.declared.Kind.TheVariants.{File, Missing};
+ghost use Rattle.host_ports.specs.Calls.{HeedsBar};
+ghost use Rattle.host_ports.specs.Noted.{IsJust, IsSettled, Sees, has};
+ghost use Rattle.host_ports.specs.Places.{names_entries};
+
+use crate::causes::{Cause, cause_of};
+use crate::handles::Made;
+use crate::host_folder::HostFolder;
+use crate::places::{Node, Place};
+use folder_model::{FPath, Kind};
+use std::alloc::AllocError;
+use std::fs;
+use std::os::unix::fs::PermissionsExt;
+
+#[tactic(auto, using(crate::proofs::Dirs::sees_same, crate::proofs::Dirs::sees_after))]
+impl HostFolder {
+    // Moves what may move, unless another program has put something into the place meanwhile. Before a directory moves, all that is noted
+    // is synced.
+    pub(super) fn rename_now(&mut self, old: &FPath, new: &FPath) -> Result<(), Cause>
+        ensures names { OnOk result (IsTrue (names_entries old.now) × IsTrue (names_entries new.now)) }
+        ensures changed { OnOk result (IsTrue (has self.new.dirs.changed (parent old.now)) × IsTrue (has self.new.dirs.changed (parent new.now))) }
+        ensures sees { Sees self.old.dirs self.new.dirs ⊎ IsJust self.new.dirs (parent old.now) (parent new.now) }
+        ensures bar { HeedsBar Cause.Held self.old self.new result }
+        ensures faults { self.new.faults ≡ self.old.faults }
+    {
+        self.test_barred()?;
+        let (from, to) = self.look_both(old, new)?;
+        if old.depth() == 0 || new.starts_with(old) || !may_move(from.kind, to.kind) {
+            return Err(Cause::InTheWay);
+        }
+        if has_come(self.kinds.kind_at(new), to.kind) {
+            return Err(Cause::Replaced);
+        }
+        if from.kind == Some(Kind::Dir) {
+            self.move_dir(old, new, &from, &to)
+        } else {
+            self.move_file(old, new, &from, &to)
+        }
+    }
+
+    fn look_both(&mut self, old: &FPath, new: &FPath) -> Result<(Place, Place), Cause>
+        ensures names { OnOk result (IsTrue (names_entries old.now) × IsTrue (names_entries new.now)) }
+        ensures sees { Sees self.old.dirs self.new.dirs }
+        ensures bar { self.new.barred ≡ self.old.barred }
+        ensures faults { self.new.faults ≡ self.old.faults }
+    {
+        let from = self.look(old)?;
+        let to = self.look(new)?;
+        Ok((from, to))
+    }
+
+    // Notes that the directories above two paths change.
+    fn note_both(&mut self, old: &FPath, new: &FPath) -> Result<(), AllocError>
+        ensures changed { OnOk result (IsTrue (has self.new.dirs.changed (parent old.now)) × IsTrue (has self.new.dirs.changed (parent new.now))) }
+        ensures sees { Sees self.old.dirs self.new.dirs }
+        ensures just { IsSettled self.old.dirs → IsJust self.new.dirs (parent old.now) (parent new.now) }
+        ensures bar { self.new.barred ≡ self.old.barred }
+        ensures faults { self.new.faults ≡ self.old.faults }
+    {
+        self.note_above(old)?;
+        self.note_above(new)?;
+        Ok(())
+    }
+
+    // What may be moved from one path to another: no claim of either is missing.
+    fn may_move_there(&mut self, old: &FPath, new: &FPath) -> Result<(), Cause>
+        ensures { self.new ≡ self.old }
+    {
+        self.may_change(old)?;
+        self.may_change(new)
+    }
+
+    fn move_file(&mut self, old: &FPath, new: &FPath, from: &Place, to: &Place) -> Result<(), Cause>
+        ensures changed { OnOk result (IsTrue (has self.new.dirs.changed (parent old.now)) × IsTrue (has self.new.dirs.changed (parent new.now))) }
+        ensures sees { Sees self.old.dirs self.new.dirs }
+        ensures bar { self.new.barred ≡ self.old.barred }
+        ensures faults { self.new.faults ≡ self.old.faults }
+    {
+        self.test_made(old, from, to)?;
+        self.may_change(new)?;
+        self.note_both(old, new)?;
+        self.rename_there(old, new, from, to)?;
+        self.life.count_placed();
+        Ok(())
+    }
+
+    // What is moved must be the file that was made there, if one was, or no claim of it may be missing.
+    fn test_made(&mut self, old: &FPath, from: &Place, to: &Place) -> Result<(), Cause>
+        ensures { self.new ≡ self.old }
+    {
+        match self.handles.made_at(old) {
+            Some(made) => fit(made, from, to),
+            None => self.may_change(old),
+        }
+    }
+
+    fn move_dir(&mut self, old: &FPath, new: &FPath, from: &Place, to: &Place) -> Result<(), Cause>
+        ensures changed { OnOk result (IsTrue (has self.new.dirs.changed (parent old.now)) × IsTrue (has self.new.dirs.changed (parent new.now))) }
+        ensures sees { Sees self.old.dirs self.new.dirs ⊎ IsJust self.new.dirs (parent old.now) (parent new.now) }
+        ensures bar { self.new.barred ≡ self.old.barred }
+        ensures faults { self.new.faults ≡ self.old.faults }
+    {
+        self.sync_noted()?;
+        self.may_move_there(old, new)?;
+        let below = self.noted.known_below(old)?;
+        self.note_both(old, new)?;
+        self.claims.hold_moved(&self.rt, from.text.as_str(), new)?;
+        self.rename_there(old, new, from, to)?;
+        self.noted.unknow(below.as_slice());
+        Ok(())
+    }
+
+    // Moves what stands at one text to another, and closes what was open at and below them.
+    fn rename_there(
+        &mut self,
+        old: &FPath,
+        new: &FPath,
+        from: &Place,
+        to: &Place,
+    ) -> Result<(), Cause>
+        ensures { self.new ≡ self.old }
+    {
+        fs::rename(&self.rt, from.text.as_str(), to.text.as_str()).map_err(|error| cause_of(
+            &error,
+        ))?;
+        self.forget_below(old);
+        self.forget_below(new);
+        self.keep_kind(old, Kind::Missing);
+        if let Some(kind) = from.kind {
+            self.kinds.learn(new, kind);
+        }
+        Ok(())
+    }
+}
+
+// The file that was made must be the one that stands there, and takes on the mode of the one that it replaces.
+fn fit(made: &Made, from: &Place, to: &Place) -> Result<(), Cause> {
+    if from.metadata.as_ref().map(Node::of) != Some(made.node) {
+        return Err(Cause::Replaced);
+    }
+    if let Some(replaced) = &to.metadata {
+        let permissions = replaced.permissions();
+        if permissions.mode() != made.mode {
+            let _ = made.file.set_permissions(permissions);
+        }
+    }
+    Ok(())
+}
+
+// Whether something stands at a place of which it was kept that nothing does.
+fn has_come(kept: Option<Kind>, stands: Option<Kind>) -> bool
+    ensures { IsTrue result ↔ (kept ≡ Some Missing) × (stands ≢ Some Missing) }
+{
+    match (kept, stands) {
+        (Some(Kind::Missing), Some(Kind::Missing)) => false,
+        (Some(Kind::Missing), _) => true,
+        _ => false,
+    }
+}
+
+// Whether what stands at one place may move to another: onto nothing, or a file onto a file.
+fn may_move(from: Option<Kind>, to: Option<Kind>) -> bool
+    ensures { IsTrue result ↔ (from ≢ None) × (from ≢ Some Missing) × ((to ≡ Some Missing) ⊎ ((from ≡ Some File) × (to ≡ Some File))) }
+{
+    match (from, to) {
+        (Some(Kind::Missing), _) => false,
+        (Some(_), Some(Kind::Missing)) => true,
+        (Some(Kind::File), Some(Kind::File)) => true,
+        _ => false,
+    }
+}

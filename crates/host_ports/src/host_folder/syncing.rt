@@ -1,0 +1,130 @@
+//! How the machine's folder makes files and directories last.
+
+ghost use Rattle.std.specs.Prelude.{◌≡◌, OnErr, OnOk};
+ghost use Rattle.host_ports.specs.Calls.{HeedsBar, LooksAt};
+ghost use Rattle.host_ports.specs.Noted.{IsSettled};
+
+use crate::causes::{Cause, Trouble, cause_of};
+use crate::handles::{Opened, Pair};
+use crate::host_folder::HostFolder;
+use crate::noted::Noted;
+use crate::places::{test_names, text_of};
+use folder_model::{FPath, Kind};
+use std::alloc::Global;
+use std::fs;
+use std::io::ErrorKind;
+
+#[tactic(auto, using(crate::proofs::Dirs::sees_same, crate::proofs::Dirs::sees_after))]
+impl HostFolder {
+    pub(super) fn sync_file(&mut self, at: &FPath) -> Result<(), Cause>
+        ensures looks { LooksAt at.now self.old.dirs self.new.dirs result }
+        ensures bar { HeedsBar Cause.Held self.old self.new result }
+        ensures faults { self.new.faults ≡ self.old.faults }
+    {
+        self.test_barred()?;
+        test_names(at)?;
+        if let Some(made) = self.handles.made_at(at) {
+            return made.file.sync_all().map_err(|error| cause_of(&error));
+        }
+        self.may_change(at)?;
+        let text = self.place_of(at, Kind::File)?;
+        self.sync_at(text.as_str())
+    }
+
+    // Syncs what stands at a text.
+    fn sync_at(&self, text: &str) -> Result<(), Cause> {
+        let file = fs::open(&self.rt, text).map_err(|error| cause_of(&error))?;
+        file.sync_all().map_err(|error| cause_of(&error))
+    }
+
+    pub(super) fn settle_now(&mut self) -> Result<(), Cause>
+        ensures settled { OnOk result (IsSettled self.new.dirs) }
+        ensures kept { OnErr result (self.new.dirs ≡ self.old.dirs) }
+        ensures known { self.new.dirs.known ≡ self.old.dirs.known }
+        ensures bar { HeedsBar Cause.Held self.old self.new result }
+        ensures faults { self.new.faults ≡ self.old.faults }
+    {
+        self.test_barred()?;
+        self.sync_noted()
+    }
+
+    // Syncs what is noted, and lets it go.
+    pub(super) fn sync_noted(&mut self) -> Result<(), Cause>
+        ensures settled { OnOk result (IsSettled self.new.dirs) }
+        ensures kept { OnErr result (self.new.dirs ≡ self.old.dirs) }
+        ensures known { self.new.dirs.known ≡ self.old.dirs.known }
+        ensures bar { self.new.barred ≡ self.old.barred }
+        ensures faults { self.new.faults ≡ self.old.faults }
+    {
+        match sync_each(
+            &self.rt,
+            self.alloc,
+            self.base.as_str(),
+            &self.noted,
+            &mut self.handles.synced,
+        ) {
+            Ok(()) => {
+                self.noted.let_go();
+                Ok(())
+            }
+            Err(trouble) => {
+                let cause = trouble.cause;
+                self.keep_trouble(trouble);
+                Err(cause)
+            }
+        }
+    }
+}
+
+// Syncs each directory that is noted. One that this process hasn't changed is passed over where it can't be synced.
+fn sync_each(
+    rt: &HostRuntime,
+    alloc: Global,
+    base: &str,
+    noted: &Noted,
+    synced: &mut Pair,
+) -> Result<(), Trouble> {
+    for dir in noted.changed() {
+        sync_dir(rt, alloc, base, synced, dir).map_err(|cause| Trouble::new(dir, cause))?;
+    }
+    for dir in noted.seen() {
+        match sync_dir(rt, alloc, base, synced, dir) {
+            Err(cause) if !is_passed_over(cause) => return Err(Trouble::new(dir, cause)),
+            _ => {}
+        }
+    }
+    Ok(())
+}
+
+// Syncs a directory. What stands there is opened only if it is one.
+fn sync_dir(
+    rt: &HostRuntime,
+    alloc: Global,
+    base: &str,
+    synced: &mut Pair,
+    dir: &FPath,
+) -> Result<(), Cause> {
+    if let Some(opened) = synced.open_at(dir) {
+        return opened.file.sync_all().map_err(|error| cause_of(&error));
+    }
+    let mut text = text_of(alloc, base, dir.parts())?;
+    text.push_str("/.")?;
+    let opened = Opened {
+        at: dir.copy()?,
+        file: fs::open(rt, text.as_str()).map_err(|error| cause_of(&error))?,
+    };
+    let answer = opened.file.sync_all().map_err(|error| cause_of(&error));
+    synced.keep(opened);
+    answer
+}
+
+// Whether a directory that this process hasn't changed is passed over where a sync of it fails for this cause: it may not be opened, or
+// its file system has no sync of directories.
+fn is_passed_over(cause: Cause) -> bool {
+    matches!(
+        cause,
+        Cause::Machine(
+            ErrorKind::PermissionDenied | ErrorKind::InvalidInput | ErrorKind::ReadOnlyFilesystem
+        )
+    )
+}

@@ -1,0 +1,128 @@
+//! What stands in the directories of claimed folders that were listed or made last.
+
+use folder_model::{Entry, FPath, Kind};
+use std::alloc::{AllocError, Global};
+use std::collections::BTreeMap;
+use std::mem;
+
+// What stands at each name in a directory, `None` where that isn't known any more. At all other names nothing stands.
+#[derive(Drop)]
+struct Listed {
+    dir: FPath,
+    kinds: BTreeMap<String, Option<Kind>>,
+}
+
+impl Listed {
+    fn of(alloc: Global, dir: &FPath, entries: &[Entry]) -> Result<Listed, AllocError> {
+        let mut kinds = BTreeMap::new(alloc);
+        for entry in entries {
+            let name = String::from_str(alloc, entry.name.as_str())?;
+            kinds.insert(name, Some(entry.kind))?;
+        }
+        Ok(Listed {
+            dir: dir.copy()?,
+            kinds,
+        })
+    }
+
+    fn kind_of(&self, name: &str) -> Option<Kind> {
+        match self.kinds.get(name) {
+            Some(kind) => *kind,
+            None => Some(Kind::Missing),
+        }
+    }
+
+    fn put(&mut self, alloc: Global, name: &str, kind: Option<Kind>) -> Result<(), AllocError> {
+        self.kinds.insert(String::from_str(alloc, name)?, kind)?;
+        Ok(())
+    }
+}
+
+// The two directories that were used last.
+#[derive(Drop)]
+pub struct Listings {
+    alloc: Global,
+    last: Option<Listed>,
+    other: Option<Listed>,
+}
+
+impl Listings {
+    pub fn new(alloc: Global) -> Listings {
+        Listings {
+            alloc,
+            last: None,
+            other: None,
+        }
+    }
+
+    // Keeps what stands in a directory, in the place of the one that wasn't used last.
+    pub fn keep(&mut self, dir: &FPath, entries: &[Entry]) {
+        if !self.bring(dir.parts()) {
+            mem::swap(&mut self.last, &mut self.other);
+        }
+        self.last = Listed::of(self.alloc, dir, entries).ok();
+    }
+
+    // What stands at a path, where that of its directory is kept.
+    pub fn kind_at(&mut self, at: &FPath) -> Option<Kind> {
+        let (name, above) = at.parts().split_last()?;
+        if self.bring(above) {
+            self.last.as_ref()?.kind_of(name.as_str())
+        } else {
+            None
+        }
+    }
+
+    // Keeps what stands at a path, or that it isn't known, where that of its directory is kept: whether it is.
+    pub fn put(&mut self, at: &FPath, kind: Option<Kind>) -> bool {
+        let Some((name, above)) = at.parts().split_last() else {
+            return false;
+        };
+        self.bring(above) && self.put_last(name.as_str(), kind)
+    }
+
+    // Keeps what stands at a name in the directory that was used last. Without memory for it the whole directory is let go.
+    fn put_last(&mut self, name: &str, kind: Option<Kind>) -> bool {
+        let put = match &mut self.last {
+            Some(listed) => listed.put(self.alloc, name, kind).is_ok(),
+            None => false,
+        };
+        if !put {
+            self.last = None;
+        }
+        put
+    }
+
+    // Forgets what stood at and below a path.
+    pub fn forget_below(&mut self, at: &FPath) {
+        if lies_below(&self.last, at) {
+            self.last = None;
+        }
+        if lies_below(&self.other, at) {
+            self.other = None;
+        }
+        self.put(at, None);
+    }
+
+    // Whether what stands in the directory with these parts is kept, which then is the one that was used last.
+    fn bring(&mut self, dir: &[String]) -> bool {
+        if is_of(&self.other, dir) {
+            mem::swap(&mut self.last, &mut self.other);
+        }
+        is_of(&self.last, dir)
+    }
+}
+
+fn is_of(listed: &Option<Listed>, dir: &[String]) -> bool {
+    match listed {
+        Some(listed) => listed.dir.parts() == dir,
+        None => false,
+    }
+}
+
+fn lies_below(listed: &Option<Listed>, at: &FPath) -> bool {
+    match listed {
+        Some(listed) => listed.dir.starts_with(at),
+        None => false,
+    }
+}

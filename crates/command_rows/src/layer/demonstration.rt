@@ -8,7 +8,8 @@ use row_words::cut;
 
 impl Stage {
     // Says an item, and the size that its file has or would have.
-    fn demo_item(&mut self, seed: u64, number: u32) {
+    fn demo_item(&mut self, seed: u64, number: u64) {
+        let number = number.min(9_999) as u32;
         self.said.word(node_letter(if is_directory(number) {
             NodeKind::Dir
         } else {
@@ -22,8 +23,8 @@ impl Stage {
         self.said.end();
     }
 
-    fn demo_totals(&mut self, seed: u64, count: u32) {
-        let totals = totals_of(seed, count);
+    fn demo_totals(&mut self, seed: u64, count: u64) {
+        let totals = totals_of(seed, count.min(10_000) as u32);
         self.said.shows(&totals.directories);
         self.said.shows(&totals.files);
         self.said.shows(&totals.bytes);
@@ -31,8 +32,8 @@ impl Stage {
     }
 
     // Makes the first vault of a demonstration.
-    fn demo_first(&mut self, seed: u64, count: u32) {
-        let mut random = random_of(seed);
+    fn demo_first(&mut self, seed: u64, count: u64) {
+        let (count, mut random) = (count.min(2_000) as u32, random_of(seed));
         match make_first(self.alloc, &mut self.folder, seed, count, &mut random) {
             Ok(()) => self.done("done"),
             Err(_) => self.failed("fault"),
@@ -44,9 +45,9 @@ impl Stage {
         let (seed, count) = cut(words);
         let (seed, count) = (self.number(seed), self.number(count));
         match verb {
-            "demo_item" => self.demo_item(seed, count.min(9_999) as u32),
-            "demo_totals" => self.demo_totals(seed, count.min(10_000) as u32),
-            _ => self.demo_first(seed, count.min(2_000) as u32),
+            "demo_item" => self.demo_item(seed, count),
+            "demo_totals" => self.demo_totals(seed, count),
+            _ => self.demo_first(seed, count),
         }
     }
 }

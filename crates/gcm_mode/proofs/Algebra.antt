@@ -97,6 +97,15 @@ product-last : (h : ℕ) → h < 2 ^ 128 → product 1 h ≡ times_power 127 h
 product-last h l =
     from_powers (product 1) (times_power 127) (product-sum 1) (times_power-xor 127) last_power 128 (omega arith) h l
 
+-- the block whose first bit alone is set is 1
+first_power : (i : ℕ) → i < 128 → product (8 * 2 ^ 124) (2 ^ i) ≡ 2 ^ i
+unfolding product terms coefficient times_power times_u
+first_power = at_each (λ i. product (8 * 2 ^ 124) (2 ^ i)) (λ i. 2 ^ i) refl
+
+pub product-first : (h : ℕ) → h < 2 ^ 128 → product (8 * 2 ^ 124) h ≡ h
+product-first h l =
+    from_powers (product (8 * 2 ^ 124)) (λ n. n) (product-sum (8 * 2 ^ 124)) (λ a b. refl) first_power 128 (omega arith) h l
+
 -- the block R is u^128
 next_power : (i : ℕ) → i < 128 → product reduction (2 ^ i) ≡ times_power 128 (2 ^ i)
 unfolding product terms coefficient times_power times_u

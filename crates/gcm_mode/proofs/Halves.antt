@@ -1,7 +1,7 @@
 -- A number that is shifted to the right is multiplied by u.
 use Rattle.std.proofs.Common.{◌≡◌, ℕ, zero, suc, ◌+◌, ◌-◌, ◌*◌, ◌/◌, ◌^◌, ◌%◌, ◌<◌, ◌≤◌, bit_xor, refl, sym, ap, ap₂, ◌∙◌, arith}
 use lib.Bits.{xor_shr, xor_zero_r}
-use Rattle.std.proofs.lemmas.Nat.{shr-shr, pow-add, shl_whole}
+use Rattle.std.proofs.lemmas.Nat.{shr-shr}
 use Rattle.std.proofs.lemmas.Nat.Bits.{bit_at_xor, bit_at_lowest, bit_at-lt}
 use Rattle.gcm_mode.specs.Field.{reduction, times_u, coefficient, times_power, terms, product}
 use Rattle.gcm_mode.proofs.Linear.{term-xor, pairs, zero-times}
@@ -47,22 +47,7 @@ product-half x h fits even =
     terms-half 127 x h (omega arith) fits
     ∙ ap times_u (sym (ap (λ (c : ℕ). bit_xor (terms 127 x h) (c * times_power 127 h)) last ∙ ap (bit_xor (terms 127 x h)) (zero-times (times_power 127 h)) ∙ xor_zero_r (terms 127 x h)))
 
-product-double : (x h : ℕ) → x * 2 < 2 ^ 128 → product x h ≡ times_u (product (x * 2) h)
+pub product-double : (x h : ℕ) → x * 2 < 2 ^ 128 → product x h ≡ times_u (product (x * 2) h)
 product-double x h fits =
     let half : x * 2 / 2 ≡ x = omega arith in
     sym (ap (λ (n : ℕ). product n h) half) ∙ product-half (x * 2) h fits (omega arith)
-
--- the product with a nibble is u^4 times that with the nibble one place before it
-pub product-nibble : (nibble place h : ℕ) → nibble < 16 → place < 31 → times_power 4 (product (nibble * 2 ^ (4 * (place + 1))) h) ≡ product (nibble * 2 ^ (4 * place)) h
-unfolding times_power
-product-nibble nibble place h n p =
-    let x : ℕ = nibble * 2 ^ (4 * place) in
-    let next : 4 * (place + 1) ≡ 4 * place + 4 = omega arith in
-    let power : 2 ^ (4 * (place + 1)) ≡ 2 ^ (4 * place) * 16 = ap (λ (k : ℕ). 2 ^ k) next ∙ pow-add 2 (4 * place) 4 in
-    let shifted : nibble * 2 ^ (4 * (place + 1)) ≡ x * 2 * 2 * 2 * 2 = ap (λ (k : ℕ). nibble * k) power ∙ omega arith in
-    let whole : nibble * 2 ^ (4 * (place + 1)) % 2 ^ 128 ≡ nibble * 2 ^ (4 * (place + 1)) = shl_whole nibble 4 (4 * (place + 1)) 128 n (omega arith) in
-    let fits : x * 2 * 2 * 2 * 2 < 2 ^ 128 = omega arith in
-    rw shifted (sym (product-double x h (omega arith)
-    ∙ ap times_u (product-double (x * 2) h (omega arith)
-    ∙ ap times_u (product-double (x * 2 * 2) h (omega arith)
-    ∙ ap times_u (product-double (x * 2 * 2 * 2) h fits)))))

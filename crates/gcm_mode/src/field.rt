@@ -1,7 +1,7 @@
 // GF(2^128) on blocks that are read as numbers, their first byte highest.
 
 ghost use Rattle.std.specs.Prelude.{◌≡◌, ◌*◌, ◌<◌};
-ghost use Rattle.gcm_mode.specs.Field.{times_power, times_u as u_times, product as product_of};
+ghost use Rattle.gcm_mode.specs.Field.{times_u as u_times, product as product_of};
 
 const REDUCTION: u128 = 0xe1 << 120;
 
@@ -14,17 +14,10 @@ fn where_set(bit: u128, value: u128) -> u128
 }
 
 #[tactic(auto, unfolding(crate::specs::Field::times_u))]
-fn times_u(value: u128) -> u128
+pub fn times_u(value: u128) -> u128
     ensures { result ≡ u_times value }
 {
     value >> 1 ^ where_set(value & 1, REDUCTION)
-}
-
-#[tactic(auto, unfolding(crate::specs::Field::times_power))]
-pub fn times_u4(value: u128) -> u128
-    ensures { result ≡ times_power 4 value }
-{
-    times_u(times_u(times_u(times_u(value))))
 }
 
 /// The product of two blocks in GF(2^128) (section 6.3), bit by bit, where GHASH looks its products up in

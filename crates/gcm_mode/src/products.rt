@@ -1,10 +1,10 @@
 // The products of a hash subkey with every value of each nibble of a block.
 
-ghost use Rattle.std.specs.Prelude.{◌≡◌, ℕ, ◌+◌, ◌^◌, ◌<◌, bit_xor};
+ghost use Rattle.std.specs.Prelude.{◌≡◌, ℕ, ◌+◌, ◌*◌, ◌^◌, ◌<◌, bit_xor};
 ghost use Rattle.gcm_mode.specs.Field.{product as product_of};
 ghost use Rattle.gcm_mode.specs.Private.{IsRow, AreRows};
 
-use super::field::{product, times_u4};
+use super::field::times_u;
 use super::laws::{product_distributes_over_sums, product_is_associative};
 use std::marker::Model;
 
@@ -98,23 +98,47 @@ impl Powers {
 fn first_row(subkey: u128) -> [u128; 16]
     ensures { IsRow subkey 31 result }
 {
-    let mut row = [0; 16];
-    for nibble in 0..16 {
-        row[nibble] = product((nibble as u128) << 124, subkey);
-    }
-    row
+    row_of(subkey)
 }
 
-// The products with the nibble that follows a row's: they are those of the row, times u^4.
+// The products with the nibble that follows a row's.
 fn row_after(row: &[u128; 16]) -> [u128; 16]
     ensures { (subkey place : ℕ)
         → place < 31
         → IsRow subkey (place + 1) row.now
         → IsRow subkey place result }
 {
-    let mut after = [0; 16];
-    for nibble in 0..16 {
-        after[nibble] = times_u4(row[nibble]);
-    }
-    after
+    row_of(times_u(row[1]))
+}
+
+// The products with a nibble, of which `first` is the one with its first bit: the next bit's is u times as much.
+fn row_of(first: u128) -> [u128; 16]
+    ensures { (subkey place : ℕ)
+        → place < 32
+        → first ≡ product_of (8 * 2 ^ (4 * place)) subkey
+        → IsRow subkey place result }
+{
+    let second = times_u(first);
+    let third = times_u(second);
+    let fourth = times_u(third);
+    let high = first ^ second;
+    let low = third ^ fourth;
+    [
+        0,
+        fourth,
+        third,
+        low,
+        second,
+        second ^ fourth,
+        second ^ third,
+        second ^ low,
+        first,
+        first ^ fourth,
+        first ^ third,
+        first ^ low,
+        high,
+        high ^ fourth,
+        high ^ third,
+        high ^ low,
+    ]
 }

@@ -11,7 +11,7 @@ use Rattle.gcm_mode.proofs.Linear.{pairs, zero-times, product-xor, product-zero}
 use Rattle.gcm_mode.proofs.Halves.{times_u-xor, product-half}
 
 -- one coefficient
-coefficient-lt : (x i : ℕ) → coefficient x i < 2
+pub coefficient-lt : (x i : ℕ) → coefficient x i < 2
 unfolding coefficient
 coefficient-lt x i = bit_at-lt x (127 - i)
 
@@ -29,7 +29,7 @@ coefficient-product (suc zero) v z l = rw (one-times v, one-times (product v z))
 coefficient-product (suc (suc c)) v z l = absurd (omega arith)
 
 -- a product distributes over a sum on its right
-times_power-xor : (i a b : ℕ) → times_power i (bit_xor a b) ≡ bit_xor (times_power i a) (times_power i b)
+pub times_power-xor : (i a b : ℕ) → times_power i (bit_xor a b) ≡ bit_xor (times_power i a) (times_power i b)
 unfolding times_power
 times_power-xor zero a b = refl
 times_power-xor (suc i) a b = ap times_u (times_power-xor i a b) ∙ times_u-xor (times_power i a) (times_power i b)
@@ -48,30 +48,30 @@ unfolding product
 product-sum x y z = terms-sum 128 x y z
 
 -- u times a block is a block
-times_u-lt : (v : ℕ) → v < 2 ^ 128 → times_u v < 2 ^ 128
+pub times_u-lt : (v : ℕ) → v < 2 ^ 128 → times_u v < 2 ^ 128
 unfolding times_u
 times_u-lt v l =
     let half : v / 2 < 2 ^ 128 = omega arith in
     let last : v % 2 * reduction < 2 ^ 128 = omega arith in
     xor_lt 128 (v / 2) (v % 2 * reduction) half last
 
-times_power-lt : (i v : ℕ) → v < 2 ^ 128 → times_power i v < 2 ^ 128
+pub times_power-lt : (i v : ℕ) → v < 2 ^ 128 → times_power i v < 2 ^ 128
 unfolding times_power
 times_power-lt zero v l = l
 times_power-lt (suc i) v l = times_u-lt (times_power i v) (times_power-lt i v l)
 
--- two functions that take sums to sums and agree on each power of two agree on each block
-from_powers : (f g : ℕ → ℕ)
+-- two functions that take sums to sums and agree on each power of two agree on each number of so many bits
+pub from_powers : (f g : ℕ → ℕ) (m : ℕ)
     → ((a b : ℕ) → f (bit_xor a b) ≡ bit_xor (f a) (f b)) → ((a b : ℕ) → g (bit_xor a b) ≡ bit_xor (g a) (g b))
-    → ((i : ℕ) → i < 128 → f (2 ^ i) ≡ g (2 ^ i))
-    → (n : ℕ) → n ≤ 128 → (x : ℕ) → x < 2 ^ n → f x ≡ g x
-from_powers f g f_sum g_sum each zero le x lt =
+    → ((i : ℕ) → i < m → f (2 ^ i) ≡ g (2 ^ i))
+    → (n : ℕ) → n ≤ m → (x : ℕ) → x < 2 ^ n → f x ≡ g x
+from_powers f g m f_sum g_sum each zero le x lt =
     let none : x ≡ 0 = omega arith in
     let f_zero : f 0 ≡ 0 = f_sum 0 0 ∙ xor_self (f 0) in
     let g_zero : g 0 ≡ 0 = g_sum 0 0 ∙ xor_self (g 0) in
     ap f none ∙ f_zero ∙ sym g_zero ∙ ap g (sym none)
-from_powers f g f_sum g_sum each (suc n) le x lt = elim (cases_lt x (2 ^ n)) [
-  | inl below ↦ from_powers f g f_sum g_sum each n (omega arith) x below
+from_powers f g m f_sum g_sum each (suc n) le x lt = elim (cases_lt x (2 ^ n)) [
+  | inl below ↦ from_powers f g m f_sum g_sum each n (omega arith) x below
   | inr above ↦
       let next : suc n ≡ n + 1 = omega arith in
       let double : 2 ^ suc n ≡ 2 ^ n * 2 = ap (λ k. 2 ^ k) next ∙ pow-add 2 n 1 in
@@ -79,41 +79,41 @@ from_powers f g f_sum g_sum each (suc n) le x lt = elim (cases_lt x (2 ^ n)) [
       let whole : bit_xor (1 * 2 ^ n) (x - 2 ^ n) ≡ x = xor_shifted 1 n (x - 2 ^ n) rest ∙ omega arith in
       let parts : bit_xor (2 ^ n) (x - 2 ^ n) ≡ x = ap (λ p. bit_xor p (x - 2 ^ n)) (sym (one-times (2 ^ n))) ∙ whole in
       ap f (sym parts) ∙ f_sum (2 ^ n) (x - 2 ^ n)
-      ∙ ap₂ bit_xor (each n (omega arith)) (from_powers f g f_sum g_sum each n (omega arith) (x - 2 ^ n) rest)
+      ∙ ap₂ bit_xor (each n (omega arith)) (from_powers f g m f_sum g_sum each n (omega arith) (x - 2 ^ n) rest)
       ∙ sym (g_sum (2 ^ n) (x - 2 ^ n)) ∙ ap g parts
 ]
 
-at_each : (f g : ℕ → ℕ) → map f (range_with_len 0 128) ≡ map g (range_with_len 0 128) → (i : ℕ) → i < 128 → f i ≡ g i
-at_each f g e i h =
-    sym (get_or-map-range_with_len f 0 128 i i (f i) h (omega arith))
-    ∙ ap (λ l. get_or l i (f i)) e ∙ get_or-map-range_with_len g 0 128 i i (f i) h (omega arith)
+pub at_each : (n : ℕ) (f g : ℕ → ℕ) → map f (range_with_len 0 n) ≡ map g (range_with_len 0 n) → (i : ℕ) → i < n → f i ≡ g i
+at_each n f g e i h =
+    sym (get_or-map-range_with_len f 0 n i i (f i) h (omega arith))
+    ∙ ap (λ l. get_or l i (f i)) e ∙ get_or-map-range_with_len g 0 n i i (f i) h (omega arith)
 
 -- the block whose last bit alone is set is u^127
 last_power : (i : ℕ) → i < 128 → product 1 (2 ^ i) ≡ times_power 127 (2 ^ i)
 unfolding product terms coefficient times_power times_u
-last_power = at_each (λ i. product 1 (2 ^ i)) (λ i. times_power 127 (2 ^ i)) refl
+last_power = at_each 128 (λ i. product 1 (2 ^ i)) (λ i. times_power 127 (2 ^ i)) refl
 
 product-last : (h : ℕ) → h < 2 ^ 128 → product 1 h ≡ times_power 127 h
 product-last h l =
-    from_powers (product 1) (times_power 127) (product-sum 1) (times_power-xor 127) last_power 128 (omega arith) h l
+    from_powers (product 1) (times_power 127) 128 (product-sum 1) (times_power-xor 127) last_power 128 (omega arith) h l
 
 -- the block whose first bit alone is set is 1
 first_power : (i : ℕ) → i < 128 → product (8 * 2 ^ 124) (2 ^ i) ≡ 2 ^ i
 unfolding product terms coefficient times_power times_u
-first_power = at_each (λ i. product (8 * 2 ^ 124) (2 ^ i)) (λ i. 2 ^ i) refl
+first_power = at_each 128 (λ i. product (8 * 2 ^ 124) (2 ^ i)) (λ i. 2 ^ i) refl
 
 pub product-first : (h : ℕ) → h < 2 ^ 128 → product (8 * 2 ^ 124) h ≡ h
 product-first h l =
-    from_powers (product (8 * 2 ^ 124)) (λ n. n) (product-sum (8 * 2 ^ 124)) (λ a b. refl) first_power 128 (omega arith) h l
+    from_powers (product (8 * 2 ^ 124)) (λ n. n) 128 (product-sum (8 * 2 ^ 124)) (λ a b. refl) first_power 128 (omega arith) h l
 
 -- the block R is u^128
 next_power : (i : ℕ) → i < 128 → product reduction (2 ^ i) ≡ times_power 128 (2 ^ i)
 unfolding product terms coefficient times_power times_u
-next_power = at_each (λ i. product reduction (2 ^ i)) (λ i. times_power 128 (2 ^ i)) refl
+next_power = at_each 128 (λ i. product reduction (2 ^ i)) (λ i. times_power 128 (2 ^ i)) refl
 
 product-reduction : (h : ℕ) → h < 2 ^ 128 → product reduction h ≡ times_power 128 h
 product-reduction h l =
-    from_powers (product reduction) (times_power 128) (product-sum reduction) (times_power-xor 128) next_power 128 (omega arith) h l
+    from_powers (product reduction) (times_power 128) 128 (product-sum reduction) (times_power-xor 128) next_power 128 (omega arith) h l
 
 -- u goes in and out of a product
 reduction-last : (h : ℕ) → h < 2 ^ 128 → product reduction h ≡ times_u (product 1 h)
@@ -124,7 +124,7 @@ times_u-parts : (y : ℕ) → y % 2 ≡ 1 → times_u y ≡ bit_xor (y / 2) redu
 unfolding times_u
 times_u-parts y odd = ap (λ c. bit_xor (y / 2) (c * reduction)) odd
 
-times_u-half : (y : ℕ) → y % 2 ≡ 0 → times_u y ≡ y / 2
+pub times_u-half : (y : ℕ) → y % 2 ≡ 0 → times_u y ≡ y / 2
 unfolding times_u
 times_u-half y even = ap (λ c. bit_xor (y / 2) (c * reduction)) even ∙ xor_zero_r (y / 2)
 
@@ -146,7 +146,7 @@ product-times_u y h y_fits h_fits = elim (cases_lt (y % 2) 1) [
       ∙ sym (times_u-xor (product front h) (product 1 h)) ∙ ap times_u (sym whole)
 ]
 
-product-times_power : (i y h : ℕ) → y < 2 ^ 128 → h < 2 ^ 128 → product (times_power i y) h ≡ times_power i (product y h)
+pub product-times_power : (i y h : ℕ) → y < 2 ^ 128 → h < 2 ^ 128 → product (times_power i y) h ≡ times_power i (product y h)
 unfolding times_power
 product-times_power zero y h y_fits h_fits = refl
 product-times_power (suc i) y h y_fits h_fits =

@@ -1,6 +1,6 @@
 -- GHASH of lists that are joined.
-use Rattle.std.proofs.Common.{◌≡◌, ℕ, ◌-◌, ◌≤◌, List, [], ◌∷◌, ◌++◌, length, take, drop, refl, sym, ap, ap₂, ◌∙◌, arith, bit_xor}
-use Rattle.std.proofs.lemmas.List.{length-drop}
+use Rattle.std.proofs.Common.{◌≡◌, ℕ, zero, suc, ◌+◌, ◌*◌, ◌≤◌, List, [], ◌∷◌, ◌++◌, length, take, drop, refl, sym, ap, ap₂, ◌∙◌, arith, bit_xor}
+use Rattle.std.proofs.lemmas.List.{drop-drop, drop-take, length-drop, length-take-le, take-take}
 use Rattle.gcm_mode.specs.Field.{product}
 use Rattle.gcm_mode.specs.Hash.{block_number, blocks_of, ghash}
 use Rattle.gcm_mode.specs.Private.{ghash_from}
@@ -16,17 +16,29 @@ pub ghash-last : (h : ℕ) (xs : List ℕ) (x : ℕ) → ghash h (xs ++ x ∷ []
 unfolding ghash ghash_from
 ghash-last h xs x = ghash_from-append h 0 xs (x ∷ [])
 
--- two blocks at the front of a byte string
-pub ghash_from-two : (h y hash one two : ℕ) (rest first back second last : List ℕ) → 32 ≤ length rest
-    → first ≡ take 16 rest → back ≡ drop 16 rest → second ≡ take 16 back → last ≡ drop 16 back
-    → one ≡ block_number first → two ≡ block_number second
-    → hash ≡ product (bit_xor (product (bit_xor y one) h) two) h
-    → ghash_from h hash (blocks_of last) ≡ ghash_from h y (blocks_of rest)
-unfolding ghash_from
-ghash_from-two h y hash one two rest first back second last long first_is back_is second_is last_is one_is two_is hash_is =
-    let left : length back ≡ length rest - 16 = ap length back_is ∙ length-drop 16 rest in
-    let front : blocks_of rest ≡ one ∷ blocks_of back =
-    blocks_of-more rest 16 (omega arith) (omega arith) ∙ ap₂ (λ x bytes. x ∷ blocks_of bytes) (sym (one_is ∙ ap block_number first_is)) (sym back_is) in
-    let next : blocks_of back ≡ two ∷ blocks_of last =
-    blocks_of-more back 16 (omega arith) (omega arith) ∙ ap₂ (λ x bytes. x ∷ blocks_of bytes) (sym (two_is ∙ ap block_number second_is)) (sym last_is) in
-    ap (λ x. ghash_from h x (blocks_of last)) hash_is ∙ sym (ap (ghash_from h y) (front ∙ ap (λ xs. one ∷ xs) next))
+no_blocks : (xs bytes : List ℕ) → xs ≡ [] → blocks_of xs ++ blocks_of bytes ≡ blocks_of bytes
+unfolding blocks_of
+no_blocks xs bytes e = ap (λ (ys : List ℕ). blocks_of ys ++ blocks_of bytes) e
+
+-- some whole blocks at the front of a byte string
+blocks_of-front : (n : ℕ) (bytes : List ℕ) → 16 * n ≤ length bytes → blocks_of bytes ≡ blocks_of (take (16 * n) bytes) ++ blocks_of (drop (16 * n) bytes)
+blocks_of-front zero bytes long = sym (no_blocks (take 0 bytes) bytes refl)
+blocks_of-front (suc n) bytes long =
+    let sixteen : 16 * suc n ≡ 16 + 16 * n = omega arith in
+    let rest : List ℕ = drop 16 bytes in
+    let left : 16 * n ≤ length rest = omega (arith, length-drop 16 bytes) in
+    let size : length (take (16 * suc n) bytes) ≡ 16 * suc n = length-take-le (16 * suc n) bytes long in
+    let first : take 16 (take (16 * suc n) bytes) ≡ take 16 bytes = take-take 16 (16 * suc n) bytes (omega arith) in
+    let others : drop 16 (take (16 * suc n) bytes) ≡ take (16 * n) rest = ap (λ (k : ℕ). drop 16 (take k bytes)) sixteen ∙ drop-take 16 (16 * n) bytes in
+    let behind : drop (16 * n) rest ≡ drop (16 * suc n) bytes = drop-drop (16 * n) 16 bytes ∙ ap (λ (k : ℕ). drop k bytes) (sym sixteen) in
+    let whole : blocks_of bytes ≡ block_number (take 16 bytes) ∷ blocks_of rest = blocks_of-more bytes 16 (omega arith) (omega arith) in
+    let front : blocks_of (take (16 * suc n) bytes) ≡ block_number (take 16 bytes) ∷ blocks_of (take (16 * n) rest) =
+    blocks_of-more (take (16 * suc n) bytes) 16 (omega arith) (omega arith) ∙ ap₂ (λ (a b : List ℕ). block_number a ∷ blocks_of b) first others in
+    whole ∙ ap (λ (xs : List ℕ). block_number (take 16 bytes) ∷ xs) (blocks_of-front n rest left ∙ ap (λ (b : List ℕ). blocks_of (take (16 * n) rest) ++ blocks_of b) behind)
+    ∙ sym (ap (λ (xs : List ℕ). xs ++ blocks_of (drop (16 * suc n) bytes)) front)
+
+pub ghash_from-part : (h y hash : ℕ) (rest front back : List ℕ) (n : ℕ) → 16 * n ≤ length rest → front ≡ take (16 * n) rest → back ≡ drop (16 * n) rest
+    → hash ≡ ghash_from h y (blocks_of front) → ghash_from h hash (blocks_of back) ≡ ghash_from h y (blocks_of rest)
+ghash_from-part h y hash rest front back n long front_is back_is hash_is =
+    ap₂ (λ (x : ℕ) (xs : List ℕ). ghash_from h x (blocks_of xs)) (hash_is ∙ ap (λ (xs : List ℕ). ghash_from h y (blocks_of xs)) front_is) back_is
+    ∙ sym (ap (ghash_from h y) (blocks_of-front n rest long) ∙ ghash_from-append h y (blocks_of (take (16 * n) rest)) (blocks_of (drop (16 * n) rest)))

@@ -3,3 +3,6 @@ pub mod Field
 pub mod Hash
 pub mod Gcm
 pub mod Private
+pub mod Pairs
+pub mod Tables
+pub mod Products

@@ -20,8 +20,8 @@ pub fn times_u(value: u128) -> u128
     value >> 1 ^ where_set(value & 1, REDUCTION)
 }
 
-/// The product of two blocks in GF(2^128) (section 6.3), bit by bit, where GHASH looks its products up in
-/// tables.
+/// The product of two blocks in GF(2^128) (section 6.3), bit by bit, where GHASH looks its products up by
+/// shuffles.
 pub fn product(x: u128, y: u128) -> u128
     ensures { result ≡ product_of x y }
 {

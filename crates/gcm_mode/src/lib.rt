@@ -3,20 +3,26 @@
 //! Nothing here takes memory.
 #![tactic(auto)]
 
-ghost use Rattle.std.specs.Prelude.{◌≡◌, ℕ, ◌^◌, ◌<◌, ◌≤◌, ◌↔◌, List, length, IsOk, OnOk, OnErr};
+ghost use Rattle.std.specs.Prelude.{◌≡◌, ℕ, ◌^◌, ◌<◌, ◌≤◌, ◌↔◌, List, bit_xor, length, IsOk, OnOk, OnErr};
+ghost use Rattle.aes_lanes.specs.Bytes.{IsBlock};
 ghost use Rattle.aes_lanes.specs.Cipher.{aes256};
 ghost use Rattle.aes_lanes.specs.Counter.{ctr32, increment32};
-ghost use Rattle.gcm_mode.specs.Hash.{block_bytes};
+ghost use Rattle.gcm_mode.specs.Field.{product as product_of};
+ghost use Rattle.gcm_mode.specs.Hash.{block_bytes, block_number};
 ghost use Rattle.gcm_mode.specs.Gcm.{hash_subkey, hashed, pre_counter, tag_of, sealed, Opens, OpensToNothing};
 
 use aes_lanes::{Block, Cipher, Key256, ctr32_xor, same_bytes};
 use std::marker::Model;
+use std::simd::prelude::*;
 
 mod counter;
 mod field;
 mod hash;
 pub mod laws;
+mod pairs;
 mod products;
+mod tables;
+mod vectors;
 
 use counter::{next_counter, short_counter};
 pub use field::product;
@@ -27,7 +33,7 @@ use products::Powers;
 #[derive(Clone, Copy, Debug, PartialEq, Eq)]
 pub struct BadTag;
 
-/// GCM under one AES-256 key, with 16 kilobytes of tables for it. A clause sees the key's 32 bytes.
+/// GCM under one AES-256 key, with four kilobytes of tables for it. A clause sees the key's 32 bytes.
 #[derive(Drop)]
 pub struct Gcm {
     cipher: Key256,
@@ -49,7 +55,7 @@ impl Gcm {
     {
         let mut blocks = [[0; 16]];
         key.encrypt_blocks(&mut blocks);
-        let powers = Powers::new(u128::from_be_bytes(blocks[0]));
+        let powers = Powers::new(&blocks[0]);
         Gcm {
             cipher: key,
             powers,
@@ -106,8 +112,7 @@ impl Gcm {
         if iv.len() == 12 {
             return short_counter(iv);
         }
-        let hash = hash_on(&self.powers, 0, iv);
-        self.powers.times(hash ^ bit_length(iv)).to_be_bytes()
+        self.last_step(hash_on(&self.powers, u8x16::splat(0), iv), bit_length(iv))
     }
 
     // Encrypts or decrypts a text whose pre-counter block is `counter`.
@@ -136,8 +141,21 @@ impl Gcm {
         requires text_within { length text.now ≤ 2 ^ 32 }
         ensures { result ≡ block_bytes (hashed (aes256 self.now) ad.now text.now) }
     {
-        let hash = hash_on(&self.powers, hash_on(&self.powers, 0, ad), text);
+        let hash = hash_on(
+            &self.powers,
+            hash_on(&self.powers, u8x16::splat(0), ad),
+            text,
+        );
         let lengths = (bit_length(ad) << 64) + bit_length(text);
-        self.powers.times(hash ^ lengths).to_be_bytes()
+        self.last_step(hash, lengths)
+    }
+
+    // GHASH goes on from `hash` over a block of lengths, and ends.
+    fn last_step(&self, hash: u8x16, lengths: u128) -> Block
+        requires { IsBlock hash }
+        ensures { result ≡ block_bytes (product_of (bit_xor (block_number hash) lengths) (hash_subkey (aes256 self.now))) }
+    {
+        let block = u8x16::from_array(lengths.to_be_bytes());
+        self.powers.times(hash ^ block).to_array()
     }
 }

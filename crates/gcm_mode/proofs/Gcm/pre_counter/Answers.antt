@@ -1,14 +1,20 @@
-use Rattle.std.proofs.Common.{sym, ◌∙◌}
-use Rattle.gcm_mode.specs.Hash.{block_bytes}
+use Rattle.std.proofs.Common.{sym, refl, ap, ◌∙◌, lit<}
+use Rattle.aes_lanes.specs.Cipher.{aes256}
+use Rattle.gcm_mode.specs.Gcm.{hash_subkey}
+use Rattle.gcm_mode.specs.Hash.{blocks_of}
+use Rattle.gcm_mode.specs.Private.{ghash_from}
+use Rattle.gcm_mode.proofs.Lanes.{IsBlock-splat, block_number-none}
 use Rattle.gcm_mode.proofs.Modes.{pre_counter-short, pre_counter-hashed}
 use Rattle.gcm_mode.proofs.Gcm.pre_counter.Goals as goal
 
 pub returns-then-iv-eq12 : goal.returns-then-iv-eq12
 returns-then-iv-eq12 c = c.short_counter.ensures ∙ sym (pre_counter-short _ _ c.if-iv-eq12.true)
 
+pub hash_on-requires : goal.hash_on-requires
+hash_on-requires c = IsBlock-splat 0 (lit< tt)
+
 pub returns : goal.returns
-unfolding block_bytes
 returns c =
     let subkey = rw c.self.view_is at c.self.invariant in
-    c.to_be_bytes.ensures
-    ∙ rw (c.times.ensures, c.bit_length.ensures) (pre_counter-hashed _ _ _ _ c.if-iv-eq12.false subkey c.hash_on-hash.ensures)
+    let hash = (rw subkey at c.hash_on.ensures.steps) ∙ ap (λ y. ghash_from (hash_subkey (aes256 c.args.self.now)) y (blocks_of c.args.iv.now)) block_number-none in
+    c.last_step.ensures ∙ rw c.bit_length.ensures (pre_counter-hashed _ _ _ _ c.if-iv-eq12.false refl hash)

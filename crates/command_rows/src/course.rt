@@ -168,9 +168,9 @@ impl Course {
         self.stage.is_hit()
     }
 
-    /// What was said and is to be compared as a whole.
-    pub fn kept(&self) -> &str {
-        self.kept.as_str()
+    /// Takes what was said and is to be compared as a whole.
+    pub fn take_kept(&mut self) -> String {
+        std::mem::replace(&mut self.kept, String::new(self.alloc))
     }
 
     /// An expected line as it is said; `None` where it can't be read.

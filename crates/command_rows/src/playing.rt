@@ -82,7 +82,7 @@ fn names_in(alloc: Global, fors: &[For], play: usize) -> Result<(Names, String),
 }
 
 // Plays the lines of a row.
-fn play(
+fn course_of(
     alloc: Global,
     lines: &[Line],
     names: Names,
@@ -145,26 +145,83 @@ fn least(groups: &[Line]) -> u64 {
     least
 }
 
-// What is wrong with what a sweep came to, where so many calls failed.
-fn compared(
-    alloc: Global,
-    course: &Course,
-    groups: &[Line],
-    found: &str,
-    failed: u64,
-) -> Result<Option<String>, AllocError> {
-    let expected = expected(alloc, course, groups)?;
-    let expected = expected.as_str();
-    if expected == found && least(groups) <= failed {
-        return Ok(None);
-    }
-    let text = format!(in alloc;
-        "  expected:\n{expected}  found, where {failed} calls fail:\n{found}"
-    )?;
-    Ok(Some(text))
+// What a playing of a sweep came to, where one call failed in it.
+#[derive(Drop)]
+struct Played {
+    // What was said and is to be compared as a whole.
+    kept: String,
+    // What is wrong, where anything is.
+    wrong: Option<String>,
+    // Whether the call that fails was made; the groups that are expected, where it wasn't.
+    is_hit: bool,
+    expected: String,
 }
 
-// What is wrong with a sweep. Neighbouring calls that come to the same are a group.
+// Plays a sweep with one failing call.
+fn play_failing(
+    alloc: Global,
+    lines: &[Line],
+    groups: &[Line],
+    names: Names,
+    turn: u64,
+) -> Result<Played, AllocError> {
+    let mut course = course_of(alloc, lines, names, true, turn)?;
+    let is_hit = course.is_hit();
+    let expected = if is_hit {
+        String::new(alloc)
+    } else {
+        expected(alloc, &course, groups)?
+    };
+    Ok(Played {
+        wrong: course.take_wrong(),
+        kept: course.take_kept(),
+        is_hit,
+        expected,
+    })
+}
+
+// The groups that a sweep has come to so far, and what its last play came to.
+#[derive(Drop)]
+struct Found {
+    text: String,
+    last: Option<String>,
+}
+
+impl Found {
+    // Adds what a play came to. Neighbouring calls that come to the same are a group.
+    fn add(&mut self, kept: String) -> Result<(), AllocError> {
+        let is_same = match &self.last {
+            Some(last) => last.as_str() == kept.as_str(),
+            None => false,
+        };
+        if !is_same {
+            push_group(&mut self.text, "group", kept.as_str())?;
+        }
+        self.last = Some(kept);
+        Ok(())
+    }
+
+    // What is wrong with a sweep whose last play this is, where so many calls failed before.
+    fn end(
+        &mut self,
+        alloc: Global,
+        played: &Played,
+        groups: &[Line],
+        failed: u64,
+    ) -> Result<Option<String>, AllocError> {
+        push_group(&mut self.text, "without", played.kept.as_str())?;
+        let (expected, found) = (played.expected.as_str(), self.text.as_str());
+        if expected == found && least(groups) <= failed {
+            return Ok(None);
+        }
+        let text = format!(in alloc;
+            "  expected:\n{expected}  found, where {failed} calls fail:\n{found}"
+        )?;
+        Ok(Some(text))
+    }
+}
+
+// What is wrong with a sweep.
 fn sweep(
     alloc: Global,
     lines: &[Line],
@@ -172,28 +229,21 @@ fn sweep(
     fors: &[For],
     place: usize,
 ) -> Result<Option<String>, AllocError> {
-    let mut found = String::new(alloc);
-    let mut last = String::new(alloc);
+    let mut found = Found {
+        text: String::new(alloc),
+        last: None,
+    };
     for turn in 1..MOST_TURNS {
         let (names, _) = names_in(alloc, fors, place)?;
-        let mut course = play(alloc, lines, names, true, turn)?;
-        if let Some(wrong) = course.take_wrong() {
+        let played = play_failing(alloc, lines, groups, names, turn)?;
+        if let Some(wrong) = &played.wrong {
+            let wrong = wrong.as_str();
             return Ok(Some(format!(in alloc; "  call {turn}\n{wrong}")?));
         }
-        if !course.is_hit() {
-            push_group(&mut found, "without", course.kept())?;
-            return compared(
-                alloc,
-                &course,
-                groups,
-                found.as_str(),
-                turn.saturating_sub(1),
-            );
+        if !played.is_hit {
+            return found.end(alloc, &played, groups, turn.saturating_sub(1));
         }
-        if turn == 1 || course.kept() != last.as_str() {
-            push_group(&mut found, "group", course.kept())?;
-        }
-        last = String::from_str(alloc, course.kept())?;
+        found.add(played.kept)?;
     }
     Ok(Some(String::from_str(alloc, "  calls without end\n")?))
 }
@@ -214,7 +264,7 @@ fn judge_play(
         return Ok(Some(String::from_str(alloc, "  groups in a row\n")?));
     }
     let (names, _) = names_in(alloc, fors, place)?;
-    let mut course = play(alloc, lines, names, false, 0)?;
+    let mut course = course_of(alloc, lines, names, false, 0)?;
     Ok(course.take_wrong())
 }
 

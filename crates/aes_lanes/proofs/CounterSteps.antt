@@ -83,17 +83,17 @@ IsDoneTo-next image next start text bytes new stream k same done e xored = recor
   after = λ i above. xored.after i (omega arith) ∙ done.after i (omega arith);
 }
 
--- eight more blocks
-pub IsDoneTo-eight : (image next : List ℕ → List ℕ) (start text bytes new : List ℕ) (blocks : List (List ℕ)) (k : ℕ)
+-- sixteen more blocks
+pub IsDoneTo-sixteen : (image next : List ℕ → List ℕ) (start text bytes new : List ℕ) (blocks : List (List ℕ)) (k : ℕ)
     → length bytes ≡ length text → IsDoneTo image next start text bytes k
-    → ((i : ℕ) → i < 8 → get_or blocks i [] ≡ image (iterate next (k + i) start)) → AreXoredAt (16 * k) 8 blocks bytes new
-    → IsDoneTo image next start text new (k + 8)
-IsDoneTo-eight image next start text bytes new blocks k same done each xored = record {
+    → ((i : ℕ) → i < 16 → get_or blocks i [] ≡ image (iterate next (k + i) start)) → AreXoredAt (16 * k) 16 blocks bytes new
+    → IsDoneTo image next start text new (k + 16)
+IsDoneTo-sixteen image next start text bytes new blocks k same done each xored = record {
   before = λ i below within. elim (cases_lt i (16 * k)) [
     | inl old ↦ xored.before i old ∙ done.before i old within
     | inr here ↦
         let nth : ℕ = (i - 16 * k) / 16 in
-        let few : nth < 8 = omega arith in
+        let few : nth < 16 = omega arith in
         let block : i / 16 ≡ k + nth = omega arith in
         let back : 16 * k + 16 * nth + i % 16 ≡ i = omega arith in
         let e = xored.inside nth (i % 16) few (omega arith) in

@@ -56,10 +56,10 @@ abbrev pub chosen : {A : Type 0} → A → List ℕ → List A → List A
 chosen none places all = map (λ i. get_or all i none) places
 
 unfoldable pub zeros : List ℕ
-zeros = replicate 16 0
+zeros = replicate 32 0
 
 unfoldable pub ones : List ℕ
-ones = replicate 16 255
+ones = replicate 32 255
 
 -- what gates are given: eight values, the highest first, and one of ones
 abbrev pub given_bits : List ℕ → List ℕ
@@ -111,20 +111,20 @@ HaveBits-more p k plane b planes bits first rest = record { each = more } where
   more zero = first
   more (suc i) = rest.each i
 
-HasBit-sum : (p k : ℕ) (u v : List ℕ) (a b : ℕ) → p < 16 → HasBit p k u a → HasBit p k v b → HasBit p k (zip2 bit_xor u v) (bit_xor a b)
+HasBit-sum : (p k : ℕ) (u v : List ℕ) (a b : ℕ) → p < 32 → HasBit p k u a → HasBit p k v b → HasBit p k (zip2 bit_xor u v) (bit_xor a b)
 HasBit-sum p k u v a b lt f g = record {
   plane = IsPlane-sum u v f.plane g.plane;
   same = bit-sum p k u v lt f.plane g.plane ∙ ap₂ bit_xor f.same g.same;
 }
 
-HasBit-both : (p k : ℕ) (u v : List ℕ) (a b : ℕ) → p < 16 → HasBit p k u a → HasBit p k v b → HasBit p k (zip2 bit_and u v) (bit_and a b)
+HasBit-both : (p k : ℕ) (u v : List ℕ) (a b : ℕ) → p < 32 → HasBit p k u a → HasBit p k v b → HasBit p k (zip2 bit_and u v) (bit_and a b)
 HasBit-both p k u v a b lt f g = record {
   plane = IsPlane-both u v f.plane g.plane;
   same = bit-both p k u v lt f.plane g.plane ∙ ap₂ bit_and f.same g.same;
 }
 
 -- gates keep planes and bits together
-pub values-bits : (p k : ℕ) → p < 16 → (gates : List Gate) (planes : List (List ℕ)) (bits : List ℕ) → HaveBits p k planes bits
+pub values-bits : (p k : ℕ) → p < 32 → (gates : List Gate) (planes : List (List ℕ)) (bits : List ℕ) → HaveBits p k planes bits
     → HaveBits p k (values (zip2 bit_xor) (zip2 bit_and) zeros gates planes) (values bit_xor bit_and 0 gates bits)
 unfolding values
 values-bits p k lt [] planes bits have = have
@@ -133,18 +133,18 @@ values-bits p k lt (sum i j ∷ gates) planes bits have =
 values-bits p k lt (both i j ∷ gates) planes bits have =
     values-bits p k lt gates _ _ (HaveBits-more p k _ _ planes bits (HasBit-both p k _ _ _ _ lt (have.each i) (have.each j)) have)
 
-HasBit-splat : (p k n b : ℕ) → n < 256 → p < 16 → n / 2 ^ k % 2 ≡ b → HasBit p k (replicate 16 n) b
+HasBit-splat : (p k n b : ℕ) → n < 256 → p < 32 → n / 2 ^ k % 2 ≡ b → HasBit p k (replicate 32 n) b
 HasBit-splat p k n b byte lt is = record {
   plane = IsPlane-splat n byte;
-  same = ap (λ m. m / 2 ^ k % 2) (get_or-replicate 16 p n 0 lt) ∙ is;
+  same = ap (λ m. m / 2 ^ k % 2) (get_or-replicate 32 p n 0 lt) ∙ is;
 }
 
-pub HasBit-zeros : (p k : ℕ) → p < 16 → HasBit p k zeros 0
+pub HasBit-zeros : (p k : ℕ) → p < 32 → HasBit p k zeros 0
 unfolding zeros
 HasBit-zeros p k lt = HasBit-splat p k 0 0 (lit< tt) lt (ap (λ m. m % 2) (zero-div (2 ^ k)))
 
 -- what the circuit is given
-given-bits : (p k : ℕ) (p0 p1 p2 p3 p4 p5 p6 p7 : List ℕ) → p < 16 → k < 8
+given-bits : (p k : ℕ) (p0 p1 p2 p3 p4 p5 p6 p7 : List ℕ) → p < 32 → k < 8
     → IsPlane p0 → IsPlane p1 → IsPlane p2 → IsPlane p3 → IsPlane p4 → IsPlane p5 → IsPlane p6 → IsPlane p7
     → HaveBits p k (p7 ∷ p6 ∷ p5 ∷ p4 ∷ p3 ∷ p2 ∷ p1 ∷ p0 ∷ ones ∷ [])
     (bit p k p7 ∷ bit p k p6 ∷ bit p k p5 ∷ bit p k p4 ∷ bit p k p3 ∷ bit p k p2 ∷ bit p k p1 ∷ bit p k p0 ∷ 1 ∷ [])
@@ -177,14 +177,14 @@ module _ (gates : List Gate) (i0 i1 i2 i3 i4 i5 i6 i7 : ℕ) (f : ℕ → ℕ)
   abbrev new : List (List ℕ)
   new = chosen zeros (i0 ∷ i1 ∷ i2 ∷ i3 ∷ i4 ∷ i5 ∷ i6 ∷ i7 ∷ []) all
 
-  value : (p k : ℕ) → p < 16 → k < 8 → (i : ℕ)
+  value : (p k : ℕ) → p < 32 → k < 8 → (i : ℕ)
       → HasBit p k (get_or all i zeros) (get_or (values bit_xor bit_and 0 gates (given_bits (map (bit p k) old))) i 0)
   value p k lt lk = (values-bits p k lt gates _ _ (given-bits p k p0 p1 p2 p3 p4 p5 p6 p7 lt lk a b c d e f0 g h)).each
 
   pub IsPlane-gates : (i : ℕ) → IsPlane (get_or all i zeros)
   IsPlane-gates i = (value 0 0 (lit< tt) (lit< tt) i).plane
 
-  pub byte_at-gates : (k p : ℕ) → k < 8 → p < 16 → byte_at new k p ≡ f (byte_at old k p)
+  pub byte_at-gates : (k p : ℕ) → k < 8 → p < 32 → byte_at new k p ≡ f (byte_at old k p)
   unfolding by_gates
   byte_at-gates k p lk lt =
       let v = value p k lt lk in

@@ -9,22 +9,22 @@ use Rattle.std.proofs.lemmas.Simd.{get_or-zip2, length-zip2, map-map}
 use lib.Bits.{xor_lt, xor_mod, xor_shr, and_le_l}
 use Rattle.std.proofs.lemmas.List.FromFn.{get_or-map-range_with_len}
 use Rattle.aes_lanes.specs.Laws.Field.{at_each}
-use Rattle.aes_lanes.specs.Planes.{IsPlane, bit, byte_of, byte_at, block_of, place}
+use Rattle.aes_lanes.specs.Planes.{IsPlane, bit, byte_of, byte_at, block_of, lane_block, place}
 
 -- a function of bytes to bytes, on two planes
 pub IsPlane-zip2 : (f : ℕ → ℕ → ℕ) → ((x y : ℕ) → x < 256 → y < 256 → f x y < 256)
     → (u v : List ℕ) → IsPlane u → IsPlane v → IsPlane (zip2 f u v)
 IsPlane-zip2 f byte u v a b =
-    let same : length (zip2 f u v) ≡ length u = length-zip2 f u v (a.sixteen ∙ sym b.sixteen) in
+    let same : length (zip2 f u v) ≡ length u = length-zip2 f u v (a.long ∙ sym b.long) in
     record {
-      sixteen = same ∙ a.sixteen;
-      bytes = λ p. elim (cases_lt p 16) [
+      long = same ∙ a.long;
+      bytes = λ p. elim (cases_lt p 32) [
         | inl lt ↦
-            let in_u : p < length u = omega (arith, a.sixteen) in
-            let in_v : p < length v = omega (arith, b.sixteen) in
+            let in_u : p < length u = omega (arith, a.long) in
+            let in_v : p < length v = omega (arith, b.long) in
             rw (get_or-zip2 f u v p 0 0 0 in_u in_v) (byte _ _ (a.bytes p) (b.bytes p))
         | inr ge ↦
-            let past : length (zip2 f u v) ≤ p = omega (arith, same, a.sixteen) in
+            let past : length (zip2 f u v) ≤ p = omega (arith, same, a.long) in
             rw (get_or_past (zip2 f u v) p 0 past) (lit< tt)
       ];
     }
@@ -36,14 +36,14 @@ pub IsPlane-both : (u v : List ℕ) → IsPlane u → IsPlane v → IsPlane (zip
 IsPlane-both = IsPlane-zip2 bit_and (λ x y hx hy. let below = and_le_l x y in omega (arith, below))
 
 -- the same byte sixteen times
-pub IsPlane-splat : (n : ℕ) → n < 256 → IsPlane (replicate 16 n)
+pub IsPlane-splat : (n : ℕ) → n < 256 → IsPlane (replicate 32 n)
 IsPlane-splat n byte = record {
-  sixteen = length-replicate {A = ℕ} 16 n;
-  bytes = λ p. elim (cases_lt p 16) [
-    | inl below ↦ rw (get_or-replicate 16 p n 0 below) byte
+  long = length-replicate {A = ℕ} 32 n;
+  bytes = λ p. elim (cases_lt p 32) [
+    | inl below ↦ rw (get_or-replicate 32 p n 0 below) byte
     | inr ge ↦
-        let past : length (replicate {A = ℕ} 16 n) ≤ p = omega (arith, length-replicate {A = ℕ} 16 n) in
-        rw (get_or_past (replicate 16 n) p 0 past) (lit< tt)
+        let past : length (replicate {A = ℕ} 32 n) ≤ p = omega (arith, length-replicate {A = ℕ} 32 n) in
+        rw (get_or_past (replicate 32 n) p 0 past) (lit< tt)
   ];
 }
 
@@ -54,16 +54,16 @@ bit_of-xor k x y = ap (λ n. n % 2) (xor_shr x y k) ∙ xor_mod (x / 2 ^ k) (y /
 pub bit_of-and : (k x y : ℕ) → bit_and x y / 2 ^ k % 2 ≡ bit_and (x / 2 ^ k % 2) (y / 2 ^ k % 2)
 bit_of-and k x y = ap (λ n. n % 2) (and_shr x y k) ∙ and_mod (x / 2 ^ k) (y / 2 ^ k) 1
 
-pub bit-sum : (p k : ℕ) (u v : List ℕ) → p < 16 → IsPlane u → IsPlane v → bit p k (zip2 bit_xor u v) ≡ bit_xor (bit p k u) (bit p k v)
+pub bit-sum : (p k : ℕ) (u v : List ℕ) → p < 32 → IsPlane u → IsPlane v → bit p k (zip2 bit_xor u v) ≡ bit_xor (bit p k u) (bit p k v)
 bit-sum p k u v lt a b =
-    let in_u : p < length u = omega (arith, a.sixteen) in
-    let in_v : p < length v = omega (arith, b.sixteen) in
+    let in_u : p < length u = omega (arith, a.long) in
+    let in_v : p < length v = omega (arith, b.long) in
     ap (λ n. n / 2 ^ k % 2) (get_or-zip2 bit_xor u v p 0 0 0 in_u in_v) ∙ bit_of-xor k (slice_index u p) (slice_index v p)
 
-pub bit-both : (p k : ℕ) (u v : List ℕ) → p < 16 → IsPlane u → IsPlane v → bit p k (zip2 bit_and u v) ≡ bit_and (bit p k u) (bit p k v)
+pub bit-both : (p k : ℕ) (u v : List ℕ) → p < 32 → IsPlane u → IsPlane v → bit p k (zip2 bit_and u v) ≡ bit_and (bit p k u) (bit p k v)
 bit-both p k u v lt a b =
-    let in_u : p < length u = omega (arith, a.sixteen) in
-    let in_v : p < length v = omega (arith, b.sixteen) in
+    let in_u : p < length u = omega (arith, a.long) in
+    let in_v : p < length v = omega (arith, b.long) in
     ap (λ n. n / 2 ^ k % 2) (get_or-zip2 bit_and u v p 0 0 0 in_u in_v) ∙ bit_of-and k (slice_index u p) (slice_index v p)
 
 pub bit-lt : (n : ℕ) → n % 2 < 2
@@ -94,18 +94,43 @@ eight_same ea eb ec ed ee ef eg eh =
     ap₂ ◌∷◌ ea (ap₂ ◌∷◌ eb (ap₂ ◌∷◌ ec (ap₂ ◌∷◌ ed (ap₂ ◌∷◌ ee (ap₂ ◌∷◌ ef (ap₂ ◌∷◌ eg (ap (λ x. x ∷ []) eh)))))))
 
 -- the blocks of eight planes whose bytes are a function of those of others
-pub block_of-map : (f : ℕ → ℕ) (new old : List (List ℕ)) (k : ℕ) → ((p : ℕ) → p < 16 → byte_at new k p ≡ f (byte_at old k p))
+pub block_of-map : (f : ℕ → ℕ) (new old : List (List ℕ)) (k : ℕ) → ((p : ℕ) → p < 32 → byte_at new (k / 2) p ≡ f (byte_at old (k / 2) p))
     → block_of new k ≡ map f (block_of old k)
-unfolding block_of
+unfolding block_of lane_block
 block_of-map f new old k each =
-    range-agree (λ j. byte_at new k (place j)) (λ j. f (byte_at old k (place j))) 0 16 (λ j lt. each (place j) (omega arith))
-    ∙ sym (map-map f (λ j. byte_at old k (place j)) (range_with_len 0 16))
+    range-agree (λ j. byte_at new (k / 2) (16 * (k % 2) + place j)) (λ j. f (byte_at old (k / 2) (16 * (k % 2) + place j))) 0 16 (λ j lt. each (16 * (k % 2) + place j) (omega arith))
+    ∙ sym (map-map f (λ j. byte_at old (k / 2) (16 * (k % 2) + place j)) (range_with_len 0 16))
 
--- functions that agree on sixteen places, from their tables
+-- functions that agree on sixteen places, and on both lanes, from their tables
 pub sixteen : {A : Type 0} (f g : ℕ → A) → map f (range_with_len 0 16) ≡ map g (range_with_len 0 16) → (p : ℕ) → p < 16 → f p ≡ g p
 sixteen f g e p lt =
     sym (get_or-map-range_with_len f 0 16 p p (f p) lt (omega arith))
     ∙ ap (λ l. get_or l p (f p)) e ∙ get_or-map-range_with_len g 0 16 p p (f p) lt (omega arith)
+
+pub both_lanes : {A : Type 0} (f g : ℕ → A) → map f (range_with_len 0 32) ≡ map g (range_with_len 0 32) → (p : ℕ) → p < 32 → f p ≡ g p
+both_lanes f g e p lt =
+    sym (get_or-map-range_with_len f 0 32 p p (f p) lt (omega arith))
+    ∙ ap (λ l. get_or l p (f p)) e ∙ get_or-map-range_with_len g 0 32 p p (f p) lt (omega arith)
+
+-- a fact of each of sixteen blocks
+pub each_block : (P : ℕ → Type 0) → P 0 → P 1 → P 2 → P 3 → P 4 → P 5 → P 6 → P 7 → P 8 → P 9 → P 10 → P 11 → P 12 → P 13 → P 14 → P 15 → (k : ℕ) → k < 16 → P k
+each_block P a b c d e f g h i j l m n o q r zero lt = a
+each_block P a b c d e f g h i j l m n o q r (suc zero) lt = b
+each_block P a b c d e f g h i j l m n o q r (suc (suc zero)) lt = c
+each_block P a b c d e f g h i j l m n o q r (suc (suc (suc zero))) lt = d
+each_block P a b c d e f g h i j l m n o q r (suc (suc (suc (suc zero)))) lt = e
+each_block P a b c d e f g h i j l m n o q r (suc (suc (suc (suc (suc zero))))) lt = f
+each_block P a b c d e f g h i j l m n o q r (suc (suc (suc (suc (suc (suc zero)))))) lt = g
+each_block P a b c d e f g h i j l m n o q r (suc (suc (suc (suc (suc (suc (suc zero))))))) lt = h
+each_block P a b c d e f g h i j l m n o q r (suc (suc (suc (suc (suc (suc (suc (suc zero)))))))) lt = i
+each_block P a b c d e f g h i j l m n o q r (suc (suc (suc (suc (suc (suc (suc (suc (suc zero))))))))) lt = j
+each_block P a b c d e f g h i j l m n o q r (suc (suc (suc (suc (suc (suc (suc (suc (suc (suc zero)))))))))) lt = l
+each_block P a b c d e f g h i j l m n o q r (suc (suc (suc (suc (suc (suc (suc (suc (suc (suc (suc zero))))))))))) lt = m
+each_block P a b c d e f g h i j l m n o q r (suc (suc (suc (suc (suc (suc (suc (suc (suc (suc (suc (suc zero)))))))))))) lt = n
+each_block P a b c d e f g h i j l m n o q r (suc (suc (suc (suc (suc (suc (suc (suc (suc (suc (suc (suc (suc zero))))))))))))) lt = o
+each_block P a b c d e f g h i j l m n o q r (suc (suc (suc (suc (suc (suc (suc (suc (suc (suc (suc (suc (suc (suc zero)))))))))))))) lt = q
+each_block P a b c d e f g h i j l m n o q r (suc (suc (suc (suc (suc (suc (suc (suc (suc (suc (suc (suc (suc (suc (suc zero))))))))))))))) lt = r
+each_block P a b c d e f g h i j l m n o q r (suc (suc (suc (suc (suc (suc (suc (suc (suc (suc (suc (suc (suc (suc (suc (suc k)))))))))))))))) lt = absurd (omega arith)
 
 -- the bits of a byte, the lowest first
 unfoldable pub bits_of : ℕ → List ℕ

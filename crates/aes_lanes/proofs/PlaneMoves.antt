@@ -1,5 +1,5 @@
 -- ShiftRows, MixColumns and AddRoundKey on planes.
-use Rattle.std.proofs.Common.{◌≡◌, ℕ, zero, suc, ◌+◌, ◌/◌, ◌%◌, ◌^◌, ◌<◌, ◌≤◌, List, [], ◌∷◌, ◌++◌, map, length, get_or, bit_xor, slice_index, refl, sym, ap, ap₂, ◌∙◌, arith, inl, inr, lit<}
+use Rattle.std.proofs.Common.{◌≡◌, ℕ, zero, suc, ◌+◌, ◌*◌, ◌/◌, ◌%◌, ◌^◌, ◌<◌, ◌≤◌, List, [], ◌∷◌, ◌++◌, map, length, get_or, bit_xor, slice_index, refl, sym, ap, ap₂, ◌∙◌, arith, inl, inr, lit<}
 use Rattle.std.specs.Simd.Lanes.{zip2, pick_l, all_below}
 use Rattle.std.specs.List.{range_with_len}
 use Rattle.std.proofs.lemmas.List.{get_or_past, get_or-map, length-map}
@@ -11,38 +11,46 @@ use Rattle.aes_lanes.specs.Bytes.{xor_bytes}
 use Rattle.aes_lanes.specs.Field.{xtimes, partial_product, multiply}
 use Rattle.aes_lanes.specs.Rounds.{sum_of, column_product, shift_rows, mix_columns, inverse_shift_rows, add_round_key}
 use Rattle.aes_lanes.specs.Laws.Field.{at_each, multiply-additive}
-use Rattle.aes_lanes.specs.Planes.{IsPlane, bit, byte_of, byte_at, block_of, place}
-use Rattle.aes_lanes.proofs.PlaneBits.{IsPlane-sum, bit-sum, bits-lt, eight_same, eight_lt, byte_at-lt, range-agree, sixteen, bits_of, on_bits, byte_of-xor}
+use Rattle.aes_lanes.specs.Planes.{IsPlane, bit, byte_of, byte_at, block_of, lane_block, place}
+use Rattle.aes_lanes.proofs.PlaneBits.{IsPlane-sum, bit-sum, bits-lt, eight_same, eight_lt, byte_at-lt, range-agree, both_lanes, bits_of, on_bits, byte_of-xor}
 
 -- the lanes of a vector in other places, as `swizzle` gives them
 abbrev pub moved : List ℕ → List ℕ → List ℕ
 moved places v = pick_l 0 (v ++ v) places
 
 abbrev pub turn : List ℕ
-turn = 4 ∷ 5 ∷ 6 ∷ 7 ∷ 8 ∷ 9 ∷ 10 ∷ 11 ∷ 12 ∷ 13 ∷ 14 ∷ 15 ∷ 0 ∷ 1 ∷ 2 ∷ 3 ∷ []
+turn =
+    4 ∷ 5 ∷ 6 ∷ 7 ∷ 8 ∷ 9 ∷ 10 ∷ 11 ∷ 12 ∷ 13 ∷ 14 ∷ 15 ∷ 0 ∷ 1 ∷ 2 ∷ 3
+    ∷ 20 ∷ 21 ∷ 22 ∷ 23 ∷ 24 ∷ 25 ∷ 26 ∷ 27 ∷ 28 ∷ 29 ∷ 30 ∷ 31 ∷ 16 ∷ 17 ∷ 18 ∷ 19 ∷ []
 
 abbrev pub half_turn : List ℕ
-half_turn = 8 ∷ 9 ∷ 10 ∷ 11 ∷ 12 ∷ 13 ∷ 14 ∷ 15 ∷ 0 ∷ 1 ∷ 2 ∷ 3 ∷ 4 ∷ 5 ∷ 6 ∷ 7 ∷ []
+half_turn =
+    8 ∷ 9 ∷ 10 ∷ 11 ∷ 12 ∷ 13 ∷ 14 ∷ 15 ∷ 0 ∷ 1 ∷ 2 ∷ 3 ∷ 4 ∷ 5 ∷ 6 ∷ 7
+    ∷ 24 ∷ 25 ∷ 26 ∷ 27 ∷ 28 ∷ 29 ∷ 30 ∷ 31 ∷ 16 ∷ 17 ∷ 18 ∷ 19 ∷ 20 ∷ 21 ∷ 22 ∷ 23 ∷ []
 
 abbrev pub shift : List ℕ
-shift = 0 ∷ 1 ∷ 2 ∷ 3 ∷ 5 ∷ 6 ∷ 7 ∷ 4 ∷ 10 ∷ 11 ∷ 8 ∷ 9 ∷ 15 ∷ 12 ∷ 13 ∷ 14 ∷ []
+shift =
+    0 ∷ 1 ∷ 2 ∷ 3 ∷ 5 ∷ 6 ∷ 7 ∷ 4 ∷ 10 ∷ 11 ∷ 8 ∷ 9 ∷ 15 ∷ 12 ∷ 13 ∷ 14
+    ∷ 16 ∷ 17 ∷ 18 ∷ 19 ∷ 21 ∷ 22 ∷ 23 ∷ 20 ∷ 26 ∷ 27 ∷ 24 ∷ 25 ∷ 31 ∷ 28 ∷ 29 ∷ 30 ∷ []
 
 abbrev pub unshift : List ℕ
-unshift = 0 ∷ 1 ∷ 2 ∷ 3 ∷ 7 ∷ 4 ∷ 5 ∷ 6 ∷ 10 ∷ 11 ∷ 8 ∷ 9 ∷ 13 ∷ 14 ∷ 15 ∷ 12 ∷ []
+unshift =
+    0 ∷ 1 ∷ 2 ∷ 3 ∷ 7 ∷ 4 ∷ 5 ∷ 6 ∷ 10 ∷ 11 ∷ 8 ∷ 9 ∷ 13 ∷ 14 ∷ 15 ∷ 12
+    ∷ 16 ∷ 17 ∷ 18 ∷ 19 ∷ 23 ∷ 20 ∷ 21 ∷ 22 ∷ 26 ∷ 27 ∷ 24 ∷ 25 ∷ 29 ∷ 30 ∷ 31 ∷ 28 ∷ []
 
-module _ (places : List ℕ) (long : length places ≡ 16) (within : T (all_below 16 places)) where
-  pub slice_index-moved : (v : List ℕ) (p : ℕ) → IsPlane v → p < 16 → slice_index (moved places v) p ≡ slice_index v (get_or places p 0)
+module _ (places : List ℕ) (long : length places ≡ 32) (within : T (all_below 32 places)) where
+  pub slice_index-moved : (v : List ℕ) (p : ℕ) → IsPlane v → p < 32 → slice_index (moved places v) p ≡ slice_index v (get_or places p 0)
   slice_index-moved v p plane lt =
       let in_places : p < length places = omega arith in
-      ap (λ l. slice_index l p) (pick_l_left 0 v v 16 places plane.sixteen within)
+      ap (λ l. slice_index l p) (pick_l_left 0 v v 32 places plane.long within)
       ∙ get_or-map (λ k. get_or v k 0) places p 0 0 in_places
 
   pub IsPlane-moved : (v : List ℕ) → IsPlane v → IsPlane (moved places v)
   IsPlane-moved v plane =
-      let same : length (moved places v) ≡ 16 = length-map places (λ k. get_or (v ++ v) k 0) ∙ long in
+      let same : length (moved places v) ≡ 32 = length-map places (λ k. get_or (v ++ v) k 0) ∙ long in
       record {
-        sixteen = same;
-        bytes = λ p. elim (cases_lt p 16) [
+        long = same;
+        bytes = λ p. elim (cases_lt p 32) [
           | inl lt ↦ rw (slice_index-moved v p plane lt) (plane.bytes _)
           | inr ge ↦
               let past : length (moved places v) ≤ p = omega arith in
@@ -50,44 +58,60 @@ module _ (places : List ℕ) (long : length places ≡ 16) (within : T (all_belo
         ];
       }
 
-  pub bit-moved : (p k : ℕ) (v : List ℕ) → p < 16 → IsPlane v → bit p k (moved places v) ≡ bit (get_or places p 0) k v
+  pub bit-moved : (p k : ℕ) (v : List ℕ) → p < 32 → IsPlane v → bit p k (moved places v) ≡ bit (get_or places p 0) k v
   bit-moved p k v lt plane = ap (λ n. n / 2 ^ k % 2) (slice_index-moved v p plane lt)
 
 -- blocks whose bytes all come from other places
-block_of-moved : (places : List ℕ) → length places ≡ 16 → T (all_below 16 places) → (p0 p1 p2 p3 p4 p5 p6 p7 : List ℕ)
-    → IsPlane p0 → IsPlane p1 → IsPlane p2 → IsPlane p3 → IsPlane p4 → IsPlane p5 → IsPlane p6 → IsPlane p7 → (k : ℕ)
-    → block_of (moved places p0 ∷ moved places p1 ∷ moved places p2 ∷ moved places p3 ∷ moved places p4 ∷ moved places p5 ∷ moved places p6 ∷ moved places p7 ∷ []) k
-    ≡ map (λ j. byte_at (p0 ∷ p1 ∷ p2 ∷ p3 ∷ p4 ∷ p5 ∷ p6 ∷ p7 ∷ []) k (get_or places (place j) 0)) (range_with_len 0 16)
-unfolding block_of
-block_of-moved places long below p0 p1 p2 p3 p4 p5 p6 p7 a b c d e f g h k =
-    range-agree _ (λ j. byte_at (p0 ∷ p1 ∷ p2 ∷ p3 ∷ p4 ∷ p5 ∷ p6 ∷ p7 ∷ []) k (get_or places (place j) 0)) 0 16 (λ j lt.
-    let p : ℕ = place j in
-    let within : p < 16 = omega arith in
+lane_block-moved : (places : List ℕ) → length places ≡ 32 → T (all_below 32 places) → (p0 p1 p2 p3 p4 p5 p6 p7 : List ℕ)
+    → IsPlane p0 → IsPlane p1 → IsPlane p2 → IsPlane p3 → IsPlane p4 → IsPlane p5 → IsPlane p6 → IsPlane p7 → (l b : ℕ) → l < 2
+    → lane_block (moved places p0 ∷ moved places p1 ∷ moved places p2 ∷ moved places p3 ∷ moved places p4 ∷ moved places p5 ∷ moved places p6 ∷ moved places p7 ∷ []) l b
+    ≡ map (λ j. byte_at (p0 ∷ p1 ∷ p2 ∷ p3 ∷ p4 ∷ p5 ∷ p6 ∷ p7 ∷ []) b (get_or places (16 * l + place j) 0)) (range_with_len 0 16)
+unfolding lane_block
+lane_block-moved places long below p0 p1 p2 p3 p4 p5 p6 p7 a b c d e f g h l k two =
+    range-agree _ (λ j. byte_at (p0 ∷ p1 ∷ p2 ∷ p3 ∷ p4 ∷ p5 ∷ p6 ∷ p7 ∷ []) k (get_or places (16 * l + place j) 0)) 0 16 (λ j lt.
+    let p : ℕ = 16 * l + place j in
+    let within : p < 32 = omega arith in
     ap byte_of (eight_same (at p p0 within a) (at p p1 within b) (at p p2 within c) (at p p3 within d) (at p p4 within e) (at p p5 within f) (at p p6 within g) (at p p7 within h)))
   where
-    at : (p : ℕ) (v : List ℕ) → p < 16 → IsPlane v → bit p k (moved places v) ≡ bit (get_or places p 0) k v
+    at : (p : ℕ) (v : List ℕ) → p < 32 → IsPlane v → bit p k (moved places v) ≡ bit (get_or places p 0) k v
     at p v lt plane = bit-moved places long below p k v lt plane
 
 -- the states whose rows are shifted, and shifted back
+lane_block-shift : (p0 p1 p2 p3 p4 p5 p6 p7 : List ℕ)
+    → IsPlane p0 → IsPlane p1 → IsPlane p2 → IsPlane p3 → IsPlane p4 → IsPlane p5 → IsPlane p6 → IsPlane p7 → (l b : ℕ) → l < 2
+    → lane_block (moved shift p0 ∷ moved shift p1 ∷ moved shift p2 ∷ moved shift p3 ∷ moved shift p4 ∷ moved shift p5 ∷ moved shift p6 ∷ moved shift p7 ∷ []) l b ≡ shift_rows (lane_block (p0 ∷ p1 ∷ p2 ∷ p3 ∷ p4 ∷ p5 ∷ p6 ∷ p7 ∷ []) l b)
+unfolding lane_block shift_rows
+lane_block-shift p0 p1 p2 p3 p4 p5 p6 p7 a b c d e f g h zero k two = lane_block-moved shift refl tt p0 p1 p2 p3 p4 p5 p6 p7 a b c d e f g h 0 k two
+lane_block-shift p0 p1 p2 p3 p4 p5 p6 p7 a b c d e f g h (suc zero) k two = lane_block-moved shift refl tt p0 p1 p2 p3 p4 p5 p6 p7 a b c d e f g h 1 k two
+lane_block-shift p0 p1 p2 p3 p4 p5 p6 p7 a b c d e f g h (suc (suc l)) k two = absurd (omega arith)
+
 pub block_of-shift : (p0 p1 p2 p3 p4 p5 p6 p7 : List ℕ)
     → IsPlane p0 → IsPlane p1 → IsPlane p2 → IsPlane p3 → IsPlane p4 → IsPlane p5 → IsPlane p6 → IsPlane p7 → (k : ℕ)
     → block_of (moved shift p0 ∷ moved shift p1 ∷ moved shift p2 ∷ moved shift p3 ∷ moved shift p4 ∷ moved shift p5 ∷ moved shift p6 ∷ moved shift p7 ∷ []) k
     ≡ shift_rows (block_of (p0 ∷ p1 ∷ p2 ∷ p3 ∷ p4 ∷ p5 ∷ p6 ∷ p7 ∷ []) k)
-unfolding block_of shift_rows
-block_of-shift = block_of-moved shift refl tt
+unfolding block_of
+block_of-shift p0 p1 p2 p3 p4 p5 p6 p7 a b c d e f g h k = lane_block-shift p0 p1 p2 p3 p4 p5 p6 p7 a b c d e f g h (k % 2) (k / 2) (omega arith)
+
+lane_block-unshift : (p0 p1 p2 p3 p4 p5 p6 p7 : List ℕ)
+    → IsPlane p0 → IsPlane p1 → IsPlane p2 → IsPlane p3 → IsPlane p4 → IsPlane p5 → IsPlane p6 → IsPlane p7 → (l b : ℕ) → l < 2
+    → lane_block (moved unshift p0 ∷ moved unshift p1 ∷ moved unshift p2 ∷ moved unshift p3 ∷ moved unshift p4 ∷ moved unshift p5 ∷ moved unshift p6 ∷ moved unshift p7 ∷ []) l b ≡ inverse_shift_rows (lane_block (p0 ∷ p1 ∷ p2 ∷ p3 ∷ p4 ∷ p5 ∷ p6 ∷ p7 ∷ []) l b)
+unfolding lane_block inverse_shift_rows
+lane_block-unshift p0 p1 p2 p3 p4 p5 p6 p7 a b c d e f g h zero k two = lane_block-moved unshift refl tt p0 p1 p2 p3 p4 p5 p6 p7 a b c d e f g h 0 k two
+lane_block-unshift p0 p1 p2 p3 p4 p5 p6 p7 a b c d e f g h (suc zero) k two = lane_block-moved unshift refl tt p0 p1 p2 p3 p4 p5 p6 p7 a b c d e f g h 1 k two
+lane_block-unshift p0 p1 p2 p3 p4 p5 p6 p7 a b c d e f g h (suc (suc l)) k two = absurd (omega arith)
 
 pub block_of-unshift : (p0 p1 p2 p3 p4 p5 p6 p7 : List ℕ)
     → IsPlane p0 → IsPlane p1 → IsPlane p2 → IsPlane p3 → IsPlane p4 → IsPlane p5 → IsPlane p6 → IsPlane p7 → (k : ℕ)
     → block_of (moved unshift p0 ∷ moved unshift p1 ∷ moved unshift p2 ∷ moved unshift p3 ∷ moved unshift p4 ∷ moved unshift p5 ∷ moved unshift p6 ∷ moved unshift p7 ∷ []) k
     ≡ inverse_shift_rows (block_of (p0 ∷ p1 ∷ p2 ∷ p3 ∷ p4 ∷ p5 ∷ p6 ∷ p7 ∷ []) k)
-unfolding block_of inverse_shift_rows
-block_of-unshift = block_of-moved unshift refl tt
+unfolding block_of
+block_of-unshift p0 p1 p2 p3 p4 p5 p6 p7 a b c d e f g h k = lane_block-unshift p0 p1 p2 p3 p4 p5 p6 p7 a b c d e f g h (k % 2) (k / 2) (omega arith)
 
 -- the sum of two states, a bit at a time
 pub byte_at-sum : (s0 s1 s2 s3 s4 s5 s6 s7 t0 t1 t2 t3 t4 t5 t6 t7 : List ℕ)
     → IsPlane s0 → IsPlane s1 → IsPlane s2 → IsPlane s3 → IsPlane s4 → IsPlane s5 → IsPlane s6 → IsPlane s7
     → IsPlane t0 → IsPlane t1 → IsPlane t2 → IsPlane t3 → IsPlane t4 → IsPlane t5 → IsPlane t6 → IsPlane t7
-    → (k p : ℕ) → p < 16
+    → (k p : ℕ) → p < 32
     → byte_at (zip2 bit_xor s0 t0 ∷ zip2 bit_xor s1 t1 ∷ zip2 bit_xor s2 t2 ∷ zip2 bit_xor s3 t3
     ∷ zip2 bit_xor s4 t4 ∷ zip2 bit_xor s5 t5 ∷ zip2 bit_xor s6 t6 ∷ zip2 bit_xor s7 t7 ∷ []) k p
     ≡ bit_xor (byte_at (s0 ∷ s1 ∷ s2 ∷ s3 ∷ s4 ∷ s5 ∷ s6 ∷ s7 ∷ []) k p) (byte_at (t0 ∷ t1 ∷ t2 ∷ t3 ∷ t4 ∷ t5 ∷ t6 ∷ t7 ∷ []) k p)
@@ -104,13 +128,14 @@ pub block_of-sum : (s0 s1 s2 s3 s4 s5 s6 s7 t0 t1 t2 t3 t4 t5 t6 t7 : List ℕ)
     → block_of (zip2 bit_xor s0 t0 ∷ zip2 bit_xor s1 t1 ∷ zip2 bit_xor s2 t2 ∷ zip2 bit_xor s3 t3
     ∷ zip2 bit_xor s4 t4 ∷ zip2 bit_xor s5 t5 ∷ zip2 bit_xor s6 t6 ∷ zip2 bit_xor s7 t7 ∷ []) k
     ≡ add_round_key (block_of (s0 ∷ s1 ∷ s2 ∷ s3 ∷ s4 ∷ s5 ∷ s6 ∷ s7 ∷ []) k) (block_of (t0 ∷ t1 ∷ t2 ∷ t3 ∷ t4 ∷ t5 ∷ t6 ∷ t7 ∷ []) k)
-unfolding block_of add_round_key xor_bytes
+unfolding block_of lane_block add_round_key xor_bytes
 block_of-sum s0 s1 s2 s3 s4 s5 s6 s7 t0 t1 t2 t3 t4 t5 t6 t7 a b c d e f g h i j l m n o q r k =
     let s : List (List ℕ) = s0 ∷ s1 ∷ s2 ∷ s3 ∷ s4 ∷ s5 ∷ s6 ∷ s7 ∷ [] in
     let t : List (List ℕ) = t0 ∷ t1 ∷ t2 ∷ t3 ∷ t4 ∷ t5 ∷ t6 ∷ t7 ∷ [] in
-    range-agree _ (λ y. bit_xor (byte_at s k (place y)) (byte_at t k (place y))) 0 16 (λ y lt.
-    byte_at-sum s0 s1 s2 s3 s4 s5 s6 s7 t0 t1 t2 t3 t4 t5 t6 t7 a b c d e f g h i j l m n o q r k (place y) (omega arith))
-    ∙ sym (zip2-map bit_xor (λ y. byte_at s k (place y)) (λ y. byte_at t k (place y)) (range_with_len 0 16))
+    let at : ℕ → ℕ = λ y. 16 * (k % 2) + place y in
+    range-agree _ (λ y. bit_xor (byte_at s (k / 2) (at y)) (byte_at t (k / 2) (at y))) 0 16 (λ y lt.
+    byte_at-sum s0 s1 s2 s3 s4 s5 s6 s7 t0 t1 t2 t3 t4 t5 t6 t7 a b c d e f g h i j l m n o q r (k / 2) (at y) (omega arith))
+    ∙ sym (zip2-map bit_xor (λ y. byte_at s (k / 2) (at y)) (λ y. byte_at t (k / 2) (at y)) (range_with_len 0 16))
 
 -- x times a byte by its bits
 doubled : List ℕ → List ℕ
@@ -178,28 +203,28 @@ next p = get_or turn p 0
 abbrev pub second : ℕ → ℕ
 second p = get_or half_turn p 0
 
-module _ (p k : ℕ) (lt : p < 16) where
-  turned-lt : next p < 16
+module _ (p k : ℕ) (lt : p < 32) where
+  turned-lt : next p < 32
   turned-lt = bound p lt where
-    bound : (p : ℕ) → p < 16 → next p < 16
-    bound p lt = let e = sixteen (λ q. next q % 16) next refl p lt in omega (arith, e)
+    bound : (p : ℕ) → p < 32 → next p < 32
+    bound p lt = let e = both_lanes (λ q. next q % 32) next refl p lt in omega (arith, e)
 
-  pub half-lt : second p < 16
+  pub half-lt : second p < 32
   half-lt = bound p lt where
-    bound : (p : ℕ) → p < 16 → second p < 16
-    bound p lt = let e = sixteen (λ q. second q % 16) second refl p lt in omega (arith, e)
+    bound : (p : ℕ) → p < 32 → second p < 32
+    bound p lt = let e = both_lanes (λ q. second q % 32) second refl p lt in omega (arith, e)
 
   bit-paired : (v : List ℕ) → IsPlane v → bit p k (paired v) ≡ bit_xor (bit p k v) (bit (next p) k v)
   bit-paired v plane =
       bit-sum p k v (moved turn v) lt plane (IsPlane-moved turn refl tt v plane)
       ∙ ap (bit_xor (bit p k v)) (bit-moved turn refl tt p k v lt plane)
 
-bit-half : (p k : ℕ) (v : List ℕ) → p < 16 → IsPlane v
+bit-half : (p k : ℕ) (v : List ℕ) → p < 32 → IsPlane v
     → bit p k (moved half_turn (paired v)) ≡ bit_xor (bit (second p) k v) (bit (next (second p)) k v)
 bit-half p k v lt plane =
     bit-moved half_turn refl tt p k (paired v) lt (IsPlane-paired v plane) ∙ bit-paired (second p) k (half-lt p k lt) v plane
 
-bit-mixed : (p k : ℕ) (base v : List ℕ) → p < 16 → IsPlane base → IsPlane v
+bit-mixed : (p k : ℕ) (base v : List ℕ) → p < 32 → IsPlane base → IsPlane v
     → bit p k (mixed_plane base v)
     ≡ bit_xor (bit_xor (bit p k base) (bit (next p) k v)) (bit_xor (bit (second p) k v) (bit (next (second p)) k v))
 bit-mixed p k base v lt b plane =
@@ -236,7 +261,7 @@ module _ (p0 p1 p2 p3 p4 p5 p6 p7 : List ℕ)
       ∷ mixed_plane (paired p5) p6
       ∷ mixed_plane (paired p6) p7 ∷ []
 
-  byte_at-mixed : (k p : ℕ) → p < 16
+  byte_at-mixed : (k p : ℕ) → p < 32
       → byte_at new k p ≡ mixed (byte_at old k p) (byte_at old k (next p)) (byte_at old k (second p)) (byte_at old k (next (second p)))
   unfolding doubled
   byte_at-mixed k p lt =
@@ -262,10 +287,26 @@ module _ (p0 p1 p2 p3 p4 p5 p6 p7 : List ℕ)
       ∙ ap (multiply 2) (byte_of-xor (at p) (at (next p)) refl (low p) (low (next p)))))
       (byte_of-xor (at (second p)) (at (next (second p))) refl (low (second p)) (low (next (second p))))
 
+  column : (k q : ℕ) → mixed (byte_at old k q) (byte_at old k (q + 4)) (byte_at old k (q + 8)) (byte_at old k (q + 12))
+      ∷ mixed (byte_at old k (q + 4)) (byte_at old k (q + 8)) (byte_at old k (q + 12)) (byte_at old k q)
+      ∷ mixed (byte_at old k (q + 8)) (byte_at old k (q + 12)) (byte_at old k q) (byte_at old k (q + 4))
+      ∷ mixed (byte_at old k (q + 12)) (byte_at old k q) (byte_at old k (q + 4)) (byte_at old k (q + 8)) ∷ []
+      ≡ column_product (byte_at old k q) (byte_at old k (q + 4)) (byte_at old k (q + 8)) (byte_at old k (q + 12))
+  column k q = mixed-column (byte_at old k q) (byte_at old k (q + 4)) (byte_at old k (q + 8)) (byte_at old k (q + 12)) (byte_at-lt p0 p1 p2 p3 p4 p5 p6 p7 k q) (byte_at-lt p0 p1 p2 p3 p4 p5 p6 p7 k (q + 4)) (byte_at-lt p0 p1 p2 p3 p4 p5 p6 p7 k (q + 8)) (byte_at-lt p0 p1 p2 p3 p4 p5 p6 p7 k (q + 12))
+
+  mixed_lane : (l k : ℕ) → l < 2 → lane_block new l k
+      ≡ map (λ j. mixed (byte_at old k (16 * l + place j)) (byte_at old k (next (16 * l + place j))) (byte_at old k (second (16 * l + place j))) (byte_at old k (next (second (16 * l + place j))))) (range_with_len 0 16)
+  unfolding lane_block
+  mixed_lane l k two =
+      range-agree _ (λ j. mixed (byte_at old k (16 * l + place j)) (byte_at old k (next (16 * l + place j))) (byte_at old k (second (16 * l + place j))) (byte_at old k (next (second (16 * l + place j))))) 0 16
+      (λ j lt. byte_at-mixed k (16 * l + place j) (omega arith))
+
+  lane_block-mix : (l k : ℕ) → l < 2 → lane_block new l k ≡ mix_columns (lane_block old l k)
+  unfolding lane_block mix_columns
+  lane_block-mix zero k two = mixed_lane 0 k two ∙ four (column k 0) (column k 1) (column k 2) (column k 3)
+  lane_block-mix (suc zero) k two = mixed_lane 1 k two ∙ four (column k 16) (column k 17) (column k 18) (column k 19)
+  lane_block-mix (suc (suc l)) k two = absurd (omega arith)
+
   pub block_of-mix : (k : ℕ) → block_of new k ≡ mix_columns (block_of old k)
-  unfolding block_of mix_columns
-  block_of-mix k =
-      let column = λ (q : ℕ). mixed-column (byte_at old k q) (byte_at old k (q + 4)) (byte_at old k (q + 8)) (byte_at old k (q + 12)) (byte_at-lt p0 p1 p2 p3 p4 p5 p6 p7 k q) (byte_at-lt p0 p1 p2 p3 p4 p5 p6 p7 k (q + 4)) (byte_at-lt p0 p1 p2 p3 p4 p5 p6 p7 k (q + 8)) (byte_at-lt p0 p1 p2 p3 p4 p5 p6 p7 k (q + 12)) in
-      range-agree _ (λ j. mixed (byte_at old k (place j)) (byte_at old k (next (place j))) (byte_at old k (second (place j))) (byte_at old k (next (second (place j))))) 0 16
-      (λ j lt. byte_at-mixed k (place j) (omega arith))
-      ∙ four (column 0) (column 1) (column 2) (column 3)
+  unfolding block_of
+  block_of-mix k = lane_block-mix (k % 2) (k / 2) (omega arith)

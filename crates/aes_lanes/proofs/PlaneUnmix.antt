@@ -1,5 +1,5 @@
 -- InvMixColumns on planes: MixColumns of the state that has 4 (x + y) added to each byte x, for the byte y two rows on.
-use Rattle.std.proofs.Common.{◌≡◌, ℕ, ◌+◌, ◌<◌, List, [], ◌∷◌, map, get_or, bit_and, bit_xor, refl, sym, ap, ◌∙◌, arith, lit<}
+use Rattle.std.proofs.Common.{◌≡◌, ℕ, zero, suc, ◌+◌, ◌*◌, ◌/◌, ◌%◌, ◌<◌, List, [], ◌∷◌, map, get_or, bit_and, bit_xor, refl, sym, ap, ◌∙◌, arith, lit<}
 use Rattle.std.specs.Simd.Lanes.{zip2}
 use Rattle.std.specs.List.{range_with_len}
 use lib.Bits.{xor_assoc, xor_comm, xor_lt, xor_zero_l, xor_zero_r}
@@ -8,7 +8,7 @@ use Rattle.aes_lanes.specs.Field.{xtimes, partial_product, multiply}
 use Rattle.aes_lanes.specs.Rounds.{sum_of, column_product, inverse_column_product, mix_columns, inverse_mix_columns}
 use Rattle.aes_lanes.specs.Laws.Field.{at_each, multiply-additive}
 use Rattle.aes_lanes.specs.Laws.Columns.{mixed-sum}
-use Rattle.aes_lanes.specs.Planes.{IsPlane, bit, byte_of, byte_at, block_of, place}
+use Rattle.aes_lanes.specs.Planes.{IsPlane, bit, byte_of, byte_at, block_of, lane_block, place}
 use Rattle.aes_lanes.proofs.PlaneBits.{bits-lt, eight_same, eight_lt, byte_at-lt, range-agree, bits_of, on_bits, byte_of-xor}
 use Rattle.aes_lanes.proofs.PlaneMoves.{moved, half_turn, second, four, sums-lt, IsPlane-moved, bit-moved}
 use Rattle.aes_lanes.proofs.Gates.{Gate, sum, values, zeros, HasBit, HaveBits, HaveBits-more, HasBit-zeros, values-bits}
@@ -107,7 +107,7 @@ module _ (p0 p1 p2 p3 p4 p5 p6 p7 : List ℕ)
       ∷ bit (second p) k p7 ∷ bit (second p) k p6 ∷ bit (second p) k p5 ∷ bit (second p) k p4
       ∷ bit (second p) k p3 ∷ bit (second p) k p2 ∷ bit (second p) k p1 ∷ bit (second p) k p0 ∷ []
 
-  have : (p k : ℕ) → p < 16 → HaveBits p k given (given_bits p k)
+  have : (p k : ℕ) → p < 32 → HaveBits p k given (given_bits p k)
   have p k lt =
       HaveBits-more p k p7 _ _ _ (here p7 h) (HaveBits-more p k p6 _ _ _ (here p6 g) (HaveBits-more p k p5 _ _ _ (here p5 f) (HaveBits-more p k p4 _ _ _ (here p4 e)
       (HaveBits-more p k p3 _ _ _ (here p3 d) (HaveBits-more p k p2 _ _ _ (here p2 c) (HaveBits-more p k p1 _ _ _ (here p1 b) (HaveBits-more p k p0 _ _ _ (here p0 a)
@@ -121,13 +121,13 @@ module _ (p0 p1 p2 p3 p4 p5 p6 p7 : List ℕ)
       there : (v : List ℕ) → IsPlane v → HasBit p k (moved half_turn v) (bit (second p) k v)
       there v plane = record { plane = IsPlane-moved half_turn refl tt v plane; same = bit-moved half_turn refl tt p k v lt plane }
 
-  value : (p k : ℕ) → p < 16 → (i : ℕ) → HasBit p k (get_or all i zeros) (get_or (values bit_xor bit_and 0 spread_gates (given_bits p k)) i 0)
+  value : (p k : ℕ) → p < 32 → (i : ℕ) → HasBit p k (get_or all i zeros) (get_or (values bit_xor bit_and 0 spread_gates (given_bits p k)) i 0)
   value p k lt = (values-bits p k lt spread_gates given (given_bits p k) (have p k lt)).each
 
   pub IsPlane-spread : (i : ℕ) → IsPlane (get_or all i zeros)
   IsPlane-spread i = (value 0 0 (lit< tt) i).plane
 
-  byte_at-spread : (k p : ℕ) → p < 16 → byte_at new k p ≡ spread (byte_at old k p) (byte_at old k (second p))
+  byte_at-spread : (k p : ℕ) → p < 32 → byte_at new k p ≡ spread (byte_at old k p) (byte_at old k (second p))
   unfolding values spread_gates quadrupled
   byte_at-spread k p lt =
       let v = value p k lt in
@@ -144,12 +144,24 @@ module _ (p0 p1 p2 p3 p4 p5 p6 p7 : List ℕ)
       (on_bits (λ l. byte_of (quadrupled l)) (multiply 4) quadrupled-is _ _ _ _ _ _ _ _ (low_both 0) (low_both 1) (low_both 2) (low_both 3) (low_both 4) (low_both 5) (low_both 6) (low_both 7)
       ∙ ap (multiply 4) (byte_of-xor (at p) (at (second p)) refl (low p) (low (second p))))
 
-  blocks-spread : (k : ℕ) → block_of new k ≡ map (λ j. spread (byte_at old k (place j)) (byte_at old k (second (place j)))) (range_with_len 0 16)
-  unfolding block_of
-  blocks-spread k = range-agree _ (λ j. spread (byte_at old k (place j)) (byte_at old k (second (place j)))) 0 16 (λ j lt. byte_at-spread k (place j) (omega arith))
+  spread_lane : (l k : ℕ) → l < 2 → lane_block new l k
+      ≡ map (λ j. spread (byte_at old k (16 * l + place j)) (byte_at old k (second (16 * l + place j)))) (range_with_len 0 16)
+  unfolding lane_block
+  spread_lane l k two =
+      range-agree _ (λ j. spread (byte_at old k (16 * l + place j)) (byte_at old k (second (16 * l + place j)))) 0 16
+      (λ j lt. byte_at-spread k (16 * l + place j) (omega arith))
+
+  column : (k q : ℕ) → column_product (spread (byte_at old k q) (byte_at old k (q + 8))) (spread (byte_at old k (q + 4)) (byte_at old k (q + 12)))
+      (spread (byte_at old k (q + 8)) (byte_at old k q)) (spread (byte_at old k (q + 12)) (byte_at old k (q + 4)))
+      ≡ inverse_column_product (byte_at old k q) (byte_at old k (q + 4)) (byte_at old k (q + 8)) (byte_at old k (q + 12))
+  column k q = spread-column (byte_at old k q) (byte_at old k (q + 4)) (byte_at old k (q + 8)) (byte_at old k (q + 12)) (byte_at-lt p0 p1 p2 p3 p4 p5 p6 p7 k q) (byte_at-lt p0 p1 p2 p3 p4 p5 p6 p7 k (q + 4)) (byte_at-lt p0 p1 p2 p3 p4 p5 p6 p7 k (q + 8)) (byte_at-lt p0 p1 p2 p3 p4 p5 p6 p7 k (q + 12))
+
+  lane_block-spread : (l k : ℕ) → l < 2 → mix_columns (lane_block new l k) ≡ inverse_mix_columns (lane_block old l k)
+  unfolding lane_block mix_columns inverse_mix_columns
+  lane_block-spread zero k two = ap mix_columns (spread_lane 0 k two) ∙ four (column k 0) (column k 1) (column k 2) (column k 3)
+  lane_block-spread (suc zero) k two = ap mix_columns (spread_lane 1 k two) ∙ four (column k 16) (column k 17) (column k 18) (column k 19)
+  lane_block-spread (suc (suc l)) k two = absurd (omega arith)
 
   pub block_of-spread : (k : ℕ) → mix_columns (block_of new k) ≡ inverse_mix_columns (block_of old k)
-  unfolding block_of mix_columns inverse_mix_columns
-  block_of-spread k =
-      let column = λ (q : ℕ). spread-column (byte_at old k q) (byte_at old k (q + 4)) (byte_at old k (q + 8)) (byte_at old k (q + 12)) (byte_at-lt p0 p1 p2 p3 p4 p5 p6 p7 k q) (byte_at-lt p0 p1 p2 p3 p4 p5 p6 p7 k (q + 4)) (byte_at-lt p0 p1 p2 p3 p4 p5 p6 p7 k (q + 8)) (byte_at-lt p0 p1 p2 p3 p4 p5 p6 p7 k (q + 12)) in
-      ap mix_columns (blocks-spread k) ∙ four (column 0) (column 1) (column 2) (column 3)
+  unfolding block_of
+  block_of-spread k = lane_block-spread (k % 2) (k / 2) (omega arith)

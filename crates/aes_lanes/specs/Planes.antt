@@ -1,11 +1,11 @@
--- Words of private contracts: eight blocks as eight planes of sixteen bytes. Bit k of byte p of plane i is bit i
--- of the byte in place p of block k, where the places go row after row.
+-- Words of private contracts: sixteen blocks as eight planes of 32 bytes, each of two lanes. Bit b of byte p of lane l of
+-- plane i is bit i of the byte in place p of block 2 b + l, where the places go row after row.
 use Rattle.std.specs.Prelude.{◌≡◌, ℕ, ◌+◌, ◌-◌, ◌*◌, ◌/◌, ◌%◌, ◌^◌, ◌<◌, length, List, [], ◌∷◌, map, slice_index, nat_eq, if◌then◌else◌}
 use Rattle.std.specs.List.{range_with_len}
 
--- sixteen bytes
+-- 32 bytes
 pub record IsPlane (plane : List ℕ) : Type 0 where
-  pub sixteen : length plane ≡ 16
+  pub long : length plane ≡ 32
   pub bytes : (p : ℕ) → slice_index plane p < 256
 
 -- bit k of byte p of a plane
@@ -21,13 +21,17 @@ byte_of (b ∷ bits) = b + 2 * byte_of bits
 abbrev pub place : ℕ → ℕ
 place j = 4 * (j % 4) + j / 4
 
--- the byte in place p of block k
+-- the byte of the bits k of byte p of some planes
 abbrev pub byte_at : List (List ℕ) → ℕ → ℕ → ℕ
 byte_at planes k p = byte_of (map (bit p k) planes)
 
+-- the block of the bits b of a lane
+unfoldable pub lane_block : List (List ℕ) → ℕ → ℕ → List ℕ
+lane_block planes l b = map (λ j. byte_at planes b (16 * l + place j)) (range_with_len 0 16)
+
 -- block k of eight planes
 unfoldable pub block_of : List (List ℕ) → ℕ → List ℕ
-block_of planes k = map (λ j. byte_at planes k (place j)) (range_with_len 0 16)
+block_of planes k = lane_block planes (k % 2) (k / 2)
 
 -- the bits of byte p of a plane, the lowest first
 abbrev pub bits_at : ℕ → List ℕ → List ℕ

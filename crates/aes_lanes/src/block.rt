@@ -30,12 +30,12 @@ fn xor_block(bytes: &mut [u8], at: usize, block: &Block)
     sum.copy_to_slice(part);
 }
 
-// Adds eight blocks, end to end, to the bytes from place `at` on.
-pub(crate) fn xor_eight(bytes: &mut [u8], at: usize, blocks: &[Block; 8])
-    requires { at + 128 ≤ length bytes.old }
-    ensures { AreXoredAt at 8 blocks.now bytes.old bytes.new }
+// Adds sixteen blocks, end to end, to the bytes from place `at` on.
+pub(crate) fn xor_sixteen(bytes: &mut [u8], at: usize, blocks: &[Block; 16])
+    requires { at + 256 ≤ length bytes.old }
+    ensures { AreXoredAt at 16 blocks.now bytes.old bytes.new }
 {
-    for i in 0..8 {
+    for i in 0..16 {
         xor_block(bytes, at + 16 * i, &blocks[i]);
     }
 }

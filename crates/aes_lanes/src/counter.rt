@@ -5,7 +5,7 @@ ghost use Rattle.std.specs.Fn.{iterate};
 ghost use Rattle.aes_lanes.specs.Counter.{counter_mode, ctr128, ctr32, increment, increment128, increment32};
 ghost use Rattle.aes_lanes.specs.Private.{width_of};
 
-use crate::block::{Block, xor_at, xor_eight};
+use crate::block::{Block, xor_at, xor_sixteen};
 use crate::cipher::Cipher;
 
 // Which part of a counter block counts.
@@ -41,14 +41,14 @@ fn increment(counting: Counting, block: &mut Block)
     }
 }
 
-// Eight counter blocks from `counter` on, which becomes the one after them.
-fn next_eight(counting: Counting, counter: &mut Block) -> [Block; 8]
-    ensures eight { length result ≡ 8 }
-    ensures counts { (i : ℕ) → i < 8 → get_or result i [] ≡ iterate (increment (width_of counting)) i counter.old }
-    ensures counter { counter.new ≡ iterate (increment (width_of counting)) 8 counter.old }
+// Sixteen counter blocks from `counter` on, which becomes the one after them.
+fn next_sixteen(counting: Counting, counter: &mut Block) -> [Block; 16]
+    ensures sixteen { length result ≡ 16 }
+    ensures counts { (i : ℕ) → i < 16 → get_or result i [] ≡ iterate (increment (width_of counting)) i counter.old }
+    ensures counter { counter.new ≡ iterate (increment (width_of counting)) 16 counter.old }
 {
-    let mut blocks = [[0; 16]; 8];
-    for i in 0..8 {
+    let mut blocks = [[0; 16]; 16];
+    for i in 0..16 {
         blocks[i] = *counter;
         increment(counting, counter);
     }
@@ -59,13 +59,13 @@ fn counter_xor<C: Cipher>(cipher: &C, counting: Counting, start: &Block, bytes: 
     ensures { bytes.new ≡ counter_mode (C.image cipher.now) (increment (width_of counting)) start.now bytes.old }
 {
     let mut counter = *start;
-    let sets = bytes.len() / 128;
+    let sets = bytes.len() / 256;
     for set in 0..sets {
-        let mut stream = next_eight(counting, &mut counter);
+        let mut stream = next_sixteen(counting, &mut counter);
         cipher.encrypt_blocks(&mut stream);
-        xor_eight(bytes, 128 * set, &stream);
+        xor_sixteen(bytes, 256 * set, &stream);
     }
-    for k in 8 * sets..bytes.len().div_ceil(16) {
+    for k in 16 * sets..bytes.len().div_ceil(16) {
         let mut stream = [counter];
         cipher.encrypt_blocks(&mut stream);
         xor_at(bytes, 16 * k, &stream[0]);

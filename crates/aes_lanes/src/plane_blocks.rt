@@ -1,6 +1,6 @@
-// Eight blocks to planes of their bits, and back.
+// Sixteen blocks to planes of their bits, and back.
 
-ghost use Rattle.std.specs.Prelude.{◌≡◌, ℕ, ◌<◌, [], get_or, length, map, slice_index};
+ghost use Rattle.std.specs.Prelude.{◌≡◌, ℕ, ◌+◌, ◌<◌, [], get_or, length, map, slice_index};
 ghost use Rattle.std.specs.List.{range_with_len};
 ghost use Rattle.aes_lanes.specs.Planes.{IsPlane, bit, bits_at, block_of, low_bits, high_bits, place};
 ghost use Rattle.aes_lanes.specs.PlaneList.{list_of};
@@ -11,72 +11,72 @@ use std::simd::prelude::*;
 
 // Of two vectors of bytes: in each byte, every second bit of the one between those of the other, from the lower.
 #[inline(always)]
-fn low1(a: u8x16, b: u8x16) -> u8x16
+fn low1(a: u8x32, b: u8x32) -> u8x32
     requires a { IsPlane a }
     requires b { IsPlane b }
     ensures plane { IsPlane result }
-    ensures bits { (p : ℕ) → p < 16 → bits_at p result ≡ low_bits 1 (bits_at p a) (bits_at p b) }
+    ensures bits { (p : ℕ) → p < 32 → bits_at p result ≡ low_bits 1 (bits_at p a) (bits_at p b) }
 {
-    (a & u8x16::splat(0x55)) ^ ((b & u8x16::splat(0x55)) << u8x16::splat(1))
+    (a & u8x32::splat(0x55)) ^ ((b & u8x32::splat(0x55)) << u8x32::splat(1))
 }
 
 // The same from the higher.
 #[inline(always)]
-fn high1(a: u8x16, b: u8x16) -> u8x16
+fn high1(a: u8x32, b: u8x32) -> u8x32
     requires a { IsPlane a }
     requires b { IsPlane b }
     ensures plane { IsPlane result }
-    ensures bits { (p : ℕ) → p < 16 → bits_at p result ≡ high_bits 1 (bits_at p a) (bits_at p b) }
+    ensures bits { (p : ℕ) → p < 32 → bits_at p result ≡ high_bits 1 (bits_at p a) (bits_at p b) }
 {
-    ((a >> u8x16::splat(1)) & u8x16::splat(0x55)) ^ (b & u8x16::splat(0xaa))
+    ((a >> u8x32::splat(1)) & u8x32::splat(0x55)) ^ (b & u8x32::splat(0xaa))
 }
 
 // The same with two bits at a time.
 #[inline(always)]
-fn low2(a: u8x16, b: u8x16) -> u8x16
+fn low2(a: u8x32, b: u8x32) -> u8x32
     requires a { IsPlane a }
     requires b { IsPlane b }
     ensures plane { IsPlane result }
-    ensures bits { (p : ℕ) → p < 16 → bits_at p result ≡ low_bits 2 (bits_at p a) (bits_at p b) }
+    ensures bits { (p : ℕ) → p < 32 → bits_at p result ≡ low_bits 2 (bits_at p a) (bits_at p b) }
 {
-    (a & u8x16::splat(0x33)) ^ ((b & u8x16::splat(0x33)) << u8x16::splat(2))
+    (a & u8x32::splat(0x33)) ^ ((b & u8x32::splat(0x33)) << u8x32::splat(2))
 }
 
 #[inline(always)]
-fn high2(a: u8x16, b: u8x16) -> u8x16
+fn high2(a: u8x32, b: u8x32) -> u8x32
     requires a { IsPlane a }
     requires b { IsPlane b }
     ensures plane { IsPlane result }
-    ensures bits { (p : ℕ) → p < 16 → bits_at p result ≡ high_bits 2 (bits_at p a) (bits_at p b) }
+    ensures bits { (p : ℕ) → p < 32 → bits_at p result ≡ high_bits 2 (bits_at p a) (bits_at p b) }
 {
-    ((a >> u8x16::splat(2)) & u8x16::splat(0x33)) ^ (b & u8x16::splat(0xcc))
+    ((a >> u8x32::splat(2)) & u8x32::splat(0x33)) ^ (b & u8x32::splat(0xcc))
 }
 
 // The same with four bits at a time.
 #[inline(always)]
-fn low4(a: u8x16, b: u8x16) -> u8x16
+fn low4(a: u8x32, b: u8x32) -> u8x32
     requires a { IsPlane a }
     requires b { IsPlane b }
     ensures plane { IsPlane result }
-    ensures bits { (p : ℕ) → p < 16 → bits_at p result ≡ low_bits 4 (bits_at p a) (bits_at p b) }
+    ensures bits { (p : ℕ) → p < 32 → bits_at p result ≡ low_bits 4 (bits_at p a) (bits_at p b) }
 {
-    (a & u8x16::splat(0x0f)) ^ ((b & u8x16::splat(0x0f)) << u8x16::splat(4))
+    (a & u8x32::splat(0x0f)) ^ ((b & u8x32::splat(0x0f)) << u8x32::splat(4))
 }
 
 #[inline(always)]
-fn high4(a: u8x16, b: u8x16) -> u8x16
+fn high4(a: u8x32, b: u8x32) -> u8x32
     requires a { IsPlane a }
     requires b { IsPlane b }
     ensures plane { IsPlane result }
-    ensures bits { (p : ℕ) → p < 16 → bits_at p result ≡ high_bits 4 (bits_at p a) (bits_at p b) }
+    ensures bits { (p : ℕ) → p < 32 → bits_at p result ≡ high_bits 4 (bits_at p a) (bits_at p b) }
 {
-    ((a >> u8x16::splat(4)) & u8x16::splat(0x0f)) ^ (b & u8x16::splat(0xf0))
+    ((a >> u8x32::splat(4)) & u8x32::splat(0x0f)) ^ (b & u8x32::splat(0xf0))
 }
 
 // Bit k of each byte of vector i becomes bit i of that of vector k.
 #[inline(always)]
 fn transposed(s: &Planes) -> Planes
-    ensures { (p i k : ℕ) → p < 16 → i < 8 → k < 8
+    ensures { (p i k : ℕ) → p < 32 → i < 8 → k < 8
         → bit p k (get_or (list_of result) i []) ≡ bit p i (get_or (list_of s.now) k []) }
 {
     let a0 = low1(s.p0, s.p1);
@@ -107,58 +107,90 @@ fn transposed(s: &Planes) -> Planes
     }
 }
 
-// Which byte of a block comes to each place, row after row; and back.
-const ROWS: [usize; 16] = [0, 4, 8, 12, 1, 5, 9, 13, 2, 6, 10, 14, 3, 7, 11, 15];
+// Which byte of two blocks comes to each place, row after row; and back.
+const ROWS: [usize; 32] = [
+    0, 4, 8, 12, 1, 5, 9, 13, 2, 6, 10, 14, 3, 7, 11, 15, 16, 20, 24, 28, 17, 21, 25, 29, 18, 22,
+    26, 30, 19, 23, 27, 31,
+];
 
+const FIRST_ROWS: [usize; 16] = [0, 4, 8, 12, 1, 5, 9, 13, 2, 6, 10, 14, 3, 7, 11, 15];
+
+const SECOND_ROWS: [usize; 16] = [
+    16, 20, 24, 28, 17, 21, 25, 29, 18, 22, 26, 30, 19, 23, 27, 31,
+];
+
+// Two blocks as a vector, row after row.
 #[inline(always)]
-fn by_rows(v: u8x16) -> u8x16
+fn by_rows(first: u8x16, second: u8x16) -> u8x32
     ensures plane { IsPlane result }
-    ensures bytes { (p : ℕ) → p < 16 → slice_index result p ≡ slice_index v (place p) }
-    ensures sixteen { length v ≡ 16 }
+    ensures first { (p : ℕ) → p < 16 → slice_index result p ≡ slice_index first (place p) }
+    ensures second { (p : ℕ) → p < 16 → slice_index result (16 + p) ≡ slice_index second (place p) }
+    ensures first_length { length first ≡ 16 }
+    ensures second_length { length second ≡ 16 }
 {
-    v.swizzle(ROWS)
+    first.shuffle(second, ROWS)
 }
 
+// The block in a vector's first lane, column after column.
 #[inline(always)]
-fn store(v: u8x16) -> Block
+fn first_block(v: u8x32) -> Block
     requires { IsPlane v }
     ensures { result ≡ map (λ j. slice_index v (place j)) (range_with_len 0 16) }
 {
-    v.swizzle(ROWS).to_array()
+    let block: u8x16 = v.swizzle(FIRST_ROWS);
+    block.to_array()
 }
 
-/// The planes of eight blocks.
+// The block in a vector's second lane.
 #[inline(always)]
-pub(crate) fn gather(blocks: &[Block; 8]) -> Planes
-    ensures { (k : ℕ) → k < 8 → block_of (list_of result) k ≡ get_or blocks.now k [] }
+fn second_block(v: u8x32) -> Block
+    requires { IsPlane v }
+    ensures { result ≡ map (λ j. slice_index v (16 + place j)) (range_with_len 0 16) }
+{
+    let block: u8x16 = v.swizzle(SECOND_ROWS);
+    block.to_array()
+}
+
+/// The planes of sixteen blocks.
+#[inline(always)]
+pub(crate) fn gather(blocks: &[Block; 16]) -> Planes
+    ensures { (k : ℕ) → k < 16 → block_of (list_of result) k ≡ get_or blocks.now k [] }
 {
     transposed(&Planes {
-        p0: by_rows(u8x16::from_array(blocks[0])),
-        p1: by_rows(u8x16::from_array(blocks[1])),
-        p2: by_rows(u8x16::from_array(blocks[2])),
-        p3: by_rows(u8x16::from_array(blocks[3])),
-        p4: by_rows(u8x16::from_array(blocks[4])),
-        p5: by_rows(u8x16::from_array(blocks[5])),
-        p6: by_rows(u8x16::from_array(blocks[6])),
-        p7: by_rows(u8x16::from_array(blocks[7])),
+        p0: by_rows(u8x16::from_array(blocks[0]), u8x16::from_array(blocks[1])),
+        p1: by_rows(u8x16::from_array(blocks[2]), u8x16::from_array(blocks[3])),
+        p2: by_rows(u8x16::from_array(blocks[4]), u8x16::from_array(blocks[5])),
+        p3: by_rows(u8x16::from_array(blocks[6]), u8x16::from_array(blocks[7])),
+        p4: by_rows(u8x16::from_array(blocks[8]), u8x16::from_array(blocks[9])),
+        p5: by_rows(u8x16::from_array(blocks[10]), u8x16::from_array(blocks[11])),
+        p6: by_rows(u8x16::from_array(blocks[12]), u8x16::from_array(blocks[13])),
+        p7: by_rows(u8x16::from_array(blocks[14]), u8x16::from_array(blocks[15])),
     })
 }
 
-/// The eight blocks of planes.
+/// The sixteen blocks of planes.
 #[inline(always)]
-pub(crate) fn scatter(s: &Planes) -> [Block; 8]
-    ensures eight { length result ≡ 8 }
-    ensures blocks { (k : ℕ) → k < 8 → get_or result k [] ≡ block_of (list_of s.now) k }
+pub(crate) fn scatter(s: &Planes) -> [Block; 16]
+    ensures sixteen { length result ≡ 16 }
+    ensures blocks { (k : ℕ) → k < 16 → get_or result k [] ≡ block_of (list_of s.now) k }
 {
     let t = transposed(s);
     [
-        store(t.p0),
-        store(t.p1),
-        store(t.p2),
-        store(t.p3),
-        store(t.p4),
-        store(t.p5),
-        store(t.p6),
-        store(t.p7),
+        first_block(t.p0),
+        second_block(t.p0),
+        first_block(t.p1),
+        second_block(t.p1),
+        first_block(t.p2),
+        second_block(t.p2),
+        first_block(t.p3),
+        second_block(t.p3),
+        first_block(t.p4),
+        second_block(t.p4),
+        first_block(t.p5),
+        second_block(t.p5),
+        first_block(t.p6),
+        second_block(t.p6),
+        first_block(t.p7),
+        second_block(t.p7),
     ]
 }

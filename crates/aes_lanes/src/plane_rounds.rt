@@ -1,4 +1,4 @@
-// The transformations of the rounds on eight blocks as planes (FIPS 197, section 5.1).
+// The transformations of the rounds on sixteen blocks as planes (FIPS 197, section 5.1).
 
 ghost use Rattle.std.specs.Prelude.{◌≡◌, ℕ, ◌+◌, ◌*◌, ◌<◌, ◌≤◌, ◌++◌, List, bit_xor, drop, length, map, take};
 ghost use Rattle.aes_lanes.specs.Cipher.{cipher, inverse_cipher};
@@ -16,7 +16,7 @@ use std::simd::prelude::*;
 // The circuit of Boyar and Peralta without the complement of four planes: the S-box and 0x63.
 #[inline(always)]
 fn gates(s: &Planes) -> Planes
-    ensures { (k p : ℕ) → k < 8 → p < 16
+    ensures { (k p : ℕ) → k < 8 → p < 32
         → byte_at (list_of result) k p ≡ bit_xor (sbox (byte_at (list_of s.now) k p)) 0x63 }
 {
     let x0 = s.p7;
@@ -157,9 +157,9 @@ fn gates(s: &Planes) -> Planes
 // SUBBYTES.
 #[inline(always)]
 fn sub(s: &Planes) -> Planes
-    ensures { (k : ℕ) → k < 8 → block_of (list_of result) k ≡ sub_bytes (block_of (list_of s.now) k) }
+    ensures { (k : ℕ) → k < 16 → block_of (list_of result) k ≡ sub_bytes (block_of (list_of s.now) k) }
 {
-    let ones = u8x16::splat(0xff);
+    let ones = u8x32::splat(0xff);
     let g = gates(s);
     Planes {
         p0: g.p0 ^ ones,
@@ -176,7 +176,7 @@ fn sub(s: &Planes) -> Planes
 // The linear part of the inverse affine map.
 #[inline(always)]
 fn linear(s: &Planes) -> Planes
-    ensures { (k p : ℕ) → k < 8 → p < 16
+    ensures { (k p : ℕ) → k < 8 → p < 32
         → byte_at (list_of result) k p ≡ bit_xor (inverse_affine_map (byte_at (list_of s.now) k p)) 0x05 }
 {
     Planes {
@@ -194,10 +194,10 @@ fn linear(s: &Planes) -> Planes
 // The inverse affine map.
 #[inline(always)]
 fn unmapped(s: &Planes) -> Planes
-    ensures { (k p : ℕ) → k < 8 → p < 16
+    ensures { (k p : ℕ) → k < 8 → p < 32
         → byte_at (list_of result) k p ≡ inverse_affine_map (byte_at (list_of s.now) k p) }
 {
-    let ones = u8x16::splat(0xff);
+    let ones = u8x32::splat(0xff);
     let l = linear(s);
     Planes {
         p0: l.p0 ^ ones,
@@ -214,13 +214,16 @@ fn unmapped(s: &Planes) -> Planes
 // INVSUBBYTES, by the gates of the S-box between the inverse affine map and its linear part.
 #[inline(always)]
 fn unsub(s: &Planes) -> Planes
-    ensures { (k : ℕ) → k < 8 → block_of (list_of result) k ≡ inverse_sub_bytes (block_of (list_of s.now) k) }
+    ensures { (k : ℕ) → k < 16 → block_of (list_of result) k ≡ inverse_sub_bytes (block_of (list_of s.now) k) }
 {
     linear(&gates(&unmapped(s)))
 }
 
 // Which byte of a plane comes to each place when the rows are shifted.
-const SHIFT: [usize; 16] = [0, 1, 2, 3, 5, 6, 7, 4, 10, 11, 8, 9, 15, 12, 13, 14];
+const SHIFT: [usize; 32] = [
+    0, 1, 2, 3, 5, 6, 7, 4, 10, 11, 8, 9, 15, 12, 13, 14, 16, 17, 18, 19, 21, 22, 23, 20, 26, 27,
+    24, 25, 31, 28, 29, 30,
+];
 
 // SHIFTROWS.
 #[inline(always)]
@@ -240,9 +243,15 @@ fn shift(s: &Planes) -> Planes
 }
 
 // Which byte of a plane comes to each place when the rows move up by one, and by two.
-const TURN: [usize; 16] = [4, 5, 6, 7, 8, 9, 10, 11, 12, 13, 14, 15, 0, 1, 2, 3];
+const TURN: [usize; 32] = [
+    4, 5, 6, 7, 8, 9, 10, 11, 12, 13, 14, 15, 0, 1, 2, 3, 20, 21, 22, 23, 24, 25, 26, 27, 28, 29,
+    30, 31, 16, 17, 18, 19,
+];
 
-const HALF_TURN: [usize; 16] = [8, 9, 10, 11, 12, 13, 14, 15, 0, 1, 2, 3, 4, 5, 6, 7];
+const HALF_TURN: [usize; 32] = [
+    8, 9, 10, 11, 12, 13, 14, 15, 0, 1, 2, 3, 4, 5, 6, 7, 24, 25, 26, 27, 28, 29, 30, 31, 16, 17,
+    18, 19, 20, 21, 22, 23,
+];
 
 // MIXCOLUMNS: a column's byte a before b, c and d becomes 2 (a + b) + b + (c + d).
 #[inline(always)]
@@ -277,7 +286,7 @@ fn mix(s: &Planes) -> Planes
     }
 }
 
-// ADDROUNDKEY, with a round key as the planes of eight blocks.
+// ADDROUNDKEY, with a round key as the planes of sixteen blocks.
 #[inline(always)]
 fn add(s: &Planes, key: &Planes) -> Planes
     ensures { (k : ℕ) → block_of (list_of result) k ≡ add_round_key (block_of (list_of s.now) k) (block_of (list_of key.now) k) }
@@ -295,7 +304,10 @@ fn add(s: &Planes, key: &Planes) -> Planes
 }
 
 // Which byte of a plane comes to each place when the rows are shifted back.
-const UNSHIFT: [usize; 16] = [0, 1, 2, 3, 7, 4, 5, 6, 10, 11, 8, 9, 13, 14, 15, 12];
+const UNSHIFT: [usize; 32] = [
+    0, 1, 2, 3, 7, 4, 5, 6, 10, 11, 8, 9, 13, 14, 15, 12, 16, 17, 18, 19, 23, 20, 21, 22, 26, 27,
+    24, 25, 29, 30, 31, 28,
+];
 
 // INVSHIFTROWS.
 #[inline(always)]
@@ -375,12 +387,12 @@ pub(crate) fn expand_planes(words: &[u32], keys: &mut [Planes])
 {
     for round in 0..keys.len() {
         let key = key_block(words, round);
-        keys[round] = gather(&[key; 8]);
+        keys[round] = gather(&[key; 16]);
     }
 }
 
-// Replaces eight blocks by their images in so many rounds, under round keys as planes.
-fn encrypt_eight(keys: &[Planes], rounds: usize, blocks: &mut [Block; 8])
+// Replaces sixteen blocks by their images in so many rounds, under round keys as planes.
+fn encrypt_sixteen(keys: &[Planes], rounds: usize, blocks: &mut [Block; 16])
     requires some { 0 < rounds }
     requires keys { length keys.now ≡ rounds + 1 }
     ensures { (words : List ℕ) → AreRoundKeys words keys.now → blocks.new ≡ map (cipher rounds words) blocks.old }
@@ -393,22 +405,22 @@ fn encrypt_eight(keys: &[Planes], rounds: usize, blocks: &mut [Block; 8])
     *blocks = scatter(&add(&shift(&sub(&state)), &keys[rounds]));
 }
 
-/// Replaces the eight blocks from place `at` on by their images in so many rounds, under round keys as planes.
+/// Replaces the sixteen blocks from place `at` on by their images in so many rounds, under round keys as planes.
 pub(crate) fn encrypt_at(keys: &[Planes], rounds: usize, blocks: &mut [Block], at: usize)
     requires some { 0 < rounds }
     requires keys { length keys.now ≡ rounds + 1 }
-    requires within { at + 8 ≤ length blocks.old }
+    requires within { at + 16 ≤ length blocks.old }
     ensures { (words : List ℕ) → AreRoundKeys words keys.now
-        → blocks.new ≡ take at blocks.old ++ (map (cipher rounds words) (take 8 (drop at blocks.old)) ++ drop (at + 8) blocks.old) }
+        → blocks.new ≡ take at blocks.old ++ (map (cipher rounds words) (take 16 (drop at blocks.old)) ++ drop (at + 16) blocks.old) }
 {
-    let mut eight = [[0; 16]; 8];
-    eight.copy_from_slice(&blocks[at..at + 8]);
-    encrypt_eight(keys, rounds, &mut eight);
-    blocks[at..at + 8].copy_from_slice(&eight);
+    let mut sixteen = [[0; 16]; 16];
+    sixteen.copy_from_slice(&blocks[at..at + 16]);
+    encrypt_sixteen(keys, rounds, &mut sixteen);
+    blocks[at..at + 16].copy_from_slice(&sixteen);
 }
 
-// Replaces eight blocks by their preimages in so many rounds, under round keys as planes.
-fn decrypt_eight(keys: &[Planes], rounds: usize, blocks: &mut [Block; 8])
+// Replaces sixteen blocks by their preimages in so many rounds, under round keys as planes.
+fn decrypt_sixteen(keys: &[Planes], rounds: usize, blocks: &mut [Block; 16])
     requires some { 0 < rounds }
     requires keys { length keys.now ≡ rounds + 1 }
     ensures { (words : List ℕ) → AreRoundKeys words keys.now → blocks.new ≡ map (inverse_cipher rounds words) blocks.old }
@@ -421,16 +433,16 @@ fn decrypt_eight(keys: &[Planes], rounds: usize, blocks: &mut [Block; 8])
     *blocks = scatter(&add(&unsub(&unshift(&state)), &keys[0]));
 }
 
-/// Replaces the eight blocks from place `at` on by their preimages in so many rounds, under round keys as planes.
+/// Replaces the sixteen blocks from place `at` on by their preimages in so many rounds, under round keys as planes.
 pub(crate) fn decrypt_at(keys: &[Planes], rounds: usize, blocks: &mut [Block], at: usize)
     requires some { 0 < rounds }
     requires keys { length keys.now ≡ rounds + 1 }
-    requires within { at + 8 ≤ length blocks.old }
+    requires within { at + 16 ≤ length blocks.old }
     ensures { (words : List ℕ) → AreRoundKeys words keys.now
-        → blocks.new ≡ take at blocks.old ++ (map (inverse_cipher rounds words) (take 8 (drop at blocks.old)) ++ drop (at + 8) blocks.old) }
+        → blocks.new ≡ take at blocks.old ++ (map (inverse_cipher rounds words) (take 16 (drop at blocks.old)) ++ drop (at + 16) blocks.old) }
 {
-    let mut eight = [[0; 16]; 8];
-    eight.copy_from_slice(&blocks[at..at + 8]);
-    decrypt_eight(keys, rounds, &mut eight);
-    blocks[at..at + 8].copy_from_slice(&eight);
+    let mut sixteen = [[0; 16]; 16];
+    sixteen.copy_from_slice(&blocks[at..at + 16]);
+    decrypt_sixteen(keys, rounds, &mut sixteen);
+    blocks[at..at + 16].copy_from_slice(&sixteen);
 }

@@ -4,17 +4,17 @@ ghost use Rattle.aes_lanes.specs.Planes.{IsPlane};
 
 use std::simd::prelude::*;
 
-/// Eight planes of sixteen bytes.
+/// Eight planes of 32 bytes.
 #[derive(Clone, Copy)]
 pub(crate) struct Planes {
-    pub(crate) p0: u8x16,
-    pub(crate) p1: u8x16,
-    pub(crate) p2: u8x16,
-    pub(crate) p3: u8x16,
-    pub(crate) p4: u8x16,
-    pub(crate) p5: u8x16,
-    pub(crate) p6: u8x16,
-    pub(crate) p7: u8x16,
+    pub(crate) p0: u8x32,
+    pub(crate) p1: u8x32,
+    pub(crate) p2: u8x32,
+    pub(crate) p3: u8x32,
+    pub(crate) p4: u8x32,
+    pub(crate) p5: u8x32,
+    pub(crate) p6: u8x32,
+    pub(crate) p7: u8x32,
     pub(crate) ghost plane0: { IsPlane p0 },
     pub(crate) ghost plane1: { IsPlane p1 },
     pub(crate) ghost plane2: { IsPlane p2 },
@@ -27,7 +27,7 @@ pub(crate) struct Planes {
 
 /// Planes of zeros.
 pub(crate) fn no_planes() -> Planes {
-    let plane = u8x16::splat(0);
+    let plane = u8x32::splat(0);
     Planes {
         p0: plane,
         p1: plane,

@@ -187,11 +187,11 @@ pub(crate) fn encrypt_all(words: &[u32], keys: &[Planes], rounds: usize, blocks:
     requires same_keys { AreRoundKeys words.now keys.now }
     ensures { blocks.new ≡ map (cipher rounds words.now) blocks.old }
 {
-    let sets = blocks.len() / 8;
+    let sets = blocks.len() / 16;
     for set in 0..sets {
-        encrypt_at(keys, rounds, blocks, 8 * set);
+        encrypt_at(keys, rounds, blocks, 16 * set);
     }
-    for i in 8 * sets..blocks.len() {
+    for i in 16 * sets..blocks.len() {
         encrypt_block(words, rounds, &mut blocks[i]);
     }
 }
@@ -205,11 +205,11 @@ pub(crate) fn decrypt_all(words: &[u32], keys: &[Planes], rounds: usize, blocks:
     requires same_keys { AreRoundKeys words.now keys.now }
     ensures { blocks.new ≡ map (inverse_cipher rounds words.now) blocks.old }
 {
-    let sets = blocks.len() / 8;
+    let sets = blocks.len() / 16;
     for set in 0..sets {
-        decrypt_at(keys, rounds, blocks, 8 * set);
+        decrypt_at(keys, rounds, blocks, 16 * set);
     }
-    for i in 8 * sets..blocks.len() {
+    for i in 16 * sets..blocks.len() {
         decrypt_block(words, rounds, &mut blocks[i]);
     }
 }

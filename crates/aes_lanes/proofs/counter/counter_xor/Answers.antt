@@ -3,14 +3,14 @@ use Rattle.std.proofs.lemmas.List.{get_or-map}
 use Rattle.std.specs.Fn.{iterate}
 use Rattle.aes_lanes.specs.Counter.{increment}
 use Rattle.aes_lanes.specs.Private.{width_of, AreXoredAt}
-use Rattle.aes_lanes.proofs.CounterSteps.{counter-next, IsDoneTo, IsDoneTo-next, IsDoneTo-eight, iterate-more, counter_mode-from_places}
+use Rattle.aes_lanes.proofs.CounterSteps.{counter-next, IsDoneTo, IsDoneTo-next, IsDoneTo-sixteen, iterate-more, counter_mode-from_places}
 use Rattle.aes_lanes.proofs.counter.counter_xor.Goals as goal
 
--- the images of eight counter blocks, of which the first is a count
-images : (image next : List ℕ → List ℕ) (start counter : List ℕ) (blocks stream : List (List ℕ)) (n : ℕ) → length blocks ≡ 8
-    → counter ≡ iterate next n start → ((i : ℕ) → i < 8 → get_or blocks i [] ≡ iterate next i counter) → stream ≡ map image blocks
-    → (i : ℕ) → i < 8 → get_or stream i [] ≡ image (iterate next (n + i) start)
-images image next start counter blocks stream n eight counted each is i lt =
+-- the images of sixteen counter blocks, of which the first is a count
+images : (image next : List ℕ → List ℕ) (start counter : List ℕ) (blocks stream : List (List ℕ)) (n : ℕ) → length blocks ≡ 16
+    → counter ≡ iterate next n start → ((i : ℕ) → i < 16 → get_or blocks i [] ≡ iterate next i counter) → stream ≡ map image blocks
+    → (i : ℕ) → i < 16 → get_or stream i [] ≡ image (iterate next (n + i) start)
+images image next start counter blocks stream n sixteen counted each is i lt =
     let within : i < length blocks = omega arith in
     ap (λ l. get_or l i []) is ∙ get_or-map image blocks i [] [] within
     ∙ ap image (each i lt ∙ ap (iterate next i) counted ∙ iterate-more next n i start)
@@ -20,19 +20,19 @@ loop-set-preserved g c =
     let image = g.C.Cipher.image c.args.cipher.now in
     let next = increment (width_of c.args.counting) in
     let start = c.args.start.now in
-    let more : 8 * c.loop-set.set + 8 ≡ 8 * (c.loop-set.set + 1) = omega arith in
-    let at : 128 * c.loop-set.set ≡ 16 * (8 * c.loop-set.set) = omega arith in
-    let stream = c.next_eight-stream.ensures in
+    let more : 16 * c.loop-set.set + 16 ≡ 16 * (c.loop-set.set + 1) = omega arith in
+    let at : 256 * c.loop-set.set ≡ 16 * (16 * c.loop-set.set) = omega arith in
+    let stream = c.next_sixteen-stream.ensures in
     record {
       counter =
-          stream.counter ∙ ap (iterate next 8) c.loop-set.invariant.counter ∙ iterate-more next (8 * c.loop-set.set) 8 start
+          stream.counter ∙ ap (iterate next 16) c.loop-set.invariant.counter ∙ iterate-more next (16 * c.loop-set.set) 16 start
           ∙ ap (λ n. iterate next n start) more;
       done =
-          subst (IsDoneTo image next start c.args.bytes.now c.xor_eight.new.bytes) more
-          (IsDoneTo-eight image next start c.args.bytes.now c.loop-set.bytes c.xor_eight.new.bytes c.encrypt_blocks.new.blocks
-          (8 * c.loop-set.set) c.loop-set.auto.bytes c.loop-set.invariant.done
-          (images image next start c.loop-set.counter _ _ (8 * c.loop-set.set) stream.eight c.loop-set.invariant.counter stream.counts c.encrypt_blocks.ensures)
-          (subst (λ n. AreXoredAt n 8 c.encrypt_blocks.new.blocks c.loop-set.bytes c.xor_eight.new.bytes) at c.xor_eight.ensures));
+          subst (IsDoneTo image next start c.args.bytes.now c.xor_sixteen.new.bytes) more
+          (IsDoneTo-sixteen image next start c.args.bytes.now c.loop-set.bytes c.xor_sixteen.new.bytes c.encrypt_blocks.new.blocks
+          (16 * c.loop-set.set) c.loop-set.auto.bytes c.loop-set.invariant.done
+          (images image next start c.loop-set.counter _ _ (16 * c.loop-set.set) stream.sixteen c.loop-set.invariant.counter stream.counts c.encrypt_blocks.ensures)
+          (subst (λ n. AreXoredAt n 16 c.encrypt_blocks.new.blocks c.loop-set.bytes c.xor_sixteen.new.bytes) at c.xor_sixteen.ensures));
     }
 
 pub loop-k-preserved : goal.loop-k-preserved

@@ -7,8 +7,8 @@ use Rattle.aes_lanes.proofs.counter.counter_xor.Given as goal
 
 abbrev pub invariant-loop-set : goal.invariant-loop-set
 invariant-loop-set g l = record {
-  counter : l.counter ≡ iterate (increment (width_of l.counting)) (8 * l.set) l.start;
-  done : IsDoneTo (g.C.Cipher.image l.cipher) (increment (width_of l.counting)) l.start l.fn.bytes l.bytes (8 * l.set);
+  counter : l.counter ≡ iterate (increment (width_of l.counting)) (16 * l.set) l.start;
+  done : IsDoneTo (g.C.Cipher.image l.cipher) (increment (width_of l.counting)) l.start l.fn.bytes l.bytes (16 * l.set);
 }
 
 abbrev pub invariant-loop-k : goal.invariant-loop-k

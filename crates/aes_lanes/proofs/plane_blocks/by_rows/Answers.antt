@@ -1,13 +1,16 @@
-use Rattle.std.proofs.Common.{refl, ◌∙◌, ap, slice_index}
-use Rattle.aes_lanes.proofs.PlaneBlocks.{rows, rows-place, IsPlane-lanes}
-use Rattle.aes_lanes.proofs.PlaneMoves.{IsPlane-moved, slice_index-moved}
+use Rattle.aes_lanes.proofs.PlaneBlocks.{IsPlane-rows, lane_bytes, rows-first_block, rows-second_block}
 use Rattle.aes_lanes.proofs.plane_blocks.by_rows.Goals as goal
 
 pub returns : goal.returns
 returns c =
-    let plane = IsPlane-lanes c.args.v c.fits-v.0 c.fits-v.1 in
+    let a = c.args.first in
+    let b = c.args.second in
+    let long_a = c.fits-first.0 in
+    let long_b = c.fits-second.0 in
     record {
-      plane = IsPlane-moved rows refl tt c.args.v plane;
-      bytes = λ p lt. slice_index-moved rows refl tt c.args.v p plane lt ∙ ap (slice_index c.args.v) (rows-place p lt);
-      sixteen = c.fits-v.0;
+      plane = IsPlane-rows a b long_a long_b (lane_bytes a c.fits-first.1) (lane_bytes b c.fits-second.1);
+      first = rows-first_block a b long_a long_b;
+      second = rows-second_block a b long_a long_b;
+      first_length = long_a;
+      second_length = long_b;
     }

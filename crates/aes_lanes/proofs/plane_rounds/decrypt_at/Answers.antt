@@ -8,9 +8,9 @@ returns c = λ words keys.
     let blocks = c.args.blocks.now in
     let at = c.args.at in
     let f = inverse_cipher c.args.rounds words in
-    let eight : at + 8 - at ≡ 8 = omega arith in
-    let ends : at + (at + 8 - at) ≡ at + 8 = omega arith in
+    let sixteen : at + 16 - at ≡ 16 = omega arith in
+    let ends : at + (at + 16 - at) ≡ at + 16 = omega arith in
     ap₂ (λ ys zs. take at blocks ++ (ys ++ zs))
-    (c.copy_from_slice-2.ensures.after ∙ c.decrypt_eight.ensures words keys
-    ∙ ap (map f) (c.copy_from_slice.ensures.after ∙ ap (λ n. take n (drop at blocks)) eight))
-    (drop-drop (at + 8 - at) at blocks ∙ ap (λ n. drop n blocks) ends)
+    (c.copy_from_slice-2.ensures.after ∙ c.decrypt_sixteen.ensures words keys
+    ∙ ap (map f) (c.copy_from_slice.ensures.after ∙ ap (λ n. take n (drop at blocks)) sixteen))
+    (drop-drop (at + 16 - at) at blocks ∙ ap (λ n. drop n blocks) ends)

@@ -4,14 +4,14 @@ use Rattle.aes_lanes.specs.Schedule.{round_key}
 use Rattle.aes_lanes.specs.Planes.{block_of}
 use Rattle.aes_lanes.specs.PlaneList.{list_of}
 use Rattle.aes_lanes.specs.declared.planes.Planes.{Planes}
-use Rattle.aes_lanes.proofs.PlaneBits.{eight}
+use Rattle.aes_lanes.proofs.PlaneBits.{each_block}
 use Rattle.aes_lanes.proofs.plane_rounds.expand_planes.Goals as goal
 
 -- one key more
 more_keys : (words : List ℕ) (keys : List Planes) (n : ℕ) (key : Planes) → n < length keys
-    → ((k : ℕ) → k < 8 → block_of (list_of key) k ≡ round_key words n)
-    → ((r k : ℕ) (none : Planes) → r < n → k < 8 → block_of (list_of (get_or keys r none)) k ≡ round_key words r)
-    → (r k : ℕ) (none : Planes) → r < n + 1 → k < 8 → block_of (list_of (get_or (set keys n key) r none)) k ≡ round_key words r
+    → ((k : ℕ) → k < 16 → block_of (list_of key) k ≡ round_key words n)
+    → ((r k : ℕ) (none : Planes) → r < n → k < 16 → block_of (list_of (get_or keys r none)) k ≡ round_key words r)
+    → (r k : ℕ) (none : Planes) → r < n + 1 → k < 16 → block_of (list_of (get_or (set keys n key) r none)) k ≡ round_key words r
 more_keys words keys n key within here before r k none lr lk = at_place (cases_eq r n) where
   at_place : (r ≡ n) ⊎ (r ≢ n) → block_of (list_of (get_or (set keys n key) r none)) k ≡ round_key words r
   at_place (inl e) =
@@ -25,6 +25,6 @@ loop-round-preserved c =
     let key = c.key_block-key.result in
     more_keys c.args.words.now c.loop-round.keys c.loop-round.round c.gather.result (omega arith)
     (λ k lt. c.gather.ensures k lt
-    ∙ eight (λ n. get_or (key ∷ key ∷ key ∷ key ∷ key ∷ key ∷ key ∷ key ∷ []) n [] ≡ key) refl refl refl refl refl refl refl refl k lt
+    ∙ each_block (λ n. get_or (key ∷ key ∷ key ∷ key ∷ key ∷ key ∷ key ∷ key ∷ key ∷ key ∷ key ∷ key ∷ key ∷ key ∷ key ∷ key ∷ []) n [] ≡ key) refl refl refl refl refl refl refl refl refl refl refl refl refl refl refl refl k lt
     ∙ c.key_block-key.ensures)
     c.loop-round.invariant

@@ -1,4 +1,4 @@
-use Rattle.std.proofs.Common.{ap, ◌∙◌, bit_xor}
+use Rattle.std.proofs.Common.{ap, ◌∙◌, ◌/◌, arith, bit_xor}
 use Rattle.aes_lanes.specs.Field.{sbox}
 use Rattle.aes_lanes.specs.Rounds.{sub_bytes}
 use Rattle.aes_lanes.specs.Laws.Sums.{bit_xor-twice}
@@ -20,5 +20,5 @@ unfolding values gates_63 zeros ones sub_bytes
 returns c k lk =
     let g = c.gates-g.result in
     block_of-map sbox _ _ k (λ p lt.
-    byte_at-gates gates_63 3 2 9 8 7 1 0 4 (λ x. bit_xor x 0x63) sum63-by_gates g.p0 g.p1 g.p2 g.p3 g.p4 g.p5 g.p6 g.p7 g.plane0 g.plane1 g.plane2 g.plane3 g.plane4 g.plane5 g.plane6 g.plane7 k p lk lt
-    ∙ ap (λ x. bit_xor x 0x63) (c.gates-g.ensures k p lk lt) ∙ bit_xor-twice (sbox (byte_at (list_of c.args.s.now) k p)) 0x63)
+    byte_at-gates gates_63 3 2 9 8 7 1 0 4 (λ x. bit_xor x 0x63) sum63-by_gates g.p0 g.p1 g.p2 g.p3 g.p4 g.p5 g.p6 g.p7 g.plane0 g.plane1 g.plane2 g.plane3 g.plane4 g.plane5 g.plane6 g.plane7 (k / 2) p (omega arith) lt
+    ∙ ap (λ x. bit_xor x 0x63) (c.gates-g.ensures (k / 2) p (omega arith) lt) ∙ bit_xor-twice (sbox (byte_at (list_of c.args.s.now) (k / 2) p)) 0x63)

@@ -4,7 +4,7 @@ use Rattle.aes_lanes.proofs.rounds.decrypt_all.Given as goal
 
 abbrev pub invariant-loop-set : goal.invariant-loop-set
 invariant-loop-set l =
-    l.blocks ≡ map (inverse_cipher l.rounds l.words) (take (8 * l.set) l.initial.blocks) ++ drop (8 * l.set) l.initial.blocks
+    l.blocks ≡ map (inverse_cipher l.rounds l.words) (take (16 * l.set) l.initial.blocks) ++ drop (16 * l.set) l.initial.blocks
 
 abbrev pub invariant-loop-i : goal.invariant-loop-i
 invariant-loop-i l = l.blocks ≡ map (inverse_cipher l.rounds l.words) (take l.i l.fn.blocks) ++ drop l.i l.fn.blocks

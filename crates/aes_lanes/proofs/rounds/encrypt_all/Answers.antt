@@ -2,14 +2,14 @@ use Rattle.std.proofs.Common.{◌≡◌, ◌+◌, ◌*◌, ◌++◌, ◌<◌, le
 use Rattle.std.proofs.lemmas.List.{get_or_default}
 use Rattle.std.proofs.lemmas.List.Edits.{map_over_more}
 use Rattle.aes_lanes.specs.Cipher.{cipher}
-use Rattle.aes_lanes.proofs.MapParts.{map_over_eight}
+use Rattle.aes_lanes.proofs.MapParts.{map_over_sixteen}
 use Rattle.aes_lanes.proofs.rounds.encrypt_all.Goals as goal
 
 pub loop-set-preserved : goal.loop-set-preserved
 loop-set-preserved c =
     let f = cipher c.args.rounds c.args.words.now in
-    let next : 8 * c.loop-set.set + 8 ≡ 8 * (c.loop-set.set + 1) = omega arith in
-    map_over_eight f c.args.blocks.now c.loop-set.blocks _ (8 * c.loop-set.set) (omega arith) c.loop-set.invariant
+    let next : 16 * c.loop-set.set + 16 ≡ 16 * (c.loop-set.set + 1) = omega arith in
+    map_over_sixteen f c.args.blocks.now c.loop-set.blocks _ (16 * c.loop-set.set) (omega arith) c.loop-set.invariant
     (c.encrypt_at.ensures c.args.words.now c.requires.same_keys)
     ∙ ap (λ n. map f (take n c.args.blocks.now) ++ drop n c.args.blocks.now) next
 

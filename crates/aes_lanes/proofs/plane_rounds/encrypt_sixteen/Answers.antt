@@ -4,7 +4,7 @@ use Rattle.aes_lanes.specs.Rounds.{add_round_key, mix_columns, shift_rows, sub_b
 use Rattle.aes_lanes.specs.Cipher.{rounds, cipher}
 use Rattle.aes_lanes.proofs.RoundSteps.{rounds-next}
 use Rattle.aes_lanes.proofs.RoundPlanes.{key_is}
-use Rattle.aes_lanes.proofs.plane_rounds.encrypt_eight.Goals as goal
+use Rattle.aes_lanes.proofs.plane_rounds.encrypt_sixteen.Goals as goal
 
 pub loop-round-init : goal.loop-round-init
 unfolding rounds
@@ -27,9 +27,9 @@ returns c = λ words keys.
     let blocks = c.args.blocks.now in
     let last : c.loop-round.round ≡ c.args.rounds = omega arith in
     ext_get_or [] c.scatter.result (map (cipher c.args.rounds words) blocks)
-    (c.scatter.ensures.eight ∙ sym (length-map blocks (cipher c.args.rounds words) ∙ c.told-blocks))
+    (c.scatter.ensures.sixteen ∙ sym (length-map blocks (cipher c.args.rounds words) ∙ c.told-blocks))
     (λ k lt.
-    let few : k < 8 = omega (arith, c.scatter.ensures.eight) in
+    let few : k < 16 = omega (arith, c.scatter.ensures.sixteen) in
     let in_blocks : k < length blocks = omega (arith, c.told-blocks) in
     let key = key_is words c.args.rounds k _ _ c.index-keys-rounds.is (keys c.args.rounds k c.index-keys-rounds.result (omega arith) few) in
     c.scatter.ensures.blocks k few

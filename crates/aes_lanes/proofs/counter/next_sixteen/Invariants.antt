@@ -2,11 +2,11 @@ use Rattle.std.proofs.Common.{◌≡◌, ℕ, ◌<◌, [], get_or, length}
 use Rattle.std.specs.Fn.{iterate}
 use Rattle.aes_lanes.specs.Counter.{increment}
 use Rattle.aes_lanes.specs.Private.{width_of}
-use Rattle.aes_lanes.proofs.counter.next_eight.Given as goal
+use Rattle.aes_lanes.proofs.counter.next_sixteen.Given as goal
 
 abbrev pub invariant-loop-i : goal.invariant-loop-i
 invariant-loop-i l = record {
-  eight : length l.blocks ≡ 8;
+  sixteen : length l.blocks ≡ 16;
   counter : l.counter ≡ iterate (increment (width_of l.counting)) l.i l.initial.counter;
   counts : (k : ℕ) → k < l.i → get_or l.blocks k [] ≡ iterate (increment (width_of l.counting)) k l.initial.counter;
 }

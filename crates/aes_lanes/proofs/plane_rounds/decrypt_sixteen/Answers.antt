@@ -4,7 +4,7 @@ use Rattle.aes_lanes.specs.Rounds.{add_round_key, inverse_mix_columns, inverse_s
 use Rattle.aes_lanes.specs.Cipher.{inverse_rounds, inverse_cipher}
 use Rattle.aes_lanes.proofs.RoundSteps.{inverse_rounds-next}
 use Rattle.aes_lanes.proofs.RoundPlanes.{key_is}
-use Rattle.aes_lanes.proofs.plane_rounds.decrypt_eight.Goals as goal
+use Rattle.aes_lanes.proofs.plane_rounds.decrypt_sixteen.Goals as goal
 
 pub loop-undone-init : goal.loop-undone-init
 unfolding inverse_rounds
@@ -30,9 +30,9 @@ returns c = λ words keys.
     let blocks = c.args.blocks.now in
     let last : c.loop-undone.undone ≡ c.args.rounds = omega arith in
     ext_get_or [] c.scatter.result (map (inverse_cipher c.args.rounds words) blocks)
-    (c.scatter.ensures.eight ∙ sym (length-map blocks (inverse_cipher c.args.rounds words) ∙ c.told-blocks))
+    (c.scatter.ensures.sixteen ∙ sym (length-map blocks (inverse_cipher c.args.rounds words) ∙ c.told-blocks))
     (λ k lt.
-    let few : k < 8 = omega (arith, c.scatter.ensures.eight) in
+    let few : k < 16 = omega (arith, c.scatter.ensures.sixteen) in
     let in_blocks : k < length blocks = omega (arith, c.told-blocks) in
     let key = key_is words 0 k _ _ c.index-keys-0.is (keys 0 k c.index-keys-0.result (omega arith) few) in
     c.scatter.ensures.blocks k few

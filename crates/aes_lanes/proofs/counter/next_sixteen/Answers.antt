@@ -4,7 +4,7 @@ use Rattle.std.specs.Fn.{iterate}
 use Rattle.aes_lanes.specs.Counter.{increment}
 use Rattle.aes_lanes.specs.Private.{width_of}
 use Rattle.aes_lanes.proofs.CounterSteps.{counter-next}
-use Rattle.aes_lanes.proofs.counter.next_eight.Goals as goal
+use Rattle.aes_lanes.proofs.counter.next_sixteen.Goals as goal
 
 -- one more of some counts
 more_counts : (next : List ℕ → List ℕ) (start counter : List ℕ) (blocks : List (List ℕ)) (n : ℕ) → n < length blocks
@@ -20,7 +20,7 @@ pub loop-i-preserved : goal.loop-i-preserved
 loop-i-preserved c =
     let next = increment (width_of c.args.counting) in
     record {
-      eight = length-set c.loop-i.blocks c.loop-i.i c.loop-i.counter ∙ c.loop-i.invariant.eight;
+      sixteen = length-set c.loop-i.blocks c.loop-i.i c.loop-i.counter ∙ c.loop-i.invariant.sixteen;
       counter = counter-next next c.loop-i.i c.args.counter.now c.loop-i.counter _ c.loop-i.invariant.counter c.increment.ensures;
-      counts = more_counts next c.args.counter.now c.loop-i.counter c.loop-i.blocks c.loop-i.i (omega (arith, c.loop-i.invariant.eight)) c.loop-i.invariant.counter c.loop-i.invariant.counts;
+      counts = more_counts next c.args.counter.now c.loop-i.counter c.loop-i.blocks c.loop-i.i (omega (arith, c.loop-i.invariant.sixteen)) c.loop-i.invariant.counter c.loop-i.invariant.counts;
     }

@@ -1,6 +1,6 @@
 use Rattle.std.proofs.Common.{refl, arith}
 use Rattle.aes_lanes.proofs.XorSteps.{AreXoredAt-none, AreXoredAt-next}
-use Rattle.aes_lanes.proofs.block.xor_eight.Goals as goal
+use Rattle.aes_lanes.proofs.block.xor_sixteen.Goals as goal
 
 pub loop-i-init : goal.loop-i-init
 loop-i-init c = AreXoredAt-none _ _ _

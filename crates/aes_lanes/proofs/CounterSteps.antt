@@ -1,6 +1,6 @@
 -- Counter mode block by block and byte by byte.
-use Rattle.std.proofs.Common.{◌≡◌, ℕ, zero, suc, ◌<◌, ◌≤◌, ◌+◌, ◌-◌, ◌*◌, ◌/◌, ◌%◌, ◌^◌, List, [], ◌∷◌, length, slice_index, slice_set, bit_xor, get_or, refl, sym, ap, ap₂, ◌∙◌, arith, inl, inr}
-use Rattle.std.proofs.lemmas.List.{ext_get_or, get_or_append_left, get_or-append_right}
+use Rattle.std.proofs.Common.{◌≡◌, ℕ, zero, suc, ◌<◌, ◌≤◌, ◌+◌, ◌-◌, ◌*◌, ◌/◌, ◌%◌, ◌^◌, List, [], ◌∷◌, length, slice_index, slice_set, bit_xor, ◌++◌, map, take, drop, get_or, refl, sym, ap, ap₂, ◌∙◌, arith, inl, inr, length-append}
+use Rattle.std.proofs.lemmas.List.{ext_get_or, get_or_append_left, get_or-append_right, get_or-drop, get_or-map, get_or-take, length-drop, length-map, length-take-le, take_rest}
 use Rattle.std.proofs.lemmas.Bool.{cases_lt}
 use Rattle.std.specs.Fn.{iterate}
 use Rattle.std.specs.Int.{w32, w128, to_be_bytes, from_be_bytes}
@@ -104,10 +104,55 @@ IsDoneTo-sixteen image next start text bytes new blocks k same done each xored =
   after = λ i above. xored.after i (omega arith) ∙ done.after i (omega arith);
 }
 
+-- at the start
+pub IsDoneTo-none : (image next : List ℕ → List ℕ) (start text : List ℕ) → IsDoneTo image next start text text 0
+IsDoneTo-none image next start text = record { before = λ i below within. absurd (omega arith); after = λ i above. refl }
+
 -- counts one after another
 pub iterate-more : (f : List ℕ → List ℕ) (m n : ℕ) (x : List ℕ) → iterate f n (iterate f m x) ≡ iterate f (m + n) x
 iterate-more f zero n x = let e : n ≡ 0 + n = omega arith in ap (λ k. iterate f k x) e
 iterate-more f (suc m) n x = let e : suc (m + n) ≡ suc m + n = omega arith in iterate-more f m n (f x) ∙ ap (λ k. iterate f k x) e
+
+-- a text of which the first k blocks are done, and the rest at once, as a slice from there gives it
+pub counter_mode-from_rest : (image next : List ℕ → List ℕ) → ((b : List ℕ) → length (image b) ≡ 16)
+    → (start counter text bytes rest : List ℕ) (k at : ℕ) → at ≡ 16 * k → at ≤ length text → length bytes ≡ length text
+    → IsDoneTo image next start text bytes k → counter ≡ iterate next k start
+    → rest ≡ counter_mode image next counter (take (length bytes - at) (drop at bytes))
+    → take at bytes ++ rest ≡ counter_mode image next start text
+counter_mode-from_rest image next sixteen start counter text bytes rest k at from within same done counted is =
+    let whole : rest ≡ counter_mode image next counter (drop at bytes) = is ∙ ap (counter_mode image next counter) (take_rest bytes at) in
+    let long : length (take at bytes) ≡ at = length-take-le at bytes (omega arith) in
+    let left : length (drop at bytes) ≡ length text - at = length-drop at bytes ∙ ap (λ n. n - at) same in
+    let size : length rest ≡ length text - at = ap length whole ∙ length-counter_mode image next sixteen counter (drop at bytes) ∙ left in
+    counter_mode-from_places image next sixteen start text (take at bytes ++ rest)
+    (omega (arith, length-append (take at bytes) rest, long, size, within))
+    (λ i lt. elim (cases_lt i at) [
+      | inl old ↦
+          let in_front : i < length (take at bytes) = omega arith in
+          get_or_append_left (take at bytes) rest 0 i in_front ∙ get_or-take at bytes i 0 old ∙ done.before i (omega arith) lt
+      | inr here ↦
+          let j : ℕ = i - at in
+          let in_rest : j < length (drop at bytes) = omega arith in
+          let back : at + j ≡ i = omega arith in
+          let block : k + j / 16 ≡ i / 16 = omega arith in
+          let place : j % 16 ≡ i % 16 = omega arith in
+          get_or-append_right (take at bytes) rest at i 0 long here
+          ∙ ap (λ l. slice_index l j) whole ∙ slice_index-counter_mode image next sixteen counter (drop at bytes) j in_rest
+          ∙ ap₂ bit_xor (get_or-drop at bytes j 0 ∙ ap (slice_index bytes) back ∙ done.after i (omega arith))
+          (ap (λ b. slice_index (image b) (j % 16)) (ap (iterate next (j / 16)) counted ∙ iterate-more next k (j / 16) start ∙ ap (λ n. iterate next n start) block)
+          ∙ ap (slice_index (image (iterate next (i / 16) start))) place)
+    ])
+
+-- an image of the first n of sixteen counter blocks
+pub image_at : (image next : List ℕ → List ℕ) (start : List ℕ) (blocks images rest : List (List ℕ)) (n k : ℕ) → images ≡ map image (take n blocks)
+    → k < n → n ≤ 16 → length blocks ≡ 16 → ((i : ℕ) → i < 16 → get_or blocks i [] ≡ iterate next i start)
+    → get_or (images ++ rest) k [] ≡ image (iterate next k start)
+image_at image next start blocks images rest n k is lt most sixteen each =
+    let few : length (take n blocks) ≡ n = length-take-le n blocks (omega arith) in
+    let within : k < length (take n blocks) = omega arith in
+    let inside : k < length images = omega (arith, ap length is ∙ length-map (take n blocks) image, few) in
+    get_or_append_left images rest [] k inside ∙ ap (λ l. get_or l k []) is ∙ get_or-map image (take n blocks) k [] [] within
+    ∙ ap image (get_or-take n blocks k [] lt ∙ each k (omega arith))
 
 -- a number's bytes read at once, as they are read one by one
 number_of-4 : (a b c d : ℕ) → from_be_bytes w32 (a ∷ b ∷ c ∷ d ∷ []) ≡ number_of (a ∷ b ∷ c ∷ d ∷ [])

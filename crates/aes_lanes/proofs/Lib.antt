@@ -6,12 +6,15 @@ mod CounterBytes
 mod ScheduleSteps
 mod CounterSteps
 mod LaneSteps
+mod ShuffleSteps
 mod PlaneBits
 mod Gates
 mod PlaneMoves
 mod PlaneUnmix
+mod BlockSteps
 mod RoundPlanes
 mod MapParts
+mod Rests
 mod XorSteps
 mod PlaneSwaps
 mod PlaneBlocks

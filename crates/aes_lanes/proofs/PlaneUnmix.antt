@@ -78,7 +78,7 @@ four_bytes : (f : ℕ → ℕ → ℕ → ℕ → List ℕ) {a b c d a' b' c' d'
 four_bytes f {a} {b} {c} {d} {a'} {b'} {c'} {d'} ea eb ec ed =
     ap (λ x. f x b c d) ea ∙ ap (λ x. f a' x c d) eb ∙ ap (λ x. f a' b' x d) ec ∙ ap (f a' b' c') ed
 
-spread-column : (a b c d : ℕ) → a < 256 → b < 256 → c < 256 → d < 256
+pub spread-column : (a b c d : ℕ) → a < 256 → b < 256 → c < 256 → d < 256
     → column_product (spread a c) (spread b d) (spread c a) (spread d b) ≡ inverse_column_product a b c d
 unfolding inverse_column_product xor_bytes
 spread-column a b c d ha hb hc hd =

@@ -6,6 +6,8 @@ pub mod Cipher
 pub mod BlockCipher
 pub mod Counter
 pub mod Private
+pub mod Shuffles
+pub mod RoundKeys
 pub mod Planes
 pub mod PlaneList
 pub mod Laws

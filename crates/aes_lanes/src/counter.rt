@@ -1,6 +1,6 @@
 // Counter mode (SP 800-38A, section 6.5).
 
-ghost use Rattle.std.specs.Prelude.{◌≡◌, ℕ, ◌<◌, [], get_or, length};
+ghost use Rattle.std.specs.Prelude.{◌≡◌, ℕ, ◌<◌, ◌≤◌, [], get_or, length};
 ghost use Rattle.std.specs.Fn.{iterate};
 ghost use Rattle.aes_lanes.specs.Counter.{counter_mode, ctr128, ctr32, increment, increment128, increment32};
 ghost use Rattle.aes_lanes.specs.Private.{width_of};
@@ -55,6 +55,20 @@ fn next_sixteen(counting: Counting, counter: &mut Block) -> [Block; 16]
     blocks
 }
 
+// Counter mode on at most sixteen blocks.
+fn last_xor<C: Cipher>(cipher: &C, counting: Counting, start: &Block, bytes: &mut [u8])
+    requires { length bytes.old ≤ 256 }
+    ensures { bytes.new ≡ counter_mode (C.image cipher.now) (increment (width_of counting)) start.now bytes.old }
+{
+    let count = bytes.len().div_ceil(16);
+    let mut counter = *start;
+    let mut stream = next_sixteen(counting, &mut counter);
+    cipher.encrypt_blocks(&mut stream[..count]);
+    for k in 0..count {
+        xor_at(bytes, 16 * k, &stream[k]);
+    }
+}
+
 fn counter_xor<C: Cipher>(cipher: &C, counting: Counting, start: &Block, bytes: &mut [u8])
     ensures { bytes.new ≡ counter_mode (C.image cipher.now) (increment (width_of counting)) start.now bytes.old }
 {
@@ -65,12 +79,7 @@ fn counter_xor<C: Cipher>(cipher: &C, counting: Counting, start: &Block, bytes: 
         cipher.encrypt_blocks(&mut stream);
         xor_sixteen(bytes, 256 * set, &stream);
     }
-    for k in 16 * sets..bytes.len().div_ceil(16) {
-        let mut stream = [counter];
-        cipher.encrypt_blocks(&mut stream);
-        xor_at(bytes, 16 * k, &stream[0]);
-        increment(counting, &mut counter);
-    }
+    last_xor(cipher, counting, &counter, &mut bytes[256 * sets..]);
 }
 
 /// Xors the key stream that starts with the image of `start` into the bytes. Its counter blocks

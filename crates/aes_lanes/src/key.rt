@@ -7,19 +7,21 @@ use crate::cipher::Cipher;
 use crate::plane_rounds::expand_planes;
 use crate::planes::{Planes, no_planes};
 use crate::rounds::{decrypt_all, encrypt_all};
-use crate::schedule::expand_key;
+use crate::schedule::{expand_blocks, expand_key};
 use std::marker::Model;
 
 /// A key of AES-128, of 16 bytes. A contract sees it as those bytes.
 #[derive(Drop)]
 pub struct Key128 {
     words: [u32; 44],
+    blocks: [Block; 11],
     planes: [Planes; 11],
 }
 
 impl Model for Key128 {
     ghost use Rattle.std.specs.Prelude.{◌≡◌, ℕ, List};
     ghost use Rattle.aes_lanes.specs.PlaneList.{AreRoundKeys};
+    ghost use Rattle.aes_lanes.specs.RoundKeys.{AreKeyBlocks};
     ghost use Rattle.aes_lanes.specs.Private.{key_of};
     ghost use Rattle.aes_lanes.specs.Cipher.{key_schedule};
 
@@ -29,6 +31,7 @@ impl Model for Key128 {
 
     ghost invariant = { λ key. record {
       schedule : key.words ≡ key_schedule 4 (key_of 4 key.words);
+      blocks : AreKeyBlocks key.words key.blocks;
       planes : AreRoundKeys key.words key.planes;
     } };
 }
@@ -40,9 +43,15 @@ impl Key128 {
     {
         let mut words = [0; 44];
         expand_key(key, 4, &mut words);
+        let mut blocks = [[0; 16]; 11];
+        expand_blocks(&words, &mut blocks);
         let mut planes = [no_planes(); 11];
         expand_planes(&words, &mut planes);
-        Key128 { words, planes }
+        Key128 {
+            words,
+            blocks,
+            planes,
+        }
     }
 }
 
@@ -59,11 +68,11 @@ impl Cipher for Key128 {
     ghost undone = { aes-undone 4 };
 
     fn encrypt_blocks(&self, blocks: &mut [Block]) {
-        encrypt_all(&self.words, &self.planes, 10, blocks);
+        encrypt_all(&self.blocks, &self.planes, 10, blocks);
     }
 
     fn decrypt_blocks(&self, blocks: &mut [Block]) {
-        decrypt_all(&self.words, &self.planes, 10, blocks);
+        decrypt_all(&self.blocks, &self.planes, 10, blocks);
     }
 }
 
@@ -71,12 +80,14 @@ impl Cipher for Key128 {
 #[derive(Drop)]
 pub struct Key256 {
     words: [u32; 60],
+    blocks: [Block; 15],
     planes: [Planes; 15],
 }
 
 impl Model for Key256 {
     ghost use Rattle.std.specs.Prelude.{◌≡◌, ℕ, List};
     ghost use Rattle.aes_lanes.specs.PlaneList.{AreRoundKeys};
+    ghost use Rattle.aes_lanes.specs.RoundKeys.{AreKeyBlocks};
     ghost use Rattle.aes_lanes.specs.Private.{key_of};
     ghost use Rattle.aes_lanes.specs.Cipher.{key_schedule};
 
@@ -86,6 +97,7 @@ impl Model for Key256 {
 
     ghost invariant = { λ key. record {
       schedule : key.words ≡ key_schedule 8 (key_of 8 key.words);
+      blocks : AreKeyBlocks key.words key.blocks;
       planes : AreRoundKeys key.words key.planes;
     } };
 }
@@ -97,9 +109,15 @@ impl Key256 {
     {
         let mut words = [0; 60];
         expand_key(key, 8, &mut words);
+        let mut blocks = [[0; 16]; 15];
+        expand_blocks(&words, &mut blocks);
         let mut planes = [no_planes(); 15];
         expand_planes(&words, &mut planes);
-        Key256 { words, planes }
+        Key256 {
+            words,
+            blocks,
+            planes,
+        }
     }
 }
 
@@ -116,10 +134,10 @@ impl Cipher for Key256 {
     ghost undone = { aes-undone 8 };
 
     fn encrypt_blocks(&self, blocks: &mut [Block]) {
-        encrypt_all(&self.words, &self.planes, 14, blocks);
+        encrypt_all(&self.blocks, &self.planes, 14, blocks);
     }
 
     fn decrypt_blocks(&self, blocks: &mut [Block]) {
-        decrypt_all(&self.words, &self.planes, 14, blocks);
+        decrypt_all(&self.blocks, &self.planes, 14, blocks);
     }
 }

@@ -14,6 +14,7 @@ mod plane_rounds;
 mod planes;
 mod rounds;
 mod schedule;
+mod shuffles;
 mod tables;
 
 pub use block::{Block, same_bytes, xor_into};

@@ -10,7 +10,7 @@ ghost use Rattle.aes_lanes.specs.Rounds.{add_round_key, inverse_mix_columns, inv
 use crate::block::Block;
 use crate::plane_blocks::{gather, scatter};
 use crate::planes::Planes;
-use crate::rounds::key_block;
+use crate::schedule::key_block;
 use std::simd::prelude::*;
 
 // The circuit of Boyar and Peralta without the complement of four planes: the S-box and 0x63.
@@ -419,6 +419,20 @@ pub(crate) fn encrypt_at(keys: &[Planes], rounds: usize, blocks: &mut [Block], a
     blocks[at..at + 16].copy_from_slice(&sixteen);
 }
 
+/// Replaces at most sixteen blocks by their images in so many rounds, under round keys as planes, in the time of sixteen.
+pub(crate) fn encrypt_few(keys: &[Planes], rounds: usize, blocks: &mut [Block])
+    requires some { 0 < rounds }
+    requires keys { length keys.now ≡ rounds + 1 }
+    requires few { length blocks.old ≤ 16 }
+    ensures { (words : List ℕ) → AreRoundKeys words keys.now → blocks.new ≡ map (cipher rounds words) blocks.old }
+{
+    let count = blocks.len();
+    let mut sixteen = [[0; 16]; 16];
+    sixteen[..count].copy_from_slice(blocks);
+    encrypt_sixteen(keys, rounds, &mut sixteen);
+    blocks.copy_from_slice(&sixteen[..count]);
+}
+
 // Replaces sixteen blocks by their preimages in so many rounds, under round keys as planes.
 fn decrypt_sixteen(keys: &[Planes], rounds: usize, blocks: &mut [Block; 16])
     requires some { 0 < rounds }
@@ -445,4 +459,18 @@ pub(crate) fn decrypt_at(keys: &[Planes], rounds: usize, blocks: &mut [Block], a
     sixteen.copy_from_slice(&blocks[at..at + 16]);
     decrypt_sixteen(keys, rounds, &mut sixteen);
     blocks[at..at + 16].copy_from_slice(&sixteen);
+}
+
+/// Replaces at most sixteen blocks by their preimages in so many rounds, under round keys as planes, in the time of sixteen.
+pub(crate) fn decrypt_few(keys: &[Planes], rounds: usize, blocks: &mut [Block])
+    requires some { 0 < rounds }
+    requires keys { length keys.now ≡ rounds + 1 }
+    requires few { length blocks.old ≤ 16 }
+    ensures { (words : List ℕ) → AreRoundKeys words keys.now → blocks.new ≡ map (inverse_cipher rounds words) blocks.old }
+{
+    let count = blocks.len();
+    let mut sixteen = [[0; 16]; 16];
+    sixteen[..count].copy_from_slice(blocks);
+    decrypt_sixteen(keys, rounds, &mut sixteen);
+    blocks.copy_from_slice(&sixteen[..count]);
 }

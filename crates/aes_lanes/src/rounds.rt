@@ -1,215 +1,194 @@
-// The rounds of AES on a state of four words, one for each column (FIPS 197, section 5.1).
+// The rounds of AES on a block as a vector, column after column (FIPS 197, section 5.1).
 
-ghost use Rattle.std.specs.Prelude.{◌≡◌, ◌+◌, ◌*◌, ◌<◌, ◌≤◌, [], ◌∷◌, length, map};
-ghost use Rattle.std.specs.Int.{w32, to_be_bytes};
-ghost use Rattle.aes_lanes.specs.Field.{inverse_sbox, sbox};
-ghost use Rattle.aes_lanes.specs.Rounds.{add_round_key, inverse_mix_columns, inverse_shift_rows, inverse_sub_bytes, mix_columns, shift_rows, sub_bytes};
+ghost use Rattle.std.specs.Prelude.{◌≡◌, ℕ, ◌+◌, ◌*◌, ◌<◌, ◌≤◌, List, length, map};
+ghost use Rattle.aes_lanes.specs.Field.{multiply};
+ghost use Rattle.aes_lanes.specs.Rounds.{inverse_mix_columns, inverse_shift_rows, mix_columns, shift_rows};
 ghost use Rattle.aes_lanes.specs.PlaneList.{AreRoundKeys};
-ghost use Rattle.aes_lanes.specs.Schedule.{round_key, state_of};
+ghost use Rattle.aes_lanes.specs.RoundKeys.{AreKeyBlocks};
 ghost use Rattle.aes_lanes.specs.Cipher.{cipher, inverse_cipher};
 
 use crate::block::Block;
-use crate::plane_rounds::{decrypt_at, encrypt_at};
+use crate::plane_rounds::{decrypt_at, decrypt_few, encrypt_at, encrypt_few};
 use crate::planes::Planes;
-use crate::schedule::load_word;
-use crate::tables::{column, inverse_column, inverse_sbox, sbox};
+use crate::shuffles::{sub, unsub};
+use std::simd::prelude::*;
 
-type State = [u32; 4];
-
+// 2 times each byte.
 #[inline(always)]
-fn load(block: &Block) -> State
-    ensures { state_of result ≡ block.now }
+fn doubled(v: u8x16) -> u8x16
+    ensures { result ≡ map (multiply 2) v }
 {
-    [
-        load_word(block, 0),
-        load_word(block, 1),
-        load_word(block, 2),
-        load_word(block, 3),
-    ]
+    let carried = u8x16::splat(0) - (v >> u8x16::splat(7));
+    (v + v) ^ (carried & u8x16::splat(0x1b))
 }
 
+// 4 times each byte.
 #[inline(always)]
-fn store(state: &State) -> Block
-    ensures { result ≡ state_of state.now }
+fn quadrupled(v: u8x16) -> u8x16
+    ensures { result ≡ map (multiply 4) v }
 {
-    let [a0, a1, a2, a3] = state[0].to_be_bytes();
-    let [b0, b1, b2, b3] = state[1].to_be_bytes();
-    let [c0, c1, c2, c3] = state[2].to_be_bytes();
-    let [d0, d1, d2, d3] = state[3].to_be_bytes();
-    [
-        a0, a1, a2, a3, b0, b1, b2, b3, c0, c1, c2, c3, d0, d1, d2, d3,
-    ]
+    doubled(doubled(v))
 }
 
-/// The key of a round as a block.
-pub(crate) fn key_block(words: &[u32], round: usize) -> Block
-    requires { 4 * round + 4 ≤ length words.now }
-    ensures { result ≡ round_key words.now round }
-{
-    store(&[
-        words[4 * round],
-        words[4 * round + 1],
-        words[4 * round + 2],
-        words[4 * round + 3],
-    ])
-}
+// Which byte of a block comes to each place when the rows are shifted, and shifted back.
+const SHIFT: [usize; 16] = [0, 5, 10, 15, 4, 9, 14, 3, 8, 13, 2, 7, 12, 1, 6, 11];
 
+const UNSHIFT: [usize; 16] = [0, 13, 10, 7, 4, 1, 14, 11, 8, 5, 2, 15, 12, 9, 6, 3];
+
+// SHIFTROWS.
 #[inline(always)]
-fn add_key(state: &State, words: &[u32], round: usize) -> State
-    requires { 4 * round + 4 ≤ length words.now }
-    ensures { state_of result ≡ add_round_key (state_of state.now) (round_key words.now round) }
+fn shifted(v: u8x16) -> u8x16
+    ensures { result ≡ shift_rows v }
 {
-    [
-        state[0] ^ words[4 * round],
-        state[1] ^ words[4 * round + 1],
-        state[2] ^ words[4 * round + 2],
-        state[3] ^ words[4 * round + 3],
-    ]
+    v.swizzle(SHIFT)
 }
 
+// INVSHIFTROWS.
 #[inline(always)]
-fn mixed_state(state: &State) -> State
-    ensures { state_of result ≡ mix_columns (shift_rows (sub_bytes (state_of state.now))) }
+fn unshifted(v: u8x16) -> u8x16
+    ensures { result ≡ inverse_shift_rows v }
 {
-    let [a0, a1, a2, a3] = state[0].to_be_bytes();
-    let [b0, b1, b2, b3] = state[1].to_be_bytes();
-    let [c0, c1, c2, c3] = state[2].to_be_bytes();
-    let [d0, d1, d2, d3] = state[3].to_be_bytes();
-    [
-        column(a0, b1, c2, d3),
-        column(b0, c1, d2, a3),
-        column(c0, d1, a2, b3),
-        column(d0, a1, b2, c3),
-    ]
+    v.swizzle(UNSHIFT)
 }
 
+// Which byte of a block comes to each place when the columns move up by one row, and by two.
+const TURN: [usize; 16] = [1, 2, 3, 0, 5, 6, 7, 4, 9, 10, 11, 8, 13, 14, 15, 12];
+
+const HALF_TURN: [usize; 16] = [2, 3, 0, 1, 6, 7, 4, 5, 10, 11, 8, 9, 14, 15, 12, 13];
+
+// MIXCOLUMNS: a column's byte a before b, c and d becomes 2 (a + b) + b + (c + d).
 #[inline(always)]
-fn shifted_column(a: u8, b: u8, c: u8, d: u8) -> u32
-    ensures { to_be_bytes w32 result ≡ sbox a ∷ sbox b ∷ sbox c ∷ sbox d ∷ [] }
+fn mixed(v: u8x16) -> u8x16
+    ensures { result ≡ mix_columns v }
 {
-    u32::from_be_bytes([sbox(a), sbox(b), sbox(c), sbox(d)])
+    let turned: u8x16 = v.swizzle(TURN);
+    let sum = v ^ turned;
+    let far: u8x16 = sum.swizzle(HALF_TURN);
+    doubled(sum) ^ turned ^ far
 }
 
+// INVMIXCOLUMNS: the columns, mixed, of the state that has 4 (x + y) added to each byte x, for the byte y two rows on.
 #[inline(always)]
-fn shifted_state(state: &State) -> State
-    ensures { state_of result ≡ shift_rows (sub_bytes (state_of state.now)) }
+fn unmixed(v: u8x16) -> u8x16
+    ensures { result ≡ inverse_mix_columns v }
 {
-    let [a0, a1, a2, a3] = state[0].to_be_bytes();
-    let [b0, b1, b2, b3] = state[1].to_be_bytes();
-    let [c0, c1, c2, c3] = state[2].to_be_bytes();
-    let [d0, d1, d2, d3] = state[3].to_be_bytes();
-    [
-        shifted_column(a0, b1, c2, d3),
-        shifted_column(b0, c1, d2, a3),
-        shifted_column(c0, d1, a2, b3),
-        shifted_column(d0, a1, b2, c3),
-    ]
+    let far: u8x16 = v.swizzle(HALF_TURN);
+    mixed(v ^ quadrupled(v ^ far))
 }
 
-// Replaces a block by its image in so many rounds, under the words of a key schedule.
-fn encrypt_block(words: &[u32], rounds: usize, block: &mut Block)
+// Replaces a block by its image in so many rounds, under round keys as blocks.
+fn encrypt_block(keys: &[Block], rounds: usize, block: &mut Block)
     requires some { 0 < rounds }
-    requires words { length words.now ≡ 4 * (rounds + 1) }
-    ensures { block.new ≡ cipher rounds words.now block.old }
+    requires keys { length keys.now ≡ rounds + 1 }
+    ensures { (words : List ℕ) → AreKeyBlocks words keys.now → block.new ≡ cipher rounds words block.old }
 {
-    let mut state = add_key(&load(block), words, 0);
+    let mut state = u8x16::from_array(*block) ^ u8x16::from_array(keys[0]);
     for round in 1..rounds {
-        let next = add_key(&mixed_state(&state), words, round);
+        let next = mixed(shifted(sub(state))) ^ u8x16::from_array(keys[round]);
         state = next;
     }
-    *block = store(&add_key(&shifted_state(&state), words, rounds));
+    let last = shifted(sub(state)) ^ u8x16::from_array(keys[rounds]);
+    *block = last.to_array();
 }
 
-#[inline(always)]
-fn unshifted_column(a: u8, b: u8, c: u8, d: u8) -> u32
-    ensures { to_be_bytes w32 result ≡ inverse_sbox a ∷ inverse_sbox b ∷ inverse_sbox c ∷ inverse_sbox d ∷ [] }
-{
-    u32::from_be_bytes([
-        inverse_sbox(a),
-        inverse_sbox(b),
-        inverse_sbox(c),
-        inverse_sbox(d),
-    ])
-}
-
-#[inline(always)]
-fn unshifted_state(state: &State) -> State
-    ensures { state_of result ≡ inverse_sub_bytes (inverse_shift_rows (state_of state.now)) }
-{
-    let [a0, a1, a2, a3] = state[0].to_be_bytes();
-    let [b0, b1, b2, b3] = state[1].to_be_bytes();
-    let [c0, c1, c2, c3] = state[2].to_be_bytes();
-    let [d0, d1, d2, d3] = state[3].to_be_bytes();
-    [
-        unshifted_column(a0, d1, c2, b3),
-        unshifted_column(b0, a1, d2, c3),
-        unshifted_column(c0, b1, a2, d3),
-        unshifted_column(d0, c1, b2, a3),
-    ]
-}
-
-#[inline(always)]
-fn unmixed_state(state: &State) -> State
-    ensures { state_of result ≡ inverse_mix_columns (state_of state.now) }
-{
-    let [a0, a1, a2, a3] = state[0].to_be_bytes();
-    let [b0, b1, b2, b3] = state[1].to_be_bytes();
-    let [c0, c1, c2, c3] = state[2].to_be_bytes();
-    let [d0, d1, d2, d3] = state[3].to_be_bytes();
-    [
-        inverse_column(a0, a1, a2, a3),
-        inverse_column(b0, b1, b2, b3),
-        inverse_column(c0, c1, c2, c3),
-        inverse_column(d0, d1, d2, d3),
-    ]
-}
-
-// Replaces a block by its preimage in so many rounds, under the words of a key schedule.
-fn decrypt_block(words: &[u32], rounds: usize, block: &mut Block)
+// Replaces a block by its preimage in so many rounds, under round keys as blocks.
+fn decrypt_block(keys: &[Block], rounds: usize, block: &mut Block)
     requires some { 0 < rounds }
-    requires words { length words.now ≡ 4 * (rounds + 1) }
-    ensures { block.new ≡ inverse_cipher rounds words.now block.old }
+    requires keys { length keys.now ≡ rounds + 1 }
+    ensures { (words : List ℕ) → AreKeyBlocks words keys.now → block.new ≡ inverse_cipher rounds words block.old }
 {
-    let mut state = add_key(&load(block), words, rounds);
+    let mut state = u8x16::from_array(*block) ^ u8x16::from_array(keys[rounds]);
     for undone in 1..rounds {
-        let next = unmixed_state(&add_key(&unshifted_state(&state), words, rounds - undone));
+        let next = unmixed(unsub(unshifted(state)) ^ u8x16::from_array(keys[rounds - undone]));
         state = next;
     }
-    *block = store(&add_key(&unshifted_state(&state), words, 0));
+    let last = unsub(unshifted(state)) ^ u8x16::from_array(keys[0]);
+    *block = last.to_array();
 }
 
-/// Replaces each block by its image in so many rounds, under the words of a key schedule, whose round keys are
-/// also given as planes.
-pub(crate) fn encrypt_all(words: &[u32], keys: &[Planes], rounds: usize, blocks: &mut [Block])
+// Replaces each block by its image in so many rounds, one after the other.
+fn encrypt_singly(keys: &[Block], rounds: usize, blocks: &mut [Block])
     requires some { 0 < rounds }
-    requires words { length words.now ≡ 4 * (rounds + 1) }
     requires keys { length keys.now ≡ rounds + 1 }
-    requires same_keys { AreRoundKeys words.now keys.now }
-    ensures { blocks.new ≡ map (cipher rounds words.now) blocks.old }
+    ensures { (words : List ℕ) → AreKeyBlocks words keys.now → blocks.new ≡ map (cipher rounds words) blocks.old }
 {
-    let sets = blocks.len() / 16;
-    for set in 0..sets {
-        encrypt_at(keys, rounds, blocks, 16 * set);
-    }
-    for i in 16 * sets..blocks.len() {
-        encrypt_block(words, rounds, &mut blocks[i]);
+    for i in 0..blocks.len() {
+        encrypt_block(keys, rounds, &mut blocks[i]);
     }
 }
 
-/// Replaces each block by its preimage in so many rounds, under the words of a key schedule, whose round keys are
-/// also given as planes.
-pub(crate) fn decrypt_all(words: &[u32], keys: &[Planes], rounds: usize, blocks: &mut [Block])
+// Replaces each block by its preimage in so many rounds, one after the other.
+fn decrypt_singly(keys: &[Block], rounds: usize, blocks: &mut [Block])
     requires some { 0 < rounds }
-    requires words { length words.now ≡ 4 * (rounds + 1) }
     requires keys { length keys.now ≡ rounds + 1 }
-    requires same_keys { AreRoundKeys words.now keys.now }
-    ensures { blocks.new ≡ map (inverse_cipher rounds words.now) blocks.old }
+    ensures { (words : List ℕ) → AreKeyBlocks words keys.now → blocks.new ≡ map (inverse_cipher rounds words) blocks.old }
+{
+    for i in 0..blocks.len() {
+        decrypt_block(keys, rounds, &mut blocks[i]);
+    }
+}
+
+// Up to so many blocks take less time one after the other than at once.
+const FEW: usize = 6;
+
+// Replaces at most sixteen blocks by their images in so many rounds, under round keys as blocks and as planes.
+fn encrypt_rest(keys: &[Block], planes: &[Planes], rounds: usize, blocks: &mut [Block])
+    requires some { 0 < rounds }
+    requires keys { length keys.now ≡ rounds + 1 }
+    requires planes { length planes.now ≡ rounds + 1 }
+    requires sixteen { length blocks.old ≤ 16 }
+    ensures { (words : List ℕ) → AreKeyBlocks words keys.now → AreRoundKeys words planes.now
+        → blocks.new ≡ map (cipher rounds words) blocks.old }
+{
+    if blocks.len() <= FEW {
+        encrypt_singly(keys, rounds, blocks);
+    } else {
+        encrypt_few(planes, rounds, blocks);
+    }
+}
+
+// Replaces at most sixteen blocks by their preimages in so many rounds, under round keys as blocks and as planes.
+fn decrypt_rest(keys: &[Block], planes: &[Planes], rounds: usize, blocks: &mut [Block])
+    requires some { 0 < rounds }
+    requires keys { length keys.now ≡ rounds + 1 }
+    requires planes { length planes.now ≡ rounds + 1 }
+    requires sixteen { length blocks.old ≤ 16 }
+    ensures { (words : List ℕ) → AreKeyBlocks words keys.now → AreRoundKeys words planes.now
+        → blocks.new ≡ map (inverse_cipher rounds words) blocks.old }
+{
+    if blocks.len() <= FEW {
+        decrypt_singly(keys, rounds, blocks);
+    } else {
+        decrypt_few(planes, rounds, blocks);
+    }
+}
+
+/// Replaces each block by its image in so many rounds, under round keys as blocks and as planes.
+pub(crate) fn encrypt_all(keys: &[Block], planes: &[Planes], rounds: usize, blocks: &mut [Block])
+    requires some { 0 < rounds }
+    requires keys { length keys.now ≡ rounds + 1 }
+    requires planes { length planes.now ≡ rounds + 1 }
+    ensures { (words : List ℕ) → AreKeyBlocks words keys.now → AreRoundKeys words planes.now
+        → blocks.new ≡ map (cipher rounds words) blocks.old }
 {
     let sets = blocks.len() / 16;
     for set in 0..sets {
-        decrypt_at(keys, rounds, blocks, 16 * set);
+        encrypt_at(planes, rounds, blocks, 16 * set);
     }
-    for i in 16 * sets..blocks.len() {
-        decrypt_block(words, rounds, &mut blocks[i]);
+    encrypt_rest(keys, planes, rounds, &mut blocks[16 * sets..]);
+}
+
+/// Replaces each block by its preimage in so many rounds, under round keys as blocks and as planes.
+pub(crate) fn decrypt_all(keys: &[Block], planes: &[Planes], rounds: usize, blocks: &mut [Block])
+    requires some { 0 < rounds }
+    requires keys { length keys.now ≡ rounds + 1 }
+    requires planes { length planes.now ≡ rounds + 1 }
+    ensures { (words : List ℕ) → AreKeyBlocks words keys.now → AreRoundKeys words planes.now
+        → blocks.new ≡ map (inverse_cipher rounds words) blocks.old }
+{
+    let sets = blocks.len() / 16;
+    for set in 0..sets {
+        decrypt_at(planes, rounds, blocks, 16 * set);
     }
+    decrypt_rest(keys, planes, rounds, &mut blocks[16 * sets..]);
 }

@@ -1,8 +1,10 @@
 // The key schedule, over words of which the first byte is highest (FIPS 197, section 5.2).
 
 ghost use Rattle.std.specs.Prelude.{◌≡◌, ◌+◌, ◌-◌, ◌*◌, ◌/◌, ◌^◌, ◌<◌, ◌≤◌, length};
-ghost use Rattle.aes_lanes.specs.Schedule.{expanded_key, rot_word, round_constant, schedule_step, sub_word, word_at};
+ghost use Rattle.aes_lanes.specs.RoundKeys.{AreKeyBlocks};
+ghost use Rattle.aes_lanes.specs.Schedule.{expanded_key, rot_word, round_constant, round_key, schedule_step, sub_word, word_at};
 
+use crate::block::Block;
 use crate::tables::sbox;
 
 #[inline(always)]
@@ -55,6 +57,30 @@ fn schedule_step(key_words: usize, i: usize, last: u32) -> u32
         sub_word(last)
     } else {
         last
+    }
+}
+
+/// The key of a round as a block.
+pub(crate) fn key_block(words: &[u32], round: usize) -> Block
+    requires { 4 * round + 4 ≤ length words.now }
+    ensures { result ≡ round_key words.now round }
+{
+    let [a0, a1, a2, a3] = words[4 * round].to_be_bytes();
+    let [b0, b1, b2, b3] = words[4 * round + 1].to_be_bytes();
+    let [c0, c1, c2, c3] = words[4 * round + 2].to_be_bytes();
+    let [d0, d1, d2, d3] = words[4 * round + 3].to_be_bytes();
+    [
+        a0, a1, a2, a3, b0, b1, b2, b3, c0, c1, c2, c3, d0, d1, d2, d3,
+    ]
+}
+
+/// Writes the round keys of a key schedule's words as blocks, as many as there is room for.
+pub(crate) fn expand_blocks(words: &[u32], keys: &mut [Block])
+    requires { 4 * length keys.old ≤ length words.now }
+    ensures { AreKeyBlocks words.now keys.new }
+{
+    for round in 0..keys.len() {
+        keys[round] = key_block(words, round);
     }
 }
 

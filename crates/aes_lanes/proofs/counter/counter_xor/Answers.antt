@@ -1,9 +1,10 @@
-use Rattle.std.proofs.Common.{◌≡◌, ℕ, ◌≤◌, ◌<◌, ◌+◌, ◌*◌, List, [], map, length, get_or, ap, ◌∙◌, subst, arith}
+use Rattle.std.proofs.Common.{◌≡◌, ℕ, ◌<◌, ◌+◌, ◌*◌, ◌/◌, List, [], map, length, get_or, ap, ◌∙◌, subst, arith}
 use Rattle.std.proofs.lemmas.List.{get_or-map}
 use Rattle.std.specs.Fn.{iterate}
 use Rattle.aes_lanes.specs.Counter.{increment}
 use Rattle.aes_lanes.specs.Private.{width_of, AreXoredAt}
-use Rattle.aes_lanes.proofs.CounterSteps.{counter-next, IsDoneTo, IsDoneTo-next, IsDoneTo-sixteen, iterate-more, counter_mode-from_places}
+use Rattle.aes_lanes.proofs.CounterSteps.{IsDoneTo, IsDoneTo-sixteen, iterate-more, counter_mode-from_rest}
+use Rattle.aes_lanes.proofs.Rests.{put_rest}
 use Rattle.aes_lanes.proofs.counter.counter_xor.Goals as goal
 
 -- the images of sixteen counter blocks, of which the first is a count
@@ -35,23 +36,11 @@ loop-set-preserved g c =
           (subst (λ n. AreXoredAt n 16 c.encrypt_blocks.new.blocks c.loop-set.bytes c.xor_sixteen.new.bytes) at c.xor_sixteen.ensures));
     }
 
-pub loop-k-preserved : goal.loop-k-preserved
-loop-k-preserved g c =
-    let image = g.C.Cipher.image c.args.cipher.now in
-    let next = increment (width_of c.args.counting) in
-    record {
-      counter =
-          counter-next next c.loop-k.k c.args.start.now c.loop-k.counter _ c.loop-k.invariant.counter
-          c.increment.ensures;
-      done =
-          IsDoneTo-next image next c.args.start.now c.args.bytes.now c.loop-k.bytes c.xor_at.new.bytes _ c.loop-k.k
-          (c.loop-k.auto.bytes ∙ c.loop-set.auto.bytes) c.loop-k.invariant.done
-          (ap (λ l. get_or l 0 []) c.encrypt_blocks-in-loop-k.ensures ∙ ap image c.loop-k.invariant.counter) c.xor_at.ensures;
-    }
-
 pub returns : goal.returns
 returns g c =
-    let all : length c.args.bytes.now ≤ 16 * c.loop-k.k = omega (arith, c.div_ceil-k-end.ensures, c.loop-set.auto.bytes) in
-    counter_mode-from_places (g.C.Cipher.image c.args.cipher.now) (increment (width_of c.args.counting))
-    (g.met.C.Cipher.length_image c.args.cipher.now) c.args.start.now c.args.bytes.now c.loop-k.bytes (c.loop-k.auto.bytes ∙ c.loop-set.auto.bytes)
-    (λ i lt. c.loop-k.invariant.done.before i (omega arith) lt)
+    let done : ℕ = 256 * (length c.args.bytes.now / 256) in
+    put_rest c.loop-set.bytes c.last_xor.new.bytes done
+    ∙ counter_mode-from_rest (g.C.Cipher.image c.args.cipher.now) (increment (width_of c.args.counting))
+    (g.met.C.Cipher.length_image c.args.cipher.now) c.args.start.now c.loop-set.counter c.args.bytes.now c.loop-set.bytes c.last_xor.new.bytes
+    (16 * c.loop-set.set) done (omega arith) (omega arith)
+    c.loop-set.auto.bytes c.loop-set.invariant.done c.loop-set.invariant.counter c.last_xor.ensures

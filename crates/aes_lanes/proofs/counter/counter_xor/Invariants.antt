@@ -10,9 +10,3 @@ invariant-loop-set g l = record {
   counter : l.counter ≡ iterate (increment (width_of l.counting)) (16 * l.set) l.start;
   done : IsDoneTo (g.C.Cipher.image l.cipher) (increment (width_of l.counting)) l.start l.fn.bytes l.bytes (16 * l.set);
 }
-
-abbrev pub invariant-loop-k : goal.invariant-loop-k
-invariant-loop-k g l = record {
-  counter : l.counter ≡ iterate (increment (width_of l.counting)) l.k l.start;
-  done : IsDoneTo (g.C.Cipher.image l.cipher) (increment (width_of l.counting)) l.start l.fn.bytes l.bytes l.k;
-}

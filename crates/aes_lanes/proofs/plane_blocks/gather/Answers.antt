@@ -1,4 +1,4 @@
-use Rattle.std.proofs.Common.{◌≡◌, ◌*◌, ◌+◌, ◌<◌, ℕ, List, [], get_or, arith, lit<, slice_index}
+use Rattle.std.proofs.Common.{◌≡◌, [], get_or, arith, lit<, slice_index}
 use Rattle.aes_lanes.specs.Planes.{block_of, place}
 use Rattle.aes_lanes.specs.PlaneList.{list_of}
 use Rattle.aes_lanes.proofs.PlaneBits.{each_block}

@@ -1,21 +1,21 @@
-use Rattle.std.proofs.Common.{◌≡◌, ◌+◌, ◌*◌, ◌++◌, ◌<◌, length, ap, ◌∙◌, arith, slice_set, map, take, drop}
-use Rattle.std.proofs.lemmas.List.{get_or_default}
-use Rattle.std.proofs.lemmas.List.Edits.{map_over_more}
+use Rattle.std.proofs.Common.{◌≡◌, ℕ, ◌+◌, ◌*◌, ◌/◌, ◌++◌, ◌∙◌, ap, arith, drop, length, map, take}
 use Rattle.aes_lanes.specs.Cipher.{inverse_cipher}
-use Rattle.aes_lanes.proofs.MapParts.{map_over_sixteen}
+use Rattle.aes_lanes.proofs.MapParts.{map_over_part, map_over_rest}
+use Rattle.aes_lanes.proofs.Rests.{put_rest}
 use Rattle.aes_lanes.proofs.rounds.decrypt_all.Goals as goal
 
 pub loop-set-preserved : goal.loop-set-preserved
-loop-set-preserved c =
-    let f = inverse_cipher c.args.rounds c.args.words.now in
+loop-set-preserved c = λ words planes.
+    let f = inverse_cipher c.args.rounds words in
     let next : 16 * c.loop-set.set + 16 ≡ 16 * (c.loop-set.set + 1) = omega arith in
-    map_over_sixteen f c.args.blocks.now c.loop-set.blocks _ (16 * c.loop-set.set) (omega arith) c.loop-set.invariant
-    (c.decrypt_at.ensures c.args.words.now c.requires.same_keys)
+    map_over_part f c.args.blocks.now c.loop-set.blocks (16 * c.loop-set.set) _ 16 (omega arith) (c.loop-set.invariant words planes)
+    (c.decrypt_at.ensures words planes)
     ∙ ap (λ n. map f (take n c.args.blocks.now) ++ drop n c.args.blocks.now) next
 
-pub loop-i-preserved : goal.loop-i-preserved
-loop-i-preserved c =
-    let here : c.loop-i.i < length c.loop-i.blocks = omega arith in
-    ap (slice_set c.loop-i.blocks c.loop-i.i) c.decrypt_block.ensures
-    ∙ map_over_more (inverse_cipher c.args.rounds c.args.words.now) c.args.blocks.now c.loop-i.blocks c.loop-i.i _ (omega arith)
-    c.loop-i.invariant (get_or_default c.loop-i.blocks c.loop-i.i _ _ here)
+pub returns : goal.returns
+returns c = λ words keys planes.
+    let blocks = c.args.blocks.now in
+    let done : ℕ = 16 * (length blocks / 16) in
+    put_rest c.loop-set.blocks c.decrypt_rest.new.blocks done
+    ∙ map_over_rest (inverse_cipher c.args.rounds words) blocks c.loop-set.blocks (16 * c.loop-set.set) c.decrypt_rest.new.blocks done
+    (omega arith) (omega arith) (c.loop-set.invariant words planes) (c.decrypt_rest.ensures words keys planes)

@@ -1,10 +1,8 @@
-use Rattle.std.proofs.Common.{◌≡◌, ◌*◌, ◌++◌, take, drop, map}
+use Rattle.std.proofs.Common.{◌≡◌, ◌*◌, ◌++◌, List, ℕ, take, drop, map}
 use Rattle.aes_lanes.specs.Cipher.{cipher}
+use Rattle.aes_lanes.specs.PlaneList.{AreRoundKeys}
 use Rattle.aes_lanes.proofs.rounds.encrypt_all.Given as goal
 
 abbrev pub invariant-loop-set : goal.invariant-loop-set
-invariant-loop-set l =
-    l.blocks ≡ map (cipher l.rounds l.words) (take (16 * l.set) l.initial.blocks) ++ drop (16 * l.set) l.initial.blocks
-
-abbrev pub invariant-loop-i : goal.invariant-loop-i
-invariant-loop-i l = l.blocks ≡ map (cipher l.rounds l.words) (take l.i l.fn.blocks) ++ drop l.i l.fn.blocks
+invariant-loop-set l = (words : List ℕ) → AreRoundKeys words l.planes
+    → l.blocks ≡ map (cipher l.rounds words) (take (16 * l.set) l.initial.blocks) ++ drop (16 * l.set) l.initial.blocks

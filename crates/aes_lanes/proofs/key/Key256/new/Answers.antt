@@ -12,5 +12,6 @@ pub invariant_of-result : goal.invariant_of-result
 unfolding key_schedule
 invariant_of-result c = record {
   schedule = c.expand_key.ensures ∙ ap (key_schedule 8) (sym (returns c));
+  blocks = c.expand_blocks.ensures;
   planes = c.expand_planes.ensures;
 }

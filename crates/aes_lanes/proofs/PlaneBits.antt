@@ -1,4 +1,4 @@
--- Planes of sixteen bytes, bit by bit.
+-- Planes of 32 bytes, bit by bit.
 use Rattle.std.proofs.Common.{◌≡◌, ℕ, zero, suc, ◌+◌, ◌*◌, ◌/◌, ◌%◌, ◌^◌, ◌<◌, ◌≤◌, List, [], ◌∷◌, map, length, get_or, replicate, bit_and, bit_xor, slice_index, refl, sym, ap, ap₂, ◌∙◌, arith, inl, inr, lit<}
 use Rattle.std.specs.Simd.Lanes.{zip2}
 use Rattle.std.specs.List.{range_with_len}
@@ -35,7 +35,7 @@ IsPlane-sum = IsPlane-zip2 bit_xor (λ x y hx hy. xor_lt 8 x y hx hy)
 pub IsPlane-both : (u v : List ℕ) → IsPlane u → IsPlane v → IsPlane (zip2 bit_and u v)
 IsPlane-both = IsPlane-zip2 bit_and (λ x y hx hy. let below = and_le_l x y in omega (arith, below))
 
--- the same byte sixteen times
+-- the same byte in each place
 pub IsPlane-splat : (n : ℕ) → n < 256 → IsPlane (replicate 32 n)
 IsPlane-splat n byte = record {
   long = length-replicate {A = ℕ} 32 n;

@@ -5,7 +5,8 @@ ghost use Rattle.aes_lanes.specs.RoundKeys.{AreKeyBlocks};
 ghost use Rattle.aes_lanes.specs.Schedule.{expanded_key, rot_word, round_constant, round_key, schedule_step, sub_word, word_at};
 
 use crate::block::Block;
-use crate::tables::sbox;
+use crate::shuffles::sub;
+use std::simd::prelude::*;
 
 #[inline(always)]
 pub(crate) fn load_word(bytes: &[u8], i: usize) -> u32
@@ -30,7 +31,8 @@ fn sub_word(word: u32) -> u32
     ensures { result ≡ sub_word word }
 {
     let [a, b, c, d] = word.to_be_bytes();
-    u32::from_be_bytes([sbox(a), sbox(b), sbox(c), sbox(d)])
+    let bytes = sub(u8x16::from_array([a, b, c, d, 0, 0, 0, 0, 0, 0, 0, 0, 0, 0, 0, 0])).to_array();
+    u32::from_be_bytes([bytes[0], bytes[1], bytes[2], bytes[3]])
 }
 
 // The bytes x^(j-1) of the constants, from j = 1 on.

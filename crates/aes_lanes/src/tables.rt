@@ -1,4 +1,5 @@
-// The published tables of the S-box (FIPS 197, sections 5.1.1 and 5.3.2).
+// The published tables of the S-box (FIPS 197, sections 5.1.1 and 5.3.2). They serve to compare: no cipher and no key schedule
+// looks into them.
 
 ghost use Rattle.std.specs.Prelude.{◌≡◌};
 ghost use Rattle.aes_lanes.specs.Field.{inverse_sbox, sbox};

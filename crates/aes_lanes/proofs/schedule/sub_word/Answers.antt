@@ -4,6 +4,4 @@ use Rattle.aes_lanes.proofs.schedule.sub_word.Goals as goal
 
 pub returns : goal.returns
 unfolding sub_word
-returns c =
-    c.from_be_bytes.ensures
-    ∙ rw (c.sbox.ensures, c.sbox-2.ensures, c.sbox-3.ensures, c.sbox-4.ensures, c.to_be_bytes.ensures) refl
+returns c = c.from_be_bytes.ensures ∙ rw (c.sub.ensures, c.to_be_bytes.ensures) refl

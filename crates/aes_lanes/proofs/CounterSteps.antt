@@ -1,13 +1,15 @@
 -- Counter mode block by block and byte by byte.
-use Rattle.std.proofs.Common.{◌≡◌, ℕ, zero, suc, ◌<◌, ◌≤◌, ◌+◌, ◌-◌, ◌*◌, ◌/◌, ◌%◌, ◌^◌, List, [], ◌∷◌, length, slice_index, slice_set, bit_xor, ◌++◌, map, take, drop, get_or, refl, sym, ap, ap₂, ◌∙◌, arith, inl, inr, length-append}
+use Rattle.std.proofs.Common.{◌≡◌, ℕ, zero, suc, ◌<◌, ◌≤◌, ◌+◌, ◌-◌, ◌*◌, ◌/◌, ◌%◌, ◌^◌, List, [], ◌∷◌, length, slice_index, bit_xor, ◌++◌, map, take, drop, get_or, refl, sym, ap, ap₂, ◌∙◌, arith, inl, inr, length-append, ◌≢◌, ◌⊎◌, set, get_or-set_same, get_or-set_other}
 use Rattle.std.proofs.lemmas.List.{ext_get_or, get_or_append_left, get_or-append_right, get_or-drop, get_or-map, get_or-take, length-drop, length-map, length-take-le, take_rest}
-use Rattle.std.proofs.lemmas.Bool.{cases_lt}
+use Rattle.std.proofs.lemmas.Bool.{cases_lt, cases_eq}
 use Rattle.std.specs.Fn.{iterate}
 use Rattle.std.specs.Int.{w32, w128, to_be_bytes, from_be_bytes}
 use Rattle.aes_lanes.specs.Private.{AreXoredAt, IsXoredAt}
 use Rattle.aes_lanes.specs.Counter.{number_of, increment, key_stream, counter_mode}
 use Rattle.aes_lanes.specs.Laws.Counter.{length-key_stream, length-counter_mode}
 use Rattle.aes_lanes.specs.Laws.Sums.{gathered, slice_index-xor_bytes}
+use Rattle.std.proofs.lemmas.Nat.{from_be_bytes-to_be_bytes_4}
+use Rattle.aes_lanes.proofs.WordBytes.{to_be_bytes-word}
 
 iterate-next : (f : List ℕ → List ℕ) (n : ℕ) (x : List ℕ) → iterate f (n + 1) x ≡ f (iterate f n x)
 iterate-next f n x = let e : n + 1 ≡ suc n = omega arith in ap (λ m. iterate f m x) e ∙ step f n x where
@@ -18,6 +20,16 @@ iterate-next f n x = let e : n + 1 ≡ suc n = omega arith in ap (λ m. iterate 
 -- one more count of a counter
 pub counter-next : (f : List ℕ → List ℕ) (n : ℕ) (x y z : List ℕ) → y ≡ iterate f n x → z ≡ f y → z ≡ iterate f (n + 1) x
 counter-next f n x y z before step = step ∙ ap f before ∙ sym (iterate-next f n x)
+
+-- one more of some counts
+pub more_counts : (next : List ℕ → List ℕ) (start counter : List ℕ) (blocks : List (List ℕ)) (n : ℕ) → n < length blocks
+    → counter ≡ iterate next n start → ((k : ℕ) → k < n → get_or blocks k [] ≡ iterate next k start)
+    → (k : ℕ) → k < n + 1 → get_or (set blocks n counter) k [] ≡ iterate next k start
+more_counts next start counter blocks n within here before k lt = at_place (cases_eq k n) where
+  at_place : (k ≡ n) ⊎ (k ≢ n) → get_or (set blocks n counter) k [] ≡ iterate next k start
+  at_place (inl e) =
+      ap (λ m. get_or (set blocks n counter) m []) e ∙ get_or-set_same blocks n counter [] within ∙ here ∙ ap (λ m. iterate next m start) (sym e)
+  at_place (inr other) = get_or-set_other blocks n k counter [] other ∙ before k (omega arith)
 
 -- byte r of block k of a key stream
 pub slice_index-key_stream : (image next : List ℕ → List ℕ) → ((b : List ℕ) → length (image b) ≡ 16)
@@ -163,14 +175,45 @@ number_of-16 : (l : List ℕ) → length l ≡ 16 → from_be_bytes w128 l ≡ n
 unfolding number_of
 number_of-16 l h = rw (gathered l 16 h) (omega arith)
 
--- the block after a block, where the last four bytes count
-pub increment-4 : (block bytes : List ℕ) → length block ≡ 16
-    → bytes ≡ to_be_bytes w32 ((from_be_bytes w32 (slice_index block 12 ∷ slice_index block 13 ∷ slice_index block 14 ∷ slice_index block 15 ∷ []) + 1) % 2 ^ 32)
-    → slice_set (slice_set (slice_set (slice_set block 12 (slice_index bytes 0)) 13 (slice_index bytes 1)) 14 (slice_index bytes 2)) 15 (slice_index bytes 3)
-    ≡ increment 4 block
-unfolding increment number_of
-increment-4 block bytes h e =
-    rw (e, number_of-4 (slice_index block 12) (slice_index block 13) (slice_index block 14) (slice_index block 15)) (rw (gathered block 16 h) refl)
+-- the block of twelve bytes and the four of a number
+abbrev numbered : (ℕ → ℕ) → ℕ → List ℕ
+numbered f m =
+    f 0 ∷ f 1 ∷ f 2 ∷ f 3 ∷ f 4 ∷ f 5 ∷ f 6 ∷ f 7 ∷ f 8 ∷ f 9 ∷ f 10 ∷ f 11 ∷ to_be_bytes w32 m
+
+number_of-bytes : (m : ℕ) → m < 2 ^ 32 → number_of (to_be_bytes w32 m) ≡ m
+number_of-bytes m small = sym (number_of-4 _ _ _ _) ∙ from_be_bytes-to_be_bytes_4 m small
+
+increment-numbered : (f : ℕ → ℕ) (m : ℕ) → m < 2 ^ 32 → increment 4 (numbered f m) ≡ numbered f ((m + 1) % 2 ^ 32)
+unfolding increment
+increment-numbered f m small = ap (λ n. numbered f ((n + 1) % 2 ^ 32)) (number_of-bytes m small)
+
+iterate-numbered : (f : ℕ → ℕ) (n m : ℕ) → m < 2 ^ 32 → iterate (increment 4) n (numbered f m) ≡ numbered f ((m + n) % 2 ^ 32)
+iterate-numbered f zero m small =
+    let same : m ≡ (m + zero) % 2 ^ 32 = omega arith in
+    ap (λ k. numbered f k) same
+iterate-numbered f (suc n) m small =
+    let below : (m + 1) % 2 ^ 32 < 2 ^ 32 = omega arith in
+    let same : ((m + 1) % 2 ^ 32 + n) % 2 ^ 32 ≡ (m + suc n) % 2 ^ 32 = omega arith in
+    ap (iterate (increment 4) n) (increment-numbered f m small) ∙ iterate-numbered f n ((m + 1) % 2 ^ 32) below ∙ ap (λ k. numbered f k) same
+
+-- the block that is some counts after a block, where the last four bytes count
+pub counted-4 : (block bytes : List ℕ) (n : ℕ) → length block ≡ 16 → ((k : ℕ) → slice_index block k < 256)
+    → bytes ≡ to_be_bytes w32 ((from_be_bytes w32 (slice_index block 12 ∷ slice_index block 13 ∷ slice_index block 14 ∷ slice_index block 15 ∷ []) + n) % 2 ^ 32)
+    → slice_index block 0 ∷ slice_index block 1 ∷ slice_index block 2 ∷ slice_index block 3 ∷ slice_index block 4 ∷ slice_index block 5
+    ∷ slice_index block 6 ∷ slice_index block 7 ∷ slice_index block 8 ∷ slice_index block 9 ∷ slice_index block 10 ∷ slice_index block 11
+    ∷ slice_index bytes 0 ∷ slice_index bytes 1 ∷ slice_index bytes 2 ∷ slice_index bytes 3 ∷ []
+    ≡ iterate (increment 4) n block
+counted-4 block bytes n long fits is =
+    let f : ℕ → ℕ = λ k. slice_index block k in
+    let number : ℕ = from_be_bytes w32 (f 12 ∷ f 13 ∷ f 14 ∷ f 15 ∷ []) in
+    let small : number < 2 ^ 32 = omega (arith, fits 12, fits 13, fits 14, fits 15) in
+    let last : to_be_bytes w32 number ≡ f 12 ∷ f 13 ∷ f 14 ∷ f 15 ∷ [] =
+    to_be_bytes-word (f 12) (f 13) (f 14) (f 15) number (fits 12) (fits 13) (fits 14) (fits 15) refl in
+    let same : numbered f number ≡ block =
+    ap (λ l. f 0 ∷ f 1 ∷ f 2 ∷ f 3 ∷ f 4 ∷ f 5 ∷ f 6 ∷ f 7 ∷ f 8 ∷ f 9 ∷ f 10 ∷ f 11 ∷ l) last ∙ sym (gathered block 16 long) in
+    ap (λ l. f 0 ∷ f 1 ∷ f 2 ∷ f 3 ∷ f 4 ∷ f 5 ∷ f 6 ∷ f 7 ∷ f 8 ∷ f 9 ∷ f 10 ∷ f 11
+    ∷ slice_index l 0 ∷ slice_index l 1 ∷ slice_index l 2 ∷ slice_index l 3 ∷ []) is
+    ∙ sym (iterate-numbered f n number small) ∙ ap (iterate (increment 4) n) same
 
 -- the block after a block, where all bytes count
 pub increment-16 : (block : List ℕ) → length block ≡ 16

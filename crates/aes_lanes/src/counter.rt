@@ -15,15 +15,31 @@ enum Counting {
     AllBytes,
 }
 
-fn increment32(block: &mut Block)
-    ensures { block.new ≡ increment32 block.old }
+// The counter block that is `count` after one, where the last four bytes count.
+#[inline(always)]
+fn counted32(block: &Block, count: u32) -> Block
+    ensures { result ≡ iterate increment32 count block.now }
 {
     let number = u32::from_be_bytes([block[12], block[13], block[14], block[15]]);
-    let bytes = number.wrapping_add(1).to_be_bytes();
-    block[12] = bytes[0];
-    block[13] = bytes[1];
-    block[14] = bytes[2];
-    block[15] = bytes[3];
+    let bytes = number.wrapping_add(count).to_be_bytes();
+    [
+        block[0], block[1], block[2], block[3], block[4], block[5], block[6], block[7], block[8],
+        block[9], block[10], block[11], bytes[0], bytes[1], bytes[2], bytes[3],
+    ]
+}
+
+// Sixteen counter blocks from `counter` on, which becomes the one after them, where the last four bytes count.
+fn next32(counter: &mut Block) -> [Block; 16]
+    ensures sixteen { length result ≡ 16 }
+    ensures counts { (i : ℕ) → i < 16 → get_or result i [] ≡ iterate increment32 i counter.old }
+    ensures counter { counter.new ≡ iterate increment32 16 counter.old }
+{
+    let mut blocks = [[0; 16]; 16];
+    for i in 0..16u32 {
+        blocks[i as usize] = counted32(counter, i);
+    }
+    *counter = counted32(counter, 16);
+    blocks
 }
 
 fn increment128(block: &mut Block)
@@ -32,27 +48,29 @@ fn increment128(block: &mut Block)
     *block = u128::from_be_bytes(*block).wrapping_add(1).to_be_bytes();
 }
 
-fn increment(counting: Counting, block: &mut Block)
-    ensures { block.new ≡ increment (width_of counting) block.old }
+// The same, where all bytes count.
+fn next128(counter: &mut Block) -> [Block; 16]
+    ensures sixteen { length result ≡ 16 }
+    ensures counts { (i : ℕ) → i < 16 → get_or result i [] ≡ iterate increment128 i counter.old }
+    ensures counter { counter.new ≡ iterate increment128 16 counter.old }
 {
-    match counting {
-        Counting::LastFourBytes => increment32(block),
-        Counting::AllBytes => increment128(block),
+    let mut blocks = [[0; 16]; 16];
+    for i in 0..16 {
+        blocks[i] = *counter;
+        increment128(counter);
     }
+    blocks
 }
 
-// Sixteen counter blocks from `counter` on, which becomes the one after them.
 fn next_sixteen(counting: Counting, counter: &mut Block) -> [Block; 16]
     ensures sixteen { length result ≡ 16 }
     ensures counts { (i : ℕ) → i < 16 → get_or result i [] ≡ iterate (increment (width_of counting)) i counter.old }
     ensures counter { counter.new ≡ iterate (increment (width_of counting)) 16 counter.old }
 {
-    let mut blocks = [[0; 16]; 16];
-    for i in 0..16 {
-        blocks[i] = *counter;
-        increment(counting, counter);
+    match counting {
+        Counting::LastFourBytes => next32(counter),
+        Counting::AllBytes => next128(counter),
     }
-    blocks
 }
 
 // Counter mode on at most sixteen blocks.

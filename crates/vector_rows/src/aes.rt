@@ -71,7 +71,7 @@ fn end_of_stream(args: &mut Arguments, answer: &mut Answer) {
     answer.bytes(&changed[changed.len().saturating_sub(size)..]);
 }
 
-// The stream block by block, each by the tables alone; the counter doesn't pass four bytes.
+// The stream block by block, each by itself; the counter doesn't pass four bytes.
 fn plain_stream(key: &Key256, start: &Block, bytes: &mut [u8]) {
     let mut counter = *start;
     for chunk in bytes.chunks_mut(16) {

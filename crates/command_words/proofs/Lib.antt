@@ -1,0 +1,3 @@
+mod SmallDemonstrations
+mod WrittenNumbers
+mod WrittenValues

@@ -1,0 +1,7 @@
+pub mod Claims
+pub mod Commands
+pub mod Numbers
+pub mod Rows
+pub mod Values
+pub mod Words
+pub mod Written

@@ -1,0 +1,235 @@
+//! The words behind a command's name: its options and its positional words.
+ghost use Rattle.std.specs.List.{list_any, position_or_len};
+ghost use Rattle.std.specs.Prelude.{◌≡◌, ◌++◌, false, IfOk, OnOk, map, option_map, string_bytes};
+ghost use Rattle.command_words.specs.Words as spec;
+ghost use Rattle.command_words.specs.Words.{
+  arguments_of,
+  begins_with_dash,
+  choice_of,
+  choices_in,
+  ends_options,
+  is_among,
+  is_option,
+  positional_in,
+  takes_next,
+  value_in,
+};
+
+use std::alloc::{AllocError, Global};
+use std::marker::Model;
+use text_model::Text;
+
+/// An option of the command line, and its value, if it has one.
+#[derive(Drop)]
+pub(crate) struct Choice {
+    name: Text,
+    value: Option<Text>,
+}
+
+impl Model for Choice {
+    ghost use Rattle.command_words.specs.Words.{Choice};
+
+    ghost Value = { Choice };
+
+    ghost view = { λ choice. record { name = choice.name; value = choice.value } };
+}
+
+impl Choice {
+    pub(crate) fn name(&self) -> &str
+        ensures { result.now ≡ self.now.name }
+    {
+        self.name.as_str()
+    }
+
+    pub(crate) fn value(&self) -> Option<&str>
+        ensures { option_map (λ text. text.now) result ≡ self.now.value }
+    {
+        match &self.value {
+            Some(value) => Some(value.as_str()),
+            None => None,
+        }
+    }
+}
+
+/// What stands behind a command's name.
+#[derive(Drop)]
+pub(crate) struct Arguments {
+    choices: Vec<Choice>,
+    positional: Vec<Text>,
+}
+
+impl Model for Arguments {
+    ghost use Rattle.command_words.specs.Words.{Arguments};
+
+    ghost Value = { Arguments };
+
+    ghost view = { λ arguments. record { choices = arguments.choices.items; positional = arguments.positional.items } };
+}
+
+impl Arguments {
+    /// The options and positional words among the words behind the name of a command with these flags.
+    pub(crate) fn of(
+        alloc: Global,
+        flags: &[&str],
+        words: &[String],
+    ) -> Result<Arguments, AllocError>
+        ensures { IfOk result (λ arguments. arguments ≡ arguments_of (map (λ flag. flag.now) flags.now) (map string_bytes words.now)) }
+    {
+        let (front, behind) = parted(words);
+        let choices = choices_in(alloc, flags, front)?;
+        let mut positional = positional_in(alloc, flags, front)?;
+        push_all(alloc, &mut positional, behind)?;
+        Ok(Arguments {
+            choices,
+            positional,
+        })
+    }
+
+    pub(crate) fn choices(&self) -> &[Choice]
+        ensures { result.now ≡ self.now.choices }
+    {
+        self.choices.as_slice()
+    }
+
+    pub(crate) fn positional(&self) -> &[Text]
+        ensures { result.now ≡ self.now.positional }
+    {
+        self.positional.as_slice()
+    }
+}
+
+// The words before the first `--`, and those behind it.
+fn parted(words: &[String]) -> (&[String], &[String])
+    ensures front { map string_bytes result.0.now ≡ spec.before_end (map string_bytes words.now) }
+    ensures behind { map string_bytes result.1.now ≡ spec.behind_end (map string_bytes words.now) }
+{
+    let end = end_of(words);
+    if end < words.len() {
+        (&words[..end], &words[end + 1..])
+    } else {
+        (words, &[])
+    }
+}
+
+// How many words stand before the first `--`.
+fn end_of(words: &[String]) -> usize
+    ensures { result ≡ position_or_len ends_options (map string_bytes words.now) }
+{
+    let mut end = 0;
+    while end < words.len() && words[end].as_str() != "--" {
+        end += 1;
+    }
+    end
+}
+
+fn choices_in(alloc: Global, flags: &[&str], words: &[String]) -> Result<Vec<Choice>, AllocError>
+    ensures { IfOk result (λ choices. choices.items ≡ choices_in (map (λ flag. flag.now) flags.now) (map string_bytes words.now)) }
+{
+    let mut choices = Vec::new(alloc);
+    let mut rest = words;
+    while let Some((word, others)) = rest.split_first() {
+        if is_option(word.as_str()) {
+            choices.push(choice_of(alloc, flags, word.as_str(), others)?)?;
+        }
+        rest = others;
+    }
+    Ok(choices)
+}
+
+// The option that a word is, by the words behind it.
+fn choice_of(
+    alloc: Global,
+    flags: &[&str],
+    word: &str,
+    rest: &[String],
+) -> Result<Choice, AllocError>
+    ensures { IfOk result (λ choice. choice ≡ choice_of (map (λ flag. flag.now) flags.now) word.now (map string_bytes rest.now)) }
+{
+    match word.split_once('=') {
+        Some((name, value)) => Ok(Choice {
+            name: Text::copy_of(alloc, name)?,
+            value: Some(Text::copy_of(alloc, value)?),
+        }),
+        None => Ok(Choice {
+            name: Text::copy_of(alloc, word)?,
+            value: if is_among(word, flags) {
+                None
+            } else {
+                value_in(alloc, rest)?
+            },
+        }),
+    }
+}
+
+// The next word as an option's value.
+fn value_in(alloc: Global, rest: &[String]) -> Result<Option<Text>, AllocError>
+    ensures { IfOk result (λ value. value ≡ value_in (map string_bytes rest.now)) }
+{
+    match rest {
+        [next, ..] if !begins_with_dash(next.as_str()) => Ok(Some(Text::copy_of(
+            alloc,
+            next.as_str(),
+        )?)),
+        _ => Ok(None),
+    }
+}
+
+// The words that are neither options nor their values.
+fn positional_in(alloc: Global, flags: &[&str], words: &[String]) -> Result<Vec<Text>, AllocError>
+    ensures { IfOk result (λ positional. positional.items ≡ positional_in (map (λ flag. flag.now) flags.now) false (map string_bytes words.now)) }
+{
+    let mut positional = Vec::new(alloc);
+    let mut taken = false;
+    let mut rest = words;
+    while let Some((word, others)) = rest.split_first() {
+        if !taken && !is_option(word.as_str()) {
+            positional.push(Text::copy_of(alloc, word.as_str())?)?;
+        }
+        taken = takes_next(flags, word.as_str());
+        rest = others;
+    }
+    Ok(positional)
+}
+
+fn push_all(alloc: Global, texts: &mut Vec<Text>, words: &[String]) -> Result<(), AllocError>
+    ensures { OnOk result (texts.new.items ≡ texts.old.items ++ map string_bytes words.now) }
+{
+    for word in words {
+        texts.push(Text::copy_of(alloc, word.as_str())?)?;
+    }
+    Ok(())
+}
+
+fn begins_with_dash(word: &str) -> bool
+    ensures { result ≡ begins_with_dash word.now }
+{
+    match word.as_bytes() {
+        [byte, ..] => *byte == b'-',
+        [] => false,
+    }
+}
+
+fn is_option(word: &str) -> bool
+    ensures { result ≡ is_option word.now }
+{
+    begins_with_dash(word) && word.len() > 1
+}
+
+/// Whether this name is one of these.
+pub(crate) fn is_among(name: &str, names: &[&str]) -> bool
+    ensures { result ≡ is_among name.now (map (λ name. name.now) names.now) }
+{
+    for each in names {
+        if *each == name {
+            return true;
+        }
+    }
+    false
+}
+
+// Whether the next word is the value of this one.
+fn takes_next(flags: &[&str], word: &str) -> bool
+    ensures { result ≡ takes_next (map (λ flag. flag.now) flags.now) word.now }
+{
+    is_option(word) && word.split_once('=').is_none() && !is_among(word, flags)
+}

@@ -1,0 +1,213 @@
+//! What the words behind a command's name write, by the command's row.
+ghost use Rattle.std.specs.List.{list_all};
+ghost use Rattle.std.specs.Prelude.{◌≡◌, ◌==◌, ◌++◌, All, IfOk, IfSome, map, nat_le, option_map, string_bytes};
+ghost use Rattle.command_words.specs.Rows.{option_of_code, row_of_code};
+ghost use Rattle.command_words.specs.Words.{is_among};
+ghost use Rattle.command_words.specs.Values.{fits, flag_values, is_of, may_lack, option_values, times, value_named, values_of, written};
+ghost use Rattle.command_words.specs.Written.{IsWritten};
+
+use crate::arguments::{Arguments, Choice, is_among};
+use crate::rows::{Kind, Row, Valued};
+use crate::values::{Value, value_of};
+use std::alloc::{AllocError, Global};
+use text_model::Text;
+
+/// What they write: the positional words, then the options and then the flags, in the order of the row. `None` where they don't make the
+/// row's command.
+pub(crate) fn values_of_words(
+    alloc: Global,
+    row: &Row,
+    words: &[String],
+) -> Result<Option<Vec<Value>>, AllocError>
+    ensures is { IfOk result (λ values. option_map (λ all. all.items) values ≡ written (row_of_code row.now) (map string_bytes words.now)) }
+    ensures written { IfOk result (λ values. IfSome values (λ all. All IsWritten all.items)) }
+{
+    let arguments = Arguments::of(alloc, row.flags, words)?;
+    let choices = arguments.choices();
+    if !fits(row, choices) {
+        return Ok(None);
+    }
+    let (Some(values), Some(options)) = (
+        words_read(alloc, row.words, arguments.positional())?,
+        options_read(alloc, row.options, choices)?,
+    ) else {
+        return Ok(None);
+    };
+    let flags = flags_read(alloc, row.flags, choices)?;
+    Ok(Some(together(values, options, flags)?))
+}
+
+fn together(
+    mut values: Vec<Value>,
+    mut options: Vec<Value>,
+    mut flags: Vec<Value>,
+) -> Result<Vec<Value>, AllocError>
+    requires values { All IsWritten values.items }
+    requires options { All IsWritten options.items }
+    requires flags { All IsWritten flags.items }
+    ensures is { IfOk result (λ all. all.items ≡ values.items ++ options.items ++ flags.items) }
+    ensures written { IfOk result (λ all. All IsWritten all.items) }
+{
+    values.append(&mut options)?;
+    values.append(&mut flags)?;
+    Ok(values)
+}
+
+// Whether the options are the row's, each once, and flags of the row, each once at most.
+fn fits(row: &Row, choices: &[Choice]) -> bool
+    ensures { result ≡ fits (row_of_code row.now) choices.now }
+{
+    are_once(row.options, choices) && are_once_at_most(row.flags, choices) && are_of(row, choices)
+}
+
+fn are_once(options: &[Valued], choices: &[Choice]) -> bool
+    ensures { result ≡ list_all (λ valued. times valued.name choices.now == 1) (map option_of_code options.now) }
+{
+    for valued in options {
+        if times(valued.name, choices) != 1 {
+            return false;
+        }
+    }
+    true
+}
+
+fn are_once_at_most(flags: &[&str], choices: &[Choice]) -> bool
+    ensures { result ≡ list_all (λ flag. nat_le (times flag choices.now) 1) (map (λ flag. flag.now) flags.now) }
+{
+    for flag in flags {
+        if times(flag, choices) > 1 {
+            return false;
+        }
+    }
+    true
+}
+
+fn are_of(row: &Row, choices: &[Choice]) -> bool
+    ensures { result ≡ list_all (λ choice. is_of (row_of_code row.now) choice) choices.now }
+{
+    for choice in choices {
+        if !is_of(row, choice) {
+            return false;
+        }
+    }
+    true
+}
+
+// Whether an option is one of the row's, or one of its flags, without a value.
+fn is_of(row: &Row, choice: &Choice) -> bool
+    ensures { result ≡ is_of (row_of_code row.now) choice.now }
+{
+    is_option_of(row.options, choice.name())
+        || is_among(choice.name(), row.flags) && choice.value().is_none()
+}
+
+fn is_option_of(options: &[Valued], name: &str) -> bool
+    ensures { result ≡ is_among name.now (map (λ valued. valued.name) (map option_of_code options.now)) }
+{
+    for valued in options {
+        if valued.name == name {
+            return true;
+        }
+    }
+    false
+}
+
+// How many options have this name.
+fn times(name: &str, choices: &[Choice]) -> usize
+    ensures { result ≡ times name.now choices.now }
+{
+    let mut count = 0;
+    for choice in choices {
+        if choice.name() == name {
+            count += 1;
+        }
+    }
+    count
+}
+
+// What positional words write.
+fn words_read(
+    alloc: Global,
+    kinds: &[Kind],
+    words: &[Text],
+) -> Result<Option<Vec<Value>>, AllocError>
+    ensures is { IfOk result (λ values. option_map (λ all. all.items) values ≡ values_of kinds.now words.now) }
+    ensures written { IfOk result (λ values. IfSome values (λ all. All IsWritten all.items)) }
+{
+    let mut values = Vec::new(alloc);
+    let (mut kinds, mut words) = (kinds, words);
+    while let Some((kind, more)) = kinds.split_first() {
+        let (word, others) = match words.split_first() {
+            Some((word, others)) => (word.as_str(), others),
+            None if may_lack(*kind, more) => ("", words),
+            None => return Ok(None),
+        };
+        let Some(value) = value_of(alloc, *kind, word)? else {
+            return Ok(None);
+        };
+        values.push(value)?;
+        kinds = more;
+        words = others;
+    }
+    if words.is_empty() {
+        Ok(Some(values))
+    } else {
+        Ok(None)
+    }
+}
+
+// Whether a word of this kind may be left out, before these kinds.
+fn may_lack(kind: Kind, more: &[Kind]) -> bool
+    ensures { result ≡ may_lack kind more.now }
+{
+    match (kind, more) {
+        (Kind::PlainPathOrRoot, []) => true,
+        _ => false,
+    }
+}
+
+// What the values of options write.
+fn options_read(
+    alloc: Global,
+    options: &[Valued],
+    choices: &[Choice],
+) -> Result<Option<Vec<Value>>, AllocError>
+    ensures is { IfOk result (λ values. option_map (λ all. all.items) values ≡ option_values choices.now (map option_of_code options.now)) }
+    ensures written { IfOk result (λ values. IfSome values (λ all. All IsWritten all.items)) }
+{
+    let mut values = Vec::new(alloc);
+    for valued in options {
+        let Some(text) = value_named(choices, valued.name) else {
+            return Ok(None);
+        };
+        let Some(value) = value_of(alloc, valued.kind, text)? else {
+            return Ok(None);
+        };
+        values.push(value)?;
+    }
+    Ok(Some(values))
+}
+
+// The value of the first option of this name, if it has one.
+fn value_named<'a>(choices: &'a [Choice], name: &str) -> Option<&'a str>
+    ensures { option_map (λ text. text.now) result ≡ value_named name.now choices.now }
+{
+    for choice in choices {
+        if choice.name() == name {
+            return choice.value();
+        }
+    }
+    None
+}
+
+// Which flags are there.
+fn flags_read(alloc: Global, flags: &[&str], choices: &[Choice]) -> Result<Vec<Value>, AllocError>
+    ensures is { IfOk result (λ values. values.items ≡ flag_values choices.now (map (λ flag. flag.now) flags.now)) }
+    ensures written { IfOk result (λ values. All IsWritten values.items) }
+{
+    let mut values = Vec::new(alloc);
+    for flag in flags {
+        values.push(Value::Flag(times(flag, choices) == 1))?;
+    }
+    Ok(values)
+}

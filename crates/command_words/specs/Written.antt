@@ -3,6 +3,7 @@ use Rattle.std.specs.Prelude.{◌≤◌, Option, None, Some, ⊤}
 use Rattle.move_journal.specs.Journal.{IsParsed}
 use Rattle.command_words.specs.declared.commands.Command.{Command}
 use Rattle.command_words.specs.declared.commands.Command.TheVariants as command
+use Rattle.command_words.specs.declared.commands.Moving.{Moving}
 use Rattle.command_words.specs.declared.values.Value.{Value}
 use Rattle.command_words.specs.declared.values.Value.TheVariants as value
 
@@ -11,8 +12,11 @@ IsWritten (value.Folder path) = IsParsed path
 IsWritten other = ⊤
 
 -- some text writes each root of a migration
+abbrev pub AreWritten : Moving → Type 0
+AreWritten moving = IsParsed moving.source × IsParsed moving.target
+
 abbrev pub HasTexts : Command → Type 0
-HasTexts (command.Migrate moving) = IsParsed moving.source × IsParsed moving.target
+HasTexts (command.Migrate moving) = AreWritten moving
 HasTexts other = ⊤
 
 -- a demonstration has 2,000 items at most

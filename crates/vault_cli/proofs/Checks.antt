@@ -34,7 +34,7 @@ use Rattle.vault_cli.specs.Shown.{Shown, Follows, refused}
 use Rattle.vault_cli.specs.World.{World}
 use Rattle.vault_cli.specs.declared.answer.Answer.{Answer}
 use Rattle.vault_cli.specs.declared.answer.Answer.TheVariants.{Done, Findings, FolderFault, OutputFault}
-use Rattle.vault_cli.specs.declared.words.Checking.{Checking}
+use Rattle.command_words.specs.declared.commands.Checking.{Checking}
 use Rattle.vault_cli.proofs.Refusals.{opened_alike, opened_gives, opened_is}
 use Rattle.vault_cli.proofs.Showing.{all_or_cut}
 

@@ -33,7 +33,7 @@ use Rattle.vault_cli.specs.declared.answer.Answer.{Answer}
 use Rattle.vault_cli.specs.declared.answer.Answer.TheVariants.{Done, FolderFault, Damaged, Limit}
 use Rattle.vault_cli.specs.declared.answer.Damage.TheVariants as damage
 use Rattle.vault_cli.specs.declared.answer.Limit.TheVariants as limit
-use Rattle.vault_cli.specs.declared.words.Target.{Target}
+use Rattle.command_words.specs.declared.commands.Target.{Target}
 use Rattle.vault_cli.proofs.Refusals.{opened_gives, opened_one}
 use Rattle.vault_cli.proofs.Showing.{IsOne, follows_unless, reads_by}
 

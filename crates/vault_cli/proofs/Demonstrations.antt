@@ -27,7 +27,7 @@ use Rattle.vault_cli.specs.declared.demo.Led.TheVariants as leds
 use Rattle.vault_cli.specs.declared.demo.Led.TheVariants.{Stopped}
 use Rattle.vault_cli.specs.declared.demo.Leg.{Leg}
 use Rattle.vault_cli.specs.declared.demo.Leg.TheVariants.{There, Back}
-use Rattle.vault_cli.specs.declared.words.Demonstration.{Demonstration}
+use Rattle.command_words.specs.declared.commands.Demonstration.{Demonstration}
 use Rattle.vault_cli.proofs.Contents.{rose_after}
 use Rattle.vault_cli.proofs.DemoDraws.{drew_after}
 

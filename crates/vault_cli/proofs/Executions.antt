@@ -20,8 +20,8 @@ use Rattle.vault_cli.specs.World.{World}
 use Rattle.vault_spec.specs.Vault.{Either}
 use Rattle.vault_cli.specs.declared.answer.Answer.{Answer}
 use Rattle.vault_cli.specs.declared.answer.Answer.TheVariants.{Done, Findings, BadCommandLine, OutOfMemory, FolderFault, InputFault, OutputFault, RandomFault, Refused, WrongPass, NotFound, WrongKind, DamagedInput, Damaged, NotAllowed, NotClean, Overlap, NotEmpty, Begun, Unusable, Changed, Differ, ZeroRandom, Taken, Limit, Retired}
-use Rattle.vault_cli.specs.declared.words.Command.{Command}
-use Rattle.vault_cli.specs.declared.words.Command.TheVariants.{DecryptFile, Init, Ls, Cat, Fsck, Mkdir, Put, Repair, Migrate, Resume, Retire, Demo}
+use Rattle.command_words.specs.declared.commands.Command.{Command}
+use Rattle.command_words.specs.declared.commands.Command.TheVariants.{DecryptFile, Init, Ls, Cat, Fsck, Mkdir, Put, Repair, Migrate, Resume, Retire, Demo}
 use Rattle.vault_cli.proofs.Demonstrations.{demonstrates_nothing, demonstration_lost, no_bad_demonstration}
 use Rattle.vault_cli.proofs.Decryptions.{decrypts_nothing, decryption_lost}
 use Rattle.vault_cli.proofs.MadeItems.{makes_no_directory, directory_lost, no_bad_directory}

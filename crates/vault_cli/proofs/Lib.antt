@@ -18,7 +18,6 @@ mod Showing
 mod Sites
 mod StoredFiles
 mod WholeFiles
-mod WrittenNumbers
 mod Demonstrations
 mod Statuses
 mod DemonstratedTrees

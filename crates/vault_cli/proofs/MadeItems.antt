@@ -44,7 +44,7 @@ use Rattle.vault_cli.specs.Shown.{refused}
 use Rattle.vault_cli.specs.World.{World}
 use Rattle.vault_cli.specs.declared.answer.Answer.{Answer}
 use Rattle.vault_cli.specs.declared.answer.Answer.TheVariants.{BadCommandLine, FolderFault, OutOfMemory, Overlap}
-use Rattle.vault_cli.specs.declared.words.Change.{Change}
+use Rattle.command_words.specs.declared.commands.Change.{Change}
 
 -- ---- at each moment
 

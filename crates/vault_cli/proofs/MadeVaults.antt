@@ -17,8 +17,8 @@ use Rattle.folder_spec.proofs.Edits.{publishes_nothing, publishes_joined, publis
 use Rattle.folder_spec.proofs.Moments.{went_on, went_more, went_to}
 use Rattle.folder_spec.proofs.Paths.{below-parent}
 use Rattle.port_model.specs.Draws.{ByteStream, Draws}
-use Rattle.vault_read.specs.declared.vault.VaultKind.{VaultKind}
-use Rattle.vault_read.specs.declared.vault.VaultKind.TheVariants.{Gocryptfs, Cryptomator}
+use Rattle.command_words.specs.declared.values.Format.{Format}
+use Rattle.command_words.specs.declared.values.Format.TheVariants.{Gocryptfs, Cryptomator}
 use Rattle.vault_spec.specs.NewVault.{go_files, cm_files, new_go_vault, new_cm_vault}
 use Rattle.vault_spec.specs.Vault.{Vault, Either}
 use Rattle.vault_write.specs.Founding.{Founds, IsFounding, IsNewVault, founding, new_go, new_cm, texts, vault_edit}
@@ -37,7 +37,7 @@ use Rattle.vault_cli.specs.declared.answer.Answer.{Answer}
 use Rattle.vault_cli.specs.World.{World}
 use Rattle.vault_cli.specs.Answers.{is_plain}
 use Rattle.vault_cli.specs.declared.answer.Answer.TheVariants.{BadCommandLine, OutOfMemory, Overlap}
-use Rattle.vault_cli.specs.declared.words.NewVault.{NewVault}
+use Rattle.command_words.specs.declared.commands.NewVault.{NewVault}
 
 -- ---- at each moment
 
@@ -109,7 +109,7 @@ some_vault (Err fault) made phrase vault is = tt
 
 module _ (new : NewVault) (phrase : List ℕ) (answer : Answer) (t u w : Option Told) (stream stream' : Option ByteStream) (sound : (a : Told) → t ≡ Some a → IsSound a.state)
     (begins : ChangesWork new.work t u) (reads : (v : View) → IsSeen t v → IsPhrase (v new.pass) phrase) where
-  from_parts : (made : View) (files : List (Part × List ℕ)) (result : Result (Unit {0}) PutFault) → answer ≡ answer_to_making result → DrawsVault new.kind phrase made files stream stream' result
+  from_parts : (made : View) (files : List (Part × List ℕ)) (result : Result (Unit {0}) PutFault) → answer ≡ answer_to_making result → DrawsVault new.format phrase made files stream stream' result
       → Founds new.work new.vault made files u w result → OnOk result ((vault : Vault) × IsNewVault made phrase vault) → FoundsVault new answer t w stream stream'
   from_parts made files result answers drew founds opens = record {
     phrase = phrase;
@@ -124,23 +124,23 @@ module _ (new : NewVault) (phrase : List ℕ) (answer : Answer) (t u w : Option 
     vault = opens;
   }
 
-  of_kind : (kind : VaultKind) → new.kind ≡ kind → (result : Result (Unit {0}) PutFault) → answer ≡ answer_to_making result
+  of_kind : (kind : Format) → new.format ≡ kind → (result : Result (Unit {0}) PutFault) → answer ≡ answer_to_making result
       → FoundsNew kind new.work new.vault phrase stream stream' u w result → FoundsVault new answer t w stream stream'
   of_kind Gocryptfs is result answers founds =
       let made : View = new_go_vault phrase (cost_of Gocryptfs) founds.draw founds.key in
       let files : List (Part × List ℕ) = go_files phrase (cost_of Gocryptfs) founds.draw founds.key in
       from_parts made files result answers
-      (subst (λ (k : VaultKind). DrawsVault k phrase made files stream stream' result) (sym is) (founds.draw, founds.key, founds.drawn, founds.sizes, founds.were_drawn, founds.drew, refl, refl))
+      (subst (λ (k : Format). DrawsVault k phrase made files stream stream' result) (sym is) (founds.draw, founds.key, founds.drawn, founds.sizes, founds.were_drawn, founds.drew, refl, refl))
       founds.founds (some_vault result made phrase (new_go founds.draw) founds.vault)
   of_kind Cryptomator is result answers founds =
       let made : View = new_cm_vault phrase (cost_of Cryptomator) founds.draw in
       let files : List (Part × List ℕ) = cm_files phrase (cost_of Cryptomator) founds.draw in
       from_parts made files result answers
-      (subst (λ (k : VaultKind). DrawsVault k phrase made files stream stream' result) (sym is) (founds.draw, founds.drawn, founds.sizes, founds.were_drawn, founds.drew, refl, refl))
+      (subst (λ (k : Format). DrawsVault k phrase made files stream stream' result) (sym is) (founds.draw, founds.drawn, founds.sizes, founds.were_drawn, founds.drew, refl, refl))
       founds.founds (some_vault result made phrase (new_cm founds.draw) founds.vault)
 
   pub vault_made : FoundsAs new phrase answer u w stream stream' → FoundsVault new answer t w stream stream'
-  vault_made founds = of_kind new.kind refl founds.result founds.is founds.founds
+  vault_made founds = of_kind new.format refl founds.result founds.is founds.founds
 
 -- ---- where it isn't made
 
@@ -236,11 +236,11 @@ makes_no_vault new w = record {
 }
 
 -- founding a vault answers nothing that is named
-founding_is_plain : (kind : VaultKind) (phrase : List ℕ) (made : View) (files : List (Part × List ℕ)) (stream stream' : Option ByteStream) (result : Result (Unit {0}) PutFault)
+founding_is_plain : (kind : Format) (phrase : List ℕ) (made : View) (files : List (Part × List ℕ)) (stream stream' : Option ByteStream) (result : Result (Unit {0}) PutFault)
     → DrawsVault kind phrase made files stream stream' result → (is_plain (answer_to_making result) ≡ true) × (answer_to_making result ≢ BadCommandLine)
 founding_is_plain kind phrase made files stream stream' result draws = by kind result draws
   where
-    by : (kind : VaultKind) (result : Result (Unit {0}) PutFault) → DrawsVault kind phrase made files stream stream' result → (is_plain (answer_to_making result) ≡ true) × (answer_to_making result ≢ BadCommandLine)
+    by : (kind : Format) (result : Result (Unit {0}) PutFault) → DrawsVault kind phrase made files stream stream' result → (is_plain (answer_to_making result) ≡ true) × (answer_to_making result ≢ BadCommandLine)
     by kind (Ok done) draws = (refl, λ bad. cc)
     by kind (Err puts.Failed) draws = (refl, λ bad. cc)
     by kind (Err puts.NoMemory) draws = (refl, λ bad. cc)
@@ -266,7 +266,7 @@ vault_lost new answer before after named did = record { apart = by (overlap new.
         → EndsBefore new.work OutOfMemory before.told after.told before.random after.random ⊎ FoundsVault new OutOfMemory before.told after.told before.random after.random
     comes (inl ends) = inl (record { own = refl; changes = ends.changes })
     comes (inr founds) =
-        let plain : is_plain (answer_to_making founds.result) ≡ true = (founding_is_plain new.kind founds.phrase founds.made founds.files before.random after.random founds.result founds.draws).0 in
+        let plain : is_plain (answer_to_making founds.result) ≡ true = (founding_is_plain new.format founds.phrase founds.made founds.files before.random after.random founds.result founds.draws).0 in
         absurd (false≢true (sym named ∙ ap is_plain founds.is ∙ plain))
 
     by : (b : Bool) → Either b (RefusesOverlapping new.vault new.work answer before.told after.told before.random after.random) (MakesVaultApart new answer before.told after.told before.random after.random)
@@ -279,7 +279,7 @@ no_bad_vault new answer before after bad did = by (overlap new.vault new.work) d
   where
     comes : EndsBefore new.work answer before.told after.told before.random after.random ⊎ FoundsVault new answer before.told after.told before.random after.random → ⊥
     comes (inl ends) = let none : IsTrue (is_of_beginning BadCommandLine) = subst (λ a. IsTrue (is_of_beginning a)) bad ends.own in cc
-    comes (inr founds) = (founding_is_plain new.kind founds.phrase founds.made founds.files before.random after.random founds.result founds.draws).1 (sym founds.is ∙ bad)
+    comes (inr founds) = (founding_is_plain new.format founds.phrase founds.made founds.files before.random after.random founds.result founds.draws).1 (sym founds.is ∙ bad)
 
     by : (b : Bool) → Either b (RefusesOverlapping new.vault new.work answer before.told after.told before.random after.random) (MakesVaultApart new answer before.told after.told before.random after.random) → ⊥
     by true refuses = elim refuses.answers [ inl overlaps ↦ let no = sym bad ∙ overlaps in cc | inr memory ↦ let no = sym bad ∙ memory in cc ]

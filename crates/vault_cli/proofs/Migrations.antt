@@ -52,9 +52,9 @@ use Rattle.vault_cli.specs.Shown.{is_of_end, refused}
 use Rattle.vault_cli.specs.World.{World}
 use Rattle.vault_cli.specs.declared.answer.Answer.{Answer}
 use Rattle.vault_cli.specs.declared.answer.Answer.TheVariants.{BadCommandLine, OutOfMemory, FolderFault, Overlap}
-use Rattle.vault_cli.specs.declared.words.Moving.{Moving}
-use Rattle.vault_cli.specs.declared.words.Passes.{Passes}
-use Rattle.vault_cli.specs.declared.words.Resuming.{Resuming}
+use Rattle.command_words.specs.declared.commands.Moving.{Moving}
+use Rattle.command_words.specs.declared.commands.Passes.{Passes}
+use Rattle.command_words.specs.declared.commands.Resuming.{Resuming}
 use Rattle.vault_cli.proofs.Beginnings.{none_drawn}
 use Rattle.vault_cli.proofs.Printings.{IsPrinted, is_another, nothing_printed, print_lost, printed, printed_is_own}
 use Rattle.vault_cli.proofs.Refusals.{pass_gives, pass_taken, pass_then, unless_then}

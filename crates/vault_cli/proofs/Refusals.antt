@@ -24,7 +24,7 @@ use Rattle.vault_cli.specs.declared.answer.Answer.TheVariants.{OutOfMemory, Refu
 use Rattle.vault_cli.specs.declared.answer.Named.TheVariants as named
 use Rattle.vault_cli.specs.declared.answer.Refusal.TheVariants as refusal
 use Rattle.vault_cli.specs.declared.answer.Limit.TheVariants as limit
-use Rattle.vault_cli.specs.declared.words.Change.{Change}
+use Rattle.command_words.specs.declared.commands.Change.{Change}
 
 -- ---- what was seen of a passphrase's file
 

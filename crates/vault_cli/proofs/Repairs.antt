@@ -34,7 +34,7 @@ use Rattle.vault_cli.proofs.Printings.{IsPrinted, nothing_printed, printed, prin
 use Rattle.vault_cli.specs.Shown.{IsCutShort, is_of_end, refused}
 use Rattle.vault_cli.specs.declared.answer.Answer.{Answer}
 use Rattle.vault_cli.specs.declared.answer.Answer.TheVariants.{Done, OutOfMemory, FolderFault, OutputFault}
-use Rattle.vault_cli.specs.declared.words.Repairing.{Repairing}
+use Rattle.command_words.specs.declared.commands.Repairing.{Repairing}
 use Rattle.vault_cli.proofs.Refusals.{opened_gives, unless_opened}
 
 -- ---- the tests

@@ -31,7 +31,7 @@ use Rattle.vault_cli.specs.Shown.{is_of_end}
 use Rattle.vault_cli.specs.World.{World}
 use Rattle.vault_cli.specs.declared.answer.Answer.{Answer}
 use Rattle.vault_cli.specs.declared.answer.Answer.TheVariants.{BadCommandLine, OutOfMemory}
-use Rattle.vault_cli.specs.declared.words.Resuming.{Resuming}
+use Rattle.command_words.specs.declared.commands.Resuming.{Resuming}
 use Rattle.vault_cli.proofs.Migrations.{AreSafe, comes_as, keeps_same, passes_unread, refused_lost, root_read}
 use Rattle.vault_cli.proofs.Printings.{IsPrinted, is_another, nothing_printed, print_lost, printed, printed_is_own}
 

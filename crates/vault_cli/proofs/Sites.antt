@@ -16,7 +16,7 @@ use Rattle.vault_cli.specs.Opening.{IsPhrase, OfPassFile, OfVault, Opens}
 use Rattle.vault_cli.specs.Refusing.{RefusesPass, RefusesSite, RefusesVault, RefusesWork}
 use Rattle.vault_cli.specs.Shown.{refused}
 use Rattle.vault_cli.specs.declared.answer.Answer.{Answer}
-use Rattle.vault_cli.specs.declared.words.Change.{Change}
+use Rattle.command_words.specs.declared.commands.Change.{Change}
 
 -- nothing has changed yet
 pub begins_nowhere : (work : Path) (t u : Option Told) → u ≡ t → ChangesWork work t u

@@ -35,7 +35,7 @@ use Rattle.vault_cli.specs.Refusing.{RefusesSite}
 use Rattle.vault_cli.specs.World.{World}
 use Rattle.vault_cli.specs.declared.answer.Answer.{Answer}
 use Rattle.vault_cli.specs.declared.answer.Answer.TheVariants.{BadCommandLine, Done, FolderFault, InputFault, OutOfMemory, Overlap, RandomFault}
-use Rattle.vault_cli.specs.declared.words.Change.{Change}
+use Rattle.command_words.specs.declared.commands.Change.{Change}
 
 -- ---- the input
 

@@ -16,7 +16,7 @@ use Rattle.vault_cli.specs.Opening.{OfPassFile, OfVault}
 use Rattle.vault_cli.specs.Shown.{refused}
 use Rattle.vault_cli.specs.declared.answer.Answer.{Answer}
 use Rattle.vault_cli.specs.declared.answer.Answer.TheVariants.{OutOfMemory, FolderFault, Refused, WrongPass, NotFound, WrongKind, Overlap, NotEmpty, Begun, Limit}
-use Rattle.vault_cli.specs.declared.words.Change.{Change}
+use Rattle.command_words.specs.declared.commands.Change.{Change}
 
 -- overlapping folders are refused, and nothing comes of the call
 pub record RefusesOverlapping (vault work : Path) (answer : Answer) (told told' : Option Told) (stream stream' : Option ByteStream) : Type 0 where

@@ -14,7 +14,7 @@ use Rattle.vault_cli.specs.declared.answer.Answer.{Answer}
 use Rattle.vault_cli.specs.declared.answer.Answer.TheVariants.{Done, Damaged, Limit}
 use Rattle.vault_cli.specs.declared.answer.Damage.TheVariants as damage
 use Rattle.vault_cli.specs.declared.answer.Limit.TheVariants as limit
-use Rattle.vault_cli.specs.declared.words.Target.{Target}
+use Rattle.command_words.specs.declared.commands.Target.{Target}
 
 -- how the reading of the file at a path ends
 abbrev pub answer_to_ending : Path → Ending → Answer

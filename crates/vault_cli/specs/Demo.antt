@@ -28,7 +28,7 @@ use Rattle.vault_cli.specs.declared.demo.Leg.{Leg}
 use Rattle.vault_cli.specs.declared.demo.Leg.TheVariants.{There, Back}
 use Rattle.vault_cli.specs.declared.demo.Way.{Way as Ended}
 use Rattle.vault_cli.specs.declared.demo.Way.TheVariants as ways
-use Rattle.vault_cli.specs.declared.words.Demonstration.{Demonstration}
+use Rattle.command_words.specs.declared.commands.Demonstration.{Demonstration}
 
 -- what the items come to, once they stand
 abbrev pub made_text : ℕ → ℕ → List ℕ

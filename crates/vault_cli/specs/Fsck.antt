@@ -24,7 +24,7 @@ use Rattle.vault_cli.specs.World.{World}
 use Rattle.vault_cli.specs.declared.answer.Answer.{Answer}
 use Rattle.vault_cli.specs.declared.answer.Answer.TheVariants.{Done, Findings, FolderFault, OutputFault, Limit}
 use Rattle.vault_cli.specs.declared.answer.Limit.TheVariants as limit
-use Rattle.vault_cli.specs.declared.words.Checking.{Checking}
+use Rattle.command_words.specs.declared.commands.Checking.{Checking}
 
 abbrev pub finding_name : Finding → List ℕ
 finding_name is.BadStoredName = codes "BadStoredName"

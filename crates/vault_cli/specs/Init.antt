@@ -15,8 +15,8 @@ use Rattle.folder_spec.specs.Written.{HoldFronts}
 use Rattle.gocrypt_conf.specs.declared.conf.GoDraw.{GoDraw}
 use Rattle.kdf_suite.specs.ScryptCost.{Cost}
 use Rattle.port_model.specs.Draws.{ByteStream, Draws}
-use Rattle.vault_read.specs.declared.vault.VaultKind.{VaultKind}
-use Rattle.vault_read.specs.declared.vault.VaultKind.TheVariants.{Gocryptfs, Cryptomator}
+use Rattle.command_words.specs.declared.values.Format.{Format}
+use Rattle.command_words.specs.declared.values.Format.TheVariants.{Gocryptfs, Cryptomator}
 use Rattle.vault_spec.specs.NewVault.{go_files, cm_files, new_go_vault, new_cm_vault}
 use Rattle.vault_spec.specs.Vault.{Vault, Either}
 use Rattle.vault_write.specs.Founding.{FoundsGo, FoundsCm, IsGoDraw, IsCmDraw, GoDrew, CmDrew, IsNewVault, founding, texts, vault_edit}
@@ -30,10 +30,10 @@ use Rattle.vault_cli.specs.Shown.{refused}
 use Rattle.vault_cli.specs.World.{World}
 use Rattle.vault_cli.specs.declared.answer.Answer.{Answer}
 use Rattle.vault_cli.specs.declared.answer.Answer.TheVariants.{Done, RandomFault, ZeroRandom}
-use Rattle.vault_cli.specs.declared.words.NewVault.{NewVault}
+use Rattle.command_words.specs.declared.commands.NewVault.{NewVault}
 
 -- the cost of scrypt in new vaults
-abbrev pub cost_of : VaultKind → Cost
+abbrev pub cost_of : Format → Cost
 cost_of Gocryptfs = record { n = 65536; r = 8; p = 1 }
 cost_of Cryptomator = record { n = 32768; r = 8; p = 1 }
 
@@ -48,7 +48,7 @@ abbrev pub IsOfFounding : Answer → Type 0
 IsOfFounding answer = (answer ≡ Done) ⊎ ((answer ≡ RandomFault) ⊎ (answer ≡ ZeroRandom))
 
 -- a new vault of a kind, under the bytes drawn: its view, and its files
-abbrev pub DrawsVault : VaultKind → List ℕ → View → List (Part × List ℕ) → Option ByteStream → Option ByteStream → Result (Unit {0}) PutFault → Type 0
+abbrev pub DrawsVault : Format → List ℕ → View → List (Part × List ℕ) → Option ByteStream → Option ByteStream → Result (Unit {0}) PutFault → Type 0
 DrawsVault Gocryptfs phrase made files stream stream' result =
     (d : GoDraw) × (key drawn : List ℕ) × IsGoDraw d key × Draws stream stream' drawn × GoDrew d key drawn result
     × (made ≡ new_go_vault phrase (cost_of Gocryptfs) d key) × (files ≡ go_files phrase (cost_of Gocryptfs) d key)
@@ -71,7 +71,7 @@ pub record FoundsVault (new : NewVault) (answer : Answer) (told told' : Option T
   pub is : answer ≡ answer_to_making result
   pub made : View
   pub files : List (Part × List ℕ)
-  pub draws : DrawsVault new.kind phrase made files stream stream' result
+  pub draws : DrawsVault new.format phrase made files stream stream' result
   pub moments : Moments (IsMakingVault new.work (vault_edit new.vault made) (texts files))
       (λ s0 s e. Spares (apart_from new.work) e.call ⊎ StagesOrPlaces new.work (founding new.vault made files) s e.call) told told'
   pub settled : OnOk result (FromTo (λ a b. HasSettledIn (apart_from new.work) (vault_edit new.vault made ∷ []) a.state b.state) told told')
@@ -90,7 +90,7 @@ pub record MakesVault (new : NewVault) (answer : Answer) (before after : World) 
 -- ---- private contracts
 
 -- a vault of a kind is founded
-abbrev pub FoundsNew : VaultKind → Path → Path → List ℕ → Option ByteStream → Option ByteStream → Option Told → Option Told → Result (Unit {0}) PutFault → Type 0
+abbrev pub FoundsNew : Format → Path → Path → List ℕ → Option ByteStream → Option ByteStream → Option Told → Option Told → Result (Unit {0}) PutFault → Type 0
 FoundsNew Gocryptfs work at phrase stream stream' before after result = FoundsGo work at phrase (cost_of Gocryptfs) stream stream' before after result
 FoundsNew Cryptomator work at phrase stream stream' before after result = FoundsCm work at phrase (cost_of Cryptomator) stream stream' before after result
 
@@ -108,4 +108,4 @@ pub record RefusesPlace (answer : Answer) (told told' : Option Told) (stream str
 pub record FoundsAs (new : NewVault) (phrase : List ℕ) (answer : Answer) (told told' : Option Told) (stream stream' : Option ByteStream) : Type 0 where
   pub result : Result (Unit {0}) PutFault
   pub is : answer ≡ answer_to_making result
-  pub founds : FoundsNew new.kind new.work new.vault phrase stream stream' told told' result
+  pub founds : FoundsNew new.format new.work new.vault phrase stream stream' told told' result

@@ -1,7 +1,3 @@
-pub mod Words
-pub mod Numbers
-pub mod Commands
-pub mod Claims
 pub mod Answers
 pub mod Faults
 pub mod Shown

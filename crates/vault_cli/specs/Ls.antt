@@ -13,7 +13,7 @@ use Rattle.vault_cli.specs.Finding.{answer_to_finding}
 use Rattle.vault_cli.specs.Opening.{OfOpened}
 use Rattle.vault_cli.specs.Shown.{Shown, refused}
 use Rattle.vault_cli.specs.declared.answer.Answer.TheVariants.{Done}
-use Rattle.vault_cli.specs.declared.words.Target.{Target}
+use Rattle.command_words.specs.declared.commands.Target.{Target}
 
 -- `d` for a directory and `f` for a file
 abbrev pub node_letter : NodeKind → ℕ

@@ -23,7 +23,7 @@ use Rattle.vault_cli.specs.Printing.{PrintsDone}
 use Rattle.vault_cli.specs.Repair.{RefusesOverlap}
 use Rattle.vault_cli.specs.World.{World}
 use Rattle.vault_cli.specs.declared.answer.Answer.{Answer}
-use Rattle.vault_cli.specs.declared.words.Moving.{Moving}
+use Rattle.command_words.specs.declared.commands.Moving.{Moving}
 
 -- two folders that overlap
 pub record Pair : Type 0 where

@@ -17,7 +17,7 @@ use Rattle.vault_cli.specs.declared.answer.Answer.TheVariants.{Done, Findings, B
 use Rattle.vault_cli.specs.declared.answer.Answer.TheVariants as answers
 use Rattle.vault_cli.specs.declared.answer.Limit as limits
 use Rattle.vault_cli.specs.declared.answer.Limit.TheVariants as limit
-use Rattle.vault_cli.specs.declared.words.Passes.{Passes}
+use Rattle.command_words.specs.declared.commands.Passes.{Passes}
 
 -- the two files hold these passphrases
 pub record ArePhrases (passes : Passes) (source_pass target_pass : List ℕ) (v : View) : Type 0 where

@@ -9,7 +9,7 @@ use Rattle.vault_cli.specs.Opening.{OfPassFile, OfVault, OfOpened}
 use Rattle.vault_cli.specs.Shown.{refused}
 use Rattle.vault_cli.specs.declared.answer.Answer.{Answer}
 use Rattle.vault_cli.specs.declared.answer.Answer.TheVariants.{OutOfMemory, FolderFault}
-use Rattle.vault_cli.specs.declared.words.Change.{Change}
+use Rattle.command_words.specs.declared.commands.Change.{Change}
 
 -- unless the folder failed or memory was refused
 abbrev pub Unless : Answer → Type 0 → Type 0

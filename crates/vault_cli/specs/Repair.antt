@@ -25,7 +25,7 @@ use Rattle.vault_cli.specs.World.{World}
 use Rattle.vault_cli.specs.declared.answer.Answer.{Answer}
 use Rattle.vault_cli.specs.declared.answer.Answer.TheVariants.{Done, OutOfMemory, Refused, WrongPass, NotFound, WrongKind, Overlap, NotEmpty, Limit}
 use Rattle.vault_cli.specs.declared.answer.Limit.TheVariants as limit
-use Rattle.vault_cli.specs.declared.words.Repairing.{Repairing}
+use Rattle.command_words.specs.declared.commands.Repairing.{Repairing}
 
 -- where all tests pass, the strays are moved of a vault that passes no limit
 pub data IsOfMoving (f : Format) (v : View) (answer : Answer) : Type 0 where

@@ -25,7 +25,7 @@ use Rattle.vault_cli.specs.Moving.{AnswersMove, ArePhrases, Comes, Completes, Ke
 use Rattle.vault_cli.specs.Printing.{PrintsDone}
 use Rattle.vault_cli.specs.World.{World}
 use Rattle.vault_cli.specs.declared.answer.Answer.{Answer}
-use Rattle.vault_cli.specs.declared.words.Resuming.{Resuming}
+use Rattle.command_words.specs.declared.commands.Resuming.{Resuming}
 
 -- a migration through the work folder, whose passphrases are those in the two files
 pub record IsResumedFor (g : Migration) (resuming : Resuming) (v : View) : Type 0 where

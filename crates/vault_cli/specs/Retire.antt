@@ -25,7 +25,7 @@ use Rattle.vault_cli.specs.Shown.{is_of_end}
 use Rattle.vault_cli.specs.World.{World}
 use Rattle.vault_cli.specs.declared.answer.Answer.{Answer}
 use Rattle.vault_cli.specs.declared.answer.Answer.TheVariants.{Done, OutOfMemory, FolderFault, OutputFault, Refused, WrongPass, NotFound, WrongKind, Damaged, NotClean, Overlap, NotEmpty, Begun, Unusable, Differ, Limit}
-use Rattle.vault_cli.specs.declared.words.Resuming.{Resuming}
+use Rattle.command_words.specs.declared.commands.Resuming.{Resuming}
 
 -- whether a source that isn't retired may be answered so
 abbrev pub is_of_refusal : Answer → Bool

@@ -14,7 +14,7 @@ ghost use Rattle.vault_write.specs.Placing.{MayMake};
 use crate::answer::{Answer, Limit, Named};
 use crate::opening::{load, read_pass};
 use crate::places::{do_overlap, overlapping};
-use crate::words::Change;
+use command_words::Change;
 use folder_model::{FPath, Folder};
 use folder_spec::laws::roots_show_their_own;
 use std::alloc::Global;

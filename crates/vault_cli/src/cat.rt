@@ -6,7 +6,7 @@ ghost use Rattle.vault_cli.specs.Shown.{Reads};
 
 use crate::answer::Answer;
 use crate::opening::open;
-use crate::words::Target;
+use command_words::Target;
 use folder_model::Folder;
 use port_model::Sink;
 use std::alloc::Global;

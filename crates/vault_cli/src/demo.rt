@@ -24,8 +24,8 @@ ghost use Rattle.vault_cli.specs.Retire.{is_of_refusal};
 
 use crate::answer::Answer;
 use crate::reporting::report;
-use crate::words::Demonstration;
 use crate::{beginning, moving, opening, retire};
+use command_words::Demonstration;
 use content_writing::PutFault;
 use demo_core::laws::{
     items_are_directories_or_short_files, names_of_items_are_allowed, trees_have_so_many_items,
@@ -87,6 +87,7 @@ pub(crate) fn demo<O: Sink>(alloc: Global, demonstration: &Demonstration, out: &
     ensures output_fault { result ≡ Answer.OutputFault → CountRose (O.faults out.old) (O.faults out.new) }
 {
     let Demonstration { seed, count } = *demonstration;
+    let count = count as u32;
     match SteadyFolder::new(alloc) {
         Ok(mut folder) => demonstrate(alloc, &mut folder, seed, count, out),
         Err(_) => Answer::OutOfMemory,

@@ -15,13 +15,12 @@ ghost use Rattle.vault_cli.specs.Refusing.{Unless};
 use crate::answer::{Answer, answer_to_making};
 use crate::beginning::{enter_settled, read_apart};
 use crate::places::test_free;
-use crate::words::NewVault;
+use command_words::{Format, NewVault};
 use folder_model::Folder;
 use kdf_suite::ScryptCost;
 use port_model::Randoms;
 use port_model::laws::draws_compose;
 use std::alloc::Global;
-use vault_read::VaultKind;
 use vault_write::{PutFault, init_cm, init_go};
 use work_folder::Work;
 
@@ -99,25 +98,25 @@ fn found<F: Folder, R: Randoms>(
     random: &mut R,
 ) -> Result<(), PutFault>
     requires { MayFound (F.told folder.old) work.now new.now.vault }
-    ensures founds { FoundsNew new.now.kind work.now new.now.vault phrase.now (R.left random.old) (R.left random.new) (F.told folder.old) (F.told folder.new) result }
+    ensures founds { FoundsNew new.now.format work.now new.now.vault phrase.now (R.left random.old) (R.left random.new) (F.told folder.old) (F.told folder.new) result }
     ensures failed { result ≡ Err PutFault.Failed → CountRose (F.faults folder.old) (F.faults folder.new) }
     ensures random { result ≡ Err PutFault.Random → CountRose (R.faults random.old) (R.faults random.new) }
     ensures grows { F.faults folder.old ≤ F.faults folder.new }
     ensures counted { R.faults random.old ≤ R.faults random.new }
 {
-    let cost = cost_of(new.kind);
-    match new.kind {
-        VaultKind::Gocryptfs => init_go(alloc, folder, work, &new.vault, phrase, &cost, random),
-        VaultKind::Cryptomator => init_cm(alloc, folder, work, &new.vault, phrase, &cost, random),
+    let cost = cost_of(new.format);
+    match new.format {
+        Format::Gocryptfs => init_go(alloc, folder, work, &new.vault, phrase, &cost, random),
+        Format::Cryptomator => init_cm(alloc, folder, work, &new.vault, phrase, &cost, random),
     }
 }
 
 // The cost of scrypt in new vaults of a kind.
-fn cost_of(kind: VaultKind) -> ScryptCost
+fn cost_of(kind: Format) -> ScryptCost
     ensures { result ≡ cost_of kind }
 {
     match kind {
-        VaultKind::Gocryptfs => ScryptCost::new(65_536, 8, 1).unwrap(),
-        VaultKind::Cryptomator => ScryptCost::new(32_768, 8, 1).unwrap(),
+        Format::Gocryptfs => ScryptCost::new(65_536, 8, 1).unwrap(),
+        Format::Cryptomator => ScryptCost::new(32_768, 8, 1).unwrap(),
     }
 }

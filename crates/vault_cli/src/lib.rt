@@ -3,10 +3,8 @@
 #![tactic(auto)]
 
 pub mod answer;
-mod arguments;
 mod beginning;
 mod cat;
-pub mod claims;
 mod decrypt;
 mod demo;
 mod fsck;
@@ -15,7 +13,6 @@ mod ls;
 mod migrate;
 mod mkdir;
 mod moving;
-mod numbers;
 mod opening;
 mod places;
 mod put;
@@ -24,13 +21,8 @@ mod reporting;
 mod resume;
 mod retire;
 mod running;
-pub mod words;
 
 pub use answer::Answer;
-pub use claims::{Claims, claims_of};
 pub use demo::demo_in;
 pub use reporting::report;
 pub use running::run;
-pub use words::{
-    Change, Checking, Command, Demonstration, Moving, NewVault, Passes, Repairing, Resuming, Target,
-};

@@ -10,7 +10,7 @@ ghost use Rattle.vault_cli.specs.Shown.{Reads, is_refusal, refused};
 
 use crate::answer::Answer;
 use crate::opening::open;
-use crate::words::Target;
+use command_words::Target;
 use folder_model::Folder;
 use plain_tree::NodeKind;
 use port_model::Sink;

@@ -6,14 +6,14 @@ ghost use Rattle.migrate_core.specs.Completing.{CanBegin};
 ghost use Rattle.migrate_core.specs.Moving.{MovesOnly};
 ghost use Rattle.port_model.specs.Counts.{CountRose};
 ghost use Rattle.tree_match.specs.Guard.{Migration};
-ghost use Rattle.vault_cli.specs.Commands.{AreWritten};
+ghost use Rattle.command_words.specs.Written.{AreWritten};
 ghost use Rattle.vault_cli.specs.Migrate.{ComesTo, HasMigrated, IsAskedFor, MayCome, MigratesApart, RefusesTwo, first_overlap, root_of};
 ghost use Rattle.vault_cli.specs.Moving.{Completes, KeepsAll, is_of_stop};
 
 use crate::answer::Answer;
 use crate::moving::{answer_to, print_done, read_passes};
 use crate::places::{do_overlap, overlapping};
-use crate::words::Moving;
+use command_words::Moving;
 use folder_model::{FPath, Folder};
 use migrate_core::{Done, MoveFault};
 use port_model::{Randoms, Sink};

@@ -8,7 +8,7 @@ ghost use Rattle.vault_cli.specs.Places.{overlap};
 
 use crate::answer::{Answer, answer_to_making};
 use crate::beginning::begin;
-use crate::words::Change;
+use command_words::Change;
 use folder_model::Folder;
 use folder_spec::laws::roots_show_their_own;
 use port_model::Randoms;

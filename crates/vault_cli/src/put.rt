@@ -9,7 +9,7 @@ ghost use Rattle.vault_cli.specs.Put.{StoresFileApart};
 
 use crate::answer::{Answer, answer_to_making};
 use crate::beginning::begin;
-use crate::words::Change;
+use command_words::Change;
 use folder_model::Folder;
 use folder_spec::laws::roots_show_their_own;
 use port_model::laws::draws_compose;

@@ -13,7 +13,7 @@ use crate::answer::Answer;
 use crate::opening::open;
 use crate::places::{do_overlap, overlapping, test_free};
 use crate::reporting::{print, shown_folder};
-use crate::words::Repairing;
+use command_words::Repairing;
 use folder_model::{FPath, Folder};
 use port_model::Sink;
 use std::alloc::{AllocError, Global};

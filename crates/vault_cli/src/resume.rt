@@ -15,7 +15,7 @@ ghost use Rattle.vault_cli.specs.Resume.{ComesTo, HasResumed, IsResumedFor, MayC
 
 use crate::answer::Answer;
 use crate::moving::{answer_to, learn, print_done};
-use crate::words::Resuming;
+use command_words::Resuming;
 use content_writing::PutFault;
 use folder_model::{FPath, Folder};
 use migrate_core::{Done, MoveFault};

@@ -15,8 +15,8 @@ ghost use Rattle.vault_cli.specs.Retire.{ComesTo, Completes, IsRetired, MayCome,
 use crate::answer::{Answer, Flaw, Limit};
 use crate::moving::{answer_to_journal, learn, unusable};
 use crate::reporting::print;
-use crate::words::Resuming;
 use crate::{beginning, opening};
+use command_words::Resuming;
 use folder_model::{FPath, Folder};
 use move_journal::Journal;
 use port_model::Sink;

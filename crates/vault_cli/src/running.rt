@@ -3,7 +3,7 @@ ghost use Rattle.std.specs.Prelude.{◌≡◌, ◌↔◌, ◌⊎◌, IsNone, map
 ghost use Rattle.std.specs.Io.KnownBytes.{Keeps};
 ghost use Rattle.port_model.specs.Counts.{CountRose};
 ghost use Rattle.vault_cli.specs.Answers.{TakesText, line_of, status_of};
-ghost use Rattle.vault_cli.specs.Commands.{command_of};
+ghost use Rattle.command_words.specs.Commands.{command_of};
 ghost use Rattle.vault_cli.specs.Runs.{Executes};
 ghost use Rattle.vault_cli.specs.World.{World};
 
@@ -21,8 +21,9 @@ use crate::repair::repair;
 use crate::reporting::report;
 use crate::resume::resume;
 use crate::retire::retire;
-use crate::words::Command;
 use chunk_files::laws::{files_are_what_they_give, whole_files_end};
+use command_words::Command;
+use command_words::laws::demonstrations_are_small;
 use folder_model::Folder;
 use port_model::{Randoms, Sink, Source};
 use std::alloc::Global;
@@ -87,6 +88,7 @@ fn execute<F: Folder, R: Randoms, I: Source, O: Sink>(
     whole_files_end();
     roots_have_one_answer();
     guarded_migrations_are_safe();
+    demonstrations_are_small();
     match Command::from_words(alloc, words) {
         Err(_) => Answer::OutOfMemory,
         Ok(None) => Answer::BadCommandLine,

@@ -1,6 +1,6 @@
 use Rattle.std.proofs.Common.{Some, refl, sym, ap, ◌∙◌, subst, map, string_bytes}
 use Rattle.std.proofs.KnownBytes.{Keeps-refl}
-use Rattle.vault_cli.specs.Commands.{command_of}
+use Rattle.command_words.specs.Commands.{command_of}
 use Rattle.vault_cli.specs.DecryptFile.{DecryptsFile}
 use Rattle.vault_cli.specs.Demo.{Demonstrates}
 use Rattle.vault_cli.specs.Repair.{RepairsVault}

@@ -1,6 +1,0 @@
-use Rattle.std.proofs.Common.{◌≡◌, ◌++◌, map, take, string_bytes}
-use Rattle.vault_cli.proofs.arguments.push_all.Given as goal
-
--- the first words have been added
-abbrev pub invariant-loop-word : goal.invariant-loop-word
-invariant-loop-word l = l.texts.items ≡ l.fn.texts.items ++ map (λ s. string_bytes s) (take l.word-index l.words)

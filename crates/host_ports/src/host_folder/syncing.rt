@@ -76,7 +76,7 @@ impl HostFolder {
     }
 }
 
-// Syncs each directory that is noted. One that this process hasn't changed is passed over where it can't be synced.
+// Syncs each directory that is noted, once. One that this process hasn't changed is passed over where it can't be synced.
 fn sync_each(
     rt: &HostRuntime,
     alloc: Global,
@@ -88,6 +88,9 @@ fn sync_each(
         sync_dir(rt, alloc, base, synced, dir).map_err(|cause| Trouble::new(dir, cause))?;
     }
     for dir in noted.seen() {
+        if noted.changed().contains(dir) {
+            continue;
+        }
         match sync_dir(rt, alloc, base, synced, dir) {
             Err(cause) if !is_passed_over(cause) => return Err(Trouble::new(dir, cause)),
             _ => {}

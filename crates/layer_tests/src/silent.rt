@@ -2,7 +2,9 @@
 ghost use Rattle.std.specs.Prelude.{◌≡◌};
 ghost use Rattle.port_model.specs.Counts.{CountRose, IsCounted};
 
+use crate::doing::{Doing, Step, play};
 use folder_model::{Entry, FPath, Folder, FolderFault, Kind};
+use std::test::Fail;
 
 /// A folder that tells neither its state nor its log, as one on a disk. It finds nothing at any path, refuses to list
 /// it, and fails at all other calls.
@@ -83,4 +85,28 @@ impl Folder for Silent {
     fn remove_dir(&mut self, _at: &FPath) -> Result<(), FolderFault> {
         self.fail()
     }
+}
+
+const FAILED: Option<FolderFault> = Some(FolderFault::Failed);
+
+const STEPS: [Step; 11] = [
+    (Doing::Kind, "f", None),
+    (Doing::List, "f", Some(FolderFault::Refused)),
+    (Doing::Read, "f", FAILED),
+    (Doing::MakeDir, "f", FAILED),
+    (Doing::Create, "f", FAILED),
+    (Doing::Append, "f", FAILED),
+    (Doing::Sync, "f", FAILED),
+    (Doing::Settle, "f", FAILED),
+    (Doing::Rename("g"), "f", FAILED),
+    (Doing::RemoveFile, "f", FAILED),
+    (Doing::RemoveDir, "f", FAILED),
+];
+
+#[test]
+fn a_folder_may_tell_nothing(rt: HostRuntime) -> Result<(), Fail> {
+    let mut folder = Silent { faults: 0 };
+    play(&rt, rt.alloc(), &mut folder, &STEPS)?;
+    assert_eq!(rt; folder.faults, 10);
+    Ok(())
 }

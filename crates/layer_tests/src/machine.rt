@@ -3,7 +3,7 @@ use crate::doing::{Doing, Step, play};
 use folder_model::{FPath, Folder, FolderFault, Kind};
 use host_ports::{HostFolder, HostRandoms};
 use port_model::Randoms;
-use std::alloc::Global;
+use std::alloc::{Alloc, Global};
 use std::fs;
 use std::fs::Files;
 use std::process::Abort;
@@ -90,21 +90,30 @@ fn answers<F: Folder>(rt: &impl Abort, alloc: Global, folder: &mut F) -> Result<
     play(rt, alloc, folder, &REFUSING)
 }
 
-#[test]
-fn a_folder_of_the_machine(rt: HostRuntime) -> Result<(), Fail> {
-    let alloc = rt.alloc();
-    let mut folder = HostFolder::new(rt.clone()?, alloc, "")?;
-    play(&rt, alloc, &mut folder, &FILLING)?;
+// A folder over the directory that this runs in.
+fn holds<F: Folder>(
+    rt: &impl Abort,
+    files: &(impl Files + Alloc),
+    alloc: Global,
+    folder: &mut F,
+) -> Result<(), Fail> {
+    play(rt, alloc, folder, &FILLING)?;
     assert_eq!(rt;
-        fs::read(&rt, "dir/b file")?.as_slice(),
+        fs::read(files, "dir/b file")?.as_slice(),
         b"dede".as_slice()
     );
-    rt.symlink("../dir", "dir/a link")?;
-    answers(&rt, alloc, &mut folder)?;
-    fs::remove_file(&rt, "dir/a link")?;
-    play(&rt, alloc, &mut folder, &REMOVING)?;
-    assert_eq!(rt; fs::exists(&rt, "dir")?, false);
+    files.symlink("../dir", "dir/a link")?;
+    answers(rt, alloc, folder)?;
+    fs::remove_file(files, "dir/a link")?;
+    play(rt, alloc, folder, &REMOVING)?;
+    assert_eq!(rt; fs::exists(files, "dir")?, false);
     Ok(())
+}
+
+#[test]
+fn a_folder_of_the_machine(rt: HostRuntime) -> Result<(), Fail> {
+    let mut folder = HostFolder::new(rt.clone()?, rt.alloc(), "")?;
+    holds(&rt, &rt, rt.alloc(), &mut folder)
 }
 
 #[test]

@@ -5,6 +5,7 @@ pub mod Bytes
 mod CounterBytes
 mod ScheduleSteps
 mod CounterSteps
+mod CounterWords
 mod LaneSteps
 mod ShuffleSteps
 mod PlaneBits

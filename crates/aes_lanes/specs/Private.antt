@@ -1,10 +1,8 @@
--- Words of private contracts: a block added to a part of a list of bytes, how many of a counter block's
--- bytes count, the key of a schedule, and the lanes of a vector.
+-- Words of private contracts: a block added to a part of a list of bytes, the key of a schedule, and the lanes of a
+-- vector.
 use Rattle.std.specs.Prelude.{◌≡◌, ℕ, ◌+◌, ◌*◌, ◌<◌, ◌≤◌, length, take, List, [], bit_xor, get_or, slice_index}
 use Rattle.std.specs.List.{flat_map}
 use Rattle.std.specs.Int.{w32, to_be_bytes}
-use Rattle.aes_lanes.specs.declared.counter.Counting.{Counting}
-use Rattle.aes_lanes.specs.declared.counter.Counting.TheVariants.{LastFourBytes, AllBytes}
 
 -- bytes to which a block was added from a place on, as far as they go
 pub record IsXoredAt (at : ℕ) (block old new : List ℕ) : Type 0 where
@@ -21,11 +19,6 @@ pub record AreXoredAt (at n : ℕ) (blocks : List (List ℕ)) (old new : List �
       → slice_index new (at + 16 * i + r) ≡ bit_xor (slice_index old (at + 16 * i + r)) (slice_index (get_or blocks i []) r)
   pub before : (k : ℕ) → k < at → slice_index new k ≡ slice_index old k
   pub after : (k : ℕ) → at + 16 * n ≤ k → slice_index new k ≡ slice_index old k
-
--- how many of a counter block's last bytes count
-abbrev pub width_of : Counting → ℕ
-width_of LastFourBytes = 4
-width_of AllBytes = 16
 
 -- the bytes of the first n words: the key from which a schedule was expanded
 unfoldable pub key_of : ℕ → List ℕ → List ℕ

@@ -2,6 +2,7 @@
 
 ghost use Rattle.std.specs.Prelude.{◌≡◌, ℕ, List, length, map};
 ghost use Rattle.aes_lanes.specs.BlockCipher.{AreInverse};
+ghost use Rattle.aes_lanes.specs.Counter.{ctr32};
 
 use crate::block::Block;
 
@@ -19,6 +20,11 @@ pub trait Cipher {
     /// Replaces each block by its preimage.
     fn decrypt_blocks(&self, blocks: &mut [Block])
         ensures { blocks.new ≡ map (preimage self.now) blocks.old };
+
+    /// Xors the key stream that starts with the image of `start` into the bytes. Its counter blocks count
+    /// modulo 2^32 on the last four bytes.
+    fn ctr32_xor(&self, start: &Block, bytes: &mut [u8])
+        ensures { bytes.new ≡ ctr32 (image self.now) start.now bytes.old };
 
     /// An image has sixteen bytes.
     ghost length_image: { (key : Self) (block : List ℕ) → length (image key block) ≡ 16 };

@@ -1,44 +1,28 @@
 // Counter mode (SP 800-38A, section 6.5).
 
-ghost use Rattle.std.specs.Prelude.{◌≡◌, ℕ, ◌<◌, ◌≤◌, [], get_or, length};
+ghost use Rattle.std.specs.Prelude.{◌≡◌, ℕ, ◌+◌, ◌*◌, ◌<◌, ◌≤◌, List, [], get_or, length};
 ghost use Rattle.std.specs.Fn.{iterate};
-ghost use Rattle.aes_lanes.specs.Counter.{counter_mode, ctr128, ctr32, increment, increment128, increment32};
-ghost use Rattle.aes_lanes.specs.Private.{width_of};
+ghost use Rattle.aes_lanes.specs.Cipher.{cipher};
+ghost use Rattle.aes_lanes.specs.Counter.{counter_mode, ctr128, ctr32, increment128, increment32};
+ghost use Rattle.aes_lanes.specs.PlaneList.{AreRoundKeys};
+ghost use Rattle.aes_lanes.specs.RoundKeys.{AreKeyBlocks};
 
 use crate::block::{Block, xor_at, xor_sixteen};
 use crate::cipher::Cipher;
+use crate::counter_planes::counted32;
+use crate::plane_rounds::counter_images;
+use crate::planes::Planes;
+use crate::rounds::encrypt_rest;
 
-// Which part of a counter block counts.
-#[derive(Clone, Copy)]
-enum Counting {
-    LastFourBytes,
-    AllBytes,
-}
-
-// The counter block that is `count` after one, where the last four bytes count.
-#[inline(always)]
-fn counted32(block: &Block, count: u32) -> Block
-    ensures { result ≡ iterate increment32 count block.now }
-{
-    let number = u32::from_be_bytes([block[12], block[13], block[14], block[15]]);
-    let bytes = number.wrapping_add(count).to_be_bytes();
-    [
-        block[0], block[1], block[2], block[3], block[4], block[5], block[6], block[7], block[8],
-        block[9], block[10], block[11], bytes[0], bytes[1], bytes[2], bytes[3],
-    ]
-}
-
-// Sixteen counter blocks from `counter` on, which becomes the one after them, where the last four bytes count.
-fn next32(counter: &mut Block) -> [Block; 16]
+// Sixteen counter blocks from `counter` on, where the last four bytes count.
+fn next32(counter: &Block) -> [Block; 16]
     ensures sixteen { length result ≡ 16 }
-    ensures counts { (i : ℕ) → i < 16 → get_or result i [] ≡ iterate increment32 i counter.old }
-    ensures counter { counter.new ≡ iterate increment32 16 counter.old }
+    ensures counts { (i : ℕ) → i < 16 → get_or result i [] ≡ iterate increment32 i counter.now }
 {
     let mut blocks = [[0; 16]; 16];
     for i in 0..16u32 {
         blocks[i as usize] = counted32(counter, i);
     }
-    *counter = counted32(counter, 16);
     blocks
 }
 
@@ -48,7 +32,7 @@ fn increment128(block: &mut Block)
     *block = u128::from_be_bytes(*block).wrapping_add(1).to_be_bytes();
 }
 
-// The same, where all bytes count.
+// Sixteen counter blocks from `counter` on, which becomes the one after them, where all bytes count.
 fn next128(counter: &mut Block) -> [Block; 16]
     ensures sixteen { length result ≡ 16 }
     ensures counts { (i : ℕ) → i < 16 → get_or result i [] ≡ iterate increment128 i counter.old }
@@ -62,56 +46,89 @@ fn next128(counter: &mut Block) -> [Block; 16]
     blocks
 }
 
-fn next_sixteen(counting: Counting, counter: &mut Block) -> [Block; 16]
-    ensures sixteen { length result ≡ 16 }
-    ensures counts { (i : ℕ) → i < 16 → get_or result i [] ≡ iterate (increment (width_of counting)) i counter.old }
-    ensures counter { counter.new ≡ iterate (increment (width_of counting)) 16 counter.old }
-{
-    match counting {
-        Counting::LastFourBytes => next32(counter),
-        Counting::AllBytes => next128(counter),
-    }
-}
-
-// Counter mode on at most sixteen blocks.
-fn last_xor<C: Cipher>(cipher: &C, counting: Counting, start: &Block, bytes: &mut [u8])
+// Adds to bytes as many blocks of a key stream as they need.
+fn xor_stream(stream: &[Block; 16], bytes: &mut [u8])
     requires { length bytes.old ≤ 256 }
-    ensures { bytes.new ≡ counter_mode (C.image cipher.now) (increment (width_of counting)) start.now bytes.old }
+    ensures { (image next : List ℕ → List ℕ) (start : List ℕ) → ((block : List ℕ) → length (image block) ≡ 16)
+        → ((k : ℕ) → 16 * k < length bytes.old → get_or stream.now k [] ≡ image (iterate next k start))
+        → bytes.new ≡ counter_mode image next start bytes.old }
 {
-    let count = bytes.len().div_ceil(16);
-    let mut counter = *start;
-    let mut stream = next_sixteen(counting, &mut counter);
-    cipher.encrypt_blocks(&mut stream[..count]);
-    for k in 0..count {
+    for k in 0..bytes.len().div_ceil(16) {
         xor_at(bytes, 16 * k, &stream[k]);
     }
 }
 
-fn counter_xor<C: Cipher>(cipher: &C, counting: Counting, start: &Block, bytes: &mut [u8])
-    ensures { bytes.new ≡ counter_mode (C.image cipher.now) (increment (width_of counting)) start.now bytes.old }
+// Counter mode on at most sixteen blocks, where the last four bytes count, under round keys as blocks and as planes.
+fn last32_xor(keys: &[Block], planes: &[Planes], rounds: usize, start: &Block, bytes: &mut [u8])
+    requires some { 0 < rounds }
+    requires keys { length keys.now ≡ rounds + 1 }
+    requires planes { length planes.now ≡ rounds + 1 }
+    requires sixteen { length bytes.old ≤ 256 }
+    ensures { (words : List ℕ) → AreKeyBlocks words keys.now → AreRoundKeys words planes.now
+        → bytes.new ≡ ctr32 (cipher rounds words) start.now bytes.old }
+{
+    let count = bytes.len().div_ceil(16);
+    let mut stream = next32(start);
+    encrypt_rest(keys, planes, rounds, &mut stream[..count]);
+    xor_stream(&stream, bytes);
+}
+
+// Counter mode on at most sixteen blocks, where all bytes count.
+fn last128_xor<C: Cipher>(key: &C, start: &Block, bytes: &mut [u8])
+    requires { length bytes.old ≤ 256 }
+    ensures { bytes.new ≡ ctr128 (C.image key.now) start.now bytes.old }
+{
+    let count = bytes.len().div_ceil(16);
+    let mut counter = *start;
+    let mut stream = next128(&mut counter);
+    key.encrypt_blocks(&mut stream[..count]);
+    xor_stream(&stream, bytes);
+}
+
+/// Counter mode where the last four bytes count, under round keys as blocks and as planes.
+pub(crate) fn ctr32_under(
+    keys: &[Block],
+    planes: &[Planes],
+    rounds: usize,
+    start: &Block,
+    bytes: &mut [u8],
+)
+    requires some { 0 < rounds }
+    requires keys { length keys.now ≡ rounds + 1 }
+    requires planes { length planes.now ≡ rounds + 1 }
+    ensures { (words : List ℕ) → AreKeyBlocks words keys.now → AreRoundKeys words planes.now
+        → bytes.new ≡ ctr32 (cipher rounds words) start.now bytes.old }
 {
     let mut counter = *start;
     let sets = bytes.len() / 256;
     for set in 0..sets {
-        let mut stream = next_sixteen(counting, &mut counter);
-        cipher.encrypt_blocks(&mut stream);
+        let stream = counter_images(planes, rounds, &counter);
         xor_sixteen(bytes, 256 * set, &stream);
+        let next = counted32(&counter, 16);
+        counter = next;
     }
-    last_xor(cipher, counting, &counter, &mut bytes[256 * sets..]);
+    last32_xor(keys, planes, rounds, &counter, &mut bytes[256 * sets..]);
 }
 
 /// Xors the key stream that starts with the image of `start` into the bytes. Its counter blocks
 /// count modulo 2^32 on the last four bytes (SP 800-38D, section 6.5).
-pub fn ctr32_xor<C: Cipher>(cipher: &C, start: &Block, bytes: &mut [u8])
-    ensures { bytes.new ≡ ctr32 (C.image cipher.now) start.now bytes.old }
+pub fn ctr32_xor<C: Cipher>(key: &C, start: &Block, bytes: &mut [u8])
+    ensures { bytes.new ≡ ctr32 (C.image key.now) start.now bytes.old }
 {
-    counter_xor(cipher, Counting::LastFourBytes, start, bytes);
+    key.ctr32_xor(start, bytes);
 }
 
 /// Xors the key stream that starts with the image of `start` into the bytes. Its counter blocks
 /// count modulo 2^128 on all sixteen bytes (SP 800-38A, appendix B.1).
-pub fn ctr128_xor<C: Cipher>(cipher: &C, start: &Block, bytes: &mut [u8])
-    ensures { bytes.new ≡ ctr128 (C.image cipher.now) start.now bytes.old }
+pub fn ctr128_xor<C: Cipher>(key: &C, start: &Block, bytes: &mut [u8])
+    ensures { bytes.new ≡ ctr128 (C.image key.now) start.now bytes.old }
 {
-    counter_xor(cipher, Counting::AllBytes, start, bytes);
+    let mut counter = *start;
+    let sets = bytes.len() / 256;
+    for set in 0..sets {
+        let mut stream = next128(&mut counter);
+        key.encrypt_blocks(&mut stream);
+        xor_sixteen(bytes, 256 * set, &stream);
+    }
+    last128_xor(key, &counter, &mut bytes[256 * sets..]);
 }

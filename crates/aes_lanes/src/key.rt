@@ -4,6 +4,7 @@ ghost use Rattle.std.specs.Prelude.{◌≡◌};
 
 use crate::block::Block;
 use crate::cipher::Cipher;
+use crate::counter::ctr32_under;
 use crate::plane_rounds::expand_planes;
 use crate::planes::{Planes, no_planes};
 use crate::rounds::{decrypt_all, encrypt_all};
@@ -74,6 +75,10 @@ impl Cipher for Key128 {
     fn decrypt_blocks(&self, blocks: &mut [Block]) {
         decrypt_all(&self.blocks, &self.planes, 10, blocks);
     }
+
+    fn ctr32_xor(&self, start: &Block, bytes: &mut [u8]) {
+        ctr32_under(&self.blocks, &self.planes, 10, start, bytes);
+    }
 }
 
 /// A key of AES-256, of 32 bytes. A contract sees it as those bytes.
@@ -139,5 +144,9 @@ impl Cipher for Key256 {
 
     fn decrypt_blocks(&self, blocks: &mut [Block]) {
         decrypt_all(&self.blocks, &self.planes, 14, blocks);
+    }
+
+    fn ctr32_xor(&self, start: &Block, bytes: &mut [u8]) {
+        ctr32_under(&self.blocks, &self.planes, 14, start, bytes);
     }
 }

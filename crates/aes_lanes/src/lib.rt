@@ -6,6 +6,7 @@
 mod block;
 mod cipher;
 mod counter;
+mod counter_planes;
 mod key;
 pub mod lanes;
 pub mod laws;

@@ -1,13 +1,16 @@
 // The transformations of the rounds on sixteen blocks as planes (FIPS 197, section 5.1).
 
-ghost use Rattle.std.specs.Prelude.{◌≡◌, ℕ, ◌+◌, ◌*◌, ◌<◌, ◌≤◌, ◌++◌, List, bit_xor, drop, length, map, take};
+ghost use Rattle.std.specs.Prelude.{◌≡◌, ℕ, ◌+◌, ◌*◌, ◌<◌, ◌≤◌, ◌++◌, List, [], bit_xor, drop, get_or, length, map, take};
+ghost use Rattle.std.specs.Fn.{iterate};
 ghost use Rattle.aes_lanes.specs.Cipher.{cipher, inverse_cipher};
+ghost use Rattle.aes_lanes.specs.Counter.{increment32};
 ghost use Rattle.aes_lanes.specs.Field.{inverse_affine_map, sbox};
 ghost use Rattle.aes_lanes.specs.Planes.{block_of, byte_at};
 ghost use Rattle.aes_lanes.specs.PlaneList.{AreRoundKeys, list_of};
 ghost use Rattle.aes_lanes.specs.Rounds.{add_round_key, inverse_mix_columns, inverse_shift_rows, inverse_sub_bytes, mix_columns, shift_rows, sub_bytes};
 
 use crate::block::Block;
+use crate::counter_planes::counter_planes;
 use crate::plane_blocks::{gather, scatter};
 use crate::planes::Planes;
 use crate::schedule::key_block;
@@ -391,18 +394,40 @@ pub(crate) fn expand_planes(words: &[u32], keys: &mut [Planes])
     }
 }
 
+// The planes of the images, in so many rounds, of the blocks that planes hold, under round keys as planes.
+#[inline(always)]
+fn encrypted(keys: &[Planes], rounds: usize, blocks: &Planes) -> Planes
+    requires some { 0 < rounds }
+    requires keys { length keys.now ≡ rounds + 1 }
+    ensures { (words : List ℕ) (k : ℕ) → AreRoundKeys words keys.now → k < 16
+        → block_of (list_of result) k ≡ cipher rounds words (block_of (list_of blocks.now) k) }
+{
+    let mut state = add(blocks, &keys[0]);
+    for round in 1..rounds {
+        let next = add(&mix(&shift(&sub(&state))), &keys[round]);
+        state = next;
+    }
+    add(&shift(&sub(&state)), &keys[rounds])
+}
+
 // Replaces sixteen blocks by their images in so many rounds, under round keys as planes.
 fn encrypt_sixteen(keys: &[Planes], rounds: usize, blocks: &mut [Block; 16])
     requires some { 0 < rounds }
     requires keys { length keys.now ≡ rounds + 1 }
     ensures { (words : List ℕ) → AreRoundKeys words keys.now → blocks.new ≡ map (cipher rounds words) blocks.old }
 {
-    let mut state = add(&gather(blocks), &keys[0]);
-    for round in 1..rounds {
-        let next = add(&mix(&shift(&sub(&state))), &keys[round]);
-        state = next;
-    }
-    *blocks = scatter(&add(&shift(&sub(&state)), &keys[rounds]));
+    *blocks = scatter(&encrypted(keys, rounds, &gather(blocks)));
+}
+
+/// The images, in so many rounds, of sixteen counter blocks from `counter` on, under round keys as planes.
+pub(crate) fn counter_images(keys: &[Planes], rounds: usize, counter: &Block) -> [Block; 16]
+    requires some { 0 < rounds }
+    requires keys { length keys.now ≡ rounds + 1 }
+    ensures sixteen { length result ≡ 16 }
+    ensures images { (words : List ℕ) (k : ℕ) → AreRoundKeys words keys.now → k < 16
+        → get_or result k [] ≡ cipher rounds words (iterate increment32 k counter.now) }
+{
+    scatter(&encrypted(keys, rounds, &counter_planes(counter)))
 }
 
 /// Replaces the sixteen blocks from place `at` on by their images in so many rounds, under round keys as planes.

@@ -131,11 +131,13 @@ length-round_key : (words : List ℕ) (r : ℕ) → length (round_key words r) �
 unfolding round_key state_of
 length-round_key words r = refl
 
-pub length-aes : (key_words : ℕ) (key block : List ℕ) → length (aes key_words key block) ≡ 16
-unfolding aes cipher add_round_key
-length-aes key_words key block =
-    let words : List ℕ = key_schedule key_words key in
-    let nr : ℕ = number_of_rounds key_words in
+pub length-cipher : (nr : ℕ) (words block : List ℕ) → length (cipher nr words block) ≡ 16
+unfolding cipher add_round_key
+length-cipher nr words block =
     let s : List ℕ = sub_bytes (rounds words block (nr - 1)) in
     let long : length (shift_rows s) ≤ length (round_key words nr) = omega (arith, length-shift_rows s, length-round_key words nr) in
     length-xor_bytes (shift_rows s) (round_key words nr) long ∙ length-shift_rows s
+
+pub length-aes : (key_words : ℕ) (key block : List ℕ) → length (aes key_words key block) ≡ 16
+unfolding aes
+length-aes key_words key block = length-cipher (number_of_rounds key_words) (key_schedule key_words key) block

@@ -2,10 +2,10 @@ use Rattle.std.proofs.Common.{◌≡◌, ℕ, ◌<◌, ◌+◌, ◌*◌, ◌/◌
 use Rattle.std.proofs.lemmas.List.{get_or-map}
 use Rattle.std.specs.Fn.{iterate}
 use Rattle.aes_lanes.specs.Counter.{increment}
-use Rattle.aes_lanes.specs.Private.{width_of, AreXoredAt}
+use Rattle.aes_lanes.specs.Private.{AreXoredAt}
 use Rattle.aes_lanes.proofs.CounterSteps.{IsDoneTo, IsDoneTo-sixteen, iterate-more, counter_mode-from_rest}
 use Rattle.aes_lanes.proofs.Rests.{put_rest}
-use Rattle.aes_lanes.proofs.counter.counter_xor.Goals as goal
+use Rattle.aes_lanes.proofs.counter.ctr128_xor.Goals as goal
 
 -- the images of sixteen counter blocks, of which the first is a count
 images : (image next : List ℕ → List ℕ) (start counter : List ℕ) (blocks stream : List (List ℕ)) (n : ℕ) → length blocks ≡ 16
@@ -18,12 +18,12 @@ images image next start counter blocks stream n sixteen counted each is i lt =
 
 pub loop-set-preserved : goal.loop-set-preserved
 loop-set-preserved g c =
-    let image = g.C.Cipher.image c.args.cipher.now in
-    let next = increment (width_of c.args.counting) in
+    let image = g.C.Cipher.image c.args.key.now in
+    let next = increment 16 in
     let start = c.args.start.now in
     let more : 16 * c.loop-set.set + 16 ≡ 16 * (c.loop-set.set + 1) = omega arith in
     let at : 256 * c.loop-set.set ≡ 16 * (16 * c.loop-set.set) = omega arith in
-    let stream = c.next_sixteen-stream.ensures in
+    let stream = c.next128-stream.ensures in
     record {
       counter =
           stream.counter ∙ ap (iterate next 16) c.loop-set.invariant.counter ∙ iterate-more next (16 * c.loop-set.set) 16 start
@@ -39,8 +39,8 @@ loop-set-preserved g c =
 pub returns : goal.returns
 returns g c =
     let done : ℕ = 256 * (length c.args.bytes.now / 256) in
-    put_rest c.loop-set.bytes c.last_xor.new.bytes done
-    ∙ counter_mode-from_rest (g.C.Cipher.image c.args.cipher.now) (increment (width_of c.args.counting))
-    (g.met.C.Cipher.length_image c.args.cipher.now) c.args.start.now c.loop-set.counter c.args.bytes.now c.loop-set.bytes c.last_xor.new.bytes
+    put_rest c.loop-set.bytes c.last128_xor.new.bytes done
+    ∙ counter_mode-from_rest (g.C.Cipher.image c.args.key.now) (increment 16)
+    (g.met.C.Cipher.length_image c.args.key.now) c.args.start.now c.loop-set.counter c.args.bytes.now c.loop-set.bytes c.last128_xor.new.bytes
     (16 * c.loop-set.set) done (omega arith) (omega arith)
-    c.loop-set.auto.bytes c.loop-set.invariant.done c.loop-set.invariant.counter c.last_xor.ensures
+    c.loop-set.auto.bytes c.loop-set.invariant.done c.loop-set.invariant.counter c.last128_xor.ensures

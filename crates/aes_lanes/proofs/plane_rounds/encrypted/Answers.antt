@@ -1,0 +1,34 @@
+use Rattle.std.proofs.Common.{◌≡◌, ◌∙◌, ◌-◌, sym, ap, ap₂, arith}
+use Rattle.aes_lanes.specs.Planes.{block_of}
+use Rattle.aes_lanes.specs.PlaneList.{list_of}
+use Rattle.aes_lanes.specs.Rounds.{add_round_key, mix_columns, shift_rows, sub_bytes}
+use Rattle.aes_lanes.specs.Cipher.{rounds, cipher}
+use Rattle.aes_lanes.proofs.RoundSteps.{rounds-next}
+use Rattle.aes_lanes.proofs.RoundPlanes.{key_is}
+use Rattle.aes_lanes.proofs.plane_rounds.encrypted.Goals as goal
+
+pub loop-round-init : goal.loop-round-init
+unfolding rounds
+loop-round-init c = λ words k keys lt.
+    let key = key_is words 0 k _ _ c.index-keys-0.is (keys 0 k c.index-keys-0.result (omega arith) lt) in
+    c.add-state.ensures k ∙ ap (add_round_key (block_of (list_of c.args.blocks.now) k)) key
+
+pub loop-round-preserved : goal.loop-round-preserved
+loop-round-preserved c = λ words k keys lt.
+    let key = key_is words c.loop-round.round k _ _ c.index-keys-round.is (keys c.loop-round.round k c.index-keys-round.result (omega arith) lt) in
+    c.add-next.ensures k
+    ∙ ap₂ add_round_key
+    (c.mix.ensures k ∙ ap mix_columns (c.shift.ensures k ∙ ap shift_rows (c.sub.ensures k lt ∙ ap sub_bytes (c.loop-round.invariant words k keys lt))))
+    key
+    ∙ sym (rounds-next words (block_of (list_of c.args.blocks.now) k) c.loop-round.round (omega arith))
+
+pub returns : goal.returns
+unfolding cipher
+returns c = λ words k keys lt.
+    let block = block_of (list_of c.args.blocks.now) k in
+    let last : c.loop-round.round ≡ c.args.rounds = omega arith in
+    let key = key_is words c.args.rounds k _ _ c.index-keys-rounds.is (keys c.args.rounds k c.index-keys-rounds.result (omega arith) lt) in
+    c.add.ensures k
+    ∙ ap₂ add_round_key
+    (c.shift-2.ensures k ∙ ap shift_rows (c.sub-2.ensures k lt ∙ ap sub_bytes (c.loop-round.invariant words k keys lt ∙ ap (λ r. rounds words block (r - 1)) last)))
+    key

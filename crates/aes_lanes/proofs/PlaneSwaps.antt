@@ -1,12 +1,13 @@
 -- Vectors of bytes and planes of their bits: groups of bits exchanged between two vectors.
-use Rattle.std.proofs.Common.{◌≡◌, ℕ, ◌+◌, ◌-◌, ◌*◌, ◌/◌, ◌%◌, ◌^◌, ◌<◌, List, map, length, replicate, bit_and, bit_xor, slice_index, refl, ap, ap₂, ◌∙◌, arith, lit<, nat_eq, if◌then◌else◌}
+use Rattle.std.proofs.Common.{◌≡◌, ℕ, ◌+◌, ◌-◌, ◌*◌, ◌/◌, ◌%◌, ◌^◌, ◌<◌, List, map, length, replicate, bit_and, bit_xor, slice_index, refl, ap, ◌∙◌, arith, lit<, nat_eq, if◌then◌else◌}
 use Rattle.std.specs.Simd.Lanes.{zip2}
 use Rattle.std.specs.List.{range_with_len}
 use Rattle.std.proofs.Math.Nat.{div-le_self}
 use Rattle.std.proofs.lemmas.List.{length-replicate, get_or-replicate}
 use Rattle.std.proofs.lemmas.Simd.{get_or-zip2}
-use lib.Bits.{xor_zero_l, xor_zero_r}
+use lib.Bits.{xor_comm, xor_zero_r}
 use Rattle.aes_lanes.specs.Laws.Field.{at_each}
+use Rattle.aes_lanes.specs.Laws.Sums.{bit_xor-twice}
 use Rattle.aes_lanes.specs.Planes.{IsPlane, bits_at, low_bits, high_bits}
 use Rattle.aes_lanes.proofs.PlaneBits.{IsPlane-zip2, IsPlane-sum, IsPlane-both, IsPlane-splat, eight_same, bits_of, bits_of-xor}
 
@@ -37,105 +38,152 @@ IsPlane-lowered : (s : ℕ) (v : List ℕ) → s < 256 → IsPlane v → IsPlane
 IsPlane-lowered s v byte plane =
     IsPlane-zip2 _ (λ x y hx hy. let below = div-le_self x (2 ^ y) in omega (arith, below)) v (replicate 32 s) plane (IsPlane-splat s byte)
 
--- the vectors that a swap makes
+-- what two vectors exchange, and the vectors that this makes
+abbrev part_lanes : ℕ → ℕ → List ℕ → List ℕ → List ℕ
+part_lanes s m a b = masked m (zip2 bit_xor (lowered s a) b)
+
 abbrev pub low_lanes : ℕ → ℕ → List ℕ → List ℕ → List ℕ
-low_lanes s m a b = zip2 bit_xor (masked m a) (raised s (masked m b))
+low_lanes s m a b = zip2 bit_xor a (raised s (part_lanes s m a b))
 
-abbrev pub high_lanes : ℕ → ℕ → ℕ → List ℕ → List ℕ → List ℕ
-high_lanes s m n a b = zip2 bit_xor (masked m (lowered s a)) (masked n b)
+abbrev pub high_lanes : ℕ → ℕ → List ℕ → List ℕ → List ℕ
+high_lanes s m a b = zip2 bit_xor b (part_lanes s m a b)
 
-pub IsPlane-low : (s m : ℕ) (a b : List ℕ) → s < 256 → m < 256 → IsPlane a → IsPlane b → IsPlane (low_lanes s m a b)
-IsPlane-low s m a b hs hm pa pb =
-    IsPlane-sum (masked m a) (raised s (masked m b)) (IsPlane-masked m a hm pa) (IsPlane-raised s (masked m b) hs (IsPlane-masked m b hm pb))
+-- the bits from place s on, and of those exchanged the ones that each vector takes
+lower_bits : ℕ → List ℕ → List ℕ
+lower_bits s l = map (λ i. slice_index l (i + s)) (range_with_len 0 8)
 
-pub IsPlane-high : (s m n : ℕ) (a b : List ℕ) → s < 256 → m < 256 → n < 256 → IsPlane a → IsPlane b → IsPlane (high_lanes s m n a b)
-IsPlane-high s m n a b hs hm hn pa pb =
-    IsPlane-sum (masked m (lowered s a)) (masked n b) (IsPlane-masked m (lowered s a) hm (IsPlane-lowered s a hs pa)) (IsPlane-masked n b hn pb)
+low_part : ℕ → List ℕ → List ℕ
+low_part s l = map (λ i. if nat_eq (i / s % 2) 0 then 0 else slice_index l (i - s)) (range_with_len 0 8)
 
--- a sum of two functions of bytes, bit by bit
-bits-sum : (f g : ℕ → ℕ) (F G : List ℕ → List ℕ)
-    → ((x : ℕ) → x < 256 → bits_of (f x) ≡ F (bits_of x)) → ((x : ℕ) → x < 256 → bits_of (g x) ≡ G (bits_of x))
-    → (a b u v : List ℕ) (p : ℕ) → p < 32 → IsPlane a → IsPlane b → IsPlane u → IsPlane v
-    → slice_index u p ≡ f (slice_index a p) → slice_index v p ≡ g (slice_index b p)
-    → bits_at p (zip2 bit_xor u v) ≡ zip2 bit_xor (F (bits_at p a)) (G (bits_at p b))
-unfolding bits_of
-bits-sum f g F G by_f by_g a b u v p lt pa pb pu pv u_is v_is =
-    let in_u : p < length u = omega (arith, pu.long) in
-    let in_v : p < length v = omega (arith, pv.long) in
-    ap bits_of (get_or-zip2 bit_xor u v p 0 0 0 in_u in_v ∙ ap₂ bit_xor u_is v_is)
-    ∙ bits_of-xor (f (slice_index a p)) (g (slice_index b p))
-    ∙ ap₂ (zip2 bit_xor) (by_f (slice_index a p) (pa.bytes p)) (by_g (slice_index b p) (pb.bytes p))
+high_part : ℕ → List ℕ → List ℕ
+high_part s l = map (λ i. if nat_eq (i / s % 2) 0 then slice_index l i else 0) (range_with_len 0 8)
 
--- the bits that each part keeps
-first_low : ℕ → List ℕ → List ℕ
-first_low s l = map (λ i. if nat_eq (i / s % 2) 0 then slice_index l i else 0) (range_with_len 0 8)
+-- what is added twice is gone
+gone : (a b : ℕ) → bit_xor a (bit_xor a b) ≡ b
+gone a b = xor_comm a (bit_xor a b) ∙ ap (λ n. bit_xor n a) (xor_comm a b) ∙ bit_xor-twice b a
 
-second_low : ℕ → List ℕ → List ℕ
-second_low s l = map (λ i. if nat_eq (i / s % 2) 0 then 0 else slice_index l (i - s)) (range_with_len 0 8)
+gone_behind : (a b : ℕ) → bit_xor b (bit_xor a b) ≡ a
+gone_behind a b = ap (bit_xor b) (xor_comm a b) ∙ gone b a
 
-first_high : ℕ → List ℕ → List ℕ
-first_high s l = map (λ i. if nat_eq (i / s % 2) 0 then slice_index l (i + s) else 0) (range_with_len 0 8)
+module _ (s m : ℕ) (hs : s < 256) (hm : m < 256) (lower : (x : ℕ) → x < 256 → bits_of (x / 2 ^ s) ≡ lower_bits s (bits_of x))
+    (a b : List ℕ) (pa : IsPlane a) (pb : IsPlane b) where
+  IsPlane-exchanged : IsPlane (zip2 bit_xor (lowered s a) b)
+  IsPlane-exchanged = IsPlane-sum (lowered s a) b (IsPlane-lowered s a hs pa) pb
 
-second_high : ℕ → List ℕ → List ℕ
-second_high s l = map (λ i. if nat_eq (i / s % 2) 0 then 0 else slice_index l i) (range_with_len 0 8)
+  IsPlane-part : IsPlane (part_lanes s m a b)
+  IsPlane-part = IsPlane-masked m (zip2 bit_xor (lowered s a) b) hm IsPlane-exchanged
 
-module _ (s m : ℕ) (hs : s < 256) (hm : m < 256)
-    (first : (x : ℕ) → x < 256 → bits_of (bit_and x m) ≡ first_low s (bits_of x))
-    (second : (x : ℕ) → x < 256 → bits_of (bit_and x m * 2 ^ s % 2 ^ 8) ≡ second_low s (bits_of x)) where
-  bits-low : (a b : List ℕ) (p : ℕ) → p < 32 → IsPlane a → IsPlane b
-      → bits_at p (low_lanes s m a b) ≡ zip2 bit_xor (first_low s (bits_at p a)) (second_low s (bits_at p b))
-  bits-low a b p lt pa pb =
-      bits-sum (λ x. bit_and x m) (λ x. bit_and x m * 2 ^ s % 2 ^ 8) (first_low s) (second_low s) first second
-      a b (masked m a) (raised s (masked m b)) p lt pa pb (IsPlane-masked m a hm pa) (IsPlane-raised s (masked m b) hs (IsPlane-masked m b hm pb))
-      (slice_index-splat bit_and a m p pa lt)
-      (slice_index-splat (λ x n. x * 2 ^ n % 2 ^ 8) (masked m b) s p (IsPlane-masked m b hm pb) lt
-      ∙ ap (λ x. x * 2 ^ s % 2 ^ 8) (slice_index-splat bit_and b m p pb lt))
+  IsPlane-low : IsPlane (low_lanes s m a b)
+  IsPlane-low = IsPlane-sum a (raised s (part_lanes s m a b)) pa (IsPlane-raised s (part_lanes s m a b) hs IsPlane-part)
 
-module _ (s m n : ℕ) (hs : s < 256) (hm : m < 256) (hn : n < 256)
-    (first : (x : ℕ) → x < 256 → bits_of (bit_and (x / 2 ^ s) m) ≡ first_high s (bits_of x))
-    (second : (x : ℕ) → x < 256 → bits_of (bit_and x n) ≡ second_high s (bits_of x)) where
-  bits-high : (a b : List ℕ) (p : ℕ) → p < 32 → IsPlane a → IsPlane b
-      → bits_at p (high_lanes s m n a b) ≡ zip2 bit_xor (first_high s (bits_at p a)) (second_high s (bits_at p b))
-  bits-high a b p lt pa pb =
-      bits-sum (λ x. bit_and (x / 2 ^ s) m) (λ x. bit_and x n) (first_high s) (second_high s) first second
-      a b (masked m (lowered s a)) (masked n b) p lt pa pb (IsPlane-masked m (lowered s a) hm (IsPlane-lowered s a hs pa)) (IsPlane-masked n b hn pb)
-      (slice_index-splat bit_and (lowered s a) m p (IsPlane-lowered s a hs pa) lt
-      ∙ ap (λ x. bit_and x m) (slice_index-splat (λ x k. x / 2 ^ k) a s p pa lt))
-      (slice_index-splat bit_and b n p pb lt)
+  IsPlane-high : IsPlane (high_lanes s m a b)
+  IsPlane-high = IsPlane-sum b (part_lanes s m a b) pb IsPlane-part
+
+  -- the bits of what is exchanged, before the mask
+  bits-exchanged : (p : ℕ) → p < 32
+      → bits_at p (zip2 bit_xor (lowered s a) b) ≡ zip2 bit_xor (lower_bits s (bits_at p a)) (bits_at p b)
+  unfolding bits_of
+  bits-exchanged p lt =
+      let in_a : p < length (lowered s a) = omega (arith, (IsPlane-lowered s a hs pa).long) in
+      let in_b : p < length b = omega (arith, pb.long) in
+      ap bits_of (get_or-zip2 bit_xor (lowered s a) b p 0 0 0 in_a in_b
+      ∙ ap (λ x. bit_xor x (slice_index b p)) (slice_index-splat (λ x n. x / 2 ^ n) a s p pa lt))
+      ∙ bits_of-xor (slice_index a p / 2 ^ s) (slice_index b p)
+      ∙ ap (λ l. zip2 bit_xor l (bits_of (slice_index b p))) (lower (slice_index a p) (pa.bytes p))
+
+  -- the bits of a sum with a function of what is exchanged
+  bits-with : (f : ℕ → ℕ) (part : List ℕ → List ℕ) → ((x : ℕ) → x < 256 → bits_of (f x) ≡ part (bits_of x))
+      → (u v : List ℕ) (p : ℕ) → p < 32 → IsPlane u → IsPlane v → slice_index v p ≡ f (slice_index (zip2 bit_xor (lowered s a) b) p)
+      → bits_at p (zip2 bit_xor u v) ≡ zip2 bit_xor (bits_at p u) (part (zip2 bit_xor (lower_bits s (bits_at p a)) (bits_at p b)))
+  unfolding bits_of
+  bits-with f part by_f u v p lt pu pv is =
+      let in_u : p < length u = omega (arith, pu.long) in
+      let in_v : p < length v = omega (arith, pv.long) in
+      let x : ℕ = slice_index (zip2 bit_xor (lowered s a) b) p in
+      ap bits_of (get_or-zip2 bit_xor u v p 0 0 0 in_u in_v ∙ ap (bit_xor (slice_index u p)) is)
+      ∙ bits_of-xor (slice_index u p) (f x)
+      ∙ ap (zip2 bit_xor (bits_of (slice_index u p))) (by_f x (IsPlane-exchanged.bytes p) ∙ ap part (bits-exchanged p lt))
+
+  bits-low : ((x : ℕ) → x < 256 → bits_of (bit_and x m * 2 ^ s % 2 ^ 8) ≡ low_part s (bits_of x)) → (p : ℕ) → p < 32
+      → bits_at p (low_lanes s m a b) ≡ zip2 bit_xor (bits_at p a) (low_part s (zip2 bit_xor (lower_bits s (bits_at p a)) (bits_at p b)))
+  bits-low by_part p lt =
+      bits-with (λ x. bit_and x m * 2 ^ s % 2 ^ 8) (low_part s) by_part a (raised s (part_lanes s m a b)) p lt pa
+      (IsPlane-raised s (part_lanes s m a b) hs IsPlane-part)
+      (slice_index-splat (λ x n. x * 2 ^ n % 2 ^ 8) (part_lanes s m a b) s p IsPlane-part lt
+      ∙ ap (λ x. x * 2 ^ s % 2 ^ 8) (slice_index-splat bit_and (zip2 bit_xor (lowered s a) b) m p IsPlane-exchanged lt))
+
+  bits-high : ((x : ℕ) → x < 256 → bits_of (bit_and x m) ≡ high_part s (bits_of x)) → (p : ℕ) → p < 32
+      → bits_at p (high_lanes s m a b) ≡ zip2 bit_xor (bits_at p b) (high_part s (zip2 bit_xor (lower_bits s (bits_at p a)) (bits_at p b)))
+  bits-high by_part p lt =
+      bits-with (λ x. bit_and x m) (high_part s) by_part b (part_lanes s m a b) p lt pb IsPlane-part
+      (slice_index-splat bit_and (zip2 bit_xor (lowered s a) b) m p IsPlane-exchanged lt)
 
 -- the six swaps
-pub bits-low1 : (a b : List ℕ) (p : ℕ) → p < 32 → IsPlane a → IsPlane b → bits_at p (low_lanes 1 0x55 a b) ≡ low_bits 1 (bits_at p a) (bits_at p b)
-unfolding bits_of first_low second_low low_bits
-bits-low1 a b p lt pa pb =
-    bits-low 1 0x55 (lit< tt) (lit< tt) (at_each _ (λ x. first_low 1 (bits_of x)) refl) (at_each _ (λ x. second_low 1 (bits_of x)) refl) a b p lt pa pb
-    ∙ eight_same (xor_zero_r _) (xor_zero_l _) (xor_zero_r _) (xor_zero_l _) (xor_zero_r _) (xor_zero_l _) (xor_zero_r _) (xor_zero_l _)
+module _ (a b : List ℕ) (pa : IsPlane a) (pb : IsPlane b) where
+  lower1 : (x : ℕ) → x < 256 → bits_of (x / 2 ^ 1) ≡ lower_bits 1 (bits_of x)
+  unfolding bits_of lower_bits
+  lower1 = at_each _ (λ x. lower_bits 1 (bits_of x)) refl
 
-pub bits-high1 : (a b : List ℕ) (p : ℕ) → p < 32 → IsPlane a → IsPlane b → bits_at p (high_lanes 1 0x55 0xaa a b) ≡ high_bits 1 (bits_at p a) (bits_at p b)
-unfolding bits_of first_high second_high high_bits
-bits-high1 a b p lt pa pb =
-    bits-high 1 0x55 0xaa (lit< tt) (lit< tt) (lit< tt) (at_each _ (λ x. first_high 1 (bits_of x)) refl) (at_each _ (λ x. second_high 1 (bits_of x)) refl) a b p lt pa pb
-    ∙ eight_same (xor_zero_r _) (xor_zero_l _) (xor_zero_r _) (xor_zero_l _) (xor_zero_r _) (xor_zero_l _) (xor_zero_r _) (xor_zero_l _)
+  pub IsPlane-low1 : IsPlane (low_lanes 1 0x55 a b)
+  IsPlane-low1 = IsPlane-low 1 0x55 (lit< tt) (lit< tt) lower1 a b pa pb
 
-pub bits-low2 : (a b : List ℕ) (p : ℕ) → p < 32 → IsPlane a → IsPlane b → bits_at p (low_lanes 2 0x33 a b) ≡ low_bits 2 (bits_at p a) (bits_at p b)
-unfolding bits_of first_low second_low low_bits
-bits-low2 a b p lt pa pb =
-    bits-low 2 0x33 (lit< tt) (lit< tt) (at_each _ (λ x. first_low 2 (bits_of x)) refl) (at_each _ (λ x. second_low 2 (bits_of x)) refl) a b p lt pa pb
-    ∙ eight_same (xor_zero_r _) (xor_zero_r _) (xor_zero_l _) (xor_zero_l _) (xor_zero_r _) (xor_zero_r _) (xor_zero_l _) (xor_zero_l _)
+  pub IsPlane-high1 : IsPlane (high_lanes 1 0x55 a b)
+  IsPlane-high1 = IsPlane-high 1 0x55 (lit< tt) (lit< tt) lower1 a b pa pb
 
-pub bits-high2 : (a b : List ℕ) (p : ℕ) → p < 32 → IsPlane a → IsPlane b → bits_at p (high_lanes 2 0x33 0xcc a b) ≡ high_bits 2 (bits_at p a) (bits_at p b)
-unfolding bits_of first_high second_high high_bits
-bits-high2 a b p lt pa pb =
-    bits-high 2 0x33 0xcc (lit< tt) (lit< tt) (lit< tt) (at_each _ (λ x. first_high 2 (bits_of x)) refl) (at_each _ (λ x. second_high 2 (bits_of x)) refl) a b p lt pa pb
-    ∙ eight_same (xor_zero_r _) (xor_zero_r _) (xor_zero_l _) (xor_zero_l _) (xor_zero_r _) (xor_zero_r _) (xor_zero_l _) (xor_zero_l _)
+  pub bits-low1 : (p : ℕ) → p < 32 → bits_at p (low_lanes 1 0x55 a b) ≡ low_bits 1 (bits_at p a) (bits_at p b)
+  unfolding bits_of lower_bits low_part low_bits
+  bits-low1 p lt =
+      bits-low 1 0x55 (lit< tt) (lit< tt) lower1 a b pa pb (at_each _ (λ x. low_part 1 (bits_of x)) refl) p lt
+      ∙ eight_same (xor_zero_r _) (gone _ _) (xor_zero_r _) (gone _ _) (xor_zero_r _) (gone _ _) (xor_zero_r _) (gone _ _)
 
-pub bits-low4 : (a b : List ℕ) (p : ℕ) → p < 32 → IsPlane a → IsPlane b → bits_at p (low_lanes 4 0x0f a b) ≡ low_bits 4 (bits_at p a) (bits_at p b)
-unfolding bits_of first_low second_low low_bits
-bits-low4 a b p lt pa pb =
-    bits-low 4 0x0f (lit< tt) (lit< tt) (at_each _ (λ x. first_low 4 (bits_of x)) refl) (at_each _ (λ x. second_low 4 (bits_of x)) refl) a b p lt pa pb
-    ∙ eight_same (xor_zero_r _) (xor_zero_r _) (xor_zero_r _) (xor_zero_r _) (xor_zero_l _) (xor_zero_l _) (xor_zero_l _) (xor_zero_l _)
+  pub bits-high1 : (p : ℕ) → p < 32 → bits_at p (high_lanes 1 0x55 a b) ≡ high_bits 1 (bits_at p a) (bits_at p b)
+  unfolding bits_of lower_bits high_part high_bits
+  bits-high1 p lt =
+      bits-high 1 0x55 (lit< tt) (lit< tt) lower1 a b pa pb (at_each _ (λ x. high_part 1 (bits_of x)) refl) p lt
+      ∙ eight_same (gone_behind _ _) (xor_zero_r _) (gone_behind _ _) (xor_zero_r _) (gone_behind _ _) (xor_zero_r _) (gone_behind _ _) (xor_zero_r _)
 
-pub bits-high4 : (a b : List ℕ) (p : ℕ) → p < 32 → IsPlane a → IsPlane b → bits_at p (high_lanes 4 0x0f 0xf0 a b) ≡ high_bits 4 (bits_at p a) (bits_at p b)
-unfolding bits_of first_high second_high high_bits
-bits-high4 a b p lt pa pb =
-    bits-high 4 0x0f 0xf0 (lit< tt) (lit< tt) (lit< tt) (at_each _ (λ x. first_high 4 (bits_of x)) refl) (at_each _ (λ x. second_high 4 (bits_of x)) refl) a b p lt pa pb
-    ∙ eight_same (xor_zero_r _) (xor_zero_r _) (xor_zero_r _) (xor_zero_r _) (xor_zero_l _) (xor_zero_l _) (xor_zero_l _) (xor_zero_l _)
+module _ (a b : List ℕ) (pa : IsPlane a) (pb : IsPlane b) where
+  lower2 : (x : ℕ) → x < 256 → bits_of (x / 2 ^ 2) ≡ lower_bits 2 (bits_of x)
+  unfolding bits_of lower_bits
+  lower2 = at_each _ (λ x. lower_bits 2 (bits_of x)) refl
+
+  pub IsPlane-low2 : IsPlane (low_lanes 2 0x33 a b)
+  IsPlane-low2 = IsPlane-low 2 0x33 (lit< tt) (lit< tt) lower2 a b pa pb
+
+  pub IsPlane-high2 : IsPlane (high_lanes 2 0x33 a b)
+  IsPlane-high2 = IsPlane-high 2 0x33 (lit< tt) (lit< tt) lower2 a b pa pb
+
+  pub bits-low2 : (p : ℕ) → p < 32 → bits_at p (low_lanes 2 0x33 a b) ≡ low_bits 2 (bits_at p a) (bits_at p b)
+  unfolding bits_of lower_bits low_part low_bits
+  bits-low2 p lt =
+      bits-low 2 0x33 (lit< tt) (lit< tt) lower2 a b pa pb (at_each _ (λ x. low_part 2 (bits_of x)) refl) p lt
+      ∙ eight_same (xor_zero_r _) (xor_zero_r _) (gone _ _) (gone _ _) (xor_zero_r _) (xor_zero_r _) (gone _ _) (gone _ _)
+
+  pub bits-high2 : (p : ℕ) → p < 32 → bits_at p (high_lanes 2 0x33 a b) ≡ high_bits 2 (bits_at p a) (bits_at p b)
+  unfolding bits_of lower_bits high_part high_bits
+  bits-high2 p lt =
+      bits-high 2 0x33 (lit< tt) (lit< tt) lower2 a b pa pb (at_each _ (λ x. high_part 2 (bits_of x)) refl) p lt
+      ∙ eight_same (gone_behind _ _) (gone_behind _ _) (xor_zero_r _) (xor_zero_r _) (gone_behind _ _) (gone_behind _ _) (xor_zero_r _) (xor_zero_r _)
+
+module _ (a b : List ℕ) (pa : IsPlane a) (pb : IsPlane b) where
+  lower4 : (x : ℕ) → x < 256 → bits_of (x / 2 ^ 4) ≡ lower_bits 4 (bits_of x)
+  unfolding bits_of lower_bits
+  lower4 = at_each _ (λ x. lower_bits 4 (bits_of x)) refl
+
+  pub IsPlane-low4 : IsPlane (low_lanes 4 0x0f a b)
+  IsPlane-low4 = IsPlane-low 4 0x0f (lit< tt) (lit< tt) lower4 a b pa pb
+
+  pub IsPlane-high4 : IsPlane (high_lanes 4 0x0f a b)
+  IsPlane-high4 = IsPlane-high 4 0x0f (lit< tt) (lit< tt) lower4 a b pa pb
+
+  pub bits-low4 : (p : ℕ) → p < 32 → bits_at p (low_lanes 4 0x0f a b) ≡ low_bits 4 (bits_at p a) (bits_at p b)
+  unfolding bits_of lower_bits low_part low_bits
+  bits-low4 p lt =
+      bits-low 4 0x0f (lit< tt) (lit< tt) lower4 a b pa pb (at_each _ (λ x. low_part 4 (bits_of x)) refl) p lt
+      ∙ eight_same (xor_zero_r _) (xor_zero_r _) (xor_zero_r _) (xor_zero_r _) (gone _ _) (gone _ _) (gone _ _) (gone _ _)
+
+  pub bits-high4 : (p : ℕ) → p < 32 → bits_at p (high_lanes 4 0x0f a b) ≡ high_bits 4 (bits_at p a) (bits_at p b)
+  unfolding bits_of lower_bits high_part high_bits
+  bits-high4 p lt =
+      bits-high 4 0x0f (lit< tt) (lit< tt) lower4 a b pa pb (at_each _ (λ x. high_part 4 (bits_of x)) refl) p lt
+      ∙ eight_same (gone_behind _ _) (gone_behind _ _) (gone_behind _ _) (gone_behind _ _) (xor_zero_r _) (xor_zero_r _) (xor_zero_r _) (xor_zero_r _)

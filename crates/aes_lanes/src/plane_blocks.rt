@@ -17,7 +17,7 @@ fn low1(a: u8x32, b: u8x32) -> u8x32
     ensures plane { IsPlane result }
     ensures bits { (p : ℕ) → p < 32 → bits_at p result ≡ low_bits 1 (bits_at p a) (bits_at p b) }
 {
-    (a & u8x32::splat(0x55)) ^ ((b & u8x32::splat(0x55)) << u8x32::splat(1))
+    a ^ ((((a >> u8x32::splat(1)) ^ b) & u8x32::splat(0x55)) << u8x32::splat(1))
 }
 
 // The same from the higher.
@@ -28,7 +28,7 @@ fn high1(a: u8x32, b: u8x32) -> u8x32
     ensures plane { IsPlane result }
     ensures bits { (p : ℕ) → p < 32 → bits_at p result ≡ high_bits 1 (bits_at p a) (bits_at p b) }
 {
-    ((a >> u8x32::splat(1)) & u8x32::splat(0x55)) ^ (b & u8x32::splat(0xaa))
+    b ^ (((a >> u8x32::splat(1)) ^ b) & u8x32::splat(0x55))
 }
 
 // The same with two bits at a time.
@@ -39,7 +39,7 @@ fn low2(a: u8x32, b: u8x32) -> u8x32
     ensures plane { IsPlane result }
     ensures bits { (p : ℕ) → p < 32 → bits_at p result ≡ low_bits 2 (bits_at p a) (bits_at p b) }
 {
-    (a & u8x32::splat(0x33)) ^ ((b & u8x32::splat(0x33)) << u8x32::splat(2))
+    a ^ ((((a >> u8x32::splat(2)) ^ b) & u8x32::splat(0x33)) << u8x32::splat(2))
 }
 
 #[inline(always)]
@@ -49,7 +49,7 @@ fn high2(a: u8x32, b: u8x32) -> u8x32
     ensures plane { IsPlane result }
     ensures bits { (p : ℕ) → p < 32 → bits_at p result ≡ high_bits 2 (bits_at p a) (bits_at p b) }
 {
-    ((a >> u8x32::splat(2)) & u8x32::splat(0x33)) ^ (b & u8x32::splat(0xcc))
+    b ^ (((a >> u8x32::splat(2)) ^ b) & u8x32::splat(0x33))
 }
 
 // The same with four bits at a time.
@@ -60,7 +60,7 @@ fn low4(a: u8x32, b: u8x32) -> u8x32
     ensures plane { IsPlane result }
     ensures bits { (p : ℕ) → p < 32 → bits_at p result ≡ low_bits 4 (bits_at p a) (bits_at p b) }
 {
-    (a & u8x32::splat(0x0f)) ^ ((b & u8x32::splat(0x0f)) << u8x32::splat(4))
+    a ^ ((((a >> u8x32::splat(4)) ^ b) & u8x32::splat(0x0f)) << u8x32::splat(4))
 }
 
 #[inline(always)]
@@ -70,7 +70,7 @@ fn high4(a: u8x32, b: u8x32) -> u8x32
     ensures plane { IsPlane result }
     ensures bits { (p : ℕ) → p < 32 → bits_at p result ≡ high_bits 4 (bits_at p a) (bits_at p b) }
 {
-    ((a >> u8x32::splat(4)) & u8x32::splat(0x0f)) ^ (b & u8x32::splat(0xf0))
+    b ^ (((a >> u8x32::splat(4)) ^ b) & u8x32::splat(0x0f))
 }
 
 // Bit k of each byte of vector i becomes bit i of that of vector k.

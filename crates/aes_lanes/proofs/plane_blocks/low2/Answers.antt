@@ -1,9 +1,8 @@
-use Rattle.std.proofs.Common.{lit<}
-use Rattle.aes_lanes.proofs.PlaneSwaps.{IsPlane-low, bits-low2}
+use Rattle.aes_lanes.proofs.PlaneSwaps.{IsPlane-low2, bits-low2}
 use Rattle.aes_lanes.proofs.plane_blocks.low2.Goals as goal
 
 pub returns : goal.returns
 returns c = record {
-  plane = IsPlane-low 2 0x33 c.args.a c.args.b (lit< tt) (lit< tt) c.requires.a c.requires.b;
-  bits = λ p lt. bits-low2 c.args.a c.args.b p lt c.requires.a c.requires.b;
+  plane = IsPlane-low2 c.args.a c.args.b c.requires.a c.requires.b;
+  bits = bits-low2 c.args.a c.args.b c.requires.a c.requires.b;
 }

@@ -10,6 +10,7 @@ mod LaneSteps
 mod ShuffleSteps
 mod PlaneBits
 mod Gates
+mod Masks
 mod PlaneMoves
 mod PlaneUnmix
 mod BlockSteps

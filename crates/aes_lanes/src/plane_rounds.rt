@@ -2,11 +2,12 @@
 
 ghost use Rattle.std.specs.Prelude.{◌≡◌, ℕ, ◌+◌, ◌*◌, ◌<◌, ◌≤◌, ◌++◌, List, [], bit_xor, drop, get_or, length, map, take};
 ghost use Rattle.std.specs.Fn.{iterate};
+ghost use Rattle.aes_lanes.specs.Bytes.{xor_bytes};
 ghost use Rattle.aes_lanes.specs.Cipher.{cipher, inverse_cipher};
 ghost use Rattle.aes_lanes.specs.Counter.{increment32};
 ghost use Rattle.aes_lanes.specs.Field.{inverse_affine_map, sbox};
 ghost use Rattle.aes_lanes.specs.Planes.{block_of, byte_at};
-ghost use Rattle.aes_lanes.specs.PlaneList.{AreRoundKeys, list_of};
+ghost use Rattle.aes_lanes.specs.PlaneList.{AreRoundKeys, list_of, plane_key, sixty_threes};
 ghost use Rattle.aes_lanes.specs.Rounds.{add_round_key, inverse_mix_columns, inverse_shift_rows, inverse_sub_bytes, mix_columns, shift_rows, sub_bytes};
 
 use crate::block::Block;
@@ -157,22 +158,29 @@ fn gates(s: &Planes) -> Planes
     }
 }
 
-// SUBBYTES.
+// SUBBYTES, and 0x63 added to each byte.
 #[inline(always)]
 fn sub(s: &Planes) -> Planes
-    ensures { (k : ℕ) → k < 16 → block_of (list_of result) k ≡ sub_bytes (block_of (list_of s.now) k) }
+    ensures { (k : ℕ) → k < 16 → block_of (list_of result) k ≡ xor_bytes (sub_bytes (block_of (list_of s.now) k)) sixty_threes }
+{
+    gates(s)
+}
+
+// Adds 0x63 to each byte.
+#[inline(always)]
+fn add_63(s: &Planes) -> Planes
+    ensures { (k : ℕ) → k < 16 → block_of (list_of result) k ≡ xor_bytes (block_of (list_of s.now) k) sixty_threes }
 {
     let ones = u8x32::splat(0xff);
-    let g = gates(s);
     Planes {
-        p0: g.p0 ^ ones,
-        p1: g.p1 ^ ones,
-        p2: g.p2,
-        p3: g.p3,
-        p4: g.p4,
-        p5: g.p5 ^ ones,
-        p6: g.p6 ^ ones,
-        p7: g.p7,
+        p0: s.p0 ^ ones,
+        p1: s.p1 ^ ones,
+        p2: s.p2,
+        p3: s.p3,
+        p4: s.p4,
+        p5: s.p5 ^ ones,
+        p6: s.p6 ^ ones,
+        p7: s.p7,
     }
 }
 
@@ -383,14 +391,22 @@ fn spread(s: &Planes) -> Planes
     }
 }
 
+// The key of a round as planes.
+fn key_planes(words: &[u32], round: usize) -> Planes
+    requires { 4 * round + 4 ≤ length words.now }
+    ensures { (k : ℕ) → k < 16 → block_of (list_of result) k ≡ plane_key words.now round }
+{
+    let planes = gather(&[key_block(words, round); 16]);
+    if round == 0 { planes } else { add_63(&planes) }
+}
+
 /// Writes the round keys of a key schedule's words as planes, as many as there is room for.
 pub(crate) fn expand_planes(words: &[u32], keys: &mut [Planes])
     requires { 4 * length keys.old ≤ length words.now }
     ensures { AreRoundKeys words.now keys.new }
 {
     for round in 0..keys.len() {
-        let key = key_block(words, round);
-        keys[round] = gather(&[key; 16]);
+        keys[round] = key_planes(words, round);
     }
 }
 
@@ -464,9 +480,10 @@ fn decrypt_sixteen(keys: &[Planes], rounds: usize, blocks: &mut [Block; 16])
     requires keys { length keys.now ≡ rounds + 1 }
     ensures { (words : List ℕ) → AreRoundKeys words keys.now → blocks.new ≡ map (inverse_cipher rounds words) blocks.old }
 {
-    let mut state = add(&gather(blocks), &keys[rounds]);
+    let mut state = add_63(&add(&gather(blocks), &keys[rounds]));
     for undone in 1..rounds {
-        let next = mix(&spread(&add(&unsub(&unshift(&state)), &keys[rounds - undone])));
+        let sum = add(&unsub(&unshift(&state)), &keys[rounds - undone]);
+        let next = mix(&spread(&add_63(&sum)));
         state = next;
     }
     *blocks = scatter(&add(&unsub(&unshift(&state)), &keys[0]));

@@ -3,6 +3,8 @@ use Rattle.std.proofs.lemmas.List.{ext_get_or, get_or-map, length-map}
 use Rattle.aes_lanes.specs.Rounds.{add_round_key, inverse_mix_columns, inverse_shift_rows, inverse_sub_bytes}
 use Rattle.aes_lanes.specs.Cipher.{inverse_rounds, inverse_cipher}
 use Rattle.aes_lanes.proofs.RoundSteps.{inverse_rounds-next}
+use Rattle.aes_lanes.specs.PlaneList.{plane_key}
+use Rattle.aes_lanes.proofs.Masks.{plane_key-later, unmasked}
 use Rattle.aes_lanes.proofs.RoundPlanes.{key_is}
 use Rattle.aes_lanes.proofs.plane_rounds.decrypt_sixteen.Goals as goal
 
@@ -10,7 +12,8 @@ pub loop-undone-init : goal.loop-undone-init
 unfolding inverse_rounds
 loop-undone-init c = λ words k keys lt.
     let key = key_is words c.args.rounds k _ _ c.index-keys-rounds.is (keys c.args.rounds k c.index-keys-rounds.result (omega arith) lt) in
-    c.add-state.ensures k ∙ ap₂ add_round_key (c.gather.ensures k lt) key
+    c.add_63-state.ensures k lt
+    ∙ unmasked _ _ words c.args.rounds (c.add.ensures k ∙ ap₂ add_round_key (c.gather.ensures k lt) (key ∙ plane_key-later words c.args.rounds (omega arith)))
 
 pub loop-undone-preserved : goal.loop-undone-preserved
 loop-undone-preserved c = λ words k keys lt.
@@ -18,14 +21,15 @@ loop-undone-preserved c = λ words k keys lt.
     let key = key_is words round k _ _ c.index-keys-rounds-in-loop-undone.is (keys round k c.index-keys-rounds-in-loop-undone.result (omega arith) lt) in
     c.mix-next.ensures k ∙ c.spread.ensures k
     ∙ ap inverse_mix_columns
-    (c.add.ensures k
+    (c.add_63.ensures k lt
+    ∙ unmasked _ _ words round (c.add-sum.ensures k
     ∙ ap₂ add_round_key
     (c.unsub.ensures k lt ∙ ap inverse_sub_bytes (c.unshift.ensures k ∙ ap inverse_shift_rows (c.loop-undone.invariant words k keys lt)))
-    key)
+    (key ∙ plane_key-later words round (omega arith))))
     ∙ sym (inverse_rounds-next words (get_or c.args.blocks.now k []) c.args.rounds c.loop-undone.undone (omega arith))
 
 pub returns : goal.returns
-unfolding inverse_cipher
+unfolding inverse_cipher plane_key
 returns c = λ words keys.
     let blocks = c.args.blocks.now in
     let last : c.loop-undone.undone ≡ c.args.rounds = omega arith in

@@ -1,5 +1,5 @@
 -- What is taken out of values that texts write is written by one too.
-use Rattle.std.proofs.Common.{◌≡◌, ◌++◌, ◌<◌, All, IfSome, List, [], ◌∷◌, Option, None, Some, ap, sym, subst, length, arith}
+use Rattle.std.proofs.Common.{◌≡◌, ◌++◌, All, IfSome, List, ◌∷◌, Option, None, Some, subst, arith}
 use Rattle.std.specs.Option.{option_to_list}
 use Rattle.std.proofs.lemmas.List.Elements.{All-tail}
 use Rattle.command_words.specs.declared.values.Value.{Value}

@@ -1,5 +1,5 @@
 -- What a command claims before it changes anything: the folders that it may change, and the source of a migration.
-use Rattle.std.specs.Prelude.{Option, Some, None}
+use Rattle.std.specs.Prelude.{Option, Some}
 use Rattle.command_words.specs.declared.claims.Claims.{Claims}
 use Rattle.command_words.specs.declared.claims.Claims.TheVariants.{Nothing, Beside, Migration, Resumption, Retirement}
 use Rattle.command_words.specs.declared.commands.Command.{Command}

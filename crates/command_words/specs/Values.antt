@@ -1,6 +1,6 @@
 -- What words write, by their kinds, and what the words behind a command's name write, by its row.
 use Rattle.std.specs.Prelude.{ℕ, suc, Bool, true, false, ◌==◌, ◌&&◌, ◌||◌, List, [], ◌∷◌, ◌++◌, codes, map, nat_le, if◌then◌else◌, Option, None, Some, option_map, option_and_then}
-use Rattle.std.specs.List.{list_all, list_any}
+use Rattle.std.specs.List.{list_all}
 use Rattle.std.specs.Str.{bytes_eq}
 use Rattle.std.specs.Result.{result_ok}
 use Rattle.folder_model.specs.Text.{is_path_text, parts_of}

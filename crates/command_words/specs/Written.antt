@@ -1,5 +1,5 @@
 -- That some text writes a folder path that words give: so a journal can tell the roots of a migration.
-use Rattle.std.specs.Prelude.{◌≤◌, Option, None, Some, ⊤}
+use Rattle.std.specs.Prelude.{◌≤◌, ⊤}
 use Rattle.move_journal.specs.Journal.{IsParsed}
 use Rattle.command_words.specs.declared.commands.Command.{Command}
 use Rattle.command_words.specs.declared.commands.Command.TheVariants as command

@@ -1,4 +1,4 @@
-use Rattle.std.proofs.Common.{◌≡◌, All, subst, sym}
+use Rattle.std.proofs.Common.{All, subst, sym}
 use Rattle.command_words.specs.Written.{IsWritten}
 use Rattle.command_words.proofs.WrittenValues.{first_written, rest_written}
 use Rattle.command_words.proofs.making.moving.Goals as goal

@@ -1,5 +1,5 @@
-//! The command line: the words that make a command, what each command does between its streams, and
-//! the status and message that it ends with.
+//! The command line: what each command does between its streams, and the status and message that it ends with. The words that make a
+//! command are read below.
 #![tactic(auto)]
 
 pub mod answer;

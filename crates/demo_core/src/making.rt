@@ -260,7 +260,7 @@ fn place_item<F: Folder, R: Randoms>(
     what_is_found_stands();
     what_stands_is_found_step_by_step();
     files_have_their_contents();
-    items_keep_vaults(vault);
+    items_keep_vaults();
     let path = path_of(alloc, number)?;
     if is_directory(number) {
         return place_dir(alloc, folder, work, vault, &path, random);

@@ -144,8 +144,7 @@ fn begin_with<F: Folder, R: Randoms>(
 {
     draws_compose();
     walks_tell_the_tree();
-    clean_vaults_are_orderly(&sides.source);
-    clean_vaults_are_orderly(&sides.target);
+    clean_vaults_are_orderly();
     let plans = walk_both(alloc, folder, sides)?;
     test_empty(plans.target.items.as_slice())?;
     test_names(&sides.target, plans.source.items.as_slice())?;

@@ -178,7 +178,7 @@ fn place<F: Folder, R: Randoms>(
 {
     files_have_their_contents();
     guarded_migrations_are_seen();
-    items_keep_vaults(&sides.target);
+    items_keep_vaults();
     placing_keeps_migrations_guarded();
     walks_tell_the_tree();
     what_is_found_stands();
@@ -218,7 +218,7 @@ fn place_content<F: Folder, R: Randoms>(
     files_fit_as_contents();
     files_have_their_contents();
     guarded_migrations_are_seen();
-    items_keep_vaults(&sides.target);
+    items_keep_vaults();
     placing_keeps_migrations_guarded();
     walks_tell_the_tree();
     what_is_found_stands();

@@ -205,8 +205,7 @@ fn resume_with<F: Folder, R: Randoms>(
     draws_compose();
     walks_tell_the_tree();
     what_is_held_opens_the_same();
-    clean_vaults_are_orderly(&sides.source);
-    clean_vaults_are_orderly(&sides.target);
+    clean_vaults_are_orderly();
     let plans = walk_both(alloc, folder, sides)?;
     test_plans(alloc, folder, sides, &plans, &journal)?;
     place_rest(alloc, folder, work, sides, &plans, journal, random)

@@ -1,8 +1,14 @@
 -- SIV: RFC 5297, section 2.6, over two block ciphers that are given as the images of a block.
-use Rattle.std.specs.Prelude.{◌≡◌, ℕ, ◌-◌, ◌^◌, List, ◌++◌, bit_and}
+use Rattle.std.specs.Prelude.{◌≡◌, ℕ, ◌-◌, ◌^◌, List, ◌++◌, bit_and, length}
 use Rattle.std.specs.Int.{w128, from_be_bytes, to_be_bytes}
+use Rattle.aes_lanes.specs.Bytes.{IsBlock}
 use Rattle.aes_lanes.specs.Counter.{ctr128}
 use Rattle.siv_mode.specs.S2v.{s2v}
+
+-- the images of a block cipher have sixteen bytes, and those of blocks are blocks
+pub record AreImages (image : List ℕ → List ℕ) : Type 0 where
+  pub sixteen : (block : List ℕ) → length (image block) ≡ 16
+  pub block : (block : List ℕ) → IsBlock block → IsBlock (image block)
 
 -- the counter block Q of a vector V: V without bits 31 and 63, counted from its end
 unfoldable pub first_counter : List ℕ → List ℕ

@@ -22,7 +22,7 @@ pub fn repairs_keep_what_opens(vault: &Vault)
         → IsRepairing root (format_of vault.now.vault) lost s0 s → IsImage s image
         → OpensAs (format_of vault.now.vault) (under root (seen s0)) (under root (view_of image)) }
 {
-    strays_go_alone(vault);
+    strays_go_alone();
     strays_of_gocryptfs_go_alone();
 }
 
@@ -32,6 +32,6 @@ pub fn repaired_vaults_have_no_strays(vault: &Vault)
         → AreMoved root (format_of vault.now.vault) lost moved a b
         → OpensAs (format_of vault.now.vault) (under root (seen a.state)) (under root (seen b.state)) × ((at : Path) → ¬ IsStray (format_of vault.now.vault) (under root (seen b.state)) at) }
 {
-    strays_go_alone(vault);
+    strays_go_alone();
     strays_of_gocryptfs_go_alone();
 }

@@ -45,7 +45,7 @@ pub fn repair<F: Folder>(
     ensures grows { F.faults folder.old ≤ F.faults folder.new }
     ensures failed { result ≡ Err CheckFault.Failed → CountRose (F.faults folder.old) (F.faults folder.new) }
 {
-    strays_go_alone(vault);
+    strays_go_alone();
     let strays = found_strays(alloc, folder, vault)?;
     move_any(alloc, folder, strays.as_slice(), lost)?;
     Ok(strays)

@@ -1,12 +1,20 @@
 -- Texts of Cryptomator, and what they open to.
 use Rattle.std.proofs.Common.{◌≡◌, ℕ, List, [], ◌∷◌, ◌++◌, codes, Ok, IsTrue, sym, ap, ◌∙◌, refl}
 use Rattle.std.proofs.lemmas.List.{append_cancel_right}
+use Rattle.aes_lanes.specs.BlockCipher.{AreInverse}
+use Rattle.aes_lanes.specs.Cipher.{aes, aes256, inverse_aes}
+use Rattle.aes_lanes.specs.Laws.Cipher.{length-aes}
 use Rattle.base64.specs.Engines.{url_safe}
 use Rattle.base64.specs.GeneralPurpose.{IsBytes, decode_of}
 use Rattle.base64.proofs.EngineFacts.{decode_of-encode_of}
 use Rattle.cryptomator_conf.specs.declared.keys.CmKeys.{CmKeys}
 use Rattle.plain_tree.specs.Names.{is_name}
+use Rattle.siv_mode.specs.Siv.{AreImages}
 use Rattle.vault_names.specs.Cryptomator.{cm_text, siv_under, padded_base64url, IsCmTextOf}
+
+-- the images of AES under a key of 32 bytes
+pub images : ((key_words : ℕ) (key : List ℕ) → AreInverse (aes key_words key) (inverse_aes key_words key)) → (key : List ℕ) → AreImages (aes256 key)
+images inverse key = record { sixteen = length-aes 8 key; block = (inverse 8 key).block }
 
 -- a text is that of bytes at most once
 pub sealed-once : (a b text : List ℕ) → IsBytes a → IsBytes b → padded_base64url a ++ codes ".c9r" ≡ text → padded_base64url b ++ codes ".c9r" ≡ text → a ≡ b

@@ -7,7 +7,7 @@ ghost use Rattle.vault_names.specs.Cryptomator.{cm_text, cm_long_name, cm_stored
 
 use crate::base32::base32_of;
 use crate::entry::{NameFault, Stored};
-use aes_lanes::Key256;
+use aes_lanes::{Key256, laws as aes};
 use base64::DecodeAllocError;
 use base64::engine::general_purpose::URL_SAFE;
 use cryptomator_conf::{CmKeys, id_text};
@@ -60,9 +60,10 @@ pub fn cm_read(alloc: Global, keys: &CmKeys, id: &[u8], text: &str) -> Result<Na
         → (name : List ℕ) → ¬ IsCmTextOf keys.now id.now name text.now }
 {
     let siv = siv_of(keys);
-    sealed_texts_are_bytes(&siv);
-    unsealing_undoes_sealing(&siv);
-    opens_to_one_text(&siv);
+    aes::directions_undo_each_other();
+    sealed_texts_are_bytes();
+    unsealing_undoes_sealing();
+    opens_to_one_text();
     let Some(sealed) = sealed_bytes(alloc, text)? else {
         return Err(NameFault::NotStored);
     };
@@ -134,7 +135,7 @@ fn named(bytes: Vec<u8>) -> Result<Name, NameFault>
 }
 
 // SIV under the two keys.
-pub(crate) fn siv_of(keys: &CmKeys) -> Siv<Key256>
+fn siv_of(keys: &CmKeys) -> Siv<Key256>
     ensures mac { result.mac ≡ keys.now.mac }
     ensures ctr { result.ctr ≡ keys.now.enc }
 {

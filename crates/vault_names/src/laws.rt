@@ -1,5 +1,4 @@
-//! Laws of stored names, for callers to cite. They give nothing, and call the laws that they rest on; those of a vault's keys
-//! expand these to call the laws of SIV.
+//! Laws of stored names, for callers to cite. They compute nothing, and call the laws that they rest on.
 ghost use Rattle.std.specs.Prelude.{◌≡◌, ℕ, ◌+◌, ◌*◌, ◌/◌, List, length, take, drop, codes, IsTrue};
 ghost use Rattle.std.specs.List.{list_all};
 ghost use Rattle.aes_lanes.specs.Bytes.{AreBytes, IsBlock};
@@ -11,8 +10,7 @@ ghost use Rattle.vault_names.specs.Base32.{is_base32};
 ghost use Rattle.vault_names.specs.Cryptomator.{cm_folder_of, cm_long_name, cm_text, is_id_character, IsCmTextOf, IsPlainUpTo};
 ghost use Rattle.vault_names.specs.Gocryptfs.{go_text, long_name, IsTextOf};
 
-use crate::cryptomator::siv_of;
-use cryptomator_conf::CmKeys;
+use aes_lanes::laws as aes;
 use eme_mode::laws::{blocks_stay_blocks, directions_undo_each_other};
 use json_fields::laws::base64url_is_of_its_alphabet;
 use kdf_suite::laws::digests_are_bytes;
@@ -48,26 +46,26 @@ pub fn long_names_are_plain()
     digests_are_bytes();
 }
 
-/// A text of Cryptomator is that of one name at most, under these keys and in each directory.
-pub fn cm_text_has_one_name(keys: &CmKeys)
-    ensures { (id name other text : List ℕ) → AreBytes id
-        → IsCmTextOf keys.now id name text → IsCmTextOf keys.now id other text → name ≡ other }
+/// A text of Cryptomator is that of one name at most, under each vault's keys and in each directory.
+pub fn cm_text_has_one_name()
+    ensures { (keys : CmKeys) (id name other text : List ℕ) → AreBytes id
+        → IsCmTextOf keys id name text → IsCmTextOf keys id other text → name ≡ other }
 {
-    let siv = siv_of(keys);
-    sealed_texts_are_bytes(&siv);
-    opens_to_one_text(&siv);
+    aes::directions_undo_each_other();
+    sealed_texts_are_bytes();
+    opens_to_one_text();
 }
 
 /// A text's size follows from its name's: four characters for each three bytes begun of the name and sixteen more, and
 /// four. A text is of letters, digits, `-`, `_` and `=`, and then `.c9r`.
-pub fn cm_texts_are_plain(keys: &CmKeys)
-    ensures size { (id name : List ℕ) → length (cm_text keys.now id name) ≡ 4 * ((length name + 16 + 2) / 3) + 4 }
-    ensures characters { (id name : List ℕ) → AreBytes id → IsTrue (is_name name)
-        → IsPlainUpTo (codes ".c9r") (cm_text keys.now id name) }
+pub fn cm_texts_are_plain()
+    ensures size { (keys : CmKeys) (id name : List ℕ) → length (cm_text keys id name) ≡ 4 * ((length name + 16 + 2) / 3) + 4 }
+    ensures characters { (keys : CmKeys) (id name : List ℕ) → AreBytes id → IsTrue (is_name name)
+        → IsPlainUpTo (codes ".c9r") (cm_text keys id name) }
 {
-    let siv = siv_of(keys);
-    sealed_texts_are_bytes(&siv);
-    unsealing_undoes_sealing(&siv);
+    aes::directions_undo_each_other();
+    sealed_texts_are_bytes();
+    unsealing_undoes_sealing();
     base64url_is_of_its_alphabet();
 }
 

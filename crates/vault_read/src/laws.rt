@@ -12,7 +12,6 @@ ghost use Rattle.vault_spec.specs.Standing.{File, standing};
 ghost use Rattle.vault_spec.specs.Vault as spec;
 ghost use Rattle.vault_spec.specs.Vault.{format_of};
 
-use crate::vault::{Vault, VaultKeys};
 use cryptomator_conf::laws as cryptomator;
 use gocrypt_conf::laws as gocryptfs;
 use vault_spec::laws as items;
@@ -33,37 +32,29 @@ pub fn roots_have_one_answer()
 
 /// A clean vault is orderly: its root and each directory in it have their keys and their folders, and one path leads to each. In a
 /// Cryptomator vault no two ids are to have one content folder.
-pub fn clean_vaults_are_orderly(vault: &Vault)
-    ensures { (v : View) → HasFolders v → HasOwnFolders vault.now.vault v → IsClean (format_of vault.now.vault) v → IsOrderly (format_of vault.now.vault) v }
+pub fn clean_vaults_are_orderly()
+    ensures { (vault : spec.Vault) (v : View) → HasFolders v → HasOwnFolders vault v → IsClean (format_of vault) v → IsOrderly (format_of vault) v }
 {
-    match vault.keys() {
-        VaultKeys::Gocryptfs(_) => clean_vaults_of_gocryptfs_are_orderly(),
-        VaultKeys::Cryptomator(vault) => clean_vaults_of_cryptomator_are_orderly(&vault.keys),
-    }
+    clean_vaults_of_gocryptfs_are_orderly();
+    clean_vaults_of_cryptomator_are_orderly();
 }
 
 /// While an item is made in a vault, or a content replaced, the laws of its format hold.
-pub fn items_keep_vaults(vault: &Vault)
-    ensures { KeepsVaults (format_of vault.now.vault) }
+pub fn items_keep_vaults()
+    ensures { (vault : spec.Vault) → KeepsVaults (format_of vault) }
 {
-    match vault.keys() {
-        VaultKeys::Gocryptfs(_) => {
-            items::new_items_of_gocryptfs_come_alone();
-            items::new_items_of_gocryptfs_keep_vaults_clean();
-            items::vaults_of_gocryptfs_stay_tidy();
-            items::places_of_gocryptfs_are_free_unless_shared();
-            items::new_items_of_gocryptfs_keep_the_vault();
-            items::new_items_of_gocryptfs_open_in_any_vault();
-        }
-        VaultKeys::Cryptomator(vault) => {
-            items::new_items_of_cryptomator_come_alone(&vault.keys);
-            items::new_items_of_cryptomator_keep_vaults_clean(&vault.keys);
-            items::vaults_of_cryptomator_stay_tidy(&vault.keys);
-            items::places_of_cryptomator_are_free_unless_shared(&vault.keys);
-            items::new_items_of_cryptomator_keep_the_vault(&vault.keys);
-            items::new_items_of_cryptomator_open_in_any_vault(&vault.keys);
-        }
-    }
+    items::new_items_of_gocryptfs_come_alone();
+    items::new_items_of_gocryptfs_keep_vaults_clean();
+    items::vaults_of_gocryptfs_stay_tidy();
+    items::places_of_gocryptfs_are_free_unless_shared();
+    items::new_items_of_gocryptfs_keep_the_vault();
+    items::new_items_of_gocryptfs_open_in_any_vault();
+    items::new_items_of_cryptomator_come_alone();
+    items::new_items_of_cryptomator_keep_vaults_clean();
+    items::vaults_of_cryptomator_stay_tidy();
+    items::places_of_cryptomator_are_free_unless_shared();
+    items::new_items_of_cryptomator_keep_the_vault();
+    items::new_items_of_cryptomator_open_in_any_vault();
 }
 
 /// The content of a file that stands in a vault is there.
@@ -73,11 +64,9 @@ pub fn files_have_their_contents()
 
 /// In an opened vault, clean or not, strays are there, none below another, and where some of them are gone with all below them, all opens
 /// as it did and nothing is found that wasn't, but for notes.
-pub fn strays_go_alone(vault: &Vault)
-    ensures { StraysGoAlone (format_of vault.now.vault) }
+pub fn strays_go_alone()
+    ensures { (vault : spec.Vault) → StraysGoAlone (format_of vault) }
 {
-    match vault.keys() {
-        VaultKeys::Gocryptfs(_) => strays_of_gocryptfs_go_alone(),
-        VaultKeys::Cryptomator(vault) => strays_of_cryptomator_go_alone(&vault.keys),
-    }
+    strays_of_gocryptfs_go_alone();
+    strays_of_cryptomator_go_alone();
 }

@@ -345,9 +345,9 @@ fn texts_tell_names(vault: &Vault, key: &[u8])
             texts_are_plain();
             long_names_are_plain();
         }
-        VaultKeys::Cryptomator(vault) => {
-            cm_text_has_one_name(&vault.keys);
-            cm_texts_are_plain(&vault.keys);
+        VaultKeys::Cryptomator(_) => {
+            cm_text_has_one_name();
+            cm_texts_are_plain();
             cm_long_names_are_plain();
         }
     }

@@ -1,6 +1,5 @@
-//! Laws of the definitions. Each function gives nothing, and its clauses are the laws.
+//! Laws of the definitions. Each function computes nothing, and its clauses are the laws.
 ghost use Rattle.std.specs.Prelude.{◌≡◌, ◌≢◌, ◌↔◌, ◌<◌, ◌+◌, ◌++◌, ◌∷◌, [], ℕ, suc, List, length, Some, Contains, Result, Ok};
-ghost use Rattle.cryptomator_conf.specs.declared.conf.Combo.{Combo};
 ghost use Rattle.cryptomator_conf.specs.declared.conf.CmDraw.{CmDraw};
 ghost use Rattle.cryptomator_conf.specs.Text.{keys_of};
 ghost use Rattle.folder_spec.specs.Path as folder;
@@ -13,7 +12,7 @@ ghost use Rattle.plain_tree.specs.Names.{Path};
 ghost use Rattle.vault_spec.specs.Adding.{NewItemsComeAlone, NewItemsStayClean, ContentsAreReplacedAlone, ReplacedContentsStayClean};
 ghost use Rattle.vault_spec.specs.Anywhere.{NewItemsComeAtLast, ContentsOpenAnew};
 ghost use Rattle.vault_spec.specs.Alike.{LooksAlike, GainsItem, HasFolders, IsOrderly, HaveOwnPlaces, place_of};
-ghost use Rattle.vault_spec.specs.Cryptomator.{cm_format};
+ghost use Rattle.vault_spec.specs.Cryptomator.{CmVault, cm_format};
 ghost use Rattle.vault_spec.specs.Depth.{IsWithinSteps};
 ghost use Rattle.vault_spec.specs.Empty.{IsEmptyVault};
 ghost use Rattle.vault_spec.specs.Find.{find, enter};
@@ -32,7 +31,6 @@ ghost use Rattle.vault_spec.specs.Tidy.{IsTidy, OwnPlacesAreFree, NewItemsStayTi
 ghost use Rattle.vault_spec.specs.Vault.{Vault, format_of};
 ghost use Rattle.vault_spec.specs.declared.Lack.{Lack};
 
-use cryptomator_conf::CmKeys;
 use vault_names::laws::{
     cm_folders_are_plain, cm_long_names_are_plain, cm_text_has_one_name, cm_texts_are_plain,
     long_names_are_plain, text_has_one_name, texts_are_plain,
@@ -68,14 +66,14 @@ pub fn clean_vaults_of_gocryptfs_are_orderly()
 
 /// A clean Cryptomator vault is orderly, where no two ids have one content folder. In an orderly vault no two plain paths have their
 /// files or directories at one place.
-pub fn clean_vaults_of_cryptomator_are_orderly(keys: &CmKeys)
-    ensures orderly { (combo : Combo) (threshold : ℕ) (v : View) → (f : Format) → f ≡ cm_format (record { keys = keys.now; combo = combo; threshold = threshold })
+pub fn clean_vaults_of_cryptomator_are_orderly()
+    ensures orderly { (vault : CmVault) (v : View) → (f : Format) → f ≡ cm_format vault
         → v [] ≡ Folder → HasFolders v → HaveOwnFolders f v → IsClean f v → IsOrderly f v }
-    ensures places { (combo : Combo) (threshold : ℕ) (v : View) → (f : Format) → f ≡ cm_format (record { keys = keys.now; combo = combo; threshold = threshold })
+    ensures places { (vault : CmVault) (v : View) → (f : Format) → f ≡ cm_format vault
         → IsOrderly f v → HaveOwnPlaces f v }
 {
-    cm_text_has_one_name(keys);
-    cm_texts_are_plain(keys);
+    cm_text_has_one_name();
+    cm_texts_are_plain();
     cm_long_names_are_plain();
 }
 
@@ -92,12 +90,12 @@ pub fn new_items_of_gocryptfs_come_alone()
 
 /// The edits that make an item of Cryptomator where no place is taken leave what opens, until the last adds just that item. A content
 /// that is replaced changes alone.
-pub fn new_items_of_cryptomator_come_alone(keys: &CmKeys)
-    ensures replaced { (combo : Combo) (threshold : ℕ) → ContentsAreReplacedAlone (cm_format (record { keys = keys.now; combo = combo; threshold = threshold })) }
-    ensures new { (combo : Combo) (threshold : ℕ) → NewItemsComeAlone (cm_format (record { keys = keys.now; combo = combo; threshold = threshold })) }
+pub fn new_items_of_cryptomator_come_alone()
+    ensures replaced { (vault : CmVault) → ContentsAreReplacedAlone (cm_format vault) }
+    ensures new { (vault : CmVault) → NewItemsComeAlone (cm_format vault) }
 {
-    cm_text_has_one_name(keys);
-    cm_texts_are_plain(keys);
+    cm_text_has_one_name();
+    cm_texts_are_plain();
     cm_long_names_are_plain();
 }
 
@@ -114,12 +112,12 @@ pub fn new_items_of_gocryptfs_keep_vaults_clean()
 
 /// While an item of Cryptomator is made where no place is taken, a clean vault stays clean at each edit, and so it does where a content
 /// is replaced.
-pub fn new_items_of_cryptomator_keep_vaults_clean(keys: &CmKeys)
-    ensures replaced { (combo : Combo) (threshold : ℕ) → ReplacedContentsStayClean (cm_format (record { keys = keys.now; combo = combo; threshold = threshold })) }
-    ensures new { (combo : Combo) (threshold : ℕ) → NewItemsStayClean (cm_format (record { keys = keys.now; combo = combo; threshold = threshold })) }
+pub fn new_items_of_cryptomator_keep_vaults_clean()
+    ensures replaced { (vault : CmVault) → ReplacedContentsStayClean (cm_format vault) }
+    ensures new { (vault : CmVault) → NewItemsStayClean (cm_format vault) }
 {
-    cm_text_has_one_name(keys);
-    cm_texts_are_plain(keys);
+    cm_text_has_one_name();
+    cm_texts_are_plain();
     cm_long_names_are_plain();
     cm_folders_are_plain();
 }
@@ -137,12 +135,12 @@ pub fn new_items_of_gocryptfs_keep_the_vault()
 
 /// While an item of Cryptomator is made where no place is taken, an orderly vault stays orderly at each edit, and each passphrase opens
 /// it as it did. So it is where a content is replaced.
-pub fn new_items_of_cryptomator_keep_the_vault(keys: &CmKeys)
-    ensures replaced { (combo : Combo) (threshold : ℕ) → ReplacedContentsStayVaults (cm_format (record { keys = keys.now; combo = combo; threshold = threshold })) }
-    ensures new { (combo : Combo) (threshold : ℕ) → NewItemsStayVaults (cm_format (record { keys = keys.now; combo = combo; threshold = threshold })) }
+pub fn new_items_of_cryptomator_keep_the_vault()
+    ensures replaced { (vault : CmVault) → ReplacedContentsStayVaults (cm_format vault) }
+    ensures new { (vault : CmVault) → NewItemsStayVaults (cm_format vault) }
 {
-    cm_text_has_one_name(keys);
-    cm_texts_are_plain(keys);
+    cm_text_has_one_name();
+    cm_texts_are_plain();
     cm_long_names_are_plain();
 }
 
@@ -159,12 +157,12 @@ pub fn new_items_of_gocryptfs_open_in_any_vault()
 
 /// In any Cryptomator vault, orderly or not, the edits that make an item where no place is taken leave what opens, until the item opens at
 /// its path after the last. A content that is replaced opens at each of its paths, and all else as before.
-pub fn new_items_of_cryptomator_open_in_any_vault(keys: &CmKeys)
-    ensures replaced { (combo : Combo) (threshold : ℕ) → ContentsOpenAnew (cm_format (record { keys = keys.now; combo = combo; threshold = threshold })) }
-    ensures new { (combo : Combo) (threshold : ℕ) → NewItemsComeAtLast (cm_format (record { keys = keys.now; combo = combo; threshold = threshold })) }
+pub fn new_items_of_cryptomator_open_in_any_vault()
+    ensures replaced { (vault : CmVault) → ContentsOpenAnew (cm_format vault) }
+    ensures new { (vault : CmVault) → NewItemsComeAtLast (cm_format vault) }
 {
-    cm_text_has_one_name(keys);
-    cm_texts_are_plain(keys);
+    cm_text_has_one_name();
+    cm_texts_are_plain();
     cm_long_names_are_plain();
 }
 
@@ -179,12 +177,12 @@ pub fn new_vaults_of_gocryptfs_are_empty()
 }
 
 /// A new Cryptomator vault is clean under its drawn keys, and its root alone opens.
-pub fn new_vaults_of_cryptomator_are_empty(keys: &CmKeys)
-    ensures { (combo : Combo) (threshold : ℕ) (pass : List ℕ) (cost : Cost) (drawn : CmDraw) → keys.now ≡ keys_of drawn
-        → IsEmptyVault (cm_format (record { keys = keys.now; combo = combo; threshold = threshold })) (new_cm_vault pass cost drawn) }
+pub fn new_vaults_of_cryptomator_are_empty()
+    ensures { (vault : CmVault) (pass : List ℕ) (cost : Cost) (drawn : CmDraw) → vault.keys ≡ keys_of drawn
+        → IsEmptyVault (cm_format vault) (new_cm_vault pass cost drawn) }
 {
-    cm_text_has_one_name(keys);
-    cm_texts_are_plain(keys);
+    cm_text_has_one_name();
+    cm_texts_are_plain();
     cm_long_names_are_plain();
     cm_folders_are_plain();
 }
@@ -204,14 +202,14 @@ pub fn vaults_of_gocryptfs_stay_tidy()
 
 /// A new Cryptomator vault is tidy under its drawn keys. Where no place is taken, a tidy one is tidy again once an item is made, and so it
 /// is where a content is replaced.
-pub fn vaults_of_cryptomator_stay_tidy(keys: &CmKeys)
-    ensures made { (combo : Combo) (threshold : ℕ) (pass : List ℕ) (cost : Cost) (drawn : CmDraw) → keys.now ≡ keys_of drawn
-        → IsTidy (cm_format (record { keys = keys.now; combo = combo; threshold = threshold })) (new_cm_vault pass cost drawn) }
-    ensures replaced { (combo : Combo) (threshold : ℕ) → ReplacedContentsStayTidy (cm_format (record { keys = keys.now; combo = combo; threshold = threshold })) }
-    ensures new { (combo : Combo) (threshold : ℕ) → NewItemsStayTidy (cm_format (record { keys = keys.now; combo = combo; threshold = threshold })) }
+pub fn vaults_of_cryptomator_stay_tidy()
+    ensures made { (vault : CmVault) (pass : List ℕ) (cost : Cost) (drawn : CmDraw) → vault.keys ≡ keys_of drawn
+        → IsTidy (cm_format vault) (new_cm_vault pass cost drawn) }
+    ensures replaced { (vault : CmVault) → ReplacedContentsStayTidy (cm_format vault) }
+    ensures new { (vault : CmVault) → NewItemsStayTidy (cm_format vault) }
 {
-    cm_text_has_one_name(keys);
-    cm_texts_are_plain(keys);
+    cm_text_has_one_name();
+    cm_texts_are_plain();
     cm_long_names_are_plain();
     cm_folders_are_plain();
 }
@@ -226,11 +224,11 @@ pub fn places_of_gocryptfs_are_free_unless_shared()
 }
 
 /// In a clean and tidy Cryptomator vault no place of a new item is taken, unless another item shares it.
-pub fn places_of_cryptomator_are_free_unless_shared(keys: &CmKeys)
-    ensures { (combo : Combo) (threshold : ℕ) → OwnPlacesAreFree (cm_format (record { keys = keys.now; combo = combo; threshold = threshold })) }
+pub fn places_of_cryptomator_are_free_unless_shared()
+    ensures { (vault : CmVault) → OwnPlacesAreFree (cm_format vault) }
 {
-    cm_text_has_one_name(keys);
-    cm_texts_are_plain(keys);
+    cm_text_has_one_name();
+    cm_texts_are_plain();
     cm_long_names_are_plain();
     cm_folders_are_plain();
 }
@@ -278,11 +276,11 @@ pub fn strays_of_gocryptfs_go_alone()
 
 /// In a Cryptomator vault, clean or not, strays are there, none below another, and where some of them are gone with all below them, all
 /// opens as it did and nothing is found that wasn't, but for notes.
-pub fn strays_of_cryptomator_go_alone(keys: &CmKeys)
-    ensures { (combo : Combo) (threshold : ℕ) → StraysGoAlone (cm_format (record { keys = keys.now; combo = combo; threshold = threshold })) }
+pub fn strays_of_cryptomator_go_alone()
+    ensures { (vault : CmVault) → StraysGoAlone (cm_format vault) }
 {
-    cm_text_has_one_name(keys);
-    cm_texts_are_plain(keys);
+    cm_text_has_one_name();
+    cm_texts_are_plain();
     cm_long_names_are_plain();
     cm_folders_are_plain();
 }

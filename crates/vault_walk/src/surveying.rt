@@ -68,7 +68,7 @@ pub fn survey<F: Folder>(
 {
     what_stands_is_found_step_by_step();
     each_item_once_is_the_plan();
-    clean_vaults_are_orderly(vault);
+    clean_vaults_are_orderly();
     let Walk {
         visits,
         items,

@@ -112,7 +112,7 @@ fn place_go<F: Folder, R: Randoms>(
     edits_show_trees();
     roots_show_their_own();
     what_is_found_stands();
-    items_keep_vaults(vault);
+    items_keep_vaults();
     let wants = wants_side(alloc, folder, &slot.side, &slot.full)?;
     let key = draw_some(random)?;
     Ok(make_go(folder, work, vault, slot, wants, &key)?)
@@ -143,7 +143,7 @@ fn place_cm<F: Folder, R: Randoms>(
     edits_show_trees();
     roots_show_their_own();
     what_is_found_stands();
-    items_keep_vaults(vault);
+    items_keep_vaults();
     dir_ids_are_plain();
     let text = draw_id(alloc, random)?;
     let id = text.as_bytes();

@@ -223,7 +223,7 @@ fn replace<F: Folder, R: Randoms, C: Content<F>>(
 {
     edits_show_trees();
     roots_show_their_own();
-    items_keep_vaults(vault);
+    items_keep_vaults();
     files_have_their_contents();
     files_are_what_they_give();
     encrypted_files_are_files();
@@ -420,7 +420,7 @@ fn place_go<F: Folder, R: Randoms, C: Content<F>>(
     edits_show_trees();
     roots_show_their_own();
     what_is_found_stands();
-    items_keep_vaults(vault);
+    items_keep_vaults();
     files_are_what_they_give();
     encrypted_files_are_files();
     let none: Option<Text> = None;
@@ -469,7 +469,7 @@ fn place_cm<F: Folder, R: Randoms, C: Content<F>>(
     edits_show_trees();
     roots_show_their_own();
     what_is_found_stands();
-    items_keep_vaults(vault);
+    items_keep_vaults();
     files_are_what_they_give();
     encrypted_files_are_files();
     place_entry(

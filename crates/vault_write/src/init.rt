@@ -92,14 +92,14 @@ pub fn init_cm<F: Folder, R: Randoms>(
 {
     made_files_give_back_their_keys();
     cm_folders_are_plain();
+    new_vaults_of_cryptomator_are_empty();
+    vaults_of_cryptomator_stay_tidy();
     cost_is_one(cost);
     let drawn = draw_cm(random)?;
     let keys = CmKeys {
         enc: drawn.enc,
         mac: drawn.mac,
     };
-    new_vaults_of_cryptomator_are_empty(&keys);
-    vaults_of_cryptomator_stay_tidy(&keys);
     let files = cryptomator_conf::make(alloc, pass, cost, &drawn)?;
     let home = cm_folder(alloc, &keys, &[])?;
     let master = files.master.as_slice();

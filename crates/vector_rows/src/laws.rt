@@ -1,7 +1,6 @@
 //! The laws, each called once: they compute nothing, and a call of each stands for it.
 
 use crate::answer::Answer;
-use cryptomator_conf::CmKeys;
 
 /// Calls each law.
 pub fn answer(name: &str, answer: &mut Answer) -> bool {
@@ -41,12 +40,9 @@ fn of_names() {
     vault_names::laws::text_has_one_name();
     vault_names::laws::texts_are_plain();
     vault_names::laws::long_names_are_plain();
-    let keys = CmKeys {
-        enc: [0; 32],
-        mac: [0; 32],
-    };
-    vault_names::laws::cm_text_has_one_name(&keys);
-    vault_names::laws::cm_texts_are_plain(&keys);
+    siv_mode::laws::unsealing_undoes_sealing();
+    vault_names::laws::cm_text_has_one_name();
+    vault_names::laws::cm_texts_are_plain();
     vault_names::laws::cm_long_names_are_plain();
     vault_names::laws::cm_folders_are_plain();
     vault_names::laws::dir_ids_are_plain();

@@ -1,18 +1,15 @@
 //! Calls of siv_mode, eme_mode and key_wrap.
 
-ghost use Rattle.std.specs.Prelude.{◌≡◌, ◌∷◌, [], IfOk, IfErr};
-ghost use Rattle.siv_mode.specs.declared.siv.SivFault.TheVariants.{NoMemory};
+ghost use Rattle.std.specs.Prelude.{◌≡◌, ◌∷◌, []};
 
 use crate::answer::Answer;
 use crate::arguments::Arguments;
-use aes_lanes::{Block, Cipher, Key128, Key256};
+use aes_lanes::{Block, Key128, Key256};
 use eme_mode::Eme;
 use eme_mode::laws::directions_undo_each_other;
 use key_wrap::laws::unwrapping_undoes_wrapping;
 use key_wrap::{unwrap_key, wrap_key};
-use siv_mode::laws::unsealing_undoes_sealing;
 use siv_mode::{Siv, SivFault, cmac};
-use std::alloc::Global;
 
 /// Makes a call of this module, and says whether there is one of this name.
 pub fn answer(name: &str, args: &mut Arguments, answer: &mut Answer) -> bool {
@@ -43,40 +40,20 @@ fn associated(args: &Arguments) -> Option<&[u8]> {
     }
 }
 
-// Unsealing what was sealed gives it back, whatever it is, or there was no memory.
-fn seal_and_unseal<C: Cipher>(
-    alloc: Global,
-    siv: &Siv<C>,
-    ad: Option<&[u8]>,
-    text: &[u8],
-) -> Result<Vec<u8>, SivFault>
-    ensures opened { IfOk result (λ opened. opened.items ≡ text.now) }
-    ensures no_memory { IfErr result (λ fault. fault ≡ NoMemory) }
-{
-    let sealed = siv.seal(alloc, ad, text)?;
-    unsealing_undoes_sealing(siv);
-    siv.unseal(alloc, ad, sealed.as_slice())
-}
-
 // A text that is sealed, and given back. How it is sealed is for the caller to say.
 fn seal(args: &Arguments, answer: &mut Answer) -> Vec<u8> {
     let (alloc, siv) = (answer.alloc(), siv(args));
     let (ad, text) = (associated(args), args.bytes(3));
-    match seal_and_unseal(alloc, &siv, ad, text) {
-        Ok(opened) => {
-            if opened.as_slice() != text {
-                answer.word("it isn't given back");
-            }
-        }
-        Err(_) => answer.lacks(),
+    let Ok(sealed) = siv.seal(alloc, ad, text) else {
+        answer.lacks();
+        return Vec::new(alloc);
+    };
+    match siv.unseal(alloc, ad, sealed.as_slice()) {
+        Ok(opened) if opened.as_slice() == text => {}
+        Err(SivFault::NoMemory) => answer.lacks(),
+        _ => answer.word("it isn't given back"),
     }
-    match siv.seal(alloc, ad, text) {
-        Ok(sealed) => sealed,
-        Err(_) => {
-            answer.lacks();
-            Vec::new(alloc)
-        }
-    }
+    sealed
 }
 
 fn sealed(args: &Arguments, answer: &mut Answer) {

@@ -85,12 +85,12 @@ pub returns-then-is_directory-clause-shared : goal.returns-then-is_directory-cla
 returns-then-is_directory-clause-shared g c =
     let made = c.place_dir.ensures.made in
     item_shares c.args.vault.now c.args.work.now c.args.seed c.args.number c.in_ok-path.path NewDirectory _ made.drawn _ _ c.place_dir.result c.in_ok-path.ensures made.makes
-    c.what_stands_is_found_step_by_step.ensures.behind c.what_is_found_stands.ensures.enters c.files_have_their_contents.ensures c.items_keep_vaults.ensures.free c.requires.number
+    c.what_stands_is_found_step_by_step.ensures.behind c.what_is_found_stands.ensures.enters c.files_have_their_contents.ensures (c.items_keep_vaults.ensures c.args.vault.now.vault).free c.requires.number
     (λ is. sym c.is_directory.ensures ∙ c.if-is_directory.true) _ _ made.were_drawn
 
 pub returns-clause-shared : goal.returns-clause-shared
 returns-clause-shared g c =
     let made = c.place_file.ensures.made in
     item_shares c.args.vault.now c.args.work.now c.args.seed c.args.number c.in_ok-path.path (NewFile made.writing.content) _ made.writing.drawn _ _ c.place_file.result c.in_ok-path.ensures made.makes
-    c.what_stands_is_found_step_by_step.ensures.behind c.what_is_found_stands.ensures.enters c.files_have_their_contents.ensures c.items_keep_vaults.ensures.free c.requires.number
+    c.what_stands_is_found_step_by_step.ensures.behind c.what_is_found_stands.ensures.enters c.files_have_their_contents.ensures (c.items_keep_vaults.ensures c.args.vault.now.vault).free c.requires.number
     (λ is. cc is) _ _ made.takes.were_drawn

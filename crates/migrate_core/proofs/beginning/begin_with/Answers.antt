@@ -186,7 +186,7 @@ move_all-requires-clause-copying g c =
     let plans = c.in_ok-plans.plans in
     let walked_to = subst (IsWalked told to) (sym c.as_slice.ensures ∙ c.in_ok-test_empty.ensures.empty) c.in_ok-plans.ensures.target in
     subst (MayBegin from to []) (sym c.walk_both.ensures.told)
-    (may_begin c.walks_tell_the_tree.ensures.plan from to c.clean_vaults_are_orderly.ensures c.clean_vaults_are_orderly-2.ensures plans.source.items [] told (g.met.F.Folder.sound c.args.folder.now)
+    (may_begin c.walks_tell_the_tree.ensures.plan from to (c.clean_vaults_are_orderly.ensures from.vault) (c.clean_vaults_are_orderly.ensures to.vault) plans.source.items [] told (g.met.F.Folder.sound c.args.folder.now)
     c.in_ok-plans.ensures.source walked_to c.in_ok-plans.ensures.passed_source (empty_held c.walks_tell_the_tree.ensures.plan from to plans.source.items told))
 
 pub returns-in_err-plans-clause-ends : goal.returns-in_err-plans-clause-ends
@@ -215,7 +215,7 @@ returns-clause-ends g c =
     let plans = c.in_ok-plans.plans in
     let items = plans.source.items in
     let walked_to = subst (IsWalked told to) (sym c.as_slice.ensures ∙ c.in_ok-test_empty.ensures.empty) c.in_ok-plans.ensures.target in
-    let may = may_begin c.walks_tell_the_tree.ensures.plan from to c.clean_vaults_are_orderly.ensures c.clean_vaults_are_orderly-2.ensures items [] told (g.met.F.Folder.sound c.args.folder.now)
+    let may = may_begin c.walks_tell_the_tree.ensures.plan from to (c.clean_vaults_are_orderly.ensures from.vault) (c.clean_vaults_are_orderly.ensures to.vault) items [] told (g.met.F.Folder.sound c.args.folder.now)
     c.in_ok-plans.ensures.source walked_to c.in_ok-plans.ensures.passed_source (empty_held c.walks_tell_the_tree.ensures.plan from to items told) in
     ends_more (StayGood from to told after) (StayGood from to told after) (SharesFrom (IsFilled from to []) to items left left' told after) (SharesWhereTidy from to left left' told after) from to after c.move_all.result (λ good. good)
     (source_shares c.walks_tell_the_tree.ensures.plan from to items left left' told after may c.in_ok-plans.ensures.source walked_to)

@@ -144,5 +144,5 @@ returns-in_err-place_dir-in-Dir-clause-stops g c =
     let p = err_from_is_err_and c.from_residual.result c.from_residual.ensures.1 in
     refused_as (λ answer. IfErr answer (StopsFor (SharesFrom (Lacks from to item) to (item ∷ []) left left' told told'))) c.from_residual.result p.0 (of_put why) p.1 p.2
     (item_stops c.what_stands_is_found_step_by_step.ensures.below c.what_stands_is_found_step_by_step.ensures.behind c.files_have_their_contents.ensures c.what_is_found_stands.ensures.enters c.walks_tell_the_tree.ensures.plan
-    from to c.items_keep_vaults.ensures c.args.work.now item NewDirectory Whole made.drawn left left' made.were_drawn told told' c.requires.item (subst (λ kind. IsMadeFor kind NewDirectory) (sym node) refl) c.requires.apart.target why
+    from to (c.items_keep_vaults.ensures to.vault) c.args.work.now item NewDirectory Whole made.drawn left left' made.were_drawn told told' c.requires.item (subst (λ kind. IsMadeFor kind NewDirectory) (sym node) refl) c.requires.apart.target why
     (subst (λ q. MakesAt New to c.args.work.now q NewDirectory Whole made.drawn told told' (Err why)) (ap (λ (x : Planned). x.path) c.item.view_is) made.makes))

@@ -171,7 +171,7 @@ place_rest-requires-clause-copying g c =
     let told = g.F.Folder.told c.args.folder.now in
     let plans = c.in_ok-plans.plans in
     subst (MayBegin from to plans.target.items) (sym (c.test_plans.ensures.told ∙ c.walk_both.ensures.told))
-    (may_begin c.walks_tell_the_tree.ensures.plan from to c.clean_vaults_are_orderly.ensures c.clean_vaults_are_orderly-2.ensures plans.source.items plans.target.items told (g.met.F.Folder.sound c.args.folder.now)
+    (may_begin c.walks_tell_the_tree.ensures.plan from to (c.clean_vaults_are_orderly.ensures from.vault) (c.clean_vaults_are_orderly.ensures to.vault) plans.source.items plans.target.items told (g.met.F.Folder.sound c.args.folder.now)
     c.in_ok-plans.ensures.source c.in_ok-plans.ensures.target c.in_ok-plans.ensures.passed_source
     (matched_held c.what_is_held_opens_the_same.ensures.held from to c.args.journal plans.source.items plans.target.items told
     (λ v is. c.in_ok-test_plans.ensures.cause v (subst (λ t. IsSeen t v) (sym c.walk_both.ensures.told) is))))

@@ -2,7 +2,4 @@ use Rattle.siv_mode.proofs.SealedBytes.{bytes-siv_encrypt}
 use Rattle.siv_mode.proofs.laws.sealed_texts_are_bytes.Goals as goal
 
 pub returns : goal.returns
-returns g c =
-    let ctr = g.C.Cipher.image c.args.siv.now.ctr in
-    bytes-siv_encrypt (g.C.Cipher.image c.args.siv.now.mac) ctr (g.met.C.Cipher.undone c.args.siv.now.mac).block
-    (c.bytes_stay_bytes.ensures.in_sixteen_bytes ctr (g.met.C.Cipher.length_image c.args.siv.now.ctr) (g.met.C.Cipher.undone c.args.siv.now.ctr).block)
+returns c = λ mac ctr is_mac is_ctr. bytes-siv_encrypt mac ctr is_mac.block (c.bytes_stay_bytes.ensures.in_sixteen_bytes ctr is_ctr.sixteen is_ctr.block)

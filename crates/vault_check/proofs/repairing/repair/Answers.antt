@@ -17,8 +17,8 @@ move_any-requires g c =
     let are : (v : View) → IsSeen t0 v → AreStraysBehind root f (under root v) c.as_slice.result.now
     = λ v seen. subst (AreStraysBehind root f (under root v)) (sym c.as_slice.ensures.value) (c.in_ok-strays.ensures.strays v seen) in
     record {
-      free = is_free root lost f c.as_slice.result.now t0 are c.strays_go_alone.ensures c.requires t1 c.in_ok-strays.ensures.told;
-      strays = all_movable root lost f c.as_slice.result.now t0 are c.strays_go_alone.ensures c.requires t1 c.in_ok-strays.ensures.told;
+      free = is_free root lost f c.as_slice.result.now t0 are (c.strays_go_alone.ensures c.args.vault.now.vault) c.requires t1 c.in_ok-strays.ensures.told;
+      strays = all_movable root lost f c.as_slice.result.now t0 are (c.strays_go_alone.ensures c.args.vault.now.vault) c.requires t1 c.in_ok-strays.ensures.told;
     }
 
 pub returns-in_err-move_any-clause-moments : goal.returns-in_err-move_any-clause-moments

@@ -4,13 +4,15 @@ use Rattle.std.proofs.lemmas.Result.{IfOk-weaker}
 use Rattle.base64.specs.GeneralPurpose.{IsBytes}
 use Rattle.plain_tree.specs.Names.{is_name}
 use Rattle.vault_names.specs.Cryptomator.{siv_under}
-use Rattle.vault_names.proofs.CmNames.{sealed-once, sealed-text, text-sealed}
+use Rattle.aes_lanes.specs.Cipher.{aes256}
+use Rattle.vault_names.proofs.CmNames.{images, sealed-once, sealed-text, text-sealed}
 use Rattle.vault_names.proofs.Encryption.{IsBytes-name}
 use Rattle.vault_names.proofs.cryptomator.cm_read.Goals as goal
 
 pub returns-in_default-clause-not_stored : goal.returns-in_default-clause-not_stored
 returns-in_default-clause-not_stored c = λ fault name is.
-    let bytes = rw (c.siv_of-siv.ensures.mac, c.siv_of-siv.ensures.ctr) at c.sealed_texts_are_bytes.ensures in
+    let is_image = images c.directions_undo_each_other.ensures in
+    let bytes = c.sealed_texts_are_bytes.ensures (aes256 c.args.keys.now.mac) (aes256 c.args.keys.now.enc) (is_image c.args.keys.now.mac) (is_image c.args.keys.now.enc) in
     let id : IsBytes c.args.id.now = λ k. omega (arith, c.type_inv.id k) in
     let sealed = bytes (c.args.id.now ∷ []) name (All-cons IsBytes c.args.id.now [] id (All-nil IsBytes)) (IsBytes-name name is.named) in
     let none = rw c.in_default.is at c.in_ok-sealed.ensures in
@@ -26,13 +28,14 @@ returns-in-Ok-clause-name c =
 
 pub returns-in-Ok-clause-not_stored : goal.returns-in-Ok-clause-not_stored
 returns-in-Ok-clause-not_stored c = λ fault name is.
-    let bytes = rw (c.siv_of-siv.ensures.mac, c.siv_of-siv.ensures.ctr) at c.sealed_texts_are_bytes.ensures in
+    let is_image = images c.directions_undo_each_other.ensures in
+    let bytes = c.sealed_texts_are_bytes.ensures (aes256 c.args.keys.now.mac) (aes256 c.args.keys.now.enc) (is_image c.args.keys.now.mac) (is_image c.args.keys.now.enc) in
     let id : IsBytes c.args.id.now = λ k. omega (arith, c.type_inv.id k) in
     let sealed = bytes (c.args.id.now ∷ []) name (All-cons IsBytes c.args.id.now [] id (All-nil IsBytes)) (IsBytes-name name is.named) in
     let text = rw c.in-Some.is at c.in_ok-sealed.ensures in
     let seals = sealed-once _ c.in-Some.sealed.items c.args.text.now sealed text.0 (sealed-text c.args.keys.now c.args.id.now name c.args.text.now is) text.1 in
     let opened = rw (c.siv_of-siv.ensures.mac, c.siv_of-siv.ensures.ctr, c.as_slice.ensures.value) at c.in-Ok.ensures.opened in
-    let once = rw (c.siv_of-siv.ensures.mac, c.siv_of-siv.ensures.ctr) at c.opens_to_one_text.ensures in
+    let once = c.opens_to_one_text.ensures (aes256 c.args.keys.now.mac) (aes256 c.args.keys.now.enc) (is_image c.args.keys.now.mac) (is_image c.args.keys.now.enc) in
     let same : name ≡ c.in-Ok.name.items = once (c.args.id.now ∷ []) c.in-Some.sealed.items name c.in-Ok.name.items seals opened in
     let refused = rw fault at c.named.ensures.not_stored in
     let wrong : true ≡ false = sym is.named ∙ ap is_name same ∙ refused in
@@ -40,18 +43,20 @@ returns-in-Ok-clause-not_stored c = λ fault name is.
 
 pub returns-in-Err-Short-clause-not_stored : goal.returns-in-Err-Short-clause-not_stored
 returns-in-Err-Short-clause-not_stored c = λ fault name is.
-    let bytes = rw (c.siv_of-siv.ensures.mac, c.siv_of-siv.ensures.ctr) at c.sealed_texts_are_bytes.ensures in
+    let is_image = images c.directions_undo_each_other.ensures in
+    let bytes = c.sealed_texts_are_bytes.ensures (aes256 c.args.keys.now.mac) (aes256 c.args.keys.now.enc) (is_image c.args.keys.now.mac) (is_image c.args.keys.now.enc) in
     let id : IsBytes c.args.id.now = λ k. omega (arith, c.type_inv.id k) in
     let sealed = bytes (c.args.id.now ∷ []) name (All-cons IsBytes c.args.id.now [] id (All-nil IsBytes)) (IsBytes-name name is.named) in
     let text = rw c.in-Some.is at c.in_ok-sealed.ensures in
     let seals = sealed-once _ c.in-Some.sealed.items c.args.text.now sealed text.0 (sealed-text c.args.keys.now c.args.id.now name c.args.text.now is) text.1 in
-    let longer = rw (c.siv_of-siv.ensures.mac, c.siv_of-siv.ensures.ctr) at c.unsealing_undoes_sealing.ensures.longer in
+    let longer = c.unsealing_undoes_sealing.ensures.longer (aes256 c.args.keys.now.mac) (aes256 c.args.keys.now.enc) (is_image c.args.keys.now.mac) (is_image c.args.keys.now.enc) in
     let short = rw c.as_slice.ensures.value at c.in-Err-Short.ensures.short.0 (ap Err c.in-Err-Short.field-0-is) in
     absurd (omega (arith, short, longer (c.args.id.now ∷ []) name, ap length seals))
 
 pub returns-in-Err-BadTag-clause-not_stored : goal.returns-in-Err-BadTag-clause-not_stored
 returns-in-Err-BadTag-clause-not_stored c = λ fault name is.
-    let bytes = rw (c.siv_of-siv.ensures.mac, c.siv_of-siv.ensures.ctr) at c.sealed_texts_are_bytes.ensures in
+    let is_image = images c.directions_undo_each_other.ensures in
+    let bytes = c.sealed_texts_are_bytes.ensures (aes256 c.args.keys.now.mac) (aes256 c.args.keys.now.enc) (is_image c.args.keys.now.mac) (is_image c.args.keys.now.enc) in
     let id : IsBytes c.args.id.now = λ k. omega (arith, c.type_inv.id k) in
     let sealed = bytes (c.args.id.now ∷ []) name (All-cons IsBytes c.args.id.now [] id (All-nil IsBytes)) (IsBytes-name name is.named) in
     let text = rw c.in-Some.is at c.in_ok-sealed.ensures in

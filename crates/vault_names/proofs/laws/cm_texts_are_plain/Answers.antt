@@ -1,7 +1,9 @@
 use Rattle.std.proofs.Common.{[], ◌∷◌}
 use Rattle.std.proofs.lemmas.List.Elements.{All-nil, All-cons}
+use Rattle.aes_lanes.specs.Cipher.{aes256}
 use Rattle.base64.specs.GeneralPurpose.{IsBytes}
 use Rattle.vault_names.proofs.Characters.{IsOfAlphabet}
+use Rattle.vault_names.proofs.CmNames.{images}
 use Rattle.vault_names.proofs.Encryption.{IsBytes-name}
 use Rattle.vault_names.proofs.Plain.{length-cm_text, plain-cm_text}
 use Rattle.vault_names.proofs.laws.cm_texts_are_plain.Goals as goal
@@ -10,10 +12,11 @@ pub returns : goal.returns
 returns c =
     let of_alphabet = c.base64url_is_of_its_alphabet.ensures in
     let alphabet : IsOfAlphabet = record { characters = of_alphabet.characters; size = of_alphabet.size } in
-    let longer = rw (c.siv_of-siv.ensures.mac, c.siv_of-siv.ensures.ctr) at c.unsealing_undoes_sealing.ensures.longer in
-    let bytes = rw (c.siv_of-siv.ensures.mac, c.siv_of-siv.ensures.ctr) at c.sealed_texts_are_bytes.ensures in
+    let is_image = images c.directions_undo_each_other.ensures in
     record {
-      size = λ id name. length-cm_text alphabet c.args.keys.now id name (longer (id ∷ []) name);
-      characters = λ id name id_bytes named.
-          plain-cm_text alphabet c.args.keys.now id name (bytes (id ∷ []) name (All-cons IsBytes id [] id_bytes (All-nil IsBytes)) (IsBytes-name name named));
+      size = λ keys id name. length-cm_text alphabet keys id name
+          (c.unsealing_undoes_sealing.ensures.longer (aes256 keys.mac) (aes256 keys.enc) (is_image keys.mac) (is_image keys.enc) (id ∷ []) name);
+      characters = λ keys id name id_bytes named. plain-cm_text alphabet keys id name
+          (c.sealed_texts_are_bytes.ensures (aes256 keys.mac) (aes256 keys.enc) (is_image keys.mac) (is_image keys.enc) (id ∷ []) name
+          (All-cons IsBytes id [] id_bytes (All-nil IsBytes)) (IsBytes-name name named));
     }

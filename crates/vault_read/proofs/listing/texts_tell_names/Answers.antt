@@ -1,5 +1,4 @@
 use Rattle.std.proofs.Common.{◌≡◌, sym, ap, ◌∙◌, subst}
-use Rattle.vault_spec.specs.Cryptomator.{CmVault}
 use Rattle.vault_spec.specs.Vault.{Gocryptfs, Cryptomator}
 use Rattle.vault_read.specs.Listing.{TellsNames}
 use Rattle.vault_read.specs.Opened.{FitsKey, vault_of}
@@ -17,7 +16,7 @@ returns-in-Gocryptfs c =
 pub returns-in-Cryptomator : goal.returns-in-Cryptomator
 returns-in-Cryptomator c =
     let key = c.args.key.now in
-    let opened : c.args.vault.now.vault ≡ Cryptomator c.in-Cryptomator.vault = sym c.keys.ensures ∙ ap vault_of c.in-Cryptomator.is in
+    let vault = c.in-Cryptomator.field-0 in
+    let opened : c.args.vault.now.vault ≡ Cryptomator vault = sym c.keys.ensures ∙ ap vault_of c.in-Cryptomator.is in
     subst (λ vault. TellsNames vault key) (sym opened)
-    (subst (λ (x : CmVault). TellsNames (Cryptomator x) key) c.vault.view_is
-    (cm_tells _ key c.cm_text_has_one_name.ensures c.cm_texts_are_plain.ensures.size c.cm_texts_are_plain.ensures.characters c.cm_long_names_are_plain.ensures.characters c.type_inv.key))
+    (cm_tells vault key (c.cm_text_has_one_name.ensures vault.keys) (c.cm_texts_are_plain.ensures.size vault.keys) (c.cm_texts_are_plain.ensures.characters vault.keys) c.cm_long_names_are_plain.ensures.characters c.type_inv.key)

@@ -1,3 +1,4 @@
+use Rattle.cryptomator_conf.specs.declared.keys.CmKeys.{CmKeys}
 use Rattle.vault_spec.specs.Cryptomator.{cm_format}
 use Rattle.vault_spec.proofs.CmVault.{CmTexts, cm_lawful}
 use Rattle.vault_spec.proofs.CmAdding.{cm_makes}
@@ -7,17 +8,17 @@ use Rattle.vault_spec.proofs.laws.new_items_of_cryptomator_come_alone.Goals as g
 
 pub returns : goal.returns
 returns c =
-    let texts : CmTexts c.args.keys.now = record {
-      one = c.cm_text_has_one_name.ensures;
-      plain = c.cm_texts_are_plain.ensures.characters;
+    let texts : (keys : CmKeys) → CmTexts keys = λ keys. record {
+      one = c.cm_text_has_one_name.ensures keys;
+      plain = c.cm_texts_are_plain.ensures.characters keys;
       long_plain = c.cm_long_names_are_plain.ensures.characters;
     } in
     record {
-      new = λ combo threshold.
-          new_items_alone (cm_format (record { keys = c.args.keys.now; combo = combo; threshold = threshold }))
-          (cm_lawful (record { keys = c.args.keys.now; combo = combo; threshold = threshold }) texts)
-          (cm_makes (record { keys = c.args.keys.now; combo = combo; threshold = threshold }) texts);
-      replaced = λ combo threshold.
-          content_replaced (cm_format (record { keys = c.args.keys.now; combo = combo; threshold = threshold }))
-          (cm_lawful (record { keys = c.args.keys.now; combo = combo; threshold = threshold }) texts);
+      new = λ vault.
+          new_items_alone (cm_format vault)
+          (cm_lawful vault (texts vault.keys))
+          (cm_makes vault (texts vault.keys));
+      replaced = λ vault.
+          content_replaced (cm_format vault)
+          (cm_lawful vault (texts vault.keys));
     }

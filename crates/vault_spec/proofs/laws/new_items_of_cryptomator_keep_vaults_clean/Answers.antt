@@ -1,3 +1,4 @@
+use Rattle.cryptomator_conf.specs.declared.keys.CmKeys.{CmKeys}
 use Rattle.vault_spec.specs.Cryptomator.{cm_format}
 use Rattle.vault_spec.proofs.CmVault.{CmTexts, cm_lawful}
 use Rattle.vault_spec.proofs.CmKeeping.{CmFolders, cm_keeps}
@@ -7,21 +8,21 @@ use Rattle.vault_spec.proofs.laws.new_items_of_cryptomator_keep_vaults_clean.Goa
 
 pub returns : goal.returns
 returns c =
-    let texts : CmTexts c.args.keys.now = record {
-      one = c.cm_text_has_one_name.ensures;
-      plain = c.cm_texts_are_plain.ensures.characters;
+    let texts : (keys : CmKeys) → CmTexts keys = λ keys. record {
+      one = c.cm_text_has_one_name.ensures keys;
+      plain = c.cm_texts_are_plain.ensures.characters keys;
       long_plain = c.cm_long_names_are_plain.ensures.characters;
     } in
-    let folders : CmFolders c.args.keys.now = record {
-      first = λ id. c.cm_folders_are_plain.ensures.first c.args.keys.now id;
-      rest = λ id. c.cm_folders_are_plain.ensures.rest c.args.keys.now id;
-      characters = λ id. c.cm_folders_are_plain.ensures.characters c.args.keys.now id;
+    let folders : (keys : CmKeys) → CmFolders keys = λ keys. record {
+      first = c.cm_folders_are_plain.ensures.first keys;
+      rest = c.cm_folders_are_plain.ensures.rest keys;
+      characters = c.cm_folders_are_plain.ensures.characters keys;
     } in
     record {
-      new = λ combo threshold.
-          new_items_clean (cm_format (record { keys = c.args.keys.now; combo = combo; threshold = threshold }))
-          (cm_lawful (record { keys = c.args.keys.now; combo = combo; threshold = threshold }) texts) (cm_keeps (record { keys = c.args.keys.now; combo = combo; threshold = threshold }) texts folders);
-      replaced = λ combo threshold.
-          content_clean (cm_format (record { keys = c.args.keys.now; combo = combo; threshold = threshold }))
-          (cm_lawful (record { keys = c.args.keys.now; combo = combo; threshold = threshold }) texts);
+      new = λ vault.
+          new_items_clean (cm_format vault)
+          (cm_lawful vault (texts vault.keys)) (cm_keeps vault (texts vault.keys) (folders vault.keys));
+      replaced = λ vault.
+          content_clean (cm_format vault)
+          (cm_lawful vault (texts vault.keys));
     }

@@ -10,18 +10,18 @@ use Rattle.vault_spec.proofs.CmVault.{CmTexts}
 use Rattle.vault_spec.proofs.laws.new_vaults_of_cryptomator_are_empty.Goals as goal
 
 pub returns : goal.returns
-returns c combo threshold pass cost drawn same =
-    let texts : CmTexts c.args.keys.now = record {
-      one = c.cm_text_has_one_name.ensures;
-      plain = c.cm_texts_are_plain.ensures.characters;
+returns c vault pass cost drawn same =
+    let texts : (keys : CmKeys) → CmTexts keys = λ keys. record {
+      one = c.cm_text_has_one_name.ensures keys;
+      plain = c.cm_texts_are_plain.ensures.characters keys;
       long_plain = c.cm_long_names_are_plain.ensures.characters;
     } in
-    let folders : CmFolders c.args.keys.now = record {
-      first = λ id. c.cm_folders_are_plain.ensures.first c.args.keys.now id;
-      rest = λ id. c.cm_folders_are_plain.ensures.rest c.args.keys.now id;
-      characters = λ id. c.cm_folders_are_plain.ensures.characters c.args.keys.now id;
+    let folders : (keys : CmKeys) → CmFolders keys = λ keys. record {
+      first = c.cm_folders_are_plain.ensures.first keys;
+      rest = c.cm_folders_are_plain.ensures.rest keys;
+      characters = c.cm_folders_are_plain.ensures.characters keys;
     } in
-    subst (λ (k : CmKeys). IsEmptyVault (cm_format (record { keys = c.args.keys.now; combo = combo; threshold = threshold }))
+    subst (λ (k : CmKeys). IsEmptyVault (cm_format vault)
     (new_root (master_text (made_master pass cost drawn) (version_mac drawn.mac version_bytes)) (vault_text drawn) (cm_folder_of k []))) same
-    (new_is_empty (record { keys = c.args.keys.now; combo = combo; threshold = threshold }) texts folders
+    (new_is_empty vault (texts vault.keys) (folders vault.keys)
     (master_text (made_master pass cost drawn) (version_mac drawn.mac version_bytes)) (vault_text drawn))

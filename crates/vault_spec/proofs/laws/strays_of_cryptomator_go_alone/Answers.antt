@@ -1,3 +1,4 @@
+use Rattle.cryptomator_conf.specs.declared.keys.CmKeys.{CmKeys}
 use Rattle.vault_spec.proofs.CmVault.{CmTexts}
 use Rattle.vault_spec.proofs.CmKeeping.{CmFolders}
 use Rattle.vault_spec.proofs.CmStrays.{cm_strays_alone}
@@ -5,14 +6,14 @@ use Rattle.vault_spec.proofs.laws.strays_of_cryptomator_go_alone.Goals as goal
 
 pub returns : goal.returns
 returns c =
-    let texts : CmTexts c.args.keys.now = record {
-      one = c.cm_text_has_one_name.ensures;
-      plain = c.cm_texts_are_plain.ensures.characters;
+    let texts : (keys : CmKeys) → CmTexts keys = λ keys. record {
+      one = c.cm_text_has_one_name.ensures keys;
+      plain = c.cm_texts_are_plain.ensures.characters keys;
       long_plain = c.cm_long_names_are_plain.ensures.characters;
     } in
-    let folders : CmFolders c.args.keys.now = record {
-      first = λ id. c.cm_folders_are_plain.ensures.first c.args.keys.now id;
-      rest = λ id. c.cm_folders_are_plain.ensures.rest c.args.keys.now id;
-      characters = λ id. c.cm_folders_are_plain.ensures.characters c.args.keys.now id;
+    let folders : (keys : CmKeys) → CmFolders keys = λ keys. record {
+      first = c.cm_folders_are_plain.ensures.first keys;
+      rest = c.cm_folders_are_plain.ensures.rest keys;
+      characters = c.cm_folders_are_plain.ensures.characters keys;
     } in
-    λ combo threshold. cm_strays_alone (record { keys = c.args.keys.now; combo = combo; threshold = threshold }) texts folders
+    λ vault. cm_strays_alone vault (texts vault.keys) (folders vault.keys)

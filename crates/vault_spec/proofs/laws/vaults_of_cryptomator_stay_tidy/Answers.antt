@@ -13,24 +13,24 @@ use Rattle.vault_spec.proofs.laws.vaults_of_cryptomator_stay_tidy.Goals as goal
 
 pub returns : goal.returns
 returns c =
-    let texts : CmTexts c.args.keys.now = record {
-      one = c.cm_text_has_one_name.ensures;
-      plain = c.cm_texts_are_plain.ensures.characters;
+    let texts : (keys : CmKeys) → CmTexts keys = λ keys. record {
+      one = c.cm_text_has_one_name.ensures keys;
+      plain = c.cm_texts_are_plain.ensures.characters keys;
       long_plain = c.cm_long_names_are_plain.ensures.characters;
     } in
-    let folders : CmFolders c.args.keys.now = record {
-      first = λ id. c.cm_folders_are_plain.ensures.first c.args.keys.now id;
-      rest = λ id. c.cm_folders_are_plain.ensures.rest c.args.keys.now id;
-      characters = λ id. c.cm_folders_are_plain.ensures.characters c.args.keys.now id;
+    let folders : (keys : CmKeys) → CmFolders keys = λ keys. record {
+      first = c.cm_folders_are_plain.ensures.first keys;
+      rest = c.cm_folders_are_plain.ensures.rest keys;
+      characters = c.cm_folders_are_plain.ensures.characters keys;
     } in
     record {
-      made = λ combo threshold pass cost drawn same.
-          subst (λ (k : CmKeys). IsTidy (cm_format (record { keys = c.args.keys.now; combo = combo; threshold = threshold }))
+      made = λ vault pass cost drawn same.
+          subst (λ (k : CmKeys). IsTidy (cm_format vault)
           (new_root (master_text (made_master pass cost drawn) (version_mac drawn.mac version_bytes)) (vault_text drawn) (cm_folder_of k []))) same
-          (cm_new_tidy (record { keys = c.args.keys.now; combo = combo; threshold = threshold }) texts
+          (cm_new_tidy vault (texts vault.keys)
           (master_text (made_master pass cost drawn) (version_mac drawn.mac version_bytes)) (vault_text drawn));
-      replaced = λ combo threshold.
-          content_tidy (cm_format (record { keys = c.args.keys.now; combo = combo; threshold = threshold }))
-          (cm_lawful (record { keys = c.args.keys.now; combo = combo; threshold = threshold }) texts);
-      new = λ combo threshold. cm_items_tidy (record { keys = c.args.keys.now; combo = combo; threshold = threshold }) texts folders;
+      replaced = λ vault.
+          content_tidy (cm_format vault)
+          (cm_lawful vault (texts vault.keys));
+      new = λ vault. cm_items_tidy vault (texts vault.keys) (folders vault.keys);
     }

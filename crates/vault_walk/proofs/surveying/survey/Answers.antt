@@ -35,7 +35,7 @@ returns-clause-plan g c v is clean own =
     let root = c.args.vault.now.root in
     let w = under root v in
     let s = returns-clause-survey g c v is in
-    let orderly = c.clean_vaults_are_orderly.ensures w (folders_under root v (seen_folders (g.F.Folder.told c.args.folder.now) (g.met.F.Folder.sound c.args.folder.now) v is)) own clean in
+    let orderly = c.clean_vaults_are_orderly.ensures c.args.vault.now.vault w (folders_under root v (seen_folders (g.F.Folder.told c.args.folder.now) (g.met.F.Folder.sound c.args.folder.now) v is)) own clean in
     record { plan = s.plan; is = c.each_item_once_is_the_plan.ensures f w s.plan orderly s.is.once s.is.ordered; items_are = s.items_are }
 
 pub returns-clause-files : goal.returns-clause-files

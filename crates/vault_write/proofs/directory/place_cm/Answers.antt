@@ -25,13 +25,13 @@ returns-in_err-home-clause-made g c =
     (home_refused c.args.vault.now.root c.args.vault.now.vault c.requires.kind c.args.work.now c.args.front.now c.args.name.now c.as_bytes-id.result.now c.in_ok-text.ensures.drawn.drawn (g.F.Folder.told c.args.folder.now) c.args.slot.now.at c.args.slot.now.side c.args.slot.now.full (c.as_bytes-id.ensures.value ∙ c.in_ok-text.ensures.drawn.is) c.requires.slot c.in_err-home.field-0.0 c.in_err-home.ensures.taken) (p.1 ∙ ap Err p.2)
 
 pub make_cm-requires-clause-begun : goal.make_cm-requires-clause-begun
-make_cm-requires-clause-begun g c = subst (HasBegun c.args.work.now c.args.vault.now.root (cm_making c.in_ok-home.home.wants c.in_ok-home.home.shelf c.in_ok-home.home.home c.args.slot.now.at c.args.slot.now.full c.as_bytes-id.result.now)) (sym c.home_of.ensures.told) (cm_may c.what_is_found_stands.ensures.enters c.what_is_found_stands.ensures.folder c.args.vault.now.root c.args.vault.now.vault c.requires.kind c.items_keep_vaults.ensures c.args.work.now c.args.front.now c.args.name.now c.requires.named
+make_cm-requires-clause-begun g c = subst (HasBegun c.args.work.now c.args.vault.now.root (cm_making c.in_ok-home.home.wants c.in_ok-home.home.shelf c.in_ok-home.home.home c.args.slot.now.at c.args.slot.now.full c.as_bytes-id.result.now)) (sym c.home_of.ensures.told) (cm_may c.what_is_found_stands.ensures.enters c.what_is_found_stands.ensures.folder c.args.vault.now.root c.args.vault.now.vault c.requires.kind (c.items_keep_vaults.ensures c.args.vault.now.vault) c.args.work.now c.args.front.now c.args.name.now c.requires.named
     (g.F.Folder.told c.args.folder.now) c.requires.may (g.met.F.Folder.sound c.args.folder.now) c.args.slot.now.at c.args.slot.now.side c.args.slot.now.full c.requires.slot c.in_ok-home.home.shelf c.in_ok-home.home.home c.in_ok-home.home.wants c.as_bytes-id.result.now c.in_ok-text.ensures.drawn.drawn
     c.in_ok-home.ensures.home c.in_ok-home.ensures.shelf c.in_ok-home.ensures.free c.in_ok-home.ensures.wants (c.as_bytes-id.ensures.value ∙ c.in_ok-text.ensures.drawn.is)
     (is_id (id_of c.in_ok-text.ensures.drawn.drawn) (c.dir_ids_are_plain.ensures.size c.in_ok-text.ensures.drawn.drawn) (c.dir_ids_are_plain.ensures.characters c.in_ok-text.ensures.drawn.drawn)) c.in_ok-text.ensures.drawn.sixteen).begins
 
 pub make_cm-requires-clause-places : goal.make_cm-requires-clause-places
-make_cm-requires-clause-places g c = subst (λ t. (v : View) → IsSeen t v → CmPlaces v c.args.work.now c.in_ok-home.home.wants c.in_ok-home.home.shelf c.in_ok-home.home.home c.args.slot.now.at) (sym c.home_of.ensures.told) (cm_may c.what_is_found_stands.ensures.enters c.what_is_found_stands.ensures.folder c.args.vault.now.root c.args.vault.now.vault c.requires.kind c.items_keep_vaults.ensures c.args.work.now c.args.front.now c.args.name.now c.requires.named
+make_cm-requires-clause-places g c = subst (λ t. (v : View) → IsSeen t v → CmPlaces v c.args.work.now c.in_ok-home.home.wants c.in_ok-home.home.shelf c.in_ok-home.home.home c.args.slot.now.at) (sym c.home_of.ensures.told) (cm_may c.what_is_found_stands.ensures.enters c.what_is_found_stands.ensures.folder c.args.vault.now.root c.args.vault.now.vault c.requires.kind (c.items_keep_vaults.ensures c.args.vault.now.vault) c.args.work.now c.args.front.now c.args.name.now c.requires.named
     (g.F.Folder.told c.args.folder.now) c.requires.may (g.met.F.Folder.sound c.args.folder.now) c.args.slot.now.at c.args.slot.now.side c.args.slot.now.full c.requires.slot c.in_ok-home.home.shelf c.in_ok-home.home.home c.in_ok-home.home.wants c.as_bytes-id.result.now c.in_ok-text.ensures.drawn.drawn
     c.in_ok-home.ensures.home c.in_ok-home.ensures.shelf c.in_ok-home.ensures.free c.in_ok-home.ensures.wants (c.as_bytes-id.ensures.value ∙ c.in_ok-text.ensures.drawn.is)
     (is_id (id_of c.in_ok-text.ensures.drawn.drawn) (c.dir_ids_are_plain.ensures.size c.in_ok-text.ensures.drawn.drawn) (c.dir_ids_are_plain.ensures.characters c.in_ok-text.ensures.drawn.drawn)) c.in_ok-text.ensures.drawn.sixteen).places
@@ -39,7 +39,7 @@ make_cm-requires-clause-places g c = subst (λ t. (v : View) → IsSeen t v → 
 pub returns-in_err-make_cm-clause-made : goal.returns-in_err-make_cm-clause-made
 returns-in_err-make_cm-clause-made g c =
     let p = err_from_is_err_and c.from_residual-in_err-make_cm.result c.from_residual-in_err-make_cm.ensures.1 in
-    failed_one c.edits_show_trees.ensures.during c.edits_show_trees.ensures.settled c.roots_show_their_own.ensures.edits (placing c.args.vault.now c.args.work.now c.args.front.now c.args.name.now NewDirectory) c.in_ok-text.ensures.drawn.drawn (cm_making c.in_ok-home.home.wants c.in_ok-home.home.shelf c.in_ok-home.home.home c.args.slot.now.at c.args.slot.now.full c.as_bytes-id.result.now) (g.R.Randoms.left c.args.random.now) (g.R.Randoms.left c.draw_id.new.random) (g.F.Folder.told c.args.folder.now) (g.F.Folder.told c.make_cm.new.folder) (cm_may c.what_is_found_stands.ensures.enters c.what_is_found_stands.ensures.folder c.args.vault.now.root c.args.vault.now.vault c.requires.kind c.items_keep_vaults.ensures c.args.work.now c.args.front.now c.args.name.now c.requires.named
+    failed_one c.edits_show_trees.ensures.during c.edits_show_trees.ensures.settled c.roots_show_their_own.ensures.edits (placing c.args.vault.now c.args.work.now c.args.front.now c.args.name.now NewDirectory) c.in_ok-text.ensures.drawn.drawn (cm_making c.in_ok-home.home.wants c.in_ok-home.home.shelf c.in_ok-home.home.home c.args.slot.now.at c.args.slot.now.full c.as_bytes-id.result.now) (g.R.Randoms.left c.args.random.now) (g.R.Randoms.left c.draw_id.new.random) (g.F.Folder.told c.args.folder.now) (g.F.Folder.told c.make_cm.new.folder) (cm_may c.what_is_found_stands.ensures.enters c.what_is_found_stands.ensures.folder c.args.vault.now.root c.args.vault.now.vault c.requires.kind (c.items_keep_vaults.ensures c.args.vault.now.vault) c.args.work.now c.args.front.now c.args.name.now c.requires.named
     (g.F.Folder.told c.args.folder.now) c.requires.may (g.met.F.Folder.sound c.args.folder.now) c.args.slot.now.at c.args.slot.now.side c.args.slot.now.full c.requires.slot c.in_ok-home.home.shelf c.in_ok-home.home.home c.in_ok-home.home.wants c.as_bytes-id.result.now c.in_ok-text.ensures.drawn.drawn
     c.in_ok-home.ensures.home c.in_ok-home.ensures.shelf c.in_ok-home.ensures.free c.in_ok-home.ensures.wants (c.as_bytes-id.ensures.value ∙ c.in_ok-text.ensures.drawn.is)
     (is_id (id_of c.in_ok-text.ensures.drawn.drawn) (c.dir_ids_are_plain.ensures.size c.in_ok-text.ensures.drawn.drawn) (c.dir_ids_are_plain.ensures.characters c.in_ok-text.ensures.drawn.drawn)) c.in_ok-text.ensures.drawn.sixteen).begun
@@ -48,7 +48,7 @@ returns-in_err-make_cm-clause-made g c =
 
 pub returns-clause-made : goal.returns-clause-made
 returns-clause-made g c =
-    done_one c.edits_show_trees.ensures.during c.edits_show_trees.ensures.settled c.roots_show_their_own.ensures.edits (placing c.args.vault.now c.args.work.now c.args.front.now c.args.name.now NewDirectory) c.in_ok-text.ensures.drawn.drawn (cm_making c.in_ok-home.home.wants c.in_ok-home.home.shelf c.in_ok-home.home.home c.args.slot.now.at c.args.slot.now.full c.as_bytes-id.result.now) (g.R.Randoms.left c.args.random.now) (g.R.Randoms.left c.draw_id.new.random) (g.F.Folder.told c.args.folder.now) (g.F.Folder.told c.make_cm.new.folder) (cm_may c.what_is_found_stands.ensures.enters c.what_is_found_stands.ensures.folder c.args.vault.now.root c.args.vault.now.vault c.requires.kind c.items_keep_vaults.ensures c.args.work.now c.args.front.now c.args.name.now c.requires.named
+    done_one c.edits_show_trees.ensures.during c.edits_show_trees.ensures.settled c.roots_show_their_own.ensures.edits (placing c.args.vault.now c.args.work.now c.args.front.now c.args.name.now NewDirectory) c.in_ok-text.ensures.drawn.drawn (cm_making c.in_ok-home.home.wants c.in_ok-home.home.shelf c.in_ok-home.home.home c.args.slot.now.at c.args.slot.now.full c.as_bytes-id.result.now) (g.R.Randoms.left c.args.random.now) (g.R.Randoms.left c.draw_id.new.random) (g.F.Folder.told c.args.folder.now) (g.F.Folder.told c.make_cm.new.folder) (cm_may c.what_is_found_stands.ensures.enters c.what_is_found_stands.ensures.folder c.args.vault.now.root c.args.vault.now.vault c.requires.kind (c.items_keep_vaults.ensures c.args.vault.now.vault) c.args.work.now c.args.front.now c.args.name.now c.requires.named
     (g.F.Folder.told c.args.folder.now) c.requires.may (g.met.F.Folder.sound c.args.folder.now) c.args.slot.now.at c.args.slot.now.side c.args.slot.now.full c.requires.slot c.in_ok-home.home.shelf c.in_ok-home.home.home c.in_ok-home.home.wants c.as_bytes-id.result.now c.in_ok-text.ensures.drawn.drawn
     c.in_ok-home.ensures.home c.in_ok-home.ensures.shelf c.in_ok-home.ensures.free c.in_ok-home.ensures.wants (c.as_bytes-id.ensures.value ∙ c.in_ok-text.ensures.drawn.is)
     (is_id (id_of c.in_ok-text.ensures.drawn.drawn) (c.dir_ids_are_plain.ensures.size c.in_ok-text.ensures.drawn.drawn) (c.dir_ids_are_plain.ensures.characters c.in_ok-text.ensures.drawn.drawn)) c.in_ok-text.ensures.drawn.sixteen).begun

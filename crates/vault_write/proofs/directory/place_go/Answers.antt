@@ -24,19 +24,19 @@ returns-in_err-key-clause-made g c =
     go_undrawn c.args.vault.now c.requires.kind c.args.work.now c.args.front.now c.args.name.now (g.R.Randoms.left c.args.random.now) (g.R.Randoms.left c.draw_some.new.random) (g.F.Folder.told c.args.folder.now) (g.F.Folder.told c.wants_side.new.folder) c.in_err-key.field-0.0 c.from_residual-in_err-key.result c.in_err-key.ensures.draws c.wants_side.ensures.told (p.1 ∙ ap Err p.2)
 
 pub make_go-requires-clause-begun : goal.make_go-requires-clause-begun
-make_go-requires-clause-begun g c = subst (HasBegun c.args.work.now c.args.vault.now.root (go_making c.in_ok-wants.wants c.args.slot.now.side c.args.slot.now.at c.args.slot.now.full c.in_ok-key.key)) (sym c.wants_side.ensures.told) (go_may c.what_is_found_stands.ensures.enters c.what_is_found_stands.ensures.folder c.args.vault.now.root c.args.vault.now.vault c.requires.kind c.items_keep_vaults.ensures c.args.work.now c.args.front.now c.args.name.now c.requires.named
+make_go-requires-clause-begun g c = subst (HasBegun c.args.work.now c.args.vault.now.root (go_making c.in_ok-wants.wants c.args.slot.now.side c.args.slot.now.at c.args.slot.now.full c.in_ok-key.key)) (sym c.wants_side.ensures.told) (go_may c.what_is_found_stands.ensures.enters c.what_is_found_stands.ensures.folder c.args.vault.now.root c.args.vault.now.vault c.requires.kind (c.items_keep_vaults.ensures c.args.vault.now.vault) c.args.work.now c.args.front.now c.args.name.now c.requires.named
     (g.F.Folder.told c.args.folder.now) c.requires.may (g.met.F.Folder.sound c.args.folder.now) c.args.slot.now.at c.args.slot.now.side c.args.slot.now.full c.requires.slot c.in_ok-wants.wants c.in_ok-key.key c.in_ok-wants.ensures.wants
     (drew_key (g.R.Randoms.left c.args.random.now) (g.R.Randoms.left c.draw_some.new.random) c.in_ok-key.key c.in_ok-key.ensures.draws) c.in_ok-key.ensures.sixteen).begins
 
 pub make_go-requires-clause-places : goal.make_go-requires-clause-places
-make_go-requires-clause-places g c = subst (λ t. (v : View) → IsSeen t v → GoPlaces v c.args.work.now c.in_ok-wants.wants c.args.slot.now.side c.args.slot.now.at) (sym c.wants_side.ensures.told) (go_may c.what_is_found_stands.ensures.enters c.what_is_found_stands.ensures.folder c.args.vault.now.root c.args.vault.now.vault c.requires.kind c.items_keep_vaults.ensures c.args.work.now c.args.front.now c.args.name.now c.requires.named
+make_go-requires-clause-places g c = subst (λ t. (v : View) → IsSeen t v → GoPlaces v c.args.work.now c.in_ok-wants.wants c.args.slot.now.side c.args.slot.now.at) (sym c.wants_side.ensures.told) (go_may c.what_is_found_stands.ensures.enters c.what_is_found_stands.ensures.folder c.args.vault.now.root c.args.vault.now.vault c.requires.kind (c.items_keep_vaults.ensures c.args.vault.now.vault) c.args.work.now c.args.front.now c.args.name.now c.requires.named
     (g.F.Folder.told c.args.folder.now) c.requires.may (g.met.F.Folder.sound c.args.folder.now) c.args.slot.now.at c.args.slot.now.side c.args.slot.now.full c.requires.slot c.in_ok-wants.wants c.in_ok-key.key c.in_ok-wants.ensures.wants
     (drew_key (g.R.Randoms.left c.args.random.now) (g.R.Randoms.left c.draw_some.new.random) c.in_ok-key.key c.in_ok-key.ensures.draws) c.in_ok-key.ensures.sixteen).places
 
 pub returns-in_err-make_go-clause-made : goal.returns-in_err-make_go-clause-made
 returns-in_err-make_go-clause-made g c =
     let p = err_from_is_err_and c.from_residual-in_err-make_go.result c.from_residual-in_err-make_go.ensures.1 in
-    failed_one c.edits_show_trees.ensures.during c.edits_show_trees.ensures.settled c.roots_show_their_own.ensures.edits (placing c.args.vault.now c.args.work.now c.args.front.now c.args.name.now NewDirectory) c.in_ok-key.key (go_making c.in_ok-wants.wants c.args.slot.now.side c.args.slot.now.at c.args.slot.now.full c.in_ok-key.key) (g.R.Randoms.left c.args.random.now) (g.R.Randoms.left c.draw_some.new.random) (g.F.Folder.told c.args.folder.now) (g.F.Folder.told c.make_go.new.folder) (go_may c.what_is_found_stands.ensures.enters c.what_is_found_stands.ensures.folder c.args.vault.now.root c.args.vault.now.vault c.requires.kind c.items_keep_vaults.ensures c.args.work.now c.args.front.now c.args.name.now c.requires.named
+    failed_one c.edits_show_trees.ensures.during c.edits_show_trees.ensures.settled c.roots_show_their_own.ensures.edits (placing c.args.vault.now c.args.work.now c.args.front.now c.args.name.now NewDirectory) c.in_ok-key.key (go_making c.in_ok-wants.wants c.args.slot.now.side c.args.slot.now.at c.args.slot.now.full c.in_ok-key.key) (g.R.Randoms.left c.args.random.now) (g.R.Randoms.left c.draw_some.new.random) (g.F.Folder.told c.args.folder.now) (g.F.Folder.told c.make_go.new.folder) (go_may c.what_is_found_stands.ensures.enters c.what_is_found_stands.ensures.folder c.args.vault.now.root c.args.vault.now.vault c.requires.kind (c.items_keep_vaults.ensures c.args.vault.now.vault) c.args.work.now c.args.front.now c.args.name.now c.requires.named
     (g.F.Folder.told c.args.folder.now) c.requires.may (g.met.F.Folder.sound c.args.folder.now) c.args.slot.now.at c.args.slot.now.side c.args.slot.now.full c.requires.slot c.in_ok-wants.wants c.in_ok-key.key c.in_ok-wants.ensures.wants
     (drew_key (g.R.Randoms.left c.args.random.now) (g.R.Randoms.left c.draw_some.new.random) c.in_ok-key.key c.in_ok-key.ensures.draws) c.in_ok-key.ensures.sixteen).begun
     c.in_ok-key.ensures.drawn c.in_ok-key.ensures.sixteen c.in_err-make_go.field-0.0 c.from_residual-in_err-make_go.result
@@ -44,7 +44,7 @@ returns-in_err-make_go-clause-made g c =
 
 pub returns-clause-made : goal.returns-clause-made
 returns-clause-made g c =
-    done_one c.edits_show_trees.ensures.during c.edits_show_trees.ensures.settled c.roots_show_their_own.ensures.edits (placing c.args.vault.now c.args.work.now c.args.front.now c.args.name.now NewDirectory) c.in_ok-key.key (go_making c.in_ok-wants.wants c.args.slot.now.side c.args.slot.now.at c.args.slot.now.full c.in_ok-key.key) (g.R.Randoms.left c.args.random.now) (g.R.Randoms.left c.draw_some.new.random) (g.F.Folder.told c.args.folder.now) (g.F.Folder.told c.make_go.new.folder) (go_may c.what_is_found_stands.ensures.enters c.what_is_found_stands.ensures.folder c.args.vault.now.root c.args.vault.now.vault c.requires.kind c.items_keep_vaults.ensures c.args.work.now c.args.front.now c.args.name.now c.requires.named
+    done_one c.edits_show_trees.ensures.during c.edits_show_trees.ensures.settled c.roots_show_their_own.ensures.edits (placing c.args.vault.now c.args.work.now c.args.front.now c.args.name.now NewDirectory) c.in_ok-key.key (go_making c.in_ok-wants.wants c.args.slot.now.side c.args.slot.now.at c.args.slot.now.full c.in_ok-key.key) (g.R.Randoms.left c.args.random.now) (g.R.Randoms.left c.draw_some.new.random) (g.F.Folder.told c.args.folder.now) (g.F.Folder.told c.make_go.new.folder) (go_may c.what_is_found_stands.ensures.enters c.what_is_found_stands.ensures.folder c.args.vault.now.root c.args.vault.now.vault c.requires.kind (c.items_keep_vaults.ensures c.args.vault.now.vault) c.args.work.now c.args.front.now c.args.name.now c.requires.named
     (g.F.Folder.told c.args.folder.now) c.requires.may (g.met.F.Folder.sound c.args.folder.now) c.args.slot.now.at c.args.slot.now.side c.args.slot.now.full c.requires.slot c.in_ok-wants.wants c.in_ok-key.key c.in_ok-wants.ensures.wants
     (drew_key (g.R.Randoms.left c.args.random.now) (g.R.Randoms.left c.draw_some.new.random) c.in_ok-key.key c.in_ok-key.ensures.draws) c.in_ok-key.ensures.sixteen).begun
     c.in_ok-key.ensures.drawn c.in_ok-key.ensures.sixteen (key_has_bits (format_of c.args.vault.now.vault).content c.in_ok-key.key c.in_ok-key.ensures.sixteen c.in_ok-key.ensures.some_bit)

@@ -17,7 +17,7 @@ place_entry-requires-clause-outside g c = reads_outside (g.C.Content.reads c.arg
 pub returns-clause-made : goal.returns-clause-made
 returns-clause-made g c =
     cm_placed c.edits_show_trees.ensures.during c.edits_show_trees.ensures.first c.edits_show_trees.ensures.settled c.roots_show_their_own.ensures.edits c.files_are_what_they_give.ensures c.encrypted_files_are_files.ensures
-    c.what_is_found_stands.ensures.enters c.args.vault.now c.items_keep_vaults.ensures c.args.work.now c.args.front.now c.args.name.now c.requires.named
+    c.what_is_found_stands.ensures.enters c.args.vault.now (c.items_keep_vaults.ensures c.args.vault.now.vault) c.args.work.now c.args.front.now c.args.name.now c.requires.named
     c.args.slot.now.at c.args.slot.now.side c.args.slot.now.full (g.F.Folder.told c.args.folder.now) (g.met.F.Folder.sound c.args.folder.now) c.requires.may c.requires.slot
     c.requires.kind (still_coming (g.C.Content.reads c.args.content.now) (g.F.Folder.told c.args.folder.now) (g.C.Content.coming c.args.content.now)) (still_coming (g.C.Content.reads c.args.content.now) (g.F.Folder.told c.args.folder.now) (g.C.Content.coming c.place_entry.new.content)) (g.R.Randoms.left c.args.random.now) (g.R.Randoms.left c.place_entry.new.random) (g.F.Folder.told c.place_entry.new.folder) c.place_entry.result
     (subst (λ k. PlacesEntry k c.args.work.now c.args.slot.now.at c.args.slot.now.full (still_coming (g.C.Content.reads c.args.content.now) (g.F.Folder.told c.args.folder.now) (g.C.Content.coming c.args.content.now)) (still_coming (g.C.Content.reads c.args.content.now) (g.F.Folder.told c.args.folder.now) (g.C.Content.coming c.place_entry.new.content)) (g.R.Randoms.left c.args.random.now) (g.R.Randoms.left c.place_entry.new.random) (g.F.Folder.told c.args.folder.now) (g.F.Folder.told c.place_entry.new.folder) c.place_entry.result)

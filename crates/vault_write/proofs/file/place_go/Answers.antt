@@ -28,7 +28,7 @@ pub returns-in_err-publish_side-clause-made : goal.returns-in_err-publish_side-c
 returns-in_err-publish_side-clause-made g c =
     at_fault (PlacesFile New c.args.vault.now c.args.work.now c.args.front.now c.args.name.now (still_coming (g.C.Content.reads c.args.content.now) (g.F.Folder.told c.args.folder.now) (g.C.Content.coming c.args.content.now)) (still_coming (g.C.Content.reads c.args.content.now) (g.F.Folder.told c.args.folder.now) (g.C.Content.coming c.args.content.now)) (g.R.Randoms.left c.args.random.now) (g.R.Randoms.left c.args.random.now) (g.F.Folder.told c.args.folder.now) (g.F.Folder.told c.publish_side.new.folder)) c.from_residual-in_err-publish_side.result (of_folder c.in_err-publish_side.field-0.0) c.from_residual-in_err-publish_side.ensures.1
     (go_failed c.edits_show_trees.ensures.during c.edits_show_trees.ensures.first c.edits_show_trees.ensures.settled c.roots_show_their_own.ensures.edits c.files_are_what_they_give.ensures c.encrypted_files_are_files.ensures
-    c.what_is_found_stands.ensures.enters c.args.vault.now c.items_keep_vaults.ensures c.args.work.now c.args.front.now c.args.name.now c.requires.named
+    c.what_is_found_stands.ensures.enters c.args.vault.now (c.items_keep_vaults.ensures c.args.vault.now.vault) c.args.work.now c.args.front.now c.args.name.now c.requires.named
     c.args.slot.now.at c.args.slot.now.side c.args.slot.now.full (g.F.Folder.told c.args.folder.now) (g.met.F.Folder.sound c.args.folder.now) c.requires.may c.requires.slot
     c.requires.kind c.in_ok-wants.wants c.in_ok-wants.ensures.wants (g.F.Folder.told c.publish_side.new.folder)
     (still_coming (g.C.Content.reads c.args.content.now) (g.F.Folder.told c.args.folder.now) (g.C.Content.coming c.args.content.now)) (g.R.Randoms.left c.args.random.now) c.in_err-publish_side.field-0.0 (subst (λ o. AddsEdits c.args.work.now (side_edits c.in_ok-wants.wants c.args.slot.now.side c.args.slot.now.full) (full_texts c.args.slot.now.full) o (g.F.Folder.told c.publish_side.new.folder) (Err c.in_err-publish_side.field-0.0)) c.wants_side.ensures.told c.in_err-publish_side.ensures.made))
@@ -36,7 +36,7 @@ returns-in_err-publish_side-clause-made g c =
 pub place_entry-requires-clause-may : goal.place_entry-requires-clause-may
 place_entry-requires-clause-may g c =
     go_may c.edits_show_trees.ensures.during c.edits_show_trees.ensures.first c.edits_show_trees.ensures.settled c.roots_show_their_own.ensures.edits c.files_are_what_they_give.ensures c.encrypted_files_are_files.ensures
-    c.what_is_found_stands.ensures.enters c.args.vault.now c.items_keep_vaults.ensures c.args.work.now c.args.front.now c.args.name.now c.requires.named
+    c.what_is_found_stands.ensures.enters c.args.vault.now (c.items_keep_vaults.ensures c.args.vault.now.vault) c.args.work.now c.args.front.now c.args.name.now c.requires.named
     c.args.slot.now.at c.args.slot.now.side c.args.slot.now.full (g.F.Folder.told c.args.folder.now) (g.met.F.Folder.sound c.args.folder.now) c.requires.may c.requires.slot
     c.requires.kind c.in_ok-wants.wants c.in_ok-wants.ensures.wants (g.F.Folder.told c.publish_side.new.folder)
     (subst (λ o. AddsEdits c.args.work.now (side_edits c.in_ok-wants.wants c.args.slot.now.side c.args.slot.now.full) (full_texts c.args.slot.now.full) o (g.F.Folder.told c.publish_side.new.folder) (Ok tt)) c.wants_side.ensures.told c.in_ok-publish_side.ensures.made) c.what_is_found_stands.ensures.folder
@@ -44,7 +44,7 @@ place_entry-requires-clause-may g c =
 pub place_entry-requires-clause-ready : goal.place_entry-requires-clause-ready
 place_entry-requires-clause-ready g c =
     go_ready c.edits_show_trees.ensures.during c.edits_show_trees.ensures.first c.edits_show_trees.ensures.settled c.roots_show_their_own.ensures.edits c.files_are_what_they_give.ensures c.encrypted_files_are_files.ensures
-    c.what_is_found_stands.ensures.enters c.args.vault.now c.items_keep_vaults.ensures c.args.work.now c.args.front.now c.args.name.now c.requires.named
+    c.what_is_found_stands.ensures.enters c.args.vault.now (c.items_keep_vaults.ensures c.args.vault.now.vault) c.args.work.now c.args.front.now c.args.name.now c.requires.named
     c.args.slot.now.at c.args.slot.now.side c.args.slot.now.full (g.F.Folder.told c.args.folder.now) (g.met.F.Folder.sound c.args.folder.now) c.requires.may c.requires.slot
     c.requires.kind c.in_ok-wants.wants c.in_ok-wants.ensures.wants (g.F.Folder.told c.publish_side.new.folder)
     (subst (λ o. AddsEdits c.args.work.now (side_edits c.in_ok-wants.wants c.args.slot.now.side c.args.slot.now.full) (full_texts c.args.slot.now.full) o (g.F.Folder.told c.publish_side.new.folder) (Ok tt)) c.wants_side.ensures.told c.in_ok-publish_side.ensures.made) (g.C.Content.reads c.args.content.now) c.requires.elsewhere (g.C.Content.coming c.args.content.now) c.requires.ready
@@ -55,7 +55,7 @@ place_entry-requires-clause-outside g c = reads_outside (g.C.Content.reads c.arg
 pub returns-clause-made : goal.returns-clause-made
 returns-clause-made g c =
     go_placed c.edits_show_trees.ensures.during c.edits_show_trees.ensures.first c.edits_show_trees.ensures.settled c.roots_show_their_own.ensures.edits c.files_are_what_they_give.ensures c.encrypted_files_are_files.ensures
-    c.what_is_found_stands.ensures.enters c.args.vault.now c.items_keep_vaults.ensures c.args.work.now c.args.front.now c.args.name.now c.requires.named
+    c.what_is_found_stands.ensures.enters c.args.vault.now (c.items_keep_vaults.ensures c.args.vault.now.vault) c.args.work.now c.args.front.now c.args.name.now c.requires.named
     c.args.slot.now.at c.args.slot.now.side c.args.slot.now.full (g.F.Folder.told c.args.folder.now) (g.met.F.Folder.sound c.args.folder.now) c.requires.may c.requires.slot
     c.requires.kind c.in_ok-wants.wants c.in_ok-wants.ensures.wants (g.F.Folder.told c.publish_side.new.folder)
     (subst (λ o. AddsEdits c.args.work.now (side_edits c.in_ok-wants.wants c.args.slot.now.side c.args.slot.now.full) (full_texts c.args.slot.now.full) o (g.F.Folder.told c.publish_side.new.folder) (Ok tt)) c.wants_side.ensures.told c.in_ok-publish_side.ensures.made) (g.C.Content.reads c.args.content.now) c.requires.elsewhere (g.C.Content.coming c.args.content.now) (g.C.Content.coming c.place_entry.new.content) (g.R.Randoms.left c.args.random.now) (g.R.Randoms.left c.place_entry.new.random) (g.F.Folder.told c.place_entry.new.folder) c.place_entry.result

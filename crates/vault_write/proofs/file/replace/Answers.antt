@@ -24,5 +24,5 @@ pub returns-clause-made : goal.returns-clause-made
 returns-clause-made g c =
     replaced_file c.edits_show_trees.ensures.during c.edits_show_trees.ensures.first c.edits_show_trees.ensures.settled c.roots_show_their_own.ensures.edits c.files_are_what_they_give.ensures c.encrypted_files_are_files.ensures
     c.args.vault.now c.args.work.now c.args.front.now c.args.name.now c.requires.allowed c.args.at.now (g.F.Folder.told c.args.folder.now) (g.F.Folder.told c.replace_entry.new.folder) c.requires.may (g.met.F.Folder.sound c.args.folder.now)
-    (replaced_at c.args.vault.now c.items_keep_vaults.ensures c.args.work.now c.args.front.now c.args.name.now c.args.at.now (g.F.Folder.told c.args.folder.now) (g.met.F.Folder.sound c.args.folder.now) c.requires.may c.requires.stands)
+    (replaced_at c.args.vault.now (c.items_keep_vaults.ensures c.args.vault.now.vault) c.args.work.now c.args.front.now c.args.name.now c.args.at.now (g.F.Folder.told c.args.folder.now) (g.met.F.Folder.sound c.args.folder.now) c.requires.may c.requires.stands)
     (still_coming (g.C.Content.reads c.args.content.now) (g.F.Folder.told c.args.folder.now) (g.C.Content.coming c.args.content.now)) (still_coming (g.C.Content.reads c.args.content.now) (g.F.Folder.told c.args.folder.now) (g.C.Content.coming c.replace_entry.new.content)) (g.R.Randoms.left c.args.random.now) (g.R.Randoms.left c.replace_entry.new.random) c.replace_entry.result c.replace_entry.ensures.made

@@ -1,5 +1,6 @@
 use Rattle.std.proofs.Common.{Err, refl, sym, ap, ◌∙◌, subst, inr}
 use Rattle.std.proofs.lemmas.Result.{err_from_is_err_and}
+use Rattle.cryptomator_conf.specs.Text.{keys_of}
 use Rattle.cryptomator_conf.specs.declared.conf.Combo.TheVariants.{SivGcm}
 use Rattle.vault_write.specs.Founding.{FoundsCm}
 use Rattle.vault_write.proofs.NewFounded.{not_failed, cm_undrawn, cm_unmade, cm_failed, cm_done}
@@ -39,4 +40,4 @@ pub returns-clause-founds : goal.returns-clause-founds
 returns-clause-founds g c =
     cm_done c.args.work.now c.args.at.now c.args.pass.now c.args.cost.now (g.R.Randoms.left c.args.random.now) (g.R.Randoms.left c.draw_cm.new.random) (g.F.Folder.told c.args.folder.now) (g.met.F.Folder.sound c.args.folder.now) c.requires c.in_ok-drawn.drawn c.in_ok-drawn.ensures.draws c.as_slice-master.result.now c.as_slice-vault.result.now c.as_str.result.now
     (c.as_slice-master.ensures ∙ c.in_ok-files.ensures.master) (c.as_slice-vault.ensures ∙ c.in_ok-files.ensures.vault) (c.as_str.ensures.value ∙ c.in_ok-home.ensures) (g.F.Folder.told c.found_cm.new.folder) c.made_files_give_back_their_keys.ensures c.cost_is_one.ensures
-    (c.new_vaults_of_cryptomator_are_empty.ensures SivGcm 220 c.args.pass.now c.args.cost.now c.in_ok-drawn.drawn refl, c.vaults_of_cryptomator_stay_tidy.ensures.made SivGcm 220 c.args.pass.now c.args.cost.now c.in_ok-drawn.drawn refl) c.in_ok-found_cm.ensures.founds
+    (c.new_vaults_of_cryptomator_are_empty.ensures (record { keys = keys_of c.in_ok-drawn.drawn; combo = SivGcm; threshold = 220 }) c.args.pass.now c.args.cost.now c.in_ok-drawn.drawn refl, c.vaults_of_cryptomator_stay_tidy.ensures.made (record { keys = keys_of c.in_ok-drawn.drawn; combo = SivGcm; threshold = 220 }) c.args.pass.now c.args.cost.now c.in_ok-drawn.drawn refl) c.in_ok-found_cm.ensures.founds

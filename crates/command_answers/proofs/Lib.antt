@@ -1,0 +1,2 @@
+mod NamingLines
+mod Reports

@@ -1,0 +1,65 @@
+-- Which answers commands may give.
+use Rattle.std.proofs.Common.{◌≡◌, ◌⊎◌, ◌||◌, ℕ, Bool, true, false, IsNone, IsTrue, Option, None, Some, inl, inr, refl, subst, sym, nat_eq, arith}
+use Rattle.std.proofs.lemmas.Bool.{or_left}
+use Rattle.std.proofs.lemmas.Bool.Decides.{nat_tests}
+use Rattle.command_answers.specs.Answers.{status_of}
+use Rattle.command_answers.specs.Messages.{IsReported}
+use Rattle.command_answers.specs.Rows.{is_among, may_end, may_end_told, row_of}
+use Rattle.command_answers.specs.declared.answer.Answer.{Answer}
+use Rattle.command_words.specs.declared.commands.Command.{Command}
+use Rattle.command_words.specs.declared.commands.Command.TheVariants.{DecryptFile, Init, Ls, Cat, Fsck, Mkdir, Put, Repair, Migrate, Resume, Retire, Demo}
+
+-- memory may be refused to each command
+always_memory : (command : Option Command) → IsTrue (may_end_told command 3)
+always_memory None = refl
+always_memory (Some (DecryptFile key)) = refl
+always_memory (Some (Init new)) = refl
+always_memory (Some (Ls target)) = refl
+always_memory (Some (Cat target)) = refl
+always_memory (Some (Put change)) = refl
+always_memory (Some (Mkdir change)) = refl
+always_memory (Some (Fsck checking)) = refl
+always_memory (Some (Repair repairing)) = refl
+always_memory (Some (Migrate moving)) = refl
+always_memory (Some (Resume resuming)) = refl
+always_memory (Some (Retire resuming)) = refl
+always_memory (Some (Demo demonstration)) = refl
+
+memory_or_told : (command : Option Command) → IsTrue (may_end command 3)
+memory_or_told command = or_left (may_end_told command 3) (is_among (row_of command).contradicted 3) (always_memory command)
+
+-- what holds of the status of an answer and of 3 holds of what is reported
+by_report : (p : ℕ → Bool) (answer reported : Answer) → IsTrue (p 3) → IsReported answer reported → IsTrue (p (status_of answer)) → IsTrue (p (status_of reported))
+by_report p answer reported memory (inl same) may = subst (λ it. IsTrue (p (status_of it))) (sym same) may
+by_report p answer reported memory (inr lost) may = subst (λ it. IsTrue (p (status_of it))) (sym lost.0) memory
+
+pub reported_any : (command : Option Command) (answer reported : Answer) → IsReported answer reported → IsTrue (may_end command (status_of answer)) → IsTrue (may_end command (status_of reported))
+reported_any command answer reported = by_report (may_end command) answer reported (memory_or_told command)
+
+pub reported_told : (command : Option Command) (answer reported : Answer) → IsReported answer reported → IsTrue (may_end_told command (status_of answer)) → IsTrue (may_end_told command (status_of reported))
+reported_told command answer reported = by_report (may_end_told command) answer reported (always_memory command)
+
+-- no row of a command has 2
+pub bad_is_none : (command : Option Command) → IsTrue (may_end command 2) → IsNone command
+bad_is_none None may = refl
+bad_is_none (Some (DecryptFile key)) may = cc
+bad_is_none (Some (Init new)) may = cc
+bad_is_none (Some (Ls target)) may = cc
+bad_is_none (Some (Cat target)) may = cc
+bad_is_none (Some (Put change)) may = cc
+bad_is_none (Some (Mkdir change)) may = cc
+bad_is_none (Some (Fsck checking)) may = cc
+bad_is_none (Some (Repair repairing)) may = cc
+bad_is_none (Some (Migrate moving)) may = cc
+bad_is_none (Some (Resume resuming)) may = cc
+bad_is_none (Some (Retire resuming)) may = cc
+bad_is_none (Some (Demo demonstration)) may = cc
+
+-- and words that make none end with 2 or 3
+pub none_is_bad : (status : ℕ) → IsTrue (may_end None status) → (status ≡ 2) ⊎ (status ≡ 3)
+none_is_bad status may = by_test (nat_eq 2 status) (nat_eq 3 status) refl refl may
+  where
+    by_test : (two three : Bool) → nat_eq 2 status ≡ two → nat_eq 3 status ≡ three → IsTrue ((two || (three || false)) || false) → (status ≡ 2) ⊎ (status ≡ 3)
+    by_test true three is other may = inl (grind (arith, nat_tests, is))
+    by_test false true is other may = inr (grind (arith, nat_tests, other))
+    by_test false false is other may = cc

@@ -28,7 +28,7 @@ use Rattle.vault_read.specs.Opened.{OpenedVault}
 use Rattle.vault_read.specs.declared.fault.Limit.TheVariants as limit
 use Rattle.vault_spec.specs.Vault.{IsVault}
 use Rattle.vault_cli.specs.Demo.{Chances, EndsSo, EndsWork, IsStatus, chances, chances_by}
-use Rattle.vault_cli.specs.declared.answer.Answer.{Answer}
+use Rattle.command_answers.specs.declared.answer.Answer.{Answer}
 use Rattle.vault_cli.specs.DemoSteps.{CanCarry, HoldsWell, Sees, kind_from}
 use Rattle.vault_cli.specs.DemoTrees.{moving_folder, source_of, target_of}
 use Rattle.vault_cli.specs.declared.demo.Leg.{Leg}

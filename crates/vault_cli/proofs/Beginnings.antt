@@ -26,8 +26,8 @@ use Rattle.vault_cli.specs.Beginning.{IsBeginning, ChangesWork, ChangesWorkAlone
 use Rattle.vault_cli.specs.Places.{overlap}
 use Rattle.vault_cli.specs.Faults.{of_work}
 use Rattle.vault_cli.specs.Refusing.{RefusesWork}
-use Rattle.vault_cli.specs.declared.answer.Answer.{Answer}
-use Rattle.vault_cli.specs.declared.answer.Answer.TheVariants.{OutOfMemory}
+use Rattle.command_answers.specs.declared.answer.Answer.{Answer}
+use Rattle.command_answers.specs.declared.answer.Answer.TheVariants.{OutOfMemory}
 
 -- ---- nothing but the work folder is changed
 

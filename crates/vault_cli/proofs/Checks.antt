@@ -23,17 +23,17 @@ use Rattle.vault_check.specs.Checking.{Reported, IsReported, AreReported, IsRepo
 use Rattle.vault_check.specs.declared.checking.Report.{Report}
 use Rattle.vault_check.specs.declared.fault.CheckFault.{CheckFault}
 use Rattle.vault_check.specs.declared.fault.CheckFault.TheVariants as check
-use Rattle.vault_cli.specs.Answers.{status_of}
+use Rattle.command_answers.specs.Answers.{status_of}
 use Rattle.vault_cli.specs.Faults.{of_check}
 use Rattle.vault_cli.specs.Fsck.{IsReportOf, ShowsVault, Whole, TooMany, TooDeep, TooLong, ShowsReport, OpensWithin, ChecksVault, fault_part, finding_line, finding_name, is_of_checking, note_line, report_text}
-use Rattle.vault_cli.specs.Answers.{name_numbered}
+use Rattle.command_answers.specs.Messages.{name_numbered}
 use Rattle.vault_cli.specs.Lines.{answer_to_found, found_line, noted_line, told_text}
 use Rattle.vault_cli.specs.Opening.{Opens}
 use Rattle.vault_cli.specs.Refusing.{Unless}
 use Rattle.vault_cli.specs.Shown.{Shown, Follows, refused}
 use Rattle.vault_cli.specs.World.{World}
-use Rattle.vault_cli.specs.declared.answer.Answer.{Answer}
-use Rattle.vault_cli.specs.declared.answer.Answer.TheVariants.{Done, Findings, FolderFault, OutputFault}
+use Rattle.command_answers.specs.declared.answer.Answer.{Answer}
+use Rattle.command_answers.specs.declared.answer.Answer.TheVariants.{Done, Findings, FolderFault, OutputFault}
 use Rattle.command_words.specs.declared.commands.Checking.{Checking}
 use Rattle.vault_cli.proofs.Refusals.{opened_alike, opened_gives, opened_is}
 use Rattle.vault_cli.proofs.Showing.{all_or_cut}

@@ -29,10 +29,10 @@ use Rattle.vault_cli.specs.Finding.{answer_to_finding}
 use Rattle.vault_cli.specs.Opening.{Opens}
 use Rattle.vault_cli.specs.Refusing.{Unless}
 use Rattle.vault_cli.specs.Shown.{Shown, refused, Follows, Reads, is_of_reading}
-use Rattle.vault_cli.specs.declared.answer.Answer.{Answer}
-use Rattle.vault_cli.specs.declared.answer.Answer.TheVariants.{Done, FolderFault, Damaged, Limit}
-use Rattle.vault_cli.specs.declared.answer.Damage.TheVariants as damage
-use Rattle.vault_cli.specs.declared.answer.Limit.TheVariants as limit
+use Rattle.command_answers.specs.declared.answer.Answer.{Answer}
+use Rattle.command_answers.specs.declared.answer.Answer.TheVariants.{Done, FolderFault, Damaged, Limit}
+use Rattle.command_answers.specs.declared.answer.Damage.TheVariants as damage
+use Rattle.command_answers.specs.declared.answer.Limit.TheVariants as limit
 use Rattle.command_words.specs.declared.commands.Target.{Target}
 use Rattle.vault_cli.proofs.Refusals.{opened_gives, opened_one}
 use Rattle.vault_cli.proofs.Showing.{IsOne, follows_unless, reads_by}

@@ -8,13 +8,13 @@ use Rattle.std.proofs.Math.Seq.{take-length}
 use Rattle.chunk_files.specs.FileOf.{FilesAreWhatTheyGive, WholeFilesEnd}
 use Rattle.chunk_files.specs.Reading.{Reading}
 use Rattle.chunk_files.specs.declared.fault.ChunkFault.{ChunkFault}
-use Rattle.vault_cli.specs.Answers.{is_plain}
+use Rattle.command_answers.specs.Messages.{is_plain}
 use Rattle.vault_cli.specs.DecryptFile.{DecryptsFile, IsCutOff, answer_to_end, end_of}
 use Rattle.vault_cli.specs.Decrypts.{TakesNear, TellsOf, Writes, input_reading}
 use Rattle.vault_cli.specs.Inputs.{TakesAtMost, input_limit}
 use Rattle.vault_cli.specs.World.{World}
-use Rattle.vault_cli.specs.declared.answer.Answer.{Answer}
-use Rattle.vault_cli.specs.declared.answer.Answer.TheVariants as answers
+use Rattle.command_answers.specs.declared.answer.Answer.{Answer}
+use Rattle.command_answers.specs.declared.answer.Answer.TheVariants as answers
 use Rattle.vault_cli.specs.declared.decrypt.DecryptEnd.{DecryptEnd}
 use Rattle.vault_cli.specs.declared.decrypt.DecryptEnd.TheVariants.{Done, OutOfMemory, InputFault, OutputFault, Damaged, TooLong}
 use Rattle.vault_cli.proofs.WholeFiles.{whole-content, within-whole}

@@ -15,11 +15,11 @@ use Rattle.folder_spec.specs.Seen.{seen}
 use Rattle.port_model.specs.Counts.{CountRose}
 use Rattle.port_model.specs.Draws.{ByteStream}
 use Rattle.port_model.specs.Told.{AppendsPrefix}
-use Rattle.vault_cli.specs.Answers.{is_plain}
+use Rattle.command_answers.specs.Messages.{is_plain}
 use Rattle.vault_cli.specs.Demo.{Chances, Demonstrates, EndsSo, EndsWork, IsBare, IsLed, IsStatus, IsWay, IsWayBack, OnArrival, OnEnd, PrintsAll, PrintsBack, PrintsBy, PrintsDemonstration, PrintsLed, PrintsWay, TakesBy, Way, StoppedThere, StoppedBack, Arrived, SharesOne, back_text, chances, chances_of, is_of_chance, is_of_demonstration, is_of_fault, is_of_folder, is_of_telling, led_text, made_text, moved_text, retired_text, way_of, way_text}
 use Rattle.vault_cli.specs.World.{World}
-use Rattle.vault_cli.specs.declared.answer.Answer.{Answer}
-use Rattle.vault_cli.specs.declared.answer.Answer.TheVariants.{Done, Findings, BadCommandLine, OutOfMemory, FolderFault, InputFault, OutputFault, RandomFault, Refused, WrongPass, NotFound, WrongKind, DamagedInput, Damaged, NotAllowed, NotClean, Overlap, NotEmpty, Begun, Unusable, Changed, Differ, ZeroRandom, Taken, Limit, Retired}
+use Rattle.command_answers.specs.declared.answer.Answer.{Answer}
+use Rattle.command_answers.specs.declared.answer.Answer.TheVariants.{Done, Findings, BadCommandLine, OutOfMemory, FolderFault, InputFault, OutputFault, RandomFault, Refused, WrongPass, NotFound, WrongKind, DamagedInput, Damaged, NotAllowed, NotClean, Overlap, NotEmpty, Begun, Unusable, Changed, Differ, ZeroRandom, Taken, Limit, Retired}
 use Rattle.vault_cli.specs.declared.demo.Way.{Way as Ended}
 use Rattle.vault_cli.specs.declared.demo.Way.TheVariants as ways
 use Rattle.vault_cli.specs.declared.demo.Led.{Led}

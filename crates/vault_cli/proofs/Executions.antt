@@ -7,7 +7,8 @@ use Rattle.std.proofs.KnownBytes.{Keeps-refl}
 use Rattle.std.proofs.Math.Seq.{take-length}
 use Rattle.folder_spec.specs.Event.{Told}
 use Rattle.folder_spec.specs.View.{View}
-use Rattle.vault_cli.specs.Answers.{is_plain, status_of}
+use Rattle.command_answers.specs.Answers.{status_of}
+use Rattle.command_answers.specs.Messages.{is_plain}
 use Rattle.vault_cli.specs.DecryptFile.{answer_to_end}
 use Rattle.vault_cli.specs.declared.decrypt.DecryptEnd.{DecryptEnd}
 use Rattle.vault_cli.specs.declared.decrypt.DecryptEnd.TheVariants as ends
@@ -18,8 +19,8 @@ use Rattle.vault_cli.specs.Runs.{Executes}
 use Rattle.vault_cli.specs.Shown.{Shown, TakesAll, TakesSome, Follows, Reads, is_of_reading}
 use Rattle.vault_cli.specs.World.{World}
 use Rattle.vault_spec.specs.Vault.{Either}
-use Rattle.vault_cli.specs.declared.answer.Answer.{Answer}
-use Rattle.vault_cli.specs.declared.answer.Answer.TheVariants.{Done, Findings, BadCommandLine, OutOfMemory, FolderFault, InputFault, OutputFault, RandomFault, Refused, WrongPass, NotFound, WrongKind, DamagedInput, Damaged, NotAllowed, NotClean, Overlap, NotEmpty, Begun, Unusable, Changed, Differ, ZeroRandom, Taken, Limit, Retired}
+use Rattle.command_answers.specs.declared.answer.Answer.{Answer}
+use Rattle.command_answers.specs.declared.answer.Answer.TheVariants.{Done, Findings, BadCommandLine, OutOfMemory, FolderFault, InputFault, OutputFault, RandomFault, Refused, WrongPass, NotFound, WrongKind, DamagedInput, Damaged, NotAllowed, NotClean, Overlap, NotEmpty, Begun, Unusable, Changed, Differ, ZeroRandom, Taken, Limit, Retired}
 use Rattle.command_words.specs.declared.commands.Command.{Command}
 use Rattle.command_words.specs.declared.commands.Command.TheVariants.{DecryptFile, Init, Ls, Cat, Fsck, Mkdir, Put, Repair, Migrate, Resume, Retire, Demo}
 use Rattle.vault_cli.proofs.Demonstrations.{demonstrates_nothing, demonstration_lost, no_bad_demonstration}

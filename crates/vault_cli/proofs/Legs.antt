@@ -25,7 +25,7 @@ use Rattle.vault_read.specs.declared.vault.VaultKind.TheVariants as kind
 use Rattle.vault_spec.specs.Vault.{IsVault}
 use Rattle.vault_cli.specs.Demo.{OnEnd}
 use Rattle.vault_cli.specs.DemoTrees.{BringsItems, Carries, GoesOn, HasOwn, IsMoved, IsNewAt, IsWithin, Leads, LeadsBoth, Leaves, LeavesSource, MakesItems, first_root, kind_to, moving_folder, second_root, WhereTold, source_of, target_of, third_root}
-use Rattle.vault_cli.specs.declared.answer.Answer.{Answer}
+use Rattle.command_answers.specs.declared.answer.Answer.{Answer}
 use Rattle.vault_cli.specs.declared.demo.Way.{Way as Ended}
 use Rattle.vault_cli.specs.declared.demo.Way.TheVariants as ways
 use Rattle.vault_cli.specs.declared.demo.Leg.{Leg}

@@ -8,7 +8,6 @@ mod Listings
 mod MadeItems
 mod MadeVaults
 mod Migrations
-mod NamingLines
 mod Outcomes
 mod Printings
 mod Refusals

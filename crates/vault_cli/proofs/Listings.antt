@@ -11,7 +11,7 @@ use Rattle.vault_spec.specs.Vault.{Vault, format_of}
 use Rattle.vault_cli.specs.Finding.{answer_to_finding}
 use Rattle.vault_cli.specs.Ls.{ShowsItems, ls_text}
 use Rattle.vault_cli.specs.Shown.{Shown, refused}
-use Rattle.vault_cli.specs.declared.answer.Answer.TheVariants.{Done}
+use Rattle.command_answers.specs.declared.answer.Answer.TheVariants.{Done}
 use Rattle.command_words.specs.declared.commands.Target.{Target}
 use Rattle.vault_cli.proofs.Refusals.{opened_one}
 use Rattle.vault_cli.proofs.Showing.{IsOne}

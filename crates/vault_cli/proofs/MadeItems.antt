@@ -32,7 +32,7 @@ use Rattle.vault_write.specs.Trees.{KeepsTree, GainsItem, opens_as}
 use Rattle.work_folder.specs.Entering.{EntersAs}
 use Rattle.vault_cli.proofs.Beginnings.{Alike, Begins, Outside, apart_of_both, apart_of_unstaged, as_before_in, as_before_then, begun_then, none_drawn, not_begun_at, same_under, seen_after, seen_alike, went_alone, work_alone}
 use Rattle.vault_cli.proofs.Refusals.{pass_gives, site_then, unless_then}
-use Rattle.vault_cli.specs.Answers.{is_plain}
+use Rattle.command_answers.specs.Messages.{is_plain}
 use Rattle.vault_cli.specs.Beginning.{IsBeginning, ChangesWork, EndsBefore, OfSite, OfWork, RefusesOverlapping, is_of_beginning}
 use Rattle.vault_cli.specs.Faults.{answer_to_making, of_find}
 use Rattle.vault_cli.specs.Items.{ShowsOneBeside, ShowsNewTreeBeside, IsMakingBeside, MakesNamed, MakesItem, MakesIn}
@@ -42,8 +42,8 @@ use Rattle.vault_cli.specs.Places.{overlap}
 use Rattle.vault_cli.specs.Refusing.{RefusesSite, Unless}
 use Rattle.vault_cli.specs.Shown.{refused}
 use Rattle.vault_cli.specs.World.{World}
-use Rattle.vault_cli.specs.declared.answer.Answer.{Answer}
-use Rattle.vault_cli.specs.declared.answer.Answer.TheVariants.{BadCommandLine, FolderFault, OutOfMemory, Overlap}
+use Rattle.command_answers.specs.declared.answer.Answer.{Answer}
+use Rattle.command_answers.specs.declared.answer.Answer.TheVariants.{BadCommandLine, FolderFault, OutOfMemory, Overlap}
 use Rattle.command_words.specs.declared.commands.Change.{Change}
 
 -- ---- at each moment

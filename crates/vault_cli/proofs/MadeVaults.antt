@@ -33,10 +33,10 @@ use Rattle.vault_cli.specs.Init.{FoundsAs, FoundsNew, FoundsVault, IsMakingVault
 use Rattle.vault_cli.specs.Opening.{IsPhrase}
 use Rattle.vault_cli.specs.Refusing.{RefusesPass, RefusesWork, Unless}
 use Rattle.vault_cli.specs.Shown.{refused}
-use Rattle.vault_cli.specs.declared.answer.Answer.{Answer}
+use Rattle.command_answers.specs.declared.answer.Answer.{Answer}
 use Rattle.vault_cli.specs.World.{World}
-use Rattle.vault_cli.specs.Answers.{is_plain}
-use Rattle.vault_cli.specs.declared.answer.Answer.TheVariants.{BadCommandLine, OutOfMemory, Overlap}
+use Rattle.command_answers.specs.Messages.{is_plain}
+use Rattle.command_answers.specs.declared.answer.Answer.TheVariants.{BadCommandLine, OutOfMemory, Overlap}
 use Rattle.command_words.specs.declared.commands.NewVault.{NewVault}
 
 -- ---- at each moment

@@ -37,21 +37,21 @@ use Rattle.tree_match.specs.declared.answer.MatchFault.TheVariants as match
 use Rattle.tree_match.specs.declared.answer.Side.{Side}
 use Rattle.vault_read.specs.declared.fault.Limit.TheVariants as limit
 use Rattle.vault_read.specs.declared.fault.LoadFault.{LoadFault}
-use Rattle.vault_cli.specs.Answers.{is_plain}
+use Rattle.command_answers.specs.Messages.{is_plain}
 use Rattle.vault_cli.specs.Migrate.{HasMigrated, IsAskedFor, MigratesApart, MigratesTree, Pair, RefusesTwo, first_overlap, pair}
 use Rattle.vault_cli.specs.Migrate as migrating
 use Rattle.vault_cli.specs.Faults.{of_move}
 use Rattle.vault_cli.specs.Moving.{AnswersMove, ArePhrases, Comes, Completes, FailPasses, KeepsAll, OfPasses, Outcome, RefusesPasses, RefusesUndrawn, done_text, is_of_chance, is_of_migration, is_of_stop}
 use Rattle.vault_cli.specs.Opening.{IsPhrase, OfPassFile, passphrase_in}
 use Rattle.vault_cli.specs.Places.{overlap}
-use Rattle.vault_cli.specs.Printing.{PrintsText}
+use Rattle.command_answers.specs.Printing.{PrintsText}
 use Rattle.vault_cli.specs.Refusing.{RefusesPass, Unless}
 use Rattle.vault_cli.specs.Resume.{HasResumed, IsResumedFor, Resumes, ResumesTree}
 use Rattle.vault_cli.specs.Resume as resuming_on
 use Rattle.vault_cli.specs.Shown.{is_of_end, refused}
 use Rattle.vault_cli.specs.World.{World}
-use Rattle.vault_cli.specs.declared.answer.Answer.{Answer}
-use Rattle.vault_cli.specs.declared.answer.Answer.TheVariants.{BadCommandLine, OutOfMemory, FolderFault, Overlap}
+use Rattle.command_answers.specs.declared.answer.Answer.{Answer}
+use Rattle.command_answers.specs.declared.answer.Answer.TheVariants.{BadCommandLine, OutOfMemory, FolderFault, Overlap}
 use Rattle.command_words.specs.declared.commands.Moving.{Moving}
 use Rattle.command_words.specs.declared.commands.Passes.{Passes}
 use Rattle.command_words.specs.declared.commands.Resuming.{Resuming}

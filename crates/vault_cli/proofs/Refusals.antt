@@ -19,11 +19,11 @@ use Rattle.vault_cli.specs.Faults.{of_load, of_work}
 use Rattle.vault_cli.specs.Opening.{IsPhrase, Opens, passphrase_in, OfPassFile, OfVault, OfOpened, answer_to_refusal}
 use Rattle.vault_cli.specs.Refusing.{Unless, RefusesPass, RefusesOpening}
 use Rattle.vault_cli.specs.Shown.{Shown, refused}
-use Rattle.vault_cli.specs.declared.answer.Answer.{Answer}
-use Rattle.vault_cli.specs.declared.answer.Answer.TheVariants.{OutOfMemory, Refused, NotFound, WrongKind, Limit}
-use Rattle.vault_cli.specs.declared.answer.Named.TheVariants as named
-use Rattle.vault_cli.specs.declared.answer.Refusal.TheVariants as refusal
-use Rattle.vault_cli.specs.declared.answer.Limit.TheVariants as limit
+use Rattle.command_answers.specs.declared.answer.Answer.{Answer}
+use Rattle.command_answers.specs.declared.answer.Answer.TheVariants.{OutOfMemory, Refused, NotFound, WrongKind, Limit}
+use Rattle.command_answers.specs.declared.answer.Named.TheVariants as named
+use Rattle.command_answers.specs.declared.answer.Refusal.TheVariants as refusal
+use Rattle.command_answers.specs.declared.answer.Limit.TheVariants as limit
 use Rattle.command_words.specs.declared.commands.Change.{Change}
 
 -- ---- what was seen of a passphrase's file

@@ -24,16 +24,17 @@ use Rattle.vault_check.specs.Answers.{IsRepairFault}
 use Rattle.vault_check.specs.Repairing.{AreApart, AreMoved, IsRepairing, RepairsAt}
 use Rattle.vault_check.specs.declared.fault.CheckFault.{CheckFault}
 use Rattle.vault_check.specs.declared.fault.CheckFault.TheVariants as check
-use Rattle.vault_cli.specs.Faults.{of_check, of_folder}
+use Rattle.command_answers.specs.Answers.{of_folder}
+use Rattle.vault_cli.specs.Faults.{of_check}
 use Rattle.vault_cli.specs.Opening.{Opens}
 use Rattle.vault_cli.specs.Refusing.{Unless, RefusesOpening}
 use Rattle.vault_cli.specs.Places.{OfDirectory, OfMissing, OfFree, overlap}
 use Rattle.vault_cli.specs.Repair.{IsOfMoving, TooMany, TooDeep, OfRepairing, MovesStrays, HasMovedStrays, RefusesOverlap, RepairsApart, is_of_moving, is_of_test, moved_text}
-use Rattle.vault_cli.specs.Printing.{PrintsText}
+use Rattle.command_answers.specs.Printing.{PrintsText}
 use Rattle.vault_cli.proofs.Printings.{IsPrinted, nothing_printed, printed, printed_is_own}
 use Rattle.vault_cli.specs.Shown.{IsCutShort, is_of_end, refused}
-use Rattle.vault_cli.specs.declared.answer.Answer.{Answer}
-use Rattle.vault_cli.specs.declared.answer.Answer.TheVariants.{Done, OutOfMemory, FolderFault, OutputFault}
+use Rattle.command_answers.specs.declared.answer.Answer.{Answer}
+use Rattle.command_answers.specs.declared.answer.Answer.TheVariants.{Done, OutOfMemory, FolderFault, OutputFault}
 use Rattle.command_words.specs.declared.commands.Repairing.{Repairing}
 use Rattle.vault_cli.proofs.Refusals.{opened_gives, unless_opened}
 

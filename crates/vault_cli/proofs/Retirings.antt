@@ -21,16 +21,16 @@ use Rattle.retire_core.specs.declared.retiring.Retired.{Retired}
 use Rattle.tree_match.specs.Guard.{Migration}
 use Rattle.tree_match.specs.declared.answer.Side.{Side}
 use Rattle.vault_read.specs.declared.fault.LoadFault.{LoadFault}
-use Rattle.vault_cli.specs.Answers.{is_plain}
+use Rattle.command_answers.specs.Messages.{is_plain}
 use Rattle.vault_cli.specs.Moving.{KeepsAll}
-use Rattle.vault_cli.specs.Printing.{PrintsText}
+use Rattle.command_answers.specs.Printing.{PrintsText}
 use Rattle.vault_cli.specs.Resume.{IsFoundJournal, IsResumedFor}
 use Rattle.vault_cli.specs.Faults.{of_retire}
 use Rattle.vault_cli.specs.Retire.{AnswersRetire, ComesTo, Completes, IsCaused, IsRetired, IsRootOf, MayCome, Outcome, Retires, RetiresSource, TouchesNoMore, is_of_refusal, is_of_retiring, retired_text, root_by}
 use Rattle.vault_cli.specs.Shown.{is_of_end}
 use Rattle.vault_cli.specs.World.{World}
-use Rattle.vault_cli.specs.declared.answer.Answer.{Answer}
-use Rattle.vault_cli.specs.declared.answer.Answer.TheVariants.{BadCommandLine, OutOfMemory}
+use Rattle.command_answers.specs.declared.answer.Answer.{Answer}
+use Rattle.command_answers.specs.declared.answer.Answer.TheVariants.{BadCommandLine, OutOfMemory}
 use Rattle.command_words.specs.declared.commands.Resuming.{Resuming}
 use Rattle.vault_cli.proofs.Migrations.{AreSafe, comes_as, keeps_same, passes_unread, refused_lost, root_read}
 use Rattle.vault_cli.proofs.Printings.{IsPrinted, is_another, nothing_printed, print_lost, printed, printed_is_own}

@@ -7,8 +7,8 @@ use Rattle.std.proofs.KnownBytes.{Appends-nil, Appends-kept, Keeps-refl}
 use Rattle.folder_spec.specs.Event.{Told}
 use Rattle.folder_spec.specs.View.{View}
 use Rattle.folder_spec.specs.Seen.{IsSeen}
-use Rattle.vault_cli.specs.declared.answer.Answer.{Answer}
-use Rattle.vault_cli.specs.declared.answer.Answer.TheVariants.{Done, Findings, BadCommandLine, OutOfMemory, FolderFault, InputFault, OutputFault, RandomFault, Refused, WrongPass, NotFound, WrongKind, DamagedInput, Damaged, NotAllowed, NotClean, Overlap, NotEmpty, Begun, Unusable, Changed, Differ, ZeroRandom, Taken, Limit, Retired}
+use Rattle.command_answers.specs.declared.answer.Answer.{Answer}
+use Rattle.command_answers.specs.declared.answer.Answer.TheVariants.{Done, Findings, BadCommandLine, OutOfMemory, FolderFault, InputFault, OutputFault, RandomFault, Refused, WrongPass, NotFound, WrongKind, DamagedInput, Damaged, NotAllowed, NotClean, Overlap, NotEmpty, Begun, Unusable, Changed, Differ, ZeroRandom, Taken, Limit, Retired}
 use Rattle.vault_cli.specs.Refusing.{Unless}
 use Rattle.vault_cli.specs.Shown.{Shown, refused, TakesAll, Follows, IsCutShort, Reads, is_of_end, is_of_reading, is_refusal}
 

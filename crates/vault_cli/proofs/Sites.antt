@@ -15,7 +15,7 @@ use Rattle.vault_cli.specs.Beginning.{IsBeginning, ChangesWork, OfSite, OfWork}
 use Rattle.vault_cli.specs.Opening.{IsPhrase, OfPassFile, OfVault, Opens}
 use Rattle.vault_cli.specs.Refusing.{RefusesPass, RefusesSite, RefusesVault, RefusesWork}
 use Rattle.vault_cli.specs.Shown.{refused}
-use Rattle.vault_cli.specs.declared.answer.Answer.{Answer}
+use Rattle.command_answers.specs.declared.answer.Answer.{Answer}
 use Rattle.command_words.specs.declared.commands.Change.{Change}
 
 -- nothing has changed yet

@@ -7,12 +7,12 @@ use Rattle.migrate_core.specs.declared.fault.MoveFault.{MoveFault}
 use Rattle.migrate_core.specs.declared.fault.MoveFault.TheVariants as move
 use Rattle.tree_match.specs.declared.answer.MatchFault.TheVariants as match
 use Rattle.vault_read.specs.declared.fault.Limit.TheVariants as limit
-use Rattle.vault_cli.specs.Answers.{status_of}
+use Rattle.command_answers.specs.Answers.{status_of}
 use Rattle.vault_cli.specs.Demo.{EndsWork, chances_by, is_status_of_chance}
 use Rattle.vault_cli.specs.Faults.{of_move}
 use Rattle.vault_cli.specs.Moving.{is_of_stop}
-use Rattle.vault_cli.specs.declared.answer.Answer.{Answer}
-use Rattle.vault_cli.specs.declared.answer.Answer.TheVariants.{Done, Findings, BadCommandLine, OutOfMemory, FolderFault, InputFault, OutputFault, RandomFault, Refused, WrongPass, NotFound, WrongKind, DamagedInput, Damaged, NotAllowed, NotClean, Overlap, NotEmpty, Begun, Unusable, Changed, Differ, ZeroRandom, Taken, Limit, Retired}
+use Rattle.command_answers.specs.declared.answer.Answer.{Answer}
+use Rattle.command_answers.specs.declared.answer.Answer.TheVariants.{Done, Findings, BadCommandLine, OutOfMemory, FolderFault, InputFault, OutputFault, RandomFault, Refused, WrongPass, NotFound, WrongKind, DamagedInput, Damaged, NotAllowed, NotClean, Overlap, NotEmpty, Begun, Unusable, Changed, Differ, ZeroRandom, Taken, Limit, Retired}
 use Rattle.vault_cli.proofs.Executions.{with_status}
 
 -- only zeros and a taken place have one of their statuses

@@ -24,7 +24,7 @@ use Rattle.vault_write.specs.Faults.{IsFileFault}
 use Rattle.work_folder.specs.Entering.{EntersAs}
 use Rattle.vault_cli.proofs.Beginnings.{Alike, Outside, none_drawn, not_begun_at, work_alone}
 use Rattle.vault_cli.proofs.MadeItems.{either_made, item_made, lost_in, site_gives, site_refused}
-use Rattle.vault_cli.specs.Answers.{is_plain}
+use Rattle.command_answers.specs.Messages.{is_plain}
 use Rattle.vault_cli.specs.Beginning.{ChangesWork, EndsBefore, RefusesOverlapping, is_of_beginning}
 use Rattle.vault_cli.specs.Faults.{answer_to_making, of_find}
 use Rattle.vault_cli.specs.Items.{MakesIn}
@@ -33,8 +33,8 @@ use Rattle.vault_cli.specs.Places.{overlap}
 use Rattle.vault_cli.specs.Put.{StoresFile, StoresFileApart, StoresIn, StoresThere, TakesInput, is_of_file}
 use Rattle.vault_cli.specs.Refusing.{RefusesSite}
 use Rattle.vault_cli.specs.World.{World}
-use Rattle.vault_cli.specs.declared.answer.Answer.{Answer}
-use Rattle.vault_cli.specs.declared.answer.Answer.TheVariants.{BadCommandLine, Done, FolderFault, InputFault, OutOfMemory, Overlap, RandomFault}
+use Rattle.command_answers.specs.declared.answer.Answer.{Answer}
+use Rattle.command_answers.specs.declared.answer.Answer.TheVariants.{BadCommandLine, Done, FolderFault, InputFault, OutOfMemory, Overlap, RandomFault}
 use Rattle.command_words.specs.declared.commands.Change.{Change}
 
 -- ---- the input

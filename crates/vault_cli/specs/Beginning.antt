@@ -14,8 +14,8 @@ use Rattle.work_folder.specs.Looking as work
 use Rattle.vault_cli.specs.Faults.{of_work}
 use Rattle.vault_cli.specs.Opening.{OfPassFile, OfVault}
 use Rattle.vault_cli.specs.Shown.{refused}
-use Rattle.vault_cli.specs.declared.answer.Answer.{Answer}
-use Rattle.vault_cli.specs.declared.answer.Answer.TheVariants.{OutOfMemory, FolderFault, Refused, WrongPass, NotFound, WrongKind, Overlap, NotEmpty, Begun, Limit}
+use Rattle.command_answers.specs.declared.answer.Answer.{Answer}
+use Rattle.command_answers.specs.declared.answer.Answer.TheVariants.{OutOfMemory, FolderFault, Refused, WrongPass, NotFound, WrongKind, Overlap, NotEmpty, Begun, Limit}
 use Rattle.command_words.specs.declared.commands.Change.{Change}
 
 -- overlapping folders are refused, and nothing comes of the call

@@ -10,10 +10,10 @@ use Rattle.vault_spec.specs.Vault.{format_of}
 use Rattle.vault_cli.specs.Finding.{answer_to_finding}
 use Rattle.vault_cli.specs.Opening.{OfOpened}
 use Rattle.vault_cli.specs.Shown.{Shown, refused}
-use Rattle.vault_cli.specs.declared.answer.Answer.{Answer}
-use Rattle.vault_cli.specs.declared.answer.Answer.TheVariants.{Done, Damaged, Limit}
-use Rattle.vault_cli.specs.declared.answer.Damage.TheVariants as damage
-use Rattle.vault_cli.specs.declared.answer.Limit.TheVariants as limit
+use Rattle.command_answers.specs.declared.answer.Answer.{Answer}
+use Rattle.command_answers.specs.declared.answer.Answer.TheVariants.{Done, Damaged, Limit}
+use Rattle.command_answers.specs.declared.answer.Damage.TheVariants as damage
+use Rattle.command_answers.specs.declared.answer.Limit.TheVariants as limit
 use Rattle.command_words.specs.declared.commands.Target.{Target}
 
 -- how the reading of the file at a path ends

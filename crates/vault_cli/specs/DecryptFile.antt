@@ -8,9 +8,9 @@ use Rattle.chunk_files.specs.declared.fault.ChunkFault.{ChunkFault}
 use Rattle.vault_cli.specs.Decrypts.{TakesNear, TellsOf, Writes, input_reading}
 use Rattle.vault_cli.specs.Inputs.{TakesAtMost, input_limit}
 use Rattle.vault_cli.specs.World.{World}
-use Rattle.vault_cli.specs.declared.answer.Answer.{Answer}
-use Rattle.vault_cli.specs.declared.answer.Answer.TheVariants as answer
-use Rattle.vault_cli.specs.declared.answer.Limit.TheVariants as limit
+use Rattle.command_answers.specs.declared.answer.Answer.{Answer}
+use Rattle.command_answers.specs.declared.answer.Answer.TheVariants as answer
+use Rattle.command_answers.specs.declared.answer.Limit.TheVariants as limit
 use Rattle.vault_cli.specs.declared.decrypt.DecryptEnd.{DecryptEnd}
 use Rattle.vault_cli.specs.declared.decrypt.DecryptEnd.TheVariants.{Done, OutOfMemory, InputFault, OutputFault, Damaged, TooLong}
 

@@ -20,8 +20,8 @@ use Rattle.tree_match.specs.declared.answer.MatchFault.TheVariants as match
 use Rattle.vault_read.specs.declared.fault.Limit.TheVariants as limit
 use Rattle.vault_cli.specs.Moving.{is_of_stop}
 use Rattle.vault_cli.specs.World.{World}
-use Rattle.vault_cli.specs.declared.answer.Answer.{Answer}
-use Rattle.vault_cli.specs.declared.answer.Answer.TheVariants.{Done, OutOfMemory, FolderFault, OutputFault, RandomFault, ZeroRandom, Taken}
+use Rattle.command_answers.specs.declared.answer.Answer.{Answer}
+use Rattle.command_answers.specs.declared.answer.Answer.TheVariants.{Done, OutOfMemory, FolderFault, OutputFault, RandomFault, ZeroRandom, Taken}
 use Rattle.vault_cli.specs.declared.demo.Led.{Led}
 use Rattle.vault_cli.specs.declared.demo.Led.TheVariants.{Stopped, Retired}
 use Rattle.vault_cli.specs.declared.demo.Leg.{Leg}

@@ -3,8 +3,6 @@ use Rattle.std.specs.Prelude.{◌++◌, Result, Ok, Err}
 use Rattle.content_writing.specs.declared.fault.PutFault.{PutFault}
 use Rattle.content_writing.specs.declared.fault.PutFault.TheVariants as puts
 use Rattle.folder_spec.specs.Path.{Path}
-use Rattle.folder_spec.specs.declared.FolderFault as folders
-use Rattle.folder_spec.specs.declared.FolderFault.TheVariants as folder
 use Rattle.vault_read.specs.declared.fault.CatFault.{CatFault}
 use Rattle.vault_read.specs.declared.fault.CatFault.TheVariants as cat
 use Rattle.vault_read.specs.declared.fault.FindFault.{FindFault}
@@ -22,6 +20,8 @@ use Rattle.retire_core.specs.declared.fault.RetireFault.{RetireFault}
 use Rattle.retire_core.specs.declared.fault.RetireFault.TheVariants as retire
 use Rattle.tree_match.specs.declared.answer.MatchFault.{MatchFault}
 use Rattle.tree_match.specs.declared.answer.MatchFault.TheVariants as match
+use Rattle.tree_match.specs.declared.answer.Where.{Where}
+use Rattle.tree_match.specs.declared.answer.Where.TheVariants as differs
 use Rattle.vault_check.specs.declared.fault.CheckFault.{CheckFault}
 use Rattle.vault_check.specs.declared.fault.CheckFault.TheVariants as check
 use Rattle.vault_spec.specs.Vault.{go_conf, vault_file}
@@ -29,19 +29,16 @@ use Rattle.vault_walk.specs.declared.fault.WalkFault.{WalkFault}
 use Rattle.vault_walk.specs.declared.fault.WalkFault.TheVariants as walk
 use Rattle.work_folder.specs.declared.fault.WorkFault.{WorkFault}
 use Rattle.work_folder.specs.declared.fault.WorkFault.TheVariants as work
-use Rattle.vault_cli.specs.declared.answer.Answer.{Answer}
-use Rattle.vault_cli.specs.declared.answer.Answer.TheVariants.{Done, OutOfMemory, FolderFault, InputFault, OutputFault, RandomFault, Refused, WrongPass, NotFound, WrongKind, Damaged, NotAllowed, NotClean, Overlap, NotEmpty, Begun, Unusable, Changed, Differ, ZeroRandom, Taken, Limit, Retired}
-use Rattle.vault_cli.specs.declared.answer.Named.TheVariants as named
-use Rattle.vault_cli.specs.declared.answer.Damage.TheVariants as damage
-use Rattle.vault_cli.specs.declared.answer.Flaw.TheVariants as flaw
-use Rattle.vault_cli.specs.declared.answer.Refusal.TheVariants as refusal
-use Rattle.vault_cli.specs.declared.answer.Limit as limits
-use Rattle.vault_cli.specs.declared.answer.Limit.TheVariants as limit
-
-abbrev pub of_folder : folders.FolderFault → Answer
-of_folder folder.Failed = FolderFault
-of_folder folder.Refused = FolderFault
-of_folder folder.NoMemory = OutOfMemory
+use Rattle.command_answers.specs.declared.answer.Answer.{Answer}
+use Rattle.command_answers.specs.declared.answer.Answer.TheVariants.{Done, OutOfMemory, FolderFault, InputFault, OutputFault, RandomFault, Refused, WrongPass, NotFound, WrongKind, Damaged, NotAllowed, NotClean, Overlap, NotEmpty, Begun, Unusable, Changed, Differ, ZeroRandom, Taken, Limit, Retired}
+use Rattle.command_answers.specs.declared.answer.Named.TheVariants as named
+use Rattle.command_answers.specs.declared.answer.Difference.{Difference}
+use Rattle.command_answers.specs.declared.answer.Difference.TheVariants as difference
+use Rattle.command_answers.specs.declared.answer.Damage.TheVariants as damage
+use Rattle.command_answers.specs.declared.answer.Flaw.TheVariants as flaw
+use Rattle.command_answers.specs.declared.answer.Refusal.TheVariants as refusal
+use Rattle.command_answers.specs.declared.answer.Limit as limits
+use Rattle.command_answers.specs.declared.answer.Limit.TheVariants as limit
 
 abbrev pub of_find : FindFault → Answer
 of_find (find.NotFound path) = NotFound (named.Plain path)
@@ -115,6 +112,12 @@ of_walk (walk.Limit which) = Limit (of_limit which)
 of_walk walk.Failed = FolderFault
 of_walk walk.NoMemory = OutOfMemory
 
+abbrev pub of_where : Where → Difference
+of_where differs.Missing = difference.Missing
+of_where differs.Kind = difference.Kind
+of_where differs.Content = difference.Content
+of_where differs.Extra = difference.Extra
+
 abbrev pub of_match : MatchFault → Answer
 of_match (match.Damaged at fault) = Damaged at (damage.Content fault)
 of_match (match.Limit which) = Limit (of_limit which)
@@ -140,7 +143,7 @@ of_move work root (move.NotEmpty at) = NotEmpty at
 of_move work root (move.NotAllowed path) = NotAllowed path
 of_move work root (move.Changed plan items plan' items') = Changed plan items plan' items'
 of_move work root (move.Match fault) = of_match fault
-of_move work root (move.Differ path how) = Differ path how
+of_move work root (move.Differ path how) = Differ path (of_where how)
 of_move work root (move.Place fault) = of_put fault
 of_move work root move.SourceGone = Retired work
 of_move work root move.Failed = FolderFault
@@ -155,7 +158,7 @@ of_retire work root (retire.Overlap first second) = Overlap first second
 of_retire work root (retire.Load side fault) = of_load root fault
 of_retire work root (retire.Walk fault) = of_walk fault
 of_retire work root (retire.Match fault) = of_match fault
-of_retire work root (retire.Differ path how) = Differ path how
+of_retire work root (retire.Differ path how) = Differ path (of_where how)
 of_retire work root retire.Depth = Limit limit.Removal
 of_retire work root retire.Failed = FolderFault
 of_retire work root retire.NoMemory = OutOfMemory

@@ -4,11 +4,11 @@ use Rattle.folder_spec.specs.Path.{Path}
 use Rattle.vault_spec.specs.Find.{Refusal, NotFound, WrongKind, Locked}
 use Rattle.vault_spec.specs.declared.Lack.{Lack}
 use Rattle.vault_spec.specs.declared.Lack.TheVariants as lacks
-use Rattle.vault_cli.specs.declared.answer.Answer.{Answer}
-use Rattle.vault_cli.specs.declared.answer.Answer.TheVariants as answer
-use Rattle.vault_cli.specs.declared.answer.Named.TheVariants as named
-use Rattle.vault_cli.specs.declared.answer.Damage.{Damage}
-use Rattle.vault_cli.specs.declared.answer.Damage.TheVariants as damage
+use Rattle.command_answers.specs.declared.answer.Answer.{Answer}
+use Rattle.command_answers.specs.declared.answer.Answer.TheVariants as answer
+use Rattle.command_answers.specs.declared.answer.Named.TheVariants as named
+use Rattle.command_answers.specs.declared.answer.Damage.{Damage}
+use Rattle.command_answers.specs.declared.answer.Damage.TheVariants as damage
 
 abbrev pub damage_of : Lack → Damage
 damage_of lacks.NoDirKey = damage.NoDirKey

@@ -17,13 +17,13 @@ use Rattle.vault_spec.specs.declared.Finding.TheVariants as is
 use Rattle.vault_walk.specs.Survey.{AreNotes, HasTooMany}
 use Rattle.vault_walk.specs.Surveyed.{IsOnlyTooDeep, IsWithin}
 use Rattle.vault_check.specs.Checking.{Reported, IsReported, AreReported, IsTooLong, NamesTooLong}
-use Rattle.vault_cli.specs.Answers.{status_of}
+use Rattle.command_answers.specs.Answers.{status_of}
 use Rattle.vault_cli.specs.Opening.{Opens, OfOpened}
 use Rattle.vault_cli.specs.Shown.{Shown, Follows, IsCutShort, is_of_opening, refused}
 use Rattle.vault_cli.specs.World.{World}
-use Rattle.vault_cli.specs.declared.answer.Answer.{Answer}
-use Rattle.vault_cli.specs.declared.answer.Answer.TheVariants.{Done, Findings, FolderFault, OutputFault, Limit}
-use Rattle.vault_cli.specs.declared.answer.Limit.TheVariants as limit
+use Rattle.command_answers.specs.declared.answer.Answer.{Answer}
+use Rattle.command_answers.specs.declared.answer.Answer.TheVariants.{Done, Findings, FolderFault, OutputFault, Limit}
+use Rattle.command_answers.specs.declared.answer.Limit.TheVariants as limit
 use Rattle.command_words.specs.declared.commands.Checking.{Checking}
 
 abbrev pub finding_name : Finding → List ℕ

@@ -28,8 +28,8 @@ use Rattle.vault_cli.specs.Opening.{IsPhrase, OfPassFile}
 use Rattle.vault_cli.specs.Refusing.{Unless}
 use Rattle.vault_cli.specs.Shown.{refused}
 use Rattle.vault_cli.specs.World.{World}
-use Rattle.vault_cli.specs.declared.answer.Answer.{Answer}
-use Rattle.vault_cli.specs.declared.answer.Answer.TheVariants.{Done, RandomFault, ZeroRandom}
+use Rattle.command_answers.specs.declared.answer.Answer.{Answer}
+use Rattle.command_answers.specs.declared.answer.Answer.TheVariants.{Done, RandomFault, ZeroRandom}
 use Rattle.command_words.specs.declared.commands.NewVault.{NewVault}
 
 -- the cost of scrypt in new vaults

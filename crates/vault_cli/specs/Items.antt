@@ -22,7 +22,7 @@ use Rattle.vault_write.specs.Making.{Placing, Making, format, path_of, StagesOrP
 use Rattle.vault_write.specs.Placing.{ShowsOne, EndsAs, making_at}
 use Rattle.vault_write.specs.Trees.{KeepsTree, GainsItem, opens_as}
 use Rattle.vault_cli.specs.Faults.{answer_to_making}
-use Rattle.vault_cli.specs.declared.answer.Answer.{Answer}
+use Rattle.command_answers.specs.declared.answer.Answer.{Answer}
 use Rattle.command_words.specs.declared.commands.Change.{Change}
 
 -- a region outside the work folder shows one view alone, with the vault in good order

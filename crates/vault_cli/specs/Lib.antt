@@ -1,4 +1,3 @@
-pub mod Answers
 pub mod Faults
 pub mod Shown
 pub mod Opening
@@ -8,7 +7,6 @@ pub mod Finding
 pub mod Ls
 pub mod Cat
 pub mod Fsck
-pub mod Printing
 pub mod Repair
 pub mod Lines
 pub mod Inputs

@@ -6,10 +6,10 @@ use Rattle.folder_spec.specs.Path.{Path}
 use Rattle.plain_tree.specs.Shown.{shown_path}
 use Rattle.vault_walk.specs.declared.fault.Finding.{Finding}
 use Rattle.vault_check.specs.declared.checking.Report.{Report}
-use Rattle.vault_cli.specs.Answers.{name_numbered}
+use Rattle.command_answers.specs.Messages.{name_numbered}
 use Rattle.vault_cli.specs.Fsck.{fault_part}
-use Rattle.vault_cli.specs.declared.answer.Answer.{Answer}
-use Rattle.vault_cli.specs.declared.answer.Answer.TheVariants.{Done, Findings}
+use Rattle.command_answers.specs.declared.answer.Answer.{Answer}
+use Rattle.command_answers.specs.declared.answer.Answer.TheVariants.{Done, Findings}
 
 abbrev pub found_line : Finding → List ℕ
 found_line x = decimal x.number ++ 32 ∷ name_numbered x.number ++ 32 ∷ shown_path x.at ++ fault_part x.fault ++ 10 ∷ []

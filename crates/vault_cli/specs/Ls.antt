@@ -12,7 +12,7 @@ use Rattle.vault_spec.specs.Vault.{format_of}
 use Rattle.vault_cli.specs.Finding.{answer_to_finding}
 use Rattle.vault_cli.specs.Opening.{OfOpened}
 use Rattle.vault_cli.specs.Shown.{Shown, refused}
-use Rattle.vault_cli.specs.declared.answer.Answer.TheVariants.{Done}
+use Rattle.command_answers.specs.declared.answer.Answer.TheVariants.{Done}
 use Rattle.command_words.specs.declared.commands.Target.{Target}
 
 -- `d` for a directory and `f` for a file

@@ -12,11 +12,11 @@ use Rattle.vault_cli.specs.Faults.{of_move}
 use Rattle.vault_cli.specs.Opening.{IsPhrase, OfPassFile}
 use Rattle.vault_cli.specs.Refusing.{Unless}
 use Rattle.vault_cli.specs.Shown.{is_of_end, refused}
-use Rattle.vault_cli.specs.declared.answer.Answer.{Answer}
-use Rattle.vault_cli.specs.declared.answer.Answer.TheVariants.{Done, Findings, BadCommandLine, OutOfMemory, FolderFault, InputFault, OutputFault, RandomFault, DamagedInput, ZeroRandom, Taken}
-use Rattle.vault_cli.specs.declared.answer.Answer.TheVariants as answers
-use Rattle.vault_cli.specs.declared.answer.Limit as limits
-use Rattle.vault_cli.specs.declared.answer.Limit.TheVariants as limit
+use Rattle.command_answers.specs.declared.answer.Answer.{Answer}
+use Rattle.command_answers.specs.declared.answer.Answer.TheVariants.{Done, Findings, BadCommandLine, OutOfMemory, FolderFault, InputFault, OutputFault, RandomFault, DamagedInput, ZeroRandom, Taken}
+use Rattle.command_answers.specs.declared.answer.Answer.TheVariants as answers
+use Rattle.command_answers.specs.declared.answer.Limit as limits
+use Rattle.command_answers.specs.declared.answer.Limit.TheVariants as limit
 use Rattle.command_words.specs.declared.commands.Passes.{Passes}
 
 -- the two files hold these passphrases

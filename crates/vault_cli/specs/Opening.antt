@@ -7,11 +7,11 @@ use Rattle.folder_spec.specs.Seen.{under}
 use Rattle.vault_spec.specs.Vault.{Vault, LoadRefusal, Loads, Either, go_conf, vault_file}
 use Rattle.vault_spec.specs.Vault as vault
 use Rattle.vault_cli.specs.Shown.{Shown, refused}
-use Rattle.vault_cli.specs.declared.answer.Answer.{Answer}
-use Rattle.vault_cli.specs.declared.answer.Answer.TheVariants.{Refused, WrongPass, NotFound, WrongKind, Limit}
-use Rattle.vault_cli.specs.declared.answer.Named.TheVariants as named
-use Rattle.vault_cli.specs.declared.answer.Refusal.TheVariants as refusal
-use Rattle.vault_cli.specs.declared.answer.Limit.TheVariants as limit
+use Rattle.command_answers.specs.declared.answer.Answer.{Answer}
+use Rattle.command_answers.specs.declared.answer.Answer.TheVariants.{Refused, WrongPass, NotFound, WrongKind, Limit}
+use Rattle.command_answers.specs.declared.answer.Named.TheVariants as named
+use Rattle.command_answers.specs.declared.answer.Refusal.TheVariants as refusal
+use Rattle.command_answers.specs.declared.answer.Limit.TheVariants as limit
 
 abbrev pub is_newline : ℕ → Bool
 is_newline byte = byte == 10

@@ -2,9 +2,9 @@
 use Rattle.std.specs.Prelude.{◌≡◌, ◌||◌, Bool, is_some}
 use Rattle.folder_spec.specs.Path.{Path, below, parent}
 use Rattle.folder_spec.specs.View.{Found, NoEntry, Folder, FileOf, Special, View}
-use Rattle.vault_cli.specs.declared.answer.Answer.{Answer}
-use Rattle.vault_cli.specs.declared.answer.Answer.TheVariants.{NotFound, WrongKind, NotEmpty}
-use Rattle.vault_cli.specs.declared.answer.Named.TheVariants as named
+use Rattle.command_answers.specs.declared.answer.Answer.{Answer}
+use Rattle.command_answers.specs.declared.answer.Answer.TheVariants.{NotFound, WrongKind, NotEmpty}
+use Rattle.command_answers.specs.declared.answer.Named.TheVariants as named
 
 -- one of the paths begins with the other
 abbrev pub overlap : Path → Path → Bool

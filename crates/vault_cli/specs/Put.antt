@@ -15,8 +15,8 @@ use Rattle.vault_cli.specs.Opening.{Opens}
 use Rattle.vault_cli.specs.Places.{overlap}
 use Rattle.vault_cli.specs.Refusing.{Unless}
 use Rattle.vault_cli.specs.World.{World}
-use Rattle.vault_cli.specs.declared.answer.Answer.{Answer}
-use Rattle.vault_cli.specs.declared.answer.Answer.TheVariants.{Done, OutOfMemory, FolderFault, InputFault, RandomFault, NotFound, WrongKind, Damaged, NotAllowed, ZeroRandom, Taken, Limit}
+use Rattle.command_answers.specs.declared.answer.Answer.{Answer}
+use Rattle.command_answers.specs.declared.answer.Answer.TheVariants.{Done, OutOfMemory, FolderFault, InputFault, RandomFault, NotFound, WrongKind, Damaged, NotAllowed, ZeroRandom, Taken, Limit}
 use Rattle.command_words.specs.declared.commands.Change.{Change}
 
 -- whether a file that is to be made may be answered so

@@ -7,8 +7,8 @@ use Rattle.vault_cli.specs.Beginning.{OfSite, OfWork}
 use Rattle.vault_cli.specs.Faults.{of_load}
 use Rattle.vault_cli.specs.Opening.{OfPassFile, OfVault, OfOpened}
 use Rattle.vault_cli.specs.Shown.{refused}
-use Rattle.vault_cli.specs.declared.answer.Answer.{Answer}
-use Rattle.vault_cli.specs.declared.answer.Answer.TheVariants.{OutOfMemory, FolderFault}
+use Rattle.command_answers.specs.declared.answer.Answer.{Answer}
+use Rattle.command_answers.specs.declared.answer.Answer.TheVariants.{OutOfMemory, FolderFault}
 use Rattle.command_words.specs.declared.commands.Change.{Change}
 
 -- unless the folder failed or memory was refused

@@ -19,12 +19,12 @@ use Rattle.vault_walk.specs.Surveyed.{IsOnlyTooDeep, IsWithin}
 use Rattle.vault_check.specs.Repairing.{AreApart, AreMoved, IsRepairing, RepairsAt}
 use Rattle.vault_cli.specs.Opening.{Opens, OfOpened}
 use Rattle.vault_cli.specs.Places.{OfFree, overlap}
-use Rattle.vault_cli.specs.Printing.{PrintsDone}
+use Rattle.command_answers.specs.Printing.{PrintsDone}
 use Rattle.vault_cli.specs.Shown.{IsCutShort, is_of_end, is_of_opening, refused}
 use Rattle.vault_cli.specs.World.{World}
-use Rattle.vault_cli.specs.declared.answer.Answer.{Answer}
-use Rattle.vault_cli.specs.declared.answer.Answer.TheVariants.{Done, OutOfMemory, Refused, WrongPass, NotFound, WrongKind, Overlap, NotEmpty, Limit}
-use Rattle.vault_cli.specs.declared.answer.Limit.TheVariants as limit
+use Rattle.command_answers.specs.declared.answer.Answer.{Answer}
+use Rattle.command_answers.specs.declared.answer.Answer.TheVariants.{Done, OutOfMemory, Refused, WrongPass, NotFound, WrongKind, Overlap, NotEmpty, Limit}
+use Rattle.command_answers.specs.declared.answer.Limit.TheVariants as limit
 use Rattle.command_words.specs.declared.commands.Repairing.{Repairing}
 
 -- where all tests pass, the strays are moved of a vault that passes no limit

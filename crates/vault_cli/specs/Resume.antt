@@ -22,9 +22,9 @@ use Rattle.tree_match.specs.Guard.{Migration}
 use Rattle.tree_match.specs.declared.answer.Side.{Side}
 use Rattle.tree_match.specs.declared.answer.Side.TheVariants.{Source, Target}
 use Rattle.vault_cli.specs.Moving.{AnswersMove, ArePhrases, Comes, Completes, KeepsAll, Outcome, RefusesUndrawn, done_text, is_of_migration}
-use Rattle.vault_cli.specs.Printing.{PrintsDone}
+use Rattle.command_answers.specs.Printing.{PrintsDone}
 use Rattle.vault_cli.specs.World.{World}
-use Rattle.vault_cli.specs.declared.answer.Answer.{Answer}
+use Rattle.command_answers.specs.declared.answer.Answer.{Answer}
 use Rattle.command_words.specs.declared.commands.Resuming.{Resuming}
 
 -- a migration through the work folder, whose passphrases are those in the two files

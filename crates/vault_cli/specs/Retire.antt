@@ -18,13 +18,13 @@ use Rattle.retire_core.specs.declared.retiring.Retired.{Retired}
 use Rattle.tree_match.specs.Guard.{Migration}
 use Rattle.vault_cli.specs.Faults.{of_retire}
 use Rattle.vault_cli.specs.Moving.{Comes, KeepsAll, RefusesPasses}
-use Rattle.vault_cli.specs.Printing.{PrintsDone}
+use Rattle.command_answers.specs.Printing.{PrintsDone}
 use Rattle.vault_cli.specs.Refusing as folder
 use Rattle.vault_cli.specs.Resume.{IsResumedFor, IsRootIn, root_in}
 use Rattle.vault_cli.specs.Shown.{is_of_end}
 use Rattle.vault_cli.specs.World.{World}
-use Rattle.vault_cli.specs.declared.answer.Answer.{Answer}
-use Rattle.vault_cli.specs.declared.answer.Answer.TheVariants.{Done, OutOfMemory, FolderFault, OutputFault, Refused, WrongPass, NotFound, WrongKind, Damaged, NotClean, Overlap, NotEmpty, Begun, Unusable, Differ, Limit}
+use Rattle.command_answers.specs.declared.answer.Answer.{Answer}
+use Rattle.command_answers.specs.declared.answer.Answer.TheVariants.{Done, OutOfMemory, FolderFault, OutputFault, Refused, WrongPass, NotFound, WrongKind, Damaged, NotClean, Overlap, NotEmpty, Begun, Unusable, Differ, Limit}
 use Rattle.command_words.specs.declared.commands.Resuming.{Resuming}
 
 -- whether a source that isn't retired may be answered so

@@ -15,8 +15,8 @@ use Rattle.vault_cli.specs.Resume.{ResumesTree}
 use Rattle.vault_cli.specs.Retire.{RetiresSource}
 use Rattle.vault_cli.specs.Shown.{Reads}
 use Rattle.vault_cli.specs.World.{World}
-use Rattle.vault_cli.specs.declared.answer.Answer.{Answer}
-use Rattle.vault_cli.specs.declared.answer.Answer.TheVariants.{BadCommandLine, OutOfMemory, FolderFault}
+use Rattle.command_answers.specs.declared.answer.Answer.{Answer}
+use Rattle.command_answers.specs.declared.answer.Answer.TheVariants.{BadCommandLine, OutOfMemory, FolderFault}
 use Rattle.command_words.specs.declared.commands.Command.{Command}
 use Rattle.command_words.specs.declared.commands.Command.TheVariants.{DecryptFile, Init, Ls, Cat, Fsck, Mkdir, Put, Repair, Migrate, Resume, Retire, Demo}
 use Rattle.command_words.specs.declared.commands.Target.{Target}

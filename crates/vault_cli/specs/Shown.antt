@@ -6,8 +6,8 @@ use Rattle.port_model.specs.Told.{AppendsPrefix}
 use Rattle.folder_spec.specs.Event.{Told}
 use Rattle.folder_spec.specs.View.{View}
 use Rattle.folder_spec.specs.Seen.{IsSeen}
-use Rattle.vault_cli.specs.declared.answer.Answer.{Answer}
-use Rattle.vault_cli.specs.declared.answer.Answer.TheVariants.{Done, OutOfMemory, FolderFault, OutputFault, Refused, WrongPass, NotFound, WrongKind, Damaged, Limit}
+use Rattle.command_answers.specs.declared.answer.Answer.{Answer}
+use Rattle.command_answers.specs.declared.answer.Answer.TheVariants.{Done, OutOfMemory, FolderFault, OutputFault, Refused, WrongPass, NotFound, WrongKind, Damaged, Limit}
 
 -- the pieces of an output, in order, and the answer behind them
 pub record Shown : Type 0 where

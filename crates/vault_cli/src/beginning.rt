@@ -11,7 +11,7 @@ ghost use Rattle.vault_cli.specs.Opening.{IsPhrase, Opens};
 ghost use Rattle.vault_cli.specs.Refusing.{RefusesPass, RefusesSite, RefusesWork};
 ghost use Rattle.vault_write.specs.Placing.{MayMake};
 
-use crate::answer::{Answer, Limit, Named};
+use command_answers::{Answer, Limit, Named};
 use crate::opening::{load, read_pass};
 use crate::places::{do_overlap, overlapping};
 use command_words::Change;

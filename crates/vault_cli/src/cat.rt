@@ -4,7 +4,8 @@ ghost use Rattle.port_model.specs.Counts.{CountRose};
 ghost use Rattle.vault_cli.specs.Cat.{ShowsContent};
 ghost use Rattle.vault_cli.specs.Shown.{Reads};
 
-use crate::answer::Answer;
+use crate::faults::answer_to_cat;
+use command_answers::Answer;
 use crate::opening::open;
 use command_words::Target;
 use folder_model::Folder;
@@ -32,6 +33,6 @@ pub(crate) fn cat<F: Folder, O: Sink>(
     };
     match vault_read::cat(alloc, folder, &vault, &target.path, out) {
         Ok(_) => Answer::Done,
-        Err(fault) => Answer::from(fault),
+        Err(fault) => answer_to_cat(fault),
     }
 }

@@ -15,15 +15,17 @@ ghost use Rattle.demo_core.specs.Making.{CanMake, IsFailed, IsMakeFault, IsOfIte
 ghost use Rattle.retire_core.specs.Causes.{IsOfFolder};
 ghost use Rattle.retire_core.specs.Faults.{IsRetireFault};
 ghost use Rattle.migrate_core.specs.Faults.{IsMoveFault};
-ghost use Rattle.vault_cli.specs.Answers.{TakesText, line_of, status_of};
+ghost use Rattle.command_answers.specs.Answers.{status_of};
+ghost use Rattle.command_answers.specs.Messages.{TakesText, line_of};
 ghost use Rattle.vault_cli.specs.Demo.{EndsSo, EndsWork, IsBare, IsStatus, OnEnd, OnRetired, PrintsAll, PrintsBack, PrintsDemonstration, PrintsLed, PrintsWay, TakesPart, chances, chances_by, chances_of, is_of_chance, is_of_demonstration, is_of_fault, is_of_folder, is_of_telling, made_text, moved_text, retired_text};
 ghost use Rattle.vault_cli.specs.DemoSteps.{CanCarry, CanLead, HasCarried, Sees};
 ghost use Rattle.vault_cli.specs.DemoTrees.{BringsItems, Carries, IsMoved, IsNewAt, Leads, LeadsBoth, LeavesSource, MakesItems, WhereTold, kind_to, second_root, source_of, target_of, third_root};
 ghost use Rattle.vault_cli.specs.Moving.{is_of_stop};
 ghost use Rattle.vault_cli.specs.Retire.{is_of_refusal};
 
-use crate::answer::Answer;
-use crate::reporting::report;
+use crate::faults::answer_to_put;
+use command_answers::Answer;
+use command_answers::report;
 use crate::{beginning, moving, opening, retire};
 use command_words::Demonstration;
 use content_writing::PutFault;
@@ -480,7 +482,7 @@ fn answer_to(alloc: Global, root: &FPath, fault: MakeFault) -> Answer
             Err(_) => Answer::OutOfMemory,
         },
         MakeFault::Load(fault) => opening::answer_to(root, fault),
-        MakeFault::Put(fault) => Answer::from(fault),
+        MakeFault::Put(fault) => answer_to_put(fault),
         MakeFault::NoMemory => Answer::OutOfMemory,
     }
 }

@@ -10,9 +10,10 @@ ghost use Rattle.vault_cli.specs.Lines.{answer_to_found, found_line, noted_line,
 ghost use Rattle.vault_cli.specs.Refusing.{Unless};
 ghost use Rattle.vault_cli.specs.Shown.{Follows, is_of_opening, refused};
 
-use crate::answer::Answer;
+use crate::faults::answer_to_check;
+use command_answers::Answer;
 use crate::opening::open;
-use crate::reporting::{name_of, shown_folder};
+use command_answers::{finding_name, shown_folder};
 use chunk_files::ChunkFault;
 use command_words::Checking;
 use folder_model::{FPath, Folder};
@@ -61,7 +62,7 @@ fn checked<F: Folder>(alloc: Global, target: &Checking, folder: &mut F) -> Resul
     let vault = open(alloc, folder, &target.vault, &target.pass)?;
     match check(alloc, folder, &vault) {
         Ok(report) => Ok(report),
-        Err(fault) => Err(Answer::from(fault)),
+        Err(fault) => Err(answer_to_check(fault)),
     }
 }
 
@@ -109,7 +110,7 @@ fn push_finding(alloc: Global, text: &mut String, finding: &Finding) -> Result<(
     ensures { OnOk result (string_bytes text.new ≡ string_bytes text.old ++ found_line finding.now) }
 {
     let number = finding.number;
-    let name = name_of(number);
+    let name = finding_name(number);
     text.push_str(format!(in alloc; "{number} {name} ")?.as_str())?;
     text.push_str(shown_folder(alloc, &finding.at)?.as_str())?;
     push_fault(alloc, text, &finding.fault)?;

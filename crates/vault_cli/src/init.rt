@@ -12,7 +12,8 @@ ghost use Rattle.vault_cli.specs.Init.{cost_of, FoundsAs, FoundsNew, MakesVaultA
 ghost use Rattle.vault_cli.specs.Opening.{IsPhrase};
 ghost use Rattle.vault_cli.specs.Refusing.{Unless};
 
-use crate::answer::{Answer, answer_to_making};
+use crate::faults::answer_to_making;
+use command_answers::Answer;
 use crate::beginning::{enter_settled, read_apart};
 use crate::places::test_free;
 use command_words::{Format, NewVault};

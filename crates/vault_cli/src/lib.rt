@@ -1,12 +1,12 @@
-//! The command line: what each command does between its streams, and the status and message that it ends with. The words that make a
-//! command are read below.
+//! The command line: what each command does between its streams, and the answer that it ends with. The words that make a command are
+//! read below, and so are the statuses and messages of answers.
 #![tactic(auto)]
 
-pub mod answer;
 mod beginning;
 mod cat;
 mod decrypt;
 mod demo;
+mod faults;
 mod fsck;
 mod init;
 mod ls;
@@ -17,12 +17,9 @@ mod opening;
 mod places;
 mod put;
 mod repair;
-mod reporting;
 mod resume;
 mod retire;
 mod running;
 
-pub use answer::Answer;
 pub use demo::demo_in;
-pub use reporting::report;
 pub use running::run;

@@ -8,7 +8,8 @@ ghost use Rattle.vault_cli.specs.Ls.{ShowsItems, item_line, ls_text, node_letter
 ghost use Rattle.vault_cli.specs.Refusing.{Unless};
 ghost use Rattle.vault_cli.specs.Shown.{Reads, is_refusal, refused};
 
-use crate::answer::Answer;
+use crate::faults::answer_to_find;
+use command_answers::Answer;
 use crate::opening::open;
 use command_words::Target;
 use folder_model::Folder;
@@ -52,8 +53,10 @@ fn listing<F: Folder>(alloc: Global, target: &Target, folder: &mut F) -> Result<
     ensures own { IfErr result (λ answer. IsTrue (is_refusal answer)) }
 {
     let vault = open(alloc, folder, &target.vault, &target.pass)?;
-    let items = list(alloc, folder, &vault, &target.path)?;
-    Ok(text_of(alloc, items.as_slice())?)
+    match list(alloc, folder, &vault, &target.path) {
+        Ok(items) => Ok(text_of(alloc, items.as_slice())?),
+        Err(fault) => Err(answer_to_find(fault)),
+    }
 }
 
 // A line for each item.

@@ -10,7 +10,7 @@ ghost use Rattle.command_words.specs.Written.{AreWritten};
 ghost use Rattle.vault_cli.specs.Migrate.{ComesTo, HasMigrated, IsAskedFor, MayCome, MigratesApart, RefusesTwo, first_overlap, root_of};
 ghost use Rattle.vault_cli.specs.Moving.{Completes, KeepsAll, is_of_stop};
 
-use crate::answer::Answer;
+use command_answers::Answer;
 use crate::moving::{answer_to, print_done, read_passes};
 use crate::places::{do_overlap, overlapping};
 use command_words::Moving;

@@ -6,7 +6,8 @@ ghost use Rattle.vault_cli.specs.Beginning.{RefusesOverlapping};
 ghost use Rattle.vault_cli.specs.Mkdir.{MakesDirectoryApart};
 ghost use Rattle.vault_cli.specs.Places.{overlap};
 
-use crate::answer::{Answer, answer_to_making};
+use crate::faults::answer_to_making;
+use command_answers::Answer;
 use crate::beginning::begin;
 use command_words::Change;
 use folder_model::Folder;

@@ -9,12 +9,13 @@ ghost use Rattle.vault_cli.specs.Beginning.{is_of_beginning};
 ghost use Rattle.vault_cli.specs.Faults.{of_journal, of_move};
 ghost use Rattle.vault_cli.specs.Moving.{FailPasses, done_text, is_of_stop};
 ghost use Rattle.vault_cli.specs.Opening.{IsPhrase};
-ghost use Rattle.vault_cli.specs.Printing.{PrintsText};
+ghost use Rattle.command_answers.specs.Printing.{PrintsText};
 ghost use Rattle.vault_cli.specs.Resume.{IsFoundJournal};
 
-use crate::answer::{Answer, Flaw, Limit};
+use crate::faults::{answer_to_match, answer_to_put, answer_to_walk, difference_of};
+use command_answers::{Answer, Flaw, Limit};
 use crate::opening::read_pass;
-use crate::reporting::print;
+use command_answers::print;
 use crate::{beginning, opening};
 use command_words::{Passes, Resuming};
 use content_writing::PutFault;
@@ -139,15 +140,15 @@ pub(crate) fn answer_to(work: &FPath, root: &FPath, fault: MoveFault) -> Answer
         MoveFault::Journal(fault) => answer_to_journal(work, fault),
         MoveFault::Overlap(first, second) => Answer::Overlap(first, second),
         MoveFault::Load(_, fault) => opening::answer_to(root, fault),
-        MoveFault::Walk(fault) => Answer::from(fault),
+        MoveFault::Walk(fault) => answer_to_walk(fault),
         MoveFault::NotEmpty(at) => Answer::NotEmpty(at),
         MoveFault::NotAllowed(path) => Answer::NotAllowed(path),
         MoveFault::Changed(plan, items, plan_now, items_now) => {
             Answer::Changed(plan, items, plan_now, items_now)
         }
-        MoveFault::Match(fault) => Answer::from(fault),
-        MoveFault::Differ(path, how) => Answer::Differ(path, how),
-        MoveFault::Place(fault) => Answer::from(fault),
+        MoveFault::Match(fault) => answer_to_match(fault),
+        MoveFault::Differ(path, how) => Answer::Differ(path, difference_of(how)),
+        MoveFault::Place(fault) => answer_to_put(fault),
         MoveFault::SourceGone => match work.copy() {
             Ok(work) => Answer::Retired(work),
             Err(_) => Answer::OutOfMemory,

@@ -11,7 +11,7 @@ ghost use Rattle.vault_cli.specs.Refusing.{RefusesLoad, RefusesOpening, RefusesP
 ghost use Rattle.vault_cli.specs.Shown.{is_of_opening};
 ghost use Rattle.vault_spec.specs.Vault.{Loads};
 
-use crate::answer::{Answer, Limit, Named, Refusal};
+use command_answers::{Answer, Limit, Named, Refusal};
 use folder_model::{FPath, Folder};
 use std::alloc::Global;
 use text_model::Bytes;

@@ -8,7 +8,7 @@ ghost use Rattle.vault_cli.specs.Places.{OfFree, OfMissing, overlap};
 ghost use Rattle.vault_cli.specs.Refusing.{Unless};
 ghost use Rattle.vault_cli.specs.Repair.{is_of_moving};
 
-use crate::answer::{Answer, Named};
+use command_answers::{Answer, Named};
 use folder_model::{FPath, Folder, Kind};
 
 // Whether one of the paths begins with the other.

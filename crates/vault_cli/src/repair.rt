@@ -5,14 +5,15 @@ ghost use Rattle.folder_spec.specs.View.{View};
 ghost use Rattle.port_model.specs.Counts.{CountRose};
 ghost use Rattle.vault_spec.specs.Vault.{Either};
 ghost use Rattle.vault_cli.specs.Places.{overlap};
-ghost use Rattle.vault_cli.specs.Printing.{PrintsText};
+ghost use Rattle.command_answers.specs.Printing.{PrintsText};
 ghost use Rattle.vault_cli.specs.Refusing.{Unless};
 ghost use Rattle.vault_cli.specs.Repair.{HasMovedStrays, MovesStrays, OfRepairing, RefusesOverlap, RepairsApart, is_of_moving, is_of_test, moved_line, moved_text};
 
-use crate::answer::Answer;
+use crate::faults::answer_to_check;
+use command_answers::Answer;
 use crate::opening::open;
 use crate::places::{do_overlap, overlapping, test_free};
-use crate::reporting::{print, shown_folder};
+use command_answers::{print, shown_folder};
 use command_words::Repairing;
 use folder_model::{FPath, Folder};
 use port_model::Sink;
@@ -62,7 +63,7 @@ fn move_strays<F: Folder>(
     repaired_vaults_have_no_strays(&vault);
     match vault_check::repair(alloc, folder, &vault, &target.lost) {
         Ok(moved) => Ok(moved),
-        Err(fault) => Err(Answer::from(fault)),
+        Err(fault) => Err(answer_to_check(fault)),
     }
 }
 

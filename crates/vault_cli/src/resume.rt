@@ -13,7 +13,7 @@ ghost use Rattle.vault_cli.specs.Faults.{of_move};
 ghost use Rattle.vault_cli.specs.Moving.{Completes, KeepsAll, is_of_stop};
 ghost use Rattle.vault_cli.specs.Resume.{ComesTo, HasResumed, IsResumedFor, MayCome, Resumes, root_by};
 
-use crate::answer::Answer;
+use command_answers::Answer;
 use crate::moving::{answer_to, learn, print_done};
 use command_words::Resuming;
 use content_writing::PutFault;

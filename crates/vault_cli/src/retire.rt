@@ -8,13 +8,14 @@ ghost use Rattle.retire_core.specs.Faults.{IsRetireFault};
 ghost use Rattle.tree_match.specs.Guard.{Migration};
 ghost use Rattle.vault_cli.specs.Faults.{of_retire};
 ghost use Rattle.vault_cli.specs.Moving.{KeepsAll};
-ghost use Rattle.vault_cli.specs.Printing.{PrintsText};
+ghost use Rattle.command_answers.specs.Printing.{PrintsText};
 ghost use Rattle.vault_cli.specs.Resume.{IsResumedFor};
 ghost use Rattle.vault_cli.specs.Retire.{ComesTo, Completes, IsRetired, MayCome, Retires, is_of_refusal, retired_text, root_by};
 
-use crate::answer::{Answer, Flaw, Limit};
+use crate::faults::{answer_to_match, answer_to_walk, difference_of};
+use command_answers::{Answer, Flaw, Limit};
 use crate::moving::{answer_to_journal, learn, unusable};
-use crate::reporting::print;
+use command_answers::print;
 use crate::{beginning, opening};
 use command_words::Resuming;
 use folder_model::{FPath, Folder};
@@ -98,9 +99,9 @@ pub(crate) fn answer_to(work: &FPath, root: &FPath, fault: RetireFault) -> Answe
         RetireFault::Unfinished => unusable(work, Flaw::Building),
         RetireFault::Overlap(first, second) => Answer::Overlap(first, second),
         RetireFault::Load(_, fault) => opening::answer_to(root, fault),
-        RetireFault::Walk(fault) => Answer::from(fault),
-        RetireFault::Match(fault) => Answer::from(fault),
-        RetireFault::Differ(path, how) => Answer::Differ(path, how),
+        RetireFault::Walk(fault) => answer_to_walk(fault),
+        RetireFault::Match(fault) => answer_to_match(fault),
+        RetireFault::Differ(path, how) => Answer::Differ(path, difference_of(how)),
         RetireFault::Depth => Answer::Limit(Limit::Removal),
         RetireFault::Failed => Answer::FolderFault,
         RetireFault::NoMemory => Answer::OutOfMemory,

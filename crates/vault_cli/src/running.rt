@@ -2,12 +2,13 @@
 ghost use Rattle.std.specs.Prelude.{◌≡◌, ◌↔◌, ◌⊎◌, IsNone, map, string_bytes};
 ghost use Rattle.std.specs.Io.KnownBytes.{Keeps};
 ghost use Rattle.port_model.specs.Counts.{CountRose};
-ghost use Rattle.vault_cli.specs.Answers.{TakesText, line_of, status_of};
+ghost use Rattle.command_answers.specs.Answers.{status_of};
+ghost use Rattle.command_answers.specs.Messages.{TakesText, line_of};
 ghost use Rattle.command_words.specs.Commands.{command_of};
 ghost use Rattle.vault_cli.specs.Runs.{Executes};
 ghost use Rattle.vault_cli.specs.World.{World};
 
-use crate::answer::Answer;
+use command_answers::Answer;
 use crate::cat::cat;
 use crate::decrypt::decrypt_file;
 use crate::demo::demo;
@@ -18,7 +19,7 @@ use crate::migrate::migrate;
 use crate::mkdir::mkdir;
 use crate::put::put;
 use crate::repair::repair;
-use crate::reporting::report;
+use command_answers::report;
 use crate::resume::resume;
 use crate::retire::retire;
 use chunk_files::laws::{files_are_what_they_give, whole_files_end};

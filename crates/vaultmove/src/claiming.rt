@@ -1,11 +1,11 @@
 //! What a run claims of the machine's folder before the command begins.
 
+use command_answers::Answer;
 use command_words::{Claims, claims_of};
 use folder_model::{FPath, FolderFault};
 use host_ports::{Hold, HostFolder, Wanted};
 use move_journal::{Journal, JournalFault, read};
 use std::alloc::{AllocError, Global};
-use vault_cli::Answer;
 
 /// Claims what the command of these words may change. Where a claim isn't had, or what has to be renamed would cross from one file
 /// system to another, the folder changes nothing any more, and the command ends where it would change something.

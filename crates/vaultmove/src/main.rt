@@ -6,12 +6,13 @@ mod streams;
 
 use crate::claiming::claim;
 use crate::streams::{WipedSink, prints_as_it_goes, tell};
+use command_answers::{Answer, report};
 use host_ports::{HostFolder, HostRandoms};
 use port_model::{StdSink, StdSource};
 use std::io::IsTerminal;
 use std::process::ExitCode;
 use std::{env, io};
-use vault_cli::{Answer, report, run};
+use vault_cli::run;
 
 // The status of a run whose folder failed.
 const FOLDER_FAULT: u8 = 4;

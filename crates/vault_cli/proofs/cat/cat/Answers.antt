@@ -7,7 +7,7 @@ use Rattle.vault_spec.specs.Vault.{format_of}
 use Rattle.vault_cli.specs.Cat.{ShowsContent, ShowsFile}
 use Rattle.vault_cli.specs.Finding.{answer_to_finding}
 use Rattle.vault_cli.specs.Shown.{Reads, is_of_damage, is_of_opening, refused}
-use Rattle.vault_cli.specs.declared.answer.Answer.TheVariants.{OutputFault}
+use Rattle.command_answers.specs.declared.answer.Answer.TheVariants.{OutputFault}
 use Rattle.vault_cli.proofs.Contents.{content_is_one, cat_reads, cat_fails, rose_after}
 use Rattle.vault_cli.proofs.Printings.{is_another}
 use Rattle.vault_cli.proofs.Refusals.{unless_opened}
@@ -36,13 +36,13 @@ returns-in-Ok-cat-clause-reads g c =
 pub returns-clause-reads : goal.returns-clause-reads
 returns-clause-reads g c =
     subst (λ answer. Reads (ShowsContent c.args.target.now) answer (g.F.Folder.told c.args.folder.now) (g.F.Folder.told c.cat.new.folder) (g.O.Sink.taken c.args.out.now) (g.O.Sink.taken c.cat.new.out))
-    (sym c.from.ensures)
+    (sym c.answer_to_cat.ensures)
     (cat_reads c.roots_have_one_answer.ensures c.what_is_found_stands.ensures.file c.args.target.now c.in-Ok.vault.root c.in-Ok.vault.vault (Err c.in-Err-cat.fault)
     (g.F.Folder.told c.args.folder.now) (g.F.Folder.told c.open.new.folder) (g.F.Folder.told c.cat.new.folder) (g.O.Sink.taken c.args.out.now) (g.O.Sink.taken c.cat.new.out)
     c.in-Ok.ensures.root c.in-Ok.ensures.told c.in-Err-cat.ensures.told c.in-Ok.ensures.opened c.in-Err-cat.ensures.cats)
 
 pub returns-clause-folder_fault : goal.returns-clause-folder_fault
-returns-clause-folder_fault g c = λ is. elim (cat_fails c.in-Err-cat.fault (sym c.from.ensures ∙ is)) [
+returns-clause-folder_fault g c = λ is. elim (cat_fails c.in-Err-cat.fault (sym c.answer_to_cat.ensures ∙ is)) [
   | inl failed ↦ rose_after (g.F.Folder.faults c.args.folder.now) (g.F.Folder.faults c.open.new.folder) (g.F.Folder.faults c.cat.new.folder)
       c.in-Ok.ensures.grows (c.in-Err-cat.ensures.failed (ap Err failed))
   | inr found ↦ absurd (subst IsCatFault found c.in-Err-cat.ensures.fault)

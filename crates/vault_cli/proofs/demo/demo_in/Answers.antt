@@ -1,6 +1,6 @@
 use Rattle.std.proofs.Common.{arith, sym, ◌∙◌}
 use Rattle.port_model.specs.Counts.{CountRose}
-use Rattle.vault_cli.specs.declared.answer.Answer.TheVariants.{FolderFault, OutputFault}
+use Rattle.command_answers.specs.declared.answer.Answer.TheVariants.{FolderFault, OutputFault}
 use Rattle.vault_cli.specs.Demo.{IsBare, chances_of}
 use Rattle.vault_cli.specs.DemoTrees.{BringsItems, WhereTold}
 use Rattle.vault_cli.proofs.Demonstrations.{demonstration_told}

@@ -3,7 +3,7 @@ use Rattle.std.specs.Io.KnownBytes.{Appends}
 use Rattle.std.proofs.lemmas.List.{append-nil}
 use Rattle.vault_cli.specs.Ls.{ShowsItems}
 use Rattle.vault_cli.proofs.Listings.{items_are_one}
-use Rattle.vault_cli.specs.declared.answer.Answer.TheVariants.{Done, OutputFault}
+use Rattle.command_answers.specs.declared.answer.Answer.TheVariants.{Done, OutputFault}
 use Rattle.vault_cli.specs.Shown.{is_refusal}
 use Rattle.vault_cli.proofs.Printings.{is_another}
 use Rattle.vault_cli.proofs.Showing.{reads_by, reads_refused}

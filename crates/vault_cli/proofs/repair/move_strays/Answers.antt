@@ -3,7 +3,7 @@ use Rattle.folder_spec.specs.Seen.{IsSeen, under}
 use Rattle.vault_spec.specs.Vault.{format_of}
 use Rattle.vault_walk.specs.Surveyed.{IsWithin}
 use Rattle.vault_cli.specs.Repair.{Moved}
-use Rattle.vault_cli.specs.declared.answer.Answer.TheVariants.{Done}
+use Rattle.command_answers.specs.declared.answer.Answer.TheVariants.{Done}
 use Rattle.vault_cli.proofs.Repairs.{has_moved, moves_strays, moving}
 use Rattle.vault_cli.proofs.repair.move_strays.Goals as goal
 

@@ -1,6 +1,6 @@
 use Rattle.std.proofs.Common.{arith, sym, ◌∙◌, map, string_bytes, inl, inr}
 use Rattle.command_words.specs.Commands.{command_of}
-use Rattle.vault_cli.specs.declared.answer.Answer.TheVariants.{FolderFault, InputFault, OutputFault, RandomFault}
+use Rattle.command_answers.specs.declared.answer.Answer.TheVariants.{FolderFault, InputFault, OutputFault, RandomFault}
 use Rattle.vault_cli.proofs.Executions.{reported, reported_as, bad_is_none, none_is_bad, with_status}
 use Rattle.vault_cli.proofs.running.run.Goals as goal
 

@@ -1,2 +1,2 @@
 mod NamingLines
-mod Reports
+pub mod Reports

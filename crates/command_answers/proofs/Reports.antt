@@ -1,11 +1,13 @@
--- Which answers commands may give.
-use Rattle.std.proofs.Common.{◌≡◌, ◌⊎◌, ◌||◌, ℕ, Bool, true, false, IsNone, IsTrue, Option, None, Some, inl, inr, refl, subst, sym, nat_eq, arith}
+-- Which answers commands may give, what is reported of them, and what a status tells of its answer.
+use Rattle.std.proofs.Common.{◌≡◌, ◌≢◌, ◌≤◌, ◌⊎◌, ◌||◌, ◌∙◌, ℕ, Bool, true, false, IsNone, IsTrue, Option, None, Some, inl, inr, refl, ap, subst, sym, nat_eq, arith}
+use Rattle.std.specs.Prelude.{if◌then◌else◌}
 use Rattle.std.proofs.lemmas.Bool.{or_left}
 use Rattle.std.proofs.lemmas.Bool.Decides.{nat_tests}
 use Rattle.command_answers.specs.Answers.{status_of}
 use Rattle.command_answers.specs.Messages.{IsReported}
 use Rattle.command_answers.specs.Rows.{is_among, may_end, may_end_told, row_of}
 use Rattle.command_answers.specs.declared.answer.Answer.{Answer}
+use Rattle.command_answers.specs.declared.answer.Answer.TheVariants.{Done, Findings, BadCommandLine, OutOfMemory, FolderFault, InputFault, OutputFault, RandomFault, Refused, WrongPass, NotFound, WrongKind, DamagedInput, Damaged, NotAllowed, NotClean, Overlap, NotEmpty, Begun, Unusable, Changed, Differ, ZeroRandom, Taken, Limit, Retired}
 use Rattle.command_words.specs.declared.commands.Command.{Command}
 use Rattle.command_words.specs.declared.commands.Command.TheVariants.{DecryptFile, Init, Ls, Cat, Fsck, Mkdir, Put, Repair, Migrate, Resume, Retire, Demo}
 
@@ -63,3 +65,47 @@ none_is_bad status may = by_test (nat_eq 2 status) (nat_eq 3 status) refl refl m
     by_test true three is other may = inl (grind (arith, nat_tests, is))
     by_test false true is other may = inr (grind (arith, nat_tests, other))
     by_test false false is other may = cc
+
+-- ---- what a status tells of its answer
+
+-- a report changes an answer to no other than want of memory
+pub reported_as : (answer result other : Answer) → IsReported answer result → result ≡ other → other ≢ OutOfMemory → answer ≡ other
+reported_as answer result other (inl same) is known = sym same ∙ is
+reported_as answer result other (inr memory) is known = absurd (known (sym is ∙ memory.0))
+
+-- the answer of a status up to 7
+abbrev pub answer_of : ℕ → Answer
+answer_of n =
+    if nat_eq n 1 then Findings else if nat_eq n 2 then BadCommandLine else if nat_eq n 3 then OutOfMemory else if nat_eq n 4 then FolderFault
+    else if nat_eq n 5 then InputFault else if nat_eq n 6 then OutputFault else if nat_eq n 7 then RandomFault else Done
+
+is_answer_of : (answer : Answer) → status_of answer ≤ 7 → answer ≡ answer_of (status_of answer)
+is_answer_of Done few = refl
+is_answer_of Findings few = refl
+is_answer_of BadCommandLine few = refl
+is_answer_of OutOfMemory few = refl
+is_answer_of FolderFault few = refl
+is_answer_of InputFault few = refl
+is_answer_of OutputFault few = refl
+is_answer_of RandomFault few = refl
+is_answer_of (Refused at why) few = absurd (omega (arith, few))
+is_answer_of (WrongPass root) few = absurd (omega (arith, few))
+is_answer_of (NotFound what) few = absurd (omega (arith, few))
+is_answer_of (WrongKind what) few = absurd (omega (arith, few))
+is_answer_of (DamagedInput fault) few = absurd (omega (arith, few))
+is_answer_of (Damaged at how) few = absurd (omega (arith, few))
+is_answer_of (NotAllowed path) few = absurd (omega (arith, few))
+is_answer_of (Overlap first second) few = absurd (omega (arith, few))
+is_answer_of (NotEmpty at) few = absurd (omega (arith, few))
+is_answer_of (Begun work) few = absurd (omega (arith, few))
+is_answer_of ZeroRandom few = absurd (omega (arith, few))
+is_answer_of (Taken at) few = absurd (omega (arith, few))
+is_answer_of (NotClean at number) few = absurd (omega (arith, few))
+is_answer_of (Unusable work why) few = absurd (omega (arith, few))
+is_answer_of (Changed plan items plan' items') few = absurd (omega (arith, few))
+is_answer_of (Differ path how) few = absurd (omega (arith, few))
+is_answer_of (Retired work) few = absurd (omega (arith, few))
+is_answer_of (Limit which) few = absurd (omega (arith, few))
+
+pub with_status : (answer : Answer) (status : ℕ) → status ≤ 7 → status_of answer ≡ status → answer ≡ answer_of status
+with_status answer status few is = is_answer_of answer (omega (arith, few, is)) ∙ ap answer_of is

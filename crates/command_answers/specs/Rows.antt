@@ -1,17 +1,20 @@
--- Which answers a command may give: a row of statuses for each. It gives no other, whatever the folder and the streams do.
+-- Which statuses a command may end with: a row for each. It ends with no other, whatever the folder and the streams do.
 use Rattle.std.specs.Prelude.{ℕ, Bool, ◌==◌, ◌||◌, List, [], ◌∷◌, Option, None, Some}
 use Rattle.std.specs.List.{list_any}
 use Rattle.command_words.specs.declared.commands.Command.{Command}
 use Rattle.command_words.specs.declared.commands.Command.TheVariants.{DecryptFile, Init, Ls, Cat, Fsck, Mkdir, Put, Repair, Migrate, Resume, Retire, Demo}
 
--- The statuses of a command, and those that come only where the folder contradicts itself, which one that tells its state doesn't.
+-- The statuses of a command; and those of it that only a folder may lead to which contradicts itself, as one that tells its state doesn't.
 pub record Row : Type 0 where
   pub statuses : List ℕ
   pub contradicted : List ℕ
 
 -- All may be done, and memory may be refused; the others are these.
+abbrev pub row_but : List ℕ → List ℕ → Row
+row_but contradicted others = record { statuses = 0 ∷ 3 ∷ others; contradicted = contradicted }
+
 abbrev pub row : List ℕ → Row
-row others = record { statuses = 0 ∷ 3 ∷ others; contradicted = [] }
+row others = row_but [] others
 
 abbrev pub row_of : Option Command → Row
 row_of None = record { statuses = 2 ∷ 3 ∷ []; contradicted = [] }
@@ -23,12 +26,9 @@ row_of (Some (Put change)) = row (4 ∷ 5 ∷ 7 ∷ 8 ∷ 9 ∷ 10 ∷ 11 ∷ 12
 row_of (Some (Mkdir change)) = row (4 ∷ 7 ∷ 8 ∷ 9 ∷ 10 ∷ 11 ∷ 12 ∷ 13 ∷ 15 ∷ 16 ∷ 17 ∷ 21 ∷ 22 ∷ 23 ∷ [])
 row_of (Some (Fsck checking)) = row (1 ∷ 4 ∷ 6 ∷ 8 ∷ 9 ∷ 10 ∷ 11 ∷ 23 ∷ [])
 row_of (Some (Repair repairing)) = row (4 ∷ 6 ∷ 8 ∷ 9 ∷ 10 ∷ 11 ∷ 15 ∷ 16 ∷ 23 ∷ [])
-row_of (Some (Migrate moving)) = record {
-  statuses = 0 ∷ 3 ∷ 4 ∷ 6 ∷ 7 ∷ 8 ∷ 9 ∷ 10 ∷ 11 ∷ 12 ∷ 13 ∷ 14 ∷ 15 ∷ 16 ∷ 17 ∷ 21 ∷ 22 ∷ 23 ∷ [];
-  contradicted = 20 ∷ [];
-}
-row_of (Some (Resume resuming)) = row (4 ∷ 6 ∷ 7 ∷ 8 ∷ 9 ∷ 10 ∷ 11 ∷ 12 ∷ 13 ∷ 14 ∷ 15 ∷ 16 ∷ 18 ∷ 19 ∷ 20 ∷ 21 ∷ 22 ∷ 23 ∷ 24 ∷ [])
-row_of (Some (Retire resuming)) = row (4 ∷ 6 ∷ 8 ∷ 9 ∷ 10 ∷ 11 ∷ 12 ∷ 14 ∷ 15 ∷ 16 ∷ 18 ∷ 20 ∷ 23 ∷ [])
+row_of (Some (Migrate moving)) = row_but (20 ∷ []) (4 ∷ 6 ∷ 7 ∷ 8 ∷ 9 ∷ 10 ∷ 11 ∷ 12 ∷ 13 ∷ 14 ∷ 15 ∷ 16 ∷ 17 ∷ 21 ∷ 22 ∷ 23 ∷ [])
+row_of (Some (Resume resuming)) = row_but (17 ∷ []) (4 ∷ 6 ∷ 7 ∷ 8 ∷ 9 ∷ 10 ∷ 11 ∷ 12 ∷ 13 ∷ 14 ∷ 15 ∷ 16 ∷ 18 ∷ 19 ∷ 20 ∷ 21 ∷ 22 ∷ 23 ∷ 24 ∷ [])
+row_of (Some (Retire resuming)) = row_but (17 ∷ []) (4 ∷ 6 ∷ 8 ∷ 9 ∷ 10 ∷ 11 ∷ 12 ∷ 14 ∷ 15 ∷ 16 ∷ 18 ∷ 20 ∷ 23 ∷ [])
 row_of (Some (Demo demonstration)) = row (6 ∷ 21 ∷ 22 ∷ [])
 
 abbrev pub is_among : List ℕ → ℕ → Bool

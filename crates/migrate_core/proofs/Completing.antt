@@ -1,5 +1,5 @@
 -- Where a migration can begin, no test of `begin` fails, and no content stops it.
-use Rattle.std.proofs.Common.{◌≡◌, ◌≢◌, inl, inr, List, [], ◌∷◌, ◌++◌, ℕ, zero, suc, false, length, ◌≤◌, Some, Result, Ok, Err, MatchResult, IfErr, Contains, refl, sym, ap, ◌∙◌, subst, subst₂, arith}
+use Rattle.std.proofs.Common.{◌≡◌, ◌≢◌, inl, inr, List, [], ◌∷◌, ◌++◌, ℕ, zero, suc, Bool, false, length, ◌≤◌, Some, Result, Ok, Err, MatchResult, IfErr, Contains, refl, sym, ap, ◌∙◌, subst, subst₂, arith}
 use Rattle.chunk_files.specs.Reading as reading
 use Rattle.content_writing.specs.declared.fault.PutFault.{PutFault}
 use Rattle.content_writing.specs.declared.fault.PutFault.TheVariants as put
@@ -320,9 +320,9 @@ goes_through one tells g v answer can may begins = if_only answer (begins_met on
 
 -- ---- by the answer
 
-pub own_faults : {Y : Type 0} (answer : Answer Y) (folder random : Type 0) → IfErr answer (Blamed folder random) → IfErr answer IsMoveFault
-own_faults (Ok value) folder random blamed = tt
-own_faults (Err fault) folder random blamed = blamed.own
+pub own_faults : {Y : Type 0} (is_own : MoveFault → Bool) (answer : Answer Y) (folder random : Type 0) → IfErr answer (Blamed is_own folder random) → IfErr answer IsMoveFault
+own_faults is_own (Ok value) folder random blamed = tt
+own_faults is_own (Err fault) folder random blamed = blamed.own
 
 pub folder_chance : (fault : FolderFault) → IsOfChance (of_folder fault)
 folder_chance folder.Failed = tt

@@ -1,6 +1,6 @@
 -- The faults of the calls below, as a migration tells them. That the folder failed or memory was refused is told as such, whichever call
 -- met it.
-use Rattle.std.specs.Prelude.{◌≡◌}
+use Rattle.std.specs.Prelude.{◌≡◌, Bool, true, false, IsTrue}
 use Rattle.content_writing.specs.declared.fault.PutFault.{PutFault}
 use Rattle.content_writing.specs.declared.fault.PutFault.TheVariants as put
 use Rattle.folder_spec.specs.declared.FolderFault.{FolderFault}
@@ -18,7 +18,7 @@ use Rattle.vault_walk.specs.declared.fault.WalkFault.TheVariants as walk
 use Rattle.work_folder.specs.declared.fault.WorkFault.{WorkFault}
 use Rattle.work_folder.specs.declared.fault.WorkFault.TheVariants as work
 use Rattle.migrate_core.specs.declared.fault.MoveFault.{MoveFault}
-use Rattle.migrate_core.specs.declared.fault.MoveFault.TheVariants.{Work, Journal, Load, Walk, Match, Place, Failed, NoMemory}
+use Rattle.migrate_core.specs.declared.fault.MoveFault.TheVariants.{Work, Journal, Load, Walk, Changed, Match, Place, SourceGone, Failed, NoMemory}
 
 abbrev pub of_folder : FolderFault → MoveFault
 of_folder folder.Failed = Failed
@@ -73,9 +73,21 @@ IsMoveFault (Place put.Failed) = ⊥
 IsMoveFault (Place put.NoMemory) = ⊥
 IsMoveFault fault = Unit {0}
 
--- and these two only for a reason
-pub record Blamed (folder random : Type 0) (fault : MoveFault) : Type 0 where
+-- Whether one that begins may answer so: it has read no journal, and tells nothing of one, nor that the source isn't the journal's or is gone.
+abbrev pub is_of_begin : MoveFault → Bool
+is_of_begin (Journal fault) = false
+is_of_begin (Changed plan items plan' items') = false
+is_of_begin SourceGone = false
+is_of_begin fault = true
+
+-- and one that goes on
+abbrev pub is_of_resume : MoveFault → Bool
+is_of_resume fault = true
+
+-- of these, and the folder and the random source are named as failing only for a reason
+pub record Blamed (is_own : MoveFault → Bool) (folder random : Type 0) (fault : MoveFault) : Type 0 where
   pub own : IsMoveFault fault
+  pub may : IsTrue (is_own fault)
   pub failed : fault ≡ Failed → folder
   pub drawn : fault ≡ Place put.Random → random
 

@@ -11,7 +11,7 @@ ghost use Rattle.work_folder.specs.Entering.{EntersAs};
 ghost use Rattle.migrate_core.specs.Causes.{Begins, BeginsApart, BeginsWith, Moves, TestsEmpty, Unless};
 ghost use Rattle.migrate_core.specs.Completing.{CanBegin, IsOfChance};
 ghost use Rattle.migrate_core.specs.Copying.{MayBegin, StayGood};
-ghost use Rattle.migrate_core.specs.Faults.{Blamed, IsOfTest};
+ghost use Rattle.migrate_core.specs.Faults.{Blamed, IsOfTest, is_of_begin};
 ghost use Rattle.migrate_core.specs.Leading.{KeepsGuarded, KeepsSettled, LeadsEach};
 ghost use Rattle.migrate_core.specs.Limits.{StopsElsewhere, EndsBy, IsOfLimit, PassesInTree};
 ghost use Rattle.migrate_core.specs.Moved.{IsTidyWork, Moved, MovesTree, Placed, lacking};
@@ -61,7 +61,7 @@ pub fn begin<F: Folder, R: Randoms>(
     ensures moves { MovesOnly work.now target.now (F.told folder.old) (F.told folder.new) }
     ensures grows { F.faults folder.old ≤ F.faults folder.new }
     ensures random { R.faults random.old ≤ R.faults random.new }
-    ensures blamed { IfErr result (Blamed (CountRose (F.faults folder.old) (F.faults folder.new)) (CountRose (R.faults random.old) (R.faults random.new))) }
+    ensures blamed { IfErr result (Blamed is_of_begin (CountRose (F.faults folder.old) (F.faults folder.new)) (CountRose (R.faults random.old) (R.faults random.new))) }
     ensures cause { (v : View) → IsSeen (F.told folder.old) v → Unless result (Begins source.now target.now work.now source_pass.now target_pass.now v result) }
     ensures written { (v : View) → IsSeen (F.told folder.old) v → MayWriteTree result source.now target.now source_pass.now target_pass.now (R.left random.old) (R.left random.new) (F.told folder.old) (F.told folder.new) }
     ensures completes { (g : Migration) (v : View) → IsSeen (F.told folder.old) v → IsAsked g source.now target.now work.now source_pass.now target_pass.now → CanBegin g v → IfErr result IsOfChance }
@@ -105,7 +105,7 @@ fn begin_settled<F: Folder, R: Randoms>(
     ensures moves { MovesOnly work.now target.now (F.told folder.old) (F.told folder.new) }
     ensures grows { F.faults folder.old ≤ F.faults folder.new }
     ensures random { R.faults random.old ≤ R.faults random.new }
-    ensures blamed { IfErr result (Blamed (CountRose (F.faults folder.old) (F.faults folder.new)) (CountRose (R.faults random.old) (R.faults random.new))) }
+    ensures blamed { IfErr result (Blamed is_of_begin (CountRose (F.faults folder.old) (F.faults folder.new)) (CountRose (R.faults random.old) (R.faults random.new))) }
     ensures cause { (v : View) → IsSeen (F.told folder.old) v → Unless result (BeginsApart source.now target.now work.now source_pass.now target_pass.now v result) }
     ensures too_long { IfErr result (IsOfLimit (PassesInTree source.now target.now source_pass.now target_pass.now (F.told folder.old) (F.told folder.new))) }
     ensures shared { IfErr result (IsOfTaken (SharesInTree source.now target.now source_pass.now target_pass.now (R.left random.old) (R.left random.new) (F.told folder.old) (F.told folder.new))) }
@@ -137,7 +137,7 @@ fn begin_with<F: Folder, R: Randoms>(
     ensures moves { MovesOnly work.now sides.now.target.root (F.told folder.old) (F.told folder.new) }
     ensures grows { F.faults folder.old ≤ F.faults folder.new }
     ensures random { R.faults random.old ≤ R.faults random.new }
-    ensures blamed { IfErr result (Blamed (CountRose (F.faults folder.old) (F.faults folder.new)) (CountRose (R.faults random.old) (R.faults random.new))) }
+    ensures blamed { IfErr result (Blamed is_of_begin (CountRose (F.faults folder.old) (F.faults folder.new)) (CountRose (R.faults random.old) (R.faults random.new))) }
     ensures cause { (v : View) → IsSeen (F.told folder.old) v → Unless result (BeginsWith sides.now.source sides.now.target work.now v result) }
     ensures ends { EndsBy (StayGood sides.now.source sides.now.target (F.told folder.old) (F.told folder.new)) (SharesWhereTidy sides.now.source sides.now.target (R.left random.old) (R.left random.new) (F.told folder.old) (F.told folder.new)) sides.now.source sides.now.target (F.told folder.new) result }
     ensures written { MayWrite result sides.now.source sides.now.target (R.left random.old) (R.left random.new) (F.told folder.old) (F.told folder.new) }
@@ -156,7 +156,7 @@ fn test_empty(items: &[PlanItem]) -> Result<(), MoveFault>
     ensures empty { OnOk result (items.now ≡ []) }
     ensures tested { IfErr result IsOfTest }
     ensures uncompared { IfErr result StopsElsewhere }
-    ensures blamed { IfErr result (Blamed ⊥ ⊥) }
+    ensures blamed { IfErr result (Blamed is_of_begin ⊥ ⊥) }
     ensures cause { Unless result (TestsEmpty items.now result) }
 {
     match items.first() {
@@ -187,7 +187,7 @@ fn move_all<F: Folder, R: Randoms>(
     ensures moves { MovesOnly work.now sides.now.target.root (F.told folder.old) (F.told folder.new) }
     ensures grows { F.faults folder.old ≤ F.faults folder.new }
     ensures random { R.faults random.old ≤ R.faults random.new }
-    ensures blamed { IfErr result (Blamed (CountRose (F.faults folder.old) (F.faults folder.new)) (CountRose (R.faults random.old) (R.faults random.new))) }
+    ensures blamed { IfErr result (Blamed is_of_begin (CountRose (F.faults folder.old) (F.faults folder.new)) (CountRose (R.faults random.old) (R.faults random.new))) }
     ensures cause { (v : View) → IsSeen (F.told folder.old) v → Unless result (Moves (EntersAs v work.now) sides.now.source sides.now.target v plan.now.items result) }
     ensures ends { EndsBy (StayGood sides.now.source sides.now.target (F.told folder.old) (F.told folder.new)) (SharesFrom (IsFilled sides.now.source sides.now.target []) sides.now.target plan.now.items (R.left random.old) (R.left random.new) (F.told folder.old) (F.told folder.new)) sides.now.source sides.now.target (F.told folder.new) result }
     ensures written { WritesBy result sides.now.source sides.now.target (lacked [] plan.now.items) (journal_texts sides.now.source.root sides.now.target.root plan.now.items) (R.left random.old) (R.left random.new) (F.told folder.old) (F.told folder.new) }

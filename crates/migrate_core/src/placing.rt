@@ -11,7 +11,7 @@ ghost use Rattle.vault_write.specs.Making.{is_apart};
 ghost use Rattle.work_folder.specs.Entering.{IsReady};
 ghost use Rattle.migrate_core.specs.Causes.{IsStop, StopsSeen, nothing_stops};
 ghost use Rattle.migrate_core.specs.Copying.{CopiesAll, CopiesMissing, CopiesOne, Enters, HasCopied};
-ghost use Rattle.migrate_core.specs.Faults.{Blamed};
+ghost use Rattle.migrate_core.specs.Faults.{Blamed, is_of_begin};
 ghost use Rattle.migrate_core.specs.Leading.{LeadsEach};
 ghost use Rattle.migrate_core.specs.Limits.{StopsElsewhere, StopsFor};
 ghost use Rattle.migrate_core.specs.Moved.{is_there, lacking};
@@ -52,7 +52,7 @@ pub struct Done {
 pub(crate) fn journal_of(source: &FPath, target: &FPath, plan: &Plan) -> Result<Journal, MoveFault>
     ensures new { IfOk result (λ journal. journal ≡ new_journal source.now target.now plan.now.items) }
     ensures digest { IfOk result (λ journal. IsDigest journal.plan) }
-    ensures blamed { IfErr result (Blamed ⊥ ⊥) }
+    ensures blamed { IfErr result (Blamed is_of_begin ⊥ ⊥) }
     ensures uncompared { IfErr result StopsElsewhere }
     ensures moving { IfErr result (IsStop (Unit {0}) nothing_stops) }
 {
@@ -87,7 +87,7 @@ pub(crate) fn place_missing<F: Folder, R: Randoms>(
     ensures counted { IfOk result (λ placed. IsOrdered there.now → placed ≡ lacking there.now items.now) }
     ensures grows { F.faults folder.old ≤ F.faults folder.new }
     ensures random { R.faults random.old ≤ R.faults random.new }
-    ensures blamed { IfErr result (Blamed (CountRose (F.faults folder.old) (F.faults folder.new)) (CountRose (R.faults random.old) (R.faults random.new))) }
+    ensures blamed { IfErr result (Blamed is_of_begin (CountRose (F.faults folder.old) (F.faults folder.new)) (CountRose (R.faults random.old) (R.faults random.new))) }
     ensures stops { IfErr result (StopsFor (SharesFrom (IsFilled sides.now.source sides.now.target there.now) sides.now.target items.now (R.left random.old) (R.left random.new) (F.told folder.old) (F.told folder.new))) }
     ensures copies { IfOk result (λ placed. CopiesAll sides.now.source sides.now.target there.now items.now (F.told folder.old) (F.told folder.new)) }
     ensures moving { IfErr result (StopsSeen (HasCopied sides.now.source sides.now.target there.now) (F.told folder.old) sides.now.source items.now) }
@@ -130,7 +130,7 @@ fn place_missing_one<F: Folder, R: Randoms>(
     ensures copies { IfOk result (λ placed. CopiesMissing sides.now.source sides.now.target there.now item.now (F.told folder.old) (F.told folder.new)) }
     ensures grows { F.faults folder.old ≤ F.faults folder.new }
     ensures random { R.faults random.old ≤ R.faults random.new }
-    ensures blamed { IfErr result (Blamed (CountRose (F.faults folder.old) (F.faults folder.new)) (CountRose (R.faults random.old) (R.faults random.new))) }
+    ensures blamed { IfErr result (Blamed is_of_begin (CountRose (F.faults folder.old) (F.faults folder.new)) (CountRose (R.faults random.old) (R.faults random.new))) }
     ensures stops { IfErr result (StopsFor (SharesFrom (Lacks sides.now.source sides.now.target item.now) sides.now.target (item.now ∷ []) (R.left random.old) (R.left random.new) (F.told folder.old) (F.told folder.new))) }
     ensures moving { IfErr result (StopsSeen (Enters sides.now.target item.now) (F.told folder.old) sides.now.source (item.now ∷ [])) }
     ensures written { IsOrdered there.now → WritesBy result sides.now.source sides.now.target (lacked there.now (item.now ∷ [])) [] (R.left random.old) (R.left random.new) (F.told folder.old) (F.told folder.new) }
@@ -171,7 +171,7 @@ fn place<F: Folder, R: Randoms>(
     ensures copies { IfOk result (λ placed. CopiesOne sides.now.source sides.now.target item.now (F.told folder.old) (F.told folder.new)) }
     ensures grows { F.faults folder.old ≤ F.faults folder.new }
     ensures random { R.faults random.old ≤ R.faults random.new }
-    ensures blamed { IfErr result (Blamed (CountRose (F.faults folder.old) (F.faults folder.new)) (CountRose (R.faults random.old) (R.faults random.new))) }
+    ensures blamed { IfErr result (Blamed is_of_begin (CountRose (F.faults folder.old) (F.faults folder.new)) (CountRose (R.faults random.old) (R.faults random.new))) }
     ensures stops { IfErr result (StopsFor (SharesFrom (Lacks sides.now.source sides.now.target item.now) sides.now.target (item.now ∷ []) (R.left random.old) (R.left random.new) (F.told folder.old) (F.told folder.new))) }
     ensures moving { IfErr result (StopsSeen (Enters sides.now.target item.now) (F.told folder.old) sides.now.source (item.now ∷ [])) }
     ensures written { WritesBy result sides.now.source sides.now.target (item.now ∷ []) [] (R.left random.old) (R.left random.new) (F.told folder.old) (F.told folder.new) }
@@ -209,7 +209,7 @@ fn place_content<F: Folder, R: Randoms>(
     ensures copies { IfOk result (λ placed. CopiesOne sides.now.source sides.now.target item.now (F.told folder.old) (F.told folder.new)) }
     ensures grows { F.faults folder.old ≤ F.faults folder.new }
     ensures random { R.faults random.old ≤ R.faults random.new }
-    ensures blamed { IfErr result (Blamed (CountRose (F.faults folder.old) (F.faults folder.new)) (CountRose (R.faults random.old) (R.faults random.new))) }
+    ensures blamed { IfErr result (Blamed is_of_begin (CountRose (F.faults folder.old) (F.faults folder.new)) (CountRose (R.faults random.old) (R.faults random.new))) }
     ensures stops { IfErr result (StopsFor (SharesFrom (Lacks sides.now.source sides.now.target item.now) sides.now.target (item.now ∷ []) (R.left random.old) (R.left random.new) (F.told folder.old) (F.told folder.new))) }
     ensures moving { IfErr result (StopsSeen (Enters sides.now.target item.now) (F.told folder.old) sides.now.source (item.now ∷ [])) }
     ensures written { WritesBy result sides.now.source sides.now.target (item.now ∷ []) [] (R.left random.old) (R.left random.new) (F.told folder.old) (F.told folder.new) }

@@ -12,7 +12,7 @@ ghost use Rattle.work_folder.specs.Entering.{Empties};
 ghost use Rattle.migrate_core.specs.Causes.{Moves, Resumes, ResumesTold, ResumesWith, TestsItems, TestsMatch, TestsSource, TestsTold, Unless, is_done, where_in};
 ghost use Rattle.migrate_core.specs.Completing.{CanResume, IsOfChance};
 ghost use Rattle.migrate_core.specs.Copying.{MayBegin, StayGood};
-ghost use Rattle.migrate_core.specs.Faults.{Blamed, IsOfTest};
+ghost use Rattle.migrate_core.specs.Faults.{Blamed, IsOfTest, is_of_resume};
 ghost use Rattle.migrate_core.specs.Leading.{KeepsGuarded, KeepsSettled, LeadsTold, progress_of};
 ghost use Rattle.migrate_core.specs.Limits.{StopsElsewhere, EndsBy, IsOfLimit, PassesAsTold, PassesInTree, PassesSeen};
 ghost use Rattle.migrate_core.specs.Moved.{done_of, Moved, MovesTold, MovesTree, Placed, lacking};
@@ -59,7 +59,7 @@ pub fn resume<F: Folder, R: Randoms>(
     ensures moved { IfOk result (λ done. (v : View) → IsSeen (F.told folder.old) v → MovesTold work.now source_pass.now target_pass.now done (F.told folder.old) (F.told folder.new) v) }
     ensures grows { F.faults folder.old ≤ F.faults folder.new }
     ensures random { R.faults random.old ≤ R.faults random.new }
-    ensures blamed { IfErr result (Blamed (CountRose (F.faults folder.old) (F.faults folder.new)) (CountRose (R.faults random.old) (R.faults random.new))) }
+    ensures blamed { IfErr result (Blamed is_of_resume (CountRose (F.faults folder.old) (F.faults folder.new)) (CountRose (R.faults random.old) (R.faults random.new))) }
     ensures cause { (v : View) → IsSeen (F.told folder.old) v → Unless result (Resumes work.now source_pass.now target_pass.now v result) }
     ensures written { (v : View) → IsSeen (F.told folder.old) v → MayWriteTold result work.now source_pass.now target_pass.now (R.left random.old) (R.left random.new) (F.told folder.old) (F.told folder.new) v }
     ensures completes { (g : Migration) (v : View) → IsSeen (F.told folder.old) v → IsResumed g work.now source_pass.now target_pass.now → CanResume g v → IfErr result IsOfChance }
@@ -87,7 +87,7 @@ fn resume_settled<F: Folder, R: Randoms>(
     ensures moved { IfOk result (λ done. (v : View) → IsSeen (F.told folder.old) v → MovesTold work.now source_pass.now target_pass.now done (F.told folder.old) (F.told folder.new) v) }
     ensures grows { F.faults folder.old ≤ F.faults folder.new }
     ensures random { R.faults random.old ≤ R.faults random.new }
-    ensures blamed { IfErr result (Blamed (CountRose (F.faults folder.old) (F.faults folder.new)) (CountRose (R.faults random.old) (R.faults random.new))) }
+    ensures blamed { IfErr result (Blamed is_of_resume (CountRose (F.faults folder.old) (F.faults folder.new)) (CountRose (R.faults random.old) (R.faults random.new))) }
     ensures cause { (v : View) → IsSeen (F.told folder.old) v → Unless result (Resumes work.now source_pass.now target_pass.now v result) }
     ensures too_long { (v : View) → IsSeen (F.told folder.old) v → IfErr result (IsOfLimit (PassesAsTold work.now source_pass.now target_pass.now (F.told folder.old) (F.told folder.new) v)) }
     ensures written { (v : View) → IsSeen (F.told folder.old) v → MayWriteTold result work.now source_pass.now target_pass.now (R.left random.old) (R.left random.new) (F.told folder.old) (F.told folder.new) v }
@@ -136,7 +136,7 @@ fn resume_told<F: Folder, R: Randoms>(
     ensures moved { IfOk result (λ done. MovesTree journal.source journal.target work.now source_pass.now target_pass.now done (F.told folder.old) (F.told folder.new)) }
     ensures grows { F.faults folder.old ≤ F.faults folder.new }
     ensures random { R.faults random.old ≤ R.faults random.new }
-    ensures blamed { IfErr result (Blamed (CountRose (F.faults folder.old) (F.faults folder.new)) (CountRose (R.faults random.old) (R.faults random.new))) }
+    ensures blamed { IfErr result (Blamed is_of_resume (CountRose (F.faults folder.old) (F.faults folder.new)) (CountRose (R.faults random.old) (R.faults random.new))) }
     ensures cause { (v : View) → IsSeen (F.told folder.old) v → Unless result (ResumesTold work.now source_pass.now target_pass.now v journal result) }
     ensures too_long { IfErr result (IsOfLimit (PassesInTree journal.source journal.target source_pass.now target_pass.now (F.told folder.old) (F.told folder.new))) }
     ensures written { (v : View) → IsSeen (F.told folder.old) v → MayWriteTree result journal.source journal.target source_pass.now target_pass.now (R.left random.old) (R.left random.new) (F.told folder.old) (F.told folder.new) }
@@ -164,7 +164,7 @@ fn test_source<F: Folder>(folder: &mut F, journal: &Journal, work: &FPath) -> Re
     ensures grows { F.faults folder.old ≤ F.faults folder.new }
     ensures tested { IfErr result IsOfTest }
     ensures uncompared { IfErr result StopsElsewhere }
-    ensures blamed { IfErr result (Blamed (CountRose (F.faults folder.old) (F.faults folder.new)) ⊥) }
+    ensures blamed { IfErr result (Blamed is_of_resume (CountRose (F.faults folder.old) (F.faults folder.new)) ⊥) }
     ensures cause { (v : View) → IsSeen (F.told folder.old) v → Unless result (TestsSource journal.now.phase work.now journal.now.source v result) }
 {
     if journal.phase == Phase::Building {
@@ -197,7 +197,7 @@ fn resume_with<F: Folder, R: Randoms>(
     ensures moves { MovesOnly work.now sides.now.target.root (F.told folder.old) (F.told folder.new) }
     ensures grows { F.faults folder.old ≤ F.faults folder.new }
     ensures random { R.faults random.old ≤ R.faults random.new }
-    ensures blamed { IfErr result (Blamed (CountRose (F.faults folder.old) (F.faults folder.new)) (CountRose (R.faults random.old) (R.faults random.new))) }
+    ensures blamed { IfErr result (Blamed is_of_resume (CountRose (F.faults folder.old) (F.faults folder.new)) (CountRose (R.faults random.old) (R.faults random.new))) }
     ensures cause { (v : View) → IsSeen (F.told folder.old) v → Unless result (ResumesWith sides.now.source sides.now.target work.now journal v result) }
     ensures ends { EndsBy (StayGood sides.now.source sides.now.target (F.told folder.old) (F.told folder.new)) (Unit {0}) sides.now.source sides.now.target (F.told folder.new) result }
     ensures written { (v : View) → IsSeen (F.told folder.old) v → MayWrite result sides.now.source sides.now.target (R.left random.old) (R.left random.new) (F.told folder.old) (F.told folder.new) }
@@ -227,7 +227,7 @@ fn test_plans<F: Folder>(
     ensures named { OnOk result (AreTold journal.now plans.now.source.items) }
     ensures tested { IfErr result IsOfTest }
     ensures limit { IfErr result (PassesSeen sides.now.source sides.now.target (F.told folder.old)) }
-    ensures blamed { IfErr result (Blamed (CountRose (F.faults folder.old) (F.faults folder.new)) ⊥) }
+    ensures blamed { IfErr result (Blamed is_of_resume (CountRose (F.faults folder.old) (F.faults folder.new)) ⊥) }
     ensures cause { (v : View) → IsSeen (F.told folder.old) v → Unless result (TestsItems sides.now.source sides.now.target journal.now v plans.now.source.items plans.now.target.items (λ answer. answer ≡ Ok tt) result) }
 {
     test_changed(journal, plans)?;
@@ -240,7 +240,7 @@ fn test_changed(journal: &Journal, plans: &Plans) -> Result<(), MoveFault>
     ensures told { OnOk result (AreTold journal.now plans.now.source.items) }
     ensures tested { IfErr result IsOfTest }
     ensures uncompared { IfErr result StopsElsewhere }
-    ensures blamed { IfErr result (Blamed ⊥ ⊥) }
+    ensures blamed { IfErr result (Blamed is_of_resume ⊥ ⊥) }
     ensures cause { Unless result (TestsTold journal.now plans.now.source.items result) }
 {
     let digest = plan_digest(&plans.source)?;
@@ -264,7 +264,7 @@ fn test_held<F: Folder>(
     ensures grows { F.faults folder.old ≤ F.faults folder.new }
     ensures tested { IfErr result IsOfTest }
     ensures limit { IfErr result (PassesSeen sides.now.source sides.now.target (F.told folder.old)) }
-    ensures blamed { IfErr result (Blamed (CountRose (F.faults folder.old) (F.faults folder.new)) ⊥) }
+    ensures blamed { IfErr result (Blamed is_of_resume (CountRose (F.faults folder.old) (F.faults folder.new)) ⊥) }
     ensures cause { (v : View) → IsSeen (F.told folder.old) v → Unless result (TestsMatch sides.now.target plans.now.target.items sides.now.source plans.now.source.items v (λ answer. answer ≡ Ok tt) result) }
 {
     match holds_all(
@@ -317,7 +317,7 @@ fn place_rest<F: Folder, R: Randoms>(
     ensures moves { MovesOnly work.now sides.now.target.root (F.told folder.old) (F.told folder.new) }
     ensures grows { F.faults folder.old ≤ F.faults folder.new }
     ensures random { R.faults random.old ≤ R.faults random.new }
-    ensures blamed { IfErr result (Blamed (CountRose (F.faults folder.old) (F.faults folder.new)) (CountRose (R.faults random.old) (R.faults random.new))) }
+    ensures blamed { IfErr result (Blamed is_of_resume (CountRose (F.faults folder.old) (F.faults folder.new)) (CountRose (R.faults random.old) (R.faults random.new))) }
     ensures cause { (v : View) → IsSeen (F.told folder.old) v → Unless result (Moves (Empties v work.now) sides.now.source sides.now.target v plans.now.source.items result) }
     ensures ends { EndsBy (StayGood sides.now.source sides.now.target (F.told folder.old) (F.told folder.new)) (Unit {0}) sides.now.source sides.now.target (F.told folder.new) result }
     ensures written { (v : View) → IsSeen (F.told folder.old) v → WritesBy result sides.now.source sides.now.target (lacked plans.now.target.items plans.now.source.items) (journal_text (done_of journal) ∷ []) (R.left random.old) (R.left random.new) (F.told folder.old) (F.told folder.new) }

@@ -7,7 +7,7 @@ ghost use Rattle.tree_match.specs.Guard.{AreApart};
 ghost use Rattle.vault_spec.specs.Making.{Allows};
 ghost use Rattle.vault_spec.specs.Vault.{IsVault, format_of};
 ghost use Rattle.migrate_core.specs.Causes.{ForbidsLast, RefusesBoth, RefusesLoad, RefusesWalk, RefusesWalks, TestsApart, TestsNames, TestsPair, Unless, Walks};
-ghost use Rattle.migrate_core.specs.Faults.{Blamed, IsOfTest};
+ghost use Rattle.migrate_core.specs.Faults.{Blamed, IsOfTest, is_of_begin};
 ghost use Rattle.migrate_core.specs.Limits.{StopsElsewhere};
 ghost use Rattle.migrate_core.specs.declared.fault.MoveFault.TheVariants.{NoMemory};
 ghost use Rattle.migrate_core.specs.Sides.{AllowsEach, AllowsLast, AreSeparate, IsWalked};
@@ -51,7 +51,7 @@ pub(crate) fn load_both<F: Folder>(
     ensures grows { F.faults folder.old ≤ F.faults folder.new }
     ensures tested { IfErr result IsOfTest }
     ensures uncompared { IfErr result StopsElsewhere }
-    ensures blamed { IfErr result (Blamed (CountRose (F.faults folder.old) (F.faults folder.new)) ⊥) }
+    ensures blamed { IfErr result (Blamed is_of_begin (CountRose (F.faults folder.old) (F.faults folder.new)) ⊥) }
     ensures cause { IfErr result (λ fault. (v : View) → IsSeen (F.told folder.old) v → RefusesBoth v source.now target.now source_pass.now target_pass.now fault) }
 {
     let source = load(alloc, folder, Side::Source, source, source_pass)?;
@@ -72,7 +72,7 @@ fn load<F: Folder>(
     ensures grows { F.faults folder.old ≤ F.faults folder.new }
     ensures tested { IfErr result IsOfTest }
     ensures uncompared { IfErr result StopsElsewhere }
-    ensures blamed { IfErr result (Blamed (CountRose (F.faults folder.old) (F.faults folder.new)) ⊥) }
+    ensures blamed { IfErr result (Blamed is_of_begin (CountRose (F.faults folder.old) (F.faults folder.new)) ⊥) }
     ensures cause { IfErr result (λ fault. (v : View) → IsSeen (F.told folder.old) v → RefusesLoad side v root.now pass.now fault) }
 {
     match Vault::load(alloc, folder, root, pass) {
@@ -95,7 +95,7 @@ pub(crate) fn walk_both<F: Folder>(
     ensures grows { F.faults folder.old ≤ F.faults folder.new }
     ensures tested { IfErr result IsOfTest }
     ensures uncompared { IfErr result StopsElsewhere }
-    ensures blamed { IfErr result (Blamed (CountRose (F.faults folder.old) (F.faults folder.new)) ⊥) }
+    ensures blamed { IfErr result (Blamed is_of_begin (CountRose (F.faults folder.old) (F.faults folder.new)) ⊥) }
     ensures passed_source { IfOk result (λ plans. (v : View) → IsSeen (F.told folder.old) v → Walks sides.now.source v (Ok plans.source.items)) }
     ensures passed_target { IfOk result (λ plans. (v : View) → IsSeen (F.told folder.old) v → Walks sides.now.target v (Ok plans.target.items)) }
     ensures cause { IfErr result (λ fault. (v : View) → IsSeen (F.told folder.old) v → RefusesWalks sides.now.source sides.now.target v fault) }
@@ -116,7 +116,7 @@ pub(crate) fn walk_one<F: Folder>(
     ensures grows { F.faults folder.old ≤ F.faults folder.new }
     ensures tested { IfErr result IsOfTest }
     ensures uncompared { IfErr result StopsElsewhere }
-    ensures blamed { IfErr result (Blamed (CountRose (F.faults folder.old) (F.faults folder.new)) ⊥) }
+    ensures blamed { IfErr result (Blamed is_of_begin (CountRose (F.faults folder.old) (F.faults folder.new)) ⊥) }
     ensures passed { IfOk result (λ plan. (v : View) → IsSeen (F.told folder.old) v → Walks vault.now v (Ok plan.items)) }
     ensures cause { IfErr result (λ fault. (v : View) → IsSeen (F.told folder.old) v → RefusesWalk vault.now v fault) }
 {
@@ -128,7 +128,7 @@ pub(crate) fn test_apart(source: &FPath, target: &FPath, work: &FPath) -> Result
     ensures apart { OnOk result (AreSeparate source.now target.now work.now) }
     ensures tested { IfErr result IsOfTest }
     ensures uncompared { IfErr result StopsElsewhere }
-    ensures blamed { IfErr result (Blamed ⊥ ⊥) }
+    ensures blamed { IfErr result (Blamed is_of_begin ⊥ ⊥) }
     ensures cause { Unless result (TestsApart source.now target.now work.now result) }
 {
     test_pair(source, target)?;
@@ -140,7 +140,7 @@ fn test_pair(first: &FPath, second: &FPath) -> Result<(), MoveFault>
     ensures apart { OnOk result (AreApart first.now second.now) }
     ensures tested { IfErr result IsOfTest }
     ensures uncompared { IfErr result StopsElsewhere }
-    ensures blamed { IfErr result (Blamed ⊥ ⊥) }
+    ensures blamed { IfErr result (Blamed is_of_begin ⊥ ⊥) }
     ensures cause { Unless result (TestsPair first.now second.now result) }
 {
     if first.starts_with(second) || second.starts_with(first) {
@@ -154,7 +154,7 @@ pub(crate) fn test_names(vault: &Vault, items: &[PlanItem]) -> Result<(), MoveFa
     ensures allowed { OnOk result (AllowsEach (format_of vault.now.vault) items.now) }
     ensures tested { IfErr result IsOfTest }
     ensures uncompared { IfErr result StopsElsewhere }
-    ensures blamed { IfErr result (Blamed ⊥ ⊥) }
+    ensures blamed { IfErr result (Blamed is_of_begin ⊥ ⊥) }
     ensures cause { Unless result (TestsNames (format_of vault.now.vault) items.now result) }
 {
     for item in items {
@@ -168,7 +168,7 @@ fn test_name(vault: &Vault, path: &PlainPath) -> Result<(), MoveFault>
     ensures allowed { OnOk result (AllowsLast (format_of vault.now.vault) path.now) }
     ensures tested { IfErr result IsOfTest }
     ensures uncompared { IfErr result StopsElsewhere }
-    ensures blamed { IfErr result (Blamed ⊥ ⊥) }
+    ensures blamed { IfErr result (Blamed is_of_begin ⊥ ⊥) }
     ensures forbids { IfErr result (λ fault. (fault ≡ NoMemory) ⊎ (ForbidsLast (format_of vault.now.vault) path.now × (fault ≡ MoveFault.NotAllowed path.now))) }
 {
     match path.names().split_last() {
@@ -182,7 +182,7 @@ fn allow(vault: &Vault, path: &PlainPath, name: &Name) -> Result<(), MoveFault>
     ensures allowed { OnOk result (Allows (format_of vault.now.vault) name.now) }
     ensures tested { IfErr result IsOfTest }
     ensures uncompared { IfErr result StopsElsewhere }
-    ensures blamed { IfErr result (Blamed ⊥ ⊥) }
+    ensures blamed { IfErr result (Blamed is_of_begin ⊥ ⊥) }
     ensures forbids { IfErr result (λ fault. (fault ≡ NoMemory) ⊎ ((¬ Allows (format_of vault.now.vault) name.now) × (fault ≡ MoveFault.NotAllowed path.now))) }
 {
     if vault.kind() == VaultKind::Cryptomator && !name.is_nfc()? {

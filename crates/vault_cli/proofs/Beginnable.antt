@@ -8,7 +8,7 @@ use Rattle.folder_spec.specs.Seen.{IsSeen, seen, under}
 use Rattle.folder_spec.specs.State.{IsSound}
 use Rattle.folder_spec.specs.View.{View}
 use Rattle.migrate_core.specs.Completing.{CanBegin, IsOfChance}
-use Rattle.migrate_core.specs.Faults.{Blamed}
+use Rattle.migrate_core.specs.Faults.{Blamed, is_of_begin}
 use Rattle.migrate_core.specs.Limits.{HasSmallContents, IsOfLimit, PassesInTree, PassesLimit}
 use Rattle.migrate_core.specs.Copying.{tree_in}
 use Rattle.migrate_core.specs.Moved.{opened_in}
@@ -47,7 +47,7 @@ SmallPass = (from to : OpenedVault) (v : View) (at : Path) → HasOwnFolders fro
 
 -- what `begin` says of the fault with which it stops, between these roots
 pub record StopsAt (from to work : Path) (fault : MoveFault) (f f' r r' : ℕ) (s s' : Option ByteStream) (t t' : Option Told) : Type 0 where
-  pub blamed : Blamed (CountRose f f') (CountRose r r') fault
+  pub blamed : Blamed is_of_begin (CountRose f f') (CountRose r r') fault
   pub completes : (g : Migration) (v : View) → IsSeen t v → IsAsked g from to work phrase phrase → CanBegin g v → IsOfChance fault
   pub too_long : IsOfLimit (PassesInTree from to phrase phrase t t') fault
   pub written : (v : View) → IsSeen t v → MayWriteTree {T = Done} (Err fault) from to phrase phrase s s' t t'

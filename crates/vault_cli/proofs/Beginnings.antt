@@ -114,8 +114,8 @@ none_drawn None = tt
 none_drawn (Some s) = λ place. refl
 
 -- a command for which there was no memory at first
-pub not_begun_at : (work : Path) (t : Option Told) (stream : Option ByteStream) → EndsBefore work OutOfMemory t t stream stream
-not_begun_at work t stream = record { own = refl; changes = unchanged_work work t t stream refl (none_drawn stream) }
+pub not_begun_at : (is_own : Answer → Bool) → IsTrue (is_own OutOfMemory) → (work : Path) (t : Option Told) (stream : Option ByteStream) → EndsBefore is_own work OutOfMemory t t stream stream
+not_begun_at is_own own work t stream = record { own = own; changes = unchanged_work work t t stream refl (none_drawn stream) }
 
 -- a beginning and what follows are one
 pub begun_then : (work : Path) (R S : Told → Told → Type 0) (t u w : Option Told) → ((a : Told) → t ≡ Some a → IsSound a.state) → ((a b c : Told) → IsSound a.state → Begins work a b → R b c → S a c)

@@ -1,19 +1,16 @@
 -- What `decrypt-file` did, from what its parts say.
-use Rattle.std.proofs.Common.{◌≡◌, ℕ, zero, ◌+◌, false, List, [], length, take, Some, inl, inr, refl, sym, ap, ◌∙◌, subst, arith}
+use Rattle.std.proofs.Common.{◌≡◌, ℕ, zero, ◌+◌, List, [], Some, inl, inr, refl, sym, ap, ◌∙◌, subst, arith}
 use Rattle.std.specs.Prelude.{◌⊎◌, IfSome, IsTrue, Option}
 use Rattle.std.specs.List.{concat}
-use Rattle.std.specs.Io.KnownBytes.{Appends, IsAtEnd}
+use Rattle.std.specs.Io.KnownBytes.{IsAtEnd}
 use Rattle.std.proofs.KnownBytes.{Appends-nil, Consumes-nil}
-use Rattle.std.proofs.Math.Seq.{take-length}
 use Rattle.chunk_files.specs.FileOf.{FilesAreWhatTheyGive, WholeFilesEnd}
 use Rattle.chunk_files.specs.Reading.{Reading}
 use Rattle.chunk_files.specs.declared.fault.ChunkFault.{ChunkFault}
-use Rattle.command_answers.specs.Messages.{is_plain}
 use Rattle.vault_cli.specs.DecryptFile.{DecryptsFile, IsCutOff, answer_to_end, end_of}
 use Rattle.vault_cli.specs.Decrypts.{TakesNear, TellsOf, Writes, input_reading}
 use Rattle.vault_cli.specs.Inputs.{TakesAtMost, input_limit}
 use Rattle.vault_cli.specs.World.{World}
-use Rattle.command_answers.specs.declared.answer.Answer.{Answer}
 use Rattle.command_answers.specs.declared.answer.Answer.TheVariants as answers
 use Rattle.vault_cli.specs.declared.decrypt.DecryptEnd.{DecryptEnd}
 use Rattle.vault_cli.specs.declared.decrypt.DecryptEnd.TheVariants.{Done, OutOfMemory, InputFault, OutputFault, Damaged, TooLong}
@@ -81,32 +78,4 @@ decrypts_nothing key w = record {
   takes = ([], omega arith, Consumes-nil w.left);
   near = λ which input is. absurd (elim which [ inl output ↦ cc | inr damaged ↦ let clash : OutOfMemory ≡ Damaged damaged.0 = damaged.1 in cc ]);
   unchanged = refl;
-}
-
--- all chunks are the first ones
-all_written : (reading : Reading) (taken taken' : Option (List ℕ)) → Appends taken taken' (concat reading.chunks) → (k : ℕ) × Appends taken taken' (concat (take k reading.chunks))
-all_written reading taken taken' wrote = (length reading.chunks, subst (λ cs. Appends taken taken' (concat cs)) (sym (take-length reading.chunks)) wrote)
-
-written_lost : (end : DecryptEnd) (reading : Reading) (taken taken' : Option (List ℕ)) → is_plain (answer_to_end end) ≡ false → Writes end reading taken taken' → Writes OutOfMemory reading taken taken'
-written_lost Done reading taken taken' named writes = cc
-written_lost OutOfMemory reading taken taken' named writes = cc
-written_lost InputFault reading taken taken' named writes = cc
-written_lost OutputFault reading taken taken' named writes = cc
-written_lost (Damaged fault) reading taken taken' named writes = all_written reading taken taken' writes
-written_lost TooLong reading taken taken' named writes = all_written reading taken taken' writes
-
--- an end whose message found no memory
-pub decryption_lost : (key : List ℕ) (answer : Answer) (before after : World) → is_plain answer ≡ false → DecryptsFile key answer before after → DecryptsFile key answers.OutOfMemory before after
-decryption_lost key answer before after named did = record {
-  end = OutOfMemory;
-  is = refl;
-  tells = λ input is. tt;
-  writes = λ input is. written_lost did.end (input_reading key input) before.taken after.taken (subst (λ a. is_plain a ≡ false) did.is named) (did.writes input is);
-  decided = λ input is. inr (inr (inr refl));
-  decrypted = λ done input is. cc;
-  whole_files = λ input content is within file. inr (inr (inr refl));
-  ended = λ done. cc;
-  takes = did.takes;
-  near = λ which input is. absurd (elim which [ inl output ↦ cc | inr damaged ↦ let clash : OutOfMemory ≡ Damaged damaged.0 = damaged.1 in cc ]);
-  unchanged = did.unchanged;
 }

@@ -358,20 +358,3 @@ demonstration_told c B seed count answer result taken taken' (inl same) own ends
 demonstration_told c B seed count answer result taken taken' (inr memory) own ends prints =
     subst (λ a. IsTrue (is_of_demonstration a) × EndsSo c a × PrintsDemonstration c B seed count a taken taken') (sym memory.0)
     (refl, memory_ends c, (prints.0, prints.1, takes_lost answer taken taken' (made_text seed count ++ way_text prints.0) memory.1 prints.2, λ same. cc))
-
--- its message found no memory
-pub demonstration_lost : (demonstration : Demonstration) (answer : Answer) (before after : World) → is_plain answer ≡ false → Demonstrates demonstration answer before after → Demonstrates demonstration OutOfMemory before after
-demonstration_lost demonstration answer before after named did = record {
-  own = refl;
-  steady = λ same. cc;
-  told = did.told;
-  ends = memory_ends (chances_of ⊥ (Unit {0}) demonstration.seed demonstration.count (Some new_told) did.told);
-  prints = (did.prints.0, did.prints.1, takes_lost answer before.taken after.taken (made_text demonstration.seed demonstration.count ++ way_text did.prints.0) named did.prints.2, λ same. cc);
-  unchanged = did.unchanged;
-  untouched = did.untouched;
-  undrawn = did.undrawn;
-}
-
--- it is a command
-pub no_bad_demonstration : (demonstration : Demonstration) (answer : Answer) (before after : World) → answer ≡ BadCommandLine → ¬ Demonstrates demonstration answer before after
-no_bad_demonstration demonstration answer before after bad did = let none : IsTrue (is_of_demonstration BadCommandLine) = subst (λ a. IsTrue (is_of_demonstration a)) bad did.own in cc

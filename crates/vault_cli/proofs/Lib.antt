@@ -27,3 +27,5 @@ mod Steps
 mod Movable
 mod Beginnable
 mod SharedPlaces
+mod Rows
+mod ToldRows

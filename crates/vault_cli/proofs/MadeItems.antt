@@ -1,5 +1,5 @@
 -- An item is made in a vault after the work folder was made ready.
-use Rattle.std.proofs.Common.{◌≡◌, ◌⊎◌, zero, suc, ℕ, Bool, true, false, List, [], ◌∷◌, Option, Some, Result, Ok, Err, OnOk, IfErr, inl, inr, refl, sym, ap, ◌∙◌, subst, arith, IsTrue}
+use Rattle.std.proofs.Common.{◌≡◌, ◌⊎◌, zero, suc, ℕ, Bool, true, false, List, [], ◌∷◌, Option, Some, Result, Ok, Err, OnOk, IfErr, inl, inr, refl, sym, ap, subst, arith, IsTrue}
 use Rattle.std.specs.Prelude.{Contains}
 use Rattle.std.proofs.KnownBytes.{Keeps-refl}
 use Rattle.content_writing.specs.Content.{Ending, Whole}
@@ -21,29 +21,26 @@ use Rattle.vault_read.specs.Opened.{OpenedVault}
 use Rattle.vault_read.specs.declared.fault.FindFault.{FindFault}
 use Rattle.vault_read.specs.declared.fault.FindFault.TheVariants as finds
 use Rattle.vault_spec.specs.Making.{NewItem, NewDirectory}
-use Rattle.vault_spec.specs.Standing.{Standing, Absent, Strange, File, Dir, standing}
 use Rattle.vault_spec.specs.Vault.{Vault, Either}
-use Rattle.vault_write.specs.Calls.{How, New, InPlace, making_by, AnswersBy, AnswersRoot, MakesOne, MakesAt, MakesDirectory}
+use Rattle.vault_write.specs.Calls.{How, New, making_by, AnswersBy, MakesOne, MakesAt, MakesDirectory}
 use Rattle.vault_write.specs.Faults.{IsDirectoryFault}
 use Rattle.vault_write.specs.Making.{Placing, Making, format, path_of, is_elsewhere, StagesOrPlaces}
 use Rattle.vault_write.specs.Placing.{ShowsOne, ShowsNewTree, IsMaking, EndsAs, making_at}
-use Rattle.vault_write.specs.Refusing.{AnswersPutBy}
 use Rattle.vault_write.specs.Trees.{KeepsTree, GainsItem, opens_as}
 use Rattle.work_folder.specs.Entering.{EntersAs}
 use Rattle.vault_cli.proofs.Beginnings.{Alike, Begins, Outside, apart_of_both, apart_of_unstaged, as_before_in, as_before_then, begun_then, none_drawn, not_begun_at, same_under, seen_after, seen_alike, went_alone, work_alone}
 use Rattle.vault_cli.proofs.Refusals.{pass_gives, site_then, unless_then}
-use Rattle.command_answers.specs.Messages.{is_plain}
-use Rattle.vault_cli.specs.Beginning.{IsBeginning, ChangesWork, EndsBefore, OfSite, OfWork, RefusesOverlapping, is_of_beginning}
+use Rattle.vault_cli.specs.Beginning.{IsBeginning, ChangesWork, OfSite, OfWork, RefusesOverlapping, is_of_beginning}
 use Rattle.vault_cli.specs.Faults.{answer_to_making, of_find}
 use Rattle.vault_cli.specs.Items.{ShowsOneBeside, ShowsNewTreeBeside, IsMakingBeside, MakesNamed, MakesItem, MakesIn}
-use Rattle.vault_cli.specs.Mkdir.{MakesDirectoryThere, MakesDirectoryApart, MakesDirectoryIn, is_of_directory}
+use Rattle.vault_cli.specs.Mkdir.{MakesDirectoryApart, MakesDirectoryIn, is_of_directory}
 use Rattle.vault_cli.specs.Opening.{Opens, OfVault}
 use Rattle.vault_cli.specs.Places.{overlap}
 use Rattle.vault_cli.specs.Refusing.{RefusesSite, Unless}
 use Rattle.vault_cli.specs.Shown.{refused}
 use Rattle.vault_cli.specs.World.{World}
 use Rattle.command_answers.specs.declared.answer.Answer.{Answer}
-use Rattle.command_answers.specs.declared.answer.Answer.TheVariants.{BadCommandLine, FolderFault, OutOfMemory, Overlap}
+use Rattle.command_answers.specs.declared.answer.Answer.TheVariants.{FolderFault, OutOfMemory, Overlap}
 use Rattle.command_words.specs.declared.commands.Change.{Change}
 
 -- ---- at each moment
@@ -248,7 +245,7 @@ no_site change answer t u stream undrawn overlapping refuses own begins = by (ov
       comes = inl (record { own = own is; changes = work_alone change.work t u stream stream begins undrawn });
     }
 
--- ---- where the command isn't begun, and where its message found no memory
+-- ---- where the command isn't begun
 
 pub either_made : (b : Bool) (P Q : Type 0) → P → Q → Either b P Q
 either_made true P Q p q = p
@@ -257,86 +254,7 @@ either_made false P Q p q = q
 pub makes_no_directory : (change : Change) (w : World) → MakesDirectoryIn change OutOfMemory w w
 makes_no_directory change w = record {
   apart = either_made (overlap change.target.vault change.work) _ _ (record { answers = inr refl; unchanged = refl; undrawn = none_drawn w.random })
-      (record { cause = λ v is. inr (inl refl); comes = inl (not_begun_at change.work w.told w.random) });
+      (record { cause = λ v is. inr (inl refl); comes = inl (not_begun_at is_of_beginning refl change.work w.told w.random) });
   untouched = Keeps-refl w.left;
   unwritten = Keeps-refl w.taken;
 }
-
--- what opens after an answer that names something is what opened
-ends_lost : (p : Placing) (v w : View) (result : Result (Unit {0}) PutFault) → is_plain (answer_to_making result) ≡ false → EndsAs p v w result → EndsAs p v w (Err puts.NoMemory)
-ends_lost p v w (Ok done) named ends = cc
-ends_lost p v w (Err (puts.Find fault)) named ends = λ orderly. inl ends
-ends_lost p v w (Err (puts.NotAllowed path)) named ends = λ orderly. inl ends
-ends_lost p v w (Err (puts.Taken at)) named ends = λ orderly. inl ends
-ends_lost p v w (Err (puts.Damaged at fault)) named ends = λ orderly. inl ends
-ends_lost p v w (Err (puts.Limit limit)) named ends = λ orderly. inl ends
-ends_lost p v w (Err puts.ZeroRandom) named ends = λ orderly. inl ends
-ends_lost p v w (Err puts.Source) named ends = λ orderly. inl ends
-ends_lost p v w (Err puts.Random) named ends = λ orderly. inl ends
-ends_lost p v w (Err puts.Failed) named ends = ends
-ends_lost p v w (Err puts.NoMemory) named ends = ends
-
-over_lost : (there : Standing) (p : Placing) (drawn : List ℕ) (ending : Ending) (u : View) → AnswersPutBy there p drawn ending u (Err puts.NoMemory)
-over_lost Absent p drawn ending u = tt
-over_lost (Strange at) p drawn ending u = tt
-over_lost (File at) p drawn ending u = tt
-over_lost (Dir at directory) p drawn ending u = tt
-
-answer_lost : (how : How) (p : Placing) (drawn : List ℕ) (ending : Ending) (u : View) → AnswersBy how p drawn ending u (Err puts.NoMemory)
-answer_lost New p drawn ending u = tt
-answer_lost InPlace p drawn ending u = over_lost (standing (format p) u (path_of p)) p drawn ending u
-
-root_lost : (how : How) (root : Path) → AnswersRoot how root (Err puts.NoMemory)
-root_lost New root = λ other. refl
-root_lost InPlace root = λ other. refl
-
-pub lost_in : (how : How) (change : Change) (item : NewItem) (ending : Ending) (vault : Vault) (answer : Answer) (t w : Option Told) (stream stream' : Option ByteStream) → is_plain answer ≡ false
-    → MakesIn how change item ending vault answer t w stream stream' → MakesIn how change item ending vault OutOfMemory t w stream stream'
-lost_in how change item ending vault answer t w stream stream' named makes = record {
-  result = Err puts.NoMemory;
-  is = refl;
-  drawn = makes.drawn;
-  were_drawn = makes.were_drawn;
-  makes = record {
-    named = λ front name is. at_name (record { vault = record { root = change.target.vault; vault = vault }; work = change.work; front = front; name = name; item = item }) (makes.makes.named front name is);
-    root = λ is. ((makes.makes.root is).0, (makes.makes.root is).1, root_lost how change.target.vault);
-  };
-}
-  where
-    at_name : (p : Placing) → MakesNamed how p ending makes.drawn t w makes.result → MakesNamed how p ending makes.drawn t w (Err puts.NoMemory)
-    at_name p one = record {
-      enough = one.enough;
-      moments = one.moments;
-      done = tt;
-      ends = λ v x is is_after. ends_lost p (under p.vault.root v) (under p.vault.root x) makes.result (sym (ap is_plain makes.is) ∙ named) (one.ends v x is is_after);
-      answer = λ v is. answer_lost how p makes.drawn ending (under p.vault.root v);
-    }
-
-pub directory_lost : (change : Change) (answer : Answer) (before after : World) → is_plain answer ≡ false → MakesDirectoryIn change answer before after → MakesDirectoryIn change OutOfMemory before after
-directory_lost change answer before after named did = record { apart = by (overlap change.target.vault change.work) did.apart; untouched = did.untouched; unwritten = did.unwritten }
-  where
-    comes : EndsBefore change.work answer before.told after.told before.random after.random ⊎ MakesDirectoryThere change answer before.told after.told before.random after.random
-        → EndsBefore change.work OutOfMemory before.told after.told before.random after.random ⊎ MakesDirectoryThere change OutOfMemory before.told after.told before.random after.random
-    comes (inl ends) = inl (record { own = refl; changes = ends.changes })
-    comes (inr there) = inr (record {
-      vault = there.vault;
-      opens = there.opens;
-      own = refl;
-      makes = lost_in New change NewDirectory Whole there.vault answer before.told after.told before.random after.random named there.makes;
-    })
-
-    by : (b : Bool) → Either b (RefusesOverlapping change.target.vault change.work answer before.told after.told before.random after.random) (MakesDirectoryApart change answer before.told after.told before.random after.random)
-        → Either b (RefusesOverlapping change.target.vault change.work OutOfMemory before.told after.told before.random after.random) (MakesDirectoryApart change OutOfMemory before.told after.told before.random after.random)
-    by true refuses = record { answers = inr refl; unchanged = refuses.unchanged; undrawn = refuses.undrawn }
-    by false made = record { cause = λ v is. inr (inl refl); comes = comes made.comes }
-
-pub no_bad_directory : (change : Change) (answer : Answer) (before after : World) → answer ≡ BadCommandLine → MakesDirectoryIn change answer before after → ⊥
-no_bad_directory change answer before after bad did = by (overlap change.target.vault change.work) did.apart
-  where
-    comes : EndsBefore change.work answer before.told after.told before.random after.random ⊎ MakesDirectoryThere change answer before.told after.told before.random after.random → ⊥
-    comes (inl ends) = let none : IsTrue (is_of_beginning BadCommandLine) = subst (λ a. IsTrue (is_of_beginning a)) bad ends.own in cc
-    comes (inr there) = let none : IsTrue (is_of_directory BadCommandLine) = subst (λ a. IsTrue (is_of_directory a)) bad there.own in cc
-
-    by : (b : Bool) → Either b (RefusesOverlapping change.target.vault change.work answer before.told after.told before.random after.random) (MakesDirectoryApart change answer before.told after.told before.random after.random) → ⊥
-    by true refuses = elim refuses.answers [ inl overlaps ↦ let no = sym bad ∙ overlaps in cc | inr memory ↦ let no = sym bad ∙ memory in cc ]
-    by false made = comes made.comes

@@ -1,10 +1,8 @@
 -- A new vault is made after the work folder was made ready.
-use Rattle.std.proofs.Common.{◌≡◌, ◌≢◌, ◌⊎◌, ℕ, Bool, true, false, List, [], ◌∷◌, Option, Some, None, Result, Ok, Err, OnOk, inl, inr, refl, sym, ap, ◌∙◌, subst, arith, IsTrue}
+use Rattle.std.proofs.Common.{◌≡◌, ◌⊎◌, ℕ, Bool, true, false, List, [], ◌∷◌, Option, Some, None, Result, Ok, Err, OnOk, inl, inr, refl, sym, ap, subst, arith, IsTrue}
 use Rattle.std.specs.Prelude.{is_none}
 use Rattle.content_writing.specs.declared.fault.PutFault.{PutFault}
-use Rattle.content_writing.specs.declared.fault.PutFault.TheVariants as puts
 use Rattle.std.proofs.KnownBytes.{Keeps-refl}
-use Rattle.std.proofs.lemmas.Bool.{false≢true}
 use Rattle.folder_spec.specs.Path.{Part, Path, below, parent}
 use Rattle.folder_spec.specs.State.{State, IsSound}
 use Rattle.folder_spec.specs.Edit.{Edit, HasPublishedIn, HasSettledIn}
@@ -26,7 +24,7 @@ use Rattle.vault_write.specs.Making.{StagesOrPlaces, is_apart, is_unstaged}
 use Rattle.work_folder.specs.Entering.{EntersAs}
 use Rattle.vault_cli.proofs.Beginnings.{Begins, apart_of_both, apart_of_unstaged, as_before_in, as_before_then, begun_then, no_overlap, none_drawn, not_begun_at, seen_after, unchanged_work, unstaged, work_alone}
 use Rattle.vault_cli.proofs.Refusals.{pass_gives, pass_then, work_then}
-use Rattle.vault_cli.specs.Beginning.{IsBeginning, ChangesWork, EndsBefore, RefusesOverlapping, is_of_beginning}
+use Rattle.vault_cli.specs.Beginning.{IsBeginning, ChangesWork, EndsBefore, RefusesOverlapping, is_of_readying}
 use Rattle.vault_cli.specs.Places.{OfDirectory, OfMissing, overlap}
 use Rattle.vault_cli.specs.Faults.{answer_to_making}
 use Rattle.vault_cli.specs.Init.{FoundsAs, FoundsNew, FoundsVault, IsMakingVault, IsOfFounding, MakesVault, MakesVaultApart, DrawsVault, OfNewPlace, OfPlace, RefusesPlace, cost_of}
@@ -35,8 +33,7 @@ use Rattle.vault_cli.specs.Refusing.{RefusesPass, RefusesWork, Unless}
 use Rattle.vault_cli.specs.Shown.{refused}
 use Rattle.command_answers.specs.declared.answer.Answer.{Answer}
 use Rattle.vault_cli.specs.World.{World}
-use Rattle.command_answers.specs.Messages.{is_plain}
-use Rattle.command_answers.specs.declared.answer.Answer.TheVariants.{BadCommandLine, OutOfMemory, Overlap}
+use Rattle.command_answers.specs.declared.answer.Answer.TheVariants.{OutOfMemory, Overlap}
 use Rattle.command_words.specs.declared.commands.NewVault.{NewVault}
 
 -- ---- at each moment
@@ -144,7 +141,7 @@ module _ (new : NewVault) (phrase : List ℕ) (answer : Answer) (t u w : Option 
 
 -- ---- where it isn't made
 
-pub ended_before : (work : Path) (answer : Answer) (t u w : Option Told) (stream stream' : Option ByteStream) → ChangesWork work t u → RefusesPlace answer u w stream stream' → EndsBefore work answer t w stream stream'
+pub ended_before : (work : Path) (answer : Answer) (t u w : Option Told) (stream stream' : Option ByteStream) → ChangesWork work t u → RefusesPlace answer u w stream stream' → EndsBefore is_of_readying work answer t w stream stream'
 ended_before work answer t u w stream stream' begins refuses = record {
   own = refuses.own;
   changes = work_alone work t w stream stream' (subst (ChangesWork work t) (sym refuses.unchanged) begins) refuses.undrawn;
@@ -199,7 +196,7 @@ made_apart new phrase answer t u w stream stream' sound apart begins reads enter
   ];
 }
 
-pub not_entered : (new : NewVault) (phrase : List ℕ) (answer : Answer) (t u : Option Told) (stream : Option ByteStream) → Draws stream stream [] → IsTrue (is_of_beginning answer) → ChangesWork new.work t u
+pub not_entered : (new : NewVault) (phrase : List ℕ) (answer : Answer) (t u : Option Told) (stream : Option ByteStream) → Draws stream stream [] → IsTrue (is_of_readying answer) → ChangesWork new.work t u
     → ((v : View) → IsSeen t v → IsPhrase (v new.pass) phrase) → ((v : View) → IsSeen t v → RefusesWork v new.work answer) → MakesVaultApart new answer t u stream stream
 not_entered new phrase answer t u stream undrawn own begins reads refuses = record {
   cause = λ v is. work_caused new v answer phrase (reads v is) (refuses v is);
@@ -208,7 +205,7 @@ not_entered new phrase answer t u stream undrawn own begins reads refuses = reco
 
 pub not_read : (new : NewVault) (answer : Answer) (t u : Option Told) (stream : Option ByteStream) → Draws stream stream [] → u ≡ t
     → (overlap new.vault new.work ≡ true → (answer ≡ Overlap new.vault new.work) ⊎ (answer ≡ OutOfMemory)) → (overlap new.vault new.work ≡ false → (v : View) → IsSeen t v → RefusesPass new.pass (v new.pass) answer)
-    → (overlap new.vault new.work ≡ false → IsTrue (is_of_beginning answer))
+    → (overlap new.vault new.work ≡ false → IsTrue (is_of_readying answer))
     → Either (overlap new.vault new.work) (RefusesOverlapping new.vault new.work answer t u stream stream) (MakesVaultApart new answer t u stream stream)
 not_read new answer t u stream undrawn same overlapping refuses own = by (overlap new.vault new.work) refl
   where
@@ -219,10 +216,10 @@ not_read new answer t u stream undrawn same overlapping refuses own = by (overla
       comes = inl (record { own = own is; changes = unchanged_work new.work t u stream same undrawn });
     }
 
--- ---- where the command isn't begun, and where its message found no memory
+-- ---- where the command isn't begun
 
 nothing_made : (new : NewVault) (t : Option Told) (stream : Option ByteStream) → MakesVaultApart new OutOfMemory t t stream stream
-nothing_made new t stream = record { cause = λ v is. inr (inl refl); comes = inl (not_begun_at new.work t stream) }
+nothing_made new t stream = record { cause = λ v is. inr (inl refl); comes = inl (not_begun_at is_of_readying refl new.work t stream) }
 
 either_made : (b : Bool) (P Q : Type 0) → P → Q → Either b P Q
 either_made true P Q p q = p
@@ -234,53 +231,3 @@ makes_no_vault new w = record {
   untouched = Keeps-refl w.left;
   unwritten = Keeps-refl w.taken;
 }
-
--- founding a vault answers nothing that is named
-founding_is_plain : (kind : Format) (phrase : List ℕ) (made : View) (files : List (Part × List ℕ)) (stream stream' : Option ByteStream) (result : Result (Unit {0}) PutFault)
-    → DrawsVault kind phrase made files stream stream' result → (is_plain (answer_to_making result) ≡ true) × (answer_to_making result ≢ BadCommandLine)
-founding_is_plain kind phrase made files stream stream' result draws = by kind result draws
-  where
-    by : (kind : Format) (result : Result (Unit {0}) PutFault) → DrawsVault kind phrase made files stream stream' result → (is_plain (answer_to_making result) ≡ true) × (answer_to_making result ≢ BadCommandLine)
-    by kind (Ok done) draws = (refl, λ bad. cc)
-    by kind (Err puts.Failed) draws = (refl, λ bad. cc)
-    by kind (Err puts.NoMemory) draws = (refl, λ bad. cc)
-    by kind (Err puts.ZeroRandom) draws = (refl, λ bad. cc)
-    by kind (Err puts.Random) draws = (refl, λ bad. cc)
-    by Gocryptfs (Err (puts.Find fault)) draws = absurd draws.5
-    by Gocryptfs (Err (puts.NotAllowed path)) draws = absurd draws.5
-    by Gocryptfs (Err (puts.Taken at)) draws = absurd draws.5
-    by Gocryptfs (Err (puts.Damaged at fault)) draws = absurd draws.5
-    by Gocryptfs (Err (puts.Limit limit)) draws = absurd draws.5
-    by Gocryptfs (Err puts.Source) draws = absurd draws.5
-    by Cryptomator (Err (puts.Find fault)) draws = absurd draws.4
-    by Cryptomator (Err (puts.NotAllowed path)) draws = absurd draws.4
-    by Cryptomator (Err (puts.Taken at)) draws = absurd draws.4
-    by Cryptomator (Err (puts.Damaged at fault)) draws = absurd draws.4
-    by Cryptomator (Err (puts.Limit limit)) draws = absurd draws.4
-    by Cryptomator (Err puts.Source) draws = absurd draws.4
-
-pub vault_lost : (new : NewVault) (answer : Answer) (before after : World) → is_plain answer ≡ false → MakesVault new answer before after → MakesVault new OutOfMemory before after
-vault_lost new answer before after named did = record { apart = by (overlap new.vault new.work) did.apart; untouched = did.untouched; unwritten = did.unwritten }
-  where
-    comes : EndsBefore new.work answer before.told after.told before.random after.random ⊎ FoundsVault new answer before.told after.told before.random after.random
-        → EndsBefore new.work OutOfMemory before.told after.told before.random after.random ⊎ FoundsVault new OutOfMemory before.told after.told before.random after.random
-    comes (inl ends) = inl (record { own = refl; changes = ends.changes })
-    comes (inr founds) =
-        let plain : is_plain (answer_to_making founds.result) ≡ true = (founding_is_plain new.format founds.phrase founds.made founds.files before.random after.random founds.result founds.draws).0 in
-        absurd (false≢true (sym named ∙ ap is_plain founds.is ∙ plain))
-
-    by : (b : Bool) → Either b (RefusesOverlapping new.vault new.work answer before.told after.told before.random after.random) (MakesVaultApart new answer before.told after.told before.random after.random)
-        → Either b (RefusesOverlapping new.vault new.work OutOfMemory before.told after.told before.random after.random) (MakesVaultApart new OutOfMemory before.told after.told before.random after.random)
-    by true refuses = record { answers = inr refl; unchanged = refuses.unchanged; undrawn = refuses.undrawn }
-    by false made = record { cause = λ v is. inr (inl refl); comes = comes made.comes }
-
-pub no_bad_vault : (new : NewVault) (answer : Answer) (before after : World) → answer ≡ BadCommandLine → MakesVault new answer before after → ⊥
-no_bad_vault new answer before after bad did = by (overlap new.vault new.work) did.apart
-  where
-    comes : EndsBefore new.work answer before.told after.told before.random after.random ⊎ FoundsVault new answer before.told after.told before.random after.random → ⊥
-    comes (inl ends) = let none : IsTrue (is_of_beginning BadCommandLine) = subst (λ a. IsTrue (is_of_beginning a)) bad ends.own in cc
-    comes (inr founds) = (founding_is_plain new.format founds.phrase founds.made founds.files before.random after.random founds.result founds.draws).1 (sym founds.is ∙ bad)
-
-    by : (b : Bool) → Either b (RefusesOverlapping new.vault new.work answer before.told after.told before.random after.random) (MakesVaultApart new answer before.told after.told before.random after.random) → ⊥
-    by true refuses = elim refuses.answers [ inl overlaps ↦ let no = sym bad ∙ overlaps in cc | inr memory ↦ let no = sym bad ∙ memory in cc ]
-    by false made = comes made.comes

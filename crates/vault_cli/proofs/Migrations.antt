@@ -1,4 +1,4 @@
--- Migrations that are led on: nothing is lost at any moment, and what was done where one wasn't begun, or its message found no memory.
+-- Migrations that are led on: nothing is lost at any moment, and what was done where one wasn't begun.
 use Rattle.std.proofs.Common.{◌≡◌, ℕ, Bool, true, false, List, Option, Some, None, Result, Ok, Err, inl, inr, refl, sym, ap, ◌∙◌, subst, IsTrue, ◌⊎◌}
 use Rattle.std.specs.Prelude.{◌≢◌, MatchOption, MatchResult, if◌then◌else◌}
 use Rattle.std.proofs.lemmas.Bool.{or_left}
@@ -37,11 +37,10 @@ use Rattle.tree_match.specs.declared.answer.MatchFault.TheVariants as match
 use Rattle.tree_match.specs.declared.answer.Side.{Side}
 use Rattle.vault_read.specs.declared.fault.Limit.TheVariants as limit
 use Rattle.vault_read.specs.declared.fault.LoadFault.{LoadFault}
-use Rattle.command_answers.specs.Messages.{is_plain}
 use Rattle.vault_cli.specs.Migrate.{HasMigrated, IsAskedFor, MigratesApart, MigratesTree, Pair, RefusesTwo, first_overlap, pair}
 use Rattle.vault_cli.specs.Migrate as migrating
 use Rattle.vault_cli.specs.Faults.{of_move}
-use Rattle.vault_cli.specs.Moving.{AnswersMove, ArePhrases, Comes, Completes, FailPasses, KeepsAll, OfPasses, Outcome, RefusesPasses, RefusesUndrawn, done_text, is_of_chance, is_of_migration, is_of_stop}
+use Rattle.vault_cli.specs.Moving.{AnswersMove, ArePhrases, Comes, Completes, FailPasses, KeepsAll, OfPasses, Outcome, RefusesPasses, RefusesUndrawn, done_text, is_of_chance, is_of_stop, is_of_told_stop}
 use Rattle.vault_cli.specs.Opening.{IsPhrase, OfPassFile, passphrase_in}
 use Rattle.vault_cli.specs.Places.{overlap}
 use Rattle.command_answers.specs.Printing.{PrintsText}
@@ -51,12 +50,12 @@ use Rattle.vault_cli.specs.Resume as resuming_on
 use Rattle.vault_cli.specs.Shown.{is_of_end, refused}
 use Rattle.vault_cli.specs.World.{World}
 use Rattle.command_answers.specs.declared.answer.Answer.{Answer}
-use Rattle.command_answers.specs.declared.answer.Answer.TheVariants.{BadCommandLine, OutOfMemory, FolderFault, Overlap}
+use Rattle.command_answers.specs.declared.answer.Answer.TheVariants.{OutOfMemory, FolderFault, Overlap}
 use Rattle.command_words.specs.declared.commands.Moving.{Moving}
 use Rattle.command_words.specs.declared.commands.Passes.{Passes}
 use Rattle.command_words.specs.declared.commands.Resuming.{Resuming}
 use Rattle.vault_cli.proofs.Beginnings.{none_drawn}
-use Rattle.vault_cli.proofs.Printings.{IsPrinted, is_another, nothing_printed, print_lost, printed, printed_is_own}
+use Rattle.vault_cli.proofs.Printings.{IsPrinted, nothing_printed, printed, printed_is_own}
 use Rattle.vault_cli.proofs.Refusals.{pass_gives, pass_taken, pass_then, unless_then}
 
 -- ---- nothing is lost
@@ -215,9 +214,6 @@ pub cut_short : (passes : Passes) (v : View) (answer : Answer) → (answer ≡ F
 cut_short passes v answer (inl failed) = inl failed
 cut_short passes v answer (inr memory) = inr (inl memory)
 
-pub refused_lost : (passes : Passes) (answer : Answer) (told told' : Option Told) (v : View) → RefusesPasses passes answer told told' v → RefusesPasses passes OutOfMemory told told' v
-refused_lost passes answer told told' v refuses = record { answers = inr (inl refl); unchanged = refuses.unchanged }
-
 module _ {O : Type 0} (passes : Passes) (IsCaused DoesSo : List ℕ → List ℕ → O → Type 0) (v : View) where
   pub comes_as : (P Q : O → Type 0) → ((outcome : O) → P outcome → Q outcome) → Comes passes IsCaused DoesSo P v → Comes passes IsCaused DoesSo Q v
   comes_as P Q f comes = record {
@@ -230,17 +226,8 @@ module _ {O : Type 0} (passes : Passes) (IsCaused DoesSo : List ℕ → List ℕ
     answers = f comes.outcome comes.answers;
   }
 
-move_lost : (work : Path) (IsRoot : MoveFault → Path → Type 0) (outcome : Outcome) → AnswersMove work IsRoot OutOfMemory outcome
-move_lost work IsRoot (Ok done) = inr (inr refl)
-move_lost work IsRoot (Err fault) = inl refl
-
 move_printed : (work : Path) (IsRoot : MoveFault → Path → Type 0) (answer : Answer) (done : moved.Done) → IsPrinted answer → (outcome : Outcome) → outcome ≡ Ok done → AnswersMove work IsRoot answer outcome
 move_printed work IsRoot answer done is_printed outcome is = subst (AnswersMove work IsRoot answer) (sym is) is_printed
-
--- ---- the answers
-
-pub stop_is_own : (answer : Answer) → IsTrue (is_of_stop answer) → IsTrue (is_of_migration answer)
-stop_is_own answer = or_left (is_of_stop answer) (is_of_end answer)
 
 -- ---- `migrate`
 
@@ -277,7 +264,7 @@ module _ (moving : Moving) where
       → ((g : Migration) (v : View) → IsSeen told v → IsAskedFor g moving v → KeepsAll g told told') → MovesOnly moving.work moving.target told told'
       → ((g : Migration) (v : View) → IsSeen told v → IsAskedFor g moving v → CanBegin g v → Completes answer) → MigratesApart moving answer told told' taken taken stream stream'
   migrate_stopped answer told told' taken stream stream' own comes keeps moves completes = record {
-    own = stop_is_own answer own;
+    own = or_left (is_of_stop answer) (is_of_end answer) own;
     comes = comes;
     keeps = keeps;
     moves = moves;
@@ -311,33 +298,6 @@ module _ (moving : Moving) where
       by None = migrates_nothing_apart law w.told w.taken w.random
       by (Some two) = record { refuses = record { answers = inr refl; unchanged = refl; unwritten = Keeps-refl w.taken }; undrawn = none_drawn w.random }
 
-  pub migration_lost : (answer : Answer) (before after : World) → is_plain answer ≡ false → MigratesTree moving answer before after → MigratesTree moving OutOfMemory before after
-  migration_lost answer before after named did = record { apart = by (first_overlap moving) did.apart; untouched = did.untouched }
-    where
-      comes_lost : (v : View) → migrating.MayCome moving answer before.told after.told before.random after.random v → migrating.MayCome moving OutOfMemory before.told after.told before.random after.random v
-      comes_lost v (inl refuses) = inl (refused_lost moving.passes answer before.told after.told v refuses.0, refuses.1)
-      comes_lost v (inr comes) = inr (comes_as moving.passes (migrating.IsCaused moving v) (migrating.IsWritten moving before.told after.told before.random after.random) v
-          (AnswersMove moving.work (migrating.IsRootOf moving) answer) (AnswersMove moving.work (migrating.IsRootOf moving) OutOfMemory) (λ outcome x. move_lost moving.work (migrating.IsRootOf moving) outcome) comes)
-
-      by : (o : Option Pair) → MatchOption o (MigratesApart moving answer before.told after.told before.taken after.taken before.random after.random) (λ two. RefusesTwo two answer before.told after.told before.taken after.taken before.random after.random)
-          → MatchOption o (MigratesApart moving OutOfMemory before.told after.told before.taken after.taken before.random after.random) (λ two. RefusesTwo two OutOfMemory before.told after.told before.taken after.taken before.random after.random)
-      by None migrates = record {
-        own = refl;
-        comes = λ v is. comes_lost v (migrates.comes v is);
-        keeps = migrates.keeps;
-        moves = migrates.moves;
-        completes = λ g v is asked can. refl;
-        prints = print_lost done_text (λ done. HasMigrated moving done before.told after.told) answer before.taken after.taken named migrates.prints;
-      }
-      by (Some two) refused = record { refuses = record { answers = inr refl; unchanged = refused.refuses.unchanged; unwritten = refused.refuses.unwritten }; undrawn = refused.undrawn }
-
-  pub no_bad_migration : (answer : Answer) (before after : World) → answer ≡ BadCommandLine → MigratesTree moving answer before after → ⊥
-  no_bad_migration answer before after bad did = by (first_overlap moving) did.apart
-    where
-      by : (o : Option Pair) → MatchOption o (MigratesApart moving answer before.told after.told before.taken after.taken before.random after.random) (λ two. RefusesTwo two answer before.told after.told before.taken after.taken before.random after.random) → ⊥
-      by None migrates = is_another is_of_migration answer BadCommandLine migrates.own refl bad
-      by (Some two) refused = elim refused.refuses.answers [ inl overlaps ↦ let no = sym bad ∙ overlaps in cc | inr memory ↦ let no = sym bad ∙ memory in cc ]
-
   pub refuses_two : (two : Pair) (answer : Answer) (told : Option Told) (taken : Option (List ℕ)) (stream : Option ByteStream) → (answer ≡ Overlap two.first two.second) ⊎ (answer ≡ OutOfMemory) → RefusesTwo two answer told told taken taken stream stream
   refuses_two two answer told taken stream answers = record { refuses = record { answers = answers; unchanged = refl; unwritten = Keeps-refl taken }; undrawn = none_drawn stream }
 
@@ -347,17 +307,17 @@ module _ (resuming : Resuming) where
   abbrev Brings : Option Told → Option Told → Type 0
   Brings told told' = (v : View) (journal : Journal) → IsSeen told v → IsJournal journal → StandsIn resuming.work journal v → MovesOnly resuming.work journal.target told told'
 
-  pub resume_stopped : (answer : Answer) (told told' : Option Told) (taken : Option (List ℕ)) (stream stream' : Option ByteStream) → IsTrue (is_of_stop answer)
+  pub resume_stopped : (answer : Answer) (told told' : Option Told) (taken : Option (List ℕ)) (stream stream' : Option ByteStream) → IsTrue (is_of_told_stop answer)
       → ((v : View) → IsSeen told v → resuming_on.MayCome resuming answer told told' stream stream' v)
       → ((g : Migration) (v : View) → IsSeen told v → IsResumedFor g resuming v → KeepsAll g told told') → Brings told told'
       → ((g : Migration) (v : View) → IsSeen told v → IsResumedFor g resuming v → CanResume g v → Completes answer) → Resumes resuming answer told told' taken taken stream stream'
   resume_stopped answer told told' taken stream stream' own comes keeps moves completes = record {
-    own = stop_is_own answer own;
+    own = or_left (is_of_told_stop answer) (is_of_end answer) own;
     comes = comes;
     keeps = keeps;
     moves = moves;
     completes = completes;
-    prints = nothing_printed done_text (λ done. HasResumed resuming done told told') is_of_stop answer taken own refl refl;
+    prints = nothing_printed done_text (λ done. HasResumed resuming done told told') is_of_told_stop answer taken own refl refl;
   }
 
   pub resume_printed : (done : moved.Done) (answer : Answer) (told told' : Option Told) (taken taken' : Option (List ℕ)) (stream stream' : Option ByteStream) → HasResumed resuming done told told'
@@ -365,7 +325,7 @@ module _ (resuming : Resuming) where
       → ((g : Migration) (v : View) → IsSeen told v → IsResumedFor g resuming v → KeepsAll g told told') → Brings told told'
       → PrintsText (done_text done) answer taken taken' → IsPrinted answer → Resumes resuming answer told told' taken taken' stream stream'
   resume_printed done answer told told' taken taken' stream stream' has comes keeps moves prints is_printed = record {
-    own = printed_is_own is_of_stop answer refl is_printed;
+    own = printed_is_own is_of_told_stop answer refl is_printed;
     comes = λ v is. inr (comes_as resuming.passes (resuming_on.IsCaused resuming v) (resuming_on.IsWritten resuming told told' stream stream' v) v (λ outcome. outcome ≡ Ok done)
         (AnswersMove resuming.work (resuming_on.IsRootOf resuming.work v) answer) (move_printed resuming.work (resuming_on.IsRootOf resuming.work v) answer done is_printed) (comes v is));
     keeps = keeps;
@@ -380,27 +340,6 @@ module _ (resuming : Resuming) where
         (λ v journal is good stands. moves_nothing resuming.work journal.target w.told w.told refl) (λ g v is asked can. refl);
     untouched = Keeps-refl w.left;
   }
-
-  pub resuming_lost : (answer : Answer) (before after : World) → is_plain answer ≡ false → ResumesTree resuming answer before after → ResumesTree resuming OutOfMemory before after
-  resuming_lost answer before after named did = record {
-    resumes = record {
-      own = refl;
-      comes = λ v is. comes_lost v (did.resumes.comes v is);
-      keeps = did.resumes.keeps;
-      moves = did.resumes.moves;
-      completes = λ g v is asked can. refl;
-      prints = print_lost done_text (λ done. HasResumed resuming done before.told after.told) answer before.taken after.taken named did.resumes.prints;
-    };
-    untouched = did.untouched;
-  }
-    where
-      comes_lost : (v : View) → resuming_on.MayCome resuming answer before.told after.told before.random after.random v → resuming_on.MayCome resuming OutOfMemory before.told after.told before.random after.random v
-      comes_lost v (inl refuses) = inl (refused_lost resuming.passes answer before.told after.told v refuses.0, refuses.1)
-      comes_lost v (inr comes) = inr (comes_as resuming.passes (resuming_on.IsCaused resuming v) (resuming_on.IsWritten resuming before.told after.told before.random after.random v) v
-          (AnswersMove resuming.work (resuming_on.IsRootOf resuming.work v) answer) (AnswersMove resuming.work (resuming_on.IsRootOf resuming.work v) OutOfMemory) (λ outcome x. move_lost resuming.work (resuming_on.IsRootOf resuming.work v) outcome) comes)
-
-  pub no_bad_resuming : (answer : Answer) (before after : World) → answer ≡ BadCommandLine → ResumesTree resuming answer before after → ⊥
-  no_bad_resuming answer before after bad did = is_another is_of_migration answer BadCommandLine did.resumes.own refl bad
 
   -- the root that is named of a vault that isn't opened is the journal's
   module _ (v : View) where

@@ -4,7 +4,6 @@ use Rattle.std.specs.Prelude.{◌≢◌, ◌||◌}
 use Rattle.std.proofs.lemmas.Bool.{or_left, or_right}
 use Rattle.std.specs.Io.KnownBytes.{Keeps}
 use Rattle.std.proofs.KnownBytes.{Keeps-refl}
-use Rattle.command_answers.specs.Messages.{is_plain}
 use Rattle.command_answers.specs.Printing.{PrintsDone, PrintsText}
 use Rattle.vault_cli.specs.Shown.{is_of_end}
 use Rattle.command_answers.specs.declared.answer.Answer.{Answer}
@@ -56,35 +55,6 @@ module _ {X : Type 0} (text : X → List ℕ) (IsDone : X → Type 0) where
   pub nothing_printed : (p : Answer → Bool) (answer : Answer) (taken : Option (List ℕ)) → IsTrue (p answer) → p Done ≡ false → p OutputFault ≡ false → PrintsDone text IsDone answer taken taken
   nothing_printed p answer taken own done output =
       nothing_written answer taken taken (is_another p answer Done own done) (is_another p answer OutputFault own output) (Keeps-refl taken)
-
-  -- an answer that names something has printed nothing
-  pub print_lost : (answer : Answer) (taken taken' : Option (List ℕ)) → is_plain answer ≡ false → PrintsDone text IsDone answer taken taken' → PrintsDone text IsDone OutOfMemory taken taken'
-  print_lost Done taken taken' named prints = cc
-  print_lost OutputFault taken taken' named prints = cc
-  print_lost Findings taken taken' named prints = cc
-  print_lost BadCommandLine taken taken' named prints = cc
-  print_lost OutOfMemory taken taken' named prints = cc
-  print_lost FolderFault taken taken' named prints = cc
-  print_lost InputFault taken taken' named prints = cc
-  print_lost RandomFault taken taken' named prints = cc
-  print_lost (Refused at why) taken taken' named prints = prints
-  print_lost (WrongPass root) taken taken' named prints = prints
-  print_lost (NotFound what) taken taken' named prints = prints
-  print_lost (WrongKind what) taken taken' named prints = prints
-  print_lost (DamagedInput fault) taken taken' named prints = prints
-  print_lost (Damaged at how) taken taken' named prints = prints
-  print_lost (NotAllowed path) taken taken' named prints = prints
-  print_lost (NotClean at number) taken taken' named prints = prints
-  print_lost (Overlap first second) taken taken' named prints = prints
-  print_lost (NotEmpty at) taken taken' named prints = prints
-  print_lost (Begun work) taken taken' named prints = prints
-  print_lost (Unusable work why) taken taken' named prints = prints
-  print_lost (Changed plan items plan' items') taken taken' named prints = prints
-  print_lost (Differ path how) taken taken' named prints = prints
-  print_lost ZeroRandom taken taken' named prints = cc
-  print_lost (Taken at) taken taken' named prints = prints
-  print_lost (Limit which) taken taken' named prints = prints
-  print_lost (Retired work) taken taken' named prints = prints
 
   -- what was done is told once its text is printed
   pub printed : (x : X) (answer : Answer) (taken taken' : Option (List ℕ)) → IsDone x → PrintsText (text x) answer taken taken' → IsPrinted answer → PrintsDone text IsDone answer taken taken'

@@ -1,5 +1,5 @@
--- A source that is retired: what was done where the command wasn't begun or its message found no memory, and how it is answered.
-use Rattle.std.proofs.Common.{◌≡◌, false, ℕ, List, Option, Ok, Err, inl, inr, refl, sym, ap, ◌∙◌, subst, IsTrue, ◌⊎◌}
+-- A source that is retired: what was done where the command wasn't begun, and how it is answered.
+use Rattle.std.proofs.Common.{◌≡◌, ℕ, List, Option, Ok, Err, inl, inr, refl, sym, ap, ◌∙◌, subst, IsTrue, ◌⊎◌}
 use Rattle.std.specs.Prelude.{◌≢◌, MatchResult}
 use Rattle.std.proofs.lemmas.Bool.{or_left}
 use Rattle.std.proofs.KnownBytes.{Keeps-refl}
@@ -21,19 +21,18 @@ use Rattle.retire_core.specs.declared.retiring.Retired.{Retired}
 use Rattle.tree_match.specs.Guard.{Migration}
 use Rattle.tree_match.specs.declared.answer.Side.{Side}
 use Rattle.vault_read.specs.declared.fault.LoadFault.{LoadFault}
-use Rattle.command_answers.specs.Messages.{is_plain}
 use Rattle.vault_cli.specs.Moving.{KeepsAll}
 use Rattle.command_answers.specs.Printing.{PrintsText}
 use Rattle.vault_cli.specs.Resume.{IsFoundJournal, IsResumedFor}
 use Rattle.vault_cli.specs.Faults.{of_retire}
-use Rattle.vault_cli.specs.Retire.{AnswersRetire, ComesTo, Completes, IsCaused, IsRetired, IsRootOf, MayCome, Outcome, Retires, RetiresSource, TouchesNoMore, is_of_refusal, is_of_retiring, retired_text, root_by}
+use Rattle.vault_cli.specs.Retire.{AnswersRetire, ComesTo, Completes, IsCaused, IsRetired, IsRootOf, MayCome, Outcome, Retires, RetiresSource, TouchesNoMore, is_of_refusal, retired_text, root_by}
 use Rattle.vault_cli.specs.Shown.{is_of_end}
 use Rattle.vault_cli.specs.World.{World}
 use Rattle.command_answers.specs.declared.answer.Answer.{Answer}
-use Rattle.command_answers.specs.declared.answer.Answer.TheVariants.{BadCommandLine, OutOfMemory}
+use Rattle.command_answers.specs.declared.answer.Answer.TheVariants.{OutOfMemory}
 use Rattle.command_words.specs.declared.commands.Resuming.{Resuming}
-use Rattle.vault_cli.proofs.Migrations.{AreSafe, comes_as, keeps_same, passes_unread, refused_lost, root_read}
-use Rattle.vault_cli.proofs.Printings.{IsPrinted, is_another, nothing_printed, print_lost, printed, printed_is_own}
+use Rattle.vault_cli.proofs.Migrations.{AreSafe, comes_as, keeps_same, passes_unread, root_read}
+use Rattle.vault_cli.proofs.Printings.{IsPrinted, nothing_printed, printed, printed_is_own}
 
 abbrev refused_by : {X : Type 0} → RetireFault → tests.Answer X
 refused_by fault = Err fault
@@ -48,10 +47,6 @@ pub folder_answered : (work root : Path) (fault : RetireFault) (answer : Answer)
 folder_answered work root fault answer of (inl memory) = inr (inl memory)
 folder_answered work root fault answer (inl failed) (inr is) = inl (is ∙ ap (of_retire work root) failed)
 folder_answered work root fault answer (inr memory) (inr is) = inr (inl (is ∙ ap (of_retire work root) memory))
-
-retire_lost : (work : Path) (v : View) (outcome : Outcome) → AnswersRetire work v OutOfMemory outcome
-retire_lost work v (Ok done) = inr (inr refl)
-retire_lost work v (Err fault) = inl refl
 
 answers_printed : (work : Path) (v : View) (answer : Answer) (done : Retired) → IsPrinted answer → (outcome : Outcome) → outcome ≡ Ok done → AnswersRetire work v answer outcome
 answers_printed work v answer done is_printed outcome is = subst (AnswersRetire work v answer) (sym is) is_printed
@@ -86,26 +81,6 @@ module _ (resuming : Resuming) where
         (λ g v is asked can. inr (inl refl));
     untouched = Keeps-refl w.left;
   }
-
-  pub retiring_lost : (answer : Answer) (before after : World) → is_plain answer ≡ false → RetiresSource resuming answer before after → RetiresSource resuming OutOfMemory before after
-  retiring_lost answer before after named did = record {
-    retires = record {
-      own = refl;
-      comes = λ v is. comes_lost v (did.retires.comes v is);
-      keeps = did.retires.keeps;
-      completes = λ g v is asked can. inr (inl refl);
-      prints = print_lost retired_text (IsRetired resuming before.told after.told) answer before.taken after.taken named did.retires.prints;
-    };
-    untouched = did.untouched;
-  }
-    where
-      comes_lost : (v : View) → MayCome resuming answer before.told after.told v → MayCome resuming OutOfMemory before.told after.told v
-      comes_lost v (inl refuses) = inl (refused_lost resuming.passes answer before.told after.told v refuses)
-      comes_lost v (inr comes) = inr (comes_as resuming.passes (IsCaused resuming v) (TouchesNoMore resuming before.told after.told v) v (AnswersRetire resuming.work v answer) (AnswersRetire resuming.work v OutOfMemory)
-          (λ outcome x. retire_lost resuming.work v outcome) comes)
-
-  pub no_bad_retiring : (answer : Answer) (before after : World) → answer ≡ BadCommandLine → RetiresSource resuming answer before after → ⊥
-  no_bad_retiring answer before after bad did = is_another is_of_retiring answer BadCommandLine did.retires.own refl bad
 
   -- the root that is named of a vault that isn't opened is the journal's
   module _ (v : View) where

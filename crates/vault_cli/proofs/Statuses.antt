@@ -13,7 +13,7 @@ use Rattle.vault_cli.specs.Faults.{of_move}
 use Rattle.vault_cli.specs.Moving.{is_of_stop}
 use Rattle.command_answers.specs.declared.answer.Answer.{Answer}
 use Rattle.command_answers.specs.declared.answer.Answer.TheVariants.{Done, Findings, BadCommandLine, OutOfMemory, FolderFault, InputFault, OutputFault, RandomFault, Refused, WrongPass, NotFound, WrongKind, DamagedInput, Damaged, NotAllowed, NotClean, Overlap, NotEmpty, Begun, Unusable, Changed, Differ, ZeroRandom, Taken, Limit, Retired}
-use Rattle.vault_cli.proofs.Executions.{with_status}
+use Rattle.command_answers.proofs.Reports.{with_status}
 
 -- only zeros and a taken place have one of their statuses
 drawn_or_taken : (answer : Answer) → 21 ≤ status_of answer → status_of answer ≤ 22 → (answer ≡ ZeroRandom) ⊎ ((at : Path) × (answer ≡ Taken at))

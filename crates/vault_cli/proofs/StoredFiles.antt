@@ -23,18 +23,17 @@ use Rattle.vault_write.specs.Calls.{InPlace, MakesAt, MakesFile, TakesContent, W
 use Rattle.vault_write.specs.Faults.{IsFileFault}
 use Rattle.work_folder.specs.Entering.{EntersAs}
 use Rattle.vault_cli.proofs.Beginnings.{Alike, Outside, none_drawn, not_begun_at, work_alone}
-use Rattle.vault_cli.proofs.MadeItems.{either_made, item_made, lost_in, site_gives, site_refused}
-use Rattle.command_answers.specs.Messages.{is_plain}
-use Rattle.vault_cli.specs.Beginning.{ChangesWork, EndsBefore, RefusesOverlapping, is_of_beginning}
+use Rattle.vault_cli.proofs.MadeItems.{either_made, item_made, site_gives, site_refused}
+use Rattle.vault_cli.specs.Beginning.{ChangesWork, RefusesOverlapping, is_of_beginning}
 use Rattle.vault_cli.specs.Faults.{answer_to_making, of_find}
 use Rattle.vault_cli.specs.Items.{MakesIn}
 use Rattle.vault_cli.specs.Opening.{Opens}
 use Rattle.vault_cli.specs.Places.{overlap}
-use Rattle.vault_cli.specs.Put.{StoresFile, StoresFileApart, StoresIn, StoresThere, TakesInput, is_of_file}
+use Rattle.vault_cli.specs.Put.{StoresFile, StoresFileApart, StoresIn, TakesInput, is_of_file}
 use Rattle.vault_cli.specs.Refusing.{RefusesSite}
 use Rattle.vault_cli.specs.World.{World}
 use Rattle.command_answers.specs.declared.answer.Answer.{Answer}
-use Rattle.command_answers.specs.declared.answer.Answer.TheVariants.{BadCommandLine, Done, FolderFault, InputFault, OutOfMemory, Overlap, RandomFault}
+use Rattle.command_answers.specs.declared.answer.Answer.TheVariants.{Done, FolderFault, InputFault, OutOfMemory, Overlap, RandomFault}
 use Rattle.command_words.specs.declared.commands.Change.{Change}
 
 -- ---- the input
@@ -255,56 +254,11 @@ none_stored change answer t u stream left undrawn overlapping refuses own begins
       comes = inl (record { own = own is; changes = work_alone change.work t u stream stream begins undrawn }, Keeps-refl left);
     }
 
--- ---- where the command isn't begun, and where its message found no memory
+-- ---- where the command isn't begun
 
 pub stores_nothing : (change : Change) (w : World) → StoresFile change OutOfMemory w w
 stores_nothing change w = record {
   apart = either_made (overlap change.target.vault change.work) _ _ (record { answers = inr refl; unchanged = refl; undrawn = none_drawn w.random }, Keeps-refl w.left)
-      (record { cause = λ v is. inr (inl refl); comes = inl (not_begun_at change.work w.told w.random, Keeps-refl w.left) });
+      (record { cause = λ v is. inr (inl refl); comes = inl (not_begun_at is_of_beginning refl change.work w.told w.random, Keeps-refl w.left) });
   unwritten = Keeps-refl w.taken;
 }
-
-module _ (change : Change) (answer : Answer) (before after : World) where
-  abbrev Apart : Answer → Type 0
-  Apart a = StoresFileApart change a before.told after.told before.random after.random before.left after.left
-
-  abbrev Refuses : Answer → Type 0
-  Refuses a = RefusesOverlapping change.target.vault change.work a before.told after.told before.random after.random × Keeps before.left after.left
-
-  abbrev Ends : Answer → Type 0
-  Ends a = EndsBefore change.work a before.told after.told before.random after.random × Keeps before.left after.left
-
-  abbrev There : Answer → Type 0
-  There a = StoresThere change a before.told after.told before.random after.random before.left after.left
-
-  pub file_lost : is_plain answer ≡ false → StoresFile change answer before after → StoresFile change OutOfMemory before after
-  file_lost named did = record { apart = by (overlap change.target.vault change.work) did.apart; unwritten = did.unwritten }
-    where
-      comes : Ends answer ⊎ There answer → Ends OutOfMemory ⊎ There OutOfMemory
-      comes (inl before_it) = inl (record { own = refl; changes = before_it.0.changes }, before_it.1)
-      comes (inr there) = inr (record {
-        vault = there.vault;
-        opens = there.opens;
-        own = refl;
-        stores = record {
-          content = there.stores.content;
-          ending = there.stores.ending;
-          makes = lost_in InPlace change (NewFile there.stores.content) there.stores.ending there.vault answer before.told after.told before.random after.random named there.stores.makes;
-          takes = record { told = there.stores.takes.told; whole = λ done. cc };
-        };
-      })
-
-      by : (b : Bool) → Either b (Refuses answer) (Apart answer) → Either b (Refuses OutOfMemory) (Apart OutOfMemory)
-      by true refuses = (record { answers = inr refl; unchanged = refuses.0.unchanged; undrawn = refuses.0.undrawn }, refuses.1)
-      by false stores = record { cause = λ v is. inr (inl refl); comes = comes stores.comes }
-
-  pub no_bad_file : answer ≡ BadCommandLine → StoresFile change answer before after → ⊥
-  no_bad_file bad did = by (overlap change.target.vault change.work) did.apart
-    where
-      comes : Ends answer ⊎ There answer → ⊥
-      comes (inl ends) = let none : IsTrue (is_of_beginning BadCommandLine) = subst (λ a. IsTrue (is_of_beginning a)) bad ends.0.own in cc
-      comes (inr there) = let none : IsTrue (is_of_file BadCommandLine) = subst (λ a. IsTrue (is_of_file a)) bad there.own in cc
-
-      by : (b : Bool) → Either b (Refuses answer) (Apart answer) → ⊥
-      by true refuses = elim refuses.0.answers [ inl overlaps ↦ let no = sym bad ∙ overlaps in cc | inr memory ↦ let no = sym bad ∙ memory in cc ]
-      by false stores = comes stores.comes

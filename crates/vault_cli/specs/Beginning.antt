@@ -35,27 +35,31 @@ OfSite change v answer next =
     OfPassFile change.target.pass (v change.target.pass) (refused answer) (λ phrase.
     OfWork v change.work answer (OfVault v change.target.vault phrase (refused answer) next))
 
--- whether a command may answer so before it makes anything outside the work folder
+-- whether a command may answer so before it makes anything outside the work folder, if it opens no vault
+abbrev pub is_of_readying : Answer → Bool
+is_of_readying FolderFault = true
+is_of_readying OutOfMemory = true
+is_of_readying (NotFound what) = true
+is_of_readying (WrongKind what) = true
+is_of_readying (NotEmpty at) = true
+is_of_readying (Begun work) = true
+is_of_readying (Limit which) = true
+is_of_readying answer = false
+
+-- and if it does
 abbrev pub is_of_beginning : Answer → Bool
-is_of_beginning FolderFault = true
-is_of_beginning OutOfMemory = true
 is_of_beginning (Refused at why) = true
 is_of_beginning (WrongPass root) = true
-is_of_beginning (NotFound what) = true
-is_of_beginning (WrongKind what) = true
-is_of_beginning (NotEmpty at) = true
-is_of_beginning (Begun work) = true
-is_of_beginning (Limit which) = true
-is_of_beginning answer = false
+is_of_beginning answer = is_of_readying answer
 
 -- Nothing but the work folder is changed, at every moment, and nothing is drawn.
 pub record ChangesWorkAlone (work : Path) (told told' : Option Told) (stream stream' : Option ByteStream) : Type 0 where
   pub moments : Moments (IsAsBefore (apart_from work)) (λ s0 s e. Spares (apart_from work) e.call) told told'
   pub undrawn : Draws stream stream' []
 
--- the call ended before it came to the making
-pub record EndsBefore (work : Path) (answer : Answer) (told told' : Option Told) (stream stream' : Option ByteStream) : Type 0 where
-  pub own : IsTrue (is_of_beginning answer)
+-- the call ended before it came to the making, with an answer of its own
+pub record EndsBefore (is_own : Answer → Bool) (work : Path) (answer : Answer) (told told' : Option Told) (stream stream' : Option ByteStream) : Type 0 where
+  pub own : IsTrue (is_own answer)
   pub changes : ChangesWorkAlone work told told' stream stream'
 
 -- Since s0 no file was made, and nothing but the work folder is changed (private contracts only).

@@ -21,7 +21,7 @@ use Rattle.vault_read.specs.declared.fault.Limit.TheVariants as limit
 use Rattle.vault_cli.specs.Moving.{is_of_stop}
 use Rattle.vault_cli.specs.World.{World}
 use Rattle.command_answers.specs.declared.answer.Answer.{Answer}
-use Rattle.command_answers.specs.declared.answer.Answer.TheVariants.{Done, OutOfMemory, FolderFault, OutputFault, RandomFault, ZeroRandom, Taken}
+use Rattle.command_answers.specs.declared.answer.Answer.TheVariants.{Done, OutOfMemory, FolderFault, OutputFault, RandomFault, Unusable, ZeroRandom, Taken}
 use Rattle.vault_cli.specs.declared.demo.Led.{Led}
 use Rattle.vault_cli.specs.declared.demo.Led.TheVariants.{Stopped, Retired}
 use Rattle.vault_cli.specs.declared.demo.Leg.{Leg}
@@ -109,6 +109,7 @@ PrintsDemonstration c brought seed count answer taken taken' =
 -- whether a demonstration may be answered so
 abbrev pub is_of_fault : Answer → Bool
 is_of_fault OutputFault = true
+is_of_fault (Unusable work why) = true
 is_of_fault answer = is_of_stop answer
 
 abbrev pub is_of_demonstration : Answer → Bool

@@ -21,7 +21,7 @@ use Rattle.vault_spec.specs.NewVault.{go_files, cm_files, new_go_vault, new_cm_v
 use Rattle.vault_spec.specs.Vault.{Vault, Either}
 use Rattle.vault_write.specs.Founding.{FoundsGo, FoundsCm, IsGoDraw, IsCmDraw, GoDrew, CmDrew, IsNewVault, founding, texts, vault_edit}
 use Rattle.vault_write.specs.Making.{StagesOrPlaces}
-use Rattle.vault_cli.specs.Beginning.{is_of_beginning, RefusesOverlapping, OfWork, EndsBefore}
+use Rattle.vault_cli.specs.Beginning.{is_of_readying, RefusesOverlapping, OfWork, EndsBefore}
 use Rattle.vault_cli.specs.Places.{OfFree, overlap}
 use Rattle.vault_cli.specs.Faults.{answer_to_making}
 use Rattle.vault_cli.specs.Opening.{IsPhrase, OfPassFile}
@@ -79,7 +79,7 @@ pub record FoundsVault (new : NewVault) (answer : Answer) (told told' : Option T
 
 pub record MakesVaultApart (new : NewVault) (answer : Answer) (told told' : Option Told) (stream stream' : Option ByteStream) : Type 0 where
   pub cause : (v : View) → IsSeen told v → Unless answer (OfNewPlace new v answer (IsOfFounding answer))
-  pub comes : EndsBefore new.work answer told told' stream stream' ⊎ FoundsVault new answer told told' stream stream'
+  pub comes : EndsBefore is_of_readying new.work answer told told' stream stream' ⊎ FoundsVault new answer told told' stream stream'
 
 -- `init`, which takes nothing of the input and writes nothing
 pub record MakesVault (new : NewVault) (answer : Answer) (before after : World) : Type 0 where
@@ -100,7 +100,7 @@ OfPlace new v answer = OfFree v new.vault answer (IsOfFounding answer)
 
 -- it is refused, and nothing has changed
 pub record RefusesPlace (answer : Answer) (told told' : Option Told) (stream stream' : Option ByteStream) : Type 0 where
-  pub own : IsTrue (is_of_beginning answer)
+  pub own : IsTrue (is_of_readying answer)
   pub unchanged : told' ≡ told
   pub undrawn : Draws stream stream' []
 

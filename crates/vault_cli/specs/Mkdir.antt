@@ -9,7 +9,7 @@ use Rattle.port_model.specs.Draws.{ByteStream}
 use Rattle.vault_spec.specs.Making.{NewDirectory}
 use Rattle.vault_spec.specs.Vault.{Vault, Either}
 use Rattle.vault_write.specs.Calls.{New}
-use Rattle.vault_cli.specs.Beginning.{EndsBefore, OfSite, RefusesOverlapping}
+use Rattle.vault_cli.specs.Beginning.{EndsBefore, OfSite, RefusesOverlapping, is_of_beginning}
 use Rattle.vault_cli.specs.Items.{MakesIn}
 use Rattle.vault_cli.specs.Opening.{Opens}
 use Rattle.vault_cli.specs.Places.{overlap}
@@ -43,7 +43,7 @@ pub record MakesDirectoryThere (change : Change) (answer : Answer) (told told' :
 -- The first test that fails by what is seen at first is the answer; where all pass, the directory is made.
 pub record MakesDirectoryApart (change : Change) (answer : Answer) (told told' : Option Told) (stream stream' : Option ByteStream) : Type 0 where
   pub cause : (v : View) → IsSeen told v → Unless answer (OfSite change v answer (λ vault. MakesIn New change NewDirectory Whole vault answer told told' stream stream'))
-  pub comes : EndsBefore change.work answer told told' stream stream' ⊎ MakesDirectoryThere change answer told told' stream stream'
+  pub comes : EndsBefore is_of_beginning change.work answer told told' stream stream' ⊎ MakesDirectoryThere change answer told told' stream stream'
 
 -- `mkdir`, which takes nothing of the input and writes nothing
 pub record MakesDirectoryIn (change : Change) (answer : Answer) (before after : World) : Type 0 where

@@ -13,7 +13,7 @@ use Rattle.vault_cli.specs.Opening.{IsPhrase, OfPassFile}
 use Rattle.vault_cli.specs.Refusing.{Unless}
 use Rattle.vault_cli.specs.Shown.{is_of_end, refused}
 use Rattle.command_answers.specs.declared.answer.Answer.{Answer}
-use Rattle.command_answers.specs.declared.answer.Answer.TheVariants.{Done, Findings, BadCommandLine, OutOfMemory, FolderFault, InputFault, OutputFault, RandomFault, DamagedInput, ZeroRandom, Taken}
+use Rattle.command_answers.specs.declared.answer.Answer.TheVariants.{Done, OutOfMemory, FolderFault, OutputFault, RandomFault, ZeroRandom, Taken}
 use Rattle.command_answers.specs.declared.answer.Answer.TheVariants as answers
 use Rattle.command_answers.specs.declared.answer.Limit as limits
 use Rattle.command_answers.specs.declared.answer.Limit.TheVariants as limit
@@ -66,19 +66,40 @@ KeepsAll g = FromTo (λ a b. Guarded g a.state → Went (LosesNothing g) (λ s e
 abbrev pub done_text : moved.Done → List ℕ
 done_text done = codes "placed " ++ decimal done.placed ++ codes ", items " ++ decimal done.items ++ 10 ∷ []
 
--- whether a migration that stops may be answered so
+-- whether a migration that begins may stop with this answer
 abbrev pub is_of_stop : Answer → Bool
-is_of_stop Done = false
-is_of_stop Findings = false
-is_of_stop BadCommandLine = false
-is_of_stop InputFault = false
-is_of_stop OutputFault = false
-is_of_stop (DamagedInput fault) = false
-is_of_stop answer = true
+is_of_stop OutOfMemory = true
+is_of_stop FolderFault = true
+is_of_stop RandomFault = true
+is_of_stop (answers.Refused at why) = true
+is_of_stop (answers.WrongPass root) = true
+is_of_stop (answers.NotFound what) = true
+is_of_stop (answers.WrongKind what) = true
+is_of_stop (answers.Damaged at how) = true
+is_of_stop (answers.NotAllowed path) = true
+is_of_stop (answers.NotClean at number) = true
+is_of_stop (answers.Overlap first second) = true
+is_of_stop (answers.NotEmpty at) = true
+is_of_stop (answers.Begun work) = true
+is_of_stop (answers.Differ path how) = true
+is_of_stop ZeroRandom = true
+is_of_stop (Taken at) = true
+is_of_stop (answers.Limit which) = true
+is_of_stop answer = false
 
--- and any
+-- and one that goes on, by its journal
+abbrev pub is_of_told_stop : Answer → Bool
+is_of_told_stop (answers.Unusable work why) = true
+is_of_told_stop (answers.Changed plan items plan' items') = true
+is_of_told_stop (answers.Retired work) = true
+is_of_told_stop answer = is_of_stop answer
+
+-- and with any
 abbrev pub is_of_migration : Answer → Bool
 is_of_migration answer = is_of_stop answer || is_of_end answer
+
+abbrev pub is_of_told_migration : Answer → Bool
+is_of_told_migration answer = is_of_told_stop answer || is_of_end answer
 
 abbrev pub is_of_length : limits.Limit → Bool
 is_of_length (limit.Length at) = true

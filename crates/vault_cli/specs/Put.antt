@@ -9,7 +9,7 @@ use Rattle.port_model.specs.Draws.{ByteStream}
 use Rattle.vault_spec.specs.Making.{NewFile}
 use Rattle.vault_spec.specs.Vault.{Vault, Either}
 use Rattle.vault_write.specs.Calls.{InPlace}
-use Rattle.vault_cli.specs.Beginning.{EndsBefore, OfSite, RefusesOverlapping}
+use Rattle.vault_cli.specs.Beginning.{EndsBefore, OfSite, RefusesOverlapping, is_of_beginning}
 use Rattle.vault_cli.specs.Items.{MakesIn}
 use Rattle.vault_cli.specs.Opening.{Opens}
 use Rattle.vault_cli.specs.Places.{overlap}
@@ -57,7 +57,7 @@ pub record StoresThere (change : Change) (answer : Answer) (told told' : Option 
 -- The first test that fails by what is seen at first is the answer; where all pass, the file is made.
 pub record StoresFileApart (change : Change) (answer : Answer) (told told' : Option Told) (stream stream' : Option ByteStream) (left left' : Option (List ℕ)) : Type 0 where
   pub cause : (v : View) → IsSeen told v → Unless answer (OfSite change v answer (λ vault. StoresIn change vault answer told told' stream stream' left left'))
-  pub comes : (EndsBefore change.work answer told told' stream stream' × Keeps left left') ⊎ StoresThere change answer told told' stream stream' left left'
+  pub comes : (EndsBefore is_of_beginning change.work answer told told' stream stream' × Keeps left left') ⊎ StoresThere change answer told told' stream stream' left left'
 
 -- `put`, which writes nothing
 pub record StoresFile (change : Change) (answer : Answer) (before after : World) : Type 0 where

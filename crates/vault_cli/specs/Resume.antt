@@ -21,7 +21,7 @@ use Rattle.port_model.specs.Draws.{ByteStream}
 use Rattle.tree_match.specs.Guard.{Migration}
 use Rattle.tree_match.specs.declared.answer.Side.{Side}
 use Rattle.tree_match.specs.declared.answer.Side.TheVariants.{Source, Target}
-use Rattle.vault_cli.specs.Moving.{AnswersMove, ArePhrases, Comes, Completes, KeepsAll, Outcome, RefusesUndrawn, done_text, is_of_migration}
+use Rattle.vault_cli.specs.Moving.{AnswersMove, ArePhrases, Comes, Completes, KeepsAll, Outcome, RefusesUndrawn, done_text, is_of_told_migration}
 use Rattle.command_answers.specs.Printing.{PrintsDone}
 use Rattle.vault_cli.specs.World.{World}
 use Rattle.command_answers.specs.declared.answer.Answer.{Answer}
@@ -72,7 +72,7 @@ MayCome resuming answer told told' stream stream' v =
 -- and nothing of the target is removed or replaced. At 0 the tree is moved. Where no test can fail and no content is damaged, it comes to
 -- that.
 pub record Resumes (resuming : Resuming) (answer : Answer) (told told' : Option Told) (taken taken' : Option (List ℕ)) (stream stream' : Option ByteStream) : Type 0 where
-  pub own : IsTrue (is_of_migration answer)
+  pub own : IsTrue (is_of_told_migration answer)
   pub comes : (v : View) → IsSeen told v → MayCome resuming answer told told' stream stream' v
   pub keeps : (g : Migration) (v : View) → IsSeen told v → IsResumedFor g resuming v → KeepsAll g told told'
   pub moves : (v : View) (journal : Journal) → IsSeen told v → IsJournal journal → StandsIn resuming.work journal v → MovesOnly resuming.work journal.target told told'

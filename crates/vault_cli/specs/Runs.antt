@@ -1,6 +1,8 @@
 -- What a run of the program makes of its words: each command is a case, with a definition of its own.
 use Rattle.std.specs.Prelude.{◌≡◌, ◌⊎◌, Option, Some, None}
 use Rattle.std.specs.Io.KnownBytes.{Keeps}
+use Rattle.folder_spec.specs.Seen.{under}
+use Rattle.folder_spec.specs.View.{View}
 use Rattle.vault_cli.specs.Cat.{ShowsContent}
 use Rattle.vault_cli.specs.DecryptFile.{DecryptsFile}
 use Rattle.vault_cli.specs.Demo.{Demonstrates}
@@ -9,12 +11,15 @@ use Rattle.vault_cli.specs.Init.{MakesVault}
 use Rattle.vault_cli.specs.Ls.{ShowsItems}
 use Rattle.vault_cli.specs.Migrate.{MigratesTree}
 use Rattle.vault_cli.specs.Mkdir.{MakesDirectoryIn}
+use Rattle.vault_cli.specs.Opening.{Opens}
 use Rattle.vault_cli.specs.Put.{StoresFile}
 use Rattle.vault_cli.specs.Repair.{RepairsVault}
 use Rattle.vault_cli.specs.Resume.{ResumesTree}
 use Rattle.vault_cli.specs.Retire.{RetiresSource}
 use Rattle.vault_cli.specs.Shown.{Reads}
 use Rattle.vault_cli.specs.World.{World}
+use Rattle.vault_read.specs.Laws.{HasOwnFolders}
+use Rattle.vault_spec.specs.Vault.{Vault}
 use Rattle.command_answers.specs.declared.answer.Answer.{Answer}
 use Rattle.command_answers.specs.declared.answer.Answer.TheVariants.{BadCommandLine, OutOfMemory, FolderFault}
 use Rattle.command_words.specs.declared.commands.Command.{Command}
@@ -53,3 +58,10 @@ Executes (Some (Migrate moving)) answer before after = MigratesTree moving answe
 Executes (Some (Resume resuming)) answer before after = ResumesTree resuming answer before after
 Executes (Some (Retire resuming)) answer before after = RetiresSource resuming answer before after
 Executes (Some (Demo demonstration)) answer before after = Demonstrates demonstration answer before after
+
+-- No two directories of either vault share a folder, of the two vaults that `migrate` compares once all is placed.
+abbrev pub OwnsFolders : Option Command → View → Type 0
+OwnsFolders (Some (Migrate moving)) v =
+    (source target : Vault) → Opens v moving.source moving.passes.source source → Opens v moving.target moving.passes.target target
+    → HasOwnFolders source (under moving.source v) × HasOwnFolders target (under moving.target v)
+OwnsFolders command v = Unit {0}

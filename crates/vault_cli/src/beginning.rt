@@ -4,16 +4,16 @@ ghost use Rattle.folder_spec.specs.View.{View};
 ghost use Rattle.folder_spec.specs.Seen.{IsSeen};
 ghost use Rattle.port_model.specs.Counts.{CountRose};
 ghost use Rattle.work_folder.specs.Entering.{EntersAs, IsReady};
-ghost use Rattle.vault_cli.specs.Beginning.{is_of_beginning, ChangesWork};
+ghost use Rattle.vault_cli.specs.Beginning.{is_of_beginning, is_of_readying, ChangesWork};
 ghost use Rattle.vault_cli.specs.Places.{overlap};
 ghost use Rattle.vault_cli.specs.Faults.{of_work};
 ghost use Rattle.vault_cli.specs.Opening.{IsPhrase, Opens};
 ghost use Rattle.vault_cli.specs.Refusing.{RefusesPass, RefusesSite, RefusesWork};
 ghost use Rattle.vault_write.specs.Placing.{MayMake};
 
-use command_answers::{Answer, Limit, Named};
 use crate::opening::{load, read_pass};
 use crate::places::{do_overlap, overlapping};
+use command_answers::{Answer, Limit, Named};
 use command_words::Change;
 use folder_model::{FPath, Folder};
 use folder_spec::laws::roots_show_their_own;
@@ -69,7 +69,7 @@ pub(crate) fn read_apart<F: Folder>(
     ensures phrase { IfOk result (λ phrase. (v : View) → IsSeen (F.told folder.old) v → IsPhrase (v pass.now) phrase) }
     ensures overlapping { IfErr result (λ answer. overlap vault.now work.now ≡ true → (answer ≡ Answer.Overlap vault.now work.now) ⊎ (answer ≡ Answer.OutOfMemory)) }
     ensures refused { IfErr result (λ answer. overlap vault.now work.now ≡ false → (v : View) → IsSeen (F.told folder.old) v → RefusesPass pass.now (v pass.now) answer) }
-    ensures own { IfErr result (λ answer. overlap vault.now work.now ≡ false → IsTrue (is_of_beginning answer)) }
+    ensures own { IfErr result (λ answer. overlap vault.now work.now ≡ false → IsTrue (is_of_readying answer)) }
     ensures grows { F.faults folder.old ≤ F.faults folder.new }
     ensures failed { result ≡ Err Answer.FolderFault → CountRose (F.faults folder.old) (F.faults folder.new) }
 {
@@ -85,7 +85,7 @@ pub(crate) fn enter_settled<F: Folder>(folder: &mut F, work: &FPath) -> Result<W
     ensures ready { IfOk result (λ entered. (v : View) → IsSeen (F.told folder.new) v → IsReady v work.now) }
     ensures entered { IfOk result (λ entered. (v : View) → IsSeen (F.told folder.old) v → EntersAs v work.now (Ok tt)) }
     ensures refused { IfErr result (λ answer. (v : View) → IsSeen (F.told folder.old) v → RefusesWork v work.now answer) }
-    ensures own { IfErr result (λ answer. IsTrue (is_of_beginning answer)) }
+    ensures own { IfErr result (λ answer. IsTrue (is_of_readying answer)) }
     ensures moments { ChangesWork work.now (F.told folder.old) (F.told folder.new) }
     ensures grows { F.faults folder.old ≤ F.faults folder.new }
     ensures failed { result ≡ Err Answer.FolderFault → CountRose (F.faults folder.old) (F.faults folder.new) }
@@ -101,7 +101,7 @@ pub(crate) fn enter_settled<F: Folder>(folder: &mut F, work: &FPath) -> Result<W
 pub(crate) fn answer_to(work: &FPath, fault: WorkFault) -> Answer
     ensures answers { (result ≡ Answer.OutOfMemory) ⊎ (result ≡ of_work work.now fault) }
     ensures failed { result ≡ Answer.FolderFault → fault ≡ WorkFault.Failed }
-    ensures own { IsTrue (is_of_beginning result) }
+    ensures own { IsTrue (is_of_readying result) }
 {
     match fault {
         WorkFault::NoParent(above) => Answer::NotFound(Named::Folder(above)),

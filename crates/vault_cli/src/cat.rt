@@ -5,8 +5,8 @@ ghost use Rattle.vault_cli.specs.Cat.{ShowsContent};
 ghost use Rattle.vault_cli.specs.Shown.{Reads};
 
 use crate::faults::answer_to_cat;
-use command_answers::Answer;
 use crate::opening::open;
+use command_answers::Answer;
 use command_words::Target;
 use folder_model::Folder;
 use port_model::Sink;

@@ -14,7 +14,7 @@ ghost use Rattle.demo_core.specs.Making as making;
 ghost use Rattle.demo_core.specs.Making.{CanMake, IsFailed, IsMakeFault, IsOfItems, IsTaken, MakesBeside, making_folder};
 ghost use Rattle.retire_core.specs.Causes.{IsOfFolder};
 ghost use Rattle.retire_core.specs.Faults.{IsRetireFault};
-ghost use Rattle.migrate_core.specs.Faults.{IsMoveFault};
+ghost use Rattle.migrate_core.specs.Faults.{IsMoveFault, is_of_begin};
 ghost use Rattle.command_answers.specs.Answers.{status_of};
 ghost use Rattle.command_answers.specs.Messages.{TakesText, line_of};
 ghost use Rattle.vault_cli.specs.Demo.{EndsSo, EndsWork, IsBare, IsStatus, OnEnd, OnRetired, PrintsAll, PrintsBack, PrintsDemonstration, PrintsLed, PrintsWay, TakesPart, chances, chances_by, chances_of, is_of_chance, is_of_demonstration, is_of_fault, is_of_folder, is_of_telling, made_text, moved_text, retired_text};
@@ -24,9 +24,8 @@ ghost use Rattle.vault_cli.specs.Moving.{is_of_stop};
 ghost use Rattle.vault_cli.specs.Retire.{is_of_refusal};
 
 use crate::faults::answer_to_put;
-use command_answers::Answer;
-use command_answers::report;
 use crate::{beginning, moving, opening, retire};
+use command_answers::{Answer, report};
 use command_words::Demonstration;
 use content_writing::PutFault;
 use demo_core::laws::{
@@ -414,7 +413,7 @@ fn migrate<F: Folder, R: Randoms>(
 
 // The status of a migration that stops.
 fn status_of(work: &FPath, source: &FPath, target: &FPath, fault: MoveFault) -> Result<u8, Answer>
-    ensures status { IsMoveFault fault → IfOk result (EndsWork (chances_by fault)) }
+    ensures status { IsMoveFault fault → IsTrue (is_of_begin fault) → IfOk result (EndsWork (chances_by fault)) }
     ensures memory { IfErr result (λ answer. answer ≡ Answer.OutOfMemory) }
 {
     let root = match fault {

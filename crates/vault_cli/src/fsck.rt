@@ -11,10 +11,9 @@ ghost use Rattle.vault_cli.specs.Refusing.{Unless};
 ghost use Rattle.vault_cli.specs.Shown.{Follows, is_of_opening, refused};
 
 use crate::faults::answer_to_check;
-use command_answers::Answer;
 use crate::opening::open;
-use command_answers::{finding_name, shown_folder};
 use chunk_files::ChunkFault;
+use command_answers::{Answer, finding_name, shown_folder};
 use command_words::Checking;
 use folder_model::{FPath, Folder};
 use port_model::Sink;

@@ -12,10 +12,10 @@ ghost use Rattle.vault_cli.specs.Init.{cost_of, FoundsAs, FoundsNew, MakesVaultA
 ghost use Rattle.vault_cli.specs.Opening.{IsPhrase};
 ghost use Rattle.vault_cli.specs.Refusing.{Unless};
 
-use crate::faults::answer_to_making;
-use command_answers::Answer;
 use crate::beginning::{enter_settled, read_apart};
+use crate::faults::answer_to_making;
 use crate::places::test_free;
+use command_answers::Answer;
 use command_words::{Format, NewVault};
 use folder_model::Folder;
 use kdf_suite::ScryptCost;

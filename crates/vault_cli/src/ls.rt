@@ -9,8 +9,8 @@ ghost use Rattle.vault_cli.specs.Refusing.{Unless};
 ghost use Rattle.vault_cli.specs.Shown.{Reads, is_refusal, refused};
 
 use crate::faults::answer_to_find;
-use command_answers::Answer;
 use crate::opening::open;
+use command_answers::Answer;
 use command_words::Target;
 use folder_model::Folder;
 use plain_tree::NodeKind;

@@ -10,9 +10,9 @@ ghost use Rattle.command_words.specs.Written.{AreWritten};
 ghost use Rattle.vault_cli.specs.Migrate.{ComesTo, HasMigrated, IsAskedFor, MayCome, MigratesApart, RefusesTwo, first_overlap, root_of};
 ghost use Rattle.vault_cli.specs.Moving.{Completes, KeepsAll, is_of_stop};
 
-use command_answers::Answer;
 use crate::moving::{answer_to, print_done, read_passes};
 use crate::places::{do_overlap, overlapping};
+use command_answers::Answer;
 use command_words::Moving;
 use folder_model::{FPath, Folder};
 use migrate_core::{Done, MoveFault};

@@ -6,9 +6,9 @@ ghost use Rattle.vault_cli.specs.Beginning.{RefusesOverlapping};
 ghost use Rattle.vault_cli.specs.Mkdir.{MakesDirectoryApart};
 ghost use Rattle.vault_cli.specs.Places.{overlap};
 
+use crate::beginning::begin;
 use crate::faults::answer_to_making;
 use command_answers::Answer;
-use crate::beginning::begin;
 use command_words::Change;
 use folder_model::Folder;
 use folder_spec::laws::roots_show_their_own;

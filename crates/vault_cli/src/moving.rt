@@ -3,20 +3,19 @@ ghost use Rattle.std.specs.Prelude.{◌≡◌, ◌⊎◌, ◌≤◌, Err, IfErr,
 ghost use Rattle.folder_spec.specs.Path.{Path};
 ghost use Rattle.folder_spec.specs.Seen.{IsSeen};
 ghost use Rattle.folder_spec.specs.View.{View};
-ghost use Rattle.migrate_core.specs.Faults.{IsMoveFault};
+ghost use Rattle.migrate_core.specs.Faults.{IsMoveFault, is_of_begin};
 ghost use Rattle.port_model.specs.Counts.{CountRose};
-ghost use Rattle.vault_cli.specs.Beginning.{is_of_beginning};
 ghost use Rattle.vault_cli.specs.Faults.{of_journal, of_move};
-ghost use Rattle.vault_cli.specs.Moving.{FailPasses, done_text, is_of_stop};
+ghost use Rattle.vault_cli.specs.Moving.{FailPasses, done_text, is_of_stop, is_of_told_stop};
 ghost use Rattle.vault_cli.specs.Opening.{IsPhrase};
+ghost use Rattle.vault_cli.specs.Shown.{is_of_opening};
 ghost use Rattle.command_answers.specs.Printing.{PrintsText};
 ghost use Rattle.vault_cli.specs.Resume.{IsFoundJournal};
 
 use crate::faults::{answer_to_match, answer_to_put, answer_to_walk, difference_of};
-use command_answers::{Answer, Flaw, Limit};
 use crate::opening::read_pass;
-use command_answers::print;
 use crate::{beginning, opening};
+use command_answers::{Answer, Flaw, Limit, print};
 use command_words::{Passes, Resuming};
 use content_writing::PutFault;
 use folder_model::{FPath, Folder};
@@ -44,7 +43,7 @@ pub(crate) fn read_passes<F: Folder>(
     ensures source { IfOk result (λ phrases. (v : View) → IsSeen (F.told folder.old) v → IsPhrase (v passes.now.source) phrases.source) }
     ensures target { IfOk result (λ phrases. (v : View) → IsSeen (F.told folder.old) v → IsPhrase (v passes.now.target) phrases.target) }
     ensures refused { IfErr result (λ answer. (v : View) → IsSeen (F.told folder.old) v → FailPasses passes.now v answer) }
-    ensures own { IfErr result (λ answer. IsTrue (is_of_beginning answer)) }
+    ensures own { IfErr result (λ answer. IsTrue (is_of_opening answer)) }
     ensures grows { F.faults folder.old ≤ F.faults folder.new }
     ensures failed { result ≡ Err Answer.FolderFault → CountRose (F.faults folder.old) (F.faults folder.new) }
 {
@@ -71,7 +70,7 @@ pub(crate) fn learn<F: Folder>(
     ensures target { IfOk result (λ known. (v : View) → IsSeen (F.told folder.old) v → IsPhrase (v resuming.now.passes.target) known.phrases.target) }
     ensures found { IfOk result (λ known. (v : View) → IsSeen (F.told folder.old) v → IsFoundJournal resuming.now.work v known.journal) }
     ensures refused { IfErr result (λ answer. (v : View) → IsSeen (F.told folder.old) v → FailPasses resuming.now.passes v answer) }
-    ensures own { IfErr result (λ answer. IsTrue (is_of_beginning answer)) }
+    ensures own { IfErr result (λ answer. IsTrue (is_of_opening answer)) }
     ensures grows { F.faults folder.old ≤ F.faults folder.new }
     ensures failed { result ≡ Err Answer.FolderFault → CountRose (F.faults folder.old) (F.faults folder.new) }
 {
@@ -133,7 +132,8 @@ pub(crate) fn answer_to(work: &FPath, root: &FPath, fault: MoveFault) -> Answer
     ensures drawn { result ≡ Answer.RandomFault → fault ≡ MoveFault.Place PutFault.Random }
     ensures zeros { result ≡ Answer.ZeroRandom → fault ≡ MoveFault.Place PutFault.ZeroRandom }
     ensures taken { (at : Path) → result ≡ Answer.Taken at → fault ≡ MoveFault.Place (PutFault.Taken at) }
-    ensures own { IsMoveFault fault → IsTrue (is_of_stop result) }
+    ensures begins { IsMoveFault fault → IsTrue (is_of_begin fault) → IsTrue (is_of_stop result) }
+    ensures goes_on { IsMoveFault fault → IsTrue (is_of_told_stop result) }
 {
     match fault {
         MoveFault::Work(fault) => beginning::answer_to(work, fault),
@@ -162,7 +162,7 @@ pub(crate) fn answer_to(work: &FPath, root: &FPath, fault: MoveFault) -> Answer
 pub(crate) fn answer_to_journal(work: &FPath, fault: JournalFault) -> Answer
     ensures answers { (result ≡ Answer.OutOfMemory) ⊎ (result ≡ of_journal work.now fault) }
     ensures failed { result ≡ Answer.FolderFault → fault ≡ JournalFault.Failed }
-    ensures own { IsTrue (is_of_stop result) }
+    ensures own { IsTrue (is_of_told_stop result) }
 {
     match fault {
         JournalFault::NoJournal => unusable(work, Flaw::Missing),

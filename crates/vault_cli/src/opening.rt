@@ -5,7 +5,7 @@ ghost use Rattle.folder_spec.specs.Seen.{IsSeen, under};
 ghost use Rattle.port_model.specs.Counts.{CountRose};
 ghost use Rattle.std.specs.List.{position_or_len};
 ghost use Rattle.folder_spec.specs.Path.{child};
-ghost use Rattle.vault_cli.specs.Beginning.{is_of_beginning};
+ghost use Rattle.vault_cli.specs.Beginning.{is_of_beginning, is_of_readying};
 ghost use Rattle.vault_cli.specs.Opening.{IsPhrase, Opens, is_newline, passphrase_in};
 ghost use Rattle.vault_cli.specs.Refusing.{RefusesLoad, RefusesOpening, RefusesPass, RefusesVault};
 ghost use Rattle.vault_cli.specs.Shown.{is_of_opening};
@@ -73,7 +73,7 @@ pub(crate) fn read_pass<F: Folder>(
     ensures grows { F.faults folder.old ≤ F.faults folder.new }
     ensures failed { result ≡ Err Answer.FolderFault → CountRose (F.faults folder.old) (F.faults folder.new) }
     ensures own { IfErr result (λ answer. IsTrue (is_of_opening answer)) }
-    ensures beginning { IfErr result (λ answer. IsTrue (is_of_beginning answer)) }
+    ensures readying { IfErr result (λ answer. IsTrue (is_of_readying answer)) }
 {
     match read_small(alloc, folder, at, MAX_SIZE)? {
         SmallFile::Missing => Err(Answer::NotFound(Named::Folder(at.copy()?))),

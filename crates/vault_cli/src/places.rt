@@ -3,7 +3,7 @@ ghost use Rattle.std.specs.Prelude.{◌≡◌, ◌⊎◌, ◌≤◌, Err, IfErr,
 ghost use Rattle.folder_spec.specs.Seen.{IsSeen, ShowsFree};
 ghost use Rattle.folder_spec.specs.View.{NoEntry, View};
 ghost use Rattle.port_model.specs.Counts.{CountRose};
-ghost use Rattle.vault_cli.specs.Beginning.{is_of_beginning};
+ghost use Rattle.vault_cli.specs.Beginning.{is_of_readying};
 ghost use Rattle.vault_cli.specs.Places.{OfFree, OfMissing, overlap};
 ghost use Rattle.vault_cli.specs.Refusing.{Unless};
 ghost use Rattle.vault_cli.specs.Repair.{is_of_moving};
@@ -34,7 +34,7 @@ pub(crate) fn test_free<F: Folder>(folder: &mut F, at: &FPath) -> Result<(), Ans
     ensures free { OnOk result ((v : View) → IsSeen (F.told folder.old) v → ShowsFree v at.now) }
     ensures refused { IfErr result (λ answer. (v : View) → IsSeen (F.told folder.old) v → Unless answer (OfFree v at.now answer ⊥)) }
     ensures own { IfErr result (λ answer. IsTrue (is_of_moving answer)) }
-    ensures beginning { IfErr result (λ answer. IsTrue (is_of_beginning answer)) }
+    ensures readying { IfErr result (λ answer. IsTrue (is_of_readying answer)) }
     ensures grows { F.faults folder.old ≤ F.faults folder.new }
     ensures failed { result ≡ Err Answer.FolderFault → CountRose (F.faults folder.old) (F.faults folder.new) }
 {
@@ -52,7 +52,7 @@ fn test_missing<F: Folder>(folder: &mut F, at: &FPath) -> Result<(), Answer>
     ensures free { OnOk result ((v : View) → IsSeen (F.told folder.old) v → v at.now ≡ NoEntry) }
     ensures refused { IfErr result (λ answer. (v : View) → IsSeen (F.told folder.old) v → Unless answer (OfMissing at.now (v at.now) answer ⊥)) }
     ensures own { IfErr result (λ answer. IsTrue (is_of_moving answer)) }
-    ensures beginning { IfErr result (λ answer. IsTrue (is_of_beginning answer)) }
+    ensures readying { IfErr result (λ answer. IsTrue (is_of_readying answer)) }
     ensures grows { F.faults folder.old ≤ F.faults folder.new }
     ensures failed { result ≡ Err Answer.FolderFault → CountRose (F.faults folder.old) (F.faults folder.new) }
 {

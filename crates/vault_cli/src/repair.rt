@@ -10,10 +10,9 @@ ghost use Rattle.vault_cli.specs.Refusing.{Unless};
 ghost use Rattle.vault_cli.specs.Repair.{HasMovedStrays, MovesStrays, OfRepairing, RefusesOverlap, RepairsApart, is_of_moving, is_of_test, moved_line, moved_text};
 
 use crate::faults::answer_to_check;
-use command_answers::Answer;
 use crate::opening::open;
 use crate::places::{do_overlap, overlapping, test_free};
-use command_answers::{print, shown_folder};
+use command_answers::{Answer, print, shown_folder};
 use command_words::Repairing;
 use folder_model::{FPath, Folder};
 use port_model::Sink;

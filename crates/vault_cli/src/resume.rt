@@ -10,11 +10,11 @@ ghost use Rattle.move_journal.specs.Journal.{IsJournal};
 ghost use Rattle.port_model.specs.Counts.{CountRose};
 ghost use Rattle.tree_match.specs.Guard.{Migration};
 ghost use Rattle.vault_cli.specs.Faults.{of_move};
-ghost use Rattle.vault_cli.specs.Moving.{Completes, KeepsAll, is_of_stop};
+ghost use Rattle.vault_cli.specs.Moving.{Completes, KeepsAll, is_of_told_stop};
 ghost use Rattle.vault_cli.specs.Resume.{ComesTo, HasResumed, IsResumedFor, MayCome, Resumes, root_by};
 
-use command_answers::Answer;
 use crate::moving::{answer_to, learn, print_done};
+use command_answers::Answer;
 use command_words::Resuming;
 use content_writing::PutFault;
 use folder_model::{FPath, Folder};
@@ -57,7 +57,7 @@ fn go_on<F: Folder, R: Randoms>(
     ensures keeps { (g : Migration) (v : View) → IsSeen (F.told folder.old) v → IsResumedFor g resuming.now v → KeepsAll g (F.told folder.old) (F.told folder.new) }
     ensures moves { (v : View) (journal : Journal) → IsSeen (F.told folder.old) v → IsJournal journal → StandsIn resuming.now.work journal v → MovesOnly resuming.now.work journal.target (F.told folder.old) (F.told folder.new) }
     ensures completes { IfErr result (λ answer. (g : Migration) (v : View) → IsSeen (F.told folder.old) v → IsResumedFor g resuming.now v → CanResume g v → Completes answer) }
-    ensures own { IfErr result (λ answer. IsTrue (is_of_stop answer)) }
+    ensures own { IfErr result (λ answer. IsTrue (is_of_told_stop answer)) }
     ensures failed { result ≡ Err Answer.FolderFault → CountRose (F.faults folder.old) (F.faults folder.new) }
     ensures drawn { result ≡ Err Answer.RandomFault → CountRose (R.faults random.old) (R.faults random.new) }
 {
@@ -79,7 +79,7 @@ fn go_on<F: Folder, R: Randoms>(
 // The answer to a migration that stops.
 fn stopped(work: &FPath, journal: &Option<Journal>, fault: MoveFault) -> Answer
     ensures answers { (result ≡ Answer.OutOfMemory) ⊎ (result ≡ of_move work.now (root_by work.now journal.now fault) fault) }
-    ensures own { IsMoveFault fault → IsTrue (is_of_stop result) }
+    ensures own { IsMoveFault fault → IsTrue (is_of_told_stop result) }
     ensures failed { result ≡ Answer.FolderFault → IsMoveFault fault → fault ≡ MoveFault.Failed }
     ensures drawn { result ≡ Answer.RandomFault → fault ≡ MoveFault.Place PutFault.Random }
 {

@@ -13,10 +13,9 @@ ghost use Rattle.vault_cli.specs.Resume.{IsResumedFor};
 ghost use Rattle.vault_cli.specs.Retire.{ComesTo, Completes, IsRetired, MayCome, Retires, is_of_refusal, retired_text, root_by};
 
 use crate::faults::{answer_to_match, answer_to_walk, difference_of};
-use command_answers::{Answer, Flaw, Limit};
 use crate::moving::{answer_to_journal, learn, unusable};
-use command_answers::print;
 use crate::{beginning, opening};
+use command_answers::{Answer, Flaw, Limit, print};
 use command_words::Resuming;
 use folder_model::{FPath, Folder};
 use move_journal::Journal;

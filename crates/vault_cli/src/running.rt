@@ -1,14 +1,15 @@
 //! Running a command.
-ghost use Rattle.std.specs.Prelude.{◌≡◌, ◌↔◌, ◌⊎◌, IsNone, map, string_bytes};
-ghost use Rattle.std.specs.Io.KnownBytes.{Keeps};
+ghost use Rattle.std.specs.Prelude.{◌≡◌, ◌⊎◌, IsNone, IsTrue, map, string_bytes};
 ghost use Rattle.port_model.specs.Counts.{CountRose};
 ghost use Rattle.command_answers.specs.Answers.{status_of};
-ghost use Rattle.command_answers.specs.Messages.{TakesText, line_of};
+ghost use Rattle.command_answers.specs.Messages.{IsReported, TakesText, line_of};
+ghost use Rattle.command_answers.specs.Rows.{may_end, may_end_told};
+ghost use Rattle.folder_spec.specs.Seen.{IsSeen};
+ghost use Rattle.folder_spec.specs.View.{View};
 ghost use Rattle.command_words.specs.Commands.{command_of};
-ghost use Rattle.vault_cli.specs.Runs.{Executes};
+ghost use Rattle.vault_cli.specs.Runs.{Executes, OwnsFolders};
 ghost use Rattle.vault_cli.specs.World.{World};
 
-use command_answers::Answer;
 use crate::cat::cat;
 use crate::decrypt::decrypt_file;
 use crate::demo::demo;
@@ -19,10 +20,11 @@ use crate::migrate::migrate;
 use crate::mkdir::mkdir;
 use crate::put::put;
 use crate::repair::repair;
-use command_answers::report;
 use crate::resume::resume;
 use crate::retire::retire;
 use chunk_files::laws::{files_are_what_they_give, whole_files_end};
+use command_answers::laws::{reports_are_answers, words_alone_end_with_2};
+use command_answers::{Answer, report};
 use command_words::Command;
 use command_words::laws::demonstrations_are_small;
 use folder_model::Folder;
@@ -46,12 +48,17 @@ pub fn run<F: Folder, R: Randoms, I: Source, O: Sink, E: Sink>(
     out: &mut O,
     err: &mut E,
 ) -> u8
-    // There is one answer behind the status and the line on `err`, and it tells what the command of these words did.
-    ensures answer { (answer : Answer) × (result ≡ status_of answer)
-        × TakesText (E.taken err.old) (E.taken err.new) (E.faults err.old) (E.faults err.new) (line_of answer)
+    // There is one answer, which tells what the command of these words did. It is behind the status and the line on `err`, unless its
+    // message finds no memory: then that is.
+    ensures answer { (answer reported : Answer) × IsReported answer reported × (result ≡ status_of reported)
+        × TakesText (E.taken err.old) (E.taken err.new) (E.faults err.old) (E.faults err.new) (line_of reported)
         × Executes (command_of (map string_bytes words.now)) answer
         (record { told = F.told folder.old; left = I.left input.old; ended = I.ended input.old; taken = O.taken out.old; random = R.left random.old })
         (record { told = F.told folder.new; left = I.left input.new; ended = I.ended input.new; taken = O.taken out.new; random = R.left random.new }) }
+
+    // The status is one that the command may end with, whatever was handed in; and one over a folder that tells its state, where it does.
+    ensures row { IsTrue (may_end (command_of (map string_bytes words.now)) result) }
+    ensures told_row { (v : View) → IsSeen (F.told folder.old) v → OwnsFolders (command_of (map string_bytes words.now)) v → IsTrue (may_end_told (command_of (map string_bytes words.now)) result) }
 
     // What was handed in is named only where its count of faults rose.
     ensures folder_fault { result ≡ 4 → CountRose (F.faults folder.old) (F.faults folder.new) }
@@ -63,6 +70,8 @@ pub fn run<F: Folder, R: Randoms, I: Source, O: Sink, E: Sink>(
     ensures bad_command_line { result ≡ 2 → IsNone (command_of (map string_bytes words.now)) }
     ensures no_command { IsNone (command_of (map string_bytes words.now)) → (result ≡ 2) ⊎ (result ≡ 3) }
 {
+    reports_are_answers();
+    words_alone_end_with_2();
     let answer = execute(alloc, words, folder, random, input, out);
     let answer = report(alloc, answer, err);
     answer.status()

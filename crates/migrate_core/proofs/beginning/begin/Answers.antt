@@ -8,7 +8,7 @@ use Rattle.migrate_core.specs.Moved.{MovesTree}
 use Rattle.migrate_core.proofs.Causing.{folder_unless, own_passes, own_refused, refused_as}
 use Rattle.migrate_core.specs.Causes.{Begins, BeginsApart, TestsApart, Then, Unless, own}
 use Rattle.std.proofs.lemmas.Result.{err_from_is_err_and}
-use Rattle.migrate_core.specs.Faults.{of_folder}
+use Rattle.migrate_core.specs.Faults.{is_of_begin, of_folder}
 use Rattle.migrate_core.specs.declared.placing.Done.{Done}
 use Rattle.migrate_core.proofs.Writings.{refusal_as, folder_refuses, may_write_after, nothing_written, settle_writes}
 use Rattle.migrate_core.proofs.Completing.{begin_completes, folder_chance, own_faults}
@@ -125,7 +125,7 @@ returns-in_err-settle-clause-completes g c m v seen asked can =
 pub returns-clause-completes : goal.returns-clause-completes
 returns-clause-completes g c m v seen asked can =
     begin_completes m v c.args.source.now c.args.target.now c.args.work.now c.args.source_pass.now c.args.target_pass.now c.begin_settled.result asked
-    (c.what_can_begin_is_done.ensures m v c.begin_settled.result can (own_faults c.begin_settled.result _ _ c.begin_settled.ensures.blamed)) (returns-clause-cause g c v seen)
+    (c.what_can_begin_is_done.ensures m v c.begin_settled.result can (own_faults is_of_begin c.begin_settled.result _ _ c.begin_settled.ensures.blamed)) (returns-clause-cause g c v seen)
 
 pub returns-in_err-test_apart-clause-too_long : goal.returns-in_err-test_apart-clause-too_long
 returns-in_err-test_apart-clause-too_long g c =

@@ -21,6 +21,7 @@ use Rattle.migrate_core.specs.Sides.{side_of}
 use Rattle.migrate_core.proofs.Sharing.{next_lacks, none_filled, one_filled, shares_before, stops_more}
 use Rattle.migrate_core.specs.Limits.{StopsFor}
 use Rattle.migrate_core.specs.Sharing.{IsFilled, Lacks, SharesFrom}
+use Rattle.migrate_core.specs.Faults.{is_of_begin}
 use Rattle.migrate_core.proofs.placing.place_missing.Goals as goal
 use Rattle.migrate_core.proofs.placing.place_missing.Goals.{then-branch, else-branch}
 
@@ -91,7 +92,7 @@ pub returns-in_err-place_missing_one-clause-blamed : goal.returns-in_err-place_m
 returns-in_err-place_missing_one-clause-blamed g c =
     let p = err_from_is_err_and c.from_residual.result c.from_residual.ensures.1 in
     rw (p.1, p.2)
-    (blamed_since _ _ _ _ _ _ c.loop-item.invariant.grows c.loop-item.invariant.random c.in_err-place_missing_one.field-0.0 c.in_err-place_missing_one.ensures.blamed)
+    (blamed_since is_of_begin is_of_begin (λ why begins. begins) _ _ _ _ _ _ c.loop-item.invariant.grows c.loop-item.invariant.random c.in_err-place_missing_one.field-0.0 c.in_err-place_missing_one.ensures.blamed)
 
 pub returns-clause-grows : goal.returns-clause-grows
 returns-clause-grows g c = c.loop-item.invariant.grows

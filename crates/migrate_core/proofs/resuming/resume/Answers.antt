@@ -7,7 +7,7 @@ use Rattle.migrate_core.proofs.Endings.{if_ok_more, told_before}
 use Rattle.migrate_core.specs.Moved.{MovesTold}
 use Rattle.migrate_core.proofs.Causing.{folder_unless, refused_as}
 use Rattle.std.proofs.lemmas.Result.{err_from_is_err_and}
-use Rattle.migrate_core.specs.Faults.{of_folder}
+use Rattle.migrate_core.specs.Faults.{is_of_resume, of_folder}
 use Rattle.migrate_core.specs.Causes.{Resumes, Unless}
 use Rattle.migrate_core.proofs.Writings.{refusal_as, folder_refuses, settle_writes, told_after}
 use Rattle.std.proofs.Common.{IfErr, inl}
@@ -88,7 +88,7 @@ pub returns-clause-completes : goal.returns-clause-completes
 returns-clause-completes g c m v seen asked can =
     resume_completes m v c.args.work.now c.args.source_pass.now c.args.target_pass.now c.resume_settled.result asked
     (c.what_can_resume_is_done.ensures m v c.resume_settled.result (folders_of (g.F.Folder.told c.args.folder.now) (g.met.F.Folder.sound c.args.folder.now) v seen) can
-    (own_faults c.resume_settled.result _ _ c.resume_settled.ensures.blamed)) (returns-clause-cause g c v seen)
+    (own_faults is_of_resume c.resume_settled.result _ _ c.resume_settled.ensures.blamed)) (returns-clause-cause g c v seen)
 
 pub returns-in_err-settle-clause-too_long : goal.returns-in_err-settle-clause-too_long
 returns-in_err-settle-clause-too_long g c v seen =

@@ -4,7 +4,7 @@ use Rattle.command_answers.specs.declared.answer.Answer.TheVariants.{FolderFault
 use Rattle.vault_cli.specs.Demo.{IsBare, chances_of}
 use Rattle.vault_cli.specs.DemoTrees.{BringsItems, WhereTold}
 use Rattle.vault_cli.proofs.Demonstrations.{demonstration_told}
-use Rattle.vault_cli.proofs.Executions.{reported_as, with_status}
+use Rattle.command_answers.proofs.Reports.{reported_as, with_status}
 use Rattle.vault_cli.proofs.demo.demo_in.Goals as goal
 
 pub returns-clause-answer : goal.returns-clause-answer

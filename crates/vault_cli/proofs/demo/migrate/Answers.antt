@@ -59,7 +59,7 @@ returns-clause-status g c count =
     (record { blamed = c.in-Err.ensures.blamed; completes = c.in-Err.ensures.completes; too_long = c.in-Err.ensures.too_long; shared = c.in-Err.ensures.shared; written = c.in-Err.ensures.written; moves = c.begin.ensures.moves }) in
     status_ends (chances_by fault) (chances f f' r r' s s' t t' count (Sees (CanCarry leg) count t)) c.status_of.result
     (λ status. begun_ends c.roots_show_their_own.ensures.alike c.roots_have_one_answer.ensures laws c.walks_tell_the_tree.ensures.plan c.small_contents_pass_no_limit.ensures.small leg fault f f' r r' s s' count t t' status (λ a is. g.met.F.Folder.sound c.args.folder.now a is) stops)
-    (c.status_of.ensures.status c.in-Err.ensures.blamed.own)
+    (c.status_of.ensures.status c.in-Err.ensures.blamed.own c.in-Err.ensures.blamed.may)
 
 pub returns-in-Ok-clause-drew : goal.returns-in-Ok-clause-drew
 returns-in-Ok-clause-drew g c count sees = moving_drew c.begin.result c.in_ok-source.source c.in_ok-target.target phrase phrase (g.R.Randoms.left c.args.random.now) (g.R.Randoms.left c.begin.new.random) (g.F.Folder.told c.args.folder.now)

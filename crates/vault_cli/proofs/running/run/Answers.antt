@@ -1,16 +1,39 @@
-use Rattle.std.proofs.Common.{arith, sym, ◌∙◌, map, string_bytes, inl, inr}
+use Rattle.std.proofs.Common.{◌≡◌, ◌⊎◌, ℕ, Option, None, Some, IsNone, IsTrue, arith, sym, ◌∙◌, map, string_bytes, subst}
 use Rattle.command_words.specs.Commands.{command_of}
+use Rattle.command_answers.proofs.Reports.{reported_as, with_status}
+use Rattle.command_answers.specs.Rows.{may_end, may_end_told}
 use Rattle.command_answers.specs.declared.answer.Answer.TheVariants.{FolderFault, InputFault, OutputFault, RandomFault}
-use Rattle.vault_cli.proofs.Executions.{reported, reported_as, bad_is_none, none_is_bad, with_status}
+use Rattle.command_words.specs.declared.commands.Command.{Command}
+use Rattle.vault_cli.proofs.Rows.{in_row}
+use Rattle.vault_cli.proofs.ToldRows.{in_told_row}
 use Rattle.vault_cli.proofs.running.run.Goals as goal
+
+by_none : ((status : ℕ) → IsTrue (may_end None status) → (status ≡ 2) ⊎ (status ≡ 3)) → (command : Option Command) (status : ℕ) → IsNone command → IsTrue (may_end command status) → (status ≡ 2) ⊎ (status ≡ 3)
+by_none law None status none may = law status may
+by_none law (Some command) status none may = cc
 
 pub returns-clause-answer : goal.returns-clause-answer
 returns-clause-answer g c = (
+  c.execute-answer.result,
   c.report-answer.result,
+  c.report-answer.ensures.kept,
   c.status.ensures,
   c.report-answer.ensures.line,
-  reported (command_of (map (λ s. string_bytes s) c.args.words.now)) c.execute-answer.result c.report-answer.result _ _ c.report-answer.ensures.kept c.execute-answer.ensures.executes,
+  c.execute-answer.ensures.executes,
 )
+
+pub returns-clause-row : goal.returns-clause-row
+returns-clause-row g c =
+    let command = command_of (map (λ s. string_bytes s) c.args.words.now) in
+    subst (λ s. IsTrue (may_end command s)) (sym c.status.ensures)
+    (c.reports_are_answers.ensures.any command c.execute-answer.result c.report-answer.result c.report-answer.ensures.kept (in_row command c.execute-answer.result _ _ c.execute-answer.ensures.executes))
+
+pub returns-clause-told_row : goal.returns-clause-told_row
+returns-clause-told_row g c v seen folders =
+    let command = command_of (map (λ s. string_bytes s) c.args.words.now) in
+    subst (λ s. IsTrue (may_end_told command s)) (sym c.status.ensures)
+    (c.reports_are_answers.ensures.told command c.execute-answer.result c.report-answer.result c.report-answer.ensures.kept
+    (in_told_row command c.execute-answer.result _ _ v seen folders c.execute-answer.ensures.executes))
 
 pub returns-clause-folder_fault : goal.returns-clause-folder_fault
 returns-clause-folder_fault g c = λ is.
@@ -35,14 +58,9 @@ returns-clause-random_fault g c = λ is.
 pub returns-clause-bad_command_line : goal.returns-clause-bad_command_line
 returns-clause-bad_command_line g c = λ is.
     let command = command_of (map (λ s. string_bytes s) c.args.words.now) in
-    bad_is_none command c.report-answer.result _ _ (sym c.status.ensures ∙ is)
-    (reported command c.execute-answer.result c.report-answer.result _ _ c.report-answer.ensures.kept c.execute-answer.ensures.executes)
+    c.words_alone_end_with_2.ensures.bad command (subst (λ s. IsTrue (may_end command s)) is (returns-clause-row g c))
 
 pub returns-clause-no_command : goal.returns-clause-no_command
 returns-clause-no_command g c = λ none.
     let command = command_of (map (λ s. string_bytes s) c.args.words.now) in
-    elim (none_is_bad command c.report-answer.result _ _ none
-    (reported command c.execute-answer.result c.report-answer.result _ _ c.report-answer.ensures.kept c.execute-answer.ensures.executes)) [
-      | inl bad ↦ inl (c.status.ensures ∙ bad)
-      | inr memory ↦ inr (c.status.ensures ∙ memory)
-    ]
+    by_none c.words_alone_end_with_2.ensures.none command c.status.result none (returns-clause-row g c)

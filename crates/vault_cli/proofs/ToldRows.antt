@@ -1,0 +1,765 @@
+-- What a folder that tells its state rules out: that `migrate` finds two trees that differ, where no two directories of either vault share a
+-- folder, and that `resume` or `retire` finds a migration that was begun.
+use Rattle.std.proofs.Common.{◌≡◌, ◌≢◌, ◌||◌, Bool, true, false, IsTrue, List, [], ◌∷◌, length, nat_le, ℕ, Option, Some, None, Result, Ok, Err, inl, inr, refl, sym, ap, subst}
+use Rattle.std.specs.Prelude.{MatchOption}
+use Rattle.content_writing.specs.declared.fault.PutFault.{PutFault}
+use Rattle.content_writing.specs.declared.fault.PutFault.TheVariants as puts
+use Rattle.folder_spec.specs.Path.{Path}
+use Rattle.folder_spec.specs.Seen.{IsSeen, under}
+use Rattle.folder_spec.specs.View.{Found, NoEntry, Folder, FileOf, Special, View}
+use Rattle.migrate_core.specs.Causes.{Begins, BeginsApart, BeginsWith, Compares, ForbidsLast, IsOfMoving, IsStop, Moves, Opens, PassesOr, Resumes, ResumesTold, ResumesWith, StopsAt, TestsApart, TestsEmpty, TestsHeld, TestsItems, TestsMatch, TestsNames, TestsSource, TestsTold, Then, Walks, is_done, of_refusal, own, where_in}
+use Rattle.migrate_core.specs.Copying.{HaveOwnFolders}
+use Rattle.migrate_core.specs.Faults.{of_journal, of_match, of_walk, of_work}
+use Rattle.migrate_core.specs.Moved.{opened_in}
+use Rattle.migrate_core.specs.Sides.{AllowsLast, AreTold}
+use Rattle.migrate_core.specs.declared.fault.MoveFault.{MoveFault}
+use Rattle.migrate_core.specs.declared.fault.MoveFault.TheVariants as moves
+use Rattle.migrate_core.specs.declared.placing.Done as placing
+use Rattle.move_journal.specs.Reading.{ReadsAs, journal_bytes}
+use Rattle.move_journal.specs.declared.journal.Journal.{Journal}
+use Rattle.move_journal.specs.declared.journal.JournalFault.{JournalFault}
+use Rattle.move_journal.specs.declared.journal.JournalFault.TheVariants as journals
+use Rattle.move_journal.specs.declared.journal.Phase.{Phase}
+use Rattle.move_journal.specs.declared.journal.Phase.TheVariants as phases
+use Rattle.plain_tree.specs.Names as plain
+use Rattle.retire_core.specs.Causes as retiring
+use Rattle.retire_core.specs.Faults as retired
+use Rattle.retire_core.specs.declared.fault.RetireFault.{RetireFault}
+use Rattle.retire_core.specs.declared.fault.RetireFault.TheVariants as retires
+use Rattle.folder_staging.specs.declared.removal.RemovalFault.{RemovalFault}
+use Rattle.folder_staging.specs.declared.removal.RemovalFault.TheVariants as removals
+use Rattle.tree_match.specs.Guard.{AreApart, old_path}
+use Rattle.tree_match.specs.declared.answer.Match.{Match}
+use Rattle.tree_match.specs.declared.answer.Match.TheVariants.{Same, Contained, Differs}
+use Rattle.tree_match.specs.declared.answer.MatchFault.{MatchFault}
+use Rattle.tree_match.specs.declared.answer.MatchFault.TheVariants as matches
+use Rattle.tree_match.specs.declared.answer.Side.{Side}
+use Rattle.tree_match.specs.declared.answer.Side.TheVariants as sides
+use Rattle.vault_read.specs.Opened.{OpenedVault}
+use Rattle.vault_read.specs.declared.fault.FindFault.TheVariants as finds
+use Rattle.vault_read.specs.declared.fault.LoadFault.TheVariants as loads
+use Rattle.vault_spec.specs.Format.{Format}
+use Rattle.vault_spec.specs.Plan.{Planned}
+use Rattle.vault_spec.specs.Vault.{Either, Loads, Vault, format_of}
+use Rattle.vault_walk.specs.Digest.{plan_digest}
+use Rattle.vault_walk.specs.declared.fault.WalkFault.{WalkFault}
+use Rattle.vault_walk.specs.declared.fault.WalkFault.TheVariants as walks
+use Rattle.folder_staging.specs.Removal.{RemovesAs, deepest, from}
+use Rattle.work_folder.specs.Entering.{Empties, EntersAs}
+use Rattle.work_folder.specs.Entries.{new_journal_path, stage_path}
+use Rattle.work_folder.specs.Looking.{Tests, TestsEntries}
+use Rattle.work_folder.specs.declared.fault.WorkFault.{WorkFault}
+use Rattle.work_folder.specs.declared.fault.WorkFault.TheVariants as works
+use Rattle.command_answers.specs.Answers.{status_of}
+use Rattle.command_answers.specs.Rows.{is_among, may_end, may_end_told, row_of}
+use Rattle.command_answers.specs.declared.answer.Answer.{Answer}
+use Rattle.command_answers.specs.declared.answer.Answer.TheVariants.{Done, Findings, BadCommandLine, OutOfMemory, FolderFault, InputFault, OutputFault, RandomFault, Refused, WrongPass, NotFound, WrongKind, DamagedInput, Damaged, NotAllowed, NotClean, Overlap, NotEmpty, Begun, Unusable, Changed, Differ, ZeroRandom, Taken, Limit, Retired}
+use Rattle.command_answers.specs.declared.answer.Limit.TheVariants as limit
+use Rattle.command_words.specs.declared.commands.Command.{Command}
+use Rattle.command_words.specs.declared.commands.Command.TheVariants.{DecryptFile, Init, Ls, Cat, Fsck, Mkdir, Put, Repair, Migrate, Resume, Retire, Demo}
+use Rattle.command_words.specs.declared.commands.Moving.{Moving}
+use Rattle.command_words.specs.declared.commands.Passes.{Passes}
+use Rattle.command_words.specs.declared.commands.Resuming.{Resuming}
+use Rattle.vault_cli.proofs.Printings.{IsPrinted}
+use Rattle.vault_cli.proofs.Rows.{in_row}
+use Rattle.vault_cli.specs.Faults.{of_move, of_retire}
+use Rattle.vault_cli.specs.Migrate.{MigratesApart, MigratesTree, Pair, RefusesTwo, first_overlap}
+use Rattle.vault_cli.specs.Migrate as migrating
+use Rattle.vault_cli.specs.Moving.{AnswersMove, ArePhrases, Outcome, OfPasses}
+use Rattle.vault_cli.specs.Opening.{OfPassFile, passphrase_in}
+use Rattle.vault_cli.specs.Refusing as refusing
+use Rattle.vault_cli.specs.Resume.{ResumesTree}
+use Rattle.vault_cli.specs.Resume as resuming_on
+use Rattle.vault_cli.specs.Retire.{AnswersRetire, RetiresSource}
+use Rattle.vault_cli.specs.Retire as retiring_on
+use Rattle.vault_cli.specs.Runs.{Executes, OwnsFolders}
+use Rattle.vault_cli.specs.Shown.{Shown, is_of_opening, refused}
+use Rattle.vault_cli.specs.World.{World}
+
+-- ---- one test after the other
+
+abbrev stopped : {Y G : Type 0} → G → Result Y G
+stopped fault = Err fault
+
+fault_is : {Y G : Type 0} (a b : G) → stopped {Y = Y} a ≡ stopped b → a ≡ b
+fault_is a b same = cc
+
+-- what holds of each fault that the test tells, and of what may follow, holds of the fault
+told_then : {X Y F G : Type 0} (P : G → Type 0) (told : F → G) (test : Result X F → Type 0) (next : X → Result Y G → Type 0) (why : G) → ((fault : F) → test (Err fault) → P (told fault))
+    → ((x : X) → test (Ok x) → next x (Err why) → P why) → Then told test next (Err why) → P why
+told_then P told test next why first rest (Ok x, passed, follows) = rest x passed follows
+told_then P told test next why first rest (Err fault, refused, is) = subst P (sym (fault_is why (told fault) is)) (first fault refused)
+
+told_or : {G : Type 0} (P : G → Type 0) (passes fails : Type 0) (fault why : G) → P fault → PassesOr passes fails fault (Err why) → P why
+told_or P passes fails fault why holds (inl passed) = cc passed.1
+told_or P passes fails fault why holds (inr failed) = subst P (sym (fault_is why fault failed.1)) holds
+
+module _ {G : Type 0} (P : G → Type 0) (two : Path → Path → G) (holds : (p q : Path) → P (two p q)) where
+  abbrev pair_apart : Path → Path → Result (Unit {0}) G → Type 0
+  pair_apart p q = PassesOr (AreApart p q) (¬ AreApart p q) (two p q)
+
+  told_apart : (from to work : Path) (why : G) → Then own (pair_apart from to) (λ (_ : Unit {0}). Then own (pair_apart from work) (λ (_ : Unit {0}). pair_apart to work)) (Err why) → P why
+  told_apart from to work why =
+      told_then P own (pair_apart from to) (λ (_ : Unit {0}). Then own (pair_apart from work) (λ (_ : Unit {0}). pair_apart to work)) why
+      (λ fault. told_or P (AreApart from to) (¬ AreApart from to) (two from to) fault (holds from to))
+      (λ x passed. told_then P own (pair_apart from work) (λ (_ : Unit {0}). pair_apart to work) why (λ fault. told_or P (AreApart from work) (¬ AreApart from work) (two from work) fault (holds from work))
+      (λ y passes. told_or P (AreApart to work) (¬ AreApart to work) (two to work) why (holds to work)))
+
+told_names : (P : MoveFault → Type 0) → ((at : plain.Path) → P (moves.NotAllowed at)) → (f : Format) (items : List Planned) (why : MoveFault) → TestsNames f items (Err why) → P why
+told_names P holds f [] why is = cc is
+told_names P holds f (item ∷ items) why tested =
+    told_then P own (PassesOr (AllowsLast f item.path) (ForbidsLast f item.path) (moves.NotAllowed item.path)) (λ (_ : Unit {0}). TestsNames f items) why
+    (λ fault. told_or P (AllowsLast f item.path) (ForbidsLast f item.path) (moves.NotAllowed item.path) fault (holds item.path)) (λ x passed. told_names P holds f items why) tested
+
+told_empty : (P : MoveFault → Type 0) → ((at : Path) → P (moves.NotEmpty at)) → (there : List Planned) (why : MoveFault) → TestsEmpty there (Err why) → P why
+told_empty P holds [] why is = cc is
+told_empty P holds (item ∷ items) why is = subst P (sym (fault_is why (moves.NotEmpty item.at) is)) (holds item.at)
+
+-- ---- `migrate`
+
+-- of a fault that says that the trees differ, this is so
+abbrev OnDiffer : Type 0 → MoveFault → Type 0
+OnDiffer X (moves.Differ path how) = X
+OnDiffer X fault = Unit {0}
+
+work_or : (X : Type 0) (fault : WorkFault) → OnDiffer X (of_work fault)
+work_or X (works.NoParent at) = tt
+work_or X (works.WrongKind at) = tt
+work_or X (works.Foreign at) = tt
+work_or X works.Begun = tt
+work_or X works.Depth = tt
+work_or X works.Failed = tt
+work_or X works.NoMemory = tt
+
+walk_or : (X : Type 0) (fault : WalkFault) → OnDiffer X (of_walk fault)
+walk_or X (walks.NotClean finding) = tt
+walk_or X (walks.Limit which) = tt
+walk_or X walks.Failed = tt
+walk_or X walks.NoMemory = tt
+
+stop_or : (Is X : Type 0) (Q : PutFault → Type 0) → (¬ Is → X) → (fault : MoveFault) → IsStop Is Q fault → OnDiffer X fault
+stop_or Is X Q not (moves.Work fault) stops = tt
+stop_or Is X Q not (moves.Journal fault) stops = tt
+stop_or Is X Q not (moves.Overlap first second) stops = tt
+stop_or Is X Q not (moves.Load side fault) stops = tt
+stop_or Is X Q not (moves.Walk fault) stops = tt
+stop_or Is X Q not (moves.NotEmpty at) stops = tt
+stop_or Is X Q not (moves.NotAllowed path) stops = tt
+stop_or Is X Q not (moves.Changed plan items plan' items') stops = tt
+stop_or Is X Q not (moves.Match fault) stops = tt
+stop_or Is X Q not (moves.Differ path how) stops = not stops
+stop_or Is X Q not (moves.Place fault) stops = tt
+stop_or Is X Q not moves.SourceGone stops = tt
+stop_or Is X Q not moves.Failed stops = tt
+stop_or Is X Q not moves.NoMemory stops = tt
+
+less_differs : (X : Type 0) → ¬ X → (fault : MoveFault) → OnDiffer X fault → OnDiffer ⊥ fault
+less_differs X not (moves.Work fault) differs = tt
+less_differs X not (moves.Journal fault) differs = tt
+less_differs X not (moves.Overlap first second) differs = tt
+less_differs X not (moves.Load side fault) differs = tt
+less_differs X not (moves.Walk fault) differs = tt
+less_differs X not (moves.NotEmpty at) differs = tt
+less_differs X not (moves.NotAllowed path) differs = tt
+less_differs X not (moves.Changed plan items plan' items') differs = tt
+less_differs X not (moves.Match fault) differs = tt
+less_differs X not (moves.Differ path how) differs = not differs
+less_differs X not (moves.Place fault) differs = tt
+less_differs X not moves.SourceGone differs = tt
+less_differs X not moves.Failed differs = tt
+less_differs X not moves.NoMemory differs = tt
+
+module _ (from to work : Path) (source_pass target_pass : List ℕ) (v : View) (why : MoveFault) where
+  -- the two vaults open, and two directories of one of them share a folder
+  abbrev SharesFolder : Type 0
+  SharesFolder =
+      (source target : Vault) × Loads (under from v) source_pass (Ok source) × Loads (under to v) target_pass (Ok target) × (¬ HaveOwnFolders (opened_in from source) (opened_in to target) v)
+
+  module _ (a b : OpenedVault) (shares : ¬ HaveOwnFolders a b v → SharesFolder) where
+    abbrev moved : List Planned → Result placing.Done MoveFault → Type 0
+    moved items = Moves (EntersAs v work) a b v items
+
+    abbrev allowed : List Planned → Result placing.Done MoveFault → Type 0
+    allowed items = Then own (TestsNames (format_of b.vault) items) (λ (_ : Unit {0}). moved items)
+
+    abbrev emptied : List Planned → List Planned → Result placing.Done MoveFault → Type 0
+    emptied items there = Then own (TestsEmpty there) (λ (_ : Unit {0}). allowed items)
+
+    moved_or : (items : List Planned) → moved items (Err why) → OnDiffer SharesFolder why
+    moved_or items =
+        told_then (OnDiffer SharesFolder) of_work (EntersAs v work) (λ (_ : Unit {0}). IsOfMoving (HaveOwnFolders a b v) (StopsAt (HaveOwnFolders a b v) a v items)) why (λ fault refused. work_or SharesFolder fault)
+        (λ x passed. stop_or (HaveOwnFolders a b v) SharesFolder (StopsAt (HaveOwnFolders a b v) a v items) shares why)
+
+    emptied_or : (items there : List Planned) → emptied items there (Err why) → OnDiffer SharesFolder why
+    emptied_or items there =
+        told_then (OnDiffer SharesFolder) own (TestsEmpty there) (λ (_ : Unit {0}). allowed items) why (λ fault. told_empty (OnDiffer SharesFolder) (λ at. tt) there fault)
+        (λ x passed. told_then (OnDiffer SharesFolder) own (TestsNames (format_of b.vault) items) (λ (_ : Unit {0}). moved items) why
+        (λ fault. told_names (OnDiffer SharesFolder) (λ at. tt) (format_of b.vault) items fault) (λ y passes. moved_or items))
+
+    with_or : BeginsWith {Y = placing.Done} a b work v (Err why) → OnDiffer SharesFolder why
+    with_or =
+        told_then (OnDiffer SharesFolder) of_walk (Walks a v) (λ items. Then of_walk (Walks b v) (λ there. emptied items there)) why (λ fault refused. walk_or SharesFolder fault)
+        (λ items walked. told_then (OnDiffer SharesFolder) of_walk (Walks b v) (λ there. emptied items there) why (λ fault refused. walk_or SharesFolder fault) (λ there walked_too. emptied_or items there))
+
+  opens_or : Opens {Y = placing.Done} v from to source_pass target_pass (λ a b. BeginsWith a b work v) (Err why) → OnDiffer SharesFolder why
+  opens_or =
+      told_then (OnDiffer SharesFolder) (of_refusal sides.Source from) (Loads (under from v) source_pass)
+      (λ source. Then (of_refusal sides.Target to) (Loads (under to v) target_pass) (λ target. BeginsWith {Y = placing.Done} (opened_in from source) (opened_in to target) work v)) why (λ refusal refused. tt)
+      (λ source loads. told_then (OnDiffer SharesFolder) (of_refusal sides.Target to) (Loads (under to v) target_pass) (λ target. BeginsWith {Y = placing.Done} (opened_in from source) (opened_in to target) work v) why (λ refusal refused. tt)
+      (λ target loads_too. with_or (opened_in from source) (opened_in to target) (λ shared. (source, target, loads, loads_too, shared))))
+
+  begins_or : Begins {Y = placing.Done} from to work source_pass target_pass v (Err why) → OnDiffer SharesFolder why
+  begins_or =
+      told_then (OnDiffer SharesFolder) own (TestsApart from to work) (λ (_ : Unit {0}). BeginsApart {Y = placing.Done} from to work source_pass target_pass v) why
+      (λ fault. told_apart (OnDiffer SharesFolder) moves.Overlap (λ p q. tt) from to work fault)
+      (λ x passed. told_then (OnDiffer SharesFolder) of_work (Tests v work) (λ (_ : Unit {0}). Opens {Y = placing.Done} v from to source_pass target_pass (λ a b. BeginsWith a b work v)) why
+      (λ fault refused. work_or SharesFolder fault) (λ y passes. opens_or))
+
+-- ---- `resume`
+
+-- the fault doesn't say that a migration was begun
+abbrev NotBegun : MoveFault → Type 0
+NotBegun (moves.Work works.Begun) = ⊥
+NotBegun fault = Unit {0}
+
+not_by_journal : (fault : JournalFault) → NotBegun (of_journal fault)
+not_by_journal journals.NoJournal = tt
+not_by_journal (journals.BadJournal number) = tt
+not_by_journal journals.TooLarge = tt
+not_by_journal journals.Failed = tt
+not_by_journal journals.NoMemory = tt
+
+not_by_entries : (old : Bool) (v : View) (work : Path) (fault : WorkFault) → TestsEntries old v work (Err fault) → NotBegun (of_work fault)
+not_by_entries old v work (works.NoParent at) tested = tt
+not_by_entries old v work (works.WrongKind at) tested = tt
+not_by_entries old v work (works.Foreign at) tested = tt
+not_by_entries old v work works.Begun (inl passed) = cc passed.1
+not_by_entries old v work works.Begun (inr first) = cc first.2
+not_by_entries old v work works.Depth tested = tt
+not_by_entries old v work works.Failed tested = tt
+not_by_entries old v work works.NoMemory tested = tt
+
+not_by_stage : (v : View) (work : Path) (fault : WorkFault) → Empties v work (Err fault) → NotBegun (of_work fault)
+not_by_stage v work (works.NoParent at) empties = tt
+not_by_stage v work (works.WrongKind at) empties = tt
+not_by_stage v work (works.Foreign at) empties = tt
+not_by_stage v work works.Begun empties = absurd empties
+not_by_stage v work works.Depth empties = tt
+not_by_stage v work works.Failed empties = tt
+not_by_stage v work works.NoMemory empties = tt
+
+not_by_walk : (fault : WalkFault) → NotBegun (of_walk fault)
+not_by_walk (walks.NotClean finding) = tt
+not_by_walk (walks.Limit which) = tt
+not_by_walk walks.Failed = tt
+not_by_walk walks.NoMemory = tt
+
+not_by_match : (fault : MatchFault) → NotBegun (of_match fault)
+not_by_match (matches.Damaged at why) = tt
+not_by_match (matches.Limit which) = tt
+not_by_match matches.Failed = tt
+not_by_match matches.NoMemory = tt
+
+not_by_source : (phase : Phase) (work source : Path) (v : View) (why : MoveFault) → TestsSource phase work source v (Err why) → NotBegun why
+not_by_source phases.Building work source v why is = cc is
+not_by_source phases.Done work source v why tested = told_or NotBegun _ _ moves.SourceGone why tt tested
+
+not_by_difference : (m : Match) (why : MoveFault) → TestsHeld m (Err why) → NotBegun why
+not_by_difference Same why is = cc is
+not_by_difference (Contained path) why is = cc is
+not_by_difference (Differs path how) why is = subst NotBegun (sym (fault_is why (moves.Differ path (where_in how)) is)) tt
+
+not_by_stop : (Is : Type 0) (Q : PutFault → Type 0) (why : MoveFault) → IsStop Is Q why → NotBegun why
+not_by_stop Is Q (moves.Work fault) stops = absurd stops
+not_by_stop Is Q (moves.Journal fault) stops = tt
+not_by_stop Is Q (moves.Overlap first second) stops = tt
+not_by_stop Is Q (moves.Load side fault) stops = tt
+not_by_stop Is Q (moves.Walk fault) stops = tt
+not_by_stop Is Q (moves.NotEmpty at) stops = tt
+not_by_stop Is Q (moves.NotAllowed path) stops = tt
+not_by_stop Is Q (moves.Changed plan items plan' items') stops = tt
+not_by_stop Is Q (moves.Match fault) stops = tt
+not_by_stop Is Q (moves.Differ path how) stops = tt
+not_by_stop Is Q (moves.Place fault) stops = tt
+not_by_stop Is Q moves.SourceGone stops = tt
+not_by_stop Is Q moves.Failed stops = tt
+not_by_stop Is Q moves.NoMemory stops = tt
+
+module _ (work : Path) (source_pass target_pass : List ℕ) (v : View) (why : MoveFault) where
+  module _ (journal : Journal) (a b : OpenedVault) where
+    abbrev goes : List Planned → Result placing.Done MoveFault → Type 0
+    goes items = Moves (Empties v work) a b v items
+
+    abbrev compares : List Planned → List Planned → Result placing.Done MoveFault → Type 0
+    compares items there = TestsMatch b there a items v (goes items)
+
+    goes_not : (items : List Planned) → goes items (Err why) → NotBegun why
+    goes_not items =
+        told_then NotBegun of_work (Empties v work) (λ (_ : Unit {0}). IsOfMoving (HaveOwnFolders a b v) (StopsAt (HaveOwnFolders a b v) a v items)) why (not_by_stage v work)
+        (λ x passed. not_by_stop (HaveOwnFolders a b v) (StopsAt (HaveOwnFolders a b v) a v items) why)
+
+    compares_not : (items there : List Planned) → compares items there (Err why) → NotBegun why
+    compares_not items there =
+        told_then NotBegun of_match (Compares b there a items v) (λ m. Then own (TestsHeld m) (λ (_ : Unit {0}). goes items)) why (λ fault compared. not_by_match fault)
+        (λ m compared. told_then NotBegun own (TestsHeld m) (λ (_ : Unit {0}). goes items) why (not_by_difference m) (λ x passed. goes_not items))
+
+    items_not : (items there : List Planned) → TestsItems a b journal v items there (goes items) (Err why) → NotBegun why
+    items_not items there =
+        told_then NotBegun own (TestsTold journal items) (λ (_ : Unit {0}). Then own (TestsNames (format_of b.vault) items) (λ (_ : Unit {0}). compares items there)) why
+        (λ fault. told_or NotBegun (AreTold journal items) (¬ AreTold journal items) (moves.Changed journal.plan journal.items (plan_digest items) (length items)) fault tt)
+        (λ x passed. told_then NotBegun own (TestsNames (format_of b.vault) items) (λ (_ : Unit {0}). compares items there) why (λ fault. told_names NotBegun (λ at. tt) (format_of b.vault) items fault)
+        (λ y passes. compares_not items there))
+
+    with_not : ResumesWith {Y = placing.Done} a b work journal v (Err why) → NotBegun why
+    with_not =
+        told_then NotBegun of_walk (Walks a v) (λ items. Then of_walk (Walks b v) (λ there. TestsItems a b journal v items there (goes items))) why (λ fault walked. not_by_walk fault)
+        (λ items walked. told_then NotBegun of_walk (Walks b v) (λ there. TestsItems a b journal v items there (goes items)) why (λ fault walked_too. not_by_walk fault) (λ there walked_too. items_not items there))
+
+  told_not : (journal : Journal) → ResumesTold {Y = placing.Done} work source_pass target_pass v journal (Err why) → NotBegun why
+  told_not journal =
+      told_then NotBegun own (TestsSource journal.phase work journal.source v)
+      (λ (_ : Unit {0}). Opens {Y = placing.Done} v journal.source journal.target source_pass target_pass (λ a b. ResumesWith a b work journal v)) why (not_by_source journal.phase work journal.source v)
+      (λ x passed. told_then NotBegun (of_refusal sides.Source journal.source) (Loads (under journal.source v) source_pass)
+      (λ source. Then (of_refusal sides.Target journal.target) (Loads (under journal.target v) target_pass) (λ target. ResumesWith {Y = placing.Done} (opened_in journal.source source) (opened_in journal.target target) work journal v)) why
+      (λ refusal refused. tt)
+      (λ source loads. told_then NotBegun (of_refusal sides.Target journal.target) (Loads (under journal.target v) target_pass) (λ target. ResumesWith {Y = placing.Done} (opened_in journal.source source) (opened_in journal.target target) work journal v) why
+      (λ refusal refused. tt) (λ target loads_too. with_not journal (opened_in journal.source source) (opened_in journal.target target))))
+
+  resumes_not : Resumes {Y = placing.Done} work source_pass target_pass v (Err why) → NotBegun why
+  resumes_not =
+      told_then NotBegun of_journal (ReadsAs (journal_bytes v work))
+      (λ journal. Then own (TestsApart journal.source journal.target work) (λ (_ : Unit {0}). Then of_work (TestsEntries (is_done journal.phase) v work) (λ (_ : Unit {0}). ResumesTold {Y = placing.Done} work source_pass target_pass v journal))) why
+      (λ fault reads. not_by_journal fault)
+      (λ journal reads. told_then NotBegun own (TestsApart journal.source journal.target work) (λ (_ : Unit {0}). Then of_work (TestsEntries (is_done journal.phase) v work) (λ (_ : Unit {0}). ResumesTold {Y = placing.Done} work source_pass target_pass v journal)) why
+      (λ fault. told_apart NotBegun moves.Overlap (λ p q. tt) journal.source journal.target work fault)
+      (λ x passed. told_then NotBegun of_work (TestsEntries (is_done journal.phase) v work) (λ (_ : Unit {0}). ResumesTold {Y = placing.Done} work source_pass target_pass v journal) why
+      (not_by_entries (is_done journal.phase) v work) (λ y passes. told_not journal)))
+
+-- ---- `retire`
+
+abbrev NeverBegun : RetireFault → Type 0
+NeverBegun (retires.Work works.Begun) = ⊥
+NeverBegun fault = Unit {0}
+
+never_by_journal : (fault : JournalFault) → NeverBegun (retired.of_journal fault)
+never_by_journal journals.NoJournal = tt
+never_by_journal (journals.BadJournal number) = tt
+never_by_journal journals.TooLarge = tt
+never_by_journal journals.Failed = tt
+never_by_journal journals.NoMemory = tt
+
+never_by_entries : (old : Bool) (v : View) (work : Path) (fault : WorkFault) → TestsEntries old v work (Err fault) → NeverBegun (retired.of_work fault)
+never_by_entries old v work (works.NoParent at) tested = tt
+never_by_entries old v work (works.WrongKind at) tested = tt
+never_by_entries old v work (works.Foreign at) tested = tt
+never_by_entries old v work works.Begun (inl passed) = cc passed.1
+never_by_entries old v work works.Begun (inr first) = cc first.2
+never_by_entries old v work works.Depth tested = tt
+never_by_entries old v work works.Failed tested = tt
+never_by_entries old v work works.NoMemory tested = tt
+
+never_by_walk : (fault : WalkFault) → NeverBegun (retired.of_walk fault)
+never_by_walk (walks.NotClean finding) = tt
+never_by_walk (walks.Limit which) = tt
+never_by_walk walks.Failed = tt
+never_by_walk walks.NoMemory = tt
+
+never_by_match : (fault : MatchFault) → NeverBegun (retired.of_match fault)
+never_by_match (matches.Damaged at why) = tt
+never_by_match (matches.Limit which) = tt
+never_by_match matches.Failed = tt
+never_by_match matches.NoMemory = tt
+
+never_by_removal : (fault : RemovalFault) → NeverBegun (retired.of_removal fault)
+never_by_removal removals.Depth = tt
+never_by_removal (removals.Other at) = tt
+never_by_removal removals.Failed = tt
+never_by_removal removals.NoMemory = tt
+
+never_by_phase : (journal : Journal) (phase : Phase) (why : RetireFault) → retiring.TestsPhase journal phase (Err why) → NeverBegun why
+never_by_phase journal phases.Building why is = subst NeverBegun (sym (fault_is why retires.Unfinished is)) tt
+never_by_phase journal phases.Done why is = cc is
+
+never_by_difference : (m : Match) (why : RetireFault) → retiring.TestsMatch m (Err why) → NeverBegun why
+never_by_difference Same why is = cc is
+never_by_difference (Contained path) why is = cc is
+never_by_difference (Differs path how) why is = subst NeverBegun (sym (fault_is why (retires.Differ path (retiring.where_of how)) is)) tt
+
+-- where a test passes, nothing follows
+passes_not : {X : Type 0} (x : X) (why : RetireFault) → retiring.Passes x (Err why) → NeverBegun why
+passes_not x why is = cc is
+
+module _ (work : Path) (source_pass target_pass : List ℕ) (v : View) where
+  reads_never : (why : RetireFault) → retiring.ReadsDone work v (Err why) → NeverBegun why
+  reads_never why =
+      told_then NeverBegun retired.of_journal (ReadsAs (journal_bytes v work)) (λ (journal : Journal). retiring.TestsPhase journal journal.phase) why (λ fault reads. never_by_journal fault)
+      (λ journal reads. never_by_phase journal journal.phase why)
+
+  opens_never : (side : Side) (root : Path) (pass : List ℕ) (why : RetireFault) → retiring.Opens side root pass v (Err why) → NeverBegun why
+  opens_never side root pass why =
+      told_then NeverBegun (retiring.of_refusal side root) (Loads (under root v) pass) (λ (vault : Vault). retiring.Passes (opened_in root vault)) why (λ refusal refused. tt) (λ vault loads. passes_not (opened_in root vault) why)
+
+  clean_never : (a : OpenedVault) (why : RetireFault) → retiring.TestsClean a v (Err why) → NeverBegun why
+  clean_never a why = told_then NeverBegun retired.of_walk (Walks a v) retiring.Passes why (λ fault walked. never_by_walk fault) (λ items walked. passes_not items why)
+
+  items_never : (a : OpenedVault) (items : List Planned) (b : OpenedVault) (others : List Planned) (why : RetireFault) → retiring.TestsItems a items b others v (Err why) → NeverBegun why
+  items_never a items b others why =
+      told_then NeverBegun retired.of_match (Compares a items b others v) retiring.TestsMatch why (λ fault compared. never_by_match fault) (λ m compared. never_by_difference m why)
+
+  vaults_never : (a b : OpenedVault) (why : RetireFault) → retiring.TestsVaults a b v (Err why) → NeverBegun why
+  vaults_never a b why =
+      told_then NeverBegun own (retiring.TestsClean a v) (λ items. Then own (retiring.TestsClean b v) (λ others. retiring.TestsItems a items b others v)) why (clean_never a)
+      (λ items clean. told_then NeverBegun own (retiring.TestsClean b v) (λ others. retiring.TestsItems a items b others v) why (clean_never b) (λ others clean_too. items_never a items b others why))
+
+  held_never : (from to : Path) (why : RetireFault) → retiring.TestsHeld from to source_pass target_pass v (Err why) → NeverBegun why
+  held_never from to why =
+      told_then NeverBegun own (retiring.Opens sides.Source from source_pass v) (λ source. Then own (retiring.Opens sides.Target to target_pass v) (λ target. retiring.TestsVaults source target v)) why
+      (opens_never sides.Source from source_pass)
+      (λ source opens. told_then NeverBegun own (retiring.Opens sides.Target to target_pass v) (λ target. retiring.TestsVaults source target v) why (opens_never sides.Target to target_pass)
+      (λ target opens_too. vaults_never source target why))
+
+  away_never : (journal : Journal) (why : RetireFault) → retiring.TestsAway work source_pass target_pass journal v (Err why) → NeverBegun why
+  away_never journal why (inl gone) = cc gone.1
+  away_never journal why (inr there) =
+      told_then NeverBegun own (retiring.TestsFree work v) (λ (_ : Unit {0}). retiring.TestsHeld journal.source journal.target source_pass target_pass v) why
+      (λ fault. told_or NeverBegun (v (old_path work) ≡ NoEntry) (v (old_path work) ≢ NoEntry) (retires.Work (works.Foreign (old_path work))) fault tt) (λ x free. held_never journal.source journal.target why) there.1
+
+  removal_never : (at : Path) (w : View) (why : RetireFault) → retiring.TestsRemoval at w (Err why) → NeverBegun why
+  removal_never at w why =
+      told_then NeverBegun retired.of_removal (RemovesAs (from at deepest) w) retiring.Passes why (λ fault removes. never_by_removal fault) (λ x removed. passes_not x why)
+
+  removals_never : (w : View) (why : RetireFault) → retiring.TestsRemovals work w (Err why) → NeverBegun why
+  removals_never w why =
+      told_then NeverBegun own (retiring.TestsRemoval (old_path work) w) (λ (_ : Unit {0}). Then own (retiring.TestsRemoval (stage_path work) w) (λ (_ : Unit {0}). retiring.TestsRemoval (new_journal_path work) w)) why
+      (removal_never (old_path work) w)
+      (λ x removed. told_then NeverBegun own (retiring.TestsRemoval (stage_path work) w) (λ (_ : Unit {0}). retiring.TestsRemoval (new_journal_path work) w) why (removal_never (stage_path work) w)
+      (λ y removes. removal_never (new_journal_path work) w why))
+
+  gone_never : (journal : Journal) (why : RetireFault) → retiring.RetiresTold work source_pass target_pass journal v (Err why) → NeverBegun why
+  gone_never journal why =
+      told_then NeverBegun own (retiring.TestsAway work source_pass target_pass journal v)
+      (λ (_ : Unit {0}). Then own (retiring.TestsRemovals work (retiring.moved_away (v journal.source) journal.source work v)) (λ (_ : Unit {0}). retiring.Passes (retiring.retired_of journal))) why (away_never journal)
+      (λ x away. told_then NeverBegun own (retiring.TestsRemovals work (retiring.moved_away (v journal.source) journal.source work v)) (λ (_ : Unit {0}). retiring.Passes (retiring.retired_of journal)) why
+      (removals_never (retiring.moved_away (v journal.source) journal.source work v)) (λ y removed. passes_not (retiring.retired_of journal) why))
+
+  retires_never : (why : RetireFault) → retiring.Retires work source_pass target_pass v (Err why) → NeverBegun why
+  retires_never why =
+      told_then NeverBegun own (retiring.ReadsDone work v)
+      (λ journal. Then own (retiring.TestsApart journal.source journal.target work) (λ (_ : Unit {0}). Then retired.of_work (TestsEntries true v work) (λ (_ : Unit {0}). retiring.RetiresTold work source_pass target_pass journal v))) why
+      reads_never
+      (λ journal reads. told_then NeverBegun own (retiring.TestsApart journal.source journal.target work) (λ (_ : Unit {0}). Then retired.of_work (TestsEntries true v work) (λ (_ : Unit {0}). retiring.RetiresTold work source_pass target_pass journal v)) why
+      (λ fault. told_apart NeverBegun retires.Overlap (λ p q. tt) journal.source journal.target work fault)
+      (λ x passed. told_then NeverBegun retired.of_work (TestsEntries true v work) (λ (_ : Unit {0}). retiring.RetiresTold work source_pass target_pass journal v) why (never_by_entries true v work)
+      (λ y passes. gone_never journal why)))
+
+-- ---- the answers
+
+no_difference : (work root : Path) (fault : MoveFault) → OnDiffer ⊥ fault → ¬ IsTrue (is_among (20 ∷ []) (status_of (of_move work root fault)))
+no_difference work root (moves.Work (works.NoParent at)) not is = cc is
+no_difference work root (moves.Work (works.WrongKind at)) not is = cc is
+no_difference work root (moves.Work (works.Foreign at)) not is = cc is
+no_difference work root (moves.Work works.Begun) not is = cc is
+no_difference work root (moves.Work works.Depth) not is = cc is
+no_difference work root (moves.Work works.Failed) not is = cc is
+no_difference work root (moves.Work works.NoMemory) not is = cc is
+no_difference work root (moves.Journal journals.NoJournal) not is = cc is
+no_difference work root (moves.Journal (journals.BadJournal number)) not is = cc is
+no_difference work root (moves.Journal journals.TooLarge) not is = cc is
+no_difference work root (moves.Journal journals.Failed) not is = cc is
+no_difference work root (moves.Journal journals.NoMemory) not is = cc is
+no_difference work root (moves.Overlap first second) not is = cc is
+no_difference work root (moves.Load side (loads.Missing at)) not is = cc is
+no_difference work root (moves.Load side (loads.WrongKind at)) not is = cc is
+no_difference work root (moves.Load side (loads.TooLarge at)) not is = cc is
+no_difference work root (moves.Load side (loads.Go why)) not is = cc is
+no_difference work root (moves.Load side (loads.Cm at why)) not is = cc is
+no_difference work root (moves.Load side loads.WrongPass) not is = cc is
+no_difference work root (moves.Load side loads.BadSignature) not is = cc is
+no_difference work root (moves.Load side loads.Failed) not is = cc is
+no_difference work root (moves.Load side loads.NoMemory) not is = cc is
+no_difference work root (moves.Walk (walks.NotClean finding)) not is = cc is
+no_difference work root (moves.Walk (walks.Limit which)) not is = cc is
+no_difference work root (moves.Walk walks.Failed) not is = cc is
+no_difference work root (moves.Walk walks.NoMemory) not is = cc is
+no_difference work root (moves.NotEmpty at) not is = cc is
+no_difference work root (moves.NotAllowed path) not is = cc is
+no_difference work root (moves.Changed plan items plan' items') not is = cc is
+no_difference work root (moves.Match (matches.Damaged at why)) not is = cc is
+no_difference work root (moves.Match (matches.Limit which)) not is = cc is
+no_difference work root (moves.Match matches.Failed) not is = cc is
+no_difference work root (moves.Match matches.NoMemory) not is = cc is
+no_difference work root (moves.Differ path how) not is = absurd not
+no_difference work root (moves.Place (puts.Find (finds.NotFound path))) not is = cc is
+no_difference work root (moves.Place (puts.Find (finds.WrongKind path))) not is = cc is
+no_difference work root (moves.Place (puts.Find (finds.NoDirKey at))) not is = cc is
+no_difference work root (moves.Place (puts.Find (finds.NoFolder at))) not is = cc is
+no_difference work root (moves.Place (puts.Find finds.Failed)) not is = cc is
+no_difference work root (moves.Place (puts.Find finds.NoMemory)) not is = cc is
+no_difference work root (moves.Place (puts.NotAllowed path)) not is = cc is
+no_difference work root (moves.Place (puts.Taken at)) not is = cc is
+no_difference work root (moves.Place (puts.Damaged at why)) not is = cc is
+no_difference work root (moves.Place (puts.Limit which)) not is = cc is
+no_difference work root (moves.Place puts.ZeroRandom) not is = cc is
+no_difference work root (moves.Place puts.Source) not is = cc is
+no_difference work root (moves.Place puts.Random) not is = cc is
+no_difference work root (moves.Place puts.Failed) not is = cc is
+no_difference work root (moves.Place puts.NoMemory) not is = cc is
+no_difference work root moves.SourceGone not is = cc is
+no_difference work root moves.Failed not is = cc is
+no_difference work root moves.NoMemory not is = cc is
+
+no_beginning : (work root : Path) (fault : MoveFault) → NotBegun fault → ¬ IsTrue (is_among (17 ∷ []) (status_of (of_move work root fault)))
+no_beginning work root (moves.Work (works.NoParent at)) not is = cc is
+no_beginning work root (moves.Work (works.WrongKind at)) not is = cc is
+no_beginning work root (moves.Work (works.Foreign at)) not is = cc is
+no_beginning work root (moves.Work works.Begun) not is = absurd not
+no_beginning work root (moves.Work works.Depth) not is = cc is
+no_beginning work root (moves.Work works.Failed) not is = cc is
+no_beginning work root (moves.Work works.NoMemory) not is = cc is
+no_beginning work root (moves.Journal journals.NoJournal) not is = cc is
+no_beginning work root (moves.Journal (journals.BadJournal number)) not is = cc is
+no_beginning work root (moves.Journal journals.TooLarge) not is = cc is
+no_beginning work root (moves.Journal journals.Failed) not is = cc is
+no_beginning work root (moves.Journal journals.NoMemory) not is = cc is
+no_beginning work root (moves.Overlap first second) not is = cc is
+no_beginning work root (moves.Load side (loads.Missing at)) not is = cc is
+no_beginning work root (moves.Load side (loads.WrongKind at)) not is = cc is
+no_beginning work root (moves.Load side (loads.TooLarge at)) not is = cc is
+no_beginning work root (moves.Load side (loads.Go why)) not is = cc is
+no_beginning work root (moves.Load side (loads.Cm at why)) not is = cc is
+no_beginning work root (moves.Load side loads.WrongPass) not is = cc is
+no_beginning work root (moves.Load side loads.BadSignature) not is = cc is
+no_beginning work root (moves.Load side loads.Failed) not is = cc is
+no_beginning work root (moves.Load side loads.NoMemory) not is = cc is
+no_beginning work root (moves.Walk (walks.NotClean finding)) not is = cc is
+no_beginning work root (moves.Walk (walks.Limit which)) not is = cc is
+no_beginning work root (moves.Walk walks.Failed) not is = cc is
+no_beginning work root (moves.Walk walks.NoMemory) not is = cc is
+no_beginning work root (moves.NotEmpty at) not is = cc is
+no_beginning work root (moves.NotAllowed path) not is = cc is
+no_beginning work root (moves.Changed plan items plan' items') not is = cc is
+no_beginning work root (moves.Match (matches.Damaged at why)) not is = cc is
+no_beginning work root (moves.Match (matches.Limit which)) not is = cc is
+no_beginning work root (moves.Match matches.Failed) not is = cc is
+no_beginning work root (moves.Match matches.NoMemory) not is = cc is
+no_beginning work root (moves.Differ path how) not is = cc is
+no_beginning work root (moves.Place (puts.Find (finds.NotFound path))) not is = cc is
+no_beginning work root (moves.Place (puts.Find (finds.WrongKind path))) not is = cc is
+no_beginning work root (moves.Place (puts.Find (finds.NoDirKey at))) not is = cc is
+no_beginning work root (moves.Place (puts.Find (finds.NoFolder at))) not is = cc is
+no_beginning work root (moves.Place (puts.Find finds.Failed)) not is = cc is
+no_beginning work root (moves.Place (puts.Find finds.NoMemory)) not is = cc is
+no_beginning work root (moves.Place (puts.NotAllowed path)) not is = cc is
+no_beginning work root (moves.Place (puts.Taken at)) not is = cc is
+no_beginning work root (moves.Place (puts.Damaged at why)) not is = cc is
+no_beginning work root (moves.Place (puts.Limit which)) not is = cc is
+no_beginning work root (moves.Place puts.ZeroRandom) not is = cc is
+no_beginning work root (moves.Place puts.Source) not is = cc is
+no_beginning work root (moves.Place puts.Random) not is = cc is
+no_beginning work root (moves.Place puts.Failed) not is = cc is
+no_beginning work root (moves.Place puts.NoMemory) not is = cc is
+no_beginning work root moves.SourceGone not is = cc is
+no_beginning work root moves.Failed not is = cc is
+no_beginning work root moves.NoMemory not is = cc is
+
+never_beginning : (work root : Path) (fault : RetireFault) → NeverBegun fault → ¬ IsTrue (is_among (17 ∷ []) (status_of (of_retire work root fault)))
+never_beginning work root (retires.Work (works.NoParent at)) not is = cc is
+never_beginning work root (retires.Work (works.WrongKind at)) not is = cc is
+never_beginning work root (retires.Work (works.Foreign at)) not is = cc is
+never_beginning work root (retires.Work works.Begun) not is = absurd not
+never_beginning work root (retires.Work works.Depth) not is = cc is
+never_beginning work root (retires.Work works.Failed) not is = cc is
+never_beginning work root (retires.Work works.NoMemory) not is = cc is
+never_beginning work root (retires.Journal journals.NoJournal) not is = cc is
+never_beginning work root (retires.Journal (journals.BadJournal number)) not is = cc is
+never_beginning work root (retires.Journal journals.TooLarge) not is = cc is
+never_beginning work root (retires.Journal journals.Failed) not is = cc is
+never_beginning work root (retires.Journal journals.NoMemory) not is = cc is
+never_beginning work root (retires.Overlap first second) not is = cc is
+never_beginning work root (retires.Load side (loads.Missing at)) not is = cc is
+never_beginning work root (retires.Load side (loads.WrongKind at)) not is = cc is
+never_beginning work root (retires.Load side (loads.TooLarge at)) not is = cc is
+never_beginning work root (retires.Load side (loads.Go why)) not is = cc is
+never_beginning work root (retires.Load side (loads.Cm at why)) not is = cc is
+never_beginning work root (retires.Load side loads.WrongPass) not is = cc is
+never_beginning work root (retires.Load side loads.BadSignature) not is = cc is
+never_beginning work root (retires.Load side loads.Failed) not is = cc is
+never_beginning work root (retires.Load side loads.NoMemory) not is = cc is
+never_beginning work root (retires.Walk (walks.NotClean finding)) not is = cc is
+never_beginning work root (retires.Walk (walks.Limit which)) not is = cc is
+never_beginning work root (retires.Walk walks.Failed) not is = cc is
+never_beginning work root (retires.Walk walks.NoMemory) not is = cc is
+never_beginning work root retires.Unfinished not is = cc is
+never_beginning work root (retires.Match (matches.Damaged at why)) not is = cc is
+never_beginning work root (retires.Match (matches.Limit which)) not is = cc is
+never_beginning work root (retires.Match matches.Failed) not is = cc is
+never_beginning work root (retires.Match matches.NoMemory) not is = cc is
+never_beginning work root (retires.Differ path how) not is = cc is
+never_beginning work root retires.Depth not is = cc is
+never_beginning work root retires.Failed not is = cc is
+never_beginning work root retires.NoMemory not is = cc is
+
+-- an answer of the row that isn't one of a folder that contradicts itself
+told_by : (a b : Bool) → IsTrue (a || b) → ¬ IsTrue b → IsTrue a
+told_by true b may not = refl
+told_by false b may not = absurd (not may)
+
+-- each answer to a vault that isn't opened
+by_opening : (p : ℕ → Bool) → IsTrue (p 3) → IsTrue (p 4) → IsTrue (p 8) → IsTrue (p 9) → IsTrue (p 10) → IsTrue (p 11) → IsTrue (p 23) → (answer : Answer) → IsTrue (is_of_opening answer) → IsTrue (p (status_of answer))
+by_opening p memory failed refuses wrong missing other limited Done own = cc
+by_opening p memory failed refuses wrong missing other limited Findings own = cc
+by_opening p memory failed refuses wrong missing other limited BadCommandLine own = cc
+by_opening p memory failed refuses wrong missing other limited OutOfMemory own = memory
+by_opening p memory failed refuses wrong missing other limited FolderFault own = failed
+by_opening p memory failed refuses wrong missing other limited InputFault own = cc
+by_opening p memory failed refuses wrong missing other limited OutputFault own = cc
+by_opening p memory failed refuses wrong missing other limited RandomFault own = cc
+by_opening p memory failed refuses wrong missing other limited (Refused at why) own = refuses
+by_opening p memory failed refuses wrong missing other limited (WrongPass root) own = wrong
+by_opening p memory failed refuses wrong missing other limited (NotFound what) own = missing
+by_opening p memory failed refuses wrong missing other limited (WrongKind what) own = other
+by_opening p memory failed refuses wrong missing other limited (DamagedInput fault) own = cc
+by_opening p memory failed refuses wrong missing other limited (Damaged at how) own = cc
+by_opening p memory failed refuses wrong missing other limited (NotAllowed path) own = cc
+by_opening p memory failed refuses wrong missing other limited (NotClean at number) own = cc
+by_opening p memory failed refuses wrong missing other limited (Overlap first second) own = cc
+by_opening p memory failed refuses wrong missing other limited (NotEmpty at) own = cc
+by_opening p memory failed refuses wrong missing other limited (Begun work) own = cc
+by_opening p memory failed refuses wrong missing other limited (Unusable work why) own = cc
+by_opening p memory failed refuses wrong missing other limited (Changed plan items plan' items') own = cc
+by_opening p memory failed refuses wrong missing other limited (Differ path how) own = cc
+by_opening p memory failed refuses wrong missing other limited ZeroRandom own = cc
+by_opening p memory failed refuses wrong missing other limited (Taken at) own = cc
+by_opening p memory failed refuses wrong missing other limited (Limit which) own = limited
+by_opening p memory failed refuses wrong missing other limited (Retired work) own = cc
+
+-- a passphrase that isn't read
+by_file : (at : Path) (there : Found) (answer : Answer) (next : List ℕ → Type 0) → ((phrase : List ℕ) → next phrase → IsTrue (is_of_opening answer)) → OfPassFile at there (refused answer) next → IsTrue (is_of_opening answer)
+by_file at NoEntry answer next more is = subst (λ a. IsTrue (is_of_opening a)) (sym (ap (λ (s : Shown). s.answer) is)) refl
+by_file at Folder answer next more is = subst (λ a. IsTrue (is_of_opening a)) (sym (ap (λ (s : Shown). s.answer) is)) refl
+by_file at Special answer next more is = subst (λ a. IsTrue (is_of_opening a)) (sym (ap (λ (s : Shown). s.answer) is)) refl
+by_file at (FileOf bytes) answer next more is = by (nat_le (length bytes) 2048) is
+  where
+    by : (b : Bool) → Either b (next (passphrase_in bytes)) (refused answer ≡ refused (Limit limit.PassFile)) → IsTrue (is_of_opening answer)
+    by true x = more (passphrase_in bytes) x
+    by false x = subst (λ a. IsTrue (is_of_opening a)) (sym (ap (λ (s : Shown). s.answer) x)) refl
+
+by_passes : (passes : Passes) (v : View) (answer : Answer) → refusing.Unless answer (OfPasses passes v answer (λ source target. ⊥)) → IsTrue (is_of_opening answer)
+by_passes passes v answer (inl failed) = subst (λ a. IsTrue (is_of_opening a)) (sym failed) refl
+by_passes passes v answer (inr (inl memory)) = subst (λ a. IsTrue (is_of_opening a)) (sym memory) refl
+by_passes passes v answer (inr (inr of)) =
+    by_file passes.source (v passes.source) answer (λ source. OfPassFile passes.target (v passes.target) (refused answer) (λ target. ⊥))
+    (λ source. by_file passes.target (v passes.target) answer (λ target. ⊥) (λ target none. absurd none)) of
+
+abbrev EndsTold : Option Command → Answer → Type 0
+EndsTold command answer = IsTrue (may_end_told command (status_of answer))
+
+by_printing : (command : Option Command) (answer : Answer) → EndsTold command Done → EndsTold command OutputFault → EndsTold command OutOfMemory → IsPrinted answer → EndsTold command answer
+by_printing command answer done output memory (inl is) = subst (EndsTold command) (sym is) done
+by_printing command answer done output memory (inr (inl is)) = subst (EndsTold command) (sym is) output
+by_printing command answer done output memory (inr (inr is)) = subst (EndsTold command) (sym is) memory
+
+-- ---- the three commands
+
+migrate_told : (moving : Moving) (answer : Answer) (before after : World) (v : View) → IsSeen before.told v → OwnsFolders (Some (Migrate moving)) v → MigratesTree moving answer before after
+    → EndsTold (Some (Migrate moving)) answer
+migrate_told moving answer before after v seen folders did = by (first_overlap moving) did.apart
+  where
+    any : IsTrue (may_end (Some (Migrate moving)) (status_of answer))
+    any = in_row (Some (Migrate moving)) answer before after did
+
+    no_share : (source_pass target_pass : List ℕ) → ArePhrases moving.passes source_pass target_pass v → SharesFolder moving.source moving.target moving.work source_pass target_pass v moves.Failed → ⊥
+    no_share source_pass target_pass phrases (source, target, loads, loads_too, shared) =
+        let mine = folders source target (source_pass, phrases.source, loads) (target_pass, phrases.target, loads_too) in
+        shared (record { source = mine.0; target = mine.1 })
+
+    by_cause : (source_pass target_pass : List ℕ) → ArePhrases moving.passes source_pass target_pass v → (fault : MoveFault) → migrating.IsCaused moving v source_pass target_pass (Err fault) → OnDiffer ⊥ fault
+    by_cause source_pass target_pass phrases fault (inl failed) = subst (OnDiffer ⊥) (sym (fault_is fault moves.Failed failed)) tt
+    by_cause source_pass target_pass phrases fault (inr (inl memory)) = subst (OnDiffer ⊥) (sym (fault_is fault moves.NoMemory memory)) tt
+    by_cause source_pass target_pass phrases fault (inr (inr begins)) =
+        less_differs (SharesFolder moving.source moving.target moving.work source_pass target_pass v fault) (no_share source_pass target_pass phrases) fault (begins_or moving.source moving.target moving.work source_pass target_pass v fault begins)
+
+    by_outcome : (source_pass target_pass : List ℕ) → ArePhrases moving.passes source_pass target_pass v → (outcome : Outcome) → migrating.IsCaused moving v source_pass target_pass outcome
+        → AnswersMove moving.work (migrating.IsRootOf moving) answer outcome → EndsTold (Some (Migrate moving)) answer
+    by_outcome source_pass target_pass phrases (Ok done) cause printed = by_printing (Some (Migrate moving)) answer refl refl refl printed
+    by_outcome source_pass target_pass phrases (Err fault) cause (inl memory) = subst (EndsTold (Some (Migrate moving))) (sym memory) refl
+    by_outcome source_pass target_pass phrases (Err fault) cause (inr (root, is_root, is)) =
+        told_by (may_end_told (Some (Migrate moving)) (status_of answer)) (is_among (row_of (Some (Migrate moving))).contradicted (status_of answer)) any
+        (subst (λ a. ¬ IsTrue (is_among (20 ∷ []) (status_of a))) (sym is) (no_difference moving.work root fault (by_cause source_pass target_pass phrases fault cause)))
+
+    came : migrating.MayCome moving answer before.told after.told before.random after.random v → EndsTold (Some (Migrate moving)) answer
+    came (inl refuses) = by_opening (may_end_told (Some (Migrate moving))) refl refl refl refl refl refl refl answer (by_passes moving.passes v answer refuses.0.answers)
+    came (inr comes) = by_outcome comes.source_pass comes.target_pass comes.phrases comes.outcome comes.cause comes.answers
+
+    by : (o : Option Pair) → MatchOption o (MigratesApart moving answer before.told after.told before.taken after.taken before.random after.random)
+        (λ two. RefusesTwo two answer before.told after.told before.taken after.taken before.random after.random) → EndsTold (Some (Migrate moving)) answer
+    by None migrates = came (migrates.comes v seen)
+    by (Some two) refuses = elim refuses.refuses.answers [ inl overlaps ↦ subst (EndsTold (Some (Migrate moving))) (sym overlaps) refl | inr memory ↦ subst (EndsTold (Some (Migrate moving))) (sym memory) refl ]
+
+resume_told : (resuming : Resuming) (answer : Answer) (before after : World) (v : View) → IsSeen before.told v → ResumesTree resuming answer before after → EndsTold (Some (Resume resuming)) answer
+resume_told resuming answer before after v seen did = came (did.resumes.comes v seen)
+  where
+    any : IsTrue (may_end (Some (Resume resuming)) (status_of answer))
+    any = in_row (Some (Resume resuming)) answer before after did
+
+    by_cause : (source_pass target_pass : List ℕ) (fault : MoveFault) → resuming_on.IsCaused resuming v source_pass target_pass (Err fault) → NotBegun fault
+    by_cause source_pass target_pass fault (inl failed) = subst NotBegun (sym (fault_is fault moves.Failed failed)) tt
+    by_cause source_pass target_pass fault (inr (inl memory)) = subst NotBegun (sym (fault_is fault moves.NoMemory memory)) tt
+    by_cause source_pass target_pass fault (inr (inr resumes)) = resumes_not resuming.work source_pass target_pass v fault resumes
+
+    by_outcome : (source_pass target_pass : List ℕ) (outcome : Outcome) → resuming_on.IsCaused resuming v source_pass target_pass outcome
+        → AnswersMove resuming.work (resuming_on.IsRootOf resuming.work v) answer outcome → EndsTold (Some (Resume resuming)) answer
+    by_outcome source_pass target_pass (Ok done) cause printed = by_printing (Some (Resume resuming)) answer refl refl refl printed
+    by_outcome source_pass target_pass (Err fault) cause (inl memory) = subst (EndsTold (Some (Resume resuming))) (sym memory) refl
+    by_outcome source_pass target_pass (Err fault) cause (inr (root, is_root, is)) =
+        told_by (may_end_told (Some (Resume resuming)) (status_of answer)) (is_among (row_of (Some (Resume resuming))).contradicted (status_of answer)) any
+        (subst (λ a. ¬ IsTrue (is_among (17 ∷ []) (status_of a))) (sym is) (no_beginning resuming.work root fault (by_cause source_pass target_pass fault cause)))
+
+    came : resuming_on.MayCome resuming answer before.told after.told before.random after.random v → EndsTold (Some (Resume resuming)) answer
+    came (inl refuses) = by_opening (may_end_told (Some (Resume resuming))) refl refl refl refl refl refl refl answer (by_passes resuming.passes v answer refuses.0.answers)
+    came (inr comes) = by_outcome comes.source_pass comes.target_pass comes.outcome comes.cause comes.answers
+
+retire_told : (resuming : Resuming) (answer : Answer) (before after : World) (v : View) → IsSeen before.told v → RetiresSource resuming answer before after → EndsTold (Some (Retire resuming)) answer
+retire_told resuming answer before after v seen did = came (did.retires.comes v seen)
+  where
+    any : IsTrue (may_end (Some (Retire resuming)) (status_of answer))
+    any = in_row (Some (Retire resuming)) answer before after did
+
+    by_cause : (source_pass target_pass : List ℕ) (fault : RetireFault) → retiring_on.IsCaused resuming v source_pass target_pass (Err fault) → NeverBegun fault
+    by_cause source_pass target_pass fault (inl failed) = subst NeverBegun (sym (fault_is fault retires.Failed failed)) tt
+    by_cause source_pass target_pass fault (inr (inl memory)) = subst NeverBegun (sym (fault_is fault retires.NoMemory memory)) tt
+    by_cause source_pass target_pass fault (inr (inr gone)) = retires_never resuming.work source_pass target_pass v fault gone
+
+    by_outcome : (source_pass target_pass : List ℕ) (outcome : retiring_on.Outcome) → retiring_on.IsCaused resuming v source_pass target_pass outcome → AnswersRetire resuming.work v answer outcome
+        → EndsTold (Some (Retire resuming)) answer
+    by_outcome source_pass target_pass (Ok done) cause printed = by_printing (Some (Retire resuming)) answer refl refl refl printed
+    by_outcome source_pass target_pass (Err fault) cause (inl memory) = subst (EndsTold (Some (Retire resuming))) (sym memory) refl
+    by_outcome source_pass target_pass (Err fault) cause (inr (root, is_root, is)) =
+        told_by (may_end_told (Some (Retire resuming)) (status_of answer)) (is_among (row_of (Some (Retire resuming))).contradicted (status_of answer)) any
+        (subst (λ a. ¬ IsTrue (is_among (17 ∷ []) (status_of a))) (sym is) (never_beginning resuming.work root fault (by_cause source_pass target_pass fault cause)))
+
+    came : retiring_on.MayCome resuming answer before.told after.told v → EndsTold (Some (Retire resuming)) answer
+    came (inl refuses) = by_opening (may_end_told (Some (Retire resuming))) refl refl refl refl refl refl refl answer (by_passes resuming.passes v answer refuses.answers)
+    came (inr comes) = by_outcome comes.source_pass comes.target_pass comes.outcome comes.cause comes.answers
+
+-- ---- all
+
+-- a row of which nothing is said of a folder that contradicts itself
+told_same : (a : Bool) → IsTrue (a || false) → IsTrue a
+told_same true may = refl
+told_same false may = may
+
+pub in_told_row : (command : Option Command) (answer : Answer) (before after : World) (v : View) → IsSeen before.told v → OwnsFolders command v → Executes command answer before after → EndsTold command answer
+in_told_row None answer before after v seen folders did = told_same (may_end_told None (status_of answer)) (in_row None answer before after did)
+in_told_row (Some (DecryptFile key)) answer before after v seen folders did = told_same (may_end_told (Some (DecryptFile key)) (status_of answer)) (in_row (Some (DecryptFile key)) answer before after did)
+in_told_row (Some (Init new)) answer before after v seen folders did = told_same (may_end_told (Some (Init new)) (status_of answer)) (in_row (Some (Init new)) answer before after did)
+in_told_row (Some (Ls target)) answer before after v seen folders did = told_same (may_end_told (Some (Ls target)) (status_of answer)) (in_row (Some (Ls target)) answer before after did)
+in_told_row (Some (Cat target)) answer before after v seen folders did = told_same (may_end_told (Some (Cat target)) (status_of answer)) (in_row (Some (Cat target)) answer before after did)
+in_told_row (Some (Fsck target)) answer before after v seen folders did = told_same (may_end_told (Some (Fsck target)) (status_of answer)) (in_row (Some (Fsck target)) answer before after did)
+in_told_row (Some (Mkdir change)) answer before after v seen folders did = told_same (may_end_told (Some (Mkdir change)) (status_of answer)) (in_row (Some (Mkdir change)) answer before after did)
+in_told_row (Some (Put change)) answer before after v seen folders did = told_same (may_end_told (Some (Put change)) (status_of answer)) (in_row (Some (Put change)) answer before after did)
+in_told_row (Some (Repair target)) answer before after v seen folders did = told_same (may_end_told (Some (Repair target)) (status_of answer)) (in_row (Some (Repair target)) answer before after did)
+in_told_row (Some (Migrate moving)) answer before after v seen folders did = migrate_told moving answer before after v seen folders did
+in_told_row (Some (Resume resuming)) answer before after v seen folders did = resume_told resuming answer before after v seen did
+in_told_row (Some (Retire resuming)) answer before after v seen folders did = retire_told resuming answer before after v seen did
+in_told_row (Some (Demo demonstration)) answer before after v seen folders did = told_same (may_end_told (Some (Demo demonstration)) (status_of answer)) (in_row (Some (Demo demonstration)) answer before after did)

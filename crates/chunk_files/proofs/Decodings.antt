@@ -11,10 +11,9 @@ use Rattle.chunk_files.specs.Format.{Header, stored_size}
 use Rattle.chunk_files.specs.Keys.{Keys, format_of, IsHeaderBy}
 use Rattle.chunk_files.specs.Reading.{Whole, Wanting, Faulty, ends}
 use Rattle.chunk_files.specs.Contents.{read_by, read_behind, read_from, read_on, read_chunk}
-use Rattle.chunk_files.specs.declared.keys.Layout.{Layout}
-use Rattle.chunk_files.specs.declared.keys.Layout.TheVariants.{Go, CmGcm}
 use Rattle.chunk_files.specs.Decoding.{wanted, Decoding, GivesNext, LeavesAll, read_at}
 use Rattle.chunk_files.proofs.Lawful.{IsLaidOut, laid_out}
+use Rattle.chunk_files.proofs.LayoutSizes.{sizes_fit}
 use Rattle.chunk_files.proofs.ChunkReadings.{read_from-nil, read_from-next, read_from-wanting}
 
 -- where one has as much left to give as the other, a step of the other is one of the first
@@ -38,15 +37,10 @@ GivesNext-after d m d' (Err fault) buffer same all gives = (
   λ more goes_on follow. all more goes_on follow ∙ gives.1 more goes_on (λ ended. follow (sym same ∙ ended)),
 )
 
--- what a layout wants is less than a buffer
-wanted-by : (layout : Layout) (key : List ℕ) (told : Option Header) → wanted (record { layout = layout; key = key }) told < 32816
-wanted-by Go key None = omega arith
-wanted-by Go key (Some header) = omega arith
-wanted-by CmGcm key None = omega arith
-wanted-by CmGcm key (Some header) = omega arith
-
-pub wanted-less : (keys : Keys) (told : Option Header) → wanted keys told < 32816
-wanted-less keys told = wanted-by keys.layout keys.key told
+-- what is wanted fits a buffer
+pub wanted-fits : (keys : Keys) (told : Option Header) → wanted keys told ≤ 32816
+wanted-fits keys None = omega (arith, (sizes_fit keys).few_header)
+wanted-fits keys (Some header) = omega (arith, (sizes_fit keys).few_stored)
 
 module _ (keys : Keys) where
   law : IsLaidOut (format_of keys) (IsHeaderBy keys.layout keys.key)

@@ -11,4 +11,5 @@ mod ChunkReadings
 mod StoredChunks
 mod FilesOf
 mod Encrypting
+pub mod LayoutSizes
 mod Sizes

@@ -15,4 +15,5 @@ pub mod DrawFaults
 pub mod Decoding
 pub mod Steps
 pub mod Lending
+pub mod Layouts
 pub mod Sizes

@@ -7,9 +7,16 @@ ghost use Rattle.chunk_files.specs.Decoding.{Decoding, GivesNext, HasGiven, chun
 ghost use Rattle.chunk_files.specs.Encoding.{MadeIsAFront, MoreDrawnGiveMore};
 ghost use Rattle.chunk_files.specs.FileOf.{EncryptedFilesAreFiles, FilesAreWhatTheyGive, WholeFilesEnd};
 ghost use Rattle.chunk_files.specs.Keys.{Keys};
-ghost use Rattle.chunk_files.specs.Sizes.{FilesAreNotMuchLonger};
+ghost use Rattle.chunk_files.specs.Layouts.{SizesFit};
+ghost use Rattle.chunk_files.specs.Sizes.{FilesAreNotMuchLonger, ReadingsAreNoLonger};
 
 use gcm_mode::laws::{sealed_texts_are_bytes, unsealing_undoes_sealing};
+
+/// The law that the sizes of every layout fit together: they are some, a header and a stored chunk are within a buffer, a stored chunk
+/// begins with its nonce, and where zeros are refused sixteen bytes are drawn.
+pub fn sizes_fit()
+    ensures { SizesFit }
+{}
 
 /// The law that a file is of a content exactly where reading it ends without a fault and gives that
 /// content.
@@ -25,9 +32,18 @@ pub fn whole_files_end()
     ensures { WholeFilesEnd }
 {}
 
-/// The law that bytes in which reading meets no fault are at most 33 for each byte that is read of them, and 32,864 more.
+/// The law that bytes in which reading meets no fault are at most 33 for each byte that is read of them, and a header and a stored chunk
+/// more.
 pub fn files_are_not_much_longer()
     ensures { FilesAreNotMuchLonger }
+{
+    sealed_texts_are_bytes();
+    unsealing_undoes_sealing();
+}
+
+/// The law that what is read of some bytes has no more bytes than they.
+pub fn readings_are_no_longer()
+    ensures { ReadingsAreNoLonger }
 {
     sealed_texts_are_bytes();
     unsealing_undoes_sealing();

@@ -1,0 +1,9 @@
+use Rattle.chunk_files.proofs.Sealing.{GcmLaws}
+use Rattle.chunk_files.proofs.Sizes.{readings_are_no_longer}
+use Rattle.chunk_files.proofs.laws.readings_are_no_longer.Goals as goal
+
+pub returns : goal.returns
+returns c =
+    let sealing = c.sealed_texts_are_bytes.ensures in
+    let laws : GcmLaws = record { as_long = sealing.as_long; sixteen = sealing.sixteen; decrypted = c.unsealing_undoes_sealing.ensures.decrypted } in
+    readings_are_no_longer laws

@@ -1,32 +1,23 @@
 -- Files that were begun, and chunks that go on.
-use Rattle.std.proofs.Common.{◌≡◌, ℕ, ◌≤◌, false, List, [], ◌++◌, length, take, drop, replicate, Option, refl, sym, ap, ap₂, ◌∙◌, arith, length-append}
+use Rattle.std.proofs.Common.{◌≡◌, ℕ, ◌+◌, ◌≤◌, ◌&&◌, Bool, true, false, List, [], ◌++◌, length, take, drop, Option, refl, sym, ap, ap₂, ◌∙◌, subst, arith, length-append}
 use Rattle.std.proofs.lemmas.List.{length-take, drop_at, take_at, take-append-le, take-append-drop}
 use Rattle.port_model.specs.Draws.{ByteStream, Draws}
 use Rattle.chunk_files.specs.declared.keys.Layout.{Layout}
-use Rattle.chunk_files.specs.declared.keys.Layout.TheVariants.{Go, CmGcm}
+use Rattle.chunk_files.specs.declared.keys.Layout.TheVariants.{Go, CmGcm, CmCtr}
 use Rattle.chunk_files.specs.Zeros.{is_all_zero}
 use Rattle.chunk_files.specs.Format.{Header}
-use Rattle.chunk_files.specs.Sealed.{sealed_text, chunk_data}
+use Rattle.chunk_files.specs.Sealed.{sealed_text}
 use Rattle.chunk_files.specs.Gocryptfs.{go_header, go_header_of}
 use Rattle.chunk_files.specs.CryptomatorGcm.{cm_header, new_plain}
-use Rattle.chunk_files.specs.Keys.{Keys, format_by, format_of, IsHeaderBy}
+use Rattle.chunk_files.specs.Tagged.{tagged_text}
+use Rattle.chunk_files.specs.Keys.{Keys, format_by, format_of, IsHeaderOf}
 use Rattle.chunk_files.specs.Contents.{is_refused}
 use Rattle.chunk_files.specs.Encoding.{HasBegun}
 use Rattle.chunk_files.proofs.Encrypting.{IsNext, header-encrypted, header-made}
 use Rattle.chunk_files.proofs.Lawful.{IsLaidOut, laid_out}
 
-sealed-by : (layout : Layout) (key : List ℕ) (header : Header) (number : ℕ) (nonce chunk : List ℕ)
-    → (format_by layout key).sealed_chunk header number nonce chunk ≡ sealed_text header.key (chunk_data header number) nonce chunk
-sealed-by Go key header number nonce chunk = refl
-sealed-by CmGcm key header number nonce chunk = refl
-
--- what is sealed by GCM is what each layout seals
-pub sealed-same : (keys : Keys) (header : Header) (number : ℕ) (nonce chunk : List ℕ)
-    → (format_of keys).sealed_chunk header number nonce chunk ≡ sealed_text header.key (chunk_data header number) nonce chunk
-sealed-same keys header number nonce chunk = sealed-by keys.layout keys.key header number nonce chunk
-
 module _ (keys : Keys) (header : Header) (number : ℕ) (nonce chunk : List ℕ) (size : length nonce ≡ (format_of keys).nonce_size) where
-  law : IsLaidOut (format_of keys) (IsHeaderBy keys.layout keys.key)
+  law : IsLaidOut (format_of keys) (IsHeaderOf keys)
   law = laid_out keys
 
   pub stored-nonce : (stored : List ℕ) → stored ≡ (format_of keys).sealed_chunk header number nonce chunk → take (format_of keys).nonce_size stored ≡ nonce
@@ -49,58 +40,71 @@ module _ (keys : Keys) (header : Header) (number : ℕ) (nonce chunk : List ℕ)
         is = is ∙ ap (λ (n : List ℕ). (format_of keys).sealed_chunk header number n chunk) (sym front);
       }
 
-module _ (key : List ℕ) (left left' : Option ByteStream) where
-  -- a gocryptfs file
-  go-begun : (id : List ℕ) (told : Header) (file : List ℕ) → Draws left left' id → length id ≡ 16 → is_all_zero id ≡ false → told ≡ go_header key id → file ≡ go_header_of id
-      → HasBegun (record { layout = Go; key = key }) left left' (record { keys = record { layout = Go; key = key }; header = told; number = 0 }) file
-  unfolding is_refused
-  go-begun id told file drawn size some is file_is =
-      let keys : Keys = record { layout = Go; key = key } in
-      rw is (record {
-        drawn = id;
-        were_drawn = drawn;
-        made = header-made keys id file size some file_is;
-        whole = λ none. cc;
-      })
+-- a gocryptfs file
+go-begun : (key mac : List ℕ) (left left' : Option ByteStream) (id : List ℕ) (told : Header) (file : List ℕ) → Draws left left' id → length id ≡ 16 → is_all_zero id ≡ false → told ≡ go_header key id
+    → file ≡ go_header_of id → HasBegun (record { layout = Go; key = key; mac = mac }) left left' (record { keys = record { layout = Go; key = key; mac = mac }; header = told; number = 0 }) file
+unfolding is_refused
+go-begun key mac left left' id told file drawn size some is file_is =
+    let keys : Keys = record { layout = Go; key = key; mac = mac } in
+    rw is (record {
+      drawn = id;
+      were_drawn = drawn;
+      made = header-made keys id file size some file_is;
+      whole = λ none. cc;
+    })
 
-  -- a Cryptomator file
-  cm-begun : (nonce content plain : List ℕ) (told : Header) (file : List ℕ) → Draws left left' (nonce ++ content) → length nonce ≡ 12 → length content ≡ 32
-      → plain ≡ replicate 8 0xFF ++ content → told ≡ record { key = content; file = nonce } → file ≡ sealed_text key [] nonce plain
-      → HasBegun (record { layout = CmGcm; key = key }) left left' (record { keys = record { layout = CmGcm; key = key }; header = told; number = 0 }) file
+-- a Cryptomator file, whose header is made of a nonce of n bytes and the plain text with a content key, both drawn
+module _ (keys : Keys) (n : ℕ) (header_of : List ℕ → List ℕ → List ℕ) (draw : (format_of keys).header_draw ≡ n + 32)
+    (new : (drawn : List ℕ) → (format_of keys).new_header drawn ≡ header_of (take n drawn) (new_plain (drop n drawn)))
+    (tells : (drawn : List ℕ) → (format_of keys).new_told drawn ≡ cm_header (take n drawn) (new_plain (drop n drawn))) (none : (format_of keys).refuses_zeros ≡ false)
+    (left left' : Option ByteStream) where
+  cm-begun : (nonce content plain : List ℕ) (told : Header) (file : List ℕ) → Draws left left' (nonce ++ content) → length nonce ≡ n → length content ≡ 32
+      → plain ≡ new_plain content → told ≡ record { key = content; file = nonce } → file ≡ header_of nonce plain
+      → HasBegun keys left left' (record { keys = keys; header = told; number = 0 }) file
   unfolding is_refused
-  cm-begun nonce content plain told file drawn twelve thirty_two plain_is is file_is =
-      let keys : Keys = record { layout = CmGcm; key = key } in
+  cm-begun nonce content plain told file drawn size thirty_two plain_is is file_is =
       let all : List ℕ = nonce ++ content in
-      let front : take 12 all ≡ nonce = take_at nonce content 12 twelve in
-      let behind : drop 12 all ≡ content = drop_at nonce content 12 twelve in
-      let new : new_plain all ≡ plain = ap (λ (x : List ℕ). replicate 8 0xFF ++ x) behind ∙ sym plain_is in
-      let told_is : told ≡ cm_header (take 12 all) (new_plain all) = is ∙ ap₂ (λ (n c : List ℕ). record { key = c; file = n }) (sym front) (sym behind) in
-      let file_new : file ≡ sealed_text key [] (take 12 all) (new_plain all) = file_is ∙ ap₂ (sealed_text key []) (sym front) (sym new) in
-      let size : length all ≡ 44 = length-append nonce content ∙ omega arith in
-      let made = header-made keys all file size refl file_new in
+      let front : take n all ≡ nonce = take_at nonce content n size in
+      let behind : drop n all ≡ content = drop_at nonce content n size in
+      let told_is : told ≡ (format_of keys).new_told all =
+      is ∙ ap₂ (λ (a b : List ℕ). cm_header a (new_plain b)) (sym front) (sym behind) ∙ sym (tells all) in
+      let file_new : file ≡ (format_of keys).new_header all =
+      file_is ∙ ap₂ header_of (sym front) (plain_is ∙ ap new_plain (sym behind)) ∙ sym (new all) in
+      let many : length all ≡ (format_of keys).header_draw = omega (arith, draw, size, thirty_two, length-append nonce content) in
+      let accepted : is_refused (format_of keys) all ≡ false = ap (λ (b : Bool). b && is_all_zero all) none in
+      let made = header-made keys all file many accepted file_new in
       rw told_is (record {
         drawn = all;
         were_drawn = drawn;
         made = made;
-        whole = λ none. header-encrypted keys all file none made;
+        whole = λ some. header-encrypted keys all file some made;
       })
 
-  go-begun-by : (layout : Layout) (id : List ℕ) (told : Header) (file : List ℕ) → layout ≡ Go → Draws left left' id → length id ≡ 16 → is_all_zero id ≡ false → told ≡ go_header key id → file ≡ go_header_of id
-      → HasBegun (record { layout = layout; key = key }) left left' (record { keys = record { layout = layout; key = key }; header = told; number = 0 }) file
-  go-begun-by Go id told file go drawn size some is file_is = go-begun id told file drawn size some is file_is
-  go-begun-by CmGcm id told file go drawn size some is file_is = cc
+-- of a layout that is told
+module _ (keys : Keys) (left left' : Option ByteStream) where
+  abbrev Begun : Header → List ℕ → Layout → Type 0
+  Begun told file layout = HasBegun (record keys { layout = layout }) left left' (record { keys = record keys { layout = layout }; header = told; number = 0 }) file
 
-  cm-begun-by : (layout : Layout) (nonce content plain : List ℕ) (told : Header) (file : List ℕ) → layout ≡ CmGcm → Draws left left' (nonce ++ content) → length nonce ≡ 12 → length content ≡ 32
-      → plain ≡ replicate 8 0xFF ++ content → told ≡ record { key = content; file = nonce } → file ≡ sealed_text key [] nonce plain
-      → HasBegun (record { layout = layout; key = key }) left left' (record { keys = record { layout = layout; key = key }; header = told; number = 0 }) file
-  cm-begun-by Go nonce content plain told file cm drawn a b c d e = cc
-  cm-begun-by CmGcm nonce content plain told file cm drawn a b c d e = cm-begun nonce content plain told file drawn a b c d e
+  pub started-go : (id : List ℕ) (told : Header) (file : List ℕ) → keys.layout ≡ Go → Draws left left' id → length id ≡ 16 → is_all_zero id ≡ false
+      → told ≡ go_header keys.key id → file ≡ go_header_of id → HasBegun keys left left' (record { keys = keys; header = told; number = 0 }) file
+  started-go id told file go drawn size some is file_is = subst (Begun told file) (sym go) (go-begun keys.key keys.mac left left' id told file drawn size some is file_is)
 
-pub started-go : (keys : Keys) (left left' : Option ByteStream) (id : List ℕ) (told : Header) (file : List ℕ) → keys.layout ≡ Go → Draws left left' id → length id ≡ 16 → is_all_zero id ≡ false
-    → told ≡ go_header keys.key id → file ≡ go_header_of id → HasBegun keys left left' (record { keys = keys; header = told; number = 0 }) file
-started-go keys left left' id told file go drawn size some is file_is = go-begun-by keys.key left left' keys.layout id told file go drawn size some is file_is
+  pub started-cm : (nonce content plain : List ℕ) (told : Header) (file : List ℕ) → keys.layout ≡ CmGcm → Draws left left' (nonce ++ content)
+      → length nonce ≡ 12 → length content ≡ 32 → plain ≡ new_plain content → told ≡ record { key = content; file = nonce } → file ≡ sealed_text keys.key [] nonce plain
+      → HasBegun keys left left' (record { keys = keys; header = told; number = 0 }) file
+  started-cm nonce content plain told file cm drawn twelve thirty_two plain_is is file_is =
+      subst (Begun told file) (sym cm)
+      (cm-begun (record keys { layout = CmGcm }) 12 (sealed_text keys.key []) refl (λ d. refl) (λ d. refl) refl left left' nonce content plain told file drawn twelve thirty_two plain_is is file_is)
 
-pub started-cm : (keys : Keys) (left left' : Option ByteStream) (nonce content plain : List ℕ) (told : Header) (file : List ℕ) → keys.layout ≡ CmGcm → Draws left left' (nonce ++ content)
-    → length nonce ≡ 12 → length content ≡ 32 → plain ≡ replicate 8 0xFF ++ content → told ≡ record { key = content; file = nonce } → file ≡ sealed_text keys.key [] nonce plain
-    → HasBegun keys left left' (record { keys = keys; header = told; number = 0 }) file
-started-cm keys left left' nonce content plain told file cm drawn a b c d e = cm-begun-by keys.key left left' keys.layout nonce content plain told file cm drawn a b c d e
+  pub started-ctr : (nonce content plain : List ℕ) (told : Header) (file : List ℕ) → keys.layout ≡ CmCtr → Draws left left' (nonce ++ content)
+      → length nonce ≡ 16 → length content ≡ 32 → plain ≡ new_plain content → told ≡ record { key = content; file = nonce } → file ≡ tagged_text keys.key keys.mac [] nonce plain
+      → HasBegun keys left left' (record { keys = keys; header = told; number = 0 }) file
+  started-ctr nonce content plain told file ctr drawn sixteen thirty_two plain_is is file_is =
+      subst (Begun told file) (sym ctr)
+      (cm-begun (record keys { layout = CmCtr }) 16 (tagged_text keys.key keys.mac []) refl (λ d. refl) (λ d. refl) refl left left' nonce content plain told file drawn sixteen thirty_two plain_is is file_is)
+
+-- only in gocryptfs's layout has a file of no content no header
+pub bare-is-go : (layout : Layout) (key mac : List ℕ) → (format_by layout key mac).empty_has_no_header ≡ true → layout ≡ Go
+bare-is-go Go key mac bare = refl
+bare-is-go CmGcm key mac bare = cc
+bare-is-go CmCtr key mac bare = cc

@@ -8,7 +8,7 @@ use Rattle.chunk_files.specs.declared.fault.ChunkFault.TheVariants.{NoHeader}
 use Rattle.chunk_files.specs.declared.step.Step.{Step}
 use Rattle.chunk_files.specs.declared.step.Step.TheVariants.{More, Chunk, End}
 use Rattle.chunk_files.specs.Format.{Header, stored_size}
-use Rattle.chunk_files.specs.Keys.{Keys, format_of, IsHeaderBy}
+use Rattle.chunk_files.specs.Keys.{Keys, format_of, IsHeaderOf}
 use Rattle.chunk_files.specs.Reading.{Whole, Wanting, Faulty, ends}
 use Rattle.chunk_files.specs.Contents.{read_by, read_behind, read_from, read_on, read_chunk}
 use Rattle.chunk_files.specs.Decoding.{wanted, Decoding, GivesNext, LeavesAll, read_at}
@@ -43,7 +43,7 @@ wanted-fits keys None = omega (arith, (sizes_fit keys).few_header)
 wanted-fits keys (Some header) = omega (arith, (sizes_fit keys).few_stored)
 
 module _ (keys : Keys) where
-  law : IsLaidOut (format_of keys) (IsHeaderBy keys.layout keys.key)
+  law : IsLaidOut (format_of keys) (IsHeaderOf keys)
   law = laid_out keys
 
   pub some-stored : 0 < stored_size (format_of keys)

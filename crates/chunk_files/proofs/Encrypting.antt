@@ -6,7 +6,7 @@ use Rattle.std.proofs.lemmas.Bool.Decides.{eqb_tells}
 use Rattle.std.proofs.lemmas.List.{take-append-le, drop-append-le, take_all, drop_all, length-take, length-take-le, nil_from_length}
 use Rattle.std.proofs.lemmas.List.Elements.{All-append}
 use Rattle.chunk_files.specs.Format.{Format, Header}
-use Rattle.chunk_files.specs.Keys.{Keys, format_of, IsHeaderBy}
+use Rattle.chunk_files.specs.Keys.{Keys, format_of, IsHeaderOf}
 use Rattle.chunk_files.specs.Pieces.{pieces}
 use Rattle.chunk_files.specs.Contents.{is_refused}
 use Rattle.chunk_files.specs.Encrypt.{sealed_chunks, header_and_chunks, has_no_bytes, encrypt_by, encrypt, AreAccepted, IsEncrypted}
@@ -186,7 +186,7 @@ module _ (e : Encoding) where
   abbrev fe : Format
   fe = format_of e.keys
 
-  law : IsLaidOut fe (IsHeaderBy e.keys.layout e.keys.key)
+  law : IsLaidOut fe (IsHeaderOf e.keys)
   law = laid_out e.keys
 
   made-front : (drawn more content rest file : List ℕ) → HasMade e drawn content file → has_no_bytes fe (content ++ rest) ≡ false
@@ -292,7 +292,7 @@ module _ (keys : Keys) where
   chunks-stored most header number drawn [] within many accepted = rw (pieces-nil fk.full_size [] refl) refl
   chunks-stored zero header number drawn (x ∷ xs) within many accepted = absurd (omega arith)
   chunks-stored (suc most) header number drawn (x ∷ xs) within many accepted =
-      let law : IsLaidOut fk (IsHeaderBy keys.layout keys.key) = laid_out keys in
+      let law : IsLaidOut fk (IsHeaderOf keys) = laid_out keys in
       let P : List ℕ → Type 0 = λ nonce. is_refused fk nonce ≡ false in
       let content : List ℕ = x ∷ xs in
       let n : ℕ = fk.nonce_size in
@@ -347,7 +347,7 @@ module _ (keys : Keys) where
         plain = nil_from_length content (eqb-true (length content) 0 both.0);
       })
   file-of false drawn content file is made =
-      let law : IsLaidOut fk (IsHeaderBy keys.layout keys.key) = laid_out keys in
+      let law : IsLaidOut fk (IsHeaderOf keys) = laid_out keys in
       let h : ℕ = fk.header_draw in
       let chunks : List (List ℕ) = pieces fk.full_size content in
       let many : length drawn ≡ h + fk.nonce_size * length chunks = made.enough ∙ rw is refl in

@@ -7,11 +7,11 @@ use Rattle.std.proofs.lemmas.List.{take_at, drop_at, take_all, drop_all, length-
 use Rattle.chunk_files.specs.declared.fault.ChunkFault.{ChunkFault}
 use Rattle.chunk_files.specs.declared.fault.ChunkFault.TheVariants.{NoHeader}
 use Rattle.chunk_files.specs.Format.{Format, Header, stored_size}
-use Rattle.chunk_files.specs.Keys.{Keys, format_of, IsHeaderBy}
+use Rattle.chunk_files.specs.Keys.{Keys, format_of, IsHeaderOf}
 use Rattle.chunk_files.specs.Reading.{Whole, Faulty, Reading, ends}
 use Rattle.chunk_files.specs.Contents.{read_chunk, read_from, read_on, read_behind, read_by, readable}
 use Rattle.chunk_files.specs.FileOf.{IsStored, IsFullOrLast, BeginsWithChunk, AreStored, HasChunks, IsFileOf, Gives, FilesAreWhatTheyGive}
-use Rattle.chunk_files.proofs.Sealing.{GcmLaws}
+use Rattle.chunk_files.proofs.Tagging.{SealLaws}
 use Rattle.chunk_files.proofs.Lawful.{IsLawful, lawful}
 use Rattle.chunk_files.proofs.ChunkReadings.{read_from-nil, read_from-next}
 use Rattle.chunk_files.proofs.StoredChunks.{read-stored, length-stored, stored-of-read}
@@ -113,12 +113,12 @@ module _ (f : Format) (IsHead : Header → List ℕ → Type 0) (law : IsLawful 
         (read-more number bytes (read_chunk f header number (take (stored_size f) bytes)) refl rest)
   ]
 
-module _ (laws : GcmLaws) (keys : Keys) (bytes content : List ℕ) where
+module _ (laws : SealLaws) (keys : Keys) (bytes content : List ℕ) where
   abbrev fk : Format
   fk = format_of keys
 
   abbrev IsHead : Header → List ℕ → Type 0
-  IsHead = IsHeaderBy keys.layout keys.key
+  IsHead = IsHeaderOf keys
 
   file-gives : IsFileOf keys bytes content → Gives keys bytes content
   unfolding read_by
@@ -196,6 +196,6 @@ module _ (laws : GcmLaws) (keys : Keys) (bytes content : List ℕ) where
       (ap (λ (r : Reading). r.ending) (sym reading) ∙ gives.whole)
       (gives.joined ∙ ap (λ (r : Reading). concat r.chunks) reading))
 
-pub files_are_what_they_give : GcmLaws → FilesAreWhatTheyGive
+pub files_are_what_they_give : SealLaws → FilesAreWhatTheyGive
 files_are_what_they_give laws keys bytes content =
     (file-gives laws keys bytes content, file-by-tests laws keys bytes content _ _ refl refl)

@@ -6,15 +6,18 @@ use Rattle.std.proofs.lemmas.List.{length-take, length-replicate}
 use Rattle.chunk_files.specs.declared.fault.ChunkFault.{ChunkFault}
 use Rattle.chunk_files.specs.declared.fault.ChunkFault.TheVariants.{HeaderVersion, ZeroId}
 use Rattle.chunk_files.specs.declared.keys.Layout.{Layout}
-use Rattle.chunk_files.specs.declared.keys.Layout.TheVariants.{Go, CmGcm}
+use Rattle.chunk_files.specs.declared.keys.Layout.TheVariants.{Go, CmGcm, CmCtr}
 use Rattle.chunk_files.specs.Zeros.{is_all_zero}
 use Rattle.chunk_files.specs.Format.{Format, Header}
 use Rattle.chunk_files.specs.Sealed.{sealed_text, opened_text, chunk_data}
 use Rattle.chunk_files.specs.Gocryptfs.{header_version, file_id, go_header, read_go_header, IsGoHeader, go_format}
 use Rattle.chunk_files.specs.CryptomatorGcm.{cm_header, told_by_plain, read_cm_header, IsCmHeader, new_plain, cm_gcm_format}
-use Rattle.chunk_files.specs.Keys.{Keys, format_by, format_of, IsHeaderBy}
+use Rattle.chunk_files.specs.CryptomatorCtr.{read_ctr_header, IsCtrHeader, ctr_chunk_data, cm_ctr_format}
+use Rattle.chunk_files.specs.Tagged.{tagged_text, opened_tagged}
+use Rattle.chunk_files.specs.Keys.{Keys, format_by, format_of, IsHeaderBy, IsHeaderOf}
 use Rattle.chunk_files.specs.Contents.{is_refused}
 use Rattle.chunk_files.proofs.Sealing.{GcmLaws, length-sealed_text, nonce-sealed_text, opened-sealed_text, sealed-opened_text, length-plain_text}
+use Rattle.chunk_files.proofs.Tagging.{SealLaws, HasTagSize, length-tagged_text, nonce-tagged_text, opened-tagged_text, tagged-opened_text, length-restored_text}
 
 -- what its form alone gives
 pub record IsLaidOut (f : Format) (IsHead : Header → List ℕ → Type 0) : Type 0 where
@@ -27,7 +30,7 @@ pub record IsLaidOut (f : Format) (IsHead : Header → List ℕ → Type 0) : Ty
   pub seal_nonce : (header : Header) (number : ℕ) (nonce chunk : List ℕ) → length nonce ≡ f.nonce_size
       → take f.nonce_size (f.sealed_chunk header number nonce chunk) ≡ nonce
 
--- what the laws of GCM give beside it
+-- what the laws of the ciphers give beside it
 pub record IsLawful (f : Format) (IsHead : Header → List ℕ → Type 0) : Type 0 where
   pub form : IsLaidOut f IsHead
   -- headers
@@ -130,12 +133,17 @@ cm-read-head : GcmLaws → (key : List ℕ) (header : Header) (bytes : List ℕ)
 unfolding read_cm_header
 cm-read-head laws key header bytes size is = cm-told laws key header bytes (opened_text key [] 12 bytes) size refl is
 
-cm-new-head : (key drawn : List ℕ) → length drawn ≡ 44 → IsCmHeader key (cm_header (take 12 drawn) (new_plain drawn)) (sealed_text key [] (take 12 drawn) (new_plain drawn))
+-- the plain text of a new header, whose content key is drawn behind a nonce of n bytes
+forty-plain : (n : ℕ) (drawn : List ℕ) → length drawn ≡ n + 32 → length (new_plain (drop n drawn)) ≡ 40
+forty-plain n drawn size = length-append (replicate 8 0xFF) (drop n drawn) ∙ omega (arith, length-replicate {A = ℕ} 8 0xFF, length-drop n drawn)
+
+cm-new-head : (key drawn : List ℕ) → length drawn ≡ 44
+    → IsCmHeader key (cm_header (take 12 drawn) (new_plain (drop 12 drawn))) (sealed_text key [] (take 12 drawn) (new_plain (drop 12 drawn)))
 cm-new-head key drawn size = record {
   nonce = take 12 drawn;
   twelve = omega (arith, length-take 12 drawn);
-  plain = new_plain drawn;
-  forty = length-append (replicate 8 0xFF) (drop 12 drawn) ∙ omega (arith, length-replicate {A = ℕ} 8 0xFF, length-drop 12 drawn);
+  plain = new_plain (drop 12 drawn);
+  forty = forty-plain 12 drawn size;
   is = refl;
   tells = refl;
 }
@@ -162,18 +170,85 @@ cm-lawful laws key = record {
   opens_seal = λ header number stored chunk long opens. sealed-opened_text laws header.key (chunk_data header number) 12 stored chunk long opens;
 }
 
+-- ---- Cryptomator with SIV_CTRMAC
+
+module _ (law : HasTagSize) (key mac : List ℕ) where
+  ctr-head-size : (header : Header) (bytes : List ℕ) → IsCtrHeader key mac header bytes → length bytes ≡ 88
+  ctr-head-size header bytes head =
+      ap length head.is ∙ length-tagged_text law key mac [] head.nonce head.plain head.sixteen ∙ ap (λ (n : ℕ). 48 + n) head.forty
+
+  ctr-head-read : (header : Header) (bytes : List ℕ) → IsCtrHeader key mac header bytes → read_ctr_header key mac bytes ≡ Ok header
+  unfolding read_ctr_header
+  ctr-head-read header bytes head =
+      let nonce : take 16 bytes ≡ head.nonce = ap (take 16) head.is ∙ nonce-tagged_text key mac [] head.nonce head.plain head.sixteen in
+      let opens : opened_tagged key mac [] bytes ≡ Some head.plain = ap (opened_tagged key mac []) head.is ∙ opened-tagged_text law key mac [] head.nonce head.plain head.sixteen in
+      rw (nonce, opens) (ap Ok (sym head.tells))
+
+  ctr-told : (header : Header) (bytes : List ℕ) (opened : Option (List ℕ)) → length bytes ≡ 88 → opened_tagged key mac [] bytes ≡ opened
+      → told_by_plain (take 16 bytes) opened ≡ Ok header → IsCtrHeader key mac header bytes
+  ctr-told header bytes None size opens is = cc
+  ctr-told header bytes (Some plain) size opens is =
+      let long : 48 ≤ length bytes = omega arith in
+      record {
+        nonce = take 16 bytes;
+        sixteen = omega (arith, length-take 16 bytes);
+        plain = plain;
+        forty = omega (arith, length-restored_text law key mac [] bytes plain long opens);
+        is = tagged-opened_text law key mac [] bytes plain long opens;
+        tells = cc;
+      }
+
+  ctr-read-head : (header : Header) (bytes : List ℕ) → length bytes ≡ 88 → read_ctr_header key mac bytes ≡ Ok header → IsCtrHeader key mac header bytes
+  unfolding read_ctr_header
+  ctr-read-head header bytes size is = ctr-told header bytes (opened_tagged key mac [] bytes) size refl is
+
+ctr-new-head : (key mac drawn : List ℕ) → length drawn ≡ 48
+    → IsCtrHeader key mac (cm_header (take 16 drawn) (new_plain (drop 16 drawn))) (tagged_text key mac [] (take 16 drawn) (new_plain (drop 16 drawn)))
+ctr-new-head key mac drawn size = record {
+  nonce = take 16 drawn;
+  sixteen = omega (arith, length-take 16 drawn);
+  plain = new_plain (drop 16 drawn);
+  forty = forty-plain 16 drawn size;
+  is = refl;
+  tells = refl;
+}
+
+ctr-laid-out : (key mac : List ℕ) → IsLaidOut (cm_ctr_format key mac) (IsCtrHeader key mac)
+ctr-laid-out key mac = record {
+  some_header = omega arith;
+  some_full = omega arith;
+  some_nonce = omega arith;
+  nonce_within = omega arith;
+  holes_refused = λ holes. cc;
+  new_head = λ drawn size some. ctr-new-head key mac drawn size;
+  seal_nonce = λ header number nonce chunk size. nonce-tagged_text header.key mac (ctr_chunk_data header number) nonce chunk size;
+}
+
+ctr-lawful : HasTagSize → (key mac : List ℕ) → IsLawful (cm_ctr_format key mac) (IsCtrHeader key mac)
+ctr-lawful law key mac = record {
+  form = ctr-laid-out key mac;
+  head_size = ctr-head-size law key mac;
+  head_read = ctr-head-read law key mac;
+  read_head = ctr-read-head law key mac;
+  seal_size = λ header number nonce chunk size. length-tagged_text law header.key mac (ctr_chunk_data header number) nonce chunk size;
+  seal_opens = λ header number nonce chunk size. opened-tagged_text law header.key mac (ctr_chunk_data header number) nonce chunk size;
+  opens_seal = λ header number stored chunk long opens. tagged-opened_text law header.key mac (ctr_chunk_data header number) stored chunk long opens;
+}
+
 -- ---- each of them
 
-laid_out-by : (layout : Layout) (key : List ℕ) → IsLaidOut (format_by layout key) (IsHeaderBy layout key)
-laid_out-by Go key = go-laid-out key
-laid_out-by CmGcm key = cm-laid-out key
+laid_out-by : (layout : Layout) (key mac : List ℕ) → IsLaidOut (format_by layout key mac) (IsHeaderBy layout key mac)
+laid_out-by Go key mac = go-laid-out key
+laid_out-by CmGcm key mac = cm-laid-out key
+laid_out-by CmCtr key mac = ctr-laid-out key mac
 
-pub laid_out : (keys : Keys) → IsLaidOut (format_of keys) (IsHeaderBy keys.layout keys.key)
-laid_out keys = laid_out-by keys.layout keys.key
+pub laid_out : (keys : Keys) → IsLaidOut (format_of keys) (IsHeaderOf keys)
+laid_out keys = laid_out-by keys.layout keys.key keys.mac
 
-lawful-by : GcmLaws → (layout : Layout) (key : List ℕ) → IsLawful (format_by layout key) (IsHeaderBy layout key)
-lawful-by laws Go key = go-lawful laws key
-lawful-by laws CmGcm key = cm-lawful laws key
+lawful-by : SealLaws → (layout : Layout) (key mac : List ℕ) → IsLawful (format_by layout key mac) (IsHeaderBy layout key mac)
+lawful-by laws Go key mac = go-lawful laws.gcm key
+lawful-by laws CmGcm key mac = cm-lawful laws.gcm key
+lawful-by laws CmCtr key mac = ctr-lawful laws.tag_size key mac
 
-pub lawful : GcmLaws → (keys : Keys) → IsLawful (format_of keys) (IsHeaderBy keys.layout keys.key)
-lawful laws keys = lawful-by laws keys.layout keys.key
+pub lawful : SealLaws → (keys : Keys) → IsLawful (format_of keys) (IsHeaderOf keys)
+lawful laws keys = lawful-by laws keys.layout keys.key keys.mac

@@ -1,7 +1,9 @@
 mod PiecesOf
 mod Sealing
+mod Tagging
 mod Opening
 mod BufferSeals
+mod PutBehind
 mod Given
 mod HeldBytes
 mod Beginnings

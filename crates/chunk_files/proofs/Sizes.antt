@@ -7,13 +7,13 @@ use Rattle.chunk_files.specs.declared.fault.ChunkFault.{ChunkFault}
 use Rattle.chunk_files.specs.declared.fault.ChunkFault.TheVariants.{NoHeader}
 use Rattle.chunk_files.specs.Contents.{at_end, read_chunk, read_from, read_on, read_behind, read_by}
 use Rattle.chunk_files.specs.Format.{Format, Header, stored_size}
-use Rattle.chunk_files.specs.Keys.{format_of, IsHeaderBy}
+use Rattle.chunk_files.specs.Keys.{format_of, IsHeaderOf}
 use Rattle.chunk_files.specs.Reading.{Reading, Wanting, Faulty, ends}
 use Rattle.chunk_files.specs.Sizes.{IsFaultless, FilesAreNotMuchLonger, ReadingsAreNoLonger}
 use Rattle.chunk_files.proofs.ChunkReadings.{read_from-nil, read_from-next, read_from-wanting}
 use Rattle.chunk_files.proofs.Lawful.{IsLawful, lawful}
 use Rattle.chunk_files.proofs.LayoutSizes.{sizes_fit}
-use Rattle.chunk_files.proofs.Sealing.{GcmLaws}
+use Rattle.chunk_files.proofs.Tagging.{SealLaws}
 use Rattle.chunk_files.proofs.StoredChunks.{length-stored, stored-of-read}
 
 -- bytes of which this was read have not many more than it gave
@@ -64,9 +64,9 @@ module _ (f : Format) (IsHead : Header → List ℕ → Type 0) (law : IsLawful 
   unfolding read_by
   file-short = by-tests _ _ refl refl
 
-pub files_are_not_much_longer : GcmLaws → FilesAreNotMuchLonger
+pub files_are_not_much_longer : SealLaws → FilesAreNotMuchLonger
 files_are_not_much_longer laws keys bytes goes_on =
-    file-short (format_of keys) (IsHeaderBy keys.layout keys.key) (lawful laws keys) (sizes_fit keys).few_sealed bytes goes_on
+    file-short (format_of keys) (IsHeaderOf keys) (lawful laws keys) (sizes_fit keys).few_sealed bytes goes_on
 
 -- ---- what is read has no more bytes than the file
 
@@ -127,5 +127,5 @@ module _ (f : Format) (IsHead : Header → List ℕ → Type 0) (law : IsLawful 
   unfolding read_by
   file-few = few-by-tests ((length bytes == 0) && f.empty_has_no_header) (nat_lt (length bytes) f.header_size)
 
-pub readings_are_no_longer : GcmLaws → ReadingsAreNoLonger
-readings_are_no_longer laws keys bytes goes_on = file-few (format_of keys) (IsHeaderBy keys.layout keys.key) (lawful laws keys) bytes goes_on
+pub readings_are_no_longer : SealLaws → ReadingsAreNoLonger
+readings_are_no_longer laws keys bytes goes_on = file-few (format_of keys) (IsHeaderOf keys) (lawful laws keys) bytes goes_on

@@ -35,9 +35,9 @@ pub record IsCmHeader (key : List ℕ) (header : Header) (bytes : List ℕ) : Ty
   pub is : bytes ≡ sealed_text key [] nonce plain
   pub tells : header ≡ cm_header nonce plain
 
--- the plain text of a new header
+-- the plain text of a new header: eight reserved bytes, and the content key
 abbrev pub new_plain : List ℕ → List ℕ
-new_plain drawn = replicate 8 0xFF ++ drop 12 drawn
+new_plain key = replicate 8 0xFF ++ key
 
 abbrev pub cm_gcm_format : List ℕ → Format
 cm_gcm_format key = record {
@@ -49,8 +49,8 @@ cm_gcm_format key = record {
   sealed_chunk = λ header number nonce chunk. sealed_text header.key (chunk_data header number) nonce chunk;
   opened_chunk = λ header number stored. opened_text header.key (chunk_data header number) 12 stored;
   header_draw = 44;
-  new_header = λ drawn. sealed_text key [] (take 12 drawn) (new_plain drawn);
-  new_told = λ drawn. cm_header (take 12 drawn) (new_plain drawn);
+  new_header = λ drawn. sealed_text key [] (take 12 drawn) (new_plain (drop 12 drawn));
+  new_told = λ drawn. cm_header (take 12 drawn) (new_plain (drop 12 drawn));
   refuses_zeros = false;
   has_holes = false;
   empty_has_no_header = false;

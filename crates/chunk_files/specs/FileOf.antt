@@ -2,7 +2,7 @@
 use Rattle.std.specs.Prelude.{◌≡◌, ℕ, ◌+◌, ◌≤◌, ◌⊎◌, ◌↔◌, Bool, true, false, List, [], ◌∷◌, ◌++◌, length, replicate}
 use Rattle.std.specs.List.{concat}
 use Rattle.chunk_files.specs.Format.{Format, Header, stored_size}
-use Rattle.chunk_files.specs.Keys.{Keys, format_of, IsHeaderBy}
+use Rattle.chunk_files.specs.Keys.{Keys, format_of, IsHeaderOf}
 use Rattle.chunk_files.specs.Reading.{Whole}
 use Rattle.chunk_files.specs.Contents.{is_refused, read_file, readable}
 use Rattle.chunk_files.specs.Encrypt.{IsEncrypted}
@@ -45,7 +45,7 @@ AreStored f header number bytes (chunk ∷ chunks) =
 pub record HasChunks (keys : Keys) (bytes content : List ℕ) : Type 0 where
   pub header : Header
   pub head : List ℕ
-  pub is_header : IsHeaderBy keys.layout keys.key header head
+  pub is_header : IsHeaderOf keys header head
   pub behind : List ℕ
   pub parts : bytes ≡ head ++ behind
   pub chunks : List (List ℕ)

@@ -12,7 +12,7 @@ pub record HasSizes (layout : Layout) (f : Format) : Type 0 where
   pub few_stored : stored_size f ≤ 32816
   -- a header has some bytes and draws some
   pub some_header : 0 < f.header_size
-  pub few_header : f.header_size ≤ 68
+  pub few_header : f.header_size ≤ 88
   pub some_drawn : 0 < f.header_draw
   -- a sealed chunk begins with its nonce, which has some bytes
   pub some_nonce : 0 < f.nonce_size

@@ -6,7 +6,10 @@ pub mod Format
 pub mod Sealed
 pub mod Gocryptfs
 pub mod CryptomatorGcm
+pub mod Tagged
+pub mod CryptomatorCtr
 pub mod Keys
+pub mod Told
 pub mod Contents
 pub mod Encrypt
 pub mod FileOf

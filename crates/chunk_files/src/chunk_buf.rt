@@ -1,8 +1,11 @@
 ghost use Rattle.std.specs.Prelude.{◌≡◌, ◌<◌, ◌≤◌, ◌+◌, ◌-◌, ◌++◌, ℕ, List, length, take, drop, replicate, IfOk};
 ghost use Rattle.chunk_files.specs.Sealed.{opened_text, sealed_text};
 ghost use Rattle.chunk_files.specs.Steps.{PutsText};
+ghost use Rattle.chunk_files.specs.Tagged.{opened_tagged, tagged_text};
 
 use crate::sealed::{TAG_SIZE, open_text};
+use crate::tagged::{LONG_TAG_SIZE, NONCE_SIZE, is_long_tag_right, long_tag_of, restore_text};
+use aes_lanes::{Key256, ctr128_xor};
 use gcm_mode::Gcm;
 use gcm_mode::laws::sealed_texts_are_bytes;
 use std::alloc::{AllocError, Global};
@@ -116,6 +119,43 @@ impl ChunkBuf {
         self.put_at(end, &tag);
         end + TAG_SIZE
     }
+
+    // Opens the text that is stored with a tag of 32 bytes to the front, and answers its length.
+    pub fn open_tagged(
+        &mut self,
+        key: &Key256,
+        mac: &[u8; 32],
+        associated: &[u8],
+        stored: &[u8],
+    ) -> Option<usize>
+        requires least { 48 ≤ length stored.now }
+        requires most { length stored.now ≤ CHUNK_BUFFER_SIZE }
+        ensures { PutsText (opened_tagged key.now mac.now associated.now stored.now) result self.new }
+    {
+        open_tagged_front(&mut self.bytes, key, mac, associated, stored)
+    }
+
+    // Stores a text with a tag of 32 bytes at the front, and answers how many bytes are to be stored.
+    pub fn seal_tagged(
+        &mut self,
+        key: &Key256,
+        mac: &[u8; 32],
+        associated: &[u8],
+        nonce: &[u8; NONCE_SIZE],
+        text: &[u8],
+    ) -> usize
+        requires { length text.now ≤ 32768 }
+        ensures size { result ≡ 48 + length text.now }
+        ensures stored { take result self.new ≡ tagged_text key.now mac.now associated.now nonce.now text.now }
+        ensures buffer { length self.new ≡ CHUNK_BUFFER_SIZE }
+    {
+        let end = NONCE_SIZE + text.len();
+        self.put_at(0, nonce);
+        self.put_at(NONCE_SIZE, text);
+        let tag = tag_between(&mut self.bytes, key, mac, associated, nonce, end);
+        self.put_at(end, &tag);
+        end + LONG_TAG_SIZE
+    }
 }
 
 // Opens what is stored to the front of a buffer.
@@ -160,6 +200,45 @@ fn seal_between(
 {
     sealed_texts_are_bytes();
     gcm.seal(nonce, associated, &mut buffer[nonce.len()..end])
+}
+
+// Opens what is stored with a tag of 32 bytes to the front of a buffer.
+#[tactic(auto, unfolding(crate::specs::Tagged::opened_tagged))]
+fn open_tagged_front(
+    buffer: &mut [u8; CHUNK_BUFFER_SIZE],
+    key: &Key256,
+    mac: &[u8; 32],
+    associated: &[u8],
+    stored: &[u8],
+) -> Option<usize>
+    requires least { 48 ≤ length stored.now }
+    requires most { length stored.now ≤ CHUNK_BUFFER_SIZE }
+    ensures { PutsText (opened_tagged key.now mac.now associated.now stored.now) result buffer.new }
+{
+    if !is_long_tag_right(mac, associated, stored) {
+        return None;
+    }
+    let size = stored.len() - NONCE_SIZE - LONG_TAG_SIZE;
+    restore_text(key, stored, &mut buffer[..size]);
+    Some(size)
+}
+
+// Encrypts what stands in a buffer behind a nonce and before `end`, and answers the tag of both.
+fn tag_between(
+    buffer: &mut [u8; CHUNK_BUFFER_SIZE],
+    key: &Key256,
+    mac: &[u8; 32],
+    associated: &[u8],
+    nonce: &[u8; NONCE_SIZE],
+    end: usize,
+) -> [u8; LONG_TAG_SIZE]
+    requires end { NONCE_SIZE ≤ end }
+    requires within { end + LONG_TAG_SIZE ≤ CHUNK_BUFFER_SIZE }
+    ensures { (text : List ℕ) → take end buffer.old ≡ nonce.now ++ text
+        → take end buffer.new ++ result ≡ tagged_text key.now mac.now associated.now nonce.now text }
+{
+    ctr128_xor(key, nonce, &mut buffer[NONCE_SIZE..end]);
+    long_tag_of(mac, associated, &buffer[..end])
 }
 
 fn all_of(buffer: &[u8; CHUNK_BUFFER_SIZE]) -> &[u8]

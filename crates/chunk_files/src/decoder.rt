@@ -25,13 +25,16 @@ pub struct Decoder {
 }
 
 impl Model for Decoder {
+    ghost use Rattle.std.specs.Prelude.{◌≡◌, IfSome, option_map};
     ghost use Rattle.chunk_files.specs.Decoding.{Decoding, IsPlaced};
+    ghost use Rattle.chunk_files.specs.Told.{header_of, layout_of};
 
     ghost Value = { Decoding };
 
-    ghost view = { λ d. record { keys = d.keys; header = d.told; number = d.number; taken = d.taken; held = d.held; ended = d.ended } };
+    ghost view = { λ d. record { keys = d.keys; header = option_map header_of d.told; number = d.number; taken = d.taken; held = d.held; ended = d.ended } };
 
-    ghost invariant = { λ d. IsPlaced (record { keys = d.keys; header = d.told; number = d.number; taken = d.taken; held = d.held; ended = d.ended }) };
+    ghost invariant = { λ d. IsPlaced (record { keys = d.keys; header = option_map header_of d.told; number = d.number; taken = d.taken; held = d.held; ended = d.ended })
+        × IfSome d.told (λ told. layout_of told ≡ d.keys.layout) };
 }
 
 impl Decoder {

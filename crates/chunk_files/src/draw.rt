@@ -59,6 +59,10 @@ pub fn draw_nonce<R: Randoms>(keys: &ContentKeys, random: &mut R) -> Result<Nonc
                 size: 12,
             })
         }
+        Layout::CmCtr => {
+            let bytes = draw::<16, R>(random)?;
+            Ok(Nonce { bytes, size: 16 })
+        }
     }
 }
 

@@ -11,7 +11,7 @@ use crate::chunk::seal_chunk;
 use crate::chunk_buf::{CHUNK_BUFFER_SIZE, ChunkBuf};
 use crate::draw::{draw, draw_nonce, draw_some};
 use crate::fault::EncodeFault;
-use crate::header::{CM_HEADER, GO_HEADER, go_header};
+use crate::header::{CM_HEADER, CTR_HEADER, GO_HEADER, go_header, new_plain};
 use crate::keys::{ContentKeys, Layout};
 use crate::told::Told;
 use aes_lanes::Key256;
@@ -30,11 +30,15 @@ pub struct Encoder {
 }
 
 impl Model for Encoder {
+    ghost use Rattle.std.specs.Prelude.{◌≡◌};
     ghost use Rattle.chunk_files.specs.Encoding.{Encoding};
+    ghost use Rattle.chunk_files.specs.Told.{header_of, layout_of};
 
     ghost Value = { Encoding };
 
-    ghost view = { λ e. record { keys = e.keys; header = e.told; number = e.number } };
+    ghost view = { λ e. record { keys = e.keys; header = header_of e.told; number = e.number } };
+
+    ghost invariant = { λ e. layout_of e.told ≡ e.keys.layout };
 }
 
 /// A file that was begun: its encoder, and the length of its header.
@@ -65,7 +69,7 @@ impl Encoder {
     {
         let layout = keys.layout();
         if empty && layout.empty_has_no_header() {
-            let told = Told::new(keys.gcm(), &[]);
+            let told = Told::Go(keys.gcm(), [0; 16]);
             return Ok(Begun {
                 encoder: Encoder {
                     keys,
@@ -78,6 +82,7 @@ impl Encoder {
         match layout {
             Layout::Go => start_go(keys, random, out),
             Layout::CmGcm => start_cm(keys, random, out),
+            Layout::CmCtr => start_ctr(keys, random, out),
         }
     }
 
@@ -106,6 +111,7 @@ impl Encoder {
     {
         let nonce = draw_nonce(&self.keys, random)?;
         let size = seal_chunk(
+            &self.keys,
             &self.told,
             self.number,
             &nonce.bytes[..nonce.size],
@@ -133,7 +139,7 @@ fn start_go<R: Randoms>(
 {
     let id = draw_some(random)?;
     out.put_front(&go_header(&id));
-    let told = Told::new(keys.gcm(), &id);
+    let told = Told::Go(keys.gcm(), id);
     Ok(Begun {
         encoder: Encoder {
             keys,
@@ -144,7 +150,7 @@ fn start_go<R: Randoms>(
     })
 }
 
-// Begins a Cryptomator file.
+// Begins a Cryptomator file with SIV_GCM.
 fn start_cm<R: Randoms>(
     keys: ContentKeys,
     random: &mut R,
@@ -161,10 +167,39 @@ fn start_cm<R: Randoms>(
     draws_compose();
     let nonce = draw::<12, R>(random)?;
     let key = draw::<32, R>(random)?;
-    let mut plain = [0xFF; 40];
-    plain[8..].copy_from_slice(&key);
+    let plain = new_plain(&key);
     let length = out.seal(&keys.gcm(), &[], &nonce, &plain);
-    let told = Told::new(Gcm::new(Key256::new(&key)), &nonce);
+    let told = Told::CmGcm(Gcm::new(Key256::new(&key)), nonce);
+    Ok(Begun {
+        encoder: Encoder {
+            keys,
+            told,
+            number: 0,
+        },
+        length,
+    })
+}
+
+// Begins a Cryptomator file with SIV_CTRMAC.
+fn start_ctr<R: Randoms>(
+    keys: ContentKeys,
+    random: &mut R,
+    out: &mut ChunkBuf,
+) -> Result<Begun, EncodeFault>
+    requires { keys.layout ≡ Layout.CmCtr }
+    ensures header { IfOk result (λ b. HasBegun keys (R.left random.old) (R.left random.new) b.encoder (take b.length out.new)) }
+    ensures length { IfOk result (λ b. b.length ≡ CTR_HEADER) }
+    ensures begun { IfOk result (λ b. b.encoder ≡ begun keys b.encoder.header) }
+    ensures buffer { OnOk result (length out.new ≡ CHUNK_BUFFER_SIZE) }
+    ensures fault { IfErr result (DrawFails (format_of keys) 48 (R.left random.old) (R.left random.new) (R.faults random.old) (R.faults random.new)) }
+    ensures counted { IsCounted (R.faults random.old) (R.faults random.new) }
+{
+    draws_compose();
+    let nonce = draw::<16, R>(random)?;
+    let key = draw::<32, R>(random)?;
+    let plain = new_plain(&key);
+    let length = out.seal_tagged(&keys.cipher(), keys.mac(), &[], &nonce, &plain);
+    let told = Told::CmCtr(Key256::new(&key), nonce);
     Ok(Begun {
         encoder: Encoder {
             keys,

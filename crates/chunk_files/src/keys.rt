@@ -1,6 +1,6 @@
 ghost use Rattle.std.specs.Prelude.{◌≡◌, ◌<◌, ◌≤◌, ◌==◌, ◌&&◌, List, ℕ};
 ghost use Rattle.chunk_files.specs.Format.{stored_size};
-ghost use Rattle.chunk_files.specs.Keys.{Keys, cm_gcm_keys, format_by, full_size, go_keys};
+ghost use Rattle.chunk_files.specs.Keys.{Keys, cm_ctr_keys, cm_gcm_keys, format_by, full_size, go_keys};
 
 use aes_lanes::Key256;
 use gcm_mode::Gcm;
@@ -13,6 +13,8 @@ pub enum Layout {
     Go,
     /// Cryptomator, vault format 8, with the cipher combination SIV_GCM.
     CmGcm,
+    /// Cryptomator, vault format 8, with the cipher combination SIV_CTRMAC.
+    CmCtr,
 }
 
 impl Layout {
@@ -22,66 +24,68 @@ impl Layout {
     {
         match self {
             Layout::Go => 4_096,
-            Layout::CmGcm => 32_768,
+            Layout::CmGcm | Layout::CmCtr => 32_768,
         }
     }
 
     // The number of bytes of a header.
     pub fn header_size(&self) -> usize
-        ensures { (key : List ℕ) → result ≡ (format_by self.now key).header_size }
+        ensures { (key mac : List ℕ) → result ≡ (format_by self.now key mac).header_size }
     {
         match self {
             Layout::Go => 18,
             Layout::CmGcm => 68,
+            Layout::CmCtr => 88,
         }
     }
 
     // The number of bytes of a chunk's nonce.
     pub fn nonce_size(&self) -> usize
-        ensures size { (key : List ℕ) → result ≡ (format_by self.now key).nonce_size }
+        ensures size { (key mac : List ℕ) → result ≡ (format_by self.now key mac).nonce_size }
         ensures few { result ≤ 16 }
         ensures some { 0 < result }
     {
         match self {
-            Layout::Go => 16,
+            Layout::Go | Layout::CmCtr => 16,
             Layout::CmGcm => 12,
         }
     }
 
     // Whether an id or nonce of zeros is refused.
     pub fn refuses_zeros(&self) -> bool
-        ensures { (key : List ℕ) → result ≡ (format_by self.now key).refuses_zeros }
+        ensures { (key mac : List ℕ) → result ≡ (format_by self.now key mac).refuses_zeros }
     {
         match self {
             Layout::Go => true,
-            Layout::CmGcm => false,
+            Layout::CmGcm | Layout::CmCtr => false,
         }
     }
 
     // Whether no bytes stand for no content.
     pub fn empty_has_no_header(&self) -> bool
-        ensures { (key : List ℕ) → result ≡ (format_by self.now key).empty_has_no_header }
+        ensures { (key mac : List ℕ) → result ≡ (format_by self.now key mac).empty_has_no_header }
     {
         match self {
             Layout::Go => true,
-            Layout::CmGcm => false,
+            Layout::CmGcm | Layout::CmCtr => false,
         }
     }
 
     // Whether so many bytes are a whole file without a header: no bytes, where these stand for no content.
     pub fn is_whole_file(&self, count: usize) -> bool
-        ensures { (key : List ℕ) → result ≡ ((count == 0) && (format_by self.now key).empty_has_no_header) }
+        ensures { (key mac : List ℕ) → result ≡ ((count == 0) && (format_by self.now key mac).empty_has_no_header) }
     {
         count == 0 && self.empty_has_no_header()
     }
 
     // The number of stored bytes of a full chunk.
     pub fn stored(&self) -> usize
-        ensures { (key : List ℕ) → result ≡ stored_size (format_by self.now key) }
+        ensures { (key mac : List ℕ) → result ≡ stored_size (format_by self.now key mac) }
     {
         match self {
             Layout::Go => 4_128,
             Layout::CmGcm => 32_796,
+            Layout::CmCtr => 32_816,
         }
     }
 }
@@ -91,12 +95,16 @@ impl Layout {
 pub struct ContentKeys {
     layout: Layout,
     key: [u8; 32],
+    // The key of tags, where the layout has one.
+    mac: [u8; 32],
 }
 
 impl Model for ContentKeys {
+    ghost use Rattle.chunk_files.specs.Keys.{Keys, mac_by};
+
     ghost Value = { Keys };
 
-    ghost view = { λ keys. record { layout = keys.layout; key = keys.key } };
+    ghost view = { λ keys. record { layout = keys.layout; key = keys.key; mac = mac_by keys.layout keys.mac } };
 }
 
 impl ContentKeys {
@@ -107,6 +115,7 @@ impl ContentKeys {
         ContentKeys {
             layout: Layout::Go,
             key: *key,
+            mac: [0; 32],
         }
     }
 
@@ -117,6 +126,18 @@ impl ContentKeys {
         ContentKeys {
             layout: Layout::CmGcm,
             key: *enc,
+            mac: [0; 32],
+        }
+    }
+
+    /// The encryption key and the MAC key of a Cryptomator vault with SIV_CTRMAC.
+    pub fn cm_ctr(enc: &[u8; 32], mac: &[u8; 32]) -> ContentKeys
+        ensures { result ≡ cm_ctr_keys enc.now mac.now }
+    {
+        ContentKeys {
+            layout: Layout::CmCtr,
+            key: *enc,
+            mac: *mac,
         }
     }
 
@@ -127,10 +148,25 @@ impl ContentKeys {
         self.layout
     }
 
+    // The vault's key, expanded.
+    pub fn cipher(&self) -> Key256
+        ensures { result ≡ self.now.key }
+    {
+        Key256::new(&self.key)
+    }
+
     // GCM under the vault's key.
     pub fn gcm(&self) -> Gcm
         ensures { result ≡ self.now.key }
     {
-        Gcm::new(Key256::new(&self.key))
+        Gcm::new(self.cipher())
+    }
+
+    // The vault's key of tags.
+    pub fn mac(&self) -> &[u8; 32]
+        requires { self.now.layout ≡ Layout.CmCtr }
+        ensures { result.now ≡ self.now.mac }
+    {
+        &self.mac
     }
 }

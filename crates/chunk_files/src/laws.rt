@@ -11,6 +11,7 @@ ghost use Rattle.chunk_files.specs.Layouts.{SizesFit};
 ghost use Rattle.chunk_files.specs.Sizes.{FilesAreNotMuchLonger, ReadingsAreNoLonger};
 
 use gcm_mode::laws::{sealed_texts_are_bytes, unsealing_undoes_sealing};
+use kdf_suite::laws::digests_are_bytes;
 
 /// The law that the sizes of every layout fit together: they are some, a header and a stored chunk are within a buffer, a stored chunk
 /// begins with its nonce, and where zeros are refused sixteen bytes are drawn.
@@ -25,6 +26,7 @@ pub fn files_are_what_they_give()
 {
     sealed_texts_are_bytes();
     unsealing_undoes_sealing();
+    digests_are_bytes();
 }
 
 /// The law that bytes behind which a file goes on are read as no whole file.
@@ -39,6 +41,7 @@ pub fn files_are_not_much_longer()
 {
     sealed_texts_are_bytes();
     unsealing_undoes_sealing();
+    digests_are_bytes();
 }
 
 /// The law that what is read of some bytes has no more bytes than they.
@@ -47,6 +50,7 @@ pub fn readings_are_no_longer()
 {
     sealed_texts_are_bytes();
     unsealing_undoes_sealing();
+    digests_are_bytes();
 }
 
 /// The law that what is encrypted under drawn bytes, of which neither the id nor a nonce is refused, is a

@@ -14,6 +14,7 @@ pub mod keys;
 pub mod laws;
 mod sealed;
 pub mod step;
+mod tagged;
 mod told;
 mod zeros;
 

@@ -14,3 +14,7 @@ returns-in_ok-bytes-in-Go-clause-accepted g c =
 pub returns-in_ok-nonce-in-CmGcm-clause-accepted : goal.returns-in_ok-nonce-in-CmGcm-clause-accepted
 unfolding is_refused
 returns-in_ok-nonce-in-CmGcm-clause-accepted g c = rw (← c.layout.ensures, c.in-CmGcm.is) refl
+
+pub returns-in_ok-bytes-in-CmCtr-clause-accepted : goal.returns-in_ok-bytes-in-CmCtr-clause-accepted
+unfolding is_refused
+returns-in_ok-bytes-in-CmCtr-clause-accepted g c = rw (← c.layout.ensures, c.in-CmCtr.is) refl

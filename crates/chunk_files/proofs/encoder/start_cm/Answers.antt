@@ -1,4 +1,4 @@
-use Rattle.std.proofs.Common.{append-nil, ℕ, List, ◌++◌, take, replicate, ap, ◌∙◌}
+use Rattle.std.proofs.Common.{ℕ, List, take, ap, ◌∙◌}
 use Rattle.chunk_files.proofs.Beginnings.{started-cm}
 use Rattle.chunk_files.proofs.encoder.start_cm.Goals as goal
 
@@ -7,7 +7,7 @@ returns-clause-header g c =
     let nonce : List ℕ = c.in_ok-nonce.nonce in
     let content : List ℕ = c.in_ok-key.key in
     let drawn = c.draws_compose.ensures.composed _ _ _ nonce content c.in_ok-nonce.ensures.drawn c.in_ok-key.ensures.drawn in
-    started-cm c.args.keys _ _ nonce content _ c.new-told.result (take c.seal-length.result c.seal-length.new.self) c.requires drawn c.in_ok-nonce.ensures.size c.in_ok-key.ensures.size
-    (ap (λ (x : List ℕ). replicate 8 0xFF ++ x) (append-nil c.copy_from_slice.new.self ∙ c.copy_from_slice.ensures.after))
-    (c.new-told.ensures ∙ ap (λ (k : List ℕ). record { key = k; file = nonce }) (c.new-2.ensures ∙ c.new.ensures))
+    started-cm c.args.keys _ _ nonce content _ _ (take c.seal-length.result c.seal-length.new.self) c.requires drawn c.in_ok-nonce.ensures.size c.in_ok-key.ensures.size
+    c.new_plain-plain.ensures
+    (ap (λ (k : List ℕ). record { key = k; file = nonce }) (c.new-2.ensures ∙ c.new.ensures))
     (rw c.gcm.ensures at c.seal-length.ensures.stored)

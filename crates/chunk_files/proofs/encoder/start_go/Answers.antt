@@ -9,5 +9,5 @@ returns-clause-header g c =
     let buffer : List ℕ = c.put_front.new.self in
     let size : length c.go_header.result ≡ 18 = omega (arith, ap length c.go_header.ensures, c.in_ok-id.ensures.sixteen) in
     let header : take 18 buffer ≡ go_header_of id = ap (λ (n : ℕ). take n buffer) (sym size) ∙ c.put_front.ensures.front ∙ c.go_header.ensures in
-    started-go c.args.keys _ _ id c.new-told.result (take 18 buffer) c.requires c.in_ok-id.ensures.drawn c.in_ok-id.ensures.sixteen c.in_ok-id.ensures.some_bit
-    (c.new-told.ensures ∙ ap (λ (k : List ℕ). go_header k id) c.gcm.ensures) header
+    started-go c.args.keys _ _ id _ (take 18 buffer) c.requires c.in_ok-id.ensures.drawn c.in_ok-id.ensures.sixteen c.in_ok-id.ensures.some_bit
+    (ap (λ (k : List ℕ). go_header k id) c.gcm.ensures) header

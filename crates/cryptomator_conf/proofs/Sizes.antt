@@ -7,6 +7,8 @@ use Rattle.kdf_suite.specs.Hmac.{hmac_sha256}
 use Rattle.uuid.specs.Text.{by_index}
 use Rattle.cryptomator_conf.specs.declared.conf.Alg.TheVariants.{Hs256}
 use Rattle.cryptomator_conf.specs.declared.conf.CmDraw.{CmDraw}
+use Rattle.cryptomator_conf.specs.declared.conf.Combo.{Combo}
+use Rattle.cryptomator_conf.specs.declared.conf.Combo.TheVariants.{SivGcm, SivCtrMac}
 use Rattle.cryptomator_conf.specs.declared.conf.MasterFile.{MasterFile}
 use Rattle.cryptomator_conf.specs.Id.{id_of}
 use Rattle.cryptomator_conf.specs.Signature.{signature_of}
@@ -43,9 +45,10 @@ length-id : (drawn : List ℕ) → length (id_of drawn) ≡ 36
 unfolding id_of
 length-id drawn = length-by_index 36 _
 
-length-payload : (id : List ℕ) → length (payload_text id) ≤ 100 + length id
+length-payload : (combo : Combo) (id : List ℕ) → length (payload_text combo id) ≤ 100 + length id
 unfolding payload_text
-length-payload id = simp length-append (omega arith)
+length-payload SivGcm id = simp length-append (omega arith)
+length-payload SivCtrMac id = simp length-append (omega arith)
 
 url_few : HasUrlSize → (bytes : List ℕ) → length (encoded_by UrlSafe bytes) ≤ 2 * length bytes + 1
 url_few size bytes = omega (arith, size bytes)
@@ -53,17 +56,17 @@ url_few size bytes = omega (arith, size bytes)
 short_three : (head body tail : List ℕ) → length head ≤ 1000 → length body ≤ 1000 → length tail ≤ 1000 → length (head ++ codes "." ++ body ++ codes "." ++ tail) ≤ 65536
 short_three head body tail one two three = simp length-append (omega (arith, one, two, three))
 
-pub short_vault : HasUrlSize → ((key text : List ℕ) → length (hmac_sha256 key text) ≡ 32) → (drawn : CmDraw) → length (vault_text drawn) ≤ 65536
+pub short_vault : HasUrlSize → ((key text : List ℕ) → length (hmac_sha256 key text) ≡ 32) → (combo : Combo) (drawn : CmDraw) → length (vault_text combo drawn) ≤ 65536
 unfolding vault_text signed_text
-short_vault size tags drawn =
+short_vault size tags combo drawn =
     let id : List ℕ = id_of drawn.jti in
-    let signature : List ℕ = signature_of Hs256 (keys_of drawn) (signed_text id) in
+    let signature : List ℕ = signature_of Hs256 (keys_of drawn) (signed_text combo id) in
     let head : length (encoded_by UrlSafe header_text) ≤ 2 * length header_text + 1 = url_few size header_text in
     let head_size : length header_text ≡ 71 = refl in
-    let body : length (encoded_by UrlSafe (payload_text id)) ≤ 2 * length (payload_text id) + 1 = url_few size (payload_text id) in
-    let body_size : length (payload_text id) ≤ 100 + length id = length-payload id in
+    let body : length (encoded_by UrlSafe (payload_text combo id)) ≤ 2 * length (payload_text combo id) + 1 = url_few size (payload_text combo id) in
+    let body_size : length (payload_text combo id) ≤ 100 + length id = length-payload combo id in
     let id_size : length id ≡ 36 = length-id drawn.jti in
     let tail : length (encoded_by UrlSafe signature) ≤ 2 * length signature + 1 = url_few size signature in
-    let tail_size : length signature ≡ 32 = tags (drawn.enc ++ drawn.mac) (signed_text id) in
-    short_three (encoded_by UrlSafe header_text) (encoded_by UrlSafe (payload_text id)) (encoded_by UrlSafe signature)
+    let tail_size : length signature ≡ 32 = tags (drawn.enc ++ drawn.mac) (signed_text combo id) in
+    short_three (encoded_by UrlSafe header_text) (encoded_by UrlSafe (payload_text combo id)) (encoded_by UrlSafe signature)
     (omega (arith, head, head_size)) (omega (arith, body, body_size, id_size)) (omega (arith, tail, tail_size))

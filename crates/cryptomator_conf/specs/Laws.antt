@@ -5,7 +5,7 @@ use Rattle.kdf_suite.specs.ScryptCost.{Cost, IsCost}
 use Rattle.key_wrap.specs.Wrap.{IsKey}
 use Rattle.cryptomator_conf.specs.declared.conf.Alg.TheVariants.{Hs256}
 use Rattle.cryptomator_conf.specs.declared.conf.CmDraw.{CmDraw}
-use Rattle.cryptomator_conf.specs.declared.conf.Combo.TheVariants.{SivGcm}
+use Rattle.cryptomator_conf.specs.declared.conf.Combo.{Combo}
 use Rattle.cryptomator_conf.specs.declared.conf.MasterFile.{MasterFile}
 use Rattle.cryptomator_conf.specs.declared.conf.VaultFile.{VaultFile}
 use Rattle.cryptomator_conf.specs.declared.fault.CmConfFault.{CmConfFault}
@@ -34,13 +34,13 @@ pub record IsDrawn (drawn : CmDraw) : Type 0 where
   pub salt : IsBytes drawn.salt
   pub id_size : length drawn.jti ≡ 16
 
--- what a new `vault.cryptomator` says
-abbrev pub made_vault : CmDraw → VaultFile
-made_vault drawn =
-    let signed : List ℕ = signed_text (id_of drawn.jti) in
+-- what a new `vault.cryptomator` with these ciphers says
+abbrev pub made_vault : Combo → CmDraw → VaultFile
+made_vault combo drawn =
+    let signed : List ℕ = signed_text combo (id_of drawn.jti) in
     record {
       alg = Hs256;
-      combo = SivGcm;
+      combo = combo;
       threshold = 220;
       signed = signed;
       signature = signature_of Hs256 (keys_of drawn) signed;
@@ -48,13 +48,13 @@ made_vault drawn =
 
 -- the texts of new files are short, the first with a salt of eight bytes, and read as the files; the passphrase unlocks the drawn keys,
 -- and the signature is theirs
-pub record Return (pass : List ℕ) (cost : Cost) (drawn : CmDraw) : Type 0 where
+pub record Return (pass : List ℕ) (cost : Cost) (combo : Combo) (drawn : CmDraw) : Type 0 where
   pub short_master : length drawn.salt ≡ 8 → length (master_text (made_master pass cost drawn) (version_mac drawn.mac version_bytes)) ≤ 65536
-  pub short_vault : length (vault_text drawn) ≤ 65536
+  pub short_vault : length (vault_text combo drawn) ≤ 65536
   pub master : ReadsMaster (master_text (made_master pass cost drawn) (version_mac drawn.mac version_bytes)) (Ok (made_master pass cost drawn))
-  pub vault : vault_in (vault_text drawn) ≡ Ok (made_vault drawn)
+  pub vault : vault_in (vault_text combo drawn) ≡ Ok (made_vault combo drawn)
   pub unlocked : Unlocks (made_master pass cost drawn) pass (keys_of drawn)
-  pub signed : (made_vault drawn).signature ≡ signature_of (made_vault drawn).alg (keys_of drawn) (made_vault drawn).signed
+  pub signed : (made_vault combo drawn).signature ≡ signature_of (made_vault combo drawn).alg (keys_of drawn) (made_vault combo drawn).signed
 
 abbrev pub MadeFilesReturn : Type 0
-MadeFilesReturn = (pass : List ℕ) (cost : Cost) (drawn : CmDraw) → IsCost cost → IsDrawn drawn → Return pass cost drawn
+MadeFilesReturn = (pass : List ℕ) (cost : Cost) (combo : Combo) (drawn : CmDraw) → IsCost cost → IsDrawn drawn → Return pass cost combo drawn

@@ -8,8 +8,10 @@ use Rattle.kdf_suite.specs.ScryptCost.{Cost}
 use Rattle.key_wrap.specs.Wrap.{wrapped}
 use Rattle.cryptomator_conf.specs.declared.conf.Alg.TheVariants.{Hs256}
 use Rattle.cryptomator_conf.specs.declared.conf.CmDraw.{CmDraw}
+use Rattle.cryptomator_conf.specs.declared.conf.Combo.{Combo}
 use Rattle.cryptomator_conf.specs.declared.conf.MasterFile.{MasterFile}
 use Rattle.cryptomator_conf.specs.declared.keys.CmKeys.{CmKeys}
+use Rattle.cryptomator_conf.specs.Combo.{combo_name}
 use Rattle.cryptomator_conf.specs.Id.{id_of}
 use Rattle.cryptomator_conf.specs.Keys.{wrapping_key}
 use Rattle.cryptomator_conf.specs.Signature.{signature_of}
@@ -52,16 +54,17 @@ master_text file tag =
 abbrev pub header_text : List ℕ
 header_text = codes "{\"alg\":\"HS256\",\"kid\":\"masterkeyfile:masterkey.cryptomator\",\"typ\":\"JWT\"}"
 
-unfoldable pub payload_text : List ℕ → List ℕ
-payload_text id =
-    codes "{\"cipherCombo\":\"SIV_GCM\",\"format\":8,\"jti\":\"" ++ id ++ codes "\",\"shorteningThreshold\":220}"
+unfoldable pub payload_text : Combo → List ℕ → List ℕ
+payload_text combo id =
+    codes "{\"cipherCombo\":\"" ++ combo_name combo
+    ++ codes "\",\"format\":8,\"jti\":\"" ++ id ++ codes "\",\"shorteningThreshold\":220}"
 
 -- what is signed
-unfoldable pub signed_text : List ℕ → List ℕ
-signed_text id = encoded_by UrlSafe header_text ++ codes "." ++ encoded_by UrlSafe (payload_text id)
+unfoldable pub signed_text : Combo → List ℕ → List ℕ
+signed_text combo id = encoded_by UrlSafe header_text ++ codes "." ++ encoded_by UrlSafe (payload_text combo id)
 
--- the text of a new `vault.cryptomator`
-unfoldable pub vault_text : CmDraw → List ℕ
-vault_text drawn =
-    let signed : List ℕ = signed_text (id_of drawn.jti) in
+-- the text of a new `vault.cryptomator` with these ciphers
+unfoldable pub vault_text : Combo → CmDraw → List ℕ
+vault_text combo drawn =
+    let signed : List ℕ = signed_text combo (id_of drawn.jti) in
     signed ++ codes "." ++ encoded_by UrlSafe (signature_of Hs256 (keys_of drawn) signed)

@@ -1,6 +1,8 @@
 -- The JSON values of configurations that are written (private contracts only).
 use Rattle.std.specs.Prelude.{ℕ, List, codes}
 use Rattle.serde_json.specs.Data.{Data, number, unsigned, string, object, member, no_members}
+use Rattle.cryptomator_conf.specs.declared.conf.Combo.{Combo}
+use Rattle.cryptomator_conf.specs.Combo.{combo_name}
 
 -- the value of `masterkey.cryptomator`, of the base64 of the wrapped keys, of the salt and of the tag
 abbrev pub master_data : List ℕ → List ℕ → ℕ → ℕ → List ℕ → List ℕ → Data
@@ -20,9 +22,9 @@ header_data =
     (member (codes "kid") (string (codes "masterkeyfile:masterkey.cryptomator"))
     (member (codes "typ") (string (codes "JWT")) no_members)))
 
-abbrev pub payload_data : List ℕ → Data
-payload_data id =
-    object (member (codes "cipherCombo") (string (codes "SIV_GCM"))
+abbrev pub payload_data : Combo → List ℕ → Data
+payload_data combo id =
+    object (member (codes "cipherCombo") (string (combo_name combo))
     (member (codes "format") (number (unsigned 8))
     (member (codes "jti") (string id)
     (member (codes "shorteningThreshold") (number (unsigned 220)) no_members))))

@@ -6,10 +6,10 @@ use Rattle.json_fields.specs.Json.{number_at, text_at}
 use Rattle.cryptomator_conf.specs.declared.conf.Alg.{Alg}
 use Rattle.cryptomator_conf.specs.declared.conf.Alg.TheVariants.{Hs256, Hs384, Hs512}
 use Rattle.cryptomator_conf.specs.declared.conf.Combo.{Combo}
-use Rattle.cryptomator_conf.specs.declared.conf.Combo.TheVariants.{SivGcm}
 use Rattle.cryptomator_conf.specs.declared.conf.VaultFile.{VaultFile}
 use Rattle.cryptomator_conf.specs.declared.fault.CmConfFault.{CmConfFault}
 use Rattle.cryptomator_conf.specs.declared.fault.CmConfFault.TheVariants as fault
+use Rattle.cryptomator_conf.specs.Combo.{combo_of}
 use Rattle.cryptomator_conf.specs.Jwt.{Jwt, jwt_in}
 
 -- the hash of a signature by its name (RFC 7518, section 3.1)
@@ -18,10 +18,6 @@ alg_of name =
     if bytes_eq name (codes "HS256") then Some Hs256
     else (if bytes_eq name (codes "HS384") then Some Hs384
     else (if bytes_eq name (codes "HS512") then Some Hs512 else None))
-
--- the ciphers of a vault by their name
-abbrev pub combo_of : List ℕ → Option Combo
-combo_of name = if bytes_eq name (codes "SIV_GCM") then Some SivGcm else None
 
 pub record VaultFields : Type 0 where
   pub alg : List ℕ

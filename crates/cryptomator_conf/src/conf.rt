@@ -1,5 +1,8 @@
 //! What the two configuration files say, and what is drawn for new ones.
 
+ghost use Rattle.std.specs.Prelude.{◌≡◌};
+ghost use Rattle.cryptomator_conf.specs.Combo.{combo_name};
+
 use kdf_suite::ScryptCost;
 use text_model::Bytes;
 
@@ -29,6 +32,20 @@ pub enum Alg {
 pub enum Combo {
     /// Names by AES-SIV, contents by AES-GCM.
     SivGcm,
+    /// Names by AES-SIV, contents by AES in counter mode with tags by HMAC-SHA-256.
+    SivCtrMac,
+}
+
+impl Combo {
+    /// Its name in `vault.cryptomator`.
+    pub fn name(&self) -> &'static str
+        ensures { result.now ≡ combo_name self.now }
+    {
+        match self {
+            Combo::SivGcm => "SIV_GCM",
+            Combo::SivCtrMac => "SIV_CTRMAC",
+        }
+    }
 }
 
 /// What `vault.cryptomator` says.

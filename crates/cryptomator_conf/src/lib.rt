@@ -18,7 +18,7 @@ pub use conf::{Alg, CmDraw, CmFiles, Combo, MasterFile, VaultFile};
 pub use fault::{BadSignature, CmConfFault, UnlockFault};
 pub use id::id_text;
 pub use keys::CmKeys;
-pub use making::make;
+pub use making::{make, make_combo};
 pub use master::read_master;
 pub use signing::check_signature;
 pub use unlocking::unlock;

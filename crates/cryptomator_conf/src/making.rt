@@ -5,7 +5,7 @@ ghost use Rattle.serde_json.specs.View.{view};
 ghost use Rattle.cryptomator_conf.specs.Text.{made_master, master_text, payload_text, signed_text, vault_text, version_mac, version_bytes};
 ghost use Rattle.cryptomator_conf.specs.Value.{master_data};
 
-use crate::conf::{CmDraw, CmFiles};
+use crate::conf::{CmDraw, CmFiles, Combo};
 use crate::id::id_text;
 use crate::keys::{CmKeys, wrapping_key};
 use crate::signing::signing_key;
@@ -23,10 +23,7 @@ const HEADER: &str =
 
 const VERSION: u32 = 999;
 
-/// The texts of `masterkey.cryptomator` and `vault.cryptomator` for a new vault, whose keys, salt and id are drawn. The
-/// keys are wrapped at the cost's n and r, with one part.
-///
-/// It takes the memory of scrypt, 128 · n · r bytes and little more.
+/// The texts of `masterkey.cryptomator` and `vault.cryptomator` for a new vault with SIV_GCM: those of `make_combo`.
 pub fn make(
     alloc: Global,
     pass: &[u8],
@@ -35,7 +32,25 @@ pub fn make(
 ) -> Result<CmFiles, AllocError>
     ensures master { IfOk result (λ files. files.master
         ≡ master_text (made_master pass.now cost.now drawn.now) (version_mac drawn.now.mac version_bytes)) }
-    ensures vault { IfOk result (λ files. files.vault ≡ vault_text drawn.now) }
+    ensures vault { IfOk result (λ files. files.vault ≡ vault_text Combo.SivGcm drawn.now) }
+{
+    make_combo(alloc, pass, cost, Combo::SivGcm, drawn)
+}
+
+/// The texts of `masterkey.cryptomator` and `vault.cryptomator` for a new vault with these ciphers, whose keys, salt and id
+/// are drawn. The keys are wrapped at the cost's n and r, with one part.
+///
+/// It takes the memory of scrypt, 128 · n · r bytes and little more.
+pub fn make_combo(
+    alloc: Global,
+    pass: &[u8],
+    cost: &ScryptCost,
+    combo: Combo,
+    drawn: &CmDraw,
+) -> Result<CmFiles, AllocError>
+    ensures master { IfOk result (λ files. files.master
+        ≡ master_text (made_master pass.now cost.now drawn.now) (version_mac drawn.now.mac version_bytes)) }
+    ensures vault { IfOk result (λ files. files.vault ≡ vault_text combo drawn.now) }
 {
     let cost = one_part(cost);
     let key = Key256::new(&wrapping_key(alloc, pass, &drawn.salt, &cost)?);
@@ -45,7 +60,7 @@ pub fn make(
     let master = master_text(alloc, &cost, &drawn.salt, &primary, &hmac, &tag)?;
     Ok(CmFiles {
         master: Bytes::new(master.into_bytes()),
-        vault: Bytes::new(vault_text(alloc, drawn)?.into_bytes()),
+        vault: Bytes::new(vault_text(alloc, combo, drawn)?.into_bytes()),
     })
 }
 
@@ -105,11 +120,11 @@ fn master_object(
 
 // The text of `vault.cryptomator`.
 #[tactic(auto, unfolding(crate::specs::Text::vault_text))]
-fn vault_text(alloc: Global, drawn: &CmDraw) -> Result<String, AllocError>
-    ensures { IfOk result (λ text. string_bytes text ≡ vault_text drawn.now) }
+fn vault_text(alloc: Global, combo: Combo, drawn: &CmDraw) -> Result<String, AllocError>
+    ensures { IfOk result (λ text. string_bytes text ≡ vault_text combo drawn.now) }
 {
     let id = id_text(alloc, &drawn.jti)?;
-    let mut text = signed_text(alloc, id.as_str())?;
+    let mut text = signed_text(alloc, combo, id.as_str())?;
     let keys = CmKeys {
         enc: drawn.enc,
         mac: drawn.mac,
@@ -122,10 +137,10 @@ fn vault_text(alloc: Global, drawn: &CmDraw) -> Result<String, AllocError>
 
 // What is signed: the two objects, with a dot between them.
 #[tactic(auto, unfolding(crate::specs::Text::signed_text))]
-fn signed_text(alloc: Global, id: &str) -> Result<String, AllocError>
-    ensures { IfOk result (λ text. string_bytes text ≡ signed_text id.now) }
+fn signed_text(alloc: Global, combo: Combo, id: &str) -> Result<String, AllocError>
+    ensures { IfOk result (λ text. string_bytes text ≡ signed_text combo id.now) }
 {
-    let payload = payload_text(alloc, id)?;
+    let payload = payload_text(alloc, combo, id)?;
     let mut text = URL_SAFE_NO_PAD.encode(alloc, HEADER.as_bytes())?;
     text.push_str(".")?;
     URL_SAFE_NO_PAD.encode_string(payload.as_bytes(), &mut text)?;
@@ -134,10 +149,11 @@ fn signed_text(alloc: Global, id: &str) -> Result<String, AllocError>
 
 // The text of the token's second object.
 #[tactic(auto, unfolding(crate::specs::Text::payload_text))]
-fn payload_text(alloc: Global, id: &str) -> Result<String, AllocError>
-    ensures { IfOk result (λ text. string_bytes text ≡ payload_text id.now) }
+fn payload_text(alloc: Global, combo: Combo, id: &str) -> Result<String, AllocError>
+    ensures { IfOk result (λ text. string_bytes text ≡ payload_text combo id.now) }
 {
+    let name = combo.name();
     format!(in alloc;
-        "{{\"cipherCombo\":\"SIV_GCM\",\"format\":8,\"jti\":\"{id}\",\"shorteningThreshold\":220}}"
+        "{{\"cipherCombo\":\"{name}\",\"format\":8,\"jti\":\"{id}\",\"shorteningThreshold\":220}}"
     )
 }

@@ -2,7 +2,8 @@
 
 ghost use Rattle.std.specs.Prelude.{◌≡◌, ◌⊎◌, Ok, Err, IfOk, IfErr};
 ghost use Rattle.cryptomator_conf.specs.declared.fault.CmConfFault.TheVariants.{NoMemory};
-ghost use Rattle.cryptomator_conf.specs.Vault.{after, alg_of, combo_of, vault_fields_of, settings_of, vault_in};
+ghost use Rattle.cryptomator_conf.specs.Combo.{combo_of};
+ghost use Rattle.cryptomator_conf.specs.Vault.{after, alg_of, vault_fields_of, settings_of, vault_in};
 ghost use Rattle.cryptomator_conf.specs.Views.{jwt_view, fields_view, settings_view};
 
 use crate::conf::{Alg, Combo, VaultFile};
@@ -127,6 +128,7 @@ fn combo_of(name: &str) -> Option<Combo>
 {
     match name {
         "SIV_GCM" => Some(Combo::SivGcm),
+        "SIV_CTRMAC" => Some(Combo::SivCtrMac),
         _ => None,
     }
 }

@@ -108,16 +108,16 @@ class Gocryptfs:
 
 
 class Cryptomator:
-    """The names, folders and contents of a Cryptomator vault with its two keys."""
+    """The names, folders and contents of a Cryptomator vault with its two keys, and with either combination of ciphers."""
 
-    def __init__(self, enc, mac, threshold=220):
-        self.enc, self.mac, self.threshold = enc, mac, threshold
+    def __init__(self, enc, mac, threshold=220, combo="SIV_GCM"):
+        self.enc, self.mac, self.threshold, self.combo = enc, mac, threshold, combo
         self.siv = AESSIV(mac + enc)
         self.count = 0
 
-    def drawn(self):
+    def drawn(self, size):
         self.count += 1
-        return self.count.to_bytes(12, "big")
+        return self.count.to_bytes(size, "big")
 
     def configuration(self, passphrase, n, r):
         salt = b"saltsalt"
@@ -138,7 +138,7 @@ class Cryptomator:
             "format": 8,
             "shorteningThreshold": self.threshold,
             "jti": "7c2d8f1e-0000-4000-8000-000000000000",
-            "cipherCombo": "SIV_GCM",
+            "cipherCombo": self.combo,
         }
         signed = ".".join(base64url(json.dumps(part, separators=(",", ":")).encode()) for part in (header, payload))
         signature = hmac.digest(self.enc + self.mac, signed.encode(), "sha256")
@@ -169,12 +169,20 @@ class Cryptomator:
         return base64.urlsafe_b64encode(hashlib.sha1(text.encode()).digest()).decode() + ".c9s", text
 
     def contents(self, plain):
-        key, nonce = b"content key of 32 bytes in file.", self.drawn()
-        stored = nonce + AESGCM(self.enc).encrypt(nonce, b"\xff" * 8 + key, None)
+        size, sealed = {"SIV_GCM": (12, self.by_gcm), "SIV_CTRMAC": (16, self.by_counter_mode)}[self.combo]
+        key, nonce = b"content key of 32 bytes in file.", self.drawn(size)
+        stored = sealed(self.enc, nonce, b"\xff" * 8 + key, b"", b"")
         for number, start in enumerate(range(0, len(plain), 32768)):
-            chunk = self.drawn()
-            stored += chunk + AESGCM(key).encrypt(chunk, plain[start : start + 32768], number.to_bytes(8, "big") + nonce)
+            stored += sealed(key, self.drawn(size), plain[start : start + 32768], nonce, number.to_bytes(8, "big"))
         return stored
+
+    def by_gcm(self, key, nonce, text, header, number):
+        return nonce + AESGCM(key).encrypt(nonce, text, number + header)
+
+    def by_counter_mode(self, key, nonce, text, header, number):
+        """With a tag by HMAC under the MAC key, whatever the key of the text is."""
+        encrypted = nonce + Cipher(algorithms.AES(key), modes.CTR(nonce)).encryptor().update(text)
+        return encrypted + hmac.digest(self.mac, header + number + encrypted, "sha256")
 
 
 class Tree:

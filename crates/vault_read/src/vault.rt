@@ -114,6 +114,7 @@ fn contents_by(vault: &CmVault) -> ContentKeys
 {
     match vault.combo {
         Combo::SivGcm => ContentKeys::cm_gcm(&vault.keys.enc),
+        Combo::SivCtrMac => ContentKeys::cm_ctr(&vault.keys.enc, &vault.keys.mac),
     }
 }
 

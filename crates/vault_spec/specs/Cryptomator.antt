@@ -9,9 +9,9 @@ use Rattle.std.specs.Prelude.{ℕ, Bool, true, false, ◌&&◌, ◌||◌, ◌==�
 use Rattle.std.specs.List.{list_all}
 use Rattle.std.specs.Option.{option_or}
 use Rattle.std.specs.Str.{bytes_eq}
-use Rattle.chunk_files.specs.Keys.{Keys, cm_gcm_keys}
+use Rattle.chunk_files.specs.Keys.{Keys, cm_ctr_keys, cm_gcm_keys}
 use Rattle.cryptomator_conf.specs.declared.conf.Combo.{Combo}
-use Rattle.cryptomator_conf.specs.declared.conf.Combo.TheVariants.{SivGcm}
+use Rattle.cryptomator_conf.specs.declared.conf.Combo.TheVariants.{SivGcm, SivCtrMac}
 use Rattle.cryptomator_conf.specs.declared.keys.CmKeys.{CmKeys}
 use Rattle.cryptomator_conf.specs.Id.{id_of}
 use Rattle.folder_spec.specs.Path.{Part, Path, child}
@@ -33,6 +33,7 @@ pub record CmVault : Type 0 where
 
 abbrev pub contents_by : Combo → CmKeys → Keys
 contents_by SivGcm keys = cm_gcm_keys keys.enc
+contents_by SivCtrMac keys = cm_ctr_keys keys.enc keys.mac
 
 -- the names of the files in an entry
 abbrev pub id_file : Part

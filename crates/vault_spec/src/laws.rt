@@ -1,5 +1,6 @@
 //! Laws of the definitions. Each function computes nothing, and its clauses are the laws.
-ghost use Rattle.std.specs.Prelude.{◌≡◌, ◌≢◌, ◌↔◌, ◌<◌, ◌+◌, ◌++◌, ◌∷◌, [], ℕ, suc, List, length, Some, Contains, Result, Ok};
+ghost use Rattle.std.specs.Prelude.{◌≡◌, ◌≢◌, ◌↔◌, ◌<◌, ◌+◌, ◌++◌, ◌∷◌, [], ℕ, suc, List, false, length, Some, Contains, Result, Ok};
+ghost use Rattle.chunk_files.specs.Keys as contents;
 ghost use Rattle.cryptomator_conf.specs.declared.conf.CmDraw.{CmDraw};
 ghost use Rattle.cryptomator_conf.specs.Text.{keys_of};
 ghost use Rattle.folder_spec.specs.Path as folder;
@@ -166,6 +167,11 @@ pub fn new_items_of_cryptomator_open_in_any_vault()
     cm_long_names_are_plain();
 }
 
+/// The contents of a Cryptomator vault refuse no zeros, whichever its ciphers are.
+pub fn contents_of_cryptomator_refuse_no_zeros()
+    ensures { (vault : CmVault) → (contents.format_of (cm_format vault).content).refuses_zeros ≡ false }
+{}
+
 /// A new gocryptfs vault is clean, and its root alone opens.
 pub fn new_vaults_of_gocryptfs_are_empty()
     ensures { (keys : GoKeys) (pass : List ℕ) (cost : Cost) (drawn : GoDraw) (key : List ℕ) → directory_key key ≡ Some key
@@ -179,7 +185,7 @@ pub fn new_vaults_of_gocryptfs_are_empty()
 /// A new Cryptomator vault is clean under its drawn keys, and its root alone opens.
 pub fn new_vaults_of_cryptomator_are_empty()
     ensures { (vault : CmVault) (pass : List ℕ) (cost : Cost) (drawn : CmDraw) → vault.keys ≡ keys_of drawn
-        → IsEmptyVault (cm_format vault) (new_cm_vault pass cost drawn) }
+        → IsEmptyVault (cm_format vault) (new_cm_vault pass cost vault.combo drawn) }
 {
     cm_text_has_one_name();
     cm_texts_are_plain();
@@ -204,7 +210,7 @@ pub fn vaults_of_gocryptfs_stay_tidy()
 /// is where a content is replaced.
 pub fn vaults_of_cryptomator_stay_tidy()
     ensures made { (vault : CmVault) (pass : List ℕ) (cost : Cost) (drawn : CmDraw) → vault.keys ≡ keys_of drawn
-        → IsTidy (cm_format vault) (new_cm_vault pass cost drawn) }
+        → IsTidy (cm_format vault) (new_cm_vault pass cost vault.combo drawn) }
     ensures replaced { (vault : CmVault) → ReplacedContentsStayTidy (cm_format vault) }
     ensures new { (vault : CmVault) → NewItemsStayTidy (cm_format vault) }
 {

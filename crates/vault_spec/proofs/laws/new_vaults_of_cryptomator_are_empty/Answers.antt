@@ -22,6 +22,6 @@ returns c vault pass cost drawn same =
       characters = c.cm_folders_are_plain.ensures.characters keys;
     } in
     subst (λ (k : CmKeys). IsEmptyVault (cm_format vault)
-    (new_root (master_text (made_master pass cost drawn) (version_mac drawn.mac version_bytes)) (vault_text drawn) (cm_folder_of k []))) same
+    (new_root (master_text (made_master pass cost drawn) (version_mac drawn.mac version_bytes)) (vault_text vault.combo drawn) (cm_folder_of k []))) same
     (new_is_empty vault (texts vault.keys) (folders vault.keys)
-    (master_text (made_master pass cost drawn) (version_mac drawn.mac version_bytes)) (vault_text drawn))
+    (master_text (made_master pass cost drawn) (version_mac drawn.mac version_bytes)) (vault_text vault.combo drawn))

@@ -26,9 +26,9 @@ returns c =
     record {
       made = λ vault pass cost drawn same.
           subst (λ (k : CmKeys). IsTidy (cm_format vault)
-          (new_root (master_text (made_master pass cost drawn) (version_mac drawn.mac version_bytes)) (vault_text drawn) (cm_folder_of k []))) same
+          (new_root (master_text (made_master pass cost drawn) (version_mac drawn.mac version_bytes)) (vault_text vault.combo drawn) (cm_folder_of k []))) same
           (cm_new_tidy vault (texts vault.keys)
-          (master_text (made_master pass cost drawn) (version_mac drawn.mac version_bytes)) (vault_text drawn));
+          (master_text (made_master pass cost drawn) (version_mac drawn.mac version_bytes)) (vault_text vault.combo drawn));
       replaced = λ vault.
           content_tidy (cm_format vault)
           (cm_lawful vault (texts vault.keys));

@@ -3,61 +3,36 @@ use Rattle.std.proofs.Common.{◌≡◌, ℕ, zero, suc, ◌+◌, ◌*◌, ◌<�
 use Rattle.std.proofs.lemmas.List.{append-nil}
 use Rattle.std.proofs.lemmas.Bool.Decides.{eqb_tells}
 use Rattle.std.proofs.Math.Nat.{mul-le-mul_left}
-use Rattle.chunk_files.specs.declared.keys.Layout.{Layout}
-use Rattle.chunk_files.specs.declared.keys.Layout.TheVariants.{Go, CmGcm}
 use Rattle.chunk_files.specs.Encoding.{Encoding, HasMade, IsFrontOf, GoesOn, MadeIsAFront, one_chunk_later}
 use Rattle.chunk_files.specs.Encrypt.{IsEncrypted, draws, encrypt, has_no_bytes}
 use Rattle.chunk_files.specs.Format.{Format}
-use Rattle.chunk_files.specs.Keys.{Keys, format_of, format_by, full_size}
+use Rattle.chunk_files.specs.Keys.{Keys, format_of, full_size}
 use Rattle.chunk_files.specs.Pieces.{first_pieces, pieces}
+use Rattle.chunk_files.proofs.LayoutSizes.{sizes_fit}
 use Rattle.content_writing.specs.Streaming.{IsMadeFor, IsNextChunk, GoesOnWith, WereAccepted}
 
 -- ---- formats
 
-header_by : (layout : Layout) (key : List ℕ) → 0 < (format_by layout key).header_draw
-header_by Go key = omega arith
-header_by CmGcm key = omega arith
-
 -- a header draws some bytes
 pub some_header : (keys : Keys) → 0 < (format_of keys).header_draw
-some_header keys = header_by keys.layout keys.key
-
-some_full_by : (layout : Layout) (key : List ℕ) → 0 < (format_by layout key).full_size
-some_full_by Go key = omega arith
-some_full_by CmGcm key = omega arith
+some_header keys = (sizes_fit keys).some_drawn
 
 pub some_full : (keys : Keys) → 0 < (format_of keys).full_size
-some_full keys = some_full_by keys.layout keys.key
-
-full_by : (layout : Layout) (key : List ℕ) → full_size layout ≡ (format_by layout key).full_size
-full_by Go key = refl
-full_by CmGcm key = refl
+some_full keys = (sizes_fit keys).some_full
 
 pub full_is : (keys : Keys) → full_size keys.layout ≡ (format_of keys).full_size
-full_is keys = full_by keys.layout keys.key
-
-few_full_by : (layout : Layout) (key : List ℕ) → (format_by layout key).full_size ≤ 32768
-few_full_by Go key = omega arith
-few_full_by CmGcm key = omega arith
+full_is keys = sym (sizes_fit keys).full
 
 pub few_full : (keys : Keys) → (format_of keys).full_size ≤ 32768
-few_full keys = few_full_by keys.layout keys.key
-
-nonce_sealed_by : (layout : Layout) (key : List ℕ) → (format_by layout key).nonce_size ≤ (format_by layout key).seal_size
-nonce_sealed_by Go key = omega arith
-nonce_sealed_by CmGcm key = omega arith
+few_full keys = (sizes_fit keys).few_full
 
 -- a sealed chunk begins with its nonce
 pub nonce_sealed : (keys : Keys) → (format_of keys).nonce_size ≤ (format_of keys).seal_size
-nonce_sealed keys = nonce_sealed_by keys.layout keys.key
-
-sixteen_by : (layout : Layout) (key : List ℕ) → (format_by layout key).refuses_zeros ≡ true → ((format_by layout key).nonce_size ≡ 16) × ((format_by layout key).header_draw ≡ 16)
-sixteen_by Go key refuses = (refl, refl)
-sixteen_by CmGcm key refuses = cc
+nonce_sealed keys = (sizes_fit keys).nonce_within
 
 -- where zeros are refused, sixteen bytes are drawn for a nonce, and for a header
 pub sixteen_drawn : (keys : Keys) → (format_of keys).refuses_zeros ≡ true → ((format_of keys).nonce_size ≡ 16) × ((format_of keys).header_draw ≡ 16)
-sixteen_drawn keys refuses = sixteen_by keys.layout keys.key refuses
+sixteen_drawn keys refuses = ((sizes_fit keys).nonces_of_sixteen refuses, (sizes_fit keys).header_of_sixteen refuses)
 
 pub zeros_drawn : (keys : Keys) → (format_of keys).refuses_zeros ≡ true → (16 ≤ (format_of keys).nonce_size) × (16 ≤ (format_of keys).header_draw)
 zeros_drawn keys refuses = let both = sixteen_drawn keys refuses in (omega (arith, both.0), omega (arith, both.1))

@@ -4,13 +4,12 @@ use Rattle.std.proofs.lemmas.List.{take-append-le, drop-append-le, take_all, tak
 use Rattle.std.proofs.Common.{length-append, length-drop, length-take, ◌≡◌, ◌≢◌, ℕ, zero, suc, ◌+◌, ◌<◌, ◌≤◌, ◌==◌, ◌&&◌, nat_lt, Bool, true, false, cond, List, [], ◌∷◌, ◌++◌, length, take, drop, Result, Ok, Err, refl, sym, ap, ◌∙◌, subst, arith}
 use Rattle.chunk_files.specs.declared.fault.ChunkFault.{ChunkFault}
 use Rattle.chunk_files.specs.Format.{Format, Header, stored_size}
-use Rattle.chunk_files.specs.Keys.{Keys, format_by, format_of}
-use Rattle.chunk_files.specs.declared.keys.Layout.{Layout}
-use Rattle.chunk_files.specs.declared.keys.Layout.TheVariants.{Go, CmGcm}
+use Rattle.chunk_files.specs.Keys.{Keys, format_of}
 use Rattle.chunk_files.specs.declared.fault.ChunkFault.TheVariants.{NoHeader}
 use Rattle.chunk_files.specs.Pieces.{pieces, first_pieces}
 use Rattle.chunk_files.specs.Reading.{Reading, Whole, Wanting, Faulty, ends}
 use Rattle.chunk_files.specs.Contents.{read_chunk, read_chunks, read_on, read_behind, read_by, readable, read_file}
+use Rattle.chunk_files.proofs.LayoutSizes.{sizes_fit}
 use Rattle.vault_read.specs.Contents.{content_limit, limited_reading}
 use Rattle.vault_spec.proofs.Endings.{whole_ends}
 
@@ -114,11 +113,7 @@ front_by f front rest some =
         (front_behind f (f.read_header (take f.header_size front)) (drop f.header_size front) rest some))
 
 some_stored : (keys : Keys) → 0 < stored_size (format_of keys)
-some_stored keys = by_layout keys.layout
-  where
-    by_layout : (layout : Layout) → 0 < stored_size (format_by layout keys.key)
-    by_layout Go = omega arith
-    by_layout CmGcm = omega arith
+some_stored keys = omega (arith, (sizes_fit keys).some_full)
 
 -- reading up to the limit ends as reading the whole file does, if it isn't for want of bytes
 pub limited_is_whole : (keys : Keys) (bytes : List ℕ) → (limited_reading keys bytes).ending ≢ Wanting → (limited_reading keys bytes).ending ≡ (readable keys bytes).ending

@@ -2,4 +2,4 @@ use Rattle.content_writing.proofs.Lengths.{told_whole}
 use Rattle.content_writing.proofs.laws.files_fit_as_contents.Goals as goal
 
 pub returns : goal.returns
-returns c = told_whole c.sealed_texts_are_bytes.ensures.as_long
+returns c = told_whole c.readings_are_no_longer.ensures

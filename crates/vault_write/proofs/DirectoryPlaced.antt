@@ -15,9 +15,6 @@ use Rattle.content_writing.specs.Faults.{of_folder}
 use Rattle.content_writing.specs.declared.fault.PutFault.{PutFault}
 use Rattle.content_writing.specs.declared.fault.PutFault.TheVariants as puts
 use Rattle.cryptomator_conf.specs.Id.{id_of}
-use Rattle.cryptomator_conf.specs.declared.conf.Combo.{Combo}
-use Rattle.cryptomator_conf.specs.declared.conf.Combo.TheVariants.{SivGcm}
-use Rattle.cryptomator_conf.specs.declared.keys.CmKeys.{CmKeys}
 use Rattle.folder_spec.specs.declared.FolderFault.{FolderFault}
 use Rattle.folder_spec.specs.Path.{Path, parent}
 use Rattle.folder_spec.proofs.Paths.{child-not_base}
@@ -33,7 +30,7 @@ use Rattle.vault_names.specs.Cryptomator.{cm_folder_of, is_id_character}
 use Rattle.vault_read.specs.Laws.{KeepsVaults}
 use Rattle.vault_read.specs.Opened.{OpenedVault, IsCryptomator, kind_of}
 use Rattle.vault_read.specs.declared.vault.VaultKind.TheVariants as kind
-use Rattle.vault_spec.specs.Cryptomator.{CmVault, cm_format, contents_by, directory_id, shelf_named, folder_named, taken_unless_folder, taken_folders}
+use Rattle.vault_spec.specs.Cryptomator.{CmVault, cm_format, directory_id, shelf_named, folder_named, taken_unless_folder, taken_folders}
 use Rattle.vault_spec.specs.Format.{is_bytes, taken_at}
 use Rattle.vault_spec.specs.Gocryptfs.{directory_key, taken_unless}
 use Rattle.vault_spec.specs.Making.{NewDirectory, draws}
@@ -169,13 +166,10 @@ cm_may enters folders root (Cryptomator cm) is laws work front name named t may 
     places_at None told v s = absurd s
 cm_may enters folders root (Gocryptfs keys) is laws work front name named t may sound at side full slot shelf home wants id drawn home_is shelf_is home_free shelf_by id_is is_id sixteen = let clash : kind.Gocryptfs ≡ kind.Cryptomator = is in cc
 
-none_by : (combo : Combo) (keys : CmKeys) → (contents.format_of (contents_by combo keys)).refuses_zeros ≡ false
-none_by SivGcm keys = refl
-
 -- no zeros are refused
-pub none_refused : (vault : Vault) → kind_of vault ≡ kind.Cryptomator → (drawn : List ℕ) → DrewNoZeros (format_of vault).content drawn
-none_refused (Cryptomator cm) is drawn number has = let no : false ≡ true = sym (none_by cm.combo cm.keys) ∙ has.refused in cc no
-none_refused (Gocryptfs keys) is drawn number has = let clash : kind.Gocryptfs ≡ kind.Cryptomator = is in cc
+pub none_refused : ((cm : CmVault) → (contents.format_of (cm_format cm).content).refuses_zeros ≡ false) → (vault : Vault) → kind_of vault ≡ kind.Cryptomator → (drawn : List ℕ) → DrewNoZeros (format_of vault).content drawn
+none_refused none (Cryptomator cm) is drawn number has = let no : false ≡ true = sym (none cm) ∙ has.refused in cc no
+none_refused none (Gocryptfs keys) is drawn number has = let clash : kind.Gocryptfs ≡ kind.Cryptomator = is in cc
 
 -- a new directory's id is a key
 not_below : (a b : ℕ) → b < a → nat_le a b ≡ false

@@ -3,7 +3,7 @@ use Rattle.std.proofs.Common.{◌≡◌, ◌<◌, ℕ, suc, Bool, true, false, n
 use Rattle.std.proofs.lemmas.Bool.{le-leb}
 use Rattle.chunk_files.specs.Zeros.{is_all_zero}
 use Rattle.cryptomator_conf.specs.declared.conf.CmDraw.{CmDraw}
-use Rattle.cryptomator_conf.specs.declared.conf.Combo.TheVariants.{SivGcm}
+use Rattle.cryptomator_conf.specs.declared.conf.Combo.{Combo}
 use Rattle.cryptomator_conf.specs.Laws as cm
 use Rattle.cryptomator_conf.specs.Text.{keys_of, made_master, master_text, vault_text, version_bytes, version_mac}
 use Rattle.gocrypt_conf.specs.declared.conf.GoDraw.{GoDraw}
@@ -65,11 +65,11 @@ go_is_new returns empty tidy pass cost d key is_cost sizes some = record {
 
 -- ---- Cryptomator
 
-cm_opens : (pass : List ℕ) (cost : Cost) (d : CmDraw) → IsCmDraw d → cm.Return pass cost d → IsVault (new_cm_vault pass cost d) pass (new_cm d)
-cm_opens pass cost d sizes h =
+cm_opens : (pass : List ℕ) (cost : Cost) (combo : Combo) (d : CmDraw) → IsCmDraw d → cm.Return pass cost combo d → IsVault (new_cm_vault pass cost combo d) pass (new_cm combo d)
+cm_opens pass cost combo d sizes h =
     let master : List ℕ = master_text (made_master pass cost d) (version_mac d.mac version_bytes) in
-    let text : List ℕ = vault_text d in
-    let answer : Result Vault LoadRefusal = Ok (new_cm d) in
+    let text : List ℕ = vault_text combo d in
+    let answer : Result Vault LoadRefusal = Ok (new_cm combo d) in
     either (nat_le (length master) 65536) (Either (nat_le (length text) 65536) (TestsCm master text pass answer) (answer ≡ Err (TooLarge vault_file))) (answer ≡ Err (TooLarge master_file))
     (le-leb (length master) 65536 (h.short_master sizes.salt.size))
     (either (nat_le (length text) 65536) (TestsCm master text pass answer) (answer ≡ Err (TooLarge vault_file)) (le-leb (length text) 65536 h.short_vault) (
@@ -88,14 +88,15 @@ cm_opens pass cost d sizes h =
     ))
 
 -- it is empty and tidy under the keys that it draws
-abbrev pub CmEmptyAndTidy : List ℕ → Cost → CmDraw → Type 0
-CmEmptyAndTidy pass cost d =
-    IsEmptyVault (cm_format (record { keys = keys_of d; combo = SivGcm; threshold = 220 })) (new_cm_vault pass cost d)
-    × IsTidy (cm_format (record { keys = keys_of d; combo = SivGcm; threshold = 220 })) (new_cm_vault pass cost d)
+abbrev pub CmEmptyAndTidy : List ℕ → Cost → Combo → CmDraw → Type 0
+CmEmptyAndTidy pass cost combo d =
+    IsEmptyVault (cm_format (record { keys = keys_of d; combo = combo; threshold = 220 })) (new_cm_vault pass cost combo d)
+    × IsTidy (cm_format (record { keys = keys_of d; combo = combo; threshold = 220 })) (new_cm_vault pass cost combo d)
 
-pub cm_is_new : cm.MadeFilesReturn → (pass : List ℕ) (cost : Cost) (d : CmDraw) → IsCost cost → IsCmDraw d → CmEmptyAndTidy pass cost d → IsNewVault (new_cm_vault pass cost d) pass (new_cm d)
-cm_is_new returns pass cost d is_cost sizes both = record {
-  opens = cm_opens pass cost d sizes (returns pass cost d is_cost (record {
+pub cm_is_new : cm.MadeFilesReturn → (pass : List ℕ) (cost : Cost) (combo : Combo) (d : CmDraw) → IsCost cost → IsCmDraw d → CmEmptyAndTidy pass cost combo d
+    → IsNewVault (new_cm_vault pass cost combo d) pass (new_cm combo d)
+cm_is_new returns pass cost combo d is_cost sizes both = record {
+  opens = cm_opens pass cost combo d sizes (returns pass cost combo d is_cost (record {
     enc = record { thirty_two = sizes.enc.size; bytes = sizes.enc.small };
     mac = record { thirty_two = sizes.mac.size; bytes = sizes.mac.small };
     salt = sizes.salt.small;

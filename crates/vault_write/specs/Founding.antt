@@ -4,7 +4,7 @@ use Rattle.chunk_files.specs.Zeros.{is_all_zero}
 use Rattle.content_writing.specs.declared.fault.PutFault.{PutFault}
 use Rattle.content_writing.specs.declared.fault.PutFault.TheVariants as puts
 use Rattle.cryptomator_conf.specs.declared.conf.CmDraw.{CmDraw}
-use Rattle.cryptomator_conf.specs.declared.conf.Combo.TheVariants.{SivGcm}
+use Rattle.cryptomator_conf.specs.declared.conf.Combo.{Combo}
 use Rattle.cryptomator_conf.specs.Text as cryptomator
 use Rattle.gocrypt_conf.specs.declared.conf.GoDraw.{GoDraw}
 use Rattle.gocrypt_conf.specs.Keys as gocryptfs
@@ -146,8 +146,8 @@ CmDrew d drawn (Err puts.Source) = ⊥
 abbrev pub new_go : GoDraw → Vault
 new_go d = Gocryptfs (gocryptfs.keys_of d.master)
 
-abbrev pub new_cm : CmDraw → Vault
-new_cm d = Cryptomator (record { keys = cryptomator.keys_of d; combo = SivGcm; threshold = 220 })
+abbrev pub new_cm : Combo → CmDraw → Vault
+new_cm combo d = Cryptomator (record { keys = cryptomator.keys_of d; combo = combo; threshold = 220 })
 
 -- A call founds a gocryptfs vault under the bytes that it draws. After Ok it is what the passphrase opens, and empty.
 pub record FoundsGo (work at : Path) (pass : List ℕ) (cost : Cost) (stream stream' : Option ByteStream) (before after : Option Told) (result : Result (Unit {0}) PutFault) : Type 0 where
@@ -160,14 +160,14 @@ pub record FoundsGo (work at : Path) (pass : List ℕ) (cost : Cost) (stream str
   pub founds : Founds work at (new_go_vault pass cost draw key) (go_files pass cost draw key) before after result
   pub vault : OnOk result (IsNewVault (new_go_vault pass cost draw key) pass (new_go draw))
 
-pub record FoundsCm (work at : Path) (pass : List ℕ) (cost : Cost) (stream stream' : Option ByteStream) (before after : Option Told) (result : Result (Unit {0}) PutFault) : Type 0 where
+pub record FoundsCm (work at : Path) (pass : List ℕ) (cost : Cost) (combo : Combo) (stream stream' : Option ByteStream) (before after : Option Told) (result : Result (Unit {0}) PutFault) : Type 0 where
   pub draw : CmDraw
   pub drawn : List ℕ
   pub sizes : IsCmDraw draw
   pub were_drawn : Draws stream stream' drawn
   pub drew : CmDrew draw drawn result
-  pub founds : Founds work at (new_cm_vault pass cost draw) (cm_files pass cost draw) before after result
-  pub vault : OnOk result (IsNewVault (new_cm_vault pass cost draw) pass (new_cm draw))
+  pub founds : Founds work at (new_cm_vault pass cost combo draw) (cm_files pass cost combo draw) before after result
+  pub vault : OnOk result (IsNewVault (new_cm_vault pass cost combo draw) pass (new_cm combo draw))
 
 -- ---- private contracts
 

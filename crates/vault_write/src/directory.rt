@@ -30,7 +30,7 @@ use text_model::Text;
 use vault_names::laws::dir_ids_are_plain;
 use vault_read::laws::items_keep_vaults;
 use vault_read::{Vault, VaultKind};
-use vault_spec::laws::what_is_found_stands;
+use vault_spec::laws::{contents_of_cryptomator_refuse_no_zeros, what_is_found_stands};
 use work_folder::Work;
 
 /// Makes a new directory at a plain path.
@@ -145,6 +145,7 @@ fn place_cm<F: Folder, R: Randoms>(
     what_is_found_stands();
     items_keep_vaults();
     dir_ids_are_plain();
+    contents_of_cryptomator_refuse_no_zeros();
     let text = draw_id(alloc, random)?;
     let id = text.as_bytes();
     let home = home_of(alloc, folder, vault, id)?;

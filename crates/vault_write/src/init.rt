@@ -22,8 +22,8 @@ ghost use Rattle.vault_write.specs.Founding.{MayFound, Founds, FoundsGo, FoundsC
 use crate::drawing::{draw_cm, draw_go};
 use crate::stage::staged_at;
 use content_writing::PutFault;
-use cryptomator_conf::CmKeys;
 use cryptomator_conf::laws::made_files_give_back_their_keys;
+use cryptomator_conf::{CmKeys, Combo};
 use folder_model::{FPath, Folder};
 use folder_spec::FolderFault;
 use folder_staging::laws::{
@@ -71,9 +71,7 @@ pub fn init_go<F: Folder, R: Randoms>(
     Ok(found_go(folder, work, at, conf.as_slice(), &drawn.key)?)
 }
 
-/// Makes a new Cryptomator vault at a path where nothing stands. It comes there whole, at once, and lasts.
-///
-/// It draws the two keys, the salt and the vault's id, and takes the memory of scrypt.
+/// Makes a new Cryptomator vault with SIV_GCM, as `init_cm_combo` does.
 pub fn init_cm<F: Folder, R: Randoms>(
     alloc: Global,
     folder: &mut F,
@@ -84,7 +82,30 @@ pub fn init_cm<F: Folder, R: Randoms>(
     random: &mut R,
 ) -> Result<(), PutFault>
     requires { MayFound (F.told folder.old) work.now at.now }
-    ensures founds { FoundsCm work.now at.now pass.now cost.now (R.left random.old) (R.left random.new) (F.told folder.old) (F.told folder.new) result }
+    ensures founds { FoundsCm work.now at.now pass.now cost.now Combo.SivGcm (R.left random.old) (R.left random.new) (F.told folder.old) (F.told folder.new) result }
+    ensures failed { result ≡ Err PutFault.Failed → CountRose (F.faults folder.old) (F.faults folder.new) }
+    ensures random { result ≡ Err PutFault.Random → CountRose (R.faults random.old) (R.faults random.new) }
+    ensures grows { F.faults folder.old ≤ F.faults folder.new }
+    ensures counted { R.faults random.old ≤ R.faults random.new }
+{
+    init_cm_combo(alloc, folder, work, at, pass, cost, Combo::SivGcm, random)
+}
+
+/// Makes a new Cryptomator vault with these ciphers at a path where nothing stands. It comes there whole, at once, and lasts.
+///
+/// It draws the two keys, the salt and the vault's id, and takes the memory of scrypt.
+pub fn init_cm_combo<F: Folder, R: Randoms>(
+    alloc: Global,
+    folder: &mut F,
+    work: &Work,
+    at: &FPath,
+    pass: &[u8],
+    cost: &ScryptCost,
+    combo: Combo,
+    random: &mut R,
+) -> Result<(), PutFault>
+    requires { MayFound (F.told folder.old) work.now at.now }
+    ensures founds { FoundsCm work.now at.now pass.now cost.now combo (R.left random.old) (R.left random.new) (F.told folder.old) (F.told folder.new) result }
     ensures failed { result ≡ Err PutFault.Failed → CountRose (F.faults folder.old) (F.faults folder.new) }
     ensures random { result ≡ Err PutFault.Random → CountRose (R.faults random.old) (R.faults random.new) }
     ensures grows { F.faults folder.old ≤ F.faults folder.new }
@@ -100,7 +121,7 @@ pub fn init_cm<F: Folder, R: Randoms>(
         enc: drawn.enc,
         mac: drawn.mac,
     };
-    let files = cryptomator_conf::make(alloc, pass, cost, &drawn)?;
+    let files = cryptomator_conf::make_combo(alloc, pass, cost, combo, &drawn)?;
     let home = cm_folder(alloc, &keys, &[])?;
     let master = files.master.as_slice();
     let vault = files.vault.as_slice();

@@ -15,4 +15,4 @@ mod stage;
 pub use content_writing::{Content, PutFault, SourceContent, VaultContent};
 pub use directory::place_dir;
 pub use file::{place_file, put};
-pub use init::{init_cm, init_go};
+pub use init::{init_cm, init_cm_combo, init_go};

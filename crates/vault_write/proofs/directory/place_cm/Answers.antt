@@ -52,6 +52,6 @@ returns-clause-made g c =
     (g.F.Folder.told c.args.folder.now) c.requires.may (g.met.F.Folder.sound c.args.folder.now) c.args.slot.now.at c.args.slot.now.side c.args.slot.now.full c.requires.slot c.in_ok-home.home.shelf c.in_ok-home.home.home c.in_ok-home.home.wants c.as_bytes-id.result.now c.in_ok-text.ensures.drawn.drawn
     c.in_ok-home.ensures.home c.in_ok-home.ensures.shelf c.in_ok-home.ensures.free c.in_ok-home.ensures.wants (c.as_bytes-id.ensures.value ∙ c.in_ok-text.ensures.drawn.is)
     (is_id (id_of c.in_ok-text.ensures.drawn.drawn) (c.dir_ids_are_plain.ensures.size c.in_ok-text.ensures.drawn.drawn) (c.dir_ids_are_plain.ensures.characters c.in_ok-text.ensures.drawn.drawn)) c.in_ok-text.ensures.drawn.sixteen).begun
-    c.in_ok-text.ensures.drawn.were_drawn c.in_ok-text.ensures.drawn.sixteen (none_refused c.args.vault.now.vault c.requires.kind c.in_ok-text.ensures.drawn.drawn)
+    c.in_ok-text.ensures.drawn.were_drawn c.in_ok-text.ensures.drawn.sixteen (none_refused c.contents_of_cryptomator_refuse_no_zeros.ensures c.args.vault.now.vault c.requires.kind c.in_ok-text.ensures.drawn.drawn)
     (subst (λ t. FromTo (Edits c.args.work.now c.args.vault.now.root (cm_making c.in_ok-home.home.wants c.in_ok-home.home.shelf c.in_ok-home.home.home c.args.slot.now.at c.args.slot.now.full c.as_bytes-id.result.now)) t (g.F.Folder.told c.make_cm.new.folder)) c.home_of.ensures.told c.in_ok-make_cm.ensures.made.0)
     (subst (λ t. FromTo (HasFinished c.args.work.now c.args.vault.now.root (cm_making c.in_ok-home.home.wants c.in_ok-home.home.shelf c.in_ok-home.home.home c.args.slot.now.at c.args.slot.now.full c.as_bytes-id.result.now)) t (g.F.Folder.told c.make_cm.new.folder)) c.home_of.ensures.told c.in_ok-make_cm.ensures.made.1)

@@ -6,12 +6,11 @@ use Rattle.std.specs.List.{concat}
 use Rattle.chunk_files.specs.Contents.{read_behind, read_by, read_chunk, read_chunks, read_file, read_on, readable}
 use Rattle.chunk_files.specs.declared.fault.ChunkFault.{ChunkFault}
 use Rattle.chunk_files.specs.declared.fault.ChunkFault.TheVariants.{NoHeader}
-use Rattle.chunk_files.specs.declared.keys.Layout.{Layout}
-use Rattle.chunk_files.specs.declared.keys.Layout.TheVariants.{Go, CmGcm}
 use Rattle.chunk_files.specs.Format.{Format, Header, stored_size}
-use Rattle.chunk_files.specs.Keys.{Keys, format_by, format_of}
+use Rattle.chunk_files.specs.Keys.{Keys, format_of}
 use Rattle.chunk_files.specs.Pieces.{first_pieces, pieces}
 use Rattle.chunk_files.specs.Reading.{Reading, Whole, Wanting, Faulty, chunk_before, ends}
+use Rattle.chunk_files.proofs.LayoutSizes.{sizes_fit}
 
 -- a reading that wants bytes gives the front of what another gives
 pub record IsFront (one whole : Reading) : Type 0 where
@@ -122,9 +121,8 @@ module _ (f : Format) (some : 0 < stored_size f) (k : ℕ) (bytes : List ℕ) wh
       (λ less. lt-ltb _ _ (omega (arith, fewer, ltb-true (length bytes) f.header_size less))) ended
       (λ enough ended. behind_both (ltb-false (length (take k bytes)) f.header_size enough) ended)
 
-stores_some : (layout : Layout) (key : List ℕ) → 0 < stored_size (format_by layout key)
-stores_some Go key = omega arith
-stores_some CmGcm key = omega arith
+stores_some : (keys : Keys) → 0 < stored_size (format_of keys)
+stores_some keys = omega (arith, (sizes_fit keys).some_full)
 
 -- a content that is read to its end, or to the limit
 pub data Partly (content : List ℕ) (r : Reading) : Type 0 where
@@ -136,7 +134,7 @@ pub partly_read : (limit : ℕ) (keys : Keys) (bytes : List ℕ) → (readable k
 partly_read limit keys bytes ended = by (nat_lt limit (length bytes)) refl
   where
     by : (more : Bool) → nat_lt limit (length bytes) ≡ more → Partly (concat (readable keys bytes).chunks) (read_file keys (take limit bytes) more)
-    by true is = let front = cut_front (format_of keys) (stores_some keys.layout keys.key) limit bytes ended in Front front.wanting front.rest front.joined
+    by true is = let front = cut_front (format_of keys) (stores_some keys) limit bytes ended in Front front.wanting front.rest front.joined
     by false is =
         let all : take limit bytes ≡ bytes = take_all limit bytes (ltb-false limit (length bytes) is) in
         subst (λ (xs : List ℕ). Partly (concat (readable keys bytes).chunks) (read_file keys xs false)) (sym all) (All ended refl)

@@ -6,9 +6,12 @@ use Rattle.std.proofs.lemmas.List.{length-take, take_all}
 use Rattle.std.specs.Cmp.Lexicographic.{bytes_decides}
 use Rattle.std.specs.List.{concat, starts_with}
 use Rattle.chunk_files.specs.Contents.{read_file, readable}
+use Rattle.chunk_files.specs.Format.{stored_size}
+use Rattle.chunk_files.specs.Keys as contents
 use Rattle.chunk_files.specs.Keys.{Keys}
 use Rattle.chunk_files.specs.Reading.{Ending, Reading, Whole, Wanting, Faulty}
 use Rattle.chunk_files.specs.Sizes.{FilesAreNotMuchLonger, IsFaultless}
+use Rattle.chunk_files.proofs.LayoutSizes.{sizes_fit}
 use Rattle.folder_spec.specs.Event.{Told}
 use Rattle.folder_spec.specs.Path.{Path}
 use Rattle.folder_spec.specs.Seen.{IsSeen, ShowsFile, under}
@@ -58,13 +61,20 @@ use Rattle.migrate_core.specs.declared.fault.MoveFault.TheVariants.{Work, Journa
 
 -- over any limit, so that nothing computes with so great a number
 module _ (most : ℕ) (great : 131072 ≤ most) (short : FilesAreNotMuchLonger) (keys : Keys) (bytes : List ℕ) where
+  -- a header and a stored chunk
+  abbrev beside : ℕ
+  beside = (contents.format_of keys).header_size + stored_size (contents.format_of keys)
+
+  few_beside : beside ≤ 32904
+  few_beside = omega (arith, (sizes_fit keys).few_header, (sizes_fit keys).few_stored)
+
   abbrev limited : Reading
   limited = read_file keys (take most bytes) (nat_lt most (length bytes))
 
   small_whole : (readable keys bytes).ending ≡ Whole → 64 * (length (concat (readable keys bytes).chunks) + 2) ≤ most → limited ≡ readable keys bytes
   small_whole whole small =
-      let few : length bytes ≤ 33 * length (concat (readable keys bytes).chunks) + 32864 = short keys bytes false (subst IsFaultless (sym whole) tt) in
-      let fits : length bytes ≤ most = omega (arith, few, small, great) in
+      let few : length bytes ≤ 33 * length (concat (readable keys bytes).chunks) + beside = short keys bytes false (subst IsFaultless (sym whole) tt) in
+      let fits : length bytes ≤ most = omega (arith, few, few_beside, small, great) in
       ap (λ (xs : List ℕ). read_file keys xs (nat_lt most (length bytes))) (take_all most bytes fits) ∙ ap (read_file keys bytes) (le-ltb most (length bytes) fits)
 
   -- the file goes on
@@ -78,9 +88,9 @@ module _ (most : ℕ) (great : 131072 ≤ most) (short : FilesAreNotMuchLonger) 
   cut_longer : limited.ending ≡ Wanting → most < length bytes
   cut_longer wanting = ltb-true most (length bytes) (goes_on wanting)
 
-  cut_long : limited.ending ≡ Wanting → most ≤ 33 * length (concat limited.chunks) + 32864
+  cut_long : limited.ending ≡ Wanting → most ≤ 33 * length (concat limited.chunks) + beside
   cut_long wanting =
-      let few : length (take most bytes) ≤ 33 * length (concat limited.chunks) + 32864 = short keys (take most bytes) (nat_lt most (length bytes)) (subst IsFaultless (sym wanting) tt) in
+      let few : length (take most bytes) ≤ 33 * length (concat limited.chunks) + beside = short keys (take most bytes) (nat_lt most (length bytes)) (subst IsFaultless (sym wanting) tt) in
       omega (arith, few, cut_longer wanting, length-take most bytes)
 
   -- and so much isn't the front of a small content
@@ -88,7 +98,7 @@ module _ (most : ℕ) (great : 131072 ≤ most) (short : FilesAreNotMuchLonger) 
   not_within wanting content small begins =
       let is : concat limited.chunks ≡ take (length (concat limited.chunks)) content = (bytes_decides (concat limited.chunks) (take (length (concat limited.chunks)) content)).0 begins in
       let within : length (concat limited.chunks) ≤ length content = omega (arith, ap (λ (xs : List ℕ). length xs) is, length-take (length (concat limited.chunks)) content) in
-      omega (arith, within, cut_long wanting, small, great)
+      omega (arith, within, cut_long wanting, few_beside, small, great)
 
 -- ---- what passes the limit
 

@@ -1,4 +1,5 @@
 use Rattle.std.proofs.Common.{refl, sym, arith}
+use Rattle.cryptomator_conf.specs.declared.conf.Combo.TheVariants.{SivGcm}
 use Rattle.vault_write.specs.Founding.{new_go, new_cm}
 use Rattle.demo_core.proofs.Standing.{stands_by}
 use Rattle.demo_core.proofs.Beside.{founded_beside}
@@ -30,7 +31,7 @@ returns-in-Gocryptfs-clause-beside g c =
 pub returns-in-Cryptomator-clause-stands : goal.returns-in-Cryptomator-clause-stands
 returns-in-Cryptomator-clause-stands g c =
     let founds = c.init_cm.ensures.founds in
-    stands_by c.args.kind c.args.work.now c.args.at.now _ (new_cm founds.draw) _ _ c.init_cm.result c.requires.make.apart c.requires.make.beside
+    stands_by c.args.kind c.args.work.now c.args.at.now _ (new_cm SivGcm founds.draw) _ _ c.init_cm.result c.requires.make.apart c.requires.make.beside
     (g.met.F.Folder.sound c.args.folder.now) (g.met.F.Folder.sound c.init_cm.new.folder) (λ v is. (c.requires.free v is).0) (sym c.in-Cryptomator.is) founds.vault founds.founds.done
 
 pub returns-in-Cryptomator-clause-beside : goal.returns-in-Cryptomator-clause-beside

@@ -64,6 +64,11 @@ impl Answer {
         self.said.hex(bytes);
     }
 
+    /// Adds the number and the sum of bytes.
+    pub fn sum(&mut self, bytes: &[u8]) {
+        self.said.bytes(bytes, 0);
+    }
+
     /// Adds what a value shows as a word.
     pub fn shows<T: fmt::Display>(&mut self, value: &T) {
         self.said.shows(value);

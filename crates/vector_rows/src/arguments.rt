@@ -45,6 +45,7 @@ impl Argument {
             "bytes" => self.are_bytes,
             "blocks" => self.are_bytes && self.bytes.len() % 16 == 0,
             "text" => self.are_bytes && str::from_utf8(self.bytes.as_slice()).is_ok(),
+            "keys" => self.are_bytes && matches!(self.bytes.len(), 32 | 64),
             "number" => self.number.is_some(),
             size => self.are_bytes && number(size) == Some(self.bytes.len() as u64),
         }

@@ -6,7 +6,9 @@ use crate::answer::Answer;
 use crate::arguments::Arguments;
 use crate::keys::{cost, cost_shown};
 use base64::engine::general_purpose::{STANDARD, URL_SAFE_NO_PAD};
-use cryptomator_conf::{CmDraw, CmFiles, CmKeys, check_signature, id_text, read_master};
+use cryptomator_conf::{
+    CmDraw, CmFiles, CmKeys, Combo, check_signature, id_text, make_combo, read_master,
+};
 use gocrypt_conf::{GoConf, GoDraw};
 use kdf_suite::hmac256;
 use std::alloc::{AllocError, Global};
@@ -119,6 +121,7 @@ fn cm_answer(name: &str, args: &Arguments, answer: &mut Answer) -> bool {
         }
         "cm-make-master" => made(args, answer, true),
         "cm-make-vault" => made(args, answer, false),
+        "cm-make-ctrmac" => made_ctrmac(args, answer),
         "cm-version-tag" => version_tag(args, answer),
         "cm-id" => answer.made(id_text(answer.alloc(), &args.array(0))),
         _ => return false,
@@ -197,15 +200,18 @@ fn followed(bytes: &[u8], more: &[u8], answer: &mut Answer) -> Vec<u8> {
     all
 }
 
-fn cm_make(args: &Arguments, alloc: Global) -> Option<CmFiles> {
-    let drawn = CmDraw {
+fn drawn(args: &Arguments) -> CmDraw {
+    CmDraw {
         enc: args.array(4),
         mac: args.array(5),
         salt: args.array(6),
         jti: args.array(7),
-    };
+    }
+}
+
+fn cm_make(args: &Arguments, alloc: Global) -> Option<CmFiles> {
     let cost = cost(args, 1)?;
-    cryptomator_conf::make(alloc, args.bytes(0), &cost, &drawn).ok()
+    cryptomator_conf::make(alloc, args.bytes(0), &cost, &drawn(args)).ok()
 }
 
 // One of the two files that are made, where there is memory for them and the cost is one.
@@ -219,6 +225,18 @@ fn made(args: &Arguments, answer: &mut Answer, is_master: bool) {
             }
         }
         None => answer.word("none"),
+    }
+}
+
+// `vault.cryptomator` of a new vault with SIV_CTRMAC.
+fn made_ctrmac(args: &Arguments, answer: &mut Answer) {
+    let alloc = answer.alloc();
+    let Some(cost) = cost(args, 1) else {
+        return answer.word("none");
+    };
+    match make_combo(alloc, args.bytes(0), &cost, Combo::SivCtrMac, &drawn(args)) {
+        Ok(files) => answer.bytes(files.vault.as_slice()),
+        Err(_) => answer.lacks(),
     }
 }
 

@@ -15,6 +15,7 @@ pub fn answer(name: &str, args: &mut Arguments, answer: &mut Answer) -> bool {
     match name {
         "file" => file(args, answer),
         "file-size" => file_size(args, answer),
+        "file-sum" => file_sum(args, answer),
         "reads" => gives(args, args.bytes(2), args.bytes(3), answer),
         "parts" => of_parts(args, answer),
         "first-step" => first_step(args, answer),
@@ -37,22 +38,30 @@ fn small_answer(name: &str, args: &Arguments, answer: &mut Answer) -> bool {
     true
 }
 
-// The layout that an argument names: `go`, or else that of Cryptomator.
+// The layout that an argument names: `go`, `ctr` for Cryptomator's with SIV_CTRMAC, or else that with SIV_GCM.
 fn layout(args: &Arguments) -> Layout {
-    if args.word(0) == "go" {
-        Layout::Go
-    } else {
-        Layout::CmGcm
+    match args.word(0) {
+        "go" => Layout::Go,
+        "ctr" => Layout::CmCtr,
+        _ => Layout::CmGcm,
     }
 }
 
-// The keys that the first two arguments write.
+// The keys that the first two arguments write: one, or the encryption key and the MAC key.
 fn keys(args: &Arguments) -> ContentKeys {
     let key = args.array(1);
     match layout(args) {
         Layout::Go => ContentKeys::go(&key),
         Layout::CmGcm => ContentKeys::cm_gcm(&key),
+        Layout::CmCtr => two_keys(&args.array(1)),
     }
+}
+
+fn two_keys(both: &[u8; 64]) -> ContentKeys {
+    let (mut enc, mut mac) = ([0; 32], [0; 32]);
+    enc.copy_from_slice(&both[..32]);
+    mac.copy_from_slice(&both[32..]);
+    ContentKeys::cm_ctr(&enc, &mac)
 }
 
 // The number of plain bytes of a full chunk.
@@ -62,7 +71,7 @@ fn full_of(keys: &ContentKeys) -> usize
 {
     match keys.layout() {
         Layout::Go => 4_096,
-        Layout::CmGcm => 32_768,
+        Layout::CmGcm | Layout::CmCtr => 32_768,
     }
 }
 
@@ -155,7 +164,7 @@ impl Making {
     }
 }
 
-// The file of a content of at most three chunks.
+// The file of a content of at most four chunks.
 fn made(
     alloc: Global,
     keys: ContentKeys,
@@ -167,12 +176,26 @@ fn made(
     making.add(chunk_at(content, 0, full))?;
     making.add(chunk_at(content, full, full))?;
     making.add(chunk_at(content, 2 * full, full))?;
+    making.add(chunk_at(content, 3 * full, full))?;
     Ok(making.file)
 }
 
 fn file(args: &Arguments, answer: &mut Answer) {
     match made(answer.alloc(), keys(args), args.bytes(2), args.bytes(3)) {
         Ok(file) => answer.bytes(file.as_slice()),
+        Err(fault) => not_made(fault, answer),
+    }
+}
+
+// The number and the sum of the bytes of a content's file, which gives the content back.
+fn file_sum(args: &Arguments, answer: &mut Answer) {
+    match made(answer.alloc(), keys(args), args.bytes(2), args.bytes(3)) {
+        Ok(file) => {
+            if !is_given_back(args, file.as_slice(), answer) {
+                answer.word("it isn't given back:");
+            }
+            answer.sum(file.as_slice());
+        }
         Err(fault) => not_made(fault, answer),
     }
 }

@@ -30,7 +30,7 @@ _vaultmove() {
         -*) mapfile -t COMPREPLY < <(compgen -W "$options" -- "$word") ;;
         *)
             if [ "$command" = init ] && [ "$COMP_CWORD" = 2 ]; then
-                mapfile -t COMPREPLY < <(compgen -W 'gocryptfs cryptomator' -- "$word")
+                mapfile -t COMPREPLY < <(compgen -W 'gocryptfs cryptomator cryptomator-ctrmac' -- "$word")
             elif [ -n "$options" ]; then
                 compopt -o filenames
                 mapfile -t COMPREPLY < <(compgen -d -- "$word")

@@ -14,7 +14,7 @@ use Rattle.command_words.specs.Words.{Arguments, Choice, arguments_of, is_among}
 use Rattle.command_words.specs.declared.rows.Kind.{Kind}
 use Rattle.command_words.specs.declared.rows.Kind.TheVariants as kind
 use Rattle.command_words.specs.declared.values.Format.{Format}
-use Rattle.command_words.specs.declared.values.Format.TheVariants.{Gocryptfs, Cryptomator}
+use Rattle.command_words.specs.declared.values.Format.TheVariants.{Gocryptfs, Cryptomator, CryptomatorCtrMac}
 use Rattle.command_words.specs.declared.values.Value.{Value}
 use Rattle.command_words.specs.declared.values.Value.TheVariants as value
 
@@ -24,7 +24,11 @@ folder_path word = if is_path_text word then Some (parts_of word) else None
 
 -- the format of vaults that a word names
 abbrev pub format_of : List ℕ → Option Format
-format_of word = if bytes_eq word (codes "gocryptfs") then Some Gocryptfs else if bytes_eq word (codes "cryptomator") then Some Cryptomator else None
+format_of word =
+    if bytes_eq word (codes "gocryptfs") then Some Gocryptfs
+    else if bytes_eq word (codes "cryptomator") then Some Cryptomator
+    else if bytes_eq word (codes "cryptomator-ctrmac") then Some CryptomatorCtrMac
+    else None
 
 -- the 32 bytes that 64 hexadecimal digits of either case write
 abbrev pub key_of : List ℕ → Option (List ℕ)

@@ -15,7 +15,10 @@ use std::alloc::{AllocError, Global};
 #[derive(Clone, Copy, Debug, PartialEq, Eq, Drop)]
 pub enum Format {
     Gocryptfs,
+    /// Cryptomator's with SIV_GCM.
     Cryptomator,
+    /// Cryptomator's with SIV_CTRMAC.
+    CryptomatorCtrMac,
 }
 
 /// What a word writes.
@@ -77,6 +80,8 @@ fn format_of(word: &str) -> Option<Format>
         Some(Format::Gocryptfs)
     } else if word == "cryptomator" {
         Some(Format::Cryptomator)
+    } else if word == "cryptomator-ctrmac" {
+        Some(Format::CryptomatorCtrMac)
     } else {
         None
     }

@@ -16,10 +16,10 @@ use Rattle.folder_spec.proofs.Moments.{went_on, went_more, went_to}
 use Rattle.folder_spec.proofs.Paths.{below-parent}
 use Rattle.port_model.specs.Draws.{ByteStream, Draws}
 use Rattle.command_words.specs.declared.values.Format.{Format}
-use Rattle.command_words.specs.declared.values.Format.TheVariants.{Gocryptfs, Cryptomator}
+use Rattle.command_words.specs.declared.values.Format.TheVariants.{Gocryptfs, Cryptomator, CryptomatorCtrMac}
 use Rattle.vault_spec.specs.NewVault.{go_files, cm_files, new_go_vault, new_cm_vault}
 use Rattle.vault_spec.specs.Vault.{Vault, Either}
-use Rattle.vault_write.specs.Founding.{Founds, IsFounding, IsNewVault, founding, new_go, new_cm, texts, vault_edit}
+use Rattle.vault_write.specs.Founding.{CmDrew, Founds, FoundsCm, GoDrew, IsFounding, IsNewVault, founding, new_go, new_cm, texts, vault_edit}
 use Rattle.vault_write.specs.Making.{StagesOrPlaces, is_apart, is_unstaged}
 use Rattle.work_folder.specs.Entering.{EntersAs}
 use Rattle.vault_cli.proofs.Beginnings.{Begins, apart_of_both, apart_of_unstaged, as_before_in, as_before_then, begun_then, no_overlap, none_drawn, not_begun_at, seen_after, unchanged_work, unstaged, work_alone}
@@ -27,7 +27,7 @@ use Rattle.vault_cli.proofs.Refusals.{pass_gives, pass_then, work_then}
 use Rattle.vault_cli.specs.Beginning.{IsBeginning, ChangesWork, EndsBefore, RefusesOverlapping, is_of_readying}
 use Rattle.vault_cli.specs.Places.{OfDirectory, OfMissing, overlap}
 use Rattle.vault_cli.specs.Faults.{answer_to_making}
-use Rattle.vault_cli.specs.Init.{FoundsAs, FoundsNew, FoundsVault, IsMakingVault, IsOfFounding, MakesVault, MakesVaultApart, DrawsVault, OfNewPlace, OfPlace, RefusesPlace, cost_of}
+use Rattle.vault_cli.specs.Init.{FoundsAs, FoundsNew, FoundsVault, IsMakingVault, IsOfFounding, MakesVault, MakesVaultApart, DrawsCryptomator, DrawsVault, OfNewPlace, OfPlace, RefusesPlace, cm_cost, cost_of}
 use Rattle.vault_cli.specs.Opening.{IsPhrase}
 use Rattle.vault_cli.specs.Refusing.{RefusesPass, RefusesWork, Unless}
 use Rattle.vault_cli.specs.Shown.{refused}
@@ -121,6 +121,18 @@ module _ (new : NewVault) (phrase : List ℕ) (answer : Answer) (t u w : Option 
     vault = opens;
   }
 
+  of_cryptomator : (combo : Combo) (kind : Format) → new.format ≡ kind
+      → ((made : View) (files : List (Part × List ℕ)) (result : Result (Unit {0}) PutFault) → DrawsCryptomator combo phrase made files stream stream' result → DrawsVault kind phrase made files stream stream' result)
+      → (result : Result (Unit {0}) PutFault) → answer ≡ answer_to_making result
+      → FoundsCm new.work new.vault phrase cm_cost combo stream stream' u w result → FoundsVault new answer t w stream stream'
+  of_cryptomator combo kind is draws result answers founds =
+      let made : View = new_cm_vault phrase cm_cost combo founds.draw in
+      let files : List (Part × List ℕ) = cm_files phrase cm_cost combo founds.draw in
+      from_parts made files result answers
+      (subst (λ (k : Format). DrawsVault k phrase made files stream stream' result) (sym is)
+      (draws made files result (founds.draw, founds.drawn, founds.sizes, founds.were_drawn, founds.drew, refl, refl)))
+      founds.founds (some_vault result made phrase (new_cm combo founds.draw) founds.vault)
+
   of_kind : (kind : Format) → new.format ≡ kind → (result : Result (Unit {0}) PutFault) → answer ≡ answer_to_making result
       → FoundsNew kind new.work new.vault phrase stream stream' u w result → FoundsVault new answer t w stream stream'
   of_kind Gocryptfs is result answers founds =
@@ -129,12 +141,8 @@ module _ (new : NewVault) (phrase : List ℕ) (answer : Answer) (t u w : Option 
       from_parts made files result answers
       (subst (λ (k : Format). DrawsVault k phrase made files stream stream' result) (sym is) (founds.draw, founds.key, founds.drawn, founds.sizes, founds.were_drawn, founds.drew, refl, refl))
       founds.founds (some_vault result made phrase (new_go founds.draw) founds.vault)
-  of_kind Cryptomator is result answers founds =
-      let made : View = new_cm_vault phrase (cost_of Cryptomator) founds.draw in
-      let files : List (Part × List ℕ) = cm_files phrase (cost_of Cryptomator) founds.draw in
-      from_parts made files result answers
-      (subst (λ (k : Format). DrawsVault k phrase made files stream stream' result) (sym is) (founds.draw, founds.drawn, founds.sizes, founds.were_drawn, founds.drew, refl, refl))
-      founds.founds (some_vault result made phrase (new_cm founds.draw) founds.vault)
+  of_kind Cryptomator is result answers founds = of_cryptomator SivGcm Cryptomator is (λ made files drew draws. draws) result answers founds
+  of_kind CryptomatorCtrMac is result answers founds = of_cryptomator SivCtrMac CryptomatorCtrMac is (λ made files drew draws. draws) result answers founds
 
   pub vault_made : FoundsAs new phrase answer u w stream stream' → FoundsVault new answer t w stream stream'
   vault_made founds = of_kind new.format refl founds.result founds.is founds.founds

@@ -3,6 +3,8 @@ use Rattle.std.specs.Prelude.{◌≡◌, ◌⊎◌, ℕ, List, [], ◌∷◌, Re
 use Rattle.std.specs.Io.KnownBytes.{Keeps}
 use Rattle.content_writing.specs.declared.fault.PutFault.{PutFault}
 use Rattle.cryptomator_conf.specs.declared.conf.CmDraw.{CmDraw}
+use Rattle.cryptomator_conf.specs.declared.conf.Combo.{Combo}
+use Rattle.cryptomator_conf.specs.declared.conf.Combo.TheVariants.{SivGcm, SivCtrMac}
 use Rattle.folder_spec.specs.Path.{Part, Path}
 use Rattle.folder_spec.specs.State.{State}
 use Rattle.folder_spec.specs.Edit.{Edit, PublishesIn, HasSettledIn}
@@ -16,7 +18,7 @@ use Rattle.gocrypt_conf.specs.declared.conf.GoDraw.{GoDraw}
 use Rattle.kdf_suite.specs.ScryptCost.{Cost}
 use Rattle.port_model.specs.Draws.{ByteStream, Draws}
 use Rattle.command_words.specs.declared.values.Format.{Format}
-use Rattle.command_words.specs.declared.values.Format.TheVariants.{Gocryptfs, Cryptomator}
+use Rattle.command_words.specs.declared.values.Format.TheVariants.{Gocryptfs, Cryptomator, CryptomatorCtrMac}
 use Rattle.vault_spec.specs.NewVault.{go_files, cm_files, new_go_vault, new_cm_vault}
 use Rattle.vault_spec.specs.Vault.{Vault, Either}
 use Rattle.vault_write.specs.Founding.{FoundsGo, FoundsCm, IsGoDraw, IsCmDraw, GoDrew, CmDrew, IsNewVault, founding, texts, vault_edit}
@@ -32,10 +34,14 @@ use Rattle.command_answers.specs.declared.answer.Answer.{Answer}
 use Rattle.command_answers.specs.declared.answer.Answer.TheVariants.{Done, RandomFault, ZeroRandom}
 use Rattle.command_words.specs.declared.commands.NewVault.{NewVault}
 
--- the cost of scrypt in new vaults
+-- the cost of scrypt in new vaults of Cryptomator, and in those of each kind
+abbrev pub cm_cost : Cost
+cm_cost = record { n = 32768; r = 8; p = 1 }
+
 abbrev pub cost_of : Format → Cost
 cost_of Gocryptfs = record { n = 65536; r = 8; p = 1 }
-cost_of Cryptomator = record { n = 32768; r = 8; p = 1 }
+cost_of Cryptomator = cm_cost
+cost_of CryptomatorCtrMac = cm_cost
 
 -- The tests of `init` behind that of overlapping folders, by what is seen at first.
 abbrev pub OfNewPlace : NewVault → View → Answer → Type 0 → Type 0
@@ -47,14 +53,19 @@ OfNewPlace new v answer next =
 abbrev pub IsOfFounding : Answer → Type 0
 IsOfFounding answer = (answer ≡ Done) ⊎ ((answer ≡ RandomFault) ⊎ (answer ≡ ZeroRandom))
 
--- a new vault of a kind, under the bytes drawn: its view, and its files
+-- a new Cryptomator vault with these ciphers, under the bytes drawn: its view, and its files
+abbrev pub DrawsCryptomator : Combo → List ℕ → View → List (Part × List ℕ) → Option ByteStream → Option ByteStream → Result (Unit {0}) PutFault → Type 0
+DrawsCryptomator combo phrase made files stream stream' result =
+    (d : CmDraw) × (drawn : List ℕ) × IsCmDraw d × Draws stream stream' drawn × CmDrew d drawn result
+    × (made ≡ new_cm_vault phrase cm_cost combo d) × (files ≡ cm_files phrase cm_cost combo d)
+
+-- a new vault of a kind
 abbrev pub DrawsVault : Format → List ℕ → View → List (Part × List ℕ) → Option ByteStream → Option ByteStream → Result (Unit {0}) PutFault → Type 0
 DrawsVault Gocryptfs phrase made files stream stream' result =
     (d : GoDraw) × (key drawn : List ℕ) × IsGoDraw d key × Draws stream stream' drawn × GoDrew d key drawn result
     × (made ≡ new_go_vault phrase (cost_of Gocryptfs) d key) × (files ≡ go_files phrase (cost_of Gocryptfs) d key)
-DrawsVault Cryptomator phrase made files stream stream' result =
-    (d : CmDraw) × (drawn : List ℕ) × IsCmDraw d × Draws stream stream' drawn × CmDrew d drawn result
-    × (made ≡ new_cm_vault phrase (cost_of Cryptomator) d) × (files ≡ cm_files phrase (cost_of Cryptomator) d)
+DrawsVault Cryptomator phrase made files stream stream' result = DrawsCryptomator SivGcm phrase made files stream stream' result
+DrawsVault CryptomatorCtrMac phrase made files stream stream' result = DrawsCryptomator SivCtrMac phrase made files stream stream' result
 
 -- Since s0 the vault is being made: outside the work folder what was shown is shown, or that with the whole vault, all else is as it
 -- was, and each file that was made holds a front part of one of the vault's.
@@ -92,7 +103,8 @@ pub record MakesVault (new : NewVault) (answer : Answer) (before after : World) 
 -- a vault of a kind is founded
 abbrev pub FoundsNew : Format → Path → Path → List ℕ → Option ByteStream → Option ByteStream → Option Told → Option Told → Result (Unit {0}) PutFault → Type 0
 FoundsNew Gocryptfs work at phrase stream stream' before after result = FoundsGo work at phrase (cost_of Gocryptfs) stream stream' before after result
-FoundsNew Cryptomator work at phrase stream stream' before after result = FoundsCm work at phrase (cost_of Cryptomator) stream stream' before after result
+FoundsNew Cryptomator work at phrase stream stream' before after result = FoundsCm work at phrase cm_cost SivGcm stream stream' before after result
+FoundsNew CryptomatorCtrMac work at phrase stream stream' before after result = FoundsCm work at phrase cm_cost SivCtrMac stream stream' before after result
 
 -- the place is tested by what is seen, and then the vault is founded
 abbrev pub OfPlace : NewVault → View → Answer → Type 0

@@ -17,12 +17,13 @@ use crate::faults::answer_to_making;
 use crate::places::test_free;
 use command_answers::Answer;
 use command_words::{Format, NewVault};
+use cryptomator_conf::Combo;
 use folder_model::Folder;
 use kdf_suite::ScryptCost;
 use port_model::Randoms;
 use port_model::laws::draws_compose;
 use std::alloc::Global;
-use vault_write::{PutFault, init_cm, init_go};
+use vault_write::{PutFault, init_cm, init_cm_combo, init_go};
 use work_folder::Work;
 
 /// Makes a vault where nothing stands.
@@ -106,9 +107,14 @@ fn found<F: Folder, R: Randoms>(
     ensures counted { R.faults random.old ≤ R.faults random.new }
 {
     let cost = cost_of(new.format);
+    let at = &new.vault;
     match new.format {
-        Format::Gocryptfs => init_go(alloc, folder, work, &new.vault, phrase, &cost, random),
-        Format::Cryptomator => init_cm(alloc, folder, work, &new.vault, phrase, &cost, random),
+        Format::Gocryptfs => init_go(alloc, folder, work, at, phrase, &cost, random),
+        Format::Cryptomator => init_cm(alloc, folder, work, at, phrase, &cost, random),
+        Format::CryptomatorCtrMac => {
+            let combo = Combo::SivCtrMac;
+            init_cm_combo(alloc, folder, work, at, phrase, &cost, combo, random)
+        }
     }
 }
 
@@ -118,6 +124,6 @@ fn cost_of(kind: Format) -> ScryptCost
 {
     match kind {
         Format::Gocryptfs => ScryptCost::new(65_536, 8, 1).unwrap(),
-        Format::Cryptomator => ScryptCost::new(32_768, 8, 1).unwrap(),
+        Format::Cryptomator | Format::CryptomatorCtrMac => ScryptCost::new(32_768, 8, 1).unwrap(),
     }
 }

@@ -2,7 +2,7 @@
 """Prints the definitions of the vaults that the rows of `fsck` and `repair` change, as crates/command_rows/data/written.rows.
 
 The vault `g` is the first of vaults.rows, which gocryptfs 2.3 wrote while it was mounted; only its configuration is written anew, for a
-cheap scrypt, and a file with a long name is added. The vault `c` is written here.
+cheap scrypt, and a file with a long name is added. The vaults `c` and `t`, of either combination, are written here.
 """
 import base64
 import json
@@ -59,7 +59,7 @@ def name(what, path):
     print(f"name {what} {path}")
 
 
-print("# The vaults that the rows of `fsck` and `repair` change, written by scripts/samples.py. Both have the passphrase `secret`, and each a")
+print("# The vaults that the rows of `fsck` and `repair` change, written by scripts/samples.py. All have the passphrase `secret`, and each a")
 print("# directory `a` with a file `x` of `hello`.")
 
 master = master_of(OLD["g/gocryptfs.conf"], b"secret")
@@ -84,26 +84,36 @@ print("# the entry of the name `d` in a directory whose key is sixteen times `k`
 name("g.d", go.name(b"k" * 16, b"d")[0])
 print("end")
 
-cm = Cryptomator(b"key of 32 bytes for the contents", b"key of 32 bytes for names and id", 36)
-tree = CryptomatorTree(cm)
-top = tree.root(cm.configuration(b"secret", 2, 1))
-a = tree.directory(b"", b"a", b"1111")
-x = tree.file(b"1111", b"x", b"hello")
-f = tree.file(b"", b"f", b"some")
-long_file = tree.file(b"", b"long_file", b"long")
-long_dir = tree.directory(b"", b"long_dirs", b"2222")
-begin("c", "A vault of Python's package cryptography, in which names of more than 36 letters are long.", tree.folders, tree.files)
-print("# the content folder of the root; the directory `a`, whose id is 1111, its content folder, and the file `x` in it; the file `f`")
-name("c.top", f"c/{top}")
-name("c.a", f"c/{a}")
-name("c.inner", f"c/{cm.folder(b'1111')}")
-name("c.x", f"c/{x}")
-name("c.f", f"c/{f}")
-print("# the file and the directory with long names, and the content folder of this directory, whose id is 2222")
-name("c.long", f"c/{long_file}")
-name("c.longdir", f"c/{long_dir}")
-name("c.other", f"c/{cm.folder(b'2222')}")
-print("# the entry of the name `b` in `a`, and that of the name `c` in the directory with a long name")
-name("c.b", f"c/{cm.folder(b'1111')}/{cm.name(b'1111', b'b')[0]}")
-name("c.c", f"c/{cm.folder(b'2222')}/{cm.name(b'2222', b'c')[0]}")
+
+def cryptomator(root, combo, doc):
+    """A vault whose paths have names, and which belongs to one directory with a short name and one with a long name."""
+    cm = Cryptomator(b"key of 32 bytes for the contents", b"key of 32 bytes for names and id", 36, combo)
+    tree = CryptomatorTree(cm)
+    top = tree.root(cm.configuration(b"secret", 2, 1))
+    a = tree.directory(b"", b"a", b"1111")
+    x = tree.file(b"1111", b"x", b"hello")
+    f = tree.file(b"", b"f", b"some")
+    long_file = tree.file(b"", b"long_file", b"long")
+    long_dir = tree.directory(b"", b"long_dirs", b"2222")
+    begin(root, doc, tree.folders, tree.files)
+    print("# the content folder of the root; the directory `a`, whose id is 1111, its content folder, and the file `x` in it; the file `f`")
+    name(f"{root}.top", f"{root}/{top}")
+    name(f"{root}.a", f"{root}/{a}")
+    name(f"{root}.inner", f"{root}/{cm.folder(b'1111')}")
+    name(f"{root}.x", f"{root}/{x}")
+    name(f"{root}.f", f"{root}/{f}")
+    print("# the file and the directory with long names, and the content folder of this directory, whose id is 2222")
+    name(f"{root}.long", f"{root}/{long_file}")
+    name(f"{root}.longdir", f"{root}/{long_dir}")
+    name(f"{root}.other", f"{root}/{cm.folder(b'2222')}")
+    print("# the entry of the name `b` in `a`, and that of the name `c` in the directory with a long name")
+    name(f"{root}.b", f"{root}/{cm.folder(b'1111')}/{cm.name(b'1111', b'b')[0]}")
+    name(f"{root}.c", f"{root}/{cm.folder(b'2222')}/{cm.name(b'2222', b'c')[0]}")
+    print("end")
+
+
+cryptomator("c", "SIV_GCM", "A vault of Python's package cryptography, in which names of more than 36 letters are long.")
+cryptomator("t", "SIV_CTRMAC", "The same with SIV_CTRMAC.")
+other = Cryptomator(b"key of 32 bytes for the contents", b"key of 32 bytes for names and id", 36, "SIV_CTR")
+begin("o", "A configuration with a combination that isn't known.", [], zip(("masterkey.cryptomator", "vault.cryptomator"), other.configuration(b"secret", 2, 1)))
 print("end")

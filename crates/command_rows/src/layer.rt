@@ -35,6 +35,15 @@ const CM_VAULT: CmVault = CmVault {
     threshold: 220,
 };
 
+const CTR_VAULT: CmVault = CmVault {
+    keys: CmKeys {
+        enc: [5; 32],
+        mac: [6; 32],
+    },
+    combo: Combo::SivCtrMac,
+    threshold: 220,
+};
+
 impl Stage {
     /// A call did its work, and this is what it gave.
     pub fn done(&mut self, text: &str) {
@@ -54,8 +63,8 @@ impl Stage {
         self.said.end();
     }
 
-    /// The vault that a word names: `go:ROOT` and `cm:ROOT` have keys of their own, `demo:ROOT` opens by the passphrase `demo`, and ROOT
-    /// by that of the vaults in rows.
+    /// The vault that a word names: `go:ROOT`, `cm:ROOT` and `ctr:ROOT` have keys of their own, `demo:ROOT` opens by the passphrase
+    /// `demo`, and ROOT by that of the vaults in rows.
     pub fn vault_named(&mut self, word: &str) -> Option<Vault> {
         match word.split_once(':') {
             Some(("go", root)) => {
@@ -65,6 +74,10 @@ impl Stage {
             Some(("cm", root)) => {
                 let root = self.path(root);
                 Some(Vault::new(root, VaultKeys::Cryptomator(CM_VAULT)))
+            }
+            Some(("ctr", root)) => {
+                let root = self.path(root);
+                Some(Vault::new(root, VaultKeys::Cryptomator(CTR_VAULT)))
             }
             Some((_, root)) => self.vault(root, b"demo"),
             None => self.vault(word, PASSPHRASE),
@@ -170,6 +183,7 @@ impl Stage {
             | "remove_all" => self.call_staging(verb, words),
             "init_go"
             | "init_cm"
+            | "init_ctr"
             | "place_dir"
             | "place_file"
             | "put_file"

@@ -44,6 +44,7 @@ impl Stage {
         let verb = match format {
             "gocryptfs" => "init_go",
             "cryptomator" => "init_cm",
+            "cryptomator-ctrmac" => "init_ctr",
             _ => return self.stop(Stop::Line),
         };
         let Ok(mut handed) = self.hand() else {

@@ -5,12 +5,15 @@ use crate::places::PASSPHRASE;
 use crate::stage::{Handed, Stage};
 use crate::stop::Stop;
 use content_writing::{Buffers, VaultContent, write_content};
+use cryptomator_conf::Combo;
 use folder_model::FPath;
 use kdf_suite::ScryptCost;
 use plain_tree::PlainPath;
 use row_words::cut;
 use vault_read::{ContentReader, Vault};
-use vault_write::{PutFault, SourceContent, init_cm, init_go, place_dir, place_file, put};
+use vault_write::{
+    PutFault, SourceContent, init_cm, init_cm_combo, init_go, place_dir, place_file, put,
+};
 use work_folder::Work;
 
 impl Stage {
@@ -38,6 +41,10 @@ impl Stage {
         let (alloc, folder, random) = (self.alloc, &mut self.folder, &mut handed.random);
         let answer = match verb {
             "init_go" => init_go(alloc, folder, &work, at, PASSPHRASE, &cost, random),
+            "init_ctr" => {
+                let combo = Combo::SivCtrMac;
+                init_cm_combo(alloc, folder, &work, at, PASSPHRASE, &cost, combo, random)
+            }
             _ => init_cm(alloc, folder, &work, at, PASSPHRASE, &cost, random),
         };
         self.say_put(answer);
@@ -127,7 +134,7 @@ impl Stage {
     /// Plays `init_go WORK AT`, `place_dir WORK VAULT PATH`, `write_content VAULT STAGED` and their like.
     pub fn call_writing(&mut self, verb: &str, words: &str, handed: &mut Handed) {
         match verb {
-            "init_go" | "init_cm" => {
+            "init_go" | "init_cm" | "init_ctr" => {
                 let (work, at) = cut(words);
                 let (work, at) = (self.path(work), self.path(at));
                 self.init(verb, &work, &at, handed);

@@ -1,9 +1,12 @@
-//! Times AES-256 in counter mode, GCM on blocks of 4,096 bytes, the cipher on sixteen blocks, both ways,
-//! and on one, and what is done once for each file or name: `gcm_speed MEGABYTES` prints megabytes a
-//! second, and nanoseconds for a thousand rounds a megabyte.
+//! Times AES-256 in counter mode, GCM on blocks of 4,096 bytes, contents with SIV_CTRMAC beside what they are
+//! made of, the cipher on sixteen blocks, both ways, and on one, and what is done once for each file or name:
+//! `gcm_speed MEGABYTES` prints megabytes a second, and nanoseconds for a thousand rounds a megabyte.
 #![tactic(auto)]
 
+mod contents;
+
 use aes_lanes::{Cipher, Key256, ctr32_xor, ctr128_xor};
+use contents::{read_files, stream_and_tag, write_files};
 use eme_mode::Eme;
 use gcm_mode::Gcm;
 use siv_mode::Siv;
@@ -21,6 +24,8 @@ fn main(rt: HostRuntime) -> io::Result<()> {
     let start = Instant::now(&rt)?;
     let last = unseal(megabytes);
     report(&rt, "unseal", megabytes, start.elapsed(&rt)?, last)?;
+
+    contents_of(&rt, megabytes)?;
 
     let start = Instant::now(&rt)?;
     let last = sixteen_blocks(megabytes);
@@ -61,6 +66,27 @@ fn main(rt: HostRuntime) -> io::Result<()> {
     let start = Instant::now(&rt)?;
     let last = names_in_eme(megabytes);
     report_each(&rt, "name in EME", megabytes, start.elapsed(&rt)?, last)
+}
+
+// Contents with SIV_CTRMAC, and counter mode and HMAC-SHA-256 alone.
+fn contents_of(rt: &HostRuntime, megabytes: u32) -> io::Result<()> {
+    let start = Instant::now(rt)?;
+    let last = stream_and_tag(megabytes);
+    report(
+        rt,
+        "counter mode and HMAC",
+        megabytes,
+        start.elapsed(rt)?,
+        last,
+    )?;
+
+    let start = Instant::now(rt)?;
+    let last = write_files(rt.alloc(), megabytes)?;
+    report(rt, "contents written", megabytes, start.elapsed(rt)?, last)?;
+
+    let start = Instant::now(rt)?;
+    let last = read_files(rt.alloc(), megabytes)?;
+    report(rt, "contents read", megabytes, start.elapsed(rt)?, last)
 }
 
 // The number that the first word is, or 0.

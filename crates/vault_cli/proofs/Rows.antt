@@ -4,6 +4,8 @@ use Rattle.std.specs.Prelude.{MatchOption}
 use Rattle.std.specs.Io.KnownBytes.{Keeps}
 use Rattle.content_writing.specs.declared.fault.PutFault.{PutFault}
 use Rattle.content_writing.specs.declared.fault.PutFault.TheVariants as puts
+use Rattle.cryptomator_conf.specs.declared.conf.Combo.{Combo}
+use Rattle.cryptomator_conf.specs.declared.conf.Combo.TheVariants.{SivGcm, SivCtrMac}
 use Rattle.folder_spec.specs.Path.{Part, Path}
 use Rattle.folder_spec.specs.View.{View}
 use Rattle.port_model.specs.Draws.{ByteStream}
@@ -23,13 +25,13 @@ use Rattle.command_words.specs.declared.commands.Repairing.{Repairing}
 use Rattle.command_words.specs.declared.commands.Resuming.{Resuming}
 use Rattle.command_words.specs.declared.commands.Target.{Target}
 use Rattle.command_words.specs.declared.values.Format.{Format}
-use Rattle.command_words.specs.declared.values.Format.TheVariants.{Gocryptfs, Cryptomator}
+use Rattle.command_words.specs.declared.values.Format.TheVariants.{Gocryptfs, Cryptomator, CryptomatorCtrMac}
 use Rattle.vault_cli.specs.Beginning.{EndsBefore, RefusesOverlapping, is_of_beginning, is_of_readying}
 use Rattle.vault_cli.specs.DecryptFile.{answer_to_end}
 use Rattle.vault_cli.specs.Demo.{is_of_chance, is_of_demonstration}
-use Rattle.vault_cli.specs.Faults.{answer_to_making}
+use Rattle.vault_cli.specs.Faults.{answer_to_making, of_put}
 use Rattle.vault_cli.specs.Fsck.{is_of_checking}
-use Rattle.vault_cli.specs.Init.{DrawsVault, FoundsVault, MakesVault, MakesVaultApart}
+use Rattle.vault_cli.specs.Init.{DrawsCryptomator, DrawsVault, FoundsVault, MakesVault, MakesVaultApart}
 use Rattle.vault_cli.specs.Migrate.{MigratesApart, MigratesTree, Pair, RefusesTwo, first_overlap}
 use Rattle.vault_cli.specs.Mkdir.{MakesDirectoryApart, MakesDirectoryIn, MakesDirectoryThere, is_of_directory}
 use Rattle.vault_cli.specs.Moving.{is_of_migration, is_of_told_migration}
@@ -389,26 +391,36 @@ decryption_row key ends.OutputFault = refl
 decryption_row key (ends.Damaged fault) = refl
 decryption_row key ends.TooLong = refl
 
--- a vault that is founded
+-- a vault of Cryptomator that isn't founded
+cryptomator_row : (new : NewVault) (combo : Combo) (phrase : List ℕ) (made : View) (files : List (Part × List ℕ)) (stream stream' : Option ByteStream) (fault : PutFault)
+    → DrawsCryptomator combo phrase made files stream stream' (Err fault) → IsTrue (may_end (Some (Init new)) (status_of (of_put fault)))
+cryptomator_row new combo phrase made files stream stream' puts.Failed draws = refl
+cryptomator_row new combo phrase made files stream stream' puts.NoMemory draws = refl
+cryptomator_row new combo phrase made files stream stream' puts.ZeroRandom draws = refl
+cryptomator_row new combo phrase made files stream stream' puts.Random draws = refl
+cryptomator_row new combo phrase made files stream stream' (puts.Find fault) draws = absurd draws.4
+cryptomator_row new combo phrase made files stream stream' (puts.NotAllowed path) draws = absurd draws.4
+cryptomator_row new combo phrase made files stream stream' (puts.Taken at) draws = absurd draws.4
+cryptomator_row new combo phrase made files stream stream' (puts.Damaged at fault) draws = absurd draws.4
+cryptomator_row new combo phrase made files stream stream' (puts.Limit limit) draws = absurd draws.4
+cryptomator_row new combo phrase made files stream stream' puts.Source draws = absurd draws.4
+
+-- a vault that is founded, or isn't
 founding_row : (new : NewVault) (kind : Format) (phrase : List ℕ) (made : View) (files : List (Part × List ℕ)) (stream stream' : Option ByteStream) (result : Result (Unit {0}) PutFault)
     → DrawsVault kind phrase made files stream stream' result → IsTrue (may_end (Some (Init new)) (status_of (answer_to_making result)))
 founding_row new kind phrase made files stream stream' (Ok done) draws = refl
-founding_row new kind phrase made files stream stream' (Err puts.Failed) draws = refl
-founding_row new kind phrase made files stream stream' (Err puts.NoMemory) draws = refl
-founding_row new kind phrase made files stream stream' (Err puts.ZeroRandom) draws = refl
-founding_row new kind phrase made files stream stream' (Err puts.Random) draws = refl
+founding_row new Gocryptfs phrase made files stream stream' (Err puts.Failed) draws = refl
+founding_row new Gocryptfs phrase made files stream stream' (Err puts.NoMemory) draws = refl
+founding_row new Gocryptfs phrase made files stream stream' (Err puts.ZeroRandom) draws = refl
+founding_row new Gocryptfs phrase made files stream stream' (Err puts.Random) draws = refl
 founding_row new Gocryptfs phrase made files stream stream' (Err (puts.Find fault)) draws = absurd draws.5
 founding_row new Gocryptfs phrase made files stream stream' (Err (puts.NotAllowed path)) draws = absurd draws.5
 founding_row new Gocryptfs phrase made files stream stream' (Err (puts.Taken at)) draws = absurd draws.5
 founding_row new Gocryptfs phrase made files stream stream' (Err (puts.Damaged at fault)) draws = absurd draws.5
 founding_row new Gocryptfs phrase made files stream stream' (Err (puts.Limit limit)) draws = absurd draws.5
 founding_row new Gocryptfs phrase made files stream stream' (Err puts.Source) draws = absurd draws.5
-founding_row new Cryptomator phrase made files stream stream' (Err (puts.Find fault)) draws = absurd draws.4
-founding_row new Cryptomator phrase made files stream stream' (Err (puts.NotAllowed path)) draws = absurd draws.4
-founding_row new Cryptomator phrase made files stream stream' (Err (puts.Taken at)) draws = absurd draws.4
-founding_row new Cryptomator phrase made files stream stream' (Err (puts.Damaged at fault)) draws = absurd draws.4
-founding_row new Cryptomator phrase made files stream stream' (Err (puts.Limit limit)) draws = absurd draws.4
-founding_row new Cryptomator phrase made files stream stream' (Err puts.Source) draws = absurd draws.4
+founding_row new Cryptomator phrase made files stream stream' (Err fault) draws = cryptomator_row new SivGcm phrase made files stream stream' fault draws
+founding_row new CryptomatorCtrMac phrase made files stream stream' (Err fault) draws = cryptomator_row new SivCtrMac phrase made files stream stream' fault draws
 
 -- ---- by the command
 

@@ -17,7 +17,7 @@ use Rattle.port_model.specs.Draws.{ByteStream}
 use Rattle.port_model.specs.Told.{AppendsPrefix}
 use Rattle.command_answers.specs.Messages.{is_plain}
 use Rattle.vault_cli.specs.Demo.{Chances, Demonstrates, EndsSo, EndsWork, IsBare, IsLed, IsStatus, IsWay, IsWayBack, OnArrival, OnEnd, PrintsAll, PrintsBack, PrintsBy, PrintsDemonstration, PrintsLed, PrintsWay, TakesBy, Way, StoppedThere, StoppedBack, Arrived, SharesOne, back_text, chances, chances_of, is_of_chance, is_of_demonstration, is_of_fault, is_of_folder, is_of_telling, led_text, made_text, moved_text, retired_text, way_of, way_text}
-use Rattle.vault_cli.specs.World.{World}
+use Rattle.command_opening.specs.World.{World}
 use Rattle.command_answers.specs.declared.answer.Answer.{Answer}
 use Rattle.command_answers.specs.declared.answer.Answer.TheVariants.{Done, Findings, BadCommandLine, OutOfMemory, FolderFault, InputFault, OutputFault, RandomFault, Refused, WrongPass, NotFound, WrongKind, DamagedInput, Damaged, NotAllowed, NotClean, Overlap, NotEmpty, Begun, Unusable, Changed, Differ, ZeroRandom, Taken, Limit, Retired}
 use Rattle.vault_cli.specs.declared.demo.Way.{Way as Ended}
@@ -28,7 +28,7 @@ use Rattle.vault_cli.specs.declared.demo.Led.TheVariants.{Stopped}
 use Rattle.vault_cli.specs.declared.demo.Leg.{Leg}
 use Rattle.vault_cli.specs.declared.demo.Leg.TheVariants.{There, Back}
 use Rattle.command_words.specs.declared.commands.Demonstration.{Demonstration}
-use Rattle.vault_cli.proofs.Contents.{rose_after}
+use Rattle.command_opening.proofs.Counts.{rose_after}
 use Rattle.vault_cli.proofs.DemoDraws.{drew_after}
 
 -- nothing is a front part of any text

@@ -1,28 +1,45 @@
 -- What a command did that wasn't begun, for want of memory.
-use Rattle.std.proofs.Common.{Bool, true, false, List, ℕ, Option, Some, None, inl, inr, refl}
+use Rattle.std.proofs.Common.{Bool, true, false, List, ℕ, Option, Some, None, inl, inr, refl, sym, subst}
+use Rattle.std.specs.Prelude.{◌≢◌}
 use Rattle.std.proofs.KnownBytes.{Keeps-refl}
 use Rattle.folder_spec.specs.Event.{Told}
 use Rattle.folder_spec.specs.View.{View}
-use Rattle.vault_cli.specs.Places.{overlap}
-use Rattle.vault_cli.specs.Repair.{RefusesOverlap, RepairsApart}
+use Rattle.command_opening.specs.Places.{overlap, RefusesOverlap}
+use Rattle.checking_commands.specs.Repair.{RepairsApart}
 use Rattle.vault_cli.specs.Runs.{Executes}
-use Rattle.vault_cli.specs.Shown.{Shown, Reads}
-use Rattle.vault_cli.specs.World.{World}
+use Rattle.command_opening.specs.Shown.{Shown, Reads}
+use Rattle.command_opening.specs.World.{World}
 use Rattle.vault_spec.specs.Vault.{Either}
-use Rattle.command_answers.specs.declared.answer.Answer.TheVariants.{OutOfMemory}
+use Rattle.command_answers.specs.declared.answer.Answer.{Answer}
+use Rattle.command_answers.specs.declared.answer.Answer.TheVariants.{OutOfMemory, FolderFault, RandomFault}
+use Rattle.reading_commands.specs.DecryptFile.{DecryptsFile, answer_to_end}
+use Rattle.reading_commands.specs.declared.decrypting.DecryptEnd.{DecryptEnd}
+use Rattle.reading_commands.specs.declared.decrypting.DecryptEnd.TheVariants as ends
 use Rattle.command_words.specs.declared.commands.Command.{Command}
 use Rattle.command_words.specs.declared.commands.Command.TheVariants.{DecryptFile, Init, Ls, Cat, Fsck, Mkdir, Put, Repair, Migrate, Resume, Retire, Demo}
 use Rattle.vault_cli.proofs.Demonstrations.{demonstrates_nothing}
-use Rattle.vault_cli.proofs.Decryptions.{decrypts_nothing}
-use Rattle.vault_cli.proofs.MadeItems.{makes_no_directory}
-use Rattle.vault_cli.proofs.MadeVaults.{makes_no_vault}
+use Rattle.reading_commands.proofs.Decryptions.{decrypts_nothing}
+use Rattle.writing_commands.proofs.MadeItems.{makes_no_directory}
+use Rattle.writing_commands.proofs.MadeVaults.{makes_no_vault}
 use Rattle.vault_cli.proofs.Migrations.{AreSafe, migrates_nothing, resumes_nothing}
 use Rattle.vault_cli.proofs.Retirings.{retires_nothing}
-use Rattle.vault_cli.proofs.StoredFiles.{stores_nothing}
+use Rattle.writing_commands.proofs.StoredFiles.{stores_nothing}
 
 either_of : {P Q : Type 0} (b : Bool) → P → Q → Either b P Q
 either_of true p q = p
 either_of false p q = q
+
+-- `decrypt-file` names neither the folder nor the random source
+ends_alone : (end : DecryptEnd) → (answer_to_end end ≢ FolderFault) × (answer_to_end end ≢ RandomFault)
+ends_alone ends.Done = (λ is. cc, λ is. cc)
+ends_alone ends.OutOfMemory = (λ is. cc, λ is. cc)
+ends_alone ends.InputFault = (λ is. cc, λ is. cc)
+ends_alone ends.OutputFault = (λ is. cc, λ is. cc)
+ends_alone (ends.Damaged fault) = (λ is. cc, λ is. cc)
+ends_alone ends.TooLong = (λ is. cc, λ is. cc)
+
+pub decrypting_alone : {key : List ℕ} (answer : Answer) (before after : World) → DecryptsFile key answer before after → (answer ≢ FolderFault) × (answer ≢ RandomFault)
+decrypting_alone answer before after did = subst (λ a. (a ≢ FolderFault) × (a ≢ RandomFault)) (sym did.is) (ends_alone did.end)
 
 -- a command that read nothing, for want of memory
 reads_nothing : (Shows : View → Shown → Type 0) (told : Option Told) (taken : Option (List ℕ)) → Reads Shows OutOfMemory told told taken taken

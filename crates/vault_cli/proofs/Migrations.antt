@@ -41,22 +41,22 @@ use Rattle.vault_cli.specs.Migrate.{HasMigrated, IsAskedFor, MigratesApart, Migr
 use Rattle.vault_cli.specs.Migrate as migrating
 use Rattle.vault_cli.specs.Faults.{of_move}
 use Rattle.vault_cli.specs.Moving.{AnswersMove, ArePhrases, Comes, Completes, FailPasses, KeepsAll, OfPasses, Outcome, RefusesPasses, RefusesUndrawn, done_text, is_of_chance, is_of_stop, is_of_told_stop}
-use Rattle.vault_cli.specs.Opening.{IsPhrase, OfPassFile, passphrase_in}
-use Rattle.vault_cli.specs.Places.{overlap}
+use Rattle.command_opening.specs.Opening.{IsPhrase, OfPassFile, passphrase_in}
+use Rattle.command_opening.specs.Places.{overlap}
 use Rattle.command_answers.specs.Printing.{PrintsText}
-use Rattle.vault_cli.specs.Refusing.{RefusesPass, Unless}
+use Rattle.command_opening.specs.Refusing.{RefusesPass, Unless}
 use Rattle.vault_cli.specs.Resume.{HasResumed, IsResumedFor, Resumes, ResumesTree}
 use Rattle.vault_cli.specs.Resume as resuming_on
-use Rattle.vault_cli.specs.Shown.{is_of_end, refused}
-use Rattle.vault_cli.specs.World.{World}
+use Rattle.command_opening.specs.Shown.{is_of_end, refused}
+use Rattle.command_opening.specs.World.{World}
 use Rattle.command_answers.specs.declared.answer.Answer.{Answer}
 use Rattle.command_answers.specs.declared.answer.Answer.TheVariants.{OutOfMemory, FolderFault, Overlap}
 use Rattle.command_words.specs.declared.commands.Moving.{Moving}
 use Rattle.command_words.specs.declared.commands.Passes.{Passes}
 use Rattle.command_words.specs.declared.commands.Resuming.{Resuming}
-use Rattle.vault_cli.proofs.Beginnings.{none_drawn}
-use Rattle.vault_cli.proofs.Printings.{IsPrinted, nothing_printed, printed, printed_is_own}
-use Rattle.vault_cli.proofs.Refusals.{pass_gives, pass_taken, pass_then, unless_then}
+use Rattle.command_beginning.proofs.Beginnings.{none_drawn}
+use Rattle.command_opening.proofs.Printings.{IsPrinted, nothing_printed, printed, printed_is_own}
+use Rattle.command_opening.proofs.Refusals.{pass_gives, pass_taken, pass_then, unless_then}
 
 -- ---- nothing is lost
 

@@ -26,13 +26,13 @@ use Rattle.command_answers.specs.Printing.{PrintsText}
 use Rattle.vault_cli.specs.Resume.{IsFoundJournal, IsResumedFor}
 use Rattle.vault_cli.specs.Faults.{of_retire}
 use Rattle.vault_cli.specs.Retire.{AnswersRetire, ComesTo, Completes, IsCaused, IsRetired, IsRootOf, MayCome, Outcome, Retires, RetiresSource, TouchesNoMore, is_of_refusal, retired_text, root_by}
-use Rattle.vault_cli.specs.Shown.{is_of_end}
-use Rattle.vault_cli.specs.World.{World}
+use Rattle.command_opening.specs.Shown.{is_of_end}
+use Rattle.command_opening.specs.World.{World}
 use Rattle.command_answers.specs.declared.answer.Answer.{Answer}
 use Rattle.command_answers.specs.declared.answer.Answer.TheVariants.{OutOfMemory}
 use Rattle.command_words.specs.declared.commands.Resuming.{Resuming}
 use Rattle.vault_cli.proofs.Migrations.{AreSafe, comes_as, keeps_same, passes_unread, root_read}
-use Rattle.vault_cli.proofs.Printings.{IsPrinted, nothing_printed, printed, printed_is_own}
+use Rattle.command_opening.proofs.Printings.{IsPrinted, nothing_printed, printed, printed_is_own}
 
 abbrev refused_by : {X : Type 0} → RetireFault → tests.Answer X
 refused_by fault = Err fault

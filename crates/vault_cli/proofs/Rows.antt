@@ -26,24 +26,26 @@ use Rattle.command_words.specs.declared.commands.Resuming.{Resuming}
 use Rattle.command_words.specs.declared.commands.Target.{Target}
 use Rattle.command_words.specs.declared.values.Format.{Format}
 use Rattle.command_words.specs.declared.values.Format.TheVariants.{Gocryptfs, Cryptomator, CryptomatorCtrMac}
-use Rattle.vault_cli.specs.Beginning.{EndsBefore, RefusesOverlapping, is_of_beginning, is_of_readying}
-use Rattle.vault_cli.specs.DecryptFile.{answer_to_end}
+use Rattle.command_beginning.specs.Faults.{of_put}
+use Rattle.command_beginning.specs.Beginning.{EndsBefore, RefusesOverlapping}
+use Rattle.command_opening.specs.Tests.{is_of_beginning, is_of_readying}
+use Rattle.reading_commands.specs.DecryptFile.{answer_to_end}
 use Rattle.vault_cli.specs.Demo.{is_of_chance, is_of_demonstration}
-use Rattle.vault_cli.specs.Faults.{answer_to_making, of_put}
-use Rattle.vault_cli.specs.Fsck.{is_of_checking}
-use Rattle.vault_cli.specs.Init.{DrawsCryptomator, DrawsVault, FoundsVault, MakesVault, MakesVaultApart}
+use Rattle.writing_commands.specs.Faults.{answer_to_making}
+use Rattle.checking_commands.specs.Fsck.{is_of_checking}
+use Rattle.writing_commands.specs.Init.{DrawsCryptomator, DrawsVault, FoundsVault, MakesVault, MakesVaultApart}
 use Rattle.vault_cli.specs.Migrate.{MigratesApart, MigratesTree, Pair, RefusesTwo, first_overlap}
-use Rattle.vault_cli.specs.Mkdir.{MakesDirectoryApart, MakesDirectoryIn, MakesDirectoryThere, is_of_directory}
+use Rattle.writing_commands.specs.Mkdir.{MakesDirectoryApart, MakesDirectoryIn, MakesDirectoryThere, is_of_directory}
 use Rattle.vault_cli.specs.Moving.{is_of_migration, is_of_told_migration}
-use Rattle.vault_cli.specs.Places.{overlap}
-use Rattle.vault_cli.specs.Put.{StoresFile, StoresFileApart, StoresThere, is_of_file}
-use Rattle.vault_cli.specs.Repair.{RefusesOverlap, RepairsApart, RepairsVault, is_of_repairing}
+use Rattle.command_opening.specs.Places.{overlap, RefusesOverlap}
+use Rattle.writing_commands.specs.Put.{StoresFile, StoresFileApart, StoresThere, is_of_file}
+use Rattle.checking_commands.specs.Repair.{RepairsApart, RepairsVault, is_of_repairing}
 use Rattle.vault_cli.specs.Retire.{is_of_retiring}
 use Rattle.vault_cli.specs.Runs.{Executes}
-use Rattle.vault_cli.specs.Shown.{is_of_reading}
-use Rattle.vault_cli.specs.World.{World}
-use Rattle.vault_cli.specs.declared.decrypt.DecryptEnd.{DecryptEnd}
-use Rattle.vault_cli.specs.declared.decrypt.DecryptEnd.TheVariants as ends
+use Rattle.command_opening.specs.Shown.{is_of_reading}
+use Rattle.command_opening.specs.World.{World}
+use Rattle.reading_commands.specs.declared.decrypting.DecryptEnd.{DecryptEnd}
+use Rattle.reading_commands.specs.declared.decrypting.DecryptEnd.TheVariants as ends
 
 -- ---- by the answer
 

@@ -60,21 +60,21 @@ use Rattle.command_words.specs.declared.commands.Command.TheVariants.{DecryptFil
 use Rattle.command_words.specs.declared.commands.Moving.{Moving}
 use Rattle.command_words.specs.declared.commands.Passes.{Passes}
 use Rattle.command_words.specs.declared.commands.Resuming.{Resuming}
-use Rattle.vault_cli.proofs.Printings.{IsPrinted}
+use Rattle.command_opening.proofs.Printings.{IsPrinted}
 use Rattle.vault_cli.proofs.Rows.{in_row}
 use Rattle.vault_cli.specs.Faults.{of_move, of_retire}
 use Rattle.vault_cli.specs.Migrate.{MigratesApart, MigratesTree, Pair, RefusesTwo, first_overlap}
 use Rattle.vault_cli.specs.Migrate as migrating
 use Rattle.vault_cli.specs.Moving.{AnswersMove, ArePhrases, Outcome, OfPasses}
-use Rattle.vault_cli.specs.Opening.{OfPassFile, passphrase_in}
-use Rattle.vault_cli.specs.Refusing as refusing
+use Rattle.command_opening.specs.Opening.{OfPassFile, passphrase_in}
+use Rattle.command_opening.specs.Refusing as refusing
 use Rattle.vault_cli.specs.Resume.{ResumesTree}
 use Rattle.vault_cli.specs.Resume as resuming_on
 use Rattle.vault_cli.specs.Retire.{AnswersRetire, RetiresSource}
 use Rattle.vault_cli.specs.Retire as retiring_on
 use Rattle.vault_cli.specs.Runs.{Executes, OwnsFolders}
-use Rattle.vault_cli.specs.Shown.{Shown, is_of_opening, refused}
-use Rattle.vault_cli.specs.World.{World}
+use Rattle.command_opening.specs.Shown.{Shown, is_of_opening, refused}
+use Rattle.command_opening.specs.World.{World}
 
 -- ---- one test after the other
 

@@ -19,7 +19,7 @@ use Rattle.port_model.specs.Told.{AppendsPrefix}
 use Rattle.tree_match.specs.declared.answer.MatchFault.TheVariants as match
 use Rattle.vault_read.specs.declared.fault.Limit.TheVariants as limit
 use Rattle.vault_cli.specs.Moving.{is_of_stop}
-use Rattle.vault_cli.specs.World.{World}
+use Rattle.command_opening.specs.World.{World}
 use Rattle.command_answers.specs.declared.answer.Answer.{Answer}
 use Rattle.command_answers.specs.declared.answer.Answer.TheVariants.{Done, OutOfMemory, FolderFault, OutputFault, RandomFault, Unusable, ZeroRandom, Taken}
 use Rattle.vault_cli.specs.declared.demo.Led.{Led}

@@ -18,10 +18,9 @@ use Rattle.port_model.specs.Draws.{ByteStream, Draws}
 use Rattle.tree_match.specs.Guard.{Migration}
 use Rattle.tree_match.specs.declared.answer.Side.TheVariants.{Target}
 use Rattle.vault_cli.specs.Moving.{AnswersMove, ArePhrases, Comes, Completes, KeepsAll, Outcome, RefusesUndrawn, done_text, is_of_migration}
-use Rattle.vault_cli.specs.Places.{overlap}
+use Rattle.command_opening.specs.Places.{overlap, RefusesOverlap}
 use Rattle.command_answers.specs.Printing.{PrintsDone}
-use Rattle.vault_cli.specs.Repair.{RefusesOverlap}
-use Rattle.vault_cli.specs.World.{World}
+use Rattle.command_opening.specs.World.{World}
 use Rattle.command_answers.specs.declared.answer.Answer.{Answer}
 use Rattle.command_words.specs.declared.commands.Moving.{Moving}
 

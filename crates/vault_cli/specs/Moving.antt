@@ -9,9 +9,9 @@ use Rattle.migrate_core.specs.declared.placing.Done as moved
 use Rattle.port_model.specs.Draws.{ByteStream, Draws}
 use Rattle.tree_match.specs.Guard.{Migration, Guarded, LosesNothing}
 use Rattle.vault_cli.specs.Faults.{of_move}
-use Rattle.vault_cli.specs.Opening.{IsPhrase, OfPassFile}
-use Rattle.vault_cli.specs.Refusing.{Unless}
-use Rattle.vault_cli.specs.Shown.{is_of_end, refused}
+use Rattle.command_opening.specs.Opening.{IsPhrase, OfPassFile}
+use Rattle.command_opening.specs.Refusing.{Unless}
+use Rattle.command_opening.specs.Shown.{is_of_end, refused}
 use Rattle.command_answers.specs.declared.answer.Answer.{Answer}
 use Rattle.command_answers.specs.declared.answer.Answer.TheVariants.{Done, OutOfMemory, FolderFault, OutputFault, RandomFault, ZeroRandom, Taken}
 use Rattle.command_answers.specs.declared.answer.Answer.TheVariants as answers

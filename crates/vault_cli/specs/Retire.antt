@@ -19,10 +19,10 @@ use Rattle.tree_match.specs.Guard.{Migration}
 use Rattle.vault_cli.specs.Faults.{of_retire}
 use Rattle.vault_cli.specs.Moving.{Comes, KeepsAll, RefusesPasses}
 use Rattle.command_answers.specs.Printing.{PrintsDone}
-use Rattle.vault_cli.specs.Refusing as folder
+use Rattle.command_opening.specs.Refusing as folder
 use Rattle.vault_cli.specs.Resume.{IsResumedFor, IsRootIn, root_in}
-use Rattle.vault_cli.specs.Shown.{is_of_end}
-use Rattle.vault_cli.specs.World.{World}
+use Rattle.command_opening.specs.Shown.{is_of_end}
+use Rattle.command_opening.specs.World.{World}
 use Rattle.command_answers.specs.declared.answer.Answer.{Answer}
 use Rattle.command_answers.specs.declared.answer.Answer.TheVariants.{Done, OutOfMemory, FolderFault, OutputFault, Refused, WrongPass, NotFound, WrongKind, Damaged, NotClean, Overlap, NotEmpty, Begun, Unusable, Differ, Limit}
 use Rattle.command_words.specs.declared.commands.Resuming.{Resuming}

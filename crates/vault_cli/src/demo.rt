@@ -23,9 +23,10 @@ ghost use Rattle.vault_cli.specs.DemoTrees.{BringsItems, Carries, IsMoved, IsNew
 ghost use Rattle.vault_cli.specs.Moving.{is_of_stop};
 ghost use Rattle.vault_cli.specs.Retire.{is_of_refusal};
 
-use crate::faults::answer_to_put;
-use crate::{beginning, moving, opening, retire};
+use crate::{moving, retire};
 use command_answers::{Answer, report};
+use command_beginning::{answer_to_put, answer_to_work};
+use command_opening::answer_to_load;
 use command_words::Demonstration;
 use content_writing::PutFault;
 use demo_core::laws::{
@@ -477,10 +478,10 @@ fn answer_to(alloc: Global, root: &FPath, fault: MakeFault) -> Answer
 {
     match fault {
         MakeFault::Work(fault) => match place(alloc, "w") {
-            Ok(work) => beginning::answer_to(&work, fault),
+            Ok(work) => answer_to_work(&work, fault),
             Err(_) => Answer::OutOfMemory,
         },
-        MakeFault::Load(fault) => opening::answer_to(root, fault),
+        MakeFault::Load(fault) => answer_to_load(root, fault),
         MakeFault::Put(fault) => answer_to_put(fault),
         MakeFault::NoMemory => Answer::OutOfMemory,
     }

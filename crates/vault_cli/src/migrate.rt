@@ -11,8 +11,8 @@ ghost use Rattle.vault_cli.specs.Migrate.{ComesTo, HasMigrated, IsAskedFor, MayC
 ghost use Rattle.vault_cli.specs.Moving.{Completes, KeepsAll, is_of_stop};
 
 use crate::moving::{answer_to, print_done, read_passes};
-use crate::places::{do_overlap, overlapping};
 use command_answers::Answer;
+use command_opening::{do_overlap, overlapping};
 use command_words::Moving;
 use folder_model::{FPath, Folder};
 use migrate_core::{Done, MoveFault};

@@ -7,15 +7,15 @@ ghost use Rattle.migrate_core.specs.Faults.{IsMoveFault, is_of_begin};
 ghost use Rattle.port_model.specs.Counts.{CountRose};
 ghost use Rattle.vault_cli.specs.Faults.{of_journal, of_move};
 ghost use Rattle.vault_cli.specs.Moving.{FailPasses, done_text, is_of_stop, is_of_told_stop};
-ghost use Rattle.vault_cli.specs.Opening.{IsPhrase};
-ghost use Rattle.vault_cli.specs.Shown.{is_of_opening};
+ghost use Rattle.command_opening.specs.Opening.{IsPhrase};
+ghost use Rattle.command_opening.specs.Shown.{is_of_opening};
 ghost use Rattle.command_answers.specs.Printing.{PrintsText};
 ghost use Rattle.vault_cli.specs.Resume.{IsFoundJournal};
 
-use crate::faults::{answer_to_match, answer_to_put, answer_to_walk, difference_of};
-use crate::opening::read_pass;
-use crate::{beginning, opening};
+use crate::faults::{answer_to_match, answer_to_walk, difference_of};
 use command_answers::{Answer, Flaw, Limit, print};
+use command_beginning::{answer_to_put, answer_to_work};
+use command_opening::{answer_to_load, read_pass};
 use command_words::{Passes, Resuming};
 use content_writing::PutFault;
 use folder_model::{FPath, Folder};
@@ -136,10 +136,10 @@ pub(crate) fn answer_to(work: &FPath, root: &FPath, fault: MoveFault) -> Answer
     ensures goes_on { IsMoveFault fault → IsTrue (is_of_told_stop result) }
 {
     match fault {
-        MoveFault::Work(fault) => beginning::answer_to(work, fault),
+        MoveFault::Work(fault) => answer_to_work(work, fault),
         MoveFault::Journal(fault) => answer_to_journal(work, fault),
         MoveFault::Overlap(first, second) => Answer::Overlap(first, second),
-        MoveFault::Load(_, fault) => opening::answer_to(root, fault),
+        MoveFault::Load(_, fault) => answer_to_load(root, fault),
         MoveFault::Walk(fault) => answer_to_walk(fault),
         MoveFault::NotEmpty(at) => Answer::NotEmpty(at),
         MoveFault::NotAllowed(path) => Answer::NotAllowed(path),

@@ -14,8 +14,9 @@ ghost use Rattle.vault_cli.specs.Retire.{ComesTo, Completes, IsRetired, MayCome,
 
 use crate::faults::{answer_to_match, answer_to_walk, difference_of};
 use crate::moving::{answer_to_journal, learn, unusable};
-use crate::{beginning, opening};
 use command_answers::{Answer, Flaw, Limit, print};
+use command_beginning::answer_to_work;
+use command_opening::answer_to_load;
 use command_words::Resuming;
 use folder_model::{FPath, Folder};
 use move_journal::Journal;
@@ -93,11 +94,11 @@ pub(crate) fn answer_to(work: &FPath, root: &FPath, fault: RetireFault) -> Answe
     ensures failed { result ≡ Answer.FolderFault → IsRetireFault fault → fault ≡ RetireFault.Failed }
 {
     match fault {
-        RetireFault::Work(fault) => beginning::answer_to(work, fault),
+        RetireFault::Work(fault) => answer_to_work(work, fault),
         RetireFault::Journal(fault) => answer_to_journal(work, fault),
         RetireFault::Unfinished => unusable(work, Flaw::Building),
         RetireFault::Overlap(first, second) => Answer::Overlap(first, second),
-        RetireFault::Load(_, fault) => opening::answer_to(root, fault),
+        RetireFault::Load(_, fault) => answer_to_load(root, fault),
         RetireFault::Walk(fault) => answer_to_walk(fault),
         RetireFault::Match(fault) => answer_to_match(fault),
         RetireFault::Differ(path, how) => Answer::Differ(path, difference_of(how)),

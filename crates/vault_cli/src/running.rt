@@ -8,30 +8,23 @@ ghost use Rattle.folder_spec.specs.Seen.{IsSeen};
 ghost use Rattle.folder_spec.specs.View.{View};
 ghost use Rattle.command_words.specs.Commands.{command_of};
 ghost use Rattle.vault_cli.specs.Runs.{Executes, OwnsFolders};
-ghost use Rattle.vault_cli.specs.World.{World};
+ghost use Rattle.command_opening.specs.World.{World};
 
-use crate::cat::cat;
-use crate::decrypt::decrypt_file;
 use crate::demo::demo;
-use crate::fsck::fsck;
-use crate::init::init;
-use crate::ls::ls;
 use crate::migrate::migrate;
-use crate::mkdir::mkdir;
-use crate::put::put;
-use crate::repair::repair;
 use crate::resume::resume;
 use crate::retire::retire;
-use chunk_files::laws::{files_are_what_they_give, whole_files_end};
+use checking_commands::{fsck, repair};
 use command_answers::laws::{reports_are_answers, words_alone_end_with_2};
 use command_answers::{Answer, report};
 use command_words::Command;
 use command_words::laws::demonstrations_are_small;
 use folder_model::Folder;
 use port_model::{Randoms, Sink, Source};
+use reading_commands::{cat, decrypt_file, ls};
 use std::alloc::Global;
 use tree_match::laws::guarded_migrations_are_safe;
-use vault_read::laws::roots_have_one_answer;
+use writing_commands::{init, mkdir, put};
 
 /// Does what the words after the program's name ask for, and answers the status to end with. Every status but 0 and 1 writes its line
 /// to `err`: 1 a check has findings, 2 no command, 3 no memory, 4 the folder failed, 5 the input, 6 the output, 7 the random source,
@@ -94,17 +87,12 @@ fn execute<F: Folder, R: Randoms, I: Source, O: Sink>(
     ensures output_fault { result ≡ Answer.OutputFault → CountRose (O.faults out.old) (O.faults out.new) }
     ensures random_fault { result ≡ Answer.RandomFault → CountRose (R.faults random.old) (R.faults random.new) }
 {
-    files_are_what_they_give();
-    whole_files_end();
-    roots_have_one_answer();
     guarded_migrations_are_safe();
     demonstrations_are_small();
     match Command::from_words(alloc, words) {
         Err(_) => Answer::OutOfMemory,
         Ok(None) => Answer::BadCommandLine,
-        Ok(Some(Command::DecryptFile(key))) => {
-            Answer::from(decrypt_file(alloc, &key, input, out))
-        }
+        Ok(Some(Command::DecryptFile(key))) => decrypt_file(alloc, &key, input, out),
         Ok(Some(Command::Init(new))) => init(alloc, &new, folder, random),
         Ok(Some(Command::Ls(target))) => ls(alloc, &target, folder, out),
         Ok(Some(Command::Cat(target))) => cat(alloc, &target, folder, out),

@@ -1,14 +1,11 @@
 use Rattle.std.proofs.Common.{Some, refl, sym, ap, ◌∙◌, subst, map, string_bytes}
 use Rattle.std.proofs.KnownBytes.{Keeps-refl}
 use Rattle.command_words.specs.Commands.{command_of}
-use Rattle.vault_cli.specs.DecryptFile.{DecryptsFile}
 use Rattle.vault_cli.specs.Demo.{Demonstrates}
-use Rattle.vault_cli.specs.Repair.{RepairsVault}
+use Rattle.checking_commands.specs.Repair.{RepairsVault}
 use Rattle.vault_cli.specs.Runs.{Executes}
-use Rattle.vault_cli.specs.World.{World}
-use Rattle.vault_cli.proofs.Checks.{checks}
-use Rattle.vault_cli.proofs.Decryptions.{decrypts}
-use Rattle.vault_cli.proofs.Executions.{not_begun}
+use Rattle.command_opening.specs.World.{World}
+use Rattle.vault_cli.proofs.Executions.{decrypting_alone, not_begun}
 use Rattle.vault_cli.proofs.running.execute.Goals as goal
 
 pub returns-in-Err-clause-executes : goal.returns-in-Err-clause-executes
@@ -18,12 +15,16 @@ pub returns-in-Ok-Some-DecryptFile-clause-executes : goal.returns-in-Ok-Some-Dec
 returns-in-Ok-Some-DecryptFile-clause-executes g c =
     let arm = c.in-Ok-Some-DecryptFile in
     let told = g.F.Folder.told c.args.folder.now in
-    let before : World = record { told = told; left = g.I.Source.left c.args.input.now; ended = g.I.Source.ended c.args.input.now; taken = g.O.Sink.taken c.args.out.now; random = g.R.Randoms.left c.args.random.now } in
-    let after : World = record { told = told; left = g.I.Source.left c.decrypt_file.new.input; ended = g.I.Source.ended c.decrypt_file.new.input; taken = g.O.Sink.taken c.decrypt_file.new.out; random = g.R.Randoms.left c.args.random.now } in
-    subst (λ command. Executes command c.from.result before after) (ap Some (sym arm.field-0-0-is) ∙ sym arm.field-0-is ∙ arm.ensures.is)
-    (subst (λ answer. DecryptsFile arm.key answer before after) (sym c.from.ensures)
-    (decrypts c.files_are_what_they_give.ensures c.whole_files_end.ensures arm.key c.decrypt_file.result before after c.decrypt_file.ensures.tells c.decrypt_file.ensures.writes
-    c.decrypt_file.ensures.takes c.decrypt_file.ensures.near c.decrypt_file.ensures.end refl))
+    let random = g.R.Randoms.left c.args.random.now in
+    let before : World = record { told = told; left = g.I.Source.left c.args.input.now; ended = g.I.Source.ended c.args.input.now; taken = g.O.Sink.taken c.args.out.now; random = random } in
+    let after : World = record { told = told; left = g.I.Source.left c.decrypt_file.new.input; ended = g.I.Source.ended c.decrypt_file.new.input; taken = g.O.Sink.taken c.decrypt_file.new.out; random = random } in
+    subst (λ command. Executes command c.decrypt_file.result before after) (ap Some (sym arm.field-0-0-is) ∙ sym arm.field-0-is ∙ arm.ensures.is) (c.decrypt_file.ensures.decrypts told random)
+
+pub returns-in-Ok-Some-DecryptFile-clause-folder_fault : goal.returns-in-Ok-Some-DecryptFile-clause-folder_fault
+returns-in-Ok-Some-DecryptFile-clause-folder_fault g c = λ is. absurd (decrypting_alone c.decrypt_file.result _ _ (c.decrypt_file.ensures.decrypts (g.F.Folder.told c.args.folder.now) (g.R.Randoms.left c.args.random.now))).0 is
+
+pub returns-in-Ok-Some-DecryptFile-clause-random_fault : goal.returns-in-Ok-Some-DecryptFile-clause-random_fault
+returns-in-Ok-Some-DecryptFile-clause-random_fault g c = λ is. absurd (decrypting_alone c.decrypt_file.result _ _ (c.decrypt_file.ensures.decrypts (g.F.Folder.told c.args.folder.now) (g.R.Randoms.left c.args.random.now))).1 is
 
 pub returns-in-Ok-Some-Fsck-clause-executes : goal.returns-in-Ok-Some-Fsck-clause-executes
 returns-in-Ok-Some-Fsck-clause-executes g c =
@@ -33,7 +34,7 @@ returns-in-Ok-Some-Fsck-clause-executes g c =
     let before : World = record { told = g.F.Folder.told c.args.folder.now; left = left; ended = ended; taken = g.O.Sink.taken c.args.out.now; random = g.R.Randoms.left c.args.random.now } in
     let after : World = record { told = g.F.Folder.told c.fsck.new.folder; left = left; ended = ended; taken = g.O.Sink.taken c.fsck.new.out; random = g.R.Randoms.left c.args.random.now } in
     subst (λ command. Executes command c.fsck.result before after) (ap Some (sym arm.field-0-0-is) ∙ sym arm.field-0-is ∙ arm.ensures.is)
-    (checks c.roots_have_one_answer.ensures arm.target c.fsck.result before after c.fsck.ensures.told c.fsck.ensures.own c.fsck.ensures.follows c.fsck.ensures.quiet (Keeps-refl left))
+    (c.fsck.ensures.checks left ended (g.R.Randoms.left c.args.random.now))
 
 pub returns-in-Ok-Some-Repair-clause-executes : goal.returns-in-Ok-Some-Repair-clause-executes
 returns-in-Ok-Some-Repair-clause-executes g c =

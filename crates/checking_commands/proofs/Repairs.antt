@@ -1,0 +1,178 @@
+-- What `repair` did, from what its parts say.
+use Rattle.std.proofs.Common.{◌≡◌, ℕ, false, List, [], Option, Some, None, inl, inr, refl, sym, ◌∙◌, subst}
+use Rattle.std.specs.Prelude.{◌⊎◌, IsTrue, is_some}
+use Rattle.std.proofs.lemmas.Bool.{or_left, or_parts}
+use Rattle.folder_spec.specs.Path.{Path, below, parent}
+use Rattle.folder_spec.specs.Event.{Told, FromTo}
+use Rattle.folder_spec.specs.Image.{Image, IsImage}
+use Rattle.folder_spec.specs.Seen.{IsSeen, ShowsFree, seen, under}
+use Rattle.folder_spec.specs.State.{HasNothingPending, IsSound, State}
+use Rattle.folder_spec.specs.View.{Found, NoEntry, Folder, FileOf, Special, View, view_of}
+use Rattle.vault_read.specs.Laws.{HasOwnFolders}
+use Rattle.vault_spec.specs.Adding.{OpensAs}
+use Rattle.vault_spec.specs.Moving.{IsStray}
+use Rattle.vault_read.specs.declared.fault.Limit.TheVariants as limited
+use Rattle.vault_spec.specs.Vault.{Vault, Either, format_of}
+use Rattle.vault_walk.specs.Survey.{HasTooMany}
+use Rattle.vault_walk.specs.Surveyed.{IsOnlyTooDeep}
+use Rattle.vault_check.specs.Answers.{IsRepairFault}
+use Rattle.vault_check.specs.Repairing.{AreApart, AreMoved, IsRepairing, RepairsAt}
+use Rattle.vault_check.specs.declared.fault.CheckFault.{CheckFault}
+use Rattle.vault_check.specs.declared.fault.CheckFault.TheVariants as check
+use Rattle.checking_commands.specs.Faults.{of_check}
+use Rattle.command_opening.specs.Opening.{Opens}
+use Rattle.command_opening.specs.Refusing.{Unless, RefusesOpening}
+use Rattle.command_opening.specs.Places.{OfDirectory, OfMissing, OfFree, overlap, RefusesOverlap}
+use Rattle.checking_commands.specs.Repair.{IsOfMoving, TooMany, TooDeep, OfRepairing, MovesStrays, HasMovedStrays, RepairsApart, is_of_test, moved_text}
+use Rattle.command_opening.specs.Tests.{is_of_moving}
+use Rattle.command_answers.specs.Printing.{PrintsText}
+use Rattle.command_opening.proofs.Printings.{IsPrinted, nothing_printed, printed, printed_is_own}
+use Rattle.command_opening.specs.Shown.{IsCutShort, is_of_end, refused}
+use Rattle.command_answers.specs.declared.answer.Answer.{Answer}
+use Rattle.command_answers.specs.declared.answer.Answer.TheVariants.{Done, OutOfMemory, OutputFault}
+use Rattle.command_words.specs.declared.commands.Repairing.{Repairing}
+use Rattle.command_opening.proofs.Refusals.{opened_gives, unless_opened}
+
+-- ---- the tests
+
+none_of : {X : Type 0} (o : Option X) → is_some o ≡ false → o ≡ None
+none_of None is = refl
+none_of (Some x) is = cc
+
+pub apart_by : (one other : Path) → overlap one other ≡ false → AreApart one other
+apart_by one other is =
+    let parts = or_parts (is_some (below one other)) (is_some (below other one)) is in
+    record { apart = none_of (below one other) parts.0; beside = none_of (below other one) parts.1 }
+
+missing_then : (at : Path) (there : Found) (answer : Answer) (P Q : Type 0) → (P → Q) → OfMissing at there answer P → OfMissing at there answer Q
+missing_then at NoEntry answer P Q f x = f x
+missing_then at Folder answer P Q f x = x
+missing_then at (FileOf bytes) answer P Q f x = x
+missing_then at Special answer P Q f x = x
+
+directory_then : (at : Path) (there : Found) (answer : Answer) (P Q : Type 0) → (P → Q) → OfDirectory at there answer P → OfDirectory at there answer Q
+directory_then at NoEntry answer P Q f x = x
+directory_then at Folder answer P Q f x = f x
+directory_then at (FileOf bytes) answer P Q f x = x
+directory_then at Special answer P Q f x = x
+
+free_then : (v : View) (at : Path) (answer : Answer) (P Q : Type 0) → (P → Q) → OfFree v at answer P → OfFree v at answer Q
+free_then v at answer P Q f =
+    directory_then (parent at) (v (parent at)) answer (OfMissing at (v at) answer P) (OfMissing at (v at) answer Q) (missing_then at (v at) answer P Q f)
+
+free_gives : (v : View) (at : Path) (answer : Answer) (P : Type 0) → ShowsFree v at → P → OfFree v at answer P
+free_gives v at answer P free holds =
+    subst (λ x. OfDirectory (parent at) x answer (OfMissing at (v at) answer P)) (sym free.1) (subst (λ x. OfMissing at x answer P) (sym free.0) holds)
+
+-- ---- the moving
+
+module _ (target : Repairing) (v : View) where
+  abbrev Next : Answer → Vault → Type 0
+  Next answer vault = OfFree v target.lost answer (IsOfMoving (format_of vault) (under target.vault v) answer)
+
+  pub not_opened : (answer : Answer) → RefusesOpening v target.vault target.pass answer → Unless answer (OfRepairing target v answer)
+  not_opened answer = unless_opened v target.vault target.pass answer (Next answer)
+
+  pub not_free : (vault : Vault) (answer : Answer) → Opens v target.vault target.pass vault → Unless answer (OfFree v target.lost answer ⊥) → Unless answer (OfRepairing target v answer)
+  not_free vault answer opens (inl failed) = inl failed
+  not_free vault answer opens (inr (inl memory)) = inr (inl memory)
+  not_free vault answer opens (inr (inr free)) =
+      inr (inr (opened_gives v target.vault target.pass (refused answer) (Next answer) vault opens
+      (free_then v target.lost answer ⊥ (IsOfMoving (format_of vault) (under target.vault v) answer) (λ none. absurd none) free)))
+
+  pub moving : (vault : Vault) (answer : Answer) → Opens v target.vault target.pass vault → ShowsFree v target.lost → IsOfMoving (format_of vault) (under target.vault v) answer → OfRepairing target v answer
+  moving vault answer opens free is =
+      opened_gives v target.vault target.pass (refused answer) (Next answer) vault opens
+      (free_gives v target.lost answer (IsOfMoving (format_of vault) (under target.vault v) answer) free is)
+
+  -- a limit, or the folder, or memory
+  pub not_moved : (vault : Vault) (fault : CheckFault) → Opens v target.vault target.pass vault → ShowsFree v target.lost → IsRepairFault fault
+      → (fault ≡ check.Limit limited.Items → HasTooMany (format_of vault) (under target.vault v)) → (fault ≡ check.Limit limited.Depth → IsOnlyTooDeep (format_of vault) (under target.vault v))
+      → Unless (of_check fault) (OfRepairing target v (of_check fault))
+  not_moved vault (check.Limit limited.Items) opens free is items depth = inr (inr (moving vault _ opens free (TooMany refl (items refl))))
+  not_moved vault (check.Limit limited.Depth) opens free is items depth = inr (inr (moving vault _ opens free (TooDeep refl (depth refl))))
+  not_moved vault (check.Limit (limited.Length at)) opens free is items depth = absurd is
+  not_moved vault (check.Limit limited.Input) opens free is items depth = absurd is
+  not_moved vault check.Failed opens free is items depth = inl refl
+  not_moved vault check.NoMemory opens free is items depth = inr (inl refl)
+
+-- what a repair of the opened vault says, of what was told before the vault was opened
+module _ (target : Repairing) (root : Path) (vault : Vault) (told entered told' : Option Told) (same : root ≡ target.vault) (still : entered ≡ told)
+    (opens : (v : View) → IsSeen told v → Opens v target.vault target.pass vault) (apart : overlap target.vault target.lost ≡ false) where
+  pub has_moved : (moved : List Path) → FromTo (λ a b. AreMoved root (format_of vault) target.lost moved a b) entered told' → (moved ≡ [] → told' ≡ entered)
+      → ((root lost : Path) (moved : List Path) (a b : Told) → IsSound a.state → AreApart root lost → HasOwnFolders vault (under root (seen a.state)) → AreMoved root (format_of vault) lost moved a b
+      → OpensAs (format_of vault) (under root (seen a.state)) (under root (seen b.state)) × ((at : Path) → ¬ IsStray (format_of vault) (under root (seen b.state)) at))
+      → HasMovedStrays target moved told told'
+  has_moved moved are nothing law = record {
+    vault = vault;
+    opens = opens;
+    are = subst (λ t. FromTo (λ a b. AreMoved target.vault (format_of vault) target.lost moved a b) t told') still
+        (subst (λ p. FromTo (λ a b. AreMoved p (format_of vault) target.lost moved a b) entered told') same are);
+    nothing = λ none. nothing none ∙ still;
+    leaves = λ a b sound own moves. law target.vault target.lost moved a b sound (apart_by target.vault target.lost apart) own moves;
+  }
+
+  pub moves_strays : RepairsAt root (format_of vault) target.lost entered told'
+      → ((root lost : Path) (s0 s : State) (image : Image) → IsSound s0 → HasNothingPending s0 → AreApart root lost → HasOwnFolders vault (under root (seen s0))
+      → IsRepairing root (format_of vault) lost s0 s → IsImage s image → OpensAs (format_of vault) (under root (seen s0)) (under root (view_of image)))
+      → MovesStrays target told told'
+  moves_strays moments law = record {
+    vault = vault;
+    opens = opens;
+    apart = apart_by target.vault target.lost apart;
+    moments = subst (λ t. RepairsAt target.vault (format_of vault) target.lost t told') still (subst (λ p. RepairsAt p (format_of vault) target.lost entered told') same moments);
+    keeps = λ s0 s image sound settled own repairing is. law target.vault target.lost s0 s image sound settled (apart_by target.vault target.lost apart) own repairing is;
+  }
+
+pub no_test : (fault : CheckFault) → ¬ IsTrue (is_of_test (of_check fault))
+no_test (check.Limit limit) is = cc
+no_test check.Failed is = cc
+no_test check.NoMemory is = cc
+
+pub of_moving : (fault : CheckFault) → IsTrue (is_of_moving (of_check fault))
+of_moving (check.Limit limit) = refl
+of_moving check.Failed = refl
+of_moving check.NoMemory = refl
+
+-- ---- the whole
+
+cut_or : (answer : Answer) (P : Type 0) → Unless answer P → IsCutShort answer ⊎ P
+cut_or answer P (inl failed) = inl (inl failed)
+cut_or answer P (inr (inl memory)) = inl (inr (inr memory))
+cut_or answer P (inr (inr holds)) = inr holds
+
+pub repair_refused : (target : Repairing) (answer : Answer) (told told' : Option Told) (taken : Option (List ℕ)) → IsTrue (is_of_moving answer)
+    → ((v : View) → IsSeen told v → Unless answer (OfRepairing target v answer)) → (IsTrue (is_of_test answer) → told' ≡ told) → (told' ≡ told) ⊎ MovesStrays target told told'
+    → RepairsApart target answer told told' taken taken
+repair_refused target answer told told' taken own cause tested moves = record {
+  own = or_left (is_of_moving answer) (is_of_end answer) own;
+  cause = λ v is. cut_or answer (OfRepairing target v answer) (cause v is);
+  tested = tested;
+  moves = moves;
+  prints = nothing_printed moved_text (λ moved. HasMovedStrays target moved told told') is_of_moving answer taken own refl refl;
+}
+
+pub refused_apart : (target : Repairing) (answer : Answer) (told told' : Option Told) (taken : Option (List ℕ)) → overlap target.vault target.lost ≡ false → RepairsApart target answer told told' taken taken
+    → Either (overlap target.vault target.lost) (RefusesOverlap target.vault target.lost answer told told' taken taken) (RepairsApart target answer told told' taken taken)
+refused_apart target answer told told' taken apart repairs =
+    subst (λ b. Either b (RefusesOverlap target.vault target.lost answer told told' taken taken) (RepairsApart target answer told told' taken taken)) (sym apart) repairs
+
+cause_printed : (target : Repairing) (v : View) (answer : Answer) → OfRepairing target v Done → IsPrinted answer → IsCutShort answer ⊎ OfRepairing target v answer
+cause_printed target v answer passed (inl done) = inr (subst (λ a. OfRepairing target v a) (sym done) passed)
+cause_printed target v answer passed (inr output) = inl (inr output)
+
+not_of_test : (answer : Answer) → IsPrinted answer → ¬ IsTrue (is_of_test answer)
+not_of_test answer (inl done) test = let none : IsTrue (is_of_test Done) = subst (λ a. IsTrue (is_of_test a)) done test in cc
+not_of_test answer (inr (inl output)) test = let none : IsTrue (is_of_test OutputFault) = subst (λ a. IsTrue (is_of_test a)) output test in cc
+not_of_test answer (inr (inr memory)) test = let none : IsTrue (is_of_test OutOfMemory) = subst (λ a. IsTrue (is_of_test a)) memory test in cc
+
+pub repair_printed : (target : Repairing) (moved : List Path) (answer : Answer) (told told' : Option Told) (taken taken' : Option (List ℕ)) → HasMovedStrays target moved told told'
+    → ((v : View) → IsSeen told v → OfRepairing target v Done) → (told' ≡ told) ⊎ MovesStrays target told told' → PrintsText (moved_text moved) answer taken taken'
+    → IsPrinted answer → RepairsApart target answer told told' taken taken'
+repair_printed target moved answer told told' taken taken' has passed moves prints is_printed = record {
+  own = printed_is_own is_of_moving answer refl is_printed;
+  cause = λ v is. cause_printed target v answer (passed v is) is_printed;
+  tested = λ test. absurd (not_of_test answer is_printed test);
+  moves = moves;
+  prints = printed moved_text (λ moved. HasMovedStrays target moved told told') moved answer taken taken' has prints is_printed;
+}

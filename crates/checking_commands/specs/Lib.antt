@@ -1,0 +1,4 @@
+pub mod Faults
+pub mod Fsck
+pub mod Repair
+pub mod Lines

@@ -1,0 +1,34 @@
+use Rattle.std.proofs.Common.{◌≡◌, false, IfErr, sym, subst}
+use Rattle.std.proofs.lemmas.Result.{err_from_is_err_and}
+use Rattle.folder_spec.specs.Seen.{IsSeen}
+use Rattle.folder_spec.specs.View.{View}
+use Rattle.command_opening.specs.Opening.{IsPhrase}
+use Rattle.command_opening.specs.Places.{overlap}
+use Rattle.command_beginning.specs.Refusing.{RefusesSite}
+use Rattle.command_beginning.proofs.Beginnings.{same_under, seen_after}
+use Rattle.command_beginning.proofs.Sites.{begins_nowhere, site_opens, site_refused}
+use Rattle.command_beginning.proofs.beginning.begin.Goals as goal
+
+pub returns-in_err-phrase-clause-moments : goal.returns-in_err-phrase-clause-moments
+returns-in_err-phrase-clause-moments g c =
+    begins_nowhere c.args.change.now.work (g.F.Folder.told c.args.folder.now) (g.F.Folder.told c.read_apart.new.folder) c.in_err-phrase.ensures.told
+
+pub returns-in_err-vault-clause-refused : goal.returns-in_err-vault-clause-refused
+returns-in_err-vault-clause-refused g c =
+    let change = c.args.change.now in
+    let told = g.F.Folder.told c.args.folder.now in
+    let p = err_from_is_err_and c.from_residual-in_err-vault.result c.from_residual-in_err-vault.ensures.1 in
+    subst (λ r. IfErr r (λ answer. overlap change.target.vault change.work ≡ false → (v : View) → IsSeen told v → RefusesSite change v answer)) (sym p.1) (λ apart v is.
+    let seen_then = subst (λ t. IsSeen t v) (sym c.in_ok-phrase.ensures.told) is in
+    let after = seen_after change.work (g.F.Folder.told c.read_apart.new.folder) (g.F.Folder.told c.enter_settled.new.folder) c.in_ok-work.ensures.moments v seen_then in
+    subst (RefusesSite change v) (sym p.2) (site_refused change v after.0 c.as_slice.result.now c.in_err-vault.field-0.0
+    (same_under c.roots_show_their_own.ensures.outside c.roots_show_their_own.ensures.alike change.target.vault change.work apart v after.0 after.2)
+    (subst (IsPhrase (v change.target.pass)) (sym c.as_slice.ensures) (c.in_ok-phrase.ensures.phrase v is)) (c.in_ok-work.ensures.entered v seen_then) (c.in_err-vault.ensures.refused after.0 after.1)))
+
+pub returns-clause-opened : goal.returns-clause-opened
+returns-clause-opened g c = λ v is.
+    let change = c.args.change.now in
+    let after = seen_after change.work (g.F.Folder.told c.read_apart.new.folder) (g.F.Folder.told c.enter_settled.new.folder) c.in_ok-work.ensures.moments v (subst (λ t. IsSeen t v) (sym c.in_ok-phrase.ensures.told) is) in
+    site_opens change v after.0 c.as_slice.result.now c.in_ok-vault.vault.vault
+    (same_under c.roots_show_their_own.ensures.outside c.roots_show_their_own.ensures.alike change.target.vault change.work c.in_ok-phrase.ensures.apart v after.0 after.2)
+    (subst (IsPhrase (v change.target.pass)) (sym c.as_slice.ensures) (c.in_ok-phrase.ensures.phrase v is)) (c.in_ok-vault.ensures.opened after.0 after.1)

@@ -1,0 +1,5 @@
+pub mod Counts
+mod Kinds
+pub mod Printings
+pub mod Refusals
+pub mod Showing

@@ -1,0 +1,7 @@
+pub mod World
+pub mod Shown
+pub mod Opening
+pub mod Tests
+pub mod Places
+pub mod Faults
+pub mod Refusing

@@ -1,0 +1,37 @@
+-- Places of a folder that a command names: whether they overlap, and whether one is free.
+use Rattle.std.specs.Prelude.{◌≡◌, ◌⊎◌, ◌||◌, ℕ, Bool, List, Option, is_some}
+use Rattle.std.specs.Io.KnownBytes.{Keeps}
+use Rattle.folder_spec.specs.Event.{Told}
+use Rattle.folder_spec.specs.Path.{Path, below, parent}
+use Rattle.folder_spec.specs.View.{Found, NoEntry, Folder, FileOf, Special, View}
+use Rattle.command_answers.specs.declared.answer.Answer.{Answer}
+use Rattle.command_answers.specs.declared.answer.Answer.TheVariants.{OutOfMemory, NotFound, WrongKind, Overlap, NotEmpty}
+use Rattle.command_answers.specs.declared.answer.Named.TheVariants as named
+
+-- one of the paths begins with the other
+abbrev pub overlap : Path → Path → Bool
+overlap one other = is_some (below one other) || is_some (below other one)
+
+-- what follows where a directory stands at a path
+abbrev pub OfDirectory : Path → Found → Answer → Type 0 → Type 0
+OfDirectory at NoEntry answer next = answer ≡ NotFound (named.Folder at)
+OfDirectory at Folder answer next = next
+OfDirectory at (FileOf bytes) answer next = answer ≡ WrongKind (named.Folder at)
+OfDirectory at Special answer next = answer ≡ WrongKind (named.Folder at)
+
+-- what follows where nothing stands at a path
+abbrev pub OfMissing : Path → Found → Answer → Type 0 → Type 0
+OfMissing at NoEntry answer next = next
+OfMissing at Folder answer next = answer ≡ NotEmpty at
+OfMissing at (FileOf bytes) answer next = answer ≡ NotEmpty at
+OfMissing at Special answer next = answer ≡ NotEmpty at
+
+-- what follows where nothing stands at a path, and a directory above it
+abbrev pub OfFree : View → Path → Answer → Type 0 → Type 0
+OfFree v at answer next = OfDirectory (parent at) (v (parent at)) answer (OfMissing at (v at) answer next)
+
+-- overlapping folders are refused by the words alone
+pub record RefusesOverlap (one other : Path) (answer : Answer) (told told' : Option Told) (taken taken' : Option (List ℕ)) : Type 0 where
+  pub answers : (answer ≡ Overlap one other) ⊎ (answer ≡ OutOfMemory)
+  pub unchanged : told' ≡ told
+  pub unwritten : Keeps taken taken'

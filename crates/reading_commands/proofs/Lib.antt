@@ -1,0 +1,5 @@
+mod Contents
+pub mod Decryptions
+mod Listings
+mod Outcomes
+mod WholeFiles

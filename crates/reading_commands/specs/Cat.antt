@@ -1,0 +1,39 @@
+-- `cat`: the content of a file, chunk by chunk.
+use Rattle.std.specs.Prelude.{◌≡◌, ℕ, List, ◌++◌, Option, Some, None, MatchResult}
+use Rattle.folder_spec.specs.Path.{Path}
+use Rattle.folder_spec.specs.View.{View}
+use Rattle.chunk_files.specs.Keys.{Keys}
+use Rattle.chunk_files.specs.Reading.{Ending, Whole, Wanting, Faulty, Reading}
+use Rattle.vault_read.specs.Contents.{content_at, limited_reading}
+use Rattle.vault_spec.specs.Format.{file_bytes}
+use Rattle.vault_spec.specs.Vault.{format_of}
+use Rattle.reading_commands.specs.Finding.{answer_to_finding}
+use Rattle.command_opening.specs.Opening.{OfOpened}
+use Rattle.command_opening.specs.Shown.{Shown, refused}
+use Rattle.command_answers.specs.declared.answer.Answer.{Answer}
+use Rattle.command_answers.specs.declared.answer.Answer.TheVariants.{Done, Damaged, Limit}
+use Rattle.command_answers.specs.declared.answer.Damage.TheVariants as damage
+use Rattle.command_answers.specs.declared.answer.Limit.TheVariants as limit
+use Rattle.command_words.specs.declared.commands.Target.{Target}
+
+-- how the reading of the file at a path ends
+abbrev pub answer_to_ending : Path → Ending → Answer
+answer_to_ending at Whole = Done
+answer_to_ending at Wanting = Limit (limit.Length at)
+answer_to_ending at (Faulty fault) = Damaged at (damage.Content fault)
+
+abbrev pub shown_reading : Path → Reading → Shown
+shown_reading at reading = record { pieces = reading.chunks; answer = answer_to_ending at reading.ending }
+
+-- the chunks of the content file that is found, behind the root; a file always is where one stands
+abbrev pub ShowsFile : Keys → Path → Option (List ℕ) → Shown → Type 0
+ShowsFile keys at None shown = ⊥
+ShowsFile keys at (Some bytes) shown = shown ≡ shown_reading at (limited_reading keys bytes)
+
+-- what `cat` shows
+abbrev pub ShowsContent : Target → View → Shown → Type 0
+ShowsContent target v shown =
+    OfOpened v target.vault target.pass shown (λ vault.
+    MatchResult (content_at (format_of vault) target.vault v target.path)
+    (λ at. ShowsFile (format_of vault).content (target.vault ++ at) (file_bytes (v (target.vault ++ at))) shown)
+    (λ refusal. shown ≡ refused (answer_to_finding target.vault refusal)))

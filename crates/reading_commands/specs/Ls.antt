@@ -1,0 +1,36 @@
+-- `ls`: the items of a directory, one a line.
+use Rattle.std.specs.Prelude.{◌≡◌, ℕ, List, [], ◌∷◌, ◌++◌, MatchResult}
+use Rattle.std.specs.List.{flat_map}
+use Rattle.folder_spec.specs.View.{View}
+use Rattle.folder_spec.specs.Seen.{under}
+use Rattle.plain_tree.specs.Shown.{shown}
+use Rattle.plain_tree.specs.declared.NodeKind.{NodeKind}
+use Rattle.plain_tree.specs.declared.NodeKind.TheVariants as node
+use Rattle.vault_spec.specs.Find.{enter}
+use Rattle.vault_spec.specs.Listing.{Listed, AreListed}
+use Rattle.vault_spec.specs.Vault.{format_of}
+use Rattle.reading_commands.specs.Finding.{answer_to_finding}
+use Rattle.command_opening.specs.Opening.{OfOpened}
+use Rattle.command_opening.specs.Shown.{Shown, refused}
+use Rattle.command_answers.specs.declared.answer.Answer.TheVariants.{Done}
+use Rattle.command_words.specs.declared.commands.Target.{Target}
+
+-- `d` for a directory and `f` for a file
+abbrev pub node_letter : NodeKind → ℕ
+node_letter node.Dir = 100
+node_letter node.File = 102
+
+-- the letter, a space, the shown name and a newline
+abbrev pub item_line : Listed → List ℕ
+item_line item = node_letter item.node ∷ 32 ∷ [] ++ shown item.name ++ 10 ∷ []
+
+abbrev pub ls_text : List Listed → List ℕ
+ls_text items = flat_map item_line items
+
+-- what `ls` shows
+abbrev pub ShowsItems : Target → View → Shown → Type 0
+ShowsItems target v shown =
+    OfOpened v target.vault target.pass shown (λ vault.
+    MatchResult (enter (format_of vault) (under target.vault v) target.path)
+    (λ dir. (items : List Listed) × AreListed (format_of vault) (under target.vault v) dir items × (shown ≡ record { pieces = ls_text items ∷ []; answer = Done }))
+    (λ refusal. shown ≡ refused (answer_to_finding target.vault refusal)))

@@ -1,0 +1,84 @@
+//! `ls`: lists a directory of a vault.
+ghost use Rattle.std.specs.Prelude.{◌≡◌, ◌++◌, ◌∷◌, [], Err, IfErr, IfOk, IsTrue, OnOk, string_bytes};
+ghost use Rattle.std.specs.Io.KnownBytes.{Keeps};
+ghost use Rattle.folder_spec.specs.View.{View};
+ghost use Rattle.folder_spec.specs.Seen.{IsSeen};
+ghost use Rattle.port_model.specs.Counts.{CountRose};
+ghost use Rattle.reading_commands.specs.Ls.{ShowsItems, item_line, ls_text, node_letter};
+ghost use Rattle.command_opening.specs.Refusing.{Unless};
+ghost use Rattle.command_opening.specs.Shown.{Reads, is_refusal, refused};
+
+use command_answers::Answer;
+use command_opening::{answer_to_find, open};
+use command_words::Target;
+use folder_model::Folder;
+use plain_tree::NodeKind;
+use port_model::Sink;
+use std::alloc::{AllocError, Global};
+use vault_read::laws::roots_have_one_answer;
+use vault_read::{Item, list};
+use vault_spec::laws::directories_have_one_list;
+
+/// Writes the items of a directory, one a line, once all are known.
+pub fn ls<F: Folder, O: Sink>(alloc: Global, target: &Target, folder: &mut F, out: &mut O) -> Answer
+    ensures reads { Reads (ShowsItems target.now) result (F.told folder.old) (F.told folder.new) (O.taken out.old) (O.taken out.new) }
+    ensures quiet { result ≡ Answer.FolderFault → Keeps (O.taken out.old) (O.taken out.new) }
+    ensures folder_fault { result ≡ Answer.FolderFault → CountRose (F.faults folder.old) (F.faults folder.new) }
+    ensures output_fault { result ≡ Answer.OutputFault → CountRose (O.faults out.old) (O.faults out.new) }
+{
+    roots_have_one_answer();
+    directories_have_one_list();
+    let text = match listing(alloc, target, folder) {
+        Ok(text) => text,
+        Err(answer) => return answer,
+    };
+    match out.put(text.as_bytes()) {
+        Ok(()) => Answer::Done,
+        Err(_) => Answer::OutputFault,
+    }
+}
+
+// The lines of the directory's items.
+fn listing<F: Folder>(alloc: Global, target: &Target, folder: &mut F) -> Result<String, Answer>
+    ensures told { F.told folder.new ≡ F.told folder.old }
+    ensures text { IfOk result (λ text. (v : View) → IsSeen (F.told folder.old) v → ShowsItems target.now v (record { pieces = string_bytes text ∷ []; answer = Answer.Done })) }
+    ensures refused { IfErr result (λ answer. (v : View) → IsSeen (F.told folder.old) v → Unless answer (ShowsItems target.now v (refused answer))) }
+    ensures failed { result ≡ Err Answer.FolderFault → CountRose (F.faults folder.old) (F.faults folder.new) }
+    ensures own { IfErr result (λ answer. IsTrue (is_refusal answer)) }
+{
+    let vault = open(alloc, folder, &target.vault, &target.pass)?;
+    match list(alloc, folder, &vault, &target.path) {
+        Ok(items) => Ok(text_of(alloc, items.as_slice())?),
+        Err(fault) => Err(answer_to_find(fault)),
+    }
+}
+
+// A line for each item.
+fn text_of(alloc: Global, items: &[Item]) -> Result<String, AllocError>
+    ensures { IfOk result (λ text. string_bytes text ≡ ls_text items.now) }
+{
+    let mut text = String::new(alloc);
+    for item in items {
+        push_item(&mut text, item)?;
+    }
+    Ok(text)
+}
+
+// Adds an item's line.
+fn push_item(text: &mut String, item: &Item) -> Result<(), AllocError>
+    ensures { OnOk result (string_bytes text.new ≡ string_bytes text.old ++ item_line item.now) }
+{
+    text.push(node_letter(item.node))?;
+    text.push(' ')?;
+    text.push_str(item.name.shown()?.as_str())?;
+    text.push('\n')
+}
+
+fn node_letter(node: NodeKind) -> char
+    ensures { result ≡ node_letter node }
+{
+    match node {
+        NodeKind::Dir => 'd',
+        NodeKind::File => 'f',
+    }
+}

@@ -1,7 +1,0 @@
-use Rattle.std.proofs.Common.{◌≡◌, take, string_bytes}
-use Rattle.vault_cli.specs.Ls.{ls_text}
-use Rattle.vault_cli.proofs.ls.text_of.Given as goal
-
--- the items so far have their lines
-abbrev pub invariant-loop-item : goal.invariant-loop-item
-invariant-loop-item l = string_bytes l.text ≡ ls_text (take l.item-index l.items)

@@ -1,0 +1,4 @@
+mod Costs
+pub mod MadeItems
+pub mod MadeVaults
+pub mod StoredFiles

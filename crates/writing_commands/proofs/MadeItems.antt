@@ -1,0 +1,264 @@
+-- An item is made in a vault after the work folder was made ready.
+use Rattle.std.proofs.Common.{◌≡◌, ◌⊎◌, zero, suc, ℕ, Bool, true, false, List, [], ◌∷◌, Option, Some, Result, Ok, Err, OnOk, IfErr, inl, inr, refl, sym, ap, subst, arith, IsTrue}
+use Rattle.std.specs.Prelude.{Contains}
+use Rattle.std.proofs.KnownBytes.{Keeps-refl}
+use Rattle.content_writing.specs.Content.{Ending, Whole}
+use Rattle.content_writing.specs.declared.fault.PutFault.{PutFault}
+use Rattle.content_writing.specs.declared.fault.PutFault.TheVariants as puts
+use Rattle.folder_spec.specs.Path.{Path}
+use Rattle.folder_spec.specs.State.{Table, State, IsTableOf, IsSound}
+use Rattle.folder_spec.specs.Event.{Event, Told, FromTo}
+use Rattle.folder_spec.specs.Moments.{Went}
+use Rattle.folder_spec.specs.Region.{IsAsBefore, Spares, apart_from, apart_from_both}
+use Rattle.folder_spec.specs.Seen.{IsSeen, seen, under}
+use Rattle.folder_spec.specs.View.{View, AgreeIn, Shows}
+use Rattle.folder_spec.proofs.Edits.{unchanged_shows}
+use Rattle.folder_spec.proofs.Moments.{went_on, went_more, went_to}
+use Rattle.plain_tree.specs.Names as plain
+use Rattle.port_model.specs.Draws.{ByteStream, Draws}
+use Rattle.vault_read.specs.Contents.{IsOfPath}
+use Rattle.vault_read.specs.Opened.{OpenedVault}
+use Rattle.vault_read.specs.declared.fault.FindFault.{FindFault}
+use Rattle.vault_read.specs.declared.fault.FindFault.TheVariants as finds
+use Rattle.vault_spec.specs.Making.{NewItem, NewDirectory}
+use Rattle.vault_spec.specs.Vault.{Vault, Either}
+use Rattle.vault_write.specs.Calls.{How, New, making_by, AnswersBy, MakesOne, MakesAt, MakesDirectory}
+use Rattle.vault_write.specs.Faults.{IsDirectoryFault}
+use Rattle.vault_write.specs.Making.{Placing, Making, format, path_of, is_elsewhere, StagesOrPlaces}
+use Rattle.vault_write.specs.Placing.{ShowsOne, ShowsNewTree, IsMaking, EndsAs, making_at}
+use Rattle.vault_write.specs.Trees.{KeepsTree, GainsItem, opens_as}
+use Rattle.work_folder.specs.Entering.{EntersAs}
+use Rattle.command_beginning.proofs.Beginnings.{Alike, Begins, Outside, apart_of_both, apart_of_unstaged, as_before_in, as_before_then, begun_then, none_drawn, not_begun_at, same_under, seen_after, seen_alike, went_alone, work_alone}
+use Rattle.command_opening.proofs.Refusals.{pass_gives, unless_then}
+use Rattle.command_beginning.proofs.Sites.{site_then}
+use Rattle.command_beginning.specs.Beginning.{IsBeginning, ChangesWork, OfSite, OfWork, RefusesOverlapping}
+use Rattle.command_opening.specs.Tests.{is_of_beginning}
+use Rattle.writing_commands.specs.Faults.{answer_to_making}
+use Rattle.command_opening.specs.Faults.{of_find}
+use Rattle.writing_commands.specs.Items.{ShowsOneBeside, ShowsNewTreeBeside, IsMakingBeside, MakesNamed, MakesItem, MakesIn}
+use Rattle.writing_commands.specs.Mkdir.{MakesDirectoryApart, MakesDirectoryIn, is_of_directory}
+use Rattle.command_opening.specs.Opening.{Opens, OfVault}
+use Rattle.command_opening.specs.Places.{overlap}
+use Rattle.command_beginning.specs.Refusing.{RefusesSite}
+use Rattle.command_opening.specs.Refusing.{Unless}
+use Rattle.command_opening.specs.Shown.{refused}
+use Rattle.command_opening.specs.World.{World}
+use Rattle.command_answers.specs.declared.answer.Answer.{Answer}
+use Rattle.command_answers.specs.declared.answer.Answer.TheVariants.{FolderFault, OutOfMemory, Overlap}
+use Rattle.command_words.specs.declared.commands.Change.{Change}
+
+-- ---- at each moment
+
+only : (v w : View) → Contains (v ∷ []) w → w ≡ v
+only v w (zero, lt, at) = sym at
+only v w (suc k, lt, at) = absurd (omega (arith, lt))
+
+module _ (p : Placing) (ending : Ending) where
+  -- a table of a region that shows one view alone shows the old tree
+  old_tree : (region : Path → Bool) (v : View) (s : State) → ShowsOne p region s v → (t : Table) → IsTableOf s t
+      → (w : View) × Shows region s t w × (KeepsTree (format p) p.vault.root v w ⊎ ((ending ≡ Whole) × GainsItem (format p) p.vault.root (path_of p) (opens_as p.item) v w))
+  old_tree region v s one t is_table =
+      let there : (w : View) × Contains (v ∷ []) w × Shows region s t w = one.alone t is_table in
+      let keeps : KeepsTree (format p) p.vault.root v v = record { vault = record { elsewhere = λ q apart. refl; loads = λ pass vault is. is; good = one.good }; opens = λ path. refl } in
+      (v, subst (Shows region s t) (only v there.0 there.1) there.2, inl keeps)
+
+  module _ (s0 s1 : State) (sound : IsSound s0) (begun : IsBeginning p.work s0 s1) where
+    one_then : (region : Path → Bool) (v : View) → ShowsOneBeside p region s0 v → ShowsOne p region s1 v
+    one_then region v shows = record {
+      has = shows.one.has;
+      alone = unchanged_shows (apart_from p.work) region s0 s1 (v ∷ []) sound shows.beside begun.others shows.one.alone;
+      good = shows.one.good;
+    }
+
+    others_then : IsAsBefore (apart_from_both p.work p.vault.root) s0 s1
+    others_then = as_before_in (apart_from_both p.work p.vault.root) (apart_from p.work) s0 s1 (apart_of_both p.work p.vault.root) begun.others
+
+    item_before : (m : Making) → IsMakingBeside p ending m s0 s1
+    item_before m = record {
+      others = others_then;
+      trees = λ region v shows t is_table. old_tree region v s1 (one_then region v shows) t is_table;
+      fronts = λ n new made. absurd (let same : s1.made ≡ s0.made = begun.made in omega (arith, new, made, same));
+    }
+
+    item_then : (m : Making) (s : State) → IsMaking p ending m s1 s → IsMakingBeside p ending m s0 s
+    item_then m s makes = record {
+      others = as_before_then (apart_from_both p.work p.vault.root) s0 s1 s others_then
+          (as_before_in (apart_from_both p.work p.vault.root) (is_elsewhere p) s1 s (apart_of_unstaged p.work p.vault.root) makes.others);
+      trees = λ region v shows t is_table. makes.trees region v (one_then region v shows) t is_table;
+      fronts = λ n new made. makes.fronts n (let same : s1.made ≡ s0.made = begun.made in omega (arith, new, same)) made;
+    }
+
+    tree_then : (s : State) → ShowsNewTree p s1 s → ShowsNewTreeBeside p s0 s
+    tree_then s shows_new = record { settled = shows_new.settled; tree = λ region v shows. shows_new.tree region v (one_then region v shows) }
+
+-- ---- under a name
+
+module _ (outside : Outside) (alike : Alike) (p : Placing) (ending : Ending) (making : View → Making) (apart : overlap p.vault.root p.work ≡ false) where
+  abbrev Steps : State → State → Event → Type 0
+  Steps s0 s e = Spares (apart_from p.work) e.call ⊎ StagesOrPlaces p.work (making_at p making s0) s e.call
+
+  abbrev Makings : Told → Told → Type 0
+  Makings b c = Went (IsMaking p ending (making_at p making b.state) b.state) (λ s e. StagesOrPlaces p.work (making_at p making b.state) s e.call) b c
+
+  abbrev MakingsBeside : Told → Told → Type 0
+  MakingsBeside a c = Went (IsMakingBeside p ending (making_at p making a.state) a.state) (Steps a.state) a c
+
+  went_making : (a b c : Told) → IsSound a.state → Begins p.work a b → Makings b c → MakingsBeside a c
+  went_making a b c sound begins makes =
+      let m : Making = making_at p making a.state in
+      let begun : IsBeginning p.work a.state b.state = went_to (IsBeginning p.work a.state) (λ s e. Spares (apart_from p.work) e.call) a b begins in
+      let same : making_at p making b.state ≡ m = ap making (same_under outside alike p.vault.root p.work apart (seen a.state) (seen b.state) (seen_alike p.work a b begun)) in
+      let makes_m : Went (IsMaking p ending m b.state) (λ s e. StagesOrPlaces p.work m s e.call) b c =
+      subst (λ x. Went (IsMaking p ending x b.state) (λ s e. StagesOrPlaces p.work x s e.call) b c) same makes in
+      went_on (IsMakingBeside p ending m a.state) (Steps a.state) a b c
+      (went_more (IsBeginning p.work a.state) (IsMakingBeside p ending m a.state) (λ s e. Spares (apart_from p.work) e.call) (Steps a.state) a b
+      (λ s is. item_before p ending a.state s sound is m) (λ s e spares. inl spares) begins)
+      (went_more (IsMaking p ending m b.state) (IsMakingBeside p ending m a.state) (λ s e. StagesOrPlaces p.work m s e.call) (Steps a.state) b c
+      (λ s is. item_then p ending a.state b.state sound begun m s is) (λ s e places. inr places) makes_m)
+
+  module _ (t u w : Option Told) (sound : (a : Told) → t ≡ Some a → IsSound a.state) (begins : ChangesWork p.work t u) where
+    item_done : (result : Result (Unit {0}) PutFault) → OnOk result (FromTo (λ a b. ShowsNewTree p a.state b.state) u w) → OnOk result (FromTo (λ a b. ShowsNewTreeBeside p a.state b.state) t w)
+    item_done (Err fault) done = tt
+    item_done (Ok value) done =
+        begun_then p.work (λ b c. ShowsNewTree p b.state c.state) (λ a c. ShowsNewTreeBeside p a.state c.state) t u w sound
+        (λ a b c sound_at first shows_new. tree_then p ending a.state b.state sound_at (went_to (IsBeginning p.work a.state) (λ s e. Spares (apart_from p.work) e.call) a b first) c.state shows_new) begins done
+
+    under_then : (v : View) → IsSeen t v → (x : View) × IsSeen u x × (under p.vault.root x ≡ under p.vault.root v)
+    under_then v is =
+        let after : (x : View) × IsSeen u x × AgreeIn (apart_from p.work) x v = seen_after p.work t u begins v is in
+        (after.0, after.1, same_under outside alike p.vault.root p.work apart v after.0 after.2)
+
+named_made : Outside → Alike → (how : How) (p : Placing) (ending : Ending) (drawn : List ℕ) (t u w : Option Told) (result : Result (Unit {0}) PutFault) → ((a : Told) → t ≡ Some a → IsSound a.state)
+    → overlap p.vault.root p.work ≡ false → ChangesWork p.work t u → MakesOne how p ending drawn u w result → MakesNamed how p ending drawn t w result
+named_made outside alike how p ending drawn t u w result sound apart begins one =
+    let making : View → Making = making_by how p drawn in record {
+      enough = one.enough;
+      moments = begun_then p.work (Makings outside alike p ending making apart) (MakingsBeside outside alike p ending making apart) t u w sound (went_making outside alike p ending making apart) begins one.makes.moments;
+      done = item_done outside alike p ending making apart t u w sound begins result one.makes.done;
+      ends = λ v x is is_after.
+          let after : (y : View) × IsSeen u y × (under p.vault.root y ≡ under p.vault.root v) = under_then outside alike p ending making apart t u w sound begins v is in
+          subst (λ z. EndsAs p z (under p.vault.root x) result) after.2 (one.makes.ends after.0 x after.1 is_after);
+      answer = λ v is.
+          let after : (y : View) × IsSeen u y × (under p.vault.root y ≡ under p.vault.root v) = under_then outside alike p ending making apart t u w sound begins v is in
+          subst (λ z. AnswersBy how p drawn ending z result) after.2 (one.answer after.0 after.1);
+    }
+
+-- ---- at a plain path
+
+pub item_made : Outside → Alike → (how : How) (vault : OpenedVault) (work : Path) (path : plain.Path) (item : NewItem) (ending : Ending) (drawn : List ℕ) (t u w : Option Told) (result : Result (Unit {0}) PutFault)
+    → ((a : Told) → t ≡ Some a → IsSound a.state) → overlap vault.root work ≡ false → ChangesWork work t u → MakesAt how vault work path item ending drawn u w result → MakesItem how vault work path item ending drawn t w result
+item_made outside alike how vault work path item ending drawn t u w result sound apart begins makes = record {
+  named = λ front name is.
+      named_made outside alike how (record { vault = vault; work = work; front = front; name = name; item = item }) ending drawn t u w result sound apart begins (makes.named front name is);
+  root = λ is. (went_alone work t w (subst (ChangesWork work t) (sym (makes.root is).0) begins), (makes.root is).1, (makes.root is).2);
+}
+
+-- all tests pass of what is seen at first
+pub site_gives : (change : Change) (v : View) (answer : Answer) (next : Vault → Type 0) (vault : Vault) → Opens v change.target.vault change.target.pass vault → EntersAs v change.work (Ok tt) → next vault → OfSite change v answer next
+site_gives change v answer next vault opens entered holds =
+    pass_gives change.target.pass (v change.target.pass) (refused answer) (λ phrase. OfWork v change.work answer (OfVault v change.target.vault phrase (refused answer) next)) opens.0 opens.1
+    (Ok tt, entered, (Ok vault, opens.2, holds))
+
+-- ---- a directory
+
+found_own : (fault : FindFault) → IsTrue (is_of_directory (of_find fault))
+found_own (finds.NotFound path) = refl
+found_own (finds.WrongKind path) = refl
+found_own (finds.NoDirKey at) = refl
+found_own (finds.NoFolder at) = refl
+found_own finds.Failed = refl
+found_own finds.NoMemory = refl
+
+own_fault : (result : Result (Unit {0}) PutFault) → IfErr result (λ fault. IsDirectoryFault fault) → IsTrue (is_of_directory (answer_to_making result))
+own_fault (Ok done) is = refl
+own_fault (Err (puts.Find fault)) is = found_own fault
+own_fault (Err (puts.NotAllowed path)) is = refl
+own_fault (Err (puts.Taken at)) is = refl
+own_fault (Err (puts.Damaged at fault)) is = absurd is
+own_fault (Err (puts.Limit limit)) is = absurd is
+own_fault (Err puts.ZeroRandom) is = refl
+own_fault (Err puts.Source) is = absurd is
+own_fault (Err puts.Random) is = refl
+own_fault (Err puts.Failed) is = refl
+own_fault (Err puts.NoMemory) is = refl
+
+pub directory_failed : (result : Result (Unit {0}) PutFault) → IfErr result (λ fault. IsDirectoryFault fault) → answer_to_making result ≡ FolderFault → result ≡ Err puts.Failed
+directory_failed (Ok done) own is = cc
+directory_failed (Err (puts.Find fault)) own is = absurd (no_find fault own is)
+  where
+    no_find : (fault : FindFault) → IsOfPath fault → of_find fault ≡ FolderFault → ⊥
+    no_find (finds.NotFound path) own is = cc
+    no_find (finds.WrongKind path) own is = cc
+    no_find (finds.NoDirKey at) own is = cc
+    no_find (finds.NoFolder at) own is = cc
+    no_find finds.Failed own is = own
+    no_find finds.NoMemory own is = own
+directory_failed (Err (puts.NotAllowed path)) own is = cc
+directory_failed (Err (puts.Taken at)) own is = cc
+directory_failed (Err (puts.Damaged at fault)) own is = absurd own
+directory_failed (Err (puts.Limit limit)) own is = absurd own
+directory_failed (Err puts.ZeroRandom) own is = cc
+directory_failed (Err puts.Source) own is = absurd own
+directory_failed (Err puts.Random) own is = cc
+directory_failed (Err puts.Failed) own is = refl
+directory_failed (Err puts.NoMemory) own is = cc
+
+pub directory_made : Outside → Alike → (change : Change) (vault : OpenedVault) (work : Path) (answer : Answer) (result : Result (Unit {0}) PutFault) (t u w : Option Told) (stream stream' : Option ByteStream)
+    → ((a : Told) → t ≡ Some a → IsSound a.state) → overlap change.target.vault change.work ≡ false → vault.root ≡ change.target.vault → work ≡ change.work → ChangesWork change.work t u
+    → ((v : View) → IsSeen t v → Opens v change.target.vault change.target.pass vault.vault) → ((v : View) → IsSeen t v → EntersAs v change.work (Ok tt))
+    → IfErr result (λ fault. IsDirectoryFault fault) → answer ≡ answer_to_making result → MakesDirectory vault work change.target.path stream stream' u w result
+    → MakesDirectoryApart change answer t w stream stream'
+directory_made outside alike change vault work answer result t u w stream stream' sound apart is_root is_work begins opens entered fault is makes =
+    let there : OpenedVault = record { root = change.target.vault; vault = vault.vault } in
+    let at_root : MakesAt New there work change.target.path NewDirectory Whole makes.drawn u w result =
+    subst (λ root. MakesAt New (record { root = root; vault = vault.vault }) work change.target.path NewDirectory Whole makes.drawn u w result) is_root makes.makes in
+    let at_work : MakesAt New there change.work change.target.path NewDirectory Whole makes.drawn u w result =
+    subst (λ place. MakesAt New there place change.target.path NewDirectory Whole makes.drawn u w result) is_work at_root in
+    let made : MakesIn New change NewDirectory Whole vault.vault answer t w stream stream' = record {
+      result = result;
+      is = is;
+      drawn = makes.drawn;
+      were_drawn = makes.were_drawn;
+      makes = item_made outside alike New there change.work change.target.path NewDirectory Whole makes.drawn t u w result sound apart begins at_work;
+    } in record {
+      cause = λ v seen. inr (inr (site_gives change v answer (λ opened. MakesIn New change NewDirectory Whole opened answer t w stream stream') vault.vault (opens v seen) (entered v seen) made));
+      comes = inr (record { vault = vault.vault; opens = opens; own = subst (λ a. IsTrue (is_of_directory a)) (sym is) (own_fault result fault); makes = made });
+    }
+
+pub apart_made : (change : Change) (answer : Answer) (t w : Option Told) (stream stream' : Option ByteStream) → overlap change.target.vault change.work ≡ false → MakesDirectoryApart change answer t w stream stream'
+    → Either (overlap change.target.vault change.work) (RefusesOverlapping change.target.vault change.work answer t w stream stream') (MakesDirectoryApart change answer t w stream stream')
+apart_made change answer t w stream stream' apart made =
+    subst (λ b. Either b (RefusesOverlapping change.target.vault change.work answer t w stream stream') (MakesDirectoryApart change answer t w stream stream')) (sym apart) made
+
+-- a test that fails is the answer, whatever follows where all pass
+pub site_refused : (change : Change) (v : View) (answer : Answer) (next : Vault → Type 0) → RefusesSite change v answer → Unless answer (OfSite change v answer next)
+site_refused change v answer next refuses =
+    unless_then (OfSite change v answer (λ vault. ⊥)) (OfSite change v answer next) answer (site_then change v answer (λ vault. ⊥) next (λ vault none. absurd none)) refuses
+
+-- where the command doesn't come to the making
+pub no_site : (change : Change) (answer : Answer) (t u : Option Told) (stream : Option ByteStream) → Draws stream stream []
+    → (overlap change.target.vault change.work ≡ true → ((answer ≡ Overlap change.target.vault change.work) ⊎ (answer ≡ OutOfMemory)) × (u ≡ t))
+    → (overlap change.target.vault change.work ≡ false → (v : View) → IsSeen t v → RefusesSite change v answer) → (overlap change.target.vault change.work ≡ false → IsTrue (is_of_beginning answer)) → ChangesWork change.work t u
+    → Either (overlap change.target.vault change.work) (RefusesOverlapping change.target.vault change.work answer t u stream stream) (MakesDirectoryApart change answer t u stream stream)
+no_site change answer t u stream undrawn overlapping refuses own begins = by (overlap change.target.vault change.work) refl
+  where
+    by : (b : Bool) → overlap change.target.vault change.work ≡ b → Either b (RefusesOverlapping change.target.vault change.work answer t u stream stream) (MakesDirectoryApart change answer t u stream stream)
+    by true is = record { answers = (overlapping is).0; unchanged = (overlapping is).1; undrawn = undrawn }
+    by false is = record {
+      cause = λ v seen. site_refused change v answer (λ vault. MakesIn New change NewDirectory Whole vault answer t u stream stream) (refuses is v seen);
+      comes = inl (record { own = own is; changes = work_alone change.work t u stream stream begins undrawn });
+    }
+
+-- ---- where the command isn't begun
+
+pub either_made : (b : Bool) (P Q : Type 0) → P → Q → Either b P Q
+either_made true P Q p q = p
+either_made false P Q p q = q
+
+pub makes_no_directory : (change : Change) (w : World) → MakesDirectoryIn change OutOfMemory w w
+makes_no_directory change w = record {
+  apart = either_made (overlap change.target.vault change.work) _ _ (record { answers = inr refl; unchanged = refl; undrawn = none_drawn w.random })
+      (record { cause = λ v is. inr (inl refl); comes = inl (not_begun_at is_of_beginning refl change.work w.told w.random) });
+  untouched = Keeps-refl w.left;
+  unwritten = Keeps-refl w.taken;
+}

@@ -1,0 +1,246 @@
+-- A new vault is made after the work folder was made ready.
+use Rattle.std.proofs.Common.{◌≡◌, ◌⊎◌, ℕ, Bool, true, false, List, [], ◌∷◌, Option, Some, None, Result, Ok, Err, OnOk, inl, inr, refl, sym, ap, subst, arith, IsTrue}
+use Rattle.std.specs.Prelude.{is_none}
+use Rattle.content_writing.specs.declared.fault.PutFault.{PutFault}
+use Rattle.std.proofs.KnownBytes.{Keeps-refl}
+use Rattle.cryptomator_conf.specs.declared.conf.Combo.{Combo}
+use Rattle.cryptomator_conf.specs.declared.conf.Combo.TheVariants.{SivGcm, SivCtrMac}
+use Rattle.folder_spec.specs.Path.{Part, Path, below, parent}
+use Rattle.folder_spec.specs.State.{State, IsSound}
+use Rattle.folder_spec.specs.Edit.{Edit, HasPublishedIn, HasSettledIn}
+use Rattle.folder_spec.specs.Event.{Event, Told, FromTo}
+use Rattle.folder_spec.specs.Moments.{Went, Moments}
+use Rattle.folder_spec.specs.Region.{Spares, apart_from, apart_from_both}
+use Rattle.folder_spec.specs.View.{View, AgreeIn}
+use Rattle.folder_spec.specs.Seen.{IsSeen}
+use Rattle.folder_spec.proofs.Edits.{publishes_nothing, publishes_joined, published_joined, publishes_in_part, published_in_part, unchanged_present}
+use Rattle.folder_spec.proofs.Moments.{went_on, went_more, went_to}
+use Rattle.folder_spec.proofs.Paths.{below-parent}
+use Rattle.port_model.specs.Draws.{ByteStream, Draws}
+use Rattle.command_words.specs.declared.values.Format.{Format}
+use Rattle.command_words.specs.declared.values.Format.TheVariants.{Gocryptfs, Cryptomator, CryptomatorCtrMac}
+use Rattle.vault_spec.specs.NewVault.{go_files, cm_files, new_go_vault, new_cm_vault}
+use Rattle.vault_spec.specs.Vault.{Vault, Either}
+use Rattle.vault_write.specs.Founding.{Founds, FoundsCm, IsFounding, IsNewVault, founding, new_go, new_cm, texts, vault_edit}
+use Rattle.vault_write.specs.Making.{StagesOrPlaces, is_apart, is_unstaged}
+use Rattle.work_folder.specs.Entering.{EntersAs}
+use Rattle.command_beginning.proofs.Beginnings.{Begins, apart_of_both, apart_of_unstaged, as_before_in, as_before_then, begun_then, no_overlap, none_drawn, not_begun_at, seen_after, unchanged_work, unstaged, work_alone}
+use Rattle.command_opening.proofs.Refusals.{pass_gives, pass_then}
+use Rattle.command_beginning.proofs.Sites.{work_then}
+use Rattle.command_beginning.specs.Beginning.{IsBeginning, ChangesWork, EndsBefore, RefusesOverlapping}
+use Rattle.command_opening.specs.Tests.{is_of_readying}
+use Rattle.command_opening.specs.Places.{OfDirectory, OfMissing, overlap}
+use Rattle.writing_commands.specs.Faults.{answer_to_making}
+use Rattle.writing_commands.specs.Init.{FoundsAs, FoundsNew, FoundsVault, IsMakingVault, IsOfFounding, MakesVault, MakesVaultApart, DrawsCryptomator, DrawsVault, OfNewPlace, OfPlace, RefusesPlace, cm_cost, cost_of}
+use Rattle.command_opening.specs.Opening.{IsPhrase}
+use Rattle.command_opening.specs.Refusing.{RefusesPass, Unless}
+use Rattle.command_beginning.specs.Refusing.{RefusesWork}
+use Rattle.command_opening.specs.Shown.{refused}
+use Rattle.command_answers.specs.declared.answer.Answer.{Answer}
+use Rattle.command_opening.specs.World.{World}
+use Rattle.command_answers.specs.declared.answer.Answer.TheVariants.{OutOfMemory, Overlap}
+use Rattle.command_words.specs.declared.commands.NewVault.{NewVault}
+
+-- ---- at each moment
+
+module _ (work : Path) (vault : Edit) (files : List (List ℕ)) (s0 : State) (sound : IsSound s0) where
+  making_before : (s : State) → IsBeginning work s0 s → IsMakingVault work vault files s0 s
+  making_before s begun = record {
+    publishes = publishes_nothing (apart_from work) (vault ∷ []) s0 s sound begun.others;
+    others = as_before_in (apart_from_both work vault.at) (apart_from work) s0 s (apart_of_both work vault.at) begun.others;
+    fronts = λ n new made. absurd (let same : s.made ≡ s0.made = begun.made in omega (arith, new, made, same));
+  }
+
+  module _ (s1 : State) (begun : IsBeginning work s0 s1) where
+    shows_first : HasPublishedIn (apart_from work) [] s0 s1
+    shows_first = record {
+      publishes = publishes_nothing (apart_from work) [] s0 s1 sound begun.others;
+      shows = λ region v within now. unchanged_present (apart_from work) region s0 s1 v sound within begun.others now;
+    }
+
+    making_then : (s : State) → IsFounding work vault files s1 s → IsMakingVault work vault files s0 s
+    making_then s founds = record {
+      publishes = publishes_joined (apart_from work) [] (vault ∷ []) s0 s1 s shows_first (publishes_in_part (is_unstaged work) (apart_from work) (vault ∷ []) s1 s (unstaged work) founds.publishes);
+      others = as_before_then (apart_from_both work vault.at) s0 s1 s
+          (as_before_in (apart_from_both work vault.at) (apart_from work) s0 s1 (apart_of_both work vault.at) begun.others)
+          (as_before_in (apart_from_both work vault.at) (is_apart work vault.at) s1 s (apart_of_unstaged work vault.at) founds.others);
+      fronts = λ n new made. founds.fronts n (let same : s1.made ≡ s0.made = begun.made in omega (arith, new, same)) made;
+    }
+
+    settled_then : (s : State) → HasSettledIn (is_unstaged work) (vault ∷ []) s1 s → HasSettledIn (apart_from work) (vault ∷ []) s0 s
+    settled_then s settled = record {
+      published = published_joined (apart_from work) [] (vault ∷ []) s0 s1 s shows_first (published_in_part (is_unstaged work) (apart_from work) (vault ∷ []) s1 s (unstaged work) settled.published);
+      settled = settled.settled;
+    }
+
+-- ---- the whole call
+
+module _ (work at : Path) (made : View) (files : List (Part × List ℕ)) where
+  abbrev Steps : State → Event → Type 0
+  Steps s e = Spares (apart_from work) e.call ⊎ StagesOrPlaces work (founding at made files) s e.call
+
+  abbrev Making : Told → Told → Type 0
+  Making a b = Went (IsMakingVault work (vault_edit at made) (texts files) a.state) Steps a b
+
+  went_making : (a b c : Told) → IsSound a.state → Begins work a b → Went (IsFounding work (vault_edit at made) (texts files) b.state) (λ s e. StagesOrPlaces work (founding at made files) s e.call) b c → Making a c
+  went_making a b c sound begins founds =
+      let begun : IsBeginning work a.state b.state = went_to (IsBeginning work a.state) (λ s e. Spares (apart_from work) e.call) a b begins in
+      went_on (IsMakingVault work (vault_edit at made) (texts files) a.state) Steps a b c
+      (went_more (IsBeginning work a.state) (IsMakingVault work (vault_edit at made) (texts files) a.state) (λ s e. Spares (apart_from work) e.call) Steps a b
+      (making_before work (vault_edit at made) (texts files) a.state sound) (λ s e spares. inl spares) begins)
+      (went_more (IsFounding work (vault_edit at made) (texts files) b.state) (IsMakingVault work (vault_edit at made) (texts files) a.state) (λ s e. StagesOrPlaces work (founding at made files) s e.call) Steps b c
+      (making_then work (vault_edit at made) (texts files) a.state sound b.state begun) (λ s e places. inr places) founds)
+
+  module _ (t u w : Option Told) (sound : (a : Told) → t ≡ Some a → IsSound a.state) (begins : ChangesWork work t u) where
+    moments_of : Moments (IsFounding work (vault_edit at made) (texts files)) (λ s0 s e. StagesOrPlaces work (founding at made files) s e.call) u w
+        → Moments (IsMakingVault work (vault_edit at made) (texts files)) (λ s0 s e. Steps s e) t w
+    moments_of founds =
+        begun_then work (λ b c. Went (IsFounding work (vault_edit at made) (texts files) b.state) (λ s e. StagesOrPlaces work (founding at made files) s e.call) b c) Making t u w sound went_making begins founds
+
+    settled_of : {E : Type 0} (result : Result (Unit {0}) E) → OnOk result (FromTo (λ a b. HasSettledIn (is_unstaged work) (vault_edit at made ∷ []) a.state b.state) u w)
+        → OnOk result (FromTo (λ a b. HasSettledIn (apart_from work) (vault_edit at made ∷ []) a.state b.state) t w)
+    settled_of (Err fault) settled = tt
+    settled_of (Ok done) settled =
+        begun_then work (λ b c. HasSettledIn (is_unstaged work) (vault_edit at made ∷ []) b.state c.state) (λ a c. HasSettledIn (apart_from work) (vault_edit at made ∷ []) a.state c.state) t u w sound
+        (λ a b c sound_at first second. settled_then work (vault_edit at made) (texts files) a.state sound_at b.state
+        (went_to (IsBeginning work a.state) (λ s e. Spares (apart_from work) e.call) a b first) c.state second) begins settled
+
+some_vault : {E : Type 0} (result : Result (Unit {0}) E) (made : View) (phrase : List ℕ) (vault : Vault) → OnOk result (IsNewVault made phrase vault) → OnOk result ((v : Vault) × IsNewVault made phrase v)
+some_vault (Ok done) made phrase vault is = (vault, is)
+some_vault (Err fault) made phrase vault is = tt
+
+module _ (new : NewVault) (phrase : List ℕ) (answer : Answer) (t u w : Option Told) (stream stream' : Option ByteStream) (sound : (a : Told) → t ≡ Some a → IsSound a.state)
+    (begins : ChangesWork new.work t u) (reads : (v : View) → IsSeen t v → IsPhrase (v new.pass) phrase) where
+  from_parts : (made : View) (files : List (Part × List ℕ)) (result : Result (Unit {0}) PutFault) → answer ≡ answer_to_making result → DrawsVault new.format phrase made files stream stream' result
+      → Founds new.work new.vault made files u w result → OnOk result ((vault : Vault) × IsNewVault made phrase vault) → FoundsVault new answer t w stream stream'
+  from_parts made files result answers drew founds opens = record {
+    phrase = phrase;
+    reads = reads;
+    result = result;
+    is = answers;
+    made = made;
+    files = files;
+    draws = drew;
+    moments = moments_of new.work new.vault made files t u w sound begins founds.moments;
+    settled = settled_of new.work new.vault made files t u w sound begins result founds.done;
+    vault = opens;
+  }
+
+  of_cryptomator : (combo : Combo) (kind : Format) → new.format ≡ kind
+      → ((made : View) (files : List (Part × List ℕ)) (result : Result (Unit {0}) PutFault) → DrawsCryptomator combo phrase made files stream stream' result → DrawsVault kind phrase made files stream stream' result)
+      → (result : Result (Unit {0}) PutFault) → answer ≡ answer_to_making result
+      → FoundsCm new.work new.vault phrase cm_cost combo stream stream' u w result → FoundsVault new answer t w stream stream'
+  of_cryptomator combo kind is draws result answers founds =
+      let made : View = new_cm_vault phrase cm_cost combo founds.draw in
+      let files : List (Part × List ℕ) = cm_files phrase cm_cost combo founds.draw in
+      from_parts made files result answers
+      (subst (λ (k : Format). DrawsVault k phrase made files stream stream' result) (sym is)
+      (draws made files result (founds.draw, founds.drawn, founds.sizes, founds.were_drawn, founds.drew, refl, refl)))
+      founds.founds (some_vault result made phrase (new_cm combo founds.draw) founds.vault)
+
+  of_kind : (kind : Format) → new.format ≡ kind → (result : Result (Unit {0}) PutFault) → answer ≡ answer_to_making result
+      → FoundsNew kind new.work new.vault phrase stream stream' u w result → FoundsVault new answer t w stream stream'
+  of_kind Gocryptfs is result answers founds =
+      let made : View = new_go_vault phrase (cost_of Gocryptfs) founds.draw founds.key in
+      let files : List (Part × List ℕ) = go_files phrase (cost_of Gocryptfs) founds.draw founds.key in
+      from_parts made files result answers
+      (subst (λ (k : Format). DrawsVault k phrase made files stream stream' result) (sym is) (founds.draw, founds.key, founds.drawn, founds.sizes, founds.were_drawn, founds.drew, refl, refl))
+      founds.founds (some_vault result made phrase (new_go founds.draw) founds.vault)
+  of_kind Cryptomator is result answers founds = of_cryptomator SivGcm Cryptomator is (λ made files drew draws. draws) result answers founds
+  of_kind CryptomatorCtrMac is result answers founds = of_cryptomator SivCtrMac CryptomatorCtrMac is (λ made files drew draws. draws) result answers founds
+
+  pub vault_made : FoundsAs new phrase answer u w stream stream' → FoundsVault new answer t w stream stream'
+  vault_made founds = of_kind new.format refl founds.result founds.is founds.founds
+
+-- ---- where it isn't made
+
+pub ended_before : (work : Path) (answer : Answer) (t u w : Option Told) (stream stream' : Option ByteStream) → ChangesWork work t u → RefusesPlace answer u w stream stream' → EndsBefore is_of_readying work answer t w stream stream'
+ended_before work answer t u w stream stream' begins refuses = record {
+  own = refuses.own;
+  changes = work_alone work t w stream stream' (subst (ChangesWork work t) (sym refuses.unchanged) begins) refuses.undrawn;
+}
+
+-- ---- why
+
+-- what is seen at the place, and above it, is what was seen there at first
+apart_parent : (work at : Path) → overlap at work ≡ false → IsTrue (apart_from work at) × IsTrue (apart_from work (parent at))
+apart_parent work at apart =
+    let none : (below at work ≡ None) × (below work at ≡ None) = no_overlap (below at work) (below work at) apart in
+    (ap is_none none.1, ap is_none (below-parent work at none.1))
+
+pub place_caused : (new : NewVault) (v w : View) (answer : Answer) (phrase : List ℕ) → overlap new.vault new.work ≡ false → AgreeIn (apart_from new.work) w v → IsPhrase (v new.pass) phrase → EntersAs v new.work (Ok tt)
+    → Unless answer (OfPlace new w answer) → Unless answer (OfNewPlace new v answer (IsOfFounding answer))
+place_caused new v w answer phrase apart agree is entered (inl failed) = inl failed
+place_caused new v w answer phrase apart agree is entered (inr (inl memory)) = inr (inl memory)
+place_caused new v w answer phrase apart agree is entered (inr (inr place)) =
+    let regions : IsTrue (apart_from new.work new.vault) × IsTrue (apart_from new.work (parent new.vault)) = apart_parent new.work new.vault apart in
+    inr (inr (pass_gives new.pass (v new.pass) (refused answer) _ phrase is (
+      Ok tt,
+      entered,
+      subst (λ x. OfDirectory (parent new.vault) x answer (OfMissing new.vault (v new.vault) answer (IsOfFounding answer))) (agree (parent new.vault) regions.1)
+          (subst (λ x. OfDirectory (parent new.vault) (w (parent new.vault)) answer (OfMissing new.vault x answer (IsOfFounding answer))) (agree new.vault regions.0) place),
+    )))
+
+-- what is refused before the work folder is ready
+pub work_caused : (new : NewVault) (v : View) (answer : Answer) (phrase : List ℕ) → IsPhrase (v new.pass) phrase → RefusesWork v new.work answer → Unless answer (OfNewPlace new v answer (IsOfFounding answer))
+work_caused new v answer phrase is (inl failed) = inl failed
+work_caused new v answer phrase is (inr (inl memory)) = inr (inl memory)
+work_caused new v answer phrase is (inr (inr refuses)) =
+    inr (inr (pass_gives new.pass (v new.pass) (refused answer) _ phrase is (work_then v new.work answer ⊥ _ (λ none. absurd none) refuses)))
+
+-- what is refused before the passphrase is read
+pass_caused : (new : NewVault) (v : View) (answer : Answer) → RefusesPass new.pass (v new.pass) answer → Unless answer (OfNewPlace new v answer (IsOfFounding answer))
+pass_caused new v answer (inl failed) = inl failed
+pass_caused new v answer (inr (inl memory)) = inr (inl memory)
+pass_caused new v answer (inr (inr refuses)) = inr (inr (pass_then new.pass (v new.pass) (refused answer) (λ phrase. ⊥) _ (λ phrase none. absurd none) refuses))
+
+-- ---- the whole call
+
+pub made_apart : (new : NewVault) (phrase : List ℕ) (answer : Answer) (t u w : Option Told) (stream stream' : Option ByteStream) → ((a : Told) → t ≡ Some a → IsSound a.state) → overlap new.vault new.work ≡ false
+    → ChangesWork new.work t u → ((v : View) → IsSeen t v → IsPhrase (v new.pass) phrase) → ((v : View) → IsSeen t v → EntersAs v new.work (Ok tt))
+    → ((v : View) → IsSeen u v → Unless answer (OfPlace new v answer)) → RefusesPlace answer u w stream stream' ⊎ FoundsAs new phrase answer u w stream stream' → MakesVaultApart new answer t w stream stream'
+made_apart new phrase answer t u w stream stream' sound apart begins reads entered cause made = record {
+  cause = λ v is.
+      let after : (x : View) × IsSeen u x × AgreeIn (apart_from new.work) x v = seen_after new.work t u begins v is in
+      place_caused new v after.0 answer phrase apart after.2 (reads v is) (entered v is) (cause after.0 after.1);
+  comes = elim made [
+    | inl refuses ↦ inl (ended_before new.work answer t u w stream stream' begins refuses)
+    | inr founds ↦ inr (vault_made new phrase answer t u w stream stream' sound begins reads founds)
+  ];
+}
+
+pub not_entered : (new : NewVault) (phrase : List ℕ) (answer : Answer) (t u : Option Told) (stream : Option ByteStream) → Draws stream stream [] → IsTrue (is_of_readying answer) → ChangesWork new.work t u
+    → ((v : View) → IsSeen t v → IsPhrase (v new.pass) phrase) → ((v : View) → IsSeen t v → RefusesWork v new.work answer) → MakesVaultApart new answer t u stream stream
+not_entered new phrase answer t u stream undrawn own begins reads refuses = record {
+  cause = λ v is. work_caused new v answer phrase (reads v is) (refuses v is);
+  comes = inl (record { own = own; changes = work_alone new.work t u stream stream begins undrawn });
+}
+
+pub not_read : (new : NewVault) (answer : Answer) (t u : Option Told) (stream : Option ByteStream) → Draws stream stream [] → u ≡ t
+    → (overlap new.vault new.work ≡ true → (answer ≡ Overlap new.vault new.work) ⊎ (answer ≡ OutOfMemory)) → (overlap new.vault new.work ≡ false → (v : View) → IsSeen t v → RefusesPass new.pass (v new.pass) answer)
+    → (overlap new.vault new.work ≡ false → IsTrue (is_of_readying answer))
+    → Either (overlap new.vault new.work) (RefusesOverlapping new.vault new.work answer t u stream stream) (MakesVaultApart new answer t u stream stream)
+not_read new answer t u stream undrawn same overlapping refuses own = by (overlap new.vault new.work) refl
+  where
+    by : (b : Bool) → overlap new.vault new.work ≡ b → Either b (RefusesOverlapping new.vault new.work answer t u stream stream) (MakesVaultApart new answer t u stream stream)
+    by true is = record { answers = overlapping is; unchanged = same; undrawn = undrawn }
+    by false is = record {
+      cause = λ v seen. pass_caused new v answer (refuses is v seen);
+      comes = inl (record { own = own is; changes = unchanged_work new.work t u stream same undrawn });
+    }
+
+-- ---- where the command isn't begun
+
+nothing_made : (new : NewVault) (t : Option Told) (stream : Option ByteStream) → MakesVaultApart new OutOfMemory t t stream stream
+nothing_made new t stream = record { cause = λ v is. inr (inl refl); comes = inl (not_begun_at is_of_readying refl new.work t stream) }
+
+either_made : (b : Bool) (P Q : Type 0) → P → Q → Either b P Q
+either_made true P Q p q = p
+either_made false P Q p q = q
+
+pub makes_no_vault : (new : NewVault) (w : World) → MakesVault new OutOfMemory w w
+makes_no_vault new w = record {
+  apart = either_made (overlap new.vault new.work) _ _ (record { answers = inr refl; unchanged = refl; undrawn = none_drawn w.random }) (nothing_made new w.told w.random);
+  untouched = Keeps-refl w.left;
+  unwritten = Keeps-refl w.taken;
+}

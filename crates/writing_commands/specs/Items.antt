@@ -1,0 +1,76 @@
+-- Making an item at a plain path of a vault, behind a work folder that is made ready first: a crash at any moment leaves the old tree
+-- or the new one.
+use Rattle.std.specs.Prelude.{◌≡◌, ◌⊎◌, ◌≤◌, ℕ, Bool, List, [], ◌∷◌, ◌++◌, length, Result, OnOk, Option}
+use Rattle.content_writing.specs.Content.{Ending, Whole}
+use Rattle.content_writing.specs.declared.fault.PutFault.{PutFault}
+use Rattle.folder_spec.specs.Path.{Path}
+use Rattle.folder_spec.specs.State.{Table, State, IsTableOf}
+use Rattle.folder_spec.specs.Edit.{IsPartOf}
+use Rattle.folder_spec.specs.Event.{Told, FromTo}
+use Rattle.folder_spec.specs.Moments.{Moments}
+use Rattle.folder_spec.specs.Region.{IsAsBefore, Spares, apart_from, apart_from_both}
+use Rattle.folder_spec.specs.Seen.{IsSeen, under}
+use Rattle.folder_spec.specs.View.{View, Shows, ShowsAmong}
+use Rattle.folder_spec.specs.Written.{HoldFronts}
+use Rattle.plain_tree.specs.Names as plain
+use Rattle.port_model.specs.Draws.{ByteStream, Draws}
+use Rattle.vault_spec.specs.Making.{NewItem, draws}
+use Rattle.vault_spec.specs.Vault.{Vault}
+use Rattle.vault_read.specs.Opened.{OpenedVault}
+use Rattle.vault_write.specs.Calls.{How, making_by, AnswersBy, AnswersRoot}
+use Rattle.vault_write.specs.Making.{Placing, Making, format, path_of, StagesOrPlaces}
+use Rattle.vault_write.specs.Placing.{ShowsOne, EndsAs, making_at}
+use Rattle.vault_write.specs.Trees.{KeepsTree, GainsItem, opens_as}
+use Rattle.writing_commands.specs.Faults.{answer_to_making}
+use Rattle.command_answers.specs.declared.answer.Answer.{Answer}
+use Rattle.command_words.specs.declared.commands.Change.{Change}
+
+-- a region outside the work folder shows one view alone, with the vault in good order
+pub record ShowsOneBeside (p : Placing) (region : Path → Bool) (s : State) (v : View) : Type 0 where
+  pub one : ShowsOne p region s v
+  pub beside : IsPartOf region (apart_from p.work)
+
+-- The old tree or, of a content that comes whole, the new one: where such a region showed one view alone at first, each table now shows
+-- there that view, or one that differs in the vault alone, which is in good order, with the old tree or with the item.
+abbrev pub ShowsOldOrNewTreeBeside : Placing → Ending → State → State → Type 0
+ShowsOldOrNewTreeBeside p ending s0 s =
+    (region : Path → Bool) (v : View) → ShowsOneBeside p region s0 v
+    → (t : Table) → IsTableOf s t
+    → (w : View) × Shows region s t w × (KeepsTree (format p) p.vault.root v w ⊎ ((ending ≡ Whole) × GainsItem (format p) p.vault.root (path_of p) (opens_as p.item) v w))
+
+-- The new tree: no directory change is pending, and the region shows one view alone again, with the item.
+pub record ShowsNewTreeBeside (p : Placing) (s0 s : State) : Type 0 where
+  pub settled : s.later ≡ []
+  pub tree : (region : Path → Bool) (v : View) → ShowsOneBeside p region s0 v
+      → (w : View) × ShowsAmong region s (w ∷ []) × GainsItem (format p) p.vault.root (path_of p) (opens_as p.item) v w
+
+-- Since s0 the item is being made: all outside the work folder and the vault is as it was, the tree is the old one or the new one, and
+-- each file that was made holds a front part of one of the item's files.
+pub record IsMakingBeside (p : Placing) (ending : Ending) (m : Making) (s0 s : State) : Type 0 where
+  pub others : IsAsBefore (apart_from_both p.work p.vault.root) s0 s
+  pub trees : ShowsOldOrNewTreeBeside p ending s0 s
+  pub fronts : HoldFronts m.files s0 s
+
+-- Under a name, with these bytes drawn: no more than the item draws. In the vault the calls only bring what was staged to the places of
+-- the item's edits.
+pub record MakesNamed (how : How) (p : Placing) (ending : Ending) (drawn : List ℕ) (before after : Option Told) (result : Result (Unit {0}) PutFault) : Type 0 where
+  pub enough : length drawn ≤ draws (format p) p.item
+  pub moments : Moments (λ s0 s. IsMakingBeside p ending (making_at p (making_by how p drawn) s0) s0 s)
+      (λ s0 s e. Spares (apart_from p.work) e.call ⊎ StagesOrPlaces p.work (making_at p (making_by how p drawn) s0) s e.call) before after
+  pub done : OnOk result (FromTo (λ a b. ShowsNewTreeBeside p a.state b.state) before after)
+  pub ends : (v w : View) → IsSeen before v → IsSeen after w → EndsAs p (under p.vault.root v) (under p.vault.root w) result
+  pub answer : (v : View) → IsSeen before v → AnswersBy how p drawn ending (under p.vault.root v) result
+
+-- At a plain path. The root isn't made, and nothing is changed but the work folder.
+pub record MakesItem (how : How) (vault : OpenedVault) (work : Path) (path : plain.Path) (item : NewItem) (ending : Ending) (drawn : List ℕ) (told told' : Option Told) (result : Result (Unit {0}) PutFault) : Type 0 where
+  pub named : (front : plain.Path) (name : List ℕ) → path ≡ front ++ name ∷ []
+      → MakesNamed how (record { vault = vault; work = work; front = front; name = name; item = item }) ending drawn told told' result
+  pub root : path ≡ [] → Moments (IsAsBefore (apart_from work)) (λ s0 s e. Spares (apart_from work) e.call) told told' × (drawn ≡ []) × AnswersRoot how vault.root result
+
+-- A command makes an item in this vault, and its answer is that.
+pub record MakesIn (how : How) (change : Change) (item : NewItem) (ending : Ending) (vault : Vault) (answer : Answer) (told told' : Option Told) (stream stream' : Option ByteStream) : Type 0 where
+  pub result : Result (Unit {0}) PutFault
+  pub is : answer ≡ answer_to_making result
+  pub drawn : List ℕ
+  pub were_drawn : Draws stream stream' drawn
+  pub makes : MakesItem how (record { root = change.target.vault; vault = vault }) change.work change.target.path item ending drawn told told' result

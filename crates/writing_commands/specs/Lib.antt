@@ -1,0 +1,5 @@
+pub mod Faults
+pub mod Init
+pub mod Items
+pub mod Mkdir
+pub mod Put

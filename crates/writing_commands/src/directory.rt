@@ -1,0 +1,46 @@
+//! `mkdir`: makes a directory in a vault.
+ghost use Rattle.std.specs.Prelude.{◌≡◌, Err};
+ghost use Rattle.port_model.specs.Counts.{CountRose};
+ghost use Rattle.vault_spec.specs.Vault.{Either};
+ghost use Rattle.command_beginning.specs.Beginning.{RefusesOverlapping};
+ghost use Rattle.writing_commands.specs.Mkdir.{MakesDirectoryApart};
+ghost use Rattle.command_opening.specs.Places.{overlap};
+
+use crate::faults::answer_to_making;
+use command_answers::Answer;
+use command_beginning::begin;
+use command_words::Change;
+use folder_model::Folder;
+use folder_spec::laws::roots_show_their_own;
+use port_model::Randoms;
+use port_model::laws::draws_compose;
+use std::alloc::Global;
+use vault_write::place_dir;
+
+/// Makes a directory where nothing stands.
+pub fn mkdir<F: Folder, R: Randoms>(
+    alloc: Global,
+    change: &Change,
+    folder: &mut F,
+    random: &mut R,
+) -> Answer
+    ensures comes { Either (overlap change.now.target.vault change.now.work)
+        (RefusesOverlapping change.now.target.vault change.now.work result (F.told folder.old) (F.told folder.new) (R.left random.old) (R.left random.new))
+        (MakesDirectoryApart change.now result (F.told folder.old) (F.told folder.new) (R.left random.old) (R.left random.new)) }
+    ensures folder_fault { result ≡ Answer.FolderFault → CountRose (F.faults folder.old) (F.faults folder.new) }
+    ensures random_fault { result ≡ Answer.RandomFault → CountRose (R.faults random.old) (R.faults random.new) }
+{
+    draws_compose();
+    roots_show_their_own();
+    match begin(alloc, change, folder) {
+        Ok(site) => answer_to_making(place_dir(
+            alloc,
+            folder,
+            &site.work,
+            &site.vault,
+            &change.target.path,
+            random,
+        )),
+        Err(answer) => answer,
+    }
+}

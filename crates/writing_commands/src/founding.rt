@@ -1,0 +1,129 @@
+//! `init`: makes a vault.
+ghost use Rattle.std.specs.Prelude.{◌≡◌, ◌⊎◌, ◌≤◌, false, Err};
+ghost use Rattle.folder_spec.specs.View.{View};
+ghost use Rattle.folder_spec.specs.Seen.{IsSeen};
+ghost use Rattle.port_model.specs.Counts.{CountRose};
+ghost use Rattle.vault_write.specs.Founding.{MayFound};
+ghost use Rattle.vault_write.specs.Placing.{MayMake};
+ghost use Rattle.command_beginning.specs.Beginning.{RefusesOverlapping};
+ghost use Rattle.command_opening.specs.Places.{overlap};
+ghost use Rattle.vault_spec.specs.Vault.{Either};
+ghost use Rattle.writing_commands.specs.Init.{cost_of, FoundsAs, FoundsNew, MakesVaultApart, OfPlace, RefusesPlace};
+ghost use Rattle.command_opening.specs.Opening.{IsPhrase};
+ghost use Rattle.command_opening.specs.Refusing.{Unless};
+
+use crate::faults::answer_to_making;
+use command_answers::Answer;
+use command_beginning::{enter_settled, read_apart};
+use command_opening::test_free;
+use command_words::{Format, NewVault};
+use cryptomator_conf::Combo;
+use folder_model::Folder;
+use kdf_suite::ScryptCost;
+use port_model::Randoms;
+use port_model::laws::draws_compose;
+use std::alloc::Global;
+use vault_write::{PutFault, init_cm, init_cm_combo, init_go};
+use work_folder::Work;
+
+/// Makes a vault where nothing stands.
+pub fn init<F: Folder, R: Randoms>(
+    alloc: Global,
+    new: &NewVault,
+    folder: &mut F,
+    random: &mut R,
+) -> Answer
+    ensures comes { Either (overlap new.now.vault new.now.work)
+        (RefusesOverlapping new.now.vault new.now.work result (F.told folder.old) (F.told folder.new) (R.left random.old) (R.left random.new))
+        (MakesVaultApart new.now result (F.told folder.old) (F.told folder.new) (R.left random.old) (R.left random.new)) }
+    ensures folder_fault { result ≡ Answer.FolderFault → CountRose (F.faults folder.old) (F.faults folder.new) }
+    ensures random_fault { result ≡ Answer.RandomFault → CountRose (R.faults random.old) (R.faults random.new) }
+{
+    draws_compose();
+    match read_apart(alloc, folder, &new.vault, &new.work, &new.pass) {
+        Ok(phrase) => make_apart(alloc, new, folder, phrase.as_slice(), random),
+        Err(answer) => answer,
+    }
+}
+
+// Makes a vault whose folder and work folder don't overlap.
+fn make_apart<F: Folder, R: Randoms>(
+    alloc: Global,
+    new: &NewVault,
+    folder: &mut F,
+    phrase: &[u8],
+    random: &mut R,
+) -> Answer
+    requires apart { overlap new.now.vault new.now.work ≡ false }
+    requires phrase { (v : View) → IsSeen (F.told folder.old) v → IsPhrase (v new.now.pass) phrase.now }
+    ensures made { MakesVaultApart new.now result (F.told folder.old) (F.told folder.new) (R.left random.old) (R.left random.new) }
+    ensures folder_fault { result ≡ Answer.FolderFault → CountRose (F.faults folder.old) (F.faults folder.new) }
+    ensures random_fault { result ≡ Answer.RandomFault → CountRose (R.faults random.old) (R.faults random.new) }
+{
+    draws_compose();
+    match enter_settled(folder, &new.work) {
+        Ok(work) => make_in(alloc, new, folder, &work, phrase, random),
+        Err(answer) => answer,
+    }
+}
+
+// Makes a vault from a work folder that is ready.
+fn make_in<F: Folder, R: Randoms>(
+    alloc: Global,
+    new: &NewVault,
+    folder: &mut F,
+    work: &Work,
+    phrase: &[u8],
+    random: &mut R,
+) -> Answer
+    requires work { work.now ≡ new.now.work }
+    requires may { MayMake (F.told folder.old) work.now new.now.vault }
+    ensures cause { (v : View) → IsSeen (F.told folder.old) v → Unless result (OfPlace new.now v result) }
+    ensures made { RefusesPlace result (F.told folder.old) (F.told folder.new) (R.left random.old) (R.left random.new) ⊎ FoundsAs new.now phrase.now result (F.told folder.old) (F.told folder.new) (R.left random.old) (R.left random.new) }
+    ensures folder_fault { result ≡ Answer.FolderFault → CountRose (F.faults folder.old) (F.faults folder.new) }
+    ensures random_fault { result ≡ Answer.RandomFault → CountRose (R.faults random.old) (R.faults random.new) }
+    ensures grows { F.faults folder.old ≤ F.faults folder.new }
+{
+    match test_free(folder, &new.vault) {
+        Ok(()) => answer_to_making(found(alloc, new, folder, work, phrase, random)),
+        Err(answer) => answer,
+    }
+}
+
+// Makes a vault of the kind that is asked for.
+fn found<F: Folder, R: Randoms>(
+    alloc: Global,
+    new: &NewVault,
+    folder: &mut F,
+    work: &Work,
+    phrase: &[u8],
+    random: &mut R,
+) -> Result<(), PutFault>
+    requires { MayFound (F.told folder.old) work.now new.now.vault }
+    ensures founds { FoundsNew new.now.format work.now new.now.vault phrase.now (R.left random.old) (R.left random.new) (F.told folder.old) (F.told folder.new) result }
+    ensures failed { result ≡ Err PutFault.Failed → CountRose (F.faults folder.old) (F.faults folder.new) }
+    ensures random { result ≡ Err PutFault.Random → CountRose (R.faults random.old) (R.faults random.new) }
+    ensures grows { F.faults folder.old ≤ F.faults folder.new }
+    ensures counted { R.faults random.old ≤ R.faults random.new }
+{
+    let cost = cost_of(new.format);
+    let at = &new.vault;
+    match new.format {
+        Format::Gocryptfs => init_go(alloc, folder, work, at, phrase, &cost, random),
+        Format::Cryptomator => init_cm(alloc, folder, work, at, phrase, &cost, random),
+        Format::CryptomatorCtrMac => {
+            let combo = Combo::SivCtrMac;
+            init_cm_combo(alloc, folder, work, at, phrase, &cost, combo, random)
+        }
+    }
+}
+
+// The cost of scrypt in new vaults of a kind.
+fn cost_of(kind: Format) -> ScryptCost
+    ensures { result ≡ cost_of kind }
+{
+    match kind {
+        Format::Gocryptfs => ScryptCost::new(65_536, 8, 1).unwrap(),
+        Format::Cryptomator | Format::CryptomatorCtrMac => ScryptCost::new(32_768, 8, 1).unwrap(),
+    }
+}

@@ -21,10 +21,10 @@ returns-in-Ok-Some-DecryptFile-clause-executes g c =
     subst (λ command. Executes command c.decrypt_file.result before after) (ap Some (sym arm.field-0-0-is) ∙ sym arm.field-0-is ∙ arm.ensures.is) (c.decrypt_file.ensures.decrypts told random)
 
 pub returns-in-Ok-Some-DecryptFile-clause-folder_fault : goal.returns-in-Ok-Some-DecryptFile-clause-folder_fault
-returns-in-Ok-Some-DecryptFile-clause-folder_fault g c = λ is. absurd (decrypting_alone c.decrypt_file.result _ _ (c.decrypt_file.ensures.decrypts (g.F.Folder.told c.args.folder.now) (g.R.Randoms.left c.args.random.now))).0 is
+returns-in-Ok-Some-DecryptFile-clause-folder_fault g c = λ is. absurd ((decrypting_alone c.decrypt_file.result _ _ (c.decrypt_file.ensures.decrypts (g.F.Folder.told c.args.folder.now) (g.R.Randoms.left c.args.random.now))).0 is)
 
 pub returns-in-Ok-Some-DecryptFile-clause-random_fault : goal.returns-in-Ok-Some-DecryptFile-clause-random_fault
-returns-in-Ok-Some-DecryptFile-clause-random_fault g c = λ is. absurd (decrypting_alone c.decrypt_file.result _ _ (c.decrypt_file.ensures.decrypts (g.F.Folder.told c.args.folder.now) (g.R.Randoms.left c.args.random.now))).1 is
+returns-in-Ok-Some-DecryptFile-clause-random_fault g c = λ is. absurd ((decrypting_alone c.decrypt_file.result _ _ (c.decrypt_file.ensures.decrypts (g.F.Folder.told c.args.folder.now) (g.R.Randoms.left c.args.random.now))).1 is)
 
 pub returns-in-Ok-Some-Fsck-clause-executes : goal.returns-in-Ok-Some-Fsck-clause-executes
 returns-in-Ok-Some-Fsck-clause-executes g c =

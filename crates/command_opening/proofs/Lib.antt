@@ -1,5 +1,5 @@
 pub mod Counts
-mod Kinds
+mod Looks
 pub mod Printings
 pub mod Refusals
 pub mod Showing

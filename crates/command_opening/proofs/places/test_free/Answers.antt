@@ -1,6 +1,6 @@
 use Rattle.std.proofs.Common.{sym, ◌∙◌}
 use Rattle.std.proofs.lemmas.Result.{err_from_is_err_and}
-use Rattle.command_opening.proofs.Kinds.{kind_failed}
+use Rattle.command_opening.proofs.Looks.{kind_failed}
 use Rattle.command_opening.proofs.places.test_free.Goals as goal
 
 pub returns-in_err-kind-clause-failed : goal.returns-in_err-kind-clause-failed

@@ -18,7 +18,8 @@ use Rattle.vault_walk.specs.Survey.{HasTooMany}
 use Rattle.vault_walk.specs.Surveyed.{IsOnlyTooDeep, IsWithin}
 use Rattle.vault_check.specs.Repairing.{AreApart, AreMoved, IsRepairing, RepairsAt}
 use Rattle.command_opening.specs.Opening.{Opens, OfOpened}
-use Rattle.command_opening.specs.Places.{OfFree, overlap}
+use Rattle.command_opening.specs.Places.{OfFree, RefusesOverlap, overlap}
+use Rattle.command_opening.specs.Tests.{is_of_moving}
 use Rattle.command_answers.specs.Printing.{PrintsDone}
 use Rattle.command_opening.specs.Shown.{IsCutShort, is_of_end, refused}
 use Rattle.command_opening.specs.World.{World}

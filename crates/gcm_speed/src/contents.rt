@@ -1,5 +1,8 @@
 //! Contents with SIV_CTRMAC, in files of one chunk each, and what they are made of.
 
+ghost use Rattle.chunk_files.specs.Keys.{format_of};
+ghost use Rattle.std.specs.Prelude.{◌≡◌};
+
 use aes_lanes::{Key256, ctr128_xor};
 use chunk_files::{ChunkBuf, ContentKeys, Decoder, Encoder, Step};
 use kdf_suite::hmac256;
@@ -51,7 +54,9 @@ pub fn read_files(alloc: Global, megabytes: u32) -> Result<u8, AllocError> {
     Ok(last)
 }
 
-fn keys() -> ContentKeys {
+fn keys() -> ContentKeys
+    ensures full { (format_of result).full_size ≡ 32768 }
+{
     ContentKeys::cm_ctr(&[1; 32], &[2; 32])
 }
 

@@ -1,5 +1,5 @@
 //! What a command claims before it changes anything.
-ghost use Rattle.std.specs.Prelude.{◌≡◌, IfOk, map, string_bytes};
+ghost use Rattle.std.specs.Prelude.{◌≡◌, IfOk, Some, map, string_bytes};
 ghost use Rattle.command_words.specs.Claims.{claims_by};
 ghost use Rattle.command_words.specs.Commands.{command_of};
 
@@ -34,17 +34,27 @@ pub fn claims_of(alloc: Global, words: &[String]) -> Result<Claims, AllocError>
     ensures { IfOk result (λ claims. claims ≡ claims_by (command_of (map string_bytes words.now))) }
 {
     match Command::from_words(alloc, words)? {
-        Some(Command::Init(new)) => beside(&new.vault, &new.work),
-        Some(Command::Mkdir(change)) => beside(&change.target.vault, &change.work),
-        Some(Command::Put(change)) => beside(&change.target.vault, &change.work),
-        Some(Command::Repair(repairing)) => beside(&repairing.vault, &repairing.lost),
-        Some(Command::Migrate(moving)) => Ok(Claims::Migration {
+        Some(command) => claims_by(&command),
+        None => Ok(Claims::Nothing),
+    }
+}
+
+// What a command claims. It is borrowed, so that no exit drops it.
+fn claims_by(command: &Command) -> Result<Claims, AllocError>
+    ensures { IfOk result (λ claims. claims ≡ claims_by (Some command.now)) }
+{
+    match command {
+        Command::Init(new) => beside(&new.vault, &new.work),
+        Command::Mkdir(change) => beside(&change.target.vault, &change.work),
+        Command::Put(change) => beside(&change.target.vault, &change.work),
+        Command::Repair(repairing) => beside(&repairing.vault, &repairing.lost),
+        Command::Migrate(moving) => Ok(Claims::Migration {
             source: moving.source.copy()?,
             target: moving.target.copy()?,
             work: moving.work.copy()?,
         }),
-        Some(Command::Resume(resuming)) => Ok(Claims::Resumption(resuming.work.copy()?)),
-        Some(Command::Retire(resuming)) => Ok(Claims::Retirement(resuming.work.copy()?)),
+        Command::Resume(resuming) => Ok(Claims::Resumption(resuming.work.copy()?)),
+        Command::Retire(resuming) => Ok(Claims::Retirement(resuming.work.copy()?)),
         _ => Ok(Claims::Nothing),
     }
 }

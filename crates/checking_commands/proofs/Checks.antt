@@ -5,7 +5,7 @@ use Rattle.std.specs.Fmt.{decimal}
 use Rattle.std.specs.List.{flat_map}
 use Rattle.std.specs.Io.KnownBytes.{Appends, Keeps}
 use Rattle.folder_spec.specs.Path.{Path}
-use Rattle.folder_spec.specs.Seen.{IsSeen, under}
+use Rattle.folder_spec.specs.Seen.{IfSeen, under}
 use Rattle.folder_spec.specs.View.{View}
 use Rattle.plain_tree.specs.Shown.{shown_path}
 use Rattle.vault_read.specs.Laws.{HaveOneAnswer}
@@ -201,7 +201,7 @@ within_found law target v vault shown opens shows =
     ]
 
 pub checks : HaveOneAnswer → (target : Checking) (answer : Answer) (before after : World) → after.told ≡ before.told → IsTrue (is_of_checking answer)
-    → ((v : View) → IsSeen before.told v → Follows (ShowsReport target v) answer before.taken after.taken) → (answer ≡ FolderFault → Keeps before.taken after.taken)
+    → IfSeen before.told (λ v. Follows (ShowsReport target v) answer before.taken after.taken) → (answer ≡ FolderFault → Keeps before.taken after.taken)
     → Keeps before.left after.left → ChecksVault target answer before after
 checks law target answer before after same own follows quiet untouched = record {
   unchanged = same;

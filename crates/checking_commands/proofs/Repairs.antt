@@ -5,7 +5,7 @@ use Rattle.std.proofs.lemmas.Bool.{or_left, or_parts}
 use Rattle.folder_spec.specs.Path.{Path, below, parent}
 use Rattle.folder_spec.specs.Event.{Told, FromTo}
 use Rattle.folder_spec.specs.Image.{Image, IsImage}
-use Rattle.folder_spec.specs.Seen.{IsSeen, ShowsFree, seen, under}
+use Rattle.folder_spec.specs.Seen.{IfSeen, ShowsFree, seen, under}
 use Rattle.folder_spec.specs.State.{HasNothingPending, IsSound, State}
 use Rattle.folder_spec.specs.View.{Found, NoEntry, Folder, FileOf, Special, View, view_of}
 use Rattle.vault_read.specs.Laws.{HasOwnFolders}
@@ -98,7 +98,7 @@ module _ (target : Repairing) (v : View) where
 
 -- what a repair of the opened vault says, of what was told before the vault was opened
 module _ (target : Repairing) (root : Path) (vault : Vault) (told entered told' : Option Told) (same : root ≡ target.vault) (still : entered ≡ told)
-    (opens : (v : View) → IsSeen told v → Opens v target.vault target.pass vault) (apart : overlap target.vault target.lost ≡ false) where
+    (opens : IfSeen told (λ v. Opens v target.vault target.pass vault)) (apart : overlap target.vault target.lost ≡ false) where
   pub has_moved : (moved : List Path) → FromTo (λ a b. AreMoved root (format_of vault) target.lost moved a b) entered told' → (moved ≡ [] → told' ≡ entered)
       → ((root lost : Path) (moved : List Path) (a b : Told) → IsSound a.state → AreApart root lost → HasOwnFolders vault (under root (seen a.state)) → AreMoved root (format_of vault) lost moved a b
       → OpensAs (format_of vault) (under root (seen a.state)) (under root (seen b.state)) × ((at : Path) → ¬ IsStray (format_of vault) (under root (seen b.state)) at))
@@ -142,7 +142,7 @@ cut_or answer P (inr (inl memory)) = inl (inr (inr memory))
 cut_or answer P (inr (inr holds)) = inr holds
 
 pub repair_refused : (target : Repairing) (answer : Answer) (told told' : Option Told) (taken : Option (List ℕ)) → IsTrue (is_of_moving answer)
-    → ((v : View) → IsSeen told v → Unless answer (OfRepairing target v answer)) → (IsTrue (is_of_test answer) → told' ≡ told) → (told' ≡ told) ⊎ MovesStrays target told told'
+    → IfSeen told (λ v. Unless answer (OfRepairing target v answer)) → (IsTrue (is_of_test answer) → told' ≡ told) → (told' ≡ told) ⊎ MovesStrays target told told'
     → RepairsApart target answer told told' taken taken
 repair_refused target answer told told' taken own cause tested moves = record {
   own = or_left (is_of_moving answer) (is_of_end answer) own;
@@ -167,7 +167,7 @@ not_of_test answer (inr (inl output)) test = let none : IsTrue (is_of_test Outpu
 not_of_test answer (inr (inr memory)) test = let none : IsTrue (is_of_test OutOfMemory) = subst (λ a. IsTrue (is_of_test a)) memory test in cc
 
 pub repair_printed : (target : Repairing) (moved : List Path) (answer : Answer) (told told' : Option Told) (taken taken' : Option (List ℕ)) → HasMovedStrays target moved told told'
-    → ((v : View) → IsSeen told v → OfRepairing target v Done) → (told' ≡ told) ⊎ MovesStrays target told told' → PrintsText (moved_text moved) answer taken taken'
+    → IfSeen told (λ v. OfRepairing target v Done) → (told' ≡ told) ⊎ MovesStrays target told told' → PrintsText (moved_text moved) answer taken taken'
     → IsPrinted answer → RepairsApart target answer told told' taken taken'
 repair_printed target moved answer told told' taken taken' has passed moves prints is_printed = record {
   own = printed_is_own is_of_moving answer refl is_printed;

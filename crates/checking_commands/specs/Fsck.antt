@@ -6,7 +6,7 @@ use Rattle.std.specs.List.{flat_map}
 use Rattle.chunk_files.specs.Fault.{fault_text}
 use Rattle.chunk_files.specs.declared.fault.ChunkFault.{ChunkFault}
 use Rattle.folder_spec.specs.Path.{Path}
-use Rattle.folder_spec.specs.Seen.{IsSeen, under}
+use Rattle.folder_spec.specs.Seen.{IfSeen, IsSeen, under}
 use Rattle.folder_spec.specs.View.{View}
 use Rattle.plain_tree.specs.Shown.{shown_path}
 use Rattle.vault_spec.specs.Findings.{number_of}
@@ -100,7 +100,7 @@ pub record OpensWithin (target : Checking) (v : View) (vault : Vault) : Type 0 w
 pub record ChecksVault (target : Checking) (answer : Answer) (before after : World) : Type 0 where
   pub unchanged : after.told ≡ before.told
   pub own : IsTrue (is_of_checking answer)
-  pub follows : (v : View) → IsSeen before.told v → Follows (ShowsReport target v) answer before.taken after.taken
+  pub follows : IfSeen before.told (λ v. Follows (ShowsReport target v) answer before.taken after.taken)
   pub exactly : (v : View) (shown : Shown) → IsSeen before.told v → ShowsReport target v shown → (status_of answer ≡ status_of shown.answer) ⊎ IsCutShort answer
   pub complete : (v : View) (vault : Vault) → IsSeen before.told v → OpensWithin target v vault → ((answer ≡ Done) ⊎ (answer ≡ Findings)) ⊎ IsCutShort answer
   pub quiet : answer ≡ FolderFault → Keeps before.taken after.taken

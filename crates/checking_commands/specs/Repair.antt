@@ -5,7 +5,7 @@ use Rattle.std.specs.List.{flat_map}
 use Rattle.folder_spec.specs.Path.{Path}
 use Rattle.folder_spec.specs.Event.{Told, FromTo}
 use Rattle.folder_spec.specs.Image.{Image, IsImage}
-use Rattle.folder_spec.specs.Seen.{IsSeen, seen, under}
+use Rattle.folder_spec.specs.Seen.{IfSeen, seen, under}
 use Rattle.folder_spec.specs.State.{HasNothingPending, IsSound, State}
 use Rattle.folder_spec.specs.View.{View, view_of}
 use Rattle.plain_tree.specs.Shown.{shown_path}
@@ -62,7 +62,7 @@ KeepsWhatOpens vault root lost =
 -- the strays of the opened vault are being moved, at every moment, and what opened opens; the vault and the folder of lost ones are apart
 pub record MovesStrays (target : Repairing) (told told' : Option Told) : Type 0 where
   pub vault : Vault
-  pub opens : (v : View) → IsSeen told v → Opens v target.vault target.pass vault
+  pub opens : IfSeen told (λ v. Opens v target.vault target.pass vault)
   pub apart : AreApart target.vault target.lost
   pub moments : RepairsAt target.vault (format_of vault) target.lost told told'
   pub keeps : KeepsWhatOpens vault target.vault target.lost
@@ -76,7 +76,7 @@ LeavesNoStrays vault root lost moved =
 -- all strays of the opened vault are moved, and these are their old paths; where there are none, nothing is changed
 pub record HasMovedStrays (target : Repairing) (moved : List Path) (told told' : Option Told) : Type 0 where
   pub vault : Vault
-  pub opens : (v : View) → IsSeen told v → Opens v target.vault target.pass vault
+  pub opens : IfSeen told (λ v. Opens v target.vault target.pass vault)
   pub are : FromTo (λ a b. AreMoved target.vault (format_of vault) target.lost moved a b) told told'
   pub nothing : moved ≡ [] → told' ≡ told
   pub leaves : LeavesNoStrays vault target.vault target.lost moved
@@ -89,7 +89,7 @@ moved_text moved = flat_map moved_line moved
 
 pub record RepairsApart (target : Repairing) (answer : Answer) (told told' : Option Told) (taken taken' : Option (List ℕ)) : Type 0 where
   pub own : IsTrue (is_of_repairing answer)
-  pub cause : (v : View) → IsSeen told v → IsCutShort answer ⊎ OfRepairing target v answer
+  pub cause : IfSeen told (λ v. IsCutShort answer ⊎ OfRepairing target v answer)
   pub tested : IsTrue (is_of_test answer) → told' ≡ told
   pub moves : (told' ≡ told) ⊎ MovesStrays target told told'
   pub prints : PrintsDone moved_text (λ moved. HasMovedStrays target moved told told') answer taken taken'

@@ -2,7 +2,7 @@
 ghost use Rattle.std.specs.Prelude.{◌≡◌, ◌++◌, ◌∷◌, [], Err, IfErr, IfOk, IsTrue, OnOk, ℕ, Bool, List, Option, string_bytes};
 ghost use Rattle.std.specs.Io.KnownBytes.{Keeps};
 ghost use Rattle.folder_spec.specs.View.{View};
-ghost use Rattle.folder_spec.specs.Seen.{IsSeen};
+ghost use Rattle.folder_spec.specs.Seen.{IfSeen, IsSeen};
 ghost use Rattle.port_model.specs.Counts.{CountRose};
 ghost use Rattle.port_model.specs.Draws.{ByteStream};
 ghost use Rattle.std.specs.List.{flat_map};
@@ -47,7 +47,7 @@ pub fn fsck<F: Folder, O: Sink>(
 fn tell<F: Folder, O: Sink>(alloc: Global, target: &Checking, folder: &mut F, out: &mut O) -> Answer
     ensures told { F.told folder.new ≡ F.told folder.old }
     ensures own { IsTrue (is_of_checking result) }
-    ensures follows { (v : View) → IsSeen (F.told folder.old) v → Follows (ShowsReport target.now v) result (O.taken out.old) (O.taken out.new) }
+    ensures follows { IfSeen (F.told folder.old) (λ v. Follows (ShowsReport target.now v) result (O.taken out.old) (O.taken out.new)) }
     ensures quiet { result ≡ Answer.FolderFault → Keeps (O.taken out.old) (O.taken out.new) }
     ensures folder_fault { result ≡ Answer.FolderFault → CountRose (F.faults folder.old) (F.faults folder.new) }
     ensures output_fault { result ≡ Answer.OutputFault → CountRose (O.faults out.old) (O.faults out.new) }
@@ -71,7 +71,7 @@ fn checked<F: Folder>(alloc: Global, target: &Checking, folder: &mut F) -> Resul
     ensures told { F.told folder.new ≡ F.told folder.old }
     ensures report { IfOk result (λ report. (v : View) → IsSeen (F.told folder.old) v
         → ShowsReport target.now v (record { pieces = told_text report ∷ []; answer = answer_to_found report.findings.items })) }
-    ensures refused { IfErr result (λ answer. (v : View) → IsSeen (F.told folder.old) v → Unless answer (ShowsReport target.now v (refused answer))) }
+    ensures refused { IfErr result (λ answer. IfSeen (F.told folder.old) (λ v. Unless answer (ShowsReport target.now v (refused answer)))) }
     ensures failed { result ≡ Err Answer.FolderFault → CountRose (F.faults folder.old) (F.faults folder.new) }
     ensures own { IfErr result (λ answer. IsTrue (is_of_opening answer)) }
 {

@@ -1,7 +1,6 @@
 //! `repair`: moves the strays of a vault into a folder of lost ones.
 ghost use Rattle.std.specs.Prelude.{◌≡◌, ◌⊎◌, ◌++◌, false, Err, IfErr, IfOk, IsTrue, OnOk, string_bytes};
-ghost use Rattle.folder_spec.specs.Seen.{IsSeen};
-ghost use Rattle.folder_spec.specs.View.{View};
+ghost use Rattle.folder_spec.specs.Seen.{IfSeen};
 ghost use Rattle.port_model.specs.Counts.{CountRose};
 ghost use Rattle.vault_spec.specs.Vault.{Either};
 ghost use Rattle.command_opening.specs.Places.{overlap, RefusesOverlap};
@@ -49,8 +48,8 @@ fn move_strays<F: Folder>(
 ) -> Result<Vec<FPath>, Answer>
     requires { overlap target.now.vault target.now.lost ≡ false }
     ensures moved { IfOk result (λ moved. HasMovedStrays target.now moved.items (F.told folder.old) (F.told folder.new)) }
-    ensures passed { IfOk result (λ moved. (v : View) → IsSeen (F.told folder.old) v → OfRepairing target.now v Answer.Done) }
-    ensures cause { IfErr result (λ answer. (v : View) → IsSeen (F.told folder.old) v → Unless answer (OfRepairing target.now v answer)) }
+    ensures passed { IfOk result (λ moved. IfSeen (F.told folder.old) (λ v. OfRepairing target.now v Answer.Done)) }
+    ensures cause { IfErr result (λ answer. IfSeen (F.told folder.old) (λ v. Unless answer (OfRepairing target.now v answer))) }
     ensures tested { IfErr result (λ answer. IsTrue (is_of_test answer) → F.told folder.new ≡ F.told folder.old) }
     ensures moves { (F.told folder.new ≡ F.told folder.old) ⊎ MovesStrays target.now (F.told folder.old) (F.told folder.new) }
     ensures own { IfErr result (λ answer. IsTrue (is_of_moving answer)) }

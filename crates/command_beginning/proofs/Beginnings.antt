@@ -7,7 +7,7 @@ use Rattle.folder_spec.specs.State.{Table, State, present, IsTableOf, IsSound}
 use Rattle.folder_spec.specs.Event.{Settle, Told, Steps, Changes, FromTo, changed}
 use Rattle.folder_spec.specs.Moments.{Went}
 use Rattle.folder_spec.specs.Region.{IsAsBefore, AlikeIn, Spares, apart_from, apart_from_both, at_or_below}
-use Rattle.folder_spec.specs.Seen.{IsSeen, seen, under}
+use Rattle.folder_spec.specs.Seen.{IfSeen, IsSeen, seen, under}
 use Rattle.folder_spec.specs.View.{View, AgreeIn, found}
 use Rattle.folder_spec.specs.Edit.{IsOutside, IsPartOf}
 use Rattle.folder_spec.proofs.Moments.{went_on, went_by_call, went_more, went_nowhere, went_to}
@@ -83,7 +83,7 @@ module _ (work : Path) where
   seen_alike a b begins q inside = ap (λ nodes. found (λ n. (nodes n).now) (present b.state q)) begins.nodes ∙ ap (found (λ n. (a.state.nodes n).now)) (begins.others.seen q inside)
 
   -- what is seen after the beginning is the same outside the work folder
-  pub seen_after : (t u : Option Told) → ChangesWork work t u → (v : View) → IsSeen t v → (w : View) × IsSeen u w × AgreeIn (apart_from work) w v
+  pub seen_after : (t u : Option Told) → ChangesWork work t u → IfSeen t (λ v. (w : View) × IsSeen u w × AgreeIn (apart_from work) w v)
   seen_after None u changes v is = absurd is
   seen_after (Some a) None changes v is = absurd changes
   seen_after (Some a) (Some b) changes v is =
@@ -125,7 +125,7 @@ begun_then work R S t u w sound on begins follows =
     (from_to_more (Begins work) (λ a b. IsSound a.state × Begins work a b) t u (λ a b is went. (sound a is, went)) begins) follows
 
 -- what is seen stays when the folder is settled
-pub still_seen : (t u : Option Told) → Changes Settle t u (Ok tt) → (v : View) → IsSeen t v → IsSeen u v
+pub still_seen : (t u : Option Told) → Changes Settle t u (Ok tt) → IfSeen t (λ v. IsSeen u v)
 still_seen None u changes v is = absurd is
 still_seen (Some a) None changes v is = absurd changes
 still_seen (Some a) (Some b) changes v is = is ∙ ap (λ (x : Told). seen x.state) (sym changes.1)

@@ -1,7 +1,6 @@
 //! How a command that changes a vault begins.
 ghost use Rattle.std.specs.Prelude.{◌≡◌, ◌⊎◌, ◌≤◌, true, false, Ok, Err, IfErr, IfOk, IsTrue};
-ghost use Rattle.folder_spec.specs.View.{View};
-ghost use Rattle.folder_spec.specs.Seen.{IsSeen};
+ghost use Rattle.folder_spec.specs.Seen.{IfSeen};
 ghost use Rattle.port_model.specs.Counts.{CountRose};
 ghost use Rattle.work_folder.specs.Entering.{EntersAs, IsReady};
 ghost use Rattle.command_opening.specs.Tests.{is_of_beginning, is_of_readying};
@@ -34,12 +33,12 @@ pub struct Site {
 pub fn begin<F: Folder>(alloc: Global, change: &Change, folder: &mut F) -> Result<Site, Answer>
     ensures work { IfOk result (λ site. site.work ≡ change.now.work) }
     ensures root { IfOk result (λ site. site.vault.root ≡ change.now.target.vault) }
-    ensures opened { IfOk result (λ site. (v : View) → IsSeen (F.told folder.old) v → Opens v change.now.target.vault change.now.target.pass site.vault.vault) }
+    ensures opened { IfOk result (λ site. IfSeen (F.told folder.old) (λ v. Opens v change.now.target.vault change.now.target.pass site.vault.vault)) }
     ensures may { IfOk result (λ site. MayMake (F.told folder.new) site.work site.vault.root) }
-    ensures entered { IfOk result (λ site. (v : View) → IsSeen (F.told folder.old) v → EntersAs v change.now.work (Ok tt)) }
+    ensures entered { IfOk result (λ site. IfSeen (F.told folder.old) (λ v. EntersAs v change.now.work (Ok tt))) }
     ensures apart { IfOk result (λ site. overlap change.now.target.vault change.now.work ≡ false) }
     ensures overlapping { IfErr result (λ answer. overlap change.now.target.vault change.now.work ≡ true → ((answer ≡ Answer.Overlap change.now.target.vault change.now.work) ⊎ (answer ≡ Answer.OutOfMemory)) × (F.told folder.new ≡ F.told folder.old)) }
-    ensures refused { IfErr result (λ answer. overlap change.now.target.vault change.now.work ≡ false → (v : View) → IsSeen (F.told folder.old) v → RefusesSite change.now v answer) }
+    ensures refused { IfErr result (λ answer. overlap change.now.target.vault change.now.work ≡ false → IfSeen (F.told folder.old) (λ v. RefusesSite change.now v answer)) }
     ensures own { IfErr result (λ answer. overlap change.now.target.vault change.now.work ≡ false → IsTrue (is_of_beginning answer)) }
     ensures moments { ChangesWork change.now.work (F.told folder.old) (F.told folder.new) }
     ensures grows { F.faults folder.old ≤ F.faults folder.new }
@@ -63,9 +62,9 @@ pub fn read_apart<F: Folder>(
 ) -> Result<Bytes, Answer>
     ensures told { F.told folder.new ≡ F.told folder.old }
     ensures apart { IfOk result (λ phrase. overlap vault.now work.now ≡ false) }
-    ensures phrase { IfOk result (λ phrase. (v : View) → IsSeen (F.told folder.old) v → IsPhrase (v pass.now) phrase) }
+    ensures phrase { IfOk result (λ phrase. IfSeen (F.told folder.old) (λ v. IsPhrase (v pass.now) phrase)) }
     ensures overlapping { IfErr result (λ answer. overlap vault.now work.now ≡ true → (answer ≡ Answer.Overlap vault.now work.now) ⊎ (answer ≡ Answer.OutOfMemory)) }
-    ensures refused { IfErr result (λ answer. overlap vault.now work.now ≡ false → (v : View) → IsSeen (F.told folder.old) v → RefusesPass pass.now (v pass.now) answer) }
+    ensures refused { IfErr result (λ answer. overlap vault.now work.now ≡ false → IfSeen (F.told folder.old) (λ v. RefusesPass pass.now (v pass.now) answer)) }
     ensures own { IfErr result (λ answer. overlap vault.now work.now ≡ false → IsTrue (is_of_readying answer)) }
     ensures grows { F.faults folder.old ≤ F.faults folder.new }
     ensures failed { result ≡ Err Answer.FolderFault → CountRose (F.faults folder.old) (F.faults folder.new) }
@@ -79,9 +78,9 @@ pub fn read_apart<F: Folder>(
 /// Settles the folder, and makes the work folder ready.
 pub fn enter_settled<F: Folder>(folder: &mut F, work: &FPath) -> Result<Work, Answer>
     ensures path { IfOk result (λ entered. entered ≡ work.now) }
-    ensures ready { IfOk result (λ entered. (v : View) → IsSeen (F.told folder.new) v → IsReady v work.now) }
-    ensures entered { IfOk result (λ entered. (v : View) → IsSeen (F.told folder.old) v → EntersAs v work.now (Ok tt)) }
-    ensures refused { IfErr result (λ answer. (v : View) → IsSeen (F.told folder.old) v → RefusesWork v work.now answer) }
+    ensures ready { IfOk result (λ entered. IfSeen (F.told folder.new) (λ v. IsReady v work.now)) }
+    ensures entered { IfOk result (λ entered. IfSeen (F.told folder.old) (λ v. EntersAs v work.now (Ok tt))) }
+    ensures refused { IfErr result (λ answer. IfSeen (F.told folder.old) (λ v. RefusesWork v work.now answer)) }
     ensures own { IfErr result (λ answer. IsTrue (is_of_readying answer)) }
     ensures moments { ChangesWork work.now (F.told folder.old) (F.told folder.new) }
     ensures grows { F.faults folder.old ≤ F.faults folder.new }

@@ -6,7 +6,7 @@ use Rattle.std.specs.Io.KnownBytes.{Appends, Keeps}
 use Rattle.std.proofs.KnownBytes.{Appends-nil, Appends-kept, Keeps-refl}
 use Rattle.folder_spec.specs.Event.{Told}
 use Rattle.folder_spec.specs.View.{View}
-use Rattle.folder_spec.specs.Seen.{IsSeen}
+use Rattle.folder_spec.specs.Seen.{IfSeen}
 use Rattle.command_answers.specs.declared.answer.Answer.{Answer}
 use Rattle.command_answers.specs.declared.answer.Answer.TheVariants.{Done, Findings, BadCommandLine, OutOfMemory, FolderFault, InputFault, OutputFault, RandomFault, Refused, WrongPass, NotFound, WrongKind, DamagedInput, Damaged, NotAllowed, NotClean, Overlap, NotEmpty, Begun, Unusable, Changed, Differ, ZeroRandom, Taken, Limit, Retired}
 use Rattle.command_opening.specs.Refusing.{Unless}
@@ -92,7 +92,7 @@ exactly Shows answer taken taken' shown one shows follows = elim (all_or_cut Sho
 
 -- a command whose output and answer follow from what it shows
 pub reads_by : (Shows : View → Shown → Type 0) (answer : Answer) (told told' : Option Told) (taken taken' : Option (List ℕ)) → ((v : View) → IsOne (Shows v))
-    → told' ≡ told → IsTrue (is_of_reading answer) → ((v : View) → IsSeen told v → Follows (Shows v) answer taken taken') → Reads Shows answer told told' taken taken'
+    → told' ≡ told → IsTrue (is_of_reading answer) → IfSeen told (λ v. Follows (Shows v) answer taken taken') → Reads Shows answer told told' taken taken'
 reads_by Shows answer told told' taken taken' one same own follows = record {
   unchanged = same;
   own = own;
@@ -102,6 +102,6 @@ reads_by Shows answer told told' taken taken' one same own follows = record {
 
 -- a command that was refused before it wrote anything
 pub reads_refused : (Shows : View → Shown → Type 0) (answer : Answer) (told told' : Option Told) (taken : Option (List ℕ)) → ((v : View) → IsOne (Shows v))
-    → told' ≡ told → IsTrue (is_refusal answer) → ((v : View) → IsSeen told v → Unless answer (Shows v (refused answer))) → Reads Shows answer told told' taken taken
+    → told' ≡ told → IsTrue (is_refusal answer) → IfSeen told (λ v. Unless answer (Shows v (refused answer))) → Reads Shows answer told told' taken taken
 reads_refused Shows answer told told' taken one same own shows =
     reads_by Shows answer told told' taken taken one same (or_left (is_refusal answer) (is_of_end answer) own) (λ v is. follows_unless (Shows v) answer taken taken (Keeps-refl taken) (shows v is))

@@ -5,7 +5,7 @@ use Rattle.std.specs.List.{concat}
 use Rattle.port_model.specs.Told.{AppendsPrefix}
 use Rattle.folder_spec.specs.Event.{Told}
 use Rattle.folder_spec.specs.View.{View}
-use Rattle.folder_spec.specs.Seen.{IsSeen}
+use Rattle.folder_spec.specs.Seen.{IfSeen, IsSeen}
 use Rattle.command_answers.specs.declared.answer.Answer.{Answer}
 use Rattle.command_answers.specs.declared.answer.Answer.TheVariants.{Done, OutOfMemory, FolderFault, OutputFault, Refused, WrongPass, NotFound, WrongKind, Damaged, Limit}
 
@@ -77,5 +77,5 @@ is_of_reading answer = is_refusal answer || is_of_end answer
 pub record Reads (Shows : View → Shown → Type 0) (answer : Answer) (told told' : Option Told) (taken taken' : Option (List ℕ)) : Type 0 where
   pub unchanged : told' ≡ told
   pub own : IsTrue (is_of_reading answer)
-  pub follows : (v : View) → IsSeen told v → Follows (Shows v) answer taken taken'
+  pub follows : IfSeen told (λ v. Follows (Shows v) answer taken taken')
   pub exactly : (v : View) (shown : Shown) → IsSeen told v → Shows v shown → (answer ≡ shown.answer) ⊎ IsCutShort answer

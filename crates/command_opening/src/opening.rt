@@ -1,7 +1,6 @@
 //! Opening a vault for a command.
 ghost use Rattle.std.specs.Prelude.{◌≡◌, ◌⊎◌, ◌≤◌, Ok, Err, IfErr, IfOk, IsTrue};
-ghost use Rattle.folder_spec.specs.View.{View};
-ghost use Rattle.folder_spec.specs.Seen.{IsSeen, under};
+ghost use Rattle.folder_spec.specs.Seen.{IfSeen, under};
 ghost use Rattle.port_model.specs.Counts.{CountRose};
 ghost use Rattle.std.specs.List.{position_or_len};
 ghost use Rattle.folder_spec.specs.Path.{child};
@@ -29,8 +28,8 @@ pub fn open<F: Folder>(
 ) -> Result<Vault, Answer>
     ensures told { F.told folder.new ≡ F.told folder.old }
     ensures root { IfOk result (λ vault. vault.root ≡ root.now) }
-    ensures opened { IfOk result (λ vault. (v : View) → IsSeen (F.told folder.old) v → Opens v root.now pass.now vault.vault) }
-    ensures refused { IfErr result (λ answer. (v : View) → IsSeen (F.told folder.old) v → RefusesOpening v root.now pass.now answer) }
+    ensures opened { IfOk result (λ vault. IfSeen (F.told folder.old) (λ v. Opens v root.now pass.now vault.vault)) }
+    ensures refused { IfErr result (λ answer. IfSeen (F.told folder.old) (λ v. RefusesOpening v root.now pass.now answer)) }
     ensures grows { F.faults folder.old ≤ F.faults folder.new }
     ensures failed { result ≡ Err Answer.FolderFault → CountRose (F.faults folder.old) (F.faults folder.new) }
     ensures own { IfErr result (λ answer. IsTrue (is_of_opening answer)) }
@@ -48,8 +47,8 @@ pub fn load<F: Folder>(
 ) -> Result<Vault, Answer>
     ensures told { F.told folder.new ≡ F.told folder.old }
     ensures root { IfOk result (λ vault. vault.root ≡ root.now) }
-    ensures opened { IfOk result (λ vault. (v : View) → IsSeen (F.told folder.old) v → Loads (under root.now v) phrase.now (Ok vault.vault)) }
-    ensures refused { IfErr result (λ answer. (v : View) → IsSeen (F.told folder.old) v → RefusesVault v root.now phrase.now answer) }
+    ensures opened { IfOk result (λ vault. IfSeen (F.told folder.old) (λ v. Loads (under root.now v) phrase.now (Ok vault.vault))) }
+    ensures refused { IfErr result (λ answer. IfSeen (F.told folder.old) (λ v. RefusesVault v root.now phrase.now answer)) }
     ensures grows { F.faults folder.old ≤ F.faults folder.new }
     ensures failed { result ≡ Err Answer.FolderFault → CountRose (F.faults folder.old) (F.faults folder.new) }
     ensures own { IfErr result (λ answer. IsTrue (is_of_opening answer)) }
@@ -64,8 +63,8 @@ pub fn load<F: Folder>(
 /// The passphrase in the file at a path.
 pub fn read_pass<F: Folder>(alloc: Global, folder: &mut F, at: &FPath) -> Result<Bytes, Answer>
     ensures told { F.told folder.new ≡ F.told folder.old }
-    ensures phrase { IfOk result (λ phrase. (v : View) → IsSeen (F.told folder.old) v → IsPhrase (v at.now) phrase) }
-    ensures refused { IfErr result (λ answer. (v : View) → IsSeen (F.told folder.old) v → RefusesPass at.now (v at.now) answer) }
+    ensures phrase { IfOk result (λ phrase. IfSeen (F.told folder.old) (λ v. IsPhrase (v at.now) phrase)) }
+    ensures refused { IfErr result (λ answer. IfSeen (F.told folder.old) (λ v. RefusesPass at.now (v at.now) answer)) }
     ensures grows { F.faults folder.old ≤ F.faults folder.new }
     ensures failed { result ≡ Err Answer.FolderFault → CountRose (F.faults folder.old) (F.faults folder.new) }
     ensures own { IfErr result (λ answer. IsTrue (is_of_opening answer)) }

@@ -1,7 +1,7 @@
 //! Places of a folder that a command names.
 ghost use Rattle.std.specs.Prelude.{◌≡◌, ◌⊎◌, ◌≤◌, Err, IfErr, OnOk, IsTrue};
-ghost use Rattle.folder_spec.specs.Seen.{IsSeen, ShowsFree};
-ghost use Rattle.folder_spec.specs.View.{NoEntry, View};
+ghost use Rattle.folder_spec.specs.Seen.{IfSeen, ShowsFree};
+ghost use Rattle.folder_spec.specs.View.{NoEntry};
 ghost use Rattle.port_model.specs.Counts.{CountRose};
 ghost use Rattle.command_opening.specs.Tests.{is_of_readying, is_of_moving};
 ghost use Rattle.command_opening.specs.Places.{OfFree, OfMissing, overlap};
@@ -30,8 +30,8 @@ pub fn overlapping(one: &FPath, other: &FPath) -> Answer
 /// Nothing stands at a path, and a directory above it.
 pub fn test_free<F: Folder>(folder: &mut F, at: &FPath) -> Result<(), Answer>
     ensures told { F.told folder.new ≡ F.told folder.old }
-    ensures free { OnOk result ((v : View) → IsSeen (F.told folder.old) v → ShowsFree v at.now) }
-    ensures refused { IfErr result (λ answer. (v : View) → IsSeen (F.told folder.old) v → Unless answer (OfFree v at.now answer ⊥)) }
+    ensures free { OnOk result (IfSeen (F.told folder.old) (λ v. ShowsFree v at.now)) }
+    ensures refused { IfErr result (λ answer. IfSeen (F.told folder.old) (λ v. Unless answer (OfFree v at.now answer ⊥))) }
     ensures own { IfErr result (λ answer. IsTrue (is_of_moving answer)) }
     ensures readying { IfErr result (λ answer. IsTrue (is_of_readying answer)) }
     ensures grows { F.faults folder.old ≤ F.faults folder.new }
@@ -48,8 +48,8 @@ pub fn test_free<F: Folder>(folder: &mut F, at: &FPath) -> Result<(), Answer>
 // Nothing stands at a path.
 fn test_missing<F: Folder>(folder: &mut F, at: &FPath) -> Result<(), Answer>
     ensures told { F.told folder.new ≡ F.told folder.old }
-    ensures free { OnOk result ((v : View) → IsSeen (F.told folder.old) v → v at.now ≡ NoEntry) }
-    ensures refused { IfErr result (λ answer. (v : View) → IsSeen (F.told folder.old) v → Unless answer (OfMissing at.now (v at.now) answer ⊥)) }
+    ensures free { OnOk result (IfSeen (F.told folder.old) (λ v. v at.now ≡ NoEntry)) }
+    ensures refused { IfErr result (λ answer. IfSeen (F.told folder.old) (λ v. Unless answer (OfMissing at.now (v at.now) answer ⊥))) }
     ensures own { IfErr result (λ answer. IsTrue (is_of_moving answer)) }
     ensures readying { IfErr result (λ answer. IsTrue (is_of_readying answer)) }
     ensures grows { F.faults folder.old ≤ F.faults folder.new }

@@ -14,8 +14,8 @@ use Rattle.folder_spec.specs.declared.FolderFault.TheVariants as folder
 use Rattle.folder_spec.specs.Path.{Path}
 use Rattle.folder_spec.specs.Event.{Told}
 use Rattle.folder_spec.specs.Written.{IsFrontOfOne}
-use Rattle.folder_spec.specs.View.{FileOf, View}
-use Rattle.folder_spec.specs.Seen.{IsSeen, ShowsFile}
+use Rattle.folder_spec.specs.View.{FileOf}
+use Rattle.folder_spec.specs.Seen.{IfSeen, ShowsFile}
 use Rattle.folder_spec.proofs.Stages.{one_file}
 use Rattle.folder_spec.proofs.Written.{shorter_front}
 use Rattle.folder_staging.specs.Pieces.{IsWriting, Begins, Adds}
@@ -182,8 +182,8 @@ module _ (keys : Keys) (empty : Bool) (at : Path) (stream stream' : Option ByteS
 
 -- a file that was begun is seen
 pub begun_seen : (at : Path) (told told' : Option Told)
-    → ((files : List (List ℕ)) (at : Path) (bytes : List ℕ) (before now : Option Told) → IsWriting files at bytes before now → (v : View) → IsSeen now v → v at ≡ FileOf bytes)
-    → Begins at told told' (Ok tt) → (v : View) → IsSeen told' v → ShowsFile v at
+    → ((files : List (List ℕ)) (at : Path) (bytes : List ℕ) (before now : Option Told) → IsWriting files at bytes before now → IfSeen now (λ v. v at ≡ FileOf bytes))
+    → Begins at told told' (Ok tt) → IfSeen told' (λ v. ShowsFile v at)
 begun_seen at told told' law begins v is = ([], law ([] ∷ []) at [] told told' (begins ([] ∷ []) (one_file [])).1 v is)
 
 -- ---- chunks

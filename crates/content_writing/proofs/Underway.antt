@@ -11,8 +11,8 @@ use Rattle.folder_spec.specs.Path.{Path}
 use Rattle.folder_spec.specs.State.{present}
 use Rattle.folder_spec.specs.Event.{Told, FromTo}
 use Rattle.folder_spec.specs.Replace.{IsNewFile}
-use Rattle.folder_spec.specs.View.{FileOf, View}
-use Rattle.folder_spec.specs.Seen.{IsSeen, ShowsFile}
+use Rattle.folder_spec.specs.View.{FileOf}
+use Rattle.folder_spec.specs.Seen.{IfSeen, ShowsFile}
 use Rattle.folder_spec.proofs.Stages.{one_file}
 use Rattle.folder_staging.specs.Pieces.{IsWriting, Finishes}
 use Rattle.content_writing.specs.Content.{Coming, Whole, Gave, HasEnded}
@@ -235,6 +235,6 @@ module _ (w : Start) where
 
   -- the staged file is seen
   pub staged_seen : (made : List ℕ) (told : Option Told)
-      → ((files : List (List ℕ)) (at : Path) (bytes : List ℕ) (before now : Option Told) → IsWriting files at bytes before now → (v : View) → IsSeen now v → v at ≡ FileOf bytes)
-      → IsStaged w.at made w.told told → (v : View) → IsSeen told v → ShowsFile v w.at
+      → ((files : List (List ℕ)) (at : Path) (bytes : List ℕ) (before now : Option Told) → IsWriting files at bytes before now → IfSeen now (λ v. v at ≡ FileOf bytes))
+      → IsStaged w.at made w.told told → IfSeen told (λ v. ShowsFile v w.at)
   staged_seen made told law staged v is = (made, law (made ∷ []) w.at made w.told told (staged (made ∷ []) (one_file made)) v is)

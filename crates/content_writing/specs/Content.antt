@@ -11,7 +11,7 @@ use Rattle.chunk_files.specs.declared.fault.ChunkFault.{ChunkFault}
 use Rattle.folder_spec.specs.Path.{Path}
 use Rattle.folder_spec.specs.Event.{Told}
 use Rattle.folder_spec.specs.View.{Found, NoEntry, Folder, FileOf, Special, View}
-use Rattle.folder_spec.specs.Seen.{IsSeen, seen}
+use Rattle.folder_spec.specs.Seen.{IfSeen, IsSeen, seen}
 use Rattle.vault_read.specs.declared.fault.Limit.{Limit}
 use Rattle.vault_read.specs.declared.fault.Limit.TheVariants.{Input, Length}
 use Rattle.vault_read.specs.Contents.{Reader, still}
@@ -59,7 +59,7 @@ IsTold (Some c) = Unit {0}
 -- A content can be read on: the file at its path, if it reads one, is there, and has the bytes that were read of it.
 abbrev pub IsReady : Option Path → Option Told → (Found → Option Coming) → Type 0
 IsReady None told coming = Unit {0}
-IsReady (Some at) told coming = (v : View) → IsSeen told v → IsTold (coming (v at))
+IsReady (Some at) told coming = IfSeen told (λ v. IsTold (coming (v at)))
 
 -- What a piece gives of what was still to come, and what is still to come then. Nothing is given only at the end. Where the
 -- source or the folder failed, or memory was refused, no bytes are lost.

@@ -1,8 +1,8 @@
 //! A chunk of which a part is still to be given.
 ghost use Rattle.std.specs.Prelude.{◌≡◌, ◌≤◌, ℕ, List, take, drop, length, min, [], Err, IfOk, IfErr};
 ghost use Rattle.port_model.specs.Counts.{CountRose};
-ghost use Rattle.folder_spec.specs.View.{View, FileOf};
-ghost use Rattle.folder_spec.specs.Seen.{IsSeen};
+ghost use Rattle.folder_spec.specs.View.{FileOf};
+ghost use Rattle.folder_spec.specs.Seen.{IfSeen};
 ghost use Rattle.vault_read.specs.Contents.{IsBeingRead, still};
 ghost use Rattle.content_writing.specs.Content.{held_before};
 ghost use Rattle.content_writing.specs.Refilling.{Refills, IsReadingFault};
@@ -50,12 +50,12 @@ impl Held {
         reader: &mut ContentReader,
         folder: &mut F,
     ) -> Result<(), PutFault>
-        requires { (v : View) → IsSeen (F.told folder.old) v → IsBeingRead v reader.old.at reader.old.decoding }
+        requires { IfSeen (F.told folder.old) (λ v. IsBeingRead v reader.old.at reader.old.decoding) }
         ensures told { F.told folder.new ≡ F.told folder.old }
         ensures at { reader.new.at ≡ reader.old.at }
-        ensures suits { (v : View) → IsSeen (F.told folder.old) v → IsBeingRead v reader.new.at reader.new.decoding }
-        ensures refills { (v : View) → IsSeen (F.told folder.old) v → (bytes : List ℕ) → v reader.old.at ≡ FileOf bytes
-            → Refills self.new (held_before reader.old.at self.old (still reader.old.decoding bytes)) (held_before reader.old.at self.new (still reader.new.decoding bytes)) result }
+        ensures suits { IfSeen (F.told folder.old) (λ v. IsBeingRead v reader.new.at reader.new.decoding) }
+        ensures refills { IfSeen (F.told folder.old) (λ v. (bytes : List ℕ) → v reader.old.at ≡ FileOf bytes
+            → Refills self.new (held_before reader.old.at self.old (still reader.old.decoding bytes)) (held_before reader.old.at self.new (still reader.new.decoding bytes)) result) }
         ensures none { IfErr result (λ fault. self.new ≡ []) }
         ensures fault { IfErr result (λ fault. IsReadingFault fault) }
         ensures grows { F.faults folder.old ≤ F.faults folder.new }

@@ -1,8 +1,7 @@
 //! Storing the header and the chunks of a content file in a staged file.
 ghost use Rattle.std.specs.Prelude.{◌≤◌, ◌<◌, ◌+◌, ◌-◌, ◌^◌, length};
 ghost use Rattle.chunk_files.specs.Keys.{format_of};
-ghost use Rattle.folder_spec.specs.View.{View};
-ghost use Rattle.folder_spec.specs.Seen.{IsSeen, ShowsFile};
+ghost use Rattle.folder_spec.specs.Seen.{IfSeen, ShowsFile};
 ghost use Rattle.folder_staging.specs.Places.{IsStage};
 ghost use Rattle.content_writing.specs.Streaming.{BeginsContent, StoresChunk};
 ghost use Rattle.content_writing.specs.Writing.{Blames};
@@ -51,7 +50,7 @@ pub(crate) fn store_chunk<F: Folder, R: Randoms>(
     requires some { 0 < length plain.now }
     requires at_most { length plain.now ≤ (format_of encoder.old.keys).full_size }
     requires count { encoder.old.number < 2 ^ 64 - 1 }
-    requires file { (v : View) → IsSeen (F.told folder.old) v → ShowsFile v staged.now }
+    requires file { IfSeen (F.told folder.old) (λ v. ShowsFile v staged.now) }
     ensures stored { StoresChunk encoder.old encoder.new plain.now staged.now (R.left random.old) (R.left random.new) (F.told folder.old) (F.told folder.new) result }
     ensures number { encoder.new.number ≤ encoder.old.number + 1 }
     ensures failed { Blames result PutFault.Failed (F.faults folder.old) (F.faults folder.new) }

@@ -7,7 +7,7 @@ use Rattle.folder_spec.specs.Event.{Event, FromTo, Told}
 use Rattle.folder_spec.specs.Moments.{Moments, Went}
 use Rattle.folder_spec.specs.Path.{Part, Path, below}
 use Rattle.folder_spec.specs.Region.{IsAsBefore, SparesOld, apart_from, apart_from_both}
-use Rattle.folder_spec.specs.Seen.{IsSeen, ShowsFree, seen}
+use Rattle.folder_spec.specs.Seen.{IfSeen, IsSeen, ShowsFree, seen}
 use Rattle.folder_spec.specs.State.{IsSound, State}
 use Rattle.folder_spec.specs.View.{View}
 use Rattle.folder_spec.proofs.Moments.{went_nowhere, went_on, went_more, went_to}
@@ -55,7 +55,7 @@ beside_in region whole t u part beside = beside_by region whole (IsAsBefore whol
 
 -- what is seen in the region was seen there before
 pub seen_beside : (region : Path → Bool) (t u : Option Told) → ((a : Told) → t ≡ Some a → IsSound a.state) → IsBeside region t u
-    → (w : View) → IsSeen u w → (v : View) × IsSeen t v × ((q : Path) → IsTrue (region q) → w q ≡ v q)
+    → IfSeen u (λ w. (v : View) × IsSeen t v × ((q : Path) → IsTrue (region q) → w q ≡ v q))
 seen_beside region (Some a) (Some b) sound went w is =
     (seen a.state, refl, λ q inside. ap (λ x. x q) is ∙ seen_as_before region a.state b.state (sound a refl) (went_to (IsAsBefore region a.state) Any a b went) q inside)
 seen_beside region None None sound went w is = absurd is
@@ -75,12 +75,12 @@ still_told R None u went told = absurd (told refl)
 still_told R (Some x) (Some y) went told = λ e. cc e
 still_told R (Some x) None went told = absurd went
 
-seen_told : (t : Option Told) (v : View) → IsSeen t v → (a : Told) × (t ≡ Some a)
+seen_told : (t : Option Told) → IfSeen t (λ v. (a : Told) × (t ≡ Some a))
 seen_told (Some a) v is = (a, refl)
 seen_told None v is = absurd is
 
 -- what is seen before is told, and something after
-pub told_after : (R : Told → Told → Type 0) (t u : Option Told) → FromTo R t u → (v : View) → IsSeen t v → (b : Told) × (u ≡ Some b)
+pub told_after : (R : Told → Told → Type 0) (t u : Option Told) → FromTo R t u → IfSeen t (λ v. (b : Told) × (u ≡ Some b))
 told_after R t u went v is =
     let first = seen_told t v is in
     let now = carried R t u went first.0 first.1 in (now.0, now.1)
@@ -124,8 +124,8 @@ made_beside work place at t u one two beside =
     (subst (λ w. IsBeside (is_apart w at) t u) one (subst (λ p. IsBeside (is_apart work p) t u) two beside))
 
 -- the vault may be made
-pub may_found : (work place at : Path) (t : Option Told) → work ≡ making_folder → place ≡ at → ((v : View) → IsSeen t v → IsReady v work)
-    → below making_folder at ≡ None → below at making_folder ≡ None → ((v : View) → IsSeen t v → ShowsFree v place) → MayFound t work place
+pub may_found : (work place at : Path) (t : Option Told) → work ≡ making_folder → place ≡ at → IfSeen t (λ v. IsReady v work)
+    → below making_folder at ≡ None → below at making_folder ≡ None → IfSeen t (λ v. ShowsFree v place) → MayFound t work place
 may_found work place at t one two ready apart other free = record {
   make = record {
     ready = ready;

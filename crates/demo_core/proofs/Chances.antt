@@ -9,7 +9,7 @@ use Rattle.cryptomator_conf.specs.declared.conf.CmDraw.{CmDraw}
 use Rattle.folder_spec.specs.Event.{Told}
 use Rattle.folder_spec.specs.Path.{Path, below, child, parent}
 use Rattle.folder_spec.specs.Region.{apart_from}
-use Rattle.folder_spec.specs.Seen.{IsSeen, ShowsFree}
+use Rattle.folder_spec.specs.Seen.{IfSeen, IsSeen, ShowsFree}
 use Rattle.folder_spec.specs.State.{IsSound}
 use Rattle.folder_spec.specs.View.{NoEntry, Folder, Special, View, kind_found}
 use Rattle.folder_spec.proofs.Paths.{below-apart, below-parent, below-sibling}
@@ -96,14 +96,14 @@ work_chance v w above can work.Failed gives = tt
 work_chance v w above can work.NoMemory gives = tt
 
 -- where what a folder tells is sound
-pub enter_chance : (t : Option Told) → ((a : Told) → t ≡ Some a → IsSound a.state) → (w : Path) (v : View) → IsSeen t v → CanEnter v w → (fault : WorkFault) → Gives {T = Unit {0}} (EntersAs v w) (Err fault) → IsOfChance (Work fault)
+pub enter_chance : (t : Option Told) → ((a : Told) → t ≡ Some a → IsSound a.state) → (w : Path) → IfSeen t (λ v. CanEnter v w → (fault : WorkFault) → Gives {T = Unit {0}} (EntersAs v w) (Err fault) → IsOfChance (Work fault))
 enter_chance None sound w v is can fault gives = absurd is
 enter_chance (Some a) sound w v is can fault gives =
     work_chance v w (subst (λ u. (q rest : Path) → u q ≡ NoEntry → u (q ++ rest) ≡ NoEntry) (sym is) (nothing_seen a.state (sound a refl))) can fault gives
 
 -- a fresh work folder stays so while only its stage and what is at a path beside it change
 pub fresh_stays : (w at : Path) (t u : Option Told) → ((a : Told) → t ≡ Some a → IsSound a.state) → below at w ≡ None → below w at ≡ None → IsBeside (is_apart w at) t u
-    → ((v : View) → IsSeen t v → IsFresh v w) → ((v : View) → IsSeen u v → IsReady v w) → (v : View) → IsSeen u v → IsFresh v w
+    → IfSeen t (λ v. IsFresh v w) → IfSeen u (λ v. IsReady v w) → IfSeen u (λ v. IsFresh v w)
 fresh_stays w at t u sound one other beside fresh ready v is =
     let before = seen_beside (is_apart w at) t u sound beside v is in
     record {
@@ -123,7 +123,7 @@ fresh_stays w at t u sound one other beside fresh ready v is =
 
 -- nothing comes to a free place while only a work folder changes
 pub free_stays : (w at : Path) (t u : Option Told) → ((a : Told) → t ≡ Some a → IsSound a.state) → below w at ≡ None → IsBeside (apart_from w) t u
-    → (v : View) → IsSeen t v → ShowsFree v at → (x : View) → IsSeen u x → ShowsFree x at
+    → IfSeen t (λ v. ShowsFree v at → IfSeen u (λ x. ShowsFree x at))
 free_stays w at t u sound apart beside v is free x seen_x =
     let before = seen_beside (apart_from w) t u sound beside x seen_x in
     let same : before.0 ≡ v = one_view t before.0 v before.1 is in

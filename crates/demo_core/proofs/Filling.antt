@@ -4,7 +4,7 @@ use Rattle.folder_spec.specs.Event.{FromTo, Told}
 use Rattle.folder_spec.specs.Path.{Path, below}
 use Rattle.folder_spec.specs.Region.{at_or_below}
 use Rattle.folder_spec.specs.View.{View, ShowsAmong}
-use Rattle.folder_spec.specs.Seen.{IsSeen, seen, under}
+use Rattle.folder_spec.specs.Seen.{IfSeen, IsSeen, seen, under}
 use Rattle.folder_spec.proofs.Tellings.{from_to_more, from_to_then}
 use Rattle.plain_tree.specs.Names as plain
 use Rattle.vault_spec.specs.Adding.{OpensWith}
@@ -206,7 +206,7 @@ module _ (vault : OpenedVault) (work : Path) (seed number : ℕ) (path : plain.P
   made : MakesOne New (placing vault work number item) ending drawn t u result
   made = makes.named (item_front (is_directory number) number) (item_name (is_directory number) number) (is ∙ path_ends number)
 
-  pub item_ready : OnOk result ((v : View) → IsSeen u v → IsReady v work)
+  pub item_ready : OnOk result (IfSeen u (λ v. IsReady v work))
   item_ready = made.makes.ready
 
   pub item_beside : IsBeside (is_apart work vault.root) t u

@@ -5,7 +5,7 @@ use Rattle.folder_spec.specs.Edit.{HasSettledIn, edited}
 use Rattle.folder_spec.specs.Event.{FromTo, Told}
 use Rattle.folder_spec.specs.Path.{Path, below}
 use Rattle.folder_spec.specs.Region.{at_or_below}
-use Rattle.folder_spec.specs.Seen.{IsSeen, seen, under}
+use Rattle.folder_spec.specs.Seen.{IfSeen, IsSeen, seen, under}
 use Rattle.folder_spec.specs.declared.Spot.TheVariants.{FileNode, Nothing}
 use Rattle.folder_spec.specs.State.{IsSound, State, Table, IsTableOf, present}
 use Rattle.folder_spec.specs.View.{AgreeIn, NoEntry, Shows, ShowsAmong, View, found}
@@ -125,7 +125,7 @@ stands kind work at made vault a b one other sound sound_then free is new settle
     }
 
 pub stands_by : (kind : VaultKind) (work at : Path) (made : View) (vault : Vault) (t u : Option Told) (result : Result (Unit {0}) PutFault) → below work at ≡ None → below at work ≡ None
-    → ((a : Told) → t ≡ Some a → IsSound a.state) → ((b : Told) → u ≡ Some b → IsSound b.state) → ((v : View) → IsSeen t v → v at ≡ NoEntry) → kind_of vault ≡ kind → OnOk result (IsNewVault made phrase vault)
+    → ((a : Told) → t ≡ Some a → IsSound a.state) → ((b : Told) → u ≡ Some b → IsSound b.state) → IfSeen t (λ v. v at ≡ NoEntry) → kind_of vault ≡ kind → OnOk result (IsNewVault made phrase vault)
     → OnOk result (FromTo (λ a b. HasSettledIn (is_unstaged work) (vault_edit at made ∷ []) a.state b.state) t u) → OnOk result (FromTo (λ a b. StandsNew kind at b.state) t u)
 stands_by kind work at made vault t u (Err fault) one other sound sound_then free is new settled = tt
 stands_by kind work at made vault t u (Ok done) one other sound sound_then free is new settled =
@@ -189,7 +189,7 @@ holds_in_order vault root seed count (Some a) None at first adds b told = absurd
 holds_in_order vault root seed count None (Some b') at first adds b told = absurd adds
 
 -- by what is seen
-pub holds_seen : (kind : VaultKind) (root : Path) (seed count : ℕ) (u : Option Told) → ((b : Told) → u ≡ Some b → HoldsInOrder kind root seed count b.state) → (v : View) → IsSeen u v → HoldsItems kind root seed count v
+pub holds_seen : (kind : VaultKind) (root : Path) (seed count : ℕ) (u : Option Told) → ((b : Told) → u ≡ Some b → HoldsInOrder kind root seed count b.state) → IfSeen u (λ v. HoldsItems kind root seed count v)
 holds_seen kind root seed count (Some b) order v is =
     let it = order b refl in
     let same : under root v ≡ under it.vault.root it.holds.view =

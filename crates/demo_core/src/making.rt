@@ -4,8 +4,8 @@ ghost use Rattle.std.specs.Int.{to_le_bytes, w64};
 ghost use Rattle.folder_model.specs.Text.{is_path_text, parts_of};
 ghost use Rattle.folder_spec.specs.Event.{FromTo, Told};
 ghost use Rattle.folder_spec.specs.Path.{below};
-ghost use Rattle.folder_spec.specs.Seen.{IsSeen, ShowsFree};
-ghost use Rattle.folder_spec.specs.View.{View, kind_found};
+ghost use Rattle.folder_spec.specs.Seen.{IfSeen, ShowsFree};
+ghost use Rattle.folder_spec.specs.View.{kind_found};
 ghost use Rattle.move_journal.specs.Journal.{IsParsed};
 ghost use Rattle.port_model.specs.Counts.{CountRose};
 ghost use Rattle.work_folder.specs.Entering.{IsFresh, IsReady};
@@ -72,14 +72,14 @@ pub fn make_first<F: Folder, R: Randoms>(
     random: &mut R,
 ) -> Result<(), MakeFault>
     requires count { count ≤ 2000 }
-    ensures holds { OnOk result ((v : View) → IsSeen (F.told folder.new) v → HoldsItems VaultKind.Gocryptfs (codes "g" ∷ []) seed count v) }
+    ensures holds { OnOk result (IfSeen (F.told folder.new) (λ v. HoldsItems VaultKind.Gocryptfs (codes "g" ∷ []) seed count v)) }
     ensures beside { MakesBeside (codes "g" ∷ []) (F.told folder.old) (F.told folder.new) }
     ensures alone { OnOk result ((a : Told) → F.told folder.new ≡ Some a → HoldsInOrder VaultKind.Gocryptfs (codes "g" ∷ []) seed count a.state) }
-    ensures fresh { OnOk result ((v : View) → IsSeen (F.told folder.new) v → IsFresh v making_folder) }
+    ensures fresh { OnOk result (IfSeen (F.told folder.new) (λ v. IsFresh v making_folder)) }
     ensures failed { IfErr result (λ fault. IsFailed fault → CountRose (F.faults folder.old) (F.faults folder.new)) }
     ensures own { IfErr result (λ fault. IsMakeFault fault) }
-    ensures chance { IfErr result (λ fault. (v : View) → IsSeen (F.told folder.old) v → CanMake (codes "g" ∷ []) v → IsOfItems fault) }
-    ensures shared { IfErr result (λ fault. IsTaken fault → (v : View) → IsSeen (F.told folder.old) v → CanMake (codes "g" ∷ []) v → SharesPlace (codes "g" ∷ []) (F.told folder.old) (F.told folder.new) (R.left random.old) (R.left random.new) count) }
+    ensures chance { IfErr result (λ fault. IfSeen (F.told folder.old) (λ v. CanMake (codes "g" ∷ []) v → IsOfItems fault)) }
+    ensures shared { IfErr result (λ fault. IsTaken fault → IfSeen (F.told folder.old) (λ v. CanMake (codes "g" ∷ []) v → SharesPlace (codes "g" ∷ []) (F.told folder.old) (F.told folder.new) (R.left random.old) (R.left random.new) count)) }
     ensures random { result ≡ Err (MakeFault.Put PutFault.Random) → CountRose (R.faults random.old) (R.faults random.new) }
     ensures drew { Drew ((F.told folder.old ≢ None) × (result ≡ Err (MakeFault.Put PutFault.ZeroRandom))) (R.left random.old) (R.left random.new) }
     ensures grows { F.faults folder.old ≤ F.faults folder.new }
@@ -103,12 +103,12 @@ pub fn make_vault<F: Folder, R: Randoms>(
     requires apart { below making_folder (parts_of name.now) ≡ None }
     requires beside { below (parts_of name.now) making_folder ≡ None }
     ensures work { IfOk result (λ work. work ≡ making_folder) }
-    ensures fresh { IfOk result (λ work. (v : View) → IsSeen (F.told folder.new) v → IsFresh v work) }
+    ensures fresh { IfOk result (λ work. IfSeen (F.told folder.new) (λ v. IsFresh v work)) }
     ensures stands { IfOk result (λ work. (a : Told) → F.told folder.new ≡ Some a → StandsNew kind (parts_of name.now) a.state) }
     ensures beside { MakesBeside (parts_of name.now) (F.told folder.old) (F.told folder.new) }
     ensures failed { IfErr result (λ fault. IsFailed fault → CountRose (F.faults folder.old) (F.faults folder.new)) }
     ensures own { IfErr result (λ fault. IsMakeFault fault) }
-    ensures chance { IfErr result (λ fault. (v : View) → IsSeen (F.told folder.old) v → CanMake (parts_of name.now) v → IsOfChance fault) }
+    ensures chance { IfErr result (λ fault. IfSeen (F.told folder.old) (λ v. CanMake (parts_of name.now) v → IsOfChance fault)) }
     ensures random { result ≡ Err (MakeFault.Put PutFault.Random) → CountRose (R.faults random.old) (R.faults random.new) }
     ensures drew { Drew (result ≡ Err (MakeFault.Put PutFault.ZeroRandom)) (R.left random.old) (R.left random.new) }
     ensures grows { F.faults folder.old ≤ F.faults folder.new }
@@ -125,9 +125,9 @@ pub fn make_vault<F: Folder, R: Randoms>(
 // Nothing stands at a path, in a directory.
 fn test_free<F: Folder>(folder: &mut F, at: &FPath) -> Result<(), PutFault>
     ensures told { F.told folder.new ≡ F.told folder.old }
-    ensures free { OnOk result ((v : View) → IsSeen (F.told folder.old) v → ShowsFree v at.now) }
+    ensures free { OnOk result (IfSeen (F.told folder.old) (λ v. ShowsFree v at.now)) }
     ensures fault { IfErr result (λ fault. (fault ≡ PutFault.Taken at.now) ⊎ ((fault ≡ PutFault.Failed) ⊎ (fault ≡ PutFault.NoMemory))) }
-    ensures chance { IfErr result (λ fault. (v : View) → IsSeen (F.told folder.old) v → ShowsFree v at.now → IsPutOfChance fault) }
+    ensures chance { IfErr result (λ fault. IfSeen (F.told folder.old) (λ v. ShowsFree v at.now → IsPutOfChance fault)) }
     ensures failed { result ≡ Err PutFault.Failed → CountRose (F.faults folder.old) (F.faults folder.new) }
     ensures grows { F.faults folder.old ≤ F.faults folder.new }
 {
@@ -142,7 +142,7 @@ fn test_free<F: Folder>(folder: &mut F, at: &FPath) -> Result<(), PutFault>
 
 fn kind_at<F: Folder>(folder: &mut F, at: &FPath) -> Result<Kind, PutFault>
     ensures told { F.told folder.new ≡ F.told folder.old }
-    ensures kind { IfOk result (λ kind. (v : View) → IsSeen (F.told folder.old) v → kind ≡ kind_found (v at.now)) }
+    ensures kind { IfOk result (λ kind. IfSeen (F.told folder.old) (λ v. kind ≡ kind_found (v at.now))) }
     ensures fault { IfErr result (λ fault. (fault ≡ PutFault.Failed) ⊎ (fault ≡ PutFault.NoMemory)) }
     ensures failed { result ≡ Err PutFault.Failed → CountRose (F.faults folder.old) (F.faults folder.new) }
     ensures grows { F.faults folder.old ≤ F.faults folder.new }
@@ -165,7 +165,7 @@ fn found<F: Folder, R: Randoms>(
     random: &mut R,
 ) -> Result<(), PutFault>
     requires { MayFound (F.told folder.old) work.now at.now }
-    ensures ready { OnOk result ((v : View) → IsSeen (F.told folder.new) v → IsReady v work.now) }
+    ensures ready { OnOk result (IfSeen (F.told folder.new) (λ v. IsReady v work.now)) }
     ensures stands { OnOk result (FromTo (λ a b. StandsNew kind at.now b.state) (F.told folder.old) (F.told folder.new)) }
     ensures beside { IsBeside (is_apart work.now at.now) (F.told folder.old) (F.told folder.new) }
     ensures failed { result ≡ Err PutFault.Failed → CountRose (F.faults folder.old) (F.faults folder.new) }
@@ -214,7 +214,7 @@ fn place_items<F: Folder, R: Randoms>(
 ) -> Result<(), PutFault>
     requires may { MayMake (F.told folder.old) work.now vault.now.root }
     requires count { count ≤ 2000 }
-    ensures ready { OnOk result ((v : View) → IsSeen (F.told folder.new) v → IsReady v work.now) }
+    ensures ready { OnOk result (IfSeen (F.told folder.new) (λ v. IsReady v work.now)) }
     ensures adds { OnOk result (FromTo (λ a b. HoldsAlone vault.now seed 0 a.state → HoldsAlone vault.now seed count b.state) (F.told folder.old) (F.told folder.new)) }
     ensures beside { IsBeside (is_apart work.now vault.now.root) (F.told folder.old) (F.told folder.new) }
     ensures failed { result ≡ Err PutFault.Failed → CountRose (F.faults folder.old) (F.faults folder.new) }
@@ -244,7 +244,7 @@ fn place_item<F: Folder, R: Randoms>(
 ) -> Result<(), PutFault>
     requires may { MayMake (F.told folder.old) work.now vault.now.root }
     requires number { number < 10000 }
-    ensures ready { OnOk result ((v : View) → IsSeen (F.told folder.new) v → IsReady v work.now) }
+    ensures ready { OnOk result (IfSeen (F.told folder.new) (λ v. IsReady v work.now)) }
     ensures adds { OnOk result (FromTo (λ a b. HoldsAlone vault.now seed number a.state → HoldsAlone vault.now seed (number + 1) b.state) (F.told folder.old) (F.told folder.new)) }
     ensures beside { IsBeside (is_apart work.now vault.now.root) (F.told folder.old) (F.told folder.new) }
     ensures failed { result ≡ Err PutFault.Failed → CountRose (F.faults folder.old) (F.faults folder.new) }

@@ -5,7 +5,7 @@ use Rattle.folder_spec.specs.declared.FolderFault.{FolderFault}
 use Rattle.folder_spec.specs.declared.FolderFault.TheVariants.{Failed, Refused, NoMemory}
 use Rattle.folder_spec.specs.Event.{Call, Allowed, Told, Changes}
 use Rattle.folder_spec.specs.View.{View}
-use Rattle.folder_spec.specs.Seen.{seen, IsSeen}
+use Rattle.folder_spec.specs.Seen.{IfSeen, seen}
 use Rattle.folder_model.specs.Answers.{Answers, Counts, CountsAbove}
 
 pub never_falls : {T : Type 0} (told : Option Told) (before after : ℕ) (result : Result T FolderFault) → Counts told before after result → before ≤ after
@@ -53,7 +53,7 @@ counts_after call t u n0 n1 n2 (Err fault) le allowed changes counts =
 
 -- a call that changes nothing is not refused where its condition holds
 pub answer_not_refused : {T : Type 0} (t : Option Told) (Condition : View → Type 0) (IsRight : View → T → Type 0) (fault : FolderFault)
-    → ((v : View) → IsSeen t v → Condition v) → Answers {T = T} t Condition IsRight (Err fault) → (a : Told) → t ≡ Some a → fault ≡ Refused → ⊥
+    → IfSeen t (λ v. Condition v) → Answers {T = T} t Condition IsRight (Err fault) → (a : Told) → t ≡ Some a → fault ≡ Refused → ⊥
 answer_not_refused (Some b) Condition IsRight Refused holds answers a is same = answers (seen b.state) refl (holds (seen b.state) refl)
 answer_not_refused (Some b) Condition IsRight Failed holds answers a is same = cc same
 answer_not_refused (Some b) Condition IsRight NoMemory holds answers a is same = cc same
@@ -61,7 +61,7 @@ answer_not_refused None Condition IsRight fault holds answers a is same = cc is
 
 -- so at such an exit
 pub counts_at_fault : (T U : Type 0) (t : Option Told) (n0 n1 n2 : ℕ) (Condition : View → Type 0) (IsRight : View → T → Type 0) (fault : FolderFault) → n0 ≤ n1
-    → ((v : View) → IsSeen t v → Condition v) → Answers {T = T} t Condition IsRight (Err fault) → Counts {T = T} t n1 n2 (Err fault)
+    → IfSeen t (λ v. Condition v) → Answers {T = T} t Condition IsRight (Err fault) → Counts {T = T} t n1 n2 (Err fault)
     → CountsAbove {T = U} n0 n2 (Err fault)
 counts_at_fault T U t n0 n1 n2 Condition IsRight fault le holds answers counts =
     counts_on {T = U} n0 n1 n2 (Err fault) le (counts_above T U t n1 n2 fault (answer_not_refused {T = T} t Condition IsRight fault holds answers) counts)

@@ -5,7 +5,7 @@ use Rattle.folder_spec.specs.declared.FolderFault.{FolderFault}
 use Rattle.folder_spec.specs.declared.FolderFault.TheVariants.{Failed, Refused, NoMemory}
 use Rattle.folder_spec.specs.Event.{Told}
 use Rattle.folder_spec.specs.View.{Found, FileOf, View}
-use Rattle.folder_spec.specs.Seen.{IsSeen}
+use Rattle.folder_spec.specs.Seen.{IfSeen}
 
 -- By its answer, when a call raises the count of faults: `Failed` comes only where it rose. `Refused` comes only so from a
 -- folder that tells nothing. Nothing else raises the count of one that tells its state.
@@ -27,7 +27,7 @@ AnswersBy Condition IsRight (Err NoMemory) = Unit {0}
 
 -- the same by what is seen, if the folder tells its state
 abbrev pub Answers : {T : Type 0} → Option Told → (View → Type 0) → (View → T → Type 0) → Result T FolderFault → Type 0
-Answers told Condition IsRight result = (v : View) → IsSeen told v → AnswersBy (Condition v) (IsRight v) result
+Answers told Condition IsRight result = IfSeen told (λ v. AnswersBy (Condition v) (IsRight v) result)
 
 -- n bytes of the file that is found, from start on, are read into the front of out: as many as there are and fit
 abbrev pub Reads : Found → ℕ → List ℕ → List ℕ → ℕ → Type 0

@@ -6,7 +6,7 @@ use Rattle.folder_spec.specs.Path.{Path, path_eq, below, parent, child}
 use Rattle.folder_spec.specs.State.{Spot, Nothing, Directory, FileNode, Odd, Table, Node, State, kind_of, present, put, moved, moved_spot, put_node, HasFile, IsSound}
 use Rattle.folder_spec.specs.Event.{Call, MakeDir, Create, Append, Sync, Settle, Rename, RemoveFile, RemoveDir, IsFree, IsFilePlace, Allowed, with_table, with_file, grown, synced, empty_node, changed, Told}
 use Rattle.folder_spec.specs.View.{NoEntry, Folder, FileOf, View, kind_found, found}
-use Rattle.folder_spec.specs.Seen.{seen, IsSeen, put_found, moved_found, moved_view, appended, seen_after, ShowsFile, ShowsFree, ShowsFilePlace, MayCall}
+use Rattle.folder_spec.specs.Seen.{IfSeen, IsSeen, MayCall, ShowsFile, ShowsFilePlace, ShowsFree, appended, moved_found, moved_view, put_found, seen, seen_after}
 use Rattle.folder_spec.proofs.Paths.{path_eq-Decides, one_or_not}
 use Rattle.folder_spec.proofs.Tables.{put-same, put-other, last_of-push, present_is_table}
 use Rattle.folder_spec.proofs.Regions.{put_node-other}
@@ -154,14 +154,14 @@ pub has_file_seen : (s : State) (p : Path) → ShowsFile (seen s) p → HasFile 
 has_file_seen s p file = file_seen (λ n. (s.nodes n).now) (present s p) file.0 file.1
 
 -- a place for a file, by what is seen of a folder that tells its state
-pub file_place_seen : (t : Option Told) (p : Path) → ((v : View) → IsSeen t v → ShowsFilePlace v p) → IfSome t (λ a. IsFilePlace (present a.state) p)
+pub file_place_seen : (t : Option Told) (p : Path) → IfSeen t (λ v. ShowsFilePlace v p) → IfSome t (λ a. IsFilePlace (present a.state) p)
 file_place_seen None p shown = tt
 file_place_seen (Some a) p shown = elim (shown (seen a.state) refl) as (λ _. IsFilePlace (present a.state) p) [
   | inl free ↦ inl (free_seen a.state p free)
   | inr file ↦ inr (has_file_seen a.state p file)
 ]
 
-pub file_place_shown : (t : Option Told) (p : Path) → IfSome t (λ a. IsFilePlace (present a.state) p) → (v : View) → IsSeen t v → ShowsFilePlace v p
+pub file_place_shown : (t : Option Told) (p : Path) → IfSome t (λ a. IsFilePlace (present a.state) p) → IfSeen t (λ v. ShowsFilePlace v p)
 file_place_shown None p place v is = absurd is
 file_place_shown (Some a) p place v is = elim place as (λ _. ShowsFilePlace v p) [
   | inl free ↦ inl (subst (λ w. ShowsFree w p) (sym is) (free_shown a.state p free))

@@ -18,6 +18,10 @@ abbrev pub IsSeen : Option Told → View → Type 0
 IsSeen (Some a) v = v ≡ seen a.state
 IsSeen None v = ⊥
 
+-- what holds of each view that is shown
+abbrev pub IfSeen : Option Told → (View → Type 0) → Type 0
+IfSeen told Holds = (v : View) → IsSeen told v → Holds v
+
 -- the view with this at the path
 abbrev pub put_found : View → Path → Found → View
 put_found v p x = λ q. if path_eq p q then x else v q

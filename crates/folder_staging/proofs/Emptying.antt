@@ -9,7 +9,7 @@ use Rattle.folder_spec.specs.Path.{Part, Path, below, child}
 use Rattle.folder_spec.specs.State.{present, IsSound}
 use Rattle.folder_spec.specs.Event.{Told, FromTo}
 use Rattle.folder_spec.specs.View.{Found, NoEntry, Folder, FileOf, Special, View, kind_found}
-use Rattle.folder_spec.specs.Seen.{seen, IsSeen}
+use Rattle.folder_spec.specs.Seen.{IfSeen, IsSeen, seen}
 use Rattle.folder_spec.specs.Listing.{Item, IsListing}
 use Rattle.folder_spec.proofs.Paths.{below-append, below-sibling}
 use Rattle.folder_spec.proofs.Tellings.{from_to_more}
@@ -142,22 +142,22 @@ module _ (at : Path) (most : ℕ) (items : List Item) (index : ℕ) (t0 t1 : Opt
   pub went_so_far : FromTo (Removing (below_only at (most + 1))) t0 t1
   went_so_far = from_to_more (SoFar at most items index) (Removing (below_only at (most + 1))) t0 t1 (λ a b is h. h.went) so_far
 
-  pub entries_done : (n0 n1 : ℕ) → n0 ≤ n1 → length items ≤ index → ((b : Told) → t1 ≡ Some b → IsSound b.state) → ((v : View) → IsSeen t0 v → IsListing v at items)
+  pub entries_done : (n0 n1 : ℕ) → n0 ≤ n1 → length items ≤ index → ((b : Told) → t1 ≡ Some b → IsSound b.state) → IfSeen t0 (λ v. IsListing v at items)
       → Removes (below_only at (most + 1)) t0 t1 n0 n1 (Ok tt)
   entries_done n0 n1 le all_ sound listing = done_exit (below_only at (most + 1)) t0 t1 n0 n1 went_so_far (bare t0 t1 so_far sound listing) le
     where
       bare : (t0 t1 : Option Told) → FromTo (SoFar at most items index) t0 t1 → ((b : Told) → t1 ≡ Some b → IsSound b.state)
-          → ((v : View) → IsSeen t0 v → IsListing v at items) → (v : View) → IsSeen t1 v → IsBare (below_only at (most + 1)) v
+          → IfSeen t0 (λ v. IsListing v at items) → IfSeen t1 (λ v. IsBare (below_only at (most + 1)) v)
       bare (Some a) (Some b) so_far sound listing v is =
           subst (IsBare (below_only at (most + 1))) (sym is) (all_gone at most items index a b all_ (sound b refl) (listing (seen a.state) refl) so_far)
       bare None (Some b) so_far sound listing v is = absurd so_far
       bare t None so_far sound listing v is = absurd is
 
-  module _ (item : Item) (fits : index < length items) (is_item : (d : Item) → slice_index_or items index d ≡ item) (listing : (v : View) → IsSeen t0 v → IsListing v at items) where
-    pub entry_kind : (v : View) → IsSeen t1 v → item.kind ≡ kind_found (v (child at item.name))
+  module _ (item : Item) (fits : index < length items) (is_item : (d : Item) → slice_index_or items index d ≡ item) (listing : IfSeen t0 (λ v. IsListing v at items)) where
+    pub entry_kind : IfSeen t1 (λ v. item.kind ≡ kind_found (v (child at item.name)))
     entry_kind v is = kind t0 t1 so_far listing is
       where
-        kind : (t0 t1 : Option Told) → FromTo (SoFar at most items index) t0 t1 → ((v : View) → IsSeen t0 v → IsListing v at items) → IsSeen t1 v
+        kind : (t0 t1 : Option Told) → FromTo (SoFar at most items index) t0 t1 → IfSeen t0 (λ v. IsListing v at items) → IsSeen t1 v
             → item.kind ≡ kind_found (v (child at item.name))
         kind (Some a) (Some b) so_far listing is =
             kind_left at most items index item a b fits is_item (listing (seen a.state) refl) so_far ∙ ap (λ w. kind_found (w (child at item.name))) (sym is)
@@ -167,8 +167,8 @@ module _ (at : Path) (most : ℕ) (items : List Item) (index : ℕ) (t0 t1 : Opt
     pub one_more_from : (t2 : Option Told) (n1 n2 : ℕ) → Removes (from (child at item.name) most) t1 t2 n1 n2 (Ok tt) → FromTo (SoFar at most items (index + 1)) t0 t2
     one_more_from t2 n1 n2 h = on t0 t1 t2 so_far listing h.moments h.bare
       where
-        on : (t0 t1 t2 : Option Told) → FromTo (SoFar at most items index) t0 t1 → ((v : View) → IsSeen t0 v → IsListing v at items)
-            → FromTo (Removing (from (child at item.name) most)) t1 t2 → ((v : View) → IsSeen t2 v → IsBare (from (child at item.name) most) v)
+        on : (t0 t1 t2 : Option Told) → FromTo (SoFar at most items index) t0 t1 → IfSeen t0 (λ v. IsListing v at items)
+            → FromTo (Removing (from (child at item.name) most)) t1 t2 → IfSeen t2 (λ v. IsBare (from (child at item.name) most) v)
             → FromTo (SoFar at most items (index + 1)) t0 t2
         on (Some a) (Some b) (Some c) so_far listing went bare =
             one_more at most items index item a b c fits is_item (listing (seen a.state) refl) so_far went (bare (seen c.state) refl)
@@ -186,10 +186,10 @@ module _ (at : Path) (most : ℕ) (items : List Item) (index : ℕ) (t0 t1 : Opt
 
 -- A directory without entries, and one with some that are too deep.
 pub none_listed : (at : Path) (most : ℕ) (items : List Item) (t u : Option Told) (n0 n1 : ℕ) → u ≡ t → n0 ≤ n1 → items ≡ [] → ((b : Told) → u ≡ Some b → IsSound b.state)
-    → ((v : View) → IsSeen t v → IsListing v at items) → Removes (below_only at most) t u n0 n1 (Ok tt)
+    → IfSeen t (λ v. IsListing v at items) → Removes (below_only at most) t u n0 n1 (Ok tt)
 none_listed at most items t u n0 n1 same le none sound listing = done_exit (below_only at most) t u n0 n1 (none_from (below_only at most) t u same) (bare t u same sound listing) le
   where
-    bare : (t u : Option Told) → u ≡ t → ((b : Told) → u ≡ Some b → IsSound b.state) → ((v : View) → IsSeen t v → IsListing v at items) → (v : View) → IsSeen u v
+    bare : (t u : Option Told) → u ≡ t → ((b : Told) → u ≡ Some b → IsSound b.state) → IfSeen t (λ v. IsListing v at items) → (v : View) → IsSeen u v
         → IsBare (below_only at most) v
     bare (Some a) (Some b) same sound listing v is =
         let one : b ≡ a = cc same in
@@ -204,7 +204,7 @@ first_too_deep at item items v listing =
     (item.name ∷ [], omega arith, λ none. right.0 (sym right.1 ∙ ap kind_found none))
 
 pub too_deep : (at : Path) (most : ℕ) (items : List Item) (t u : Option Told) (n0 n1 : ℕ) → u ≡ t → n0 ≤ n1 → items ≢ [] → most ≡ 0
-    → ((v : View) → IsSeen t v → IsListing v at items) → Removes (below_only at most) t u n0 n1 (Err Depth)
+    → IfSeen t (λ v. IsListing v at items) → Removes (below_only at most) t u n0 n1 (Err Depth)
 too_deep at most items t u n0 n1 same le some shallow listing = record {
   moments = none_from (below_only at most) t u same;
   bare = tt;
@@ -218,7 +218,7 @@ too_deep at most items t u n0 n1 same le some shallow listing = record {
     deep (item ∷ items) v some listing = first_too_deep at item items v listing
 
 -- a listing that fell
-pub listing_exit : (at : Path) (most : ℕ) (t u : Option Told) (n0 n1 : ℕ) (fault : FolderFault) → u ≡ t → ((v : View) → IsSeen t v → v at ≡ Folder)
+pub listing_exit : (at : Path) (most : ℕ) (t u : Option Told) (n0 n1 : ℕ) (fault : FolderFault) → u ≡ t → IfSeen t (λ v. v at ≡ Folder)
     → Answers {T = List Item} t (λ v. v at ≡ Folder) (λ v items. IsListing v at items) (Err fault) → Counts {T = List Item} t n0 n1 (Err fault)
     → Removes (below_only at most) t u n0 n1 (Err (fault_of fault))
 listing_exit at most t u n0 n1 fault same directory answer counts = record {

@@ -6,8 +6,8 @@ use Rattle.folder_spec.specs.declared.FolderFault.{FolderFault}
 use Rattle.folder_spec.specs.Path.{Path, below}
 use Rattle.folder_spec.specs.State.{present, HasFile, IsSound}
 use Rattle.folder_spec.specs.Event.{Rename, IsFree, IsFilePlace, Allowed, Told, Changes, FromTo}
-use Rattle.folder_spec.specs.View.{Found, NoEntry, Folder, FileOf, Special, View, kind_found}
-use Rattle.folder_spec.specs.Seen.{seen, IsSeen, ShowsFile, ShowsFree, ShowsFilePlace}
+use Rattle.folder_spec.specs.View.{Found, NoEntry, Folder, FileOf, Special, kind_found}
+use Rattle.folder_spec.specs.Seen.{IfSeen, IsSeen, ShowsFile, ShowsFilePlace, ShowsFree, seen}
 use Rattle.folder_spec.proofs.Seen.{free_seen, has_file_seen, file_place_seen, file_place_shown, may_call_allowed, seen_of}
 use Rattle.folder_spec.specs.Replace.{IsNewFile}
 use Rattle.folder_spec.proofs.Tellings.{from_to_both, from_to_more}
@@ -31,7 +31,7 @@ found_file t u at kind is_file same answer a is =
     by_kind Special e = cc
 
 pub found_free : (t u : Option Told) (at : Path) (kind : Kind) → kind ≢ File → u ≡ t → Answers t (λ v. Unit {0}) (λ v k. k ≡ kind_found (v at)) (Ok kind)
-    → ((v : View) → IsSeen t v → ShowsFilePlace v at) → FromTo (λ a b. IsFree (present b.state) at) t u
+    → IfSeen t (λ v. ShowsFilePlace v at) → FromTo (λ a b. IsFree (present b.state) at) t u
 found_free None u at kind apart same answer place = subst (FromTo (λ a b. IsFree (present b.state) at) None) (sym same) tt
 found_free (Some a) u at kind apart same answer place =
     subst (FromTo (λ a b. IsFree (present b.state) at) (Some a)) (sym same)

@@ -4,8 +4,8 @@ use Rattle.folder_spec.specs.declared.FolderFault.{FolderFault}
 use Rattle.folder_spec.specs.Path.{Path}
 use Rattle.folder_spec.specs.State.{Node, present}
 use Rattle.folder_spec.specs.Event.{Create, Append, Sync, IsFree, Allowed, Told, Changes, FromTo}
-use Rattle.folder_spec.specs.View.{FileOf, View, found}
-use Rattle.folder_spec.specs.Seen.{seen, IsSeen, ShowsFile}
+use Rattle.folder_spec.specs.View.{FileOf, found}
+use Rattle.folder_spec.specs.Seen.{IfSeen, ShowsFile, seen}
 use Rattle.folder_spec.specs.Replace.{IsNewNode, IsNewFile}
 use Rattle.folder_spec.proofs.Tellings.{from_to_both, from_to_more}
 use Rattle.folder_spec.proofs.Seen.{has_file_seen, seen_of}
@@ -55,17 +55,17 @@ finishes_from at t u (Ok done) changes before files bytes h = (
 
 -- a new file is seen
 pub new_file_seen : (at : Path) (node : Node) (before now : Option Told) → FromTo (λ a b. IsNewNode node a.state b.state (present b.state at)) before now
-    → (v : View) → IsSeen now v → v at ≡ FileOf node.now
+    → IfSeen now (λ v. v at ≡ FileOf node.now)
 new_file_seen at node (Some a) (Some b) file v is =
     ap (λ w. w at) is ∙ ap (found (λ n. (b.state.nodes n).now)) file.is ∙ ap (λ (x : Node). FileOf x.now) file.holds
 new_file_seen at node None (Some b) file v is = absurd file
 new_file_seen at node before None file v is = absurd is
 
-pub writing_seen : (files : List (List ℕ)) (at : Path) (bytes : List ℕ) (before now : Option Told) → IsWriting files at bytes before now → (v : View) → IsSeen now v → v at ≡ FileOf bytes
+pub writing_seen : (files : List (List ℕ)) (at : Path) (bytes : List ℕ) (before now : Option Told) → IsWriting files at bytes before now → IfSeen now (λ v. v at ≡ FileOf bytes)
 writing_seen files at bytes before now h v is = new_file_seen at (record { now = bytes; kept = [] }) before now h.file v is
 
 -- so a call on it is allowed
-pub file_allowed : (t : Option Told) (at : Path) → ((v : View) → IsSeen t v → ShowsFile v at) → (a : Told) → t ≡ Some a → Allowed a.state (Sync at)
+pub file_allowed : (t : Option Told) (at : Path) → IfSeen t (λ v. ShowsFile v at) → (a : Told) → t ≡ Some a → Allowed a.state (Sync at)
 file_allowed t at shown a is = has_file_seen a.state at (shown (seen a.state) (seen_of t a is))
 
 pub free_allowed : (at : Path) (t u : Option Told) → FromTo (λ a b. IsFree (present b.state) at) t u → (a : Told) → u ≡ Some a → Allowed a.state (Create at)

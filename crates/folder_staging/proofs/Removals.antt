@@ -16,7 +16,7 @@ use Rattle.folder_spec.specs.View.{Found, NoEntry, Folder, FileOf, Special, View
 use Rattle.folder_spec.specs.declared.Kind.{Kind}
 use Rattle.folder_spec.specs.declared.Kind.TheVariants.{Missing, Dir, File}
 use Rattle.folder_spec.specs.declared.Kind.TheVariants as kind
-use Rattle.folder_spec.specs.Seen.{seen, IsSeen, put_found, seen_after}
+use Rattle.folder_spec.specs.Seen.{IfSeen, IsSeen, put_found, seen, seen_after}
 use Rattle.folder_spec.proofs.Paths.{not_below, path_eq-same, one_or_not, append-cancel}
 use Rattle.folder_spec.proofs.Tables.{put-same, put-other, present_is_table, last_of-push, among-push}
 use Rattle.folder_spec.proofs.Moments.{went_nowhere, went_on, went_by_call, went_more, went_to}
@@ -237,17 +237,17 @@ pub none_from : (r : Reach) (t u : Option Told) → u ≡ t → FromTo (Removing
 none_from r t u same = from_to_same (Removing r) t u same (run_none r)
 
 -- all is done
-pub done_exit : (r : Reach) (t u : Option Told) (n0 n1 : ℕ) → FromTo (Removing r) t u → ((v : View) → IsSeen u v → IsBare r v) → n0 ≤ n1 → Removes r t u n0 n1 (Ok tt)
+pub done_exit : (r : Reach) (t u : Option Told) (n0 n1 : ℕ) → FromTo (Removing r) t u → IfSeen u (λ v. IsBare r v) → n0 ≤ n1 → Removes r t u n0 n1 (Ok tt)
 done_exit r t u n0 n1 went bare le = record { moments = went; bare = bare; answer = answer t u went bare; grows = le; failed = λ e. cc e }
   where
-    answer : (t u : Option Told) → FromTo (Removing r) t u → ((v : View) → IsSeen u v → IsBare r v) → (v : View) → IsSeen t v → RemovesAs r v (Ok tt)
+    answer : (t u : Option Told) → FromTo (Removing r) t u → IfSeen u (λ v. IsBare r v) → IfSeen t (λ v. RemovesAs r v (Ok tt))
     answer (Some a) (Some b) went bare v is =
         subst (λ w. RemovesAs r w (Ok tt)) (sym is) (done_as r a.state b.state (removing_so_far r a b went) (bare (seen b.state) refl))
     answer (Some a) None went bare v is = absurd went
     answer None u went bare v is = absurd is
 
 -- it ends before any call
-pub no_call_exit : (r : Reach) (t : Option Told) (n : ℕ) (fault : RemovalFault) → fault ≢ Failed → ((v : View) → IsSeen t v → RemovesAs r v (Err fault))
+pub no_call_exit : (r : Reach) (t : Option Told) (n : ℕ) (fault : RemovalFault) → fault ≢ Failed → IfSeen t (λ v. RemovesAs r v (Err fault))
     → Removes r t t n n (Err fault)
 no_call_exit r t n fault other answer = record {
   moments = none_from r t t refl;
@@ -272,7 +272,7 @@ module _ (r r' : Reach) (within : (q : Path) → IsWithin r q → IsWithin r' q)
   fault_back a b Failed went met = tt
   fault_back a b NoMemory went met = tt
 
-  answer_back : (t u : Option Told) (fault : RemovalFault) → FromTo (Removing r') t u → ((w : View) → IsSeen u w → RemovesAs r w (Err fault)) → (v : View) → IsSeen t v
+  answer_back : (t u : Option Told) (fault : RemovalFault) → FromTo (Removing r') t u → IfSeen u (λ w. RemovesAs r w (Err fault)) → (v : View) → IsSeen t v
       → RemovesAs r' v (Err fault)
   answer_back (Some a) (Some b) fault went met v is = subst (λ w. RemovesAs r' w (Err fault)) (sym is) (fault_back a b fault went (met (seen b.state) refl))
   answer_back (Some a) None fault went met v is = absurd went
@@ -314,14 +314,14 @@ call_exit at most call t u n0 n1 (Ok done) within allowed gone sound changes cou
     (bare t u gone sound changes) (never_falls {T = Unit {0}} t n0 n1 (Ok done) counts)
   where
     bare : (t u : Option Told) → ((a b : Told) → t ≡ Some a → Steps call a b (Ok tt) → seen b.state at ≡ NoEntry) → ((b : Told) → u ≡ Some b → IsSound b.state)
-        → Changes call t u (Ok done) → (v : View) → IsSeen u v → IsBare (from at most) v
+        → Changes call t u (Ok done) → IfSeen u (λ v. IsBare (from at most) v)
     bare (Some a) (Some b) gone sound changes v is =
         subst (IsBare (from at most)) (sym is) (bare_at b.state at most (sound b refl) (gone a b refl changes))
     bare None (Some b) gone sound changes v is = absurd changes
     bare t None gone sound changes v is = absurd is
 
 -- What stands at a path is removed, by its kind.
-pub missing_exit : (at : Path) (most : ℕ) (t : Option Told) (n : ℕ) → ((a : Told) → t ≡ Some a → IsSound a.state) → ((v : View) → IsSeen t v → Missing ≡ kind_found (v at))
+pub missing_exit : (at : Path) (most : ℕ) (t : Option Told) (n : ℕ) → ((a : Told) → t ≡ Some a → IsSound a.state) → IfSeen t (λ v. Missing ≡ kind_found (v at))
     → Removes (from at most) t t n n (Ok tt)
 missing_exit at most t n sound kind = done_exit (from at most) t t n n (none_from (from at most) t t refl) (bare t sound kind) (omega arith)
   where
@@ -331,13 +331,13 @@ missing_exit at most t n sound kind = done_exit (from at most) t t n n (none_fro
     nothing (FileOf bytes) e = cc
     nothing Special e = cc
 
-    bare : (t : Option Told) → ((a : Told) → t ≡ Some a → IsSound a.state) → ((v : View) → IsSeen t v → Missing ≡ kind_found (v at)) → (v : View) → IsSeen t v
+    bare : (t : Option Told) → ((a : Told) → t ≡ Some a → IsSound a.state) → IfSeen t (λ v. Missing ≡ kind_found (v at)) → (v : View) → IsSeen t v
         → IsBare (from at most) v
     bare (Some a) sound kind v is = subst (IsBare (from at most)) (sym is) (bare_at a.state at most (sound a refl) (nothing (seen a.state at) (kind (seen a.state) refl)))
     bare None sound kind v is = absurd is
 
 pub file_exit : (at : Path) (most : ℕ) (t u : Option Told) (n0 n1 : ℕ) (result : Result (Unit {0}) FolderFault)
-    → ((a : Told) → t ≡ Some a → IsSound a.state) → ((b : Told) → u ≡ Some b → IsSound b.state) → ((v : View) → IsSeen t v → File ≡ kind_found (v at))
+    → ((a : Told) → t ≡ Some a → IsSound a.state) → ((b : Told) → u ≡ Some b → IsSound b.state) → IfSeen t (λ v. File ≡ kind_found (v at))
     → Changes (RemoveFile at) t u result → Counts t n0 n1 result → Removes (from at most) t u n0 n1 (ended_as result)
 file_exit at most t u n0 n1 result before sound kind changes counts =
     call_exit at most (RemoveFile at) t u n0 n1 result (itself at most)
@@ -352,7 +352,7 @@ file_exit at most t u n0 n1 result before sound kind changes counts =
 
 -- a directory, after what stood below it
 pub dir_exit : (at : Path) (most : ℕ) (t0 t1 t2 : Option Told) (n0 n1 n2 : ℕ) (result : Result (Unit {0}) FolderFault) → at ≢ []
-    → ((a : Told) → t1 ≡ Some a → IsSound a.state) → ((b : Told) → t2 ≡ Some b → IsSound b.state) → ((v : View) → IsSeen t0 v → Dir ≡ kind_found (v at))
+    → ((a : Told) → t1 ≡ Some a → IsSound a.state) → ((b : Told) → t2 ≡ Some b → IsSound b.state) → IfSeen t0 (λ v. Dir ≡ kind_found (v at))
     → Removes (below_only at most) t0 t1 n0 n1 (Ok tt) → Changes (RemoveDir at) t1 t2 result → Counts t1 n1 n2 result → Removes (from at most) t0 t2 n0 n2 (ended_as result)
 dir_exit at most t0 t1 t2 n0 n1 n2 result some before sound kind emptied changes counts =
     exit_after (from at most) t0 t1 t2 n0 n1 n2 (ended_as result)
@@ -367,8 +367,8 @@ dir_exit at most t0 t1 t2 n0 n1 n2 result some before sound kind emptied changes
     folder_at (FileOf bytes) e = cc
     folder_at Special e = cc
 
-    allowed : (t0 t1 : Option Told) → ((v : View) → IsSeen t0 v → Dir ≡ kind_found (v at)) → FromTo (Removing (below_only at most)) t0 t1
-        → ((v : View) → IsSeen t1 v → IsBare (below_only at most) v) → (b : Told) → t1 ≡ Some b → Allowed b.state (RemoveDir at)
+    allowed : (t0 t1 : Option Told) → IfSeen t0 (λ v. Dir ≡ kind_found (v at)) → FromTo (Removing (below_only at most)) t0 t1
+        → IfSeen t1 (λ v. IsBare (below_only at most) v) → (b : Told) → t1 ≡ Some b → Allowed b.state (RemoveDir at)
     allowed (Some a) (Some c) kind went bare b is =
         let same : c ≡ b = cc is in
         let h : IsRemoving (below_only at most) a.state c.state = removing_so_far (below_only at most) a c went in
@@ -388,7 +388,7 @@ dir_exit at most t0 t1 t2 n0 n1 n2 result some before sound kind emptied changes
     allowed None None kind went bare b is = cc is
 
 -- what is neither a file nor a directory
-pub other_exit : (at p : Path) (most : ℕ) (t : Option Told) (n : ℕ) → p ≡ at → ((v : View) → IsSeen t v → kind.Other ≡ kind_found (v at))
+pub other_exit : (at p : Path) (most : ℕ) (t : Option Told) (n : ℕ) → p ≡ at → IfSeen t (λ v. kind.Other ≡ kind_found (v at))
     → Removes (from at most) t t n n (Err (Other p))
 other_exit at p most t n copied odd =
     no_call_exit (from at most) t n (Other p) (λ e. cc e)

@@ -13,7 +13,7 @@ use Rattle.folder_spec.specs.Moments.{Went}
 use Rattle.folder_spec.specs.Region.{IsAsBefore, WorksAt, StagesAt, StagesOrPuts, WritesOnlyNew, apart_from, apart_from_both, at_or_below}
 use Rattle.folder_spec.specs.Replace.{IsNewFile, IsStaging}
 use Rattle.folder_spec.specs.View.{NoEntry, Folder, FileOf, View, found}
-use Rattle.folder_spec.specs.Seen.{seen, IsSeen, ShowsFree}
+use Rattle.folder_spec.specs.Seen.{IfSeen, IsSeen, ShowsFree, seen}
 use Rattle.folder_spec.specs.Edit.{Edit, grafted, edited, directory_view, directory_edit, file_among, file_view, file_edit, folder_view, IsStagedView, HasPublished}
 use Rattle.folder_spec.proofs.Paths.{below-append, below-both, begins_or_not, not_below}
 use Rattle.folder_spec.proofs.Tables.{put-same, put-other, present_is_table, last_of-push}
@@ -381,7 +381,7 @@ places_folder staged at t u v result apart publishes changes before fronts made 
         (record { settled = settled (apart_from staged) (record { at = at; made = made } ∷ []) a.state b.state k.published; gone = k.gone })) first.1 changes
 
 -- the two calls are allowed
-pub free_place : (t : Option Told) (at : Path) → ((v : View) → IsSeen t v → ShowsFree v at) → (a : Told) → t ≡ Some a → Allowed a.state (MakeDir at)
+pub free_place : (t : Option Told) (at : Path) → IfSeen t (λ v. ShowsFree v at) → (a : Told) → t ≡ Some a → Allowed a.state (MakeDir at)
 free_place t at free a is = free_seen a.state at (free (seen a.state) (seen_of t a is))
 
 pub folder_allowed : (t : Option Told) (staged at : Path) → MayPublishFolder t staged at → (a : Told) → t ≡ Some a → Allowed a.state (Rename staged at)

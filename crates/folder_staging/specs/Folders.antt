@@ -9,7 +9,7 @@ use Rattle.folder_spec.specs.Moments.{Moments}
 use Rattle.folder_spec.specs.Region.{IsAsBefore, StagesAt, StagesOrPuts, apart_from, apart_from_both}
 use Rattle.folder_spec.specs.Written.{HoldFronts}
 use Rattle.folder_spec.specs.View.{Folder, View}
-use Rattle.folder_spec.specs.Seen.{IsSeen, ShowsFree}
+use Rattle.folder_spec.specs.Seen.{IfSeen, ShowsFree}
 use Rattle.folder_spec.specs.Edit.{Edit, folder_view, IsStagedView, Publishes, HasPublished, HasSettled}
 use Rattle.folder_staging.specs.Places.{ArePlacesApart}
 
@@ -39,8 +39,8 @@ BeginsFolder at old new result = (contents : List (List ℕ)) → StagesFolder c
 pub record MayPublishFolder (told : Option Told) (staged at : Path) : Type 0 where
   pub below_base : staged ≢ []
   pub apart : ArePlacesApart staged at
-  pub there : (v : View) → IsSeen told v → v staged ≡ Folder
-  pub free : (v : View) → IsSeen told v → ShowsFree v at
+  pub there : IfSeen told (λ v. v staged ≡ Folder)
+  pub free : IfSeen told (λ v. ShowsFree v at)
 
 -- Since s0 what was staged is being published by this edit, and all else is as it was.
 pub record IsPublishingFolder (contents : List (List ℕ)) (staged : Path) (e : Edit) (s0 s : State) : Type 0 where

@@ -2,12 +2,11 @@
 use Rattle.std.specs.Prelude.{◌≡◌, ◌≢◌, Option, [], None}
 use Rattle.folder_spec.specs.Path.{Path, below}
 use Rattle.folder_spec.specs.Event.{Told}
-use Rattle.folder_spec.specs.View.{View}
-use Rattle.folder_spec.specs.Seen.{IsSeen, ShowsFile, ShowsFilePlace}
+use Rattle.folder_spec.specs.Seen.{IfSeen, ShowsFile, ShowsFilePlace}
 
 -- a file is seen there, or may be made there
 abbrev pub IsPlace : Option Told → Path → Type 0
-IsPlace told at = (v : View) → IsSeen told v → ShowsFilePlace v at
+IsPlace told at = IfSeen told (λ v. ShowsFilePlace v at)
 
 -- a place below the base
 pub record IsStage (told : Option Told) (staged : Path) : Type 0 where
@@ -28,6 +27,6 @@ pub record MayPublish (told : Option Told) (staged at : Path) : Type 0 where
 -- A file that is staged at the one place can be put at the other.
 pub record MayPublishStaged (told : Option Told) (staged at : Path) : Type 0 where
   pub below_base : staged ≢ []
-  pub there : (v : View) → IsSeen told v → ShowsFile v staged
+  pub there : IfSeen told (λ v. ShowsFile v staged)
   pub place : IsPlace told at
   pub apart : ArePlacesApart staged at

@@ -9,7 +9,7 @@ use Rattle.folder_spec.specs.State.{Table, State, present, IsTableOf}
 use Rattle.folder_spec.specs.Event.{Call, MakeDir, Create, Append, Sync, Settle, Rename, RemoveFile, RemoveDir, Told}
 use Rattle.folder_spec.specs.Moments.{Moments}
 use Rattle.folder_spec.specs.View.{NoEntry, Special, View}
-use Rattle.folder_spec.specs.Seen.{IsSeen}
+use Rattle.folder_spec.specs.Seen.{IfSeen}
 use Rattle.folder_staging.specs.declared.removal.RemovalFault.{RemovalFault}
 use Rattle.folder_staging.specs.declared.removal.RemovalFault.TheVariants.{Depth, Other, Failed, NoMemory}
 
@@ -76,8 +76,8 @@ RemovesAs r v (Err NoMemory) = Unit {0}
 -- A removal within the reach, from what a folder told and its count of faults before to those afterwards.
 pub record Removes (r : Reach) (before after : Option Told) (old new : ℕ) (result : Result (Unit {0}) RemovalFault) : Type 0 where
   pub moments : Moments (IsRemoving r) (λ s0 s e. RemovesWithin r e.call) before after
-  pub bare : OnOk result ((v : View) → IsSeen after v → IsBare r v)
-  pub answer : (v : View) → IsSeen before v → RemovesAs r v result
+  pub bare : OnOk result (IfSeen after (λ v. IsBare r v))
+  pub answer : IfSeen before (λ v. RemovesAs r v result)
   pub grows : old ≤ new
   pub failed : result ≡ Err Failed → CountRose old new
 

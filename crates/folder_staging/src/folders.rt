@@ -1,6 +1,5 @@
 //! Staging a folder whole, and publishing it.
-ghost use Rattle.folder_spec.specs.View.{View};
-ghost use Rattle.folder_spec.specs.Seen.{IsSeen, ShowsFree};
+ghost use Rattle.folder_spec.specs.Seen.{IfSeen, ShowsFree};
 ghost use Rattle.folder_model.specs.Answers.{CountsAbove};
 ghost use Rattle.folder_staging.specs.Folders.{BeginsFolder, MayPublishFolder, PublishesFolder, PlacesFolder};
 
@@ -10,7 +9,7 @@ use folder_spec::FolderFault;
 /// Begins a folder at a free place where nothing else looks, or in a folder that is being staged. Its
 /// files and directories are staged in it one by one.
 pub fn begin_folder<F: Folder>(folder: &mut F, at: &FPath) -> Result<(), FolderFault>
-    requires { (v : View) → IsSeen (F.told folder.old) v → ShowsFree v at.now }
+    requires { IfSeen (F.told folder.old) (λ v. ShowsFree v at.now) }
     ensures begun { BeginsFolder at.now (F.told folder.old) (F.told folder.new) result }
     ensures counts { CountsAbove (F.faults folder.old) (F.faults folder.new) result }
 {

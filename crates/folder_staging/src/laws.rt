@@ -8,14 +8,14 @@ ghost use Rattle.folder_spec.specs.Written.{HoldFronts};
 ghost use Rattle.folder_spec.specs.Replace.{IsNewFile};
 ghost use Rattle.folder_spec.specs.View.{FileOf, View};
 ghost use Rattle.folder_spec.specs.Edit.{edited, file_edit, directory_edit};
-ghost use Rattle.folder_spec.specs.Seen.{IsSeen};
+ghost use Rattle.folder_spec.specs.Seen.{IfSeen};
 ghost use Rattle.folder_staging.specs.Pieces.{IsWriting, Stages};
 ghost use Rattle.folder_staging.specs.Removal.{Reach, IsRemoving, RemovesWithin};
 ghost use Rattle.folder_staging.specs.Folders.{StagesFolder, HasStaged, IsStagedFolder};
 
 /// A file that is being written is seen, with the bytes that it has so far.
 pub fn written_files_are_seen()
-    ensures { (files : List (List ℕ)) (at : Path) (bytes : List ℕ) (before now : Option Told) → IsWriting files at bytes before now → (v : View) → IsSeen now v → v at ≡ FileOf bytes }
+    ensures { (files : List (List ℕ)) (at : Path) (bytes : List ℕ) (before now : Option Told) → IsWriting files at bytes before now → IfSeen now (λ v. v at ≡ FileOf bytes) }
 {}
 
 /// A file that is staged may be one of more files.
@@ -41,7 +41,7 @@ pub fn staged_folders_gain_files()
 
 /// What is staged is seen where it is staged.
 pub fn staged_folders_are_seen()
-    ensures { (contents : List (List ℕ)) (at : Path) (made : View) (before now : Option Told) → HasStaged contents at made before now → (v : View) → IsSeen now v → (rest : Path) → v (at ++ rest) ≡ made rest }
+    ensures { (contents : List (List ℕ)) (at : Path) (made : View) (before now : Option Told) → HasStaged contents at made before now → IfSeen now (λ v. (rest : Path) → v (at ++ rest) ≡ made rest) }
 {}
 
 /// A removal leaves all that is not at its path or below it, and writes no file.

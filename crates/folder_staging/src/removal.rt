@@ -1,7 +1,7 @@
 //! Removing all that stands at a path or below it.
 ghost use Rattle.std.specs.Prelude.{◌≡◌, ◌≢◌, ◌+◌, []};
-ghost use Rattle.folder_spec.specs.View.{View, kind_found};
-ghost use Rattle.folder_spec.specs.Seen.{IsSeen};
+ghost use Rattle.folder_spec.specs.View.{kind_found};
+ghost use Rattle.folder_spec.specs.Seen.{IfSeen};
 ghost use Rattle.folder_spec.specs.declared.Kind.TheVariants.{Dir};
 ghost use Rattle.folder_spec.specs.Listing.{IsListing};
 ghost use Rattle.folder_staging.specs.Removal.{Removes, from, below_only, deepest, fault_of, ended_as};
@@ -66,7 +66,7 @@ fn remove_entry<F: Folder>(
     most: u64,
 ) -> Result<(), RemovalFault>
     requires below_base { at.now ≢ [] }
-    requires kind { (v : View) → IsSeen (F.told folder.old) v → kind ≡ kind_found (v at.now) }
+    requires kind { IfSeen (F.told folder.old) (λ v. kind ≡ kind_found (v at.now)) }
     ensures { Removes (from at.now most) (F.told folder.old) (F.told folder.new) (F.faults folder.old) (F.faults folder.new) result }
 {
     match kind {
@@ -83,7 +83,7 @@ fn remove_entry<F: Folder>(
 // Removes all that stands below the directory, down to so many parts.
 #[cycle(removal)]
 fn empty_dir<F: Folder>(folder: &mut F, at: &FPath, most: u64) -> Result<(), RemovalFault>
-    requires { (v : View) → IsSeen (F.told folder.old) v → kind_found (v at.now) ≡ Dir }
+    requires { IfSeen (F.told folder.old) (λ v. kind_found (v at.now) ≡ Dir) }
     ensures { Removes (below_only at.now most) (F.told folder.old) (F.told folder.new) (F.faults folder.old) (F.faults folder.new) result }
 {
     let entries = folder.list(at)?;
@@ -105,7 +105,7 @@ fn remove_entries<F: Folder>(
     entries: &[Entry],
     most: u64,
 ) -> Result<(), RemovalFault>
-    requires { (v : View) → IsSeen (F.told folder.old) v → IsListing v at.now entries.now }
+    requires { IfSeen (F.told folder.old) (λ v. IsListing v at.now entries.now) }
     ensures { Removes (below_only at.now (most + 1)) (F.told folder.old) (F.told folder.new) (F.faults folder.old) (F.faults folder.new) result }
 {
     for entry in entries {
@@ -120,7 +120,7 @@ fn remove_entries<F: Folder>(
 /// At every moment each table has below it what one had at entry, or nothing, and elsewhere what that one
 /// had; no file is written. After Ok nothing is seen below it.
 pub fn remove_below<F: Folder>(folder: &mut F, at: &FPath) -> Result<(), RemovalFault>
-    requires { (v : View) → IsSeen (F.told folder.old) v → kind_found (v at.now) ≡ Dir }
+    requires { IfSeen (F.told folder.old) (λ v. kind_found (v at.now) ≡ Dir) }
     ensures { Removes (below_only at.now deepest) (F.told folder.old) (F.told folder.new) (F.faults folder.old) (F.faults folder.new) result }
 {
     empty_dir(folder, at, DEEPEST)

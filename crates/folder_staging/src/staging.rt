@@ -3,8 +3,7 @@ ghost use Rattle.std.specs.Prelude.{◌≡◌, ◌↔◌, [], ◌∷◌, IfOk, O
 ghost use Rattle.folder_spec.specs.State.{present};
 ghost use Rattle.folder_spec.specs.Event.{FromTo, IsFree};
 ghost use Rattle.folder_spec.specs.Replace.{IsNewFile};
-ghost use Rattle.folder_spec.specs.View.{View};
-ghost use Rattle.folder_spec.specs.Seen.{IsSeen, ShowsFile, ShowsFilePlace};
+ghost use Rattle.folder_spec.specs.Seen.{IfSeen, ShowsFile, ShowsFilePlace};
 ghost use Rattle.folder_model.specs.Answers.{CountsAbove};
 ghost use Rattle.folder_staging.specs.Pieces.{Stages, Begins, Adds, Finishes};
 ghost use Rattle.folder_staging.specs.Places.{IsStage};
@@ -15,7 +14,7 @@ use folder_spec::FolderFault;
 /// Whether a file stands at the path or may be made there.
 pub fn is_file_place<F: Folder>(folder: &mut F, at: &FPath) -> Result<bool, FolderFault>
     ensures told { F.told folder.new ≡ F.told folder.old }
-    ensures place { IfOk result (λ yes. (v : View) → IsSeen (F.told folder.old) v → (IsTrue yes ↔ ShowsFilePlace v at.now)) }
+    ensures place { IfOk result (λ yes. IfSeen (F.told folder.old) (λ v. (IsTrue yes ↔ ShowsFilePlace v at.now))) }
     ensures counts { CountsAbove (F.faults folder.old) (F.faults folder.new) result }
 {
     match folder.kind(at)? {
@@ -59,7 +58,7 @@ pub fn begin_file<F: Folder>(folder: &mut F, at: &FPath) -> Result<(), FolderFau
 
 /// Adds a piece to a file that is being written.
 pub fn add_piece<F: Folder>(folder: &mut F, at: &FPath, piece: &[u8]) -> Result<(), FolderFault>
-    requires { (v : View) → IsSeen (F.told folder.old) v → ShowsFile v at.now }
+    requires { IfSeen (F.told folder.old) (λ v. ShowsFile v at.now) }
     ensures added { Adds at.now piece.now (F.told folder.old) (F.told folder.new) result }
     ensures counts { CountsAbove (F.faults folder.old) (F.faults folder.new) result }
 {
@@ -68,7 +67,7 @@ pub fn add_piece<F: Folder>(folder: &mut F, at: &FPath, piece: &[u8]) -> Result<
 
 /// Makes a file that was written last through a crash.
 pub fn finish_file<F: Folder>(folder: &mut F, at: &FPath) -> Result<(), FolderFault>
-    requires { (v : View) → IsSeen (F.told folder.old) v → ShowsFile v at.now }
+    requires { IfSeen (F.told folder.old) (λ v. ShowsFile v at.now) }
     ensures finished { Finishes at.now (F.told folder.old) (F.told folder.new) result }
     ensures counts { CountsAbove (F.faults folder.old) (F.faults folder.new) result }
 {

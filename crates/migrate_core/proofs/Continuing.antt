@@ -13,7 +13,7 @@ use Rattle.chunk_files.specs.Reading as reading
 use Rattle.folder_spec.proofs.Tables.{present_is_table}
 use Rattle.folder_spec.specs.Event.{Told}
 use Rattle.folder_spec.specs.Path.{Path, child}
-use Rattle.folder_spec.specs.Seen.{IsSeen, under}
+use Rattle.folder_spec.specs.Seen.{IfSeen, under}
 use Rattle.folder_spec.specs.State.{present}
 use Rattle.folder_spec.specs.View.{FileOf, Folder, Found, NoEntry, Special, View, found, kind_found}
 use Rattle.folder_spec.specs.declared.Kind.{Kind}
@@ -166,7 +166,7 @@ by_read journal (Err journals.NoMemory) back = tt
 
 -- ---- what stands in the work folder
 
-pub folders_of : (t : Option Told) → AreSound t → (v : View) → IsSeen t v → HasFolders v
+pub folders_of : (t : Option Told) → AreSound t → IfSeen t (λ v. HasFolders v)
 folders_of (Some a) sound v is at name stands =
     ap (λ (w : View). w at) is
     ∙ ap (found (λ n. (a.state.nodes n).now)) (((sound a refl).tables (present a.state) (present_is_table a.state)).parents at name

@@ -3,7 +3,7 @@ use Rattle.std.proofs.Common.{◌≡◌, ◌≢◌, ℕ, List, ◌∷◌, ◌++�
 use Rattle.folder_spec.specs.declared.FolderFault.{FolderFault}
 use Rattle.folder_spec.specs.Event.{Told, FromTo}
 use Rattle.folder_spec.specs.Path.{Path}
-use Rattle.folder_spec.specs.Seen.{IsSeen, seen, under}
+use Rattle.folder_spec.specs.Seen.{IfSeen, IsSeen, seen, under}
 use Rattle.folder_spec.specs.Region.{apart_from_both}
 use Rattle.folder_spec.specs.State.{IsSound, Node}
 use Rattle.folder_spec.specs.View.{View, FileOf, found}
@@ -179,7 +179,7 @@ says_failed g j t u result other fault is h = (h.0, subst (λ r. IfOk r (λ valu
 
 -- and so does what ends a migration between two vaults that compare as the same
 pub finish_goes : {T E : Type 0} → SeenAlone → HeldIsPart → SameIsPart → (g : Migration) (from to : OpenedVault) (work : Path) → AreSides g from to work → (p : Progress) (items others : List Planned) (t u : Option Told) (result : Result T E)
-    → IsWalked t from items → IsWalked t to others → ((v : View) → IsSeen t v → match_of v (side_of from items) (side_of to others) ≡ Is Same)
+    → IsWalked t from items → IsWalked t to others → IfSeen t (λ v. match_of v (side_of from items) (side_of to others) ≡ Is Same)
     → FinishesFrom g p t u result → Goes g p Finished t u result
 finish_goes shown held_part same_part g from to work sides p items others t u result walked walked_target same h =
     finishes_goes g p t u result
@@ -191,7 +191,7 @@ finish_goes shown held_part same_part g from to work sides p items others t u re
 
 -- two walked vaults that compare as the same have one tree
 one_tree : HeldIsPart → SameIsPart → (from to : OpenedVault) (items others : List Planned) (t : Option Told) → IsWalked t from items → IsWalked t to others
-    → ((v : View) → IsSeen t v → match_of v (side_of from items) (side_of to others) ≡ Is Same) → (v : View) → IsSeen t v → HaveOneTree from to v
+    → IfSeen t (λ v. match_of v (side_of from items) (side_of to others) ≡ Is Same) → IfSeen t (λ v. HaveOneTree from to v)
 one_tree held_part same_part from to items others t walked walked_target same v is own own_target path named =
     let a = walked.plan v is own in
     let b = walked_target.plan v is own_target in
@@ -201,9 +201,9 @@ one_tree held_part same_part from to items others t walked walked_target same v 
 -- what is seen of two vaults that are left alone
 pub has_moved : HeldIsPart → SameIsPart → (from to : OpenedVault) (work : Path) (items others : List Planned) (journal : Journal) (t u : Option Told) → AreSeparate from.root to.root work → AreSound t
     → IsJournal journal → journal.source ≡ from.root → journal.target ≡ to.root → AreTold journal items → IsWalked t from items → IsWalked t to others
-    → ((v : View) → IsSeen t v → match_of v (side_of from items) (side_of to others) ≡ Is Same)
-    → MovesOnly work to.root t u → MovesOnly work from.root t u → ((v : View) → IsSeen u v → StandsIn work (done_of journal) v)
-    → (count : ℕ) → count ≡ length others → (v : View) → IsSeen u v → HasMoved from to work count v
+    → IfSeen t (λ v. match_of v (side_of from items) (side_of to others) ≡ Is Same)
+    → MovesOnly work to.root t u → MovesOnly work from.root t u → IfSeen u (λ v. StandsIn work (done_of journal) v)
+    → (count : ℕ) → count ≡ length others → IfSeen u (λ v. HasMoved from to work count v)
 has_moved held_part same_part from to work items others journal (Some a) (Some b) separate sound is source target told_items walked walked_target same beside_target beside_source says count counted v seen_is =
     record {
       source = subst (IsClean (format_of from.vault)) (sym from_same) (walked.clean w refl);
@@ -234,7 +234,7 @@ has_moved held_part same_part from to work items others journal None (Some b) se
 has_moved held_part same_part from to work items others journal (Some a) None separate sound is source target told_items walked walked_target same beside_target beside_source says count counted v seen_is = absurd seen_is
 
 -- after it is written that all is done, that stands
-pub written_stands : (work : Path) (j : Journal) (t u : Option Told) → HasWritten work j t u → (v : View) → IsSeen u v → StandsIn work j v
+pub written_stands : (work : Path) (j : Journal) (t u : Option Told) → HasWritten work j t u → IfSeen u (λ v. StandsIn work j v)
 written_stands work j (Some a) (Some b) written v is =
     ap (λ (w : View). w (journal_path work)) is ∙ ap (found (λ n. (b.state.nodes n).now)) written.replaced.new.is ∙ ap (λ (node : Node). FileOf node.now) written.replaced.new.holds
 written_stands work j None None written v is = absurd is
@@ -244,8 +244,8 @@ written_stands work j None (Some b) written v is = absurd written
 -- ---- by roots and passphrases
 
 -- a vault to which only something was brought is opened as it was, where it is clean
-opened_still : (work to : Path) (pass : List ℕ) (vault : Vault) (t u : Option Told) → AreSound t → MovesOnly work to t u → ((v : View) → IsSeen t v → IsVault (under to v) pass vault)
-    → ((v : View) → IsSeen u v → IsClean (format_of vault) (under to v)) → (v : View) → IsSeen u v → IsVault (under to v) pass vault
+opened_still : (work to : Path) (pass : List ℕ) (vault : Vault) (t u : Option Told) → AreSound t → MovesOnly work to t u → IfSeen t (λ v. IsVault (under to v) pass vault)
+    → IfSeen u (λ v. IsClean (format_of vault) (under to v)) → IfSeen u (λ v. IsVault (under to v) pass vault)
 opened_still work to pass vault (Some a) (Some b) sound went opens clean v is =
     still_opens (under to (seen a.state)) (under to v) pass vault
     (λ at stands. ap (λ (w : View). w (to ++ at)) is ∙ still_seen work to at a b (sound a refl) went stands) (clean v is) (opens (seen a.state) refl)
@@ -260,7 +260,7 @@ opened_is : (x : OpenedVault) (root : Path) → x.root ≡ root → x ≡ opened
 opened_is x root is = ap (λ r. opened_in r x.vault) is
 
 pub tree_moved : (Q : Type 0) (from to work : Path) (from_pass to_pass : List ℕ) (source target : OpenedVault) (t u : Option Told) (result : Result Done MoveFault) → source.root ≡ from → target.root ≡ to → AreSound t → MovesOnly work to t u
-    → ((v : View) → IsSeen t v → IsVault (under from v) from_pass source.vault) → ((v : View) → IsSeen t v → IsVault (under to v) to_pass target.vault)
+    → IfSeen t (λ v. IsVault (under from v) from_pass source.vault) → IfSeen t (λ v. IsVault (under to v) to_pass target.vault)
     → Placed source target t result → Moved source target work u result → EndsBy (StayGood source target t u) Q source target u result → IfOk result (λ done. MovesTree from to work from_pass to_pass done t u)
 tree_moved Q from to work from_pass to_pass source target t u (Ok done) source_at target_at sound went opens opens_target placed moved ends = record {
   source = source.vault;
@@ -276,7 +276,7 @@ tree_moved Q from to work from_pass to_pass source target t u (Ok done) source_a
 tree_moved Q from to work from_pass to_pass source target t u (Err fault) source_at target_at sound went opens opens_target placed moved ends = tt
 
 -- what is seen at first is seen where the vaults are opened
-pub moved_before : (from to work : Path) (from_pass to_pass : List ℕ) (done : Done) (t0 t u : Option Told) → ((v : View) → IsSeen t0 v → IsSeen t v) → MovesTree from to work from_pass to_pass done t u → MovesTree from to work from_pass to_pass done t0 u
+pub moved_before : (from to work : Path) (from_pass to_pass : List ℕ) (done : Done) (t0 t u : Option Told) → IfSeen t0 (λ v. IsSeen t v) → MovesTree from to work from_pass to_pass done t u → MovesTree from to work from_pass to_pass done t0 u
 moved_before from to work from_pass to_pass done t0 t u before moves = record {
   source = moves.source;
   target = moves.target;
@@ -288,7 +288,7 @@ moved_before from to work from_pass to_pass done t0 t u before moves = record {
   stays_good = λ v w is. moves.stays_good v w (before v is);
 }
 
-pub told_before : (work : Path) (from_pass to_pass : List ℕ) (done : Done) (t0 t u : Option Told) → ((v : View) → IsSeen t0 v → IsSeen t v) → (v : View) → MovesTold work from_pass to_pass done t u v → MovesTold work from_pass to_pass done t0 u v
+pub told_before : (work : Path) (from_pass to_pass : List ℕ) (done : Done) (t0 t u : Option Told) → IfSeen t0 (λ v. IsSeen t v) → (v : View) → MovesTold work from_pass to_pass done t u v → MovesTold work from_pass to_pass done t0 u v
 told_before work from_pass to_pass done t0 t u before v told = record {
   journal = told.journal;
   is = told.is;
@@ -302,6 +302,6 @@ if_ok_more P Q (Err fault) more h = tt
 
 -- of two walks, so many items were placed
 pub placed_of : {E : Type 0} (from to : OpenedVault) (items there : List Planned) (t : Option Told) (result : Result Done E) → IsWalked t from items → IsWalked t to there
-    → IfOk result (λ done. (v : View) → IsSeen t v → done.placed ≡ lacking there items) → Placed from to t result
+    → IfOk result (λ done. IfSeen t (λ v. done.placed ≡ lacking there items)) → Placed from to t result
 placed_of from to items there t (Ok done) walked walked_target placed = λ v is own own_target. (items, there, walked.plan v is own, walked_target.plan v is own_target, placed v is)
 placed_of from to items there t (Err fault) walked walked_target placed = tt

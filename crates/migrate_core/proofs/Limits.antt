@@ -14,7 +14,7 @@ use Rattle.chunk_files.specs.Sizes.{FilesAreNotMuchLonger, IsFaultless}
 use Rattle.chunk_files.proofs.LayoutSizes.{sizes_fit}
 use Rattle.folder_spec.specs.Event.{Told}
 use Rattle.folder_spec.specs.Path.{Path}
-use Rattle.folder_spec.specs.Seen.{IsSeen, ShowsFile, under}
+use Rattle.folder_spec.specs.Seen.{IfSeen, IsSeen, ShowsFile, under}
 use Rattle.folder_spec.specs.View.{Found, View, NoEntry, Folder, FileOf, Special}
 use Rattle.folder_spec.specs.declared.FolderFault.{FolderFault}
 use Rattle.folder_spec.specs.declared.FolderFault.TheVariants as folder
@@ -346,8 +346,8 @@ ends_more P Q R S from to t (Ok value) more further ends = more ends
 ends_more P Q R S from to t (Err fault) more further ends = (ends.0, taken_more R S fault further ends.1)
 
 -- where no item is placed any more
-pub ends_later : {T : Type 0} (P Q : Type 0) (Is R : View → Type 0) (from to : OpenedVault) (t u w : Option Told) (result : Result T MoveFault) → (P → Q) → ((v : View) → IsSeen t v → (x : View) × IsSeen u x)
-    → IfErr result (StopsLater Is u) → EndsBy P (Unit {0}) from to w result → EndsBy Q ((v : View) → IsSeen t v → R v) from to w result
+pub ends_later : {T : Type 0} (P Q : Type 0) (Is R : View → Type 0) (from to : OpenedVault) (t u w : Option Told) (result : Result T MoveFault) → (P → Q) → IfSeen t (λ v. (x : View) × IsSeen u x)
+    → IfErr result (StopsLater Is u) → EndsBy P (Unit {0}) from to w result → EndsBy Q (IfSeen t (λ v. R v)) from to w result
 ends_later P Q Is R from to t u w (Ok value) more after later ends = more ends
 ends_later P Q Is R from to t u w (Err fault) more after later ends = (ends.0, later_taken Is R t u fault after later)
 
@@ -360,7 +360,7 @@ if_taken P Q (Err fault) more h = taken_more P Q fault more h
 
 -- of the vaults that two roots and their passphrases are
 pub limit_in_tree : {T : Type 0} (P Q : Type 0) (from to : Path) (pass pass' : List ℕ) (source target : OpenedVault) (t u : Option Told) (result : Result T MoveFault) → source.root ≡ from → target.root ≡ to
-    → ((v : View) → IsSeen t v → IsVault (under from v) pass source.vault) → ((v : View) → IsSeen t v → IsVault (under to v) pass' target.vault)
+    → IfSeen t (λ v. IsVault (under from v) pass source.vault) → IfSeen t (λ v. IsVault (under to v) pass' target.vault)
     → EndsBy P Q source target u result → IfErr result (IsOfLimit (PassesInTree from to pass pass' t u))
 limit_in_tree P Q from to pass pass' source target t u (Ok value) at_from at_to opens opens_to ends = tt
 limit_in_tree P Q from to pass pass' source target t u (Err fault) at_from at_to opens opens_to ends =
@@ -374,14 +374,14 @@ limit_in_tree P Q from to pass pass' source target t u (Err fault) at_from at_to
     }) ends.0
 
 pub shared_in_tree : {T : Type 0} (P : Type 0) (from to : Path) (pass pass' : List ℕ) (source target : OpenedVault) (s s' : Option ByteStream) (t u : Option Told) (result : Result T MoveFault) → source.root ≡ from → target.root ≡ to
-    → ((v : View) → IsSeen t v → IsVault (under from v) pass source.vault) → ((v : View) → IsSeen t v → IsVault (under to v) pass' target.vault)
+    → IfSeen t (λ v. IsVault (under from v) pass source.vault) → IfSeen t (λ v. IsVault (under to v) pass' target.vault)
     → EndsBy P (SharesWhereTidy source target s s' t u) source target u result → IfErr result (IsOfTaken (SharesInTree from to pass pass' s s' t u))
 shared_in_tree P from to pass pass' source target s s' t u (Ok value) at_from at_to opens opens_to ends = tt
 shared_in_tree P from to pass pass' source target s s' t u (Err fault) at_from at_to opens opens_to ends =
     taken_more (SharesWhereTidy source target s s' t u) (SharesInTree from to pass pass' s s' t u) fault (share_in_tree from to pass pass' source target s s' t u at_from at_to opens opens_to) ends.1
 
 -- what is seen at first is seen where the vaults are opened
-pub in_tree_before : (from to : Path) (pass pass' : List ℕ) (t0 t u : Option Told) → ((v : View) → IsSeen t0 v → IsSeen t v) → (at : Path) → PassesInTree from to pass pass' t u at → PassesInTree from to pass pass' t0 u at
+pub in_tree_before : (from to : Path) (pass pass' : List ℕ) (t0 t u : Option Told) → IfSeen t0 (λ v. IsSeen t v) → (at : Path) → PassesInTree from to pass pass' t u at → PassesInTree from to pass pass' t0 u at
 in_tree_before from to pass pass' t0 t u before at p = record {
   source = p.source;
   target = p.target;
@@ -390,7 +390,7 @@ in_tree_before from to pass pass' t0 t u before at p = record {
   passes = p.passes;
 }
 
-pub as_told_before : (work : Path) (pass pass' : List ℕ) (t0 t u : Option Told) → ((v : View) → IsSeen t0 v → IsSeen t v) → (v : View) (at : Path) → PassesAsTold work pass pass' t u v at → PassesAsTold work pass pass' t0 u v at
+pub as_told_before : (work : Path) (pass pass' : List ℕ) (t0 t u : Option Told) → IfSeen t0 (λ v. IsSeen t v) → (v : View) (at : Path) → PassesAsTold work pass pass' t u v at → PassesAsTold work pass pass' t0 u v at
 as_told_before work pass pass' t0 t u before v at p = record {
   journal = p.journal;
   is = p.is;
@@ -401,7 +401,7 @@ as_told_before work pass pass' t0 t u before v at p = record {
 -- ---- in good order
 
 -- where no two directories of either vault shared a folder, and both were copied into
-pub good_copies : (from to : OpenedVault) (there items : List Planned) (t u w : Option Told) → MayBegin from to there t → ((v : View) → IsSeen t v → (x : View) × IsSeen u x)
+pub good_copies : (from to : OpenedVault) (there items : List Planned) (t u w : Option Told) → MayBegin from to there t → IfSeen t (λ v. (x : View) × IsSeen u x)
     → ((v x : View) → IsSeen t v → IsSeen u x → under from.root x ≡ under from.root v) → ((v x : View) → IsSeen t v → IsSeen u x → under to.root x ≡ under to.root v)
     → CopiesAll from to there items u w → StayGood from to t w
 good_copies from to there items t u w may then_ source_is target_is copies v y is_v is_y own =

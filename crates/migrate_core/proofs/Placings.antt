@@ -5,7 +5,7 @@ use Rattle.folder_spec.specs.State.{State, IsSound}
 use Rattle.folder_spec.specs.Event.{Call, MakeDir, Create, Append, Sync, Settle, Rename, RemoveFile, RemoveDir, Told}
 use Rattle.folder_spec.specs.Moments.{Went}
 use Rattle.folder_spec.specs.Region.{IsAsBefore}
-use Rattle.folder_spec.specs.Seen.{IsSeen, seen, under}
+use Rattle.folder_spec.specs.Seen.{IfSeen, seen, under}
 use Rattle.folder_spec.specs.View.{View}
 use Rattle.folder_spec.proofs.Paths.{base_or_child, begins_or_not, below-apart}
 use Rattle.folder_spec.proofs.Tellings.{from_to_more}
@@ -103,9 +103,9 @@ module _ (to : OpenedVault) (work : Path) (path : plain.Path) (item : NewItem) (
         (λ s e making call. places_bring to.root work apart (making_at p (new_item p drawn) a.state) (replaces_nothing p drawn (under to.root (seen a.state))) s e.call call) went) one.makes.moments
   ]
 
-  pub made_ready : OnOk result ((v : View) → IsSeen u v → IsReady v work)
+  pub made_ready : OnOk result (IfSeen u (λ v. IsReady v work))
   made_ready = elim (base_or_child path) [
-    | inl root ↦ no_answer ((v : View) → IsSeen u v → IsReady v work) (Taken to.root) result (made.root root).2
+    | inl root ↦ no_answer (IfSeen u (λ v. IsReady v work)) (Taken to.root) result (made.root root).2
     | inr named ↦ (made.named named.0 named.1 named.2).makes.ready
   ]
 

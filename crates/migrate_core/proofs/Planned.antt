@@ -9,7 +9,7 @@ use Rattle.content_writing.specs.VaultContents.{path_of, coming_of}
 use Rattle.content_writing.specs.declared.vault_content.VaultContent.{VaultContent}
 use Rattle.folder_spec.specs.Path.{Path, below}
 use Rattle.folder_spec.specs.Event.{Told}
-use Rattle.folder_spec.specs.Seen.{IsSeen, seen, under}
+use Rattle.folder_spec.specs.Seen.{IfSeen, IsSeen, seen, under}
 use Rattle.folder_spec.specs.State.{State}
 use Rattle.folder_spec.specs.View.{View, FileOf, Found}
 use Rattle.plain_tree.specs.declared.NodeKind.TheVariants.{Dir, File}
@@ -167,5 +167,5 @@ content_elsewhere from to work item content is separate t of =
 
 -- ---- the target
 
-pub may_make : (t : Option Told) (work root : Path) → AreApart root work → ((v : View) → IsSeen t v → entering.IsReady v work) → MayMake t work root
+pub may_make : (t : Option Told) (work root : Path) → AreApart root work → IfSeen t (λ v. entering.IsReady v work) → MayMake t work root
 may_make t work root apart ready = record { ready = ready; apart = apart.other; beside = apart.one }

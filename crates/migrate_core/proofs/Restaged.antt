@@ -6,7 +6,7 @@ use Rattle.folder_spec.specs.Event.{Told, FromTo}
 use Rattle.folder_spec.specs.Moments.{Went}
 use Rattle.folder_spec.specs.Path.{Path}
 use Rattle.folder_spec.specs.Region.{IsAsBefore, apart_from, apart_from_both}
-use Rattle.folder_spec.specs.Seen.{IsSeen, seen, under}
+use Rattle.folder_spec.specs.Seen.{IfSeen, IsSeen, seen, under}
 use Rattle.folder_spec.specs.View.{View}
 use Rattle.move_journal.specs.declared.journal.Journal.{Journal}
 use Rattle.move_journal.specs.declared.journal.Phase.{Phase}
@@ -56,7 +56,7 @@ stage_stays work root t u apart changes =
     moves_to (apart_from (stage_path work)) root t u (changing_moves (stage_path work) (IsStage work) (IsBelowStage work) root t u (stage_apart work root apart) changes)
 
 -- what doesn't depend on what is seen
-pub still_known : (X : Type 0) (region : Path → Bool) (root : Path) (t u : Option Told) → MovesBeside region root t u → ((v : View) → IsSeen t v → X) → (v : View) → IsSeen u v → X
+pub still_known : (X : Type 0) (region : Path → Bool) (root : Path) (t u : Option Told) → MovesBeside region root t u → IfSeen t (λ v. X) → IfSeen u (λ v. X)
 still_known X region root (Some a) (Some b) went known v is = known (seen a.state) refl
 still_known X region root None None went known v is = absurd is
 still_known X region root None (Some b) went known v is = absurd went

@@ -6,7 +6,7 @@ use Rattle.folder_spec.proofs.Tables.{present_is_table}
 use Rattle.folder_spec.proofs.Tellings.{from_to_more, from_to_same}
 use Rattle.folder_spec.specs.Event.{Told, Changes, Steps, Settle, Done, changed, told_after}
 use Rattle.folder_spec.specs.Path.{Part, Path, child, parent}
-use Rattle.folder_spec.specs.Seen.{IsSeen, seen, under}
+use Rattle.folder_spec.specs.Seen.{IfSeen, IsSeen, seen, under}
 use Rattle.folder_spec.specs.State.{State, IsSound, present}
 use Rattle.folder_spec.specs.View.{Found, NoEntry, Folder, FileOf, Special, View, found, kind_found}
 use Rattle.move_journal.specs.Journal.{IsJournal, journal_text}
@@ -53,7 +53,7 @@ pub folder_above : (s : State) (work : Path) (name : Part) → IsSound s → see
 folder_above s work name sound stands =
     ap (found (λ n. (s.nodes n).now)) ((sound.tables (present s) (present_is_table s)).parents work name (λ none. stands (ap (found (λ n. (s.nodes n).now)) none)))
 
-pub folder_seen_above : (t : Option Told) → AreSound t → (v : View) → IsSeen t v → (work : Path) (name : Part) → v (child work name) ≢ NoEntry → v work ≡ Folder
+pub folder_seen_above : (t : Option Told) → AreSound t → IfSeen t (λ v. (work : Path) (name : Part) → v (child work name) ≢ NoEntry → v work ≡ Folder)
 folder_seen_above (Some a) sound v is work name stands =
     ap (λ (w : View). w work) is ∙ folder_above a.state work name (sound a refl) (λ none. stands (ap (λ (w : View). w (child work name)) is ∙ none))
 folder_seen_above None sound v is work name stands = absurd is
@@ -228,7 +228,7 @@ settle_then settles alone g None None (Some c) value sound sound_after changes k
 settle_then settles alone g (Some a) (Some b) None value sound sound_after changes keeps = absurd keeps
 
 -- what is seen stays so
-pub settle_seen : (t u : Option Told) (value : Unit {0}) → Changes Settle t u (Ok value) → (v : View) → IsSeen t v → IsSeen u v
+pub settle_seen : (t u : Option Told) (value : Unit {0}) → Changes Settle t u (Ok value) → IfSeen t (λ v. IsSeen u v)
 settle_seen (Some a) (Some b) value changes v is = is ∙ ap (λ (c : Told). seen c.state) (sym changes.1)
 settle_seen None u value changes v is = absurd is
 settle_seen (Some a) None value changes v is = absurd changes
@@ -257,7 +257,7 @@ one_journal one_text v work journal other is read is_other stands = one_text jou
     one_file : {a b : List ℕ} → FileOf a ≡ FileOf b → a ≡ b
     one_file e = cc e
 
-pub journal_folder : (t : Option Told) → AreSound t → (v : View) → IsSeen t v → (work : Path) (journal : Journal) → ReadsAs (journal_bytes v work) (Ok journal) → v work ≡ Folder
+pub journal_folder : (t : Option Told) → AreSound t → IfSeen t (λ v. (work : Path) (journal : Journal) → ReadsAs (journal_bytes v work) (Ok journal) → v work ≡ Folder)
 journal_folder t sound v is work journal read = folder_seen_above t sound v is work (codes "journal") (λ none. clash (sym (journal_stands v work journal read) ∙ none))
   where
     clash : {a : List ℕ} → FileOf a ≡ NoEntry → ⊥

@@ -14,7 +14,7 @@ use Rattle.folder_spec.specs.Event.{Told}
 use Rattle.folder_spec.specs.Moments.{Went}
 use Rattle.folder_spec.specs.Path.{Path, child}
 use Rattle.folder_spec.specs.Region.{IsAsBefore}
-use Rattle.folder_spec.specs.Seen.{IsSeen, seen, under}
+use Rattle.folder_spec.specs.Seen.{IfSeen, IsSeen, seen, under}
 use Rattle.folder_spec.specs.View.{View}
 use Rattle.plain_tree.specs.Names as plain
 use Rattle.plain_tree.specs.Names.{is_name}
@@ -99,9 +99,9 @@ pub whichever_taken : (fault : MoveFault) → IsOfTaken (Unit {0}) fault
 whichever_taken fault = by_taken (Unit {0}) fault (λ at is. tt)
 
 -- where no item is placed, none is taken
-pub later_taken : (Is R : View → Type 0) (t u : Option Told) (fault : MoveFault) → ((v : View) → IsSeen t v → (w : View) × IsSeen u w) → StopsLater Is u fault → IsOfTaken ((v : View) → IsSeen t v → R v) fault
+pub later_taken : (Is R : View → Type 0) (t u : Option Told) (fault : MoveFault) → IfSeen t (λ v. (w : View) × IsSeen u w) → StopsLater Is u fault → IsOfTaken (IfSeen t (λ v. R v)) fault
 later_taken Is R t u fault after later =
-    by_taken ((v : View) → IsSeen t v → R v) fault (λ at is v seen. let w : (w : View) × IsSeen u w = after v seen in absurd (subst (IsStop (Is w.0) nothing_stops) is (later w.0 w.1)))
+    by_taken (IfSeen t (λ v. R v)) fault (λ at is v seen. let w : (w : View) × IsSeen u w = after v seen in absurd (subst (IsStop (Is w.0) nothing_stops) is (later w.0 w.1)))
 
 pub stops_more : (P Q : Type 0) (fault : MoveFault) → (P → Q) → StopsFor P fault → StopsFor Q fault
 stops_more P Q (Place (put.Taken at)) more h = more h
@@ -163,7 +163,7 @@ module _ (region : Path → Bool) (root : Path) where
       (λ a b e went was. (was.0, went_on (λ s. Unit {0}) (λ s e. Unit {0}) a b was.0 (gone a b went) was.1, was.2, was.3))
 
   pub shares_before : (Is More : View → Type 0) (to : OpenedVault) (items more : List Planned) (r s s' : Option ByteStream) (t u w : Option Told) → MovesBeside region root t u → Stays More Is t u
-      → ((v x : View) → IsSeen t v → IsSeen u x → More v → LoadsAlike (under to.root v) (under to.root x)) → ((item : Planned) → Contains items item → Contains more item) → Composed → ((v : View) → IsSeen t v → (xs : List ℕ) × Draws r s xs)
+      → ((v x : View) → IsSeen t v → IsSeen u x → More v → LoadsAlike (under to.root v) (under to.root x)) → ((item : Planned) → Contains items item → Contains more item) → Composed → IfSeen t (λ v. (xs : List ℕ) × Draws r s xs)
       → SharesFrom Is to items s s' u w → SharesFrom More to more r s' t w
   shares_before Is More to items more r s s' t u w went stays alike within composed drew shares v is given =
       let x : (x : View) × IsSeen u x = seen_then _ t u went v is in
@@ -181,7 +181,7 @@ module _ (region : Path → Bool) (root : Path) where
         shares = one.shares;
       }
 
-  pub in_tree_since : (from to : Path) (pass pass' : List ℕ) (s s' : Option ByteStream) (t u w : Option Told) → MovesBeside region root t u → ((v : View) → IsSeen t v → IsSeen u v) → SharesInTree from to pass pass' s s' u w
+  pub in_tree_since : (from to : Path) (pass pass' : List ℕ) (s s' : Option ByteStream) (t u w : Option Told) → MovesBeside region root t u → IfSeen t (λ v. IsSeen u v) → SharesInTree from to pass pass' s s' u w
       → SharesInTree from to pass pass' s s' t w
   in_tree_since from to pass pass' s s' t u w went known h = record {
     source = h.source;
@@ -243,7 +243,7 @@ last_name below f v front name there = by (is_name name) refl
 
 module _ (below : StandBelow) (behind : StandBehind) (files : FilesAreThere) (leads : EnteredLeads) (tells : TellsTree) (from to : OpenedVault) (laws : KeepsVaults (format_of to.vault)) (work : Path) (planned : Planned)
     (item : NewItem) (ending : Ending) (drawn : List ℕ) (s s' : Option ByteStream) (were_drawn : Draws s s' drawn) (t u : Option Told) (of : IsItemOf t from planned) (kind : IsMadeFor planned.node item) where
-  taken_shares : (at : Path) → MakesAt New to work planned.path item ending drawn t u (Err (put.Taken at)) → (v : View) → IsSeen t v → Lacks from to planned v → SharesPlace to planned drawn v
+  taken_shares : (at : Path) → MakesAt New to work planned.path item ending drawn t u (Err (put.Taken at)) → IfSeen t (λ v. Lacks from to planned v → SharesPlace to planned drawn v)
   taken_shares at made v is l = elim (base_or_child planned.path) [
     | inl root ↦ absurd (no_directory (sym (root_directory (format_of to.vault) (under to.root v) l.copying.target.orderly) ∙ ap (tree_in to v) (sym root) ∙ l.lacks))
     | inr named ↦ shares named.0 named.1 named.2 ((made.named named.0 named.1 named.2).answer v is)
@@ -379,8 +379,8 @@ source_shares tells from to items s s' t u may walked walked_to shares v is own 
     b : IsWalkOf v (side_of to [])
     b = walked_to.plan v is own.target
 
-pub share_in_tree : (from to : Path) (pass pass' : List ℕ) (source target : OpenedVault) (s s' : Option ByteStream) (t u : Option Told) → source.root ≡ from → target.root ≡ to → ((v : View) → IsSeen t v → IsVault (under from v) pass source.vault)
-    → ((v : View) → IsSeen t v → IsVault (under to v) pass' target.vault) → SharesWhereTidy source target s s' t u → SharesInTree from to pass pass' s s' t u
+pub share_in_tree : (from to : Path) (pass pass' : List ℕ) (source target : OpenedVault) (s s' : Option ByteStream) (t u : Option Told) → source.root ≡ from → target.root ≡ to → IfSeen t (λ v. IsVault (under from v) pass source.vault)
+    → IfSeen t (λ v. IsVault (under to v) pass' target.vault) → SharesWhereTidy source target s s' t u → SharesInTree from to pass pass' s s' t u
 share_in_tree from to pass pass' source target s s' t u at_from at_to opens opens_to shares = record {
   source = source.vault;
   target = target.vault;

@@ -3,7 +3,7 @@ use Rattle.std.proofs.Common.{◌≡◌, List, [], ◌∷◌, ◌++◌, append_a
 use Rattle.folder_spec.specs.Event.{Told}
 use Rattle.folder_spec.proofs.Tables.{present_is_table}
 use Rattle.folder_spec.specs.Path.{Path}
-use Rattle.folder_spec.specs.Seen.{IsSeen, seen, under}
+use Rattle.folder_spec.specs.Seen.{IfSeen, seen, under}
 use Rattle.folder_spec.specs.State.{State, present}
 use Rattle.folder_spec.specs.View.{View, found}
 use Rattle.tree_match.specs.Comparing.{Is}
@@ -27,7 +27,7 @@ use Rattle.migrate_core.specs.Copying.{MayBegin, tree_in}
 use Rattle.migrate_core.specs.Sides.{IsWalked, side_of}
 
 -- what is seen has its folders, also at a root
-seen_folders : (root : Path) (t : Option Told) → AreSound t → (v : View) → IsSeen t v → HasFolders (under root v)
+seen_folders : (root : Path) (t : Option Told) → AreSound t → IfSeen t (λ v. HasFolders (under root v))
 seen_folders root None sound v is = absurd is
 seen_folders root (Some a) sound v is = subst (λ w. HasFolders (under root w)) (sym is) folders
   where
@@ -45,10 +45,10 @@ CleanIsOrderly a = (v : View) → HasFolders v → HasOwnFolders a.vault v → I
 
 -- the target's tree is part of the source's, as walks of both tell
 abbrev pub HeldAtFirst : OpenedVault → OpenedVault → List Planned → List Planned → Option Told → Type 0
-HeldAtFirst from to items there t = (v : View) → IsSeen t v → IsWalkOf v (side_of from items) → IsWalkOf v (side_of to there) → IsPartIn v (side_of to there) (side_of from items)
+HeldAtFirst from to items there t = IfSeen t (λ v. IsWalkOf v (side_of from items) → IsWalkOf v (side_of to there) → IsPartIn v (side_of to there) (side_of from items))
 
 pub may_begin : TellsTree → (from to : OpenedVault) → CleanIsOrderly from → CleanIsOrderly to → (items there : List Planned) (t : Option Told) → AreSound t → IsWalked t from items → IsWalked t to there
-    → ((v : View) → IsSeen t v → Walks from v (Ok items)) → HeldAtFirst from to items there t → MayBegin from to there t
+    → IfSeen t (λ v. Walks from v (Ok items)) → HeldAtFirst from to items there t → MayBegin from to there t
 may_begin tells from to orderly orderly_to items there t sound walked walked_to passed held v is own = record {
   copying = record {
     source = record { clean = walked.clean v is; orderly = orderly (under from.root v) (seen_folders from.root t sound v is) own.source (walked.clean v is) };
@@ -85,5 +85,5 @@ module _ (from to : OpenedVault) (journal : Journal) (v : View) (items there : L
   items_held (inr (inr (Ok value, told, (Ok other, names, (Ok m, matches, (Ok last, held, is)))))) = held_by_match m matches held
 
 pub matched_held : HeldIsPart → (from to : OpenedVault) (journal : Journal) (items there : List Planned) (t : Option Told)
-    → ((v : View) → IsSeen t v → Unless {X = Unit {0}} (Ok tt) (TestsItems from to journal v items there Passed (Ok tt))) → HeldAtFirst from to items there t
+    → IfSeen t (λ v. Unless {X = Unit {0}} (Ok tt) (TestsItems from to journal v items there Passed (Ok tt))) → HeldAtFirst from to items there t
 matched_held part from to journal items there t passed v is a b = part v (side_of to there) (side_of from items) b a (items_held from to journal v items there (passed v is))

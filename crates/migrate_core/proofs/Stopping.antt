@@ -8,7 +8,7 @@ use Rattle.content_writing.specs.declared.fault.PutFault.TheVariants as put
 use Rattle.folder_spec.proofs.Paths.{base_or_child}
 use Rattle.folder_spec.specs.Event.{Told}
 use Rattle.folder_spec.specs.Path.{Path}
-use Rattle.folder_spec.specs.Seen.{IsSeen, seen, under}
+use Rattle.folder_spec.specs.Seen.{IfSeen, IsSeen, seen, under}
 use Rattle.folder_spec.specs.View.{Found, View}
 use Rattle.plain_tree.specs.declared.NodeKind.TheVariants.{File}
 use Rattle.tree_match.specs.Comparing.{bytes_found, content_at}
@@ -85,7 +85,7 @@ if_stops_before (Ok value) Is More from items t u kept stays later = tt
 if_stops_before (Err fault) Is More from items t u kept stays later = stops_before Is More from items items t u fault kept (λ item among. among) stays later
 
 -- what stops later, when all is placed
-pub later_seen : {T : Type 0} (result : Answer T) (Is More : View → Type 0) (from : OpenedVault) (items : List Planned) (t u : Option Told) → Stays More Is t u → ((v : View) → IsSeen t v → (w : View) × IsSeen u w)
+pub later_seen : {T : Type 0} (result : Answer T) (Is More : View → Type 0) (from : OpenedVault) (items : List Planned) (t u : Option Told) → Stays More Is t u → IfSeen t (λ v. (w : View) × IsSeen u w)
     → IfErr result (StopsLater Is u) → IfErr result (StopsSeen More t from items)
 later_seen (Ok value) Is More from items t u stays after later = tt
 later_seen (Err fault) Is More from items t u stays after later = λ v is.
@@ -145,7 +145,7 @@ root_tells to path v ending put.Failed h = tt
 root_tells to path v ending put.NoMemory h = tt
 
 pub refusal_tells : (to : OpenedVault) (work : Path) (path : plain.Path) (item : NewItem) (ending : Ending) (drawn : List ℕ) (t u : Option Told) (why : PutFault) → MakesAt New to work path item ending drawn t u (Err why)
-    → (v : View) → IsSeen t v → Tells to path v ending why
+    → IfSeen t (λ v. Tells to path v ending why)
 refusal_tells to work path item ending drawn t u why made v is = elim (base_or_child path) [
   | inl root ↦ root_tells to path v ending why (made.root root).2
   | inr named ↦
@@ -218,7 +218,7 @@ by_ending from to item v put.NoMemory node read allowed can told = tt
 
 -- a file of which the content was told
 pub file_stops : FilesFit → (from to : OpenedVault) (item : Planned) (t : Option Told) (content : List ℕ) (ending : Ending) (why : PutFault) → item.node ≡ File → why ≢ put.Source → AllowsLast (format_of to.vault) item.path → IsFileFault why
-    → IsItemOf t from item → ToldContent from item t content ending → ((v : View) → IsSeen t v → Tells to item.path v ending why) → (v : View) → IsSeen t v → StopsAt (Enters to item v) from v (item ∷ []) why
+    → IsItemOf t from item → ToldContent from item t content ending → IfSeen t (λ v. Tells to item.path v ending why) → IfSeen t (λ v. StopsAt (Enters to item v) from v (item ∷ []) why)
 file_stops fits from to item t content ending why node read allowed can of told ends v is =
     by_ending from to item v why node read allowed can
     (subst (λ (x : Ending). Tells to item.path v x why) (ap (λ (c : Coming). c.ending) (content_told fits from item t content ending node of told v is)) (ends v is))

@@ -7,7 +7,7 @@ use Rattle.folder_spec.specs.State.{Node, State}
 use Rattle.folder_spec.specs.Event.{Call, MakeDir, Create, Append, Sync, Settle, Rename, RemoveFile, RemoveDir, Told, FromTo}
 use Rattle.folder_spec.specs.Moments.{Went}
 use Rattle.folder_spec.specs.Region.{IsAsBefore, Spares, SparesOld, apart_from, apart_from_both}
-use Rattle.folder_spec.specs.Seen.{IsSeen, ShowsNothingOrFile, seen}
+use Rattle.folder_spec.specs.Seen.{IfSeen, ShowsNothingOrFile, seen}
 use Rattle.folder_spec.specs.View.{View, FileOf, NoEntry, found}
 use Rattle.folder_spec.proofs.Moments.{went_more, went_to}
 use Rattle.folder_spec.proofs.Paths.{begins_or_not, below-append, below-apart, below-both, below-sibling}
@@ -146,7 +146,7 @@ written_moves work root j t u apart writes = moves_within (apart_from_both work 
 
 -- what is so of what is seen stays so, by what is seen in a region
 pub stays : (P : View → Type 0) (region : Path → Bool) (t u : Option Told) → AreSound t → FromTo (λ a b. IsAsBefore region a.state b.state) t u
-    → ((v w : View) → ((q : Path) → IsTrue (region q) → w q ≡ v q) → P v → P w) → ((v : View) → IsSeen t v → P v) → (v : View) → IsSeen u v → P v
+    → ((v w : View) → ((q : Path) → IsTrue (region q) → w q ≡ v q) → P v → P w) → IfSeen t (λ v. P v) → IfSeen u (λ v. P v)
 stays P region (Some a) (Some b) sound stayed keeps was v is =
     subst P (sym is) (keeps (seen a.state) (seen b.state) (seen_as_before region a.state b.state (sound a refl) stayed) (was (seen a.state) refl))
 stays P region None None sound stayed keeps was v is = absurd is
@@ -155,7 +155,7 @@ stays P region None (Some b) sound stayed keeps was v is = absurd stayed
 
 -- the stage is as ready as it was
 pub ready_stays : (work : Path) (t u : Option Told) → AreSound t → FromTo (λ a b. IsAsBefore (elsewhere work) a.state b.state) t u
-    → ((v : View) → IsSeen t v → IsReady v work) → (v : View) → IsSeen u v → IsReady v work
+    → IfSeen t (λ v. IsReady v work) → IfSeen u (λ v. IsReady v work)
 ready_stays work t u sound stayed = stays (λ v. IsReady v work) (elsewhere work) t u sound stayed (λ v w same ready. record {
   folder = ap w (sym (append-nil work)) ∙ same (work ++ []) (elsewhere_in work [] refl refl) ∙ ap v (append-nil work) ∙ ready.folder;
   stage = same (stage_path work) (elsewhere_in work (codes "stage" ∷ []) refl refl) ∙ ready.stage;
@@ -175,7 +175,7 @@ pub record HasWorkFolder (region : Path → Bool) (work : Path) : Type 0 where
   pub new_journal : IsTrue (region (new_journal_path work))
 
 pub work_folder_stays : (region : Path → Bool) (work : Path) (t u : Option Told) → HasWorkFolder region work → AreSound t → FromTo (λ a b. IsAsBefore region a.state b.state) t u
-    → ((v : View) → IsSeen t v → IsWorkFolder v work) → (v : View) → IsSeen u v → IsWorkFolder v work
+    → IfSeen t (λ v. IsWorkFolder v work) → IfSeen u (λ v. IsWorkFolder v work)
 work_folder_stays region work t u has sound stayed = stays (λ v. IsWorkFolder v work) region t u sound stayed (λ v w same is. record {
   folder = same work has.folder ∙ is.folder;
   journal = nothing_or_file v w (journal_path work) (same (journal_path work) has.journal) is.journal;
@@ -213,7 +213,7 @@ fresh_folder v work fresh = record {
 
 -- and one in which a journal was written has that
 pub written_folder : (work : Path) (j : Journal) (t u : Option Told) → AreSound t → FromTo (λ a b. IsAsBefore (elsewhere work) a.state b.state) t u → HasWritten work j t u
-    → ((v : View) → IsSeen t v → IsWorkFolder v work) → (v : View) → IsSeen u v → IsWorkFolder v work
+    → IfSeen t (λ v. IsWorkFolder v work) → IfSeen u (λ v. IsWorkFolder v work)
 written_folder work j (Some a) (Some b) sound stayed written was v is = subst (λ w. IsWorkFolder w work) (sym is) (record {
   folder = ap (seen b.state) (sym (append-nil work)) ∙ seen_as_before (elsewhere work) a.state b.state (sound a refl) stayed (work ++ []) (elsewhere_in work [] refl refl)
       ∙ ap (seen a.state) (append-nil work) ∙ (was (seen a.state) refl).folder;
@@ -226,7 +226,7 @@ written_folder work j None (Some b) sound stayed written was v is = absurd staye
 
 -- a journal that stands stays where its path is as before
 pub journal_stays : (region : Path → Bool) (work : Path) (journal : Journal) (t u : Option Told) → IsTrue (region (journal_path work)) → AreSound t → FromTo (λ a b. IsAsBefore region a.state b.state) t u
-    → ((v : View) → IsSeen t v → StandsIn work journal v) → (v : View) → IsSeen u v → StandsIn work journal v
+    → IfSeen t (λ v. StandsIn work journal v) → IfSeen u (λ v. StandsIn work journal v)
 journal_stays region work journal t u inside sound stayed = stays (StandsIn work journal) region t u sound stayed (λ v w same stands. same (journal_path work) inside ∙ stands)
 
 -- ---- nothing but an empty stage and a journal
@@ -261,7 +261,7 @@ tidy_written work j None (Some b) sound stayed written was v is = absurd stayed
 
 -- nor does placing items, after which the stage is ready again
 pub tidy_placed : (work root : Path) (t u : Option Told) → AreApart root work → AreSound t → FromTo (λ a b. IsAsBefore (is_apart work root) a.state b.state) t u
-    → ((v : View) → IsSeen u v → IsReady v work) → StaysTidyWork work t u
+    → IfSeen u (λ v. IsReady v work) → StaysTidyWork work t u
 tidy_placed work root (Some a) (Some b) apart sound stayed ready was v is = record {
   ready = ready v is;
   alone = λ name stage journal. ap (λ w. w (child work name)) is ∙ seen_as_before (is_apart work root) a.state b.state (sound a refl) stayed (child work name) (inside name stage) ∙ (was (seen a.state) refl).alone name stage journal;

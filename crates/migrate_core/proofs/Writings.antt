@@ -8,7 +8,7 @@ use Rattle.folder_spec.proofs.Moments.{went_nowhere, went_on, went_more, went_to
 use Rattle.folder_spec.proofs.Tellings.{from_to_more, from_to_on, from_to_same}
 use Rattle.folder_spec.specs.Event.{Append, Call, Create, Event, MakeDir, RemoveDir, RemoveFile, Rename, Sync, Told, FromTo}
 use Rattle.folder_spec.specs.Moments.{Went}
-use Rattle.folder_spec.specs.Seen.{IsSeen, seen}
+use Rattle.folder_spec.specs.Seen.{IfSeen, IsSeen, seen}
 use Rattle.folder_spec.specs.State.{Node, State, BeginsWith}
 use Rattle.folder_spec.specs.View.{Found, View}
 use Rattle.folder_spec.proofs.Moments.{went_by_call}
@@ -199,8 +199,8 @@ copies_as from v w (item ∷ items) (x ∷ made) same copies = (
 copies_as from v w [] (x ∷ made) same copies = absurd copies
 copies_as from v w (item ∷ items) [] same copies = absurd copies
 
-copies_before : (from : OpenedVault) (items : List Planned) (made : List MadeItem) (t u : Option Told) → Kept items t u → ((w : View) → IsSeen u w → AreCopies from w items made)
-    → (v : View) → IsSeen t v → AreCopies from v items made
+copies_before : (from : OpenedVault) (items : List Planned) (made : List MadeItem) (t u : Option Told) → Kept items t u → IfSeen u (λ w. AreCopies from w items made)
+    → IfSeen t (λ v. AreCopies from v items made)
 copies_before from items made (Some a) (Some b) kept later v is = copies_as from v (seen b.state) items made (λ item among. kept item among ∙ sym (ap (λ (w : View). w item.at) is)) (later (seen b.state) refl)
 copies_before from items made None u kept later v is = absurd is
 copies_before from items made (Some a) None kept later v is = absurd kept
@@ -317,7 +317,7 @@ answered_then C P from to t u w v items made answer went =
 
 -- and behind them, where what stands where these items are stays
 answered_behind : (C : Call → Type 0) (P : List ℕ → Type 0) (from to : OpenedVault) (t u w : Option Told) (items : List Planned) (made : List MadeItem) (answer : Result (Unit {0}) MoveFault) → WritesOnly C P t u → Kept items t u
-    → ((v : View) → IsSeen u v → WereAnswered from to u w v items made answer) → (v : View) → IsSeen t v → WereAnswered from to t w v items made answer
+    → IfSeen u (λ v. WereAnswered from to u w v items made answer) → IfSeen t (λ v. WereAnswered from to t w v items made answer)
 answered_behind C P from to (Some a) (Some b) w items made answer went kept later v is =
     answered_each from to (Some b) w (Some a) w v (seen b.state) items made answer
     (λ item among x given was. record {
@@ -375,7 +375,7 @@ beside_made : (to : OpenedVault) (made : List MadeItem) (P R : List ℕ → Type
 beside_made to made P R more = only_more (BringsOnlyTo to.root (λ at. ⊥)) (BringsOnlyTo to.root (IsMadePlace to made)) P R (brings_more to.root (λ at. ⊥) (IsMadePlace to made) (λ at none. absurd none)) more
 
 module _ (from to : OpenedVault) (items : List Planned) (texts : List (List ℕ)) (s s' : Option ByteStream) (t t' : Option Told) where
-  pub first_of_all : (fault : MoveFault) → ((v : View) → IsSeen t v → IsOfTest fault) → WritesAll from to items texts s s' t t' → WritesFirst fault from to items texts s s' t t'
+  pub first_of_all : (fault : MoveFault) → IfSeen t (λ v. IsOfTest fault) → WritesAll from to items texts s s' t t' → WritesFirst fault from to items texts s s' t t'
   first_of_all fault test all = record {
     made = all.made;
     first = items;
@@ -484,10 +484,10 @@ answers_from to work front name item drawn ending u (Err put.NoMemory) h = tt
 
 -- its content ends so in the source
 abbrev pub EndsIn : OpenedVault → Planned → Option Told → Ending → Type 0
-EndsIn from item t ending = (v : View) → IsSeen t v → ending ≡ ending_in from v item
+EndsIn from item t ending = IfSeen t (λ v. ending ≡ ending_in from v item)
 
 pub item_answered : (from to : OpenedVault) (work : Path) (item : Planned) (x : MadeItem) (ending : Ending) (t u : Option Told) (result : Result (Unit {0}) PutFault) → MakesItem to x t u → EndsIn from item t ending
-    → MakesAt New to work x.path x.item ending x.drawn t u result → (v : View) → IsSeen t v → WasAnswered from to t u v item x result
+    → MakesAt New to work x.path x.item ending x.drawn t u result → IfSeen t (λ v. WasAnswered from to t u v item x result)
 item_answered from to work item x ending t u result makes ends made v is = record {
   enough = makes.enough;
   moment = v;
@@ -512,13 +512,13 @@ told_as from to t u v item x put.NoMemory was = was
 
 -- it is the item of the source
 abbrev pub IsCopy : OpenedVault → Planned → Option Told → MadeItem → Type 0
-IsCopy from item t x = (v : View) → IsSeen t v → IsCopyOf from v item x
+IsCopy from item t x = IfSeen t (λ v. IsCopyOf from v item x)
 
 one_slice : (x : MadeItem) → x.drawn ≡ slices (x ∷ [])
 one_slice x = sym (append-nil x.drawn)
 
 writes_one : (answer : Result (Unit {0}) MoveFault) (from to : OpenedVault) (item : Planned) (x : MadeItem) (s s' : Option ByteStream) (t u : Option Told) → Draws s s' x.drawn → IsCopy from item t x → MakesItem to x t u
-    → ((v : View) → IsSeen t v → WasAnswered from to t u v item x (last_answer answer)) → Writes answer from to (item ∷ []) (x ∷ []) [] s s' t u
+    → IfSeen t (λ v. WasAnswered from to t u v item x (last_answer answer)) → Writes answer from to (item ∷ []) (x ∷ []) [] s s' t u
 writes_one answer from to item x s s' t u drawn copy makes answered = record {
   drawn = subst (Draws s s') (one_slice x) drawn;
   copies = λ v is. (copy v is, tt);
@@ -560,7 +560,7 @@ abbrev pub ToldContent : OpenedVault → Planned → Option Told → List ℕ �
 ToldContent from item t content ending = (a : Told) → t ≡ Some a → (c : Coming) → coming_read (reader_of from item) content_limit [] (seen a.state item.at) ≡ Some c → c ≡ record { bytes = content; ending = ending }
 
 pub content_told : FilesFit → (from : OpenedVault) (item : Planned) (t : Option Told) (content : List ℕ) (ending : Ending) → item.node ≡ File → IsItemOf t from item → ToldContent from item t content ending
-    → (v : View) → IsSeen t v → record { bytes = content; ending = ending } ≡ held_before item.at [] (limited_reading (format_of from.vault).content (bytes_found (v item.at)))
+    → IfSeen t (λ v. record { bytes = content; ending = ending } ≡ held_before item.at [] (limited_reading (format_of from.vault).content (bytes_found (v item.at))))
 content_told fits from item None content ending node of told v is = absurd is
 content_told fits from item (Some a) content ending node of told v is =
     let keys : Keys = (format_of from.vault).content in
@@ -616,7 +616,7 @@ settle_writes t u result changes =
 
 -- ---- before and after
 
-module _ (from to : OpenedVault) (items : List Planned) (texts : List (List ℕ)) (s s' : Option ByteStream) (t u w : Option Told) (known : (v : View) → IsSeen t v → IsSeen u v) (before : WritesBeside [] (λ file. ⊥) t u) where
+module _ (from to : OpenedVault) (items : List Planned) (texts : List (List ℕ)) (s s' : Option ByteStream) (t u w : Option Told) (known : IfSeen t (λ v. IsSeen u v)) (before : WritesBeside [] (λ file. ⊥) t u) where
   writes_after : (answer : Result (Unit {0}) MoveFault) (first : List Planned) (made : List MadeItem) → Writes answer from to first made texts s s' u w → Writes answer from to first made texts s s' t w
   writes_after answer first made h = record {
     drawn = h.drawn;
@@ -726,7 +726,7 @@ next_among items k item inside at one (suc j, lt, is) = absurd (omega (arith, lt
 
 -- ---- by the answer
 
-pub by_all : {T : Type 0} (result : Result T MoveFault) (Is : View → Type 0) (from to : OpenedVault) (items : List Planned) (texts : List (List ℕ)) (s s' : Option ByteStream) (t u t' : Option Told) → ((v : View) → IsSeen t v → (w : View) × IsSeen u w) → IfErr result (StopsLater Is u)
+pub by_all : {T : Type 0} (result : Result T MoveFault) (Is : View → Type 0) (from to : OpenedVault) (items : List Planned) (texts : List (List ℕ)) (s s' : Option ByteStream) (t u t' : Option Told) → IfSeen t (λ v. (w : View) × IsSeen u w) → IfErr result (StopsLater Is u)
     → WritesAll from to items texts s s' t t' → WritesBy result from to items texts s s' t t'
 by_all (Ok value) Is from to items texts s s' t u t' after stops all = all
 by_all (Err fault) Is from to items texts s s' t u t' after stops all = first_of_all from to items texts s s' t t' fault (λ v seen_v. let w = after v seen_v in stop_is_test fault (Is w.0) (stops w.0 w.1)) all
@@ -760,7 +760,7 @@ nothing_written result refused s t u undrawn same = record { refused = refused; 
 
 -- the vaults are those of two roots and their passphrases
 pub tree_of : {T : Type 0} (result : Result T MoveFault) (from to : Path) (pass pass' : List ℕ) (source target : OpenedVault) (s s' : Option ByteStream) (t t' : Option Told) → source.root ≡ from → target.root ≡ to
-    → ((v : View) → IsSeen t v → IsVault (under from v) pass source.vault) → ((v : View) → IsSeen t v → IsVault (under to v) pass' target.vault)
+    → IfSeen t (λ v. IsVault (under from v) pass source.vault) → IfSeen t (λ v. IsVault (under to v) pass' target.vault)
     → MayWrite result source target s s' t t' → MayWriteTree result from to pass pass' s s' t t'
 tree_of result from to pass pass' source target s s' t t' at_from at_to opens opens' may = elim may [
   | inl nothing ↦ inl nothing
@@ -774,7 +774,7 @@ tree_of result from to pass pass' source target s s' t t' at_from at_to opens op
 ]
 
 -- behind a call by which nothing is written and what is seen stays so
-module _ (s s' : Option ByteStream) (t u w : Option Told) (known : (v : View) → IsSeen t v → IsSeen u v) (before : WritesBeside [] (λ file. ⊥) t u) where
+module _ (s s' : Option ByteStream) (t u w : Option Told) (known : IfSeen t (λ v. IsSeen u v)) (before : WritesBeside [] (λ file. ⊥) t u) where
   nothing_after : {T : Type 0} (result : Result T MoveFault) → WritesNothing result s s' u w → WritesNothing result s s' t w
   nothing_after result h = record { refused = h.refused; undrawn = h.undrawn; files = beside_on [] (λ file. ⊥) (λ file. ⊥) (λ file. ⊥) (λ file none. none) (λ file none. none) t u w before h.files }
 

@@ -6,7 +6,7 @@ use Rattle.content_writing.specs.declared.fault.PutFault.{PutFault}
 use Rattle.content_writing.specs.declared.fault.PutFault.TheVariants as put
 use Rattle.folder_spec.specs.Event.{Told}
 use Rattle.folder_spec.specs.Path.{Path}
-use Rattle.folder_spec.specs.Seen.{IsSeen, under}
+use Rattle.folder_spec.specs.Seen.{IfSeen, under}
 use Rattle.folder_spec.specs.View.{NoEntry, View}
 use Rattle.move_journal.specs.Reading.{ReadsAs, journal_bytes}
 use Rattle.move_journal.specs.declared.journal.Journal.{Journal}
@@ -305,8 +305,8 @@ nothing_stops fault = ⊥
 
 -- by all that is seen at first, where this is so of it
 abbrev pub StopsSeen : (View → Type 0) → Option Told → OpenedVault → List Planned → MoveFault → Type 0
-StopsSeen Is told from items fault = (v : View) → IsSeen told v → IsStop (Is v) (StopsAt (Is v) from v items) fault
+StopsSeen Is told from items fault = IfSeen told (λ v. IsStop (Is v) (StopsAt (Is v) from v items) fault)
 
 -- where no item is placed
 abbrev pub StopsLater : (View → Type 0) → Option Told → MoveFault → Type 0
-StopsLater Is told fault = (v : View) → IsSeen told v → IsStop (Is v) nothing_stops fault
+StopsLater Is told fault = IfSeen told (λ v. IsStop (Is v) nothing_stops fault)

@@ -1,7 +1,7 @@
 -- A target that the items of the source are copied into, as it is seen between two of them.
 use Rattle.std.specs.Prelude.{◌≡◌, ◌≢◌, ◌⊎◌, ◌++◌, ◌∷◌, [], ℕ, List, Contains, Ok, Option}
 use Rattle.folder_spec.specs.Event.{Told}
-use Rattle.folder_spec.specs.Seen.{IsSeen, under}
+use Rattle.folder_spec.specs.Seen.{IfSeen, IsSeen, under}
 use Rattle.folder_spec.specs.View.{View}
 use Rattle.plain_tree.specs.Names as plain
 use Rattle.tree_match.specs.Guard.{IsPartOf}
@@ -69,7 +69,7 @@ CopiesAll from to there items told told' = (v w : View) → IsSeen told v → Is
 
 -- so it is where no two directories of either vault share a folder
 abbrev pub MayBegin : OpenedVault → OpenedVault → List Planned → Option Told → Type 0
-MayBegin from to there told = (v : View) → IsSeen told v → HaveOwnFolders from to v → HasCopied from to there v
+MayBegin from to there told = IfSeen told (λ v. HaveOwnFolders from to v → HasCopied from to there v)
 
 -- and in good order both are then
 abbrev pub StayGood : OpenedVault → OpenedVault → Option Told → Option Told → Type 0

@@ -5,7 +5,7 @@ use Rattle.chunk_files.specs.Reading.{Wanting}
 use Rattle.content_writing.specs.declared.fault.PutFault.TheVariants as put
 use Rattle.folder_spec.specs.Event.{Told}
 use Rattle.folder_spec.specs.Path.{Path}
-use Rattle.folder_spec.specs.Seen.{IsSeen, under}
+use Rattle.folder_spec.specs.Seen.{IfSeen, under}
 use Rattle.folder_spec.specs.View.{FileOf, View}
 use Rattle.move_journal.specs.Journal.{IsJournal}
 use Rattle.move_journal.specs.declared.journal.Journal.{Journal}
@@ -56,9 +56,9 @@ IsOfLimit P fault = Unit {0}
 pub record PassesInTree (from to : Path) (from_pass to_pass : List ℕ) (told told' : Option Told) (at : Path) : Type 0 where
   pub source : Vault
   pub target : Vault
-  pub opens_source : (v : View) → IsSeen told v → IsVault (under from v) from_pass source
-  pub opens_target : (v : View) → IsSeen told v → IsVault (under to v) to_pass target
-  pub passes : (v : View) → IsSeen told' v → PassesLimit (opened_in from source) (opened_in to target) v at
+  pub opens_source : IfSeen told (λ v. IsVault (under from v) from_pass source)
+  pub opens_target : IfSeen told (λ v. IsVault (under to v) to_pass target)
+  pub passes : IfSeen told' (λ v. PassesLimit (opened_in from source) (opened_in to target) v at)
 
 -- of those that the journal tells which stands in the work folder
 pub record PassesAsTold (work : Path) (from_pass to_pass : List ℕ) (told told' : Option Told) (v : View) (at : Path) : Type 0 where
@@ -99,7 +99,7 @@ StopsElsewhere fault = StopsFor ⊥ fault
 
 -- where the fault says so, that is seen then
 abbrev pub PassesSeen : OpenedVault → OpenedVault → Option Told → MoveFault → Type 0
-PassesSeen from to told fault = (v : View) → IsSeen told v → IsOfLimit (PassesLimit from to v) fault
+PassesSeen from to told fault = IfSeen told (λ v. IsOfLimit (PassesLimit from to v) fault)
 
 -- by the answer: this, or why it stopped at a content or at a taken place
 abbrev pub EndsBy : {T : Type 0} → Type 0 → Type 0 → OpenedVault → OpenedVault → Option Told → Result T MoveFault → Type 0

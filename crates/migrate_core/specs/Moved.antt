@@ -3,7 +3,7 @@ use Rattle.std.specs.Prelude.{◌≡◌, ◌≢◌, ℕ, Bool, not, is_some, Lis
 use Rattle.std.specs.List.{filter}
 use Rattle.folder_spec.specs.Path.{Part, Path, child}
 use Rattle.folder_spec.specs.Event.{Told}
-use Rattle.folder_spec.specs.Seen.{IsSeen, under}
+use Rattle.folder_spec.specs.Seen.{IfSeen, under}
 use Rattle.folder_spec.specs.View.{FileOf, NoEntry, View}
 use Rattle.move_journal.specs.Journal.{IsJournal, journal_text}
 use Rattle.move_journal.specs.Reading.{journal_path}
@@ -78,11 +78,11 @@ pub record IsTidyWork (work : Path) (v : View) : Type 0 where
 
 -- where it was so it is so still
 abbrev pub StaysTidyWork : Path → Option Told → Option Told → Type 0
-StaysTidyWork work told told' = ((v : View) → IsSeen told v → IsTidyWork work v) → (v : View) → IsSeen told' v → IsTidyWork work v
+StaysTidyWork work told told' = (IfSeen told (λ v. IsTidyWork work v)) → IfSeen told' (λ v. IsTidyWork work v)
 
 -- after Ok, of so many items
 abbrev pub Moved : {E : Type 0} → OpenedVault → OpenedVault → Path → Option Told → Result Done E → Type 0
-Moved from to work told result = IfOk result (λ done. (v : View) → IsSeen told v → HasMoved from to work done.items v)
+Moved from to work told result = IfOk result (λ done. IfSeen told (λ v. HasMoved from to work done.items v))
 
 -- so many items were placed as the second vault lacked of the first, where no two directories of either share a folder
 abbrev pub HasPlaced : OpenedVault → OpenedVault → ℕ → View → Type 0
@@ -90,7 +90,7 @@ HasPlaced from to count v = HasOwnFolders from.vault (under from.root v) → Has
     → (items there : List Planned) × IsPlanOf from.root (format_of from.vault) (under from.root v) items × IsPlanOf to.root (format_of to.vault) (under to.root v) there × (count ≡ lacking there items)
 
 abbrev pub Placed : {E : Type 0} → OpenedVault → OpenedVault → Option Told → Result Done E → Type 0
-Placed from to told result = IfOk result (λ done. (v : View) → IsSeen told v → HasPlaced from to done.placed v)
+Placed from to told result = IfOk result (λ done. IfSeen told (λ v. HasPlaced from to done.placed v))
 
 abbrev pub opened_in : Path → Vault → OpenedVault
 opened_in root vault = record { root = root; vault = vault }
@@ -100,11 +100,11 @@ opened_in root vault = record { root = root; vault = vault }
 pub record MovesTree (from to work : Path) (from_pass to_pass : List ℕ) (done : Done) (told told' : Option Told) : Type 0 where
   pub source : Vault
   pub target : Vault
-  pub opens_source : (v : View) → IsSeen told v → IsVault (under from v) from_pass source
-  pub opens_target : (v : View) → IsSeen told v → IsVault (under to v) to_pass target
-  pub placed : (v : View) → IsSeen told v → HasPlaced (opened_in from source) (opened_in to target) done.placed v
-  pub moved : (v : View) → IsSeen told' v → HasMoved (opened_in from source) (opened_in to target) work done.items v
-  pub opens_still : (v : View) → IsSeen told' v → IsVault (under to v) to_pass target
+  pub opens_source : IfSeen told (λ v. IsVault (under from v) from_pass source)
+  pub opens_target : IfSeen told (λ v. IsVault (under to v) to_pass target)
+  pub placed : IfSeen told (λ v. HasPlaced (opened_in from source) (opened_in to target) done.placed v)
+  pub moved : IfSeen told' (λ v. HasMoved (opened_in from source) (opened_in to target) work done.items v)
+  pub opens_still : IfSeen told' (λ v. IsVault (under to v) to_pass target)
   pub stays_good : StayGood (opened_in from source) (opened_in to target) told told'
 
 -- of the vaults that the journal tells which stands in the work folder

@@ -2,7 +2,7 @@
 use Rattle.std.specs.Prelude.{◌≡◌, ◌≢◌, ◌++◌, ◌∷◌, [], ℕ, List, Contains, Ok, Option}
 use Rattle.folder_spec.specs.Event.{Told}
 use Rattle.folder_spec.specs.Path.{Path}
-use Rattle.folder_spec.specs.Seen.{IsSeen, under}
+use Rattle.folder_spec.specs.Seen.{IfSeen, IsSeen, under}
 use Rattle.folder_spec.specs.View.{View}
 use Rattle.plain_tree.specs.Names as plain
 use Rattle.plain_tree.specs.declared.NodeKind.{NodeKind}
@@ -80,8 +80,8 @@ SharesWhereTidy from to stream stream' told told' = (v : View) → IsSeen told v
 pub record SharesInTree (from to : Path) (from_pass to_pass : List ℕ) (stream stream' : Option ByteStream) (told told' : Option Told) : Type 0 where
   pub source : Vault
   pub target : Vault
-  pub opens_source : (v : View) → IsSeen told v → IsVault (under from v) from_pass source
-  pub opens_target : (v : View) → IsSeen told v → IsVault (under to v) to_pass target
+  pub opens_source : IfSeen told (λ v. IsVault (under from v) from_pass source)
+  pub opens_target : IfSeen told (λ v. IsVault (under to v) to_pass target)
   pub shares : SharesWhereTidy (opened_in from source) (opened_in to target) stream stream' told told'
 
 -- of a fault that names a taken place, this is so
@@ -93,7 +93,7 @@ IsOfTaken P fault = Unit {0}
 
 -- where this is so of all that is seen at first
 abbrev pub SharesFrom : (View → Type 0) → OpenedVault → List Planned → Option ByteStream → Option ByteStream → Option Told → Option Told → Type 0
-SharesFrom Is to items stream stream' told told' = (v : View) → IsSeen told v → Is v → OneShares to items v stream stream' told told'
+SharesFrom Is to items stream stream' told told' = IfSeen told (λ v. Is v → OneShares to items v stream stream' told told')
 
 -- the target is copied into, is tidy, and doesn't have the item yet
 pub record Lacks (from to : OpenedVault) (item : Planned) (v : View) : Type 0 where

@@ -2,7 +2,7 @@
 use Rattle.std.specs.Prelude.{◌≡◌, ◌≤◌, ◌⊎◌, ◌++◌, ◌∷◌, [], ℕ, List, length, Option, Contains}
 use Rattle.folder_spec.specs.Path.{Path}
 use Rattle.folder_spec.specs.Event.{Told}
-use Rattle.folder_spec.specs.Seen.{IsSeen, under}
+use Rattle.folder_spec.specs.Seen.{IfSeen, under}
 use Rattle.folder_spec.specs.View.{Folder, FileOf, NoEntry, View}
 use Rattle.move_journal.specs.Journal.{journal_text}
 use Rattle.move_journal.specs.Reading.{journal_path}
@@ -60,12 +60,12 @@ side_of a items = record { vault = a.vault; root = a.root; items = items }
 -- A walk of the vault answered these items: the vault is clean, and they are in order; where each file is one is there; and where no
 -- two directories share a folder, they are its plan.
 pub record IsWalked (told : Option Told) (a : OpenedVault) (items : List Planned) : Type 0 where
-  pub clean : (v : View) → IsSeen told v → IsClean (format_of a.vault) (under a.root v)
-  pub ordered : (v : View) → IsSeen told v → IsOrdered items
-  pub files : (v : View) → IsSeen told v → (item : Planned) → Contains items item → item.node ≡ File → IsFileAt v item.at
+  pub clean : IfSeen told (λ v. IsClean (format_of a.vault) (under a.root v))
+  pub ordered : IfSeen told (λ v. IsOrdered items)
+  pub files : IfSeen told (λ v. (item : Planned) → Contains items item → item.node ≡ File → IsFileAt v item.at)
   pub behind : (item : Planned) → Contains items item → (rest : Path) × (item.at ≡ a.root ++ rest)
   pub size : length items ≤ item_limit
-  pub plan : (v : View) → IsSeen told v → HasOwnFolders a.vault (under a.root v) → IsPlanOf a.root (format_of a.vault) (under a.root v) items
+  pub plan : IfSeen told (λ v. HasOwnFolders a.vault (under a.root v) → IsPlanOf a.root (format_of a.vault) (under a.root v) items)
 
 -- the work folder of a migration has this journal, and nothing that is in the way of a new one or of a stage
 pub record IsInUse (v : View) (work : Path) (journal : Journal) : Type 0 where

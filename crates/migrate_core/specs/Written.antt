@@ -5,7 +5,7 @@ use Rattle.folder_spec.specs.Edit.{edits_under}
 use Rattle.folder_spec.specs.Event.{Append, Call, Create, MakeDir, RemoveDir, RemoveFile, Rename, Settle, Sync, Told, FromTo}
 use Rattle.folder_spec.specs.Moments.{Moments, Went}
 use Rattle.folder_spec.specs.Path.{Path, below}
-use Rattle.folder_spec.specs.Seen.{IsSeen, seen, under}
+use Rattle.folder_spec.specs.Seen.{IfSeen, seen, under}
 use Rattle.folder_spec.specs.State.{State, BeginsWith}
 use Rattle.folder_spec.specs.View.{View}
 use Rattle.move_journal.specs.Journal.{IsJournal, journal_text}
@@ -160,8 +160,8 @@ WereAnswered from to told told' v [] (x ∷ made) answer = ⊥
 -- came to, and what was written, and where.
 pub record Writes (answer : Result (Unit {0}) MoveFault) (from to : OpenedVault) (items : List Planned) (made : List MadeItem) (texts : List (List ℕ)) (stream stream' : Option ByteStream) (told told' : Option Told) : Type 0 where
   pub drawn : Draws stream stream' (slices made)
-  pub copies : (v : View) → IsSeen told v → AreCopies from v items made
-  pub answered : (v : View) → IsSeen told v → WereAnswered from to told told' v items made answer
+  pub copies : IfSeen told (λ v. AreCopies from v items made)
+  pub answered : IfSeen told (λ v. WereAnswered from to told told' v items made answer)
   pub files : WritesOnly (BringsOnlyTo to.root (IsMadePlace to made)) (IsOneOf to made texts) told told'
 
 -- all of these items
@@ -194,8 +194,8 @@ WritesBy (Err fault) = WritesFirst fault
 pub record WritesLacked {T : Type 0} (result : Result T MoveFault) (from to : OpenedVault) (stream stream' : Option ByteStream) (told told' : Option Told) : Type 0 where
   pub items : List Planned
   pub there : List Planned
-  pub items_are : (v : View) → IsSeen told v → AreItemsOf from v items
-  pub there_are : (v : View) → IsSeen told v → AreItemsOf to v there
+  pub items_are : IfSeen told (λ v. AreItemsOf from v items)
+  pub there_are : IfSeen told (λ v. AreItemsOf to v there)
   pub writes : WritesBy result from to (lacked there items) (journal_texts from.root to.root items) stream stream' told told'
 
 -- a test refuses
@@ -217,8 +217,8 @@ MayWrite result from to stream stream' told told' = WritesNothing result stream 
 pub record WritesTree {T : Type 0} (result : Result T MoveFault) (from to : Path) (from_pass to_pass : List ℕ) (stream stream' : Option ByteStream) (told told' : Option Told) : Type 0 where
   pub source : Vault
   pub target : Vault
-  pub opens_source : (v : View) → IsSeen told v → IsVault (under from v) from_pass source
-  pub opens_target : (v : View) → IsSeen told v → IsVault (under to v) to_pass target
+  pub opens_source : IfSeen told (λ v. IsVault (under from v) from_pass source)
+  pub opens_target : IfSeen told (λ v. IsVault (under to v) to_pass target)
   pub writes : WritesLacked result (opened_in from source) (opened_in to target) stream stream' told told'
 
 abbrev pub MayWriteTree : {T : Type 0} → Result T MoveFault → (from to : Path) (from_pass to_pass : List ℕ) → Option ByteStream → Option ByteStream → Option Told → Option Told → Type 0

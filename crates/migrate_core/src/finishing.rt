@@ -2,8 +2,7 @@
 ghost use Rattle.std.specs.Prelude.{◌≡◌, ◌≤◌, ◌∷◌, [], Contains, IfErr, IfOk, OnOk};
 ghost use Rattle.port_model.specs.Counts.{CountRose};
 ghost use Rattle.folder_spec.specs.Path.{Path};
-ghost use Rattle.folder_spec.specs.Seen.{IsSeen};
-ghost use Rattle.folder_spec.specs.View.{View};
+ghost use Rattle.folder_spec.specs.Seen.{IfSeen};
 ghost use Rattle.move_journal.specs.Journal.{IsJournal, journal_text};
 ghost use Rattle.move_journal.specs.Writing.{IsWorkFolder};
 ghost use Rattle.tree_match.specs.Alone.{Begun, Finished};
@@ -57,16 +56,16 @@ pub(crate) fn go_on<F: Folder, R: Randoms>(
     requires apart { AreSeparate sides.now.source.root sides.now.target.root work.now }
     requires walked { IsWalked (F.told folder.old) sides.now.source source.now.items }
     requires allowed { AllowsEach (format_of sides.now.target.vault) source.now.items }
-    requires ready { (v : View) → IsSeen (F.told folder.old) v → IsReady v work.now }
-    requires there { (v : View) → IsSeen (F.told folder.old) v → IsOrdered there.now }
+    requires ready { IfSeen (F.told folder.old) (λ v. IsReady v work.now) }
+    requires there { IfSeen (F.told folder.old) (λ v. IsOrdered there.now) }
     requires journal { IsJournal journal }
-    requires work_folder { (v : View) → IsSeen (F.told folder.old) v → IsWorkFolder v work.now }
-    requires stands { journal.phase ≡ Phase.Done → (v : View) → IsSeen (F.told folder.old) v → StandsIn work.now journal v }
+    requires work_folder { IfSeen (F.told folder.old) (λ v. IsWorkFolder v work.now) }
+    requires stands { journal.phase ≡ Phase.Done → IfSeen (F.told folder.old) (λ v. StandsIn work.now journal v) }
     requires source { journal.source ≡ sides.now.source.root }
     requires target { journal.target ≡ sides.now.target.root }
     requires items { AreTold journal source.now.items }
     ensures moved { Moved sides.now.source sides.now.target work.now (F.told folder.new) result }
-    ensures placed { IfOk result (λ done. (v : View) → IsSeen (F.told folder.old) v → done.placed ≡ lacking there.now source.now.items) }
+    ensures placed { IfOk result (λ done. IfSeen (F.told folder.old) (λ v. done.placed ≡ lacking there.now source.now.items)) }
     ensures building { journal.phase ≡ Phase.Building → LeadsTold sides.now.source sides.now.target work.now journal Begun Finished (F.told folder.old) (F.told folder.new) result }
     ensures done { journal.phase ≡ Phase.Done → StandAll source.now.items there.now → LeadsTold sides.now.source sides.now.target work.now journal Finished Finished (F.told folder.old) (F.told folder.new) result }
     ensures tidy { IfOk result (λ done. StaysTidyWork work.now (F.told folder.old) (F.told folder.new)) }
@@ -97,8 +96,8 @@ pub(crate) fn finish<F: Folder>(
     requires apart { AreSeparate sides.now.source.root sides.now.target.root work.now }
     requires walked { IsWalked (F.told folder.old) sides.now.source source.now.items }
     requires journal { IsJournal journal }
-    requires work_folder { (v : View) → IsSeen (F.told folder.old) v → IsWorkFolder v work.now }
-    requires stands { journal.phase ≡ Phase.Done → (v : View) → IsSeen (F.told folder.old) v → StandsIn work.now journal v }
+    requires work_folder { IfSeen (F.told folder.old) (λ v. IsWorkFolder v work.now) }
+    requires stands { journal.phase ≡ Phase.Done → IfSeen (F.told folder.old) (λ v. StandsIn work.now journal v) }
     requires source { journal.source ≡ sides.now.source.root }
     requires target { journal.target ≡ sides.now.target.root }
     requires items { AreTold journal source.now.items }
@@ -138,7 +137,7 @@ fn test_same<F: Folder>(
     requires source { IsWalked (F.told folder.old) sides.now.source source.now.items }
     requires target { IsWalked (F.told folder.old) sides.now.target target.now.items }
     ensures told { F.told folder.new ≡ F.told folder.old }
-    ensures same { OnOk result ((v : View) → IsSeen (F.told folder.old) v → match_of v (side_of sides.now.source source.now.items) (side_of sides.now.target target.now.items) ≡ Is Same) }
+    ensures same { OnOk result (IfSeen (F.told folder.old) (λ v. match_of v (side_of sides.now.source source.now.items) (side_of sides.now.target target.now.items) ≡ Is Same)) }
     ensures grows { F.faults folder.old ≤ F.faults folder.new }
     ensures blamed { IfErr result (Blamed is_of_begin (CountRose (F.faults folder.old) (F.faults folder.new)) ⊥) }
     ensures moving { IfErr result (StopsLater (λ v. IsSameOrTooLong (match_of v (side_of sides.now.source source.now.items) (side_of sides.now.target target.now.items))) (F.told folder.old)) }
@@ -167,9 +166,9 @@ fn say_done<F: Folder>(
     journal: Journal,
 ) -> Result<(), MoveFault>
     requires journal { IsJournal journal }
-    requires work_folder { (v : View) → IsSeen (F.told folder.old) v → IsWorkFolder v work.now }
-    requires stands { journal.phase ≡ Phase.Done → (v : View) → IsSeen (F.told folder.old) v → StandsIn work.now journal v }
-    ensures says { OnOk result ((v : View) → IsSeen (F.told folder.new) v → StandsIn work.now (done_of journal) v) }
+    requires work_folder { IfSeen (F.told folder.old) (λ v. IsWorkFolder v work.now) }
+    requires stands { journal.phase ≡ Phase.Done → IfSeen (F.told folder.old) (λ v. StandsIn work.now journal v) }
+    ensures says { OnOk result (IfSeen (F.told folder.new) (λ v. StandsIn work.now (done_of journal) v)) }
     ensures tidy { OnOk result (StaysTidyWork work.now (F.told folder.old) (F.told folder.new)) }
     ensures guard { FinishesEach work.now journal (F.told folder.old) (F.told folder.new) result }
     ensures moves { (root : Path) → AreApart root work.now → MovesOnly work.now root (F.told folder.old) (F.told folder.new) }

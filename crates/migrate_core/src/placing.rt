@@ -1,8 +1,7 @@
 //! Placing the source's items in the target.
 ghost use Rattle.std.specs.Prelude.{◌≡◌, ◌≤◌, ◌∷◌, [], not, IfErr, IfOk};
 ghost use Rattle.port_model.specs.Counts.{CountRose};
-ghost use Rattle.folder_spec.specs.Seen.{IsSeen};
-ghost use Rattle.folder_spec.specs.View.{View};
+ghost use Rattle.folder_spec.specs.Seen.{IfSeen};
 ghost use Rattle.move_journal.specs.Journal.{IsDigest};
 ghost use Rattle.tree_match.specs.Alone.{Begun};
 ghost use Rattle.vault_spec.specs.Vault.{format_of};
@@ -78,11 +77,11 @@ pub(crate) fn place_missing<F: Folder, R: Randoms>(
     requires apart { AreSeparate sides.now.source.root sides.now.target.root work.now }
     requires walked { IsWalked (F.told folder.old) sides.now.source items.now }
     requires allowed { AllowsEach (format_of sides.now.target.vault) items.now }
-    requires ready { (v : View) → IsSeen (F.told folder.old) v → IsReady v work.now }
-    requires there { (v : View) → IsSeen (F.told folder.old) v → IsOrdered there.now }
+    requires ready { IfSeen (F.told folder.old) (λ v. IsReady v work.now) }
+    requires there { IfSeen (F.told folder.old) (λ v. IsOrdered there.now) }
     ensures guard { LeadsEach sides.now.source sides.now.target work.now Begun Begun (F.told folder.old) (F.told folder.new) result }
     ensures moves { MovesBeside (is_apart work.now sides.now.target.root) sides.now.target.root (F.told folder.old) (F.told folder.new) }
-    ensures ready { IfOk result (λ placed. (v : View) → IsSeen (F.told folder.new) v → IsReady v work.now) }
+    ensures ready { IfOk result (λ placed. IfSeen (F.told folder.new) (λ v. IsReady v work.now)) }
     ensures none { StandAll items.now there.now → F.told folder.new ≡ F.told folder.old }
     ensures counted { IfOk result (λ placed. IsOrdered there.now → placed ≡ lacking there.now items.now) }
     ensures grows { F.faults folder.old ≤ F.faults folder.new }
@@ -120,11 +119,11 @@ fn place_missing_one<F: Folder, R: Randoms>(
     requires apart { AreSeparate sides.now.source.root sides.now.target.root work.now }
     requires item { IsItemOf (F.told folder.old) sides.now.source item.now }
     requires allowed { AllowsLast (format_of sides.now.target.vault) item.now.path }
-    requires ready { (v : View) → IsSeen (F.told folder.old) v → IsReady v work.now }
-    requires there { (v : View) → IsSeen (F.told folder.old) v → IsOrdered there.now }
+    requires ready { IfSeen (F.told folder.old) (λ v. IsReady v work.now) }
+    requires there { IfSeen (F.told folder.old) (λ v. IsOrdered there.now) }
     ensures guard { LeadsEach sides.now.source sides.now.target work.now Begun Begun (F.told folder.old) (F.told folder.new) result }
     ensures moves { MovesBeside (is_apart work.now sides.now.target.root) sides.now.target.root (F.told folder.old) (F.told folder.new) }
-    ensures ready { IfOk result (λ placed. (v : View) → IsSeen (F.told folder.new) v → IsReady v work.now) }
+    ensures ready { IfOk result (λ placed. IfSeen (F.told folder.new) (λ v. IsReady v work.now)) }
     ensures none { StandsIn item.now there.now → F.told folder.new ≡ F.told folder.old }
     ensures counted { IfOk result (λ placed. IsOrdered there.now → placed ≡ not (is_there there.now item.now)) }
     ensures copies { IfOk result (λ placed. CopiesMissing sides.now.source sides.now.target there.now item.now (F.told folder.old) (F.told folder.new)) }
@@ -164,10 +163,10 @@ fn place<F: Folder, R: Randoms>(
     requires apart { AreSeparate sides.now.source.root sides.now.target.root work.now }
     requires item { IsItemOf (F.told folder.old) sides.now.source item.now }
     requires allowed { AllowsLast (format_of sides.now.target.vault) item.now.path }
-    requires ready { (v : View) → IsSeen (F.told folder.old) v → IsReady v work.now }
+    requires ready { IfSeen (F.told folder.old) (λ v. IsReady v work.now) }
     ensures guard { LeadsEach sides.now.source sides.now.target work.now Begun Begun (F.told folder.old) (F.told folder.new) result }
     ensures moves { MovesBeside (is_apart work.now sides.now.target.root) sides.now.target.root (F.told folder.old) (F.told folder.new) }
-    ensures ready { IfOk result (λ placed. (v : View) → IsSeen (F.told folder.new) v → IsReady v work.now) }
+    ensures ready { IfOk result (λ placed. IfSeen (F.told folder.new) (λ v. IsReady v work.now)) }
     ensures copies { IfOk result (λ placed. CopiesOne sides.now.source sides.now.target item.now (F.told folder.old) (F.told folder.new)) }
     ensures grows { F.faults folder.old ≤ F.faults folder.new }
     ensures random { R.faults random.old ≤ R.faults random.new }
@@ -202,10 +201,10 @@ fn place_content<F: Folder, R: Randoms>(
     requires apart { AreSeparate sides.now.source.root sides.now.target.root work.now }
     requires item { IsItemOf (F.told folder.old) sides.now.source item.now }
     requires allowed { AllowsLast (format_of sides.now.target.vault) item.now.path }
-    requires ready { (v : View) → IsSeen (F.told folder.old) v → IsReady v work.now }
+    requires ready { IfSeen (F.told folder.old) (λ v. IsReady v work.now) }
     ensures guard { LeadsEach sides.now.source sides.now.target work.now Begun Begun (F.told folder.old) (F.told folder.new) result }
     ensures moves { MovesBeside (is_apart work.now sides.now.target.root) sides.now.target.root (F.told folder.old) (F.told folder.new) }
-    ensures ready { IfOk result (λ placed. (v : View) → IsSeen (F.told folder.new) v → IsReady v work.now) }
+    ensures ready { IfOk result (λ placed. IfSeen (F.told folder.new) (λ v. IsReady v work.now)) }
     ensures copies { IfOk result (λ placed. CopiesOne sides.now.source sides.now.target item.now (F.told folder.old) (F.told folder.new)) }
     ensures grows { F.faults folder.old ≤ F.faults folder.new }
     ensures random { R.faults random.old ≤ R.faults random.new }

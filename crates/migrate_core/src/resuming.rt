@@ -1,7 +1,7 @@
 //! Going on with a migration.
 ghost use Rattle.std.specs.Prelude.{◌≡◌, ◌≢◌, ◌⊎◌, ◌≤◌, ◌∷◌, [], IfErr, IfOk, Ok, OnOk};
 ghost use Rattle.port_model.specs.Counts.{CountRose};
-ghost use Rattle.folder_spec.specs.Seen.{IsSeen};
+ghost use Rattle.folder_spec.specs.Seen.{IfSeen, IsSeen};
 ghost use Rattle.folder_spec.specs.View.{FileOf, NoEntry, View};
 ghost use Rattle.move_journal.specs.Journal.{IsJournal, journal_text};
 ghost use Rattle.move_journal.specs.Reading.{journal_path};
@@ -56,14 +56,14 @@ pub fn resume<F: Folder, R: Randoms>(
     ensures guard { (g : Migration) → IsResumed g work.now source_pass.now target_pass.now → KeepsGuarded g (F.told folder.old) (F.told folder.new) }
     ensures moves { (v : View) (journal : Journal) → IsSeen (F.told folder.old) v → IsJournal journal → v (journal_path work.now) ≡ FileOf (journal_text journal)
         → MovesOnly work.now journal.target (F.told folder.old) (F.told folder.new) }
-    ensures moved { IfOk result (λ done. (v : View) → IsSeen (F.told folder.old) v → MovesTold work.now source_pass.now target_pass.now done (F.told folder.old) (F.told folder.new) v) }
+    ensures moved { IfOk result (λ done. IfSeen (F.told folder.old) (λ v. MovesTold work.now source_pass.now target_pass.now done (F.told folder.old) (F.told folder.new) v)) }
     ensures grows { F.faults folder.old ≤ F.faults folder.new }
     ensures random { R.faults random.old ≤ R.faults random.new }
     ensures blamed { IfErr result (Blamed is_of_resume (CountRose (F.faults folder.old) (F.faults folder.new)) (CountRose (R.faults random.old) (R.faults random.new))) }
-    ensures cause { (v : View) → IsSeen (F.told folder.old) v → Unless result (Resumes work.now source_pass.now target_pass.now v result) }
-    ensures written { (v : View) → IsSeen (F.told folder.old) v → MayWriteTold result work.now source_pass.now target_pass.now (R.left random.old) (R.left random.new) (F.told folder.old) (F.told folder.new) v }
-    ensures completes { (g : Migration) (v : View) → IsSeen (F.told folder.old) v → IsResumed g work.now source_pass.now target_pass.now → CanResume g v → IfErr result IsOfChance }
-    ensures too_long { (v : View) → IsSeen (F.told folder.old) v → IfErr result (IsOfLimit (PassesAsTold work.now source_pass.now target_pass.now (F.told folder.old) (F.told folder.new) v)) }
+    ensures cause { IfSeen (F.told folder.old) (λ v. Unless result (Resumes work.now source_pass.now target_pass.now v result)) }
+    ensures written { IfSeen (F.told folder.old) (λ v. MayWriteTold result work.now source_pass.now target_pass.now (R.left random.old) (R.left random.new) (F.told folder.old) (F.told folder.new) v) }
+    ensures completes { (g : Migration) → IfSeen (F.told folder.old) (λ v. IsResumed g work.now source_pass.now target_pass.now → CanResume g v → IfErr result IsOfChance) }
+    ensures too_long { IfSeen (F.told folder.old) (λ v. IfErr result (IsOfLimit (PassesAsTold work.now source_pass.now target_pass.now (F.told folder.old) (F.told folder.new) v))) }
 {
     draws_compose();
     what_can_resume_is_done();
@@ -84,13 +84,13 @@ fn resume_settled<F: Folder, R: Randoms>(
     ensures guard { (g : Migration) → IsResumed g work.now source_pass.now target_pass.now → KeepsSettled g (F.told folder.old) (F.told folder.new) }
     ensures moves { (v : View) (journal : Journal) → IsSeen (F.told folder.old) v → IsJournal journal → v (journal_path work.now) ≡ FileOf (journal_text journal)
         → MovesOnly work.now journal.target (F.told folder.old) (F.told folder.new) }
-    ensures moved { IfOk result (λ done. (v : View) → IsSeen (F.told folder.old) v → MovesTold work.now source_pass.now target_pass.now done (F.told folder.old) (F.told folder.new) v) }
+    ensures moved { IfOk result (λ done. IfSeen (F.told folder.old) (λ v. MovesTold work.now source_pass.now target_pass.now done (F.told folder.old) (F.told folder.new) v)) }
     ensures grows { F.faults folder.old ≤ F.faults folder.new }
     ensures random { R.faults random.old ≤ R.faults random.new }
     ensures blamed { IfErr result (Blamed is_of_resume (CountRose (F.faults folder.old) (F.faults folder.new)) (CountRose (R.faults random.old) (R.faults random.new))) }
-    ensures cause { (v : View) → IsSeen (F.told folder.old) v → Unless result (Resumes work.now source_pass.now target_pass.now v result) }
-    ensures too_long { (v : View) → IsSeen (F.told folder.old) v → IfErr result (IsOfLimit (PassesAsTold work.now source_pass.now target_pass.now (F.told folder.old) (F.told folder.new) v)) }
-    ensures written { (v : View) → IsSeen (F.told folder.old) v → MayWriteTold result work.now source_pass.now target_pass.now (R.left random.old) (R.left random.new) (F.told folder.old) (F.told folder.new) v }
+    ensures cause { IfSeen (F.told folder.old) (λ v. Unless result (Resumes work.now source_pass.now target_pass.now v result)) }
+    ensures too_long { IfSeen (F.told folder.old) (λ v. IfErr result (IsOfLimit (PassesAsTold work.now source_pass.now target_pass.now (F.told folder.old) (F.told folder.new) v))) }
+    ensures written { IfSeen (F.told folder.old) (λ v. MayWriteTold result work.now source_pass.now target_pass.now (R.left random.old) (R.left random.new) (F.told folder.old) (F.told folder.new) v) }
 {
     draws_compose();
     journals_are_read_back();
@@ -130,16 +130,16 @@ fn resume_told<F: Folder, R: Randoms>(
 ) -> Result<Done, MoveFault>
     requires journal { IsJournal journal }
     requires apart { AreSeparate journal.source journal.target work.now }
-    requires used { (v : View) → IsSeen (F.told folder.old) v → IsInUse v work.now journal }
+    requires used { IfSeen (F.told folder.old) (λ v. IsInUse v work.now journal) }
     ensures guard { (g : Migration) → IsResumed g work.now source_pass.now target_pass.now → KeepsSettled g (F.told folder.old) (F.told folder.new) }
     ensures moves { MovesOnly work.now journal.target (F.told folder.old) (F.told folder.new) }
     ensures moved { IfOk result (λ done. MovesTree journal.source journal.target work.now source_pass.now target_pass.now done (F.told folder.old) (F.told folder.new)) }
     ensures grows { F.faults folder.old ≤ F.faults folder.new }
     ensures random { R.faults random.old ≤ R.faults random.new }
     ensures blamed { IfErr result (Blamed is_of_resume (CountRose (F.faults folder.old) (F.faults folder.new)) (CountRose (R.faults random.old) (R.faults random.new))) }
-    ensures cause { (v : View) → IsSeen (F.told folder.old) v → Unless result (ResumesTold work.now source_pass.now target_pass.now v journal result) }
+    ensures cause { IfSeen (F.told folder.old) (λ v. Unless result (ResumesTold work.now source_pass.now target_pass.now v journal result)) }
     ensures too_long { IfErr result (IsOfLimit (PassesInTree journal.source journal.target source_pass.now target_pass.now (F.told folder.old) (F.told folder.new))) }
-    ensures written { (v : View) → IsSeen (F.told folder.old) v → MayWriteTree result journal.source journal.target source_pass.now target_pass.now (R.left random.old) (R.left random.new) (F.told folder.old) (F.told folder.new) }
+    ensures written { IfSeen (F.told folder.old) (λ v. MayWriteTree result journal.source journal.target source_pass.now target_pass.now (R.left random.old) (R.left random.new) (F.told folder.old) (F.told folder.new)) }
 {
     draws_compose();
     journals_are_read_back();
@@ -160,12 +160,12 @@ fn resume_told<F: Folder, R: Randoms>(
 // The source is there, and hasn't been moved into the work folder.
 fn test_source<F: Folder>(folder: &mut F, journal: &Journal, work: &FPath) -> Result<(), MoveFault>
     ensures told { F.told folder.new ≡ F.told folder.old }
-    ensures there { OnOk result ((journal.now.phase ≡ Phase.Building) ⊎ ((v : View) → IsSeen (F.told folder.old) v → v journal.now.source ≢ NoEntry)) }
+    ensures there { OnOk result ((journal.now.phase ≡ Phase.Building) ⊎ (IfSeen (F.told folder.old) (λ v. v journal.now.source ≢ NoEntry))) }
     ensures grows { F.faults folder.old ≤ F.faults folder.new }
     ensures tested { IfErr result IsOfTest }
     ensures uncompared { IfErr result StopsElsewhere }
     ensures blamed { IfErr result (Blamed is_of_resume (CountRose (F.faults folder.old) (F.faults folder.new)) ⊥) }
-    ensures cause { (v : View) → IsSeen (F.told folder.old) v → Unless result (TestsSource journal.now.phase work.now journal.now.source v result) }
+    ensures cause { IfSeen (F.told folder.old) (λ v. Unless result (TestsSource journal.now.phase work.now journal.now.source v result)) }
 {
     if journal.phase == Phase::Building {
         return Ok(());
@@ -188,7 +188,7 @@ fn resume_with<F: Folder, R: Randoms>(
 ) -> Result<Done, MoveFault>
     requires journal { IsJournal journal }
     requires apart { AreSeparate sides.now.source.root sides.now.target.root work.now }
-    requires used { (v : View) → IsSeen (F.told folder.old) v → IsInUse v work.now journal }
+    requires used { IfSeen (F.told folder.old) (λ v. IsInUse v work.now journal) }
     requires source_named { journal.source ≡ sides.now.source.root }
     requires target_named { journal.target ≡ sides.now.target.root }
     ensures moved { Moved sides.now.source sides.now.target work.now (F.told folder.new) result }
@@ -198,9 +198,9 @@ fn resume_with<F: Folder, R: Randoms>(
     ensures grows { F.faults folder.old ≤ F.faults folder.new }
     ensures random { R.faults random.old ≤ R.faults random.new }
     ensures blamed { IfErr result (Blamed is_of_resume (CountRose (F.faults folder.old) (F.faults folder.new)) (CountRose (R.faults random.old) (R.faults random.new))) }
-    ensures cause { (v : View) → IsSeen (F.told folder.old) v → Unless result (ResumesWith sides.now.source sides.now.target work.now journal v result) }
+    ensures cause { IfSeen (F.told folder.old) (λ v. Unless result (ResumesWith sides.now.source sides.now.target work.now journal v result)) }
     ensures ends { EndsBy (StayGood sides.now.source sides.now.target (F.told folder.old) (F.told folder.new)) (Unit {0}) sides.now.source sides.now.target (F.told folder.new) result }
-    ensures written { (v : View) → IsSeen (F.told folder.old) v → MayWrite result sides.now.source sides.now.target (R.left random.old) (R.left random.new) (F.told folder.old) (F.told folder.new) }
+    ensures written { IfSeen (F.told folder.old) (λ v. MayWrite result sides.now.source sides.now.target (R.left random.old) (R.left random.new) (F.told folder.old) (F.told folder.new)) }
 {
     draws_compose();
     walks_tell_the_tree();
@@ -228,7 +228,7 @@ fn test_plans<F: Folder>(
     ensures tested { IfErr result IsOfTest }
     ensures limit { IfErr result (PassesSeen sides.now.source sides.now.target (F.told folder.old)) }
     ensures blamed { IfErr result (Blamed is_of_resume (CountRose (F.faults folder.old) (F.faults folder.new)) ⊥) }
-    ensures cause { (v : View) → IsSeen (F.told folder.old) v → Unless result (TestsItems sides.now.source sides.now.target journal.now v plans.now.source.items plans.now.target.items (λ answer. answer ≡ Ok tt) result) }
+    ensures cause { IfSeen (F.told folder.old) (λ v. Unless result (TestsItems sides.now.source sides.now.target journal.now v plans.now.source.items plans.now.target.items (λ answer. answer ≡ Ok tt) result)) }
 {
     test_changed(journal, plans)?;
     test_names(&sides.target, plans.source.items.as_slice())?;
@@ -265,7 +265,7 @@ fn test_held<F: Folder>(
     ensures tested { IfErr result IsOfTest }
     ensures limit { IfErr result (PassesSeen sides.now.source sides.now.target (F.told folder.old)) }
     ensures blamed { IfErr result (Blamed is_of_resume (CountRose (F.faults folder.old) (F.faults folder.new)) ⊥) }
-    ensures cause { (v : View) → IsSeen (F.told folder.old) v → Unless result (TestsMatch sides.now.target plans.now.target.items sides.now.source plans.now.source.items v (λ answer. answer ≡ Ok tt) result) }
+    ensures cause { IfSeen (F.told folder.old) (λ v. Unless result (TestsMatch sides.now.target plans.now.target.items sides.now.source plans.now.source.items v (λ answer. answer ≡ Ok tt) result)) }
 {
     match holds_all(
         alloc,
@@ -303,7 +303,7 @@ fn place_rest<F: Folder, R: Randoms>(
 ) -> Result<Done, MoveFault>
     requires journal { IsJournal journal }
     requires apart { AreSeparate sides.now.source.root sides.now.target.root work.now }
-    requires used { (v : View) → IsSeen (F.told folder.old) v → IsInUse v work.now journal }
+    requires used { IfSeen (F.told folder.old) (λ v. IsInUse v work.now journal) }
     requires source { IsWalked (F.told folder.old) sides.now.source plans.now.source.items }
     requires target { IsWalked (F.told folder.old) sides.now.target plans.now.target.items }
     requires allowed { AllowsEach (format_of sides.now.target.vault) plans.now.source.items }
@@ -312,15 +312,15 @@ fn place_rest<F: Folder, R: Randoms>(
     requires target_named { journal.target ≡ sides.now.target.root }
     requires items_named { AreTold journal plans.now.source.items }
     ensures moved { Moved sides.now.source sides.now.target work.now (F.told folder.new) result }
-    ensures placed { IfOk result (λ done. (v : View) → IsSeen (F.told folder.old) v → done.placed ≡ lacking plans.now.target.items plans.now.source.items) }
+    ensures placed { IfOk result (λ done. IfSeen (F.told folder.old) (λ v. done.placed ≡ lacking plans.now.target.items plans.now.source.items)) }
     ensures guard { LeadsTold sides.now.source sides.now.target work.now journal (progress_of journal.phase) Finished (F.told folder.old) (F.told folder.new) result }
     ensures moves { MovesOnly work.now sides.now.target.root (F.told folder.old) (F.told folder.new) }
     ensures grows { F.faults folder.old ≤ F.faults folder.new }
     ensures random { R.faults random.old ≤ R.faults random.new }
     ensures blamed { IfErr result (Blamed is_of_resume (CountRose (F.faults folder.old) (F.faults folder.new)) (CountRose (R.faults random.old) (R.faults random.new))) }
-    ensures cause { (v : View) → IsSeen (F.told folder.old) v → Unless result (Moves (Empties v work.now) sides.now.source sides.now.target v plans.now.source.items result) }
+    ensures cause { IfSeen (F.told folder.old) (λ v. Unless result (Moves (Empties v work.now) sides.now.source sides.now.target v plans.now.source.items result)) }
     ensures ends { EndsBy (StayGood sides.now.source sides.now.target (F.told folder.old) (F.told folder.new)) (Unit {0}) sides.now.source sides.now.target (F.told folder.new) result }
-    ensures written { (v : View) → IsSeen (F.told folder.old) v → WritesBy result sides.now.source sides.now.target (lacked plans.now.target.items plans.now.source.items) (journal_text (done_of journal) ∷ []) (R.left random.old) (R.left random.new) (F.told folder.old) (F.told folder.new) }
+    ensures written { IfSeen (F.told folder.old) (λ v. WritesBy result sides.now.source sides.now.target (lacked plans.now.target.items plans.now.source.items) (journal_text (done_of journal) ∷ []) (R.left random.old) (R.left random.new) (F.told folder.old) (F.told folder.new)) }
 {
     draws_compose();
     guarded_migrations_are_seen();

@@ -1,8 +1,7 @@
 //! The two vaults of a migration, and their plans.
 ghost use Rattle.std.specs.Prelude.{◌≡◌, ◌⊎◌, ◌≤◌, IfErr, IfOk, OnOk, Ok};
 ghost use Rattle.port_model.specs.Counts.{CountRose};
-ghost use Rattle.folder_spec.specs.Seen.{IsSeen, under};
-ghost use Rattle.folder_spec.specs.View.{View};
+ghost use Rattle.folder_spec.specs.Seen.{IfSeen, under};
 ghost use Rattle.tree_match.specs.Guard.{AreApart};
 ghost use Rattle.vault_spec.specs.Making.{Allows};
 ghost use Rattle.vault_spec.specs.Vault.{IsVault, format_of};
@@ -46,13 +45,13 @@ pub(crate) fn load_both<F: Folder>(
     ensures told { F.told folder.new ≡ F.told folder.old }
     ensures source { IfOk result (λ sides. sides.source.root ≡ source.now) }
     ensures target { IfOk result (λ sides. sides.target.root ≡ target.now) }
-    ensures opens_source { IfOk result (λ sides. (v : View) → IsSeen (F.told folder.old) v → IsVault (under source.now v) source_pass.now sides.source.vault) }
-    ensures opens_target { IfOk result (λ sides. (v : View) → IsSeen (F.told folder.old) v → IsVault (under target.now v) target_pass.now sides.target.vault) }
+    ensures opens_source { IfOk result (λ sides. IfSeen (F.told folder.old) (λ v. IsVault (under source.now v) source_pass.now sides.source.vault)) }
+    ensures opens_target { IfOk result (λ sides. IfSeen (F.told folder.old) (λ v. IsVault (under target.now v) target_pass.now sides.target.vault)) }
     ensures grows { F.faults folder.old ≤ F.faults folder.new }
     ensures tested { IfErr result IsOfTest }
     ensures uncompared { IfErr result StopsElsewhere }
     ensures blamed { IfErr result (Blamed is_of_begin (CountRose (F.faults folder.old) (F.faults folder.new)) ⊥) }
-    ensures cause { IfErr result (λ fault. (v : View) → IsSeen (F.told folder.old) v → RefusesBoth v source.now target.now source_pass.now target_pass.now fault) }
+    ensures cause { IfErr result (λ fault. IfSeen (F.told folder.old) (λ v. RefusesBoth v source.now target.now source_pass.now target_pass.now fault)) }
 {
     let source = load(alloc, folder, Side::Source, source, source_pass)?;
     let target = load(alloc, folder, Side::Target, target, target_pass)?;
@@ -68,12 +67,12 @@ fn load<F: Folder>(
 ) -> Result<Vault, MoveFault>
     ensures told { F.told folder.new ≡ F.told folder.old }
     ensures root { IfOk result (λ vault. vault.root ≡ root.now) }
-    ensures vault { IfOk result (λ vault. (v : View) → IsSeen (F.told folder.old) v → IsVault (under root.now v) pass.now vault.vault) }
+    ensures vault { IfOk result (λ vault. IfSeen (F.told folder.old) (λ v. IsVault (under root.now v) pass.now vault.vault)) }
     ensures grows { F.faults folder.old ≤ F.faults folder.new }
     ensures tested { IfErr result IsOfTest }
     ensures uncompared { IfErr result StopsElsewhere }
     ensures blamed { IfErr result (Blamed is_of_begin (CountRose (F.faults folder.old) (F.faults folder.new)) ⊥) }
-    ensures cause { IfErr result (λ fault. (v : View) → IsSeen (F.told folder.old) v → RefusesLoad side v root.now pass.now fault) }
+    ensures cause { IfErr result (λ fault. IfSeen (F.told folder.old) (λ v. RefusesLoad side v root.now pass.now fault)) }
 {
     match Vault::load(alloc, folder, root, pass) {
         Ok(vault) => Ok(vault),
@@ -96,9 +95,9 @@ pub(crate) fn walk_both<F: Folder>(
     ensures tested { IfErr result IsOfTest }
     ensures uncompared { IfErr result StopsElsewhere }
     ensures blamed { IfErr result (Blamed is_of_begin (CountRose (F.faults folder.old) (F.faults folder.new)) ⊥) }
-    ensures passed_source { IfOk result (λ plans. (v : View) → IsSeen (F.told folder.old) v → Walks sides.now.source v (Ok plans.source.items)) }
-    ensures passed_target { IfOk result (λ plans. (v : View) → IsSeen (F.told folder.old) v → Walks sides.now.target v (Ok plans.target.items)) }
-    ensures cause { IfErr result (λ fault. (v : View) → IsSeen (F.told folder.old) v → RefusesWalks sides.now.source sides.now.target v fault) }
+    ensures passed_source { IfOk result (λ plans. IfSeen (F.told folder.old) (λ v. Walks sides.now.source v (Ok plans.source.items))) }
+    ensures passed_target { IfOk result (λ plans. IfSeen (F.told folder.old) (λ v. Walks sides.now.target v (Ok plans.target.items))) }
+    ensures cause { IfErr result (λ fault. IfSeen (F.told folder.old) (λ v. RefusesWalks sides.now.source sides.now.target v fault)) }
 {
     let source = walk_one(alloc, folder, &sides.source)?;
     let target = walk_one(alloc, folder, &sides.target)?;
@@ -117,8 +116,8 @@ pub(crate) fn walk_one<F: Folder>(
     ensures tested { IfErr result IsOfTest }
     ensures uncompared { IfErr result StopsElsewhere }
     ensures blamed { IfErr result (Blamed is_of_begin (CountRose (F.faults folder.old) (F.faults folder.new)) ⊥) }
-    ensures passed { IfOk result (λ plan. (v : View) → IsSeen (F.told folder.old) v → Walks vault.now v (Ok plan.items)) }
-    ensures cause { IfErr result (λ fault. (v : View) → IsSeen (F.told folder.old) v → RefusesWalk vault.now v fault) }
+    ensures passed { IfOk result (λ plan. IfSeen (F.told folder.old) (λ v. Walks vault.now v (Ok plan.items))) }
+    ensures cause { IfErr result (λ fault. IfSeen (F.told folder.old) (λ v. RefusesWalk vault.now v fault)) }
 {
     Ok(walk(alloc, folder, vault)?)
 }

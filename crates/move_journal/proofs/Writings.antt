@@ -5,7 +5,7 @@ use Rattle.folder_spec.specs.State.{Node, State, present, IsSound}
 use Rattle.folder_spec.specs.declared.FolderFault.{FolderFault}
 use Rattle.folder_spec.specs.Event.{Told, FromTo}
 use Rattle.folder_spec.specs.View.{Folder, FileOf, View, found, view_of}
-use Rattle.folder_spec.specs.Seen.{seen, IsSeen, ShowsNothingOrFile, ShowsFilePlace}
+use Rattle.folder_spec.specs.Seen.{IfSeen, ShowsFilePlace, ShowsNothingOrFile, seen}
 use Rattle.folder_spec.specs.Region.{SparesOld, StagesOrPuts}
 use Rattle.folder_spec.specs.Image.{Image, IsImage}
 use Rattle.folder_spec.specs.Replace.{IsNewFile, IsReplacing, HasReplaced, IsOldOrNew, IsReplaced, ShowsOldOrNew, IsCleanAt}
@@ -87,7 +87,7 @@ place_of v work a folder here = elim here as (λ _. ShowsFilePlace v (child work
   | inr file ↦ inr file
 ]
 
-pub may_publish : (t : Option Told) (work : Path) → ((v : View) → IsSeen t v → IsWorkFolder v work) → MayPublish t (new_journal_path work) (journal_path work)
+pub may_publish : (t : Option Told) (work : Path) → IfSeen t (λ v. IsWorkFolder v work) → MayPublish t (new_journal_path work) (journal_path work)
 may_publish t work folder = record {
   stage = record { below_base = child-not_base work _; place = λ v is. place_of v work _ (folder v is).folder (folder v is).new_journal };
   place = λ v is. place_of v work _ (folder v is).folder (folder v is).journal;

@@ -1,7 +1,6 @@
 //! Reading the journal's file.
 ghost use Rattle.std.specs.Prelude.{◌≡◌, ◌≤◌, Err, IfOk};
-ghost use Rattle.folder_spec.specs.View.{View};
-ghost use Rattle.folder_spec.specs.Seen.{IsSeen};
+ghost use Rattle.folder_spec.specs.Seen.{IfSeen};
 ghost use Rattle.port_model.specs.Counts.{CountRose};
 ghost use Rattle.move_journal.specs.declared.journal.JournalFault.TheVariants.{Failed};
 ghost use Rattle.move_journal.specs.Journal.{IsJournal};
@@ -18,7 +17,7 @@ use std::alloc::Global;
 /// 65,536 bytes. Otherwise the answer names the first line that fits no journal.
 pub fn read<F: Folder>(alloc: Global, folder: &mut F, work: &FPath) -> Result<Journal, JournalFault>
     ensures told { F.told folder.new ≡ F.told folder.old }
-    ensures answer { (v : View) → IsSeen (F.told folder.old) v → ReadsAs (journal_bytes v work.now) result }
+    ensures answer { IfSeen (F.told folder.old) (λ v. ReadsAs (journal_bytes v work.now) result) }
     ensures journal { IfOk result (λ journal. IsJournal journal) }
     ensures grows { F.faults folder.old ≤ F.faults folder.new }
     ensures failed { result ≡ Err Failed → CountRose (F.faults folder.old) (F.faults folder.new) }

@@ -1,7 +1,6 @@
 //! Writing the journal's file.
 ghost use Rattle.std.specs.Prelude.{◌≤◌, OnOk};
-ghost use Rattle.folder_spec.specs.View.{View};
-ghost use Rattle.folder_spec.specs.Seen.{IsSeen};
+ghost use Rattle.folder_spec.specs.Seen.{IfSeen};
 ghost use Rattle.folder_model.specs.Answers.{CountsAbove};
 ghost use Rattle.move_journal.specs.Journal.{IsParsed};
 ghost use Rattle.move_journal.specs.Writing.{IsWorkFolder, Writes, HasWritten};
@@ -27,7 +26,7 @@ pub fn write<F: Folder>(
     requires source { IsParsed journal.now.source }
     requires target { IsParsed journal.now.target }
     requires items { journal.now.items ≤ 200000 }
-    requires work_folder { (v : View) → IsSeen (F.told folder.old) v → IsWorkFolder v work.now }
+    requires work_folder { IfSeen (F.told folder.old) (λ v. IsWorkFolder v work.now) }
     ensures moments { Writes work.now journal.now (F.told folder.old) (F.told folder.new) }
     ensures written { OnOk result (HasWritten work.now journal.now (F.told folder.old) (F.told folder.new)) }
     ensures counts { CountsAbove (F.faults folder.old) (F.faults folder.new) result }

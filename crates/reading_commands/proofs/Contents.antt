@@ -17,7 +17,7 @@ use Rattle.vault_read.specs.declared.fault.FindFault.TheVariants as find
 use Rattle.vault_read.specs.declared.fault.Limit.TheVariants as limited
 use Rattle.vault_spec.specs.Find.{Refusal}
 use Rattle.vault_spec.specs.Find as spec
-use Rattle.folder_spec.specs.Seen.{IsSeen, under}
+use Rattle.folder_spec.specs.Seen.{IfSeen, IsSeen, under}
 use Rattle.vault_spec.specs.Format.{Format, file_bytes}
 use Rattle.vault_spec.specs.Standing.{File, standing}
 use Rattle.vault_spec.specs.Vault.{Vault, format_of}
@@ -171,7 +171,7 @@ own_cat (Err cat.NoMemory) = refl
 -- `cat` reads what its definition shows
 pub cat_reads : HaveOneAnswer → FilesAreFound → (target : Target) (root : Path) (vault : Vault) (result : Result ℕ CatFault) (told told1 told' : Option Told) (taken taken' : Option (List ℕ))
     → root ≡ target.vault → told1 ≡ told → told' ≡ told1
-    → ((v : View) → IsSeen told v → Opens v target.vault target.pass vault) → ((v : View) → IsSeen told1 v → Cats (format_of vault) root v target.path result taken taken')
+    → IfSeen told (λ v. Opens v target.vault target.pass vault) → IfSeen told1 (λ v. Cats (format_of vault) root v target.path result taken taken')
     → Reads (ShowsContent target) (answer_to_cat result) told told' taken taken'
 cat_reads law files target root vault result told told1 told' taken taken' at same same' opens cats =
     reads_by (ShowsContent target) (answer_to_cat result) told told' taken taken' (content_is_one law target) (same' ∙ same) (own_cat result)

@@ -1,8 +1,7 @@
 //! `ls`: lists a directory of a vault.
 ghost use Rattle.std.specs.Prelude.{◌≡◌, ◌++◌, ◌∷◌, [], Err, IfErr, IfOk, IsTrue, OnOk, string_bytes};
 ghost use Rattle.std.specs.Io.KnownBytes.{Keeps};
-ghost use Rattle.folder_spec.specs.View.{View};
-ghost use Rattle.folder_spec.specs.Seen.{IsSeen};
+ghost use Rattle.folder_spec.specs.Seen.{IfSeen};
 ghost use Rattle.port_model.specs.Counts.{CountRose};
 ghost use Rattle.reading_commands.specs.Ls.{ShowsItems, item_line, ls_text, node_letter};
 ghost use Rattle.command_opening.specs.Refusing.{Unless};
@@ -41,8 +40,8 @@ pub fn ls<F: Folder, O: Sink>(alloc: Global, target: &Target, folder: &mut F, ou
 // The lines of the directory's items.
 fn listing<F: Folder>(alloc: Global, target: &Target, folder: &mut F) -> Result<String, Answer>
     ensures told { F.told folder.new ≡ F.told folder.old }
-    ensures text { IfOk result (λ text. (v : View) → IsSeen (F.told folder.old) v → ShowsItems target.now v (record { pieces = string_bytes text ∷ []; answer = Answer.Done })) }
-    ensures refused { IfErr result (λ answer. (v : View) → IsSeen (F.told folder.old) v → Unless answer (ShowsItems target.now v (refused answer))) }
+    ensures text { IfOk result (λ text. IfSeen (F.told folder.old) (λ v. ShowsItems target.now v (record { pieces = string_bytes text ∷ []; answer = Answer.Done }))) }
+    ensures refused { IfErr result (λ answer. IfSeen (F.told folder.old) (λ v. Unless answer (ShowsItems target.now v (refused answer)))) }
     ensures failed { result ≡ Err Answer.FolderFault → CountRose (F.faults folder.old) (F.faults folder.new) }
     ensures own { IfErr result (λ answer. IsTrue (is_refusal answer)) }
 {

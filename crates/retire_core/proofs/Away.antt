@@ -12,7 +12,7 @@ use Rattle.folder_spec.specs.Event.{Allowed, Changes, Rename, Settle, Steps, Tol
 use Rattle.folder_spec.specs.Moments.{Went}
 use Rattle.folder_spec.specs.Path.{Part, Path, below, child}
 use Rattle.folder_spec.specs.Region.{IsAsBefore, Spares, apart_from, apart_from_both}
-use Rattle.folder_spec.specs.Seen.{IsSeen, moved_view, seen}
+use Rattle.folder_spec.specs.Seen.{IfSeen, IsSeen, moved_view, seen}
 use Rattle.folder_spec.specs.State.{State, IsSound}
 use Rattle.folder_spec.specs.View.{Folder, NoEntry, View}
 use Rattle.tree_match.proofs.Guards.{ImagesShow, RootsAreAlike}
@@ -75,7 +75,7 @@ moves_settled from work t u w result first changes =
 
 -- ---- it may be moved
 
-pub move_allowed : (from work : Path) (t : Option Told) → AreApart from work → ((v : View) → IsSeen t v → v from ≢ NoEntry) → IsGone (old_path work) t → ((v : View) → IsSeen t v → v work ≡ Folder)
+pub move_allowed : (from work : Path) (t : Option Told) → AreApart from work → IfSeen t (λ v. v from ≢ NoEntry) → IsGone (old_path work) t → IfSeen t (λ v. v work ≡ Folder)
     → (a : Told) → t ≡ Some a → Allowed a.state (Rename from (old_path work))
 move_allowed from work t apart there free folder a is =
     let shown : IsSeen t (seen a.state) = subst (λ o. IsSeen o (seen a.state)) (sym is) refl in
@@ -195,11 +195,11 @@ order_call from work (Some a) (Some b) (Err NoMemory) apart sound changes v w is
 order_call from work None u (Err fault) apart sound changes v w is is_now order = absurd is
 order_call from work (Some a) None (Err fault) apart sound changes v w is is_now order = absurd is_now
 
-pub order_settled : (work : Path) (t u w : Option Told) (result : Result (Unit {0}) FolderFault) → StaysInOrder work t u → Changes Settle u w result → ((x : View) → IsSeen w x → IsSeen u x) → StaysInOrder work t w
+pub order_settled : (work : Path) (t u w : Option Told) (result : Result (Unit {0}) FolderFault) → StaysInOrder work t u → Changes Settle u w result → IfSeen w (λ x. IsSeen u x) → StaysInOrder work t w
 order_settled work t u w result first changes same v x is is_now order = first v x is (same x is_now) order
 
 -- a settle leaves what is seen
-pub settle_seen_back : (t u : Option Told) (result : Result (Unit {0}) FolderFault) → Changes Settle t u result → (v : View) → IsSeen u v → IsSeen t v
+pub settle_seen_back : (t u : Option Told) (result : Result (Unit {0}) FolderFault) → Changes Settle t u result → IfSeen u (λ v. IsSeen t v)
 settle_seen_back (Some a) (Some b) (Ok done) changes v is = is ∙ ap (λ (c : Told). seen c.state) changes.1
 settle_seen_back (Some a) (Some b) (Err Failed) changes v is = is ∙ ap (λ (c : Told). seen c.state) changes.1.2
 settle_seen_back (Some a) (Some b) (Err Refused) changes v is = absurd (changes.0 tt)

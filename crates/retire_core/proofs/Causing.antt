@@ -3,7 +3,7 @@ use Rattle.std.proofs.Common.{◌≡◌, ◌≢◌, inl, inr, List, [], ◌∷�
 use Rattle.folder_spec.proofs.Paths.{below-both}
 use Rattle.folder_spec.specs.Event.{Changes, Rename, Settle, Told}
 use Rattle.folder_spec.specs.Path.{Part, Path, below, child}
-use Rattle.folder_spec.specs.Seen.{IsSeen, moved_view, seen, under}
+use Rattle.folder_spec.specs.Seen.{IfSeen, IsSeen, moved_view, seen, under}
 use Rattle.folder_spec.specs.View.{FileOf, Folder, Found, NoEntry, Special, View}
 use Rattle.folder_spec.specs.declared.FolderFault.{FolderFault}
 use Rattle.folder_spec.specs.declared.FolderFault.TheVariants as folder
@@ -250,14 +250,14 @@ removal_alike at v w answer same (tested, removes, told) = (tested, removes_alik
 pub beside : (work : Path) (gone name : Part) (rest : Path) → bytes_eq gone name ≡ false → below (child work gone) (child work name ++ rest) ≡ None
 beside work gone name rest other = ap (below (child work gone)) (append_assoc work (name ∷ []) rest) ∙ below-both work (gone ∷ []) (name ∷ rest) ∙ rw other refl
 
-seen_next : (at : Path) (t u : Option Told) → ClearsEntry at t u → (v : View) → IsSeen t v → (w : View) × IsSeen u w
+seen_next : (at : Path) (t u : Option Told) → ClearsEntry at t u → IfSeen t (λ v. (w : View) × IsSeen u w)
 seen_next at (Some a) (Some b) went v is = (seen b.state, refl)
 seen_next at (Some a) None went v is = absurd went
 seen_next at None u went v is = absurd is
 
 -- by what was seen before another entry was removed
 pub removed_before : (work : Path) (gone name : Part) (t u : Option Told) (answer : Answer (Unit {0})) → bytes_eq gone name ≡ false → ClearsEntry (child work gone) t u → Leaves (child work gone) t u
-    → ((w : View) → IsSeen u w → Unless answer (TestsRemoval (child work name) w answer)) → (v : View) → IsSeen t v → Unless answer (TestsRemoval (child work name) v answer)
+    → IfSeen u (λ w. Unless answer (TestsRemoval (child work name) w answer)) → IfSeen t (λ v. Unless answer (TestsRemoval (child work name) v answer))
 removed_before work gone name t u answer other clears leaves cause v is =
     let then_ = seen_next (child work gone) t u clears v is in
     unless_more answer (TestsRemoval (child work name) then_.0 answer) (TestsRemoval (child work name) v answer)
@@ -273,14 +273,14 @@ none_behind v folders at a more isnt = by_found (v (at ++ a ∷ more)) refl
     by_found (FileOf bytes) e = absurd (isnt (folder_before v folders at a more (λ n. cc (e, n))))
     by_found Special e = absurd (isnt (folder_before v folders at a more (λ n. cc (e, n))))
 
-none_below : (t : Option Told) → AreSound t → (v : View) → IsSeen t v → (at rest : Path) → v at ≡ NoEntry → v (at ++ rest) ≡ NoEntry
+none_below : (t : Option Told) → AreSound t → IfSeen t (λ v. (at rest : Path) → v at ≡ NoEntry → v (at ++ rest) ≡ NoEntry)
 none_below t sound v is at [] none = ap v (append-nil at) ∙ none
 none_below t sound v is at (a ∷ more) none = none_behind v (λ p b up. folder_above t sound v is p b up) at a more (λ folder. clash (sym folder ∙ none))
   where
     clash : Folder ≡ NoEntry → ⊥
     clash e = cc e
 
-pub none_removed : (t : Option Told) → AreSound t → (v : View) → IsSeen t v → (at : Path) → v at ≡ NoEntry → TestsRemoval at v (Ok tt)
+pub none_removed : (t : Option Told) → AreSound t → IfSeen t (λ v. (at : Path) → v at ≡ NoEntry → TestsRemoval at v (Ok tt))
 none_removed t sound v is at none = (Ok tt, (λ rest least. ((λ special. clash (sym (none_below t sound v is at rest none) ∙ special)), (λ deep. none_below t sound v is at rest none))), refl)
   where
     clash : NoEntry ≡ Special → ⊥
@@ -326,14 +326,14 @@ module _ (work : Path) (from_pass to_pass : List ℕ) (journal : Journal) (v : V
       test_passes (TestsAway work from_pass to_pass journal v) away_next (Ok (retired_of journal)) away (test_passes removals removed_next (Ok (retired_of journal)) removed (inr (inr refl)))
 
 -- what is seen once the source is moved away, where it was there
-pub seen_away : (r : Retiring) (t u : Option Told) → MovesHeldOnly r t u → (v : View) → IsSeen t v → (w : View) × IsSeen u w
+pub seen_away : (r : Retiring) (t u : Option Told) → MovesHeldOnly r t u → IfSeen t (λ v. (w : View) × IsSeen u w)
 seen_away r (Some a) (Some b) went v is = (seen b.state, refl)
 seen_away r (Some a) None went v is = absurd went
 seen_away r None u went v is = absurd is
 
 pub removed_then : (r : Retiring) (source work : Path) (t u : Option Told) (answer : Answer (Unit {0})) → MovesHeldOnly r t u
-    → ((v w : View) → IsSeen t v → IsSeen u w → w ≡ moved_away (v source) source work v) → ((w : View) → IsSeen u w → Unless answer (TestsRemovals work w answer))
-    → (v : View) → IsSeen t v → Unless answer (TestsRemovals work (moved_away (v source) source work v) answer)
+    → ((v w : View) → IsSeen t v → IsSeen u w → w ≡ moved_away (v source) source work v) → IfSeen u (λ w. Unless answer (TestsRemovals work w answer))
+    → IfSeen t (λ v. Unless answer (TestsRemovals work (moved_away (v source) source work v) answer))
 removed_then r source work t u answer moves goes cause v is =
     let then_ = seen_away r t u moves v is in
     subst (λ (x : View). Unless answer (TestsRemovals work x answer)) (goes v then_.0 is then_.1) (cause then_.0 then_.1)

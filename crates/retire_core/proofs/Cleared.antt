@@ -11,7 +11,7 @@ use Rattle.folder_spec.specs.Event.{Call, MakeDir, Create, Append, Sync, Settle,
 use Rattle.folder_spec.specs.Moments.{Went}
 use Rattle.folder_spec.specs.Path.{Part, Path, below, child}
 use Rattle.folder_spec.specs.Region.{IsAsBefore, Spares, WritesOnlyNew, apart_from, at_or_below}
-use Rattle.folder_spec.specs.Seen.{IsSeen, put_found, seen, seen_after}
+use Rattle.folder_spec.specs.Seen.{IfSeen, IsSeen, put_found, seen, seen_after}
 use Rattle.folder_spec.specs.State.{State}
 use Rattle.folder_spec.specs.View.{Folder, NoEntry, View}
 use Rattle.folder_staging.specs.Removal.{IsBare, IsRemoving, IsWithin, Reach, Removes, RemovesWithin, deepest, from}
@@ -53,7 +53,7 @@ clears_within at s0 (Sync p) there within = absurd within
 clears_within at s0 Settle there within = absurd within
 clears_within at s0 (Rename old new) there within = absurd within
 
-pub entry_cleared : RemovalsLeave → (at : Path) (t u : Option Told) (n m : ℕ) (result : Result (Unit {0}) RemovalFault) → ((v : View) → IsSeen t v → v at ≢ NoEntry)
+pub entry_cleared : RemovalsLeave → (at : Path) (t u : Option Told) (n m : ℕ) (result : Result (Unit {0}) RemovalFault) → IfSeen t (λ v. v at ≢ NoEntry)
     → Removes (from at deepest) t u n m result → ClearsEntry at t u
 entry_cleared leave at t u n m result there removes =
     from_to_more (λ a b. Went (IsRemoving (from at deepest) a.state) (λ s e. RemovesWithin (from at deepest) e.call) a b) (λ a b. Went (IsAsBefore (apart_from at) a.state) (λ s e. ClearsAt at a.state e.call) a b) t u
@@ -142,7 +142,7 @@ only_then work t u w first second =
 -- ---- what is seen of the work folder
 
 -- what was seen before
-pub seen_before : (at : Path) (t u : Option Told) → ClearsEntry at t u → (w : View) → IsSeen u w → (v : View) × IsSeen t v
+pub seen_before : (at : Path) (t u : Option Told) → ClearsEntry at t u → IfSeen u (λ w. (v : View) × IsSeen t v)
 seen_before at (Some a) (Some b) went w is = (seen a.state, refl)
 seen_before at None (Some b) went w is = absurd went
 seen_before at t None went w is = absurd is
@@ -161,11 +161,11 @@ isnt_eq name other apart = by_test (bytes_eq other name) refl
     by_test false e = e
 
 -- once these are gone, the journal is alone
-pub only_journal : (work : Path) (t0 t1 t2 t3 : Option Told) → ((v : View) → IsSeen t0 v → IsInOrder v work)
+pub only_journal : (work : Path) (t0 t1 t2 t3 : Option Told) → IfSeen t0 (λ v. IsInOrder v work)
     → ClearsEntry (child work (codes "old")) t0 t1 → ClearsEntry (child work (codes "stage")) t1 t2 → ClearsEntry (child work (codes "journal.new")) t2 t3
     → Leaves (child work (codes "old")) t0 t1 → Leaves (child work (codes "stage")) t1 t2 → Leaves (child work (codes "journal.new")) t2 t3
     → IsGone (child work (codes "old")) t1 → IsGone (child work (codes "stage")) t2 → IsGone (child work (codes "journal.new")) t3
-    → (w : View) → IsSeen t3 w → HasOnlyJournal w work
+    → IfSeen t3 (λ w. HasOnlyJournal w work)
 only_journal work t0 t1 t2 t3 order one two three leaves1 leaves2 leaves3 gone1 gone2 gone3 w is = record {
   folder = stays work (root_apart work (codes "old")) (root_apart work (codes "stage")) (root_apart work (codes "journal.new")) ∙ before.folder;
   journal = (
@@ -216,11 +216,11 @@ only_journal work t0 t1 t2 t3 order one two three leaves1 leaves2 leaves3 gone1 
     by_new name isnt true e = subst (λ a. w (child work a) ≡ NoEntry) (named name (codes "journal.new") e) (gone3 w is)
     by_new name isnt false e = by_stage name isnt e (bytes_eq (codes "stage") name) refl
 
-pub on_ok_journal : {E : Type 0} (work : Path) (t0 t1 t2 t3 : Option Told) (result : Result (Unit {0}) E) → ((v : View) → IsSeen t0 v → IsInOrder v work)
+pub on_ok_journal : {E : Type 0} (work : Path) (t0 t1 t2 t3 : Option Told) (result : Result (Unit {0}) E) → IfSeen t0 (λ v. IsInOrder v work)
     → ClearsEntry (child work (codes "old")) t0 t1 → ClearsEntry (child work (codes "stage")) t1 t2 → ClearsEntry (child work (codes "journal.new")) t2 t3
     → Leaves (child work (codes "old")) t0 t1 → Leaves (child work (codes "stage")) t1 t2 → Leaves (child work (codes "journal.new")) t2 t3
     → IsGone (child work (codes "old")) t1 → IsGone (child work (codes "stage")) t2 → OnOk result (IsGone (child work (codes "journal.new")) t3)
-    → OnOk result ((w : View) → IsSeen t3 w → HasOnlyJournal w work)
+    → OnOk result (IfSeen t3 (λ w. HasOnlyJournal w work))
 on_ok_journal work t0 t1 t2 t3 (Ok done) order one two three leaves1 leaves2 leaves3 gone1 gone2 gone3 = only_journal work t0 t1 t2 t3 order one two three leaves1 leaves2 leaves3 gone1 gone2 gone3
 on_ok_journal work t0 t1 t2 t3 (Err fault) order one two three leaves1 leaves2 leaves3 gone1 gone2 gone3 = tt
 
@@ -243,16 +243,16 @@ inside_apart work p q inside apart same = clash (below work q) (subst (λ z. IsT
     clash (Some rest) there none = cc none
 
 -- the journal may be removed, and then the work folder
-pub journal_allowed : (work : Path) (t : Option Told) → ((v : View) → IsSeen t v → HasOnlyJournal v work) → (a : Told) → t ≡ Some a → Allowed a.state (RemoveFile (journal_path work))
+pub journal_allowed : (work : Path) (t : Option Told) → IfSeen t (λ v. HasOnlyJournal v work) → (a : Told) → t ≡ Some a → Allowed a.state (RemoveFile (journal_path work))
 journal_allowed work t alone a is = may_call_allowed a.state (RemoveFile (journal_path work)) (alone (seen a.state) (subst (λ o. IsSeen o (seen a.state)) (sym is) refl)).journal
 
 -- what is seen after a call that was done
-pub seen_then : (call : Call) (t u : Option Told) (done : Unit {0}) → AreSound t → Changes call t u (Ok done) → (w : View) → IsSeen u w → (v : View) × IsSeen t v × (w ≡ seen_after v call)
+pub seen_then : (call : Call) (t u : Option Told) (done : Unit {0}) → AreSound t → Changes call t u (Ok done) → IfSeen u (λ w. (v : View) × IsSeen t v × (w ≡ seen_after v call))
 seen_then call (Some a) (Some b) done sound changes w is = (seen a.state, refl, is ∙ ap (λ (c : Told). seen c.state) changes.1 ∙ seen_changed a.state call (sound a refl) changes.0)
 seen_then call None (Some b) done sound changes w is = absurd changes
 seen_then call t None done sound changes w is = absurd is
 
-pub folder_allowed : (work : Path) (t u : Option Told) (done : Unit {0}) → work ≢ [] → AreSound t → ((v : View) → IsSeen t v → HasOnlyJournal v work)
+pub folder_allowed : (work : Path) (t u : Option Told) (done : Unit {0}) → work ≢ [] → AreSound t → IfSeen t (λ v. HasOnlyJournal v work)
     → Changes (RemoveFile (journal_path work)) t u (Ok done) → (b : Told) → u ≡ Some b → Allowed b.state (RemoveDir work)
 folder_allowed work t u done below_base sound alone changes b is =
     let then_ = seen_then (RemoveFile (journal_path work)) t u done sound changes (seen b.state) (subst (λ o. IsSeen o (seen b.state)) (sym is) refl) in
@@ -279,6 +279,6 @@ folder_gone work t u w one two sound sound_then removes settles v is =
     ap (λ (x : View). x work) (settled.2 ∙ removed.2) ∙ rw (path_eq-same work) refl
 
 -- nothing is left at the path of a removal that was done
-pub bare_of : (at : Path) (u : Option Told) (result : Result (Unit {0}) RemovalFault) (done : Unit {0}) → result ≡ Ok done → OnOk result ((v : View) → IsSeen u v → IsBare (from at deepest) v) → IsGone at u
+pub bare_of : (at : Path) (u : Option Told) (result : Result (Unit {0}) RemovalFault) (done : Unit {0}) → result ≡ Ok done → OnOk result (IfSeen u (λ v. IsBare (from at deepest) v)) → IsGone at u
 bare_of at u (Ok value) done is bare = λ v seen_now. ap v (sym (append-nil at)) ∙ bare v seen_now [] (omega arith)
 bare_of at u (Err fault) done is bare = absurd (cc is)

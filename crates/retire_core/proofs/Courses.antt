@@ -10,7 +10,7 @@ use Rattle.folder_spec.specs.Event.{Call, MakeDir, Create, Append, Sync, Settle,
 use Rattle.folder_spec.specs.Moments.{Went}
 use Rattle.folder_spec.specs.Path.{Part, Path, below, child}
 use Rattle.folder_spec.specs.Region.{IsAsBefore, apart_from, apart_from_both, at_or_below}
-use Rattle.folder_spec.specs.Seen.{IsSeen, seen}
+use Rattle.folder_spec.specs.Seen.{IfSeen, IsSeen, seen}
 use Rattle.folder_spec.specs.State.{State, IsSound, present}
 use Rattle.folder_spec.specs.View.{FileOf, Folder, Found, NoEntry, Special, View, found, kind_found}
 use Rattle.migrate_core.specs.Leading.{KeepsGuarded}
@@ -35,7 +35,7 @@ use Rattle.retire_core.specs.Retiring.{HasRetired, IsHeld, MayEmpty, Removes, Re
 
 -- ---- the source is moved where the target holds it
 
-pub held_moves : (r : Retiring) (t u : Option Told) → ((v : View) → IsSeen t v → IsHeld r v) → MovesOnly r.from r.work t u → MovesHeldOnly r t u
+pub held_moves : (r : Retiring) (t u : Option Told) → IfSeen t (λ v. IsHeld r v) → MovesOnly r.from r.work t u → MovesHeldOnly r t u
 held_moves r t u held moves =
     let R = apart_from_both r.from r.work in
     from_to_more (λ a b. Went (IsAsBefore R a.state) (λ s e. MovesAway r.from r.work a.state s e.call) a b) (λ a b. Went (IsAsBefore R a.state) (λ s e. MovesHeld r a.state s e.call) a b) t u
@@ -149,7 +149,7 @@ module _ (r : Retiring) (s0 s1 s : State) (apart : AreApart r.from r.work) (soun
   cleared_removes (Rename old new) h = tt
 
 pub removes_cleared : (r : Retiring) (t u w : Option Told) → AreApart r.from r.work → AreSound u → r.phase ≡ phase.Done → IsGone r.from u
-    → ((v : View) → IsSeen t v → v r.from ≡ NoEntry → u ≡ t) → MovesHeldOnly r t u → ClearsOnly r.work u w → RemovesOnly r t w
+    → IfSeen t (λ v. v r.from ≡ NoEntry → u ≡ t) → MovesHeldOnly r t u → ClearsOnly r.work u w → RemovesOnly r t w
 removes_cleared r (Some a) (Some b) (Some c) apart sound done gone unmoved moves clears =
     went_on (λ s. Unit {0}) (λ s e. Removes r a.state s e.call) a b c (removes_moved r (Some a) (Some b) moves)
     (went_with (IsAsBefore (apart_from r.work) b.state) (λ s. Unit {0}) (λ s e. Clears r.work b.state e.call) (λ s e. Removes r a.state s e.call) b c
@@ -260,14 +260,14 @@ none_else v work none name journal new stage old = by_found (v (child work name)
     by_found Folder e = absurd (foreign e (rw (isnt (codes "stage") stage (bytes_eq name (codes "stage")) refl, isnt (codes "old") old (bytes_eq name (codes "old")) refl) refl))
     by_found Special e = absurd (foreign e refl)
 
-pub folder_above : (t : Option Told) → AreSound t → (v : View) → IsSeen t v → (work : Path) (name : Part) → v (child work name) ≢ NoEntry → v work ≡ Folder
+pub folder_above : (t : Option Told) → AreSound t → IfSeen t (λ v. (work : Path) (name : Part) → v (child work name) ≢ NoEntry → v work ≡ Folder)
 folder_above (Some a) sound v is work name stands =
     ap (λ (w : View). w work) is
     ∙ ap (found (λ n. (a.state.nodes n).now)) (((sound a refl).tables (present a.state) (present_is_table a.state)).parents work name
     (λ none. stands (ap (λ (w : View). w (child work name)) is ∙ ap (found (λ n. (a.state.nodes n).now)) none)))
 folder_above None sound v is work name stands = absurd is
 
-pub in_order : (t : Option Told) → AreSound t → (v : View) → IsSeen t v → (work : Path) (text : List ℕ) → v (journal_path work) ≡ FileOf text → TestsEntries true v work (Ok tt) → IsInOrder v work
+pub in_order : (t : Option Told) → AreSound t → IfSeen t (λ v. (work : Path) (text : List ℕ) → v (journal_path work) ≡ FileOf text → TestsEntries true v work (Ok tt) → IsInOrder v work)
 in_order t sound v is work text stands tests = record {
   folder = folder_above t sound v is work (codes "journal") (λ none. clash (sym none ∙ stands));
   journal = (text, stands);
@@ -306,19 +306,19 @@ gone_still from work (Some b) (Some c) apart sound clears gone v is =
 gone_still from work None (Some c) apart sound clears gone v is = absurd clears
 gone_still from work u None apart sound clears gone v is = absurd is
 
-pub retired_by : (work : Path) (journal : Journal) (t u : Option Told) (result : Result Retired RetireFault) → IsJournal journal → journal.phase ≡ phase.Done → ((v : View) → IsSeen t v → StandsIn work journal v)
-    → OnOk result (IsGone journal.source u) → OnOk result (IsGone work u) → IfOk result (λ x. x.items ≡ journal.items) → IfOk result (λ x. (v : View) → IsSeen t v → HasRetired work x.items u v)
+pub retired_by : (work : Path) (journal : Journal) (t u : Option Told) (result : Result Retired RetireFault) → IsJournal journal → journal.phase ≡ phase.Done → IfSeen t (λ v. StandsIn work journal v)
+    → OnOk result (IsGone journal.source u) → OnOk result (IsGone work u) → IfOk result (λ x. x.items ≡ journal.items) → IfOk result (λ x. IfSeen t (λ v. HasRetired work x.items u v))
 retired_by work journal t u (Ok x) is done stands source folder items = λ v seen_now.
     record { journal = journal; is = is; phase = done; stands = stands v seen_now; items = items; source_gone = source; work_gone = folder }
 retired_by work journal t u (Err fault) is done stands source folder items = tt
 
 -- what a settle shows
-pub settle_seen : (t u : Option Told) (done : Unit {0}) → Changes Settle t u (Ok done) → (v : View) → IsSeen t v → IsSeen u v
+pub settle_seen : (t u : Option Told) (done : Unit {0}) → Changes Settle t u (Ok done) → IfSeen t (λ v. IsSeen u v)
 settle_seen (Some a) (Some b) done changes v is = is ∙ ap (λ (c : Told). seen c.state) (sym changes.1)
 settle_seen None u done changes v is = absurd is
 settle_seen (Some a) None done changes v is = absurd changes
 
-pub retired_earlier : (work : Path) (t u w : Option Told) (result : Result Retired RetireFault) → ((v : View) → IsSeen t v → IsSeen u v)
-    → IfOk result (λ x. (v : View) → IsSeen u v → HasRetired work x.items w v) → IfOk result (λ x. (v : View) → IsSeen t v → HasRetired work x.items w v)
+pub retired_earlier : (work : Path) (t u w : Option Told) (result : Result Retired RetireFault) → IfSeen t (λ v. IsSeen u v)
+    → IfOk result (λ x. IfSeen u (λ v. HasRetired work x.items w v)) → IfOk result (λ x. IfSeen t (λ v. HasRetired work x.items w v))
 retired_earlier work t u w (Ok x) earlier has = λ v is. has v (earlier v is)
 retired_earlier work t u w (Err fault) earlier has = tt

@@ -5,8 +5,7 @@ use Rattle.folder_spec.specs.declared.FolderFault.{FolderFault}
 use Rattle.folder_spec.specs.Event.{Changes, RemoveDir, RemoveFile, Settle, Told}
 use Rattle.folder_spec.specs.Path.{Path, below, child}
 use Rattle.folder_spec.specs.Region.{at_or_below}
-use Rattle.folder_spec.specs.Seen.{IsSeen, seen}
-use Rattle.folder_spec.specs.View.{View}
+use Rattle.folder_spec.specs.Seen.{IfSeen, IsSeen, seen}
 use Rattle.tree_match.proofs.Guards.{RootsAreAlike}
 use Rattle.tree_match.specs.Guard.{Migration, old_path}
 use Rattle.work_folder.specs.Entries.{journal_path}
@@ -20,7 +19,7 @@ itself_inside work = subst (λ q. IsTrue (at_or_below work q)) (append-nil work)
 
 -- ---- it stays retired
 
-pub journal_retiring : RootsAreAlike → (g : Migration) (work : Path) (t u : Option Told) (result : Result (Unit {0}) FolderFault) → g.work ≡ work → ((v : View) → IsSeen t v → HasOnlyJournal v work)
+pub journal_retiring : RootsAreAlike → (g : Migration) (work : Path) (t u : Option Told) (result : Result (Unit {0}) FolderFault) → g.work ≡ work → IfSeen t (λ v. HasOnlyJournal v work)
     → Changes (RemoveFile (journal_path work)) t u result → KeepsRetiring g t u
 journal_retiring alike g work t u result same alone changes =
     retiring_call g (RemoveFile (journal_path g.work)) t u result tt

@@ -4,7 +4,7 @@ use Rattle.folder_spec.specs.declared.Kind.{Kind}
 use Rattle.folder_spec.specs.declared.Kind.TheVariants as kind
 use Rattle.folder_spec.specs.Event.{Told}
 use Rattle.folder_spec.specs.Path.{Path}
-use Rattle.folder_spec.specs.Seen.{IsSeen, seen}
+use Rattle.folder_spec.specs.Seen.{IfSeen, IsSeen, seen}
 use Rattle.folder_spec.specs.State.{State}
 use Rattle.folder_spec.specs.View.{FileOf, Folder, Found, NoEntry, Special, View, kind_found}
 use Rattle.folder_model.specs.Answers.{Answers}
@@ -61,34 +61,34 @@ pub record IsKnown (g : Migration) (journal : Journal) (t : Option Told) : Type 
   pub one_text : HaveOneText
   pub is : IsJournal journal
   pub done : journal.phase ≡ phase.Done
-  pub stands : (v : View) → IsSeen t v → StandsIn g.work journal v
+  pub stands : IfSeen t (λ v. StandsIn g.work journal v)
 
 source_is : (g : Migration) (journal : Journal) (a : Told) → IsKnown g journal (Some a) → IsAtRest g a.state → journal.source ≡ g.source.root
 source_is g journal a known at = names_source known.one_text g a.state journal at known.is (known.stands (seen a.state) refl)
 
 -- where the source isn't there, it is retired
-pub comes_missing : (g : Migration) (journal : Journal) (t u : Option Told) → IsKnown g journal t → u ≡ t → ((v : View) → IsSeen t v → v journal.source ≡ NoEntry) → ComesTo g t u
+pub comes_missing : (g : Migration) (journal : Journal) (t u : Option Told) → IsKnown g journal t → u ≡ t → IfSeen t (λ v. v journal.source ≡ NoEntry) → ComesTo g t u
 comes_missing g journal t u known same none = subst (λ w. ComesTo g t w) (sym same) (at_same t known none)
   where
-    at_same : (o : Option Told) → IsKnown g journal o → ((v : View) → IsSeen o v → v journal.source ≡ NoEntry) → ComesTo g o o
+    at_same : (o : Option Told) → IsKnown g journal o → IfSeen o (λ v. v journal.source ≡ NoEntry) → ComesTo g o o
     at_same None known none = tt
     at_same (Some a) known none = λ at. rest_retired g a.state at (ap (seen a.state) (sym (source_is g journal a known at)) ∙ none (seen a.state) refl)
 
 -- where it is there, the migration is done
-done_at : (g : Migration) (journal : Journal) (a : Told) → IsKnown g journal (Some a) → ((v : View) → IsSeen (Some a) v → v journal.source ≢ NoEntry) → IsAtRest g a.state → IsDoneAtRest g a.state
+done_at : (g : Migration) (journal : Journal) (a : Told) → IsKnown g journal (Some a) → IfSeen (Some a) (λ v. v journal.source ≢ NoEntry) → IsAtRest g a.state → IsDoneAtRest g a.state
 done_at g journal a known there at = record {
   rest = at;
   done = rest_done known.one_text g a.state journal at (subst (λ p. seen a.state p ≢ NoEntry) (source_is g journal a known at) (there (seen a.state) refl)) known.is known.done (known.stands (seen a.state) refl);
 }
 
-pub rest_by_done : (g : Migration) (journal : Journal) (r : Retiring) (t u : Option Told) → IsKnown g journal t → ((v : View) → IsSeen t v → v journal.source ≢ NoEntry) → MovesHeldOnly r t u
+pub rest_by_done : (g : Migration) (journal : Journal) (r : Retiring) (t u : Option Told) → IsKnown g journal t → IfSeen t (λ v. v journal.source ≢ NoEntry) → MovesHeldOnly r t u
     → (g.source.root ≡ journal.source → KeepsDone g t u) → KeepsFromRest g t u
 rest_by_done g journal r (Some a) (Some b) known there shape keeps = λ at. keeps (sym (source_is g journal a known at)) (done_at g journal a known there at)
 rest_by_done g journal r None None known there shape keeps = tt
 rest_by_done g journal r None (Some b) known there shape keeps = absurd shape
 rest_by_done g journal r (Some a) None known there shape keeps = absurd shape
 
-pub comes_by_done : (g : Migration) (journal : Journal) (r : Retiring) (t u : Option Told) → IsKnown g journal t → ((v : View) → IsSeen t v → v journal.source ≢ NoEntry) → MovesHeldOnly r t u
+pub comes_by_done : (g : Migration) (journal : Journal) (r : Retiring) (t u : Option Told) → IsKnown g journal t → IfSeen t (λ v. v journal.source ≢ NoEntry) → MovesHeldOnly r t u
     → (g.source.root ≡ journal.source → ComesFromDone g t u) → ComesTo g t u
 comes_by_done g journal r (Some a) (Some b) known there shape comes = λ at. comes (sym (source_is g journal a known at)) (done_at g journal a known there at)
 comes_by_done g journal r None None known there shape comes = tt
@@ -97,10 +97,10 @@ comes_by_done g journal r (Some a) None known there shape comes = absurd shape
 
 -- ---- a kind that was asked for
 
-pub there_by_kind : (t : Option Told) (at : Path) (k : Kind) → Answers t (λ v. Unit {0}) (λ v kind. kind ≡ kind_found (v at)) (Ok k) → k ≢ kind.Missing → (v : View) → IsSeen t v → v at ≢ NoEntry
+pub there_by_kind : (t : Option Told) (at : Path) (k : Kind) → Answers t (λ v. Unit {0}) (λ v kind. kind ≡ kind_found (v at)) (Ok k) → k ≢ kind.Missing → IfSeen t (λ v. v at ≢ NoEntry)
 there_by_kind t at k answer isnt v is none = isnt ((answer v is).1 ∙ ap kind_found none)
 
-pub missing_by_kind : (t : Option Told) (at : Path) (k : Kind) → Answers t (λ v. Unit {0}) (λ v kind. kind ≡ kind_found (v at)) (Ok k) → k ≡ kind.Missing → (v : View) → IsSeen t v → v at ≡ NoEntry
+pub missing_by_kind : (t : Option Told) (at : Path) (k : Kind) → Answers t (λ v. Unit {0}) (λ v kind. kind ≡ kind_found (v at)) (Ok k) → k ≡ kind.Missing → IfSeen t (λ v. v at ≡ NoEntry)
 missing_by_kind t at k answer is v shown = missing_none (v at) (sym (answer v shown).1 ∙ is)
 
 -- ---- the journal that was read
@@ -119,7 +119,7 @@ on_ok_more P Q (Ok value) more h = more h
 on_ok_more P Q (Err fault) more h = tt
 
 -- what was seen before
-pub moved_before : (r : Retiring) (t u : Option Told) → MovesHeldOnly r t u → (w : View) → IsSeen u w → (v : View) × IsSeen t v
+pub moved_before : (r : Retiring) (t u : Option Told) → MovesHeldOnly r t u → IfSeen u (λ w. (v : View) × IsSeen t v)
 moved_before r (Some a) (Some b) went w is = (seen a.state, refl)
 moved_before r None (Some b) went w is = absurd went
 moved_before r t None went w is = absurd is

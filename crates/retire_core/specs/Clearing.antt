@@ -4,7 +4,7 @@ use Rattle.folder_spec.specs.Path.{Part, Path, below, child}
 use Rattle.folder_spec.specs.Event.{Call, MakeDir, Create, Append, Sync, Settle, Rename, RemoveFile, RemoveDir, Told}
 use Rattle.folder_spec.specs.Moments.{Moments}
 use Rattle.folder_spec.specs.Region.{IsAsBefore, apart_from, apart_from_both, at_or_below}
-use Rattle.folder_spec.specs.Seen.{IsSeen, ShowsFile, seen}
+use Rattle.folder_spec.specs.Seen.{IfSeen, IsSeen, ShowsFile, seen}
 use Rattle.folder_spec.specs.State.{State}
 use Rattle.folder_spec.specs.View.{Folder, NoEntry, View}
 use Rattle.tree_match.specs.Guard.{old_path}
@@ -65,7 +65,7 @@ Leaves at before after = (v w : View) → IsSeen before v → IsSeen after w →
 
 -- nothing is seen at the path
 abbrev pub IsGone : Path → Option Told → Type 0
-IsGone at told = (v : View) → IsSeen told v → v at ≡ NoEntry
+IsGone at told = IfSeen told (λ v. v at ≡ NoEntry)
 
 -- The call moves the source to `old`, as it was seen when the calls began; or it settles.
 abbrev pub MovesAway : Path → Path → State → State → Call → Type 0

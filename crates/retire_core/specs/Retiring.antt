@@ -4,7 +4,7 @@ use Rattle.folder_spec.specs.Path.{Path}
 use Rattle.folder_spec.specs.Event.{Call, MakeDir, Create, Append, Sync, Settle, Rename, RemoveFile, RemoveDir, Told}
 use Rattle.folder_spec.specs.Moments.{Moments}
 use Rattle.folder_spec.specs.Region.{IsAsBefore, apart_from_both, at_or_below}
-use Rattle.folder_spec.specs.Seen.{IsSeen, seen, under}
+use Rattle.folder_spec.specs.Seen.{IfSeen, seen, under}
 use Rattle.folder_spec.specs.State.{State}
 use Rattle.folder_spec.specs.View.{NoEntry, View}
 use Rattle.migrate_core.specs.Moved.{StandsIn, opened_in}
@@ -89,5 +89,5 @@ pub record HasRetired (work : Path) (count : ℕ) (after : Option Told) (v : Vie
   pub phase : journal.phase ≡ Done
   pub stands : StandsIn work journal v
   pub items : count ≡ journal.items
-  pub source_gone : (w : View) → IsSeen after w → w journal.source ≡ NoEntry
-  pub work_gone : (w : View) → IsSeen after w → w work ≡ NoEntry
+  pub source_gone : IfSeen after (λ w. w journal.source ≡ NoEntry)
+  pub work_gone : IfSeen after (λ w. w work ≡ NoEntry)

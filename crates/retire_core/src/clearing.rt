@@ -2,8 +2,8 @@
 ghost use Rattle.std.specs.Prelude.{◌≡◌, ◌≢◌, ◌≤◌, [], IfErr, OnOk, codes};
 ghost use Rattle.port_model.specs.Counts.{CountRose};
 ghost use Rattle.folder_spec.specs.Path.{child};
-ghost use Rattle.folder_spec.specs.Seen.{IsSeen};
-ghost use Rattle.folder_spec.specs.View.{NoEntry, View};
+ghost use Rattle.folder_spec.specs.Seen.{IfSeen};
+ghost use Rattle.folder_spec.specs.View.{NoEntry};
 ghost use Rattle.tree_match.specs.Guard.{Migration};
 ghost use Rattle.retire_core.specs.Causes.{IsOfFolder, TestsRemoval, TestsRemovals, Unless};
 ghost use Rattle.retire_core.specs.Clearing.{ClearsEntry, ClearsOnly, ClearsRest, HasOnlyJournal, IsGone, IsInOrder, Leaves};
@@ -19,13 +19,13 @@ use folder_staging::remove_all;
 // Removes all in a work folder, the journal last, and then the work folder. So what the journal tells stands while `old` does.
 pub(crate) fn clear<F: Folder>(folder: &mut F, work: &FPath) -> Result<(), RetireFault>
     requires below_base { work.now ≢ [] }
-    requires order { (v : View) → IsSeen (F.told folder.old) v → IsInOrder v work.now }
+    requires order { IfSeen (F.told folder.old) (λ v. IsInOrder v work.now) }
     ensures guard { (g : Migration) → g.work ≡ work.now → KeepsRetiring g (F.told folder.old) (F.told folder.new) }
     ensures clears { ClearsOnly work.now (F.told folder.old) (F.told folder.new) }
     ensures gone { OnOk result (IsGone work.now (F.told folder.new)) }
     ensures grows { F.faults folder.old ≤ F.faults folder.new }
     ensures blamed { IfErr result (Blamed IsLaterFault (CountRose (F.faults folder.old) (F.faults folder.new))) }
-    ensures cause { (v : View) → IsSeen (F.told folder.old) v → Unless result (TestsRemovals work.now v result) }
+    ensures cause { IfSeen (F.told folder.old) (λ v. Unless result (TestsRemovals work.now v result)) }
 {
     clear_beside(folder, work)?;
     clear_rest(folder, work)
@@ -33,13 +33,13 @@ pub(crate) fn clear<F: Folder>(folder: &mut F, work: &FPath) -> Result<(), Retir
 
 // Removes all but the journal.
 fn clear_beside<F: Folder>(folder: &mut F, work: &FPath) -> Result<(), RetireFault>
-    requires order { (v : View) → IsSeen (F.told folder.old) v → IsInOrder v work.now }
+    requires order { IfSeen (F.told folder.old) (λ v. IsInOrder v work.now) }
     ensures guard { (g : Migration) → g.work ≡ work.now → KeepsRetiring g (F.told folder.old) (F.told folder.new) }
     ensures clears { ClearsOnly work.now (F.told folder.old) (F.told folder.new) }
-    ensures cleared { OnOk result ((v : View) → IsSeen (F.told folder.new) v → HasOnlyJournal v work.now) }
+    ensures cleared { OnOk result (IfSeen (F.told folder.new) (λ v. HasOnlyJournal v work.now)) }
     ensures grows { F.faults folder.old ≤ F.faults folder.new }
     ensures blamed { IfErr result (Blamed IsLaterFault (CountRose (F.faults folder.old) (F.faults folder.new))) }
-    ensures cause { (v : View) → IsSeen (F.told folder.old) v → Unless result (TestsRemovals work.now v result) }
+    ensures cause { IfSeen (F.told folder.old) (λ v. Unless result (TestsRemovals work.now v result)) }
 {
     clear_entry(folder, work, "old")?;
     clear_entry(folder, work, "stage")?;
@@ -55,7 +55,7 @@ fn clear_entry<F: Folder>(folder: &mut F, work: &FPath, name: &str) -> Result<()
     ensures gone { OnOk result (IsGone (child work.now name.now) (F.told folder.new)) }
     ensures grows { F.faults folder.old ≤ F.faults folder.new }
     ensures blamed { IfErr result (Blamed IsLaterFault (CountRose (F.faults folder.old) (F.faults folder.new))) }
-    ensures cause { (v : View) → IsSeen (F.told folder.old) v → Unless result (TestsRemoval (child work.now name.now) v result) }
+    ensures cause { IfSeen (F.told folder.old) (λ v. Unless result (TestsRemoval (child work.now name.now) v result)) }
 {
     removals_leave_the_rest();
     roots_show_their_own();
@@ -69,7 +69,7 @@ fn clear_entry<F: Folder>(folder: &mut F, work: &FPath, name: &str) -> Result<()
 // Removes the journal, which stands alone in the work folder, and the work folder.
 fn clear_rest<F: Folder>(folder: &mut F, work: &FPath) -> Result<(), RetireFault>
     requires below_base { work.now ≢ [] }
-    requires alone { (v : View) → IsSeen (F.told folder.old) v → HasOnlyJournal v work.now }
+    requires alone { IfSeen (F.told folder.old) (λ v. HasOnlyJournal v work.now) }
     ensures guard { (g : Migration) → g.work ≡ work.now → KeepsRetiring g (F.told folder.old) (F.told folder.new) }
     ensures clears { ClearsRest work.now (F.told folder.old) (F.told folder.new) }
     ensures gone { OnOk result (IsGone work.now (F.told folder.new)) }

@@ -1,7 +1,7 @@
 //! Retiring the source of a migration.
 ghost use Rattle.std.specs.Prelude.{◌≡◌, ◌≢◌, ◌≤◌, [], IfErr, IfOk, OnOk};
 ghost use Rattle.port_model.specs.Counts.{CountRose};
-ghost use Rattle.folder_spec.specs.Seen.{IsSeen, moved_view};
+ghost use Rattle.folder_spec.specs.Seen.{IfSeen, IsSeen, moved_view};
 ghost use Rattle.folder_spec.specs.View.{Folder, NoEntry, View};
 ghost use Rattle.migrate_core.specs.Leading.{KeepsGuarded};
 ghost use Rattle.migrate_core.specs.Moved.{StandsIn};
@@ -54,11 +54,11 @@ pub fn retire<F: Folder>(
         → TouchesOnly (retiring_by work.now source_pass.now target_pass.now journal) (F.told folder.old) (F.told folder.new) }
     ensures removes { (v : View) (journal : Journal) → IsSeen (F.told folder.old) v → IsJournal journal → StandsIn work.now journal v
         → RemovesOnly (retiring_by work.now source_pass.now target_pass.now journal) (F.told folder.old) (F.told folder.new) }
-    ensures retired { IfOk result (λ retired. (v : View) → IsSeen (F.told folder.old) v → HasRetired work.now retired.items (F.told folder.new) v) }
-    ensures completes { (g : Migration) (v : View) → IsSeen (F.told folder.old) v → IsResumed g work.now source_pass.now target_pass.now → CanRetire g v → IfErr result IsOfFolder }
+    ensures retired { IfOk result (λ retired. IfSeen (F.told folder.old) (λ v. HasRetired work.now retired.items (F.told folder.new) v)) }
+    ensures completes { (g : Migration) → IfSeen (F.told folder.old) (λ v. IsResumed g work.now source_pass.now target_pass.now → CanRetire g v → IfErr result IsOfFolder) }
     ensures grows { F.faults folder.old ≤ F.faults folder.new }
     ensures blamed { IfErr result (Blamed IsRetireFault (CountRose (F.faults folder.old) (F.faults folder.new))) }
-    ensures cause { (v : View) → IsSeen (F.told folder.old) v → Unless result (Retires work.now source_pass.now target_pass.now v result) }
+    ensures cause { IfSeen (F.told folder.old) (λ v. Unless result (Retires work.now source_pass.now target_pass.now v result)) }
 {
     settling_and_entering_keep_migrations_guarded();
     what_can_be_retired_is_retired();
@@ -79,10 +79,10 @@ fn retire_settled<F: Folder>(
         → TouchesOnly (retiring_by work.now source_pass.now target_pass.now journal) (F.told folder.old) (F.told folder.new) }
     ensures removes { (v : View) (journal : Journal) → IsSeen (F.told folder.old) v → IsJournal journal → StandsIn work.now journal v
         → RemovesOnly (retiring_by work.now source_pass.now target_pass.now journal) (F.told folder.old) (F.told folder.new) }
-    ensures retired { IfOk result (λ retired. (v : View) → IsSeen (F.told folder.old) v → HasRetired work.now retired.items (F.told folder.new) v) }
+    ensures retired { IfOk result (λ retired. IfSeen (F.told folder.old) (λ v. HasRetired work.now retired.items (F.told folder.new) v)) }
     ensures grows { F.faults folder.old ≤ F.faults folder.new }
     ensures blamed { IfErr result (Blamed IsRetireFault (CountRose (F.faults folder.old) (F.faults folder.new))) }
-    ensures cause { (v : View) → IsSeen (F.told folder.old) v → Unless result (Retires work.now source_pass.now target_pass.now v result) }
+    ensures cause { IfSeen (F.told folder.old) (λ v. Unless result (Retires work.now source_pass.now target_pass.now v result)) }
 {
     journals_are_read_back();
     let journal = read_done(alloc, folder, work)?;
@@ -96,10 +96,10 @@ fn read_done<F: Folder>(alloc: Global, folder: &mut F, work: &FPath) -> Result<J
     ensures told { F.told folder.new ≡ F.told folder.old }
     ensures journal { IfOk result (λ journal. IsJournal journal) }
     ensures phase { IfOk result (λ journal. journal.phase ≡ Phase.Done) }
-    ensures stands { IfOk result (λ journal. (v : View) → IsSeen (F.told folder.old) v → StandsIn work.now journal v) }
+    ensures stands { IfOk result (λ journal. IfSeen (F.told folder.old) (λ v. StandsIn work.now journal v)) }
     ensures grows { F.faults folder.old ≤ F.faults folder.new }
     ensures blamed { IfErr result (Blamed IsRetireFault (CountRose (F.faults folder.old) (F.faults folder.new))) }
-    ensures cause { (v : View) → IsSeen (F.told folder.old) v → Unless result (ReadsDone work.now v result) }
+    ensures cause { IfSeen (F.told folder.old) (λ v. Unless result (ReadsDone work.now v result)) }
 {
     let journal = read(alloc, folder, work)?;
     match journal.phase {
@@ -120,8 +120,8 @@ fn retire_told<F: Folder>(
     requires journal { IsJournal journal.now }
     requires phase { journal.now.phase ≡ Phase.Done }
     requires apart { AreSeparate journal.now.source journal.now.target work.now }
-    requires stands { (v : View) → IsSeen (F.told folder.old) v → StandsIn work.now journal.now v }
-    requires order { (v : View) → IsSeen (F.told folder.old) v → IsInOrder v work.now }
+    requires stands { IfSeen (F.told folder.old) (λ v. StandsIn work.now journal.now v) }
+    requires order { IfSeen (F.told folder.old) (λ v. IsInOrder v work.now) }
     ensures guard { (g : Migration) → IsResumed g work.now source_pass.now target_pass.now → KeepsFromRest g (F.told folder.old) (F.told folder.new) }
     ensures touches { TouchesOnly (retiring_by work.now source_pass.now target_pass.now journal.now) (F.told folder.old) (F.told folder.new) }
     ensures removes { RemovesOnly (retiring_by work.now source_pass.now target_pass.now journal.now) (F.told folder.old) (F.told folder.new) }
@@ -130,7 +130,7 @@ fn retire_told<F: Folder>(
     ensures items { IfOk result (λ retired. retired.items ≡ journal.now.items) }
     ensures grows { F.faults folder.old ≤ F.faults folder.new }
     ensures blamed { IfErr result (Blamed IsLaterFault (CountRose (F.faults folder.old) (F.faults folder.new))) }
-    ensures cause { (v : View) → IsSeen (F.told folder.old) v → Unless result (RetiresTold work.now source_pass.now target_pass.now journal.now v result) }
+    ensures cause { IfSeen (F.told folder.old) (λ v. Unless result (RetiresTold work.now source_pass.now target_pass.now journal.now v result)) }
 {
     images_show_views();
     roots_show_their_own();
@@ -153,17 +153,17 @@ fn put_away<F: Folder>(
     requires journal { IsJournal journal.now }
     requires phase { journal.now.phase ≡ Phase.Done }
     requires apart { AreSeparate journal.now.source journal.now.target work.now }
-    requires stands { (v : View) → IsSeen (F.told folder.old) v → StandsIn work.now journal.now v }
-    requires order { (v : View) → IsSeen (F.told folder.old) v → IsInOrder v work.now }
+    requires stands { IfSeen (F.told folder.old) (λ v. StandsIn work.now journal.now v) }
+    requires order { IfSeen (F.told folder.old) (λ v. IsInOrder v work.now) }
     ensures guard { (g : Migration) → IsResumed g work.now source_pass.now target_pass.now → KeepsFromRest g (F.told folder.old) (F.told folder.new) }
     ensures comes { OnOk result ((g : Migration) → IsResumed g work.now source_pass.now target_pass.now → ComesTo g (F.told folder.old) (F.told folder.new)) }
     ensures moves { MovesHeldOnly (retiring_by work.now source_pass.now target_pass.now journal.now) (F.told folder.old) (F.told folder.new) }
-    ensures unmoved { (v : View) → IsSeen (F.told folder.old) v → v journal.now.source ≡ NoEntry → F.told folder.new ≡ F.told folder.old }
+    ensures unmoved { IfSeen (F.told folder.old) (λ v. v journal.now.source ≡ NoEntry → F.told folder.new ≡ F.told folder.old) }
     ensures gone { OnOk result (IsGone journal.now.source (F.told folder.new)) }
-    ensures order { OnOk result ((v : View) → IsSeen (F.told folder.new) v → IsInOrder v work.now) }
+    ensures order { OnOk result (IfSeen (F.told folder.new) (λ v. IsInOrder v work.now)) }
     ensures grows { F.faults folder.old ≤ F.faults folder.new }
     ensures blamed { IfErr result (Blamed IsLaterFault (CountRose (F.faults folder.old) (F.faults folder.new))) }
-    ensures cause { (v : View) → IsSeen (F.told folder.old) v → Unless result (TestsAway work.now source_pass.now target_pass.now journal.now v result) }
+    ensures cause { IfSeen (F.told folder.old) (λ v. Unless result (TestsAway work.now source_pass.now target_pass.now journal.now v result)) }
     ensures seen { OnOk result ((v w : View) → IsSeen (F.told folder.old) v → IsSeen (F.told folder.new) w → w ≡ moved_away (v journal.now.source) journal.now.source work.now v) }
 {
     journals_are_read_back();
@@ -180,7 +180,7 @@ fn test_free<F: Folder>(folder: &mut F, work: &FPath) -> Result<(), RetireFault>
     ensures free { OnOk result (IsGone (old_path work.now) (F.told folder.old)) }
     ensures grows { F.faults folder.old ≤ F.faults folder.new }
     ensures blamed { IfErr result (Blamed IsLaterFault (CountRose (F.faults folder.old) (F.faults folder.new))) }
-    ensures cause { (v : View) → IsSeen (F.told folder.old) v → Unless result (TestsFree work.now v result) }
+    ensures cause { IfSeen (F.told folder.old) (λ v. Unless result (TestsFree work.now v result)) }
 {
     let old = work.child("old")?;
     match folder.kind(&old)? {
@@ -199,9 +199,9 @@ fn move_held<F: Folder>(
     target_pass: &[u8],
 ) -> Result<(), RetireFault>
     requires apart { AreApart journal.now.source work.now }
-    requires there { (v : View) → IsSeen (F.told folder.old) v → v journal.now.source ≢ NoEntry }
+    requires there { IfSeen (F.told folder.old) (λ v. v journal.now.source ≢ NoEntry) }
     requires free { IsGone (old_path work.now) (F.told folder.old) }
-    requires folder { (v : View) → IsSeen (F.told folder.old) v → v work.now ≡ Folder }
+    requires folder { IfSeen (F.told folder.old) (λ v. v work.now ≡ Folder) }
     ensures guard { (g : Migration) → g.source.root ≡ journal.now.source → g.work ≡ work.now → KeepsDone g (F.told folder.old) (F.told folder.new) }
     ensures comes { OnOk result ((g : Migration) → g.source.root ≡ journal.now.source → g.work ≡ work.now → ComesFromDone g (F.told folder.old) (F.told folder.new)) }
     ensures moves { MovesHeldOnly (retiring_by work.now source_pass.now target_pass.now journal.now) (F.told folder.old) (F.told folder.new) }
@@ -209,7 +209,7 @@ fn move_held<F: Folder>(
     ensures leaves { (v w : View) → IsSeen (F.told folder.old) v → IsSeen (F.told folder.new) w → IsInOrder v work.now → IsInOrder w work.now }
     ensures grows { F.faults folder.old ≤ F.faults folder.new }
     ensures blamed { IfErr result (Blamed IsLaterFault (CountRose (F.faults folder.old) (F.faults folder.new))) }
-    ensures cause { (v : View) → IsSeen (F.told folder.old) v → Unless result (TestsHeld journal.now.source journal.now.target source_pass.now target_pass.now v result) }
+    ensures cause { IfSeen (F.told folder.old) (λ v. Unless result (TestsHeld journal.now.source journal.now.target source_pass.now target_pass.now v result)) }
     ensures seen { OnOk result ((v w : View) → IsSeen (F.told folder.old) v → IsSeen (F.told folder.new) w → w ≡ moved_view v journal.now.source (old_path work.now)) }
 {
     let sides = load_both(
@@ -227,9 +227,9 @@ fn move_held<F: Folder>(
 // Moves the source at once, so that it is never there in part.
 fn move_source<F: Folder>(folder: &mut F, source: &FPath, work: &FPath) -> Result<(), RetireFault>
     requires apart { AreApart source.now work.now }
-    requires there { (v : View) → IsSeen (F.told folder.old) v → v source.now ≢ NoEntry }
+    requires there { IfSeen (F.told folder.old) (λ v. v source.now ≢ NoEntry) }
     requires free { IsGone (old_path work.now) (F.told folder.old) }
-    requires folder { (v : View) → IsSeen (F.told folder.old) v → v work.now ≡ Folder }
+    requires folder { IfSeen (F.told folder.old) (λ v. v work.now ≡ Folder) }
     ensures guard { (g : Migration) → g.source.root ≡ source.now → g.work ≡ work.now → KeepsDone g (F.told folder.old) (F.told folder.new) }
     ensures comes { OnOk result ((g : Migration) → g.source.root ≡ source.now → g.work ≡ work.now → ComesFromDone g (F.told folder.old) (F.told folder.new)) }
     ensures moves { MovesOnly source.now work.now (F.told folder.old) (F.told folder.new) }

@@ -1,8 +1,7 @@
 //! The two vaults of a migration, and whether the target holds the source.
 ghost use Rattle.std.specs.Prelude.{◌≡◌, ◌≤◌, IfErr, IfOk, Ok, OnOk};
 ghost use Rattle.port_model.specs.Counts.{CountRose};
-ghost use Rattle.folder_spec.specs.Seen.{IsSeen, under};
-ghost use Rattle.folder_spec.specs.View.{View};
+ghost use Rattle.folder_spec.specs.Seen.{IfSeen, under};
 ghost use Rattle.tree_match.specs.Guard.{AreApart};
 ghost use Rattle.vault_spec.specs.Vault.{IsVault};
 ghost use Rattle.migrate_core.specs.Sides.{AreSeparate, IsWalked};
@@ -37,11 +36,11 @@ pub(crate) fn load_both<F: Folder>(
     ensures told { F.told folder.new ≡ F.told folder.old }
     ensures source { IfOk result (λ sides. sides.source.root ≡ source.now) }
     ensures target { IfOk result (λ sides. sides.target.root ≡ target.now) }
-    ensures opens_source { IfOk result (λ sides. (v : View) → IsSeen (F.told folder.old) v → IsVault (under source.now v) source_pass.now sides.source.vault) }
-    ensures opens_target { IfOk result (λ sides. (v : View) → IsSeen (F.told folder.old) v → IsVault (under target.now v) target_pass.now sides.target.vault) }
+    ensures opens_source { IfOk result (λ sides. IfSeen (F.told folder.old) (λ v. IsVault (under source.now v) source_pass.now sides.source.vault)) }
+    ensures opens_target { IfOk result (λ sides. IfSeen (F.told folder.old) (λ v. IsVault (under target.now v) target_pass.now sides.target.vault)) }
     ensures grows { F.faults folder.old ≤ F.faults folder.new }
     ensures blamed { IfErr result (Blamed IsLaterFault (CountRose (F.faults folder.old) (F.faults folder.new))) }
-    ensures cause { IfErr result (λ fault. (v : View) → IsSeen (F.told folder.old) v → Refuses (TestsHeld source.now target.now source_pass.now target_pass.now v) fault) }
+    ensures cause { IfErr result (λ fault. IfSeen (F.told folder.old) (λ v. Refuses (TestsHeld source.now target.now source_pass.now target_pass.now v) fault)) }
 {
     let source = load(alloc, folder, Side::Source, source, source_pass)?;
     let target = load(alloc, folder, Side::Target, target, target_pass)?;
@@ -57,10 +56,10 @@ fn load<F: Folder>(
 ) -> Result<Vault, RetireFault>
     ensures told { F.told folder.new ≡ F.told folder.old }
     ensures root { IfOk result (λ vault. vault.root ≡ root.now) }
-    ensures vault { IfOk result (λ vault. (v : View) → IsSeen (F.told folder.old) v → IsVault (under root.now v) pass.now vault.vault) }
+    ensures vault { IfOk result (λ vault. IfSeen (F.told folder.old) (λ v. IsVault (under root.now v) pass.now vault.vault)) }
     ensures grows { F.faults folder.old ≤ F.faults folder.new }
     ensures blamed { IfErr result (Blamed IsLaterFault (CountRose (F.faults folder.old) (F.faults folder.new))) }
-    ensures cause { (v : View) → IsSeen (F.told folder.old) v → Unless result (Opens side root.now pass.now v result) }
+    ensures cause { IfSeen (F.told folder.old) (λ v. Unless result (Opens side root.now pass.now v result)) }
 {
     match Vault::load(alloc, folder, root, pass) {
         Ok(vault) => Ok(vault),
@@ -76,8 +75,8 @@ fn walk_one<F: Folder>(alloc: Global, folder: &mut F, vault: &Vault) -> Result<P
     ensures walked { IfOk result (λ plan. IsWalked (F.told folder.old) vault.now plan.items) }
     ensures grows { F.faults folder.old ≤ F.faults folder.new }
     ensures blamed { IfErr result (Blamed IsLaterFault (CountRose (F.faults folder.old) (F.faults folder.new))) }
-    ensures passed { IfOk result (λ plan. (v : View) → IsSeen (F.told folder.old) v → TestsClean vault.now v (Ok plan.items)) }
-    ensures cause { IfErr result (λ fault. (v : View) → IsSeen (F.told folder.old) v → Refuses (TestsClean vault.now v) fault) }
+    ensures passed { IfOk result (λ plan. IfSeen (F.told folder.old) (λ v. TestsClean vault.now v (Ok plan.items))) }
+    ensures cause { IfErr result (λ fault. IfSeen (F.told folder.old) (λ v. Refuses (TestsClean vault.now v) fault)) }
 {
     Ok(walk(alloc, folder, vault)?)
 }
@@ -89,10 +88,10 @@ pub(crate) fn test_held<F: Folder>(
     sides: &Sides,
 ) -> Result<(), RetireFault>
     ensures told { F.told folder.new ≡ F.told folder.old }
-    ensures held { OnOk result ((v : View) → IsSeen (F.told folder.old) v → AreHeld sides.now.source sides.now.target v) }
+    ensures held { OnOk result (IfSeen (F.told folder.old) (λ v. AreHeld sides.now.source sides.now.target v)) }
     ensures grows { F.faults folder.old ≤ F.faults folder.new }
     ensures blamed { IfErr result (Blamed IsLaterFault (CountRose (F.faults folder.old) (F.faults folder.new))) }
-    ensures cause { (v : View) → IsSeen (F.told folder.old) v → Unless result (TestsVaults sides.now.source sides.now.target v result) }
+    ensures cause { IfSeen (F.told folder.old) (λ v. Unless result (TestsVaults sides.now.source sides.now.target v result)) }
 {
     let source = walk_one(alloc, folder, &sides.source)?;
     let target = walk_one(alloc, folder, &sides.target)?;
@@ -110,10 +109,10 @@ fn compare<F: Folder>(
     requires source { IsWalked (F.told folder.old) sides.now.source source.now.items }
     requires target { IsWalked (F.told folder.old) sides.now.target target.now.items }
     ensures told { F.told folder.new ≡ F.told folder.old }
-    ensures held { OnOk result ((v : View) → IsSeen (F.told folder.old) v → AreHeld sides.now.source sides.now.target v) }
+    ensures held { OnOk result (IfSeen (F.told folder.old) (λ v. AreHeld sides.now.source sides.now.target v)) }
     ensures grows { F.faults folder.old ≤ F.faults folder.new }
     ensures blamed { IfErr result (Blamed IsLaterFault (CountRose (F.faults folder.old) (F.faults folder.new))) }
-    ensures cause { (v : View) → IsSeen (F.told folder.old) v → Unless result (TestsItems sides.now.source source.now.items sides.now.target target.now.items v result) }
+    ensures cause { IfSeen (F.told folder.old) (λ v. Unless result (TestsItems sides.now.source source.now.items sides.now.target target.now.items v result)) }
 {
     what_is_held_opens_the_same();
     match holds_all(alloc, folder, &sides.source, source, &sides.target, target)? {

@@ -4,7 +4,7 @@ ghost use Rattle.port_model.specs.Counts.{CountRose};
 ghost use Rattle.chunk_files.specs.Reading.{Whole, Ending};
 ghost use Rattle.folder_spec.specs.Path.{Path};
 ghost use Rattle.folder_spec.specs.View.{View, FileOf};
-ghost use Rattle.folder_spec.specs.Seen.{IsSeen, ShowsFile};
+ghost use Rattle.folder_spec.specs.Seen.{IfSeen, IsSeen, ShowsFile};
 ghost use Rattle.vault_spec.specs.Vault.{format_of};
 ghost use Rattle.vault_read.specs.Contents.{Suits, IsBeingRead, limited_reading};
 ghost use Rattle.tree_match.specs.Comparing.{Answers, IsFault, compared, content_at, content_of};
@@ -64,15 +64,15 @@ impl Opened {
 
     // Reads the next chunk where all that was read is compared. Where none is left then, the content has ended.
     fn fill<F: Folder>(&mut self, folder: &mut F) -> Result<(), MatchFault>
-        requires { (v : View) → IsSeen (F.told folder.old) v → IsBeingRead v self.old.at self.old.decoding }
+        requires { IfSeen (F.told folder.old) (λ v. IsBeingRead v self.old.at self.old.decoding) }
         ensures told { F.told folder.new ≡ F.told folder.old }
         ensures at { self.new.at ≡ self.old.at }
-        ensures suits { (v : View) → IsSeen (F.told folder.old) v → IsBeingRead v self.new.at self.new.decoding }
-        ensures same { OnOk result ((v : View) → IsSeen (F.told folder.old) v → (file : List ℕ) → v self.old.at ≡ FileOf file → uncompared self.old file ≡ uncompared self.new file) }
-        ensures ended { OnOk result (self.new.ahead ≡ [] → (v : View) → IsSeen (F.told folder.old) v → (file : List ℕ) → v self.old.at ≡ FileOf file
-            → uncompared self.old file ≡ nothing_before self.old.at Whole) }
-        ensures stops { IfErr result (λ fault. (v : View) → IsSeen (F.told folder.old) v → (file : List ℕ) → v self.old.at ≡ FileOf file
-            → IsFault (λ at ending. uncompared self.old file ≡ nothing_before at ending) fault) }
+        ensures suits { IfSeen (F.told folder.old) (λ v. IsBeingRead v self.new.at self.new.decoding) }
+        ensures same { OnOk result (IfSeen (F.told folder.old) (λ v. (file : List ℕ) → v self.old.at ≡ FileOf file → uncompared self.old file ≡ uncompared self.new file)) }
+        ensures ended { OnOk result (self.new.ahead ≡ [] → IfSeen (F.told folder.old) (λ v. (file : List ℕ) → v self.old.at ≡ FileOf file
+            → uncompared self.old file ≡ nothing_before self.old.at Whole)) }
+        ensures stops { IfErr result (λ fault. IfSeen (F.told folder.old) (λ v. (file : List ℕ) → v self.old.at ≡ FileOf file
+            → IsFault (λ at ending. uncompared self.old file ≡ nothing_before at ending) fault)) }
         ensures left { OnOk result (0 < length self.new.ahead → length self.new.ahead ≤ 32816 → bytes_left self.new ≤ bytes_left self.old) }
         ensures fault { IfErr result (λ fault. CanFault fault) }
         ensures grows { F.faults folder.old ≤ F.faults folder.new }
@@ -107,8 +107,8 @@ pub(crate) fn same_contents<F: Folder>(
     b: &Vault,
     b_at: &FPath,
 ) -> Result<bool, MatchFault>
-    requires a_file { (v : View) → IsSeen (F.told folder.old) v → ShowsFile v a_at.now }
-    requires b_file { (v : View) → IsSeen (F.told folder.old) v → ShowsFile v b_at.now }
+    requires a_file { IfSeen (F.told folder.old) (λ v. ShowsFile v a_at.now) }
+    requires b_file { IfSeen (F.told folder.old) (λ v. ShowsFile v b_at.now) }
     ensures told { F.told folder.new ≡ F.told folder.old }
     ensures compares { (v : View) → IsSeen (F.told folder.old) v
         → Answers (compared (content_at (format_of a.now.vault).content v a_at.now) (content_at (format_of b.now.vault).content v b_at.now)) result }
@@ -123,11 +123,11 @@ pub(crate) fn same_contents<F: Folder>(
 
 // Compares what is left of two contents from the front.
 fn compare<F: Folder>(folder: &mut F, a: &mut Opened, b: &mut Opened) -> Result<bool, MatchFault>
-    requires a_file { (v : View) → IsSeen (F.told folder.old) v → IsBeingRead v a.old.at a.old.decoding }
-    requires b_file { (v : View) → IsSeen (F.told folder.old) v → IsBeingRead v b.old.at b.old.decoding }
+    requires a_file { IfSeen (F.told folder.old) (λ v. IsBeingRead v a.old.at a.old.decoding) }
+    requires b_file { IfSeen (F.told folder.old) (λ v. IsBeingRead v b.old.at b.old.decoding) }
     ensures told { F.told folder.new ≡ F.told folder.old }
-    ensures compares { (v : View) → IsSeen (F.told folder.old) v → (x y : List ℕ) → v a.old.at ≡ FileOf x → v b.old.at ≡ FileOf y
-        → Answers (compared (uncompared a.old x) (uncompared b.old y)) result }
+    ensures compares { IfSeen (F.told folder.old) (λ v. (x y : List ℕ) → v a.old.at ≡ FileOf x → v b.old.at ≡ FileOf y
+        → Answers (compared (uncompared a.old x) (uncompared b.old y)) result) }
     ensures fault { IfErr result (λ fault. CanFault fault) }
     ensures grows { F.faults folder.old ≤ F.faults folder.new }
     ensures failed { result ≡ Err MatchFault.Failed → CountRose (F.faults folder.old) (F.faults folder.new) }

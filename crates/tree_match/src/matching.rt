@@ -2,7 +2,7 @@
 ghost use Rattle.std.specs.Prelude.{◌≡◌, ◌≤◌, ℕ, List, IfOk, IfErr, Ok, Err, Option, Some, option_copied};
 ghost use Rattle.port_model.specs.Counts.{CountRose};
 ghost use Rattle.folder_spec.specs.View.{View};
-ghost use Rattle.folder_spec.specs.Seen.{IsSeen, ShowsFile};
+ghost use Rattle.folder_spec.specs.Seen.{IfSeen, IsSeen, ShowsFile};
 ghost use Rattle.plain_tree.specs.declared.NodeKind.TheVariants.{File};
 ghost use Rattle.vault_spec.specs.Plan.{Planned};
 ghost use Rattle.vault_spec.specs.Vault.{format_of};
@@ -37,8 +37,8 @@ pub fn holds_all<F: Folder>(
     b: &Vault,
     b_plan: &Plan,
 ) -> Result<Match, MatchFault>
-    requires a { (v : View) → IsSeen (F.told folder.old) v → IsMatchable v a_plan.now.items }
-    requires b { (v : View) → IsSeen (F.told folder.old) v → IsMatchable v b_plan.now.items }
+    requires a { IfSeen (F.told folder.old) (λ v. IsMatchable v a_plan.now.items) }
+    requires b { IfSeen (F.told folder.old) (λ v. IsMatchable v b_plan.now.items) }
     ensures told { F.told folder.new ≡ F.told folder.old }
     ensures answers { (v : View) → IsSeen (F.told folder.old) v
         → Answers (matched (format_of a.now.vault).content a_plan.now.items (format_of b.now.vault).content b_plan.now.items v) result }
@@ -68,8 +68,8 @@ fn difference<F: Folder>(
     b: &Vault,
     other: Option<&PlanItem>,
 ) -> Result<Option<How>, MatchFault>
-    requires item { (v : View) → IsSeen (F.told folder.old) v → item.now.node ≡ File → ShowsFile v item.now.at }
-    requires other { (v : View) → IsSeen (F.told folder.old) v → (x : Planned) → option_copied other ≡ Some x → x.node ≡ File → ShowsFile v x.at }
+    requires item { IfSeen (F.told folder.old) (λ v. item.now.node ≡ File → ShowsFile v item.now.at) }
+    requires other { IfSeen (F.told folder.old) (λ v. (x : Planned) → option_copied other ≡ Some x → x.node ≡ File → ShowsFile v x.at) }
     ensures told { F.told folder.new ≡ F.told folder.old }
     ensures answers { (v : View) → IsSeen (F.told folder.old) v
         → Answers (held_by (format_of a.now.vault).content (format_of b.now.vault).content v item.now (option_copied other.entry)) result }

@@ -10,7 +10,7 @@ use Rattle.folder_spec.specs.Path.{Path, below}
 use Rattle.folder_spec.specs.State.{State, present}
 use Rattle.folder_spec.specs.Event.{IsFree, Told, FromTo}
 use Rattle.folder_spec.specs.Moments.{Went}
-use Rattle.folder_spec.specs.Seen.{IsSeen, seen, under}
+use Rattle.folder_spec.specs.Seen.{IfSeen, IsSeen, seen, under}
 use Rattle.folder_spec.specs.View.{View, found}
 use Rattle.folder_spec.proofs.Moments.{went_nowhere, went_more, went_to}
 use Rattle.folder_spec.proofs.Paths.{begins_or_not, below-append, below-apart, below-both}
@@ -87,7 +87,7 @@ module _ (root lost : Path) (f : Format) where
   pub repairs_none : (t u : Option Told) → u ≡ t → RepairsAt root f lost t u
   repairs_none t u same = from_to_same Goes t u same (λ a. went_nowhere (IsRepairing root f lost a.state) (λ s e. MovesInto lost e.call) a (Unchanged refl))
 
-  module _ (paths : List Path) (t : Option Told) (are : (v : View) → IsSeen t v → AreStraysBehind root f (under root v) paths) where
+  module _ (paths : List Path) (t : Option Told) (are : IfSeen t (λ v. AreStraysBehind root f (under root v) paths)) where
     are_at : (a : Told) → t ≡ Some a → AreStraysBehind root f (under root (seen a.state)) paths
     are_at a is = are (seen a.state) (subst (λ o. IsSeen o (seen a.state)) (sym is) refl)
 
@@ -104,7 +104,7 @@ module _ (root lost : Path) (f : Format) where
         (subst (λ o. FromTo (λ a b. Went (IsMoving lost paths a.state) (λ s e. MovesInto lost e.call) a b × HasRepaired lost paths a.state b.state) o u) same
         (from_to_both (λ a b. Went (IsMoving lost paths a.state) (λ s e. MovesInto lost e.call) a b) (λ a b. HasRepaired lost paths a.state b.state) t1 u moves h))
 
-    module _ (alone : StraysGoAlone f) (may : (v : View) → IsSeen t v → MayMoveTo v root lost) where
+    module _ (alone : StraysGoAlone f) (may : IfSeen t (λ v. MayMoveTo v root lost)) where
       pub all_movable : (t1 : Option Told) → t1 ≡ t → IfSome t1 (λ a. AreMovable lost paths (present a.state))
       all_movable None same = tt
       all_movable (Some a) same =

@@ -7,7 +7,7 @@ use Rattle.chunk_files.specs.Reading.{Ending, Whole, Faulty}
 use Rattle.folder_model.specs.Order.{path_cmp}
 use Rattle.folder_spec.specs.Path.{Path}
 use Rattle.folder_spec.specs.Event.{Told}
-use Rattle.folder_spec.specs.Seen.{IsSeen}
+use Rattle.folder_spec.specs.Seen.{IfSeen}
 use Rattle.folder_spec.specs.View.{View, FileOf}
 use Rattle.plain_tree.specs.declared.NodeKind.{NodeKind}
 use Rattle.plain_tree.specs.declared.NodeKind.TheVariants as node
@@ -54,7 +54,7 @@ pub data TellsDamage (f : Format) (v : View) : List Path → List Finding → Ty
       → TellsDamage f v (contents ++ at ∷ []) (found ++ told_damage at fault)
 
 abbrev pub HasRead : Option Told → Format → List Path → List Finding → Type 0
-HasRead told f contents found = (v : View) → IsSeen told v → TellsDamage f v contents found
+HasRead told f contents found = IfSeen told (λ v. TellsDamage f v contents found)
 
 -- a fault that reading contents may have, and a limit of the length of one of them
 abbrev pub IsContentFault : CheckFault → Type 0

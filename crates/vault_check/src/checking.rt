@@ -1,7 +1,7 @@
 //! Checking a vault.
 ghost use Rattle.std.specs.Prelude.{◌≡◌, ◌≤◌, IfOk, IfErr, Err};
 ghost use Rattle.folder_spec.specs.Path.{Path};
-ghost use Rattle.folder_spec.specs.Seen.{IsSeen, under};
+ghost use Rattle.folder_spec.specs.Seen.{IfSeen, IsSeen, under};
 ghost use Rattle.folder_spec.specs.View.{View};
 ghost use Rattle.port_model.specs.Counts.{CountRose};
 ghost use Rattle.vault_read.specs.declared.fault.Limit.TheVariants.{Depth, Items, Length};
@@ -34,14 +34,14 @@ pub struct Report {
 /// one of more than 2^40 bytes without a fault in these is a limit.
 pub fn check<F: Folder>(alloc: Global, folder: &mut F, vault: &Vault) -> Result<Report, CheckFault>
     ensures told { F.told folder.new ≡ F.told folder.old }
-    ensures report { IfOk result (λ report. (v : View) → IsSeen (F.told folder.old) v → IsReport vault.now.root (format_of vault.now.vault) (under vault.now.root v) report) }
-    ensures within { IfOk result (λ report. (v : View) → IsSeen (F.told folder.old) v → IsWithin (format_of vault.now.vault) (under vault.now.root v)) }
-    ensures short { IfOk result (λ report. (v : View) → IsSeen (F.told folder.old) v → (at : Path) → ¬ IsTooLong (format_of vault.now.vault) (under vault.now.root v) at) }
-    ensures items { result ≡ Err (CheckFault.Limit Items) → (v : View) → IsSeen (F.told folder.old) v → HasTooMany (format_of vault.now.vault) (under vault.now.root v) }
-    ensures depth { result ≡ Err (CheckFault.Limit Depth) → (v : View) → IsSeen (F.told folder.old) v → IsOnlyTooDeep (format_of vault.now.vault) (under vault.now.root v) }
+    ensures report { IfOk result (λ report. IfSeen (F.told folder.old) (λ v. IsReport vault.now.root (format_of vault.now.vault) (under vault.now.root v) report)) }
+    ensures within { IfOk result (λ report. IfSeen (F.told folder.old) (λ v. IsWithin (format_of vault.now.vault) (under vault.now.root v))) }
+    ensures short { IfOk result (λ report. IfSeen (F.told folder.old) (λ v. (at : Path) → ¬ IsTooLong (format_of vault.now.vault) (under vault.now.root v) at)) }
+    ensures items { result ≡ Err (CheckFault.Limit Items) → IfSeen (F.told folder.old) (λ v. HasTooMany (format_of vault.now.vault) (under vault.now.root v)) }
+    ensures depth { result ≡ Err (CheckFault.Limit Depth) → IfSeen (F.told folder.old) (λ v. IsOnlyTooDeep (format_of vault.now.vault) (under vault.now.root v)) }
     ensures length { (at : Path) → result ≡ Err (CheckFault.Limit (Length at)) → (v : View) → IsSeen (F.told folder.old) v
         → NamesTooLong vault.now.root (format_of vault.now.vault) (under vault.now.root v) at }
-    ensures limits_first { (at : Path) → result ≡ Err (CheckFault.Limit (Length at)) → (v : View) → IsSeen (F.told folder.old) v → IsWithin (format_of vault.now.vault) (under vault.now.root v) }
+    ensures limits_first { (at : Path) → result ≡ Err (CheckFault.Limit (Length at)) → IfSeen (F.told folder.old) (λ v. IsWithin (format_of vault.now.vault) (under vault.now.root v)) }
     ensures fault { IfErr result (λ fault. IsCheckFault fault) }
     ensures grows { F.faults folder.old ≤ F.faults folder.new }
     ensures failed { result ≡ Err CheckFault.Failed → CountRose (F.faults folder.old) (F.faults folder.new) }

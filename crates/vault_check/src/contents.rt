@@ -2,8 +2,7 @@
 ghost use Rattle.std.specs.Prelude.{◌≡◌, ◌≤◌, ◌++◌, IfOk, IfErr, OnOk, Err, Contains, option_to_list};
 ghost use Rattle.chunk_files.specs.Reading.{Wanting};
 ghost use Rattle.folder_spec.specs.Path.{Path};
-ghost use Rattle.folder_spec.specs.Seen.{IsSeen, ShowsFile};
-ghost use Rattle.folder_spec.specs.View.{View};
+ghost use Rattle.folder_spec.specs.Seen.{IfSeen, ShowsFile};
 ghost use Rattle.port_model.specs.Counts.{CountRose};
 ghost use Rattle.vault_read.specs.declared.fault.Limit.TheVariants.{Length};
 ghost use Rattle.vault_spec.specs.Findings.{finding_of, number_of};
@@ -48,11 +47,11 @@ pub(crate) fn damaged_contents<F: Folder>(
     vault: &Vault,
     contents: &[FPath],
 ) -> Result<Vec<Finding>, CheckFault>
-    requires { (v : View) → IsSeen (F.told folder.old) v → (at : Path) → Contains contents.now at → ShowsFile v at }
+    requires { IfSeen (F.told folder.old) (λ v. (at : Path) → Contains contents.now at → ShowsFile v at) }
     ensures told { F.told folder.new ≡ F.told folder.old }
     ensures damaged { IfOk result (λ damaged. HasRead (F.told folder.old) (format_of vault.now.vault) contents.now damaged.items) }
     ensures length { (named : Path) → result ≡ Err (CheckFault.Limit (Length named)) → Contains contents.now named
-        × ((v : View) → IsSeen (F.told folder.old) v → EndsAs (format_of vault.now.vault) v named Wanting) }
+        × (IfSeen (F.told folder.old) (λ v. EndsAs (format_of vault.now.vault) v named Wanting)) }
     ensures fault { IfErr result (λ fault. IsContentFault fault) }
     ensures grows { F.faults folder.old ≤ F.faults folder.new }
     ensures failed { result ≡ Err CheckFault.Failed → CountRose (F.faults folder.old) (F.faults folder.new) }
@@ -106,11 +105,11 @@ fn fault_of<F: Folder>(
     at: &FPath,
     chunk: &mut ChunkBuf,
 ) -> Result<Option<ChunkFault>, CheckFault>
-    requires { (v : View) → IsSeen (F.told folder.old) v → ShowsFile v at.now }
+    requires { IfSeen (F.told folder.old) (λ v. ShowsFile v at.now) }
     ensures told { F.told folder.new ≡ F.told folder.old }
-    ensures ending { IfOk result (λ fault. (v : View) → IsSeen (F.told folder.old) v → EndsAs (format_of vault.now.vault) v at.now (ending_of fault)) }
+    ensures ending { IfOk result (λ fault. IfSeen (F.told folder.old) (λ v. EndsAs (format_of vault.now.vault) v at.now (ending_of fault))) }
     ensures length { (named : Path) → result ≡ Err (CheckFault.Limit (Length named)) → (named ≡ at.now)
-        × ((v : View) → IsSeen (F.told folder.old) v → EndsAs (format_of vault.now.vault) v at.now Wanting) }
+        × (IfSeen (F.told folder.old) (λ v. EndsAs (format_of vault.now.vault) v at.now Wanting)) }
     ensures fault { IfErr result (λ fault. IsContentFault fault) }
     ensures grows { F.faults folder.old ≤ F.faults folder.new }
     ensures failed { result ≡ Err CheckFault.Failed → CountRose (F.faults folder.old) (F.faults folder.new) }

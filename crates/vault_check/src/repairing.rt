@@ -3,9 +3,8 @@ ghost use Rattle.std.specs.Prelude.{◌≡◌, ◌≤◌, ◌<◌, ◌^◌, [], 
 ghost use Rattle.folder_model.specs.Answers.{CountsAbove};
 ghost use Rattle.folder_spec.specs.Event.{FromTo, IsFree};
 ghost use Rattle.folder_spec.specs.Path.{Path};
-ghost use Rattle.folder_spec.specs.Seen.{IsSeen, under};
+ghost use Rattle.folder_spec.specs.Seen.{IfSeen, under};
 ghost use Rattle.folder_spec.specs.State.{present};
-ghost use Rattle.folder_spec.specs.View.{View};
 ghost use Rattle.port_model.specs.Counts.{CountRose};
 ghost use Rattle.vault_read.specs.declared.fault.Limit.TheVariants.{Depth, Items};
 ghost use Rattle.vault_spec.specs.Moving.{IsStray};
@@ -34,13 +33,13 @@ pub fn repair<F: Folder>(
     vault: &Vault,
     lost: &FPath,
 ) -> Result<Vec<FPath>, CheckFault>
-    requires { (v : View) → IsSeen (F.told folder.old) v → MayMoveTo v vault.now.root lost.now }
+    requires { IfSeen (F.told folder.old) (λ v. MayMoveTo v vault.now.root lost.now) }
     ensures moments { RepairsAt vault.now.root (format_of vault.now.vault) lost.now (F.told folder.old) (F.told folder.new) }
     ensures moved { IfOk result (λ moved. FromTo (λ a b. AreMoved vault.now.root (format_of vault.now.vault) lost.now moved.items a b) (F.told folder.old) (F.told folder.new)) }
     ensures nothing { IfOk result (λ moved. moved.items ≡ [] → F.told folder.new ≡ F.told folder.old) }
-    ensures within { IfOk result (λ moved. (v : View) → IsSeen (F.told folder.old) v → IsWithin (format_of vault.now.vault) (under vault.now.root v)) }
-    ensures items { result ≡ Err (CheckFault.Limit Items) → (v : View) → IsSeen (F.told folder.old) v → HasTooMany (format_of vault.now.vault) (under vault.now.root v) }
-    ensures depth { result ≡ Err (CheckFault.Limit Depth) → (v : View) → IsSeen (F.told folder.old) v → IsOnlyTooDeep (format_of vault.now.vault) (under vault.now.root v) }
+    ensures within { IfOk result (λ moved. IfSeen (F.told folder.old) (λ v. IsWithin (format_of vault.now.vault) (under vault.now.root v))) }
+    ensures items { result ≡ Err (CheckFault.Limit Items) → IfSeen (F.told folder.old) (λ v. HasTooMany (format_of vault.now.vault) (under vault.now.root v)) }
+    ensures depth { result ≡ Err (CheckFault.Limit Depth) → IfSeen (F.told folder.old) (λ v. IsOnlyTooDeep (format_of vault.now.vault) (under vault.now.root v)) }
     ensures fault { IfErr result (λ fault. IsRepairFault fault) }
     ensures grows { F.faults folder.old ≤ F.faults folder.new }
     ensures failed { result ≡ Err CheckFault.Failed → CountRose (F.faults folder.old) (F.faults folder.new) }
@@ -58,10 +57,10 @@ fn found_strays<F: Folder>(
     vault: &Vault,
 ) -> Result<Vec<FPath>, CheckFault>
     ensures told { F.told folder.new ≡ F.told folder.old }
-    ensures strays { IfOk result (λ strays. (v : View) → IsSeen (F.told folder.old) v → AreStraysBehind vault.now.root (format_of vault.now.vault) (under vault.now.root v) strays.items) }
-    ensures within { IfOk result (λ strays. (v : View) → IsSeen (F.told folder.old) v → IsWithin (format_of vault.now.vault) (under vault.now.root v)) }
-    ensures items { result ≡ Err (CheckFault.Limit Items) → (v : View) → IsSeen (F.told folder.old) v → HasTooMany (format_of vault.now.vault) (under vault.now.root v) }
-    ensures depth { result ≡ Err (CheckFault.Limit Depth) → (v : View) → IsSeen (F.told folder.old) v → IsOnlyTooDeep (format_of vault.now.vault) (under vault.now.root v) }
+    ensures strays { IfOk result (λ strays. IfSeen (F.told folder.old) (λ v. AreStraysBehind vault.now.root (format_of vault.now.vault) (under vault.now.root v) strays.items)) }
+    ensures within { IfOk result (λ strays. IfSeen (F.told folder.old) (λ v. IsWithin (format_of vault.now.vault) (under vault.now.root v))) }
+    ensures items { result ≡ Err (CheckFault.Limit Items) → IfSeen (F.told folder.old) (λ v. HasTooMany (format_of vault.now.vault) (under vault.now.root v)) }
+    ensures depth { result ≡ Err (CheckFault.Limit Depth) → IfSeen (F.told folder.old) (λ v. IsOnlyTooDeep (format_of vault.now.vault) (under vault.now.root v)) }
     ensures fault { IfErr result (λ fault. IsRepairFault fault) }
     ensures grows { F.faults folder.old ≤ F.faults folder.new }
     ensures failed { result ≡ Err CheckFault.Failed → CountRose (F.faults folder.old) (F.faults folder.new) }

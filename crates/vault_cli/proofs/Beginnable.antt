@@ -4,7 +4,7 @@ use Rattle.demo_core.specs.Making.{phrase}
 use Rattle.folder_spec.specs.Event.{Told}
 use Rattle.folder_spec.specs.Path.{Path}
 use Rattle.folder_spec.specs.Region.{IsAsBefore, apart_from_both}
-use Rattle.folder_spec.specs.Seen.{IsSeen, seen, under}
+use Rattle.folder_spec.specs.Seen.{IfSeen, seen, under}
 use Rattle.folder_spec.specs.State.{IsSound}
 use Rattle.folder_spec.specs.View.{View}
 use Rattle.migrate_core.specs.Completing.{CanBegin, IsOfChance}
@@ -48,9 +48,9 @@ SmallPass = (from to : OpenedVault) (v : View) (at : Path) → HasOwnFolders fro
 -- what `begin` says of the fault with which it stops, between these roots
 pub record StopsAt (from to work : Path) (fault : MoveFault) (f f' r r' : ℕ) (s s' : Option ByteStream) (t t' : Option Told) : Type 0 where
   pub blamed : Blamed is_of_begin (CountRose f f') (CountRose r r') fault
-  pub completes : (g : Migration) (v : View) → IsSeen t v → IsAsked g from to work phrase phrase → CanBegin g v → IsOfChance fault
+  pub completes : (g : Migration) → IfSeen t (λ v. IsAsked g from to work phrase phrase → CanBegin g v → IsOfChance fault)
   pub too_long : IsOfLimit (PassesInTree from to phrase phrase t t') fault
-  pub written : (v : View) → IsSeen t v → MayWriteTree {T = Done} (Err fault) from to phrase phrase s s' t t'
+  pub written : IfSeen t (λ v. MayWriteTree {T = Done} (Err fault) from to phrase phrase s s' t t')
   pub shared : IsOfTaken (SharesInTree from to phrase phrase s s' t t') fault
   pub moves : MovesOnly work to t t'
 

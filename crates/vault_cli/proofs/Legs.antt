@@ -6,7 +6,7 @@ use Rattle.folder_spec.specs.Event.{Event, FromTo, Told}
 use Rattle.folder_spec.specs.Moments.{Went}
 use Rattle.folder_spec.specs.Path.{Path}
 use Rattle.folder_spec.specs.Region.{IsAsBefore, apart_from_both}
-use Rattle.folder_spec.specs.Seen.{IsSeen, seen, under}
+use Rattle.folder_spec.specs.Seen.{IfSeen, IsSeen, seen, under}
 use Rattle.folder_spec.specs.State.{IsSound, State}
 use Rattle.folder_spec.specs.View.{FileOf, NoEntry, View}
 use Rattle.folder_spec.proofs.Moments.{went_more, went_on, went_to}
@@ -71,13 +71,13 @@ where_on R S T t u w on first next a is =
 
 -- ---- the first items
 
-items_told : (seed count : ℕ) (t u : Option Told) → ((v : View) → IsSeen u v → HoldsItems kind.Gocryptfs first_root seed count v) → MakesBeside first_root t u → FromTo (MakesItems seed count) t u
+items_told : (seed count : ℕ) (t u : Option Told) → IfSeen u (λ v. HoldsItems kind.Gocryptfs first_root seed count v) → MakesBeside first_root t u → FromTo (MakesItems seed count) t u
 items_told seed count (Some a) (Some b) holds beside = (goes_on (IsAsBefore (apart_from_both making_folder first_root) a.state) (λ s e. Unit {0}) a b beside, holds (seen b.state) refl)
 items_told seed count None None holds beside = tt
 items_told seed count (Some a) None holds beside = absurd beside
 items_told seed count None (Some b) holds beside = absurd beside
 
-pub items_made : (seed count : ℕ) (t u : Option Told) → ((v : View) → IsSeen u v → HoldsItems kind.Gocryptfs first_root seed count v) → MakesBeside first_root t u → WhereTold (MakesItems seed count) t u
+pub items_made : (seed count : ℕ) (t u : Option Told) → IfSeen u (λ v. HoldsItems kind.Gocryptfs first_root seed count v) → MakesBeside first_root t u → WhereTold (MakesItems seed count) t u
 items_made seed count t u holds beside = where_told (MakesItems seed count) t u (items_told seed count t u holds beside)
 
 -- ---- one migration
@@ -162,7 +162,7 @@ base_apart : (leg : Leg) → IsTrue (apart_from_both (source_of leg) moving_fold
 base_apart There = refl
 base_apart Back = refl
 
-pub leaves_source : AreAlike → AreOne → (leg : Leg) (retired : ℕ) (t u : Option Told) → ((a : Told) → t ≡ Some a → IsSound a.state) → ((v : View) → IsSeen t v → HasRetired moving_folder retired u v)
+pub leaves_source : AreAlike → AreOne → (leg : Leg) (retired : ℕ) (t u : Option Told) → ((a : Told) → t ≡ Some a → IsSound a.state) → IfSeen t (λ v. HasRetired moving_folder retired u v)
     → ((v : View) (journal : Journal) → IsSeen t v → IsJournal journal → StandsIn moving_folder journal v → TouchesOnly (retiring_by moving_folder phrase phrase journal) t u) → LeavesSource leg retired t u
 leaves_source alike one leg retired (Some a) (Some b) sound has touches x is =
     let same : a ≡ x = cc is in

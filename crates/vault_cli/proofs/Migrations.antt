@@ -9,7 +9,7 @@ use Rattle.folder_spec.specs.Image.{Image, IsImage}
 use Rattle.folder_spec.specs.Moments.{Went}
 use Rattle.folder_spec.specs.Path.{Path}
 use Rattle.folder_spec.specs.Region.{IsAsBefore, apart_from_both}
-use Rattle.folder_spec.specs.Seen.{IsSeen}
+use Rattle.folder_spec.specs.Seen.{IfSeen, IsSeen}
 use Rattle.folder_spec.specs.State.{State}
 use Rattle.folder_spec.specs.View.{Found, NoEntry, Folder, FileOf, Special, View, view_of}
 use Rattle.folder_spec.proofs.Moments.{went_more, went_nowhere}
@@ -260,9 +260,9 @@ module _ (moving : Moving) where
     no_two none second third x = last none second (subst (λ b. MatchOption (pick false false b) P Q) (sym third) x)
 
   pub migrate_stopped : (answer : Answer) (told told' : Option Told) (taken : Option (List ℕ)) (stream stream' : Option ByteStream) → IsTrue (is_of_stop answer)
-      → ((v : View) → IsSeen told v → migrating.MayCome moving answer told told' stream stream' v)
-      → ((g : Migration) (v : View) → IsSeen told v → IsAskedFor g moving v → KeepsAll g told told') → MovesOnly moving.work moving.target told told'
-      → ((g : Migration) (v : View) → IsSeen told v → IsAskedFor g moving v → CanBegin g v → Completes answer) → MigratesApart moving answer told told' taken taken stream stream'
+      → IfSeen told (λ v. migrating.MayCome moving answer told told' stream stream' v)
+      → ((g : Migration) → IfSeen told (λ v. IsAskedFor g moving v → KeepsAll g told told')) → MovesOnly moving.work moving.target told told'
+      → ((g : Migration) → IfSeen told (λ v. IsAskedFor g moving v → CanBegin g v → Completes answer)) → MigratesApart moving answer told told' taken taken stream stream'
   migrate_stopped answer told told' taken stream stream' own comes keeps moves completes = record {
     own = or_left (is_of_stop answer) (is_of_end answer) own;
     comes = comes;
@@ -273,8 +273,8 @@ module _ (moving : Moving) where
   }
 
   pub migrate_printed : (done : moved.Done) (answer : Answer) (told told' : Option Told) (taken taken' : Option (List ℕ)) (stream stream' : Option ByteStream) → HasMigrated moving done told told'
-      → ((v : View) → IsSeen told v → migrating.ComesTo moving (λ outcome. outcome ≡ Ok done) told told' stream stream' v)
-      → ((g : Migration) (v : View) → IsSeen told v → IsAskedFor g moving v → KeepsAll g told told') → MovesOnly moving.work moving.target told told'
+      → IfSeen told (λ v. migrating.ComesTo moving (λ outcome. outcome ≡ Ok done) told told' stream stream' v)
+      → ((g : Migration) → IfSeen told (λ v. IsAskedFor g moving v → KeepsAll g told told')) → MovesOnly moving.work moving.target told told'
       → PrintsText (done_text done) answer taken taken' → IsPrinted answer → MigratesApart moving answer told told' taken taken' stream stream'
   migrate_printed done answer told told' taken taken' stream stream' has comes keeps moves prints is_printed = record {
     own = printed_is_own is_of_stop answer refl is_printed;
@@ -308,9 +308,9 @@ module _ (resuming : Resuming) where
   Brings told told' = (v : View) (journal : Journal) → IsSeen told v → IsJournal journal → StandsIn resuming.work journal v → MovesOnly resuming.work journal.target told told'
 
   pub resume_stopped : (answer : Answer) (told told' : Option Told) (taken : Option (List ℕ)) (stream stream' : Option ByteStream) → IsTrue (is_of_told_stop answer)
-      → ((v : View) → IsSeen told v → resuming_on.MayCome resuming answer told told' stream stream' v)
-      → ((g : Migration) (v : View) → IsSeen told v → IsResumedFor g resuming v → KeepsAll g told told') → Brings told told'
-      → ((g : Migration) (v : View) → IsSeen told v → IsResumedFor g resuming v → CanResume g v → Completes answer) → Resumes resuming answer told told' taken taken stream stream'
+      → IfSeen told (λ v. resuming_on.MayCome resuming answer told told' stream stream' v)
+      → ((g : Migration) → IfSeen told (λ v. IsResumedFor g resuming v → KeepsAll g told told')) → Brings told told'
+      → ((g : Migration) → IfSeen told (λ v. IsResumedFor g resuming v → CanResume g v → Completes answer)) → Resumes resuming answer told told' taken taken stream stream'
   resume_stopped answer told told' taken stream stream' own comes keeps moves completes = record {
     own = or_left (is_of_told_stop answer) (is_of_end answer) own;
     comes = comes;
@@ -321,8 +321,8 @@ module _ (resuming : Resuming) where
   }
 
   pub resume_printed : (done : moved.Done) (answer : Answer) (told told' : Option Told) (taken taken' : Option (List ℕ)) (stream stream' : Option ByteStream) → HasResumed resuming done told told'
-      → ((v : View) → IsSeen told v → resuming_on.ComesTo resuming (λ outcome. outcome ≡ Ok done) told told' stream stream' v)
-      → ((g : Migration) (v : View) → IsSeen told v → IsResumedFor g resuming v → KeepsAll g told told') → Brings told told'
+      → IfSeen told (λ v. resuming_on.ComesTo resuming (λ outcome. outcome ≡ Ok done) told told' stream stream' v)
+      → ((g : Migration) → IfSeen told (λ v. IsResumedFor g resuming v → KeepsAll g told told')) → Brings told told'
       → PrintsText (done_text done) answer taken taken' → IsPrinted answer → Resumes resuming answer told told' taken taken' stream stream'
   resume_printed done answer told told' taken taken' stream stream' has comes keeps moves prints is_printed = record {
     own = printed_is_own is_of_told_stop answer refl is_printed;

@@ -8,7 +8,7 @@ use Rattle.demo_core.specs.Tree.{HasItems}
 use Rattle.demo_core.proofs.Standing.{nothing_seen}
 use Rattle.folder_spec.specs.Path.{Path, below, child}
 use Rattle.folder_spec.specs.Event.{Told}
-use Rattle.folder_spec.specs.Seen.{IsSeen, seen, under}
+use Rattle.folder_spec.specs.Seen.{IfSeen, seen, under}
 use Rattle.folder_spec.specs.State.{IsSound, State}
 use Rattle.folder_spec.specs.View.{FileOf, Folder, NoEntry, View, kind_found}
 use Rattle.folder_spec.specs.declared.Kind.TheVariants as kinds
@@ -277,7 +277,7 @@ can_retire laws plans shallow leg seed count s sound few can = record {
 
 -- what follows of a migration that can be retired follows where it was carried
 pub carried_retires : AreMovable → PlansTell → CleanIsShallow → (X : Type 0) (leg : Leg) (count : ℕ) (work : Path) (t : Option Told) → ((a : Told) → t ≡ Some a → IsSound a.state) → work ≡ moving_folder
-    → ((g : Migration) (v : View) → IsSeen t v → IsResumed g work phrase phrase → CanRetire g v → X) → Sees (HasCarried leg) count t → X
+    → ((g : Migration) → IfSeen t (λ v. IsResumed g work phrase phrase → CanRetire g v → X)) → Sees (HasCarried leg) count t → X
 carried_retires laws plans shallow X leg count work (Some a) sound is completes sees =
     let can : HasCarried leg sees.seed count (seen a.state) = subst (HasCarried leg sees.seed count) sees.seen sees.shown in
     completes (migration_of leg can.source.items.vault can.target.items.vault (seen a.state)) (seen a.state) refl (record { work = sym is; opens_source = refl; opens_target = refl })

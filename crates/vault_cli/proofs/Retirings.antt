@@ -5,7 +5,7 @@ use Rattle.std.proofs.lemmas.Bool.{or_left}
 use Rattle.std.proofs.KnownBytes.{Keeps-refl}
 use Rattle.folder_spec.specs.Event.{Told}
 use Rattle.folder_spec.specs.Path.{Path}
-use Rattle.folder_spec.specs.Seen.{IsSeen}
+use Rattle.folder_spec.specs.Seen.{IfSeen}
 use Rattle.folder_spec.specs.View.{View}
 use Rattle.move_journal.specs.Reading.{ReadsAs, journal_bytes}
 use Rattle.move_journal.specs.declared.journal.Journal.{Journal}
@@ -52,9 +52,9 @@ answers_printed : (work : Path) (v : View) (answer : Answer) (done : Retired) �
 answers_printed work v answer done is_printed outcome is = subst (AnswersRetire work v answer) (sym is) is_printed
 
 module _ (resuming : Resuming) where
-  pub retire_stopped : (answer : Answer) (told told' : Option Told) (taken : Option (List ℕ)) → IsTrue (is_of_refusal answer) → ((v : View) → IsSeen told v → MayCome resuming answer told told' v)
-      → ((g : Migration) (v : View) → IsSeen told v → IsResumedFor g resuming v → KeepsAll g told told')
-      → ((g : Migration) (v : View) → IsSeen told v → IsResumedFor g resuming v → CanRetire g v → Completes answer) → Retires resuming answer told told' taken taken
+  pub retire_stopped : (answer : Answer) (told told' : Option Told) (taken : Option (List ℕ)) → IsTrue (is_of_refusal answer) → IfSeen told (λ v. MayCome resuming answer told told' v)
+      → ((g : Migration) → IfSeen told (λ v. IsResumedFor g resuming v → KeepsAll g told told'))
+      → ((g : Migration) → IfSeen told (λ v. IsResumedFor g resuming v → CanRetire g v → Completes answer)) → Retires resuming answer told told' taken taken
   retire_stopped answer told told' taken own comes keeps completes = record {
     own = or_left (is_of_refusal answer) (is_of_end answer) own;
     comes = comes;
@@ -64,7 +64,7 @@ module _ (resuming : Resuming) where
   }
 
   pub retire_printed : (done : Retired) (answer : Answer) (told told' : Option Told) (taken taken' : Option (List ℕ)) → IsRetired resuming told told' done
-      → ((v : View) → IsSeen told v → ComesTo resuming (λ outcome. outcome ≡ Ok done) told told' v) → ((g : Migration) (v : View) → IsSeen told v → IsResumedFor g resuming v → KeepsAll g told told')
+      → IfSeen told (λ v. ComesTo resuming (λ outcome. outcome ≡ Ok done) told told' v) → ((g : Migration) → IfSeen told (λ v. IsResumedFor g resuming v → KeepsAll g told told'))
       → PrintsText (retired_text done) answer taken taken' → IsPrinted answer → Retires resuming answer told told' taken taken'
   retire_printed done answer told told' taken taken' has comes keeps prints is_printed = record {
     own = printed_is_own is_of_refusal answer refl is_printed;

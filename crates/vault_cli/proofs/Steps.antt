@@ -13,7 +13,7 @@ use Rattle.folder_spec.specs.Event.{Event, Told}
 use Rattle.folder_spec.specs.Moments.{Went}
 use Rattle.folder_spec.specs.Path.{Path, parent}
 use Rattle.folder_spec.specs.Region.{IsAsBefore, apart_from_both}
-use Rattle.folder_spec.specs.Seen.{IsSeen, seen, under}
+use Rattle.folder_spec.specs.Seen.{IfSeen, IsSeen, seen, under}
 use Rattle.folder_spec.specs.State.{IsSound, State}
 use Rattle.folder_spec.specs.View.{Folder, NoEntry, View}
 use Rattle.folder_spec.proofs.Moments.{went_to}
@@ -80,7 +80,7 @@ beside_alike leg v w base making third beside = record {
 -- ---- the first items
 
 pub first_stands : (seed count : ℕ) (t u : Option Told) → count ≤ 2000 → ((a : Told) → t ≡ Some a → IsSound a.state) → IsBare t → MakesBeside first_root t u
-    → ((b : Told) → u ≡ Some b → HoldsInOrder kind.Gocryptfs first_root seed count b.state) → ((v : View) → IsSeen u v → IsFresh v making_folder) → Sees (CanLead There) count u
+    → ((b : Told) → u ≡ Some b → HoldsInOrder kind.Gocryptfs first_root seed count b.state) → IfSeen u (λ v. IsFresh v making_folder) → Sees (CanLead There) count u
 first_stands seed count (Some a) (Some b) few sound bare beside holds fresh = record {
   few = few;
   seed = seed;
@@ -110,7 +110,7 @@ first_stands seed count None u few sound bare beside holds fresh = absurd bare.s
 first_stands seed count (Some a) None few sound bare beside holds fresh = absurd beside
 
 -- a vault can be made where nothing stands
-pub can_make_first : (t : Option Told) → IsBare t → (v : View) → IsSeen t v → CanMake first_root v
+pub can_make_first : (t : Option Told) → IsBare t → IfSeen t (λ v. CanMake first_root v)
 can_make_first t bare v is = record { work = (base, inl (none (codes "w"))); free = (none (codes "g"), base) }
   where
     same : (t : Option Told) (one other : View) → IsSeen t one → IsSeen t other → one ≡ other
@@ -130,7 +130,7 @@ bare_told (Some a) bare is = cc is
 -- ---- the target of a migration
 
 -- the base is above, and nothing stands there
-pub can_make_target : (leg : Leg) (count : ℕ) (t : Option Told) → Sees (CanLead leg) count t → (v : View) → IsSeen t v → CanMake (target_of leg) v
+pub can_make_target : (leg : Leg) (count : ℕ) (t : Option Told) → Sees (CanLead leg) count t → IfSeen t (λ v. CanMake (target_of leg) v)
 can_make_target leg count (Some a) sees v is =
     let can : CanLead leg sees.seed count v = subst (CanLead leg sees.seed count) (sees.seen ∙ sym is) sees.shown in
     record { work = can.beside.making; free = (can.target, above leg v can.beside.base) }
@@ -156,7 +156,7 @@ third_making There is = refl
 third_making Back is = cc is
 
 pub target_stands : AreAlike → (leg : Leg) (count : ℕ) (t u : Option Told) → ((a : Told) → t ≡ Some a → IsSound a.state) → MakesBeside (target_of leg) t u → IsNewAt (kind_to leg) (target_of leg) u
-    → ((v : View) → IsSeen u v → IsFresh v making_folder) → Sees (CanLead leg) count t → Sees (CanCarry leg) count u
+    → IfSeen u (λ v. IsFresh v making_folder) → Sees (CanLead leg) count t → Sees (CanCarry leg) count u
 target_stands alike leg count (Some a) (Some b) sound beside new fresh sees =
     let can : CanLead leg sees.seed count (seen a.state) = subst (CanLead leg sees.seed count) sees.seen sees.shown in
     let made : IsNewWell (kind_to leg) (target_of leg) sees.seed (seen b.state) = new_well (kind_to leg) (target_of leg) sees.seed b.state (new b refl) in
@@ -296,7 +296,7 @@ carried alike one so_many plans leg seed count done a b sound few can moves only
         sym moved.says.items ∙ told.2.1 ∙ lengths ∙ sym (length-map told.1.plan (λ (item : Planned). item.path)) ∙ paths
 
 pub is_carried : AreAlike → HaveOneAnswer → HaveSoMany → PlansAreTrees → (leg : Leg) (count : ℕ) (t u : Option Told) → ((a : Told) → t ≡ Some a → IsSound a.state) → IsMoved (source_of leg) (target_of leg) t u
-    → ((v : View) → IsSeen u v → IsTidyWork moving_folder v) → Sees (CanCarry leg) count t → Sees (HasCarried leg) count u
+    → IfSeen u (λ v. IsTidyWork moving_folder v) → Sees (CanCarry leg) count t → Sees (HasCarried leg) count u
 is_carried alike one so_many plans leg count (Some a) (Some b) sound moved tidy sees = record {
   few = sees.few;
   seed = sees.seed;

@@ -5,7 +5,7 @@ use Rattle.std.specs.Prelude.{MatchOption}
 use Rattle.content_writing.specs.declared.fault.PutFault.{PutFault}
 use Rattle.content_writing.specs.declared.fault.PutFault.TheVariants as puts
 use Rattle.folder_spec.specs.Path.{Path}
-use Rattle.folder_spec.specs.Seen.{IsSeen, under}
+use Rattle.folder_spec.specs.Seen.{IfSeen, IsSeen, under}
 use Rattle.folder_spec.specs.View.{Found, NoEntry, Folder, FileOf, Special, View}
 use Rattle.migrate_core.specs.Causes.{Begins, BeginsApart, BeginsWith, Compares, ForbidsLast, IsOfMoving, IsStop, Moves, Opens, PassesOr, Resumes, ResumesTold, ResumesWith, StopsAt, TestsApart, TestsEmpty, TestsHeld, TestsItems, TestsMatch, TestsNames, TestsSource, TestsTold, Then, Walks, is_done, of_refusal, own, where_in}
 use Rattle.migrate_core.specs.Copying.{HaveOwnFolders}
@@ -696,7 +696,7 @@ migrate_told moving answer before after v seen folders did = by (first_overlap m
     by None migrates = came (migrates.comes v seen)
     by (Some two) refuses = elim refuses.refuses.answers [ inl overlaps ↦ subst (EndsTold (Some (Migrate moving))) (sym overlaps) refl | inr memory ↦ subst (EndsTold (Some (Migrate moving))) (sym memory) refl ]
 
-resume_told : (resuming : Resuming) (answer : Answer) (before after : World) (v : View) → IsSeen before.told v → ResumesTree resuming answer before after → EndsTold (Some (Resume resuming)) answer
+resume_told : (resuming : Resuming) (answer : Answer) (before after : World) → IfSeen before.told (λ v. ResumesTree resuming answer before after → EndsTold (Some (Resume resuming)) answer)
 resume_told resuming answer before after v seen did = came (did.resumes.comes v seen)
   where
     any : IsTrue (may_end (Some (Resume resuming)) (status_of answer))
@@ -719,7 +719,7 @@ resume_told resuming answer before after v seen did = came (did.resumes.comes v 
     came (inl refuses) = by_opening (may_end_told (Some (Resume resuming))) refl refl refl refl refl refl refl answer (by_passes resuming.passes v answer refuses.0.answers)
     came (inr comes) = by_outcome comes.source_pass comes.target_pass comes.outcome comes.cause comes.answers
 
-retire_told : (resuming : Resuming) (answer : Answer) (before after : World) (v : View) → IsSeen before.told v → RetiresSource resuming answer before after → EndsTold (Some (Retire resuming)) answer
+retire_told : (resuming : Resuming) (answer : Answer) (before after : World) → IfSeen before.told (λ v. RetiresSource resuming answer before after → EndsTold (Some (Retire resuming)) answer)
 retire_told resuming answer before after v seen did = came (did.retires.comes v seen)
   where
     any : IsTrue (may_end (Some (Retire resuming)) (status_of answer))
@@ -749,7 +749,7 @@ told_same : (a : Bool) → IsTrue (a || false) → IsTrue a
 told_same true may = refl
 told_same false may = may
 
-pub in_told_row : (command : Option Command) (answer : Answer) (before after : World) (v : View) → IsSeen before.told v → OwnsFolders command v → Executes command answer before after → EndsTold command answer
+pub in_told_row : (command : Option Command) (answer : Answer) (before after : World) → IfSeen before.told (λ v. OwnsFolders command v → Executes command answer before after → EndsTold command answer)
 in_told_row None answer before after v seen folders did = told_same (may_end_told None (status_of answer)) (in_row None answer before after did)
 in_told_row (Some (DecryptFile key)) answer before after v seen folders did = told_same (may_end_told (Some (DecryptFile key)) (status_of answer)) (in_row (Some (DecryptFile key)) answer before after did)
 in_told_row (Some (Init new)) answer before after v seen folders did = told_same (may_end_told (Some (Init new)) (status_of answer)) (in_row (Some (Init new)) answer before after did)

@@ -3,7 +3,7 @@ use Rattle.std.specs.Prelude.{◌≡◌, ◌⊎◌, ℕ, List, [], if◌then◌e
 use Rattle.std.specs.Io.KnownBytes.{Keeps}
 use Rattle.folder_spec.specs.Event.{Told}
 use Rattle.folder_spec.specs.Path.{Path}
-use Rattle.folder_spec.specs.Seen.{IsSeen}
+use Rattle.folder_spec.specs.Seen.{IfSeen}
 use Rattle.folder_spec.specs.View.{View}
 use Rattle.migrate_core.specs.Causes.{Begins, Unless}
 use Rattle.migrate_core.specs.Completing.{CanBegin}
@@ -49,7 +49,7 @@ pub record IsAskedFor (g : Migration) (moving : Moving) (v : View) : Type 0 wher
 pub record HasMigrated (moving : Moving) (done : moved.Done) (told told' : Option Told) : Type 0 where
   pub source_pass : List ℕ
   pub target_pass : List ℕ
-  pub phrases : (v : View) → IsSeen told v → ArePhrases moving.passes source_pass target_pass v
+  pub phrases : IfSeen told (λ v. ArePhrases moving.passes source_pass target_pass v)
   pub moves : MovesTree moving.source moving.target moving.work source_pass target_pass done told told'
 
 -- the root of the vault that isn't opened
@@ -79,10 +79,10 @@ MayCome moving answer told told' stream stream' v =
 -- nothing of the target is removed or replaced. At 0 the tree is moved. Where no test can fail and no content is damaged, it comes to that.
 pub record MigratesApart (moving : Moving) (answer : Answer) (told told' : Option Told) (taken taken' : Option (List ℕ)) (stream stream' : Option ByteStream) : Type 0 where
   pub own : IsTrue (is_of_migration answer)
-  pub comes : (v : View) → IsSeen told v → MayCome moving answer told told' stream stream' v
-  pub keeps : (g : Migration) (v : View) → IsSeen told v → IsAskedFor g moving v → KeepsAll g told told'
+  pub comes : IfSeen told (λ v. MayCome moving answer told told' stream stream' v)
+  pub keeps : (g : Migration) → IfSeen told (λ v. IsAskedFor g moving v → KeepsAll g told told')
   pub moves : MovesOnly moving.work moving.target told told'
-  pub completes : (g : Migration) (v : View) → IsSeen told v → IsAskedFor g moving v → CanBegin g v → Completes answer
+  pub completes : (g : Migration) → IfSeen told (λ v. IsAskedFor g moving v → CanBegin g v → Completes answer)
   pub prints : PrintsDone done_text (λ done. HasMigrated moving done told told') answer taken taken'
 
 -- overlapping folders are refused by the words alone

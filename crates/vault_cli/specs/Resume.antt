@@ -3,7 +3,7 @@ use Rattle.std.specs.Prelude.{ℕ, List, Option, Some, None, IsTrue, ◌≡◌, 
 use Rattle.std.specs.Io.KnownBytes.{Keeps}
 use Rattle.folder_spec.specs.Event.{Told}
 use Rattle.folder_spec.specs.Path.{Path}
-use Rattle.folder_spec.specs.Seen.{IsSeen}
+use Rattle.folder_spec.specs.Seen.{IfSeen, IsSeen}
 use Rattle.folder_spec.specs.View.{View}
 use Rattle.migrate_core.specs.Causes.{Unless}
 use Rattle.migrate_core.specs.Causes as causes
@@ -36,8 +36,8 @@ pub record IsResumedFor (g : Migration) (resuming : Resuming) (v : View) : Type 
 pub record HasResumed (resuming : Resuming) (done : moved.Done) (told told' : Option Told) : Type 0 where
   pub source_pass : List ℕ
   pub target_pass : List ℕ
-  pub phrases : (v : View) → IsSeen told v → ArePhrases resuming.passes source_pass target_pass v
-  pub moves : (v : View) → IsSeen told v → MovesTold resuming.work source_pass target_pass done told told' v
+  pub phrases : IfSeen told (λ v. ArePhrases resuming.passes source_pass target_pass v)
+  pub moves : IfSeen told (λ v. MovesTold resuming.work source_pass target_pass done told told' v)
 
 -- the root of a vault that the journal tells
 abbrev pub root_in : Journal → Side → Path
@@ -73,10 +73,10 @@ MayCome resuming answer told told' stream stream' v =
 -- that.
 pub record Resumes (resuming : Resuming) (answer : Answer) (told told' : Option Told) (taken taken' : Option (List ℕ)) (stream stream' : Option ByteStream) : Type 0 where
   pub own : IsTrue (is_of_told_migration answer)
-  pub comes : (v : View) → IsSeen told v → MayCome resuming answer told told' stream stream' v
-  pub keeps : (g : Migration) (v : View) → IsSeen told v → IsResumedFor g resuming v → KeepsAll g told told'
+  pub comes : IfSeen told (λ v. MayCome resuming answer told told' stream stream' v)
+  pub keeps : (g : Migration) → IfSeen told (λ v. IsResumedFor g resuming v → KeepsAll g told told')
   pub moves : (v : View) (journal : Journal) → IsSeen told v → IsJournal journal → StandsIn resuming.work journal v → MovesOnly resuming.work journal.target told told'
-  pub completes : (g : Migration) (v : View) → IsSeen told v → IsResumedFor g resuming v → CanResume g v → Completes answer
+  pub completes : (g : Migration) → IfSeen told (λ v. IsResumedFor g resuming v → CanResume g v → Completes answer)
   pub prints : PrintsDone done_text (λ done. HasResumed resuming done told told') answer taken taken'
 
 -- `resume`, which takes nothing of the input

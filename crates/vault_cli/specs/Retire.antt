@@ -3,7 +3,7 @@ use Rattle.std.specs.Prelude.{◌≡◌, ◌⊎◌, ◌++◌, ◌∷◌, [], ℕ
 use Rattle.std.specs.Io.KnownBytes.{Keeps}
 use Rattle.folder_spec.specs.Event.{Told}
 use Rattle.folder_spec.specs.Path.{Path}
-use Rattle.folder_spec.specs.Seen.{IsSeen}
+use Rattle.folder_spec.specs.Seen.{IfSeen}
 use Rattle.folder_spec.specs.View.{View}
 use Rattle.migrate_core.specs.Moved.{StandsIn}
 use Rattle.move_journal.specs.Journal.{IsJournal}
@@ -84,7 +84,7 @@ retired_text retired = codes "retired " ++ decimal retired.items ++ 10 ∷ []
 
 -- the journal said that all is done, of so many items; the source is gone, and so is the work folder
 abbrev pub IsRetired : Resuming → Option Told → Option Told → Retired → Type 0
-IsRetired resuming told told' retired = (v : View) → IsSeen told v → HasRetired resuming.work retired.items told' v
+IsRetired resuming told told' retired = IfSeen told (λ v. HasRetired resuming.work retired.items told' v)
 
 -- it comes to its end, unless the folder failed or memory was refused
 abbrev pub Completes : Answer → Type 0
@@ -93,9 +93,9 @@ Completes answer = folder.Unless answer (IsTrue (is_of_end answer))
 -- Whatever the answer is, nothing is lost, and no more is touched. Where no test can fail, the source is retired.
 pub record Retires (resuming : Resuming) (answer : Answer) (told told' : Option Told) (taken taken' : Option (List ℕ)) : Type 0 where
   pub own : IsTrue (is_of_retiring answer)
-  pub comes : (v : View) → IsSeen told v → MayCome resuming answer told told' v
-  pub keeps : (g : Migration) (v : View) → IsSeen told v → IsResumedFor g resuming v → KeepsAll g told told'
-  pub completes : (g : Migration) (v : View) → IsSeen told v → IsResumedFor g resuming v → CanRetire g v → Completes answer
+  pub comes : IfSeen told (λ v. MayCome resuming answer told told' v)
+  pub keeps : (g : Migration) → IfSeen told (λ v. IsResumedFor g resuming v → KeepsAll g told told')
+  pub completes : (g : Migration) → IfSeen told (λ v. IsResumedFor g resuming v → CanRetire g v → Completes answer)
   pub prints : PrintsDone retired_text (IsRetired resuming told told') answer taken taken'
 
 -- `retire`, which takes nothing of the input

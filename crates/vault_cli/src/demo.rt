@@ -7,8 +7,7 @@ ghost use Rattle.demo_core.specs.Sharing.{GoesOn};
 ghost use Rattle.folder_model.specs.Memory.{new_told};
 ghost use Rattle.folder_spec.specs.Event.{Told};
 ghost use Rattle.folder_spec.specs.Path.{Path};
-ghost use Rattle.folder_spec.specs.Seen.{IsSeen};
-ghost use Rattle.folder_spec.specs.View.{View};
+ghost use Rattle.folder_spec.specs.Seen.{IfSeen};
 ghost use Rattle.work_folder.specs.Entering.{IsFresh};
 ghost use Rattle.demo_core.specs.Making as making;
 ghost use Rattle.demo_core.specs.Making.{CanMake, IsFailed, IsMakeFault, IsOfItems, IsTaken, MakesBeside, making_folder};
@@ -357,12 +356,12 @@ fn make_vault_of<F: Folder, R: Randoms>(
     leg: Leg,
     random: &mut R,
 ) -> Result<Work, MakeFault>
-    ensures fresh { IfOk result (λ work. (v : View) → IsSeen (F.told folder.new) v → IsFresh v making_folder) }
+    ensures fresh { IfOk result (λ work. IfSeen (F.told folder.new) (λ v. IsFresh v making_folder)) }
     ensures stands { IfOk result (λ work. IsNewAt (kind_to leg) (target_of leg) (F.told folder.new)) }
     ensures beside { MakesBeside (target_of leg) (F.told folder.old) (F.told folder.new) }
     ensures failed { IfErr result (λ fault. IsFailed fault → CountRose (F.faults folder.old) (F.faults folder.new)) }
     ensures own { IfErr result (λ fault. IsMakeFault fault) }
-    ensures chance { IfErr result (λ fault. (v : View) → IsSeen (F.told folder.old) v → CanMake (target_of leg) v → making.IsOfChance fault) }
+    ensures chance { IfErr result (λ fault. IfSeen (F.told folder.old) (λ v. CanMake (target_of leg) v → making.IsOfChance fault)) }
     ensures random { result ≡ Err (MakeFault.Put PutFault.Random) → CountRose (R.faults random.old) (R.faults random.new) }
     ensures goes { GoesOn (F.told folder.old) (F.told folder.new) }
     ensures drew { Drew (result ≡ Err (MakeFault.Put PutFault.ZeroRandom)) (R.left random.old) (R.left random.new) }

@@ -1,7 +1,6 @@
 //! `migrate`: moves the tree of one vault into another.
 ghost use Rattle.std.specs.Prelude.{◌≡◌, Ok, Err, IfErr, IfOk, IsTrue, MatchOption};
-ghost use Rattle.folder_spec.specs.Seen.{IsSeen};
-ghost use Rattle.folder_spec.specs.View.{View};
+ghost use Rattle.folder_spec.specs.Seen.{IfSeen};
 ghost use Rattle.migrate_core.specs.Completing.{CanBegin};
 ghost use Rattle.migrate_core.specs.Moving.{MovesOnly};
 ghost use Rattle.port_model.specs.Counts.{CountRose};
@@ -78,11 +77,11 @@ fn begin<F: Folder, R: Randoms>(
 ) -> Result<Done, Answer>
     requires written { AreWritten moving.now }
     ensures migrated { IfOk result (λ done. HasMigrated moving.now done (F.told folder.old) (F.told folder.new)) }
-    ensures came { IfOk result (λ done. (v : View) → IsSeen (F.told folder.old) v → ComesTo moving.now (λ outcome. outcome ≡ Ok done) (F.told folder.old) (F.told folder.new) (R.left random.old) (R.left random.new) v) }
-    ensures stopped { IfErr result (λ answer. (v : View) → IsSeen (F.told folder.old) v → MayCome moving.now answer (F.told folder.old) (F.told folder.new) (R.left random.old) (R.left random.new) v) }
-    ensures keeps { (g : Migration) (v : View) → IsSeen (F.told folder.old) v → IsAskedFor g moving.now v → KeepsAll g (F.told folder.old) (F.told folder.new) }
+    ensures came { IfOk result (λ done. IfSeen (F.told folder.old) (λ v. ComesTo moving.now (λ outcome. outcome ≡ Ok done) (F.told folder.old) (F.told folder.new) (R.left random.old) (R.left random.new) v)) }
+    ensures stopped { IfErr result (λ answer. IfSeen (F.told folder.old) (λ v. MayCome moving.now answer (F.told folder.old) (F.told folder.new) (R.left random.old) (R.left random.new) v)) }
+    ensures keeps { (g : Migration) → IfSeen (F.told folder.old) (λ v. IsAskedFor g moving.now v → KeepsAll g (F.told folder.old) (F.told folder.new)) }
     ensures moves { MovesOnly moving.now.work moving.now.target (F.told folder.old) (F.told folder.new) }
-    ensures completes { IfErr result (λ answer. (g : Migration) (v : View) → IsSeen (F.told folder.old) v → IsAskedFor g moving.now v → CanBegin g v → Completes answer) }
+    ensures completes { IfErr result (λ answer. (g : Migration) → IfSeen (F.told folder.old) (λ v. IsAskedFor g moving.now v → CanBegin g v → Completes answer)) }
     ensures own { IfErr result (λ answer. IsTrue (is_of_stop answer)) }
     ensures failed { result ≡ Err Answer.FolderFault → CountRose (F.faults folder.old) (F.faults folder.new) }
     ensures drawn { result ≡ Err Answer.RandomFault → CountRose (R.faults random.old) (R.faults random.new) }

@@ -1,8 +1,7 @@
 //! What the commands share that lead a migration on.
 ghost use Rattle.std.specs.Prelude.{◌≡◌, ◌⊎◌, ◌≤◌, Err, IfErr, IfOk, IsTrue, string_bytes};
 ghost use Rattle.folder_spec.specs.Path.{Path};
-ghost use Rattle.folder_spec.specs.Seen.{IsSeen};
-ghost use Rattle.folder_spec.specs.View.{View};
+ghost use Rattle.folder_spec.specs.Seen.{IfSeen};
 ghost use Rattle.migrate_core.specs.Faults.{IsMoveFault, is_of_begin};
 ghost use Rattle.port_model.specs.Counts.{CountRose};
 ghost use Rattle.vault_cli.specs.Faults.{of_journal, of_move};
@@ -40,9 +39,9 @@ pub(crate) fn read_passes<F: Folder>(
     passes: &Passes,
 ) -> Result<Phrases, Answer>
     ensures told { F.told folder.new ≡ F.told folder.old }
-    ensures source { IfOk result (λ phrases. (v : View) → IsSeen (F.told folder.old) v → IsPhrase (v passes.now.source) phrases.source) }
-    ensures target { IfOk result (λ phrases. (v : View) → IsSeen (F.told folder.old) v → IsPhrase (v passes.now.target) phrases.target) }
-    ensures refused { IfErr result (λ answer. (v : View) → IsSeen (F.told folder.old) v → FailPasses passes.now v answer) }
+    ensures source { IfOk result (λ phrases. IfSeen (F.told folder.old) (λ v. IsPhrase (v passes.now.source) phrases.source)) }
+    ensures target { IfOk result (λ phrases. IfSeen (F.told folder.old) (λ v. IsPhrase (v passes.now.target) phrases.target)) }
+    ensures refused { IfErr result (λ answer. IfSeen (F.told folder.old) (λ v. FailPasses passes.now v answer)) }
     ensures own { IfErr result (λ answer. IsTrue (is_of_opening answer)) }
     ensures grows { F.faults folder.old ≤ F.faults folder.new }
     ensures failed { result ≡ Err Answer.FolderFault → CountRose (F.faults folder.old) (F.faults folder.new) }
@@ -66,10 +65,10 @@ pub(crate) fn learn<F: Folder>(
     resuming: &Resuming,
 ) -> Result<Known, Answer>
     ensures told { F.told folder.new ≡ F.told folder.old }
-    ensures source { IfOk result (λ known. (v : View) → IsSeen (F.told folder.old) v → IsPhrase (v resuming.now.passes.source) known.phrases.source) }
-    ensures target { IfOk result (λ known. (v : View) → IsSeen (F.told folder.old) v → IsPhrase (v resuming.now.passes.target) known.phrases.target) }
-    ensures found { IfOk result (λ known. (v : View) → IsSeen (F.told folder.old) v → IsFoundJournal resuming.now.work v known.journal) }
-    ensures refused { IfErr result (λ answer. (v : View) → IsSeen (F.told folder.old) v → FailPasses resuming.now.passes v answer) }
+    ensures source { IfOk result (λ known. IfSeen (F.told folder.old) (λ v. IsPhrase (v resuming.now.passes.source) known.phrases.source)) }
+    ensures target { IfOk result (λ known. IfSeen (F.told folder.old) (λ v. IsPhrase (v resuming.now.passes.target) known.phrases.target)) }
+    ensures found { IfOk result (λ known. IfSeen (F.told folder.old) (λ v. IsFoundJournal resuming.now.work v known.journal)) }
+    ensures refused { IfErr result (λ answer. IfSeen (F.told folder.old) (λ v. FailPasses resuming.now.passes v answer)) }
     ensures own { IfErr result (λ answer. IsTrue (is_of_opening answer)) }
     ensures grows { F.faults folder.old ≤ F.faults folder.new }
     ensures failed { result ≡ Err Answer.FolderFault → CountRose (F.faults folder.old) (F.faults folder.new) }
@@ -86,7 +85,7 @@ fn find_journal<F: Folder>(
     work: &FPath,
 ) -> Result<Option<Journal>, Answer>
     ensures told { F.told folder.new ≡ F.told folder.old }
-    ensures found { IfOk result (λ found. (v : View) → IsSeen (F.told folder.old) v → IsFoundJournal work.now v found) }
+    ensures found { IfOk result (λ found. IfSeen (F.told folder.old) (λ v. IsFoundJournal work.now v found)) }
     ensures cut { IfErr result (λ answer. (answer ≡ Answer.FolderFault) ⊎ (answer ≡ Answer.OutOfMemory)) }
     ensures grows { F.faults folder.old ≤ F.faults folder.new }
     ensures failed { result ≡ Err Answer.FolderFault → CountRose (F.faults folder.old) (F.faults folder.new) }

@@ -1,6 +1,6 @@
 //! `resume`: goes on with a migration.
 ghost use Rattle.std.specs.Prelude.{◌≡◌, ◌⊎◌, ◌≤◌, Ok, Err, IfErr, IfOk, IsTrue};
-ghost use Rattle.folder_spec.specs.Seen.{IsSeen};
+ghost use Rattle.folder_spec.specs.Seen.{IfSeen, IsSeen};
 ghost use Rattle.folder_spec.specs.View.{View};
 ghost use Rattle.migrate_core.specs.Completing.{CanResume};
 ghost use Rattle.migrate_core.specs.Faults.{IsMoveFault};
@@ -52,11 +52,11 @@ fn go_on<F: Folder, R: Randoms>(
     random: &mut R,
 ) -> Result<Done, Answer>
     ensures resumed { IfOk result (λ done. HasResumed resuming.now done (F.told folder.old) (F.told folder.new)) }
-    ensures came { IfOk result (λ done. (v : View) → IsSeen (F.told folder.old) v → ComesTo resuming.now (λ outcome. outcome ≡ Ok done) (F.told folder.old) (F.told folder.new) (R.left random.old) (R.left random.new) v) }
-    ensures stopped { IfErr result (λ answer. (v : View) → IsSeen (F.told folder.old) v → MayCome resuming.now answer (F.told folder.old) (F.told folder.new) (R.left random.old) (R.left random.new) v) }
-    ensures keeps { (g : Migration) (v : View) → IsSeen (F.told folder.old) v → IsResumedFor g resuming.now v → KeepsAll g (F.told folder.old) (F.told folder.new) }
+    ensures came { IfOk result (λ done. IfSeen (F.told folder.old) (λ v. ComesTo resuming.now (λ outcome. outcome ≡ Ok done) (F.told folder.old) (F.told folder.new) (R.left random.old) (R.left random.new) v)) }
+    ensures stopped { IfErr result (λ answer. IfSeen (F.told folder.old) (λ v. MayCome resuming.now answer (F.told folder.old) (F.told folder.new) (R.left random.old) (R.left random.new) v)) }
+    ensures keeps { (g : Migration) → IfSeen (F.told folder.old) (λ v. IsResumedFor g resuming.now v → KeepsAll g (F.told folder.old) (F.told folder.new)) }
     ensures moves { (v : View) (journal : Journal) → IsSeen (F.told folder.old) v → IsJournal journal → StandsIn resuming.now.work journal v → MovesOnly resuming.now.work journal.target (F.told folder.old) (F.told folder.new) }
-    ensures completes { IfErr result (λ answer. (g : Migration) (v : View) → IsSeen (F.told folder.old) v → IsResumedFor g resuming.now v → CanResume g v → Completes answer) }
+    ensures completes { IfErr result (λ answer. (g : Migration) → IfSeen (F.told folder.old) (λ v. IsResumedFor g resuming.now v → CanResume g v → Completes answer)) }
     ensures own { IfErr result (λ answer. IsTrue (is_of_told_stop answer)) }
     ensures failed { result ≡ Err Answer.FolderFault → CountRose (F.faults folder.old) (F.faults folder.new) }
     ensures drawn { result ≡ Err Answer.RandomFault → CountRose (R.faults random.old) (R.faults random.new) }

@@ -1,7 +1,6 @@
 //! `retire`: removes the source of a finished migration.
 ghost use Rattle.std.specs.Prelude.{◌≡◌, ◌⊎◌, Ok, Err, IfErr, IfOk, IsTrue, string_bytes};
-ghost use Rattle.folder_spec.specs.Seen.{IsSeen};
-ghost use Rattle.folder_spec.specs.View.{View};
+ghost use Rattle.folder_spec.specs.Seen.{IfSeen};
 ghost use Rattle.port_model.specs.Counts.{CountRose};
 ghost use Rattle.retire_core.specs.Completing.{CanRetire};
 ghost use Rattle.retire_core.specs.Faults.{IsRetireFault};
@@ -46,10 +45,10 @@ pub(crate) fn retire<F: Folder, O: Sink>(
 // Reads the passphrases, and removes the source.
 fn remove<F: Folder>(alloc: Global, resuming: &Resuming, folder: &mut F) -> Result<Retired, Answer>
     ensures retired { IfOk result (λ retired. IsRetired resuming.now (F.told folder.old) (F.told folder.new) retired) }
-    ensures came { IfOk result (λ retired. (v : View) → IsSeen (F.told folder.old) v → ComesTo resuming.now (λ outcome. outcome ≡ Ok retired) (F.told folder.old) (F.told folder.new) v) }
-    ensures stopped { IfErr result (λ answer. (v : View) → IsSeen (F.told folder.old) v → MayCome resuming.now answer (F.told folder.old) (F.told folder.new) v) }
-    ensures keeps { (g : Migration) (v : View) → IsSeen (F.told folder.old) v → IsResumedFor g resuming.now v → KeepsAll g (F.told folder.old) (F.told folder.new) }
-    ensures completes { IfErr result (λ answer. (g : Migration) (v : View) → IsSeen (F.told folder.old) v → IsResumedFor g resuming.now v → CanRetire g v → Completes answer) }
+    ensures came { IfOk result (λ retired. IfSeen (F.told folder.old) (λ v. ComesTo resuming.now (λ outcome. outcome ≡ Ok retired) (F.told folder.old) (F.told folder.new) v)) }
+    ensures stopped { IfErr result (λ answer. IfSeen (F.told folder.old) (λ v. MayCome resuming.now answer (F.told folder.old) (F.told folder.new) v)) }
+    ensures keeps { (g : Migration) → IfSeen (F.told folder.old) (λ v. IsResumedFor g resuming.now v → KeepsAll g (F.told folder.old) (F.told folder.new)) }
+    ensures completes { IfErr result (λ answer. (g : Migration) → IfSeen (F.told folder.old) (λ v. IsResumedFor g resuming.now v → CanRetire g v → Completes answer)) }
     ensures own { IfErr result (λ answer. IsTrue (is_of_refusal answer)) }
     ensures failed { result ≡ Err Answer.FolderFault → CountRose (F.faults folder.old) (F.faults folder.new) }
 {

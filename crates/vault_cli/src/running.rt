@@ -4,8 +4,7 @@ ghost use Rattle.port_model.specs.Counts.{CountRose};
 ghost use Rattle.command_answers.specs.Answers.{status_of};
 ghost use Rattle.command_answers.specs.Messages.{IsReported, TakesText, line_of};
 ghost use Rattle.command_answers.specs.Rows.{may_end, may_end_told};
-ghost use Rattle.folder_spec.specs.Seen.{IsSeen};
-ghost use Rattle.folder_spec.specs.View.{View};
+ghost use Rattle.folder_spec.specs.Seen.{IfSeen};
 ghost use Rattle.command_words.specs.Commands.{command_of};
 ghost use Rattle.vault_cli.specs.Runs.{Executes, OwnsFolders};
 ghost use Rattle.command_opening.specs.World.{World};
@@ -51,7 +50,7 @@ pub fn run<F: Folder, R: Randoms, I: Source, O: Sink, E: Sink>(
 
     // The status is one that the command may end with, whatever was handed in; and one over a folder that tells its state, where it does.
     ensures row { IsTrue (may_end (command_of (map string_bytes words.now)) result) }
-    ensures told_row { (v : View) → IsSeen (F.told folder.old) v → OwnsFolders (command_of (map string_bytes words.now)) v → IsTrue (may_end_told (command_of (map string_bytes words.now)) result) }
+    ensures told_row { IfSeen (F.told folder.old) (λ v. OwnsFolders (command_of (map string_bytes words.now)) v → IsTrue (may_end_told (command_of (map string_bytes words.now)) result)) }
 
     // What was handed in is named only where its count of faults rose.
     ensures folder_fault { result ≡ 4 → CountRose (F.faults folder.old) (F.faults folder.new) }

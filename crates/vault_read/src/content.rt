@@ -3,7 +3,7 @@ ghost use Rattle.std.specs.Prelude.{◌≡◌, ◌≢◌, ◌≤◌, ℕ, List, 
 ghost use Rattle.std.specs.Io.KnownBytes.{Keeps};
 ghost use Rattle.port_model.specs.Counts.{CountRose};
 ghost use Rattle.folder_spec.specs.View.{View, FileOf};
-ghost use Rattle.folder_spec.specs.Seen.{IsSeen};
+ghost use Rattle.folder_spec.specs.Seen.{IfSeen, IsSeen};
 ghost use Rattle.vault_spec.specs.Vault.{format_of};
 ghost use Rattle.vault_read.specs.Finding.{Refuses};
 ghost use Rattle.vault_read.specs.Reading.{IsContentAt};
@@ -55,8 +55,8 @@ fn content_of<F: Folder>(
     path: &PlainPath,
 ) -> Result<FPath, FindFault>
     ensures told { F.told folder.new ≡ F.told folder.old }
-    ensures place { IfOk result (λ at. (v : View) → IsSeen (F.told folder.old) v → IsContentAt (format_of vault.now.vault) vault.now.root v path.now at) }
-    ensures fault { IfErr result (λ fault. (v : View) → IsSeen (F.told folder.old) v → Refuses vault.now.root (content_at (format_of vault.now.vault) vault.now.root v path.now) fault) }
+    ensures place { IfOk result (λ at. IfSeen (F.told folder.old) (λ v. IsContentAt (format_of vault.now.vault) vault.now.root v path.now at)) }
+    ensures fault { IfErr result (λ fault. IfSeen (F.told folder.old) (λ v. Refuses vault.now.root (content_at (format_of vault.now.vault) vault.now.root v path.now) fault)) }
     ensures grows { F.faults folder.old ≤ F.faults folder.new }
     ensures failed { result ≡ Err FindFault.Failed → CountRose (F.faults folder.old) (F.faults folder.new) }
 {
@@ -75,10 +75,10 @@ fn write_all<F: Folder, O: Sink>(
     chunk: &mut ChunkBuf,
     out: &mut O,
 ) -> Result<u64, CatFault>
-    requires file { (v : View) → IsSeen (F.told folder.old) v → IsBeingRead v reader.old.at reader.old.decoding }
+    requires file { IfSeen (F.told folder.old) (λ v. IsBeingRead v reader.old.at reader.old.decoding) }
     ensures told { F.told folder.new ≡ F.told folder.old }
-    ensures writes { (v : View) → IsSeen (F.told folder.old) v → (bytes : List ℕ) → v reader.old.at ≡ FileOf bytes
-        → Writes reader.old.at result (still reader.old.decoding bytes) (O.taken out.old) (O.taken out.new) }
+    ensures writes { IfSeen (F.told folder.old) (λ v. (bytes : List ℕ) → v reader.old.at ≡ FileOf bytes
+        → Writes reader.old.at result (still reader.old.decoding bytes) (O.taken out.old) (O.taken out.new)) }
     ensures read { (fault : FindFault) → result ≢ Err (CatFault.Find fault) }
     ensures fault { IfErr result (λ fault. IsCatFault fault) }
     ensures failed { result ≡ Err CatFault.Failed → CountRose (F.faults folder.old) (F.faults folder.new) }

@@ -1,8 +1,7 @@
 //! Looking for a plain path in a vault.
 ghost use Rattle.std.specs.Prelude.{◌≡◌, ◌≢◌, ◌≤◌, List, ℕ, [], ◌∷◌, ◌++◌, IfOk, IfErr, Ok, Err};
 ghost use Rattle.folder_spec.specs.Path.{Path};
-ghost use Rattle.folder_spec.specs.View.{View};
-ghost use Rattle.folder_spec.specs.Seen.{IsSeen, under};
+ghost use Rattle.folder_spec.specs.Seen.{IfSeen, under};
 ghost use Rattle.port_model.specs.Counts.{CountRose};
 ghost use Rattle.vault_spec.specs.Format.{Directory};
 ghost use Rattle.vault_spec.specs.Standing as stands;
@@ -56,8 +55,8 @@ pub fn find<F: Folder>(
     path: &PlainPath,
 ) -> Result<Place, FindFault>
     ensures told { F.told folder.new ≡ F.told folder.old }
-    ensures place { IfOk result (λ place. (v : View) → IsSeen (F.told folder.old) v → IsPlace vault.now.root (standing (format_of vault.now.vault) (under vault.now.root v) path.now) place) }
-    ensures fault { IfErr result (λ fault. (v : View) → IsSeen (F.told folder.old) v → Refuses vault.now.root (spec.find (format_of vault.now.vault) (under vault.now.root v) path.now) fault) }
+    ensures place { IfOk result (λ place. IfSeen (F.told folder.old) (λ v. IsPlace vault.now.root (standing (format_of vault.now.vault) (under vault.now.root v) path.now) place)) }
+    ensures fault { IfErr result (λ fault. IfSeen (F.told folder.old) (λ v. Refuses vault.now.root (spec.find (format_of vault.now.vault) (under vault.now.root v) path.now) fault)) }
     ensures grows { F.faults folder.old ≤ F.faults folder.new }
     ensures failed { result ≡ Err FindFault.Failed → CountRose (F.faults folder.old) (F.faults folder.new) }
 {
@@ -74,9 +73,9 @@ pub fn enter<F: Folder>(
     path: &PlainPath,
 ) -> Result<DirPlace, FindFault>
     ensures told { F.told folder.new ≡ F.told folder.old }
-    ensures place { IfOk result (λ place. (v : View) → IsSeen (F.told folder.old) v → IsDirPlace vault.now.root (format_of vault.now.vault) (under vault.now.root v) path.now place) }
+    ensures place { IfOk result (λ place. IfSeen (F.told folder.old) (λ v. IsDirPlace vault.now.root (format_of vault.now.vault) (under vault.now.root v) path.now place)) }
     ensures key { IfOk result (λ place. FitsKey vault.now.vault place.key) }
-    ensures fault { IfErr result (λ fault. (v : View) → IsSeen (F.told folder.old) v → Refuses vault.now.root (spec.enter (format_of vault.now.vault) (under vault.now.root v) path.now) fault) }
+    ensures fault { IfErr result (λ fault. IfSeen (F.told folder.old) (λ v. Refuses vault.now.root (spec.enter (format_of vault.now.vault) (under vault.now.root v) path.now) fault)) }
     ensures grows { F.faults folder.old ≤ F.faults folder.new }
     ensures failed { result ≡ Err FindFault.Failed → CountRose (F.faults folder.old) (F.faults folder.new) }
 {
@@ -92,9 +91,9 @@ pub(crate) fn enter_at<F: Folder>(
     path: &PlainPath,
 ) -> Result<Entered, FindFault>
     ensures told { F.told folder.new ≡ F.told folder.old }
-    ensures stands { IfOk result (λ entered. (v : View) → IsSeen (F.told folder.old) v → standing (format_of vault.now.vault) (under vault.now.root v) path.now ≡ stands.Dir entered.at (Ok entered.dir)) }
+    ensures stands { IfOk result (λ entered. IfSeen (F.told folder.old) (λ v. standing (format_of vault.now.vault) (under vault.now.root v) path.now ≡ stands.Dir entered.at (Ok entered.dir))) }
     ensures key { IfOk result (λ entered. FitsKey vault.now.vault entered.dir.key) }
-    ensures fault { IfErr result (λ fault. (v : View) → IsSeen (F.told folder.old) v → Refuses vault.now.root (spec.enter (format_of vault.now.vault) (under vault.now.root v) path.now) fault) }
+    ensures fault { IfErr result (λ fault. IfSeen (F.told folder.old) (λ v. Refuses vault.now.root (spec.enter (format_of vault.now.vault) (under vault.now.root v) path.now) fault)) }
     ensures grows { F.faults folder.old ≤ F.faults folder.new }
     ensures failed { result ≡ Err FindFault.Failed → CountRose (F.faults folder.old) (F.faults folder.new) }
 {
@@ -110,9 +109,9 @@ fn standing_found<F: Folder>(
     path: &PlainPath,
 ) -> Result<Standing, FindFault>
     ensures told { F.told folder.new ≡ F.told folder.old }
-    ensures stands { IfOk result (λ here. (v : View) → IsSeen (F.told folder.old) v → reached_from (format_of vault.now.vault) (under vault.now.root v) [] (root_of (format_of vault.now.vault) (under vault.now.root v)) path.now ≡ Ok (standing_of here)) }
+    ensures stands { IfOk result (λ here. IfSeen (F.told folder.old) (λ v. reached_from (format_of vault.now.vault) (under vault.now.root v) [] (root_of (format_of vault.now.vault) (under vault.now.root v)) path.now ≡ Ok (standing_of here))) }
     ensures fits { IfOk result (λ here. EntersFit vault.now.vault here) }
-    ensures fault { IfErr result (λ fault. (v : View) → IsSeen (F.told folder.old) v → Refuses vault.now.root (reached_from (format_of vault.now.vault) (under vault.now.root v) [] (root_of (format_of vault.now.vault) (under vault.now.root v)) path.now) fault) }
+    ensures fault { IfErr result (λ fault. IfSeen (F.told folder.old) (λ v. Refuses vault.now.root (reached_from (format_of vault.now.vault) (under vault.now.root v) [] (root_of (format_of vault.now.vault) (under vault.now.root v)) path.now) fault)) }
     ensures grows { F.faults folder.old ≤ F.faults folder.new }
     ensures failed { result ≡ Err FindFault.Failed → CountRose (F.faults folder.old) (F.faults folder.new) }
 {
@@ -137,9 +136,9 @@ fn step<F: Folder>(
 ) -> Result<Standing, FindFault>
     requires { EntersFit vault.now.vault here }
     ensures told { F.told folder.new ≡ F.told folder.old }
-    ensures stands { IfOk result (λ next. (v : View) → IsSeen (F.told folder.old) v → (rest : List (List ℕ)) → reached_from (format_of vault.now.vault) (under vault.now.root v) front.now (standing_of here) (name.now ∷ rest) ≡ reached_from (format_of vault.now.vault) (under vault.now.root v) (front.now ++ name.now ∷ []) (standing_of next) rest) }
+    ensures stands { IfOk result (λ next. IfSeen (F.told folder.old) (λ v. (rest : List (List ℕ)) → reached_from (format_of vault.now.vault) (under vault.now.root v) front.now (standing_of here) (name.now ∷ rest) ≡ reached_from (format_of vault.now.vault) (under vault.now.root v) (front.now ++ name.now ∷ []) (standing_of next) rest)) }
     ensures fits { IfOk result (λ next. EntersFit vault.now.vault next) }
-    ensures fault { IfErr result (λ fault. (v : View) → IsSeen (F.told folder.old) v → (rest : List (List ℕ)) → Refuses vault.now.root (reached_from (format_of vault.now.vault) (under vault.now.root v) front.now (standing_of here) (name.now ∷ rest)) fault) }
+    ensures fault { IfErr result (λ fault. IfSeen (F.told folder.old) (λ v. (rest : List (List ℕ)) → Refuses vault.now.root (reached_from (format_of vault.now.vault) (under vault.now.root v) front.now (standing_of here) (name.now ∷ rest)) fault)) }
     ensures grows { F.faults folder.old ≤ F.faults folder.new }
     ensures failed { result ≡ Err FindFault.Failed → CountRose (F.faults folder.old) (F.faults folder.new) }
 {

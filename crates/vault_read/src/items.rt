@@ -1,7 +1,7 @@
 //! What an entry of a vault is.
 ghost use Rattle.std.specs.Prelude.{◌≡◌, IfOk, if◌then◌else◌};
-ghost use Rattle.folder_spec.specs.View.{Found, View, kind_found};
-ghost use Rattle.folder_spec.specs.Seen.{IsSeen, under};
+ghost use Rattle.folder_spec.specs.View.{Found, kind_found};
+ghost use Rattle.folder_spec.specs.Seen.{IfSeen, under};
 ghost use Rattle.folder_model.specs.Answers.{CountsAbove};
 ghost use Rattle.vault_spec.specs.Vault.{format_of};
 ghost use Rattle.vault_spec.specs.Gocryptfs.{go_item};
@@ -46,7 +46,7 @@ pub fn item_at<F: Folder>(
     long: bool,
 ) -> Result<EntryItem, FolderFault>
     ensures told { F.told folder.new ≡ F.told folder.old }
-    ensures item { IfOk result (λ item. (v : View) → IsSeen (F.told folder.old) v → item_of item ≡ (format_of vault.now.vault).item long (under at.now (under vault.now.root v))) }
+    ensures item { IfOk result (λ item. IfSeen (F.told folder.old) (λ v. item_of item ≡ (format_of vault.now.vault).item long (under at.now (under vault.now.root v)))) }
     ensures counts { CountsAbove (F.faults folder.old) (F.faults folder.new) result }
 {
     match vault.kind() {
@@ -62,7 +62,7 @@ fn go_item_at<F: Folder>(
     at: &FPath,
 ) -> Result<EntryItem, FolderFault>
     ensures told { F.told folder.new ≡ F.told folder.old }
-    ensures item { IfOk result (λ item. (v : View) → IsSeen (F.told folder.old) v → item_of item ≡ go_item (under root.now v at.now)) }
+    ensures item { IfOk result (λ item. IfSeen (F.told folder.old) (λ v. item_of item ≡ go_item (under root.now v at.now))) }
     ensures counts { CountsAbove (F.faults folder.old) (F.faults folder.new) result }
 {
     Ok(go_item(kind_under(alloc, folder, root, at)?))
@@ -87,7 +87,7 @@ fn cm_item_at<F: Folder>(
     long: bool,
 ) -> Result<EntryItem, FolderFault>
     ensures told { F.told folder.new ≡ F.told folder.old }
-    ensures item { IfOk result (λ item. (v : View) → IsSeen (F.told folder.old) v → item_of item ≡ cm_item_of long (under at.now (under root.now v)) (under root.now v at.now)) }
+    ensures item { IfOk result (λ item. IfSeen (F.told folder.old) (λ v. item_of item ≡ cm_item_of long (under at.now (under root.now v)) (under root.now v at.now))) }
     ensures counts { CountsAbove (F.faults folder.old) (F.faults folder.new) result }
 {
     match kind_under(alloc, folder, root, at)? {
@@ -117,7 +117,7 @@ fn folder_item_at<F: Folder>(
     long: bool,
 ) -> Result<EntryItem, FolderFault>
     ensures told { F.told folder.new ≡ F.told folder.old }
-    ensures item { IfOk result (λ item. (v : View) → IsSeen (F.told folder.old) v → item_of item ≡ folder_item_in long (under at.now (under root.now v))) }
+    ensures item { IfOk result (λ item. IfSeen (F.told folder.old) (λ v. item_of item ≡ folder_item_in long (under at.now (under root.now v)))) }
     ensures counts { CountsAbove (F.faults folder.old) (F.faults folder.new) result }
 {
     let content = has_file(alloc, folder, root, at, CONTENT_FILE)?;
@@ -135,7 +135,7 @@ fn has_file<F: Folder>(
     name: &str,
 ) -> Result<bool, FolderFault>
     ensures told { F.told folder.new ≡ F.told folder.old }
-    ensures file { IfOk result (λ yes. (v : View) → IsSeen (F.told folder.old) v → yes ≡ has_file (under at.now (under root.now v)) name.now) }
+    ensures file { IfOk result (λ yes. IfSeen (F.told folder.old) (λ v. yes ≡ has_file (under at.now (under root.now v)) name.now)) }
     ensures counts { CountsAbove (F.faults folder.old) (F.faults folder.new) result }
 {
     let path = at.child(name)?;

@@ -2,8 +2,8 @@
 ghost use Rattle.std.specs.Prelude.{◌≡◌, ◌≤◌, ◌++◌, ℕ, List, Some, None, OnOk, IfOk, IfErr, IfSome, Ok, Err, IsTrue, is_some, length};
 ghost use Rattle.std.specs.Option.{option_to_list};
 ghost use Rattle.std.specs.Str.{IsUtf8};
-ghost use Rattle.folder_spec.specs.View.{View, Folder};
-ghost use Rattle.folder_spec.specs.Seen.{IsSeen, under};
+ghost use Rattle.folder_spec.specs.View.{Folder};
+ghost use Rattle.folder_spec.specs.Seen.{IfSeen, under};
 ghost use Rattle.folder_model.specs.Answers.{CountsAbove};
 ghost use Rattle.port_model.specs.Counts.{CountRose};
 ghost use Rattle.vault_spec.specs.Format.{Directory};
@@ -67,10 +67,10 @@ pub fn list<F: Folder>(
     path: &PlainPath,
 ) -> Result<Vec<Item>, FindFault>
     ensures told { F.told folder.new ≡ F.told folder.old }
-    ensures items { IfOk result (λ items. (v : View) → IsSeen (F.told folder.old) v → (dir : Directory)
+    ensures items { IfOk result (λ items. IfSeen (F.told folder.old) (λ v. (dir : Directory)
         × (spec.enter (format_of vault.now.vault) (under vault.now.root v) path.now ≡ Ok dir)
-        × AreListed (format_of vault.now.vault) (under vault.now.root v) dir items.items) }
-    ensures fault { IfErr result (λ fault. (v : View) → IsSeen (F.told folder.old) v → Refuses vault.now.root (spec.enter (format_of vault.now.vault) (under vault.now.root v) path.now) fault) }
+        × AreListed (format_of vault.now.vault) (under vault.now.root v) dir items.items)) }
+    ensures fault { IfErr result (λ fault. IfSeen (F.told folder.old) (λ v. Refuses vault.now.root (spec.enter (format_of vault.now.vault) (under vault.now.root v) path.now) fault)) }
     ensures grows { F.faults folder.old ≤ F.faults folder.new }
     ensures failed { result ≡ Err FindFault.Failed → CountRose (F.faults folder.old) (F.faults folder.new) }
 {
@@ -96,12 +96,12 @@ pub fn name_at<F: Folder>(
 ) -> Result<Option<NameAt>, FolderFault>
     requires { FitsKey vault.now.vault dir.now.key }
     ensures told { F.told folder.new ≡ F.told folder.old }
-    ensures name { IfOk result (λ found. IfSome found (λ at. (v : View) → IsSeen (F.told folder.old) v → IsEntryOf (format_of vault.now.vault) (under vault.now.root v) dir.now entry.now at.name)) }
-    ensures one { IfOk result (λ found. IfSome found (λ at. (v : View) → IsSeen (F.told folder.old) v → (name : List ℕ)
-        → IsEntryOf (format_of vault.now.vault) (under vault.now.root v) dir.now entry.now name → name ≡ at.name)) }
+    ensures name { IfOk result (λ found. IfSome found (λ at. IfSeen (F.told folder.old) (λ v. IsEntryOf (format_of vault.now.vault) (under vault.now.root v) dir.now entry.now at.name))) }
+    ensures one { IfOk result (λ found. IfSome found (λ at. IfSeen (F.told folder.old) (λ v. (name : List ℕ)
+        → IsEntryOf (format_of vault.now.vault) (under vault.now.root v) dir.now entry.now name → name ≡ at.name))) }
     ensures long { IfOk result (λ found. IfSome found (λ at. at.long ≡ is_some ((format_of vault.now.vault).stored dir.now.key at.name).full)) }
-    ensures none { IfOk result (λ found. found ≡ None → (v : View) → IsSeen (F.told folder.old) v → (name : List ℕ)
-        → ¬ IsEntryOf (format_of vault.now.vault) (under vault.now.root v) dir.now entry.now name) }
+    ensures none { IfOk result (λ found. found ≡ None → IfSeen (F.told folder.old) (λ v. (name : List ℕ)
+        → ¬ IsEntryOf (format_of vault.now.vault) (under vault.now.root v) dir.now entry.now name)) }
     ensures counts { CountsAbove (F.faults folder.old) (F.faults folder.new) result }
 {
     texts_tell_names(vault, dir.key.as_slice());
@@ -123,9 +123,9 @@ fn items_in<F: Folder>(
     dir: &Directory,
 ) -> Result<Vec<Item>, FolderFault>
     requires fits { FitsKey vault.now.vault dir.now.key }
-    requires folder { (v : View) → IsSeen (F.told folder.old) v → under vault.now.root v dir.now.folder ≡ Folder }
+    requires folder { IfSeen (F.told folder.old) (λ v. under vault.now.root v dir.now.folder ≡ Folder) }
     ensures told { F.told folder.new ≡ F.told folder.old }
-    ensures items { IfOk result (λ items. (v : View) → IsSeen (F.told folder.old) v → AreListed (format_of vault.now.vault) (under vault.now.root v) dir.now items.items) }
+    ensures items { IfOk result (λ items. IfSeen (F.told folder.old) (λ v. AreListed (format_of vault.now.vault) (under vault.now.root v) dir.now items.items)) }
     ensures counts { CountsAbove (F.faults folder.old) (F.faults folder.new) result }
 {
     texts_tell_names(vault, dir.key.as_slice());
@@ -154,7 +154,7 @@ fn items_of<F: Folder>(
     requires fits { FitsKey vault.now.vault dir.now.key }
     requires laws { TellsNames vault.now.vault dir.now.key }
     ensures told { F.told folder.new ≡ F.told folder.old }
-    ensures items { IfOk result (λ items. (v : View) → IsSeen (F.told folder.old) v → HasItems (format_of vault.now.vault) (under vault.now.root v) dir.now entries.now items.items) }
+    ensures items { IfOk result (λ items. IfSeen (F.told folder.old) (λ v. HasItems (format_of vault.now.vault) (under vault.now.root v) dir.now entries.now items.items)) }
     ensures counts { CountsAbove (F.faults folder.old) (F.faults folder.new) result }
 {
     let mut items = Vec::new(alloc);
@@ -186,7 +186,7 @@ fn entry_item<F: Folder>(
     requires fits { FitsKey vault.now.vault dir.now.key }
     requires laws { TellsNames vault.now.vault dir.now.key }
     ensures told { F.told folder.new ≡ F.told folder.old }
-    ensures item { IfOk result (λ found. (v : View) → IsSeen (F.told folder.old) v → IsItemOf (format_of vault.now.vault) (under vault.now.root v) dir.now entry.now found) }
+    ensures item { IfOk result (λ found. IfSeen (F.told folder.old) (λ v. IsItemOf (format_of vault.now.vault) (under vault.now.root v) dir.now entry.now found)) }
     ensures counts { CountsAbove (F.faults folder.old) (F.faults folder.new) result }
 {
     let long = is_long(vault.kind(), entry);
@@ -243,9 +243,9 @@ fn text_at<F: Folder>(
     long: bool,
 ) -> Result<Option<Text>, FolderFault>
     ensures told { F.told folder.new ≡ F.told folder.old }
-    ensures text { IfOk result (λ found. IfSome found (λ text. (v : View) → IsSeen (F.told folder.old) v → IsTextAt (format_of vault.now.vault) (under vault.now.root v) dir.now entry.now long text)) }
-    ensures none { IfOk result (λ found. found ≡ None → (v : View) → IsSeen (F.told folder.old) v → (text : List ℕ) → IsUtf8 text → length text ≤ 1024
-        → ¬ IsTextAt (format_of vault.now.vault) (under vault.now.root v) dir.now entry.now long text) }
+    ensures text { IfOk result (λ found. IfSome found (λ text. IfSeen (F.told folder.old) (λ v. IsTextAt (format_of vault.now.vault) (under vault.now.root v) dir.now entry.now long text))) }
+    ensures none { IfOk result (λ found. found ≡ None → IfSeen (F.told folder.old) (λ v. (text : List ℕ) → IsUtf8 text → length text ≤ 1024
+        → ¬ IsTextAt (format_of vault.now.vault) (under vault.now.root v) dir.now entry.now long text)) }
     ensures counts { CountsAbove (F.faults folder.old) (F.faults folder.new) result }
 {
     if !long {

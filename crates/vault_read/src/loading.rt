@@ -3,8 +3,7 @@ ghost use Rattle.std.specs.Prelude.{◌≡◌, ◌≢◌, ◌≤◌, ◌<◌, �
 ghost use Rattle.cryptomator_conf.specs.Keys.{AreKeys};
 ghost use Rattle.port_model.specs.Counts.{CountRose};
 ghost use Rattle.folder_spec.specs.Path.{Path, child};
-ghost use Rattle.folder_spec.specs.View.{View};
-ghost use Rattle.folder_spec.specs.Seen.{IsSeen, under};
+ghost use Rattle.folder_spec.specs.Seen.{IfSeen, under};
 ghost use Rattle.folder_model.specs.Answers.{CountsAbove};
 ghost use Rattle.vault_spec.specs.Format.{is_file};
 ghost use Rattle.vault_spec.specs.Vault.{LoadsGo, LoadsCm, LoadsBy, Loads, IsVault, TestsGo, TestsCm, UnlocksCm, go_conf, vault_file};
@@ -47,8 +46,8 @@ impl Vault {
     ) -> Result<Vault, LoadFault>
         ensures told { F.told folder.new ≡ F.told folder.old }
         ensures root { IfOk result (λ vault. vault.root ≡ root.now) }
-        ensures vault { IfOk result (λ vault. (v : View) → IsSeen (F.told folder.old) v → IsVault (under root.now v) pass.now vault.vault) }
-        ensures fault { IfErr result (λ fault. (v : View) → IsSeen (F.told folder.old) v → Refuses root.now (Loads (under root.now v) pass.now) fault) }
+        ensures vault { IfOk result (λ vault. IfSeen (F.told folder.old) (λ v. IsVault (under root.now v) pass.now vault.vault)) }
+        ensures fault { IfErr result (λ fault. IfSeen (F.told folder.old) (λ v. Refuses root.now (Loads (under root.now v) pass.now) fault)) }
         ensures grows { F.faults folder.old ≤ F.faults folder.new }
         ensures failed { result ≡ Err LoadFault.Failed → CountRose (F.faults folder.old) (F.faults folder.new) }
     {
@@ -65,8 +64,8 @@ fn load_keys<F: Folder>(
     pass: &[u8],
 ) -> Result<VaultKeys, LoadFault>
     ensures told { F.told folder.new ≡ F.told folder.old }
-    ensures keys { IfOk result (λ keys. (v : View) → IsSeen (F.told folder.old) v → IsVault (under root.now v) pass.now (vault_of keys)) }
-    ensures fault { IfErr result (λ fault. (v : View) → IsSeen (F.told folder.old) v → Refuses root.now (Loads (under root.now v) pass.now) fault) }
+    ensures keys { IfOk result (λ keys. IfSeen (F.told folder.old) (λ v. IsVault (under root.now v) pass.now (vault_of keys))) }
+    ensures fault { IfErr result (λ fault. IfSeen (F.told folder.old) (λ v. Refuses root.now (Loads (under root.now v) pass.now) fault)) }
     ensures grows { F.faults folder.old ≤ F.faults folder.new }
     ensures failed { result ≡ Err LoadFault.Failed → CountRose (F.faults folder.old) (F.faults folder.new) }
 {
@@ -86,8 +85,8 @@ fn load_from<F: Folder>(
     pass: &[u8],
 ) -> Result<VaultKeys, LoadFault>
     ensures told { F.told folder.new ≡ F.told folder.old }
-    ensures keys { IfOk result (λ keys. (v : View) → IsSeen (F.told folder.old) v → LoadsBy (v (root.now ++ go_conf)) (v (root.now ++ vault_file)) (under root.now v) pass.now (Ok (vault_of keys))) }
-    ensures fault { IfErr result (λ fault. (v : View) → IsSeen (F.told folder.old) v → Refuses root.now (LoadsBy (v (root.now ++ go_conf)) (v (root.now ++ vault_file)) (under root.now v) pass.now) fault) }
+    ensures keys { IfOk result (λ keys. IfSeen (F.told folder.old) (λ v. LoadsBy (v (root.now ++ go_conf)) (v (root.now ++ vault_file)) (under root.now v) pass.now (Ok (vault_of keys)))) }
+    ensures fault { IfErr result (λ fault. IfSeen (F.told folder.old) (λ v. Refuses root.now (LoadsBy (v (root.now ++ go_conf)) (v (root.now ++ vault_file)) (under root.now v) pass.now) fault)) }
     ensures grows { F.faults folder.old ≤ F.faults folder.new }
     ensures failed { result ≡ Err LoadFault.Failed → CountRose (F.faults folder.old) (F.faults folder.new) }
 {
@@ -100,7 +99,7 @@ fn load_from<F: Folder>(
 // The format whose configuration stands at a root.
 fn kind_of_root<F: Folder>(folder: &mut F, root: &FPath) -> Result<VaultKind, FolderFault>
     ensures told { F.told folder.new ≡ F.told folder.old }
-    ensures kind { IfOk result (λ kind. (v : View) → IsSeen (F.told folder.old) v → kind ≡ kind_by (is_file (v (root.now ++ go_conf))) (is_file (v (root.now ++ vault_file)))) }
+    ensures kind { IfOk result (λ kind. IfSeen (F.told folder.old) (λ v. kind ≡ kind_by (is_file (v (root.now ++ go_conf))) (is_file (v (root.now ++ vault_file))))) }
     ensures counts { CountsAbove (F.faults folder.old) (F.faults folder.new) result }
 {
     if is_file_below(folder, root, GO_CONF)? {
@@ -116,7 +115,7 @@ fn kind_of_root<F: Folder>(folder: &mut F, root: &FPath) -> Result<VaultKind, Fo
 // Whether a file of this name stands in a directory.
 fn is_file_below<F: Folder>(folder: &mut F, at: &FPath, name: &str) -> Result<bool, FolderFault>
     ensures told { F.told folder.new ≡ F.told folder.old }
-    ensures file { IfOk result (λ yes. (v : View) → IsSeen (F.told folder.old) v → yes ≡ is_file (v (child at.now name.now))) }
+    ensures file { IfOk result (λ yes. IfSeen (F.told folder.old) (λ v. yes ≡ is_file (v (child at.now name.now)))) }
     ensures counts { CountsAbove (F.faults folder.old) (F.faults folder.new) result }
 {
     let path = at.child(name)?;
@@ -130,8 +129,8 @@ fn load_go<F: Folder>(
     pass: &[u8],
 ) -> Result<VaultKeys, LoadFault>
     ensures told { F.told folder.new ≡ F.told folder.old }
-    ensures keys { IfOk result (λ keys. (v : View) → IsSeen (F.told folder.old) v → LoadsGo (under root.now v) pass.now (Ok (vault_of keys))) }
-    ensures fault { IfErr result (λ fault. (v : View) → IsSeen (F.told folder.old) v → Refuses root.now (LoadsGo (under root.now v) pass.now) fault) }
+    ensures keys { IfOk result (λ keys. IfSeen (F.told folder.old) (λ v. LoadsGo (under root.now v) pass.now (Ok (vault_of keys)))) }
+    ensures fault { IfErr result (λ fault. IfSeen (F.told folder.old) (λ v. Refuses root.now (LoadsGo (under root.now v) pass.now) fault)) }
     ensures grows { F.faults folder.old ≤ F.faults folder.new }
     ensures failed { result ≡ Err LoadFault.Failed → CountRose (F.faults folder.old) (F.faults folder.new) }
 {
@@ -146,8 +145,8 @@ fn load_cm<F: Folder>(
     pass: &[u8],
 ) -> Result<VaultKeys, LoadFault>
     ensures told { F.told folder.new ≡ F.told folder.old }
-    ensures keys { IfOk result (λ keys. (v : View) → IsSeen (F.told folder.old) v → LoadsCm (under root.now v) pass.now (Ok (vault_of keys))) }
-    ensures fault { IfErr result (λ fault. (v : View) → IsSeen (F.told folder.old) v → Refuses root.now (LoadsCm (under root.now v) pass.now) fault) }
+    ensures keys { IfOk result (λ keys. IfSeen (F.told folder.old) (λ v. LoadsCm (under root.now v) pass.now (Ok (vault_of keys)))) }
+    ensures fault { IfErr result (λ fault. IfSeen (F.told folder.old) (λ v. Refuses root.now (LoadsCm (under root.now v) pass.now) fault)) }
     ensures grows { F.faults folder.old ≤ F.faults folder.new }
     ensures failed { result ≡ Err LoadFault.Failed → CountRose (F.faults folder.old) (F.faults folder.new) }
 {
@@ -164,8 +163,8 @@ fn read_configuration<F: Folder>(
     name: &str,
 ) -> Result<Bytes, LoadFault>
     ensures told { F.told folder.new ≡ F.told folder.old }
-    ensures bytes { IfOk result (λ bytes. (v : View) → IsSeen (F.told folder.old) v → IsFileAt (v (child root.now name.now)) bytes) }
-    ensures fault { IfErr result (λ fault. (v : View) → IsSeen (F.told folder.old) v → Refuses root.now (LacksFile (name.now ∷ []) (v (child root.now name.now))) fault) }
+    ensures bytes { IfOk result (λ bytes. IfSeen (F.told folder.old) (λ v. IsFileAt (v (child root.now name.now)) bytes)) }
+    ensures fault { IfErr result (λ fault. IfSeen (F.told folder.old) (λ v. Refuses root.now (LacksFile (name.now ∷ []) (v (child root.now name.now))) fault)) }
     ensures grows { F.faults folder.old ≤ F.faults folder.new }
     ensures failed { result ≡ Err LoadFault.Failed → CountRose (F.faults folder.old) (F.faults folder.new) }
 {

@@ -1,7 +1,7 @@
 //! Looking at single paths of a folder.
 ghost use Rattle.std.specs.Prelude.{◌≡◌, ◌++◌, ◌<◌, map, string_bytes, IfOk, OnOk};
-ghost use Rattle.folder_spec.specs.View.{View, kind_found};
-ghost use Rattle.folder_spec.specs.Seen.{IsSeen, ShowsFile, under};
+ghost use Rattle.folder_spec.specs.View.{kind_found};
+ghost use Rattle.folder_spec.specs.Seen.{IfSeen, ShowsFile, under};
 ghost use Rattle.folder_model.specs.Answers.{CountsAbove};
 ghost use Rattle.vault_read.specs.Looking.{small_file};
 
@@ -48,7 +48,7 @@ pub fn kind_under<F: Folder>(
     rest: &FPath,
 ) -> Result<Kind, FolderFault>
     ensures told { F.told folder.new ≡ F.told folder.old }
-    ensures kind { IfOk result (λ kind. (v : View) → IsSeen (F.told folder.old) v → kind ≡ kind_found (under root.now v rest.now)) }
+    ensures kind { IfOk result (λ kind. IfSeen (F.told folder.old) (λ v. kind ≡ kind_found (under root.now v rest.now))) }
     ensures counts { CountsAbove (F.faults folder.old) (F.faults folder.new) result }
 {
     let at = joined(alloc, root, rest)?;
@@ -65,7 +65,7 @@ pub(crate) fn read_under<F: Folder>(
 ) -> Result<SmallFile, FolderFault>
     requires { limit < 18446744073709551615 }
     ensures told { F.told folder.new ≡ F.told folder.old }
-    ensures file { IfOk result (λ file. (v : View) → IsSeen (F.told folder.old) v → file ≡ small_file limit (under root.now v rest.now)) }
+    ensures file { IfOk result (λ file. IfSeen (F.told folder.old) (λ v. file ≡ small_file limit (under root.now v rest.now))) }
     ensures counts { CountsAbove (F.faults folder.old) (F.faults folder.new) result }
 {
     let at = joined(alloc, root, rest)?;
@@ -81,7 +81,7 @@ pub fn read_small<F: Folder>(
 ) -> Result<SmallFile, FolderFault>
     requires { limit < 18446744073709551615 }
     ensures told { F.told folder.new ≡ F.told folder.old }
-    ensures file { IfOk result (λ file. (v : View) → IsSeen (F.told folder.old) v → file ≡ small_file limit (v at.now)) }
+    ensures file { IfOk result (λ file. IfSeen (F.told folder.old) (λ v. file ≡ small_file limit (v at.now))) }
     ensures counts { CountsAbove (F.faults folder.old) (F.faults folder.new) result }
 {
     match folder.kind(at)? {
@@ -100,9 +100,9 @@ fn read_file<F: Folder>(
     limit: usize,
 ) -> Result<SmallFile, FolderFault>
     requires limit { limit < 18446744073709551615 }
-    requires file { (v : View) → IsSeen (F.told folder.old) v → ShowsFile v at.now }
+    requires file { IfSeen (F.told folder.old) (λ v. ShowsFile v at.now) }
     ensures told { F.told folder.new ≡ F.told folder.old }
-    ensures file { IfOk result (λ file. (v : View) → IsSeen (F.told folder.old) v → file ≡ small_file limit (v at.now)) }
+    ensures file { IfOk result (λ file. IfSeen (F.told folder.old) (λ v. file ≡ small_file limit (v at.now))) }
     ensures counts { CountsAbove (F.faults folder.old) (F.faults folder.new) result }
 {
     let mut bytes = vec![in alloc; 0u8; limit + 1]?;

@@ -2,8 +2,8 @@
 ghost use Rattle.std.specs.Prelude.{◌≡◌, ◌+◌, ◌≤◌, ◌<◌, ℕ, List, IfOk, IfErr, OnOk, OnErr, Ok, Err, true, false, length};
 ghost use Rattle.port_model.specs.Counts.{CountRose};
 ghost use Rattle.chunk_files.specs.Decoding.{started, IsPlaced};
-ghost use Rattle.folder_spec.specs.View.{View, FileOf};
-ghost use Rattle.folder_spec.specs.Seen.{IsSeen, ShowsFile};
+ghost use Rattle.folder_spec.specs.View.{FileOf};
+ghost use Rattle.folder_spec.specs.Seen.{IfSeen, ShowsFile};
 ghost use Rattle.folder_model.specs.Answers.{CountsAbove};
 ghost use Rattle.vault_spec.specs.Vault.{format_of};
 ghost use Rattle.vault_read.specs.Contents.{content_limit, limited_reading, Suits, IsBeingRead, still, Gives, IsReaderFault};
@@ -66,13 +66,13 @@ impl ContentReader {
     ///
     /// The file has to stay as it is while it is read.
     pub fn next<F: Folder>(&mut self, folder: &mut F, out: &mut ChunkBuf) -> Result<usize, CatFault>
-        requires { (v : View) → IsSeen (F.told folder.old) v → IsBeingRead v self.old.at self.old.decoding }
+        requires { IfSeen (F.told folder.old) (λ v. IsBeingRead v self.old.at self.old.decoding) }
         ensures told { F.told folder.new ≡ F.told folder.old }
         ensures at { self.new.at ≡ self.old.at }
         ensures keys { self.new.decoding.keys ≡ self.old.decoding.keys }
-        ensures suits { (v : View) → IsSeen (F.told folder.old) v → IsBeingRead v self.new.at self.new.decoding }
-        ensures gives { (v : View) → IsSeen (F.told folder.old) v → (bytes : List ℕ) → v self.old.at ≡ FileOf bytes
-            → Gives self.old.at result out.new (still self.old.decoding bytes) (still self.new.decoding bytes) }
+        ensures suits { IfSeen (F.told folder.old) (λ v. IsBeingRead v self.new.at self.new.decoding) }
+        ensures gives { IfSeen (F.told folder.old) (λ v. (bytes : List ℕ) → v self.old.at ≡ FileOf bytes
+            → Gives self.old.at result out.new (still self.old.decoding bytes) (still self.new.decoding bytes)) }
         ensures size { IfOk result (λ n. n ≤ length out.new) }
         ensures number { IfOk result (λ n. 0 < n → self.old.decoding.number < self.new.decoding.number) }
         ensures few { self.new.decoding.number ≤ content_limit }
@@ -108,12 +108,12 @@ fn next_given<F: Folder>(
     out: &mut ChunkBuf,
 ) -> Result<Given, FolderFault>
     requires in_step { IsInStep taken.old decoder.old }
-    requires file { (v : View) → IsSeen (F.told folder.old) v → IsBeingRead v at.now decoder.old }
+    requires file { IfSeen (F.told folder.old) (λ v. IsBeingRead v at.now decoder.old) }
     ensures told { F.told folder.new ≡ F.told folder.old }
     ensures in_step { IsInStep taken.new decoder.new }
     ensures keys { decoder.new.keys ≡ decoder.old.keys }
-    ensures gives { (v : View) → IsSeen (F.told folder.old) v → (bytes : List ℕ) → v at.now ≡ FileOf bytes → Suits decoder.old bytes
-        → GivesGiven bytes result out.new decoder.old decoder.new }
+    ensures gives { IfSeen (F.told folder.old) (λ v. (bytes : List ℕ) → v at.now ≡ FileOf bytes → Suits decoder.old bytes
+        → GivesGiven bytes result out.new decoder.old decoder.new) }
     ensures size { (n : ℕ) → result ≡ Ok (Given.Bytes n) → (0 < n) × (n ≤ length out.new) × (decoder.old.number < decoder.new.number) }
     ensures placed { IsPlaced decoder.new }
     ensures counts { CountsAbove (F.faults folder.old) (F.faults folder.new) result }
@@ -144,13 +144,13 @@ fn read_on<F: Folder>(
     requires open { decoder.old.ended ≡ false }
     requires room { length decoder.old.held < 32816 }
     requires in_step { IsInStep taken.old decoder.old }
-    requires file { (v : View) → IsSeen (F.told folder.old) v → ShowsFile v at.now }
+    requires file { IfSeen (F.told folder.old) (λ v. ShowsFile v at.now) }
     ensures told { F.told folder.new ≡ F.told folder.old }
     ensures in_step { IsInStep taken.new decoder.new }
-    ensures reads { (v : View) → IsSeen (F.told folder.old) v → (bytes : List ℕ) → v at.now ≡ FileOf bytes → Suits decoder.old bytes → FeedsOn bytes decoder.old decoder.new }
+    ensures reads { IfSeen (F.told folder.old) (λ v. (bytes : List ℕ) → v at.now ≡ FileOf bytes → Suits decoder.old bytes → FeedsOn bytes decoder.old decoder.new) }
     ensures goes_on { result ≡ Ok true → GoesOn decoder.old decoder.new }
     ensures past { result ≡ Ok false → (decoder.new ≡ decoder.old) × (decoder.old.taken ≡ content_limit)
-        × ((v : View) → IsSeen (F.told folder.old) v → (bytes : List ℕ) → v at.now ≡ FileOf bytes → content_limit < length bytes) }
+        × (IfSeen (F.told folder.old) (λ v. (bytes : List ℕ) → v at.now ≡ FileOf bytes → content_limit < length bytes)) }
     ensures fault { OnErr result (decoder.new ≡ decoder.old) }
     ensures number { decoder.new.number ≡ decoder.old.number }
     ensures keys { decoder.new.keys ≡ decoder.old.keys }
@@ -176,13 +176,13 @@ fn has_ended<F: Folder>(
     requires open { decoder.old.ended ≡ false }
     requires taken { taken ≡ decoder.old.taken }
     requires all { taken ≡ content_limit }
-    requires file { (v : View) → IsSeen (F.told folder.old) v → ShowsFile v at.now }
+    requires file { IfSeen (F.told folder.old) (λ v. ShowsFile v at.now) }
     ensures told { F.told folder.new ≡ F.told folder.old }
     ensures taken { decoder.new.taken ≡ decoder.old.taken }
-    ensures reads { (v : View) → IsSeen (F.told folder.old) v → (bytes : List ℕ) → v at.now ≡ FileOf bytes → Suits decoder.old bytes → FeedsOn bytes decoder.old decoder.new }
+    ensures reads { IfSeen (F.told folder.old) (λ v. (bytes : List ℕ) → v at.now ≡ FileOf bytes → Suits decoder.old bytes → FeedsOn bytes decoder.old decoder.new) }
     ensures goes_on { result ≡ Ok true → GoesOn decoder.old decoder.new }
     ensures past { result ≡ Ok false → (decoder.new ≡ decoder.old)
-        × ((v : View) → IsSeen (F.told folder.old) v → (bytes : List ℕ) → v at.now ≡ FileOf bytes → content_limit < length bytes) }
+        × (IfSeen (F.told folder.old) (λ v. (bytes : List ℕ) → v at.now ≡ FileOf bytes → content_limit < length bytes)) }
     ensures fault { OnErr result (decoder.new ≡ decoder.old) }
     ensures number { decoder.new.number ≡ decoder.old.number }
     ensures keys { decoder.new.keys ≡ decoder.old.keys }
@@ -209,10 +209,10 @@ fn read_piece<F: Folder>(
     requires some { 0 < length piece.old }
     requires taken { taken.old ≡ decoder.old.taken }
     requires within { taken.old + length piece.old ≤ content_limit }
-    requires file { (v : View) → IsSeen (F.told folder.old) v → ShowsFile v at.now }
+    requires file { IfSeen (F.told folder.old) (λ v. ShowsFile v at.now) }
     ensures told { F.told folder.new ≡ F.told folder.old }
     ensures in_step { IsInStep taken.new decoder.new }
-    ensures reads { (v : View) → IsSeen (F.told folder.old) v → (bytes : List ℕ) → v at.now ≡ FileOf bytes → Suits decoder.old bytes → FeedsOn bytes decoder.old decoder.new }
+    ensures reads { IfSeen (F.told folder.old) (λ v. (bytes : List ℕ) → v at.now ≡ FileOf bytes → Suits decoder.old bytes → FeedsOn bytes decoder.old decoder.new) }
     ensures goes_on { OnOk result (GoesOn decoder.old decoder.new) }
     ensures fault { OnErr result (decoder.new ≡ decoder.old) }
     ensures number { decoder.new.number ≡ decoder.old.number }

@@ -1,7 +1,6 @@
 //! What stands under a name in a directory of a vault. Paths begin at the vault's root.
 ghost use Rattle.std.specs.Prelude.{◌≡◌, ◌++◌, Some, IfOk, IfSome};
-ghost use Rattle.folder_spec.specs.View.{View};
-ghost use Rattle.folder_spec.specs.Seen.{IsSeen, under};
+ghost use Rattle.folder_spec.specs.Seen.{IfSeen, under};
 ghost use Rattle.folder_model.specs.Answers.{CountsAbove};
 ghost use Rattle.vault_spec.specs.Format.{key_of};
 ghost use Rattle.vault_spec.specs.Standing.{directory_with, holds, holds_full, root_of, standing_in};
@@ -60,7 +59,7 @@ pub fn root_standing<F: Folder>(
     vault: &Vault,
 ) -> Result<Standing, FolderFault>
     ensures told { F.told folder.new ≡ F.told folder.old }
-    ensures stands { IfOk result (λ here. (v : View) → IsSeen (F.told folder.old) v → standing_of here ≡ root_of (format_of vault.now.vault) (under vault.now.root v)) }
+    ensures stands { IfOk result (λ here. IfSeen (F.told folder.old) (λ v. standing_of here ≡ root_of (format_of vault.now.vault) (under vault.now.root v))) }
     ensures fits { IfOk result (λ here. EntersFit vault.now.vault here) }
     ensures counts { CountsAbove (F.faults folder.old) (F.faults folder.new) result }
 {
@@ -81,7 +80,7 @@ pub(crate) fn standing_in<F: Folder>(
 ) -> Result<Standing, FolderFault>
     requires { FitsKey vault.now.vault dir.now.key }
     ensures told { F.told folder.new ≡ F.told folder.old }
-    ensures stands { IfOk result (λ here. (v : View) → IsSeen (F.told folder.old) v → standing_of here ≡ standing_in (format_of vault.now.vault) (under vault.now.root v) dir.now name.now) }
+    ensures stands { IfOk result (λ here. IfSeen (F.told folder.old) (λ v. standing_of here ≡ standing_in (format_of vault.now.vault) (under vault.now.root v) dir.now name.now)) }
     ensures fits { IfOk result (λ here. EntersFit vault.now.vault here) }
     ensures counts { CountsAbove (F.faults folder.old) (F.faults folder.new) result }
 {
@@ -100,7 +99,7 @@ fn standing_at<F: Folder>(
     stored: &Stored,
 ) -> Result<Standing, FolderFault>
     ensures told { F.told folder.new ≡ F.told folder.old }
-    ensures stands { IfOk result (λ here. (v : View) → IsSeen (F.told folder.old) v → standing_of here ≡ standing_at (format_of vault.now.vault) (under vault.now.root v) dir.now stored.now) }
+    ensures stands { IfOk result (λ here. IfSeen (F.told folder.old) (λ v. standing_of here ≡ standing_at (format_of vault.now.vault) (under vault.now.root v) dir.now stored.now)) }
     ensures fits { IfOk result (λ here. EntersFit vault.now.vault here) }
     ensures counts { CountsAbove (F.faults folder.old) (F.faults folder.new) result }
 {
@@ -120,7 +119,7 @@ fn standing_of<F: Folder>(
     item: EntryItem,
 ) -> Result<Standing, FolderFault>
     ensures told { F.told folder.new ≡ F.told folder.old }
-    ensures stands { IfOk result (λ here. (v : View) → IsSeen (F.told folder.old) v → standing_of here ≡ stands.standing_of (format_of vault.now.vault) (under vault.now.root v) at named (item_of item)) }
+    ensures stands { IfOk result (λ here. IfSeen (F.told folder.old) (λ v. standing_of here ≡ stands.standing_of (format_of vault.now.vault) (under vault.now.root v) at named (item_of item))) }
     ensures fits { IfOk result (λ here. EntersFit vault.now.vault here) }
     ensures counts { CountsAbove (F.faults folder.old) (F.faults folder.new) result }
 {
@@ -141,7 +140,7 @@ fn directory_at<F: Folder>(
     at: FPath,
 ) -> Result<Standing, FolderFault>
     ensures told { F.told folder.new ≡ F.told folder.old }
-    ensures stands { IfOk result (λ here. (v : View) → IsSeen (F.told folder.old) v → standing_of here ≡ stands.Dir at (directory_with (format_of vault.now.vault) (under vault.now.root v) at (key_of (format_of vault.now.vault) (under at (under vault.now.root v))))) }
+    ensures stands { IfOk result (λ here. IfSeen (F.told folder.old) (λ v. standing_of here ≡ stands.Dir at (directory_with (format_of vault.now.vault) (under vault.now.root v) at (key_of (format_of vault.now.vault) (under at (under vault.now.root v)))))) }
     ensures fits { IfOk result (λ here. EntersFit vault.now.vault here) }
     ensures counts { CountsAbove (F.faults folder.old) (F.faults folder.new) result }
 {
@@ -160,7 +159,7 @@ fn directory_with<F: Folder>(
 ) -> Result<Result<Directory, Lack>, FolderFault>
     requires { IfSome key (λ bytes. FitsKey vault.now.vault bytes) }
     ensures told { F.told folder.new ≡ F.told folder.old }
-    ensures directory { IfOk result (λ directory. (v : View) → IsSeen (F.told folder.old) v → directory ≡ directory_with (format_of vault.now.vault) (under vault.now.root v) at.now key) }
+    ensures directory { IfOk result (λ directory. IfSeen (F.told folder.old) (λ v. directory ≡ directory_with (format_of vault.now.vault) (under vault.now.root v) at.now key)) }
     ensures fits { IfOk result (λ directory. FitsDirectory vault.now.vault directory) }
     ensures counts { CountsAbove (F.faults folder.old) (F.faults folder.new) result }
 {
@@ -181,7 +180,7 @@ fn root_key<F: Folder>(
     vault: &Vault,
 ) -> Result<Option<Bytes>, FolderFault>
     ensures told { F.told folder.new ≡ F.told folder.old }
-    ensures key { IfOk result (λ key. (v : View) → IsSeen (F.told folder.old) v → key ≡ (format_of vault.now.vault).root_key (under vault.now.root v)) }
+    ensures key { IfOk result (λ key. IfSeen (F.told folder.old) (λ v. key ≡ (format_of vault.now.vault).root_key (under vault.now.root v))) }
     ensures fits { IfOk result (λ key. IfSome key (λ bytes. FitsKey vault.now.vault bytes)) }
     ensures counts { CountsAbove (F.faults folder.old) (F.faults folder.new) result }
 {
@@ -199,7 +198,7 @@ pub fn key_at<F: Folder>(
     at: &FPath,
 ) -> Result<Option<Bytes>, FolderFault>
     ensures told { F.told folder.new ≡ F.told folder.old }
-    ensures key { IfOk result (λ key. (v : View) → IsSeen (F.told folder.old) v → key ≡ key_of (format_of vault.now.vault) (under at.now (under vault.now.root v))) }
+    ensures key { IfOk result (λ key. IfSeen (F.told folder.old) (λ v. key ≡ key_of (format_of vault.now.vault) (under at.now (under vault.now.root v)))) }
     ensures fits { IfOk result (λ key. IfSome key (λ bytes. FitsKey vault.now.vault bytes)) }
     ensures counts { CountsAbove (F.faults folder.old) (F.faults folder.new) result }
 {
@@ -268,7 +267,7 @@ fn holds_full<F: Folder>(
     stored: &Stored,
 ) -> Result<bool, FolderFault>
     ensures told { F.told folder.new ≡ F.told folder.old }
-    ensures holds { IfOk result (λ yes. (v : View) → IsSeen (F.told folder.old) v → yes ≡ holds_full (format_of vault.now.vault) (under vault.now.root v) dir.now stored.now) }
+    ensures holds { IfOk result (λ yes. IfSeen (F.told folder.old) (λ v. yes ≡ holds_full (format_of vault.now.vault) (under vault.now.root v) dir.now stored.now)) }
     ensures counts { CountsAbove (F.faults folder.old) (F.faults folder.new) result }
 {
     let Some(text) = &stored.full else {
@@ -287,7 +286,7 @@ fn holds_text<F: Folder>(
     text: &str,
 ) -> Result<bool, FolderFault>
     ensures told { F.told folder.new ≡ F.told folder.old }
-    ensures holds { IfOk result (λ yes. (v : View) → IsSeen (F.told folder.old) v → yes ≡ holds (under root.now v) at.now (Some text.now)) }
+    ensures holds { IfOk result (λ yes. IfSeen (F.told folder.old) (λ v. yes ≡ holds (under root.now v) at.now (Some text.now))) }
     ensures counts { CountsAbove (F.faults folder.old) (F.faults folder.new) result }
 {
     let file = read_under(alloc, folder, root, at, text.len())?;

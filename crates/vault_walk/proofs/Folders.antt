@@ -3,7 +3,7 @@ use Rattle.std.proofs.Common.{◌≡◌, ◌≢◌, ◌++◌, ◌∷◌, [], ℕ
 use Rattle.folder_spec.specs.Event.{Told}
 use Rattle.folder_spec.specs.Listing.{Item, IsListing}
 use Rattle.folder_spec.specs.Path.{Path, child}
-use Rattle.folder_spec.specs.Seen.{IsSeen, under}
+use Rattle.folder_spec.specs.Seen.{IfSeen, under}
 use Rattle.folder_spec.specs.State.{IsSound, present}
 use Rattle.folder_spec.specs.declared.Spot.{Spot}
 use Rattle.folder_spec.specs.declared.Spot.TheVariants.{Nothing, Directory}
@@ -20,7 +20,7 @@ none_of_spot : (bytes : ℕ → List ℕ) (x : Spot) → found bytes x ≢ NoEnt
 none_of_spot bytes x there e = there (ap (found bytes) e)
 
 -- in what a folder shows, whatever stands has a folder above it
-pub seen_folders : (told : Option Told) → ((a : Told) → told ≡ Some a → IsSound a.state) → (v : View) → IsSeen told v → HasFolders v
+pub seen_folders : (told : Option Told) → ((a : Told) → told ≡ Some a → IsSound a.state) → IfSeen told (λ v. HasFolders v)
 seen_folders None sound v is p a there = absurd is
 seen_folders (Some a) sound v is p b there =
     let s = a.state in

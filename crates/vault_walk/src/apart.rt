@@ -3,7 +3,7 @@ ghost use Rattle.std.specs.Prelude.{◌≡◌, ◌++◌, Contains, IfOk, OnOk};
 ghost use Rattle.std.specs.List.{list_any};
 ghost use Rattle.folder_spec.specs.Listing.{IsListing};
 ghost use Rattle.folder_spec.specs.Path.{Path, child};
-ghost use Rattle.folder_spec.specs.Seen.{IsSeen, under};
+ghost use Rattle.folder_spec.specs.Seen.{IfSeen, under};
 ghost use Rattle.folder_spec.specs.View as view;
 ghost use Rattle.folder_spec.specs.View.{View, kind_found};
 ghost use Rattle.folder_model.specs.Answers.{CountsAbove};
@@ -46,8 +46,8 @@ pub(crate) fn found_apart<F: Folder>(
     reached: &BTreeSet<FPath>,
 ) -> Result<Vec<Found>, FolderFault>
     ensures told { F.told folder.new ≡ F.told folder.old }
-    ensures found { IfOk result (λ found. (v : View) → IsSeen (F.told folder.old) v → AreReachedFolders (format_of vault.now.vault) (under vault.now.root v) reached.now
-        → AreFoundApart (format_of vault.now.vault) (under vault.now.root v) found.items) }
+    ensures found { IfOk result (λ found. IfSeen (F.told folder.old) (λ v. AreReachedFolders (format_of vault.now.vault) (under vault.now.root v) reached.now
+        → AreFoundApart (format_of vault.now.vault) (under vault.now.root v) found.items)) }
     ensures counts { CountsAbove (F.faults folder.old) (F.faults folder.new) result }
 {
     match vault.kind() {
@@ -67,8 +67,8 @@ fn places_of<F: Folder>(
     vault: &Vault,
 ) -> Result<Vec<Place>, FolderFault>
     ensures told { F.told folder.new ≡ F.told folder.old }
-    ensures roles { IfOk result (λ places. (v : View) → IsSeen (F.told folder.old) v → HaveRoles (under vault.now.root v) places.items) }
-    ensures all { IfOk result (λ places. (v : View) → IsSeen (F.told folder.old) v → HoldRoles (under vault.now.root v) places.items) }
+    ensures roles { IfOk result (λ places. IfSeen (F.told folder.old) (λ v. HaveRoles (under vault.now.root v) places.items)) }
+    ensures all { IfOk result (λ places. IfSeen (F.told folder.old) (λ v. HoldRoles (under vault.now.root v) places.items)) }
     ensures counts { CountsAbove (F.faults folder.old) (F.faults folder.new) result }
 {
     let root = FPath::base(alloc);
@@ -90,8 +90,8 @@ fn places_in<F: Folder>(
     at: &FPath,
 ) -> Result<Vec<Place>, FolderFault>
     ensures told { F.told folder.new ≡ F.told folder.old }
-    ensures roles { IfOk result (λ places. (v : View) → IsSeen (F.told folder.old) v → IsLevelAt level at.now → HaveRoles (under vault.now.root v) places.items) }
-    ensures all { IfOk result (λ places. (v : View) → IsSeen (F.told folder.old) v → HoldAll (under vault.now.root v) at.now places.items) }
+    ensures roles { IfOk result (λ places. IfSeen (F.told folder.old) (λ v. IsLevelAt level at.now → HaveRoles (under vault.now.root v) places.items)) }
+    ensures all { IfOk result (λ places. IfSeen (F.told folder.old) (λ v. HoldAll (under vault.now.root v) at.now places.items)) }
     ensures counts { CountsAbove (F.faults folder.old) (F.faults folder.new) result }
 {
     let entries = entries_at(alloc, folder, vault.root(), at)?;
@@ -148,8 +148,8 @@ fn in_shelves<F: Folder>(
     tops: &[Place],
 ) -> Result<Vec<Place>, FolderFault>
     ensures told { F.told folder.new ≡ F.told folder.old }
-    ensures roles { IfOk result (λ places. (v : View) → IsSeen (F.told folder.old) v → HaveRoles (under vault.now.root v) tops.now → HaveRoles (under vault.now.root v) places.items) }
-    ensures all { IfOk result (λ places. (v : View) → IsSeen (F.told folder.old) v → HoldInShelves (under vault.now.root v) tops.now places.items) }
+    ensures roles { IfOk result (λ places. IfSeen (F.told folder.old) (λ v. HaveRoles (under vault.now.root v) tops.now → HaveRoles (under vault.now.root v) places.items)) }
+    ensures all { IfOk result (λ places. IfSeen (F.told folder.old) (λ v. HoldInShelves (under vault.now.root v) tops.now places.items)) }
     ensures counts { CountsAbove (F.faults folder.old) (F.faults folder.new) result }
 {
     let mut places = Vec::new(alloc);
@@ -168,8 +168,8 @@ fn in_shelf<F: Folder>(
     shelf: &Place,
 ) -> Result<Vec<Place>, FolderFault>
     ensures told { F.told folder.new ≡ F.told folder.old }
-    ensures roles { IfOk result (λ places. (v : View) → IsSeen (F.told folder.old) v → role_of shelf.now.role ≡ cm_role shelf.now.at (under vault.now.root v shelf.now.at) → HaveRoles (under vault.now.root v) places.items) }
-    ensures all { IfOk result (λ places. (v : View) → IsSeen (F.told folder.old) v → shelf.now.role ≡ Role.Shelf → HoldAll (under vault.now.root v) shelf.now.at places.items) }
+    ensures roles { IfOk result (λ places. IfSeen (F.told folder.old) (λ v. role_of shelf.now.role ≡ cm_role shelf.now.at (under vault.now.root v shelf.now.at) → HaveRoles (under vault.now.root v) places.items)) }
+    ensures all { IfOk result (λ places. IfSeen (F.told folder.old) (λ v. shelf.now.role ≡ Role.Shelf → HoldAll (under vault.now.root v) shelf.now.at places.items)) }
     ensures counts { CountsAbove (F.faults folder.old) (F.faults folder.new) result }
 {
     match shelf.role {
@@ -190,9 +190,9 @@ fn found_of<F: Folder>(
     places: &[Place],
 ) -> Result<Vec<Found>, FolderFault>
     ensures told { F.told folder.new ≡ F.told folder.old }
-    ensures found { IfOk result (λ found. (v : View) → IsSeen (F.told folder.old) v → AreReachedFolders (format_of vault.now.vault) (under vault.now.root v) reached.now
+    ensures found { IfOk result (λ found. IfSeen (F.told folder.old) (λ v. AreReachedFolders (format_of vault.now.vault) (under vault.now.root v) reached.now
         → ((place : Place) → Contains places.now place → role_of place.role ≡ (format_of vault.now.vault).role place.at (under vault.now.root v place.at))
-        → AreFoundAt (format_of vault.now.vault) (under vault.now.root v) places.now found.items) }
+        → AreFoundAt (format_of vault.now.vault) (under vault.now.root v) places.now found.items)) }
     ensures counts { CountsAbove (F.faults folder.old) (F.faults folder.new) result }
 {
     let mut found = Vec::new(alloc);
@@ -213,8 +213,8 @@ fn finding_at<F: Folder>(
     role: Role,
 ) -> Result<Option<Finding>, FolderFault>
     ensures told { F.told folder.new ≡ F.told folder.old }
-    ensures finding { IfOk result (λ finding. (v : View) → IsSeen (F.told folder.old) v → AreReachedFolders (format_of vault.now.vault) (under vault.now.root v) reached.now
-        → role_of role ≡ (format_of vault.now.vault).role at.now (under vault.now.root v at.now) → IsApartOf (format_of vault.now.vault) (under vault.now.root v) at.now finding) }
+    ensures finding { IfOk result (λ finding. IfSeen (F.told folder.old) (λ v. AreReachedFolders (format_of vault.now.vault) (under vault.now.root v) reached.now
+        → role_of role ≡ (format_of vault.now.vault).role at.now (under vault.now.root v at.now) → IsApartOf (format_of vault.now.vault) (under vault.now.root v) at.now finding)) }
     ensures counts { CountsAbove (F.faults folder.old) (F.faults folder.new) result }
 {
     match role {

@@ -1,8 +1,8 @@
 //! The entries of a folder, if one stands there.
 ghost use Rattle.std.specs.Prelude.{◌≡◌, IfOk};
 ghost use Rattle.folder_spec.specs.Listing.{IsListing};
-ghost use Rattle.folder_spec.specs.Seen.{IsSeen, under};
-ghost use Rattle.folder_spec.specs.View.{View, Folder};
+ghost use Rattle.folder_spec.specs.Seen.{IfSeen, under};
+ghost use Rattle.folder_spec.specs.View.{Folder};
 ghost use Rattle.folder_model.specs.Answers.{CountsAbove};
 
 use folder_model::{Entry, FPath, Folder, Kind};
@@ -18,7 +18,7 @@ pub(crate) fn entries_at<F: Folder>(
     at: &FPath,
 ) -> Result<Vec<Entry>, FolderFault>
     ensures told { F.told folder.new ≡ F.told folder.old }
-    ensures listing { IfOk result (λ entries. (v : View) → IsSeen (F.told folder.old) v → IsListing (under root.now v) at.now entries.items) }
+    ensures listing { IfOk result (λ entries. IfSeen (F.told folder.old) (λ v. IsListing (under root.now v) at.now entries.items)) }
     ensures counts { CountsAbove (F.faults folder.old) (F.faults folder.new) result }
 {
     match kind_under(alloc, folder, root, at)? {
@@ -34,9 +34,9 @@ fn listed<F: Folder>(
     root: &FPath,
     at: &FPath,
 ) -> Result<Vec<Entry>, FolderFault>
-    requires { (v : View) → IsSeen (F.told folder.old) v → under root.now v at.now ≡ Folder }
+    requires { IfSeen (F.told folder.old) (λ v. under root.now v at.now ≡ Folder) }
     ensures told { F.told folder.new ≡ F.told folder.old }
-    ensures listing { IfOk result (λ entries. (v : View) → IsSeen (F.told folder.old) v → IsListing (under root.now v) at.now entries.items) }
+    ensures listing { IfOk result (λ entries. IfSeen (F.told folder.old) (λ v. IsListing (under root.now v) at.now entries.items)) }
     ensures counts { CountsAbove (F.faults folder.old) (F.faults folder.new) result }
 {
     let path = joined(alloc, root, at)?;

@@ -2,7 +2,7 @@
 ghost use Rattle.std.specs.Prelude.{◌≡◌, ◌++◌, IfOk, OnOk};
 ghost use Rattle.folder_spec.specs.Listing.{IsListing};
 ghost use Rattle.folder_spec.specs.Path.{child};
-ghost use Rattle.folder_spec.specs.Seen.{IsSeen, under};
+ghost use Rattle.folder_spec.specs.Seen.{IfSeen, under};
 ghost use Rattle.folder_spec.specs.View.{View};
 ghost use Rattle.folder_model.specs.Answers.{CountsAbove};
 ghost use Rattle.vault_read.specs.Items.{item_of};
@@ -30,7 +30,7 @@ pub(crate) fn found_inside<F: Folder>(
     item: EntryItem,
 ) -> Result<Vec<Found>, FolderFault>
     ensures told { F.told folder.new ≡ F.told folder.old }
-    ensures found { IfOk result (λ found. (v : View) → IsSeen (F.told folder.old) v → AreInside (format_of vault.now.vault) (under vault.now.root v) at.now long (item_of item) found.items) }
+    ensures found { IfOk result (λ found. IfSeen (F.told folder.old) (λ v. AreInside (format_of vault.now.vault) (under vault.now.root v) at.now long (item_of item) found.items)) }
     ensures counts { CountsAbove (F.faults folder.old) (F.faults folder.new) result }
 {
     match vault.kind() {

@@ -1,6 +1,6 @@
 //! A walk through a vault by levels: the directories in one step after those in none, and so on.
 ghost use Rattle.std.specs.Prelude.{◌≡◌, ◌+◌, ◌<◌, ◌≤◌, ◌++◌, ◌∷◌, [], ℕ, suc, List, length, nat_le, IfOk, OnOk};
-ghost use Rattle.folder_spec.specs.Seen.{IsSeen, under};
+ghost use Rattle.folder_spec.specs.Seen.{IfSeen, IsSeen, under};
 ghost use Rattle.folder_spec.specs.View.{View};
 ghost use Rattle.vault_read.specs.Opened.{FitsKey};
 ghost use Rattle.vault_read.specs.Stands.{EntersFit, FitsDirectory, standing_of};
@@ -73,11 +73,11 @@ pub(crate) fn walked<F: Folder>(
     vault: &Vault,
 ) -> Result<Walk, WalkFault>
     ensures told { F.told folder.new ≡ F.told folder.old }
-    ensures walked { IfOk result (λ walk. (v : View) → IsSeen (F.told folder.old) v → HasEnded (format_of vault.now.vault) (under vault.now.root v) walk) }
-    ensures within { IfOk result (λ walk. (v : View) → IsSeen (F.told folder.old) v → IsWithin (format_of vault.now.vault) (under vault.now.root v)) }
+    ensures walked { IfOk result (λ walk. IfSeen (F.told folder.old) (λ v. HasEnded (format_of vault.now.vault) (under vault.now.root v) walk)) }
+    ensures within { IfOk result (λ walk. IfSeen (F.told folder.old) (λ v. IsWithin (format_of vault.now.vault) (under vault.now.root v))) }
     ensures size { IfOk result (λ walk. length walk.items.items ≤ item_limit) }
-    ensures answers { Answers ((v : View) → IsSeen (F.told folder.old) v → HasTooMany (format_of vault.now.vault) (under vault.now.root v))
-        ((v : View) → IsSeen (F.told folder.old) v → IsOnlyTooDeep (format_of vault.now.vault) (under vault.now.root v)) (F.faults folder.old) (F.faults folder.new) result }
+    ensures answers { Answers (IfSeen (F.told folder.old) (λ v. HasTooMany (format_of vault.now.vault) (under vault.now.root v)))
+        (IfSeen (F.told folder.old) (λ v. IsOnlyTooDeep (format_of vault.now.vault) (under vault.now.root v))) (F.faults folder.old) (F.faults folder.new) result }
 {
     let root = root_standing(alloc, folder, vault)?;
     let (mut walk, mut waiting) = begun(alloc, root)?;
@@ -161,12 +161,12 @@ impl Walk {
     ) -> Result<Vec<Way>, WalkFault>
         requires { WaysFit vault.now.vault waiting.items }
         ensures told { F.told folder.new ≡ F.told folder.old }
-        ensures walks { IfOk result (λ next. (v : View) → IsSeen (F.told folder.old) v → (steps : ℕ)
-            → HasWalked (format_of vault.now.vault) (under vault.now.root v) steps self.old waiting.items → HasWalked (format_of vault.now.vault) (under vault.now.root v) (suc steps) self.new next.items) }
+        ensures walks { IfOk result (λ next. IfSeen (F.told folder.old) (λ v. (steps : ℕ)
+            → HasWalked (format_of vault.now.vault) (under vault.now.root v) steps self.old waiting.items → HasWalked (format_of vault.now.vault) (under vault.now.root v) (suc steps) self.new next.items)) }
         ensures fits { IfOk result (λ next. WaysFit vault.now.vault next.items) }
         ensures size { OnOk result (length self.old.items.items ≤ item_limit → length self.new.items.items ≤ item_limit) }
-        ensures answers { Answers ((v : View) → IsSeen (F.told folder.old) v → (steps : ℕ) → steps < depth_limit
-            → HasWalked (format_of vault.now.vault) (under vault.now.root v) steps self.old waiting.items → HasTooMany (format_of vault.now.vault) (under vault.now.root v))
+        ensures answers { Answers (IfSeen (F.told folder.old) (λ v. (steps : ℕ) → steps < depth_limit
+            → HasWalked (format_of vault.now.vault) (under vault.now.root v) steps self.old waiting.items → HasTooMany (format_of vault.now.vault) (under vault.now.root v)))
             ⊥ (F.faults folder.old) (F.faults folder.new) result }
     {
         what_stands_is_found_step_by_step();
@@ -189,11 +189,11 @@ impl Walk {
         requires { FitsKey vault.now.vault way.dir.key }
         ensures told { F.told folder.new ≡ F.told folder.old }
         ensures visits { OnOk result ((report : Report) × HasVisited self.old self.new way report next.old.items next.new.items
-            × ((v : View) → IsSeen (F.told folder.old) v → IsReport (format_of vault.now.vault) (under vault.now.root v) way.dir report)) }
+            × (IfSeen (F.told folder.old) (λ v. IsReport (format_of vault.now.vault) (under vault.now.root v) way.dir report))) }
         ensures fits { WaysFit vault.now.vault next.old.items → OnOk result (WaysFit vault.now.vault next.new.items) }
         ensures size { OnOk result (length self.new.items.items ≤ item_limit) }
         ensures answers { Answers ((report : Report) × IsPastLimit self.old report
-            × ((v : View) → IsSeen (F.told folder.old) v → IsReport (format_of vault.now.vault) (under vault.now.root v) way.dir report))
+            × (IfSeen (F.told folder.old) (λ v. IsReport (format_of vault.now.vault) (under vault.now.root v) way.dir report)))
             ⊥ (F.faults folder.old) (F.faults folder.new) result }
     {
         let report = report_of(alloc, folder, vault, &way.dir)?;
@@ -241,9 +241,9 @@ impl Walk {
         requires { FitsKey vault.now.vault way.dir.key }
         ensures told { F.told folder.new ≡ F.told folder.old }
         ensures visits { OnOk result ((report : Report) × HasSettled self.old self.new way report.found.items × (report.members.items ≡ [])
-            × ((v : View) → IsSeen (F.told folder.old) v → IsReport (format_of vault.now.vault) (under vault.now.root v) way.dir report)) }
+            × (IfSeen (F.told folder.old) (λ v. IsReport (format_of vault.now.vault) (under vault.now.root v) way.dir report))) }
         ensures answers { Answers ⊥ ((report : Report) × (0 < length report.members.items)
-            × ((v : View) → IsSeen (F.told folder.old) v → IsReport (format_of vault.now.vault) (under vault.now.root v) way.dir report))
+            × (IfSeen (F.told folder.old) (λ v. IsReport (format_of vault.now.vault) (under vault.now.root v) way.dir report)))
             (F.faults folder.old) (F.faults folder.new) result }
     {
         let report = report_of(alloc, folder, vault, &way.dir)?;

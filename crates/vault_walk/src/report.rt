@@ -2,7 +2,7 @@
 ghost use Rattle.std.specs.Prelude.{◌≡◌, ◌++◌, ◌∷◌, [], ◌&&◌, ◌||◌, ℕ, List, Contains, Some, IfOk, OnOk};
 ghost use Rattle.folder_spec.specs.Listing.{Item};
 ghost use Rattle.folder_spec.specs.Path.{child};
-ghost use Rattle.folder_spec.specs.Seen.{IsSeen, under};
+ghost use Rattle.folder_spec.specs.Seen.{IfSeen, IsSeen, under};
 ghost use Rattle.folder_spec.specs.View as view;
 ghost use Rattle.folder_spec.specs.View.{View, kind_found};
 ghost use Rattle.folder_model.specs.Answers.{CountsAbove};
@@ -67,7 +67,7 @@ pub(crate) fn report_of<F: Folder>(
 ) -> Result<Report, FolderFault>
     requires { FitsKey vault.now.vault dir.now.key }
     ensures told { F.told folder.new ≡ F.told folder.old }
-    ensures report { IfOk result (λ report. (v : View) → IsSeen (F.told folder.old) v → IsReport (format_of vault.now.vault) (under vault.now.root v) dir.now report) }
+    ensures report { IfOk result (λ report. IfSeen (F.told folder.old) (λ v. IsReport (format_of vault.now.vault) (under vault.now.root v) dir.now report)) }
     ensures fits { IfOk result (λ report. FitMembers vault.now.vault report.members.items) }
     ensures counts { CountsAbove (F.faults folder.old) (F.faults folder.new) result }
 {
@@ -132,8 +132,8 @@ fn entry_report<F: Folder>(
 ) -> Result<Report, FolderFault>
     requires { FitsKey vault.now.vault dir.now.key }
     ensures told { F.told folder.new ≡ F.told folder.old }
-    ensures report { IfOk result (λ report. (v : View) → IsSeen (F.told folder.old) v → IsEntryIn (under vault.now.root v) dir.now entry.now
-        → IsReportOf (format_of vault.now.vault) (under vault.now.root v) dir.now entry.now.name report) }
+    ensures report { IfOk result (λ report. IfSeen (F.told folder.old) (λ v. IsEntryIn (under vault.now.root v) dir.now entry.now
+        → IsReportOf (format_of vault.now.vault) (under vault.now.root v) dir.now entry.now.name report)) }
     ensures fits { IfOk result (λ report. FitMembers vault.now.vault report.members.items) }
     ensures counts { CountsAbove (F.faults folder.old) (F.faults folder.new) result }
 {
@@ -155,8 +155,8 @@ fn main_report<F: Folder>(
 ) -> Result<Report, FolderFault>
     requires { FitsKey vault.now.vault dir.now.key }
     ensures told { F.told folder.new ≡ F.told folder.old }
-    ensures report { IfOk result (λ report. (v : View) → IsSeen (F.told folder.old) v → at.now ≡ child dir.now.folder entry.now.name → IsEntryIn (under vault.now.root v) dir.now entry.now
-        → IsMainOf (format_of vault.now.vault) (under vault.now.root v) dir.now entry.now.name report) }
+    ensures report { IfOk result (λ report. IfSeen (F.told folder.old) (λ v. at.now ≡ child dir.now.folder entry.now.name → IsEntryIn (under vault.now.root v) dir.now entry.now
+        → IsMainOf (format_of vault.now.vault) (under vault.now.root v) dir.now entry.now.name report)) }
     ensures fits { IfOk result (λ report. FitMembers vault.now.vault report.members.items) }
     ensures counts { CountsAbove (F.faults folder.old) (F.faults folder.new) result }
 {
@@ -216,9 +216,9 @@ fn named_report<F: Folder>(
     named: NameAt,
 ) -> Result<Report, FolderFault>
     ensures told { F.told folder.new ≡ F.told folder.old }
-    ensures report { IfOk result (λ report. (v : View) → IsSeen (F.told folder.old) v → (dir : spec.Directory) (entry : Item) → at.now ≡ child dir.folder entry.name
+    ensures report { IfOk result (λ report. IfSeen (F.told folder.old) (λ v. (dir : spec.Directory) (entry : Item) → at.now ≡ child dir.folder entry.name
         → IsEntryIn (under vault.now.root v) dir entry → IsNamed (format_of vault.now.vault) (under vault.now.root v) dir entry.name named
-        → IsMainOf (format_of vault.now.vault) (under vault.now.root v) dir entry.name report) }
+        → IsMainOf (format_of vault.now.vault) (under vault.now.root v) dir entry.name report)) }
     ensures fits { IfOk result (λ report. FitMembers vault.now.vault report.members.items) }
     ensures counts { CountsAbove (F.faults folder.old) (F.faults folder.new) result }
 {
@@ -276,7 +276,7 @@ fn lead_at<F: Folder>(
     at: &FPath,
 ) -> Result<Lead, FolderFault>
     ensures told { F.told folder.new ≡ F.told folder.old }
-    ensures lead { IfOk result (λ lead. (v : View) → IsSeen (F.told folder.old) v → IsLeadOf (format_of vault.now.vault) (under vault.now.root v) at.now lead) }
+    ensures lead { IfOk result (λ lead. IfSeen (F.told folder.old) (λ v. IsLeadOf (format_of vault.now.vault) (under vault.now.root v) at.now lead)) }
     ensures fits { IfOk result (λ lead. FitsLead vault.now.vault lead) }
     ensures counts { CountsAbove (F.faults folder.old) (F.faults folder.new) result }
 {
@@ -335,8 +335,8 @@ fn side_of<F: Folder>(
 ) -> Result<Option<Finding>, FolderFault>
     requires { FitsKey vault.now.vault dir.now.key }
     ensures told { F.told folder.new ≡ F.told folder.old }
-    ensures finding { IfOk result (λ finding. (v : View) → IsSeen (F.told folder.old) v → IsEntryIn (under vault.now.root v) dir.now file.now
-        → IsSideOf (format_of vault.now.vault) (under vault.now.root v) dir.now file.now finding) }
+    ensures finding { IfOk result (λ finding. IfSeen (F.told folder.old) (λ v. IsEntryIn (under vault.now.root v) dir.now file.now
+        → IsSideOf (format_of vault.now.vault) (under vault.now.root v) dir.now file.now finding)) }
     ensures counts { CountsAbove (F.faults folder.old) (F.faults folder.new) result }
 {
     let Kind::File = file.kind else {

@@ -6,7 +6,7 @@ ghost use Rattle.std.specs.List.Sorted.{IsStrictlySortedBy};
 ghost use Rattle.folder_model.specs.Answers.{CountsAbove};
 ghost use Rattle.folder_model.specs.Order.{path_cmp};
 ghost use Rattle.folder_spec.specs.Path.{Path};
-ghost use Rattle.folder_spec.specs.Seen.{IsSeen, under};
+ghost use Rattle.folder_spec.specs.Seen.{IfSeen, IsSeen, under};
 ghost use Rattle.folder_spec.specs.View.{View};
 ghost use Rattle.plain_tree.specs.declared.NodeKind.TheVariants as node;
 ghost use Rattle.port_model.specs.Counts.{CountRose};
@@ -53,15 +53,15 @@ pub fn survey<F: Folder>(
     vault: &Vault,
 ) -> Result<Surveyed, WalkFault>
     ensures told { F.told folder.new ≡ F.told folder.old }
-    ensures survey { IfOk result (λ surveyed. (v : View) → IsSeen (F.told folder.old) v → IsSurveyed vault.now.root (format_of vault.now.vault) (under vault.now.root v) surveyed) }
-    ensures plan { IfOk result (λ surveyed. (v : View) → IsSeen (F.told folder.old) v → IsClean (format_of vault.now.vault) (under vault.now.root v) → HasOwnFolders vault.now.vault (under vault.now.root v)
-        → IsPlanOf vault.now.root (format_of vault.now.vault) (under vault.now.root v) surveyed.plan.items) }
-    ensures files { IfOk result (λ surveyed. (v : View) → IsSeen (F.told folder.old) v → (item : Planned) → Contains surveyed.plan.items item → item.node ≡ node.File → IsFileAt v item.at) }
+    ensures survey { IfOk result (λ surveyed. IfSeen (F.told folder.old) (λ v. IsSurveyed vault.now.root (format_of vault.now.vault) (under vault.now.root v) surveyed)) }
+    ensures plan { IfOk result (λ surveyed. IfSeen (F.told folder.old) (λ v. IsClean (format_of vault.now.vault) (under vault.now.root v) → HasOwnFolders vault.now.vault (under vault.now.root v)
+        → IsPlanOf vault.now.root (format_of vault.now.vault) (under vault.now.root v) surveyed.plan.items)) }
+    ensures files { IfOk result (λ surveyed. IfSeen (F.told folder.old) (λ v. (item : Planned) → Contains surveyed.plan.items item → item.node ≡ node.File → IsFileAt v item.at)) }
     ensures behind { IfOk result (λ surveyed. (item : Planned) → Contains surveyed.plan.items item → (rest : Path) × (item.at ≡ vault.now.root ++ rest)) }
-    ensures within { IfOk result (λ surveyed. (v : View) → IsSeen (F.told folder.old) v → IsWithin (format_of vault.now.vault) (under vault.now.root v)) }
+    ensures within { IfOk result (λ surveyed. IfSeen (F.told folder.old) (λ v. IsWithin (format_of vault.now.vault) (under vault.now.root v))) }
     ensures size { IfOk result (λ surveyed. length surveyed.plan.items ≤ item_limit) }
-    ensures items { result ≡ Err (WalkFault.Limit Items) → (v : View) → IsSeen (F.told folder.old) v → HasTooMany (format_of vault.now.vault) (under vault.now.root v) }
-    ensures depth { result ≡ Err (WalkFault.Limit Depth) → (v : View) → IsSeen (F.told folder.old) v → IsOnlyTooDeep (format_of vault.now.vault) (under vault.now.root v) }
+    ensures items { result ≡ Err (WalkFault.Limit Items) → IfSeen (F.told folder.old) (λ v. HasTooMany (format_of vault.now.vault) (under vault.now.root v)) }
+    ensures depth { result ≡ Err (WalkFault.Limit Depth) → IfSeen (F.told folder.old) (λ v. IsOnlyTooDeep (format_of vault.now.vault) (under vault.now.root v)) }
     ensures fault { IfErr result (λ fault. IsSurveyFault fault) }
     ensures grows { F.faults folder.old ≤ F.faults folder.new }
     ensures failed { result ≡ Err WalkFault.Failed → CountRose (F.faults folder.old) (F.faults folder.new) }
@@ -83,19 +83,19 @@ pub fn survey<F: Folder>(
 /// The items of a clean vault, in order of their paths. Where a vault isn't clean, the first finding.
 pub fn walk<F: Folder>(alloc: Global, folder: &mut F, vault: &Vault) -> Result<Plan, WalkFault>
     ensures told { F.told folder.new ≡ F.told folder.old }
-    ensures clean { IfOk result (λ plan. (v : View) → IsSeen (F.told folder.old) v → IsClean (format_of vault.now.vault) (under vault.now.root v)) }
-    ensures plan { IfOk result (λ plan. (v : View) → IsSeen (F.told folder.old) v → HasOwnFolders vault.now.vault (under vault.now.root v)
-        → IsPlanOf vault.now.root (format_of vault.now.vault) (under vault.now.root v) plan.items) }
-    ensures ordered { IfOk result (λ plan. (v : View) → IsSeen (F.told folder.old) v → IsOrdered plan.items) }
-    ensures files { IfOk result (λ plan. (v : View) → IsSeen (F.told folder.old) v → (item : Planned) → Contains plan.items item → item.node ≡ node.File → IsFileAt v item.at) }
+    ensures clean { IfOk result (λ plan. IfSeen (F.told folder.old) (λ v. IsClean (format_of vault.now.vault) (under vault.now.root v))) }
+    ensures plan { IfOk result (λ plan. IfSeen (F.told folder.old) (λ v. HasOwnFolders vault.now.vault (under vault.now.root v)
+        → IsPlanOf vault.now.root (format_of vault.now.vault) (under vault.now.root v) plan.items)) }
+    ensures ordered { IfOk result (λ plan. IfSeen (F.told folder.old) (λ v. IsOrdered plan.items)) }
+    ensures files { IfOk result (λ plan. IfSeen (F.told folder.old) (λ v. (item : Planned) → Contains plan.items item → item.node ≡ node.File → IsFileAt v item.at)) }
     ensures behind { IfOk result (λ plan. (item : Planned) → Contains plan.items item → (rest : Path) × (item.at ≡ vault.now.root ++ rest)) }
     ensures size { IfOk result (λ plan. length plan.items ≤ item_limit) }
     ensures not_clean { (finding : Finding) → result ≡ Err (WalkFault.NotClean finding) → (v : View) → IsSeen (F.told folder.old) v
         → IsFirstFinding vault.now.root (format_of vault.now.vault) (under vault.now.root v) finding }
-    ensures items { result ≡ Err (WalkFault.Limit Items) → (v : View) → IsSeen (F.told folder.old) v → HasTooMany (format_of vault.now.vault) (under vault.now.root v) }
-    ensures depth { result ≡ Err (WalkFault.Limit Depth) → (v : View) → IsSeen (F.told folder.old) v → IsOnlyTooDeep (format_of vault.now.vault) (under vault.now.root v) }
-    ensures within { IfOk result (λ plan. (v : View) → IsSeen (F.told folder.old) v → IsWithin (format_of vault.now.vault) (under vault.now.root v)) }
-    ensures limits_first { (finding : Finding) → result ≡ Err (WalkFault.NotClean finding) → (v : View) → IsSeen (F.told folder.old) v → IsWithin (format_of vault.now.vault) (under vault.now.root v) }
+    ensures items { result ≡ Err (WalkFault.Limit Items) → IfSeen (F.told folder.old) (λ v. HasTooMany (format_of vault.now.vault) (under vault.now.root v)) }
+    ensures depth { result ≡ Err (WalkFault.Limit Depth) → IfSeen (F.told folder.old) (λ v. IsOnlyTooDeep (format_of vault.now.vault) (under vault.now.root v)) }
+    ensures within { IfOk result (λ plan. IfSeen (F.told folder.old) (λ v. IsWithin (format_of vault.now.vault) (under vault.now.root v))) }
+    ensures limits_first { (finding : Finding) → result ≡ Err (WalkFault.NotClean finding) → IfSeen (F.told folder.old) (λ v. IsWithin (format_of vault.now.vault) (under vault.now.root v)) }
     ensures fault { IfErr result (λ fault. IsWalkFault fault) }
     ensures grows { F.faults folder.old ≤ F.faults folder.new }
     ensures failed { result ≡ Err WalkFault.Failed → CountRose (F.faults folder.old) (F.faults folder.new) }
@@ -126,8 +126,8 @@ fn all_found<F: Folder>(
 ) -> Result<Vec<Found>, FolderFault>
     ensures told { F.told folder.new ≡ F.told folder.old }
     ensures ordered { IfOk result (λ all. IsStrictlySortedBy found_cmp all.items) }
-    ensures found { IfOk result (λ all. (v : View) → IsSeen (F.told folder.old) v → HaveMet (format_of vault.now.vault) (under vault.now.root v) visits.now found.items targets.items
-        → AreTold (format_of vault.now.vault) (under vault.now.root v) all.items) }
+    ensures found { IfOk result (λ all. IfSeen (F.told folder.old) (λ v. HaveMet (format_of vault.now.vault) (under vault.now.root v) visits.now found.items targets.items
+        → AreTold (format_of vault.now.vault) (under vault.now.root v) all.items)) }
     ensures counts { CountsAbove (F.faults folder.old) (F.faults folder.new) result }
 {
     what_stands_is_found_step_by_step();

@@ -10,7 +10,7 @@ use Rattle.std.specs.Result.{IsErr}
 use Rattle.folder_spec.specs.Event.{MakeDir, Settle, Rename, Allowed, Told, Steps, Changes, FromTo}
 use Rattle.folder_spec.specs.Region.{StagesAt, apart_from}
 use Rattle.folder_spec.specs.Replace.{IsNewFile, IsStaging}
-use Rattle.folder_spec.specs.Seen.{seen, IsSeen, ShowsFree}
+use Rattle.folder_spec.specs.Seen.{IfSeen, ShowsFree, seen}
 use Rattle.folder_spec.specs.View.{NoEntry, View}
 use Rattle.folder_spec.proofs.Moments.{went_more, went_to}
 use Rattle.folder_spec.proofs.Paths.{begins_or_not, not_below, parent-child, below-parent, child-not_base}
@@ -91,7 +91,7 @@ abbrev Renames : List (List ℕ) → Path → Edit → Result (Unit {0}) FolderF
 Renames files staged e result a d = (c : Told) × IsStagedWhole files staged e.made a c × ShowsFree (seen a.state) e.at × Steps (Rename staged e.at) c d result
 
 pub adds_renamed : (work : Path) (x : Part) (e : Edit) (files : List (List ℕ)) (t u w : Option Told) (result : Result (Unit {0}) FolderFault)
-    → FromTo (IsStagedWhole files (child (stage_path work) x) e.made) t u → ((v : View) → IsSeen t v → ShowsFree v e.at) → Changes (Rename (child (stage_path work) x) e.at) u w result
+    → FromTo (IsStagedWhole files (child (stage_path work) x) e.made) t u → IfSeen t (λ v. ShowsFree v e.at) → Changes (Rename (child (stage_path work) x) e.at) u w result
     → AddsEdits work (e ∷ []) files t w result
 adds_renamed work x e files t u w result staged free changes root m done more before within h = (
   from_to_on (HasEdited work root m done (e ∷ more)) (Renames files (child (stage_path work) x) e result) (Edits work root m) before t w
@@ -112,7 +112,7 @@ adds_renamed work x e files t u w result staged free changes root m done more be
 
 -- a directory was made
 pub adds_made : (work at : Path) (files : List (List ℕ)) (t u : Option Told) (result : Result (Unit {0}) FolderFault)
-    → ((v : View) → IsSeen t v → ShowsFree v at) → Changes (MakeDir at) t u result → AddsEdits work (directory_edit at ∷ []) files t u result
+    → IfSeen t (λ v. ShowsFree v at) → Changes (MakeDir at) t u result → AddsEdits work (directory_edit at ∷ []) files t u result
 adds_made work at files t u result free changes root m done more before within h = (
   from_to_on (HasEdited work root m done (directory_edit at ∷ more)) (λ b c. ShowsFree (seen b.state) at × Steps (MakeDir at) b c result) (Edits work root m) before t u
       (λ a b c k l. made_edits work root m done more at a b c k l.0 result l.1) h (steps result changes),
@@ -159,7 +159,7 @@ staged_below stage x at apart = elim (begins_or_not (child stage x) at) [
 pub free_in_stage : (work : Path) (x : Part) (v : View) → IsReady v work → ShowsFree v (child (stage_path work) x)
 free_in_stage work x v ready = (ready.bare (x ∷ []) (some_part x []), ap v (parent-child (stage_path work) x) ∙ ready.stage)
 
-pub is_stage : (work : Path) (x : Part) (t : Option Told) → ((v : View) → IsSeen t v → IsReady v work) → IsStage t (child (stage_path work) x)
+pub is_stage : (work : Path) (x : Part) (t : Option Told) → IfSeen t (λ v. IsReady v work) → IsStage t (child (stage_path work) x)
 is_stage work x t ready = record { below_base = child-not_base (stage_path work) x; place = λ v is. inl (free_in_stage work x v (ready v is)) }
 
 -- what was staged whole may be renamed
@@ -182,7 +182,7 @@ rename_allowed work at x files made a b sound may some staged =
         q (apart-from_below (child (stage_path work) x) q none)
 
 pub renames_allowed : (work at : Path) (x : Part) (files : List (List ℕ)) (made : View) (t u : Option Told) → ((a : Told) → t ≡ Some a → IsSound a.state)
-    → ((v : View) → IsSeen t v → MayCome v work at) → made [] ≢ NoEntry → FromTo (IsStagedWhole files (child (stage_path work) x) made) t u
+    → IfSeen t (λ v. MayCome v work at) → made [] ≢ NoEntry → FromTo (IsStagedWhole files (child (stage_path work) x) made) t u
     → (b : Told) → u ≡ Some b → Allowed b.state (Rename (child (stage_path work) x) at)
 renames_allowed work at x files made (Some a) (Some b) sound may some staged c is =
     let same : b ≡ c = cc is in
@@ -219,7 +219,7 @@ bytes_staged work x staged bytes t u is sound stages new =
     (subst (λ p. FromTo (λ a b. IsNewFile bytes a.state b.state (present b.state p)) t u) is new)
 
 pub bytes_renamed : (work : Path) (x : Part) (staged at : Path) (bytes : List ℕ) (t u w : Option Told) (result : Result (Unit {0}) FolderFault) → staged ≡ child (stage_path work) x
-    → ((a : Told) → u ≡ Some a → IsSound a.state) → ((v : View) → IsSeen t v → MayCome v work at)
+    → ((a : Told) → u ≡ Some a → IsSound a.state) → IfSeen t (λ v. MayCome v work at)
     → Stages (bytes ∷ []) staged t u → FromTo (λ a b. IsNewFile bytes a.state b.state (present b.state staged)) t u → Changes (Rename staged at) u w result
     → AddsEdits work (file_edit at bytes ∷ []) (bytes ∷ []) t w result
 bytes_renamed work x staged at bytes t u w result is sound may stages new changes =
@@ -227,12 +227,12 @@ bytes_renamed work x staged at bytes t u w result is sound may stages new change
     (subst (λ p. Changes (Rename p at) u w result) is changes)
 
 pub bytes_may : (work : Path) (x : Part) (staged at : Path) (bytes : List ℕ) (t u : Option Told) → staged ≡ child (stage_path work) x
-    → ((a : Told) → t ≡ Some a → IsSound a.state) → ((a : Told) → u ≡ Some a → IsSound a.state) → ((v : View) → IsSeen t v → MayCome v work at)
+    → ((a : Told) → t ≡ Some a → IsSound a.state) → ((a : Told) → u ≡ Some a → IsSound a.state) → IfSeen t (λ v. MayCome v work at)
     → Stages (bytes ∷ []) staged t u → FromTo (λ a b. IsNewFile bytes a.state b.state (present b.state staged)) t u
     → (b : Told) → u ≡ Some b → Allowed b.state (Rename staged at)
 bytes_may work x staged at bytes t u is sound sound_now may stages new b there =
     subst (λ p. Allowed b.state (Rename p at)) (sym is)
     (renames_allowed work at x (bytes ∷ []) (file_view bytes) t u sound may (λ none. cc) (bytes_staged work x staged bytes t u is sound_now stages new) b there)
 
-pub stage_there : (work : Path) (x : Part) (staged at : Path) (t : Option Told) → staged ≡ child (stage_path work) x → ((v : View) → IsSeen t v → MayCome v work at) → IsStage t staged
+pub stage_there : (work : Path) (x : Part) (staged at : Path) (t : Option Told) → staged ≡ child (stage_path work) x → IfSeen t (λ v. MayCome v work at) → IsStage t staged
 stage_there work x staged at t is may = subst (IsStage t) (sym is) (is_stage work x t (λ v seen_so. (may v seen_so).ready))

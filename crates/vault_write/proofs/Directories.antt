@@ -10,7 +10,7 @@ use Rattle.folder_spec.specs.State.{present, IsSound}
 use Rattle.folder_spec.specs.Edit.{Edit, file_edit, folder_edit, folder_view, IsStagedView}
 use Rattle.folder_spec.specs.Event.{Rename, Allowed, Told, Changes, FromTo}
 use Rattle.folder_spec.specs.Replace.{IsNewFile}
-use Rattle.folder_spec.specs.Seen.{IsSeen, ShowsFree}
+use Rattle.folder_spec.specs.Seen.{IfSeen, ShowsFree}
 use Rattle.folder_spec.specs.View.{NoEntry, Folder, FileOf, View}
 use Rattle.folder_spec.proofs.Paths.{parent-child, child-not_base}
 use Rattle.folder_spec.proofs.Stages.{Staging, staging_more}
@@ -27,7 +27,7 @@ use Rattle.vault_write.proofs.Adding.{adds_staging, adds_renamed, IsStagedWhole,
 
 -- the laws of what is staged
 abbrev pub AreSeen : Type 0
-AreSeen = (contents : List (List ℕ)) (at : Path) (made : View) (before now : Option Told) → HasStaged contents at made before now → (v : View) → IsSeen now v → (rest : Path) → v (at ++ rest) ≡ made rest
+AreSeen = (contents : List (List ℕ)) (at : Path) (made : View) (before now : Option Told) → HasStaged contents at made before now → IfSeen now (λ v. (rest : Path) → v (at ++ rest) ≡ made rest)
 
 abbrev pub Are : Type 0
 Are = (contents : List (List ℕ)) (at : Path) (name : Part) (files : List (Part × List ℕ)) (before mid now : Option Told) → IsStagedFolder contents at files before mid → Stages contents (child at name) mid now → StagesFolder contents at before now
@@ -83,7 +83,7 @@ directory_failed work x staged edits files t u (Ok value) is err stages = let cl
 
 -- the text of a long name has its place in it
 pub name_place : AreSeen → (staged : Path) (contents : List (List ℕ)) (key_name : Part) (key : List ℕ) (t u : Option Told) → key_name ≢ full_file
-    → IsStagedFolder contents staged ((key_name, key) ∷ []) t u → (v : View) → IsSeen u v → ShowsFree v (child staged full_file)
+    → IsStagedFolder contents staged ((key_name, key) ∷ []) t u → IfSeen u (λ v. ShowsFree v (child staged full_file))
 name_place seen_law staged contents key_name key t u apart whole v is_seen =
     free_in staged full_file (folder_view ((key_name, key) ∷ [])) v (seen_law contents staged (folder_view ((key_name, key) ∷ [])) t u whole v is_seen) refl
     (ap (λ b. cond b (FileOf key) NoEntry) (not_same (bytes_eq key_name full_file) (λ same. apart ((bytes_eq-Decides key_name full_file).0 same))))
@@ -99,7 +99,7 @@ whole_staged files staged made t u sound whole =
     (from_to_both (StagingAt files staged) (λ a b. IsStagedView b.state (present b.state) staged made) t u whole.stages whole.whole))
 
 pub directory_renamed : (work : Path) (x : Part) (staged at : Path) (entries : List (Part × List ℕ)) (files : List (List ℕ)) (t u w : Option Told) (result : Result (Unit {0}) FolderFault) → staged ≡ child (stage_path work) x
-    → ((a : Told) → u ≡ Some a → IsSound a.state) → ((v : View) → IsSeen t v → MayCome v work at) → IsStagedFolder files staged entries t u → Changes (Rename staged at) u w result
+    → ((a : Told) → u ≡ Some a → IsSound a.state) → IfSeen t (λ v. MayCome v work at) → IsStagedFolder files staged entries t u → Changes (Rename staged at) u w result
     → AddsEdits work (folder_edit at entries ∷ []) files t w result
 directory_renamed work x staged at entries files t u w result is sound may whole changes =
     adds_renamed work x (folder_edit at entries) files t u w result
@@ -107,14 +107,14 @@ directory_renamed work x staged at entries files t u w result is sound may whole
     (λ v seen_so. (may v seen_so).free) (subst (λ p. Changes (Rename p at) u w result) is changes)
 
 pub directory_may : (work : Path) (x : Part) (staged at : Path) (entries : List (Part × List ℕ)) (files : List (List ℕ)) (t u : Option Told) → staged ≡ child (stage_path work) x
-    → ((a : Told) → t ≡ Some a → IsSound a.state) → ((a : Told) → u ≡ Some a → IsSound a.state) → ((v : View) → IsSeen t v → MayCome v work at) → IsStagedFolder files staged entries t u
+    → ((a : Told) → t ≡ Some a → IsSound a.state) → ((a : Told) → u ≡ Some a → IsSound a.state) → IfSeen t (λ v. MayCome v work at) → IsStagedFolder files staged entries t u
     → (b : Told) → u ≡ Some b → Allowed b.state (Rename staged at)
 directory_may work x staged at entries files t u is sound sound_now may whole b there =
     subst (λ p. Allowed b.state (Rename p at)) (sym is)
     (renames_allowed work at x files (folder_view entries) t u sound may (λ none. cc)
     (subst (λ p. FromTo (IsStagedWhole files p (folder_view entries)) t u) is (whole_staged files staged (folder_view entries) t u sound_now whole)) b there)
 
-pub directory_free : (work : Path) (x : Part) (staged at : Path) (t : Option Told) → staged ≡ child (stage_path work) x → ((v : View) → IsSeen t v → MayCome v work at) → (v : View) → IsSeen t v → ShowsFree v staged
+pub directory_free : (work : Path) (x : Part) (staged at : Path) (t : Option Told) → staged ≡ child (stage_path work) x → IfSeen t (λ v. MayCome v work at) → IfSeen t (λ v. ShowsFree v staged)
 directory_free work x staged at t is may v is_seen = subst (ShowsFree v) (sym is) (free_in_stage work x v (may v is_seen).ready)
 
 pub key_staged : (full : Option (List ℕ)) (staged : Path) (key_name : Part) (key : List ℕ) (t u : Option Told) (result : Result (Unit {0}) FolderFault)

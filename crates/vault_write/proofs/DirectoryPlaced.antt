@@ -21,7 +21,7 @@ use Rattle.folder_spec.proofs.Paths.{child-not_base}
 use Rattle.folder_spec.proofs.Seen.{seen_of}
 use Rattle.folder_spec.specs.State.{IsSound}
 use Rattle.folder_spec.specs.Event.{Told, FromTo}
-use Rattle.folder_spec.specs.Seen.{seen, IsSeen, under}
+use Rattle.folder_spec.specs.Seen.{IfSeen, IsSeen, seen, under}
 use Rattle.folder_spec.specs.View.{Found, NoEntry, Folder, FileOf, Special, View}
 use Rattle.plain_tree.specs.Names as plain
 use Rattle.plain_tree.specs.Names.{is_name}
@@ -61,7 +61,7 @@ drawn_none (Some stream) = λ place. refl
 
 -- nothing was changed
 pub refused_one : (p : Placing) (drawn : List ℕ) (s s' : Stream) (t u : Option Told) (fault : PutFault) (result : Result (Unit {0}) PutFault)
-    → Draws s s' drawn → length drawn ≤ draws (format p) p.item → u ≡ t → ((v : View) → IsSeen t v → Answers p drawn Whole (under p.vault.root v) (Err fault)) → result ≡ Err fault
+    → Draws s s' drawn → length drawn ≤ draws (format p) p.item → u ≡ t → IfSeen t (λ v. Answers p drawn Whole (under p.vault.root v) (Err fault)) → result ≡ Err fault
     → PlacesOne p s s' t u result
 refused_one p drawn s s' t u fault result were few same answer is =
     subst (PlacesOne p s s' t u) (sym is)
@@ -80,14 +80,14 @@ module _ (shows : EditsShowTrees) (settles : SettledEditsShowTrees) (roots : Roo
 pub record MayMakeOne (p : Placing) (drawn : List ℕ) (m : Making) (Places : View → Type 0) (t : Option Told) : Type 0 where
   pub begun : (a : Told) → t ≡ Some a → IsBegun p drawn m a
   pub begins : HasBegun p.work p.vault.root m t
-  pub places : (v : View) → IsSeen t v → Places v
+  pub places : IfSeen t (λ v. Places v)
 
 -- ---- gocryptfs
 
 pub go_may : Enters → FoldersStand → (root : Path) (vault : Vault) → kind_of vault ≡ kind.Gocryptfs → KeepsVaults (format_of vault) → (work : Path) (front : plain.Path) (name : List ℕ) → IsTrue (is_name name)
     → (t : Option Told) → MayMake t work root → ((a : Told) → t ≡ Some a → IsSound a.state) → (at side : Path) (full : Option (List ℕ))
-    → ((v : View) → IsSeen t v → IsSlot (record { root = root; vault = vault }) (format_of vault) front name (under root v) at side full) → (wants : Bool) (key : List ℕ)
-    → ((v : View) → IsSeen t v → (wants ≡ wants_text (v side) full) × (taken_unless side (v side) full ≡ None)) → directory_key key ≡ Some key → length key ≡ 16
+    → IfSeen t (λ v. IsSlot (record { root = root; vault = vault }) (format_of vault) front name (under root v) at side full) → (wants : Bool) (key : List ℕ)
+    → IfSeen t (λ v. (wants ≡ wants_text (v side) full) × (taken_unless side (v side) full ≡ None)) → directory_key key ≡ Some key → length key ≡ 16
     → MayMakeOne (placing (record { root = root; vault = vault }) work front name NewDirectory) key (go_making wants side at full key) (λ v. GoPlaces v work wants side at) t
 go_may enters folders root (Gocryptfs keys) is laws work front name named t may sound at side full slot wants key side_is is_key sixteen = record {
   begun = begun_at;
@@ -145,8 +145,8 @@ go_undrawn vault is work front name s s' t u fault result h same e =
 
 pub cm_may : Enters → FoldersStand → (root : Path) (vault : Vault) → kind_of vault ≡ kind.Cryptomator → KeepsVaults (format_of vault) → (work : Path) (front : plain.Path) (name : List ℕ) → IsTrue (is_name name)
     → (t : Option Told) → MayMake t work root → ((a : Told) → t ≡ Some a → IsSound a.state) → (at side : Path) (full : Option (List ℕ))
-    → ((v : View) → IsSeen t v → IsSlot (record { root = root; vault = vault }) (format_of vault) front name (under root v) at side full) → (shelf home : Path) (wants : Bool) (id drawn : List ℕ)
-    → home ≡ root ++ (format_of vault).folder_of [] id → shelf ≡ parent home → ((v : View) → IsSeen t v → v home ≡ NoEntry) → ((v : View) → IsSeen t v → v shelf ≡ cond wants NoEntry Folder)
+    → IfSeen t (λ v. IsSlot (record { root = root; vault = vault }) (format_of vault) front name (under root v) at side full) → (shelf home : Path) (wants : Bool) (id drawn : List ℕ)
+    → home ≡ root ++ (format_of vault).folder_of [] id → shelf ≡ parent home → IfSeen t (λ v. v home ≡ NoEntry) → IfSeen t (λ v. v shelf ≡ cond wants NoEntry Folder)
     → id ≡ id_of drawn → directory_id (id_of drawn) ≡ Some (id_of drawn) → length drawn ≡ 16
     → MayMakeOne (placing (record { root = root; vault = vault }) work front name NewDirectory) drawn (cm_making wants shelf home at full id) (λ v. CmPlaces v work wants shelf home at) t
 cm_may enters folders root (Cryptomator cm) is laws work front name named t may sound at side full slot shelf home wants id drawn home_is shelf_is home_free shelf_by id_is is_id sixteen = record {
@@ -159,7 +159,7 @@ cm_may enters folders root (Cryptomator cm) is laws work front name named t may 
     begun_at a told = cm_begun enters cm root work front name id a at side full shelf home wants (sound a told) (slot (seen a.state) (seen_of t a told)) home_is shelf_is
         (home_free (seen a.state) (seen_of t a told)) (shelf_by (seen a.state) (seen_of t a told)) may.apart may.beside laws named drawn id_is is_id sixteen
 
-    places_at : (o : Option Told) → t ≡ o → (v : View) → IsSeen o v → CmPlaces v work wants shelf home at
+    places_at : (o : Option Told) → t ≡ o → IfSeen o (λ v. CmPlaces v work wants shelf home at)
     places_at (Some a) told v s = subst (λ z. CmPlaces z work wants shelf home at) (sym s)
         (cm_places enters cm root work front name id a at side full shelf home wants (sound a told) (slot (seen a.state) (seen_of t a told)) home_is shelf_is
         (home_free (seen a.state) (seen_of t a told)) (shelf_by (seen a.state) (seen_of t a told)) may.apart may.beside folders (may.ready (seen a.state) (seen_of t a told)))
@@ -223,7 +223,7 @@ unless_folder one other Special e = refl
 
 -- one of its folders' places is taken
 module _ (cm : CmVault) (root work : Path) (front : plain.Path) (name id drawn : List ℕ) (t : Option Told) (at side : Path) (full : Option (List ℕ)) (id_is : id ≡ id_of drawn)
-    (slot : (v : View) → IsSeen t v → IsSlot (record { root = root; vault = Cryptomator cm }) (cm_format cm) front name (under root v) at side full) where
+    (slot : IfSeen t (λ v. IsSlot (record { root = root; vault = Cryptomator cm }) (cm_format cm) front name (under root v) at side full)) where
   abbrev p : Placing
   p = placing (record { root = root; vault = Cryptomator cm }) work front name NewDirectory
 
@@ -239,7 +239,7 @@ module _ (cm : CmVault) (root work : Path) (front : plain.Path) (name id drawn :
     },
   )
 
-  home_taken : (fault : PutFault) → IsTakenAt (root ++ folder_named (cm_folder_of cm.keys id)) t fault → (v : View) → IsSeen t v → Answers p drawn Whole (under root v) (Err fault)
+  home_taken : (fault : PutFault) → IsTakenAt (root ++ folder_named (cm_folder_of cm.keys id)) t fault → IfSeen t (λ v. Answers p drawn Whole (under root v) (Err fault))
   home_taken fault (inl failed) v s = subst (λ x. Answers p drawn Whole (under root v) (Err x)) (sym failed) tt
   home_taken fault (inr (inl memory)) v s = subst (λ x. Answers p drawn Whole (under root v) (Err x)) (sym memory) tt
   home_taken fault (inr (inr taken)) v s =
@@ -248,8 +248,8 @@ module _ (cm : CmVault) (root work : Path) (front : plain.Path) (name id drawn :
       (ap (λ o. option_or o (taken_unless_folder (shelf_named (cm_folder_of cm.keys id)) (under root v (shelf_named (cm_folder_of cm.keys id)))))
       (taken_there (folder_named (cm_folder_of cm.keys id)) (under root v (folder_named (cm_folder_of cm.keys id))) (taken.1 v s))))
 
-  shelf_taken : (fault : PutFault) → ((v : View) → IsSeen t v → v (root ++ folder_named (cm_folder_of cm.keys id)) ≡ NoEntry) → IsShelfTaken (parent (root ++ folder_named (cm_folder_of cm.keys id))) t fault
-      → (v : View) → IsSeen t v → Answers p drawn Whole (under root v) (Err fault)
+  shelf_taken : (fault : PutFault) → IfSeen t (λ v. v (root ++ folder_named (cm_folder_of cm.keys id)) ≡ NoEntry) → IsShelfTaken (parent (root ++ folder_named (cm_folder_of cm.keys id))) t fault
+      → IfSeen t (λ v. Answers p drawn Whole (under root v) (Err fault))
   shelf_taken fault free (inl failed) v s = subst (λ x. Answers p drawn Whole (under root v) (Err x)) (sym failed) tt
   shelf_taken fault free (inr (inl memory)) v s = subst (λ x. Answers p drawn Whole (under root v) (Err x)) (sym memory) tt
   shelf_taken fault free (inr (inr taken)) v s =
@@ -260,14 +260,14 @@ module _ (cm : CmVault) (root work : Path) (front : plain.Path) (name id drawn :
       (ap (λ q. taken_unless_folder (parent (root ++ folder_named (cm_folder_of cm.keys id))) (v q)) (sym (shelf_above root (cm_folder_of cm.keys id))) ∙ taken.1 v s)))
 
   either_taken : (fault : PutFault) → IsHomeTaken (parent (root ++ folder_named (cm_folder_of cm.keys id))) (root ++ folder_named (cm_folder_of cm.keys id)) t fault
-      → (v : View) → IsSeen t v → Answers p drawn Whole (under root v) (Err fault)
+      → IfSeen t (λ v. Answers p drawn Whole (under root v) (Err fault))
   either_taken fault (inl home) = home_taken fault home
   either_taken fault (inr shelf) = shelf_taken fault shelf.0 shelf.1
 
 pub home_refused : (root : Path) (vault : Vault) → kind_of vault ≡ kind.Cryptomator → (work : Path) (front : plain.Path) (name id drawn : List ℕ) (t : Option Told) (at side : Path) (full : Option (List ℕ)) → id ≡ id_of drawn
-    → ((v : View) → IsSeen t v → IsSlot (record { root = root; vault = vault }) (format_of vault) front name (under root v) at side full) → (fault : PutFault)
+    → IfSeen t (λ v. IsSlot (record { root = root; vault = vault }) (format_of vault) front name (under root v) at side full) → (fault : PutFault)
     → IsHomeTaken (parent (root ++ (format_of vault).folder_of [] id)) (root ++ (format_of vault).folder_of [] id) t fault
-    → (v : View) → IsSeen t v → Answers (placing (record { root = root; vault = vault }) work front name NewDirectory) drawn Whole (under root v) (Err fault)
+    → IfSeen t (λ v. Answers (placing (record { root = root; vault = vault }) work front name NewDirectory) drawn Whole (under root v) (Err fault))
 home_refused root (Cryptomator cm) is work front name id drawn t at side full id_is slot fault taken = either_taken cm root work front name id drawn t at side full id_is slot fault taken
 home_refused root (Gocryptfs keys) is work front name id drawn t at side full id_is slot fault taken = let clash : kind.Gocryptfs ≡ kind.Cryptomator = is in cc
 

@@ -9,7 +9,7 @@ use Rattle.folder_spec.specs.Path.{Path, below, child}
 use Rattle.folder_spec.specs.State.{IsSound}
 use Rattle.folder_spec.specs.Edit.{Edit, edit_under, edits_under, file_edit, view_after}
 use Rattle.folder_spec.specs.Event.{Told}
-use Rattle.folder_spec.specs.Seen.{seen, IsSeen, under}
+use Rattle.folder_spec.specs.Seen.{IfSeen, seen, under}
 use Rattle.folder_spec.specs.View.{Found, NoEntry, Folder, FileOf, Special, View}
 use Rattle.folder_spec.proofs.Seen.{seen_of}
 use Rattle.gocrypt_conf.specs.declared.keys.GoKeys.{GoKeys}
@@ -182,7 +182,7 @@ go_filed enters keys laws root work front name content drawn named a sound at si
 
 -- the long name's file is taken
 pub side_taken : (keys : GoKeys) (root : Path) (front : plain.Path) (name : List ℕ) (content : List ℕ) (t : Option Told) (at side : Path) (full : Option (List ℕ)) (fault : PutFault)
-    → ((v : View) → IsSeen t v → IsSlot (record { root = root; vault = Gocryptfs keys }) (go_format keys) front name (under root v) at side full)
+    → IfSeen t (λ v. IsSlot (record { root = root; vault = Gocryptfs keys }) (go_format keys) front name (under root v) at side full)
     → IsSideTaken side full t fault → RefusesItem (record { root = root; vault = Gocryptfs keys }) front name (NewFile content) [] t fault
 side_taken keys root front name content t at side full fault slots (inl failed) work ending v s =
     subst (λ x. Answers (placing (record { root = root; vault = Gocryptfs keys }) work front name (NewFile content)) [] ending (under root v) (Err x)) (sym failed) tt
@@ -227,7 +227,7 @@ IsFiledIn vault work front name content drawn firsts at inside full a =
     firsts (entry_edit at inside (encrypt (format_of vault.vault).content drawn content)) (full_texts full ++ encrypt (format_of vault.vault).content drawn content ∷ []) a
 
 abbrev pub SlotAt : Path → Vault → plain.Path → List ℕ → Option Told → Path → Path → Option (List ℕ) → Type 0
-SlotAt root vault front name t at side full = (v : View) → IsSeen t v → IsSlot (record { root = root; vault = vault }) (format_of vault) front name (under root v) at side full
+SlotAt root vault front name t at side full = IfSeen t (λ v. IsSlot (record { root = root; vault = vault }) (format_of vault) front name (under root v) at side full)
 
 no_go : kind.Cryptomator ≡ kind.Gocryptfs → ⊥
 no_go is = cc
@@ -237,7 +237,7 @@ no_cm is = cc
 
 pub filed_in_go : Enters → (root : Path) (vault : Vault) → kind_of vault ≡ kind.Gocryptfs → KeepsVaults (format_of vault) → (work : Path) (front : plain.Path) (name : List ℕ) → IsTrue (is_name name) → (t : Option Told)
     → ((a : Told) → t ≡ Some a → IsSound a.state) → MayMake t work root → (at side : Path) (full : Option (List ℕ)) (wants : Bool) → SlotAt root vault front name t at side full
-    → ((v : View) → IsSeen t v → (wants ≡ wants_text (v side) full) × (taken_unless side (v side) full ≡ None))
+    → IfSeen t (λ v. (wants ≡ wants_text (v side) full) × (taken_unless side (v side) full ≡ None))
     → (content drawn : List ℕ) (a : Told) → t ≡ Some a → IsFiledIn (record { root = root; vault = vault }) work front name content drawn (side_edits wants side full) at None full a
 filed_in_go enters root (Gocryptfs keys) is laws work front name named t sound may at side full wants slot side_is content drawn a told =
     go_filed enters keys laws root work front name content drawn named a (sound a told) at side full wants (slot (seen a.state) (seen_of t a told)) (side_is (seen a.state) (seen_of t a told)).0
@@ -259,12 +259,12 @@ side_refused root (Cryptomator cm) is front name content t at side full fault sl
 -- where its parts come to stand
 pub file_places : Enters → FoldersStand → (root : Path) (vault : Vault) → kind_of vault ≡ kind.Gocryptfs → (work : Path) (front : plain.Path) (name : List ℕ) (t : Option Told) → MayMake t work root
     → (at side : Path) (full : Option (List ℕ)) (wants : Bool) → SlotAt root vault front name t at side full
-    → ((v : View) → IsSeen t v → (wants ≡ wants_text (v side) full) × (taken_unless side (v side) full ≡ None)) → (v : View) → IsSeen t v → GoPlaces v work wants side at
+    → IfSeen t (λ v. (wants ≡ wants_text (v side) full) × (taken_unless side (v side) full ≡ None)) → IfSeen t (λ v. GoPlaces v work wants side at)
 file_places enters folders root (Gocryptfs keys) is work front name t may at side full wants slot side_is v seen_so =
     go_places enters folders keys root work front name v at side full wants (may.ready v seen_so) may.apart may.beside (slot v seen_so) (side_is v seen_so).0
 file_places enters folders root (Cryptomator cm) is work front name t may at side full wants slot side_is v seen_so = absurd (no_go is)
 
 pub cm_entry_comes : Enters → FoldersStand → (vault : OpenedVault) (work : Path) (front : plain.Path) (name : List ℕ) (t : Option Told) → MayMake t work vault.root
-    → (at side : Path) (full : Option (List ℕ)) → SlotAt vault.root vault.vault front name t at side full → (v : View) → IsSeen t v → MayCome v work at
+    → (at side : Path) (full : Option (List ℕ)) → SlotAt vault.root vault.vault front name t at side full → IfSeen t (λ v. MayCome v work at)
 cm_entry_comes enters folders vault work front name t may at side full slot v seen_so =
     entry_comes enters folders vault work front name v at side full (may.ready v seen_so) may.apart may.beside (slot v seen_so)

@@ -15,7 +15,7 @@ use Rattle.folder_spec.specs.State.{State, IsSound}
 use Rattle.folder_spec.specs.Edit.{Edit, edited, edits_under, view_after, PublishesIn}
 use Rattle.folder_spec.specs.Event.{Call, MakeDir, Create, Append, Sync, Settle, Rename, RemoveFile, RemoveDir, Told, FromTo}
 use Rattle.folder_spec.specs.Moments.{Went}
-use Rattle.folder_spec.specs.Seen.{seen, IsSeen, under}
+use Rattle.folder_spec.specs.Seen.{IfSeen, IsSeen, seen, under}
 use Rattle.folder_spec.specs.View.{Found, View}
 use Rattle.folder_spec.proofs.Moments.{went_more, went_to}
 use Rattle.folder_spec.proofs.Paths.{child-injective, child-last, child-not_base}
@@ -123,7 +123,7 @@ module _ (keeps : EditsBeforeTheLastKeepTrees) (roots : RootsShow) (p : Placing)
     ends_so t None filed_at fault k u v is_u is_v = absurd is_v
 
     pub one_stopped : (ending : Ending) (fault : PutFault) → length drawn ≤ making.draws (format p) p.item → FromTo (Edits p.work p.vault.root (stopped_making firsts some_files)) t w
-        → ((v : View) → IsSeen t v → Answers p drawn ending (under p.vault.root v) (Err fault)) → MakesOne New p ending drawn t w (Err fault)
+        → IfSeen t (λ v. Answers p drawn ending (under p.vault.root v) (Err fault)) → MakesOne New p ending drawn t w (Err fault)
     one_stopped ending fault enough went answer = record {
       enough = enough;
       makes = record {
@@ -210,7 +210,7 @@ module _ (shows : EditsShowTrees) (keeps : EditsBeforeTheLastKeepTrees) (settles
         )) may sound
 
     -- nothing of it stood in the way
-    free_at : (t : Option Told) → Filed t → (content drawn : List ℕ) → (v : View) → IsSeen t v → HasTaken (place content) drawn (under vault.root v) None
+    free_at : (t : Option Told) → Filed t → (content drawn : List ℕ) → IfSeen t (λ v. HasTaken (place content) drawn (under vault.root v) None)
     free_at (Some a) filed_at content drawn v is = subst (λ x. HasTaken (place content) drawn (under vault.root x) None) (sym is) (filed_at content drawn a refl).taken
     free_at None filed_at content drawn v is = absurd is
 
@@ -283,7 +283,7 @@ module _ (shows : EditsShowTrees) (keeps : EditsBeforeTheLastKeepTrees) (settles
       (filed_in_cm enters vault.root vault.vault is laws work front name named t sound may at side full slot) (none_first full) (λ bytes file among. among)
       coming left stream stream' s result (adds_none work [] t) k
 
-  module _ (is : kind_of vault.vault ≡ kind.Gocryptfs) (wants : Bool) (side_is : (v : View) → IsSeen t v → (wants ≡ wants_text (v side) full) × (taken_unless side (v side) full ≡ None)) (u : Option Told) where
+  module _ (is : kind_of vault.vault ≡ kind.Gocryptfs) (wants : Bool) (side_is : IfSeen t (λ v. (wants ≡ wants_text (v side) full) × (taken_unless side (v side) full ≡ None))) (u : Option Told) where
     go_filed_at : Filed shows keeps settles roots gives are vault work front name at None full (side_edits wants side full) (full_texts full) t
     go_filed_at = filed_in_go enters vault.root vault.vault is laws work front name named t sound may at side full wants slot side_is
 
@@ -302,7 +302,7 @@ module _ (shows : EditsShowTrees) (keeps : EditsBeforeTheLastKeepTrees) (settles
       side_done : FromTo (HasEdited work vault.root (stopped_making (side_edits wants side full) (full_texts full ++ encrypt (format_of vault.vault).content [] [] ∷ [])) (side_edits wants side full) []) t u
       side_done = firsts_done shows keeps settles roots gives are vault work front name at None full (side_edits wants side full) (full_texts full) t u may sound go_filed_at side_first entry_last adds
 
-      pub go_may : FoldersStand → (v : View) → IsSeen u v → MayCome v work at
+      pub go_may : FoldersStand → IfSeen u (λ v. MayCome v work at)
       go_may folders = entry_may work vault.root (stopped_making (side_edits wants side full) (full_texts full ++ encrypt (format_of vault.vault).content [] [] ∷ [])) wants side at full [] t u side_done
           (file_places enters folders vault.root vault.vault is work front name t may at side full wants slot side_is)
 

@@ -14,7 +14,7 @@ use Rattle.folder_spec.specs.Edit.{Edit, edited, file_view, view_after, IsStaged
 use Rattle.folder_spec.specs.Event.{Allowed, Settle, Rename, Told, Changes, FromTo}
 use Rattle.folder_spec.specs.Region.{apart_from, at_or_below}
 use Rattle.folder_spec.specs.Replace.{IsNewFile}
-use Rattle.folder_spec.specs.Seen.{seen, IsSeen, ShowsFree}
+use Rattle.folder_spec.specs.Seen.{IfSeen, ShowsFree, seen}
 use Rattle.folder_spec.specs.View.{Found, NoEntry, View}
 use Rattle.folder_spec.proofs.Edits.{off_edit}
 use Rattle.folder_spec.proofs.Paths.{begins_or_not, not_below}
@@ -265,7 +265,7 @@ module _ (are : Are) (gain : Gain) (keys : Keys) (text : List ℕ) (staged file 
 -- ---- and put in its place
 
 module _ (work : Path) (x : Part) (staged at : Path) (made : View) (files : List (List ℕ)) (t u : Option Told) (is : staged ≡ child (stage_path work) x)
-    (sound : (a : Told) → u ≡ Some a → IsSound a.state) (free : (v : View) → IsSeen t v → ShowsFree v at) (whole : HasStaged files staged made t u) where
+    (sound : (a : Told) → u ≡ Some a → IsSound a.state) (free : IfSeen t (λ v. ShowsFree v at)) (whole : HasStaged files staged made t u) where
   renamed_adds : (v : Option Told) (result : Result (Unit {0}) FolderFault) → Changes (Rename staged at) u v result → AddsEdits work (record { at = at; made = made } ∷ []) files t v result
   renamed_adds v result changes = adds_renamed work x (record { at = at; made = made }) files t u v result
       (subst (λ p. FromTo (IsStagedWhole files p made) t u) is (whole_staged files staged made t u sound whole)) free (subst (λ p. Changes (Rename p at) u v result) is changes)
@@ -298,7 +298,7 @@ something (Some text) bytes none = cc
 
 -- a staged entry may be renamed
 pub entry_allowed : (work : Path) (x : Part) (staged at : Path) (inside : Option (List ℕ)) (bytes : List ℕ) (files : List (List ℕ)) (t u : Option Told) → staged ≡ child (stage_path work) x
-    → ((a : Told) → t ≡ Some a → IsSound a.state) → ((a : Told) → u ≡ Some a → IsSound a.state) → ((v : View) → IsSeen t v → MayCome v work at) → HasStaged files staged (entry_view inside bytes) t u
+    → ((a : Told) → t ≡ Some a → IsSound a.state) → ((a : Told) → u ≡ Some a → IsSound a.state) → IfSeen t (λ v. MayCome v work at) → HasStaged files staged (entry_view inside bytes) t u
     → (b : Told) → u ≡ Some b → Allowed b.state (Rename staged at)
 entry_allowed work x staged at inside bytes files t u is sound sound_now may whole b there =
     subst (λ p. Allowed b.state (Rename p at)) (sym is)
@@ -326,7 +326,7 @@ entry_stopped keys work at x staged inside coming left stream stream' t u fault 
 }
 
 module _ (keys : Keys) (work at : Path) (staged : Path) (inside : Option (List ℕ)) (coming left : Option Coming) (stream stream' : Option ByteStream) (t u w : Option Told)
-    (is : staged ≡ child (stage_path work) (codes "f")) (may : (v : View) → IsSeen t v → MayCome v work at) (k : StagesEntry keys inside staged coming left stream stream' t u (Ok tt)) where
+    (is : staged ≡ child (stage_path work) (codes "f")) (may : IfSeen t (λ v. MayCome v work at)) (k : StagesEntry keys inside staged coming left stream stream' t u (Ok tt)) where
   published_so : (result : Result (Unit {0}) FolderFault) → PublishesEntry staged at u w result → DoesLast work (entry_edit at inside (file_of keys k.writing)) (entry_files inside (file_of keys k.writing)) t w result
   published_so result publishes = publishes work (entry_view inside (file_of keys k.writing)) (entry_files inside (file_of keys k.writing)) t is (λ v seen_so. (may v seen_so).free) k.ends.1
 
@@ -376,7 +376,7 @@ module _ (are : Are) (gain : Gain) (law : AreSeen) (keys : Keys) (full : Option 
       (folder_stopped are gain keys text staged file (still_coming reads t f) (still_coming reads t f') stream stream' t s u is sound_mid sound_then fault (λ files. (begins files).1) (written_at (Err fault) k))
 
   module _ (k : WritesContent keys file (still_coming reads s f) (still_coming reads s f') stream stream' s u (Ok tt)) where
-    pub name_in_place : (v : View) → IsSeen u v → ShowsFree v (child staged full_file)
+    pub name_in_place : IfSeen u (λ v. ShowsFree v (child staged full_file))
     name_in_place = name_place law staged (text ∷ encrypt keys k.drawn k.content ∷ []) content_file (encrypt keys k.drawn k.content) t u content_not_full
         (content_staged are gain keys text staged file (still_coming reads s f) (still_coming reads s f') stream stream' t s u is sound_mid sound_then (λ files. (begins files).1) k)
 

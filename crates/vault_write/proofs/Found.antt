@@ -4,7 +4,7 @@ use Rattle.std.specs.Option.{option_or}
 use Rattle.std.proofs.Common.{cond, true, false, bytes_eq, ◌≡◌, ◌≢◌, ◌⊎◌, ◌↔◌, ℕ, Bool, List, [], ◌∷◌, ◌++◌, Option, Some, None, Result, Ok, Err, refl, sym, ap, ◌∙◌, inl, inr, subst, append_assoc}
 use Rattle.folder_spec.specs.Path.{Path, child}
 use Rattle.folder_spec.specs.Event.{Told}
-use Rattle.folder_spec.specs.Seen.{IsSeen, under}
+use Rattle.folder_spec.specs.Seen.{IfSeen, IsSeen, under}
 use Rattle.folder_spec.specs.View.{Found, NoEntry, Folder, FileOf, Special, View}
 use Rattle.plain_tree.specs.Names as plain
 use Rattle.vault_read.specs.Finding.{IsDirPlace, Refuses}
@@ -39,7 +39,7 @@ Enters = (f : Format) (v : View) (path : plain.Path) (dir : Directory) → (ente
 
 -- the directory isn't entered
 pub find_refused : (vault : OpenedVault) (front : plain.Path) (t : Option Told) (fault : FindFault)
-    → ((v : View) → IsSeen t v → Refuses vault.root (enter (format_of vault.vault) (under vault.root v) front) fault)
+    → IfSeen t (λ v. Refuses vault.root (enter (format_of vault.vault) (under vault.root v) front) fault)
     → (name : List ℕ) (item : NewItem) → RefusesItem vault front name item [] t (of_find fault)
 find_refused vault front t (finds.NotFound path) refuses name item work ending v s = (refuses v s, refl)
 find_refused vault front t (finds.WrongKind path) refuses name item work ending v s = (refuses v s, refl)
@@ -50,7 +50,7 @@ find_refused vault front t finds.NoMemory refuses name item work ending v s = tt
 
 -- the name isn't allowed
 pub not_allowed : Enters → (vault : OpenedVault) (front : plain.Path) (name : List ℕ) (path : plain.Path) (place : DirPlace) (t : Option Told) (item : NewItem) (fault : PutFault) → path ≡ front ++ name ∷ []
-    → ((v : View) → IsSeen t v → IsDirPlace vault.root (format_of vault.vault) (under vault.root v) front place)
+    → IfSeen t (λ v. IsDirPlace vault.root (format_of vault.vault) (under vault.root v) front place)
     → (fault ≡ puts.NoMemory) ⊎ ((fault ≡ puts.NotAllowed path) × (¬ Allows (format_of vault.vault) name)) → RefusesItem vault front name item [] t fault
 not_allowed enters vault front name path place t item fault is found (inl memory) work ending v is_seen =
     subst (λ x. Answers (placing vault work front name item) [] ending (under vault.root v) (Err x)) (sym memory) tt
@@ -102,14 +102,14 @@ entry_taken (Cryptomator cm) u dir name (NewFile content) drawn there = taken_th
 -- ---- whether or not the folder tells its state
 
 module _ (enters : Enters) (vault : OpenedVault) (front : plain.Path) (name : List ℕ) (place : DirPlace) (t : Option Told)
-    (found : (v : View) → IsSeen t v → IsDirPlace vault.root (format_of vault.vault) (under vault.root v) front place)
+    (found : IfSeen t (λ v. IsDirPlace vault.root (format_of vault.vault) (under vault.root v) front place))
     (at side : Path) (full : Option (List ℕ)) (allowed : Allows (format_of vault.vault) name)
     (at_is : at ≡ child place.folder ((format_of vault.vault).stored place.key name).name) (side_is : side ≡ child place.folder (full_name ((format_of vault.vault).stored place.key name).name))
     (full_is : full ≡ ((format_of vault.vault).stored place.key name).full) where
   entry_at_is : (v : View) → (s : IsSeen t v) → at ≡ vault.root ++ entry_at (format_of vault.vault) (found v s).dir name
   entry_at_is v s = entry_is enters vault front name place (under vault.root v) (found v s) at side full allowed at_is side_is full_is
 
-  pub slot_found : ((v : View) → IsSeen t v → v at ≡ NoEntry) → (v : View) → IsSeen t v → IsSlot vault (format_of vault.vault) front name (under vault.root v) at side full
+  pub slot_found : IfSeen t (λ v. v at ≡ NoEntry) → IfSeen t (λ v. IsSlot vault (format_of vault.vault) front name (under vault.root v) at side full)
   slot_found free v s = is_slot enters vault front name place (under vault.root v) (found v s) at side full allowed at_is side_is full_is (ap v (sym (entry_at_is v s)) ∙ free v s)
 
   pub slot_taken : (item : NewItem) (fault : PutFault) → IsTakenAt at t fault → RefusesItem vault front name item [] t fault
@@ -146,9 +146,9 @@ go_item_taken keys u dir name NewDirectory place e = e
 go_item_taken keys u dir name (NewFile content) place e = e
 
 module _ (keys : GoKeys) (root : Path) (front : plain.Path) (name : List ℕ) (t : Option Told) (at side : Path) (full : Option (List ℕ))
-    (slot : (v : View) → IsSeen t v → IsSlot (record { root = root; vault = Gocryptfs keys }) (go_format keys) front name (under root v) at side full) where
+    (slot : IfSeen t (λ v. IsSlot (record { root = root; vault = Gocryptfs keys }) (go_format keys) front name (under root v) at side full)) where
   -- where the text is to stand, behind the root
-  abbrev side_in : (v : View) → IsSeen t v → Path
+  abbrev side_in : IfSeen t (λ v. Path)
   side_in v s = child (slot v s).dir.folder (full_name ((go_format keys).stored (slot v s).dir.key name).name)
 
   side_taken : (v : View) → (s : IsSeen t v) → taken_unless side (v side) full ≡ Some side
@@ -173,7 +173,7 @@ module _ (keys : GoKeys) (root : Path) (front : plain.Path) (name : List ℕ) (t
       )
 
 pub side_refused : (root : Path) (vault : Vault) → kind_of vault ≡ kind.Gocryptfs → (front : plain.Path) (name : List ℕ) (t : Option Told) (at side : Path) (full : Option (List ℕ))
-    → ((v : View) → IsSeen t v → IsSlot (record { root = root; vault = vault }) (format_of vault) front name (under root v) at side full) → (item : NewItem) (fault : PutFault)
+    → IfSeen t (λ v. IsSlot (record { root = root; vault = vault }) (format_of vault) front name (under root v) at side full) → (item : NewItem) (fault : PutFault)
     → IsSideTaken side full t fault → RefusesItem (record { root = root; vault = vault }) front name item [] t fault
 side_refused root (Gocryptfs keys) is front name t at side full slot item fault taken = go_side_refused keys root front name t at side full slot item fault taken
 side_refused root (Cryptomator cm) is front name t at side full slot item fault taken = let clash : kind.Cryptomator ≡ kind.Gocryptfs = is in cc

@@ -8,7 +8,7 @@ use Rattle.folder_spec.specs.Edit.{IsStagedView, HasSettledIn}
 use Rattle.folder_spec.specs.Event.{Call, MakeDir, Create, Append, Sync, Settle, Rename, RemoveFile, RemoveDir, IsFree, Told, FromTo}
 use Rattle.folder_spec.specs.Moments.{Went}
 use Rattle.folder_spec.specs.Region.{IsAsBefore, StagesAt, StagesOrPuts, apart_from, apart_from_both}
-use Rattle.folder_spec.specs.Seen.{seen, IsSeen, ShowsFree}
+use Rattle.folder_spec.specs.Seen.{IfSeen, ShowsFree, seen}
 use Rattle.folder_spec.specs.View.{NoEntry, Folder, View, found}
 use Rattle.folder_spec.proofs.Paths.{begins_or_not, not_below, below-parent, parent-child, child-not_base}
 use Rattle.folder_spec.proofs.Tables.{present_is_table}
@@ -147,8 +147,8 @@ module _ (work at : Path) (made : View) (files : List (Part × List ℕ)) (apart
   Placed a b = Went (IsPublishingFolder (texts files) (entry_of work) (vault_edit at made) a.state) (λ s e. StagesOrPuts (entry_of work) at a.state s e.call) a b
       × HasPlacedFolder (entry_of work) (vault_edit at made) a.state b.state
 
-  ready_after : (t u : Option Told) → ((a : Told) → t ≡ Some a → IsSound a.state) → ((a : Told) → u ≡ Some a → IsSound a.state) → ((v : View) → IsSeen t v → IsReady v work)
-      → FromTo Placed t u → (v : View) → IsSeen u v → IsReady v work
+  ready_after : (t u : Option Told) → ((a : Told) → t ≡ Some a → IsSound a.state) → ((a : Told) → u ≡ Some a → IsSound a.state) → IfSeen t (λ v. IsReady v work)
+      → FromTo Placed t u → IfSeen u (λ v. IsReady v work)
   ready_after (Some a) (Some b) sound sound_now ready placed v is =
       subst (λ w. IsReady w work) (sym is)
       (stage_is_bare a.state b.state (sound a refl) (sound_now b refl)
@@ -181,7 +181,7 @@ module _ (work at : Path) (made : View) (files : List (Part × List ℕ)) (apart
           (λ a b is k. settled_in_part (apart_from (entry_of work)) (is_unstaged work) (vault_edit at made ∷ []) a.state b.state (unstaged_apart work (codes "f")) k.settled) h
 
       ready : (result : Result (Unit {0}) FolderFault) → PublishingFolder (texts files) (entry_of work) (vault_edit at made) t w
-          → OnOk result (FromTo (λ a b. HasPlacedFolder (entry_of work) (vault_edit at made) a.state b.state) t w) → OnOk result ((v : View) → IsSeen w v → IsReady v work)
+          → OnOk result (FromTo (λ a b. HasPlacedFolder (entry_of work) (vault_edit at made) a.state b.state) t w) → OnOk result (IfSeen w (λ v. IsReady v work))
       ready (Err fault) went h = tt
       ready (Ok _) went h =
           ready_after t w sound sound_now may.make.ready
@@ -204,7 +204,7 @@ founds_none work at made files t fault sound may = record { moments = none_yet w
 
 -- ---- putting it there
 
-pub free_entry : (work : Path) (t : Option Told) (at : Path) → MayFound t work at → (v : View) → IsSeen t v → ShowsFree v (entry_of work)
+pub free_entry : (work : Path) (t : Option Told) (at : Path) → MayFound t work at → IfSeen t (λ v. ShowsFree v (entry_of work))
 free_entry work t at may v is = (
   (may.make.ready v is).bare (codes "f" ∷ []) (omega arith),
   ap v (parent-child (stage_path work) (codes "f")) ∙ (may.make.ready v is).stage,
@@ -221,12 +221,12 @@ may_place work at made files t u sound may folder whole =
       free = λ v is. free t u sound may.free staged.stages v is;
     }
   where
-    there : (t u : Option Told) → FromTo (λ a b. IsStagedView b.state (present b.state) (entry_of work) made) t u → (v : View) → IsSeen u v → v (entry_of work) ≡ Folder
+    there : (t u : Option Told) → FromTo (λ a b. IsStagedView b.state (present b.state) (entry_of work) made) t u → IfSeen u (λ v. v (entry_of work) ≡ Folder)
     there (Some a) (Some b) view v is = ap (λ w. w (entry_of work)) is ∙ ap (seen b.state) (sym (append-nil (entry_of work))) ∙ view.shown [] ∙ folder
     there None (Some b) view v is = absurd view
     there t None view v is = absurd is
 
-    free : (t u : Option Told) → ((a : Told) → t ≡ Some a → IsSound a.state) → ((v : View) → IsSeen t v → ShowsFree v at) → StagesFolder files (entry_of work) t u → (v : View) → IsSeen u v → ShowsFree v at
+    free : (t u : Option Told) → ((a : Told) → t ≡ Some a → IsSound a.state) → IfSeen t (λ v. ShowsFree v at) → StagesFolder files (entry_of work) t u → IfSeen u (λ v. ShowsFree v at)
     free (Some a) (Some b) sound free_then went v is =
         let others : IsAsBefore (apart_from (entry_of work)) a.state b.state =
         (went_to (IsStagingFolder files (entry_of work) a.state) (λ s e. StagesAt (entry_of work) a.state s e.call) a b went).others in

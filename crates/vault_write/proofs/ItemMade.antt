@@ -8,7 +8,7 @@ use Rattle.folder_spec.specs.Edit.{Edit, edited, edit_under, edits_under, view_a
 use Rattle.folder_spec.specs.Event.{Told, FromTo}
 use Rattle.folder_spec.specs.Moments.{Moments, Went}
 use Rattle.folder_spec.specs.Region.{at_or_below}
-use Rattle.folder_spec.specs.Seen.{seen, IsSeen, under}
+use Rattle.folder_spec.specs.Seen.{IfSeen, IsSeen, seen, under}
 use Rattle.folder_spec.specs.View.{View}
 use Rattle.folder_spec.proofs.Paths.{below-append}
 use Rattle.folder_spec.proofs.Moments.{went_more, went_nowhere, went_to}
@@ -172,7 +172,7 @@ module _ (shows : EditsShowTrees) (settles : SettledEditsShowTrees) (roots : Roo
     ends = ends t w begun finished;
   }
     where
-      is_ready : (t w : Option Told) → FromTo (HasFinished p.work p.vault.root m) t w → (v : View) → IsSeen w v → IsReady v p.work
+      is_ready : (t w : Option Told) → FromTo (HasFinished p.work p.vault.root m) t w → IfSeen w (λ v. IsReady v p.work)
       is_ready (Some a) (Some b) k v is = subst (λ z. IsReady z p.work) (sym is) k.ready
       is_ready None (Some b) k v is = absurd k
       is_ready t None k v is = absurd is
@@ -211,7 +211,7 @@ module _ (shows : EditsShowTrees) (settles : SettledEditsShowTrees) (roots : Roo
     answer = λ v is. (taken_at t begun v is, refl, size, none);
   }
     where
-      taken_at : (t : Option Told) → ((a : Told) → t ≡ Some a → IsBegun p drawn m a) → (v : View) → IsSeen t v → HasTaken p drawn (under p.vault.root v) None
+      taken_at : (t : Option Told) → ((a : Told) → t ≡ Some a → IsBegun p drawn m a) → IfSeen t (λ v. HasTaken p drawn (under p.vault.root v) None)
       taken_at (Some a) begun_at v is = subst (λ x. HasTaken p drawn (under p.vault.root x) None) (sym is) (begun_at a refl).taken
       taken_at None begun_at v is = absurd is
 
@@ -232,7 +232,7 @@ ends_stopped p fault u v same = same
 -- ---- where nothing was changed
 
 pub one_refused : (p : Placing) (ending : Ending) (drawn : List ℕ) (t : Option Told) (fault : PutFault) → length drawn ≤ draws (format p) p.item
-    → ((v : View) → IsSeen t v → Answers p drawn ending (under p.vault.root v) (Err fault)) → MakesOne New p ending drawn t t (Err fault)
+    → IfSeen t (λ v. Answers p drawn ending (under p.vault.root v) (Err fault)) → MakesOne New p ending drawn t t (Err fault)
 one_refused p ending drawn t fault enough answer = record {
   enough = enough;
   makes = record {

@@ -7,7 +7,7 @@ use Rattle.folder_spec.specs.Path.{Path, below, parent}
 use Rattle.folder_spec.specs.State.{IsSound}
 use Rattle.folder_spec.specs.Edit.{Edit, edited, directory_edit, view_after}
 use Rattle.folder_spec.specs.Event.{MakeDir, Told, Steps, Changes, FromTo}
-use Rattle.folder_spec.specs.Seen.{seen, IsSeen, ShowsFree, put_found}
+use Rattle.folder_spec.specs.Seen.{IfSeen, ShowsFree, put_found, seen}
 use Rattle.folder_spec.specs.View.{Folder, View}
 use Rattle.folder_spec.proofs.Edits.{off_edit}
 use Rattle.folder_spec.proofs.Paths.{below-parent, one_or_not, path_eq-same, parent-child, child-apart}
@@ -39,7 +39,7 @@ unstaged_at work q none = ap (λ o. not (is_inside o)) none
 
 -- so a place where something may come stays so
 pub may_still : (work root at : Path) (m : Making) (done more : List Edit) (t u : Option Told) → FromTo (HasEdited work root m done more) t u
-    → ((v : View) → IsSeen t v → MayCome v work at × AreOff done at) → (w : View) → IsSeen u w → MayCome w work at
+    → IfSeen t (λ v. MayCome v work at × AreOff done at) → IfSeen u (λ w. MayCome w work at)
 may_still work root at m done more (Some a) (Some b) h may w is =
     subst (λ z. MayCome z work at) (sym is) (record { ready = h.ready; free = (kept at there.1 there.0.apart ∙ there.0.free.0, kept (parent at) (off_parent done at there.1) (below-parent (stage_path work) at there.0.apart) ∙ there.0.free.1); apart = there.0.apart })
   where
@@ -59,7 +59,7 @@ side_off true side at None apart = record {}
 side_off true side at (Some text) apart = (apart, record {})
 
 pub entry_may : (work root : Path) (m : Making) (wants : Bool) (side at : Path) (full : Option (List ℕ)) (more : List Edit) (t u : Option Told)
-    → FromTo (HasEdited work root m (side_edits wants side full) more) t u → ((v : View) → IsSeen t v → GoPlaces v work wants side at) → (w : View) → IsSeen u w → MayCome w work at
+    → FromTo (HasEdited work root m (side_edits wants side full) more) t u → IfSeen t (λ v. GoPlaces v work wants side at) → IfSeen u (λ w. MayCome w work at)
 entry_may work root m wants side at full more t u h places =
     may_still work root at m (side_edits wants side full) more t u h (λ v is. ((places v is).entry, side_off wants side at full (places v is).others))
 
@@ -73,7 +73,7 @@ pub home_off : (wants : Bool) (shelf home at : Path) → (wants ≡ true → bel
 home_off wants shelf home at apart home_apart = off_both (shelf_edits wants shelf) (directory_edit home ∷ []) at (shelf_off wants shelf at apart) (home_apart, record {})
 
 pub entry_may_then : (work root : Path) (m : Making) (wants : Bool) (shelf home at : Path) (more : List Edit) (t u : Option Told)
-    → FromTo (HasEdited work root m (home_edits wants shelf home) more) t u → ((v : View) → IsSeen t v → CmPlaces v work wants shelf home at) → (w : View) → IsSeen u w → MayCome w work at
+    → FromTo (HasEdited work root m (home_edits wants shelf home) more) t u → IfSeen t (λ v. CmPlaces v work wants shelf home at) → IfSeen u (λ w. MayCome w work at)
 entry_may_then work root m wants shelf home at more t u h places =
     may_still work root at m (home_edits wants shelf home) more t u h
     (λ v is. ((places v is).entry, home_off wants shelf home at (places v is).shelf_apart (places v is).home_apart))
@@ -86,8 +86,8 @@ made_shown at t u (Ok value) sound changes = from_to_more (λ a b. Steps (MakeDi
     (λ a b is steps. ap (λ (c : Told). seen c.state) steps.1 ∙ seen_changed a.state (MakeDir at) (sound a is) steps.0) changes
 
 -- so the folder in it has its place
-pub home_free_then : (shelf home : Path) (t u : Option Told) → ((v : View) → IsSeen t v → HomePlaces v true shelf home) → FromTo (λ a b. seen b.state ≡ put_found (seen a.state) shelf Folder) t u
-    → (w : View) → IsSeen u w → ShowsFree w home
+pub home_free_then : (shelf home : Path) (t u : Option Told) → IfSeen t (λ v. HomePlaces v true shelf home) → FromTo (λ a b. seen b.state ≡ put_found (seen a.state) shelf Folder) t u
+    → IfSeen u (λ w. ShowsFree w home)
 home_free_then shelf home (Some a) (Some b) places shown w is =
     subst (λ z. ShowsFree z home) (sym (is ∙ shown)) (
       off ∙ there.home_free,
@@ -108,7 +108,7 @@ home_free_then shelf home (Some a) (Some b) places shown w is =
 home_free_then shelf home None (Some b) places shown w is = absurd shown
 home_free_then shelf home t None places shown w is = absurd is
 
-pub home_free_now : (shelf home : Path) (t : Option Told) → ((v : View) → IsSeen t v → HomePlaces v false shelf home) → (w : View) → IsSeen t w → ShowsFree w home
+pub home_free_now : (shelf home : Path) (t : Option Told) → IfSeen t (λ v. HomePlaces v false shelf home) → IfSeen t (λ w. ShowsFree w home)
 home_free_now shelf home t places w is =
     let there : HomePlaces w false shelf home = places w is in
     (there.home_free, ap w (ap parent there.inside.1 ∙ parent-child shelf there.inside.0) ∙ there.shelf_there refl)
@@ -139,8 +139,8 @@ pub adds_err : (work : Path) (edits : List Edit) (files : List (List ℕ)) (t u 
 adds_err work edits files t u fault (Err other) err adds = adds
 adds_err work edits files t u fault (Ok value) err adds = let clash : false ≡ true = err in cc
 
-pub shelf_home : (shelf home : Path) (wants : Bool) (t u : Option Told) (result : Result (Unit {0}) FolderFault) → wants ≡ true → ((v : View) → IsSeen t v → HomePlaces v wants shelf home)
-    → OnOk result (FromTo (λ a b. seen b.state ≡ put_found (seen a.state) shelf Folder) t u) → OnOk result ((w : View) → IsSeen u w → ShowsFree w home)
+pub shelf_home : (shelf home : Path) (wants : Bool) (t u : Option Told) (result : Result (Unit {0}) FolderFault) → wants ≡ true → IfSeen t (λ v. HomePlaces v wants shelf home)
+    → OnOk result (FromTo (λ a b. seen b.state ≡ put_found (seen a.state) shelf Folder) t u) → OnOk result (IfSeen u (λ w. ShowsFree w home))
 shelf_home shelf home wants t u (Err fault) is places shown = tt
 shelf_home shelf home wants t u (Ok value) is places shown = home_free_then shelf home t u (λ v seen_so. subst (λ b. HomePlaces v b shelf home) is (places v seen_so)) shown
 

@@ -7,7 +7,7 @@ use Rattle.folder_spec.specs.State.{IsSound}
 use Rattle.folder_spec.specs.Event.{Told}
 use Rattle.folder_spec.specs.Moments.{Went}
 use Rattle.folder_spec.specs.Region.{at_or_below}
-use Rattle.folder_spec.specs.Seen.{seen, IsSeen, ShowsFile, under}
+use Rattle.folder_spec.specs.Seen.{IfSeen, IsSeen, ShowsFile, seen, under}
 use Rattle.folder_spec.specs.View.{View}
 use Rattle.folder_spec.proofs.Moments.{went_nowhere}
 use Rattle.folder_spec.proofs.Regions.{as_before}
@@ -46,7 +46,7 @@ use Rattle.vault_write.proofs.TreesShown.{old_alone}
 
 -- ---- where nothing was changed
 
-put_refused_one : (p : Placing) (ending : Ending) (t : Option Told) (fault : PutFault) → ((v : View) → IsSeen t v → AnswersPut p [] ending (under p.vault.root v) (Err fault)) → MakesOne InPlace p ending [] t t (Err fault)
+put_refused_one : (p : Placing) (ending : Ending) (t : Option Told) (fault : PutFault) → IfSeen t (λ v. AnswersPut p [] ending (under p.vault.root v) (Err fault)) → MakesOne InPlace p ending [] t t (Err fault)
 put_refused_one p ending t fault answer = record {
   enough = omega arith;
   makes = record {
@@ -64,7 +64,7 @@ put_refused_one p ending t fault answer = record {
 }
 
 pub put_refused : (vault : OpenedVault) (work : Path) (front : plain.Path) (name : List ℕ) (coming : Option Coming) (stream : Option ByteStream) (t : Option Told) (fault : PutFault)
-    → ((content : List ℕ) (ending : Ending) (v : View) → IsSeen t v → AnswersPut (placing vault work front name (NewFile content)) [] ending (under vault.root v) (Err fault))
+    → ((content : List ℕ) (ending : Ending) → IfSeen t (λ v. AnswersPut (placing vault work front name (NewFile content)) [] ending (under vault.root v) (Err fault)))
     → PlacesFile InPlace vault work front name coming coming stream stream t t (Err fault)
 put_refused vault work front name coming stream t fault answers = record {
   writing = untaken coming;
@@ -124,7 +124,7 @@ absent_under enters f v front name refusal refused =
 
 -- what a call refuses that looks for a place, whatever stands there
 pub over_refused : Enters → (vault : OpenedVault) (work : Path) (front : plain.Path) (name content : List ℕ) (t : Option Told) (fault : PutFault) → RefusesItem vault front name (NewFile content) [] t fault → IsOverFault vault front t fault
-    → (ending : Ending) (v : View) → IsSeen t v → AnswersPut (placing vault work front name (NewFile content)) [] ending (under vault.root v) (Err fault)
+    → (ending : Ending) → IfSeen t (λ v. AnswersPut (placing vault work front name (NewFile content)) [] ending (under vault.root v) (Err fault))
 over_refused enters vault work front name content t (puts.Find fault) refuses over ending v is =
     subst (λ s. AnswersPutBy s (placing vault work front name (NewFile content)) [] ending (under vault.root v) (Err (puts.Find fault)))
     (sym (absent_under enters (format_of vault.vault) (under vault.root v) front name (over v is).0 (over v is).1)) (refuses work ending v is)
@@ -149,7 +149,7 @@ at_directory (Strange at) p ending u fault is allowed same = absurd is
 at_directory Absent p ending u fault is allowed same = absurd is
 
 pub directory_refused : (vault : OpenedVault) (work : Path) (path front : plain.Path) (name content : List ℕ) (t : Option Told) (fault : PutFault) → path ≡ front ++ name ∷ [] → Allows (format_of vault.vault) name
-    → IsAtDirectory vault path t fault → (ending : Ending) (v : View) → IsSeen t v → AnswersPut (placing vault work front name (NewFile content)) [] ending (under vault.root v) (Err fault)
+    → IsAtDirectory vault path t fault → (ending : Ending) → IfSeen t (λ v. AnswersPut (placing vault work front name (NewFile content)) [] ending (under vault.root v) (Err fault))
 directory_refused vault work path front name content t fault is allowed (inl failed) ending v seen_so =
     subst (λ x. AnswersPut (placing vault work front name (NewFile content)) [] ending (under vault.root v) (Err x)) (sym failed)
     (failed_by (standing (format_of vault.vault) (under vault.root v) (front ++ name ∷ [])) (placing vault work front name (NewFile content)) ending (under vault.root v))
@@ -187,7 +187,7 @@ answers_new (File at) p drawn ending u result is answers = absurd is
 answers_new (Dir at directory) p drawn ending u result is answers = absurd is
 
 pub put_new : (vault : OpenedVault) (work : Path) (front : plain.Path) (name : List ℕ) (coming left : Option Coming) (stream stream' : Option ByteStream) (t u : Option Told) (result : Result (Unit {0}) PutFault)
-    → ((v : View) → IsSeen t v → StandsAs vault.root (standing (format_of vault.vault) (under vault.root v) (front ++ name ∷ [])) None)
+    → IfSeen t (λ v. StandsAs vault.root (standing (format_of vault.vault) (under vault.root v) (front ++ name ∷ [])) None)
     → PlacesFile New vault work front name coming left stream stream' t u result → PlacesFile InPlace vault work front name coming left stream stream' t u result
 put_new vault work front name coming left stream stream' t u result stands k = record {
   writing = k.writing;
@@ -254,15 +254,15 @@ replaced_at vault laws work front name at t sound may stands content drawn a is 
 
 -- what stands under a name, by what stands at its path
 pub stands_then : (vault : OpenedVault) (path front : plain.Path) (name : List ℕ) (file : Option Path) (t u : Option Told) → path ≡ front ++ name ∷ [] → u ≡ t
-    → ((v : View) → IsSeen t v → StandsAs vault.root (standing (format_of vault.vault) (under vault.root v) path) file)
-    → (v : View) → IsSeen u v → StandsAs vault.root (standing (format_of vault.vault) (under vault.root v) (front ++ name ∷ [])) file
+    → IfSeen t (λ v. StandsAs vault.root (standing (format_of vault.vault) (under vault.root v) path) file)
+    → IfSeen u (λ v. StandsAs vault.root (standing (format_of vault.vault) (under vault.root v) (front ++ name ∷ [])) file)
 stands_then vault path front name file t u is same stands v seen_so =
     subst (λ q. StandsAs vault.root (standing (format_of vault.vault) (under vault.root v) q) file) is (stands v (subst (λ o. IsSeen o v) same seen_so))
 
 -- ---- entering
 
 -- how looking for a directory fails
-pub over_fault : (vault : OpenedVault) (front : plain.Path) (t : Option Told) (fault : FindFault) → ((v : View) → IsSeen t v → Refuses vault.root (enter (format_of vault.vault) (under vault.root v) front) fault)
+pub over_fault : (vault : OpenedVault) (front : plain.Path) (t : Option Told) (fault : FindFault) → IfSeen t (λ v. Refuses vault.root (enter (format_of vault.vault) (under vault.root v) front) fault)
     → IsOverFault vault front t (of_find fault)
 over_fault vault front t (finds.NotFound path) refuses = λ v is. (spec.NotFound path, refuses v is)
 over_fault vault front t (finds.WrongKind path) refuses = λ v is. (spec.WrongKind path, refuses v is)

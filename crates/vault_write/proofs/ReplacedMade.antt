@@ -12,7 +12,7 @@ use Rattle.folder_spec.specs.State.{State, IsSound}
 use Rattle.folder_spec.specs.Edit.{Edit, edited, edits_under, file_edit, view_after, PublishesIn, HasSettledIn}
 use Rattle.folder_spec.specs.Event.{Call, MakeDir, Create, Append, Sync, Settle, Rename, RemoveFile, RemoveDir, Told, FromTo}
 use Rattle.folder_spec.specs.Moments.{Moments, Went}
-use Rattle.folder_spec.specs.Seen.{seen, IsSeen, under}
+use Rattle.folder_spec.specs.Seen.{IfSeen, IsSeen, seen, under}
 use Rattle.folder_spec.specs.View.{View}
 use Rattle.folder_spec.proofs.Moments.{went_more, went_to}
 use Rattle.folder_spec.proofs.Tellings.{from_to_more}
@@ -139,7 +139,7 @@ module _ (shows : EditsShowTrees) (settles : SettledEditsShowTrees) (roots : Roo
         (λ a b is e. went_replacing a b (k a is) e) went
 
     over : (t : Option Told) → ((a : Told) → t ≡ Some a → IsReplaced p (opens_as p.item) drawn at bytes a) → (ending : Ending) (result : Result (Unit {0}) PutFault) → ((x : View) → AnswersOver p drawn ending x result)
-        → (v : View) → IsSeen t v → AnswersPut p drawn ending (under p.vault.root v) result
+        → IfSeen t (λ v. AnswersPut p drawn ending (under p.vault.root v) result)
     over (Some a) at_told ending result answers v is = subst (λ x. AnswersPut p drawn ending (under p.vault.root x) result) (sym is)
         (subst (λ s. AnswersPutBy s p drawn ending (under p.vault.root (seen a.state)) result) (sym (at_told a refl).stands) (answers (under p.vault.root (seen a.state))))
     over None at_told ending result answers v is = absurd is
@@ -157,7 +157,7 @@ module _ (shows : EditsShowTrees) (settles : SettledEditsShowTrees) (roots : Roo
       answer = over t k Whole (Ok tt) (λ x. (allowed, refl, size, none));
     }
       where
-        is_ready : (t w : Option Told) → FromTo (HasFinished p.work p.vault.root (replace_making at bytes)) t w → (v : View) → IsSeen w v → IsReady v p.work
+        is_ready : (t w : Option Told) → FromTo (HasFinished p.work p.vault.root (replace_making at bytes)) t w → IfSeen w (λ v. IsReady v p.work)
         is_ready (Some a) (Some b) h v is = subst (λ z. IsReady z p.work) (sym is) h.ready
         is_ready None (Some b) h v is = absurd h
         is_ready t None h v is = absurd is
@@ -240,7 +240,7 @@ module _ (keeps : EditsBeforeTheLastKeepTrees) (roots : RootsShow) (p : Placing)
     ends_only t None at_told fault h u v is_u is_v = absurd is_v
 
     over_stopped : (t : Option Told) → ((a : Told) → t ≡ Some a → IsReplaced p opens drawn at bytes a) → (ending : Ending) (fault : PutFault) → ((x : View) → AnswersOver p drawn ending x (Err fault))
-        → (v : View) → IsSeen t v → AnswersPut p drawn ending (under p.vault.root v) (Err fault)
+        → IfSeen t (λ v. AnswersPut p drawn ending (under p.vault.root v) (Err fault))
     over_stopped (Some a) at_told ending fault answers v is = subst (λ x. AnswersPut p drawn ending (under p.vault.root x) (Err fault)) (sym is)
         (subst (λ s. AnswersPutBy s p drawn ending (under p.vault.root (seen a.state)) (Err fault)) (sym (at_told a refl).stands) (answers (under p.vault.root (seen a.state))))
     over_stopped None at_told ending fault answers v is = absurd is

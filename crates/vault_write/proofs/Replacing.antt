@@ -10,8 +10,8 @@ use Rattle.folder_spec.specs.State.{State, IsSound}
 use Rattle.folder_spec.specs.Edit.{edited, file_edit, file_view, HasPublishedIn, HasSettledIn}
 use Rattle.folder_spec.specs.Event.{Settle, Rename, Allowed, Outcome, changed, Told, Steps, Changes, FromTo}
 use Rattle.folder_spec.specs.Region.{StagesAt, apart_from}
-use Rattle.folder_spec.specs.Seen.{seen, moved_view, moved_found, IsSeen, ShowsFile, ShowsFree}
-use Rattle.folder_spec.specs.View.{NoEntry, FileOf, View}
+use Rattle.folder_spec.specs.Seen.{IfSeen, ShowsFile, ShowsFree, moved_found, moved_view, seen}
+use Rattle.folder_spec.specs.View.{NoEntry, FileOf}
 use Rattle.folder_spec.proofs.Edits.{at_edit, off_edit, published, publishes_nothing, settle_publishes, settled}
 use Rattle.folder_spec.proofs.Moments.{went_on, went_by_call, went_to}
 use Rattle.folder_spec.proofs.Paths.{begins_or_not, below-append, child-not_base}
@@ -230,7 +230,7 @@ pub replaces_err : (work root at : Path) (bytes : List ℕ) (t u : Option Told) 
 replaces_err work root at bytes t u fault (Err other) err does = does
 replaces_err work root at bytes t u fault (Ok value) err does = let clash : false ≡ true = err in cc
 
-pub replace_free : (work root at : Path) (x : Part) (place : Path) (t : Option Told) → place ≡ child (stage_path work) x → ((a : Told) → t ≡ Some a → MayReplace work root at a) → (v : View) → IsSeen t v → ShowsFree v place
+pub replace_free : (work root at : Path) (x : Part) (place : Path) (t : Option Told) → place ≡ child (stage_path work) x → ((a : Told) → t ≡ Some a → MayReplace work root at a) → IfSeen t (λ v. ShowsFree v place)
 replace_free work root at x place (Some a) is may v is_seen = subst (ShowsFree v) (sym is) (free_in_stage work x v (subst (λ z. IsReady z work) (sym is_seen) (may a refl).ready))
 replace_free work root at x place None is may v is_seen = absurd is_seen
 

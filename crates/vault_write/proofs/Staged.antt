@@ -7,7 +7,7 @@ use Rattle.folder_spec.specs.State.{present, IsSound}
 use Rattle.folder_spec.specs.Event.{Told, FromTo}
 use Rattle.folder_spec.specs.Edit.{edited, directory_edit, file_among, folder_view}
 use Rattle.folder_spec.specs.Replace.{IsNewFile}
-use Rattle.folder_spec.specs.Seen.{IsSeen, ShowsFree, ShowsFilePlace}
+use Rattle.folder_spec.specs.Seen.{IfSeen, ShowsFilePlace, ShowsFree}
 use Rattle.folder_spec.specs.View.{Found, NoEntry, Folder, FileOf, View}
 use Rattle.folder_spec.proofs.Paths.{parent-child}
 use Rattle.folder_staging.specs.Pieces.{Stages}
@@ -23,7 +23,7 @@ abbrev pub MoreFiles : Type 0
 MoreFiles = (files more : List (List ℕ)) (at : Path) (before now : Option Told) → ((file : List ℕ) → Contains files file → Contains more file) → Stages files at before now → Stages more at before now
 
 abbrev pub AreSeen : Type 0
-AreSeen = (contents : List (List ℕ)) (at : Path) (made : View) (before now : Option Told) → HasStaged contents at made before now → (v : View) → IsSeen now v → (rest : Path) → v (at ++ rest) ≡ made rest
+AreSeen = (contents : List (List ℕ)) (at : Path) (made : View) (before now : Option Told) → HasStaged contents at made before now → IfSeen now (λ v. (rest : Path) → v (at ++ rest) ≡ made rest)
 
 abbrev pub FilesDuring : Type 0
 FilesDuring = (contents : List (List ℕ)) (at : Path) (name : Part) (files : List (Part × List ℕ)) (before mid now : Option Told) → IsStagedFolder contents at files before mid
@@ -56,11 +56,11 @@ file_or_none : (files : List (Part × List ℕ)) (name : Part) → (file_among f
 file_or_none [] name = inl refl
 file_or_none (f ∷ files) name = file_by (bytes_eq f.0 name) f.1 (file_among files name) (file_or_none files name)
 
-root_seen : AreSeen → (contents : List (List ℕ)) (at : Path) (made : View) (t u : Option Told) → made [] ≡ Folder → HasStaged contents at made t u → (v : View) → IsSeen u v → v at ≡ Folder
+root_seen : AreSeen → (contents : List (List ℕ)) (at : Path) (made : View) (t u : Option Told) → made [] ≡ Folder → HasStaged contents at made t u → IfSeen u (λ v. v at ≡ Folder)
 root_seen law contents at made t u folder h v is = ap v (sym (append-nil at)) ∙ law contents at made t u h v is [] ∙ folder
 
 pub place_in_staged : AreSeen → (contents : List (List ℕ)) (at : Path) (files : List (Part × List ℕ)) (t u : Option Told) (name : Part) → IsStagedFolder contents at files t u
-    → (v : View) → IsSeen u v → ShowsFilePlace v (child at name)
+    → IfSeen u (λ v. ShowsFilePlace v (child at name))
 place_in_staged law contents at files t u name h v is = elim (file_or_none files name) as (λ _. ShowsFilePlace v (child at name)) [
   | inl none ↦ inl (law contents at (folder_view files) t u h v is (name ∷ []) ∙ none, ap v (parent-child at name) ∙ root_seen law contents at (folder_view files) t u refl h v is)
   | inr file ↦ inr (file.0, law contents at (folder_view files) t u h v is (name ∷ []) ∙ file.1)
@@ -99,7 +99,7 @@ module _ (more : MoreFiles) (during : FilesDuring) (gained : FilesGained) (stage
 
 -- ---- directories
 
-pub free_in_new : AreSeen → (at : Path) (name : Part) (t u : Option Told) → IsStagedFolder [] at [] t u → (v : View) → IsSeen u v → ShowsFree v (child at name)
+pub free_in_new : AreSeen → (at : Path) (name : Part) (t u : Option Told) → IsStagedFolder [] at [] t u → IfSeen u (λ v. ShowsFree v (child at name))
 free_in_new law at name t u h v is =
     (law [] at (folder_view []) t u h v is (name ∷ []), ap v (parent-child at name) ∙ root_seen law [] at (folder_view []) t u refl h v is)
 
@@ -152,7 +152,7 @@ pub with_home_staged : (staged : Path) (text : List ℕ) (made : View) (files : 
 with_home_staged staged text made files t u w result whole home contents within = home t contents made (whole contents within).1
 
 pub free_for_home : AreSeen → (staged : Path) (made : View) (files : List (List ℕ)) (t u : Option Told) → made [] ≡ Folder → made (top ∷ []) ≡ NoEntry
-    → StagesWhole staged made files t u (Ok tt) → (v : View) → IsSeen u v → ShowsFree v (child staged top)
+    → StagesWhole staged made files t u (Ok tt) → IfSeen u (λ v. ShowsFree v (child staged top))
 free_for_home law staged made files t u folder none whole v is =
     let h : HasStaged files staged made t u = (whole files (λ file among. among)).1 in
     (law files staged made t u h v is (top ∷ []) ∙ none, ap v (parent-child staged top) ∙ root_seen law files staged made t u folder h v is)

@@ -4,7 +4,7 @@ use Rattle.chunk_files.specs.Keys.{Keys}
 use Rattle.port_model.specs.Draws.{ByteStream, Draws}
 use Rattle.folder_spec.specs.Path.{Path, below}
 use Rattle.folder_spec.specs.Event.{Told}
-use Rattle.folder_spec.specs.Seen.{IsSeen, under}
+use Rattle.folder_spec.specs.Seen.{IfSeen, under}
 use Rattle.folder_spec.specs.View.{View}
 use Rattle.plain_tree.specs.Names as plain
 use Rattle.vault_read.specs.Opened.{OpenedVault}
@@ -39,7 +39,7 @@ AnswersRoot InPlace root result = PutsRoot result
 pub record MakesOne (how : How) (p : Placing) (ending : Ending) (drawn : List ℕ) (before after : Option Told) (result : Result (Unit {0}) PutFault) : Type 0 where
   pub enough : length drawn ≤ draws (format p) p.item
   pub makes : Makes p ending (making_by how p drawn) before after result
-  pub answer : (v : View) → IsSeen before v → AnswersBy how p drawn ending (under p.vault.root v) result
+  pub answer : IfSeen before (λ v. AnswersBy how p drawn ending (under p.vault.root v) result)
 
 -- at a plain path; the root isn't made
 pub record MakesAt (how : How) (vault : OpenedVault) (work : Path) (path : plain.Path) (item : NewItem) (ending : Ending) (drawn : List ℕ) (before after : Option Told) (result : Result (Unit {0}) PutFault) : Type 0 where

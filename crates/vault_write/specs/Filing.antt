@@ -10,7 +10,7 @@ use Rattle.folder_spec.specs.Edit.{Edit, file_edit, file_view, folder_view}
 use Rattle.folder_spec.specs.Event.{Told, FromTo}
 use Rattle.folder_spec.specs.Path.{Path, below, child}
 use Rattle.folder_spec.specs.Region.{at_or_below}
-use Rattle.folder_spec.specs.Seen.{seen, under, IsSeen, ShowsFile, ShowsFree}
+use Rattle.folder_spec.specs.Seen.{IfSeen, ShowsFile, ShowsFree, seen, under}
 use Rattle.folder_spec.specs.State.{IsSound}
 use Rattle.folder_spec.specs.View.{NoEntry, View}
 use Rattle.folder_staging.specs.Folders.{StagesFolder, HasStaged}
@@ -96,7 +96,7 @@ DoesLast work e files old new result =
 -- A call puts there at once what was staged, and settles, since whenever it has been staged.
 abbrev pub PublishesEntry : Path → Path → Option Told → Option Told → Result (Unit {0}) FolderFault → Type 0
 PublishesEntry staged at old new result =
-    (work : Path) (made : View) (files : List (List ℕ)) (before : Option Told) → staged ≡ child (stage_path work) (codes "f") → ((v : View) → IsSeen before v → ShowsFree v at)
+    (work : Path) (made : View) (files : List (List ℕ)) (before : Option Told) → staged ≡ child (stage_path work) (codes "f") → IfSeen before (λ v. ShowsFree v at)
     → HasStaged files staged made before old → DoesLast work (record { at = at; made = made }) files before new result
 
 -- nothing but these files was staged
@@ -163,12 +163,12 @@ pub record PlacesFile (how : How) (vault : OpenedVault) (work : Path) (front : p
 -- The name is allowed. Where nothing stands at its entry, it is a slot, and else that is taken.
 pub record IsSlotOver (vault : OpenedVault) (front : plain.Path) (name : List ℕ) (told : Option Told) (at side : Path) (full : Option (List ℕ)) : Type 0 where
   pub allowed : Allows (format_of vault.vault) name
-  pub free : ((v : View) → IsSeen told v → v at ≡ NoEntry) → (v : View) → IsSeen told v → IsSlot vault (format_of vault.vault) front name (under vault.root v) at side full
+  pub free : IfSeen told (λ v. v at ≡ NoEntry) → IfSeen told (λ v. IsSlot vault (format_of vault.vault) front name (under vault.root v) at side full)
   pub taken : (item : NewItem) (fault : PutFault) → IsTakenAt at told fault → RefusesItem vault front name item [] told fault
 
 -- why the place under a name isn't found: the directory isn't entered, the name isn't allowed, or the folder or memory failed
 abbrev pub IsOverFault : OpenedVault → plain.Path → Option Told → PutFault → Type 0
-IsOverFault vault front told (puts.Find fault) = (v : View) → IsSeen told v → (refusal : Refusal) × (enter (format_of vault.vault) (under vault.root v) front ≡ Err refusal)
+IsOverFault vault front told (puts.Find fault) = IfSeen told (λ v. (refusal : Refusal) × (enter (format_of vault.vault) (under vault.root v) front ≡ Err refusal))
 IsOverFault vault front told (puts.NotAllowed path) = Unit {0}
 IsOverFault vault front told puts.Failed = Unit {0}
 IsOverFault vault front told puts.NoMemory = Unit {0}
@@ -198,8 +198,8 @@ IsDir (Strange at) = ⊥
 -- a directory stands there, where the folder and memory serve
 abbrev pub IsAtDirectory : OpenedVault → plain.Path → Option Told → PutFault → Type 0
 IsAtDirectory vault path told fault =
-    (fault ≡ puts.Failed) ⊎ ((fault ≡ puts.NoMemory) ⊎ ((fault ≡ puts.Find (finds.WrongKind path)) × ((v : View) → IsSeen told v → IsDir (standing (format_of vault.vault) (under vault.root v) path))))
+    (fault ≡ puts.Failed) ⊎ ((fault ≡ puts.NoMemory) ⊎ ((fault ≡ puts.Find (finds.WrongKind path)) × (IfSeen told (λ v. IsDir (standing (format_of vault.vault) (under vault.root v) path)))))
 
 -- a file stands there with its content at this path
 abbrev pub StandsUnder : OpenedVault → plain.Path → List ℕ → Option Told → Path → Type 0
-StandsUnder vault front name told at = (v : View) → IsSeen told v → StandsAs vault.root (standing (format_of vault.vault) (under vault.root v) (front ++ name ∷ [])) (Some at)
+StandsUnder vault front name told at = IfSeen told (λ v. StandsAs vault.root (standing (format_of vault.vault) (under vault.root v) (front ++ name ∷ [])) (Some at))

@@ -17,7 +17,7 @@ use Rattle.folder_spec.specs.Edit.{Edit, directory_edit, view_after, PublishesIn
 use Rattle.folder_spec.specs.Event.{Told, FromTo}
 use Rattle.folder_spec.specs.Moments.{Moments}
 use Rattle.folder_spec.specs.Region.{IsAsBefore}
-use Rattle.folder_spec.specs.Seen.{IsSeen, ShowsFree}
+use Rattle.folder_spec.specs.Seen.{IfSeen, ShowsFree}
 use Rattle.folder_spec.specs.View.{View}
 use Rattle.folder_spec.specs.Written.{HoldFronts}
 use Rattle.folder_staging.specs.Folders.{StagesFolder, HasStaged}
@@ -34,7 +34,7 @@ use Rattle.vault_write.specs.Placing.{MayMake}
 -- the stage is ready, and nothing stands at the path in a directory
 pub record MayFound (told : Option Told) (work at : Path) : Type 0 where
   pub make : MayMake told work at
-  pub free : (v : View) → IsSeen told v → ShowsFree v at
+  pub free : IfSeen told (λ v. ShowsFree v at)
 
 -- the bytes of some files
 abbrev pub texts : List (Part × List ℕ) → List (List ℕ)
@@ -61,7 +61,7 @@ pub record IsFounding (work : Path) (vault : Edit) (files : List (List ℕ)) (s0
 pub record Founds {E : Type 0} (work at : Path) (made : View) (files : List (Part × List ℕ)) (before after : Option Told) (result : Result (Unit {0}) E) : Type 0 where
   pub moments : Moments (IsFounding work (vault_edit at made) (texts files)) (λ s0 s e. StagesOrPlaces work (founding at made files) s e.call) before after
   pub done : OnOk result (FromTo (λ a b. HasSettledIn (is_unstaged work) (vault_edit at made ∷ []) a.state b.state) before after)
-  pub ready : OnOk result ((v : View) → IsSeen after v → IsReady v work)
+  pub ready : OnOk result (IfSeen after (λ v. IsReady v work))
 
 -- The passphrase opens the view as this vault, and it is tidy and has no items.
 pub record IsNewVault (made : View) (pass : List ℕ) (vault : Vault) : Type 0 where

@@ -5,7 +5,7 @@ use Rattle.folder_spec.specs.State.{Table, State, IsTableOf}
 use Rattle.folder_spec.specs.Event.{Told, FromTo}
 use Rattle.folder_spec.specs.Moments.{Moments}
 use Rattle.folder_spec.specs.Region.{IsAsBefore, at_or_below}
-use Rattle.folder_spec.specs.Seen.{IsSeen, seen, under}
+use Rattle.folder_spec.specs.Seen.{IfSeen, IsSeen, seen, under}
 use Rattle.folder_spec.specs.View.{View, Shows, ShowsAmong}
 use Rattle.folder_spec.specs.Written.{HoldFronts}
 use Rattle.work_folder.specs.Entering.{IsReady}
@@ -21,7 +21,7 @@ use Rattle.content_writing.specs.declared.fault.PutFault.TheVariants as puts
 
 -- Where a folder tells its state, the stage is a directory without entries; and the work folder and the vault are apart.
 pub record MayMake (told : Option Told) (work root : Path) : Type 0 where
-  pub ready : (v : View) → IsSeen told v → IsReady v work
+  pub ready : IfSeen told (λ v. IsReady v work)
   pub apart : below work root ≡ None
   pub beside : below root work ≡ None
 
@@ -82,5 +82,5 @@ EndsAs p v w (Err puts.Random) = OpensAs (format p) v w
 pub record Makes (p : Placing) (ending : Ending) (making : View → Making) (before after : Option Told) (result : Result (Unit {0}) PutFault) : Type 0 where
   pub moments : Moments (λ s0 s. IsMaking p ending (making_at p making s0) s0 s) (λ s0 s e. StagesOrPlaces p.work (making_at p making s0) s e.call) before after
   pub done : OnOk result (FromTo (λ a b. ShowsNewTree p a.state b.state) before after)
-  pub ready : OnOk result ((v : View) → IsSeen after v → IsReady v p.work)
+  pub ready : OnOk result (IfSeen after (λ v. IsReady v p.work))
   pub ends : (v w : View) → IsSeen before v → IsSeen after w → EndsAs p (under p.vault.root v) (under p.vault.root w) result

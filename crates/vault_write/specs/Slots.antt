@@ -5,7 +5,7 @@ use Rattle.port_model.specs.Counts.{CountRose}
 use Rattle.port_model.specs.Draws.{ByteStream, Draws}
 use Rattle.folder_spec.specs.Event.{Told}
 use Rattle.folder_spec.specs.Path.{Path, child}
-use Rattle.folder_spec.specs.Seen.{IsSeen, under}
+use Rattle.folder_spec.specs.Seen.{IfSeen, under}
 use Rattle.folder_spec.specs.View.{Found, NoEntry, Folder, FileOf, Special, View}
 use Rattle.plain_tree.specs.Names as plain
 use Rattle.vault_read.specs.Opened.{OpenedVault}
@@ -38,7 +38,7 @@ pub record IsSlot (vault : OpenedVault) (f : Format) (front : plain.Path) (name 
 -- What a call refuses that looks for the places of an item with these bytes drawn, the item is refused for.
 abbrev pub RefusesItem : OpenedVault → plain.Path → List ℕ → NewItem → List ℕ → Option Told → PutFault → Type 0
 RefusesItem vault front name item drawn told fault =
-    (work : Path) (ending : Ending) (v : View) → IsSeen told v → Answers (placing vault work front name item) drawn ending (under vault.root v) (Err fault)
+    (work : Path) (ending : Ending) → IfSeen told (λ v. Answers (placing vault work front name item) drawn ending (under vault.root v) (Err fault))
 
 -- the count of faults of a folder never falls, and it is named as the cause only where that rose
 pub record CountsFailed {T : Type 0} (failed : PutFault) (before after : ℕ) (result : Result T PutFault) : Type 0 where
@@ -48,21 +48,21 @@ pub record CountsFailed {T : Type 0} (failed : PutFault) (before after : ℕ) (r
 -- a place is taken, where the folder and memory serve
 abbrev pub IsTakenAt : Path → Option Told → PutFault → Type 0
 IsTakenAt at told fault =
-    (fault ≡ puts.Failed) ⊎ ((fault ≡ puts.NoMemory) ⊎ ((fault ≡ puts.Taken at) × ((v : View) → IsSeen told v → v at ≢ NoEntry)))
+    (fault ≡ puts.Failed) ⊎ ((fault ≡ puts.NoMemory) ⊎ ((fault ≡ puts.Taken at) × (IfSeen told (λ v. v at ≢ NoEntry))))
 
 -- and that of a long name's text, where it isn't that text
 abbrev pub IsSideTaken : Path → Option (List ℕ) → Option Told → PutFault → Type 0
 IsSideTaken side full told fault =
-    (fault ≡ puts.Failed) ⊎ ((fault ≡ puts.NoMemory) ⊎ ((fault ≡ puts.Taken side) × ((v : View) → IsSeen told v → taken_unless side (v side) full ≡ Some side)))
+    (fault ≡ puts.Failed) ⊎ ((fault ≡ puts.NoMemory) ⊎ ((fault ≡ puts.Taken side) × (IfSeen told (λ v. taken_unless side (v side) full ≡ Some side))))
 
 -- and that of the folder above a content folder, where it is no folder
 abbrev pub IsShelfTaken : Path → Option Told → PutFault → Type 0
 IsShelfTaken shelf told fault =
-    (fault ≡ puts.Failed) ⊎ ((fault ≡ puts.NoMemory) ⊎ ((fault ≡ puts.Taken shelf) × ((v : View) → IsSeen told v → taken_unless_folder shelf (v shelf) ≡ Some shelf)))
+    (fault ≡ puts.Failed) ⊎ ((fault ≡ puts.NoMemory) ⊎ ((fault ≡ puts.Taken shelf) × (IfSeen told (λ v. taken_unless_folder shelf (v shelf) ≡ Some shelf))))
 
 -- one of the two is taken, the content folder's first
 abbrev pub IsHomeTaken : Path → Path → Option Told → PutFault → Type 0
-IsHomeTaken shelf home told fault = IsTakenAt home told fault ⊎ (((v : View) → IsSeen told v → v home ≡ NoEntry) × IsShelfTaken shelf told fault)
+IsHomeTaken shelf home told fault = IsTakenAt home told fault ⊎ ((IfSeen told (λ v. v home ≡ NoEntry)) × IsShelfTaken shelf told fault)
 
 -- the text of a long name is still to be put beside its entry
 abbrev pub wants_text : Found → Option (List ℕ) → Bool

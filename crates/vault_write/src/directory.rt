@@ -1,8 +1,7 @@
 //! Making directories.
 ghost use Rattle.std.specs.Prelude.{◌≡◌, ◌≤◌, ◌∷◌, ◌++◌, [], Err, IfErr, OnOk, IsTrue};
 ghost use Rattle.folder_spec.specs.Path.{Path};
-ghost use Rattle.folder_spec.specs.Seen.{IsSeen, ShowsFree, under};
-ghost use Rattle.folder_spec.specs.View.{View};
+ghost use Rattle.folder_spec.specs.Seen.{IfSeen, ShowsFree, under};
 ghost use Rattle.folder_model.specs.Answers.{CountsAbove};
 ghost use Rattle.plain_tree.specs.Names.{is_name};
 ghost use Rattle.port_model.specs.Counts.{CountRose};
@@ -101,7 +100,7 @@ fn place_go<F: Folder, R: Randoms>(
     requires kind { kind_of vault.now.vault ≡ VaultKind.Gocryptfs }
     requires named { IsTrue (is_name name.now) }
     requires may { MayMake (F.told folder.old) work.now vault.now.root }
-    requires slot { (v : View) → IsSeen (F.told folder.old) v → IsSlot vault.now (format_of vault.now.vault) front.now name.now (under vault.now.root v) slot.now.at slot.now.side slot.now.full }
+    requires slot { IfSeen (F.told folder.old) (λ v. IsSlot vault.now (format_of vault.now.vault) front.now name.now (under vault.now.root v) slot.now.at slot.now.side slot.now.full) }
     ensures made { PlacesOne (placing vault.now work.now front.now name.now NewDirectory) (R.left random.old) (R.left random.new) (F.told folder.old) (F.told folder.new) result }
     ensures fault { IfErr result (λ fault. IsDirectoryFault fault) }
     ensures failed { result ≡ Err PutFault.Failed → CountRose (F.faults folder.old) (F.faults folder.new) }
@@ -132,7 +131,7 @@ fn place_cm<F: Folder, R: Randoms>(
     requires kind { kind_of vault.now.vault ≡ VaultKind.Cryptomator }
     requires named { IsTrue (is_name name.now) }
     requires may { MayMake (F.told folder.old) work.now vault.now.root }
-    requires slot { (v : View) → IsSeen (F.told folder.old) v → IsSlot vault.now (format_of vault.now.vault) front.now name.now (under vault.now.root v) slot.now.at slot.now.side slot.now.full }
+    requires slot { IfSeen (F.told folder.old) (λ v. IsSlot vault.now (format_of vault.now.vault) front.now name.now (under vault.now.root v) slot.now.at slot.now.side slot.now.full) }
     ensures made { PlacesOne (placing vault.now work.now front.now name.now NewDirectory) (R.left random.old) (R.left random.new) (F.told folder.old) (F.told folder.new) result }
     ensures fault { IfErr result (λ fault. IsDirectoryFault fault) }
     ensures failed { result ≡ Err PutFault.Failed → CountRose (F.faults folder.old) (F.faults folder.new) }
@@ -162,7 +161,7 @@ fn make_go<F: Folder>(
     key: &[u8],
 ) -> Result<(), FolderFault>
     requires begun { HasBegun work.now vault.now.root (go_making wants slot.now.side slot.now.at slot.now.full key.now) (F.told folder.old) }
-    requires places { (v : View) → IsSeen (F.told folder.old) v → GoPlaces v work.now wants slot.now.side slot.now.at }
+    requires places { IfSeen (F.told folder.old) (λ v. GoPlaces v work.now wants slot.now.side slot.now.at) }
     ensures made { DoesEdits work.now vault.now.root (go_making wants slot.now.side slot.now.at slot.now.full key.now) (F.told folder.old) (F.told folder.new) result }
     ensures counts { CountsAbove (F.faults folder.old) (F.faults folder.new) result }
 {
@@ -179,9 +178,9 @@ fn make_shelf<F: Folder>(
     home: &FPath,
     wants: bool,
 ) -> Result<(), FolderFault>
-    requires { (v : View) → IsSeen (F.told folder.old) v → HomePlaces v wants shelf.now home.now }
+    requires { IfSeen (F.told folder.old) (λ v. HomePlaces v wants shelf.now home.now) }
     ensures made { (work : Path) → AddsEdits work (shelf_edits wants shelf.now) [] (F.told folder.old) (F.told folder.new) result }
-    ensures home { OnOk result ((v : View) → IsSeen (F.told folder.new) v → ShowsFree v home.now) }
+    ensures home { OnOk result (IfSeen (F.told folder.new) (λ v. ShowsFree v home.now)) }
     ensures counts { CountsAbove (F.faults folder.old) (F.faults folder.new) result }
 {
     if !wants {
@@ -197,7 +196,7 @@ fn make_home<F: Folder>(
     home: &FPath,
     wants: bool,
 ) -> Result<(), FolderFault>
-    requires { (v : View) → IsSeen (F.told folder.old) v → HomePlaces v wants shelf.now home.now }
+    requires { IfSeen (F.told folder.old) (λ v. HomePlaces v wants shelf.now home.now) }
     ensures made { (work : Path) → AddsEdits work (home_edits wants shelf.now home.now) [] (F.told folder.old) (F.told folder.new) result }
     ensures counts { CountsAbove (F.faults folder.old) (F.faults folder.new) result }
 {
@@ -215,7 +214,7 @@ fn make_cm<F: Folder>(
     id: &[u8],
 ) -> Result<(), FolderFault>
     requires begun { HasBegun work.now vault.now.root (cm_making folders.now.wants folders.now.shelf folders.now.home slot.now.at slot.now.full id.now) (F.told folder.old) }
-    requires places { (v : View) → IsSeen (F.told folder.old) v → CmPlaces v work.now folders.now.wants folders.now.shelf folders.now.home slot.now.at }
+    requires places { IfSeen (F.told folder.old) (λ v. CmPlaces v work.now folders.now.wants folders.now.shelf folders.now.home slot.now.at) }
     ensures made { DoesEdits work.now vault.now.root (cm_making folders.now.wants folders.now.shelf folders.now.home slot.now.at slot.now.full id.now) (F.told folder.old) (F.told folder.new) result }
     ensures counts { CountsAbove (F.faults folder.old) (F.faults folder.new) result }
 {

@@ -2,8 +2,7 @@
 ghost use Rattle.std.specs.Prelude.{◌≡◌, ◌≢◌, ◌⊎◌, ◌≤◌, ◌∷◌, ◌++◌, [], None, Some, Option, List, ℕ, IsTrue, IfOk, IfErr, OnOk};
 ghost use Rattle.folder_spec.specs.Event.{Told, Allowed, Rename};
 ghost use Rattle.folder_model.specs.Answers.{CountsAbove};
-ghost use Rattle.folder_spec.specs.Seen.{IsSeen, ShowsFree, under};
-ghost use Rattle.folder_spec.specs.View.{View};
+ghost use Rattle.folder_spec.specs.Seen.{IfSeen, ShowsFree, under};
 ghost use Rattle.plain_tree.specs.Names.{is_name};
 ghost use Rattle.vault_read.specs.Opened.{kind_of};
 ghost use Rattle.vault_spec.specs.Vault.{format_of};
@@ -157,7 +156,7 @@ fn standing_file<F: Folder>(
     path: &PlainPath,
 ) -> Result<Option<FPath>, PutFault>
     ensures told { F.told folder.new ≡ F.told folder.old }
-    ensures file { IfOk result (λ file. (v : View) → IsSeen (F.told folder.old) v → StandsAs vault.now.root (standing (format_of vault.now.vault) (under vault.now.root v) path.now) file) }
+    ensures file { IfOk result (λ file. IfSeen (F.told folder.old) (λ v. StandsAs vault.now.root (standing (format_of vault.now.vault) (under vault.now.root v) path.now) file)) }
     ensures fault { IfErr result (λ fault. IsAtDirectory vault.now path.now (F.told folder.old) fault) }
     ensures counts { CountsFailed PutFault.Failed (F.faults folder.old) (F.faults folder.new) result }
 {
@@ -347,7 +346,7 @@ fn place_in<F: Folder, R: Randoms, C: Content<F>>(
 ) -> Result<(), PutFault>
     requires named { IsTrue (is_name name.now) }
     requires may { MayMake (F.told folder.old) work.now vault.now.root }
-    requires slot { (v : View) → IsSeen (F.told folder.old) v → IsSlot vault.now (format_of vault.now.vault) front.now name.now (under vault.now.root v) slot.now.at slot.now.side slot.now.full }
+    requires slot { IfSeen (F.told folder.old) (λ v. IsSlot vault.now (format_of vault.now.vault) front.now name.now (under vault.now.root v) slot.now.at slot.now.side slot.now.full) }
     requires ready { IsReady (C.reads content.old) (F.told folder.old) (C.coming content.old) }
     requires elsewhere { ReadsElsewhere (C.reads content.old) work.now vault.now.root }
     ensures made { PlacesFile New vault.now work.now front.now name.now (still_coming (C.reads content.old) (F.told folder.old) (C.coming content.old)) (still_coming (C.reads content.old) (F.told folder.old) (C.coming content.new))
@@ -404,7 +403,7 @@ fn place_go<F: Folder, R: Randoms, C: Content<F>>(
     requires kind { kind_of vault.now.vault ≡ VaultKind.Gocryptfs }
     requires named { IsTrue (is_name name.now) }
     requires may { MayMake (F.told folder.old) work.now vault.now.root }
-    requires slot { (v : View) → IsSeen (F.told folder.old) v → IsSlot vault.now (format_of vault.now.vault) front.now name.now (under vault.now.root v) slot.now.at slot.now.side slot.now.full }
+    requires slot { IfSeen (F.told folder.old) (λ v. IsSlot vault.now (format_of vault.now.vault) front.now name.now (under vault.now.root v) slot.now.at slot.now.side slot.now.full) }
     requires ready { IsReady (C.reads content.old) (F.told folder.old) (C.coming content.old) }
     requires elsewhere { ReadsElsewhere (C.reads content.old) work.now vault.now.root }
     ensures made { PlacesFile New vault.now work.now front.now name.now (still_coming (C.reads content.old) (F.told folder.old) (C.coming content.old)) (still_coming (C.reads content.old) (F.told folder.old) (C.coming content.new))
@@ -453,7 +452,7 @@ fn place_cm<F: Folder, R: Randoms, C: Content<F>>(
     requires kind { kind_of vault.now.vault ≡ VaultKind.Cryptomator }
     requires named { IsTrue (is_name name.now) }
     requires may { MayMake (F.told folder.old) work.now vault.now.root }
-    requires slot { (v : View) → IsSeen (F.told folder.old) v → IsSlot vault.now (format_of vault.now.vault) front.now name.now (under vault.now.root v) slot.now.at slot.now.side slot.now.full }
+    requires slot { IfSeen (F.told folder.old) (λ v. IsSlot vault.now (format_of vault.now.vault) front.now name.now (under vault.now.root v) slot.now.at slot.now.side slot.now.full) }
     requires ready { IsReady (C.reads content.old) (F.told folder.old) (C.coming content.old) }
     requires elsewhere { ReadsElsewhere (C.reads content.old) work.now vault.now.root }
     ensures made { PlacesFile New vault.now work.now front.now name.now (still_coming (C.reads content.old) (F.told folder.old) (C.coming content.old)) (still_coming (C.reads content.old) (F.told folder.old) (C.coming content.new))
@@ -495,7 +494,7 @@ fn place_entry<F: Folder, R: Randoms, C: Content<F>>(
     random: &mut R,
     buffers: &mut Buffers,
 ) -> Result<(), PutFault>
-    requires may { (v : View) → IsSeen (F.told folder.old) v → MayCome v work.now at.now }
+    requires may { IfSeen (F.told folder.old) (λ v. MayCome v work.now at.now) }
     requires ready { IsReady (C.reads content.old) (F.told folder.old) (C.coming content.old) }
     requires outside { ReadsApart (C.reads content.old) work.now }
     ensures made { PlacesEntry keys work.now at.now inside.now (still_coming (C.reads content.old) (F.told folder.old) (C.coming content.old)) (still_coming (C.reads content.old) (F.told folder.old) (C.coming content.new))
@@ -533,7 +532,7 @@ fn stage_entry<F: Folder, R: Randoms, C: Content<F>>(
     random: &mut R,
     buffers: &mut Buffers,
 ) -> Result<(), PutFault>
-    requires free { (v : View) → IsSeen (F.told folder.old) v → ShowsFree v staged.now }
+    requires free { IfSeen (F.told folder.old) (λ v. ShowsFree v staged.now) }
     requires below_base { staged.now ≢ [] }
     requires ready { IsReady (C.reads content.old) (F.told folder.old) (C.coming content.old) }
     requires apart { ReadsApart (C.reads content.old) staged.now }
@@ -561,7 +560,7 @@ fn stage_alone<F: Folder, R: Randoms, C: Content<F>>(
     random: &mut R,
     buffers: &mut Buffers,
 ) -> Result<(), PutFault>
-    requires free { (v : View) → IsSeen (F.told folder.old) v → ShowsFree v staged.now }
+    requires free { IfSeen (F.told folder.old) (λ v. ShowsFree v staged.now) }
     requires below_base { staged.now ≢ [] }
     requires ready { IsReady (C.reads content.old) (F.told folder.old) (C.coming content.old) }
     requires apart { ReadsApart (C.reads content.old) staged.now }
@@ -588,7 +587,7 @@ fn stage_folder<F: Folder, R: Randoms, C: Content<F>>(
     buffers: &mut Buffers,
 ) -> Result<(), PutFault>
     requires long { (text : List ℕ) × (full.now ≡ Some text) }
-    requires free { (v : View) → IsSeen (F.told folder.old) v → ShowsFree v staged.now }
+    requires free { IfSeen (F.told folder.old) (λ v. ShowsFree v staged.now) }
     requires ready { IsReady (C.reads content.old) (F.told folder.old) (C.coming content.old) }
     requires apart { ReadsApart (C.reads content.old) staged.now }
     ensures staged { StagesEntry keys full.now staged.now (still_coming (C.reads content.old) (F.told folder.old) (C.coming content.old)) (still_coming (C.reads content.old) (F.told folder.old) (C.coming content.new))

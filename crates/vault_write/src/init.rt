@@ -8,8 +8,7 @@ ghost use Rattle.folder_spec.specs.State.{present};
 ghost use Rattle.folder_spec.specs.Event.{FromTo};
 ghost use Rattle.folder_spec.specs.Edit.{folder_view};
 ghost use Rattle.folder_spec.specs.Replace.{IsNewFile};
-ghost use Rattle.folder_spec.specs.Seen.{IsSeen, ShowsFree};
-ghost use Rattle.folder_spec.specs.View.{View};
+ghost use Rattle.folder_spec.specs.Seen.{IfSeen, ShowsFree};
 ghost use Rattle.folder_model.specs.Answers.{CountsAbove};
 ghost use Rattle.folder_staging.specs.Folders.{StagesFolder, IsStagedFolder};
 ghost use Rattle.folder_staging.specs.Pieces.{Stages};
@@ -187,7 +186,7 @@ fn stage_cm<F: Folder>(
     vault: &[u8],
     home: &str,
 ) -> Result<(), FolderFault>
-    requires free { (v : View) → IsSeen (F.told folder.old) v → ShowsFree v staged.now }
+    requires free { IfSeen (F.told folder.old) (λ v. ShowsFree v staged.now) }
     requires size { length home.now ≡ 32 }
     requires characters { IsTrue (list_all is_base32 home.now) }
     ensures staged { let both : List (List ℕ × List ℕ) = (codes "masterkey.cryptomator", master.now) ∷ (codes "vault.cryptomator", vault.now) ∷ [] in StagesWhole staged.now (with_home home.now (folder_view both)) (texts both) (F.told folder.old) (F.told folder.new) result }
@@ -214,7 +213,7 @@ fn stage_files<F: Folder>(
     second: &str,
     second_bytes: &[u8],
 ) -> Result<(), FolderFault>
-    requires { (v : View) → IsSeen (F.told folder.old) v → ShowsFree v staged.now }
+    requires { IfSeen (F.told folder.old) (λ v. ShowsFree v staged.now) }
     ensures staged { let files : List (List ℕ × List ℕ) = (second.now, second_bytes.now) ∷ (first.now, first_bytes.now) ∷ [] in StagesWhole staged.now (folder_view files) (texts files) (F.told folder.old) (F.told folder.new) result }
     ensures counts { CountsAbove (F.faults folder.old) (F.faults folder.new) result }
 {
@@ -244,7 +243,7 @@ fn stage_in<F: Folder>(
 
 // Stages `d` and below it the content folder that a base32 text of 32 characters names.
 fn stage_home<F: Folder>(folder: &mut F, staged: &FPath, text: &str) -> Result<(), FolderFault>
-    requires free { (v : View) → IsSeen (F.told folder.old) v → ShowsFree v (child staged.now top) }
+    requires free { IfSeen (F.told folder.old) (λ v. ShowsFree v (child staged.now top)) }
     requires size { length text.now ≡ 32 }
     requires characters { IsTrue (list_all is_base32 text.now) }
     ensures home { StagesHome staged.now text.now (F.told folder.old) (F.told folder.new) result }
@@ -265,7 +264,7 @@ fn stage_directory<F: Folder>(
     above: &FPath,
     name: &str,
 ) -> Result<FPath, FolderFault>
-    requires { (v : View) → IsSeen (F.told folder.old) v → ShowsFree v (child above.now name.now) }
+    requires { IfSeen (F.told folder.old) (λ v. ShowsFree v (child above.now name.now)) }
     ensures path { IfOk result (λ at. at ≡ child above.now name.now) }
     ensures stages { (contents : List (List ℕ)) → StagesFolder contents (child above.now name.now) (F.told folder.old) (F.told folder.new) }
     ensures staged { OnOk result ((contents : List (List ℕ)) → IsStagedFolder contents (child above.now name.now) [] (F.told folder.old) (F.told folder.new)) }

@@ -1,8 +1,8 @@
 //! Where a new item is to stand, and whether something stands there.
 ghost use Rattle.std.specs.Prelude.{◌⊎◌, if◌then◌else◌, length, ◌≡◌, ◌≢◌, ◌∷◌, ◌++◌, [], ℕ, List, IfOk, IfErr, OnOk, None};
 ghost use Rattle.folder_spec.specs.Path.{Path, child, parent};
-ghost use Rattle.folder_spec.specs.Seen.{IsSeen, under};
-ghost use Rattle.folder_spec.specs.View.{View, NoEntry, Folder, kind_found};
+ghost use Rattle.folder_spec.specs.Seen.{IfSeen, under};
+ghost use Rattle.folder_spec.specs.View.{NoEntry, Folder, kind_found};
 ghost use Rattle.folder_model.specs.Answers.{CountsAbove};
 ghost use Rattle.vault_read.specs.Finding.{IsDirPlace};
 ghost use Rattle.vault_read.specs.Looking.{small_file};
@@ -61,7 +61,7 @@ fn entered<F: Folder>(
     front: &[Name],
 ) -> Result<DirPlace, PutFault>
     ensures told { F.told folder.new ≡ F.told folder.old }
-    ensures place { IfOk result (λ place. (v : View) → IsSeen (F.told folder.old) v → IsDirPlace vault.now.root (format_of vault.now.vault) (under vault.now.root v) front.now place) }
+    ensures place { IfOk result (λ place. IfSeen (F.told folder.old) (λ v. IsDirPlace vault.now.root (format_of vault.now.vault) (under vault.now.root v) front.now place)) }
     ensures key { IfOk result (λ place. FitsKey vault.now.vault place.key) }
     ensures refused { IfErr result (λ fault. (name : List ℕ) (item : NewItem) → RefusesItem vault.now front.now name item [] (F.told folder.old) fault) }
     ensures over { IfErr result (λ fault. IsOverFault vault.now front.now (F.told folder.old) fault) }
@@ -106,7 +106,7 @@ fn slot_in(alloc: Global, vault: &Vault, dir: &DirPlace, name: &Name) -> Result<
 // What stands at a path.
 fn kind_at<F: Folder>(folder: &mut F, at: &FPath) -> Result<Kind, FolderFault>
     ensures told { F.told folder.new ≡ F.told folder.old }
-    ensures kind { IfOk result (λ kind. (v : View) → IsSeen (F.told folder.old) v → kind ≡ kind_found (v at.now)) }
+    ensures kind { IfOk result (λ kind. IfSeen (F.told folder.old) (λ v. kind ≡ kind_found (v at.now))) }
     ensures counts { CountsAbove (F.faults folder.old) (F.faults folder.new) result }
 {
     folder.kind(at)
@@ -115,7 +115,7 @@ fn kind_at<F: Folder>(folder: &mut F, at: &FPath) -> Result<Kind, FolderFault>
 // Nothing stands at a path.
 pub(crate) fn is_free<F: Folder>(folder: &mut F, at: &FPath) -> Result<(), PutFault>
     ensures told { F.told folder.new ≡ F.told folder.old }
-    ensures free { OnOk result ((v : View) → IsSeen (F.told folder.old) v → v at.now ≡ NoEntry) }
+    ensures free { OnOk result (IfSeen (F.told folder.old) (λ v. v at.now ≡ NoEntry)) }
     ensures taken { IfErr result (λ fault. IsTakenAt at.now (F.told folder.old) fault) }
     ensures kind { IfErr result (λ fault. IsPlaceFault fault) }
     ensures counts { CountsFailed PutFault.Failed (F.faults folder.old) (F.faults folder.new) result }
@@ -138,7 +138,7 @@ pub(crate) fn slot_at<F: Folder>(
 ) -> Result<Slot, PutFault>
     requires { path.now ≡ front.now ++ name.now ∷ [] }
     ensures told { F.told folder.new ≡ F.told folder.old }
-    ensures slot { IfOk result (λ slot. (v : View) → IsSeen (F.told folder.old) v → IsSlot vault.now (format_of vault.now.vault) front.now name.now (under vault.now.root v) slot.at slot.side slot.full) }
+    ensures slot { IfOk result (λ slot. IfSeen (F.told folder.old) (λ v. IsSlot vault.now (format_of vault.now.vault) front.now name.now (under vault.now.root v) slot.at slot.side slot.full)) }
     ensures refused { IfErr result (λ fault. (item : NewItem) → RefusesItem vault.now front.now name.now item [] (F.told folder.old) fault) }
     ensures kind { IfErr result (λ fault. IsPlaceFault fault) }
     ensures counts { CountsFailed PutFault.Failed (F.faults folder.old) (F.faults folder.new) result }
@@ -159,7 +159,7 @@ pub(crate) fn wants_side<F: Folder>(
     full: &Option<Text>,
 ) -> Result<bool, PutFault>
     ensures told { F.told folder.new ≡ F.told folder.old }
-    ensures wants { IfOk result (λ wants. (v : View) → IsSeen (F.told folder.old) v → (wants ≡ wants_text (v side.now) full.now) × (taken_unless side.now (v side.now) full.now ≡ None)) }
+    ensures wants { IfOk result (λ wants. IfSeen (F.told folder.old) (λ v. (wants ≡ wants_text (v side.now) full.now) × (taken_unless side.now (v side.now) full.now ≡ None))) }
     ensures taken { IfErr result (λ fault. IsSideTaken side.now full.now (F.told folder.old) fault) }
     ensures kind { IfErr result (λ fault. IsPlaceFault fault) }
     ensures counts { CountsFailed PutFault.Failed (F.faults folder.old) (F.faults folder.new) result }
@@ -187,7 +187,7 @@ fn side_bytes<F: Folder>(
     text: &Text,
 ) -> Result<SmallFile, PutFault>
     ensures told { F.told folder.new ≡ F.told folder.old }
-    ensures file { IfOk result (λ file. (v : View) → IsSeen (F.told folder.old) v → file ≡ small_file (length text.now) (v side.now)) }
+    ensures file { IfOk result (λ file. IfSeen (F.told folder.old) (λ v. file ≡ small_file (length text.now) (v side.now))) }
     ensures kind { IfErr result (λ fault. (fault ≡ PutFault.Failed) ⊎ (fault ≡ PutFault.NoMemory)) }
     ensures counts { CountsFailed PutFault.Failed (F.faults folder.old) (F.faults folder.new) result }
 {
@@ -205,8 +205,8 @@ pub(crate) fn home_of<F: Folder>(
     ensures told { F.told folder.new ≡ F.told folder.old }
     ensures home { IfOk result (λ home. home.home ≡ vault.now.root ++ (format_of vault.now.vault).folder_of [] id.now) }
     ensures shelf { IfOk result (λ home. home.shelf ≡ parent home.home) }
-    ensures free { IfOk result (λ home. (v : View) → IsSeen (F.told folder.old) v → v home.home ≡ NoEntry) }
-    ensures wants { IfOk result (λ home. (v : View) → IsSeen (F.told folder.old) v → v home.shelf ≡ (if home.wants then NoEntry else Folder)) }
+    ensures free { IfOk result (λ home. IfSeen (F.told folder.old) (λ v. v home.home ≡ NoEntry)) }
+    ensures wants { IfOk result (λ home. IfSeen (F.told folder.old) (λ v. v home.shelf ≡ (if home.wants then NoEntry else Folder))) }
     ensures taken { IfErr result (λ fault. let home : Path = vault.now.root ++ (format_of vault.now.vault).folder_of [] id.now in IsHomeTaken (parent home) home (F.told folder.old) fault) }
     ensures kind { IfErr result (λ fault. IsPlaceFault fault) }
     ensures counts { CountsFailed PutFault.Failed (F.faults folder.old) (F.faults folder.new) result }
@@ -220,8 +220,8 @@ pub(crate) fn home_of<F: Folder>(
 // Nothing stands at a new directory's content folder; and whether the folder above it is still to be made.
 fn wants_home<F: Folder>(folder: &mut F, shelf: &FPath, home: &FPath) -> Result<bool, PutFault>
     ensures told { F.told folder.new ≡ F.told folder.old }
-    ensures free { OnOk result ((v : View) → IsSeen (F.told folder.old) v → v home.now ≡ NoEntry) }
-    ensures wants { IfOk result (λ wants. (v : View) → IsSeen (F.told folder.old) v → v shelf.now ≡ (if wants then NoEntry else Folder)) }
+    ensures free { OnOk result (IfSeen (F.told folder.old) (λ v. v home.now ≡ NoEntry)) }
+    ensures wants { IfOk result (λ wants. IfSeen (F.told folder.old) (λ v. v shelf.now ≡ (if wants then NoEntry else Folder))) }
     ensures taken { IfErr result (λ fault. IsHomeTaken shelf.now home.now (F.told folder.old) fault) }
     ensures kind { IfErr result (λ fault. IsPlaceFault fault) }
     ensures counts { CountsFailed PutFault.Failed (F.faults folder.old) (F.faults folder.new) result }
@@ -233,7 +233,7 @@ fn wants_home<F: Folder>(folder: &mut F, shelf: &FPath, home: &FPath) -> Result<
 // Whether the folder above a new directory's content folder is still to be made.
 fn wants_shelf<F: Folder>(folder: &mut F, shelf: &FPath) -> Result<bool, PutFault>
     ensures told { F.told folder.new ≡ F.told folder.old }
-    ensures wants { IfOk result (λ wants. (v : View) → IsSeen (F.told folder.old) v → v shelf.now ≡ (if wants then NoEntry else Folder)) }
+    ensures wants { IfOk result (λ wants. IfSeen (F.told folder.old) (λ v. v shelf.now ≡ (if wants then NoEntry else Folder))) }
     ensures taken { IfErr result (λ fault. IsShelfTaken shelf.now (F.told folder.old) fault) }
     ensures kind { IfErr result (λ fault. IsPlaceFault fault) }
     ensures counts { CountsFailed PutFault.Failed (F.faults folder.old) (F.faults folder.new) result }

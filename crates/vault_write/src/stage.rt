@@ -3,8 +3,8 @@ ghost use Rattle.std.specs.Prelude.{codes, ◌≢◌, ◌≡◌, ◌∷◌, ◌+
 ghost use Rattle.folder_spec.specs.Path.{Path, child};
 ghost use Rattle.folder_spec.specs.Edit.{directory_edit, file_edit, folder_edit};
 ghost use Rattle.folder_spec.specs.Event.{FromTo};
-ghost use Rattle.folder_spec.specs.Seen.{seen, IsSeen, ShowsFree, put_found};
-ghost use Rattle.folder_spec.specs.View.{View, Folder};
+ghost use Rattle.folder_spec.specs.Seen.{IfSeen, ShowsFree, put_found, seen};
+ghost use Rattle.folder_spec.specs.View.{Folder};
 ghost use Rattle.folder_model.specs.Answers.{CountsAbove};
 ghost use Rattle.folder_staging.specs.Folders.{StagesFolder, IsStagedFolder};
 ghost use Rattle.work_folder.specs.Entries.{stage_path};
@@ -29,7 +29,7 @@ pub(crate) fn staged_at(work: &Work, name: &str) -> Result<FPath, AllocError>
 
 // Makes a directory at its place.
 pub(crate) fn make_folder<F: Folder>(folder: &mut F, at: &FPath) -> Result<(), FolderFault>
-    requires { (v : View) → IsSeen (F.told folder.old) v → ShowsFree v at.now }
+    requires { IfSeen (F.told folder.old) (λ v. ShowsFree v at.now) }
     ensures made { (work : Path) → AddsEdits work (directory_edit at.now ∷ []) [] (F.told folder.old) (F.told folder.new) result }
     ensures shown { OnOk result (FromTo (λ a b. seen b.state ≡ put_found (seen a.state) at.now Folder) (F.told folder.old) (F.told folder.new)) }
     ensures counts { CountsAbove (F.faults folder.old) (F.faults folder.new) result }
@@ -44,7 +44,7 @@ pub(crate) fn publish_bytes<F: Folder>(
     at: &FPath,
     bytes: &[u8],
 ) -> Result<(), FolderFault>
-    requires { (v : View) → IsSeen (F.told folder.old) v → MayCome v work.now at.now }
+    requires { IfSeen (F.told folder.old) (λ v. MayCome v work.now at.now) }
     ensures made { AddsEdits work.now (file_edit at.now bytes.now ∷ []) (bytes.now ∷ []) (F.told folder.old) (F.told folder.new) result }
     ensures counts { CountsAbove (F.faults folder.old) (F.faults folder.new) result }
 {
@@ -61,7 +61,7 @@ pub(crate) fn publish_side<F: Folder>(
     full: &Option<Text>,
     wants: bool,
 ) -> Result<(), FolderFault>
-    requires { (v : View) → IsSeen (F.told folder.old) v → wants ≡ true → MayCome v work.now at.now }
+    requires { IfSeen (F.told folder.old) (λ v. wants ≡ true → MayCome v work.now at.now) }
     ensures made { AddsEdits work.now (side_edits wants at.now full.now) (full_texts full.now) (F.told folder.old) (F.told folder.new) result }
     ensures counts { CountsAbove (F.faults folder.old) (F.faults folder.new) result }
 {
@@ -81,7 +81,7 @@ fn stage_directory<F: Folder>(
     key_name: &str,
     key: &[u8],
 ) -> Result<(), FolderFault>
-    requires { (v : View) → IsSeen (F.told folder.old) v → ShowsFree v staged.now }
+    requires { IfSeen (F.told folder.old) (λ v. ShowsFree v staged.now) }
     ensures staged { (files : List (List ℕ)) → Contains files key.now → StagesFolder files staged.now (F.told folder.old) (F.told folder.new) × OnOk result (IsStagedFolder files staged.now ((key_name.now, key.now) ∷ []) (F.told folder.old) (F.told folder.new)) }
     ensures counts { CountsAbove (F.faults folder.old) (F.faults folder.new) result }
 {
@@ -98,7 +98,7 @@ pub(crate) fn stage_name<F: Folder>(
     staged: &FPath,
     full: &Option<Text>,
 ) -> Result<(), FolderFault>
-    requires { (v : View) → IsSeen (F.told folder.old) v → ShowsFree v (child staged.now full_file) }
+    requires { IfSeen (F.told folder.old) (λ v. ShowsFree v (child staged.now full_file)) }
     ensures staged { AddsName staged.now full.now (F.told folder.old) (F.told folder.new) result }
     ensures counts { CountsAbove (F.faults folder.old) (F.faults folder.new) result }
 {
@@ -121,7 +121,7 @@ pub(crate) fn publish_directory<F: Folder>(
     key: &[u8],
     full: &Option<Text>,
 ) -> Result<(), FolderFault>
-    requires may { (v : View) → IsSeen (F.told folder.old) v → MayCome v work.now at.now }
+    requires may { IfSeen (F.told folder.old) (λ v. MayCome v work.now at.now) }
     requires name { key_name.now ≢ full_file }
     ensures made { AddsEdits work.now (folder_edit at.now (full_files full.now ++ (key_name.now, key.now) ∷ []) ∷ []) (full_texts full.now ++ key.now ∷ []) (F.told folder.old) (F.told folder.new) result }
     ensures counts { CountsAbove (F.faults folder.old) (F.faults folder.new) result }

@@ -10,7 +10,7 @@ use Rattle.folder_spec.specs.State.{IsSound}
 use Rattle.folder_spec.specs.Event.{Told}
 use Rattle.folder_spec.specs.Region.{apart_from}
 use Rattle.folder_spec.specs.View.{NoEntry, Folder, FileOf, View}
-use Rattle.folder_spec.specs.Seen.{seen, IsSeen, ShowsFree, ShowsNothingOrFile}
+use Rattle.folder_spec.specs.Seen.{IfSeen, IsSeen, ShowsFree, ShowsNothingOrFile, seen}
 use Rattle.folder_spec.proofs.Paths.{child-apart, child-last, not_below}
 use Rattle.folder_spec.proofs.Replaces.{apart-below, apart-not_same}
 use Rattle.folder_model.specs.Answers.{CountsAbove}
@@ -126,7 +126,7 @@ module _ (work : Path) where
     pub clear_fell : (fault : FolderFault) → CountsAbove {T = Unit {0}} n1 n2 (Err fault) → Prepares work t0 t2 n0 n2 (Err (fault_of fault))
     clear_fell fault counts = prepare_fell t0 t2 n0 n2 fault (cleared_prepares t0 t1 t2 made cleared) (counts_on {T = Unit {0}} n0 n1 n2 (Err fault) le counts)
 
-    pub prepare_done : n1 ≤ n2 → ((v : View) → IsSeen t1 v → v work ≡ Folder) → ((v : View) → IsSeen t2 v → v (new_journal_path work) ≡ NoEntry) → Prepares work t0 t2 n0 n2 (Ok tt)
+    pub prepare_done : n1 ≤ n2 → IfSeen t1 (λ v. v work ≡ Folder) → IfSeen t2 (λ v. v (new_journal_path work) ≡ NoEntry) → Prepares work t0 t2 n0 n2 (Ok tt)
     prepare_done more folder gone = record {
       moments = cleared_prepares t0 t1 t2 made cleared;
       folder = λ w is. stays_so (λ q. ⊥) (λ q. q ≡ new_journal_path work) t1 t2 cleared work (λ no_. no_) (λ e. new_not_work (sym e)) (λ x. x ≡ Folder) folder w is;
@@ -146,16 +146,16 @@ module _ (work : Path) where
     failed = λ e. cc e;
   }
 
-  module _ (t : Option Told) (sound : (a : Told) → t ≡ Some a → IsSound a.state) (tests : (v : View) → IsSeen t v → Tests v work (Ok tt)) where
-    pub place_to_make : (v : View) → IsSeen t v → (v work ≡ Folder) ⊎ ShowsFree v work
+  module _ (t : Option Told) (sound : (a : Told) → t ≡ Some a → IsSound a.state) (tests : IfSeen t (λ v. Tests v work (Ok tt))) where
+    pub place_to_make : IfSeen t (λ v. (v work ≡ Folder) ⊎ ShowsFree v work)
     place_to_make v is = work_place v work (passed t sound v is work (tests v is))
 
-    pub place_to_clear : (u : Option Told) → Alters (λ q. q ≡ work) (λ q. ⊥) t u → (w : View) → IsSeen u w → ShowsNothingOrFile w (new_journal_path work)
+    pub place_to_clear : (u : Option Told) → Alters (λ q. q ≡ work) (λ q. ⊥) t u → IfSeen u (λ w. ShowsNothingOrFile w (new_journal_path work))
     place_to_clear u made w is =
         stays_so (λ q. q ≡ work) (λ q. ⊥) t u made (new_journal_path work) new_not_work (λ no_. no_) (λ x. (x ≡ NoEntry) ⊎ ((bytes : List ℕ) × (x ≡ FileOf bytes)))
         (λ v shown. new_journal_place v work (passed t sound v shown work (tests v shown))) w is
 
-    pub place_of_stage : (u : Option Told) → Preparing t u → (w : View) → IsSeen u w → (w (stage_path work) ≡ NoEntry) ⊎ (w (stage_path work) ≡ Folder)
+    pub place_of_stage : (u : Option Told) → Preparing t u → IfSeen u (λ w. (w (stage_path work) ≡ NoEntry) ⊎ (w (stage_path work) ≡ Folder))
     place_of_stage u prepared w is =
         stays_so (λ q. q ≡ work) (λ q. q ≡ new_journal_path work) t u prepared (stage_path work) (λ e. child-apart work _ e) stage_not_new (λ x. (x ≡ NoEntry) ⊎ (x ≡ Folder))
         (λ v shown. stage_place v work (passed t sound v shown work (tests v shown))) w is
@@ -258,10 +258,10 @@ module _ (T : Type 0) (work : Path) where
           let last : n2 ≤ n3 = k.grows in
           omega (arith, first, more, last)
 
-      emptied : (result : Answer) → ((w : View) → IsSeen t2 w → Gives (Empties w work) result) → (v : View) → IsSeen t0 v → Gives (Empties v work) result
+      emptied : (result : Answer) → IfSeen t2 (λ w. Gives (Empties w work) result) → IfSeen t0 (λ v. Gives (Empties v work) result)
       emptied result answer v is = at t0 t2 (prepared (Ok tt) h) answer is
         where
-          at : (t0 t2 : Option Told) → Preparing work t0 t2 → ((w : View) → IsSeen t2 w → Gives (Empties w work) result) → IsSeen t0 v → Gives (Empties v work) result
+          at : (t0 t2 : Option Told) → Preparing work t0 t2 → IfSeen t2 (λ w. Gives (Empties w work) result) → IsSeen t0 v → Gives (Empties v work) result
           at (Some a) (Some b) went answer is =
               gives_more (Empties v work) (Empties (seen b.state) work) result
               (empties_back v (seen b.state) work (λ rest least.
@@ -271,7 +271,7 @@ module _ (T : Type 0) (work : Path) where
           at (Some a) None went answer is = absurd went
           at None t went answer is = absurd is
 
-      all_pass : (v : View) → IsSeen t0 v → (answer : Answer) → Empties v work answer → EntersAs v work answer
+      all_pass : IfSeen t0 (λ v. (answer : Answer) → Empties v work answer → EntersAs v work answer)
       all_pass v is answer e = inr (looked.answer v is, e)
 
       pub restaging_fell : (fault : WorkFault) → Restages {T = Unit {0}} work t2 t3 n2 n3 (Err fault) → Enters {T = T} work t0 t3 n0 n3 (Err fault)
@@ -289,15 +289,15 @@ module _ (T : Type 0) (work : Path) where
       }
 
       module _ (sound : (a : Told) → t0 ≡ Some a → IsSound a.state) (k : Restages {T = Unit {0}} work t2 t3 n2 n3 (Ok tt)) where
-        entry_stays : (name : Part) → name ≢ codes "stage" → ((v : View) → IsSeen t2 v → v (child work name) ≡ NoEntry) → (w : View) → IsSeen t3 w → w (child work name) ≡ NoEntry
+        entry_stays : (name : Part) → name ≢ codes "stage" → IfSeen t2 (λ v. v (child work name) ≡ NoEntry) → IfSeen t3 (λ w. w (child work name) ≡ NoEntry)
         entry_stays name not_stage none w is =
             stays_so (IsStage work) (IsBelowStage work) t2 t3 (restaged_moments (Ok tt) k) (child work name)
             (λ e. not_stage (child-last work name (codes "stage") e))
             (λ within. omega (arith, longer_within (below_stage work) (child work name) within, length-append work (codes "stage" ∷ []), length-append work (name ∷ [])))
             (λ x. x ≡ NoEntry) none w is
 
-        nothing_else : (name : Part) → name ≢ codes "stage" → (w : View) → IsSeen t3 w → w (child work name) ≡ NoEntry
-        nothing_else name not_stage = elim (bytes_eq name (codes "journal.new")) as (λ b. bytes_eq name (codes "journal.new") ≡ b → (w : View) → IsSeen t3 w → w (child work name) ≡ NoEntry) [
+        nothing_else : (name : Part) → name ≢ codes "stage" → IfSeen t3 (λ w. w (child work name) ≡ NoEntry)
+        nothing_else name not_stage = elim (bytes_eq name (codes "journal.new")) as (λ b. bytes_eq name (codes "journal.new") ≡ b → IfSeen t3 (λ w. w (child work name) ≡ NoEntry)) [
           | true ↦ λ e.
               let same : name ≡ codes "journal.new" = (bytes_eq-Decides name (codes "journal.new")).0 e in
               entry_stays name not_stage (λ v is. ap (λ n. v (child work n)) same ∙ h.gone v is)
@@ -322,6 +322,6 @@ module _ (T : Type 0) (work : Path) where
 -- where the stage stands after the work folder is made
 pub place_after : (work : Path) (t0 t1 t2 : Option Told) (n0 n1 n2 : ℕ) → Looks (λ v answer. Tests v work answer) t0 t1 n0 n1 (Ok tt)
     → ((a : Told) → t0 ≡ Some a → IsSound a.state) → Prepares work t1 t2 n1 n2 (Ok tt)
-    → (w : View) → IsSeen t2 w → (w (stage_path work) ≡ NoEntry) ⊎ (w (stage_path work) ≡ Folder)
+    → IfSeen t2 (λ w. (w (stage_path work) ≡ NoEntry) ⊎ (w (stage_path work) ≡ Folder))
 place_after work t0 t1 t2 n0 n1 n2 looked sound h =
     place_of_stage work t0 sound (λ v is. looked.answer v is) t2 (subst (λ t. Preparing work t t2) looked.told h.moments)

@@ -8,7 +8,7 @@ use Rattle.folder_spec.specs.declared.Kind.TheVariants.{Missing, Dir, File}
 use Rattle.folder_spec.specs.Path.{Path, parent}
 use Rattle.folder_spec.specs.Event.{Told}
 use Rattle.folder_spec.specs.View.{Found, NoEntry, Folder, FileOf, Special, View, kind_found}
-use Rattle.folder_spec.specs.Seen.{IsSeen}
+use Rattle.folder_spec.specs.Seen.{IfSeen, IsSeen}
 use Rattle.folder_model.specs.Answers.{Answers, Counts, CountsAbove}
 use Rattle.folder_model.proofs.Counting.{never_falls, rose_since, counts_at_fault}
 use Rattle.work_folder.specs.declared.fault.WorkFault.{WorkFault}
@@ -49,7 +49,7 @@ gives_more A B (Err NoMemory) more h = tt
 
 -- a first call fell
 pub fell_exit : (T : Type 0) (A : View → Answer → Type 0) (t u : Option Told) (n0 n1 : ℕ) (Condition : View → Type 0) (IsRight : View → T → Type 0) (fault : FolderFault)
-    → u ≡ t → ((v : View) → IsSeen t v → Condition v) → Answers {T = T} t Condition IsRight (Err fault) → Counts {T = T} t n0 n1 (Err fault)
+    → u ≡ t → IfSeen t (λ v. Condition v) → Answers {T = T} t Condition IsRight (Err fault) → Counts {T = T} t n0 n1 (Err fault)
     → Looks A t u n0 n1 (Err (fault_of fault))
 fell_exit T A t u n0 n1 Condition IsRight fault same holds answer counts = record {
   told = same;
@@ -68,12 +68,12 @@ no_memory_exit A t u n0 n1 same le = record { told = same; answer = λ v is. tt;
 
 -- a test answers
 pub answer_exit : (A : View → Answer → Type 0) (t u : Option Told) (n0 n1 : ℕ) (result : Answer) → u ≡ t → n0 ≤ n1 → result ≢ Err Failed
-    → ((v : View) → IsSeen t v → Gives (A v) result) → Looks A t u n0 n1 result
+    → IfSeen t (λ v. Gives (A v) result) → Looks A t u n0 n1 result
 answer_exit A t u n0 n1 result same le other answer = record { told = same; answer = answer; grows = le; failed = λ e. absurd (other e) }
 
 -- the rest of the tests answer
 pub after_exit : (A B : View → Answer → Type 0) (t0 t1 t2 : Option Told) (n0 n1 n2 : ℕ) (result : Answer) → t1 ≡ t0 → n0 ≤ n1
-    → ((v : View) → IsSeen t0 v → (answer : Answer) → B v answer → A v answer) → Looks B t1 t2 n1 n2 result → Looks A t0 t2 n0 n2 result
+    → IfSeen t0 (λ v. (answer : Answer) → B v answer → A v answer) → Looks B t1 t2 n1 n2 result → Looks A t0 t2 n0 n2 result
 after_exit A B t0 t1 t2 n0 n1 n2 result same le more h = record {
   told = h.told ∙ same;
   answer = λ v is. gives_more (A v) (B v) result (more v is) (h.answer v (subst (λ t. IsSeen t v) (sym same) is));

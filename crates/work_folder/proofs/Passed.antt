@@ -6,7 +6,7 @@ use Rattle.folder_spec.specs.Path.{Part, Path, parent, child}
 use Rattle.folder_spec.specs.State.{IsSound}
 use Rattle.folder_spec.specs.Event.{Told}
 use Rattle.folder_spec.specs.View.{Found, NoEntry, Folder, FileOf, Special, View, kind_found}
-use Rattle.folder_spec.specs.Seen.{IsSeen, ShowsFree, ShowsNothingOrFile}
+use Rattle.folder_spec.specs.Seen.{IfSeen, ShowsFree, ShowsNothingOrFile}
 use Rattle.work_folder.specs.Entries.{journal_path, new_journal_path, stage_path, is_foreign, IsForeign, HasNoForeign}
 use Rattle.work_folder.specs.Looking.{TestsEntries, TestsJournal, TestsKind, TestsParent, Tests}
 use Rattle.work_folder.proofs.Steps.{bare_below}
@@ -43,7 +43,7 @@ none_foreign : (v : View) (work : Path) (name : Part) → v (child work name) �
 none_foreign v work name none foreign =
     let no_ : is_foreign false name (kind_found (v (child work name))) ≡ false = ap (λ x. is_foreign false name (kind_found x)) none in cc
 
-pub passed : (t : Option Told) → ((a : Told) → t ≡ Some a → IsSound a.state) → (v : View) → IsSeen t v → (work : Path) → Tests v work (Ok tt) → Passed v work
+pub passed : (t : Option Told) → ((a : Told) → t ≡ Some a → IsSound a.state) → IfSeen t (λ v. (work : Path) → Tests v work (Ok tt) → Passed v work)
 passed t sound v is work tests = by_kind (kind_passed (v work) v work up.1)
   where
     up : (v (parent work) ≡ Folder) × TestsKind (v work) v work (Ok tt)

@@ -9,7 +9,7 @@ use Rattle.folder_spec.specs.State.{IsSound}
 use Rattle.folder_spec.specs.Event.{MakeDir, Allowed, Told, Changes}
 use Rattle.folder_spec.specs.Region.{apart_from}
 use Rattle.folder_spec.specs.View.{Found, NoEntry, Folder, FileOf, Special, View, kind_found}
-use Rattle.folder_spec.specs.Seen.{seen, IsSeen}
+use Rattle.folder_spec.specs.Seen.{IfSeen, IsSeen, seen}
 use Rattle.folder_spec.proofs.Paths.{child-apart, parent-child, not_below}
 use Rattle.folder_spec.proofs.Replaces.{apart-below, apart-not_same}
 use Rattle.folder_spec.proofs.Seen.{may_call_allowed}
@@ -105,7 +105,7 @@ module _ (work : Path) where
       failed = λ e. rose_since n0 n1 n2 le (h.failed (ap Err (removal_failed fault (cc e))));
     }
 
-    pub removal_done : ((v : View) → IsSeen t0 v → v work ≡ Folder) → ((v : View) → IsSeen t0 v → v (stage_path work) ≡ Folder)
+    pub removal_done : IfSeen t0 (λ v. v work ≡ Folder) → IfSeen t0 (λ v. v (stage_path work) ≡ Folder)
         → Removes (below_stage work) t1 t2 n1 n2 (Ok tt) → Restages {T = Unit {0}} work t0 t2 n0 n2 (Ok tt)
     removal_done folder stage h = record {
       moments = alters_at t0 t2 (alters_more (λ q. ⊥) (IsBelowStage work) (IsStage work) (IsBelowStage work) (λ q no_. absurd no_) (λ q k. k) t0 t2 (removal_moments (Ok tt) h));
@@ -120,7 +120,7 @@ module _ (work : Path) where
     }
 
     -- a stage is made
-    module _ (folder : (v : View) → IsSeen t0 v → v work ≡ Folder) (free : (v : View) → IsSeen t0 v → v (stage_path work) ≡ NoEntry) (sound : (a : Told) → t1 ≡ Some a → IsSound a.state) where
+    module _ (folder : IfSeen t0 (λ v. v work ≡ Folder)) (free : IfSeen t0 (λ v. v (stage_path work) ≡ NoEntry)) (sound : (a : Told) → t1 ≡ Some a → IsSound a.state) where
       make_allowed : (a : Told) → t1 ≡ Some a → Allowed a.state (MakeDir (stage_path work))
       make_allowed a is =
           let shown : IsSeen t0 (seen a.state) = subst (λ o. IsSeen o (seen a.state)) (sym is ∙ same) refl in
@@ -144,7 +144,7 @@ module _ (work : Path) where
         failed = λ e. risen_by n0 n2 fault (counts_after (MakeDir (stage_path work)) t1 t2 n0 n1 n2 (Err fault) le make_allowed changes counts) (cc e);
       }
 
-      nothing_below : (v : View) → IsSeen t0 v → IsBare (below_stage work) v
+      nothing_below : IfSeen t0 (λ v. IsBare (below_stage work) v)
       nothing_below v is [] least = absurd (omega (arith, least))
       nothing_below v is (a ∷ rest) least =
           bare_below t1 sound v (subst (λ t. IsSeen t v) (sym same) is) (stage_path work) a rest (λ dir. let both : NoEntry ≡ Folder = sym (free v is) ∙ dir in cc)

@@ -7,7 +7,7 @@ use Rattle.folder_spec.specs.Path.{Part, Path}
 use Rattle.folder_spec.specs.State.{present, IsSound}
 use Rattle.folder_spec.specs.Event.{Call, MakeDir, RemoveFile, Allowed, Told, Changes}
 use Rattle.folder_spec.specs.View.{Found, NoEntry, Folder, FileOf, Special, View, kind_found, found}
-use Rattle.folder_spec.specs.Seen.{seen, IsSeen, seen_after, ShowsFree}
+use Rattle.folder_spec.specs.Seen.{IfSeen, IsSeen, ShowsFree, seen, seen_after}
 use Rattle.folder_spec.proofs.Paths.{path_eq-same}
 use Rattle.folder_spec.proofs.Tables.{present_is_table}
 use Rattle.folder_spec.proofs.Seen.{seen_changed, may_call_allowed}
@@ -17,7 +17,7 @@ use Rattle.work_folder.specs.Changing.{Alters}
 use Rattle.work_folder.proofs.Changed.{seen_stays}
 
 pub put_there : (call : Call) (p : Path) (x : Found) (t u : Option Told) (result : Result (Unit {0}) FolderFault) → ((a : Told) → t ≡ Some a → IsSound a.state)
-    → ((v : View) → seen_after v call p ≡ x) → Changes call t u result → OnOk result ((v : View) → IsSeen u v → v p ≡ x)
+    → ((v : View) → seen_after v call p ≡ x) → Changes call t u result → OnOk result (IfSeen u (λ v. v p ≡ x))
 put_there call p x t u (Err fault) sound puts h = tt
 put_there call p x (Some a) (Some b) (Ok done) sound puts h = λ v is.
     ap (λ (w : View). w p) is ∙ ap (λ (c : Told). seen c.state p) h.1 ∙ ap (λ (w : View). w p) (seen_changed a.state call (sound a refl) h.0) ∙ puts (seen a.state)
@@ -35,7 +35,7 @@ shown : (t u : Option Told) (a : Told) → u ≡ t → u ≡ Some a → IsSeen t
 shown t u a same is = subst (λ o. IsSeen o (seen a.state)) (sym is ∙ same) refl
 
 pub missing_free : (t u : Option Told) (at : Path) (kind : Kind) → kind ≡ Missing → u ≡ t → Answers t (λ v. Unit {0}) (λ v k. k ≡ kind_found (v at)) (Ok kind)
-    → ((v : View) → IsSeen t v → (v at ≡ Folder) ⊎ ShowsFree v at) → (a : Told) → u ≡ Some a → Allowed a.state (MakeDir at)
+    → IfSeen t (λ v. (v at ≡ Folder) ⊎ ShowsFree v at) → (a : Told) → u ≡ Some a → Allowed a.state (MakeDir at)
 missing_free t u at kind missing same answer place a is =
     let here : kind ≡ kind_found (seen a.state at) = (answer (seen a.state) (shown t u a same is)).1 in
     may_call_allowed a.state (MakeDir at) (elim (place (seen a.state) (shown t u a same is)) as (λ _. ShowsFree (seen a.state) at) [
@@ -67,7 +67,7 @@ bare_below None sound v is p a rest other = absurd is
 
 -- what is seen where nothing comes or goes
 pub stays_so : (C G : Path → Type 0) (t u : Option Told) → Alters C G t u → (q : Path) → (C q → ⊥) → (G q → ⊥) → (P : Found → Type 0)
-    → ((v : View) → IsSeen t v → P (v q)) → (w : View) → IsSeen u w → P (w q)
+    → IfSeen t (λ v. P (v q)) → IfSeen u (λ w. P (w q))
 stays_so C G (Some a) (Some b) went q no_come no_go P h w is =
     subst P (sym (seen_stays C G (Some a) (Some b) went q no_come no_go (seen a.state) w refl is)) (h (seen a.state) refl)
 stays_so C G None (Some b) went q no_come no_go P h w is = absurd went

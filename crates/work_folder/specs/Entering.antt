@@ -4,7 +4,7 @@ use Rattle.port_model.specs.Counts.{CountRose}
 use Rattle.folder_spec.specs.Path.{Part, Path, child}
 use Rattle.folder_spec.specs.Event.{Told}
 use Rattle.folder_spec.specs.View.{NoEntry, Folder, View}
-use Rattle.folder_spec.specs.Seen.{IsSeen}
+use Rattle.folder_spec.specs.Seen.{IfSeen}
 use Rattle.folder_staging.specs.declared.removal.RemovalFault.TheVariants as removal
 use Rattle.folder_staging.specs.Removal.{Reach, below_only, deepest, IsWithin, IsBare, RemovesAs}
 use Rattle.work_folder.specs.declared.fault.WorkFault.{WorkFault}
@@ -61,26 +61,26 @@ EntersAs v work answer = (Tests v work answer × (answer ≢ Ok tt)) ⊎ (Tests 
 -- A call makes a work folder ready, from what a folder told and its count of faults before to those afterwards.
 pub record Enters {T : Type 0} (work : Path) (before after : Option Told) (old new : ℕ) (result : Result T WorkFault) : Type 0 where
   pub moments : ChangesAt work (IsWorkOrStage work) (IsLeftOver work) before after
-  pub ready : OnOk result ((v : View) → IsSeen after v → IsFresh v work)
-  pub answer : (v : View) → IsSeen before v → Gives (EntersAs v work) result
+  pub ready : OnOk result (IfSeen after (λ v. IsFresh v work))
+  pub answer : IfSeen before (λ v. Gives (EntersAs v work) result)
   -- where a test fails nothing is changed
-  pub kept : (v : View) → IsSeen before v → ¬ Tests v work (Ok tt) → after ≡ before
+  pub kept : IfSeen before (λ v. ¬ Tests v work (Ok tt) → after ≡ before)
   pub grows : old ≤ new
   pub failed : result ≡ Err Failed → CountRose old new
 
 -- A call makes the stage ready alone, in a work folder that is in use.
 pub record Restages {T : Type 0} (work : Path) (before after : Option Told) (old new : ℕ) (result : Result T WorkFault) : Type 0 where
   pub moments : ChangesAt (stage_path work) (IsStage work) (IsBelowStage work) before after
-  pub ready : OnOk result ((v : View) → IsSeen after v → IsReady v work)
-  pub answer : (v : View) → IsSeen before v → Gives (Empties v work) result
+  pub ready : OnOk result (IfSeen after (λ v. IsReady v work))
+  pub answer : IfSeen before (λ v. Gives (Empties v work) result)
   pub grows : old ≤ new
   pub failed : result ≡ Err Failed → CountRose old new
 
 -- Before the stage is made ready the work folder is made and `journal.new` removed (private contracts only).
 pub record Prepares (work : Path) (before after : Option Told) (old new : ℕ) (result : Answer) : Type 0 where
   pub moments : Alters (λ q. q ≡ work) (λ q. q ≡ new_journal_path work) before after
-  pub folder : OnOk result ((v : View) → IsSeen after v → v work ≡ Folder)
-  pub gone : OnOk result ((v : View) → IsSeen after v → v (new_journal_path work) ≡ NoEntry)
+  pub folder : OnOk result (IfSeen after (λ v. v work ≡ Folder))
+  pub gone : OnOk result (IfSeen after (λ v. v (new_journal_path work) ≡ NoEntry))
   pub fault : (fault : WorkFault) → result ≡ Err fault → (fault ≡ Failed) ⊎ (fault ≡ NoMemory)
   pub grows : old ≤ new
   pub failed : result ≡ Err Failed → CountRose old new

@@ -4,7 +4,7 @@ use Rattle.port_model.specs.Counts.{CountRose}
 use Rattle.folder_spec.specs.Path.{Part, Path, parent, child}
 use Rattle.folder_spec.specs.Event.{Told}
 use Rattle.folder_spec.specs.View.{Found, NoEntry, Folder, FileOf, Special, View}
-use Rattle.folder_spec.specs.Seen.{IsSeen}
+use Rattle.folder_spec.specs.Seen.{IfSeen}
 use Rattle.work_folder.specs.declared.fault.WorkFault.{WorkFault}
 use Rattle.work_folder.specs.declared.fault.WorkFault.TheVariants.{NoParent, WrongKind, Foreign, Begun, Depth, Failed, NoMemory}
 use Rattle.work_folder.specs.Entries.{journal_path, HasNoForeign, IsFirstForeign}
@@ -57,6 +57,6 @@ Gives A (Err NoMemory) = Unit {0}
 -- A call that changes nothing and answers so, from what a folder told and its count of faults before to those afterwards.
 pub record Looks (A : View → Answer → Type 0) (before after : Option Told) (old new : ℕ) (result : Answer) : Type 0 where
   pub told : after ≡ before
-  pub answer : (v : View) → IsSeen before v → Gives (A v) result
+  pub answer : IfSeen before (λ v. Gives (A v) result)
   pub grows : old ≤ new
   pub failed : result ≡ Err Failed → CountRose old new

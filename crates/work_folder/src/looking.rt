@@ -1,7 +1,7 @@
 //! The tests of a work folder.
 ghost use Rattle.std.specs.Prelude.{◌≡◌};
-ghost use Rattle.folder_spec.specs.View.{Folder, View};
-ghost use Rattle.folder_spec.specs.Seen.{IsSeen};
+ghost use Rattle.folder_spec.specs.View.{Folder};
+ghost use Rattle.folder_spec.specs.Seen.{IfSeen};
 ghost use Rattle.work_folder.specs.Entries.{is_foreign, journal_path};
 ghost use Rattle.work_folder.specs.Picking.{Picks};
 ghost use Rattle.work_folder.specs.Looking.{Looks, Tests, TestsEntries, TestsJournal, TestsKind};
@@ -34,7 +34,7 @@ fn pick(at: &FPath, entries: &[Entry], old: bool) -> Result<(), WorkFault>
 
 // No entry of the directory is foreign.
 pub(crate) fn look_inside<F: Folder>(folder: &mut F, at: &FPath, old: bool) -> Result<(), WorkFault>
-    requires { (v : View) → IsSeen (F.told folder.old) v → v at.now ≡ Folder }
+    requires { IfSeen (F.told folder.old) (λ v. v at.now ≡ Folder) }
     ensures { Looks (λ v answer. TestsEntries old v at.now answer) (F.told folder.old) (F.told folder.new) (F.faults folder.old) (F.faults folder.new) result }
 {
     let entries = folder.list(at)?;
@@ -42,7 +42,7 @@ pub(crate) fn look_inside<F: Folder>(folder: &mut F, at: &FPath, old: bool) -> R
 }
 
 fn look_for_journal<F: Folder>(folder: &mut F, at: &FPath) -> Result<(), WorkFault>
-    requires { (v : View) → IsSeen (F.told folder.old) v → v at.now ≡ Folder }
+    requires { IfSeen (F.told folder.old) (λ v. v at.now ≡ Folder) }
     ensures { Looks (λ v answer. TestsJournal (v (journal_path at.now)) v at.now answer) (F.told folder.old) (F.told folder.new) (F.faults folder.old) (F.faults folder.new) result }
 {
     let journal = at.child("journal")?;

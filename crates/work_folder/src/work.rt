@@ -25,8 +25,8 @@ impl Model for Work {
 
 impl Work {
     ghost use Rattle.std.specs.Prelude.{◌≡◌, ◌⊎◌, IfOk};
-    ghost use Rattle.folder_spec.specs.View.{Folder, NoEntry, View};
-    ghost use Rattle.folder_spec.specs.Seen.{IsSeen};
+    ghost use Rattle.folder_spec.specs.View.{Folder, NoEntry};
+    ghost use Rattle.folder_spec.specs.Seen.{IfSeen};
     ghost use Rattle.work_folder.specs.Entries.{stage_path};
     ghost use Rattle.work_folder.specs.Looking.{Looks, Tests, TestsEntries};
     ghost use Rattle.work_folder.specs.Entering.{Enters, Restages};
@@ -66,7 +66,7 @@ impl Work {
     /// Tests the entries of a work folder that has a journal. The directory `old` has its place there
     /// where `old` says so.
     pub fn look_again<F: Folder>(folder: &mut F, at: &FPath, old: bool) -> Result<(), WorkFault>
-        requires { (v : View) → IsSeen (F.told folder.old) v → v at.now ≡ Folder }
+        requires { IfSeen (F.told folder.old) (λ v. v at.now ≡ Folder) }
         ensures { Looks (λ v answer. TestsEntries old v at.now answer) (F.told folder.old) (F.told folder.new) (F.faults folder.old) (F.faults folder.new) result }
     {
         look_inside(folder, at, old)
@@ -75,8 +75,8 @@ impl Work {
     /// Makes `stage` ready in a work folder that has a journal: removes everything under it, and makes it
     /// where it is Missing.
     pub fn again<F: Folder>(folder: &mut F, at: &FPath) -> Result<Work, WorkFault>
-        requires folder { (v : View) → IsSeen (F.told folder.old) v → v at.now ≡ Folder }
-        requires stage { (v : View) → IsSeen (F.told folder.old) v → (v (stage_path at.now) ≡ NoEntry) ⊎ (v (stage_path at.now) ≡ Folder) }
+        requires folder { IfSeen (F.told folder.old) (λ v. v at.now ≡ Folder) }
+        requires stage { IfSeen (F.told folder.old) (λ v. (v (stage_path at.now) ≡ NoEntry) ⊎ (v (stage_path at.now) ≡ Folder)) }
         ensures path { IfOk result (λ work. work ≡ at.now) }
         ensures restages { Restages at.now (F.told folder.old) (F.told folder.new) (F.faults folder.old) (F.faults folder.new) result }
     {

@@ -10,7 +10,7 @@ use Rattle.folder_spec.specs.State.{Table, State, IsTableOf, IsSound}
 use Rattle.folder_spec.specs.Event.{Event, Told, FromTo}
 use Rattle.folder_spec.specs.Moments.{Went}
 use Rattle.folder_spec.specs.Region.{IsAsBefore, Spares, apart_from, apart_from_both}
-use Rattle.folder_spec.specs.Seen.{IsSeen, seen, under}
+use Rattle.folder_spec.specs.Seen.{IfSeen, IsSeen, seen, under}
 use Rattle.folder_spec.specs.View.{View, AgreeIn, Shows}
 use Rattle.folder_spec.proofs.Edits.{unchanged_shows}
 use Rattle.folder_spec.proofs.Moments.{went_on, went_more, went_to}
@@ -123,7 +123,7 @@ module _ (outside : Outside) (alike : Alike) (p : Placing) (ending : Ending) (ma
         begun_then p.work (λ b c. ShowsNewTree p b.state c.state) (λ a c. ShowsNewTreeBeside p a.state c.state) t u w sound
         (λ a b c sound_at first shows_new. tree_then p ending a.state b.state sound_at (went_to (IsBeginning p.work a.state) (λ s e. Spares (apart_from p.work) e.call) a b first) c.state shows_new) begins done
 
-    under_then : (v : View) → IsSeen t v → (x : View) × IsSeen u x × (under p.vault.root x ≡ under p.vault.root v)
+    under_then : IfSeen t (λ v. (x : View) × IsSeen u x × (under p.vault.root x ≡ under p.vault.root v))
     under_then v is =
         let after : (x : View) × IsSeen u x × AgreeIn (apart_from p.work) x v = seen_after p.work t u begins v is in
         (after.0, after.1, same_under outside alike p.vault.root p.work apart v after.0 after.2)
@@ -205,7 +205,7 @@ directory_failed (Err puts.NoMemory) own is = cc
 
 pub directory_made : Outside → Alike → (change : Change) (vault : OpenedVault) (work : Path) (answer : Answer) (result : Result (Unit {0}) PutFault) (t u w : Option Told) (stream stream' : Option ByteStream)
     → ((a : Told) → t ≡ Some a → IsSound a.state) → overlap change.target.vault change.work ≡ false → vault.root ≡ change.target.vault → work ≡ change.work → ChangesWork change.work t u
-    → ((v : View) → IsSeen t v → Opens v change.target.vault change.target.pass vault.vault) → ((v : View) → IsSeen t v → EntersAs v change.work (Ok tt))
+    → IfSeen t (λ v. Opens v change.target.vault change.target.pass vault.vault) → IfSeen t (λ v. EntersAs v change.work (Ok tt))
     → IfErr result (λ fault. IsDirectoryFault fault) → answer ≡ answer_to_making result → MakesDirectory vault work change.target.path stream stream' u w result
     → MakesDirectoryApart change answer t w stream stream'
 directory_made outside alike change vault work answer result t u w stream stream' sound apart is_root is_work begins opens entered fault is makes =
@@ -238,7 +238,7 @@ site_refused change v answer next refuses =
 -- where the command doesn't come to the making
 pub no_site : (change : Change) (answer : Answer) (t u : Option Told) (stream : Option ByteStream) → Draws stream stream []
     → (overlap change.target.vault change.work ≡ true → ((answer ≡ Overlap change.target.vault change.work) ⊎ (answer ≡ OutOfMemory)) × (u ≡ t))
-    → (overlap change.target.vault change.work ≡ false → (v : View) → IsSeen t v → RefusesSite change v answer) → (overlap change.target.vault change.work ≡ false → IsTrue (is_of_beginning answer)) → ChangesWork change.work t u
+    → (overlap change.target.vault change.work ≡ false → IfSeen t (λ v. RefusesSite change v answer)) → (overlap change.target.vault change.work ≡ false → IsTrue (is_of_beginning answer)) → ChangesWork change.work t u
     → Either (overlap change.target.vault change.work) (RefusesOverlapping change.target.vault change.work answer t u stream stream) (MakesDirectoryApart change answer t u stream stream)
 no_site change answer t u stream undrawn overlapping refuses own begins = by (overlap change.target.vault change.work) refl
   where

@@ -12,7 +12,7 @@ use Rattle.folder_spec.specs.Event.{Event, Told, FromTo}
 use Rattle.folder_spec.specs.Moments.{Went, Moments}
 use Rattle.folder_spec.specs.Region.{Spares, apart_from, apart_from_both}
 use Rattle.folder_spec.specs.View.{View, AgreeIn}
-use Rattle.folder_spec.specs.Seen.{IsSeen}
+use Rattle.folder_spec.specs.Seen.{IfSeen, IsSeen}
 use Rattle.folder_spec.proofs.Edits.{publishes_nothing, publishes_joined, published_joined, publishes_in_part, published_in_part, unchanged_present}
 use Rattle.folder_spec.proofs.Moments.{went_on, went_more, went_to}
 use Rattle.folder_spec.proofs.Paths.{below-parent}
@@ -110,7 +110,7 @@ some_vault (Ok done) made phrase vault is = (vault, is)
 some_vault (Err fault) made phrase vault is = tt
 
 module _ (new : NewVault) (phrase : List ℕ) (answer : Answer) (t u w : Option Told) (stream stream' : Option ByteStream) (sound : (a : Told) → t ≡ Some a → IsSound a.state)
-    (begins : ChangesWork new.work t u) (reads : (v : View) → IsSeen t v → IsPhrase (v new.pass) phrase) where
+    (begins : ChangesWork new.work t u) (reads : IfSeen t (λ v. IsPhrase (v new.pass) phrase)) where
   from_parts : (made : View) (files : List (Part × List ℕ)) (result : Result (Unit {0}) PutFault) → answer ≡ answer_to_making result → DrawsVault new.format phrase made files stream stream' result
       → Founds new.work new.vault made files u w result → OnOk result ((vault : Vault) × IsNewVault made phrase vault) → FoundsVault new answer t w stream stream'
   from_parts made files result answers drew founds opens = record {
@@ -197,8 +197,8 @@ pass_caused new v answer (inr (inr refuses)) = inr (inr (pass_then new.pass (v n
 -- ---- the whole call
 
 pub made_apart : (new : NewVault) (phrase : List ℕ) (answer : Answer) (t u w : Option Told) (stream stream' : Option ByteStream) → ((a : Told) → t ≡ Some a → IsSound a.state) → overlap new.vault new.work ≡ false
-    → ChangesWork new.work t u → ((v : View) → IsSeen t v → IsPhrase (v new.pass) phrase) → ((v : View) → IsSeen t v → EntersAs v new.work (Ok tt))
-    → ((v : View) → IsSeen u v → Unless answer (OfPlace new v answer)) → RefusesPlace answer u w stream stream' ⊎ FoundsAs new phrase answer u w stream stream' → MakesVaultApart new answer t w stream stream'
+    → ChangesWork new.work t u → IfSeen t (λ v. IsPhrase (v new.pass) phrase) → IfSeen t (λ v. EntersAs v new.work (Ok tt))
+    → IfSeen u (λ v. Unless answer (OfPlace new v answer)) → RefusesPlace answer u w stream stream' ⊎ FoundsAs new phrase answer u w stream stream' → MakesVaultApart new answer t w stream stream'
 made_apart new phrase answer t u w stream stream' sound apart begins reads entered cause made = record {
   cause = λ v is.
       let after : (x : View) × IsSeen u x × AgreeIn (apart_from new.work) x v = seen_after new.work t u begins v is in
@@ -210,14 +210,14 @@ made_apart new phrase answer t u w stream stream' sound apart begins reads enter
 }
 
 pub not_entered : (new : NewVault) (phrase : List ℕ) (answer : Answer) (t u : Option Told) (stream : Option ByteStream) → Draws stream stream [] → IsTrue (is_of_readying answer) → ChangesWork new.work t u
-    → ((v : View) → IsSeen t v → IsPhrase (v new.pass) phrase) → ((v : View) → IsSeen t v → RefusesWork v new.work answer) → MakesVaultApart new answer t u stream stream
+    → IfSeen t (λ v. IsPhrase (v new.pass) phrase) → IfSeen t (λ v. RefusesWork v new.work answer) → MakesVaultApart new answer t u stream stream
 not_entered new phrase answer t u stream undrawn own begins reads refuses = record {
   cause = λ v is. work_caused new v answer phrase (reads v is) (refuses v is);
   comes = inl (record { own = own; changes = work_alone new.work t u stream stream begins undrawn });
 }
 
 pub not_read : (new : NewVault) (answer : Answer) (t u : Option Told) (stream : Option ByteStream) → Draws stream stream [] → u ≡ t
-    → (overlap new.vault new.work ≡ true → (answer ≡ Overlap new.vault new.work) ⊎ (answer ≡ OutOfMemory)) → (overlap new.vault new.work ≡ false → (v : View) → IsSeen t v → RefusesPass new.pass (v new.pass) answer)
+    → (overlap new.vault new.work ≡ true → (answer ≡ Overlap new.vault new.work) ⊎ (answer ≡ OutOfMemory)) → (overlap new.vault new.work ≡ false → IfSeen t (λ v. RefusesPass new.pass (v new.pass) answer))
     → (overlap new.vault new.work ≡ false → IsTrue (is_of_readying answer))
     → Either (overlap new.vault new.work) (RefusesOverlapping new.vault new.work answer t u stream stream) (MakesVaultApart new answer t u stream stream)
 not_read new answer t u stream undrawn same overlapping refuses own = by (overlap new.vault new.work) refl

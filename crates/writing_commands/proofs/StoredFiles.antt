@@ -9,8 +9,7 @@ use Rattle.content_writing.specs.declared.fault.PutFault.TheVariants as puts
 use Rattle.folder_spec.specs.Path.{Path}
 use Rattle.folder_spec.specs.State.{IsSound}
 use Rattle.folder_spec.specs.Event.{Told}
-use Rattle.folder_spec.specs.Seen.{IsSeen}
-use Rattle.folder_spec.specs.View.{View}
+use Rattle.folder_spec.specs.Seen.{IfSeen}
 use Rattle.port_model.specs.Draws.{ByteStream, Draws}
 use Rattle.vault_read.specs.Contents.{IsOfPath}
 use Rattle.vault_read.specs.Opened.{OpenedVault}
@@ -204,7 +203,7 @@ module _ (change : Change) (answer : Answer) (t w : Option Told) (stream stream'
   abbrev Stores : Vault → Type 0
   Stores vault = StoresIn change vault answer t w stream stream' left left'
 
-  stored : (vault : Vault) → ((v : View) → IsSeen t v → Opens v change.target.vault change.target.pass vault) → ((v : View) → IsSeen t v → EntersAs v change.work (Ok tt)) → IsTrue (is_of_file answer) → Stores vault
+  stored : (vault : Vault) → IfSeen t (λ v. Opens v change.target.vault change.target.pass vault) → IfSeen t (λ v. EntersAs v change.work (Ok tt)) → IsTrue (is_of_file answer) → Stores vault
       → StoresFileApart change answer t w stream stream' left left'
   stored vault opens entered own stores = record {
     cause = λ v seen. inr (inr (site_gives change v answer Stores vault (opens v seen) (entered v seen) stores));
@@ -217,7 +216,7 @@ module _ (change : Change) (answer : Answer) (t w : Option Told) (stream stream'
 pub file_made : Outside → Alike → (change : Change) (vault : OpenedVault) (work : Path) (answer : Answer) (result : Result (Unit {0}) PutFault) (t u w : Option Told) (stream stream' : Option ByteStream)
     (room room' : ℕ) (passed passed' : Bool) (left left' : Option (List ℕ))
     → ((a : Told) → t ≡ Some a → IsSound a.state) → overlap change.target.vault change.work ≡ false → vault.root ≡ change.target.vault → work ≡ change.work → ChangesWork change.work t u
-    → ((v : View) → IsSeen t v → Opens v change.target.vault change.target.pass vault.vault) → ((v : View) → IsSeen t v → EntersAs v change.work (Ok tt))
+    → IfSeen t (λ v. Opens v change.target.vault change.target.pass vault.vault) → IfSeen t (λ v. EntersAs v change.work (Ok tt))
     → answer ≡ answer_to_making result → room ≡ content_limit → passed ≡ false
     → MakesFile InPlace vault work change.target.path (coming_from room passed left) (coming_from room' passed' left') stream stream' u w result
     → StoresFileApart change answer t w stream stream' left left'
@@ -245,7 +244,7 @@ file_made outside alike change vault work answer result t u w stream stream' roo
 -- where the command doesn't come to the making
 pub none_stored : (change : Change) (answer : Answer) (t u : Option Told) (stream : Option ByteStream) (left : Option (List ℕ)) → Draws stream stream []
     → (overlap change.target.vault change.work ≡ true → ((answer ≡ Overlap change.target.vault change.work) ⊎ (answer ≡ OutOfMemory)) × (u ≡ t))
-    → (overlap change.target.vault change.work ≡ false → (v : View) → IsSeen t v → RefusesSite change v answer) → (overlap change.target.vault change.work ≡ false → IsTrue (is_of_beginning answer)) → ChangesWork change.work t u
+    → (overlap change.target.vault change.work ≡ false → IfSeen t (λ v. RefusesSite change v answer)) → (overlap change.target.vault change.work ≡ false → IsTrue (is_of_beginning answer)) → ChangesWork change.work t u
     → OrRefuses change answer t u stream stream left left (overlap change.target.vault change.work)
 none_stored change answer t u stream left undrawn overlapping refuses own begins = by (overlap change.target.vault change.work) refl
   where

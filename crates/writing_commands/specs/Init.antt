@@ -11,7 +11,7 @@ use Rattle.folder_spec.specs.Edit.{Edit, PublishesIn, HasSettledIn}
 use Rattle.folder_spec.specs.Event.{Told, FromTo}
 use Rattle.folder_spec.specs.Moments.{Moments}
 use Rattle.folder_spec.specs.Region.{IsAsBefore, Spares, apart_from, apart_from_both}
-use Rattle.folder_spec.specs.Seen.{IsSeen}
+use Rattle.folder_spec.specs.Seen.{IfSeen}
 use Rattle.folder_spec.specs.View.{View}
 use Rattle.folder_spec.specs.Written.{HoldFronts}
 use Rattle.gocrypt_conf.specs.declared.conf.GoDraw.{GoDraw}
@@ -78,7 +78,7 @@ pub record IsMakingVault (work : Path) (vault : Edit) (files : List (List ℕ)) 
 -- The vault is made. After Ok it stands there for good, the passphrase opens it, and it has no items.
 pub record FoundsVault (new : NewVault) (answer : Answer) (told told' : Option Told) (stream stream' : Option ByteStream) : Type 0 where
   pub phrase : List ℕ
-  pub reads : (v : View) → IsSeen told v → IsPhrase (v new.pass) phrase
+  pub reads : IfSeen told (λ v. IsPhrase (v new.pass) phrase)
   pub result : Result (Unit {0}) PutFault
   pub is : answer ≡ answer_to_making result
   pub made : View
@@ -90,7 +90,7 @@ pub record FoundsVault (new : NewVault) (answer : Answer) (told told' : Option T
   pub vault : OnOk result ((vault : Vault) × IsNewVault made phrase vault)
 
 pub record MakesVaultApart (new : NewVault) (answer : Answer) (told told' : Option Told) (stream stream' : Option ByteStream) : Type 0 where
-  pub cause : (v : View) → IsSeen told v → Unless answer (OfNewPlace new v answer (IsOfFounding answer))
+  pub cause : IfSeen told (λ v. Unless answer (OfNewPlace new v answer (IsOfFounding answer)))
   pub comes : EndsBefore is_of_readying new.work answer told told' stream stream' ⊎ FoundsVault new answer told told' stream stream'
 
 -- `init`, which takes nothing of the input and writes nothing

@@ -9,7 +9,7 @@ use Rattle.folder_spec.specs.Edit.{IsPartOf}
 use Rattle.folder_spec.specs.Event.{Told, FromTo}
 use Rattle.folder_spec.specs.Moments.{Moments}
 use Rattle.folder_spec.specs.Region.{IsAsBefore, Spares, apart_from, apart_from_both}
-use Rattle.folder_spec.specs.Seen.{IsSeen, under}
+use Rattle.folder_spec.specs.Seen.{IfSeen, IsSeen, under}
 use Rattle.folder_spec.specs.View.{View, Shows, ShowsAmong}
 use Rattle.folder_spec.specs.Written.{HoldFronts}
 use Rattle.plain_tree.specs.Names as plain
@@ -59,7 +59,7 @@ pub record MakesNamed (how : How) (p : Placing) (ending : Ending) (drawn : List 
       (λ s0 s e. Spares (apart_from p.work) e.call ⊎ StagesOrPlaces p.work (making_at p (making_by how p drawn) s0) s e.call) before after
   pub done : OnOk result (FromTo (λ a b. ShowsNewTreeBeside p a.state b.state) before after)
   pub ends : (v w : View) → IsSeen before v → IsSeen after w → EndsAs p (under p.vault.root v) (under p.vault.root w) result
-  pub answer : (v : View) → IsSeen before v → AnswersBy how p drawn ending (under p.vault.root v) result
+  pub answer : IfSeen before (λ v. AnswersBy how p drawn ending (under p.vault.root v) result)
 
 -- At a plain path. The root isn't made, and nothing is changed but the work folder.
 pub record MakesItem (how : How) (vault : OpenedVault) (work : Path) (path : plain.Path) (item : NewItem) (ending : Ending) (drawn : List ℕ) (told told' : Option Told) (result : Result (Unit {0}) PutFault) : Type 0 where

@@ -3,8 +3,7 @@ use Rattle.std.specs.Prelude.{◌⊎◌, Bool, true, false, Option, IsTrue}
 use Rattle.std.specs.Io.KnownBytes.{Keeps}
 use Rattle.content_writing.specs.Content.{Whole}
 use Rattle.folder_spec.specs.Event.{Told}
-use Rattle.folder_spec.specs.Seen.{IsSeen}
-use Rattle.folder_spec.specs.View.{View}
+use Rattle.folder_spec.specs.Seen.{IfSeen}
 use Rattle.port_model.specs.Draws.{ByteStream}
 use Rattle.vault_spec.specs.Making.{NewDirectory}
 use Rattle.vault_spec.specs.Vault.{Vault, Either}
@@ -37,13 +36,13 @@ is_of_directory answer = false
 -- the directory is made in the vault that is opened
 pub record MakesDirectoryThere (change : Change) (answer : Answer) (told told' : Option Told) (stream stream' : Option ByteStream) : Type 0 where
   pub vault : Vault
-  pub opens : (v : View) → IsSeen told v → Opens v change.target.vault change.target.pass vault
+  pub opens : IfSeen told (λ v. Opens v change.target.vault change.target.pass vault)
   pub own : IsTrue (is_of_directory answer)
   pub makes : MakesIn New change NewDirectory Whole vault answer told told' stream stream'
 
 -- The first test that fails by what is seen at first is the answer; where all pass, the directory is made.
 pub record MakesDirectoryApart (change : Change) (answer : Answer) (told told' : Option Told) (stream stream' : Option ByteStream) : Type 0 where
-  pub cause : (v : View) → IsSeen told v → Unless answer (OfSite change v answer (λ vault. MakesIn New change NewDirectory Whole vault answer told told' stream stream'))
+  pub cause : IfSeen told (λ v. Unless answer (OfSite change v answer (λ vault. MakesIn New change NewDirectory Whole vault answer told told' stream stream')))
   pub comes : EndsBefore is_of_beginning change.work answer told told' stream stream' ⊎ MakesDirectoryThere change answer told told' stream stream'
 
 -- `mkdir`, which takes nothing of the input and writes nothing

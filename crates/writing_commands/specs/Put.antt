@@ -3,8 +3,7 @@ use Rattle.std.specs.Prelude.{◌≡◌, ◌⊎◌, ℕ, Bool, true, false, List
 use Rattle.std.specs.Io.KnownBytes.{Keeps}
 use Rattle.content_writing.specs.Content.{Ending, content_limit, within}
 use Rattle.folder_spec.specs.Event.{Told}
-use Rattle.folder_spec.specs.Seen.{IsSeen}
-use Rattle.folder_spec.specs.View.{View}
+use Rattle.folder_spec.specs.Seen.{IfSeen}
 use Rattle.port_model.specs.Draws.{ByteStream}
 use Rattle.vault_spec.specs.Making.{NewFile}
 use Rattle.vault_spec.specs.Vault.{Vault, Either}
@@ -51,13 +50,13 @@ pub record StoresIn (change : Change) (vault : Vault) (answer : Answer) (told to
 -- in the vault that is opened
 pub record StoresThere (change : Change) (answer : Answer) (told told' : Option Told) (stream stream' : Option ByteStream) (left left' : Option (List ℕ)) : Type 0 where
   pub vault : Vault
-  pub opens : (v : View) → IsSeen told v → Opens v change.target.vault change.target.pass vault
+  pub opens : IfSeen told (λ v. Opens v change.target.vault change.target.pass vault)
   pub own : IsTrue (is_of_file answer)
   pub stores : StoresIn change vault answer told told' stream stream' left left'
 
 -- The first test that fails by what is seen at first is the answer; where all pass, the file is made.
 pub record StoresFileApart (change : Change) (answer : Answer) (told told' : Option Told) (stream stream' : Option ByteStream) (left left' : Option (List ℕ)) : Type 0 where
-  pub cause : (v : View) → IsSeen told v → Unless answer (OfSite change v answer (λ vault. StoresIn change vault answer told told' stream stream' left left'))
+  pub cause : IfSeen told (λ v. Unless answer (OfSite change v answer (λ vault. StoresIn change vault answer told told' stream stream' left left')))
   pub comes : (EndsBefore is_of_beginning change.work answer told told' stream stream' × Keeps left left') ⊎ StoresThere change answer told told' stream stream' left left'
 
 -- `put`, which writes nothing

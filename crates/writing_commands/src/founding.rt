@@ -1,7 +1,6 @@
 //! `init`: makes a vault.
 ghost use Rattle.std.specs.Prelude.{◌≡◌, ◌⊎◌, ◌≤◌, false, Err};
-ghost use Rattle.folder_spec.specs.View.{View};
-ghost use Rattle.folder_spec.specs.Seen.{IsSeen};
+ghost use Rattle.folder_spec.specs.Seen.{IfSeen};
 ghost use Rattle.port_model.specs.Counts.{CountRose};
 ghost use Rattle.vault_write.specs.Founding.{MayFound};
 ghost use Rattle.vault_write.specs.Placing.{MayMake};
@@ -55,7 +54,7 @@ fn make_apart<F: Folder, R: Randoms>(
     random: &mut R,
 ) -> Answer
     requires apart { overlap new.now.vault new.now.work ≡ false }
-    requires phrase { (v : View) → IsSeen (F.told folder.old) v → IsPhrase (v new.now.pass) phrase.now }
+    requires phrase { IfSeen (F.told folder.old) (λ v. IsPhrase (v new.now.pass) phrase.now) }
     ensures made { MakesVaultApart new.now result (F.told folder.old) (F.told folder.new) (R.left random.old) (R.left random.new) }
     ensures folder_fault { result ≡ Answer.FolderFault → CountRose (F.faults folder.old) (F.faults folder.new) }
     ensures random_fault { result ≡ Answer.RandomFault → CountRose (R.faults random.old) (R.faults random.new) }
@@ -78,7 +77,7 @@ fn make_in<F: Folder, R: Randoms>(
 ) -> Answer
     requires work { work.now ≡ new.now.work }
     requires may { MayMake (F.told folder.old) work.now new.now.vault }
-    ensures cause { (v : View) → IsSeen (F.told folder.old) v → Unless result (OfPlace new.now v result) }
+    ensures cause { IfSeen (F.told folder.old) (λ v. Unless result (OfPlace new.now v result)) }
     ensures made { RefusesPlace result (F.told folder.old) (F.told folder.new) (R.left random.old) (R.left random.new) ⊎ FoundsAs new.now phrase.now result (F.told folder.old) (F.told folder.new) (R.left random.old) (R.left random.new) }
     ensures folder_fault { result ≡ Answer.FolderFault → CountRose (F.faults folder.old) (F.faults folder.new) }
     ensures random_fault { result ≡ Answer.RandomFault → CountRose (R.faults random.old) (R.faults random.new) }

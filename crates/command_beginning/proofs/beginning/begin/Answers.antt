@@ -1,7 +1,6 @@
 use Rattle.std.proofs.Common.{◌≡◌, false, IfErr, sym, subst}
 use Rattle.std.proofs.lemmas.Result.{err_from_is_err_and}
-use Rattle.folder_spec.specs.Seen.{IsSeen}
-use Rattle.folder_spec.specs.View.{View}
+use Rattle.folder_spec.specs.Seen.{IfSeen, IsSeen}
 use Rattle.command_opening.specs.Opening.{IsPhrase}
 use Rattle.command_opening.specs.Places.{overlap}
 use Rattle.command_beginning.specs.Refusing.{RefusesSite}
@@ -18,7 +17,7 @@ returns-in_err-vault-clause-refused g c =
     let change = c.args.change.now in
     let told = g.F.Folder.told c.args.folder.now in
     let p = err_from_is_err_and c.from_residual-in_err-vault.result c.from_residual-in_err-vault.ensures.1 in
-    subst (λ r. IfErr r (λ answer. overlap change.target.vault change.work ≡ false → (v : View) → IsSeen told v → RefusesSite change v answer)) (sym p.1) (λ apart v is.
+    subst (λ r. IfErr r (λ answer. overlap change.target.vault change.work ≡ false → IfSeen told (λ v. RefusesSite change v answer))) (sym p.1) (λ apart v is.
     let seen_then = subst (λ t. IsSeen t v) (sym c.in_ok-phrase.ensures.told) is in
     let after = seen_after change.work (g.F.Folder.told c.read_apart.new.folder) (g.F.Folder.told c.enter_settled.new.folder) c.in_ok-work.ensures.moments v seen_then in
     subst (RefusesSite change v) (sym p.2) (site_refused change v after.0 c.as_slice.result.now c.in_err-vault.field-0.0

@@ -1,6 +1,5 @@
 use Rattle.std.proofs.Common.{◌≡◌, ◌∙◌, [], sym, ap, subst, Err, List, Ok, inl, inr}
-use Rattle.folder_spec.specs.Seen.{IsSeen}
-use Rattle.folder_spec.specs.View.{View}
+use Rattle.folder_spec.specs.Seen.{IfSeen, IsSeen}
 use Rattle.migrate_core.proofs.Endings.{if_ok_more, placed_of}
 use Rattle.migrate_core.specs.Moved.{lacking}
 use Rattle.std.proofs.lemmas.Result.{err_from_is_err_and}
@@ -75,8 +74,8 @@ pub returns-clause-placed : goal.returns-clause-placed
 returns-clause-placed g c =
     let told = g.F.Folder.told c.args.folder.now in
     placed_of c.args.sides.now.source c.args.sides.now.target c.in_ok-plans.plans.source.items c.in_ok-plans.plans.target.items told c.move_all.result c.in_ok-plans.ensures.source c.in_ok-plans.ensures.target
-    (if_ok_more (λ done. (v : View) → IsSeen (g.F.Folder.told c.walk_both.new.folder) v → done.placed ≡ lacking [] c.in_ok-plans.plans.source.items)
-    (λ done. (v : View) → IsSeen told v → done.placed ≡ lacking c.in_ok-plans.plans.target.items c.in_ok-plans.plans.source.items) c.move_all.result
+    (if_ok_more (λ done. IfSeen (g.F.Folder.told c.walk_both.new.folder) (λ v. done.placed ≡ lacking [] c.in_ok-plans.plans.source.items))
+    (λ done. IfSeen told (λ v. done.placed ≡ lacking c.in_ok-plans.plans.target.items c.in_ok-plans.plans.source.items)) c.move_all.result
     (λ done is v seen. is v (subst (λ t. IsSeen t v) (sym c.walk_both.ensures.told) seen) ∙ ap (λ there. lacking there c.in_ok-plans.plans.source.items) (sym (sym c.as_slice.ensures ∙ c.in_ok-test_empty.ensures.empty)))
     c.move_all.ensures.placed)
 

@@ -2,8 +2,7 @@ use Rattle.std.proofs.Common.{◌≡◌, [], Result, ◌∙◌, Ok, IfOk, sym, a
 use Rattle.folder_spec.specs.declared.FolderFault.{FolderFault}
 use Rattle.std.proofs.lemmas.Result.{err_from_is_err_and}
 use Rattle.folder_spec.specs.Region.{apart_from_both}
-use Rattle.folder_spec.specs.Seen.{IsSeen}
-use Rattle.folder_spec.specs.View.{View}
+use Rattle.folder_spec.specs.Seen.{IfSeen}
 use Rattle.move_journal.specs.Writing.{IsWorkFolder, elsewhere}
 use Rattle.move_journal.specs.declared.journal.Journal.{Journal}
 use Rattle.tree_match.specs.Alone.{Begun, Finished, Unbegun}
@@ -94,7 +93,7 @@ go_on-requires-clause-ready g c =
     let work = c.args.work.now in
     let entered = g.F.Folder.told c.enter.new.folder in
     let written = g.F.Folder.told c.write.new.folder in
-    subst (λ w. (v : View) → IsSeen written v → IsReady v w) (sym c.in_ok-entered.ensures.path)
+    subst (λ w. IfSeen written (λ v. IsReady v w)) (sym c.in_ok-entered.ensures.path)
     (ready_stays work entered written (g.met.F.Folder.sound c.enter.new.folder)
     (moves_to (elsewhere work) root entered written (writing_moves work root c.in_ok-journal.journal entered written c.requires.apart.target c.write.ensures.moments))
     (λ v is. (c.in_ok-entered.ensures.enters.ready v is).ready))
@@ -105,7 +104,7 @@ go_on-requires-clause-work_folder g c =
     let work = c.args.work.now in
     let entered = g.F.Folder.told c.enter.new.folder in
     let written = g.F.Folder.told c.write.new.folder in
-    subst (λ w. (v : View) → IsSeen written v → IsWorkFolder v w) (sym c.in_ok-entered.ensures.path)
+    subst (λ w. IfSeen written (λ v. IsWorkFolder v w)) (sym c.in_ok-entered.ensures.path)
     (written_folder work c.in_ok-journal.journal entered written (g.met.F.Folder.sound c.enter.new.folder)
     (moves_to (elsewhere work) root entered written (writing_moves work root c.in_ok-journal.journal entered written c.requires.apart.target c.write.ensures.moments))
     c.in_ok-write.ensures.written (λ v is. fresh_folder v work (c.in_ok-entered.ensures.enters.ready v is)))
@@ -194,7 +193,7 @@ returns-clause-placed g c =
     let told = g.F.Folder.told c.args.folder.now in
     let entered = g.F.Folder.told c.enter.new.folder in
     let written = g.F.Folder.told c.write.new.folder in
-    if_ok_more (λ done. (v : View) → IsSeen written v → done.placed ≡ lacking [] c.args.plan.now.items) (λ done. (v : View) → IsSeen told v → done.placed ≡ lacking [] c.args.plan.now.items) c.go_on.result
+    if_ok_more (λ done. IfSeen written (λ v. done.placed ≡ lacking [] c.args.plan.now.items)) (λ done. IfSeen told (λ v. done.placed ≡ lacking [] c.args.plan.now.items)) c.go_on.result
     (λ done is. then_known _ told written (moves_on (apart_from_both c.args.work.now c.args.sides.now.target.root) c.args.sides.now.target.root told entered written
     (entered_moves c.args.work.now c.args.sides.now.target.root (IsWorkOrStage c.args.work.now) (IsLeftOver c.args.work.now) told entered c.requires.apart.target c.enter.ensures.enters.moments)
     (written_moves c.args.work.now c.args.sides.now.target.root c.in_ok-journal.journal entered written c.requires.apart.target c.write.ensures.moments)) (done.placed ≡ lacking [] c.args.plan.now.items) is) c.go_on.ensures.placed
@@ -345,7 +344,7 @@ returns-clause-tidy g c =
     let j = c.in_ok-journal.journal in
     let here = tidy_written work j entered written (g.met.F.Folder.sound c.enter.new.folder) (written_beside work j entered written c.write.ensures.moments) c.in_ok-write.ensures.written
     (λ v is. fresh_tidy v work (c.in_ok-entered.ensures.enters.ready v is)) in
-    if_ok_more (λ done. StaysTidyWork work written after) (λ done. (v : View) → IsSeen after v → IsTidyWork work v) c.go_on.result (λ done stays. stays here)
+    if_ok_more (λ done. StaysTidyWork work written after) (λ done. IfSeen after (λ v. IsTidyWork work v)) c.go_on.result (λ done stays. stays here)
     (subst (λ w. IfOk c.go_on.result (λ done. StaysTidyWork w written after)) c.in_ok-entered.ensures.path c.go_on.ensures.tidy)
 
 pub returns-in_err-entered-clause-ends : goal.returns-in_err-entered-clause-ends

@@ -1,8 +1,7 @@
 use Rattle.std.proofs.Common.{◌≡◌, ◌∙◌, ap, sym, subst, [], arith, ◌∷◌, IfErr, IfOk}
 use Rattle.std.proofs.lemmas.Result.{err_from_is_err_and}
 use Rattle.folder_spec.specs.Region.{apart_from_both}
-use Rattle.folder_spec.specs.Seen.{IsSeen}
-use Rattle.folder_spec.specs.View.{View}
+use Rattle.folder_spec.specs.Seen.{IfSeen}
 use Rattle.move_journal.specs.Writing.{IsWorkFolder}
 use Rattle.tree_match.specs.Alone.{Begun, Finished}
 use Rattle.vault_write.specs.Making.{is_apart}
@@ -62,7 +61,7 @@ finish-requires-clause-work_folder g c =
     let root = c.args.sides.now.target.root in
     let told = g.F.Folder.told c.args.folder.now in
     let here = g.F.Folder.told c.place_missing.new.folder in
-    subst (λ w. (v : View) → IsSeen here v → IsWorkFolder v w) (sym c.at.ensures)
+    subst (λ w. IfSeen here (λ v. IsWorkFolder v w)) (sym c.at.ensures)
     (work_folder_stays (is_apart c.args.work.now root) c.args.work.now told here (placing_has c.args.work.now root c.requires.apart.target) (g.met.F.Folder.sound c.args.folder.now)
     (moves_to (is_apart c.args.work.now root) root told here c.place_missing.ensures.moves) c.requires.work_folder)
 
@@ -97,7 +96,7 @@ finish-requires-clause-stands g c phase =
     let root = c.args.sides.now.target.root in
     let told = g.F.Folder.told c.args.folder.now in
     let here = g.F.Folder.told c.place_missing.new.folder in
-    subst (λ w. (v : View) → IsSeen here v → StandsIn w c.args.journal v) (sym c.at.ensures)
+    subst (λ w. IfSeen here (λ v. StandsIn w c.args.journal v)) (sym c.at.ensures)
     (journal_stays (is_apart c.args.work.now root) c.args.work.now c.args.journal told here (placing_has c.args.work.now root c.requires.apart.target).journal (g.met.F.Folder.sound c.args.folder.now)
     (moves_to (is_apart c.args.work.now root) root told here c.place_missing.ensures.moves) (c.requires.stands phase))
 
@@ -106,7 +105,7 @@ returns-clause-moved g c = subst (λ w. Moved c.args.sides.now.source c.args.sid
 
 pub returns-clause-placed : goal.returns-clause-placed
 returns-clause-placed g c =
-    if_ok_more (λ done. done.placed ≡ c.in_ok-placed.placed) (λ done. (v : View) → IsSeen (g.F.Folder.told c.args.folder.now) v → done.placed ≡ lacking c.args.there.now c.args.source.now.items) c.finish.result
+    if_ok_more (λ done. done.placed ≡ c.in_ok-placed.placed) (λ done. IfSeen (g.F.Folder.told c.args.folder.now) (λ v. done.placed ≡ lacking c.args.there.now c.args.source.now.items)) c.finish.result
     (λ done is v seen. is ∙ c.in_ok-placed.ensures.counted (c.requires.there v seen) ∙ ap (lacking c.args.there.now) c.as_slice-items.ensures) c.finish.ensures.placed
 
 pub returns-in_err-placed-clause-written : goal.returns-in_err-placed-clause-written

@@ -1,6 +1,5 @@
 use Rattle.std.proofs.Common.{◌≡◌, ◌≤◌, ◌++◌, take, []}
-use Rattle.folder_spec.specs.Seen.{IsSeen}
-use Rattle.folder_spec.specs.View.{View}
+use Rattle.folder_spec.specs.Seen.{IfSeen}
 use Rattle.tree_match.specs.Alone.{Begun}
 use Rattle.vault_walk.specs.Survey.{IsOrdered}
 use Rattle.vault_write.specs.Making.{is_apart}
@@ -19,7 +18,7 @@ invariant-loop-item g l = record {
   grows : g.F.Folder.faults l.initial.folder ≤ g.F.Folder.faults l.folder;
   random : g.R.Randoms.faults l.initial.random ≤ g.R.Randoms.faults l.random;
   few : l.placed ≤ l.item-index;
-  ready : (v : View) → IsSeen (g.F.Folder.told l.folder) v → IsReady v l.work;
+  ready : IfSeen (g.F.Folder.told l.folder) (λ v. IsReady v l.work);
   led : HasLed l.sides.source l.sides.target l.work Begun Begun (g.F.Folder.told l.initial.folder) (g.F.Folder.told l.folder);
   moves : MovesBeside (is_apart l.work l.sides.target.root) l.sides.target.root (g.F.Folder.told l.initial.folder) (g.F.Folder.told l.folder);
   counted : IsOrdered l.there → l.placed ≡ lacking l.there (take l.item-index l.items);

@@ -13,8 +13,7 @@ use Rattle.migrate_core.proofs.Leadings.{alone_goes, goes_failed, then_known}
 use Rattle.migrate_core.proofs.Movings.{moves_on, moves_to, seen_stays, source_beside, turned_over, walked_stays}
 use Rattle.migrate_core.proofs.Restaged.{rest_goes, stage_alone, stage_apart, stage_moves, stage_stays, still_known}
 use Rattle.migrate_core.proofs.WorkFolders.{staging_has, work_folder_stays}
-use Rattle.folder_spec.specs.Seen.{IsSeen}
-use Rattle.folder_spec.specs.View.{View}
+use Rattle.folder_spec.specs.Seen.{IfSeen}
 use Rattle.migrate_core.proofs.WorkFolders.{journal_stays}
 use Rattle.migrate_core.proofs.Endings.{if_ok_more}
 use Rattle.migrate_core.specs.Moved.{Moved, StandsIn, lacking, done_of}
@@ -127,7 +126,7 @@ go_on-requires-clause-stands g c phase =
     let t0 = g.F.Folder.told c.args.folder.now in
     let t1 = g.F.Folder.told c.again.new.folder in
     let work = c.args.work.now in
-    subst (λ w. (v : View) → IsSeen t1 v → StandsIn w c.args.journal v) (sym c.in_ok-again.ensures.path)
+    subst (λ w. IfSeen t1 (λ v. StandsIn w c.args.journal v)) (sym c.in_ok-again.ensures.path)
     (journal_stays (apart_from (stage_path work)) work c.args.journal t0 t1 (staging_has work).journal (g.met.F.Folder.sound c.args.folder.now)
     (stage_stays work c.args.sides.now.target.root t0 t1 c.requires.apart.target c.again.ensures.restages.moments) (λ v is. (c.requires.used v is).stands))
 
@@ -141,7 +140,7 @@ returns-clause-placed g c =
     let target = c.args.sides.now.target.root in
     let items = c.args.plans.now.source.items in
     let there = c.args.plans.now.target.items in
-    if_ok_more (λ done. (v : View) → IsSeen t1 v → done.placed ≡ lacking c.as_slice-there.result.now items) (λ done. (v : View) → IsSeen t0 v → done.placed ≡ lacking there items) c.go_on.result
+    if_ok_more (λ done. IfSeen t1 (λ v. done.placed ≡ lacking c.as_slice-there.result.now items)) (λ done. IfSeen t0 (λ v. done.placed ≡ lacking there items)) c.go_on.result
     (λ done is v seen. then_known _ t0 t1 (stage_moves c.args.work.now target t0 t1 c.requires.apart.target c.again.ensures.restages.moments) (done.placed ≡ lacking c.as_slice-there.result.now items) is v seen
     ∙ ap (λ xs. lacking xs items) c.as_slice-there.ensures) c.go_on.ensures.placed
 

@@ -1,8 +1,7 @@
 use Rattle.folder_spec.specs.Region.{apart_from_both}
 use Rattle.migrate_core.proofs.Movings.{moves_on, settle_moves}
 use Rattle.migrate_core.proofs.Settled.{settle_fell, settle_seen, settle_then}
-use Rattle.folder_spec.specs.Seen.{IsSeen}
-use Rattle.folder_spec.specs.View.{View}
+use Rattle.folder_spec.specs.Seen.{IfSeen}
 use Rattle.migrate_core.proofs.Endings.{if_ok_more, told_before}
 use Rattle.migrate_core.specs.Moved.{MovesTold}
 use Rattle.migrate_core.proofs.Causing.{folder_unless, refused_as}
@@ -49,7 +48,7 @@ returns-clause-moved g c =
     let pass = c.args.source_pass.now in
     let pass' = c.args.target_pass.now in
     let seen_then = settle_seen t0 t1 c.in_ok-settle.field-0 c.in_ok-settle.ensures.changes in
-    if_ok_more (λ done. (v : View) → IsSeen t1 v → MovesTold work pass pass' done t1 t2 v) (λ done. (v : View) → IsSeen t0 v → MovesTold work pass pass' done t0 t2 v) c.resume_settled.result
+    if_ok_more (λ done. IfSeen t1 (λ v. MovesTold work pass pass' done t1 t2 v)) (λ done. IfSeen t0 (λ v. MovesTold work pass pass' done t0 t2 v)) c.resume_settled.result
     (λ done moves v seen. told_before work pass pass' done t0 t1 t2 seen_then v (moves v (seen_then v seen))) c.resume_settled.ensures.moved
 
 pub returns-in_err-settle-clause-cause : goal.returns-in_err-settle-clause-cause

@@ -1,12 +1,11 @@
 use Rattle.std.proofs.Common.{◌∙◌, subst, Err, Ok, sym, inl}
 use Rattle.folder_spec.specs.Region.{apart_from_both}
-use Rattle.folder_spec.specs.Seen.{IsSeen}
+use Rattle.folder_spec.specs.Seen.{IfSeen, IsSeen}
 use Rattle.move_journal.specs.declared.journal.Journal.{Journal}
 use Rattle.migrate_core.specs.Leading.{KeepsSettled}
 use Rattle.migrate_core.specs.Moving.{MovesOnly}
 use Rattle.migrate_core.proofs.Movings.{moves_nowhere}
 use Rattle.migrate_core.proofs.Settled.{in_use, journal_folder, journal_stands, one_journal, still_settled}
-use Rattle.folder_spec.specs.View.{View}
 use Rattle.migrate_core.proofs.Endings.{if_ok_more}
 use Rattle.migrate_core.specs.Moved.{MovesTold, MovesTree}
 use Rattle.migrate_core.proofs.Causing.{journal_refused, own_passes, own_refused, refused_as, then_passes, work_refused}
@@ -76,7 +75,7 @@ returns-clause-moved g c =
     let pass = c.args.source_pass.now in
     let pass' = c.args.target_pass.now in
     let read = c.in_ok-journal.journal in
-    if_ok_more (λ done. MovesTree read.source read.target work pass pass' done t2 t3) (λ done. (v : View) → IsSeen t0 v → MovesTold work pass pass' done t0 t3 v) c.resume_told.result
+    if_ok_more (λ done. MovesTree read.source read.target work pass pass' done t2 t3) (λ done. IfSeen t0 (λ v. MovesTold work pass pass' done t0 t3 v)) c.resume_told.result
     (λ done moves v seen. record {
       journal = read;
       is = c.in_ok-journal.ensures.journal;

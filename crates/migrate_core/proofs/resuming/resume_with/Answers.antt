@@ -1,10 +1,9 @@
 use Rattle.std.proofs.Common.{◌≡◌, ◌∙◌, sym, subst, Err, List, [], inl, inr, ◌∷◌}
-use Rattle.folder_spec.specs.View.{View}
 use Rattle.migrate_core.proofs.Endings.{if_ok_more, placed_of}
 use Rattle.migrate_core.specs.Moved.{lacking, done_of}
 use Rattle.std.proofs.lemmas.Result.{err_from_is_err_and}
 use Rattle.folder_spec.specs.Region.{apart_from_both}
-use Rattle.folder_spec.specs.Seen.{IsSeen}
+use Rattle.folder_spec.specs.Seen.{IfSeen, IsSeen}
 use Rattle.tree_match.specs.Alone.{Finished}
 use Rattle.migrate_core.specs.Leading.{Goes, progress_of}
 use Rattle.migrate_core.specs.Moving.{MovesOnly}
@@ -77,7 +76,7 @@ returns-clause-placed g c =
     let items = c.in_ok-plans.plans.source.items in
     let there = c.in_ok-plans.plans.target.items in
     placed_of c.args.sides.now.source c.args.sides.now.target items there told c.place_rest.result c.in_ok-plans.ensures.source c.in_ok-plans.ensures.target
-    (if_ok_more (λ done. (v : View) → IsSeen (g.F.Folder.told c.test_plans.new.folder) v → done.placed ≡ lacking there items) (λ done. (v : View) → IsSeen told v → done.placed ≡ lacking there items) c.place_rest.result
+    (if_ok_more (λ done. IfSeen (g.F.Folder.told c.test_plans.new.folder) (λ v. done.placed ≡ lacking there items)) (λ done. IfSeen told (λ v. done.placed ≡ lacking there items)) c.place_rest.result
     (λ done is v seen. is v (subst (λ t. IsSeen t v) (sym (c.test_plans.ensures.told ∙ c.walk_both.ensures.told)) seen)) c.place_rest.ensures.placed)
 
 pub returns-in_err-plans-clause-cause : goal.returns-in_err-plans-clause-cause

@@ -1,7 +1,7 @@
 use denote.Enum.Bare.{same_true, sameb}
 use Rattle.std.proofs.Common.{rules, true, false, ap, ◌≡◌, ◌≢◌, ◌∙◌, arith, subst, sym, inl, inr, refl}
 use Rattle.std.proofs.lemmas.Result.{err_from_is_err_and}
-use Rattle.folder_spec.specs.Seen.{IsSeen, moved_view}
+use Rattle.folder_spec.specs.Seen.{IfSeen, IsSeen, moved_view}
 use Rattle.folder_spec.specs.View.{View}
 use Rattle.folder_spec.specs.contracts.Kind.{the_type}
 use Rattle.folder_spec.specs.declared.Kind.TheVariants.{Missing}
@@ -86,7 +86,7 @@ returns-clause-order g c =
     let same = c.test_free.ensures.told ∙ c.kind.ensures.told in
     let work = c.args.work.now in
     let r = retiring_by work c.args.source_pass.now c.args.target_pass.now c.args.journal.now in
-    on_ok_more (IsGone c.args.journal.now.source t3) ((v : View) → IsSeen t3 v → IsInOrder v work) c.move_held.result
+    on_ok_more (IsGone c.args.journal.now.source t3) (IfSeen t3 (λ v. IsInOrder v work)) c.move_held.result
     (λ gone w is.
     let before = moved_before r t0 t3 (subst (λ t. MovesHeldOnly r t t3) same c.move_held.ensures.moves) w is in
     c.move_held.ensures.leaves before.0 w (subst (λ t. IsSeen t before.0) (sym same) before.1) is (c.requires.order before.0 before.1)) c.move_held.ensures.gone

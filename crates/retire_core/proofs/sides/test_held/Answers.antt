@@ -2,9 +2,8 @@ use Rattle.std.proofs.lemmas.Result.{err_from_is_err_and}
 use Rattle.retire_core.proofs.Causing.{both_clean, refused_as, source_unclean, target_unclean}
 use Rattle.retire_core.specs.Causes.{TestsVaults, Unless}
 use Rattle.std.proofs.Common.{sym, subst}
-use Rattle.folder_spec.specs.Seen.{IsSeen}
+use Rattle.folder_spec.specs.Seen.{IfSeen, IsSeen}
 use Rattle.std.proofs.Common.{◌∙◌, OnOk}
-use Rattle.folder_spec.specs.View.{View}
 use Rattle.retire_core.specs.Retiring.{AreHeld}
 use Rattle.retire_core.proofs.sides.test_held.Goals as goal
 
@@ -29,4 +28,4 @@ returns-clause-cause g c v seen =
 
 pub returns-clause-held : goal.returns-clause-held
 returns-clause-held g c =
-    subst (λ t. OnOk c.compare.result ((v : View) → IsSeen t v → AreHeld c.args.sides.now.source c.args.sides.now.target v)) (c.in_ok-target.ensures.told ∙ c.in_ok-source.ensures.told) c.compare.ensures.held
+    subst (λ t. OnOk c.compare.result (IfSeen t (λ v. AreHeld c.args.sides.now.source c.args.sides.now.target v))) (c.in_ok-target.ensures.told ∙ c.in_ok-source.ensures.told) c.compare.ensures.held

@@ -1,6 +1,5 @@
 use Rattle.std.proofs.Common.{subst, sym}
-use Rattle.folder_spec.specs.Seen.{IsSeen, under}
-use Rattle.folder_spec.specs.View.{View}
+use Rattle.folder_spec.specs.Seen.{IfSeen, under}
 use Rattle.vault_spec.specs.Vault.{format_of}
 use Rattle.folder_spec.specs.Event.{FromTo}
 use Rattle.vault_check.specs.Repairing.{AreMoved, AreStraysBehind}
@@ -14,7 +13,7 @@ move_any-requires g c =
     let f = format_of c.args.vault.now.vault in
     let t0 = g.F.Folder.told c.args.folder.now in
     let t1 = g.F.Folder.told c.found_strays.new.folder in
-    let are : (v : View) → IsSeen t0 v → AreStraysBehind root f (under root v) c.as_slice.result.now
+    let are : IfSeen t0 (λ v. AreStraysBehind root f (under root v) c.as_slice.result.now)
     = λ v seen. subst (AreStraysBehind root f (under root v)) (sym c.as_slice.ensures.value) (c.in_ok-strays.ensures.strays v seen) in
     record {
       free = is_free root lost f c.as_slice.result.now t0 are (c.strays_go_alone.ensures c.args.vault.now.vault) c.requires t1 c.in_ok-strays.ensures.told;

@@ -1,8 +1,7 @@
 use Rattle.std.proofs.Common.{refl, subst}
 use Rattle.demo_core.specs.Making.{phrase}
 use Rattle.demo_core.proofs.Shared.{goes_by, goes_nowhere}
-use Rattle.folder_spec.specs.Seen.{IsSeen}
-use Rattle.folder_spec.specs.View.{View}
+use Rattle.folder_spec.specs.Seen.{IfSeen}
 use Rattle.migrate_core.specs.Moved.{IsTidyWork, MovesTree}
 use Rattle.migrate_core.specs.Moving.{MovesOnly}
 use Rattle.vault_cli.specs.Demo.{chances, chances_by}
@@ -40,7 +39,7 @@ returns-in-Ok-clause-carried g c same count sees =
     let t = g.F.Folder.told c.args.folder.now in
     let u = g.F.Folder.told c.begin.new.folder in
     is_carried c.roots_show_their_own.ensures.alike c.roots_have_one_answer.ensures c.trees_have_so_many_items.ensures c.plans_are_the_tree.ensures c.args.leg count t u (λ a is. g.met.F.Folder.sound c.args.folder.now a is)
-    (returns-in-Ok-clause-moved g c same) (subst (λ w. (v : View) → IsSeen u v → IsTidyWork w v) c.in_ok-work.ensures.is c.in-Ok.ensures.tidy) sees
+    (returns-in-Ok-clause-moved g c same) (subst (λ w. IfSeen u (λ v. IsTidyWork w v)) c.in_ok-work.ensures.is c.in-Ok.ensures.tidy) sees
 
 pub returns-clause-status : goal.returns-clause-status
 returns-clause-status g c count =

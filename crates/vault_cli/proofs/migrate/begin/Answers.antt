@@ -1,7 +1,6 @@
 use Rattle.std.proofs.Common.{subst, Ok, Err, IfErr, inl, inr, refl, sym}
 use Rattle.std.proofs.lemmas.Result.{err_from_is_err_and}
-use Rattle.folder_spec.specs.Seen.{IsSeen}
-use Rattle.folder_spec.specs.View.{View}
+use Rattle.folder_spec.specs.Seen.{IfSeen, IsSeen}
 use Rattle.migrate_core.specs.Leading.{KeepsGuarded}
 use Rattle.migrate_core.specs.Moved.{MovesTree}
 use Rattle.migrate_core.specs.Completing.{CanBegin}
@@ -49,7 +48,7 @@ returns-in_err-phrases-clause-stopped g c =
     let told' = g.F.Folder.told c.read_passes.new.folder in
     let stream = g.R.Randoms.left c.args.random.now in
     let p = err_from_is_err_and c.from_residual.result c.from_residual.ensures.1 in
-    subst (λ r. IfErr r (λ answer. (v : View) → IsSeen told v → MayCome moving answer told told' stream stream v)) (sym p.1) (λ v is.
+    subst (λ r. IfErr r (λ answer. IfSeen told (λ v. MayCome moving answer told told' stream stream v))) (sym p.1) (λ v is.
     subst (λ answer. MayCome moving answer told told' stream stream v) (sym p.2)
     (inl (unread_undrawn moving.passes c.in_err-phrases.field-0.0 told told' stream v c.in_err-phrases.ensures.told (c.in_err-phrases.ensures.refused v is))))
 
@@ -94,7 +93,7 @@ returns-in_err-phrases-clause-completes g c =
     let moving = c.args.moving.now in
     let told = g.F.Folder.told c.args.folder.now in
     let p = err_from_is_err_and c.from_residual.result c.from_residual.ensures.1 in
-    subst (λ r. IfErr r (λ answer. (m : Migration) (v : View) → IsSeen told v → IsAskedFor m moving v → CanBegin m v → Completes answer)) (sym p.1) (λ m v is asked can.
+    subst (λ r. IfErr r (λ answer. (m : Migration) → IfSeen told (λ v. IsAskedFor m moving v → CanBegin m v → Completes answer))) (sym p.1) (λ m v is asked can.
     subst Completes (sym p.2) (read_completes moving.passes m.source.pass m.target.pass v c.in_err-phrases.field-0.0 asked.phrases (c.in_err-phrases.ensures.refused v is)))
 
 pub returns-clause-completes : goal.returns-clause-completes

@@ -1,7 +1,6 @@
 use Rattle.std.proofs.Common.{Ok, Err, IfErr, inl, inr, refl, sym, subst}
 use Rattle.std.proofs.lemmas.Result.{err_from_is_err_and}
-use Rattle.folder_spec.specs.Seen.{IsSeen}
-use Rattle.folder_spec.specs.View.{View}
+use Rattle.folder_spec.specs.Seen.{IfSeen, IsSeen}
 use Rattle.migrate_core.specs.Moved.{MovesTold}
 use Rattle.migrate_core.specs.Completing.{CanResume}
 use Rattle.tree_match.specs.Guard.{Migration}
@@ -21,7 +20,7 @@ returns-in_err-known-clause-stopped g c =
     let told' = g.F.Folder.told c.learn.new.folder in
     let stream = g.R.Randoms.left c.args.random.now in
     let p = err_from_is_err_and c.from_residual.result c.from_residual.ensures.1 in
-    subst (λ r. IfErr r (λ answer. (v : View) → IsSeen told v → MayCome resuming answer told told' stream stream v)) (sym p.1) (λ v is.
+    subst (λ r. IfErr r (λ answer. IfSeen told (λ v. MayCome resuming answer told told' stream stream v))) (sym p.1) (λ v is.
     subst (λ answer. MayCome resuming answer told told' stream stream v) (sym p.2)
     (inl (unread_undrawn resuming.passes c.in_err-known.field-0.0 told told' stream v c.in_err-known.ensures.told (c.in_err-known.ensures.refused v is))))
 
@@ -106,7 +105,7 @@ returns-in_err-known-clause-completes g c =
     let resuming = c.args.resuming.now in
     let told = g.F.Folder.told c.args.folder.now in
     let p = err_from_is_err_and c.from_residual.result c.from_residual.ensures.1 in
-    subst (λ r. IfErr r (λ answer. (m : Migration) (v : View) → IsSeen told v → IsResumedFor m resuming v → CanResume m v → Completes answer)) (sym p.1) (λ m v is asked can.
+    subst (λ r. IfErr r (λ answer. (m : Migration) → IfSeen told (λ v. IsResumedFor m resuming v → CanResume m v → Completes answer))) (sym p.1) (λ m v is asked can.
     subst Completes (sym p.2) (read_completes resuming.passes m.source.pass m.target.pass v c.in_err-known.field-0.0 asked.phrases (c.in_err-known.ensures.refused v is)))
 
 pub returns-clause-completes : goal.returns-clause-completes

@@ -1,6 +1,6 @@
 use Rattle.std.proofs.Common.{◌≡◌, ◌-◌, ◌*◌, ◌≤◌, ℕ, List}
 use Rattle.folder_spec.specs.View.{View, FileOf}
-use Rattle.folder_spec.specs.Seen.{IsSeen}
+use Rattle.folder_spec.specs.Seen.{IfSeen, IsSeen}
 use Rattle.vault_read.specs.Contents.{IsBeingRead, still}
 use Rattle.vault_read.specs.Reading.{HasWritten}
 use Rattle.vault_read.proofs.content.write_all.Given as goal
@@ -10,7 +10,7 @@ abbrev pub invariant-chunks : goal.invariant-chunks
 invariant-chunks g l = record {
   told : g.F.Folder.told l.folder ≡ g.F.Folder.told l.initial.folder;
   at : l.reader.at ≡ l.initial.reader.at;
-  file : (v : View) → IsSeen (g.F.Folder.told l.initial.folder) v → IsBeingRead v l.reader.at l.reader.decoding;
+  file : IfSeen (g.F.Folder.told l.initial.folder) (λ v. IsBeingRead v l.reader.at l.reader.decoding);
   written : (v : View) → IsSeen (g.F.Folder.told l.initial.folder) v → (bytes : List ℕ) → v l.initial.reader.at ≡ FileOf bytes
       → HasWritten (still l.initial.reader.decoding bytes) (g.O.Sink.taken l.initial.out) (g.O.Sink.taken l.out) l.total (still l.reader.decoding bytes);
   fits : l.total ≤ 32816 * l.reader.decoding.number;

@@ -1,7 +1,6 @@
 use Rattle.std.proofs.Common.{◌≡◌, Ok, ◌∙◌}
 use Rattle.std.proofs.lemmas.Result.{IfOk-weaker, IfErr-weaker, err_from_is_err_and}
-use Rattle.folder_spec.specs.View.{View}
-use Rattle.folder_spec.specs.Seen.{IsSeen, under}
+use Rattle.folder_spec.specs.Seen.{IfSeen, under}
 use Rattle.vault_spec.specs.Find.{enter, entered}
 use Rattle.vault_spec.specs.Format.{Directory}
 use Rattle.vault_spec.specs.Standing.{Dir, standing}
@@ -27,7 +26,7 @@ returns-clause-fault g c =
     let t = g.F.Folder.told c.args.folder.now in
     IfErr-weaker c.enter_here.result
     (λ fault. Refuses {T = Directory} root (entered path here) fault)
-    (λ fault. (v : View) → IsSeen t v → Refuses {T = Directory} root (enter f (under root v) path) fault)
+    (λ fault. IfSeen t (λ v. Refuses {T = Directory} root (enter f (under root v) path) fault))
     (λ fault refused v is. not_entered_there root f (under root v) path here fault (c.in_ok-here.ensures.stands v is) refused)
     c.enter_here.ensures.fault
 
@@ -40,6 +39,6 @@ returns-clause-stands g c =
     let t = g.F.Folder.told c.args.folder.now in
     IfOk-weaker c.enter_here.result
     (λ entered. here ≡ Dir entered.at (Ok entered.dir))
-    (λ entered. (v : View) → IsSeen t v → standing f (under root v) path ≡ Dir entered.at (Ok entered.dir))
+    (λ entered. IfSeen t (λ v. standing f (under root v) path ≡ Dir entered.at (Ok entered.dir)))
     (λ entered same v is. reached_stands f (under root v) path here (c.in_ok-here.ensures.stands v is) ∙ same)
     c.enter_here.ensures.stands

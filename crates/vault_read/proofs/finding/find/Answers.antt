@@ -1,7 +1,6 @@
 use Rattle.std.proofs.Common.{IfOk, IfErr, sym, subst}
 use Rattle.std.proofs.lemmas.Result.{IfOk-weaker, IfErr-weaker, err_from_is_err_and}
-use Rattle.folder_spec.specs.View.{View}
-use Rattle.folder_spec.specs.Seen.{IsSeen, under}
+use Rattle.folder_spec.specs.Seen.{IfSeen, under}
 use Rattle.vault_spec.specs.Find.{find, item_there}
 use Rattle.vault_spec.specs.Standing.{Standing, standing}
 use Rattle.vault_spec.specs.Vault.{format_of}
@@ -26,7 +25,7 @@ returns-clause-fault g c =
     let t = g.F.Folder.told c.args.folder.now in
     IfErr-weaker c.place_of.result
     (λ fault. Refuses {T = Standing} root (item_there path here) fault)
-    (λ fault. (v : View) → IsSeen t v → Refuses {T = Standing} root (find f (under root v) path) fault)
+    (λ fault. IfSeen t (λ v. Refuses {T = Standing} root (find f (under root v) path) fault))
     (λ fault refused v is. refused_there root f (under root v) path here fault (c.in_ok-here.ensures.stands v is) refused)
     (subst (λ r. IfErr c.place_of.result (λ fault. Refuses {T = Standing} r (item_there path here) fault)) c.root.ensures c.place_of.ensures.fault)
 
@@ -39,6 +38,6 @@ returns-clause-place g c =
     let t = g.F.Folder.told c.args.folder.now in
     IfOk-weaker c.place_of.result
     (λ place. IsPlace root here place)
-    (λ place. (v : View) → IsSeen t v → IsPlace root (standing f (under root v) path) place)
+    (λ place. IfSeen t (λ v. IsPlace root (standing f (under root v) path) place))
     (λ place there v is. subst (λ x. IsPlace root x place) (sym (reached_stands f (under root v) path here (c.in_ok-here.ensures.stands v is))) there)
     (subst (λ r. IfOk c.place_of.result (λ place. IsPlace r here place)) c.root.ensures c.place_of.ensures.place)

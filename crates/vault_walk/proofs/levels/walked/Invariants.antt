@@ -1,6 +1,5 @@
 use Rattle.std.proofs.Common.{◌≡◌, ◌≤◌, length}
-use Rattle.folder_spec.specs.Seen.{IsSeen, under}
-use Rattle.folder_spec.specs.View.{View}
+use Rattle.folder_spec.specs.Seen.{IfSeen, under}
 use Rattle.vault_spec.specs.Vault.{format_of}
 use Rattle.vault_walk.specs.Levels.{HasWalked, WaysFit}
 use Rattle.vault_walk.specs.Survey.{item_limit}
@@ -13,5 +12,5 @@ invariant-loop-depth g l = record {
   counts : g.F.Folder.faults l.fn.folder ≤ g.F.Folder.faults l.folder;
   fits : WaysFit l.vault.vault l.waiting.items;
   size : length l.walk.items.items ≤ item_limit;
-  walked : (v : View) → IsSeen (g.F.Folder.told l.fn.folder) v → HasWalked (format_of l.vault.vault) (under l.vault.root v) l._depth l.walk l.waiting.items;
+  walked : IfSeen (g.F.Folder.told l.fn.folder) (λ v. HasWalked (format_of l.vault.vault) (under l.vault.root v) l._depth l.walk l.waiting.items);
 }

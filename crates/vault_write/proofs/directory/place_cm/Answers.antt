@@ -2,8 +2,7 @@ use Rattle.std.proofs.Common.{Err, refl, sym, ap, ◌∙◌, subst, arith}
 use Rattle.std.proofs.lemmas.Result.{err_from_is_err_and}
 use Rattle.cryptomator_conf.specs.Id.{id_of}
 use Rattle.folder_spec.specs.Event.{FromTo}
-use Rattle.folder_spec.specs.Seen.{IsSeen}
-use Rattle.folder_spec.specs.View.{View}
+use Rattle.folder_spec.specs.Seen.{IfSeen}
 use Rattle.vault_spec.specs.Making.{NewDirectory}
 use Rattle.vault_write.specs.Editing.{Edits, HasBegun, HasFinished, CmPlaces, cm_making}
 use Rattle.vault_write.specs.Slots.{placing}
@@ -31,7 +30,7 @@ make_cm-requires-clause-begun g c = subst (HasBegun c.args.work.now c.args.vault
     (is_id (id_of c.in_ok-text.ensures.drawn.drawn) (c.dir_ids_are_plain.ensures.size c.in_ok-text.ensures.drawn.drawn) (c.dir_ids_are_plain.ensures.characters c.in_ok-text.ensures.drawn.drawn)) c.in_ok-text.ensures.drawn.sixteen).begins
 
 pub make_cm-requires-clause-places : goal.make_cm-requires-clause-places
-make_cm-requires-clause-places g c = subst (λ t. (v : View) → IsSeen t v → CmPlaces v c.args.work.now c.in_ok-home.home.wants c.in_ok-home.home.shelf c.in_ok-home.home.home c.args.slot.now.at) (sym c.home_of.ensures.told) (cm_may c.what_is_found_stands.ensures.enters c.what_is_found_stands.ensures.folder c.args.vault.now.root c.args.vault.now.vault c.requires.kind (c.items_keep_vaults.ensures c.args.vault.now.vault) c.args.work.now c.args.front.now c.args.name.now c.requires.named
+make_cm-requires-clause-places g c = subst (λ t. IfSeen t (λ v. CmPlaces v c.args.work.now c.in_ok-home.home.wants c.in_ok-home.home.shelf c.in_ok-home.home.home c.args.slot.now.at)) (sym c.home_of.ensures.told) (cm_may c.what_is_found_stands.ensures.enters c.what_is_found_stands.ensures.folder c.args.vault.now.root c.args.vault.now.vault c.requires.kind (c.items_keep_vaults.ensures c.args.vault.now.vault) c.args.work.now c.args.front.now c.args.name.now c.requires.named
     (g.F.Folder.told c.args.folder.now) c.requires.may (g.met.F.Folder.sound c.args.folder.now) c.args.slot.now.at c.args.slot.now.side c.args.slot.now.full c.requires.slot c.in_ok-home.home.shelf c.in_ok-home.home.home c.in_ok-home.home.wants c.as_bytes-id.result.now c.in_ok-text.ensures.drawn.drawn
     c.in_ok-home.ensures.home c.in_ok-home.ensures.shelf c.in_ok-home.ensures.free c.in_ok-home.ensures.wants (c.as_bytes-id.ensures.value ∙ c.in_ok-text.ensures.drawn.is)
     (is_id (id_of c.in_ok-text.ensures.drawn.drawn) (c.dir_ids_are_plain.ensures.size c.in_ok-text.ensures.drawn.drawn) (c.dir_ids_are_plain.ensures.characters c.in_ok-text.ensures.drawn.drawn)) c.in_ok-text.ensures.drawn.sixteen).places

@@ -2,8 +2,7 @@ use Rattle.std.proofs.Common.{[], Err, sym, ap, ◌∙◌, subst, arith}
 use Rattle.std.proofs.lemmas.Result.{err_from_is_err_and}
 use Rattle.content_writing.specs.Content.{Whole}
 use Rattle.folder_spec.specs.Event.{FromTo}
-use Rattle.folder_spec.specs.Seen.{IsSeen}
-use Rattle.folder_spec.specs.View.{View}
+use Rattle.folder_spec.specs.Seen.{IfSeen}
 use Rattle.vault_spec.specs.Making.{NewDirectory}
 use Rattle.vault_spec.specs.Vault.{format_of}
 use Rattle.vault_write.specs.Editing.{Edits, HasBegun, HasFinished, GoPlaces, go_making}
@@ -29,7 +28,7 @@ make_go-requires-clause-begun g c = subst (HasBegun c.args.work.now c.args.vault
     (drew_key (g.R.Randoms.left c.args.random.now) (g.R.Randoms.left c.draw_some.new.random) c.in_ok-key.key c.in_ok-key.ensures.draws) c.in_ok-key.ensures.sixteen).begins
 
 pub make_go-requires-clause-places : goal.make_go-requires-clause-places
-make_go-requires-clause-places g c = subst (λ t. (v : View) → IsSeen t v → GoPlaces v c.args.work.now c.in_ok-wants.wants c.args.slot.now.side c.args.slot.now.at) (sym c.wants_side.ensures.told) (go_may c.what_is_found_stands.ensures.enters c.what_is_found_stands.ensures.folder c.args.vault.now.root c.args.vault.now.vault c.requires.kind (c.items_keep_vaults.ensures c.args.vault.now.vault) c.args.work.now c.args.front.now c.args.name.now c.requires.named
+make_go-requires-clause-places g c = subst (λ t. IfSeen t (λ v. GoPlaces v c.args.work.now c.in_ok-wants.wants c.args.slot.now.side c.args.slot.now.at)) (sym c.wants_side.ensures.told) (go_may c.what_is_found_stands.ensures.enters c.what_is_found_stands.ensures.folder c.args.vault.now.root c.args.vault.now.vault c.requires.kind (c.items_keep_vaults.ensures c.args.vault.now.vault) c.args.work.now c.args.front.now c.args.name.now c.requires.named
     (g.F.Folder.told c.args.folder.now) c.requires.may (g.met.F.Folder.sound c.args.folder.now) c.args.slot.now.at c.args.slot.now.side c.args.slot.now.full c.requires.slot c.in_ok-wants.wants c.in_ok-key.key c.in_ok-wants.ensures.wants
     (drew_key (g.R.Randoms.left c.args.random.now) (g.R.Randoms.left c.draw_some.new.random) c.in_ok-key.key c.in_ok-key.ensures.draws) c.in_ok-key.ensures.sixteen).places
 

@@ -1,6 +1,5 @@
 use Rattle.std.proofs.Common.{sym, subst}
-use Rattle.folder_spec.specs.Seen.{IsSeen, under}
-use Rattle.folder_spec.specs.View.{View}
+use Rattle.folder_spec.specs.Seen.{IfSeen, under}
 use Rattle.content_writing.specs.Content.{IsReady, still_coming}
 use Rattle.vault_spec.specs.Making.{NewFile}
 use Rattle.vault_spec.specs.Vault.{format_of}
@@ -26,7 +25,7 @@ place_in-requires-clause-ready g c = subst (λ o. IsReady (g.C.Content.reads c.a
 
 pub place_in-requires-clause-slot : goal.place_in-requires-clause-slot
 place_in-requires-clause-slot g c =
-    subst (λ o. (v : View) → IsSeen o v → IsSlot c.args.vault.now (format_of c.args.vault.now.vault) c.args.front.now c.args.name.now (under c.args.vault.now.root v) c.in_ok-slot.slot.at c.in_ok-slot.slot.side c.in_ok-slot.slot.full)
+    subst (λ o. IfSeen o (λ v. IsSlot c.args.vault.now (format_of c.args.vault.now.vault) c.args.front.now c.args.name.now (under c.args.vault.now.root v) c.in_ok-slot.slot.at c.in_ok-slot.slot.side c.in_ok-slot.slot.full))
     (sym c.slot_at.ensures.told) c.in_ok-slot.ensures.slot
 
 pub returns-clause-made : goal.returns-clause-made

@@ -1,6 +1,5 @@
 use Rattle.std.proofs.Common.{Some, None, sym, subst, ◌∙◌}
-use Rattle.folder_spec.specs.Seen.{IsSeen, under}
-use Rattle.folder_spec.specs.View.{View}
+use Rattle.folder_spec.specs.Seen.{IfSeen, under}
 use Rattle.content_writing.specs.Content.{IsReady, still_coming}
 use Rattle.vault_spec.specs.Making.{NewFile}
 use Rattle.vault_spec.specs.Standing.{standing}
@@ -34,7 +33,7 @@ replace-requires-clause-may g c = subst (λ o. MayMake o c.args.work.now c.args.
 pub replace-requires-clause-stands : goal.replace-requires-clause-stands
 replace-requires-clause-stands g c =
     stands_then c.args.vault.now c.args.path.now c.args.front.now c.args.name.now (Some c.in-Some.at) (g.F.Folder.told c.slot_over.new.folder) (g.F.Folder.told c.standing_file.new.folder) c.requires.path c.standing_file.ensures.told
-    (subst (λ file. (v : View) → IsSeen (g.F.Folder.told c.slot_over.new.folder) v → StandsAs c.args.vault.now.root (standing (format_of c.args.vault.now.vault) (under c.args.vault.now.root v) c.args.path.now) file) c.in-Some.is c.in_ok-at.ensures.file)
+    (subst (λ file. IfSeen (g.F.Folder.told c.slot_over.new.folder) (λ v. StandsAs c.args.vault.now.root (standing (format_of c.args.vault.now.vault) (under c.args.vault.now.root v) c.args.path.now) file)) c.in-Some.is c.in_ok-at.ensures.file)
 
 pub replace-requires-clause-ready : goal.replace-requires-clause-ready
 replace-requires-clause-ready g c = subst (λ o. IsReady (g.C.Content.reads c.args.content.now) o (g.C.Content.coming c.args.content.now)) (sym (c.standing_file.ensures.told ∙ c.slot_over.ensures.told)) c.requires.ready
@@ -59,6 +58,6 @@ returns-clause-made g c =
     put_new c.args.vault.now c.args.work.now c.args.front.now c.args.name.now (still_coming (g.C.Content.reads c.args.content.now) (g.F.Folder.told c.args.folder.now) (g.C.Content.coming c.args.content.now)) (still_coming (g.C.Content.reads c.args.content.now) (g.F.Folder.told c.args.folder.now) (g.C.Content.coming c.place_over.new.content))
     (g.R.Randoms.left c.args.random.now) (g.R.Randoms.left c.place_over.new.random) (g.F.Folder.told c.args.folder.now) (g.F.Folder.told c.place_over.new.folder) c.place_over.result
     (stands_then c.args.vault.now c.args.path.now c.args.front.now c.args.name.now None (g.F.Folder.told c.slot_over.new.folder) (g.F.Folder.told c.args.folder.now) c.requires.path (sym c.slot_over.ensures.told)
-    (subst (λ file. (v : View) → IsSeen (g.F.Folder.told c.slot_over.new.folder) v → StandsAs c.args.vault.now.root (standing (format_of c.args.vault.now.vault) (under c.args.vault.now.root v) c.args.path.now) file) c.in-None.is c.in_ok-at.ensures.file))
+    (subst (λ file. IfSeen (g.F.Folder.told c.slot_over.new.folder) (λ v. StandsAs c.args.vault.now.root (standing (format_of c.args.vault.now.vault) (under c.args.vault.now.root v) c.args.path.now) file)) c.in-None.is c.in_ok-at.ensures.file))
     (placed_at New c.args.vault.now c.args.work.now c.args.front.now c.args.name.now (g.C.Content.reads c.args.content.now) (g.C.Content.coming c.args.content.now) (g.C.Content.coming c.place_over.new.content) (g.R.Randoms.left c.args.random.now) (g.R.Randoms.left c.place_over.new.random)
     (g.F.Folder.told c.args.folder.now) (g.F.Folder.told c.standing_file.new.folder) (g.F.Folder.told c.place_over.new.folder) c.place_over.result (c.standing_file.ensures.told ∙ c.slot_over.ensures.told) c.place_over.ensures.made)

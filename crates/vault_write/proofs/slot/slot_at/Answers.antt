@@ -1,6 +1,6 @@
 use Rattle.std.proofs.Common.{◌≡◌, subst, []}
-use Rattle.folder_spec.specs.Seen.{IsSeen}
-use Rattle.folder_spec.specs.View.{View, NoEntry}
+use Rattle.folder_spec.specs.Seen.{IfSeen}
+use Rattle.folder_spec.specs.View.{NoEntry}
 use Rattle.vault_spec.specs.Making.{NewItem}
 use Rattle.vault_write.specs.Slots.{IsTakenAt, RefusesItem}
 use Rattle.vault_write.proofs.Found.{same_refused, not_allowed, slot_found, slot_taken}
@@ -30,4 +30,4 @@ pub returns-clause-slot : goal.returns-clause-slot
 returns-clause-slot g c =
     slot_found c.what_is_found_stands.ensures.enters c.args.vault.now c.args.front.now c.args.name.now c.in_ok-dir.dir (g.F.Folder.told c.args.folder.now) c.in_ok-dir.ensures.place
     c.in_ok-slot.slot.at c.in_ok-slot.slot.side c.in_ok-slot.slot.full c.in_ok-allow.ensures.allowed c.in_ok-slot.ensures.at c.in_ok-slot.ensures.side c.in_ok-slot.ensures.full
-    (subst (λ t. (v : View) → IsSeen t v → v c.in_ok-slot.slot.at ≡ NoEntry) c.entered.ensures.told c.in_ok-is_free.ensures.free)
+    (subst (λ t. IfSeen t (λ v. v c.in_ok-slot.slot.at ≡ NoEntry)) c.entered.ensures.told c.in_ok-is_free.ensures.free)

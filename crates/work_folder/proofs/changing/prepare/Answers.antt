@@ -1,9 +1,8 @@
 use Rattle.std.proofs.Common.{◌≡◌, sym, subst}
 use Rattle.std.proofs.lemmas.Result.{err_from_is_err_and}
-use Rattle.folder_spec.specs.Seen.{ShowsNothingOrFile}
+use Rattle.folder_spec.specs.Seen.{IfSeen, ShowsNothingOrFile}
 use Rattle.work_folder.specs.Changing.{Alters}
-use Rattle.folder_spec.specs.View.{NoEntry, View}
-use Rattle.folder_spec.specs.Seen.{IsSeen}
+use Rattle.folder_spec.specs.View.{NoEntry}
 use Rattle.work_folder.proofs.Entered.{make_fell, clear_fell, prepare_done, place_to_clear}
 use Rattle.work_folder.proofs.changing.prepare.Goals as goal
 
@@ -39,4 +38,4 @@ returns g c =
     (g.F.Folder.faults c.clear_file.new.folder) c.in_ok-make_folder.ensures.counts c.in_ok-make_folder.ensures.moments
     (subst (λ p. Alters (λ q. ⊥) (λ q. q ≡ p) t1 t2) c.in_ok-new.ensures c.in_ok-clear_file.ensures.moments) c.in_ok-clear_file.ensures.counts
     c.in_ok-make_folder.ensures.there
-    (subst (λ p. (v : View) → IsSeen t2 v → v p ≡ NoEntry) c.in_ok-new.ensures c.in_ok-clear_file.ensures.gone)
+    (subst (λ p. IfSeen t2 (λ v. v p ≡ NoEntry)) c.in_ok-new.ensures c.in_ok-clear_file.ensures.gone)

@@ -1,5 +1,5 @@
 use Rattle.std.proofs.Common.{◌≡◌, ◌≤◌, [], Contains}
-use Rattle.folder_spec.specs.Seen.{IsSeen, under}
+use Rattle.folder_spec.specs.Seen.{IfSeen, IsSeen, under}
 use Rattle.folder_spec.specs.View.{View}
 use Rattle.vault_spec.specs.Vault.{format_of}
 use Rattle.vault_walk.specs.Levels.{HasWalked, IsAtLevel}
@@ -15,5 +15,5 @@ invariant-loop-way g l = record {
   items : l.self.items.items ≡ l.fn.self.items.items;
   level : (v : View) → IsSeen (g.F.Folder.told l.fn.folder) v → HasWalked (format_of l.vault.vault) (under l.vault.root v) depth_limit l.fn.self l.fn.waiting.items
       → IsAtLevel (format_of l.vault.vault) (under l.vault.root v) depth_limit l.fn.self.visits.items l.fn.waiting.items l.yielded l.self [];
-  none : (v : View) → IsSeen (g.F.Folder.told l.fn.folder) v → (way : Way) → Contains l.yielded way → ¬ HoldsItem (format_of l.vault.vault) (under l.vault.root v) way;
+  none : IfSeen (g.F.Folder.told l.fn.folder) (λ v. (way : Way) → Contains l.yielded way → ¬ HoldsItem (format_of l.vault.vault) (under l.vault.root v) way);
 }

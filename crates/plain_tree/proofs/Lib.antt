@@ -2,3 +2,5 @@ mod Orders
 mod Utf8
 mod Writing
 mod ReadsBack
+mod Scalars
+mod Mapping

@@ -1,11 +1,13 @@
 //! Paths of the plain tree.
-ghost use Rattle.std.specs.Prelude.{◌≡◌, ◌≤◌, [], ◌∷◌, ◌++◌, IsTrue, IfOk, Some, None, string_bytes, length};
+ghost use Rattle.std.specs.Prelude.{◌≡◌, ◌≤◌, [], ◌∷◌, ◌++◌, IsTrue, IsFalse, IfOk, Some, None, string_bytes, length};
 ghost use Rattle.std.specs.List.{list_all, flat_map};
 ghost use Rattle.plain_tree.specs.Names.{is_name};
+ghost use Rattle.plain_tree.specs.Mapped.{mapped_path};
 ghost use Rattle.plain_tree.specs.Shown.{shown, shown_path};
 ghost use Rattle.plain_tree.specs.Reading.{read_path};
 
-use crate::name::Name;
+use crate::name::{Name, NameNewFault};
+use crate::name_map::{NameMap, map_names};
 use crate::reading::{MAX_PARTS, read_path};
 use std::alloc::{AllocError, Global};
 use std::marker::Model;
@@ -89,6 +91,18 @@ impl PlainPath {
         Ok(PlainPath {
             names: copy_names(*self.names.allocator(), self.names())?,
         })
+    }
+
+    /// The path whose names are what the rule makes of this one's. It is refused exactly where one of that is no name.
+    pub fn mapped(&self, names: NameMap) -> Result<PlainPath, NameNewFault>
+        ensures value { IfOk result (λ path. path ≡ mapped_path names self.now) }
+        ensures named { IfOk result (λ path. IsTrue (list_all is_name (mapped_path names self.now))) }
+        ensures refused { result ≡ Err NameNewFault.BadName → IsFalse (list_all is_name (mapped_path names self.now)) }
+    {
+        match map_names(*self.names.allocator(), names, self.names())? {
+            Some(mapped) => Ok(PlainPath { names: mapped }),
+            None => Err(NameNewFault::BadName),
+        }
     }
 
     /// Its names in order.

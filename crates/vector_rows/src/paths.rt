@@ -2,7 +2,7 @@
 
 use crate::answer::Answer;
 use crate::arguments::Arguments;
-use plain_tree::{Name, NameNewFault, NodeKind, PathFault, PlainPath, shown_text};
+use plain_tree::{Name, NameMap, NameNewFault, NodeKind, PathFault, PlainPath, shown_text};
 use std::alloc::Global;
 use std::cmp::Ordering;
 
@@ -12,6 +12,8 @@ pub fn answer(name: &str, args: &mut Arguments, answer: &mut Answer) -> bool {
         "name" => name_back(args, answer),
         "shown" => shown(args, answer),
         "nfc" => nfc(args, answer),
+        "mapped" => mapped(args, answer),
+        "mapped-path" => mapped_path(args, answer),
         "path" => path_back(args, answer),
         "order" => order(args, answer),
         "kinds" => answer.yes_or_no(NodeKind::Dir == NodeKind::File),
@@ -72,6 +74,56 @@ fn nfc(args: &Arguments, answer: &mut Answer) {
     match name.is_nfc() {
         Ok(is_nfc) => answer.yes_or_no(is_nfc),
         Err(_) => answer.lacks(),
+    }
+}
+
+// The rule that a word names.
+fn rule(word: &str) -> NameMap {
+    match word {
+        "nfc" => NameMap::Nfc,
+        _ => NameMap::Same,
+    }
+}
+
+fn refused(fault: NameNewFault, answer: &mut Answer) {
+    match fault {
+        NameNewFault::BadName => answer.word("bad name"),
+        NameNewFault::NoMemory => answer.lacks(),
+    }
+}
+
+// What a rule makes of a name, which it makes of that again.
+fn mapped(args: &Arguments, answer: &mut Answer) {
+    let Some(name) = name(args, 1, answer) else {
+        return;
+    };
+    let names = rule(args.word(0));
+    let new = match names.apply(answer.alloc(), &name) {
+        Ok(new) => new,
+        Err(fault) => return refused(fault, answer),
+    };
+    answer.bytes(new.bytes());
+    match names.apply(answer.alloc(), &new) {
+        Ok(again) => {
+            if again != new {
+                answer.word("another of that");
+            }
+        }
+        Err(fault) => refused(fault, answer),
+    }
+}
+
+// The shown form of what a rule makes of a path.
+fn mapped_path(args: &Arguments, answer: &mut Answer) {
+    let Some(path) = path(answer.alloc(), args.text(1)) else {
+        return answer.word("no path");
+    };
+    match path.mapped(rule(args.word(0))) {
+        Ok(new) => match new.shown() {
+            Ok(shown) => answer.word(shown.as_str()),
+            Err(_) => answer.lacks(),
+        },
+        Err(fault) => refused(fault, answer),
     }
 }
 

@@ -169,8 +169,8 @@ fn survey_of(
     })
 }
 
-// The same items in order of their paths.
-fn sorted(mut items: Vec<PlanItem>) -> Vec<PlanItem>
+/// The same items in order of their paths, where each has a path of its own. It takes no memory.
+pub fn sorted(mut items: Vec<PlanItem>) -> Vec<PlanItem>
     ensures { AreInOrder items.items result.items }
 {
     items.sort_unstable_by(|one, other| one.path.cmp(&other.path));

@@ -1,195 +1,118 @@
 //! Lines that call a layer below the commands, or the folder itself.
-mod demonstration;
-mod faults;
-mod folders;
-mod journals;
-mod matching;
-mod moving;
-mod paths;
-mod reading;
-pub mod staging;
-mod walking;
-mod work;
-mod writing;
-
-use crate::places::PASSPHRASE;
-use crate::stage::{Handed, Stage};
-use crate::stop::Stop;
-use cryptomator_conf::{CmKeys, Combo};
-use gocrypt_conf::GoKeys;
+use crate::moving::call_moving;
+use row_layers::folders::{deep, let_fail, many};
+use row_layers::{
+    call_demonstration, call_folder, call_journal, call_matching, call_paths, call_reading,
+    call_staging, call_walking, call_work, call_writing,
+};
+use row_stage::{Handed, Stage, Stop};
 use row_words::cut;
-use vault_read::{CmVault, Vault, VaultKeys};
 
-// The keys of the vaults that no configuration opens.
-const GO_KEYS: GoKeys = GoKeys {
-    content: [3; 32],
-    names: [4; 32],
-};
-
-const CM_VAULT: CmVault = CmVault {
-    keys: CmKeys {
-        enc: [5; 32],
-        mac: [6; 32],
-    },
-    combo: Combo::SivGcm,
-    threshold: 220,
-};
-
-const CTR_VAULT: CmVault = CmVault {
-    keys: CmKeys {
-        enc: [5; 32],
-        mac: [6; 32],
-    },
-    combo: Combo::SivCtrMac,
-    threshold: 220,
-};
-
-impl Stage {
-    /// A call did its work, and this is what it gave.
-    pub fn done(&mut self, text: &str) {
-        self.said.word(text);
-        self.ended(0);
+// Changes the last bit of a byte of the input.
+fn turn(stage: &mut Stage, words: &str) {
+    let place = stage.number(words);
+    match stage.input.get_mut(place as usize) {
+        Some(byte) => *byte ^= 1,
+        None => stage.stop(Stop::Line),
     }
+}
 
-    /// A call ended with a fault of this name.
-    pub fn failed(&mut self, text: &str) {
-        self.said.word(text);
-        self.ended(1);
+/// Says no more of a call that did its work than that.
+pub fn drop_done(stage: &mut Stage) {
+    if stage.status == 0 {
+        drop_said(stage);
+        stage.done("done");
     }
+}
 
-    /// A call ended, and what it gave or its fault was said.
-    pub fn ended(&mut self, status: u8) {
-        self.status = status;
-        self.said.end();
+// Drops what was said.
+fn drop_said(stage: &mut Stage) {
+    if stage.said.take().is_err() {
+        stage.stop(Stop::NoMemory);
     }
+}
 
-    /// The vault that a word names: `go:ROOT`, `cm:ROOT` and `ctr:ROOT` have keys of their own, `demo:ROOT` opens by the passphrase
-    /// `demo`, and ROOT by that of the vaults in rows.
-    pub fn vault_named(&mut self, word: &str) -> Option<Vault> {
-        match word.split_once(':') {
-            Some(("go", root)) => {
-                let root = self.path(root);
-                Some(Vault::new(root, VaultKeys::Gocryptfs(GO_KEYS)))
-            }
-            Some(("cm", root)) => {
-                let root = self.path(root);
-                Some(Vault::new(root, VaultKeys::Cryptomator(CM_VAULT)))
-            }
-            Some(("ctr", root)) => {
-                let root = self.path(root);
-                Some(Vault::new(root, VaultKeys::Cryptomator(CTR_VAULT)))
-            }
-            Some((_, root)) => self.vault(root, b"demo"),
-            None => self.vault(word, PASSPHRASE),
+// Plays a line, and says of it no more than the first word.
+fn first_word(stage: &mut Stage, verb: &str, words: &str) {
+    call_layer(stage, verb, words);
+    match stage.said.take() {
+        Ok(said) => {
+            let (word, _) = cut(said.as_str());
+            stage.said.add(word);
+            stage.said.end();
         }
+        Err(_) => stage.stop(Stop::NoMemory),
     }
+}
 
-    // Changes the last bit of a byte of the input.
-    fn turn(&mut self, words: &str) {
-        let place = self.number(words);
-        match self.input.get_mut(place as usize) {
-            Some(byte) => *byte ^= 1,
-            None => self.stop(Stop::Line),
+/// Plays a line that calls a layer.
+pub fn layer(stage: &mut Stage, verb: &str, words: &str) {
+    let (call, rest) = cut(words);
+    match verb {
+        "turn" => turn(stage, words),
+        "fail_at" | "fail_append" | "stop" => let_fail(stage, verb, words),
+        "ends" => {
+            call_layer(stage, call, rest);
+            drop_done(stage);
         }
+        "fault" => first_word(stage, call, rest),
+        "quiet" => {
+            call_layer(stage, call, rest);
+            drop_said(stage);
+        }
+        "many" | "count_many" => many(stage, verb, words),
+        "deep" => deep(stage, words),
+        _ => call_layer(stage, verb, words),
     }
+}
 
-    /// Says no more of a call that did its work than that.
-    pub fn drop_done(&mut self) {
-        if self.status == 0 {
-            self.drop_said();
-            self.done("done");
+// Calls a layer with what it is handed. Calls of the folder are counted from here on.
+fn call_layer(stage: &mut Stage, verb: &str, words: &str) {
+    match stage.hand() {
+        Ok(mut handed) => {
+            call_by(stage, verb, words, &mut handed);
+            stage.take_back(&mut handed);
         }
+        Err(_) => stage.stop(Stop::NoMemory),
     }
+}
 
-    // Drops what was said.
-    fn drop_said(&mut self) {
-        if self.said.take().is_err() {
-            self.stop(Stop::NoMemory);
+fn call_by(stage: &mut Stage, verb: &str, words: &str, handed: &mut Handed) {
+    match verb {
+        "path" | "entry" => call_paths(stage, verb, words),
+        "folder" => call_folder(stage, words),
+        "journal" => call_journal(stage, words),
+        "work" => call_work(stage, words),
+        "holds_all" => call_matching(stage, words),
+        "load" | "find" | "enter" | "items" | "cat" => call_reading(stage, verb, words, handed),
+        "survey" | "walk" | "digest" | "check" | "repair" => call_walking(stage, verb, words),
+        "begin" | "go_on" | "resume" | "retire" | "retire_on" => {
+            call_moving(stage, verb, words, handed)
         }
+        "demo_item" | "demo_totals" | "demo_first" => call_demonstration(stage, verb, words),
+        _ => call_changing(stage, verb, words, handed),
     }
+}
 
-    // Plays a line, and says of it no more than the first word.
-    fn first_word(&mut self, verb: &str, words: &str) {
-        self.call_layer(verb, words);
-        match self.said.take() {
-            Ok(said) => {
-                let (word, _) = cut(said.as_str());
-                self.said.add(word);
-                self.said.end();
-            }
-            Err(_) => self.stop(Stop::NoMemory),
-        }
-    }
-
-    /// Plays a line that calls a layer.
-    pub fn layer(&mut self, verb: &str, words: &str) {
-        let (call, rest) = cut(words);
-        match verb {
-            "turn" => self.turn(words),
-            "fail_at" | "fail_append" | "stop" => self.let_fail(verb, words),
-            "ends" => {
-                self.call_layer(call, rest);
-                self.drop_done();
-            }
-            "fault" => self.first_word(call, rest),
-            "quiet" => {
-                self.call_layer(call, rest);
-                self.drop_said();
-            }
-            "many" | "count_many" => self.many(verb, words),
-            "deep" => self.deep(words),
-            _ => self.call_layer(verb, words),
-        }
-    }
-
-    // Calls a layer with what it is handed. Calls of the folder are counted from here on.
-    fn call_layer(&mut self, verb: &str, words: &str) {
-        match self.hand() {
-            Ok(mut handed) => {
-                self.call_by(verb, words, &mut handed);
-                self.take_back(&mut handed);
-            }
-            Err(_) => self.stop(Stop::NoMemory),
-        }
-    }
-
-    fn call_by(&mut self, verb: &str, words: &str, handed: &mut Handed) {
-        match verb {
-            "path" | "entry" => self.call_paths(verb, words),
-            "folder" => self.call_folder(words),
-            "journal" => self.call_journal(words),
-            "work" => self.call_work(words),
-            "holds_all" => self.call_matching(words),
-            "load" | "find" | "enter" | "items" | "cat" => self.call_reading(verb, words, handed),
-            "survey" | "walk" | "digest" | "check" | "repair" => self.call_walking(verb, words),
-            "begin" | "go_on" | "resume" | "retire" | "retire_on" => {
-                self.call_moving(verb, words, handed)
-            }
-            "demo_item" | "demo_totals" | "demo_first" => self.call_demonstration(verb, words),
-            _ => self.call_changing(verb, words, handed),
-        }
-    }
-
-    fn call_changing(&mut self, verb: &str, words: &str, handed: &mut Handed) {
-        match verb {
-            "begin_folder"
-            | "stage_file"
-            | "publish_folder"
-            | "place_folder"
-            | "publish_file"
-            | "replace_file"
-            | "replace_with_side_file"
-            | "remove_below"
-            | "remove_all" => self.call_staging(verb, words),
-            "init_go"
-            | "init_cm"
-            | "init_ctr"
-            | "place_dir"
-            | "place_file"
-            | "put_file"
-            | "write_content"
-            | "copy_content" => self.call_writing(verb, words, handed),
-            _ => self.stop(Stop::Line),
-        }
+fn call_changing(stage: &mut Stage, verb: &str, words: &str, handed: &mut Handed) {
+    match verb {
+        "begin_folder"
+        | "stage_file"
+        | "publish_folder"
+        | "place_folder"
+        | "publish_file"
+        | "replace_file"
+        | "replace_with_side_file"
+        | "remove_below"
+        | "remove_all" => call_staging(stage, verb, words),
+        "init_go"
+        | "init_cm"
+        | "init_ctr"
+        | "place_dir"
+        | "place_file"
+        | "put_file"
+        | "write_content"
+        | "copy_content" => call_writing(stage, verb, words, handed),
+        _ => stage.stop(Stop::Line),
     }
 }

@@ -1,20 +1,12 @@
 //! Reads rows from the files that its arguments name, plays each over a folder in memory, and prints whether it comes to what it expects.
 #![tactic(auto)]
 
-mod book;
-mod course;
-mod handed;
+mod commands;
 mod layer;
-mod looking;
-mod names;
-mod places;
-mod playing;
-mod setting;
-mod stage;
-mod stand;
-mod stop;
+mod moving;
 
-use book::Book;
+use commands::Commands;
+use row_stage::Book;
 use std::process::ExitCode;
 use std::{env, fs, io};
 
@@ -33,10 +25,10 @@ fn play_files(rt: &HostRuntime) -> io::Result<bool> {
         let text = fs::read_to_string(rt, name.as_str())?;
         book.open(name.as_str())?;
         for line in text.as_str().lines() {
-            let said = book.take(line)?;
+            let said = book.take::<Commands>(line)?;
             print!(rt; "{said}")?;
         }
-        let said = book.close()?;
+        let said = book.close::<Commands>()?;
         print!(rt; "{said}")?;
     }
     let wrong = book.wrong();

@@ -1,5 +1,6 @@
 //! The rows of files, one after the other.
 use crate::course::Line;
+use crate::player::Player;
 use crate::playing::judge;
 use row_words::{cut, number};
 use std::alloc::{AllocError, Global};
@@ -157,7 +158,7 @@ impl Book {
     }
 
     // Takes the block that was read, and says what comes of it.
-    fn end(&mut self) -> Result<String, AllocError> {
+    fn end<P: Player>(&mut self) -> Result<String, AllocError> {
         let alloc = self.alloc;
         let mut block = mem::replace(&mut self.open, Block::new(alloc));
         let fault = block.fault.take();
@@ -168,12 +169,12 @@ impl Book {
         if block.verb.as_str() == "def" {
             return self.define(block);
         }
-        let wrong = judge(alloc, &block)?;
+        let wrong = judge::<P>(alloc, &block)?;
         self.say(name.as_str(), wrong)
     }
 
     /// Takes a line, and says what comes of it.
-    pub fn take(&mut self, line: &str) -> Result<String, AllocError> {
+    pub fn take<P: Player>(&mut self, line: &str) -> Result<String, AllocError> {
         self.number = self.number.saturating_add(1);
         let (verb, rest) = cut(line);
         match verb {
@@ -188,7 +189,7 @@ impl Book {
                     self.fault("no such definition so many times")?;
                 }
             }
-            "end" => return self.end(),
+            "end" => return self.end::<P>(),
             "" | "#" => {}
             _ => self.add(line)?,
         }
@@ -196,11 +197,11 @@ impl Book {
     }
 
     /// Ends a file, and says what is wrong with a block that doesn't end.
-    pub fn close(&mut self) -> Result<String, AllocError> {
+    pub fn close<P: Player>(&mut self) -> Result<String, AllocError> {
         if self.open.verb.is_empty() && self.open.fault.is_none() {
             return Ok(String::new(self.alloc));
         }
         self.fault("a block that doesn't end")?;
-        self.end()
+        self.end::<P>()
     }
 }

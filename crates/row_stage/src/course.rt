@@ -1,5 +1,6 @@
 //! How one playing of a row goes: its lines are played, and what each says is compared with what is expected right behind it.
 use crate::names::Names;
+use crate::player::Player;
 use crate::stage::{MOST_SHOWN, Stage};
 use crate::stop::Stop;
 use row_words::{bytes_of, cut, push_shown};
@@ -102,11 +103,11 @@ impl Course {
     }
 
     // Plays a line.
-    fn play_line(&mut self, at: &str, text: &str, turn: u64) -> Result<(), AllocError> {
+    fn play_line<P: Player>(&mut self, at: &str, text: &str, turn: u64) -> Result<(), AllocError> {
         let alloc = self.alloc;
         self.end_line()?;
         self.last = format!(in alloc; "{at}: {text}")?;
-        match self.stage.play(text, turn) {
+        match self.stage.play::<P>(text, turn) {
             Ok(said) => {
                 for line in said.as_str().lines() {
                     self.said.push(String::from_str(alloc, line)?)?;
@@ -135,7 +136,7 @@ impl Course {
     }
 
     /// Takes a line: plays it, or compares it with what was said where it begins with `=`. `turn` is the call that fails in turn.
-    pub fn take(&mut self, line: &Line, turn: u64) -> Result<(), AllocError> {
+    pub fn take<P: Player>(&mut self, line: &Line, turn: u64) -> Result<(), AllocError> {
         if self.wrong.is_some() {
             return Ok(());
         }
@@ -147,7 +148,7 @@ impl Course {
         if verb == "=" {
             return self.expect(at, expected);
         }
-        self.play_line(at, text.as_str(), turn)
+        self.play_line::<P>(at, text.as_str(), turn)
     }
 
     /// Comes to the end of the row's lines.

@@ -1,6 +1,7 @@
 //! The stage on which a row is played: a folder in memory, what the next run is given, and what was said.
-use crate::handed::{Drawn, Pieces, Taken};
+use crate::handed::{Drawn, Handed, Pieces, Taken};
 use crate::names::Names;
+use crate::player::Player;
 use crate::stand::Stand;
 use crate::stop::Stop;
 use folder_model::{FPath, FolderFault};
@@ -8,7 +9,6 @@ use port_model::{ListRandoms, MemSink, MemSource, Source};
 use row_words::{Said, bytes_of, cut, number};
 use std::alloc::{AllocError, Global};
 use std::mem;
-use vault_cli::{demo_in, run};
 
 /// How many bytes are shown; of more their number and sum are.
 pub const MOST_SHOWN: usize = 1_000;
@@ -46,15 +46,6 @@ impl Fails {
             err: Vec::new(alloc),
         }
     }
-}
-
-/// What a run is handed beside the folder.
-#[derive(Drop)]
-pub struct Handed {
-    pub random: Drawn,
-    pub input: Pieces,
-    pub out: Taken,
-    pub err: Taken,
 }
 
 #[derive(Drop)]
@@ -283,44 +274,9 @@ impl Stage {
         self.stop(Stop::Line);
     }
 
-    /// Runs words, and says the status, and what both streams took.
-    pub fn run(&mut self, text: &str) {
-        let (Ok(words), Ok(mut handed)) = (words(self.alloc, text), self.hand()) else {
-            return self.stop(Stop::NoMemory);
-        };
-        self.status = run(
-            self.alloc,
-            words.as_slice(),
-            &mut self.folder,
-            &mut handed.random,
-            &mut handed.input,
-            &mut handed.out,
-            &mut handed.err,
-        );
-        self.take_back(&mut handed);
-        self.say(handed.out.sink.bytes(), handed.err.sink.bytes());
-    }
-
-    // Runs a demonstration of `SEED COUNT` in the folder.
-    fn demo(&mut self, words: &str) {
-        let (seed, count) = cut(words);
-        let (seed, count) = (self.number(seed), self.number(count).min(2_000));
-        let Ok(mut handed) = self.hand() else {
-            return self.stop(Stop::NoMemory);
-        };
-        self.status = demo_in(
-            self.alloc,
-            &mut self.folder,
-            seed,
-            count as u32,
-            &mut handed.out,
-            &mut handed.err,
-        );
-        self.take_back(&mut handed);
-        self.say(handed.out.sink.bytes(), handed.err.sink.bytes());
-    }
-
-    fn say(&mut self, out: &[u8], err: &[u8]) {
+    /// Says how a run ended, and what both streams took.
+    pub fn say_run(&mut self, status: u8, out: &[u8], err: &[u8]) {
+        self.status = status;
         self.said.shows(&self.status);
         if !out.is_empty() {
             self.said.bytes(out, MOST_SHOWN);
@@ -332,21 +288,34 @@ impl Stage {
         self.said.end();
     }
 
+    // ---- what a call came to
+
+    /// A call did its work, and this is what it gave.
+    pub fn done(&mut self, text: &str) {
+        self.said.word(text);
+        self.ended(0);
+    }
+
+    /// A call ended with a fault of this name.
+    pub fn failed(&mut self, text: &str) {
+        self.said.word(text);
+        self.ended(1);
+    }
+
+    /// A call ended, and what it gave or its fault was said.
+    pub fn ended(&mut self, status: u8) {
+        self.status = status;
+        self.said.end();
+    }
+
     // ---- lines
 
     /// Plays a line, in which names were replaced, and gives the lines that it says. `turn` is the call that fails in turn, 0 where none
-    /// does.
-    pub fn play(&mut self, line: &str, turn: u64) -> Result<String, Stop> {
+    /// does. What the stage doesn't know is the player's.
+    pub fn play<P: Player>(&mut self, line: &str, turn: u64) -> Result<String, Stop> {
         let (verb, words) = cut(line);
         match verb {
             "fail" => self.fail(words, turn),
-            "run" => self.run(words),
-            "else" => {
-                if self.status != 0 {
-                    self.run(words);
-                }
-            }
-            "demo" => self.demo(words),
             "settle"
             | "crash"
             | "dir"
@@ -357,11 +326,10 @@ impl Stage {
             | "copy"
             | "flip"
             | "cut"
-            | "other" => { self.change(verb, words) }
+            | "other" => self.change(verb, words),
             "list" | "show" | "length" | "kind" | "left" => self.look(verb, words),
-            "vault" | "item" | "inside" | "mkdir" | "put" | "tree" => self.place(verb, words),
             "name" | "draw" | "in" | "take" | "piece" => self.give(verb, words),
-            _ => self.layer(verb, words),
+            _ => P::play(self, verb, words),
         }
         match self.stop.take() {
             Some(stop) => Err(stop),
@@ -399,16 +367,4 @@ fn taken(alloc: Global, fails: Vec<u64>) -> Result<Taken, AllocError> {
         sink: MemSink::new(alloc, MOST_TAKEN, fails)?,
         calls: 0,
     })
-}
-
-// The words of a run.
-fn words(alloc: Global, text: &str) -> Result<Vec<String>, AllocError> {
-    let mut words = Vec::new(alloc);
-    if text.is_empty() {
-        return Ok(words);
-    }
-    for word in text.split(' ') {
-        words.push(String::from_str(alloc, word)?)?;
-    }
-    Ok(words)
 }

@@ -66,3 +66,12 @@ impl Sink for Taken {
         self.sink.put(piece)
     }
 }
+
+/// All that a run is handed beside the folder.
+#[derive(Drop)]
+pub struct Handed {
+    pub random: Drawn,
+    pub input: Pieces,
+    pub out: Taken,
+    pub err: Taken,
+}

@@ -2,6 +2,7 @@
 use crate::book::Block;
 use crate::course::{Course, Line};
 use crate::names::Names;
+use crate::player::Player;
 use row_words::{cut, number};
 use std::alloc::{AllocError, Global};
 
@@ -82,7 +83,7 @@ fn names_in(alloc: Global, fors: &[For], play: usize) -> Result<(Names, String),
 }
 
 // Plays the lines of a row.
-fn course_of(
+fn course_of<P: Player>(
     alloc: Global,
     lines: &[Line],
     names: Names,
@@ -93,7 +94,7 @@ fn course_of(
     for line in lines {
         let (verb, _) = cut(line.text.as_str());
         if verb != "for" {
-            course.take(line, turn)?;
+            course.take::<P>(line, turn)?;
         }
     }
     course.end()?;
@@ -158,14 +159,14 @@ struct Played {
 }
 
 // Plays a sweep with one failing call.
-fn play_failing(
+fn play_failing<P: Player>(
     alloc: Global,
     lines: &[Line],
     groups: &[Line],
     names: Names,
     turn: u64,
 ) -> Result<Played, AllocError> {
-    let mut course = course_of(alloc, lines, names, true, turn)?;
+    let mut course = course_of::<P>(alloc, lines, names, true, turn)?;
     let is_hit = course.is_hit();
     let expected = if is_hit {
         String::new(alloc)
@@ -222,7 +223,7 @@ impl Found {
 }
 
 // What is wrong with a sweep.
-fn sweep(
+fn sweep<P: Player>(
     alloc: Global,
     lines: &[Line],
     groups: &[Line],
@@ -235,7 +236,7 @@ fn sweep(
     };
     for turn in 1..MOST_TURNS {
         let (names, _) = names_in(alloc, fors, place)?;
-        let played = play_failing(alloc, lines, groups, names, turn)?;
+        let played = play_failing::<P>(alloc, lines, groups, names, turn)?;
         if let Some(wrong) = &played.wrong {
             let wrong = wrong.as_str();
             return Ok(Some(format!(in alloc; "  call {turn}\n{wrong}")?));
@@ -249,7 +250,7 @@ fn sweep(
 }
 
 // What is wrong with a play of a row.
-fn judge_play(
+fn judge_play<P: Player>(
     alloc: Global,
     block: &Block,
     lines: &[Line],
@@ -258,18 +259,18 @@ fn judge_play(
     place: usize,
 ) -> Result<Option<String>, AllocError> {
     if block.verb.as_str() == "sweep" {
-        return sweep(alloc, lines, groups, fors, place);
+        return sweep::<P>(alloc, lines, groups, fors, place);
     }
     if !groups.is_empty() {
         return Ok(Some(String::from_str(alloc, "  groups in a row\n")?));
     }
     let (names, _) = names_in(alloc, fors, place)?;
-    let mut course = course_of(alloc, lines, names, false, 0)?;
+    let mut course = course_of::<P>(alloc, lines, names, false, 0)?;
     Ok(course.take_wrong())
 }
 
 /// What is wrong with a row or a sweep, where anything is.
-pub fn judge(alloc: Global, block: &Block) -> Result<Option<String>, AllocError> {
+pub fn judge<P: Player>(alloc: Global, block: &Block) -> Result<Option<String>, AllocError> {
     let all = block.lines.as_slice();
     let (lines, groups) = all.split_at(all.len().min(first_group(all)));
     let fors = fors_of(alloc, lines)?;
@@ -279,7 +280,7 @@ pub fn judge(alloc: Global, block: &Block) -> Result<Option<String>, AllocError>
         return Ok(Some(String::from_str(alloc, "  too many plays\n")?));
     }
     for place in 0..plays {
-        if let Some(wrong) = judge_play(alloc, block, lines, groups, fors, place)? {
+        if let Some(wrong) = judge_play::<P>(alloc, block, lines, groups, fors, place)? {
             let (_, values) = names_in(alloc, fors, place)?;
             return Ok(Some(format!(in alloc; "{values}{wrong}")?));
         }

@@ -1,0 +1,83 @@
+//! Plans that a word writes, and calls of tree_match.
+use crate::faults::match_fault;
+use crate::places::{plain_path, vault_named};
+use folder_model::FPath;
+use plain_tree::NodeKind;
+use row_stage::Stage;
+use row_words::cut;
+use tree_match::{How, Match, holds_all};
+use vault_walk::{Plan, PlanItem, PlanItems};
+
+// An item: `PATH=AT` for a file that is stored there, `PATH/` for a directory.
+fn plan_item(stage: &mut Stage, word: &str) -> PlanItem {
+    if let Some((path, at)) = word.split_once('=') {
+        return PlanItem {
+            path: plain_path(stage, path),
+            node: NodeKind::File,
+            at: stage.path(at),
+        };
+    }
+    let (path, node) = match word.strip_suffix("/") {
+        Some(path) => (path, NodeKind::Dir),
+        None => (word, NodeKind::File),
+    };
+    PlanItem {
+        path: plain_path(stage, path),
+        node,
+        at: FPath::base(stage.alloc),
+    }
+}
+
+/// The plan whose items a word writes, with a comma between two; `-` is the empty plan.
+pub fn plan(stage: &mut Stage, word: &str) -> Plan {
+    let mut items = Vec::new(stage.alloc);
+    if word != "-" {
+        for word in word.split(',') {
+            let item = plan_item(stage, word);
+            if items.push(item).is_err() {
+                stage.said.lacks();
+            }
+        }
+    }
+    Plan {
+        items: PlanItems::new(items),
+    }
+}
+
+fn say_match(stage: &mut Stage, answer: Match) {
+    match answer {
+        Match::Same => stage.said.word("Same"),
+        Match::Contained(path) => {
+            stage.said.word("Contained");
+            stage.said.made(path.shown());
+        }
+        Match::Differs(path, how) => {
+            stage.said.word("Differs");
+            stage.said.made(path.shown());
+            stage.said.word(match how {
+                How::Missing => "Missing",
+                How::Kind => "Kind",
+                How::Content => "Content",
+            });
+        }
+    }
+    stage.ended(0);
+}
+
+/// Plays `holds_all VAULT PLAN VAULT PLAN`: whether the second holds all that the first does.
+pub fn call_matching(stage: &mut Stage, words: &str) {
+    let (a, words) = cut(words);
+    let (a_plan, words) = cut(words);
+    let (b, b_plan) = cut(words);
+    let (Some(a), Some(b)) = (vault_named(stage, a), vault_named(stage, b)) else {
+        return;
+    };
+    let (a_plan, b_plan) = (plan(stage, a_plan), plan(stage, b_plan));
+    match holds_all(stage.alloc, &mut stage.folder, &a, &a_plan, &b, &b_plan) {
+        Ok(answer) => say_match(stage, answer),
+        Err(fault) => {
+            match_fault(&mut stage.said, &fault);
+            stage.ended(1);
+        }
+    }
+}

@@ -3,7 +3,7 @@ ghost use Rattle.std.specs.Prelude.{◌≡◌, ◌≢◌, ◌++◌, ℕ, List, f
 ghost use Rattle.aes_lanes.specs.Bytes.{AreBytes};
 ghost use Rattle.cryptomator_conf.specs.Id.{id_of};
 ghost use Rattle.plain_tree.specs.Names.{is_name};
-ghost use Rattle.vault_names.specs.Cryptomator.{cm_text, cm_long_name, cm_stored, cm_folder_of, padded_base64url, IsCmTextOf};
+ghost use Rattle.vault_names.specs.Cryptomator.{cm_entry_of, cm_text, cm_long_name, cm_stored, cm_folder_of, padded_base64url, IsCmTextOf};
 
 use crate::base32::base32_of;
 use crate::entry::{NameFault, Stored};
@@ -29,7 +29,13 @@ pub fn cm_store(
 ) -> Result<Stored, AllocError>
     ensures { IfOk result (λ entry. entry ≡ cm_stored keys.now threshold id.now name.now) }
 {
-    let text = encrypted_text(alloc, keys, id, name)?;
+    cm_entry(alloc, threshold, encrypted_text(alloc, keys, id, name)?)
+}
+
+/// What is stored of the name that has this encrypted text, in a vault of this threshold.
+pub fn cm_entry(alloc: Global, threshold: u32, text: String) -> Result<Stored, AllocError>
+    ensures { IfOk result (λ entry. entry ≡ cm_entry_of threshold (string_bytes text)) }
+{
     if text.len() <= threshold as usize {
         return Ok(Stored {
             name: Text::new(text),

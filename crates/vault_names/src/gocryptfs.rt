@@ -1,7 +1,7 @@
 //! Stored names of gocryptfs, on-disk format 2: EME over AES-256 on padded names, in base64url without padding.
 ghost use Rattle.std.specs.Prelude.{◌≡◌, ℕ, ◌%◌, ◌↔◌, List, length, IfOk, MatchOption, IsTrue, Err, string_bytes};
 ghost use Rattle.vault_names.specs.Blocks.{AreBlocksOf, IsPaddedName, IsSizeOfBlocks};
-ghost use Rattle.vault_names.specs.Gocryptfs.{go_text, long_name, stored, IsTextOf};
+ghost use Rattle.vault_names.specs.Gocryptfs.{entry_of, go_text, long_name, stored, IsTextOf};
 
 use crate::entry::{NameFault, Stored};
 use crate::padding::{BLOCK_SIZE, padded_bytes, unpadded_bytes};
@@ -27,7 +27,13 @@ const MAX_SIZE: usize = 128 * BLOCK_SIZE;
 pub fn go_store(alloc: Global, keys: &GoKeys, iv: &Block, name: &Name) -> Result<Stored, AllocError>
     ensures { IfOk result (λ entry. entry ≡ stored keys.now.names iv.now name.now) }
 {
-    let text = encrypted_text(alloc, keys, iv, name)?;
+    go_entry(alloc, encrypted_text(alloc, keys, iv, name)?)
+}
+
+/// What is stored of the name that has this encrypted text.
+pub fn go_entry(alloc: Global, text: String) -> Result<Stored, AllocError>
+    ensures { IfOk result (λ entry. entry ≡ entry_of (string_bytes text)) }
+{
     if text.len() <= MAX_ENTRY_SIZE {
         return Ok(Stored {
             name: Text::new(text),

@@ -19,4 +19,5 @@ mod MapParts
 mod Rests
 mod XorSteps
 mod PlaneSwaps
+mod PlaneCopies
 mod PlaneBlocks

@@ -12,29 +12,29 @@ use Rattle.aes_lanes.specs.Planes.{IsPlane, bits_at, low_bits, high_bits}
 use Rattle.aes_lanes.proofs.PlaneBits.{IsPlane-zip2, IsPlane-sum, IsPlane-both, IsPlane-splat, eight_same, bits_of, bits_of-xor}
 
 -- an operator on each lane and the same number
-slice_index-splat : (f : ℕ → ℕ → ℕ) (v : List ℕ) (n p : ℕ) → IsPlane v → p < 32 → slice_index (zip2 f v (replicate 32 n)) p ≡ f (slice_index v p) n
+pub slice_index-splat : (f : ℕ → ℕ → ℕ) (v : List ℕ) (n p : ℕ) → IsPlane v → p < 32 → slice_index (zip2 f v (replicate 32 n)) p ≡ f (slice_index v p) n
 slice_index-splat f v n p plane lt =
     let in_v : p < length v = omega (arith, plane.long) in
     let in_splat : p < length (replicate {A = ℕ} 32 n) = omega (arith, length-replicate {A = ℕ} 32 n) in
     get_or-zip2 f v (replicate 32 n) p 0 0 0 in_v in_splat ∙ ap (f (slice_index v p)) (get_or-replicate 32 p n 0 lt)
 
 -- the three operators of a swap, with the same number in each lane
-abbrev masked : ℕ → List ℕ → List ℕ
+abbrev pub masked : ℕ → List ℕ → List ℕ
 masked m v = zip2 bit_and v (replicate 32 m)
 
 abbrev raised : ℕ → List ℕ → List ℕ
 raised s v = zip2 (λ x n. x * 2 ^ n % 2 ^ 8) v (replicate 32 s)
 
-abbrev lowered : ℕ → List ℕ → List ℕ
+abbrev pub lowered : ℕ → List ℕ → List ℕ
 lowered s v = zip2 (λ x n. x / 2 ^ n) v (replicate 32 s)
 
-IsPlane-masked : (m : ℕ) (v : List ℕ) → m < 256 → IsPlane v → IsPlane (masked m v)
+pub IsPlane-masked : (m : ℕ) (v : List ℕ) → m < 256 → IsPlane v → IsPlane (masked m v)
 IsPlane-masked m v byte plane = IsPlane-both v (replicate 32 m) plane (IsPlane-splat m byte)
 
 IsPlane-raised : (s : ℕ) (v : List ℕ) → s < 256 → IsPlane v → IsPlane (raised s v)
 IsPlane-raised s v byte plane = IsPlane-zip2 _ (λ x y hx hy. omega arith) v (replicate 32 s) plane (IsPlane-splat s byte)
 
-IsPlane-lowered : (s : ℕ) (v : List ℕ) → s < 256 → IsPlane v → IsPlane (lowered s v)
+pub IsPlane-lowered : (s : ℕ) (v : List ℕ) → s < 256 → IsPlane v → IsPlane (lowered s v)
 IsPlane-lowered s v byte plane =
     IsPlane-zip2 _ (λ x y hx hy. let below = div-le_self x (2 ^ y) in omega (arith, below)) v (replicate 32 s) plane (IsPlane-splat s byte)
 

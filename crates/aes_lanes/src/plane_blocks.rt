@@ -168,6 +168,36 @@ pub(crate) fn gather(blocks: &[Block; 16]) -> Planes
     })
 }
 
+// Bit i of each byte of a vector, in each bit of the byte.
+#[inline(always)]
+fn repeated(v: u8x32, i: u8) -> u8x32
+    requires i { i < 8 }
+    requires v { IsPlane v }
+    ensures plane { IsPlane result }
+    ensures bits { (p k : ℕ) → p < 32 → k < 8 → bit p k result ≡ bit p i v }
+{
+    u8x32::splat(0) - ((v >> u8x32::splat(i)) & u8x32::splat(1))
+}
+
+/// The planes of one block, sixteen times.
+#[inline(always)]
+pub(crate) fn gather_same(block: &Block) -> Planes
+    ensures { (k : ℕ) → k < 16 → block_of (list_of result) k ≡ block.now }
+{
+    let half = u8x16::from_array(*block);
+    let both = by_rows(half, half);
+    Planes {
+        p0: repeated(both, 0),
+        p1: repeated(both, 1),
+        p2: repeated(both, 2),
+        p3: repeated(both, 3),
+        p4: repeated(both, 4),
+        p5: repeated(both, 5),
+        p6: repeated(both, 6),
+        p7: repeated(both, 7),
+    }
+}
+
 /// The sixteen blocks of planes.
 #[inline(always)]
 pub(crate) fn scatter(s: &Planes) -> [Block; 16]

@@ -12,7 +12,7 @@ ghost use Rattle.aes_lanes.specs.Rounds.{add_round_key, inverse_mix_columns, inv
 
 use crate::block::Block;
 use crate::counter_planes::counter_planes;
-use crate::plane_blocks::{gather, scatter};
+use crate::plane_blocks::{gather, gather_same, scatter};
 use crate::planes::Planes;
 use crate::schedule::key_block;
 use std::simd::prelude::*;
@@ -392,11 +392,12 @@ fn spread(s: &Planes) -> Planes
 }
 
 // The key of a round as planes.
+#[inline(always)]
 fn key_planes(words: &[u32], round: usize) -> Planes
     requires { 4 * round + 4 ≤ length words.now }
     ensures { (k : ℕ) → k < 16 → block_of (list_of result) k ≡ plane_key words.now round }
 {
-    let planes = gather(&[key_block(words, round); 16]);
+    let planes = gather_same(&key_block(words, round));
     if round == 0 { planes } else { add_63(&planes) }
 }
 

@@ -63,6 +63,7 @@ fn schedule_step(key_words: usize, i: usize, last: u32) -> u32
 }
 
 /// The key of a round as a block.
+#[inline(always)]
 pub(crate) fn key_block(words: &[u32], round: usize) -> Block
     requires { 4 * round + 4 ≤ length words.now }
     ensures { result ≡ round_key words.now round }

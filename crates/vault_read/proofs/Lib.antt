@@ -11,6 +11,7 @@ mod Gathering
 mod Keys
 mod Reaching
 pub mod Sorting
+mod StoredTexts
 mod ListedOrder
 mod TextForms
 mod OrderlyVaults

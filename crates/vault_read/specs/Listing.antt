@@ -9,8 +9,8 @@ use Rattle.folder_spec.specs.View.{View, FileOf}
 use Rattle.plain_tree.specs.Names.{is_name}
 use Rattle.plain_tree.specs.Order.{name_cmp}
 use Rattle.plain_tree.specs.declared.NodeKind.TheVariants as node
-use Rattle.vault_names.specs.Cryptomator.{IsCmTextOf}
-use Rattle.vault_names.specs.Gocryptfs.{IsTextOf}
+use Rattle.vault_names.specs.Cryptomator.{IsCmTextOf, cm_entry_of}
+use Rattle.vault_names.specs.Gocryptfs.{IsTextOf, entry_of}
 use Rattle.vault_names.specs.declared.entry.Stored.{Stored}
 use Rattle.vault_spec.specs.Format.{Format, Directory, Item, Nothing, FileItem, DirectoryItem, NoItem}
 use Rattle.vault_spec.specs.Listing.{Listed, node_of}
@@ -34,6 +34,11 @@ IsTextAt f v dir entry true text = v (dir.folder ++ f.full_at entry) ≡ FileOf 
 abbrev pub IsNameOf : Vault → List ℕ → List ℕ → List ℕ → Type 0
 IsNameOf (Gocryptfs keys) key name text = IsTextOf keys.names key name text
 IsNameOf (Cryptomator vault) key name text = IsCmTextOf vault.keys key name text
+
+-- what is stored of the name that has this text
+abbrev pub stored_by : Vault → List ℕ → Stored
+stored_by (Gocryptfs keys) text = entry_of text
+stored_by (Cryptomator vault) text = cm_entry_of vault.threshold text
 
 -- what is stored has a text of its own where its name is long, and only there
 abbrev pub has_form : Bool → Option (List ℕ) → Bool

@@ -10,11 +10,13 @@ ghost use Rattle.vault_spec.specs.Format.{Directory};
 ghost use Rattle.vault_spec.specs.Find as spec;
 ghost use Rattle.vault_spec.specs.Findings.{IsEntryOf};
 ghost use Rattle.vault_spec.specs.Listing.{Listed, AreListed};
+ghost use Rattle.vault_names.specs.Cryptomator.{cm_entry_of};
+ghost use Rattle.vault_names.specs.Gocryptfs.{entry_of};
 ghost use Rattle.vault_spec.specs.Vault.{format_of};
 ghost use Rattle.vault_read.specs.Opened.{FitsKey};
 ghost use Rattle.vault_read.specs.Finding.{Refuses};
 ghost use Rattle.vault_read.specs.Items.{item_of};
-ghost use Rattle.vault_read.specs.Listing.{AreSorted, HasItems, IsItemOf, IsNameOf, IsTextAt, TellsNames, has_form, is_entry, is_long, named_item};
+ghost use Rattle.vault_read.specs.Listing.{AreSorted, HasItems, IsItemOf, IsNameOf, IsTextAt, TellsNames, has_form, is_entry, is_long, named_item, stored_by};
 ghost use Rattle.vault_read.specs.declared.looking.SmallFile.TheVariants.{Whole};
 
 use crate::fault::FindFault;
@@ -22,18 +24,19 @@ use crate::finding::enter_at;
 use crate::items::{EntryItem, item_at};
 use crate::looking::{SmallFile, joined, read_under};
 use crate::standing::{Directory, full_path};
-use crate::vault::{Vault, VaultKeys, VaultKind, stored_in};
+use crate::vault::{Vault, VaultKeys, VaultKind};
 use folder_model::{Entry, Folder};
 use folder_spec::FolderFault;
 use plain_tree::{Name, NodeKind, PlainPath};
 use std::alloc::{AllocError, Global};
 use std::marker::Model;
 use text_model::Text;
+use vault_names::gocryptfs::MAX_ENTRY_SIZE;
 use vault_names::laws::{
     cm_long_names_are_plain, cm_text_has_one_name, cm_texts_are_plain, long_names_are_plain,
     text_has_one_name, texts_are_plain,
 };
-use vault_names::{NameFault, Stored, cm_read, go_read};
+use vault_names::{NameFault, Stored, cm_long, cm_read, go_long, go_read};
 use vault_spec::laws::what_is_found_stands;
 
 const LONG_START: &str = "gocryptfs.longname.";
@@ -288,12 +291,54 @@ fn entry_name(
     let Some(name) = name_of(alloc, vault, dir.key.as_slice(), text.as_str())? else {
         return Ok(None);
     };
-    let stored = stored_in(alloc, vault, dir.key.as_slice(), &name)?;
+    let stored = stored_by(alloc, vault, text)?;
     if is_entry(entry, long, &stored) {
         Ok(Some(name))
     } else {
         Ok(None)
     }
+}
+
+// What is stored of the name that has this text, which tells it without being encrypted once more.
+fn stored_by(alloc: Global, vault: &Vault, text: &Text) -> Result<Stored, AllocError>
+    ensures { IfOk result (λ stored. stored ≡ stored_by vault.now.vault text.now) }
+{
+    match vault.keys() {
+        VaultKeys::Gocryptfs(_) => go_stored_by(alloc, text),
+        VaultKeys::Cryptomator(vault) => cm_stored_by(alloc, vault.threshold, text),
+    }
+}
+
+fn go_stored_by(alloc: Global, text: &Text) -> Result<Stored, AllocError>
+    ensures { IfOk result (λ stored. stored ≡ entry_of text.now) }
+{
+    let whole = Text::copy_of(alloc, text.as_str())?;
+    if text.as_str().len() <= MAX_ENTRY_SIZE {
+        return Ok(Stored {
+            name: whole,
+            full: None,
+        });
+    }
+    Ok(Stored {
+        name: Text::new(go_long(alloc, text.as_str())?),
+        full: Some(whole),
+    })
+}
+
+fn cm_stored_by(alloc: Global, threshold: u32, text: &Text) -> Result<Stored, AllocError>
+    ensures { IfOk result (λ stored. stored ≡ cm_entry_of threshold text.now) }
+{
+    let whole = Text::copy_of(alloc, text.as_str())?;
+    if text.as_str().len() <= threshold as usize {
+        return Ok(Stored {
+            name: whole,
+            full: None,
+        });
+    }
+    Ok(Stored {
+        name: Text::new(cm_long(alloc, text.as_str())?),
+        full: Some(whole),
+    })
 }
 
 // Whether what is stored of a name stands at this entry.

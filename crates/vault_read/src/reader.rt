@@ -20,9 +20,6 @@ use std::marker::Model;
 // The most bytes of a content file, 2^40.
 const CONTENT_LIMIT: u64 = 1_099_511_627_776;
 
-// The most bytes that are read at once: a decoder has room for no more.
-const PIECE_SIZE: usize = 32_816;
-
 /// A reader of one content file, which gives its chunks in order.
 ///
 /// Contracts see it as the file's path and what its decoder holds.
@@ -123,7 +120,7 @@ fn next_given<F: Folder>(
             Ok(Step::Chunk(0)) => {}
             Ok(Step::Chunk(count)) => return Ok(Given::Bytes(count)),
             Ok(Step::More) => {
-                if !read_on(folder, at, decoder, taken)? {
+                if !read_on(folder, at, decoder, taken, out)? {
                     return Ok(Given::PastLimit);
                 }
             }
@@ -134,12 +131,13 @@ fn next_given<F: Folder>(
 }
 
 // Reads the next bytes of a file into a decoder that wants more, or tells it that the file has ended. It answers false where the file
-// goes on past the limit.
+// goes on past the limit. The bytes pass through `spare`.
 fn read_on<F: Folder>(
     folder: &mut F,
     at: &FPath,
     decoder: &mut Decoder,
     taken: &mut u64,
+    spare: &mut ChunkBuf,
 ) -> Result<bool, FolderFault>
     requires open { decoder.old.ended ≡ false }
     requires room { length decoder.old.held < 32816 }
@@ -159,9 +157,9 @@ fn read_on<F: Folder>(
     if *taken == CONTENT_LIMIT {
         return has_ended(folder, at, decoder, *taken);
     }
-    let mut piece = [0u8; PIECE_SIZE];
     let most = CONTENT_LIMIT - *taken;
     let size = decoder.room().min(most as usize);
+    let piece = spare.bytes_mut();
     read_piece(folder, at, decoder, taken, &mut piece[..size])?;
     Ok(true)
 }

@@ -9,3 +9,4 @@ mod Tables
 mod PowerOfTwo
 mod Costs
 mod Digests
+mod DiagonalRounds

@@ -4,6 +4,7 @@ pub mod Hkdf
 pub mod Pbkdf2
 pub mod HmacPieces
 pub mod Salsa
+pub mod Diagonals
 pub mod RoMix
 pub mod Table
 pub mod Scrypt

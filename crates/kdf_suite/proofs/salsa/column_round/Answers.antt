@@ -1,12 +1,7 @@
-use Rattle.kdf_suite.specs.Salsa.{column_round}
+use Rattle.std.proofs.Common.{◌∙◌, ap}
+use Rattle.kdf_suite.specs.Diagonals.{quartered}
+use Rattle.kdf_suite.proofs.DiagonalRounds.{columns}
 use Rattle.kdf_suite.proofs.salsa.column_round.Goals as goal
 
 pub returns : goal.returns
-unfolding column_round
-returns c =
-    rw (
-      ← c.quarter_round-x0.ensures,
-      ← c.quarter_round-x5.ensures,
-      ← c.quarter_round-x10.ensures,
-      ← c.quarter_round-x15.ensures,
-    )
+returns c x is = c.quartered.ensures ∙ ap quartered is ∙ columns x

@@ -1,12 +1,8 @@
-use Rattle.kdf_suite.specs.Salsa.{row_round}
+use Rattle.std.proofs.Common.{◌∙◌, ap}
+use Rattle.kdf_suite.specs.Diagonals.{quartered}
+use Rattle.kdf_suite.specs.declared.salsa.Diagonals.{Diagonals}
+use Rattle.kdf_suite.proofs.DiagonalRounds.{crossed, rows}
 use Rattle.kdf_suite.proofs.salsa.row_round.Goals as goal
 
 pub returns : goal.returns
-unfolding row_round
-returns c =
-    rw (
-      ← c.quarter_round-x0.ensures,
-      ← c.quarter_round-x5.ensures,
-      ← c.quarter_round-x10.ensures,
-      ← c.quarter_round-x15.ensures,
-    )
+returns c x is = ap crossed c.quartered-t.ensures ∙ ap (λ (s : Diagonals). crossed (quartered (crossed s))) is ∙ rows x

@@ -10,8 +10,6 @@ ghost use Rattle.vault_spec.specs.Format.{Directory};
 ghost use Rattle.vault_spec.specs.Find as spec;
 ghost use Rattle.vault_spec.specs.Findings.{IsEntryOf};
 ghost use Rattle.vault_spec.specs.Listing.{Listed, AreListed};
-ghost use Rattle.vault_names.specs.Cryptomator.{cm_entry_of};
-ghost use Rattle.vault_names.specs.Gocryptfs.{entry_of};
 ghost use Rattle.vault_spec.specs.Vault.{format_of};
 ghost use Rattle.vault_read.specs.Opened.{FitsKey};
 ghost use Rattle.vault_read.specs.Finding.{Refuses};
@@ -31,12 +29,11 @@ use plain_tree::{Name, NodeKind, PlainPath};
 use std::alloc::{AllocError, Global};
 use std::marker::Model;
 use text_model::Text;
-use vault_names::gocryptfs::MAX_ENTRY_SIZE;
 use vault_names::laws::{
     cm_long_names_are_plain, cm_text_has_one_name, cm_texts_are_plain, long_names_are_plain,
     text_has_one_name, texts_are_plain,
 };
-use vault_names::{NameFault, Stored, cm_long, cm_read, go_long, go_read};
+use vault_names::{NameFault, Stored, cm_entry, cm_read, go_entry, go_read};
 use vault_spec::laws::what_is_found_stands;
 
 const LONG_START: &str = "gocryptfs.longname.";
@@ -303,42 +300,11 @@ fn entry_name(
 fn stored_by(alloc: Global, vault: &Vault, text: &Text) -> Result<Stored, AllocError>
     ensures { IfOk result (λ stored. stored ≡ stored_by vault.now.vault text.now) }
 {
+    let text = String::from_str(alloc, text.as_str())?;
     match vault.keys() {
-        VaultKeys::Gocryptfs(_) => go_stored_by(alloc, text),
-        VaultKeys::Cryptomator(vault) => cm_stored_by(alloc, vault.threshold, text),
+        VaultKeys::Gocryptfs(_) => go_entry(alloc, text),
+        VaultKeys::Cryptomator(vault) => cm_entry(alloc, vault.threshold, text),
     }
-}
-
-fn go_stored_by(alloc: Global, text: &Text) -> Result<Stored, AllocError>
-    ensures { IfOk result (λ stored. stored ≡ entry_of text.now) }
-{
-    let whole = Text::copy_of(alloc, text.as_str())?;
-    if text.as_str().len() <= MAX_ENTRY_SIZE {
-        return Ok(Stored {
-            name: whole,
-            full: None,
-        });
-    }
-    Ok(Stored {
-        name: Text::new(go_long(alloc, text.as_str())?),
-        full: Some(whole),
-    })
-}
-
-fn cm_stored_by(alloc: Global, threshold: u32, text: &Text) -> Result<Stored, AllocError>
-    ensures { IfOk result (λ stored. stored ≡ cm_entry_of threshold text.now) }
-{
-    let whole = Text::copy_of(alloc, text.as_str())?;
-    if text.as_str().len() <= threshold as usize {
-        return Ok(Stored {
-            name: whole,
-            full: None,
-        });
-    }
-    Ok(Stored {
-        name: Text::new(cm_long(alloc, text.as_str())?),
-        full: Some(whole),
-    })
 }
 
 // Whether what is stored of a name stands at this entry.

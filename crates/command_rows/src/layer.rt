@@ -2,8 +2,8 @@
 use crate::moving::call_moving;
 use row_layers::folders::{deep, let_fail, many};
 use row_layers::{
-    call_demonstration, call_folder, call_journal, call_matching, call_paths, call_reading,
-    call_staging, call_walking, call_work, call_writing,
+    call_demonstration, call_folder, call_journal, call_mapping, call_matching, call_paths,
+    call_reading, call_staging, call_walking, call_work, call_writing,
 };
 use row_stage::{Handed, Stage, Stop};
 use row_words::cut;
@@ -83,6 +83,7 @@ fn call_by(stage: &mut Stage, verb: &str, words: &str, handed: &mut Handed) {
         "folder" => call_folder(stage, words),
         "journal" => call_journal(stage, words),
         "work" => call_work(stage, words),
+        "map_plan" => call_mapping(stage, words),
         "holds_all" => call_matching(stage, words),
         "load" | "find" | "enter" | "items" | "cat" => call_reading(stage, verb, words, handed),
         "survey" | "walk" | "digest" | "check" | "repair" => call_walking(stage, verb, words),

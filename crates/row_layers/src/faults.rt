@@ -4,7 +4,7 @@ use folder_model::{FPath, FolderFault};
 use move_journal::JournalFault;
 use plain_tree::PlainPath;
 use row_words::Said;
-use tree_match::MatchFault;
+use tree_match::{MapFault, MatchFault};
 use vault_check::CheckFault;
 use vault_read::{CatFault, FindFault, Limit, LoadFault};
 use vault_walk::{Finding, WalkFault};
@@ -143,6 +143,17 @@ pub fn match_fault(said: &mut Said, fault: &MatchFault) {
         MatchFault::Limit(limit) => limit_fault(said, limit),
         MatchFault::Failed => said.word("Failed"),
         MatchFault::NoMemory => said.word("NoMemory"),
+    }
+}
+
+pub fn map_fault(said: &mut Said, fault: &MapFault) {
+    match fault {
+        MapFault::NotAName(path) => plain_fault(said, "NotAName", path),
+        MapFault::Meet(one, other) => {
+            plain_fault(said, "Meet", one);
+            said.made(other.shown());
+        }
+        MapFault::NoMemory => said.word("NoMemory"),
     }
 }
 

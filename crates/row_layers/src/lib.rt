@@ -17,7 +17,7 @@ mod writing;
 pub use demonstration::call_demonstration;
 pub use folders::call_folder;
 pub use journals::call_journal;
-pub use matching::call_matching;
+pub use matching::{call_mapping, call_matching};
 pub use paths::call_paths;
 pub use reading::call_reading;
 pub use staging::call_staging;

@@ -1,12 +1,22 @@
 //! Plans that a word writes, and calls of tree_match.
-use crate::faults::match_fault;
+use crate::faults::{map_fault, match_fault};
 use crate::places::{plain_path, vault_named};
+use crate::walking::say_plan;
 use folder_model::FPath;
-use plain_tree::NodeKind;
+use plain_tree::{NameMap, NodeKind};
 use row_stage::Stage;
 use row_words::cut;
-use tree_match::{How, Match, holds_all};
+use tree_match::{How, Match, holds_all, map_plan};
 use vault_walk::{Plan, PlanItem, PlanItems};
+
+/// The rule for names that a word names.
+pub fn rule_named(word: &str) -> NameMap {
+    if word == "nfc" {
+        NameMap::Nfc
+    } else {
+        NameMap::Same
+    }
+}
 
 // An item: `PATH=AT` for a file that is stored there, `PATH/` for a directory.
 fn plan_item(stage: &mut Stage, word: &str) -> PlanItem {
@@ -62,6 +72,22 @@ fn say_match(stage: &mut Stage, answer: Match) {
         }
     }
     stage.ended(0);
+}
+
+/// Plays `map_plan NAMES PLAN`: the items at what the rule makes of their paths.
+pub fn call_mapping(stage: &mut Stage, words: &str) {
+    let (names, word) = cut(words);
+    let items = plan(stage, word);
+    match map_plan(stage.alloc, &items, rule_named(names)) {
+        Ok(mapped) => {
+            say_plan(stage, &mapped);
+            stage.done("done");
+        }
+        Err(fault) => {
+            map_fault(&mut stage.said, &fault);
+            stage.ended(1);
+        }
+    }
 }
 
 /// Plays `holds_all VAULT PLAN VAULT PLAN`: whether the second holds all that the first does.

@@ -10,8 +10,8 @@ use vault_check::{CheckFault, check, repair};
 use vault_read::Vault;
 use vault_walk::{Finding, Plan, WalkFault, plan_digest, survey, walk};
 
-// Says each item with where it is stored.
-fn say_plan(stage: &mut Stage, plan: &Plan) {
+/// Says each item with where it is stored.
+pub fn say_plan(stage: &mut Stage, plan: &Plan) {
     for item in plan.items.as_slice() {
         stage.said.word(node_letter(item.node));
         stage.said.made(item.path.shown());

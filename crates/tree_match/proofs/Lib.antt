@@ -10,6 +10,8 @@ mod Fronts
 mod ReadAhead
 mod Merging
 mod Differing
+mod MappedPlans
+pub mod InOrder
 mod WholeContents
 mod CutContents
 pub mod SameTrees

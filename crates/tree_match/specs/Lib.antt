@@ -5,5 +5,6 @@ pub mod Alone
 pub mod Placed
 pub mod Comparing
 pub mod Matching
+pub mod Mapping
 pub mod Pieces
 pub mod Trees

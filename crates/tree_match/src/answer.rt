@@ -44,6 +44,27 @@ pub enum Match {
     Differs(PlainPath, How),
 }
 
+/// Why a plan isn't mapped.
+#[derive(Debug, Drop)]
+pub enum MapFault {
+    /// A name of the item at this path, mapped, is no name. It is the first such item.
+    NotAName(PlainPath),
+    /// The items at these two paths have the same mapped path. The second is the first item that has that of an earlier one.
+    Meet(PlainPath, PlainPath),
+    NoMemory,
+}
+
+impl From<AllocError> for MapFault {
+    ghost use Rattle.std.specs.Prelude.{◌≡◌};
+    ghost use Rattle.tree_match.specs.declared.answer.MapFault.TheVariants.{NoMemory};
+
+    ghost from_gives = { λ _ fault. fault ≡ NoMemory };
+
+    fn from(_fault: AllocError) -> MapFault {
+        MapFault::NoMemory
+    }
+}
+
 /// Why two vaults aren't compared to the end.
 #[derive(Debug, Drop)]
 pub enum MatchFault {

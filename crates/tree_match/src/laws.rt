@@ -1,13 +1,14 @@
 //! Laws of the definitions. Each function does nothing, and its clauses are the laws.
 ghost use Rattle.std.specs.Prelude.{◌≡◌, false, Contains, List, Ok, Result, Some};
 ghost use Rattle.chunk_files.specs.Reading.{Whole};
+ghost use Rattle.vault_walk.specs.Survey.{IsOrdered};
 ghost use Rattle.content_writing.specs.declared.fault.PutFault.{PutFault};
 ghost use Rattle.folder_spec.specs.Event.{Told, Settle, changed};
 ghost use Rattle.folder_spec.specs.Image.{Image, IsImage, state_of};
 ghost use Rattle.folder_spec.specs.Seen.{seen, under};
 ghost use Rattle.folder_spec.specs.State.{State, IsSound, HasNothingPending};
 ghost use Rattle.folder_spec.specs.View.{View, view_of};
-ghost use Rattle.tree_match.specs.Guard.{Migration, Guarded, IsGuarded, IsSafe, IsSeparate, IsNotBegun, IsWork, AllowsTree, HoldsAll, IsPlanOf, Tells, kinds_in, tree_at};
+ghost use Rattle.tree_match.specs.Guard.{Migration, Guarded, IsGuarded, IsSafe, IsSeparate, IsNotBegun, IsWork, AllowsTree, HoldsAll, IsPartOf, IsPlanOf, Tells, kinds_in, tree_at};
 ghost use Rattle.move_journal.specs.Journal.{IsJournal};
 ghost use Rattle.move_journal.specs.Writing.{Writes, HasWritten};
 ghost use Rattle.move_journal.specs.declared.journal.Journal.{Journal};
@@ -15,13 +16,16 @@ ghost use Rattle.move_journal.specs.declared.journal.Phase.TheVariants.{Building
 ghost use Rattle.tree_match.specs.Alone.{Progress, Unbegun, Begun, Finished, IsIn, IsAlone, StaysGuarded, StaysAlone};
 ghost use Rattle.plain_tree.specs.Names as plain;
 ghost use Rattle.plain_tree.specs.declared.NodeKind.TheVariants.{Dir, File};
-ghost use Rattle.vault_spec.specs.Opens.{Content, Directory, tree};
+ghost use Rattle.plain_tree.specs.declared.name_map.NameMap.{NameMap};
+ghost use Rattle.vault_spec.specs.Opens.{Content, Directory, Tree, tree};
 ghost use Rattle.vault_spec.specs.Plan.{Planned};
 ghost use Rattle.vault_spec.specs.Vault.{format_of};
 ghost use Rattle.tree_match.specs.Comparing.{Is, content_at};
+ghost use Rattle.plain_tree.specs.Mapped.{mapped_path};
+ghost use Rattle.tree_match.specs.Mapping.{IsMappedPlan};
 ghost use Rattle.tree_match.specs.Matching.{IsMatchable};
 ghost use Rattle.tree_match.specs.Placed.{ItemAt, Places, PlaceEach, ArePlaced};
-ghost use Rattle.tree_match.specs.Trees.{Side, IsWalkOf, HoldsAllBy, IsPartIn, IsSameOrTooLong, match_of};
+ghost use Rattle.tree_match.specs.Trees.{Side, IsWalkOf, HoldsAllBy, IsMovedBy, IsPartIn, IsSameOrTooLong, TellsTree, match_of};
 ghost use Rattle.tree_match.specs.declared.answer.Match.TheVariants.{Same};
 ghost use Rattle.work_folder.specs.Changing.{ChangesAt};
 ghost use Rattle.work_folder.specs.Entering.{IsStage, IsBelowStage, IsWorkOrStage, IsLeftOver};
@@ -32,6 +36,7 @@ use folder_spec::laws::{
     calls_keep_states_sound, edits_are_published, images_are_states, images_show_views,
     roots_show_their_own, syncs_narrow_images,
 };
+use plain_tree::laws::same_names_stay;
 use vault_read::laws::files_have_their_contents;
 use vault_spec::laws::plans_are_the_tree;
 
@@ -121,6 +126,33 @@ pub fn walks_tell_the_tree()
     ensures directory { (v : View) (a : Side) (item : Planned) → IsWalkOf v a → Contains a.items item → item.node ≡ Dir → tree (format_of a.vault) (under a.root v) item.path ≡ Directory }
     ensures file { (v : View) (a : Side) (item : Planned) → IsWalkOf v a → Contains a.items item → item.node ≡ File → (content_at (format_of a.vault).content v item.at).ending ≡ Whole
         → tree (format_of a.vault) (under a.root v) item.path ≡ Content (content_at (format_of a.vault).content v item.at).bytes }
+{
+    files_have_their_contents();
+    plans_are_the_tree();
+    whole_files_end();
+}
+
+/// A plan whose names came to another form can be compared where the plan can: it is in order, and its places are those of the plan.
+pub fn mapped_plans_can_be_compared()
+    ensures { (v : View) (names : NameMap) (items mapped : List Planned) → IsMatchable v items → IsMappedPlan names items mapped → IsMatchable v mapped }
+{}
+
+/// By the rule that names stay, the mapped plan of a plan in order is that plan.
+pub fn plans_stay_by_same()
+    ensures { (items mapped : List Planned) → IsOrdered items → IsMappedPlan NameMap.Same items mapped → mapped ≡ items }
+{
+    same_names_stay();
+}
+
+/// A walk's items tell the tree of the vault, and what a rule makes of items that tell a tree tells the tree whose paths are mapped so. Where
+/// the second vault has all items of the first, the tree that the first's tell is part of the one that the second's tell, with no broken
+/// file; and where that has no further ones, the other way round too.
+pub fn compared_items_tell_trees()
+    ensures walk { (v : View) (a : Side) → IsWalkOf v a → TellsTree v a (tree (format_of a.vault) (under a.root v)) }
+    ensures mapped { (v : View) (names : NameMap) (a : Side) (t u : Tree) (mapped : List Planned) → TellsTree v a t → IsMovedBy (mapped_path names) t u → IsMappedPlan names a.items mapped
+        → TellsTree v (record { vault = a.vault; root = a.root; items = mapped }) u }
+    ensures held { (v : View) (a b : Side) (t u : Tree) → TellsTree v a t → TellsTree v b u → HoldsAllBy (match_of v a b) → IsPartOf t u }
+    ensures same { (v : View) (a b : Side) (t u : Tree) → TellsTree v a t → TellsTree v b u → match_of v a b ≡ Is Same → IsPartOf u t }
 {
     files_have_their_contents();
     plans_are_the_tree();

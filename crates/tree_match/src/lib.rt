@@ -4,7 +4,9 @@
 pub mod answer;
 mod comparing;
 pub mod laws;
+pub mod mapping;
 pub mod matching;
 
-pub use answer::{How, Match, MatchFault, Side, Where};
+pub use answer::{How, MapFault, Match, MatchFault, Side, Where};
+pub use mapping::map_plan;
 pub use matching::holds_all;

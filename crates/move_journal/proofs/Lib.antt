@@ -4,3 +4,4 @@ mod Readings
 mod Exact
 mod Writings
 mod BackAgain
+pub mod Standing

@@ -7,7 +7,7 @@ use Rattle.folder_spec.specs.View.{Found, NoEntry, Folder, FileOf, Special, View
 use Rattle.move_journal.specs.declared.journal.Journal.{Journal}
 use Rattle.move_journal.specs.declared.journal.JournalFault.{JournalFault}
 use Rattle.move_journal.specs.declared.journal.JournalFault.TheVariants.{NoJournal, BadJournal, TooLarge, Failed, NoMemory}
-use Rattle.move_journal.specs.Journal.{IsJournal, journal_text}
+use Rattle.move_journal.specs.Journal.{IsJournal, IsTextOf}
 use Rattle.move_journal.specs.Lines.{IsBadLine}
 
 abbrev pub journal_path : Path → Path
@@ -24,9 +24,15 @@ file_bytes Special = None
 abbrev pub journal_bytes : View → Path → Option (List ℕ)
 journal_bytes v work = file_bytes (v (journal_path work))
 
+-- the view shows this journal in the work folder, in one of its texts
+pub record StandsIn (work : Path) (j : Journal) (v : View) : Type 0 where
+  pub text : List ℕ
+  pub file : v (journal_path work) ≡ FileOf text
+  pub of : IsTextOf j text
+
 -- the answers that reading may give, by the bytes of the journal's file, if there is one
 abbrev pub ReadsAs : Option (List ℕ) → Result Journal JournalFault → Type 0
-ReadsAs (Some bytes) (Ok j) = IsJournal j × (bytes ≡ journal_text j)
+ReadsAs (Some bytes) (Ok j) = IsJournal j × IsTextOf j bytes
 ReadsAs (Some bytes) (Err NoJournal) = ⊥
 ReadsAs (Some bytes) (Err (BadJournal number)) = (length bytes ≤ 65536) × IsBadLine bytes number
 ReadsAs (Some bytes) (Err TooLarge) = 65536 < length bytes

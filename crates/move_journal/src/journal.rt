@@ -1,6 +1,7 @@
 //! The journal of a migration.
 use folder_model::FPath;
 use folder_spec::FolderFault;
+use plain_tree::NameMap;
 use std::alloc::AllocError;
 
 /// How far a migration has come.
@@ -12,10 +13,21 @@ pub enum Phase {
     Done,
 }
 
+/// How a journal's text is laid out.
+#[derive(Debug, Clone, Copy, PartialEq, Eq, Drop)]
+pub enum Form {
+    /// In six lines, with none for the rule for names. It is read, as that of a migration whose names stay as they are, and never written.
+    First,
+    /// In seven lines.
+    Second,
+}
+
 /// What a migration moves, and how far it has come.
 #[derive(Debug, Drop)]
 pub struct Journal {
     pub phase: Phase,
+    /// What becomes of the names of its items.
+    pub names: NameMap,
     pub source: FPath,
     pub target: FPath,
     /// The number of items to move, at most 200,000.
@@ -29,8 +41,8 @@ pub struct Journal {
 pub enum JournalFault {
     /// No file is at the journal's place.
     NoJournal,
-    /// The number of the first line that fits no journal. Line 7 stands for bytes after the sixth
-    /// line.
+    /// The number of the first line that fits no journal. The line after the last one, which is line 7 of the first form and line 8 of
+    /// the second, stands for bytes there.
     BadJournal(u8),
     /// The file has more than 65,536 bytes.
     TooLarge,

@@ -13,8 +13,8 @@ use std::alloc::Global;
 
 /// Reads the journal in the work folder.
 ///
-/// A journal that is accepted has one of the texts that `journal_text` gives, and no more than
-/// 65,536 bytes. Otherwise the answer names the first line that fits no journal.
+/// A journal that is accepted has its text in one of the two forms, and no more than 65,536 bytes. Otherwise the answer names the first line
+/// that fits no journal.
 pub fn read<F: Folder>(alloc: Global, folder: &mut F, work: &FPath) -> Result<Journal, JournalFault>
     ensures told { F.told folder.new ≡ F.told folder.old }
     ensures answer { IfSeen (F.told folder.old) (λ v. ReadsAs (journal_bytes v work.now) result) }

@@ -15,8 +15,8 @@ use std::alloc::Global;
 
 /// Writes the journal in the work folder, in the place of one that may stand there.
 ///
-/// At every moment a crash leaves the old journal or the new one. The new one is written to
-/// `journal.new`, synced, renamed onto `journal`, and then the folder is settled.
+/// At every moment a crash leaves the old journal or the new one. The new one is written, in the second form, to `journal.new`, synced,
+/// renamed onto `journal`, and then the folder is settled.
 pub fn write<F: Folder>(
     alloc: Global,
     folder: &mut F,

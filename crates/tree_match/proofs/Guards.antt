@@ -11,6 +11,7 @@ use Rattle.folder_spec.specs.Region.{at_or_below}
 use Rattle.folder_spec.specs.Seen.{under}
 use Rattle.folder_spec.specs.View.{View, AgreeIn, Shows, found, kind_found, view_of}
 use Rattle.folder_spec.specs.declared.Kind.{Kind}
+use Rattle.move_journal.proofs.Standing.{stands_alike}
 use Rattle.move_journal.specs.declared.journal.Phase.{Phase}
 use Rattle.move_journal.specs.declared.journal.Phase.TheVariants as phase
 use Rattle.plain_tree.specs.Names as plain
@@ -77,7 +78,7 @@ target_alike g v w same is = record {
 }
 
 pub journal_alike : (g : Migration) (phase : Phase) (v w : View) → v (journal_path g.work) ≡ w (journal_path g.work) → HasJournal g phase w → HasJournal g phase v
-journal_alike g phase v w same h = record { journal = h.journal; is = h.is; in_phase = h.in_phase; tells = h.tells; stands = same ∙ h.stands }
+journal_alike g phase v w same h = record { journal = h.journal; is = h.is; in_phase = h.in_phase; tells = h.tells; stands = stands_alike g.work h.journal v w same h.stands }
 
 abbrev pub SameCase : (g : Migration) (v w : View) → Case g w → Type 0
 SameCase g v w c = (d : Case g v) × (has_old g v d ≡ has_old g w c)

@@ -15,6 +15,7 @@ use Rattle.folder_spec.specs.Replace.{IsNewFile}
 use Rattle.folder_spec.specs.Seen.{seen, under}
 use Rattle.folder_spec.specs.View.{View, FileOf, Shows, ShowsAmong}
 use Rattle.folder_spec.specs.declared.Kind.TheVariants as kind
+use Rattle.move_journal.proofs.Standing.{written_stands}
 use Rattle.move_journal.specs.Journal.{IsJournal, journal_text}
 use Rattle.move_journal.specs.Writing.{IsWriting, elsewhere, Writes, HasWritten}
 use Rattle.move_journal.specs.declared.journal.Journal.{Journal}
@@ -231,7 +232,7 @@ abbrev pub EditedElsewhere : Type 0
 EditedElsewhere = (root : Path) (v : View) (e : Edit) → below root e.at ≡ None → below e.at root ≡ None → under root (edited v e) ≡ under root v
 
 tells_so : (g : Migration) (j : Journal) (v : View) → IsJournal j → Tells g j → HasJournal g j.phase (edited v (journal_edit g j))
-tells_so g j v is tells = record { journal = j; is = is; in_phase = refl; tells = tells; stands = stands_there (journal_path g.work) v (journal_text j) }
+tells_so g j v is tells = record { journal = j; is = is; in_phase = refl; tells = tells; stands = written_stands g.work (edited v (journal_edit g j)) j (stands_there (journal_path g.work) v (journal_text j)) }
 
 target_there : EditedElsewhere → (g : Migration) (j : Journal) (v : View) → IsSeparate g → IsThere g.target v → IsThere g.target (edited v (journal_edit g j))
 target_there elsewhere g j v separate is = there_alike g.target (edited v (journal_edit g j)) v (sym (beside g.target.root g.work separate.target v (journal_text j) elsewhere)) is

@@ -11,12 +11,14 @@ use Rattle.folder_spec.specs.Seen.{under}
 use Rattle.folder_spec.specs.View.{View, NoEntry, FileOf, kind_found, view_of}
 use Rattle.folder_spec.specs.declared.Kind.{Kind}
 use Rattle.folder_spec.specs.declared.Kind.TheVariants as kind
-use Rattle.move_journal.specs.Journal.{IsJournal, journal_text}
+use Rattle.move_journal.specs.Journal.{IsJournal}
+use Rattle.move_journal.specs.Reading.{StandsIn}
 use Rattle.move_journal.specs.declared.journal.Journal.{Journal}
 use Rattle.move_journal.specs.declared.journal.Phase.{Phase}
 use Rattle.move_journal.specs.declared.journal.Phase.TheVariants as phase
 use Rattle.plain_tree.specs.Names as plain
 use Rattle.plain_tree.specs.declared.NodeKind.{NodeKind}
+use Rattle.plain_tree.specs.declared.name_map.NameMap.TheVariants.{Same}
 use Rattle.plain_tree.specs.declared.NodeKind.TheVariants as node
 use Rattle.vault_spec.specs.Making.{Allows}
 use Rattle.vault_spec.specs.Opens.{Opened, NoItem, Directory, Content, Broken, Tree, tree, AreItems}
@@ -95,10 +97,11 @@ pub record IsPlanOf (m : Tree) (plan : List Planned) : Type 0 where
   pub items : AreItems m (paths_of plan)
   pub nodes : (item : Planned) → Contains plan item → node_of (m item.path) ≡ Some item.node
 
--- a journal names both roots, the number of items, and the digest of their plan
+-- a journal names both roots, the number of items, and the digest of their plan, and says that names stay as they are
 pub record Tells (g : Migration) (j : Journal) : Type 0 where
   pub source : j.source ≡ g.source.root
   pub target : j.target ≡ g.target.root
+  pub names : j.names ≡ Same
   pub plan : List Planned
   pub is_plan : IsPlanOf g.held plan
   pub items : j.items ≡ length plan
@@ -110,7 +113,7 @@ pub record HasJournal (g : Migration) (phase : Phase) (v : View) : Type 0 where
   pub is : IsJournal journal
   pub in_phase : journal.phase ≡ phase
   pub tells : Tells g journal
-  pub stands : v (journal_path g.work) ≡ FileOf (journal_text journal)
+  pub stands : StandsIn g.work journal v
 
 -- ---- the four cases
 

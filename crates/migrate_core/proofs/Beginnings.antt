@@ -2,6 +2,7 @@
 use Rattle.std.proofs.Common.{◌≡◌, ◌≤◌, List, length, Option, Some, None, Result, Ok, Err, OnOk, IfOk, refl, sym, ap, ◌∙◌, subst}
 use Rattle.std.proofs.Math.Path.{fun_ext}
 use Rattle.folder_spec.specs.declared.FolderFault.{FolderFault}
+use Rattle.plain_tree.specs.declared.name_map.NameMap.TheVariants.{Same}
 use Rattle.folder_spec.specs.Event.{Told, FromTo}
 use Rattle.folder_spec.specs.Moments.{Went}
 use Rattle.folder_spec.specs.Path.{Path}
@@ -42,10 +43,11 @@ module _ (shown : SeenAlone) (plans : WalksTellPlans) (g : Migration) (p : Progr
   plan_seen = plans (seen a.state) (side_of (opened_at g.source) items) (source_walk shown g p t a items is at walked)
 
   -- its journal tells it
-  pub tells_new : Tells g (new_journal g.source.root g.target.root items)
+  pub tells_new : Tells g (new_journal Same g.source.root g.target.root items)
   tells_new = record {
     source = refl;
     target = refl;
+    names = refl;
     plan = items;
     is_plan = subst (λ m. IsPlanOf m items) (fun_ext (source_held shown g p a.state at).held) plan_seen;
     items = refl;
@@ -93,13 +95,13 @@ journal_goes begins begun g j None (Some b) result allows is phase tells sound w
 journal_goes begins begun g j (Some a) None result allows is phase tells sound writes written = absurd writes
 
 -- the new journal of a migration between two vaults is that of theirs
-new_is : (g : Migration) (from to : OpenedVault) (work : Path) (items : List Planned) → AreSides g from to work → new_journal from.root to.root items ≡ new_journal g.source.root g.target.root items
-new_is g from to work items sides = ap (λ (x : OpenedVault). new_journal x.root to.root items) sides.source ∙ ap (λ (x : OpenedVault). new_journal g.source.root x.root items) sides.target
+new_is : (g : Migration) (from to : OpenedVault) (work : Path) (items : List Planned) → AreSides g from to work → new_journal Same from.root to.root items ≡ new_journal Same g.source.root g.target.root items
+new_is g from to work items sides = ap (λ (x : OpenedVault). new_journal Same x.root to.root items) sides.source ∙ ap (λ (x : OpenedVault). new_journal Same g.source.root x.root items) sides.target
 
 -- of a migration whose source was walked, and of which the target allows each name
 pub new_journal_goes : SeenAlone → WalksTellPlans → StandBelow → JournalBegins → JournalBegun → (from to : OpenedVault) (work : Path) (items : List Planned) (t u : Option Told) (result : Result (Unit {0}) FolderFault)
-    → IsWalked t from items → AllowsEach (format_of to.vault) items → AreSound u → IsJournal (new_journal from.root to.root items)
-    → Writes work (new_journal from.root to.root items) t u → OnOk result (HasWritten work (new_journal from.root to.root items) t u) → LeadsEach from to work Unbegun Begun t u result
+    → IsWalked t from items → AllowsEach (format_of to.vault) items → AreSound u → IsJournal (new_journal Same from.root to.root items)
+    → Writes work (new_journal Same from.root to.root items) t u → OnOk result (HasWritten work (new_journal Same from.root to.root items) t u) → LeadsEach from to work Unbegun Begun t u result
 new_journal_goes shown plans below begins begun from to work items t u result walked allowed sound is writes written g sides =
     goes_given (AllowsTree g.target g.held × Tells g journal) Written g Unbegun Begun t u result writes
     (λ a told at. (
@@ -110,7 +112,7 @@ new_journal_goes shown plans below begins begun from to work items t u result wa
     (subst (λ w. OnOk result (HasWritten w journal t u)) sides.work written))
   where
     journal : Journal
-    journal = new_journal from.root to.root items
+    journal = new_journal Same from.root to.root items
 
     Written : Told → Told → Type 0
     Written a b = Went (IsWriting work (journal_text journal) a.state) (λ s e. SparesOld (elsewhere work) a.state s e.call) a b
@@ -120,18 +122,18 @@ new_journal_goes shown plans below begins begun from to work items t u result wa
 
 -- a call that leads on each migration of which the new journal tells leads on each whose source was walked
 pub told_goes : {T E : Type 0} → SeenAlone → WalksTellPlans → (S : Told → Told → Type 0) (from to : OpenedVault) (work : Path) (items : List Planned) (p q : Progress) (t u : Option Told) (result : Result T E)
-    → FromTo S t u → IsWalked t from items → LeadsTold from to work (new_journal from.root to.root items) p q t u result → LeadsEach from to work p q t u result
+    → FromTo S t u → IsWalked t from items → LeadsTold from to work (new_journal Same from.root to.root items) p q t u result → LeadsEach from to work p q t u result
 told_goes shown plans S from to work items p q t u result told walked leads g sides =
-    goes_given (Tells g (new_journal from.root to.root items)) S g p q t u result told
+    goes_given (Tells g (new_journal Same from.root to.root items)) S g p q t u result told
     (λ a is at. subst (λ j. Tells g j) (sym (new_is g from to work items sides)) (tells_new shown plans g p t a items is at (subst (λ x. IsWalked t x items) sides.source walked)))
     (λ tells. leads g sides tells)
 
-pub new_is_journal : (from to : Path) (items : List Planned) (j : Journal) → j ≡ new_journal from to items → IsParsed from → IsParsed to → length items ≤ item_limit → IsDigest j.plan → IsJournal (new_journal from to items)
+pub new_is_journal : (from to : Path) (items : List Planned) (j : Journal) → j ≡ new_journal Same from to items → IsParsed from → IsParsed to → length items ≤ item_limit → IsDigest j.plan → IsJournal (new_journal Same from to items)
 new_is_journal from to items j is source target few digest = record { source = source; target = target; items = few; plan = subst (λ (k : Journal). IsDigest k.plan) is digest }
 
 -- The work folder is made ready, and then the new journal is written.
 pub written_goes : SeenAlone → WalksTellPlans → StandBelow → EntersAlone → JournalBegins → JournalBegun → (from to : OpenedVault) (work : Path) (items : List Planned) (t u w : Option Told) (j : Journal)
-    (result : Result (Unit {0}) FolderFault) → j ≡ new_journal from.root to.root items → IsParsed from.root → IsParsed to.root → IsDigest j.plan → AllowsEach (format_of to.vault) items → IsWalked u from items → AreSound w
+    (result : Result (Unit {0}) FolderFault) → j ≡ new_journal Same from.root to.root items → IsParsed from.root → IsParsed to.root → IsDigest j.plan → AllowsEach (format_of to.vault) items → IsWalked u from items → AreSound w
     → ChangesAt work (IsWorkOrStage work) (IsLeftOver work) t u → Writes work j u w → OnOk result (HasWritten work j u w) → LeadsEach from to work Unbegun Begun t w result
 written_goes shown plans below enters begins begun from to work items t u w j result is source target digest allowed walked sound changes writes written g sides =
     let ready : Result (Unit {0}) FolderFault = Ok tt in

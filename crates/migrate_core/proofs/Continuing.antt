@@ -1,13 +1,10 @@
 -- Where a migration can go on, no test of `resume` fails, and no content stops it.
 use Rattle.std.proofs.Math.Path.{fun_ext}
 use Rattle.sha2.specs.Sha256.{sha256}
-use Rattle.std.specs.Cmp.{IsTotalOrder}
-use Rattle.std.specs.Cmp.Lexicographic.{lists_total, nat_list_cmp_total}
 use Rattle.std.specs.List.{flat_map}
 use Rattle.std.specs.Str.{bytes_eq}
-use Rattle.std.specs.declared.cmp.Ordering.TheVariants.{Equal, Less}
-use Rattle.std.proofs.Common.{◌≡◌, ◌≢◌, ◌⊎◌, ◌&&◌, ◌||◌, not, inl, inr, List, [], ◌∷◌, ◌++◌, ℕ, zero, suc, codes, length, map, AllPairs, Bool, true, false, Option, Some, None, Result, Ok, Err, MatchResult, IfErr, Contains, IsTrue, refl, sym, ap, ◌∙◌, subst, subst₂, arith, append-nil}
-use Rattle.std.proofs.lemmas.Cmp.{tied_itself}
+use Rattle.std.specs.declared.cmp.Ordering.TheVariants.{Less}
+use Rattle.std.proofs.Common.{◌≡◌, ◌≢◌, ◌&&◌, ◌||◌, not, inl, inr, List, [], ◌∷◌, ◌++◌, ℕ, zero, suc, codes, length, map, Bool, true, false, Option, Some, None, Result, Ok, Err, MatchResult, IfErr, Contains, IsTrue, refl, sym, ap, ◌∙◌, subst, subst₂, arith, append-nil}
 use Rattle.std.proofs.lemmas.List.{length-map}
 use Rattle.chunk_files.specs.Reading as reading
 use Rattle.folder_spec.proofs.Tables.{present_is_table}
@@ -28,7 +25,7 @@ use Rattle.migrate_core.specs.Faults.{IsMoveFault, of_journal, of_match, of_walk
 use Rattle.migrate_core.specs.Moved.{opened_in}
 use Rattle.migrate_core.specs.Sides.{AreTold, IsResumed, side_of}
 use Rattle.migrate_core.specs.declared.fault.MoveFault.TheVariants.{Changed, SourceGone}
-use Rattle.move_journal.specs.Journal.{IsJournal, journal_text}
+use Rattle.move_journal.specs.Journal.{IsJournal}
 use Rattle.move_journal.specs.Reading.{ReadsAs, file_bytes, journal_bytes}
 use Rattle.move_journal.specs.Writing.{GivesBack}
 use Rattle.move_journal.specs.declared.journal.Journal.{Journal}
@@ -36,6 +33,7 @@ use Rattle.move_journal.specs.declared.journal.JournalFault.{JournalFault}
 use Rattle.move_journal.specs.declared.journal.JournalFault.TheVariants as journals
 use Rattle.move_journal.specs.declared.journal.Phase.{Phase}
 use Rattle.move_journal.specs.declared.journal.Phase.TheVariants as phase
+use Rattle.move_journal.proofs.Standing.{ReadsBack, not_missing}
 use Rattle.plain_tree.specs.Names as plain
 use Rattle.plain_tree.specs.Order.{path_cmp}
 use Rattle.plain_tree.specs.Shown.{shown_path}
@@ -51,6 +49,7 @@ use Rattle.tree_match.specs.declared.answer.Match.TheVariants.{Contained, Differ
 use Rattle.tree_match.specs.declared.answer.MatchFault.{MatchFault}
 use Rattle.tree_match.specs.declared.answer.MatchFault.TheVariants as match
 use Rattle.tree_match.specs.declared.answer.Side.TheVariants as side
+use Rattle.tree_match.proofs.InOrder.{same_lists, not_twice}
 use Rattle.vault_read.specs.Laws.{HaveOneAnswer}
 use Rattle.vault_read.specs.Opened.{OpenedVault}
 use Rattle.vault_read.specs.declared.fault.Limit.TheVariants as limit
@@ -65,64 +64,6 @@ use Rattle.work_folder.specs.Looking.{TestsEntries}
 use Rattle.work_folder.specs.Looking as looking
 
 -- ---- the items that a journal tells
-
-paths_total : IsTotalOrder path_cmp
-paths_total = lists_total nat_list_cmp_total
-
-abbrev Ordered : List plain.Path → Type 0
-Ordered = AllPairs (λ (p q : plain.Path). path_cmp p q ≡ Less)
-
--- the first comes before the others
-head_first : (p : plain.Path) (ps : List plain.Path) → Ordered (p ∷ ps) → (q : plain.Path) → Contains ps q → path_cmp p q ≡ Less
-head_first p ps ordered q among = subst (λ x. path_cmp p x ≡ Less) among.2 (ordered 0 (suc among.0) q (omega arith) (omega (arith, among.1)))
-
-tail_ordered : (p : plain.Path) (ps : List plain.Path) → Ordered (p ∷ ps) → Ordered ps
-tail_ordered p ps ordered i j d before few = ordered (suc i) (suc j) d (omega (arith, before)) (omega (arith, few))
-
-head_or : (p : plain.Path) (ps : List plain.Path) (q : plain.Path) → Contains (p ∷ ps) q → (p ≡ q) ⊎ Contains ps q
-head_or p ps q (zero, few, is) = inl is
-head_or p ps q (suc k, few, is) = inr (k, omega (arith, few), is)
-
-later : (p : plain.Path) (ps : List plain.Path) (q : plain.Path) → Contains ps q → Contains (p ∷ ps) q
-later p ps q among = (suc among.0, omega (arith, among.1), among.2)
-
-not_twice : (p q : plain.Path) → path_cmp p q ≡ Less → path_cmp q p ≡ Less → ⊥
-not_twice p q one other =
-    let before : path_cmp p p ≡ Less = paths_total.trans p q p one other in
-    let clash : Equal ≡ Less = sym (tied_itself paths_total p) ∙ before in
-    cc clash
-
--- lists in order that have the same are the same
-same_paths : (ps qs : List plain.Path) → Ordered ps → Ordered qs → ((x : plain.Path) → Contains ps x → Contains qs x) → ((x : plain.Path) → Contains qs x → Contains ps x) → ps ≡ qs
-same_paths [] [] one other there back = refl
-same_paths [] (q ∷ qs) one other there back = absurd (omega (arith, (back q (zero, omega arith, refl)).1))
-same_paths (p ∷ ps) [] one other there back = absurd (omega (arith, (there p (zero, omega arith, refl)).1))
-same_paths (p ∷ ps) (q ∷ qs) one other there back =
-    subst (λ (x : plain.Path). p ∷ ps ≡ x ∷ qs) first (ap (λ (xs : List plain.Path). p ∷ xs) (same_paths ps qs (tail_ordered p ps one) (tail_ordered q qs other) within behind))
-  where
-    first : p ≡ q
-    first = elim (head_or q qs p (there p (zero, omega arith, refl))) [
-      | inl same ↦ sym same
-      | inr p_later ↦ elim (head_or p ps q (back q (zero, omega arith, refl))) [
-        | inl same ↦ same
-        | inr q_later ↦ absurd (not_twice p q (head_first p ps one q q_later) (head_first q qs other p p_later))
-      ]
-    ]
-
-    not_itself : (x y : plain.Path) → x ≡ y → path_cmp x y ≡ Less → ⊥
-    not_itself x y same less = let clash : Equal ≡ Less = sym (tied_itself paths_total y) ∙ ap (λ z. path_cmp z y) (sym same) ∙ less in cc clash
-
-    within : (x : plain.Path) → Contains ps x → Contains qs x
-    within x among = elim (head_or q qs x (there x (later p ps x among))) [
-      | inl same ↦ absurd (not_itself p x (first ∙ same) (head_first p ps one x among))
-      | inr behind_q ↦ behind_q
-    ]
-
-    behind : (x : plain.Path) → Contains qs x → Contains ps x
-    behind x among = elim (head_or p ps x (back x (later q qs x among))) [
-      | inl same ↦ absurd (not_itself q x (sym first ∙ same) (head_first q qs other x among))
-      | inr behind_p ↦ behind_p
-    ]
 
 abbrev letter : Option NodeKind → List ℕ
 letter None = []
@@ -142,7 +83,7 @@ text_is t (item ∷ items) nodes =
 
 module _ (t : Tree) (items others : List Planned) (one : guard.IsPlanOf t items) (other : guard.IsPlanOf t others) where
   one_list : paths items ≡ paths others
-  one_list = same_paths (paths items) (paths others) one.items.ordered other.items.ordered
+  one_list = same_lists (λ (p q : plain.Path). path_cmp p q ≡ Less) not_twice (paths items) (paths others) one.items.ordered other.items.ordered
       (λ x among. (other.items.items x).1 ((one.items.items x).0 among)) (λ x among. (one.items.items x).1 ((other.items.items x).0 among))
 
   one_digest : plan_digest items ≡ plan_digest others
@@ -152,9 +93,6 @@ module _ (t : Tree) (items others : List Planned) (one : guard.IsPlanOf t items)
   one_count = sym (length-map items (λ (item : Planned). item.path)) ∙ ap length one_list ∙ length-map others (λ (item : Planned). item.path)
 
 -- ---- the journal
-
-abbrev pub ReadsBack : Type 0
-ReadsBack = (j : Journal) (result : Result Journal JournalFault) → IsJournal j → ReadsAs (Some (journal_text j)) result → GivesBack j result
 
 by_read : (journal : Journal) (t : Result Journal JournalFault) → GivesBack journal t → MatchResult t (λ k. k ≡ journal) (λ why. IsOfChance (of_journal why))
 by_read journal (Ok k) back = back
@@ -272,7 +210,7 @@ module _ (laws : AreCited) (g : Migration) (v : View) (folders : HasFolders v) (
   journal = goes.journal.journal
 
   stands : v (journal_path g.work) ≢ NoEntry
-  stands none = let clash : NoEntry ≡ FileOf (journal_text journal) = sym none ∙ goes.journal.stands in cc clash
+  stands = not_missing g.work journal v goes.journal.stands
 
   folders_own : HaveOwnFolders source target v
   folders_own = record {
@@ -358,7 +296,7 @@ module _ (laws : AreCited) (g : Migration) (v : View) (folders : HasFolders v) (
     resumes_met : Resumes g.work g.source.pass g.target.pass v answer → Only Any answer
     resumes_met =
         met of_journal (ReadsAs (journal_bytes v g.work)) read_then (λ k. k ≡ journal) Any answer
-        (λ t tested. by_read journal t (laws.reads journal t goes.journal.is (subst (λ x. ReadsAs (file_bytes x) t) goes.journal.stands tested)))
+        (λ t tested. by_read journal t (laws.reads g.work v journal t goes.journal.is goes.journal.stands tested))
         (λ k same tested. folders_met (subst (λ x. read_then x answer) same tested))
 
 module _ (laws : AreCited) (g : Migration) (v : View) (folders : HasFolders v) (can : CanResume g v) where

@@ -9,12 +9,14 @@ use Rattle.folder_spec.specs.State.{IsSound, Node}
 use Rattle.folder_spec.specs.View.{View, FileOf, found}
 use Rattle.folder_spec.proofs.Moments.{went_nowhere}
 use Rattle.folder_spec.proofs.Tellings.{from_to_more, from_to_same}
+use Rattle.move_journal.proofs.Standing as standing
 use Rattle.move_journal.specs.Journal.{IsJournal}
-use Rattle.move_journal.specs.Reading.{journal_path}
+use Rattle.move_journal.specs.Reading.{journal_path, StandsIn}
 use Rattle.move_journal.specs.Writing.{Writes, HasWritten}
 use Rattle.move_journal.specs.declared.journal.Journal.{Journal}
 use Rattle.move_journal.specs.declared.journal.Phase.TheVariants as phase
 use Rattle.plain_tree.specs.Names as plain
+use Rattle.plain_tree.specs.declared.name_map.NameMap.{NameMap}
 use Rattle.tree_match.specs.Alone.{Progress, Unbegun, Begun, Finished, IsAlone, IsIn, StaysGuarded}
 use Rattle.tree_match.specs.Comparing.{Is}
 use Rattle.tree_match.specs.Guard.{Migration, Guarded, HoldsAll, HoldsSource, IsPartOf, IsThere, IsWhole, Tells, tree_at}
@@ -40,7 +42,7 @@ use Rattle.vault_walk.specs.Surveyed.{IsPlanOf}
 use Rattle.migrate_core.specs.Limits.{EndsBy}
 use Rattle.migrate_core.specs.declared.fault.MoveFault.{MoveFault}
 use Rattle.migrate_core.specs.declared.placing.Done.{Done}
-use Rattle.migrate_core.specs.Moved.{HasMoved, HasPlaced, HaveOneTree, Moved, MovesTold, MovesTree, Placed, StandsIn, done_of, lacking, opened_in}
+use Rattle.migrate_core.specs.Moved.{HasMoved, HasPlaced, HaveOneTree, Moved, MovesTold, MovesTree, Placed, done_of, lacking, opened_in}
 use Rattle.migrate_core.specs.Moving.{MovesOnly}
 use Rattle.migrate_core.specs.Sides.{AreSeparate, AreSides, AreTold, IsWalked, opened_at, side_of}
 
@@ -149,7 +151,7 @@ pub done_is : (j : Journal) → IsJournal j → IsJournal (done_of j)
 done_is j is = record { source = is.source; target = is.target; items = is.items; plan = is.plan }
 
 pub done_tells : (g : Migration) (j : Journal) → Tells g j → Tells g (done_of j)
-done_tells g j tells = record { source = tells.source; target = tells.target; plan = tells.plan; is_plan = tells.is_plan; items = tells.items; digest = tells.digest }
+done_tells g j tells = record { source = tells.source; target = tells.target; names = tells.names; plan = tells.plan; is_plan = tells.is_plan; items = tells.items; digest = tells.digest }
 
 -- where the target holds all, that leads on
 pub finishes_goes : {T E : Type 0} (g : Migration) (p : Progress) (t u : Option Told) (result : Result T E) → ((a : Told) → t ≡ Some a → IsAlone g p a.state → HoldsAll g (seen a.state))
@@ -203,7 +205,7 @@ pub has_moved : HeldIsPart → SameIsPart → (from to : OpenedVault) (work : Pa
     → IsJournal journal → journal.source ≡ from.root → journal.target ≡ to.root → AreTold journal items → IsWalked t from items → IsWalked t to others
     → IfSeen t (λ v. match_of v (side_of from items) (side_of to others) ≡ Is Same)
     → MovesOnly work to.root t u → MovesOnly work from.root t u → IfSeen u (λ v. StandsIn work (done_of journal) v)
-    → (count : ℕ) → count ≡ length others → IfSeen u (λ v. HasMoved from to work count v)
+    → (count : ℕ) → count ≡ length others → IfSeen u (λ v. HasMoved journal.names from to work count v)
 has_moved held_part same_part from to work items others journal (Some a) (Some b) separate sound is source target told_items walked walked_target same beside_target beside_source says count counted v seen_is =
     record {
       source = subst (IsClean (format_of from.vault)) (sym from_same) (walked.clean w refl);
@@ -214,7 +216,7 @@ has_moved held_part same_part from to work items others journal (Some a) (Some b
           ∙ ap (λ x. tree (format_of from.vault) x path) (sym from_same);
       items = λ own.
           (others, subst (λ x. IsPlanOf to.root (format_of to.vault) x others) (sym to_same) (walked_target.plan w refl (subst (HasOwnFolders to.vault) to_same own)), counted);
-      says = record { journal = done_of journal; is = done_is journal is; phase = refl; source = source; target = target; items = told_items.1 ∙ same_length w (side_of from items) (side_of to others) (walked.ordered w refl) (walked_target.ordered w refl) (same w refl) ∙ sym counted; stands = says v seen_is };
+      says = record { journal = done_of journal; is = done_is journal is; phase = refl; names = refl; source = source; target = target; items = told_items.1 ∙ same_length w (side_of from items) (side_of to others) (walked.ordered w refl) (walked_target.ordered w refl) (same w refl) ∙ sym counted; stands = says v seen_is };
       tells = λ own.
           (items, subst (λ x. IsPlanOf from.root (format_of from.vault) x items) (sym from_same) (walked.plan w refl (subst (HasOwnFolders from.vault) from_same own)), told_items);
     }
@@ -236,7 +238,7 @@ has_moved held_part same_part from to work items others journal (Some a) None se
 -- after it is written that all is done, that stands
 pub written_stands : (work : Path) (j : Journal) (t u : Option Told) → HasWritten work j t u → IfSeen u (λ v. StandsIn work j v)
 written_stands work j (Some a) (Some b) written v is =
-    ap (λ (w : View). w (journal_path work)) is ∙ ap (found (λ n. (b.state.nodes n).now)) written.replaced.new.is ∙ ap (λ (node : Node). FileOf node.now) written.replaced.new.holds
+    standing.written_stands work v j (ap (λ (w : View). w (journal_path work)) is ∙ ap (found (λ n. (b.state.nodes n).now)) written.replaced.new.is ∙ ap (λ (node : Node). FileOf node.now) written.replaced.new.holds)
 written_stands work j None None written v is = absurd is
 written_stands work j (Some a) None written v is = absurd is
 written_stands work j None (Some b) written v is = absurd written
@@ -259,25 +261,25 @@ opened_still work to pass vault (Some a) None sound went opens clean v is = absu
 opened_is : (x : OpenedVault) (root : Path) → x.root ≡ root → x ≡ opened_in root x.vault
 opened_is x root is = ap (λ r. opened_in r x.vault) is
 
-pub tree_moved : (Q : Type 0) (from to work : Path) (from_pass to_pass : List ℕ) (source target : OpenedVault) (t u : Option Told) (result : Result Done MoveFault) → source.root ≡ from → target.root ≡ to → AreSound t → MovesOnly work to t u
+pub tree_moved : (Q : Type 0) (names : NameMap) (from to work : Path) (from_pass to_pass : List ℕ) (source target : OpenedVault) (t u : Option Told) (result : Result Done MoveFault) → source.root ≡ from → target.root ≡ to → AreSound t → MovesOnly work to t u
     → IfSeen t (λ v. IsVault (under from v) from_pass source.vault) → IfSeen t (λ v. IsVault (under to v) to_pass target.vault)
-    → Placed source target t result → Moved source target work u result → EndsBy (StayGood source target t u) Q source target u result → IfOk result (λ done. MovesTree from to work from_pass to_pass done t u)
-tree_moved Q from to work from_pass to_pass source target t u (Ok done) source_at target_at sound went opens opens_target placed moved ends = record {
+    → Placed source target t result → Moved names source target work u result → EndsBy (StayGood source target t u) Q source target u result → IfOk result (λ done. MovesTree names from to work from_pass to_pass done t u)
+tree_moved Q names from to work from_pass to_pass source target t u (Ok done) source_at target_at sound went opens opens_target placed moved ends = record {
   source = source.vault;
   target = target.vault;
   opens_source = opens;
   opens_target = opens_target;
   placed = λ v is. subst (λ x. HasPlaced x (opened_in to target.vault) done.placed v) (opened_is source from source_at) (subst (λ y. HasPlaced source y done.placed v) (opened_is target to target_at) (placed v is));
-  moved = λ v is. subst (λ x. HasMoved x (opened_in to target.vault) work done.items v) (opened_is source from source_at) (subst (λ y. HasMoved source y work done.items v) (opened_is target to target_at) (moved v is));
+  moved = λ v is. subst (λ x. HasMoved names x (opened_in to target.vault) work done.items v) (opened_is source from source_at) (subst (λ y. HasMoved names source y work done.items v) (opened_is target to target_at) (moved v is));
   opens_still = opened_still work to to_pass target.vault t u sound went opens_target
       (λ v is. subst (λ root. IsClean (format_of target.vault) (under root v)) target_at (moved v is).target);
   stays_good = subst (λ x. StayGood x (opened_in to target.vault) t u) (opened_is source from source_at) (subst (λ y. StayGood source y t u) (opened_is target to target_at) ends);
 }
-tree_moved Q from to work from_pass to_pass source target t u (Err fault) source_at target_at sound went opens opens_target placed moved ends = tt
+tree_moved Q names from to work from_pass to_pass source target t u (Err fault) source_at target_at sound went opens opens_target placed moved ends = tt
 
 -- what is seen at first is seen where the vaults are opened
-pub moved_before : (from to work : Path) (from_pass to_pass : List ℕ) (done : Done) (t0 t u : Option Told) → IfSeen t0 (λ v. IsSeen t v) → MovesTree from to work from_pass to_pass done t u → MovesTree from to work from_pass to_pass done t0 u
-moved_before from to work from_pass to_pass done t0 t u before moves = record {
+pub moved_before : (names : NameMap) (from to work : Path) (from_pass to_pass : List ℕ) (done : Done) (t0 t u : Option Told) → IfSeen t0 (λ v. IsSeen t v) → MovesTree names from to work from_pass to_pass done t u → MovesTree names from to work from_pass to_pass done t0 u
+moved_before names from to work from_pass to_pass done t0 t u before moves = record {
   source = moves.source;
   target = moves.target;
   opens_source = λ v is. moves.opens_source v (before v is);
@@ -293,7 +295,7 @@ told_before work from_pass to_pass done t0 t u before v told = record {
   journal = told.journal;
   is = told.is;
   stands = told.stands;
-  moves = moved_before told.journal.source told.journal.target work from_pass to_pass done t0 t u before told.moves;
+  moves = moved_before told.journal.names told.journal.source told.journal.target work from_pass to_pass done t0 t u before told.moves;
 }
 
 pub if_ok_more : {T E : Type 0} (P Q : T → Type 0) (result : Result T E) → ((value : T) → P value → Q value) → IfOk result P → IfOk result Q

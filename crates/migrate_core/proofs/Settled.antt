@@ -9,12 +9,13 @@ use Rattle.folder_spec.specs.Path.{Part, Path, child, parent}
 use Rattle.folder_spec.specs.Seen.{IfSeen, IsSeen, seen, under}
 use Rattle.folder_spec.specs.State.{State, IsSound, present}
 use Rattle.folder_spec.specs.View.{Found, NoEntry, Folder, FileOf, Special, View, found, kind_found}
-use Rattle.move_journal.specs.Journal.{IsJournal, journal_text}
-use Rattle.move_journal.specs.Reading.{ReadsAs, file_bytes, journal_bytes, journal_path}
+use Rattle.move_journal.specs.Journal.{IsJournal}
+use Rattle.move_journal.specs.Reading.{ReadsAs, file_bytes, journal_bytes, journal_path, StandsIn}
 use Rattle.move_journal.specs.Writing.{new_journal_path}
 use Rattle.move_journal.specs.declared.journal.Journal.{Journal}
 use Rattle.move_journal.specs.declared.journal.Phase.{Phase}
 use Rattle.move_journal.specs.declared.journal.Phase.TheVariants as phase
+use Rattle.move_journal.proofs.Standing.{HaveOneJournal, not_missing, read_stands}
 use Rattle.tree_match.specs.Alone.{Progress, Unbegun, Begun, Finished, IsIn, IsAlone, StaysGuarded}
 use Rattle.tree_match.specs.Guard as guard
 use Rattle.tree_match.specs.Guard.{VaultAt, Migration, Guarded, IsGuarded, IsThere, Tells, HasJournal, Case, NotBegun, Building, Retired, LastJournal, Stands, Gone}
@@ -35,8 +36,6 @@ abbrev pub AreSeen : Type 0
 AreSeen = (g : Migration) (s : State) → IsSound s → Guarded g s → IsGuarded g (seen s)
 
 -- a text is that of one journal alone
-abbrev pub HaveOneText : Type 0
-HaveOneText = (j k : Journal) → IsJournal j → IsJournal k → journal_text j ≡ journal_text k → j ≡ k
 
 -- a settle keeps migrations guarded
 abbrev pub SettlesGuarded : Type 0
@@ -126,8 +125,8 @@ begins one are_seen g s from to source target through from_pass to_pass asked se
       };
       alone = settled.alone Unbegun is;
     }
-    by_case (Building is) = absurd (none_there (journal_text is.journal.journal) is.journal.stands)
-    by_case (guard.Done is) = absurd (none_there (journal_text is.journal.journal) is.journal.stands)
+    by_case (Building is) = absurd (none_there is.journal.stands.text is.journal.stands.file)
+    by_case (guard.Done is) = absurd (none_there is.journal.stands.text is.journal.stands.file)
     by_case (Retired is) = absurd (root_stands (seen s) source from_pass from.vault loaded.loads (ap (seen s) (sym asked.source) ∙ is.gone))
 
 -- ---- a migration that is resumed
@@ -136,19 +135,16 @@ pub record IsFoundAgain (g : Migration) (s : State) (from to : OpenedVault) (thr
   pub found : IsFound g (progress_of journal.phase) s from to through
   pub tells : Tells g journal
 
-pub resumes : HaveOneAnswer → AreSeen → HaveOneText → (g : Migration) (s : State) (from to : OpenedVault) (through : Path) (journal : Journal) (from_pass to_pass : List ℕ)
+pub resumes : HaveOneAnswer → AreSeen → HaveOneJournal → (g : Migration) (s : State) (from to : OpenedVault) (through : Path) (journal : Journal) (from_pass to_pass : List ℕ)
     → IsResumed g through from_pass to_pass → IsJournal journal → IsSettled g s → IsInUse (seen s) through journal
     → IsLoaded (seen s) from journal.source from_pass → IsLoaded (seen s) to journal.target to_pass → IsFoundAgain g s from to through journal
-resumes one are_seen one_text g s from to through journal from_pass to_pass resumed is_journal settled used loaded other = by_case (are_seen g s settled.sound settled.guarded).case
+resumes one are_seen one_journal g s from to through journal from_pass to_pass resumed is_journal settled used loaded other = by_case (are_seen g s settled.sound settled.guarded).case
   where
-    stands : seen s (journal_path g.work) ≡ FileOf (journal_text journal)
-    stands = ap (λ w. seen s (journal_path w)) resumed.work ∙ used.stands
-
-    one_file : {a b : List ℕ} → FileOf a ≡ FileOf b → a ≡ b
-    one_file e = cc e
+    stands : StandsIn g.work journal (seen s)
+    stands = subst (λ w. StandsIn w journal (seen s)) (sym resumed.work) used.stands
 
     is_told : (p : Phase) (has : HasJournal g p (seen s)) → has.journal ≡ journal
-    is_told p has = one_text has.journal journal has.is is_journal (one_file (sym has.stands ∙ stands))
+    is_told p has = one_journal g.work (seen s) has.journal journal has.is is_journal has.stands stands
 
     in_phase : (p : Phase) (has : HasJournal g p (seen s)) → journal.phase ≡ p
     in_phase p has = ap (λ (j : Journal). j.phase) (sym (is_told p has)) ∙ has.in_phase
@@ -171,15 +167,12 @@ resumes one are_seen one_text g s from to through journal from_pass to_pass resu
           tells = tells;
         }
 
-    clash : {a : List ℕ} → NoEntry ≡ FileOf a → ⊥
-    clash e = cc e
-
     retired : seen s g.source.root ≡ NoEntry → LastJournal g (seen s) → ⊥
     retired gone (Stands has) = root_stands (seen s) journal.source from_pass from.vault loaded.loads (ap (seen s) (its_tells phase.Done has).source ∙ gone)
-    retired gone (Gone none) = clash (sym none ∙ stands)
+    retired gone (Gone none) = not_missing g.work journal (seen s) stands none
 
     by_case : Case g (seen s) → IsFoundAgain g s from to through journal
-    by_case (NotBegun is) = absurd (clash (sym is.journal ∙ stands))
+    by_case (NotBegun is) = absurd (not_missing g.work journal (seen s) stands is.journal)
     by_case (Building is) = found_by phase.Building is.journal is.source.there is.target (settled.alone Begun is)
     by_case (guard.Done is) = found_by phase.Done is.journal is.source.there is.target.there (settled.alone Finished is)
     by_case (Retired is) = absurd (retired is.gone is.journal)
@@ -239,29 +232,8 @@ settle_seen (Some a) None value changes v is = absurd changes
 pub none_foreign : (old : Bool) (v : View) (work : Path) → TestsEntries old v work (Ok tt) → HasNoForeign old v work
 none_foreign old v work h = elim h [ inl none ↦ none.0 | inr some ↦ absurd (cc (some.2)) ]
 
--- what was read stands there
-pub journal_stands : (v : View) (work : Path) (journal : Journal) → ReadsAs (journal_bytes v work) (Ok journal) → v (journal_path work) ≡ FileOf (journal_text journal)
-journal_stands v work journal read = by_found (v (journal_path work)) read
-  where
-    by_found : (x : Found) → ReadsAs (file_bytes x) (Ok journal) → x ≡ FileOf (journal_text journal)
-    by_found (FileOf bytes) h = ap FileOf h.1
-    by_found NoEntry h = absurd h
-    by_found Folder h = absurd h
-    by_found Special h = absurd h
-
--- and no other does
-pub one_journal : HaveOneText → (v : View) (work : Path) (journal other : Journal) → IsJournal journal → ReadsAs (journal_bytes v work) (Ok journal) → IsJournal other → v (journal_path work) ≡ FileOf (journal_text other)
-    → journal ≡ other
-one_journal one_text v work journal other is read is_other stands = one_text journal other is is_other (one_file (sym (journal_stands v work journal read) ∙ stands))
-  where
-    one_file : {a b : List ℕ} → FileOf a ≡ FileOf b → a ≡ b
-    one_file e = cc e
-
 pub journal_folder : (t : Option Told) → AreSound t → IfSeen t (λ v. (work : Path) (journal : Journal) → ReadsAs (journal_bytes v work) (Ok journal) → v work ≡ Folder)
-journal_folder t sound v is work journal read = folder_seen_above t sound v is work (codes "journal") (λ none. clash (sym (journal_stands v work journal read) ∙ none))
-  where
-    clash : {a : List ℕ} → FileOf a ≡ NoEntry → ⊥
-    clash e = cc e
+journal_folder t sound v is work journal read = folder_seen_above t sound v is work (codes "journal") (λ none. not_missing work journal v (read_stands work v journal read) none)
 
 new_place : (old : Bool) (x : Found) → ¬ (is_foreign old (codes "journal.new") (kind_found x) ≡ true) → (x ≡ NoEntry) ⊎ ((bytes : List ℕ) × (x ≡ FileOf bytes))
 new_place old NoEntry none = inl refl
@@ -280,12 +252,13 @@ pub in_use : (t : Option Told) → AreSound t → (v : View) → IsSeen t v → 
     → IsInUse v work journal
 in_use t sound v is work journal old read tests =
     let none = none_foreign old v work tests in
+    let stands = read_stands work v journal read in
     record {
       folder = record {
         folder = journal_folder t sound v is work journal read;
-        journal = inr (journal_text journal, journal_stands v work journal read);
+        journal = inr (stands.text, stands.file);
         new_journal = new_place old (v (new_journal_path work)) (none (codes "journal.new"));
       };
-      stands = journal_stands v work journal read;
+      stands = stands;
       stage = stage_place old (v (stage_path work)) (none (codes "stage"));
     }

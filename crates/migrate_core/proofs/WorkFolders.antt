@@ -17,6 +17,8 @@ use Rattle.folder_spec.proofs.Regions.{seen_as_before}
 use Rattle.move_journal.specs.Journal.{journal_text}
 use Rattle.move_journal.specs.Writing.{IsWorkFolder, IsWriting, Writes, HasWritten, elsewhere, new_journal_path}
 use Rattle.move_journal.specs.declared.journal.Journal.{Journal}
+use Rattle.move_journal.specs.Reading.{StandsIn}
+use Rattle.move_journal.proofs.Standing.{stands_alike}
 use Rattle.tree_match.proofs.Kept.{behind_none, entry_inside, staged_in}
 use Rattle.tree_match.specs.Guard.{AreApart}
 use Rattle.vault_write.specs.Making.{is_apart, is_inside, is_staged}
@@ -24,7 +26,7 @@ use Rattle.work_folder.specs.Changing.{ChangesAt, ChangesOnly, IsChangingAt}
 use Rattle.work_folder.specs.Entering.{IsReady, IsFresh}
 use Rattle.work_folder.specs.Entries.{journal_path, stage_path}
 use Rattle.migrate_core.proofs.Movings.{AreSound, apart_of, both, moves_within}
-use Rattle.migrate_core.specs.Moved.{IsTidyWork, StandsIn, StaysTidyWork}
+use Rattle.migrate_core.specs.Moved.{IsTidyWork, StaysTidyWork}
 use Rattle.migrate_core.specs.Moving.{OnlyBrings, MovesBeside, MovesOnly}
 
 -- ---- calls that spare a region with the target in it
@@ -227,7 +229,7 @@ written_folder work j None (Some b) sound stayed written was v is = absurd staye
 -- a journal that stands stays where its path is as before
 pub journal_stays : (region : Path → Bool) (work : Path) (journal : Journal) (t u : Option Told) → IsTrue (region (journal_path work)) → AreSound t → FromTo (λ a b. IsAsBefore region a.state b.state) t u
     → IfSeen t (λ v. StandsIn work journal v) → IfSeen u (λ v. StandsIn work journal v)
-journal_stays region work journal t u inside sound stayed = stays (StandsIn work journal) region t u sound stayed (λ v w same stands. same (journal_path work) inside ∙ stands)
+journal_stays region work journal t u inside sound stayed = stays (StandsIn work journal) region t u sound stayed (λ v w same stands. stands_alike work journal w v (same (journal_path work) inside) stands)
 
 -- ---- nothing but an empty stage and a journal
 

@@ -39,6 +39,7 @@ use Rattle.move_journal.specs.Writing as journal
 use Rattle.move_journal.specs.declared.journal.Journal.{Journal}
 use Rattle.plain_tree.specs.Names as plain
 use Rattle.plain_tree.specs.declared.NodeKind.TheVariants.{Dir, File}
+use Rattle.plain_tree.specs.declared.name_map.NameMap.{NameMap}
 use Rattle.port_model.specs.Draws.{ByteStream, Draws}
 use Rattle.tree_match.specs.Comparing.{bytes_found, content_at}
 use Rattle.vault_read.specs.Contents.{limited_reading}
@@ -61,11 +62,12 @@ use Rattle.migrate_core.proofs.Placings.{below_root}
 use Rattle.migrate_core.proofs.WorkFolders.{apart_at, elsewhere_at, not_in_root, not_moved}
 use Rattle.tree_match.specs.Guard.{AreApart}
 use Rattle.migrate_core.proofs.Planned.{FilesFit, reader_of}
-use Rattle.migrate_core.specs.Moved.{StandsIn, done_of, is_there, opened_in}
+use Rattle.migrate_core.specs.Moved.{done_of, is_there, opened_in}
 use Rattle.migrate_core.specs.Causes.{IsStop, StopsLater, nothing_stops}
 use Rattle.folder_spec.specs.Region.{apart_from_both}
 use Rattle.vault_walk.specs.Survey.{IsOrdered}
 use Rattle.move_journal.specs.declared.journal.Phase.TheVariants.{Done}
+use Rattle.move_journal.specs.Reading.{StandsIn}
 use Rattle.migrate_core.specs.Sides.{AreSeparate, AreTold, IsItemOf, IsWalked, new_journal}
 use Rattle.migrate_core.specs.Written.{IsRefusal, HasGone, IsOfNoItem, WasAnswered, WasSeen, WereAnswered, ending_by, ending_in, last_answer, placing_in, BringsOnlyTo, IsMadePlace, IsPlaceOf, WritesBeside, AreCopies, HoldsOnly, IsCopyOf, IsFileOf, IsOneOf, MadeItem, MayWrite, MayWriteTold, MayWriteTree, Writes, WritesAll, WritesBy, WritesFirst, WritesLacked, WritesNothing, WritesOnly, WritesTree, journal_texts, lacked, slices}
 
@@ -759,17 +761,17 @@ pub nothing_written : {T : Type 0} (result : Result T MoveFault) → IsRefusal r
 nothing_written result refused s t u undrawn same = record { refused = refused; undrawn = undrawn; files = only_nowhere (BringsOnlyTo [] (λ at. ⊥)) (λ file. ⊥) t u same }
 
 -- the vaults are those of two roots and their passphrases
-pub tree_of : {T : Type 0} (result : Result T MoveFault) (from to : Path) (pass pass' : List ℕ) (source target : OpenedVault) (s s' : Option ByteStream) (t t' : Option Told) → source.root ≡ from → target.root ≡ to
+pub tree_of : {T : Type 0} (result : Result T MoveFault) (names : NameMap) (from to : Path) (pass pass' : List ℕ) (source target : OpenedVault) (s s' : Option ByteStream) (t t' : Option Told) → source.root ≡ from → target.root ≡ to
     → IfSeen t (λ v. IsVault (under from v) pass source.vault) → IfSeen t (λ v. IsVault (under to v) pass' target.vault)
-    → MayWrite result source target s s' t t' → MayWriteTree result from to pass pass' s s' t t'
-tree_of result from to pass pass' source target s s' t t' at_from at_to opens opens' may = elim may [
+    → MayWrite result names source target s s' t t' → MayWriteTree result names from to pass pass' s s' t t'
+tree_of result names from to pass pass' source target s s' t t' at_from at_to opens opens' may = elim may [
   | inl nothing ↦ inl nothing
   | inr writes ↦ inr (record {
     source = source.vault;
     target = target.vault;
     opens_source = opens;
     opens_target = opens';
-    writes = subst₂ (λ p q. WritesLacked result (opened_in p source.vault) (opened_in q target.vault) s s' t t') at_from at_to writes;
+    writes = subst₂ (λ p q. WritesLacked result names (opened_in p source.vault) (opened_in q target.vault) s s' t t') at_from at_to writes;
   })
 ]
 
@@ -778,38 +780,38 @@ module _ (s s' : Option ByteStream) (t u w : Option Told) (known : IfSeen t (λ 
   nothing_after : {T : Type 0} (result : Result T MoveFault) → WritesNothing result s s' u w → WritesNothing result s s' t w
   nothing_after result h = record { refused = h.refused; undrawn = h.undrawn; files = beside_on [] (λ file. ⊥) (λ file. ⊥) (λ file. ⊥) (λ file none. none) (λ file none. none) t u w before h.files }
 
-  lacked_after : {T : Type 0} (result : Result T MoveFault) (from to : OpenedVault) → WritesLacked result from to s s' u w → WritesLacked result from to s s' t w
-  lacked_after result from to h = record {
+  lacked_after : {T : Type 0} (result : Result T MoveFault) (names : NameMap) (from to : OpenedVault) → WritesLacked result names from to s s' u w → WritesLacked result names from to s s' t w
+  lacked_after result names from to h = record {
     items = h.items;
     there = h.there;
     items_are = λ v is. h.items_are v (known v is);
     there_are = λ v is. h.there_are v (known v is);
-    writes = by_after from to (lacked h.there h.items) (journal_texts from.root to.root h.items) s s' t u w known before result h.writes;
+    writes = by_after from to (lacked h.there h.items) (journal_texts names from.root to.root h.items) s s' t u w known before result h.writes;
   }
 
-  tree_after : {T : Type 0} (result : Result T MoveFault) (from to : Path) (pass pass' : List ℕ) → WritesTree result from to pass pass' s s' u w → WritesTree result from to pass pass' s s' t w
-  tree_after result from to pass pass' h = record {
+  tree_after : {T : Type 0} (result : Result T MoveFault) (names : NameMap) (from to : Path) (pass pass' : List ℕ) → WritesTree result names from to pass pass' s s' u w → WritesTree result names from to pass pass' s s' t w
+  tree_after result names from to pass pass' h = record {
     source = h.source;
     target = h.target;
     opens_source = λ v is. h.opens_source v (known v is);
     opens_target = λ v is. h.opens_target v (known v is);
-    writes = lacked_after result (opened_in from h.source) (opened_in to h.target) h.writes;
+    writes = lacked_after result names (opened_in from h.source) (opened_in to h.target) h.writes;
   }
 
-  pub may_write_after : {T : Type 0} (result : Result T MoveFault) (from to : Path) (pass pass' : List ℕ) → MayWriteTree result from to pass pass' s s' u w → MayWriteTree result from to pass pass' s s' t w
-  may_write_after result from to pass pass' may = elim may [
+  pub may_write_after : {T : Type 0} (result : Result T MoveFault) (names : NameMap) (from to : Path) (pass pass' : List ℕ) → MayWriteTree result names from to pass pass' s s' u w → MayWriteTree result names from to pass pass' s s' t w
+  may_write_after result names from to pass pass' may = elim may [
     | inl nothing ↦ inl (nothing_after result nothing)
-    | inr writes ↦ inr (tree_after result from to pass pass' writes)
+    | inr writes ↦ inr (tree_after result names from to pass pass' writes)
   ]
 
   pub told_after : {T : Type 0} (result : Result T MoveFault) (work : Path) (pass pass' : List ℕ) (v : View) → MayWriteTold result work pass pass' s s' u w v → MayWriteTold result work pass pass' s s' t w v
   told_after result work pass pass' v may = elim may [
     | inl nothing ↦ inl (nothing_after result nothing)
-    | inr told ↦ inr (record { journal = told.journal; is = told.is; stands = told.stands; writes = tree_after result told.journal.source told.journal.target pass pass' told.writes })
+    | inr told ↦ inr (record { journal = told.journal; is = told.is; stands = told.stands; writes = tree_after result told.journal.names told.journal.source told.journal.target pass pass' told.writes })
   ]
 
 pub told_of : {T : Type 0} (result : Result T MoveFault) (work : Path) (pass pass' : List ℕ) (s s' : Option ByteStream) (t t' : Option Told) (v : View) (j : Journal) → IsJournal j → StandsIn work j v
-    → MayWriteTree result j.source j.target pass pass' s s' t t' → MayWriteTold result work pass pass' s s' t t' v
+    → MayWriteTree result j.names j.source j.target pass pass' s s' t t' → MayWriteTold result work pass pass' s s' t t' v
 told_of result work pass pass' s s' t t' v j is stands may = elim may [
   | inl nothing ↦ inl nothing
   | inr writes ↦ inr (record { journal = j; is = is; stands = stands; writes = writes })
@@ -826,7 +828,7 @@ pub none_ordered : IsOrdered []
 none_ordered i j d before few = absurd (omega (arith, few))
 
 -- the texts of the journal that tells of these items
-pub done_text : (j : Journal) (from to : Path) (items : List Planned) → j.source ≡ from → j.target ≡ to → AreTold j items → (text : List ℕ) → Contains (journal_text (done_of j) ∷ []) text → Contains (journal_texts from to items) text
+pub done_text : (j : Journal) (from to : Path) (items : List Planned) → j.source ≡ from → j.target ≡ to → AreTold j items → (text : List ℕ) → Contains (journal_text (done_of j) ∷ []) text → Contains (journal_texts j.names from to items) text
 done_text j from to items source target told text among =
-    let same : done_of j ≡ done_of (new_journal from to items) = λ i. record { phase = Done; source = source i; target = target i; items = told.1 i; plan = told.0 i } in
-    in_second (journal_text (new_journal from to items) ∷ []) (journal_text (done_of (new_journal from to items)) ∷ []) text (subst (λ k. Contains (journal_text k ∷ []) text) same among)
+    let same : done_of j ≡ done_of (new_journal j.names from to items) = λ i. record { phase = Done; names = j.names; source = source i; target = target i; items = told.1 i; plan = told.0 i } in
+    in_second (journal_text (new_journal j.names from to items) ∷ []) (journal_text (done_of (new_journal j.names from to items)) ∷ []) text (subst (λ k. Contains (journal_text k ∷ []) text) same among)

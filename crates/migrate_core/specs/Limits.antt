@@ -9,6 +9,7 @@ use Rattle.folder_spec.specs.Seen.{IfSeen, under}
 use Rattle.folder_spec.specs.View.{FileOf, View}
 use Rattle.move_journal.specs.Journal.{IsJournal}
 use Rattle.move_journal.specs.declared.journal.Journal.{Journal}
+use Rattle.move_journal.specs.Reading.{StandsIn}
 use Rattle.plain_tree.specs.Names as plain
 use Rattle.tree_match.specs.Comparing.{Content, content_at}
 use Rattle.tree_match.specs.declared.answer.MatchFault.TheVariants as match
@@ -20,7 +21,7 @@ use Rattle.vault_spec.specs.Opens as opens
 use Rattle.vault_spec.specs.Opens.{Opened, Tree}
 use Rattle.vault_spec.specs.Standing.{File, standing}
 use Rattle.vault_spec.specs.Vault.{Vault, IsVault, format_of}
-use Rattle.migrate_core.specs.Moved.{StandsIn, opened_in}
+use Rattle.migrate_core.specs.Moved.{opened_in}
 use Rattle.migrate_core.specs.declared.fault.MoveFault.{MoveFault}
 use Rattle.migrate_core.specs.Sharing.{IsOfTaken}
 use Rattle.migrate_core.specs.declared.fault.MoveFault.TheVariants.{Match, Place}

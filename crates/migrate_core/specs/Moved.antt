@@ -4,12 +4,13 @@ use Rattle.std.specs.List.{filter}
 use Rattle.folder_spec.specs.Path.{Part, Path, child}
 use Rattle.folder_spec.specs.Event.{Told}
 use Rattle.folder_spec.specs.Seen.{IfSeen, under}
-use Rattle.folder_spec.specs.View.{FileOf, NoEntry, View}
-use Rattle.move_journal.specs.Journal.{IsJournal, journal_text}
-use Rattle.move_journal.specs.Reading.{journal_path}
+use Rattle.folder_spec.specs.View.{NoEntry, View}
+use Rattle.move_journal.specs.Journal.{IsJournal}
+use Rattle.move_journal.specs.Reading.{StandsIn}
 use Rattle.move_journal.specs.declared.journal.Journal.{Journal}
 use Rattle.move_journal.specs.declared.journal.Phase.TheVariants as phase
 use Rattle.plain_tree.specs.Names as plain
+use Rattle.plain_tree.specs.declared.name_map.NameMap.{NameMap}
 use Rattle.tree_match.specs.Matching.{item_with}
 use Rattle.vault_read.specs.Laws.{HasOwnFolders}
 use Rattle.vault_read.specs.Opened.{OpenedVault}
@@ -30,17 +31,14 @@ HaveOneTree from to v = HasOwnFolders from.vault (under from.root v) → HasOwnF
 
 -- the journal that says that all is done
 abbrev pub done_of : Journal → Journal
-done_of j = record { phase = phase.Done; source = j.source; target = j.target; items = j.items; plan = j.plan }
+done_of j = record { phase = phase.Done; names = j.names; source = j.source; target = j.target; items = j.items; plan = j.plan }
 
--- it stands in the work folder
-abbrev pub StandsIn : Path → Journal → View → Type 0
-StandsIn work journal v = v (journal_path work) ≡ FileOf (journal_text journal)
-
--- the journal of a migration of so many items between these roots stands in the work folder, and says that all is done
-pub record SaysDone (from to work : Path) (count : ℕ) (v : View) : Type 0 where
+-- the journal of a migration by this rule of so many items between these roots stands in the work folder, and says that all is done
+pub record SaysDone (rule : NameMap) (from to work : Path) (count : ℕ) (v : View) : Type 0 where
   pub journal : Journal
   pub is : IsJournal journal
   pub phase : journal.phase ≡ phase.Done
+  pub names : journal.names ≡ rule
   pub source : journal.source ≡ from
   pub target : journal.target ≡ to
   pub items : journal.items ≡ count
@@ -55,12 +53,12 @@ abbrev pub TellsItems : OpenedVault → Journal → View → Type 0
 TellsItems a journal v = HasOwnFolders a.vault (under a.root v) → (items : List Planned) × IsPlanOf a.root (format_of a.vault) (under a.root v) items × AreTold journal items
 
 -- both vaults are clean and have one tree, of so many items, and the journal says so and tells them
-pub record HasMoved (from to : OpenedVault) (work : Path) (count : ℕ) (v : View) : Type 0 where
+pub record HasMoved (names : NameMap) (from to : OpenedVault) (work : Path) (count : ℕ) (v : View) : Type 0 where
   pub source : IsClean (format_of from.vault) (under from.root v)
   pub target : IsClean (format_of to.vault) (under to.root v)
   pub trees : HaveOneTree from to v
   pub items : HasItems to count v
-  pub says : SaysDone from.root to.root work count v
+  pub says : SaysDone names from.root to.root work count v
   pub tells : TellsItems from says.journal v
 
 -- whether one of these has the item's path
@@ -81,8 +79,8 @@ abbrev pub StaysTidyWork : Path → Option Told → Option Told → Type 0
 StaysTidyWork work told told' = (IfSeen told (λ v. IsTidyWork work v)) → IfSeen told' (λ v. IsTidyWork work v)
 
 -- after Ok, of so many items
-abbrev pub Moved : {E : Type 0} → OpenedVault → OpenedVault → Path → Option Told → Result Done E → Type 0
-Moved from to work told result = IfOk result (λ done. IfSeen told (λ v. HasMoved from to work done.items v))
+abbrev pub Moved : {E : Type 0} → NameMap → OpenedVault → OpenedVault → Path → Option Told → Result Done E → Type 0
+Moved names from to work told result = IfOk result (λ done. IfSeen told (λ v. HasMoved names from to work done.items v))
 
 -- so many items were placed as the second vault lacked of the first, where no two directories of either share a folder
 abbrev pub HasPlaced : OpenedVault → OpenedVault → ℕ → View → Type 0
@@ -97,13 +95,13 @@ opened_in root vault = record { root = root; vault = vault }
 
 -- Of the vaults that two roots and their passphrases are. The target is opened so afterwards too, and where no two directories of either
 -- shared a folder, both are in good order then.
-pub record MovesTree (from to work : Path) (from_pass to_pass : List ℕ) (done : Done) (told told' : Option Told) : Type 0 where
+pub record MovesTree (names : NameMap) (from to work : Path) (from_pass to_pass : List ℕ) (done : Done) (told told' : Option Told) : Type 0 where
   pub source : Vault
   pub target : Vault
   pub opens_source : IfSeen told (λ v. IsVault (under from v) from_pass source)
   pub opens_target : IfSeen told (λ v. IsVault (under to v) to_pass target)
   pub placed : IfSeen told (λ v. HasPlaced (opened_in from source) (opened_in to target) done.placed v)
-  pub moved : IfSeen told' (λ v. HasMoved (opened_in from source) (opened_in to target) work done.items v)
+  pub moved : IfSeen told' (λ v. HasMoved names (opened_in from source) (opened_in to target) work done.items v)
   pub opens_still : IfSeen told' (λ v. IsVault (under to v) to_pass target)
   pub stays_good : StayGood (opened_in from source) (opened_in to target) told told'
 
@@ -112,4 +110,4 @@ pub record MovesTold (work : Path) (from_pass to_pass : List ℕ) (done : Done) 
   pub journal : Journal
   pub is : IsJournal journal
   pub stands : StandsIn work journal v
-  pub moves : MovesTree journal.source journal.target work from_pass to_pass done told told'
+  pub moves : MovesTree journal.names journal.source journal.target work from_pass to_pass done told told'

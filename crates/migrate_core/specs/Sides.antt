@@ -3,14 +3,14 @@ use Rattle.std.specs.Prelude.{◌≡◌, ◌≤◌, ◌⊎◌, ◌++◌, ◌∷�
 use Rattle.folder_spec.specs.Path.{Path}
 use Rattle.folder_spec.specs.Event.{Told}
 use Rattle.folder_spec.specs.Seen.{IfSeen, under}
-use Rattle.folder_spec.specs.View.{Folder, FileOf, NoEntry, View}
-use Rattle.move_journal.specs.Journal.{journal_text}
-use Rattle.move_journal.specs.Reading.{journal_path}
+use Rattle.folder_spec.specs.View.{Folder, NoEntry, View}
+use Rattle.move_journal.specs.Reading as reading
 use Rattle.move_journal.specs.Writing.{IsWorkFolder}
 use Rattle.move_journal.specs.declared.journal.Journal.{Journal}
 use Rattle.move_journal.specs.declared.journal.Phase.TheVariants.{Building}
 use Rattle.plain_tree.specs.Names as plain
 use Rattle.plain_tree.specs.declared.NodeKind.TheVariants.{File}
+use Rattle.plain_tree.specs.declared.name_map.NameMap.{NameMap}
 use Rattle.tree_match.specs.Guard.{VaultAt, Migration, AreApart}
 use Rattle.tree_match.specs.Trees.{Side}
 use Rattle.vault_read.specs.Laws.{HasOwnFolders}
@@ -70,12 +70,12 @@ pub record IsWalked (told : Option Told) (a : OpenedVault) (items : List Planned
 -- the work folder of a migration has this journal, and nothing that is in the way of a new one or of a stage
 pub record IsInUse (v : View) (work : Path) (journal : Journal) : Type 0 where
   pub folder : IsWorkFolder v work
-  pub stands : v (journal_path work) ≡ FileOf (journal_text journal)
+  pub stands : reading.StandsIn work journal v
   pub stage : (v (stage_path work) ≡ NoEntry) ⊎ (v (stage_path work) ≡ Folder)
 
--- the journal of a migration of these items that begins
-abbrev pub new_journal : Path → Path → List Planned → Journal
-new_journal from to items = record { phase = Building; source = from; target = to; items = length items; plan = plan_digest items }
+-- the journal of a migration of these items by a rule for names, as it begins
+abbrev pub new_journal : NameMap → Path → Path → List Planned → Journal
+new_journal names from to items = record { phase = Building; names = names; source = from; target = to; items = length items; plan = plan_digest items }
 
 -- the last name of the path is allowed
 abbrev pub AllowsLast : Format → plain.Path → Type 0

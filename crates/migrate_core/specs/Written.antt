@@ -10,9 +10,11 @@ use Rattle.folder_spec.specs.State.{State, BeginsWith}
 use Rattle.folder_spec.specs.View.{View}
 use Rattle.move_journal.specs.Journal.{IsJournal, journal_text}
 use Rattle.move_journal.specs.declared.journal.Journal.{Journal}
+use Rattle.move_journal.specs.Reading.{StandsIn}
 use Rattle.plain_tree.specs.Names as plain
 use Rattle.plain_tree.specs.declared.NodeKind.{NodeKind}
 use Rattle.plain_tree.specs.declared.NodeKind.TheVariants.{Dir, File}
+use Rattle.plain_tree.specs.declared.name_map.NameMap.{NameMap}
 use Rattle.port_model.specs.Draws.{ByteStream, Draws}
 use Rattle.tree_match.specs.Comparing.{content_at}
 use Rattle.vault_read.specs.Opened.{OpenedVault}
@@ -29,7 +31,7 @@ use Rattle.migrate_core.specs.declared.fault.MoveFault.{MoveFault}
 use Rattle.migrate_core.specs.declared.fault.MoveFault.TheVariants.{Place}
 use Rattle.migrate_core.specs.Causes.{AreItemsOf}
 use Rattle.migrate_core.specs.Faults.{IsOfTest}
-use Rattle.migrate_core.specs.Moved.{StandsIn, done_of, is_there, opened_in}
+use Rattle.migrate_core.specs.Moved.{done_of, is_there, opened_in}
 use Rattle.migrate_core.specs.Sides.{new_journal}
 
 -- an item that was made in the target, and the bytes drawn for it
@@ -181,9 +183,9 @@ pub record WritesFirst (fault : MoveFault) (from to : OpenedVault) (items : List
 abbrev pub lacked : List Planned → List Planned → List Planned
 lacked there items = filter (λ item. not (is_there there item)) items
 
--- the texts of a migration's journal
-abbrev pub journal_texts : Path → Path → List Planned → List (List ℕ)
-journal_texts from to items = journal_text (new_journal from to items) ∷ journal_text (done_of (new_journal from to items)) ∷ []
+-- the texts of the journal of a migration by this rule
+abbrev pub journal_texts : NameMap → Path → Path → List Planned → List (List ℕ)
+journal_texts names from to items = journal_text (new_journal names from to items) ∷ journal_text (done_of (new_journal names from to items)) ∷ []
 
 -- by the answer: all of them after Ok, or the first of them
 abbrev pub WritesBy : {T : Type 0} → Result T MoveFault → OpenedVault → OpenedVault → List Planned → List (List ℕ) → Option ByteStream → Option ByteStream → Option Told → Option Told → Type 0
@@ -191,12 +193,12 @@ WritesBy (Ok value) = WritesAll
 WritesBy (Err fault) = WritesFirst fault
 
 -- between two opened vaults, the items of the source that the target lacks
-pub record WritesLacked {T : Type 0} (result : Result T MoveFault) (from to : OpenedVault) (stream stream' : Option ByteStream) (told told' : Option Told) : Type 0 where
+pub record WritesLacked {T : Type 0} (result : Result T MoveFault) (names : NameMap) (from to : OpenedVault) (stream stream' : Option ByteStream) (told told' : Option Told) : Type 0 where
   pub items : List Planned
   pub there : List Planned
   pub items_are : IfSeen told (λ v. AreItemsOf from v items)
   pub there_are : IfSeen told (λ v. AreItemsOf to v there)
-  pub writes : WritesBy result from to (lacked there items) (journal_texts from.root to.root items) stream stream' told told'
+  pub writes : WritesBy result from to (lacked there items) (journal_texts names from.root to.root items) stream stream' told told'
 
 -- a test refuses
 abbrev pub IsRefusal : {T : Type 0} → Result T MoveFault → Type 0
@@ -210,26 +212,26 @@ pub record WritesNothing {T : Type 0} (result : Result T MoveFault) (stream stre
   pub files : WritesBeside [] (λ file. ⊥) told told'
 
 -- where a test fails nothing is written
-abbrev pub MayWrite : {T : Type 0} → Result T MoveFault → OpenedVault → OpenedVault → Option ByteStream → Option ByteStream → Option Told → Option Told → Type 0
-MayWrite result from to stream stream' told told' = WritesNothing result stream stream' told told' ⊎ WritesLacked result from to stream stream' told told'
+abbrev pub MayWrite : {T : Type 0} → Result T MoveFault → NameMap → OpenedVault → OpenedVault → Option ByteStream → Option ByteStream → Option Told → Option Told → Type 0
+MayWrite result names from to stream stream' told told' = WritesNothing result stream stream' told told' ⊎ WritesLacked result names from to stream stream' told told'
 
 -- of the vaults that two roots and their passphrases are
-pub record WritesTree {T : Type 0} (result : Result T MoveFault) (from to : Path) (from_pass to_pass : List ℕ) (stream stream' : Option ByteStream) (told told' : Option Told) : Type 0 where
+pub record WritesTree {T : Type 0} (result : Result T MoveFault) (names : NameMap) (from to : Path) (from_pass to_pass : List ℕ) (stream stream' : Option ByteStream) (told told' : Option Told) : Type 0 where
   pub source : Vault
   pub target : Vault
   pub opens_source : IfSeen told (λ v. IsVault (under from v) from_pass source)
   pub opens_target : IfSeen told (λ v. IsVault (under to v) to_pass target)
-  pub writes : WritesLacked result (opened_in from source) (opened_in to target) stream stream' told told'
+  pub writes : WritesLacked result names (opened_in from source) (opened_in to target) stream stream' told told'
 
-abbrev pub MayWriteTree : {T : Type 0} → Result T MoveFault → (from to : Path) (from_pass to_pass : List ℕ) → Option ByteStream → Option ByteStream → Option Told → Option Told → Type 0
-MayWriteTree result from to from_pass to_pass stream stream' told told' = WritesNothing result stream stream' told told' ⊎ WritesTree result from to from_pass to_pass stream stream' told told'
+abbrev pub MayWriteTree : {T : Type 0} → Result T MoveFault → NameMap → (from to : Path) (from_pass to_pass : List ℕ) → Option ByteStream → Option ByteStream → Option Told → Option Told → Type 0
+MayWriteTree result names from to from_pass to_pass stream stream' told told' = WritesNothing result stream stream' told told' ⊎ WritesTree result names from to from_pass to_pass stream stream' told told'
 
 -- of those that the journal tells which stands in the work folder
 pub record WritesTold {T : Type 0} (result : Result T MoveFault) (work : Path) (from_pass to_pass : List ℕ) (stream stream' : Option ByteStream) (told told' : Option Told) (v : View) : Type 0 where
   pub journal : Journal
   pub is : IsJournal journal
   pub stands : StandsIn work journal v
-  pub writes : WritesTree result journal.source journal.target from_pass to_pass stream stream' told told'
+  pub writes : WritesTree result journal.names journal.source journal.target from_pass to_pass stream stream' told told'
 
 abbrev pub MayWriteTold : {T : Type 0} → Result T MoveFault → Path → (from_pass to_pass : List ℕ) → Option ByteStream → Option ByteStream → Option Told → Option Told → View → Type 0
 MayWriteTold result work from_pass to_pass stream stream' told told' v = WritesNothing result stream stream' told told' ⊎ WritesTold result work from_pass to_pass stream stream' told told' v

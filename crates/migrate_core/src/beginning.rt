@@ -1,6 +1,7 @@
 //! Beginning a migration.
 ghost use Rattle.std.specs.Prelude.{◌≡◌, ◌≤◌, [], IfErr, IfOk, OnOk};
 ghost use Rattle.port_model.specs.Counts.{CountRose};
+ghost use Rattle.plain_tree.specs.declared.name_map.NameMap.TheVariants.{Same};
 ghost use Rattle.folder_spec.specs.Seen.{IfSeen};
 ghost use Rattle.move_journal.specs.Journal.{IsParsed};
 ghost use Rattle.tree_match.specs.Alone.{Finished, Unbegun};
@@ -54,7 +55,7 @@ pub fn begin<F: Folder, R: Randoms>(
 ) -> Result<Done, MoveFault>
     requires source { IsParsed source.now }
     requires target { IsParsed target.now }
-    ensures moved { IfOk result (λ done. MovesTree source.now target.now work.now source_pass.now target_pass.now done (F.told folder.old) (F.told folder.new)) }
+    ensures moved { IfOk result (λ done. MovesTree Same source.now target.now work.now source_pass.now target_pass.now done (F.told folder.old) (F.told folder.new)) }
     ensures guard { (g : Migration) → IsAsked g source.now target.now work.now source_pass.now target_pass.now → KeepsGuarded g (F.told folder.old) (F.told folder.new) }
     ensures tidy { IfOk result (λ done. IfSeen (F.told folder.new) (λ v. IsTidyWork work.now v)) }
     ensures moves { MovesOnly work.now target.now (F.told folder.old) (F.told folder.new) }
@@ -62,7 +63,7 @@ pub fn begin<F: Folder, R: Randoms>(
     ensures random { R.faults random.old ≤ R.faults random.new }
     ensures blamed { IfErr result (Blamed is_of_begin (CountRose (F.faults folder.old) (F.faults folder.new)) (CountRose (R.faults random.old) (R.faults random.new))) }
     ensures cause { IfSeen (F.told folder.old) (λ v. Unless result (Begins source.now target.now work.now source_pass.now target_pass.now v result)) }
-    ensures written { IfSeen (F.told folder.old) (λ v. MayWriteTree result source.now target.now source_pass.now target_pass.now (R.left random.old) (R.left random.new) (F.told folder.old) (F.told folder.new)) }
+    ensures written { IfSeen (F.told folder.old) (λ v. MayWriteTree result Same source.now target.now source_pass.now target_pass.now (R.left random.old) (R.left random.new) (F.told folder.old) (F.told folder.new)) }
     ensures completes { (g : Migration) → IfSeen (F.told folder.old) (λ v. IsAsked g source.now target.now work.now source_pass.now target_pass.now → CanBegin g v → IfErr result IsOfChance) }
     ensures too_long { IfErr result (IsOfLimit (PassesInTree source.now target.now source_pass.now target_pass.now (F.told folder.old) (F.told folder.new))) }
     ensures shared { IfErr result (IsOfTaken (SharesInTree source.now target.now source_pass.now target_pass.now (R.left random.old) (R.left random.new) (F.told folder.old) (F.told folder.new))) }
@@ -98,7 +99,7 @@ fn begin_settled<F: Folder, R: Randoms>(
     requires source { IsParsed source.now }
     requires target { IsParsed target.now }
     requires apart { AreSeparate source.now target.now work.now }
-    ensures moved { IfOk result (λ done. MovesTree source.now target.now work.now source_pass.now target_pass.now done (F.told folder.old) (F.told folder.new)) }
+    ensures moved { IfOk result (λ done. MovesTree Same source.now target.now work.now source_pass.now target_pass.now done (F.told folder.old) (F.told folder.new)) }
     ensures guard { (g : Migration) → IsAsked g source.now target.now work.now source_pass.now target_pass.now → KeepsSettled g (F.told folder.old) (F.told folder.new) }
     ensures tidy { IfOk result (λ done. IfSeen (F.told folder.new) (λ v. IsTidyWork work.now v)) }
     ensures moves { MovesOnly work.now target.now (F.told folder.old) (F.told folder.new) }
@@ -108,7 +109,7 @@ fn begin_settled<F: Folder, R: Randoms>(
     ensures cause { IfSeen (F.told folder.old) (λ v. Unless result (BeginsApart source.now target.now work.now source_pass.now target_pass.now v result)) }
     ensures too_long { IfErr result (IsOfLimit (PassesInTree source.now target.now source_pass.now target_pass.now (F.told folder.old) (F.told folder.new))) }
     ensures shared { IfErr result (IsOfTaken (SharesInTree source.now target.now source_pass.now target_pass.now (R.left random.old) (R.left random.new) (F.told folder.old) (F.told folder.new))) }
-    ensures written { IfSeen (F.told folder.old) (λ v. MayWriteTree result source.now target.now source_pass.now target_pass.now (R.left random.old) (R.left random.new) (F.told folder.old) (F.told folder.new)) }
+    ensures written { IfSeen (F.told folder.old) (λ v. MayWriteTree result Same source.now target.now source_pass.now target_pass.now (R.left random.old) (R.left random.new) (F.told folder.old) (F.told folder.new)) }
 {
     draws_compose();
     roots_have_one_answer();
@@ -129,7 +130,7 @@ fn begin_with<F: Folder, R: Randoms>(
     requires source { IsParsed sides.now.source.root }
     requires target { IsParsed sides.now.target.root }
     requires apart { AreSeparate sides.now.source.root sides.now.target.root work.now }
-    ensures moved { Moved sides.now.source sides.now.target work.now (F.told folder.new) result }
+    ensures moved { Moved Same sides.now.source sides.now.target work.now (F.told folder.new) result }
     ensures placed { Placed sides.now.source sides.now.target (F.told folder.old) result }
     ensures guard { LeadsEach sides.now.source sides.now.target work.now Unbegun Finished (F.told folder.old) (F.told folder.new) result }
     ensures tidy { IfOk result (λ done. IfSeen (F.told folder.new) (λ v. IsTidyWork work.now v)) }
@@ -139,7 +140,7 @@ fn begin_with<F: Folder, R: Randoms>(
     ensures blamed { IfErr result (Blamed is_of_begin (CountRose (F.faults folder.old) (F.faults folder.new)) (CountRose (R.faults random.old) (R.faults random.new))) }
     ensures cause { IfSeen (F.told folder.old) (λ v. Unless result (BeginsWith sides.now.source sides.now.target work.now v result)) }
     ensures ends { EndsBy (StayGood sides.now.source sides.now.target (F.told folder.old) (F.told folder.new)) (SharesWhereTidy sides.now.source sides.now.target (R.left random.old) (R.left random.new) (F.told folder.old) (F.told folder.new)) sides.now.source sides.now.target (F.told folder.new) result }
-    ensures written { MayWrite result sides.now.source sides.now.target (R.left random.old) (R.left random.new) (F.told folder.old) (F.told folder.new) }
+    ensures written { MayWrite result Same sides.now.source sides.now.target (R.left random.old) (R.left random.new) (F.told folder.old) (F.told folder.new) }
 {
     draws_compose();
     walks_tell_the_tree();
@@ -179,7 +180,7 @@ fn move_all<F: Folder, R: Randoms>(
     requires walked { IsWalked (F.told folder.old) sides.now.source plan.now.items }
     requires allowed { AllowsEach (format_of sides.now.target.vault) plan.now.items }
     requires copying { MayBegin sides.now.source sides.now.target [] (F.told folder.old) }
-    ensures moved { Moved sides.now.source sides.now.target work.now (F.told folder.new) result }
+    ensures moved { Moved Same sides.now.source sides.now.target work.now (F.told folder.new) result }
     ensures placed { IfOk result (λ done. IfSeen (F.told folder.old) (λ v. done.placed ≡ lacking [] plan.now.items)) }
     ensures guard { LeadsEach sides.now.source sides.now.target work.now Unbegun Finished (F.told folder.old) (F.told folder.new) result }
     ensures tidy { IfOk result (λ done. IfSeen (F.told folder.new) (λ v. IsTidyWork work.now v)) }
@@ -189,7 +190,7 @@ fn move_all<F: Folder, R: Randoms>(
     ensures blamed { IfErr result (Blamed is_of_begin (CountRose (F.faults folder.old) (F.faults folder.new)) (CountRose (R.faults random.old) (R.faults random.new))) }
     ensures cause { IfSeen (F.told folder.old) (λ v. Unless result (Moves (EntersAs v work.now) sides.now.source sides.now.target v plan.now.items result)) }
     ensures ends { EndsBy (StayGood sides.now.source sides.now.target (F.told folder.old) (F.told folder.new)) (SharesFrom (IsFilled sides.now.source sides.now.target []) sides.now.target plan.now.items (R.left random.old) (R.left random.new) (F.told folder.old) (F.told folder.new)) sides.now.source sides.now.target (F.told folder.new) result }
-    ensures written { WritesBy result sides.now.source sides.now.target (lacked [] plan.now.items) (journal_texts sides.now.source.root sides.now.target.root plan.now.items) (R.left random.old) (R.left random.new) (F.told folder.old) (F.told folder.new) }
+    ensures written { WritesBy result sides.now.source sides.now.target (lacked [] plan.now.items) (journal_texts Same sides.now.source.root sides.now.target.root plan.now.items) (R.left random.old) (R.left random.new) (F.told folder.old) (F.told folder.new) }
 {
     draws_compose();
     guarded_migrations_are_seen();

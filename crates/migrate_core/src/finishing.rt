@@ -5,6 +5,7 @@ ghost use Rattle.folder_spec.specs.Path.{Path};
 ghost use Rattle.folder_spec.specs.Seen.{IfSeen};
 ghost use Rattle.move_journal.specs.Journal.{IsJournal, journal_text};
 ghost use Rattle.move_journal.specs.Writing.{IsWorkFolder};
+ghost use Rattle.move_journal.specs.Reading.{StandsIn};
 ghost use Rattle.tree_match.specs.Alone.{Begun, Finished};
 ghost use Rattle.tree_match.specs.Comparing.{Is};
 ghost use Rattle.tree_match.specs.Guard.{AreApart};
@@ -18,7 +19,7 @@ ghost use Rattle.migrate_core.specs.Copying.{CopiesAll, HasCopied};
 ghost use Rattle.migrate_core.specs.Faults.{Blamed, is_of_begin};
 ghost use Rattle.migrate_core.specs.Leading.{FinishesEach, LeadsTold, progress_of};
 ghost use Rattle.migrate_core.specs.Limits.{StopsElsewhere, EndsBy, PassesSeen};
-ghost use Rattle.migrate_core.specs.Moved.{Moved, StandsIn, StaysTidyWork, done_of, lacking};
+ghost use Rattle.migrate_core.specs.Moved.{Moved, StaysTidyWork, done_of, lacking};
 ghost use Rattle.migrate_core.specs.Moving.{MovesOnly};
 ghost use Rattle.migrate_core.specs.Written.{WritesBeside, WritesBy, lacked};
 ghost use Rattle.migrate_core.specs.Sharing.{IsFilled, SharesFrom};
@@ -64,7 +65,7 @@ pub(crate) fn go_on<F: Folder, R: Randoms>(
     requires source { journal.source ≡ sides.now.source.root }
     requires target { journal.target ≡ sides.now.target.root }
     requires items { AreTold journal source.now.items }
-    ensures moved { Moved sides.now.source sides.now.target work.now (F.told folder.new) result }
+    ensures moved { Moved journal.names sides.now.source sides.now.target work.now (F.told folder.new) result }
     ensures placed { IfOk result (λ done. IfSeen (F.told folder.old) (λ v. done.placed ≡ lacking there.now source.now.items)) }
     ensures building { journal.phase ≡ Phase.Building → LeadsTold sides.now.source sides.now.target work.now journal Begun Finished (F.told folder.old) (F.told folder.new) result }
     ensures done { journal.phase ≡ Phase.Done → StandAll source.now.items there.now → LeadsTold sides.now.source sides.now.target work.now journal Finished Finished (F.told folder.old) (F.told folder.new) result }
@@ -101,7 +102,7 @@ pub(crate) fn finish<F: Folder>(
     requires source { journal.source ≡ sides.now.source.root }
     requires target { journal.target ≡ sides.now.target.root }
     requires items { AreTold journal source.now.items }
-    ensures moved { Moved sides.now.source sides.now.target work.now (F.told folder.new) result }
+    ensures moved { Moved journal.names sides.now.source sides.now.target work.now (F.told folder.new) result }
     ensures placed { IfOk result (λ done. done.placed ≡ placed) }
     ensures guard { LeadsTold sides.now.source sides.now.target work.now journal (progress_of journal.phase) Finished (F.told folder.old) (F.told folder.new) result }
     ensures tidy { IfOk result (λ done. StaysTidyWork work.now (F.told folder.old) (F.told folder.new)) }

@@ -25,8 +25,8 @@ use content_writing::VaultContent;
 use content_writing::laws::files_fit_as_contents;
 use folder_model::{FPath, Folder};
 use move_journal::{Journal, Phase};
-use plain_tree::NodeKind;
 use plain_tree::laws::prefix_comes_first;
+use plain_tree::{NameMap, NodeKind};
 use port_model::Randoms;
 use port_model::laws::draws_compose;
 use std::alloc::Global;
@@ -49,7 +49,7 @@ pub struct Done {
 
 // The journal of a migration that begins.
 pub(crate) fn journal_of(source: &FPath, target: &FPath, plan: &Plan) -> Result<Journal, MoveFault>
-    ensures new { IfOk result (λ journal. journal ≡ new_journal source.now target.now plan.now.items) }
+    ensures new { IfOk result (λ journal. journal ≡ new_journal NameMap.Same source.now target.now plan.now.items) }
     ensures digest { IfOk result (λ journal. IsDigest journal.plan) }
     ensures blamed { IfErr result (Blamed is_of_begin ⊥ ⊥) }
     ensures uncompared { IfErr result StopsElsewhere }
@@ -57,6 +57,7 @@ pub(crate) fn journal_of(source: &FPath, target: &FPath, plan: &Plan) -> Result<
 {
     Ok(Journal {
         phase: Phase::Building,
+        names: NameMap::Same,
         source: source.copy()?,
         target: target.copy()?,
         items: plan.items.as_slice().len() as u64,

@@ -4,7 +4,7 @@ ghost use Rattle.port_model.specs.Counts.{CountRose};
 ghost use Rattle.folder_spec.specs.Seen.{IfSeen, IsSeen};
 ghost use Rattle.folder_spec.specs.View.{FileOf, NoEntry, View};
 ghost use Rattle.move_journal.specs.Journal.{IsJournal, journal_text};
-ghost use Rattle.move_journal.specs.Reading.{journal_path};
+ghost use Rattle.move_journal.specs.Reading.{StandsIn};
 ghost use Rattle.tree_match.specs.Alone.{Finished};
 ghost use Rattle.tree_match.specs.Guard.{Migration};
 ghost use Rattle.vault_spec.specs.Vault.{format_of};
@@ -54,7 +54,7 @@ pub fn resume<F: Folder, R: Randoms>(
     random: &mut R,
 ) -> Result<Done, MoveFault>
     ensures guard { (g : Migration) → IsResumed g work.now source_pass.now target_pass.now → KeepsGuarded g (F.told folder.old) (F.told folder.new) }
-    ensures moves { (v : View) (journal : Journal) → IsSeen (F.told folder.old) v → IsJournal journal → v (journal_path work.now) ≡ FileOf (journal_text journal)
+    ensures moves { (v : View) (journal : Journal) → IsSeen (F.told folder.old) v → IsJournal journal → StandsIn work.now journal v
         → MovesOnly work.now journal.target (F.told folder.old) (F.told folder.new) }
     ensures moved { IfOk result (λ done. IfSeen (F.told folder.old) (λ v. MovesTold work.now source_pass.now target_pass.now done (F.told folder.old) (F.told folder.new) v)) }
     ensures grows { F.faults folder.old ≤ F.faults folder.new }
@@ -82,7 +82,7 @@ fn resume_settled<F: Folder, R: Randoms>(
     random: &mut R,
 ) -> Result<Done, MoveFault>
     ensures guard { (g : Migration) → IsResumed g work.now source_pass.now target_pass.now → KeepsSettled g (F.told folder.old) (F.told folder.new) }
-    ensures moves { (v : View) (journal : Journal) → IsSeen (F.told folder.old) v → IsJournal journal → v (journal_path work.now) ≡ FileOf (journal_text journal)
+    ensures moves { (v : View) (journal : Journal) → IsSeen (F.told folder.old) v → IsJournal journal → StandsIn work.now journal v
         → MovesOnly work.now journal.target (F.told folder.old) (F.told folder.new) }
     ensures moved { IfOk result (λ done. IfSeen (F.told folder.old) (λ v. MovesTold work.now source_pass.now target_pass.now done (F.told folder.old) (F.told folder.new) v)) }
     ensures grows { F.faults folder.old ≤ F.faults folder.new }
@@ -133,13 +133,13 @@ fn resume_told<F: Folder, R: Randoms>(
     requires used { IfSeen (F.told folder.old) (λ v. IsInUse v work.now journal) }
     ensures guard { (g : Migration) → IsResumed g work.now source_pass.now target_pass.now → KeepsSettled g (F.told folder.old) (F.told folder.new) }
     ensures moves { MovesOnly work.now journal.target (F.told folder.old) (F.told folder.new) }
-    ensures moved { IfOk result (λ done. MovesTree journal.source journal.target work.now source_pass.now target_pass.now done (F.told folder.old) (F.told folder.new)) }
+    ensures moved { IfOk result (λ done. MovesTree journal.names journal.source journal.target work.now source_pass.now target_pass.now done (F.told folder.old) (F.told folder.new)) }
     ensures grows { F.faults folder.old ≤ F.faults folder.new }
     ensures random { R.faults random.old ≤ R.faults random.new }
     ensures blamed { IfErr result (Blamed is_of_resume (CountRose (F.faults folder.old) (F.faults folder.new)) (CountRose (R.faults random.old) (R.faults random.new))) }
     ensures cause { IfSeen (F.told folder.old) (λ v. Unless result (ResumesTold work.now source_pass.now target_pass.now v journal result)) }
     ensures too_long { IfErr result (IsOfLimit (PassesInTree journal.source journal.target source_pass.now target_pass.now (F.told folder.old) (F.told folder.new))) }
-    ensures written { IfSeen (F.told folder.old) (λ v. MayWriteTree result journal.source journal.target source_pass.now target_pass.now (R.left random.old) (R.left random.new) (F.told folder.old) (F.told folder.new)) }
+    ensures written { IfSeen (F.told folder.old) (λ v. MayWriteTree result journal.names journal.source journal.target source_pass.now target_pass.now (R.left random.old) (R.left random.new) (F.told folder.old) (F.told folder.new)) }
 {
     draws_compose();
     journals_are_read_back();
@@ -191,7 +191,7 @@ fn resume_with<F: Folder, R: Randoms>(
     requires used { IfSeen (F.told folder.old) (λ v. IsInUse v work.now journal) }
     requires source_named { journal.source ≡ sides.now.source.root }
     requires target_named { journal.target ≡ sides.now.target.root }
-    ensures moved { Moved sides.now.source sides.now.target work.now (F.told folder.new) result }
+    ensures moved { Moved journal.names sides.now.source sides.now.target work.now (F.told folder.new) result }
     ensures placed { Placed sides.now.source sides.now.target (F.told folder.old) result }
     ensures guard { LeadsTold sides.now.source sides.now.target work.now journal (progress_of journal.phase) Finished (F.told folder.old) (F.told folder.new) result }
     ensures moves { MovesOnly work.now sides.now.target.root (F.told folder.old) (F.told folder.new) }
@@ -200,7 +200,7 @@ fn resume_with<F: Folder, R: Randoms>(
     ensures blamed { IfErr result (Blamed is_of_resume (CountRose (F.faults folder.old) (F.faults folder.new)) (CountRose (R.faults random.old) (R.faults random.new))) }
     ensures cause { IfSeen (F.told folder.old) (λ v. Unless result (ResumesWith sides.now.source sides.now.target work.now journal v result)) }
     ensures ends { EndsBy (StayGood sides.now.source sides.now.target (F.told folder.old) (F.told folder.new)) (Unit {0}) sides.now.source sides.now.target (F.told folder.new) result }
-    ensures written { IfSeen (F.told folder.old) (λ v. MayWrite result sides.now.source sides.now.target (R.left random.old) (R.left random.new) (F.told folder.old) (F.told folder.new)) }
+    ensures written { IfSeen (F.told folder.old) (λ v. MayWrite result journal.names sides.now.source sides.now.target (R.left random.old) (R.left random.new) (F.told folder.old) (F.told folder.new)) }
 {
     draws_compose();
     walks_tell_the_tree();
@@ -311,7 +311,7 @@ fn place_rest<F: Folder, R: Randoms>(
     requires source_named { journal.source ≡ sides.now.source.root }
     requires target_named { journal.target ≡ sides.now.target.root }
     requires items_named { AreTold journal plans.now.source.items }
-    ensures moved { Moved sides.now.source sides.now.target work.now (F.told folder.new) result }
+    ensures moved { Moved journal.names sides.now.source sides.now.target work.now (F.told folder.new) result }
     ensures placed { IfOk result (λ done. IfSeen (F.told folder.old) (λ v. done.placed ≡ lacking plans.now.target.items plans.now.source.items)) }
     ensures guard { LeadsTold sides.now.source sides.now.target work.now journal (progress_of journal.phase) Finished (F.told folder.old) (F.told folder.new) result }
     ensures moves { MovesOnly work.now sides.now.target.root (F.told folder.old) (F.told folder.new) }

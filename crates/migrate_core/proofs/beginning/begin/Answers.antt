@@ -1,5 +1,6 @@
 use Rattle.std.proofs.Common.{IfErr, refl, inl}
 use Rattle.folder_spec.specs.Region.{apart_from_both}
+use Rattle.plain_tree.specs.declared.name_map.NameMap.TheVariants.{Same}
 use Rattle.migrate_core.proofs.Movings.{moves_nowhere, moves_on, settle_moves}
 use Rattle.migrate_core.proofs.Settled.{settle_fell, settle_then, still_guarded}
 use Rattle.migrate_core.proofs.Endings.{if_ok_more, moved_before}
@@ -58,8 +59,8 @@ returns-clause-moved g c =
     let t2 = g.F.Folder.told c.begin_settled.new.folder in
     let pass = c.args.source_pass.now in
     let pass' = c.args.target_pass.now in
-    if_ok_more (λ done. MovesTree from to work pass pass' done t1 t2) (λ done. MovesTree from to work pass pass' done t0 t2) c.begin_settled.result
-    (λ done. moved_before from to work pass pass' done t0 t1 t2 (settle_seen t0 t1 c.in_ok-settle.field-0 c.in_ok-settle.ensures.changes)) c.begin_settled.ensures.moved
+    if_ok_more (λ done. MovesTree Same from to work pass pass' done t1 t2) (λ done. MovesTree Same from to work pass pass' done t0 t2) c.begin_settled.result
+    (λ done. moved_before Same from to work pass pass' done t0 t1 t2 (settle_seen t0 t1 c.in_ok-settle.field-0 c.in_ok-settle.ensures.changes)) c.begin_settled.ensures.moved
 
 pub returns-in_err-test_apart-clause-cause : goal.returns-in_err-test_apart-clause-cause
 returns-in_err-test_apart-clause-cause g c v seen =
@@ -108,7 +109,7 @@ returns-clause-written g c v seen =
     let settled = g.F.Folder.told c.settle.new.self in
     let known = settle_seen told settled c.in_ok-settle.field-0 c.in_ok-settle.ensures.changes in
     may_write_after left (g.R.Randoms.left c.begin_settled.new.random) told settled (g.F.Folder.told c.begin_settled.new.folder) known (settle_writes told settled c.settle.result c.settle.ensures.changes)
-    c.begin_settled.result c.args.source.now c.args.target.now c.args.source_pass.now c.args.target_pass.now (c.begin_settled.ensures.written v (known v seen))
+    c.begin_settled.result Same c.args.source.now c.args.target.now c.args.source_pass.now c.args.target_pass.now (c.begin_settled.ensures.written v (known v seen))
 
 pub returns-in_err-test_apart-clause-completes : goal.returns-in_err-test_apart-clause-completes
 returns-in_err-test_apart-clause-completes g c m v seen asked can =

@@ -1,5 +1,6 @@
 use Rattle.std.proofs.Common.{◌≡◌, ◌∙◌, sym, subst, subst₂, Err, inl}
 use Rattle.folder_spec.specs.Region.{apart_from_both}
+use Rattle.plain_tree.specs.declared.name_map.NameMap.TheVariants.{Same}
 use Rattle.folder_spec.specs.Seen.{IsSeen, seen}
 use Rattle.move_journal.specs.Journal.{IsParsed}
 use Rattle.tree_match.specs.Alone.{Unbegun}
@@ -85,7 +86,7 @@ returns-clause-moved g c =
     let left = g.R.Randoms.left c.args.random.now in
     let left' = g.R.Randoms.left c.begin_with.new.random in
     let loads = c.in_ok-sides.ensures in
-    tree_moved (SharesWhereTidy sides.source sides.target left left' (g.F.Folder.told c.args.folder.now) (g.F.Folder.told c.begin_with.new.folder)) c.args.source.now c.args.target.now c.args.work.now c.args.source_pass.now c.args.target_pass.now sides.source sides.target (g.F.Folder.told c.args.folder.now) (g.F.Folder.told c.begin_with.new.folder)
+    tree_moved (SharesWhereTidy sides.source sides.target left left' (g.F.Folder.told c.args.folder.now) (g.F.Folder.told c.begin_with.new.folder)) Same c.args.source.now c.args.target.now c.args.work.now c.args.source_pass.now c.args.target_pass.now sides.source sides.target (g.F.Folder.told c.args.folder.now) (g.F.Folder.told c.begin_with.new.folder)
     c.begin_with.result loads.source loads.target (g.met.F.Folder.sound c.args.folder.now)
     (subst (λ root. MovesOnly c.args.work.now root (g.F.Folder.told c.args.folder.now) (g.F.Folder.told c.begin_with.new.folder)) loads.target
     (subst (λ t. MovesOnly c.args.work.now sides.target.root t (g.F.Folder.told c.begin_with.new.folder)) (c.load_both.ensures.told ∙ c.look.ensures.told) c.begin_with.ensures.moves)) (λ v is. loads.opens_source v (subst (λ t. IsSeen t v) (sym c.look.ensures.told) is))
@@ -153,9 +154,9 @@ returns-clause-written g c v seen =
     let left2 = g.R.Randoms.left c.begin_with.new.random in
     let sides = c.in_ok-sides.sides in
     let loads = c.in_ok-sides.ensures in
-    tree_of c.begin_with.result c.args.source.now c.args.target.now c.args.source_pass.now c.args.target_pass.now sides.source sides.target left left2 told after loads.source loads.target
+    tree_of c.begin_with.result Same c.args.source.now c.args.target.now c.args.source_pass.now c.args.target_pass.now sides.source sides.target left left2 told after loads.source loads.target
     (λ w is. loads.opens_source w (subst (λ t. IsSeen t w) (sym c.look.ensures.told) is)) (λ w is. loads.opens_target w (subst (λ t. IsSeen t w) (sym c.look.ensures.told) is))
-    (subst (λ t. MayWrite c.begin_with.result sides.source sides.target left left2 t after) (c.load_both.ensures.told ∙ c.look.ensures.told) c.begin_with.ensures.written)
+    (subst (λ t. MayWrite c.begin_with.result Same sides.source sides.target left left2 t after) (c.load_both.ensures.told ∙ c.look.ensures.told) c.begin_with.ensures.written)
 
 pub returns-in_err-look-clause-too_long : goal.returns-in_err-look-clause-too_long
 returns-in_err-look-clause-too_long g c =

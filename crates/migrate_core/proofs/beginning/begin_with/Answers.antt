@@ -1,5 +1,6 @@
 use Rattle.std.proofs.Common.{◌≡◌, ◌∙◌, [], sym, ap, subst, Err, List, Ok, inl, inr}
 use Rattle.folder_spec.specs.Seen.{IfSeen, IsSeen}
+use Rattle.plain_tree.specs.declared.name_map.NameMap.TheVariants.{Same}
 use Rattle.migrate_core.proofs.Endings.{if_ok_more, placed_of}
 use Rattle.migrate_core.specs.Moved.{lacking}
 use Rattle.std.proofs.lemmas.Result.{err_from_is_err_and}
@@ -172,8 +173,8 @@ returns-clause-written g c =
       there = plans.target.items;
       items_are = c.in_ok-plans.ensures.source.plan;
       there_are = c.in_ok-plans.ensures.target.plan;
-      writes = subst (λ t. WritesBy c.move_all.result from to (lacked plans.target.items plans.source.items) (journal_texts from.root to.root plans.source.items) left left2 t after) c.walk_both.ensures.told
-          (subst (λ there. WritesBy c.move_all.result from to (lacked there plans.source.items) (journal_texts from.root to.root plans.source.items) left left2 (g.F.Folder.told c.walk_both.new.folder) after)
+      writes = subst (λ t. WritesBy c.move_all.result from to (lacked plans.target.items plans.source.items) (journal_texts Same from.root to.root plans.source.items) left left2 t after) c.walk_both.ensures.told
+          (subst (λ there. WritesBy c.move_all.result from to (lacked there plans.source.items) (journal_texts Same from.root to.root plans.source.items) left left2 (g.F.Folder.told c.walk_both.new.folder) after)
           (sym (sym c.as_slice.ensures ∙ c.in_ok-test_empty.ensures.empty)) c.move_all.ensures.written);
     })
 

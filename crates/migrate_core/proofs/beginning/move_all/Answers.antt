@@ -1,5 +1,6 @@
 use Rattle.std.proofs.Common.{◌≡◌, [], Result, ◌∙◌, Ok, IfOk, sym, ap, subst, Err, Contains, ◌∷◌}
 use Rattle.folder_spec.specs.declared.FolderFault.{FolderFault}
+use Rattle.plain_tree.specs.declared.name_map.NameMap.TheVariants.{Same}
 use Rattle.std.proofs.lemmas.Result.{err_from_is_err_and}
 use Rattle.folder_spec.specs.Region.{apart_from_both}
 use Rattle.folder_spec.specs.Seen.{IfSeen}
@@ -133,7 +134,7 @@ returns-in_err-write-clause-guard g c m sides =
     let entered = g.F.Folder.told c.enter.new.folder in
     let written = g.F.Folder.told c.write.new.folder in
     let j = c.in_ok-journal.journal in
-    let is = c.in_ok-journal.ensures.new ∙ ap (λ r. new_journal r c.root-2.result.now items) c.root.ensures ∙ ap (λ r. new_journal from.root r items) c.root-2.ensures in
+    let is = c.in_ok-journal.ensures.new ∙ ap (λ r. new_journal Same r c.root-2.result.now items) c.root.ensures ∙ ap (λ r. new_journal Same from.root r items) c.root-2.ensures in
     let apart = c.requires.apart.target in
     let walked = walked_stays (apart_from_both work to.root) from items told entered (λ rest. source_beside from.root to.root work rest c.requires.apart) (g.met.F.Folder.sound c.args.folder.now)
     (moves_to (apart_from_both work to.root) to.root told entered (entered_moves work to.root (IsWorkOrStage work) (IsLeftOver work) told entered apart c.enter.ensures.enters.moments)) c.requires.walked in
@@ -154,7 +155,7 @@ returns-clause-guard g c m sides =
     let entered = g.F.Folder.told c.enter.new.folder in
     let written = g.F.Folder.told c.write.new.folder in
     let j = c.in_ok-journal.journal in
-    let is = c.in_ok-journal.ensures.new ∙ ap (λ r. new_journal r c.root-2.result.now items) c.root.ensures ∙ ap (λ r. new_journal from.root r items) c.root-2.ensures in
+    let is = c.in_ok-journal.ensures.new ∙ ap (λ r. new_journal Same r c.root-2.result.now items) c.root.ensures ∙ ap (λ r. new_journal Same from.root r items) c.root-2.ensures in
     let apart = c.requires.apart.target in
     let walked = walked_stays (apart_from_both work to.root) from items told entered (λ rest. source_beside from.root to.root work rest c.requires.apart) (g.met.F.Folder.sound c.args.folder.now)
     (moves_to (apart_from_both work to.root) to.root told entered (entered_moves work to.root (IsWorkOrStage work) (IsLeftOver work) told entered apart c.enter.ensures.enters.moments)) c.requires.walked in
@@ -170,7 +171,7 @@ returns-clause-guard g c m sides =
     let goes = subst (λ k. LeadsTold from to c.in_ok-entered.entered k Begun Finished written after c.go_on.result) is (c.go_on.ensures.building (ap (λ (k : Journal). k.phase) is)) in
     goes_on m Unbegun Begun Finished told written after c.go_on.result one.0 one.1
     (told_goes c.guarded_migrations_are_seen.ensures.alone c.walks_tell_the_tree.ensures.plan _ from to work items Begun Finished written after c.go_on.result c.go_on.ensures.moves here
-    (subst (λ w. LeadsTold from to w (new_journal from.root to.root items) Begun Finished written after c.go_on.result) c.in_ok-entered.ensures.path goes) m sides)
+    (subst (λ w. LeadsTold from to w (new_journal Same from.root to.root items) Begun Finished written after c.go_on.result) c.in_ok-entered.ensures.path goes) m sides)
 
 pub go_on-requires-clause-stands : goal.go_on-requires-clause-stands
 go_on-requires-clause-stands g c phase =
@@ -186,7 +187,12 @@ pub go_on-requires-clause-items : goal.go_on-requires-clause-items
 go_on-requires-clause-items g c = (ap (λ (j : Journal). j.plan) c.in_ok-journal.ensures.new, ap (λ (j : Journal). j.items) c.in_ok-journal.ensures.new)
 
 pub returns-clause-moved : goal.returns-clause-moved
-returns-clause-moved g c = subst (λ w. Moved c.args.sides.now.source c.args.sides.now.target w (g.F.Folder.told c.go_on.new.folder) c.go_on.result) c.in_ok-entered.ensures.path c.go_on.ensures.moved
+returns-clause-moved g c =
+    let from = c.args.sides.now.source in
+    let to = c.args.sides.now.target in
+    let after = g.F.Folder.told c.go_on.new.folder in
+    subst (λ n. Moved n from to c.args.work.now after c.go_on.result) (ap (λ (j : Journal). j.names) c.in_ok-journal.ensures.new)
+    (subst (λ w. Moved c.in_ok-journal.journal.names from to w after c.go_on.result) c.in_ok-entered.ensures.path c.go_on.ensures.moved)
 
 pub returns-clause-placed : goal.returns-clause-placed
 returns-clause-placed g c =
@@ -260,7 +266,7 @@ returns-in_err-entered-clause-written g c =
     let to = c.args.sides.now.target in
     let work = c.args.work.now in
     let items = c.args.plan.now.items in
-    let texts = journal_texts from.root to.root items in
+    let texts = journal_texts Same from.root to.root items in
     let told = g.F.Folder.told c.args.folder.now in
     let left = g.R.Randoms.left c.args.random.now in
     let entered = g.F.Folder.told c.enter.new.folder in
@@ -275,7 +281,7 @@ returns-in_err-journal-clause-written g c =
     let to = c.args.sides.now.target in
     let work = c.args.work.now in
     let items = c.args.plan.now.items in
-    let texts = journal_texts from.root to.root items in
+    let texts = journal_texts Same from.root to.root items in
     let told = g.F.Folder.told c.args.folder.now in
     let left = g.R.Randoms.left c.args.random.now in
     let entered = g.F.Folder.told c.enter.new.folder in
@@ -290,17 +296,17 @@ returns-in_err-write-clause-written g c =
     let to = c.args.sides.now.target in
     let work = c.args.work.now in
     let items = c.args.plan.now.items in
-    let texts = journal_texts from.root to.root items in
+    let texts = journal_texts Same from.root to.root items in
     let told = g.F.Folder.told c.args.folder.now in
     let left = g.R.Randoms.left c.args.random.now in
     let entered = g.F.Folder.told c.enter.new.folder in
     let entering = changing_writes work (IsWorkOrStage work) (IsLeftOver work) to.root c.requires.apart.target told entered c.enter.ensures.enters.moments in
     let written = g.F.Folder.told c.write.new.folder in
     let j = c.in_ok-journal.journal in
-    let is = c.in_ok-journal.ensures.new ∙ ap (λ r. new_journal r c.root-2.result.now items) c.root.ensures ∙ ap (λ r. new_journal from.root r items) c.root-2.ensures in
+    let is = c.in_ok-journal.ensures.new ∙ ap (λ r. new_journal Same r c.root-2.result.now items) c.root.ensures ∙ ap (λ r. new_journal Same from.root r items) c.root-2.ensures in
     let writing = subst (λ (k : Journal). WritesBeside to.root (λ file. Contains (journal_text k ∷ []) file) entered written) is (journal_written work to.root c.requires.apart.target j entered written c.write.ensures.moments) in
-    let first = journal_text (new_journal from.root to.root items) ∷ [] in
-    let last = journal_text (done_of (new_journal from.root to.root items)) ∷ [] in
+    let first = journal_text (new_journal Same from.root to.root items) ∷ [] in
+    let last = journal_text (done_of (new_journal Same from.root to.root items)) ∷ [] in
     let so_far = beside_on to.root (λ file. ⊥) (λ file. Contains first file) (λ file. Contains first file) (λ file none. absurd none) (λ file text. text) told entered written entering writing in
     let p = err_from_is_err_and c.from_residual-in_err-write.result c.from_residual-in_err-write.ensures.1 in
     refused_as (λ answer. WritesBy answer from to (lacked [] items) texts left left told written) c.from_residual-in_err-write.result p.0 (of_folder c.in_err-write.field-0.0) p.1 p.2
@@ -313,17 +319,17 @@ returns-clause-written g c =
     let to = c.args.sides.now.target in
     let work = c.args.work.now in
     let items = c.args.plan.now.items in
-    let texts = journal_texts from.root to.root items in
+    let texts = journal_texts Same from.root to.root items in
     let told = g.F.Folder.told c.args.folder.now in
     let left = g.R.Randoms.left c.args.random.now in
     let entered = g.F.Folder.told c.enter.new.folder in
     let entering = changing_writes work (IsWorkOrStage work) (IsLeftOver work) to.root c.requires.apart.target told entered c.enter.ensures.enters.moments in
     let written = g.F.Folder.told c.write.new.folder in
     let j = c.in_ok-journal.journal in
-    let is = c.in_ok-journal.ensures.new ∙ ap (λ r. new_journal r c.root-2.result.now items) c.root.ensures ∙ ap (λ r. new_journal from.root r items) c.root-2.ensures in
+    let is = c.in_ok-journal.ensures.new ∙ ap (λ r. new_journal Same r c.root-2.result.now items) c.root.ensures ∙ ap (λ r. new_journal Same from.root r items) c.root-2.ensures in
     let writing = subst (λ (k : Journal). WritesBeside to.root (λ file. Contains (journal_text k ∷ []) file) entered written) is (journal_written work to.root c.requires.apart.target j entered written c.write.ensures.moments) in
-    let first = journal_text (new_journal from.root to.root items) ∷ [] in
-    let last = journal_text (done_of (new_journal from.root to.root items)) ∷ [] in
+    let first = journal_text (new_journal Same from.root to.root items) ∷ [] in
+    let last = journal_text (done_of (new_journal Same from.root to.root items)) ∷ [] in
     let so_far = beside_on to.root (λ file. ⊥) (λ file. Contains first file) (λ file. Contains first file) (λ file none. absurd none) (λ file text. text) told entered written entering writing in
     let after = g.F.Folder.told c.go_on.new.folder in
     let left2 = g.R.Randoms.left c.go_on.new.random in

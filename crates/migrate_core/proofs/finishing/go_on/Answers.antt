@@ -10,7 +10,7 @@ use Rattle.migrate_core.proofs.Movings.{moves_on, moves_to, moves_within, source
 use Rattle.migrate_core.proofs.WorkFolders.{beside_staged, journal_stays, placing_has, tidy_placed, work_folder_stays}
 use Rattle.migrate_core.specs.Leading.{Goes, progress_of}
 use Rattle.migrate_core.proofs.Endings.{if_ok_more}
-use Rattle.migrate_core.specs.Moved.{Moved, StandsIn, StaysTidyWork, lacking, done_of}
+use Rattle.migrate_core.specs.Moved.{Moved, StaysTidyWork, lacking, done_of}
 use Rattle.migrate_core.specs.Moving.{MovesOnly}
 use Rattle.migrate_core.specs.Copying.{CopiesAll, HasCopied}
 use Rattle.migrate_core.specs.Sides.{AllowsEach, IsWalked, StandAll}
@@ -19,6 +19,7 @@ use Rattle.migrate_core.specs.Written.{WritesAll, WritesBy, WritesFirst, lacked}
 use Rattle.migrate_core.proofs.Writings.{by_all, by_texts, then_texts}
 use Rattle.migrate_core.proofs.Causing.{refused_as}
 use Rattle.move_journal.specs.Journal.{journal_text}
+use Rattle.move_journal.specs.Reading.{StandsIn}
 use Rattle.migrate_core.proofs.Stopping.{later_seen}
 use Rattle.migrate_core.specs.Causes.{StopsSeen}
 use Rattle.migrate_core.proofs.Limits.{ends_later, ends_stopped}
@@ -101,7 +102,7 @@ finish-requires-clause-stands g c phase =
     (moves_to (is_apart c.args.work.now root) root told here c.place_missing.ensures.moves) (c.requires.stands phase))
 
 pub returns-clause-moved : goal.returns-clause-moved
-returns-clause-moved g c = subst (λ w. Moved c.args.sides.now.source c.args.sides.now.target w (g.F.Folder.told c.finish.new.folder) c.finish.result) c.at.ensures c.finish.ensures.moved
+returns-clause-moved g c = subst (λ w. Moved c.args.journal.names c.args.sides.now.source c.args.sides.now.target w (g.F.Folder.told c.finish.new.folder) c.finish.result) c.at.ensures c.finish.ensures.moved
 
 pub returns-clause-placed : goal.returns-clause-placed
 returns-clause-placed g c =

@@ -1,11 +1,12 @@
 use Rattle.std.proofs.Common.{Ok, subst, Contains, [], refl, ◌∷◌}
 use Rattle.std.proofs.lemmas.Result.{err_from_is_err_and}
 use Rattle.migrate_core.proofs.Endings.{says_done_here, says_failed, written_stands}
-use Rattle.migrate_core.specs.Moved.{StandsIn, done_of}
+use Rattle.migrate_core.specs.Moved.{done_of}
 use Rattle.migrate_core.proofs.WorkFolders.{tidy_unchanged, tidy_written, written_beside, written_moves}
 use Rattle.migrate_core.proofs.Writings.{journal_written, only_nowhere}
 use Rattle.migrate_core.specs.Written.{BringsOnlyTo}
 use Rattle.move_journal.specs.Journal.{journal_text}
+use Rattle.move_journal.specs.Reading.{StandsIn}
 use Rattle.migrate_core.proofs.finishing.say_done.Goals as goal
 
 pub returns-in_ok-write-in-Building-clause-guard : goal.returns-in_ok-write-in-Building-clause-guard
@@ -33,7 +34,7 @@ returns-in_err-write-in-Building-clause-moves g c root apart =
 pub returns-in-Done-clause-says : goal.returns-in-Done-clause-says
 returns-in-Done-clause-says g c v is =
     let j = c.args.journal in
-    subst (λ p. StandsIn c.args.work.now (record { phase = p; source = j.source; target = j.target; items = j.items; plan = j.plan }) v) c.in-Done.is (c.requires.stands c.in-Done.is v is)
+    subst (λ p. StandsIn c.args.work.now (record { phase = p; names = j.names; source = j.source; target = j.target; items = j.items; plan = j.plan }) v) c.in-Done.is (c.requires.stands c.in-Done.is v is)
 
 pub returns-in_ok-write-in-Building-clause-says : goal.returns-in_ok-write-in-Building-clause-says
 returns-in_ok-write-in-Building-clause-says g c =

@@ -16,7 +16,7 @@ use Rattle.migrate_core.proofs.WorkFolders.{staging_has, work_folder_stays}
 use Rattle.folder_spec.specs.Seen.{IfSeen}
 use Rattle.migrate_core.proofs.WorkFolders.{journal_stays}
 use Rattle.migrate_core.proofs.Endings.{if_ok_more}
-use Rattle.migrate_core.specs.Moved.{Moved, StandsIn, lacking, done_of}
+use Rattle.migrate_core.specs.Moved.{Moved, lacking, done_of}
 use Rattle.migrate_core.proofs.Causing.{moves_pass, refused_as, work_refused}
 use Rattle.migrate_core.specs.Causes.{IsOfMoving, Moves, Unless, StopsAt, StopsSeen}
 use Rattle.migrate_core.specs.Copying.{HasCopied, HaveOwnFolders}
@@ -25,6 +25,7 @@ use Rattle.migrate_core.specs.Faults.{of_work}
 use Rattle.migrate_core.proofs.Writings.{changing_writes, kept_by, lacked_is, nothing_yet, work_refuses, only_more, source_beside_at, texts_then}
 use Rattle.migrate_core.specs.Written.{BringsOnlyTo, WritesBy, lacked}
 use Rattle.move_journal.specs.Journal.{journal_text}
+use Rattle.move_journal.specs.Reading.{StandsIn}
 use Rattle.migrate_core.proofs.Blaming.{blamed_later}
 use Rattle.migrate_core.proofs.Stopping.{if_stops_before, seen_stops}
 use Rattle.migrate_core.proofs.Leadings.{seen_then}
@@ -131,7 +132,7 @@ go_on-requires-clause-stands g c phase =
     (stage_stays work c.args.sides.now.target.root t0 t1 c.requires.apart.target c.again.ensures.restages.moments) (λ v is. (c.requires.used v is).stands))
 
 pub returns-clause-moved : goal.returns-clause-moved
-returns-clause-moved g c = subst (λ w. Moved c.args.sides.now.source c.args.sides.now.target w (g.F.Folder.told c.go_on.new.folder) c.go_on.result) c.in_ok-again.ensures.path c.go_on.ensures.moved
+returns-clause-moved g c = subst (λ w. Moved c.args.journal.names c.args.sides.now.source c.args.sides.now.target w (g.F.Folder.told c.go_on.new.folder) c.go_on.result) c.in_ok-again.ensures.path c.go_on.ensures.moved
 
 pub returns-clause-placed : goal.returns-clause-placed
 returns-clause-placed g c =

@@ -5,13 +5,14 @@ use Rattle.move_journal.specs.declared.journal.Journal.{Journal}
 use Rattle.migrate_core.specs.Leading.{KeepsSettled}
 use Rattle.migrate_core.specs.Moving.{MovesOnly}
 use Rattle.migrate_core.proofs.Movings.{moves_nowhere}
-use Rattle.migrate_core.proofs.Settled.{in_use, journal_folder, journal_stands, one_journal, still_settled}
+use Rattle.migrate_core.proofs.Settled.{in_use, journal_folder, still_settled}
 use Rattle.migrate_core.proofs.Endings.{if_ok_more}
 use Rattle.migrate_core.specs.Moved.{MovesTold, MovesTree}
 use Rattle.migrate_core.proofs.Causing.{journal_refused, own_passes, own_refused, refused_as, then_passes, work_refused}
 use Rattle.migrate_core.specs.Causes.{Resumes, ResumesTold, TestsApart, Then, Unless, is_done, own}
 use Rattle.work_folder.specs.Looking.{Gives, TestsEntries}
 use Rattle.move_journal.specs.Reading.{ReadsAs, journal_bytes}
+use Rattle.move_journal.proofs.Standing.{read_stands}
 use Rattle.migrate_core.specs.Faults.{of_journal, of_work}
 use Rattle.migrate_core.specs.declared.placing.Done.{Done}
 use Rattle.std.proofs.lemmas.Result.{err_from_is_err_and}
@@ -63,7 +64,7 @@ returns-clause-moves g c = λ v journal seen is stands.
     let t3 = g.F.Folder.told c.resume_told.new.folder in
     let read = c.in_ok-journal.journal in
     subst (λ (j : Journal). MovesOnly c.args.work.now j.target (g.F.Folder.told c.args.folder.now) t3)
-    (one_journal c.journals_are_read_back.ensures.one v c.args.work.now read journal c.in_ok-journal.ensures.journal (c.in_ok-journal.ensures.answer v seen) is stands)
+    (c.journals_are_read_back.ensures.stands c.args.work.now v read journal c.in_ok-journal.ensures.journal is (read_stands c.args.work.now v read (c.in_ok-journal.ensures.answer v seen)) stands)
     (subst (λ t. MovesOnly c.args.work.now read.target t t3) (c.look_again.ensures.told ∙ c.read.ensures.told) c.resume_told.ensures.moves)
 
 pub returns-clause-moved : goal.returns-clause-moved
@@ -75,12 +76,12 @@ returns-clause-moved g c =
     let pass = c.args.source_pass.now in
     let pass' = c.args.target_pass.now in
     let read = c.in_ok-journal.journal in
-    if_ok_more (λ done. MovesTree read.source read.target work pass pass' done t2 t3) (λ done. IfSeen t0 (λ v. MovesTold work pass pass' done t0 t3 v)) c.resume_told.result
+    if_ok_more (λ done. MovesTree read.names read.source read.target work pass pass' done t2 t3) (λ done. IfSeen t0 (λ v. MovesTold work pass pass' done t0 t3 v)) c.resume_told.result
     (λ done moves v seen. record {
       journal = read;
       is = c.in_ok-journal.ensures.journal;
-      stands = journal_stands v work read (c.in_ok-journal.ensures.answer v seen);
-      moves = subst (λ t. MovesTree read.source read.target work pass pass' done t t3) (c.look_again.ensures.told ∙ c.read.ensures.told) moves;
+      stands = read_stands work v read (c.in_ok-journal.ensures.answer v seen);
+      moves = subst (λ t. MovesTree read.names read.source read.target work pass pass' done t t3) (c.look_again.ensures.told ∙ c.read.ensures.told) moves;
     }) c.resume_told.ensures.moved
 
 pub returns-in_err-journal-clause-cause : goal.returns-in_err-journal-clause-cause
@@ -180,8 +181,8 @@ returns-clause-written g c v seen =
     let pass = c.args.source_pass.now in
     let pass' = c.args.target_pass.now in
     let same = c.look_again.ensures.told ∙ c.read.ensures.told in
-    told_of c.resume_told.result c.args.work.now pass pass' left left2 told after v read c.in_ok-journal.ensures.journal (journal_stands v c.args.work.now read (c.in_ok-journal.ensures.answer v seen))
-    (subst (λ t. MayWriteTree c.resume_told.result read.source read.target pass pass' left left2 t after) same (c.resume_told.ensures.written v (subst (λ t. IsSeen t v) (sym same) seen)))
+    told_of c.resume_told.result c.args.work.now pass pass' left left2 told after v read c.in_ok-journal.ensures.journal (read_stands c.args.work.now v read (c.in_ok-journal.ensures.answer v seen))
+    (subst (λ t. MayWriteTree c.resume_told.result read.names read.source read.target pass pass' left left2 t after) same (c.resume_told.ensures.written v (subst (λ t. IsSeen t v) (sym same) seen)))
 
 pub returns-in_err-journal-clause-too_long : goal.returns-in_err-journal-clause-too_long
 returns-in_err-journal-clause-too_long g c v seen =
@@ -213,6 +214,6 @@ returns-clause-too_long g c v seen =
     (λ at passes. record {
       journal = read;
       is = c.in_ok-journal.ensures.journal;
-      stands = journal_stands v work read (c.in_ok-journal.ensures.answer v seen);
+      stands = read_stands work v read (c.in_ok-journal.ensures.answer v seen);
       passes = subst (λ t. PassesInTree read.source read.target pass pass' t t3 at) (c.look_again.ensures.told ∙ c.read.ensures.told) passes;
     }) c.resume_told.ensures.too_long

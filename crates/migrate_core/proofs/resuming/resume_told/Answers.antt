@@ -60,7 +60,7 @@ returns-clause-guard g c = λ migration resumed.
     (λ a is settled.
     let v = seen a.state in
     let shown = subst (λ t. IsSeen t v) (sym c.test_source.ensures.told) (seen_of t0 a is) in
-    let again = resumes c.roots_have_one_answer.ensures c.guarded_migrations_are_seen.ensures.case c.journals_are_read_back.ensures.one migration a.state sides.source sides.target c.args.work.now journal
+    let again = resumes c.roots_have_one_answer.ensures c.guarded_migrations_are_seen.ensures.case c.journals_are_read_back.ensures.stands migration a.state sides.source sides.target c.args.work.now journal
     c.args.source_pass.now c.args.target_pass.now resumed c.requires.journal settled (c.requires.used v (seen_of t0 a is)) (record { stands = loads.source; loads = loads.opens_source v shown })
     (record { stands = loads.target; loads = loads.opens_target v shown }) in (
       again.found.alone,
@@ -83,7 +83,7 @@ pub returns-clause-moved : goal.returns-clause-moved
 returns-clause-moved g c =
     let sides = c.in_ok-sides.sides in
     let loads = c.in_ok-sides.ensures in
-    tree_moved (Unit {0}) c.args.journal.source c.args.journal.target c.args.work.now c.args.source_pass.now c.args.target_pass.now sides.source sides.target (g.F.Folder.told c.args.folder.now)
+    tree_moved (Unit {0}) c.args.journal.names c.args.journal.source c.args.journal.target c.args.work.now c.args.source_pass.now c.args.target_pass.now sides.source sides.target (g.F.Folder.told c.args.folder.now)
     (g.F.Folder.told c.resume_with.new.folder) c.resume_with.result loads.source loads.target (g.met.F.Folder.sound c.args.folder.now)
     (subst (λ root. MovesOnly c.args.work.now root (g.F.Folder.told c.args.folder.now) (g.F.Folder.told c.resume_with.new.folder)) loads.target
     (subst (λ t. MovesOnly c.args.work.now sides.target.root t (g.F.Folder.told c.resume_with.new.folder)) (c.load_both.ensures.told ∙ c.test_source.ensures.told) c.resume_with.ensures.moves)) (λ v is. loads.opens_source v (subst (λ t. IsSeen t v) (sym c.test_source.ensures.told) is))
@@ -161,9 +161,9 @@ returns-clause-written g c v seen =
     let sides = c.in_ok-sides.sides in
     let loads = c.in_ok-sides.ensures in
     let same = c.load_both.ensures.told ∙ c.test_source.ensures.told in
-    tree_of c.resume_with.result c.args.journal.source c.args.journal.target c.args.source_pass.now c.args.target_pass.now sides.source sides.target left left2 told after loads.source loads.target
+    tree_of c.resume_with.result c.args.journal.names c.args.journal.source c.args.journal.target c.args.source_pass.now c.args.target_pass.now sides.source sides.target left left2 told after loads.source loads.target
     (λ w is. loads.opens_source w (subst (λ t. IsSeen t w) (sym c.test_source.ensures.told) is)) (λ w is. loads.opens_target w (subst (λ t. IsSeen t w) (sym c.test_source.ensures.told) is))
-    (subst (λ t. MayWrite c.resume_with.result sides.source sides.target left left2 t after) same (c.resume_with.ensures.written v (subst (λ t. IsSeen t v) (sym same) seen)))
+    (subst (λ t. MayWrite c.resume_with.result c.args.journal.names sides.source sides.target left left2 t after) same (c.resume_with.ensures.written v (subst (λ t. IsSeen t v) (sym same) seen)))
 
 pub returns-in_err-test_source-clause-too_long : goal.returns-in_err-test_source-clause-too_long
 returns-in_err-test_source-clause-too_long g c =

@@ -158,7 +158,7 @@ returns-clause-written g c v seen =
       there = there;
       items_are = c.in_ok-plans.ensures.source.plan;
       there_are = c.in_ok-plans.ensures.target.plan;
-      writes = by_texts from to (lacked there items) (journal_text (done_of journal) ∷ []) (journal_texts from.root to.root items) left left2 told after text c.place_rest.result
+      writes = by_texts from to (lacked there items) (journal_text (done_of journal) ∷ []) (journal_texts journal.names from.root to.root items) left left2 told after text c.place_rest.result
           (subst (λ t. WritesBy c.place_rest.result from to (lacked there items) (journal_text (done_of journal) ∷ []) left left2 t after) same
           (c.place_rest.ensures.written v (subst (λ t. IsSeen t v) (sym same) seen)));
     })

@@ -17,13 +17,14 @@ use Rattle.migrate_core.specs.Causes.{Compares, PassesOr, Then, Walks, own}
 use Rattle.migrate_core.specs.Completing.{IsShallow}
 use Rattle.migrate_core.specs.Moved.{opened_in}
 use Rattle.migrate_core.specs.Sides.{side_of}
-use Rattle.move_journal.specs.Journal.{IsJournal, journal_text}
-use Rattle.move_journal.specs.Reading.{ReadsAs, file_bytes, journal_bytes}
+use Rattle.move_journal.specs.Journal.{IsJournal}
+use Rattle.move_journal.specs.Reading.{ReadsAs, file_bytes, journal_bytes, StandsIn}
 use Rattle.move_journal.specs.Writing.{GivesBack}
 use Rattle.move_journal.specs.declared.journal.Journal.{Journal}
 use Rattle.move_journal.specs.declared.journal.JournalFault.{JournalFault}
 use Rattle.move_journal.specs.declared.journal.JournalFault.TheVariants as journals
 use Rattle.move_journal.specs.declared.journal.Phase.TheVariants as phase
+use Rattle.move_journal.proofs.Standing.{ReadsBack, not_missing}
 use Rattle.plain_tree.specs.Names as plain
 use Rattle.plain_tree.specs.declared.NodeKind.{NodeKind}
 use Rattle.plain_tree.specs.declared.NodeKind.TheVariants.{Dir, File}
@@ -89,10 +90,7 @@ only_or passes fails fault answer never (inr failed) = absurd (never failed.0)
 
 -- ---- the journal, and the folders
 
-abbrev pub ReadsBack : Type 0
-ReadsBack = (j : Journal) (result : Result Journal JournalFault) → IsJournal j → ReadsAs (Some (journal_text j)) result → GivesBack j result
-
-module _ (reads : ReadsBack) (work : Path) (v : View) (journal : Journal) (is : IsJournal journal) (done : journal.phase ≡ phase.Done) (stands : v (journal_path work) ≡ FileOf (journal_text journal)) where
+module _ (reads : ReadsBack) (work : Path) (v : View) (journal : Journal) (is : IsJournal journal) (done : journal.phase ≡ phase.Done) (stands : StandsIn work journal v) where
   by_read : (t : Result Journal JournalFault) → GivesBack journal t → MatchResult t (λ k. k ≡ journal) (λ why. IsOfFolder (of_journal why))
   by_read (Ok k) back = back
   by_read (Err journals.NoJournal) back = absurd back
@@ -107,7 +105,7 @@ module _ (reads : ReadsBack) (work : Path) (v : View) (journal : Journal) (is : 
   read_met : (answer : Answer Journal) → ReadsDone work v answer → Only (λ x. x ≡ journal) answer
   read_met answer =
       met of_journal (ReadsAs (journal_bytes v work)) (λ (k : Journal). TestsPhase k k.phase) (λ k. k ≡ journal) (λ x. x ≡ journal) answer
-      (λ t tested. by_read t (reads journal t is (subst (λ x. ReadsAs (file_bytes x) t) stands tested))) (in_phase answer)
+      (λ t tested. by_read t (reads work v journal t is stands tested)) (in_phase answer)
 
 apart_met : (p q work : Path) → AreApart p q → AreApart p work → AreApart q work → (answer : Answer (Unit {0})) → TestsApart p q work answer → Only Any answer
 apart_met p q work one two three answer =
@@ -409,10 +407,7 @@ module _ (laws : AreCited) (g : Migration) (v : View) (folders : HasFolders v) (
         (λ k same tested. folders_met answer (subst (λ x. folders_next x answer) same tested))
 
   journal_there : HasJournal g phase.Done v → v (journal_path work) ≢ NoEntry
-  journal_there has none = clash (sym none ∙ has.stands)
-    where
-      clash : NoEntry ≡ FileOf (journal_text has.journal) → ⊥
-      clash e = cc e
+  journal_there has = not_missing work has.journal v has.stands
 
   -- what isn't foreign without `old` isn't with it
   with_old : HasNoForeign false v work → HasNoForeign true v work

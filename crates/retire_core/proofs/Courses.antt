@@ -14,10 +14,10 @@ use Rattle.folder_spec.specs.Seen.{IfSeen, IsSeen, seen}
 use Rattle.folder_spec.specs.State.{State, IsSound, present}
 use Rattle.folder_spec.specs.View.{FileOf, Folder, Found, NoEntry, Special, View, found, kind_found}
 use Rattle.migrate_core.specs.Leading.{KeepsGuarded}
-use Rattle.migrate_core.specs.Moved.{StandsIn}
 use Rattle.move_journal.specs.Journal.{IsJournal}
 use Rattle.move_journal.specs.declared.journal.Journal.{Journal}
 use Rattle.move_journal.specs.declared.journal.Phase.TheVariants as phase
+use Rattle.move_journal.specs.Reading.{StandsIn}
 use Rattle.tree_match.proofs.Guards.{ImagesShow, RootsAreAlike}
 use Rattle.tree_match.specs.Alone.{StaysGuarded}
 use Rattle.tree_match.specs.Guard.{AreApart, Guarded, Migration, old_path}

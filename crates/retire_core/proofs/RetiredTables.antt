@@ -14,9 +14,11 @@ use Rattle.folder_spec.specs.declared.Kind.{Kind}
 use Rattle.folder_spec.specs.declared.Kind.TheVariants as kind
 use Rattle.folder_spec.specs.declared.Spot.{Spot}
 use Rattle.folder_spec.specs.declared.Spot.TheVariants.{Nothing, FileNode}
-use Rattle.move_journal.specs.Journal.{IsJournal, journal_text}
+use Rattle.move_journal.specs.Journal.{IsJournal}
 use Rattle.move_journal.specs.declared.journal.Journal.{Journal}
 use Rattle.move_journal.specs.declared.journal.Phase.TheVariants as phase
+use Rattle.move_journal.proofs.Standing.{HaveOneJournal, not_missing}
+use Rattle.move_journal.specs.Reading.{StandsIn}
 use Rattle.tree_match.proofs.Guards.{ImagesShow, RootsAreAlike, guarded_by, journal_alike, kind_of_found, kinds_of, there_alike}
 use Rattle.tree_match.proofs.Kept.{apart_below, table_image}
 use Rattle.tree_match.specs.Guard as guard
@@ -136,27 +138,18 @@ rest_retired g s at none = record { sound = at.sound; separate = at.guarded.sepa
     by_case (guard.Done is) work = absurd (gone is.source)
     by_case (Retired is) work = record { clean = λ q n kept at_node. at.guarded.clean (present s) q n (present_is_table s) kept at_node; retired = is; work = work }
 
-abbrev pub HaveOneText : Type 0
-HaveOneText = (j k : Journal) → IsJournal j → IsJournal k → journal_text j ≡ journal_text k → j ≡ k
-
 -- where a source is seen, and a journal that says that all is done, all is
-pub rest_done : HaveOneText → (g : Migration) (s : State) (journal : Journal) → IsAtRest g s → seen s g.source.root ≢ NoEntry → IsJournal journal → journal.phase ≡ phase.Done
-    → seen s (journal_path g.work) ≡ FileOf (journal_text journal) → IsDone g (seen s)
-rest_done one_text g s journal at there is_journal done stands = by_case (rest_seen g s at).case
+pub rest_done : HaveOneJournal → (g : Migration) (s : State) (journal : Journal) → IsAtRest g s → seen s g.source.root ≢ NoEntry → IsJournal journal → journal.phase ≡ phase.Done
+    → StandsIn g.work journal (seen s) → IsDone g (seen s)
+rest_done one_journal g s journal at there is_journal done stands = by_case (rest_seen g s at).case
   where
-    clash : {a : List ℕ} → NoEntry ≡ FileOf a → ⊥
-    clash e = cc e
-
-    one_file : {a b : List ℕ} → FileOf a ≡ FileOf b → a ≡ b
-    one_file e = cc e
-
     differ : phase.Building ≢ phase.Done
     differ e = cc e
 
     by_case : Case g (seen s) → IsDone g (seen s)
-    by_case (NotBegun is) = absurd (clash (sym is.journal ∙ stands))
+    by_case (NotBegun is) = absurd (not_missing g.work journal (seen s) stands is.journal)
     by_case (Building is) =
-        let same : is.journal.journal ≡ journal = one_text is.journal.journal journal is.journal.is is_journal (one_file (sym is.journal.stands ∙ stands)) in
+        let same : is.journal.journal ≡ journal = one_journal g.work (seen s) is.journal.journal journal is.journal.is is_journal is.journal.stands stands in
         absurd (differ (sym is.journal.in_phase ∙ ap (λ (j : Journal). j.phase) same ∙ done))
     by_case (guard.Done is) = is
     by_case (Retired is) = absurd (there is.gone)

@@ -8,14 +8,15 @@ use Rattle.folder_spec.specs.Seen.{IfSeen, IsSeen, seen}
 use Rattle.folder_spec.specs.State.{State}
 use Rattle.folder_spec.specs.View.{FileOf, Folder, Found, NoEntry, Special, View, kind_found}
 use Rattle.folder_model.specs.Answers.{Answers}
-use Rattle.migrate_core.specs.Moved.{StandsIn}
 use Rattle.move_journal.specs.Journal.{IsJournal}
 use Rattle.move_journal.specs.declared.journal.Journal.{Journal}
 use Rattle.move_journal.specs.declared.journal.Phase.{Phase}
 use Rattle.move_journal.specs.declared.journal.Phase.TheVariants as phase
+use Rattle.move_journal.specs.Reading.{StandsIn}
+use Rattle.move_journal.proofs.Standing.{HaveOneJournal, not_missing}
 use Rattle.tree_match.specs.Guard as guard
 use Rattle.tree_match.specs.Guard.{Migration, Building, Case, Gone, HasJournal, IsDone, LastJournal, NotBegun, Retired, Stands}
-use Rattle.retire_core.proofs.RetiredTables.{HaveOneText, rest_done, rest_retired, rest_seen}
+use Rattle.retire_core.proofs.RetiredTables.{rest_done, rest_retired, rest_seen}
 use Rattle.retire_core.specs.Clearing.{MovesHeldOnly}
 use Rattle.retire_core.specs.Guarding.{ComesFromDone, ComesTo, IsAtRest, IsDoneAtRest, KeepsDone, KeepsFromRest}
 use Rattle.retire_core.specs.Retiring.{Retiring}
@@ -29,24 +30,18 @@ missing_none Special e = cc e
 
 -- ---- the journal names the source
 
-module _ (one_text : HaveOneText) (g : Migration) (s : State) (journal : Journal) (at : IsAtRest g s) (is_journal : IsJournal journal) (stands : StandsIn g.work journal (seen s)) where
-  clash : {a : List ℕ} → NoEntry ≡ FileOf a → ⊥
-  clash e = cc e
-
-  one_file : {a b : List ℕ} → FileOf a ≡ FileOf b → a ≡ b
-  one_file e = cc e
-
+module _ (one_journal : HaveOneJournal) (g : Migration) (s : State) (journal : Journal) (at : IsAtRest g s) (is_journal : IsJournal journal) (stands : StandsIn g.work journal (seen s)) where
   named : (p : Phase) → HasJournal g p (seen s) → journal.source ≡ g.source.root
   named p has =
-      let same : has.journal ≡ journal = one_text has.journal journal has.is is_journal (one_file (sym has.stands ∙ stands)) in
+      let same : has.journal ≡ journal = one_journal g.work (seen s) has.journal journal has.is is_journal has.stands stands in
       ap (λ (j : Journal). j.source) (sym same) ∙ has.tells.source
 
   by_last : LastJournal g (seen s) → journal.source ≡ g.source.root
   by_last (Stands has) = named phase.Done has
-  by_last (Gone none) = absurd (clash (sym none ∙ stands))
+  by_last (Gone none) = absurd (not_missing g.work journal (seen s) stands none)
 
   by_case : Case g (seen s) → journal.source ≡ g.source.root
-  by_case (NotBegun is) = absurd (clash (sym is.journal ∙ stands))
+  by_case (NotBegun is) = absurd (not_missing g.work journal (seen s) stands is.journal)
   by_case (Building is) = named phase.Building is.journal
   by_case (guard.Done is) = named phase.Done is.journal
   by_case (Retired is) = by_last is.journal
@@ -58,13 +53,13 @@ module _ (one_text : HaveOneText) (g : Migration) (s : State) (journal : Journal
 
 -- what a run knows of a journal
 pub record IsKnown (g : Migration) (journal : Journal) (t : Option Told) : Type 0 where
-  pub one_text : HaveOneText
+  pub one_journal : HaveOneJournal
   pub is : IsJournal journal
   pub done : journal.phase ≡ phase.Done
   pub stands : IfSeen t (λ v. StandsIn g.work journal v)
 
 source_is : (g : Migration) (journal : Journal) (a : Told) → IsKnown g journal (Some a) → IsAtRest g a.state → journal.source ≡ g.source.root
-source_is g journal a known at = names_source known.one_text g a.state journal at known.is (known.stands (seen a.state) refl)
+source_is g journal a known at = names_source known.one_journal g a.state journal at known.is (known.stands (seen a.state) refl)
 
 -- where the source isn't there, it is retired
 pub comes_missing : (g : Migration) (journal : Journal) (t u : Option Told) → IsKnown g journal t → u ≡ t → IfSeen t (λ v. v journal.source ≡ NoEntry) → ComesTo g t u
@@ -78,7 +73,7 @@ comes_missing g journal t u known same none = subst (λ w. ComesTo g t w) (sym s
 done_at : (g : Migration) (journal : Journal) (a : Told) → IsKnown g journal (Some a) → IfSeen (Some a) (λ v. v journal.source ≢ NoEntry) → IsAtRest g a.state → IsDoneAtRest g a.state
 done_at g journal a known there at = record {
   rest = at;
-  done = rest_done known.one_text g a.state journal at (subst (λ p. seen a.state p ≢ NoEntry) (source_is g journal a known at) (there (seen a.state) refl)) known.is known.done (known.stands (seen a.state) refl);
+  done = rest_done known.one_journal g a.state journal at (subst (λ p. seen a.state p ≢ NoEntry) (source_is g journal a known at) (there (seen a.state) refl)) known.is known.done (known.stands (seen a.state) refl);
 }
 
 pub rest_by_done : (g : Migration) (journal : Journal) (r : Retiring) (t u : Option Told) → IsKnown g journal t → IfSeen t (λ v. v journal.source ≢ NoEntry) → MovesHeldOnly r t u
@@ -102,15 +97,6 @@ there_by_kind t at k answer isnt v is none = isnt ((answer v is).1 ∙ ap kind_f
 
 pub missing_by_kind : (t : Option Told) (at : Path) (k : Kind) → Answers t (λ v. Unit {0}) (λ v kind. kind ≡ kind_found (v at)) (Ok k) → k ≡ kind.Missing → IfSeen t (λ v. v at ≡ NoEntry)
 missing_by_kind t at k answer is v shown = missing_none (v at) (sym (answer v shown).1 ∙ is)
-
--- ---- the journal that was read
-
--- no other journal stands there
-pub one_journal : HaveOneText → (v : View) (work : Path) (journal other : Journal) → IsJournal journal → StandsIn work journal v → IsJournal other → StandsIn work other v → journal ≡ other
-one_journal one_text v work journal other is stands is_other stands_too = one_text journal other is is_other (one_file (sym stands ∙ stands_too))
-  where
-    one_file : {a b : List ℕ} → FileOf a ≡ FileOf b → a ≡ b
-    one_file e = cc e
 
 -- ---- answers
 

@@ -7,11 +7,12 @@ use Rattle.folder_spec.specs.Region.{IsAsBefore, apart_from_both, at_or_below}
 use Rattle.folder_spec.specs.Seen.{IfSeen, seen, under}
 use Rattle.folder_spec.specs.State.{State}
 use Rattle.folder_spec.specs.View.{NoEntry, View}
-use Rattle.migrate_core.specs.Moved.{StandsIn, opened_in}
+use Rattle.migrate_core.specs.Moved.{opened_in}
 use Rattle.move_journal.specs.Journal.{IsJournal}
 use Rattle.move_journal.specs.declared.journal.Journal.{Journal}
 use Rattle.move_journal.specs.declared.journal.Phase.{Phase}
 use Rattle.move_journal.specs.declared.journal.Phase.TheVariants.{Done}
+use Rattle.move_journal.specs.Reading.{StandsIn}
 use Rattle.tree_match.specs.Guard.{IsPartOf, old_path}
 use Rattle.vault_read.specs.Laws.{HasOwnFolders}
 use Rattle.vault_read.specs.Opened.{OpenedVault}

@@ -5,7 +5,7 @@ pub returns : goal.returns
 returns c = λ g v answer folders can tested.
     goes_through
     (record {
-      reads = c.journals_are_read_back.ensures.read;
+      reads = c.journals_are_read_back.ensures.found;
       one = c.roots_have_one_answer.ensures;
       alike = c.what_is_held_opens_the_same.ensures.alike;
       none_special = c.clean_vaults_have_only_files_and_directories.ensures;

@@ -1,11 +1,11 @@
 use denote.Enum.Bare.{same_true, sameb}
+use Rattle.move_journal.specs.Reading.{StandsIn}
 use Rattle.std.proofs.Common.{rules, true, false, ap, ◌≡◌, ◌≢◌, ◌∙◌, arith, subst, sym, inl, inr, refl}
 use Rattle.std.proofs.lemmas.Result.{err_from_is_err_and}
 use Rattle.folder_spec.specs.Seen.{IfSeen, IsSeen, moved_view}
 use Rattle.folder_spec.specs.View.{View}
 use Rattle.folder_spec.specs.contracts.Kind.{the_type}
 use Rattle.folder_spec.specs.declared.Kind.TheVariants.{Missing}
-use Rattle.migrate_core.specs.Moved.{StandsIn}
 use Rattle.migrate_core.specs.Sides.{IsResumed}
 use Rattle.tree_match.specs.Guard.{Migration, old_path}
 use Rattle.retire_core.proofs.Blaming.{blamed_kind}
@@ -40,7 +40,7 @@ returns-then-eq-clause-comes g c = λ migration resumed.
     let journal = c.args.journal.now in
     let kind = c.in_ok-kind.field-0 in
     let missing : kind ≡ Missing = same_true the_type (search rules) kind Missing (sym c.eq.ensures ∙ c.if-eq.true) in
-    let known : IsKnown migration journal t0 = record { one_text = c.journals_are_read_back.ensures.one; is = c.requires.journal; done = c.requires.phase; stands = λ v seen. subst (λ w. StandsIn w journal v) (sym resumed.work) (c.requires.stands v seen) } in
+    let known : IsKnown migration journal t0 = record { one_journal = c.journals_are_read_back.ensures.stands; is = c.requires.journal; done = c.requires.phase; stands = λ v seen. subst (λ w. StandsIn w journal v) (sym resumed.work) (c.requires.stands v seen) } in
     comes_missing migration journal t0 (g.F.Folder.told c.kind.new.self) known c.kind.ensures.told (missing_by_kind t0 journal.source kind c.in_ok-kind.ensures.answer missing)
 
 pub returns-in_err-test_free-clause-moves : goal.returns-in_err-test_free-clause-moves
@@ -56,7 +56,7 @@ returns-clause-guard g c = λ migration resumed.
     let kind = c.in_ok-kind.field-0 in
     let isnt : kind ≢ Missing = (λ is. let equal : false ≡ true = sym c.if-eq.false ∙ c.eq.ensures ∙ ap (λ k. sameb the_type k Missing) is in cc equal) in
     let r = retiring_by c.args.work.now c.args.source_pass.now c.args.target_pass.now journal in
-    let known : IsKnown migration journal t0 = record { one_text = c.journals_are_read_back.ensures.one; is = c.requires.journal; done = c.requires.phase; stands = λ v seen. subst (λ w. StandsIn w journal v) (sym resumed.work) (c.requires.stands v seen) } in
+    let known : IsKnown migration journal t0 = record { one_journal = c.journals_are_read_back.ensures.stands; is = c.requires.journal; done = c.requires.phase; stands = λ v seen. subst (λ w. StandsIn w journal v) (sym resumed.work) (c.requires.stands v seen) } in
     rest_by_done migration journal r t0 t3 known (there_by_kind t0 journal.source kind c.in_ok-kind.ensures.answer isnt) (subst (λ t. MovesHeldOnly r t t3) same c.move_held.ensures.moves)
     (λ at_source. subst (λ t. KeepsDone migration t t3) same (c.move_held.ensures.guard migration at_source resumed.work))
 
@@ -75,7 +75,7 @@ returns-clause-comes g c =
     ((migration : Migration) → IsResumed migration work c.args.source_pass.now c.args.target_pass.now → ComesTo migration t0 t3) c.move_held.result
     (λ comes migration resumed.
     comes_by_done migration journal r t0 t3
-    (record { one_text = c.journals_are_read_back.ensures.one; is = c.requires.journal; done = c.requires.phase; stands = λ v seen. subst (λ w. StandsIn w journal v) (sym resumed.work) (c.requires.stands v seen) })
+    (record { one_journal = c.journals_are_read_back.ensures.stands; is = c.requires.journal; done = c.requires.phase; stands = λ v seen. subst (λ w. StandsIn w journal v) (sym resumed.work) (c.requires.stands v seen) })
     (there_by_kind t0 journal.source kind c.in_ok-kind.ensures.answer isnt) (subst (λ t. MovesHeldOnly r t t3) same c.move_held.ensures.moves)
     (λ at_source. subst (λ t. ComesFromDone migration t t3) same (comes migration at_source resumed.work))) c.move_held.ensures.comes
 

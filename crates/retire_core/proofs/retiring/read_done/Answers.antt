@@ -5,6 +5,7 @@ use Rattle.retire_core.specs.Faults.{of_journal}
 use Rattle.std.proofs.Common.{Err, Ok, inr, refl, subst, sym}
 use Rattle.move_journal.specs.Reading.{ReadsAs, journal_bytes}
 use Rattle.move_journal.specs.declared.journal.Journal.{Journal}
+use Rattle.move_journal.proofs.Standing.{read_stands}
 use Rattle.retire_core.specs.declared.fault.RetireFault.TheVariants.{Unfinished}
 use Rattle.retire_core.proofs.retiring.read_done.Goals as goal
 
@@ -25,3 +26,6 @@ returns-in-Done-clause-cause g c v seen =
     let read = c.in_ok-journal.journal in
     then_passes of_journal (ReadsAs (journal_bytes v c.args.work.now)) (λ (journal : Journal). TestsPhase journal journal.phase) (Ok read) read (c.in_ok-journal.ensures.answer v seen)
     (inr (inr (subst (λ p. TestsPhase read p (Ok read)) (sym c.in-Done.is) refl)))
+
+pub returns-in-Done-clause-stands : goal.returns-in-Done-clause-stands
+returns-in-Done-clause-stands g c v seen = read_stands c.args.work.now v c.in_ok-journal.journal (c.in_ok-journal.ensures.answer v seen)

@@ -1,16 +1,15 @@
 use Rattle.std.proofs.Common.{◌≤◌, arith, ◌≡◌, ◌∙◌, codes, subst, sym}
 use Rattle.folder_spec.specs.Seen.{IsSeen}
 use Rattle.folder_spec.specs.View.{FileOf, NoEntry}
-use Rattle.migrate_core.specs.Moved.{StandsIn}
-use Rattle.move_journal.specs.Journal.{journal_text}
 use Rattle.move_journal.specs.declared.journal.Journal.{Journal}
+use Rattle.move_journal.specs.Reading.{StandsIn}
+use Rattle.move_journal.proofs.Standing.{not_missing}
 use Rattle.std.proofs.lemmas.Result.{err_from_is_err_and}
 use Rattle.port_model.specs.Counts.{CountRose}
 use Rattle.retire_core.proofs.Blaming.{blamed_later, if_err_both, later_own}
 use Rattle.retire_core.specs.Faults.{Blamed, IsLaterFault, IsRetireFault, of_work}
 use Rattle.retire_core.proofs.Courses.{folder_above, in_order, removes_same, retired_by, touches_same}
 use Rattle.retire_core.proofs.Going.{rest_same}
-use Rattle.retire_core.proofs.Starts.{one_journal}
 use Rattle.retire_core.specs.Guarding.{KeepsFromRest}
 use Rattle.retire_core.specs.Retiring.{RemovesOnly, TouchesOnly, retiring_by}
 use Rattle.retire_core.proofs.Causing.{foreign, is_told, not_done, overlapping, refused_as}
@@ -43,7 +42,7 @@ pub look_again-requires : goal.look_again-requires
 look_again-requires g c = λ v seen.
     let stands : StandsIn c.args.work.now c.in_ok-journal.journal v = c.in_ok-journal.ensures.stands v (subst (λ t. IsSeen t v) c.read_done.ensures.told seen) in
     folder_above (g.F.Folder.told c.read_done.new.folder) (g.met.F.Folder.sound c.read_done.new.folder) v seen c.args.work.now (codes "journal")
-    (λ none. let clash : NoEntry ≡ FileOf (journal_text c.in_ok-journal.journal) = sym none ∙ stands in cc clash)
+    (not_missing c.args.work.now c.in_ok-journal.journal v stands)
 
 pub returns-in_err-look_again-clause-guard : goal.returns-in_err-look_again-clause-guard
 returns-in_err-look_again-clause-guard g c = λ migration resumed.
@@ -63,8 +62,8 @@ retire_told-requires-clause-stands g c = λ v seen. c.in_ok-journal.ensures.stan
 pub retire_told-requires-clause-order : goal.retire_told-requires-clause-order
 retire_told-requires-clause-order g c = λ v seen.
     let before = subst (λ t. IsSeen t v) c.look_again.ensures.told seen in
-    in_order (g.F.Folder.told c.look_again.new.folder) (g.met.F.Folder.sound c.look_again.new.folder) v seen c.args.work.now (journal_text c.in_ok-journal.journal)
-    (c.in_ok-journal.ensures.stands v (subst (λ t. IsSeen t v) c.read_done.ensures.told before)) (c.in_ok-look_again.ensures.answer v before)
+    let stands : StandsIn c.args.work.now c.in_ok-journal.journal v = c.in_ok-journal.ensures.stands v (subst (λ t. IsSeen t v) c.read_done.ensures.told before) in
+    in_order (g.F.Folder.told c.look_again.new.folder) (g.met.F.Folder.sound c.look_again.new.folder) v seen c.args.work.now stands.text stands.file (c.in_ok-look_again.ensures.answer v before)
 
 pub returns-clause-guard : goal.returns-clause-guard
 returns-clause-guard g c = λ migration resumed.
@@ -78,7 +77,7 @@ returns-clause-touches g c = λ v journal seen is stands.
     let pass = c.args.source_pass.now in
     let pass_too = c.args.target_pass.now in
     subst (λ (j : Journal). TouchesOnly (retiring_by work pass pass_too j) (g.F.Folder.told c.args.folder.now) t3)
-    (one_journal c.journals_are_read_back.ensures.one v work read journal c.in_ok-journal.ensures.journal (c.in_ok-journal.ensures.stands v seen) is stands)
+    (c.journals_are_read_back.ensures.stands work v read journal c.in_ok-journal.ensures.journal is (c.in_ok-journal.ensures.stands v seen) stands)
     (subst (λ t. TouchesOnly (retiring_by work pass pass_too read) t t3) (c.look_again.ensures.told ∙ c.read_done.ensures.told) c.retire_told.ensures.touches)
 
 pub returns-clause-removes : goal.returns-clause-removes
@@ -89,7 +88,7 @@ returns-clause-removes g c = λ v journal seen is stands.
     let pass = c.args.source_pass.now in
     let pass_too = c.args.target_pass.now in
     subst (λ (j : Journal). RemovesOnly (retiring_by work pass pass_too j) (g.F.Folder.told c.args.folder.now) t3)
-    (one_journal c.journals_are_read_back.ensures.one v work read journal c.in_ok-journal.ensures.journal (c.in_ok-journal.ensures.stands v seen) is stands)
+    (c.journals_are_read_back.ensures.stands work v read journal c.in_ok-journal.ensures.journal is (c.in_ok-journal.ensures.stands v seen) stands)
     (subst (λ t. RemovesOnly (retiring_by work pass pass_too read) t t3) (c.look_again.ensures.told ∙ c.read_done.ensures.told) c.retire_told.ensures.removes)
 
 pub returns-clause-retired : goal.returns-clause-retired

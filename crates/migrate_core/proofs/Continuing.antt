@@ -25,8 +25,7 @@ use Rattle.migrate_core.specs.Faults.{IsMoveFault, of_journal, of_match, of_walk
 use Rattle.migrate_core.specs.Moved.{opened_in}
 use Rattle.migrate_core.specs.Sides.{AreTold, IsResumed, side_of}
 use Rattle.migrate_core.specs.declared.fault.MoveFault.TheVariants.{Changed, SourceGone}
-use Rattle.move_journal.specs.Journal.{IsJournal}
-use Rattle.move_journal.specs.Reading.{ReadsAs, file_bytes, journal_bytes}
+use Rattle.move_journal.specs.Reading.{ReadsAs, journal_bytes}
 use Rattle.move_journal.specs.Writing.{GivesBack}
 use Rattle.move_journal.specs.declared.journal.Journal.{Journal}
 use Rattle.move_journal.specs.declared.journal.JournalFault.{JournalFault}

@@ -10,7 +10,7 @@ use Rattle.folder_spec.specs.Seen.{IfSeen, IsSeen, seen, under}
 use Rattle.folder_spec.specs.State.{State, IsSound, present}
 use Rattle.folder_spec.specs.View.{Found, NoEntry, Folder, FileOf, Special, View, found, kind_found}
 use Rattle.move_journal.specs.Journal.{IsJournal}
-use Rattle.move_journal.specs.Reading.{ReadsAs, file_bytes, journal_bytes, journal_path, StandsIn}
+use Rattle.move_journal.specs.Reading.{ReadsAs, journal_bytes, journal_path, StandsIn}
 use Rattle.move_journal.specs.Writing.{new_journal_path}
 use Rattle.move_journal.specs.declared.journal.Journal.{Journal}
 use Rattle.move_journal.specs.declared.journal.Phase.{Phase}

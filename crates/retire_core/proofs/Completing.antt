@@ -18,7 +18,7 @@ use Rattle.migrate_core.specs.Completing.{IsShallow}
 use Rattle.migrate_core.specs.Moved.{opened_in}
 use Rattle.migrate_core.specs.Sides.{side_of}
 use Rattle.move_journal.specs.Journal.{IsJournal}
-use Rattle.move_journal.specs.Reading.{ReadsAs, file_bytes, journal_bytes, StandsIn}
+use Rattle.move_journal.specs.Reading.{ReadsAs, journal_bytes, StandsIn}
 use Rattle.move_journal.specs.Writing.{GivesBack}
 use Rattle.move_journal.specs.declared.journal.Journal.{Journal}
 use Rattle.move_journal.specs.declared.journal.JournalFault.{JournalFault}

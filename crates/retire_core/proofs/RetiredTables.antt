@@ -9,7 +9,7 @@ use Rattle.folder_spec.specs.Path.{Part, Path, below, child}
 use Rattle.folder_spec.specs.Region.{at_or_below}
 use Rattle.folder_spec.specs.Seen.{seen, under}
 use Rattle.folder_spec.specs.State.{Node, State, Table, IsAmong, IsClean, IsSound, IsTableOf, last_of, present, put}
-use Rattle.folder_spec.specs.View.{FileOf, Folder, NoEntry, View, found, kind_found, view_in}
+use Rattle.folder_spec.specs.View.{Folder, NoEntry, View, found, kind_found, view_in}
 use Rattle.folder_spec.specs.declared.Kind.{Kind}
 use Rattle.folder_spec.specs.declared.Kind.TheVariants as kind
 use Rattle.folder_spec.specs.declared.Spot.{Spot}

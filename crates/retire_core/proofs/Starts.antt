@@ -1,5 +1,5 @@
 -- What a run finds of a migration at rest: whether its source is there, and that the journal names it.
-use Rattle.std.proofs.Common.{◌≡◌, ◌≢◌, ℕ, List, OnOk, Option, Some, None, Result, Ok, Err, refl, sym, ap, ◌∙◌, subst}
+use Rattle.std.proofs.Common.{◌≡◌, ◌≢◌, OnOk, Option, Some, None, Result, Ok, Err, refl, sym, ap, ◌∙◌, subst}
 use Rattle.folder_spec.specs.declared.Kind.{Kind}
 use Rattle.folder_spec.specs.declared.Kind.TheVariants as kind
 use Rattle.folder_spec.specs.Event.{Told}

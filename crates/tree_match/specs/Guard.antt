@@ -8,7 +8,7 @@ use Rattle.folder_spec.specs.State as state
 use Rattle.folder_spec.specs.Image.{Image, IsImage}
 use Rattle.folder_spec.specs.Region.{at_or_below}
 use Rattle.folder_spec.specs.Seen.{under}
-use Rattle.folder_spec.specs.View.{View, NoEntry, FileOf, kind_found, view_of}
+use Rattle.folder_spec.specs.View.{View, NoEntry, kind_found, view_of}
 use Rattle.folder_spec.specs.declared.Kind.{Kind}
 use Rattle.folder_spec.specs.declared.Kind.TheVariants as kind
 use Rattle.move_journal.specs.Journal.{IsJournal}

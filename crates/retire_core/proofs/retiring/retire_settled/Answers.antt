@@ -1,6 +1,5 @@
-use Rattle.std.proofs.Common.{◌≤◌, arith, ◌≡◌, ◌∙◌, codes, subst, sym}
+use Rattle.std.proofs.Common.{◌≤◌, arith, ◌∙◌, codes, subst, sym}
 use Rattle.folder_spec.specs.Seen.{IsSeen}
-use Rattle.folder_spec.specs.View.{FileOf, NoEntry}
 use Rattle.move_journal.specs.declared.journal.Journal.{Journal}
 use Rattle.move_journal.specs.Reading.{StandsIn}
 use Rattle.move_journal.proofs.Standing.{not_missing}

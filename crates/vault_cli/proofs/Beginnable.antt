@@ -1,6 +1,7 @@
 -- How a migration of the demonstration stops, by what is seen when it begins.
 use Rattle.std.proofs.Common.{◌≡◌, ◌≢◌, ℕ, Option, Some, None, Result, Ok, Err, IfErr, IfOk, refl, sym, subst}
 use Rattle.demo_core.specs.Making.{phrase}
+use Rattle.plain_tree.specs.declared.name_map.NameMap.TheVariants.{Same}
 use Rattle.folder_spec.specs.Event.{Told}
 use Rattle.folder_spec.specs.Path.{Path}
 use Rattle.folder_spec.specs.Region.{IsAsBefore, apart_from_both}
@@ -50,7 +51,7 @@ pub record StopsAt (from to work : Path) (fault : MoveFault) (f f' r r' : ℕ) (
   pub blamed : Blamed is_of_begin (CountRose f f') (CountRose r r') fault
   pub completes : (g : Migration) → IfSeen t (λ v. IsAsked g from to work phrase phrase → CanBegin g v → IsOfChance fault)
   pub too_long : IsOfLimit (PassesInTree from to phrase phrase t t') fault
-  pub written : IfSeen t (λ v. MayWriteTree {T = Done} (Err fault) from to phrase phrase s s' t t')
+  pub written : IfSeen t (λ v. MayWriteTree {T = Done} (Err fault) Same from to phrase phrase s s' t t')
   pub shared : IsOfTaken (SharesInTree from to phrase phrase s s' t t') fault
   pub moves : MovesOnly work to t t'
 
@@ -105,7 +106,7 @@ module _ (alike : AreAlike) (one : HaveOneAnswer) (laws : AreMovable) (plans : P
     folder = stops.blamed.failed;
     random = stops.blamed.drawn;
     zeros = λ sees is. moving_zeros (source_of leg) (target_of leg) phrase phrase s s' t t' sees.view sees.seen
-        (subst (λ why. MayWriteTree {T = Done} (Err why) (source_of leg) (target_of leg) phrase phrase s s' t t') is (stops.written sees.view sees.seen));
+        (subst (λ why. MayWriteTree {T = Done} (Err why) Same (source_of leg) (target_of leg) phrase phrase s s' t t') is (stops.written sees.view sees.seen));
     shared = λ sees taken. (
       target_of leg,
       leg_shares one plans leg count s s' t t'

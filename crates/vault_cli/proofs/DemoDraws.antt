@@ -1,6 +1,7 @@
 -- What the demonstration draws: part after part, and sixteen zeros in a row where a migration stops because of zeros.
 use Rattle.std.proofs.Common.{◌≡◌, ◌∷◌, [], ℕ, List, Option, Result, Ok, Err, inl, inr, refl, ◌∙◌}
 use Rattle.content_writing.specs.declared.fault.PutFault.TheVariants as put
+use Rattle.plain_tree.specs.declared.name_map.NameMap.TheVariants.{Same}
 use Rattle.demo_core.specs.Drawing.{Drew, HasZeroRun}
 use Rattle.demo_core.proofs.Drawn.{Compose, drew_for, drew_nothing, drew_then, run_before, run_behind, run_refused}
 use Rattle.folder_spec.specs.Event.{Told}
@@ -54,14 +55,14 @@ module _ (from to : OpenedVault) (t t' : Option Told) (v : View) where
   made_zeros (item ∷ next ∷ items) (x ∷ made) were = run_behind x.drawn (slices made) (made_zeros (next ∷ items) made were.1)
 
 -- whatever it comes to, it draws some
-pub moving_drew : (result : Result Done MoveFault) (from to : Path) (pass pass' : List ℕ) (s s' : Option ByteStream) (t t' : Option Told) → MayWriteTree result from to pass pass' s s' t t' → Drew ⊥ s s'
+pub moving_drew : (result : Result Done MoveFault) (from to : Path) (pass pass' : List ℕ) (s s' : Option ByteStream) (t t' : Option Told) → MayWriteTree result Same from to pass pass' s s' t t' → Drew ⊥ s s'
 moving_drew result from to pass pass' s s' t t' (inl none) = record { drawn = []; were_drawn = none.undrawn; run = λ no. absurd no }
 moving_drew (Ok done) from to pass pass' s s' t t' (inr some) = record { drawn = slices some.writes.writes.made; were_drawn = some.writes.writes.writes.drawn; run = λ no. absurd no }
 moving_drew (Err fault) from to pass pass' s s' t t' (inr some) = record { drawn = slices some.writes.writes.made; were_drawn = some.writes.writes.writes.drawn; run = λ no. absurd no }
 
 -- and zeros, where it stops because of them
 pub moving_zeros : (from to : Path) (pass pass' : List ℕ) (s s' : Option ByteStream) (t t' : Option Told) (v : View) → IsSeen t v
-    → MayWriteTree {T = Done} (Err (Place put.ZeroRandom)) from to pass pass' s s' t t' → Drew (Unit {0}) s s'
+    → MayWriteTree {T = Done} (Err (Place put.ZeroRandom)) Same from to pass pass' s s' t t' → Drew (Unit {0}) s s'
 moving_zeros from to pass pass' s s' t t' v seen (inl none) = absurd none.refused
 moving_zeros from to pass pass' s s' t t' v seen (inr some) = record {
   drawn = slices some.writes.writes.made;

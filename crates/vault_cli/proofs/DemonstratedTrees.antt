@@ -17,6 +17,7 @@ use Rattle.folder_spec.proofs.Regions.{seen_as_before}
 use Rattle.migrate_core.specs.Moved.{MovesTree}
 use Rattle.migrate_core.specs.declared.placing.Done.{Done}
 use Rattle.plain_tree.specs.Names as plain
+use Rattle.plain_tree.specs.declared.name_map.NameMap.TheVariants.{Same}
 use Rattle.vault_read.specs.Laws.{HasOwnFolders, HaveOneAnswer}
 use Rattle.vault_read.specs.Opened.{kind_of}
 use Rattle.vault_read.specs.declared.vault.VaultKind.{VaultKind}
@@ -47,7 +48,7 @@ held_alike kind root seed count v w same held = record {
 }
 
 -- A migration brings them to the target, which its passphrase opens still.
-pub held_moved : HaveOneAnswer → (first second : VaultKind) (from to work : Path) (done : Done) (seed count : ℕ) (t u : Option Told) (v w : View) → (moves : MovesTree from to work phrase phrase done t u)
+pub held_moved : HaveOneAnswer → (first second : VaultKind) (from to work : Path) (done : Done) (seed count : ℕ) (t u : Option Told) (v w : View) → (moves : MovesTree Same from to work phrase phrase done t u)
     → IsSeen t v → IsSeen u w → under from w ≡ under from v → HasOwnFolders moves.source (under from w) → HasOwnFolders moves.target (under to w)
     → kind_of moves.target ≡ second → HoldsItems first from seed count v → HoldsItems second to seed count w
 held_moved one first second from to work done seed count t u v w moves before after same own_source own_target is held =

@@ -1,6 +1,7 @@
 -- The tree of the demonstration through both migrations.
 use Rattle.std.proofs.Common.{◌≡◌, ◌++◌, [], ℕ, Bool, true, false, Option, Some, None, Result, Ok, Err, IfOk, IsTrue, inl, inr, is_some, refl, sym, ap, subst, ◌∙◌}
 use Rattle.demo_core.specs.Making.{HoldsItems, MakesBeside, StandsNew, making_folder, phrase}
+use Rattle.plain_tree.specs.declared.name_map.NameMap.TheVariants.{Same}
 use Rattle.demo_core.proofs.Standing.{new_kind, same_vault}
 use Rattle.folder_spec.specs.Event.{Event, FromTo, Told}
 use Rattle.folder_spec.specs.Moments.{Went}
@@ -8,15 +9,17 @@ use Rattle.folder_spec.specs.Path.{Path}
 use Rattle.folder_spec.specs.Region.{IsAsBefore, apart_from_both}
 use Rattle.folder_spec.specs.Seen.{IfSeen, IsSeen, seen, under}
 use Rattle.folder_spec.specs.State.{IsSound, State}
-use Rattle.folder_spec.specs.View.{FileOf, NoEntry, View}
+use Rattle.folder_spec.specs.View.{NoEntry, View}
 use Rattle.folder_spec.proofs.Moments.{went_more, went_on, went_to}
 use Rattle.folder_spec.proofs.Paths.{begins_or_not}
 use Rattle.folder_spec.proofs.Regions.{seen_as_before}
-use Rattle.migrate_core.specs.Moved.{MovesTree, SaysDone, StandsIn}
+use Rattle.migrate_core.specs.Moved.{MovesTree, SaysDone}
 use Rattle.migrate_core.specs.Moving.{MovesOnly, OnlyBrings}
 use Rattle.migrate_core.specs.declared.placing.Done.{Done}
-use Rattle.move_journal.specs.Journal.{IsJournal, journal_text}
+use Rattle.move_journal.specs.Journal.{IsJournal}
 use Rattle.move_journal.specs.declared.journal.Journal.{Journal}
+use Rattle.move_journal.specs.Reading.{StandsIn}
+use Rattle.move_journal.proofs.Standing.{HaveOneJournal}
 use Rattle.retire_core.specs.Retiring.{HasRetired, Touches, TouchesOnly, retiring_by}
 use Rattle.vault_read.specs.Laws.{HasOwnFolders, HaveOneAnswer}
 use Rattle.vault_read.specs.Opened.{kind_of}
@@ -83,7 +86,7 @@ items_made seed count t u holds beside = where_told (MakesItems seed count) t u 
 -- ---- one migration
 
 carries : AreAlike → HaveOneAnswer → (second : VaultKind) (from to : Path) (done : Done) (a b c : Told) → IsSound a.state → IsSound b.state → IsWithin from (apart_from_both making_folder to)
-    → IsWithin from (apart_from_both moving_folder to) → MakesBeside to (Some a) (Some b) → StandsNew second to b.state → (moves : MovesTree from to moving_folder phrase phrase done (Some b) (Some c))
+    → IsWithin from (apart_from_both moving_folder to) → MakesBeside to (Some a) (Some b) → StandsNew second to b.state → (moves : MovesTree Same from to moving_folder phrase phrase done (Some b) (Some c))
     → MovesOnly moving_folder to (Some b) (Some c) → Carries second from to a c
 carries alike one second from to done a b c sound_a sound_b beside apart made new moves only = record {
   goes = go_then a b c (goes_on (IsAsBefore (apart_from_both making_folder to) a.state) (λ s e. Unit {0}) a b made) (goes_on (IsAsBefore (apart_from_both moving_folder to) b.state) (λ s e. OnlyBrings to s e.call) b c only);
@@ -137,15 +140,11 @@ leg_carries alike one leg t u w first second made new moved = where_told (Carrie
 
 -- ---- its source is retired
 
-abbrev pub AreOne : Type 0
-AreOne = (j k : Journal) → IsJournal j → IsJournal k → journal_text j ≡ journal_text k → j ≡ k
-
-leaves : AreAlike → AreOne → (from to : Path) (retired moved : ℕ) (a b : Told) → IsSound a.state → HasRetired moving_folder retired (Some b) (seen a.state)
+leaves : AreAlike → HaveOneJournal → (from to : Path) (retired moved : ℕ) (a b : Told) → IsSound a.state → HasRetired moving_folder retired (Some b) (seen a.state)
     → ((journal : Journal) → IsJournal journal → StandsIn moving_folder journal (seen a.state) → TouchesOnly (retiring_by moving_folder phrase phrase journal) (Some a) (Some b))
-    → IsTrue (apart_from_both from moving_folder []) → SaysDone from to moving_folder moved (seen a.state) → Leaves from moved retired a b
+    → IsTrue (apart_from_both from moving_folder []) → SaysDone Same from to moving_folder moved (seen a.state) → Leaves from moved retired a b
 leaves alike one from to count items a b sound retired touches apart says =
-    let texts : FileOf (journal_text says.journal) ≡ FileOf (journal_text retired.journal) = sym says.stands ∙ retired.stands in
-    let same : says.journal ≡ retired.journal = one says.journal retired.journal says.is retired.is (cc texts) in
+    let same : says.journal ≡ retired.journal = one moving_folder (seen a.state) says.journal retired.journal says.is retired.is says.stands retired.stands in
     let source : retired.journal.source ≡ from = sym (ap (λ (j : Journal). j.source) same) ∙ says.source in
     let Q : State → Event → Type 0 = λ s e. Touches (retiring_by moving_folder phrase phrase says.journal) s e.call in
     let went : Went (IsAsBefore (apart_from_both from moving_folder) a.state) Q a b = subst (λ p. Went (IsAsBefore (apart_from_both p moving_folder) a.state) Q a b) says.source (touches says.journal says.is says.stands) in
@@ -162,13 +161,13 @@ base_apart : (leg : Leg) → IsTrue (apart_from_both (source_of leg) moving_fold
 base_apart There = refl
 base_apart Back = refl
 
-pub leaves_source : AreAlike → AreOne → (leg : Leg) (retired : ℕ) (t u : Option Told) → ((a : Told) → t ≡ Some a → IsSound a.state) → IfSeen t (λ v. HasRetired moving_folder retired u v)
+pub leaves_source : AreAlike → HaveOneJournal → (leg : Leg) (retired : ℕ) (t u : Option Told) → ((a : Told) → t ≡ Some a → IsSound a.state) → IfSeen t (λ v. HasRetired moving_folder retired u v)
     → ((v : View) (journal : Journal) → IsSeen t v → IsJournal journal → StandsIn moving_folder journal v → TouchesOnly (retiring_by moving_folder phrase phrase journal) t u) → LeavesSource leg retired t u
 leaves_source alike one leg retired (Some a) (Some b) sound has touches x is =
     let same : a ≡ x = cc is in
-    let left : (moved : ℕ) → SaysDone (source_of leg) (target_of leg) moving_folder moved (seen a.state) → Leaves (source_of leg) moved retired a b =
+    let left : (moved : ℕ) → SaysDone Same (source_of leg) (target_of leg) moving_folder moved (seen a.state) → Leaves (source_of leg) moved retired a b =
     λ moved says. leaves alike one (source_of leg) (target_of leg) retired moved a b (sound a refl) (has (seen a.state) refl) (λ journal is stands. touches (seen a.state) journal refl is stands) (base_apart leg) says in
-    (b, refl, subst (λ y. (moved : ℕ) → SaysDone (source_of leg) (target_of leg) moving_folder moved (seen y.state) → Leaves (source_of leg) moved retired y b) same left)
+    (b, refl, subst (λ y. (moved : ℕ) → SaysDone Same (source_of leg) (target_of leg) moving_folder moved (seen y.state) → Leaves (source_of leg) moved retired y b) same left)
 leaves_source alike one leg retired (Some a) None sound has touches x is =
     let here : HasRetired moving_folder retired None (seen a.state) = has (seen a.state) refl in absurd (touches (seen a.state) here.journal refl here.is here.stands)
 leaves_source alike one leg retired None u sound has touches x is = cc is
@@ -176,7 +175,7 @@ leaves_source alike one leg retired None u sound has touches x is = cc is
 pub leg_leads : (leg : Leg) (retired : ℕ) (t u w : Option Told) → WhereTold (Carries (kind_to leg) (source_of leg) (target_of leg)) t u → LeavesSource leg retired u w
     → WhereTold (Leads (kind_to leg) (source_of leg) (target_of leg)) t w
 leg_leads leg retired t u w carried left =
-    where_on (Carries (kind_to leg) (source_of leg) (target_of leg)) (λ a b. (moved : ℕ) → SaysDone (source_of leg) (target_of leg) moving_folder moved (seen a.state) → Leaves (source_of leg) moved retired a b)
+    where_on (Carries (kind_to leg) (source_of leg) (target_of leg)) (λ a b. (moved : ℕ) → SaysDone Same (source_of leg) (target_of leg) moving_folder moved (seen a.state) → Leaves (source_of leg) moved retired a b)
     (Leads (kind_to leg) (source_of leg) (target_of leg)) t u w (λ a b c one two. record { between = b; carries = one; retired = retired; leaves = two one.items one.says }) carried left
 
 -- ---- both: out to the second vault, and home to the third

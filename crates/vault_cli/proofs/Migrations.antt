@@ -11,25 +11,25 @@ use Rattle.folder_spec.specs.Path.{Path}
 use Rattle.folder_spec.specs.Region.{IsAsBefore, apart_from_both}
 use Rattle.folder_spec.specs.Seen.{IfSeen, IsSeen}
 use Rattle.folder_spec.specs.State.{State}
-use Rattle.folder_spec.specs.View.{Found, NoEntry, Folder, FileOf, Special, View, view_of}
+use Rattle.folder_spec.specs.View.{Found, FileOf, View, view_of}
 use Rattle.folder_spec.proofs.Moments.{went_more, went_nowhere}
 use Rattle.folder_spec.proofs.Regions.{as_before}
 use Rattle.folder_spec.proofs.Tellings.{from_to_more, from_to_same}
 use Rattle.migrate_core.specs.Completing.{CanBegin, CanResume, IsOfChance}
 use Rattle.migrate_core.specs.Faults as causes
 use Rattle.migrate_core.specs.Leading.{KeepsGuarded}
-use Rattle.migrate_core.specs.Moved.{StandsIn}
 use Rattle.migrate_core.specs.Moving.{MovesOnly, OnlyBrings}
 use Rattle.migrate_core.specs.Sides.{IsAsked, IsResumed}
 use Rattle.migrate_core.specs.declared.fault.MoveFault.{MoveFault}
 use Rattle.migrate_core.specs.declared.fault.MoveFault.TheVariants as moves
 use Rattle.migrate_core.specs.declared.placing.Done as moved
-use Rattle.move_journal.specs.Journal.{IsJournal, journal_text}
+use Rattle.move_journal.specs.Journal.{IsJournal}
 use Rattle.move_journal.specs.Writing.{GivesBack}
-use Rattle.move_journal.specs.Reading.{ReadsAs, file_bytes, journal_bytes, journal_path}
+use Rattle.move_journal.specs.Reading.{ReadsAs, journal_bytes, StandsIn}
 use Rattle.move_journal.specs.declared.journal.JournalFault.{JournalFault}
 use Rattle.move_journal.specs.declared.journal.JournalFault.TheVariants as journal
 use Rattle.move_journal.specs.declared.journal.Journal.{Journal}
+use Rattle.move_journal.proofs.Standing.{ReadsBack, read_stands}
 use Rattle.port_model.specs.Draws.{ByteStream}
 use Rattle.tree_match.specs.Alone.{StaysGuarded}
 use Rattle.tree_match.specs.Guard.{Migration, Guarded, IsSafe, LosesNothing}
@@ -137,25 +137,22 @@ keeps_resumed law g resuming v told mid told' source target same are guard asked
 
 -- ---- the journal
 
-stands_found : (x : Found) (j : Journal) → ReadsAs (file_bytes x) (Ok j) → IsJournal j × (x ≡ FileOf (journal_text j))
-stands_found (FileOf bytes) j reads = (reads.0, ap FileOf reads.1)
-stands_found NoEntry j reads = absurd reads
-stands_found Folder j reads = absurd reads
-stands_found Special j reads = absurd reads
-
 pub journal_found : (work : Path) (v : View) (j : Journal) → ReadsAs (journal_bytes v work) (Ok j) → resuming_on.IsFoundJournal work v (Some j)
-journal_found work v j = stands_found (v (journal_path work)) j
+journal_found work v j reads = (is_journal (journal_bytes v work) reads, read_stands work v j reads)
+  where
+    is_journal : (file : Option (List ℕ)) → ReadsAs file (Ok j) → IsJournal j
+    is_journal (Some bytes) reads = reads.0
+    is_journal None reads = absurd reads
 
 -- the root of a vault that isn't opened is that of the journal, where one is read
 pub root_read : (work : Path) (v : View) (side : Side) (found : Option Journal) (j : Journal) → resuming_on.IsFoundJournal work v found → ReadsAs (journal_bytes v work) (Ok j)
     → (named : Option Journal → Path) → ((k : Journal) → named (Some k) ≡ resuming_on.root_in k side) → resuming_on.IsRootIn work v side (named found)
 root_read work v side (Some k) j is reads named same = (k, is.0, is.1, same k)
-root_read work v side None j is reads named same = let stands = stands_found (v (journal_path work)) j reads in absurd (is j stands.0 stands.1)
+root_read work v side None j is reads named same = let stands : IsJournal j × StandsIn work j v = journal_found work v j reads in absurd (is j stands.0 stands.1)
 
 -- a journal that stands is read
-pub journal_missing : (law : (j : Journal) (result : Result Journal JournalFault) → IsJournal j → ReadsAs (Some (journal_text j)) result → GivesBack j result)
-    (work : Path) (v : View) (result : Result Journal JournalFault) → ((j : Journal) → ¬ GivesBack j result) → ReadsAs (journal_bytes v work) result → resuming_on.IsFoundJournal work v None
-journal_missing law work v result none reads j good stands = none j (law j result good (subst (λ x. ReadsAs (file_bytes x) result) stands reads))
+pub journal_missing : ReadsBack → (work : Path) (v : View) (result : Result Journal JournalFault) → ((j : Journal) → ¬ GivesBack j result) → ReadsAs (journal_bytes v work) result → resuming_on.IsFoundJournal work v None
+journal_missing law work v result none reads j good stands = none j (law work v j result good stands reads)
 
 -- ---- what a migration comes to
 

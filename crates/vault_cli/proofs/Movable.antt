@@ -18,7 +18,6 @@ use Rattle.migrate_core.specs.Copying.{tree_in}
 use Rattle.migrate_core.specs.Limits.{HasSmallContents, IsSmall}
 use Rattle.migrate_core.specs.Moved.{IsTidyWork, opened_in}
 use Rattle.migrate_core.specs.Sides.{AreTold, IsAsked, IsResumed}
-use Rattle.move_journal.specs.Journal.{journal_text}
 use Rattle.plain_tree.specs.Names as plain
 use Rattle.retire_core.specs.Completing.{CanRetire, KeepsLimits}
 use Rattle.tree_match.specs.Comparing.{content_at}
@@ -224,6 +223,7 @@ can_retire laws plans shallow leg seed count s sound few can = record {
         tells = record {
           source = can.says.source;
           target = can.says.target;
+          names = can.says.names;
           plan = told.0;
           is_plan = plans (seen s) (record { vault = source; root = source_of leg; items = told.0 }) told.1;
           items = told.2.1;
@@ -234,7 +234,7 @@ can_retire laws plans shallow leg seed count s sound few can = record {
       target = record { there = record { loads = can.target.items.opens; good = can.target.good }; all = record { held = same; whole = whole } };
       allowed = λ path name some among. laws.names (format_of target) seed count held can.source.items.items path name some among;
     });
-    work = tidy_work s sound can.tidy (journal_text can.says.journal) can.says.stands;
+    work = tidy_work s sound can.tidy can.says.stands.text can.says.stands.file;
   };
   end = tt;
   limits = record {

@@ -23,6 +23,7 @@ use Rattle.migrate_core.specs.Sides.{AreTold}
 use Rattle.migrate_core.specs.Moving.{MovesOnly, OnlyBrings}
 use Rattle.migrate_core.specs.declared.placing.Done.{Done}
 use Rattle.plain_tree.specs.Names as plain
+use Rattle.plain_tree.specs.declared.name_map.NameMap.TheVariants.{Same}
 use Rattle.vault_read.specs.Laws.{HasOwnFolders, HaveOneAnswer}
 use Rattle.vault_read.specs.declared.vault.VaultKind.TheVariants as kind
 use Rattle.vault_read.specs.Opened.{kind_of}
@@ -210,7 +211,7 @@ third_moving There is = refl
 third_moving Back is = cc is
 
 carried : AreAlike → HaveOneAnswer → HaveSoMany → PlansAreTrees → (leg : Leg) (seed count : ℕ) (done : Done) (a b : Told) → IsSound a.state → count ≤ 2000 → CanCarry leg seed count (seen a.state)
-    → (moves : MovesTree (source_of leg) (target_of leg) moving_folder phrase phrase done (Some a) (Some b)) → MovesOnly moving_folder (target_of leg) (Some a) (Some b) → IsTidyWork moving_folder (seen b.state)
+    → (moves : MovesTree Same (source_of leg) (target_of leg) moving_folder phrase phrase done (Some a) (Some b)) → MovesOnly moving_folder (target_of leg) (Some a) (Some b) → IsTidyWork moving_folder (seen b.state)
     → HasCarried leg seed count (seen b.state)
 carried alike one so_many plans leg seed count done a b sound few can moves only tidy = record {
   beside = beside_alike leg (seen a.state) (seen b.state) (at [] (base_moving leg) ∙ can.beside.base) (stays making_folder (within making_folder region (making_moving leg)))
@@ -242,7 +243,7 @@ carried alike one so_many plans leg seed count done a b sound few can moves only
     stays : (root : Path) → IsWithin root region → under root (seen b.state) ≡ under root (seen a.state)
     stays root inside = region_stays alike root region (λ s e. OnlyBrings to s e.call) a b sound inside only
 
-    moved : HasMoved (opened_in from moves.source) (opened_in to moves.target) moving_folder done.items (seen b.state)
+    moved : HasMoved Same (opened_in from moves.source) (opened_in to moves.target) moving_folder done.items (seen b.state)
     moved = moves.moved (seen b.state) refl
 
     source_is : can.source.items.vault ≡ moves.source

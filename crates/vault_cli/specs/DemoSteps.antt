@@ -1,6 +1,7 @@
 -- What is seen between the steps of the demonstration (private contracts only).
 use Rattle.std.specs.Prelude.{◌≡◌, ◌≤◌, ℕ, [], Option}
 use Rattle.demo_core.specs.Making.{CanEnter, HoldsItems, making_folder}
+use Rattle.plain_tree.specs.declared.name_map.NameMap.TheVariants.{Same}
 use Rattle.folder_spec.specs.Event.{Told}
 use Rattle.folder_spec.specs.Path.{Path}
 use Rattle.folder_spec.specs.Seen.{IsSeen, under}
@@ -52,7 +53,7 @@ pub record HasCarried (leg : Leg) (seed count : ℕ) (v : View) : Type 0 where
   pub target : HoldsWell (kind_to leg) (target_of leg) seed count v
   pub moved : ℕ
   pub all : moved ≡ count
-  pub says : SaysDone (source_of leg) (target_of leg) moving_folder moved v
+  pub says : SaysDone Same (source_of leg) (target_of leg) moving_folder moved v
   pub tells : TellsItems (opened_in (source_of leg) source.items.vault) says.journal v
   pub trees : HaveOneTree (opened_in (source_of leg) source.items.vault) (opened_in (target_of leg) target.items.vault) v
   pub tidy : IsTidyWork moving_folder v

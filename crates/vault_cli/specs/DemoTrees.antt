@@ -1,6 +1,7 @@
 -- The tree of the demonstration goes from vault to vault.
 use Rattle.std.specs.Prelude.{◌≡◌, ℕ, Bool, [], ◌∷◌, codes, Option, Some, IsTrue}
 use Rattle.demo_core.specs.Making.{HoldsItems, StandsNew, making_folder, phrase}
+use Rattle.plain_tree.specs.declared.name_map.NameMap.TheVariants.{Same}
 use Rattle.folder_spec.specs.Event.{Told}
 use Rattle.folder_spec.specs.Moments.{Went}
 use Rattle.folder_spec.specs.Path.{Path}
@@ -87,7 +88,7 @@ MakesItems seed count a b = GoesOn a b × HoldsItems kind.Gocryptfs first_root s
 
 -- a migration between these roots is done
 abbrev pub IsMoved : Path → Path → Option Told → Option Told → Type 0
-IsMoved from to told told' = (done : Done) × MovesTree from to moving_folder phrase phrase done told told' × MovesOnly moving_folder to told told'
+IsMoved from to told told' = (done : Done) × MovesTree Same from to moving_folder phrase phrase done told told' × MovesOnly moving_folder to told told'
 
 -- A vault of the kind is made and then the migration to it is done. What is apart from both work folders and the new vault stays.
 pub record Carries (kind : VaultKind) (from to : Path) (a b : Told) : Type 0 where
@@ -97,7 +98,7 @@ pub record Carries (kind : VaultKind) (from to : Path) (a b : Told) : Type 0 whe
   pub holds : (first : VaultKind) (seed count : ℕ) → HasOwn from a.state → HoldsItems first from seed count (seen a.state) → HoldsItems kind to seed count (seen b.state)
   pub stays : (root : Path) → IsWithin root (apart_from_both making_folder to) → IsWithin root (apart_from_both moving_folder to) → under root (seen b.state) ≡ under root (seen a.state)
   pub items : ℕ
-  pub says : SaysDone from to moving_folder items (seen b.state)
+  pub says : SaysDone Same from to moving_folder items (seen b.state)
 
 -- Its source is retired, with as many items as were moved, and the work folder is gone. What is apart from both stays.
 pub record Leaves (from : Path) (moved retired : ℕ) (a b : Told) : Type 0 where
@@ -111,7 +112,7 @@ pub record Leaves (from : Path) (moved retired : ℕ) (a b : Told) : Type 0 wher
 -- it is, where the journal says that the migration is done
 abbrev pub LeavesSource : Leg → ℕ → Option Told → Option Told → Type 0
 LeavesSource leg retired =
-    WhereTold (λ a b. (moved : ℕ) → SaysDone (source_of leg) (target_of leg) moving_folder moved (seen a.state) → Leaves (source_of leg) moved retired a b)
+    WhereTold (λ a b. (moved : ℕ) → SaysDone Same (source_of leg) (target_of leg) moving_folder moved (seen a.state) → Leaves (source_of leg) moved retired a b)
 
 -- one after the other
 pub record Leads (kind : VaultKind) (from to : Path) (a b : Told) : Type 0 where

@@ -2,6 +2,7 @@
 use Rattle.std.specs.Prelude.{◌≡◌, ◌⊎◌, ℕ, List, [], if◌then◌else◌, Option, Some, None, IsTrue, MatchOption}
 use Rattle.std.specs.Io.KnownBytes.{Keeps}
 use Rattle.folder_spec.specs.Event.{Told}
+use Rattle.plain_tree.specs.declared.name_map.NameMap.TheVariants.{Same}
 use Rattle.folder_spec.specs.Path.{Path}
 use Rattle.folder_spec.specs.Seen.{IfSeen}
 use Rattle.folder_spec.specs.View.{View}
@@ -50,7 +51,7 @@ pub record HasMigrated (moving : Moving) (done : moved.Done) (told told' : Optio
   pub source_pass : List ℕ
   pub target_pass : List ℕ
   pub phrases : IfSeen told (λ v. ArePhrases moving.passes source_pass target_pass v)
-  pub moves : MovesTree moving.source moving.target moving.work source_pass target_pass done told told'
+  pub moves : MovesTree Same moving.source moving.target moving.work source_pass target_pass done told told'
 
 -- the root of the vault that isn't opened
 abbrev pub root_of : Moving → MoveFault → Path
@@ -65,7 +66,7 @@ abbrev pub IsCaused : Moving → View → List ℕ → List ℕ → Outcome → 
 IsCaused moving v source_pass target_pass outcome = Unless outcome (Begins moving.source moving.target moving.work source_pass target_pass v outcome)
 
 abbrev pub IsWritten : Moving → Option Told → Option Told → Option ByteStream → Option ByteStream → List ℕ → List ℕ → Outcome → Type 0
-IsWritten moving told told' stream stream' source_pass target_pass outcome = MayWriteTree outcome moving.source moving.target source_pass target_pass stream stream' told told'
+IsWritten moving told told' stream stream' source_pass target_pass outcome = MayWriteTree outcome Same moving.source moving.target source_pass target_pass stream stream' told told'
 
 abbrev pub ComesTo : Moving → (Outcome → Type 0) → Option Told → Option Told → Option ByteStream → Option ByteStream → View → Type 0
 ComesTo moving IsAnswered told told' stream stream' v = Comes moving.passes (IsCaused moving v) (IsWritten moving told told' stream stream') IsAnswered v

@@ -8,7 +8,7 @@ use Rattle.folder_spec.specs.View.{View}
 use Rattle.migrate_core.specs.Causes.{Unless}
 use Rattle.migrate_core.specs.Causes as causes
 use Rattle.migrate_core.specs.Completing.{CanResume}
-use Rattle.migrate_core.specs.Moved.{MovesTold, StandsIn}
+use Rattle.migrate_core.specs.Moved.{MovesTold}
 use Rattle.migrate_core.specs.Moving.{MovesOnly}
 use Rattle.migrate_core.specs.Sides.{IsResumed}
 use Rattle.migrate_core.specs.Written.{MayWriteTold}
@@ -17,6 +17,7 @@ use Rattle.migrate_core.specs.declared.fault.MoveFault.TheVariants.{Load}
 use Rattle.migrate_core.specs.declared.placing.Done as moved
 use Rattle.move_journal.specs.Journal.{IsJournal}
 use Rattle.move_journal.specs.declared.journal.Journal.{Journal}
+use Rattle.move_journal.specs.Reading.{StandsIn}
 use Rattle.port_model.specs.Draws.{ByteStream}
 use Rattle.tree_match.specs.Guard.{Migration}
 use Rattle.tree_match.specs.declared.answer.Side.{Side}

@@ -5,9 +5,9 @@ use Rattle.folder_spec.specs.Event.{Told}
 use Rattle.folder_spec.specs.Path.{Path}
 use Rattle.folder_spec.specs.Seen.{IfSeen}
 use Rattle.folder_spec.specs.View.{View}
-use Rattle.migrate_core.specs.Moved.{StandsIn}
 use Rattle.move_journal.specs.Journal.{IsJournal}
 use Rattle.move_journal.specs.declared.journal.Journal.{Journal}
+use Rattle.move_journal.specs.Reading.{StandsIn}
 use Rattle.retire_core.specs.Causes.{Unless}
 use Rattle.retire_core.specs.Causes as causes
 use Rattle.retire_core.specs.Completing.{CanRetire}

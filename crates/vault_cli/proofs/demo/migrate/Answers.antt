@@ -1,5 +1,6 @@
 use Rattle.std.proofs.Common.{refl, subst}
 use Rattle.demo_core.specs.Making.{phrase}
+use Rattle.plain_tree.specs.declared.name_map.NameMap.TheVariants.{Same}
 use Rattle.demo_core.proofs.Shared.{goes_by, goes_nowhere}
 use Rattle.folder_spec.specs.Seen.{IfSeen}
 use Rattle.migrate_core.specs.Moved.{IsTidyWork, MovesTree}
@@ -28,9 +29,9 @@ returns-in-Ok-clause-moved g c same =
     let u = g.F.Folder.told c.begin.new.folder in
     let leg = c.args.leg in (
       c.in-Ok.field-0,
-      subst (λ p. MovesTree p (target_of leg) moving_folder phrase phrase c.in-Ok.field-0 t u) c.in_ok-source.ensures.is
-          (subst (λ p. MovesTree c.in_ok-source.source p moving_folder phrase phrase c.in-Ok.field-0 t u) c.in_ok-target.ensures.is
-          (subst (λ w. MovesTree c.in_ok-source.source c.in_ok-target.target w phrase phrase c.in-Ok.field-0 t u) c.in_ok-work.ensures.is c.in-Ok.ensures.moved)),
+      subst (λ p. MovesTree Same p (target_of leg) moving_folder phrase phrase c.in-Ok.field-0 t u) c.in_ok-source.ensures.is
+          (subst (λ p. MovesTree Same c.in_ok-source.source p moving_folder phrase phrase c.in-Ok.field-0 t u) c.in_ok-target.ensures.is
+          (subst (λ w. MovesTree Same c.in_ok-source.source c.in_ok-target.target w phrase phrase c.in-Ok.field-0 t u) c.in_ok-work.ensures.is c.in-Ok.ensures.moved)),
       subst (λ p. MovesOnly moving_folder p t u) c.in_ok-target.ensures.is (subst (λ w. MovesOnly w c.in_ok-target.target t u) c.in_ok-work.ensures.is c.begin.ensures.moves),
     )
 

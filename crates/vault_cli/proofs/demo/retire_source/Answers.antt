@@ -1,6 +1,6 @@
 use Rattle.std.proofs.Common.{◌≡◌, subst, sym}
 use Rattle.demo_core.specs.Making.{phrase}
-use Rattle.migrate_core.specs.Moved.{StandsIn}
+use Rattle.move_journal.specs.Reading.{StandsIn}
 use Rattle.retire_core.specs.Causes.{IsOfFolder}
 use Rattle.retire_core.specs.Retiring.{HasRetired, TouchesOnly, retiring_by}
 use Rattle.vault_cli.specs.DemoTrees.{moving_folder}
@@ -14,7 +14,7 @@ returns-in-Ok-clause-leaves g c =
     let t = g.F.Folder.told c.args.folder.now in
     let u = g.F.Folder.told c.retire.new.folder in
     let work : c.in_ok-work.work ≡ moving_folder = c.in_ok-work.ensures.is in
-    leaves_source c.roots_show_their_own.ensures.alike c.journals_are_read_back.ensures.one c.args.leg c.in-Ok.retired.items t u (λ a is. g.met.F.Folder.sound c.args.folder.now a is)
+    leaves_source c.roots_show_their_own.ensures.alike c.journals_are_read_back.ensures.stands c.args.leg c.in-Ok.retired.items t u (λ a is. g.met.F.Folder.sound c.args.folder.now a is)
     (λ v is. subst (λ w. HasRetired w c.in-Ok.retired.items u v) work (c.in-Ok.ensures.retired v is))
     (λ v journal is text stands. subst (λ w. TouchesOnly (retiring_by w phrase phrase journal) t u) work (c.retire.ensures.touches v journal is text (subst (λ w. StandsIn w journal v) (sym work) stands)))
 

@@ -4,8 +4,10 @@ ghost use Rattle.move_journal.specs.Journal.{IsParsed};
 
 use crate::faults::journal_fault;
 use crate::folders::say_folder;
+use crate::matching::rule_named;
 use folder_model::FPath;
 use move_journal::{Journal, Phase, read, write};
+use plain_tree::NameMap;
 use row_stage::{Stage, Stop};
 use row_words::cut;
 
@@ -28,6 +30,10 @@ fn say_journal(stage: &mut Stage, journal: &Journal) {
         Phase::Building => "building",
         Phase::Done => "done",
     });
+    stage.said.word(match journal.names {
+        NameMap::Same => "same",
+        NameMap::Nfc => "nfc",
+    });
     stage.said.made(journal.source.text());
     stage.said.made(journal.target.text());
     stage.said.shows(&journal.items);
@@ -45,9 +51,10 @@ fn read_journal(stage: &mut Stage, work: &FPath) {
     }
 }
 
-// Writes a journal: `PHASE FROM TO ITEMS DIGEST`.
+// Writes a journal: `PHASE NAMES FROM TO ITEMS DIGEST`.
 fn write_journal(stage: &mut Stage, work: &FPath, words: &str) {
     let (phase, words) = cut(words);
+    let (names, words) = cut(words);
     let (from, words) = cut(words);
     let (to, words) = cut(words);
     let (items, plan) = cut(words);
@@ -65,6 +72,7 @@ fn write_journal(stage: &mut Stage, work: &FPath, words: &str) {
         } else {
             Phase::Building
         },
+        names: rule_named(names),
         source,
         target,
         items,
@@ -87,7 +95,7 @@ fn finish_journal(stage: &mut Stage, work: &FPath) {
     say_folder(stage, answer);
 }
 
-/// Plays `journal read WORK`, `journal write WORK PHASE FROM TO ITEMS DIGEST` and `journal finish WORK`.
+/// Plays `journal read WORK`, `journal write WORK PHASE NAMES FROM TO ITEMS DIGEST` and `journal finish WORK`.
 pub fn call_journal(stage: &mut Stage, words: &str) {
     let (verb, words) = cut(words);
     let (work, words) = cut(words);

@@ -1,2 +1,2 @@
 mod Checks
-mod Repairs
+pub mod Repairs

@@ -1,7 +1,9 @@
 -- What `repair` did, from what its parts say.
-use Rattle.std.proofs.Common.{◌≡◌, ℕ, false, List, [], Option, Some, None, inl, inr, refl, sym, ◌∙◌, subst}
+use Rattle.std.proofs.Common.{◌≡◌, ℕ, true, false, List, [], Option, Some, None, inl, inr, refl, sym, ◌∙◌, subst}
 use Rattle.std.specs.Prelude.{◌⊎◌, IsTrue, is_some}
 use Rattle.std.proofs.lemmas.Bool.{or_left, or_parts}
+use Rattle.std.specs.Io.KnownBytes.{Keeps}
+use Rattle.std.proofs.KnownBytes.{Keeps-refl}
 use Rattle.folder_spec.specs.Path.{Path, below, parent}
 use Rattle.folder_spec.specs.Event.{Told, FromTo}
 use Rattle.folder_spec.specs.Image.{Image, IsImage}
@@ -23,13 +25,15 @@ use Rattle.checking_commands.specs.Faults.{of_check}
 use Rattle.command_opening.specs.Opening.{Opens}
 use Rattle.command_opening.specs.Refusing.{Unless, RefusesOpening}
 use Rattle.command_opening.specs.Places.{OfDirectory, OfMissing, OfFree, overlap, RefusesOverlap}
-use Rattle.checking_commands.specs.Repair.{IsOfMoving, TooMany, TooDeep, OfRepairing, MovesStrays, HasMovedStrays, RepairsApart, is_of_test, moved_text}
+use Rattle.checking_commands.specs.Repair.{IsOfMoving, TooMany, TooDeep, OfRepairing, MovesStrays, HasMovedStrays, RepairsApart, RepairsVault, is_of_test, moved_text}
 use Rattle.command_opening.specs.Tests.{is_of_moving}
 use Rattle.command_answers.specs.Printing.{PrintsText}
 use Rattle.command_opening.proofs.Printings.{IsPrinted, nothing_printed, printed, printed_is_own}
+use Rattle.command_opening.proofs.Overlaps.{by_test, refuses_overlap}
 use Rattle.command_opening.specs.Shown.{IsCutShort, is_of_end, refused}
+use Rattle.command_opening.specs.World.{World}
 use Rattle.command_answers.specs.declared.answer.Answer.{Answer}
-use Rattle.command_answers.specs.declared.answer.Answer.TheVariants.{Done, OutOfMemory, OutputFault}
+use Rattle.command_answers.specs.declared.answer.Answer.TheVariants.{Done, OutOfMemory, OutputFault, Overlap}
 use Rattle.command_words.specs.declared.commands.Repairing.{Repairing}
 use Rattle.command_opening.proofs.Refusals.{opened_gives, unless_opened}
 
@@ -152,11 +156,6 @@ repair_refused target answer told told' taken own cause tested moves = record {
   prints = nothing_printed moved_text (λ moved. HasMovedStrays target moved told told') is_of_moving answer taken own refl refl;
 }
 
-pub refused_apart : (target : Repairing) (answer : Answer) (told told' : Option Told) (taken : Option (List ℕ)) → overlap target.vault target.lost ≡ false → RepairsApart target answer told told' taken taken
-    → Either (overlap target.vault target.lost) (RefusesOverlap target.vault target.lost answer told told' taken taken) (RepairsApart target answer told told' taken taken)
-refused_apart target answer told told' taken apart repairs =
-    subst (λ b. Either b (RefusesOverlap target.vault target.lost answer told told' taken taken) (RepairsApart target answer told told' taken taken)) (sym apart) repairs
-
 cause_printed : (target : Repairing) (v : View) (answer : Answer) → OfRepairing target v Done → IsPrinted answer → IsCutShort answer ⊎ OfRepairing target v answer
 cause_printed target v answer passed (inl done) = inr (subst (λ a. OfRepairing target v a) (sym done) passed)
 cause_printed target v answer passed (inr output) = inl (inr output)
@@ -175,4 +174,28 @@ repair_printed target moved answer told told' taken taken' has passed moves prin
   tested = λ test. absurd (not_of_test answer is_printed test);
   moves = moves;
   prints = printed moved_text (λ moved. HasMovedStrays target moved told told') moved answer taken taken' has prints is_printed;
+}
+
+-- of folders that don't overlap
+pub repaired_apart : (target : Repairing) (answer : Answer) (before after : World) → overlap target.vault target.lost ≡ false → Keeps before.left after.left
+    → RepairsApart target answer before.told after.told before.taken after.taken → RepairsVault target answer before after
+repaired_apart target answer before after apart untouched repairs = record {
+  apart = subst (λ b. Either b (RefusesOverlap target.vault target.lost answer before after) (RepairsApart target answer before.told after.told before.taken after.taken)) (sym apart) repairs;
+  untouched = untouched;
+}
+
+-- of others
+pub not_repaired : (target : Repairing) (answer : Answer) (w : World) → overlap target.vault target.lost ≡ true → (answer ≡ Overlap target.vault target.lost) ⊎ (answer ≡ OutOfMemory) → RepairsVault target answer w w
+not_repaired target answer w overlaps answers = record {
+  apart = subst (λ b. Either b (RefusesOverlap target.vault target.lost answer w w) (RepairsApart target answer w.told w.told w.taken w.taken)) (sym overlaps)
+      (refuses_overlap target.vault target.lost answer w w.told answers refl);
+  untouched = Keeps-refl w.left;
+}
+
+-- the command isn't begun
+pub repairs_nothing : (target : Repairing) (w : World) → RepairsVault target OutOfMemory w w
+repairs_nothing target w = record {
+  apart = by_test (overlap target.vault target.lost) _ _ (λ is. refuses_overlap target.vault target.lost OutOfMemory w w.told (inr refl) refl)
+      (λ is. repair_refused target OutOfMemory w.told w.told w.taken refl (λ v seen. inr (inl refl)) (λ test. refl) (inl refl));
+  untouched = Keeps-refl w.left;
 }

@@ -96,6 +96,5 @@ pub record RepairsApart (target : Repairing) (answer : Answer) (told told' : Opt
 
 -- `repair`, which takes nothing of the input
 pub record RepairsVault (target : Repairing) (answer : Answer) (before after : World) : Type 0 where
-  pub apart : Either (overlap target.vault target.lost) (RefusesOverlap target.vault target.lost answer before.told after.told before.taken after.taken)
-      (RepairsApart target answer before.told after.told before.taken after.taken)
+  pub apart : Either (overlap target.vault target.lost) (RefusesOverlap target.vault target.lost answer before after) (RepairsApart target answer before.told after.told before.taken after.taken)
   pub untouched : Keeps before.left after.left

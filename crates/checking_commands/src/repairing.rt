@@ -1,12 +1,13 @@
 //! `repair`: moves the strays of a vault into a folder of lost ones.
-ghost use Rattle.std.specs.Prelude.{◌≡◌, ◌⊎◌, ◌++◌, false, Err, IfErr, IfOk, IsTrue, OnOk, string_bytes};
+ghost use Rattle.std.specs.Prelude.{◌≡◌, ◌⊎◌, ◌++◌, ℕ, Bool, false, List, Option, Err, IfErr, IfOk, IsTrue, OnOk, string_bytes};
 ghost use Rattle.folder_spec.specs.Seen.{IfSeen};
 ghost use Rattle.port_model.specs.Counts.{CountRose};
-ghost use Rattle.vault_spec.specs.Vault.{Either};
-ghost use Rattle.command_opening.specs.Places.{overlap, RefusesOverlap};
+ghost use Rattle.port_model.specs.Draws.{ByteStream};
+ghost use Rattle.command_opening.specs.Places.{overlap};
+ghost use Rattle.command_opening.specs.World.{World};
 ghost use Rattle.command_answers.specs.Printing.{PrintsText};
 ghost use Rattle.command_opening.specs.Refusing.{Unless};
-ghost use Rattle.checking_commands.specs.Repair.{HasMovedStrays, MovesStrays, OfRepairing, RepairsApart, is_of_test, moved_line, moved_text};
+ghost use Rattle.checking_commands.specs.Repair.{HasMovedStrays, MovesStrays, OfRepairing, RepairsVault, is_of_test, moved_line, moved_text};
 ghost use Rattle.command_opening.specs.Tests.{is_of_moving};
 
 use crate::faults::answer_to_check;
@@ -25,9 +26,10 @@ pub fn repair<F: Folder, O: Sink>(
     folder: &mut F,
     out: &mut O,
 ) -> Answer
-    ensures apart { Either (overlap target.now.vault target.now.lost)
-        (RefusesOverlap target.now.vault target.now.lost result (F.told folder.old) (F.told folder.new) (O.taken out.old) (O.taken out.new))
-        (RepairsApart target.now result (F.told folder.old) (F.told folder.new) (O.taken out.old) (O.taken out.new)) }
+    // Whatever the input and the random source give, which it isn't handed.
+    ensures repairs { (left : Option (List ℕ)) (ended : Bool) (random : Option ByteStream) → RepairsVault target.now result
+        (record { told = F.told folder.old; left = left; ended = ended; taken = O.taken out.old; random = random })
+        (record { told = F.told folder.new; left = left; ended = ended; taken = O.taken out.new; random = random }) }
     ensures folder_fault { result ≡ Answer.FolderFault → CountRose (F.faults folder.old) (F.faults folder.new) }
     ensures output_fault { result ≡ Answer.OutputFault → CountRose (O.faults out.old) (O.faults out.new) }
 {

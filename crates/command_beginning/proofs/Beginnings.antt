@@ -10,11 +10,10 @@ use Rattle.folder_spec.specs.Region.{IsAsBefore, AlikeIn, Spares, apart_from, ap
 use Rattle.folder_spec.specs.Seen.{IfSeen, IsSeen, seen, under}
 use Rattle.folder_spec.specs.View.{View, AgreeIn, found}
 use Rattle.folder_spec.specs.Edit.{IsOutside, IsPartOf}
-use Rattle.folder_spec.proofs.Moments.{went_on, went_by_call, went_more, went_nowhere, went_to}
+use Rattle.folder_spec.proofs.Moments.{went_on, went_by_call, went_more, went_to}
 use Rattle.folder_spec.proofs.Paths.{begins_or_not, below-append}
 use Rattle.folder_spec.proofs.Regions.{as_before, as_before_on}
-use Rattle.folder_spec.proofs.Tellings.{from_to_more, from_to_on, from_to_same}
-use Rattle.port_model.specs.Draws.{ByteStream, Draws}
+use Rattle.folder_spec.proofs.Tellings.{from_to_more, from_to_on}
 use Rattle.vault_write.specs.Making.{is_apart, is_inside, is_unstaged}
 use Rattle.work_folder.specs.Entries.{stage_path}
 use Rattle.work_folder.specs.Changing.{ChangesAt}
@@ -22,7 +21,7 @@ use Rattle.work_folder.specs.Entering.{EntersAs, IsWorkOrStage, IsLeftOver}
 use Rattle.work_folder.specs.Looking.{Gives}
 use Rattle.work_folder.specs.declared.fault.WorkFault.{WorkFault}
 use Rattle.work_folder.specs.declared.fault.WorkFault.TheVariants.{NoParent, WrongKind, Foreign, Begun, Depth, Failed, NoMemory}
-use Rattle.command_beginning.specs.Beginning.{IsBeginning, ChangesWork, ChangesWorkAlone, EndsBefore}
+use Rattle.command_beginning.specs.Beginning.{IsBeginning, ChangesWork}
 use Rattle.command_opening.specs.Places.{overlap}
 use Rattle.command_beginning.specs.Faults.{of_work}
 use Rattle.command_beginning.specs.Refusing.{RefusesWork}
@@ -98,24 +97,6 @@ Alone work a b = Went (IsAsBefore (apart_from work) a.state) (λ s e. Spares (ap
 pub went_alone : (work : Path) (t u : Option Told) → ChangesWork work t u → FromTo (Alone work) t u
 went_alone work t u begins = from_to_more (Begins work) (Alone work) t u
     (λ a b is went. went_more (IsBeginning work a.state) (IsAsBefore (apart_from work) a.state) (λ s e. Spares (apart_from work) e.call) (λ s e. Spares (apart_from work) e.call) a b (alone work a.state) (λ s e spares. spares) went) begins
-
-pub work_alone : (work : Path) (t u : Option Told) (stream stream' : Option ByteStream) → ChangesWork work t u → Draws stream stream' [] → ChangesWorkAlone work t u stream stream'
-work_alone work t u stream stream' begins undrawn = record { moments = went_alone work t u begins; undrawn = undrawn }
-
--- where nothing has changed
-pub unchanged_work : (work : Path) (t u : Option Told) (stream : Option ByteStream) → u ≡ t → Draws stream stream [] → ChangesWorkAlone work t u stream stream
-unchanged_work work t u stream same undrawn = record {
-  moments = from_to_same (Alone work) t u same (λ a. went_nowhere (IsAsBefore (apart_from work) a.state) (λ s e. Spares (apart_from work) e.call) a (as_before (apart_from work) a.state));
-  undrawn = undrawn;
-}
-
-pub none_drawn : (stream : Option ByteStream) → Draws stream stream []
-none_drawn None = tt
-none_drawn (Some s) = λ place. refl
-
--- a command for which there was no memory at first
-pub not_begun_at : (is_own : Answer → Bool) → IsTrue (is_own OutOfMemory) → (work : Path) (t : Option Told) (stream : Option ByteStream) → EndsBefore is_own work OutOfMemory t t stream stream
-not_begun_at is_own own work t stream = record { own = own; changes = unchanged_work work t t stream refl (none_drawn stream) }
 
 -- a beginning and what follows are one
 pub begun_then : (work : Path) (R S : Told → Told → Type 0) (t u w : Option Told) → ((a : Told) → t ≡ Some a → IsSound a.state) → ((a b c : Told) → IsSound a.state → Begins work a b → R b c → S a c)

@@ -1,28 +1,26 @@
 -- How a command that changes a vault begins: the vault and the work folder don't overlap, the passphrase is read, the folder is
 -- settled, and the work folder is made ready. The first test that fails is the answer.
 use Rattle.std.specs.Prelude.{◌≡◌, ◌⊎◌, Bool, [], IsTrue, Option, MatchResult}
+use Rattle.std.specs.Io.KnownBytes.{Keeps}
 use Rattle.folder_spec.specs.Path.{Path}
 use Rattle.folder_spec.specs.State.{State}
 use Rattle.folder_spec.specs.Event.{Told}
 use Rattle.folder_spec.specs.Moments.{Moments}
 use Rattle.folder_spec.specs.Region.{IsAsBefore, Spares, apart_from}
+use Rattle.folder_spec.specs.Seen.{IfSeen}
 use Rattle.folder_spec.specs.View.{View}
-use Rattle.port_model.specs.Draws.{ByteStream, Draws}
-use Rattle.vault_spec.specs.Vault.{Vault}
+use Rattle.port_model.specs.Draws.{Draws}
+use Rattle.vault_spec.specs.Vault.{Either, Vault}
 use Rattle.work_folder.specs.Entering.{EntersAs}
 use Rattle.work_folder.specs.Looking as work
 use Rattle.command_beginning.specs.Faults.{of_work}
 use Rattle.command_opening.specs.Opening.{OfPassFile, OfVault}
+use Rattle.command_opening.specs.Places.{RefusesOverlap, overlap}
+use Rattle.command_opening.specs.Refusing.{Unless}
 use Rattle.command_opening.specs.Shown.{refused}
+use Rattle.command_opening.specs.World.{World}
 use Rattle.command_answers.specs.declared.answer.Answer.{Answer}
-use Rattle.command_answers.specs.declared.answer.Answer.TheVariants.{OutOfMemory, Overlap}
 use Rattle.command_words.specs.declared.commands.Change.{Change}
-
--- overlapping folders are refused, and nothing comes of the call
-pub record RefusesOverlapping (vault work : Path) (answer : Answer) (told told' : Option Told) (stream stream' : Option ByteStream) : Type 0 where
-  pub answers : (answer ≡ Overlap vault work) ⊎ (answer ≡ OutOfMemory)
-  pub unchanged : told' ≡ told
-  pub undrawn : Draws stream stream' []
 
 -- what follows where the work folder can be made ready, and else the answer is why it can't
 abbrev pub OfWork : View → Path → Answer → Type 0 → Type 0
@@ -35,15 +33,24 @@ OfSite change v answer next =
     OfPassFile change.target.pass (v change.target.pass) (refused answer) (λ phrase.
     OfWork v change.work answer (OfVault v change.target.vault phrase (refused answer) next))
 
--- Nothing but the work folder is changed, at every moment, and nothing is drawn.
-pub record ChangesWorkAlone (work : Path) (told told' : Option Told) (stream stream' : Option ByteStream) : Type 0 where
-  pub moments : Moments (IsAsBefore (apart_from work)) (λ s0 s e. Spares (apart_from work) e.call) told told'
-  pub undrawn : Draws stream stream' []
-
--- the call ended before it came to the making, with an answer of its own
-pub record EndsBefore (is_own : Answer → Bool) (work : Path) (answer : Answer) (told told' : Option Told) (stream stream' : Option ByteStream) : Type 0 where
+-- The call ended before it came to the making, with an answer of its own: nothing but the work folder is changed, at every moment, and
+-- nothing is drawn or taken of the input.
+pub record EndsBefore (is_own : Answer → Bool) (work : Path) (answer : Answer) (before after : World) : Type 0 where
   pub own : IsTrue (is_own answer)
-  pub changes : ChangesWorkAlone work told told' stream stream'
+  pub moments : Moments (IsAsBefore (apart_from work)) (λ s0 s e. Spares (apart_from work) e.call) before.told after.told
+  pub undrawn : Draws before.random after.random []
+  pub untouched : Keeps before.left after.left
+
+-- Of folders that don't overlap: the first test that fails by what is seen at first is the answer; and the call ended before it came to
+-- the making, or that is done.
+pub record MakesApart (is_own : Answer → Bool) (work : Path) (Tests : View → Type 0) (Makes : Type 0) (answer : Answer) (before after : World) : Type 0 where
+  pub cause : IfSeen before.told (λ v. Unless answer (Tests v))
+  pub comes : EndsBefore is_own work answer before after ⊎ Makes
+
+-- A command makes something of a vault beside a work folder, and writes nothing.
+pub record MakesBeside (is_own : Answer → Bool) (vault work : Path) (Tests : View → Type 0) (Makes : Type 0) (answer : Answer) (before after : World) : Type 0 where
+  pub apart : Either (overlap vault work) (RefusesOverlap vault work answer before after) (MakesApart is_own work Tests Makes answer before after)
+  pub unwritten : Keeps before.taken after.taken
 
 -- Since s0 no file was made, and nothing but the work folder is changed (private contracts only).
 pub record IsBeginning (work : Path) (s0 s : State) : Type 0 where

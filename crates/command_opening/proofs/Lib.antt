@@ -1,5 +1,6 @@
 pub mod Counts
 mod Looks
+pub mod Overlaps
 pub mod Printings
 pub mod Refusals
 pub mod Showing

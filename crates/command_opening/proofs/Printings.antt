@@ -7,7 +7,7 @@ use Rattle.std.proofs.KnownBytes.{Keeps-refl}
 use Rattle.command_answers.specs.Printing.{PrintsDone, PrintsText}
 use Rattle.command_opening.specs.Shown.{is_of_end}
 use Rattle.command_answers.specs.declared.answer.Answer.{Answer}
-use Rattle.command_answers.specs.declared.answer.Answer.TheVariants.{Done, Findings, BadCommandLine, OutOfMemory, FolderFault, InputFault, OutputFault, RandomFault, Refused, WrongPass, NotFound, WrongKind, DamagedInput, Damaged, NotAllowed, NotClean, Overlap, NotEmpty, Begun, Unusable, Changed, Differ, ZeroRandom, Taken, Limit, Retired}
+use Rattle.command_answers.specs.declared.answer.Answer.TheVariants.{Done, OutOfMemory, OutputFault}
 
 -- the answers to a text that is printed
 abbrev pub IsPrinted : Answer → Type 0
@@ -27,30 +27,7 @@ module _ {X : Type 0} (text : X → List ℕ) (IsDone : X → Type 0) where
   pub nothing_written : (answer : Answer) (taken taken' : Option (List ℕ)) → answer ≢ Done → answer ≢ OutputFault → Keeps taken taken' → PrintsDone text IsDone answer taken taken'
   nothing_written Done taken taken' done output keeps = absurd (done refl)
   nothing_written OutputFault taken taken' done output keeps = absurd (output refl)
-  nothing_written Findings taken taken' done output keeps = keeps
-  nothing_written BadCommandLine taken taken' done output keeps = keeps
-  nothing_written OutOfMemory taken taken' done output keeps = keeps
-  nothing_written FolderFault taken taken' done output keeps = keeps
-  nothing_written InputFault taken taken' done output keeps = keeps
-  nothing_written RandomFault taken taken' done output keeps = keeps
-  nothing_written (Refused at why) taken taken' done output keeps = keeps
-  nothing_written (WrongPass root) taken taken' done output keeps = keeps
-  nothing_written (NotFound what) taken taken' done output keeps = keeps
-  nothing_written (WrongKind what) taken taken' done output keeps = keeps
-  nothing_written (DamagedInput fault) taken taken' done output keeps = keeps
-  nothing_written (Damaged at how) taken taken' done output keeps = keeps
-  nothing_written (NotAllowed path) taken taken' done output keeps = keeps
-  nothing_written (NotClean at number) taken taken' done output keeps = keeps
-  nothing_written (Overlap first second) taken taken' done output keeps = keeps
-  nothing_written (NotEmpty at) taken taken' done output keeps = keeps
-  nothing_written (Begun work) taken taken' done output keeps = keeps
-  nothing_written (Unusable work why) taken taken' done output keeps = keeps
-  nothing_written (Changed plan items plan' items') taken taken' done output keeps = keeps
-  nothing_written (Differ path how) taken taken' done output keeps = keeps
-  nothing_written ZeroRandom taken taken' done output keeps = keeps
-  nothing_written (Taken at) taken taken' done output keeps = keeps
-  nothing_written (Limit which) taken taken' done output keeps = keeps
-  nothing_written (Retired work) taken taken' done output keeps = keeps
+  nothing_written answer taken taken' done output keeps = keeps
 
   pub nothing_printed : (p : Answer → Bool) (answer : Answer) (taken : Option (List ℕ)) → IsTrue (p answer) → p Done ≡ false → p OutputFault ≡ false → PrintsDone text IsDone answer taken taken
   nothing_printed p answer taken own done output =

@@ -8,7 +8,7 @@ use Rattle.folder_spec.specs.Event.{Told}
 use Rattle.folder_spec.specs.View.{View}
 use Rattle.folder_spec.specs.Seen.{IfSeen}
 use Rattle.command_answers.specs.declared.answer.Answer.{Answer}
-use Rattle.command_answers.specs.declared.answer.Answer.TheVariants.{Done, Findings, BadCommandLine, OutOfMemory, FolderFault, InputFault, OutputFault, RandomFault, Refused, WrongPass, NotFound, WrongKind, DamagedInput, Damaged, NotAllowed, NotClean, Overlap, NotEmpty, Begun, Unusable, Changed, Differ, ZeroRandom, Taken, Limit, Retired}
+use Rattle.command_answers.specs.declared.answer.Answer.TheVariants.{OutOfMemory, FolderFault, OutputFault}
 use Rattle.command_opening.specs.Refusing.{Unless}
 use Rattle.command_opening.specs.Shown.{Shown, refused, TakesAll, Follows, IsCutShort, Reads, is_of_end, is_of_reading, is_refusal}
 
@@ -25,29 +25,7 @@ follows_refused : (Shows : Shown → Type 0) (answer : Answer) (taken taken' : O
 follows_refused Shows FolderFault taken taken' keeps shows = inl keeps
 follows_refused Shows OutOfMemory taken taken' keeps shows = inl keeps
 follows_refused Shows OutputFault taken taken' keeps shows = (refused OutputFault, shows, (zero, nothing taken taken' keeps))
-follows_refused Shows Done taken taken' keeps shows = (refused Done, shows, refl, nothing taken taken' keeps)
-follows_refused Shows Findings taken taken' keeps shows = (refused Findings, shows, refl, nothing taken taken' keeps)
-follows_refused Shows BadCommandLine taken taken' keeps shows = (refused BadCommandLine, shows, refl, nothing taken taken' keeps)
-follows_refused Shows InputFault taken taken' keeps shows = (refused InputFault, shows, refl, nothing taken taken' keeps)
-follows_refused Shows (Refused at why) taken taken' keeps shows = (refused (Refused at why), shows, refl, nothing taken taken' keeps)
-follows_refused Shows (WrongPass root) taken taken' keeps shows = (refused (WrongPass root), shows, refl, nothing taken taken' keeps)
-follows_refused Shows (NotFound what) taken taken' keeps shows = (refused (NotFound what), shows, refl, nothing taken taken' keeps)
-follows_refused Shows (WrongKind what) taken taken' keeps shows = (refused (WrongKind what), shows, refl, nothing taken taken' keeps)
-follows_refused Shows (DamagedInput fault) taken taken' keeps shows = (refused (DamagedInput fault), shows, refl, nothing taken taken' keeps)
-follows_refused Shows (Damaged at how) taken taken' keeps shows = (refused (Damaged at how), shows, refl, nothing taken taken' keeps)
-follows_refused Shows (Overlap first second) taken taken' keeps shows = (refused (Overlap first second), shows, refl, nothing taken taken' keeps)
-follows_refused Shows (NotEmpty at) taken taken' keeps shows = (refused (NotEmpty at), shows, refl, nothing taken taken' keeps)
-follows_refused Shows (Limit which) taken taken' keeps shows = (refused (Limit which), shows, refl, nothing taken taken' keeps)
-follows_refused Shows RandomFault taken taken' keeps shows = (refused RandomFault, shows, refl, nothing taken taken' keeps)
-follows_refused Shows (NotAllowed path) taken taken' keeps shows = (refused (NotAllowed path), shows, refl, nothing taken taken' keeps)
-follows_refused Shows (Begun work) taken taken' keeps shows = (refused (Begun work), shows, refl, nothing taken taken' keeps)
-follows_refused Shows ZeroRandom taken taken' keeps shows = (refused ZeroRandom, shows, refl, nothing taken taken' keeps)
-follows_refused Shows (Taken at) taken taken' keeps shows = (refused (Taken at), shows, refl, nothing taken taken' keeps)
-follows_refused Shows (NotClean at number) taken taken' keeps shows = (refused (NotClean at number), shows, refl, nothing taken taken' keeps)
-follows_refused Shows (Unusable work why) taken taken' keeps shows = (refused (Unusable work why), shows, refl, nothing taken taken' keeps)
-follows_refused Shows (Changed plan items plan' items') taken taken' keeps shows = (refused (Changed plan items plan' items'), shows, refl, nothing taken taken' keeps)
-follows_refused Shows (Differ path how) taken taken' keeps shows = (refused (Differ path how), shows, refl, nothing taken taken' keeps)
-follows_refused Shows (Retired work) taken taken' keeps shows = (refused (Retired work), shows, refl, nothing taken taken' keeps)
+follows_refused Shows answer taken taken' keeps shows = (refused answer, shows, refl, nothing taken taken' keeps)
 
 pub follows_unless : (Shows : Shown → Type 0) (answer : Answer) (taken taken' : Option (List ℕ)) → Keeps taken taken' → Unless answer (Shows (refused answer)) → Follows Shows answer taken taken'
 follows_unless Shows answer taken taken' keeps (inl failed) = subst (λ a. Follows Shows a taken taken') (sym failed) (inl keeps)
@@ -59,29 +37,7 @@ pub all_or_cut : (Shows : Shown → Type 0) (answer : Answer) (taken taken' : Op
 all_or_cut Shows FolderFault taken taken' follows = inr (inl refl)
 all_or_cut Shows OutOfMemory taken taken' follows = inr (inr (inr refl))
 all_or_cut Shows OutputFault taken taken' follows = inr (inr (inl refl))
-all_or_cut Shows Done taken taken' follows = inl follows
-all_or_cut Shows Findings taken taken' follows = inl follows
-all_or_cut Shows BadCommandLine taken taken' follows = inl follows
-all_or_cut Shows InputFault taken taken' follows = inl follows
-all_or_cut Shows (Refused at why) taken taken' follows = inl follows
-all_or_cut Shows (WrongPass root) taken taken' follows = inl follows
-all_or_cut Shows (NotFound what) taken taken' follows = inl follows
-all_or_cut Shows (WrongKind what) taken taken' follows = inl follows
-all_or_cut Shows (DamagedInput fault) taken taken' follows = inl follows
-all_or_cut Shows (Damaged at how) taken taken' follows = inl follows
-all_or_cut Shows (Overlap first second) taken taken' follows = inl follows
-all_or_cut Shows (NotEmpty at) taken taken' follows = inl follows
-all_or_cut Shows (Limit which) taken taken' follows = inl follows
-all_or_cut Shows RandomFault taken taken' follows = inl follows
-all_or_cut Shows (NotAllowed path) taken taken' follows = inl follows
-all_or_cut Shows (Begun work) taken taken' follows = inl follows
-all_or_cut Shows ZeroRandom taken taken' follows = inl follows
-all_or_cut Shows (Taken at) taken taken' follows = inl follows
-all_or_cut Shows (NotClean at number) taken taken' follows = inl follows
-all_or_cut Shows (Unusable work why) taken taken' follows = inl follows
-all_or_cut Shows (Changed plan items plan' items') taken taken' follows = inl follows
-all_or_cut Shows (Differ path how) taken taken' follows = inl follows
-all_or_cut Shows (Retired work) taken taken' follows = inl follows
+all_or_cut Shows answer taken taken' follows = inl follows
 
 -- the answer is what is shown, unless it is cut short
 exactly : (Shows : Shown → Type 0) (answer : Answer) (taken taken' : Option (List ℕ)) (shown : Shown) → IsOne Shows → Shows shown → Follows Shows answer taken taken' → (answer ≡ shown.answer) ⊎ IsCutShort answer

@@ -1,9 +1,10 @@
 -- Places of a folder that a command names: whether they overlap, and whether one is free.
-use Rattle.std.specs.Prelude.{◌≡◌, ◌⊎◌, ◌||◌, ℕ, Bool, List, Option, is_some}
+use Rattle.std.specs.Prelude.{◌≡◌, ◌⊎◌, ◌||◌, Bool, [], is_some}
 use Rattle.std.specs.Io.KnownBytes.{Keeps}
-use Rattle.folder_spec.specs.Event.{Told}
 use Rattle.folder_spec.specs.Path.{Path, below, parent}
 use Rattle.folder_spec.specs.View.{Found, NoEntry, Folder, FileOf, Special, View}
+use Rattle.port_model.specs.Draws.{Draws}
+use Rattle.command_opening.specs.World.{World}
 use Rattle.command_answers.specs.declared.answer.Answer.{Answer}
 use Rattle.command_answers.specs.declared.answer.Answer.TheVariants.{OutOfMemory, NotFound, WrongKind, Overlap, NotEmpty}
 use Rattle.command_answers.specs.declared.answer.Named.TheVariants as named
@@ -30,8 +31,10 @@ OfMissing at Special answer next = answer ≡ NotEmpty at
 abbrev pub OfFree : View → Path → Answer → Type 0 → Type 0
 OfFree v at answer next = OfDirectory (parent at) (v (parent at)) answer (OfMissing at (v at) answer next)
 
--- overlapping folders are refused by the words alone
-pub record RefusesOverlap (one other : Path) (answer : Answer) (told told' : Option Told) (taken taken' : Option (List ℕ)) : Type 0 where
+-- overlapping folders are refused by the words alone, and nothing comes of the call
+pub record RefusesOverlap (one other : Path) (answer : Answer) (before after : World) : Type 0 where
   pub answers : (answer ≡ Overlap one other) ⊎ (answer ≡ OutOfMemory)
-  pub unchanged : told' ≡ told
-  pub unwritten : Keeps taken taken'
+  pub unchanged : after.told ≡ before.told
+  pub untouched : Keeps before.left after.left
+  pub unwritten : Keeps before.taken after.taken
+  pub undrawn : Draws before.random after.random []

@@ -151,22 +151,11 @@ cat_follows files target v vault (Err cat.NoMemory) taken taken' opens (inr wrot
 cat_follows files target v vault (Err (cat.Find fault)) taken taken' opens cats =
     follows_unless (ShowsContent target v) (of_find fault) taken taken' cats.1 (refuses_content target v vault fault opens cats.0)
 
-own_find : (fault : FindFault) → IsTrue (is_of_reading (of_find fault))
-own_find (find.NotFound path) = refl
-own_find (find.WrongKind path) = refl
-own_find (find.NoDirKey at) = refl
-own_find (find.NoFolder at) = refl
-own_find find.Failed = refl
-own_find find.NoMemory = refl
-
 own_cat : (result : Result ℕ CatFault) → IsTrue (is_of_reading (answer_to_cat result))
 own_cat (Ok n) = refl
-own_cat (Err (cat.Find fault)) = own_find fault
-own_cat (Err (cat.Damaged at fault)) = refl
-own_cat (Err (cat.Limit which)) = refl
-own_cat (Err cat.Sink) = refl
-own_cat (Err cat.Failed) = refl
-own_cat (Err cat.NoMemory) = refl
+own_cat (Err (cat.Find find.Failed)) = refl
+own_cat (Err (cat.Find fault)) = refl
+own_cat (Err fault) = refl
 
 -- `cat` reads what its definition shows
 pub cat_reads : HaveOneAnswer → FilesAreFound → (target : Target) (root : Path) (vault : Vault) (result : Result ℕ CatFault) (told told1 told' : Option Told) (taken taken' : Option (List ℕ))
@@ -179,18 +168,8 @@ cat_reads law files target root vault result told told1 told' taken taken' at sa
     (subst (λ p. Cats (format_of vault) p v target.path result taken taken') at (cats v (subst (λ t. IsSeen t v) (sym same) is))))
 
 -- the folder is named where it failed
-find_fails : (fault : FindFault) → of_find fault ≡ FolderFault → fault ≡ find.Failed
-find_fails (find.NotFound path) is = cc
-find_fails (find.WrongKind path) is = cc
-find_fails (find.NoDirKey at) is = cc
-find_fails (find.NoFolder at) is = cc
-find_fails find.Failed is = refl
-find_fails find.NoMemory is = cc
-
 pub cat_fails : (fault : CatFault) → of_cat fault ≡ FolderFault → (fault ≡ cat.Failed) ⊎ (fault ≡ cat.Find find.Failed)
-cat_fails (cat.Find fault) is = inr (ap (λ f. cat.Find f) (find_fails fault is))
-cat_fails (cat.Damaged at fault) is = cc
-cat_fails (cat.Limit which) is = cc
-cat_fails cat.Sink is = cc
 cat_fails cat.Failed is = inl refl
-cat_fails cat.NoMemory is = cc
+cat_fails (cat.Find find.Failed) is = inr refl
+cat_fails (cat.Find fault) is = cc
+cat_fails fault is = cc

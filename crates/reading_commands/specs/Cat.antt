@@ -1,5 +1,6 @@
 -- `cat`: the content of a file, chunk by chunk.
 use Rattle.std.specs.Prelude.{◌≡◌, ℕ, List, ◌++◌, Option, Some, None, MatchResult}
+use Rattle.std.specs.Io.KnownBytes.{Keeps}
 use Rattle.folder_spec.specs.Path.{Path}
 use Rattle.folder_spec.specs.View.{View}
 use Rattle.chunk_files.specs.Keys.{Keys}
@@ -9,7 +10,8 @@ use Rattle.vault_spec.specs.Format.{file_bytes}
 use Rattle.vault_spec.specs.Vault.{format_of}
 use Rattle.reading_commands.specs.Finding.{answer_to_finding}
 use Rattle.command_opening.specs.Opening.{OfOpened}
-use Rattle.command_opening.specs.Shown.{Shown, refused}
+use Rattle.command_opening.specs.Shown.{Reads, Shown, refused}
+use Rattle.command_opening.specs.World.{World}
 use Rattle.command_answers.specs.declared.answer.Answer.{Answer}
 use Rattle.command_answers.specs.declared.answer.Answer.TheVariants.{Done, Damaged, Limit}
 use Rattle.command_answers.specs.declared.answer.Damage.TheVariants as damage
@@ -37,3 +39,8 @@ ShowsContent target v shown =
     MatchResult (content_at (format_of vault) target.vault v target.path)
     (λ at. ShowsFile (format_of vault).content (target.vault ++ at) (file_bytes (v (target.vault ++ at))) shown)
     (λ refusal. shown ≡ refused (answer_to_finding target.vault refusal)))
+
+-- `cat`, which takes nothing of the input
+pub record WritesFile (target : Target) (answer : Answer) (before after : World) : Type 0 where
+  pub reads : Reads (ShowsContent target) answer before.told after.told before.taken after.taken
+  pub untouched : Keeps before.left after.left

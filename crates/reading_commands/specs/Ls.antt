@@ -1,5 +1,6 @@
 -- `ls`: the items of a directory, one a line.
 use Rattle.std.specs.Prelude.{◌≡◌, ℕ, List, [], ◌∷◌, ◌++◌, MatchResult}
+use Rattle.std.specs.Io.KnownBytes.{Keeps}
 use Rattle.std.specs.List.{flat_map}
 use Rattle.folder_spec.specs.View.{View}
 use Rattle.folder_spec.specs.Seen.{under}
@@ -11,8 +12,10 @@ use Rattle.vault_spec.specs.Listing.{Listed, AreListed}
 use Rattle.vault_spec.specs.Vault.{format_of}
 use Rattle.reading_commands.specs.Finding.{answer_to_finding}
 use Rattle.command_opening.specs.Opening.{OfOpened}
-use Rattle.command_opening.specs.Shown.{Shown, refused}
-use Rattle.command_answers.specs.declared.answer.Answer.TheVariants.{Done}
+use Rattle.command_opening.specs.Shown.{Reads, Shown, refused}
+use Rattle.command_opening.specs.World.{World}
+use Rattle.command_answers.specs.declared.answer.Answer.{Answer}
+use Rattle.command_answers.specs.declared.answer.Answer.TheVariants.{Done, FolderFault}
 use Rattle.command_words.specs.declared.commands.Target.{Target}
 
 -- `d` for a directory and `f` for a file
@@ -34,3 +37,9 @@ ShowsItems target v shown =
     MatchResult (enter (format_of vault) (under target.vault v) target.path)
     (λ dir. (items : List Listed) × AreListed (format_of vault) (under target.vault v) dir items × (shown ≡ record { pieces = ls_text items ∷ []; answer = Done }))
     (λ refusal. shown ≡ refused (answer_to_finding target.vault refusal)))
+
+-- `ls`, which writes nothing before all is known, and takes nothing of the input
+pub record ListsItems (target : Target) (answer : Answer) (before after : World) : Type 0 where
+  pub reads : Reads (ShowsItems target) answer before.told after.told before.taken after.taken
+  pub quiet : answer ≡ FolderFault → Keeps before.taken after.taken
+  pub untouched : Keeps before.left after.left

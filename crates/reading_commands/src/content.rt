@@ -1,8 +1,9 @@
 //! `cat`: writes the content of a file of a vault.
-ghost use Rattle.std.specs.Prelude.{◌≡◌};
+ghost use Rattle.std.specs.Prelude.{◌≡◌, ℕ, Bool, List, Option};
 ghost use Rattle.port_model.specs.Counts.{CountRose};
-ghost use Rattle.reading_commands.specs.Cat.{ShowsContent};
-ghost use Rattle.command_opening.specs.Shown.{Reads};
+ghost use Rattle.port_model.specs.Draws.{ByteStream};
+ghost use Rattle.reading_commands.specs.Cat.{WritesFile};
+ghost use Rattle.command_opening.specs.World.{World};
 
 use crate::faults::answer_to_cat;
 use command_answers::Answer;
@@ -21,7 +22,10 @@ pub fn cat<F: Folder, O: Sink>(
     folder: &mut F,
     out: &mut O,
 ) -> Answer
-    ensures reads { Reads (ShowsContent target.now) result (F.told folder.old) (F.told folder.new) (O.taken out.old) (O.taken out.new) }
+    // Whatever the input and the random source give, which it isn't handed.
+    ensures writes { (left : Option (List ℕ)) (ended : Bool) (random : Option ByteStream) → WritesFile target.now result
+        (record { told = F.told folder.old; left = left; ended = ended; taken = O.taken out.old; random = random })
+        (record { told = F.told folder.new; left = left; ended = ended; taken = O.taken out.new; random = random }) }
     ensures folder_fault { result ≡ Answer.FolderFault → CountRose (F.faults folder.old) (F.faults folder.new) }
     ensures output_fault { result ≡ Answer.OutputFault → CountRose (O.faults out.old) (O.faults out.new) }
 {

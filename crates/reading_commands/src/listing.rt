@@ -1,11 +1,12 @@
 //! `ls`: lists a directory of a vault.
-ghost use Rattle.std.specs.Prelude.{◌≡◌, ◌++◌, ◌∷◌, [], Err, IfErr, IfOk, IsTrue, OnOk, string_bytes};
-ghost use Rattle.std.specs.Io.KnownBytes.{Keeps};
+ghost use Rattle.std.specs.Prelude.{◌≡◌, ◌++◌, ◌∷◌, [], ℕ, Bool, List, Option, Err, IfErr, IfOk, IsTrue, OnOk, string_bytes};
 ghost use Rattle.folder_spec.specs.Seen.{IfSeen};
 ghost use Rattle.port_model.specs.Counts.{CountRose};
-ghost use Rattle.reading_commands.specs.Ls.{ShowsItems, item_line, ls_text, node_letter};
+ghost use Rattle.port_model.specs.Draws.{ByteStream};
+ghost use Rattle.reading_commands.specs.Ls.{ListsItems, ShowsItems, item_line, ls_text, node_letter};
 ghost use Rattle.command_opening.specs.Refusing.{Unless};
-ghost use Rattle.command_opening.specs.Shown.{Reads, is_refusal, refused};
+ghost use Rattle.command_opening.specs.Shown.{is_refusal, refused};
+ghost use Rattle.command_opening.specs.World.{World};
 
 use command_answers::Answer;
 use command_opening::{answer_to_find, open};
@@ -20,8 +21,10 @@ use vault_spec::laws::directories_have_one_list;
 
 /// Writes the items of a directory, one a line, once all are known.
 pub fn ls<F: Folder, O: Sink>(alloc: Global, target: &Target, folder: &mut F, out: &mut O) -> Answer
-    ensures reads { Reads (ShowsItems target.now) result (F.told folder.old) (F.told folder.new) (O.taken out.old) (O.taken out.new) }
-    ensures quiet { result ≡ Answer.FolderFault → Keeps (O.taken out.old) (O.taken out.new) }
+    // Whatever the input and the random source give, which it isn't handed.
+    ensures lists { (left : Option (List ℕ)) (ended : Bool) (random : Option ByteStream) → ListsItems target.now result
+        (record { told = F.told folder.old; left = left; ended = ended; taken = O.taken out.old; random = random })
+        (record { told = F.told folder.new; left = left; ended = ended; taken = O.taken out.new; random = random }) }
     ensures folder_fault { result ≡ Answer.FolderFault → CountRose (F.faults folder.old) (F.faults folder.new) }
     ensures output_fault { result ≡ Answer.OutputFault → CountRose (O.faults out.old) (O.faults out.new) }
 {

@@ -2,6 +2,7 @@
 use Rattle.std.proofs.Common.{◌≡◌, ℕ, Bool, true, false, List, Option, Some, None, Result, Ok, Err, inl, inr, refl, sym, ap, ◌∙◌, subst, IsTrue, ◌⊎◌}
 use Rattle.std.specs.Prelude.{◌≢◌, MatchOption, MatchResult, if◌then◌else◌}
 use Rattle.std.proofs.lemmas.Bool.{or_left}
+use Rattle.std.specs.Io.KnownBytes as known
 use Rattle.std.proofs.KnownBytes.{Keeps-refl}
 use Rattle.content_writing.specs.declared.fault.PutFault.TheVariants as puts
 use Rattle.folder_spec.specs.Event.{Told}
@@ -37,12 +38,12 @@ use Rattle.tree_match.specs.declared.answer.MatchFault.TheVariants as match
 use Rattle.tree_match.specs.declared.answer.Side.{Side}
 use Rattle.vault_read.specs.declared.fault.Limit.TheVariants as limit
 use Rattle.vault_read.specs.declared.fault.LoadFault.{LoadFault}
-use Rattle.vault_cli.specs.Migrate.{HasMigrated, IsAskedFor, MigratesApart, MigratesTree, Pair, RefusesTwo, first_overlap, pair}
+use Rattle.vault_cli.specs.Migrate.{HasMigrated, IsAskedFor, MigratesApart, MigratesTree, Pair, first_overlap, pair}
 use Rattle.vault_cli.specs.Migrate as migrating
 use Rattle.vault_cli.specs.Faults.{of_move}
 use Rattle.vault_cli.specs.Moving.{AnswersMove, ArePhrases, Comes, Completes, FailPasses, KeepsAll, OfPasses, Outcome, RefusesPasses, RefusesUndrawn, done_text, is_of_chance, is_of_stop, is_of_told_stop}
 use Rattle.command_opening.specs.Opening.{IsPhrase, OfPassFile, passphrase_in}
-use Rattle.command_opening.specs.Places.{overlap}
+use Rattle.command_opening.specs.Places.{RefusesOverlap, overlap}
 use Rattle.command_answers.specs.Printing.{PrintsText}
 use Rattle.command_opening.specs.Refusing.{RefusesPass, Unless}
 use Rattle.vault_cli.specs.Resume.{HasResumed, IsResumedFor, Resumes, ResumesTree}
@@ -54,7 +55,7 @@ use Rattle.command_answers.specs.declared.answer.Answer.TheVariants.{OutOfMemory
 use Rattle.command_words.specs.declared.commands.Moving.{Moving}
 use Rattle.command_words.specs.declared.commands.Passes.{Passes}
 use Rattle.command_words.specs.declared.commands.Resuming.{Resuming}
-use Rattle.command_beginning.proofs.Beginnings.{none_drawn}
+use Rattle.command_opening.proofs.Overlaps.{none_drawn, refuses_overlap}
 use Rattle.command_opening.proofs.Printings.{IsPrinted, nothing_printed, printed, printed_is_own}
 use Rattle.command_opening.proofs.Refusals.{pass_gives, pass_taken, pass_then, unless_then}
 
@@ -236,25 +237,37 @@ module _ (moving : Moving) where
       else if three then Some (pair moving.target moving.work)
       else None
 
-  -- the first two folders that overlap are named
-  module _ (P : Type 0) (Q : Pair → Type 0) where
-    pub first_two : overlap moving.source moving.target ≡ true → Q (pair moving.source moving.target) → MatchOption (first_overlap moving) P Q
-    first_two is q = subst (λ b. MatchOption (pick b (overlap moving.source moving.work) (overlap moving.target moving.work)) P Q) (sym is) q
+  -- the first two folders that overlap
+  pub first_two : overlap moving.source moving.target ≡ true → first_overlap moving ≡ Some (pair moving.source moving.target)
+  first_two is = ap (λ b. pick b (overlap moving.source moving.work) (overlap moving.target moving.work)) is
 
-    later : overlap moving.source moving.target ≡ false → MatchOption (pick false (overlap moving.source moving.work) (overlap moving.target moving.work)) P Q → MatchOption (first_overlap moving) P Q
-    later none x = subst (λ b. MatchOption (pick b (overlap moving.source moving.work) (overlap moving.target moving.work)) P Q) (sym none) x
+  pub second_two : overlap moving.source moving.target ≡ false → overlap moving.source moving.work ≡ true → first_overlap moving ≡ Some (pair moving.source moving.work)
+  second_two first is = ap (λ b. pick b (overlap moving.source moving.work) (overlap moving.target moving.work)) first ∙ ap (λ b. pick false b (overlap moving.target moving.work)) is
 
-    pub second_two : overlap moving.source moving.target ≡ false → overlap moving.source moving.work ≡ true → Q (pair moving.source moving.work) → MatchOption (first_overlap moving) P Q
-    second_two none is q = later none (subst (λ b. MatchOption (pick false b (overlap moving.target moving.work)) P Q) (sym is) q)
+  by_last : (b : Bool) → overlap moving.source moving.target ≡ false → overlap moving.source moving.work ≡ false → overlap moving.target moving.work ≡ b → first_overlap moving ≡ pick false false b
+  by_last b first second is =
+      ap (λ b. pick b (overlap moving.source moving.work) (overlap moving.target moving.work)) first ∙ ap (λ b. pick false b (overlap moving.target moving.work)) second ∙ ap (pick false false) is
 
-    last : overlap moving.source moving.target ≡ false → overlap moving.source moving.work ≡ false → MatchOption (pick false false (overlap moving.target moving.work)) P Q → MatchOption (first_overlap moving) P Q
-    last none second x = later none (subst (λ b. MatchOption (pick false b (overlap moving.target moving.work)) P Q) (sym second) x)
+  pub third_two : overlap moving.source moving.target ≡ false → overlap moving.source moving.work ≡ false → overlap moving.target moving.work ≡ true → first_overlap moving ≡ Some (pair moving.target moving.work)
+  third_two = by_last true
 
-    pub third_two : overlap moving.source moving.target ≡ false → overlap moving.source moving.work ≡ false → overlap moving.target moving.work ≡ true → Q (pair moving.target moving.work) → MatchOption (first_overlap moving) P Q
-    third_two none second is q = last none second (subst (λ b. MatchOption (pick false false b) P Q) (sym is) q)
+  pub no_two : overlap moving.source moving.target ≡ false → overlap moving.source moving.work ≡ false → overlap moving.target moving.work ≡ false → first_overlap moving ≡ None
+  no_two = by_last false
 
-    pub no_two : overlap moving.source moving.target ≡ false → overlap moving.source moving.work ≡ false → overlap moving.target moving.work ≡ false → P → MatchOption (first_overlap moving) P Q
-    no_two none second third x = last none second (subst (λ b. MatchOption (pick false false b) P Q) (sym third) x)
+  pub two_refused : (two : Pair) (answer : Answer) (w : World) → first_overlap moving ≡ Some two → (answer ≡ Overlap two.first two.second) ⊎ (answer ≡ OutOfMemory) → MigratesTree moving answer w w
+  two_refused two answer w is answers = record {
+    apart = subst (λ (o : Option Pair). MatchOption o (MigratesApart moving answer w.told w.told w.taken w.taken w.random w.random) (λ (p : Pair). RefusesOverlap p.first p.second answer w w)) (sym is)
+        (refuses_overlap two.first two.second answer w w.told answers refl);
+    untouched = Keeps-refl w.left;
+  }
+
+  pub migrated_apart : (answer : Answer) (before after : World) → first_overlap moving ≡ None → known.Keeps before.left after.left → MigratesApart moving answer before.told after.told before.taken after.taken before.random after.random
+      → MigratesTree moving answer before after
+  migrated_apart answer before after none untouched migrates = record {
+    apart = subst (λ (o : Option Pair). MatchOption o (MigratesApart moving answer before.told after.told before.taken after.taken before.random after.random) (λ (p : Pair). RefusesOverlap p.first p.second answer before after))
+        (sym none) migrates;
+    untouched = untouched;
+  }
 
   pub migrate_stopped : (answer : Answer) (told told' : Option Told) (taken : Option (List ℕ)) (stream stream' : Option ByteStream) → IsTrue (is_of_stop answer)
       → IfSeen told (λ v. migrating.MayCome moving answer told told' stream stream' v)
@@ -291,12 +304,9 @@ module _ (moving : Moving) where
   pub migrates_nothing : AreSafe → (w : World) → MigratesTree moving OutOfMemory w w
   migrates_nothing law w = record { apart = by (first_overlap moving); untouched = Keeps-refl w.left }
     where
-      by : (o : Option Pair) → MatchOption o (MigratesApart moving OutOfMemory w.told w.told w.taken w.taken w.random w.random) (λ two. RefusesTwo two OutOfMemory w.told w.told w.taken w.taken w.random w.random)
+      by : (o : Option Pair) → MatchOption o (MigratesApart moving OutOfMemory w.told w.told w.taken w.taken w.random w.random) (λ two. RefusesOverlap two.first two.second OutOfMemory w w)
       by None = migrates_nothing_apart law w.told w.taken w.random
-      by (Some two) = record { refuses = record { answers = inr refl; unchanged = refl; unwritten = Keeps-refl w.taken }; undrawn = none_drawn w.random }
-
-  pub refuses_two : (two : Pair) (answer : Answer) (told : Option Told) (taken : Option (List ℕ)) (stream : Option ByteStream) → (answer ≡ Overlap two.first two.second) ⊎ (answer ≡ OutOfMemory) → RefusesTwo two answer told told taken taken stream stream
-  refuses_two two answer told taken stream answers = record { refuses = record { answers = answers; unchanged = refl; unwritten = Keeps-refl taken }; undrawn = none_drawn stream }
+      by (Some two) = refuses_overlap two.first two.second OutOfMemory w w.told (inr refl) refl
 
 -- ---- `resume`
 

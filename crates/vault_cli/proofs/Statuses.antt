@@ -12,37 +12,14 @@ use Rattle.vault_cli.specs.Demo.{EndsWork, chances_by, is_status_of_chance}
 use Rattle.vault_cli.specs.Faults.{of_move}
 use Rattle.vault_cli.specs.Moving.{is_of_stop}
 use Rattle.command_answers.specs.declared.answer.Answer.{Answer}
-use Rattle.command_answers.specs.declared.answer.Answer.TheVariants.{Done, Findings, BadCommandLine, OutOfMemory, FolderFault, InputFault, OutputFault, RandomFault, Refused, WrongPass, NotFound, WrongKind, DamagedInput, Damaged, NotAllowed, NotClean, Overlap, NotEmpty, Begun, Unusable, Changed, Differ, ZeroRandom, Taken, Limit, Retired}
+use Rattle.command_answers.specs.declared.answer.Answer.TheVariants.{Done, OutOfMemory, FolderFault, RandomFault, ZeroRandom, Taken}
 use Rattle.command_answers.proofs.Reports.{with_status}
 
 -- only zeros and a taken place have one of their statuses
 drawn_or_taken : (answer : Answer) → 21 ≤ status_of answer → status_of answer ≤ 22 → (answer ≡ ZeroRandom) ⊎ ((at : Path) × (answer ≡ Taken at))
-drawn_or_taken Done least most = absurd (omega (arith, least, most))
-drawn_or_taken Findings least most = absurd (omega (arith, least, most))
-drawn_or_taken BadCommandLine least most = absurd (omega (arith, least, most))
-drawn_or_taken OutOfMemory least most = absurd (omega (arith, least, most))
-drawn_or_taken FolderFault least most = absurd (omega (arith, least, most))
-drawn_or_taken InputFault least most = absurd (omega (arith, least, most))
-drawn_or_taken OutputFault least most = absurd (omega (arith, least, most))
-drawn_or_taken RandomFault least most = absurd (omega (arith, least, most))
 drawn_or_taken ZeroRandom least most = inl refl
-drawn_or_taken (Refused at why) least most = absurd (omega (arith, least, most))
-drawn_or_taken (WrongPass root) least most = absurd (omega (arith, least, most))
-drawn_or_taken (NotFound what) least most = absurd (omega (arith, least, most))
-drawn_or_taken (WrongKind what) least most = absurd (omega (arith, least, most))
-drawn_or_taken (DamagedInput fault) least most = absurd (omega (arith, least, most))
-drawn_or_taken (Damaged at how) least most = absurd (omega (arith, least, most))
-drawn_or_taken (NotAllowed path) least most = absurd (omega (arith, least, most))
-drawn_or_taken (NotClean at number) least most = absurd (omega (arith, least, most))
-drawn_or_taken (Overlap first second) least most = absurd (omega (arith, least, most))
-drawn_or_taken (NotEmpty at) least most = absurd (omega (arith, least, most))
-drawn_or_taken (Begun work) least most = absurd (omega (arith, least, most))
-drawn_or_taken (Unusable work why) least most = absurd (omega (arith, least, most))
-drawn_or_taken (Changed plan items plan' items') least most = absurd (omega (arith, least, most))
-drawn_or_taken (Differ path how) least most = absurd (omega (arith, least, most))
 drawn_or_taken (Taken at) least most = inr (at, refl)
-drawn_or_taken (Limit which) least most = absurd (omega (arith, least, most))
-drawn_or_taken (Retired work) least most = absurd (omega (arith, least, most))
+drawn_or_taken answer least most = absurd (omega (arith, least, most))
 
 zeros_of : (answer : Answer) → status_of answer ≡ 21 → answer ≡ ZeroRandom
 zeros_of answer is = elim (drawn_or_taken answer (omega (arith, is)) (omega (arith, is))) [

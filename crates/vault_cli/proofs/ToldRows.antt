@@ -53,20 +53,21 @@ use Rattle.work_folder.specs.declared.fault.WorkFault.TheVariants as works
 use Rattle.command_answers.specs.Answers.{status_of}
 use Rattle.command_answers.specs.Rows.{is_among, may_end, may_end_told, row_of}
 use Rattle.command_answers.specs.declared.answer.Answer.{Answer}
-use Rattle.command_answers.specs.declared.answer.Answer.TheVariants.{Done, Findings, BadCommandLine, OutOfMemory, FolderFault, InputFault, OutputFault, RandomFault, Refused, WrongPass, NotFound, WrongKind, DamagedInput, Damaged, NotAllowed, NotClean, Overlap, NotEmpty, Begun, Unusable, Changed, Differ, ZeroRandom, Taken, Limit, Retired}
+use Rattle.command_answers.specs.declared.answer.Answer.TheVariants.{Done, OutOfMemory, FolderFault, OutputFault, Refused, WrongPass, NotFound, WrongKind, Limit}
 use Rattle.command_answers.specs.declared.answer.Limit.TheVariants as limit
 use Rattle.command_words.specs.declared.commands.Command.{Command}
-use Rattle.command_words.specs.declared.commands.Command.TheVariants.{DecryptFile, Init, Ls, Cat, Fsck, Mkdir, Put, Repair, Migrate, Resume, Retire, Demo}
+use Rattle.command_words.specs.declared.commands.Command.TheVariants.{Migrate, Resume, Retire}
 use Rattle.command_words.specs.declared.commands.Moving.{Moving}
 use Rattle.command_words.specs.declared.commands.Passes.{Passes}
 use Rattle.command_words.specs.declared.commands.Resuming.{Resuming}
 use Rattle.command_opening.proofs.Printings.{IsPrinted}
 use Rattle.vault_cli.proofs.Rows.{in_row}
 use Rattle.vault_cli.specs.Faults.{of_move, of_retire}
-use Rattle.vault_cli.specs.Migrate.{MigratesApart, MigratesTree, Pair, RefusesTwo, first_overlap}
+use Rattle.vault_cli.specs.Migrate.{MigratesApart, MigratesTree, Pair, first_overlap}
 use Rattle.vault_cli.specs.Migrate as migrating
 use Rattle.vault_cli.specs.Moving.{AnswersMove, ArePhrases, Outcome, OfPasses}
 use Rattle.command_opening.specs.Opening.{OfPassFile, passphrase_in}
+use Rattle.command_opening.specs.Places.{RefusesOverlap}
 use Rattle.command_opening.specs.Refusing as refusing
 use Rattle.vault_cli.specs.Resume.{ResumesTree}
 use Rattle.vault_cli.specs.Resume as resuming_on
@@ -455,149 +456,33 @@ module _ (work : Path) (source_pass target_pass : List ℕ) (v : View) where
 -- ---- the answers
 
 no_difference : (work root : Path) (fault : MoveFault) → OnDiffer ⊥ fault → ¬ IsTrue (is_among (20 ∷ []) (status_of (of_move work root fault)))
-no_difference work root (moves.Work (works.NoParent at)) not is = cc is
-no_difference work root (moves.Work (works.WrongKind at)) not is = cc is
-no_difference work root (moves.Work (works.Foreign at)) not is = cc is
-no_difference work root (moves.Work works.Begun) not is = cc is
-no_difference work root (moves.Work works.Depth) not is = cc is
-no_difference work root (moves.Work works.Failed) not is = cc is
-no_difference work root (moves.Work works.NoMemory) not is = cc is
-no_difference work root (moves.Journal journals.NoJournal) not is = cc is
-no_difference work root (moves.Journal (journals.BadJournal number)) not is = cc is
-no_difference work root (moves.Journal journals.TooLarge) not is = cc is
-no_difference work root (moves.Journal journals.Failed) not is = cc is
-no_difference work root (moves.Journal journals.NoMemory) not is = cc is
-no_difference work root (moves.Overlap first second) not is = cc is
-no_difference work root (moves.Load side (loads.Missing at)) not is = cc is
-no_difference work root (moves.Load side (loads.WrongKind at)) not is = cc is
-no_difference work root (moves.Load side (loads.TooLarge at)) not is = cc is
-no_difference work root (moves.Load side (loads.Go why)) not is = cc is
-no_difference work root (moves.Load side (loads.Cm at why)) not is = cc is
-no_difference work root (moves.Load side loads.WrongPass) not is = cc is
-no_difference work root (moves.Load side loads.BadSignature) not is = cc is
-no_difference work root (moves.Load side loads.Failed) not is = cc is
-no_difference work root (moves.Load side loads.NoMemory) not is = cc is
-no_difference work root (moves.Walk (walks.NotClean finding)) not is = cc is
-no_difference work root (moves.Walk (walks.Limit which)) not is = cc is
-no_difference work root (moves.Walk walks.Failed) not is = cc is
-no_difference work root (moves.Walk walks.NoMemory) not is = cc is
-no_difference work root (moves.NotEmpty at) not is = cc is
-no_difference work root (moves.NotAllowed path) not is = cc is
-no_difference work root (moves.Changed plan items plan' items') not is = cc is
-no_difference work root (moves.Match (matches.Damaged at why)) not is = cc is
-no_difference work root (moves.Match (matches.Limit which)) not is = cc is
-no_difference work root (moves.Match matches.Failed) not is = cc is
-no_difference work root (moves.Match matches.NoMemory) not is = cc is
 no_difference work root (moves.Differ path how) not is = absurd not
-no_difference work root (moves.Place (puts.Find (finds.NotFound path))) not is = cc is
-no_difference work root (moves.Place (puts.Find (finds.WrongKind path))) not is = cc is
-no_difference work root (moves.Place (puts.Find (finds.NoDirKey at))) not is = cc is
-no_difference work root (moves.Place (puts.Find (finds.NoFolder at))) not is = cc is
+no_difference work root (moves.Work works.Failed) not is = cc is
+no_difference work root (moves.Journal journals.Failed) not is = cc is
+no_difference work root (moves.Load side loads.Failed) not is = cc is
+no_difference work root (moves.Walk walks.Failed) not is = cc is
+no_difference work root (moves.Match matches.Failed) not is = cc is
 no_difference work root (moves.Place (puts.Find finds.Failed)) not is = cc is
-no_difference work root (moves.Place (puts.Find finds.NoMemory)) not is = cc is
-no_difference work root (moves.Place (puts.NotAllowed path)) not is = cc is
-no_difference work root (moves.Place (puts.Taken at)) not is = cc is
-no_difference work root (moves.Place (puts.Damaged at why)) not is = cc is
-no_difference work root (moves.Place (puts.Limit which)) not is = cc is
-no_difference work root (moves.Place puts.ZeroRandom) not is = cc is
-no_difference work root (moves.Place puts.Source) not is = cc is
-no_difference work root (moves.Place puts.Random) not is = cc is
-no_difference work root (moves.Place puts.Failed) not is = cc is
-no_difference work root (moves.Place puts.NoMemory) not is = cc is
-no_difference work root moves.SourceGone not is = cc is
-no_difference work root moves.Failed not is = cc is
-no_difference work root moves.NoMemory not is = cc is
+no_difference work root fault not is = cc is
 
 no_beginning : (work root : Path) (fault : MoveFault) → NotBegun fault → ¬ IsTrue (is_among (17 ∷ []) (status_of (of_move work root fault)))
-no_beginning work root (moves.Work (works.NoParent at)) not is = cc is
-no_beginning work root (moves.Work (works.WrongKind at)) not is = cc is
-no_beginning work root (moves.Work (works.Foreign at)) not is = cc is
 no_beginning work root (moves.Work works.Begun) not is = absurd not
-no_beginning work root (moves.Work works.Depth) not is = cc is
 no_beginning work root (moves.Work works.Failed) not is = cc is
-no_beginning work root (moves.Work works.NoMemory) not is = cc is
-no_beginning work root (moves.Journal journals.NoJournal) not is = cc is
-no_beginning work root (moves.Journal (journals.BadJournal number)) not is = cc is
-no_beginning work root (moves.Journal journals.TooLarge) not is = cc is
 no_beginning work root (moves.Journal journals.Failed) not is = cc is
-no_beginning work root (moves.Journal journals.NoMemory) not is = cc is
-no_beginning work root (moves.Overlap first second) not is = cc is
-no_beginning work root (moves.Load side (loads.Missing at)) not is = cc is
-no_beginning work root (moves.Load side (loads.WrongKind at)) not is = cc is
-no_beginning work root (moves.Load side (loads.TooLarge at)) not is = cc is
-no_beginning work root (moves.Load side (loads.Go why)) not is = cc is
-no_beginning work root (moves.Load side (loads.Cm at why)) not is = cc is
-no_beginning work root (moves.Load side loads.WrongPass) not is = cc is
-no_beginning work root (moves.Load side loads.BadSignature) not is = cc is
 no_beginning work root (moves.Load side loads.Failed) not is = cc is
-no_beginning work root (moves.Load side loads.NoMemory) not is = cc is
-no_beginning work root (moves.Walk (walks.NotClean finding)) not is = cc is
-no_beginning work root (moves.Walk (walks.Limit which)) not is = cc is
 no_beginning work root (moves.Walk walks.Failed) not is = cc is
-no_beginning work root (moves.Walk walks.NoMemory) not is = cc is
-no_beginning work root (moves.NotEmpty at) not is = cc is
-no_beginning work root (moves.NotAllowed path) not is = cc is
-no_beginning work root (moves.Changed plan items plan' items') not is = cc is
-no_beginning work root (moves.Match (matches.Damaged at why)) not is = cc is
-no_beginning work root (moves.Match (matches.Limit which)) not is = cc is
 no_beginning work root (moves.Match matches.Failed) not is = cc is
-no_beginning work root (moves.Match matches.NoMemory) not is = cc is
-no_beginning work root (moves.Differ path how) not is = cc is
-no_beginning work root (moves.Place (puts.Find (finds.NotFound path))) not is = cc is
-no_beginning work root (moves.Place (puts.Find (finds.WrongKind path))) not is = cc is
-no_beginning work root (moves.Place (puts.Find (finds.NoDirKey at))) not is = cc is
-no_beginning work root (moves.Place (puts.Find (finds.NoFolder at))) not is = cc is
 no_beginning work root (moves.Place (puts.Find finds.Failed)) not is = cc is
-no_beginning work root (moves.Place (puts.Find finds.NoMemory)) not is = cc is
-no_beginning work root (moves.Place (puts.NotAllowed path)) not is = cc is
-no_beginning work root (moves.Place (puts.Taken at)) not is = cc is
-no_beginning work root (moves.Place (puts.Damaged at why)) not is = cc is
-no_beginning work root (moves.Place (puts.Limit which)) not is = cc is
-no_beginning work root (moves.Place puts.ZeroRandom) not is = cc is
-no_beginning work root (moves.Place puts.Source) not is = cc is
-no_beginning work root (moves.Place puts.Random) not is = cc is
-no_beginning work root (moves.Place puts.Failed) not is = cc is
-no_beginning work root (moves.Place puts.NoMemory) not is = cc is
-no_beginning work root moves.SourceGone not is = cc is
-no_beginning work root moves.Failed not is = cc is
-no_beginning work root moves.NoMemory not is = cc is
+no_beginning work root fault not is = cc is
 
 never_beginning : (work root : Path) (fault : RetireFault) → NeverBegun fault → ¬ IsTrue (is_among (17 ∷ []) (status_of (of_retire work root fault)))
-never_beginning work root (retires.Work (works.NoParent at)) not is = cc is
-never_beginning work root (retires.Work (works.WrongKind at)) not is = cc is
-never_beginning work root (retires.Work (works.Foreign at)) not is = cc is
 never_beginning work root (retires.Work works.Begun) not is = absurd not
-never_beginning work root (retires.Work works.Depth) not is = cc is
 never_beginning work root (retires.Work works.Failed) not is = cc is
-never_beginning work root (retires.Work works.NoMemory) not is = cc is
-never_beginning work root (retires.Journal journals.NoJournal) not is = cc is
-never_beginning work root (retires.Journal (journals.BadJournal number)) not is = cc is
-never_beginning work root (retires.Journal journals.TooLarge) not is = cc is
 never_beginning work root (retires.Journal journals.Failed) not is = cc is
-never_beginning work root (retires.Journal journals.NoMemory) not is = cc is
-never_beginning work root (retires.Overlap first second) not is = cc is
-never_beginning work root (retires.Load side (loads.Missing at)) not is = cc is
-never_beginning work root (retires.Load side (loads.WrongKind at)) not is = cc is
-never_beginning work root (retires.Load side (loads.TooLarge at)) not is = cc is
-never_beginning work root (retires.Load side (loads.Go why)) not is = cc is
-never_beginning work root (retires.Load side (loads.Cm at why)) not is = cc is
-never_beginning work root (retires.Load side loads.WrongPass) not is = cc is
-never_beginning work root (retires.Load side loads.BadSignature) not is = cc is
 never_beginning work root (retires.Load side loads.Failed) not is = cc is
-never_beginning work root (retires.Load side loads.NoMemory) not is = cc is
-never_beginning work root (retires.Walk (walks.NotClean finding)) not is = cc is
-never_beginning work root (retires.Walk (walks.Limit which)) not is = cc is
 never_beginning work root (retires.Walk walks.Failed) not is = cc is
-never_beginning work root (retires.Walk walks.NoMemory) not is = cc is
-never_beginning work root retires.Unfinished not is = cc is
-never_beginning work root (retires.Match (matches.Damaged at why)) not is = cc is
-never_beginning work root (retires.Match (matches.Limit which)) not is = cc is
 never_beginning work root (retires.Match matches.Failed) not is = cc is
-never_beginning work root (retires.Match matches.NoMemory) not is = cc is
-never_beginning work root (retires.Differ path how) not is = cc is
-never_beginning work root retires.Depth not is = cc is
-never_beginning work root retires.Failed not is = cc is
-never_beginning work root retires.NoMemory not is = cc is
+never_beginning work root fault not is = cc is
 
 -- an answer of the row that isn't one of a folder that contradicts itself
 told_by : (a b : Bool) → IsTrue (a || b) → ¬ IsTrue b → IsTrue a
@@ -606,32 +491,14 @@ told_by false b may not = absurd (not may)
 
 -- each answer to a vault that isn't opened
 by_opening : (p : ℕ → Bool) → IsTrue (p 3) → IsTrue (p 4) → IsTrue (p 8) → IsTrue (p 9) → IsTrue (p 10) → IsTrue (p 11) → IsTrue (p 23) → (answer : Answer) → IsTrue (is_of_opening answer) → IsTrue (p (status_of answer))
-by_opening p memory failed refuses wrong missing other limited Done own = cc
-by_opening p memory failed refuses wrong missing other limited Findings own = cc
-by_opening p memory failed refuses wrong missing other limited BadCommandLine own = cc
 by_opening p memory failed refuses wrong missing other limited OutOfMemory own = memory
 by_opening p memory failed refuses wrong missing other limited FolderFault own = failed
-by_opening p memory failed refuses wrong missing other limited InputFault own = cc
-by_opening p memory failed refuses wrong missing other limited OutputFault own = cc
-by_opening p memory failed refuses wrong missing other limited RandomFault own = cc
 by_opening p memory failed refuses wrong missing other limited (Refused at why) own = refuses
 by_opening p memory failed refuses wrong missing other limited (WrongPass root) own = wrong
 by_opening p memory failed refuses wrong missing other limited (NotFound what) own = missing
 by_opening p memory failed refuses wrong missing other limited (WrongKind what) own = other
-by_opening p memory failed refuses wrong missing other limited (DamagedInput fault) own = cc
-by_opening p memory failed refuses wrong missing other limited (Damaged at how) own = cc
-by_opening p memory failed refuses wrong missing other limited (NotAllowed path) own = cc
-by_opening p memory failed refuses wrong missing other limited (NotClean at number) own = cc
-by_opening p memory failed refuses wrong missing other limited (Overlap first second) own = cc
-by_opening p memory failed refuses wrong missing other limited (NotEmpty at) own = cc
-by_opening p memory failed refuses wrong missing other limited (Begun work) own = cc
-by_opening p memory failed refuses wrong missing other limited (Unusable work why) own = cc
-by_opening p memory failed refuses wrong missing other limited (Changed plan items plan' items') own = cc
-by_opening p memory failed refuses wrong missing other limited (Differ path how) own = cc
-by_opening p memory failed refuses wrong missing other limited ZeroRandom own = cc
-by_opening p memory failed refuses wrong missing other limited (Taken at) own = cc
 by_opening p memory failed refuses wrong missing other limited (Limit which) own = limited
-by_opening p memory failed refuses wrong missing other limited (Retired work) own = cc
+by_opening p memory failed refuses wrong missing other limited answer own = cc
 
 -- a passphrase that isn't read
 by_file : (at : Path) (there : Found) (answer : Answer) (next : List ℕ → Type 0) → ((phrase : List ℕ) → next phrase → IsTrue (is_of_opening answer)) → OfPassFile at there (refused answer) next → IsTrue (is_of_opening answer)
@@ -692,9 +559,9 @@ migrate_told moving answer before after v seen folders did = by (first_overlap m
     came (inr comes) = by_outcome comes.source_pass comes.target_pass comes.phrases comes.outcome comes.cause comes.answers
 
     by : (o : Option Pair) → MatchOption o (MigratesApart moving answer before.told after.told before.taken after.taken before.random after.random)
-        (λ two. RefusesTwo two answer before.told after.told before.taken after.taken before.random after.random) → EndsTold (Some (Migrate moving)) answer
+        (λ two. RefusesOverlap two.first two.second answer before after) → EndsTold (Some (Migrate moving)) answer
     by None migrates = came (migrates.comes v seen)
-    by (Some two) refuses = elim refuses.refuses.answers [ inl overlaps ↦ subst (EndsTold (Some (Migrate moving))) (sym overlaps) refl | inr memory ↦ subst (EndsTold (Some (Migrate moving))) (sym memory) refl ]
+    by (Some two) refuses = elim refuses.answers [ inl overlaps ↦ subst (EndsTold (Some (Migrate moving))) (sym overlaps) refl | inr memory ↦ subst (EndsTold (Some (Migrate moving))) (sym memory) refl ]
 
 resume_told : (resuming : Resuming) (answer : Answer) (before after : World) → IfSeen before.told (λ v. ResumesTree resuming answer before after → EndsTold (Some (Resume resuming)) answer)
 resume_told resuming answer before after v seen did = came (did.resumes.comes v seen)
@@ -750,16 +617,7 @@ told_same true may = refl
 told_same false may = may
 
 pub in_told_row : (command : Option Command) (answer : Answer) (before after : World) → IfSeen before.told (λ v. OwnsFolders command v → Executes command answer before after → EndsTold command answer)
-in_told_row None answer before after v seen folders did = told_same (may_end_told None (status_of answer)) (in_row None answer before after did)
-in_told_row (Some (DecryptFile key)) answer before after v seen folders did = told_same (may_end_told (Some (DecryptFile key)) (status_of answer)) (in_row (Some (DecryptFile key)) answer before after did)
-in_told_row (Some (Init new)) answer before after v seen folders did = told_same (may_end_told (Some (Init new)) (status_of answer)) (in_row (Some (Init new)) answer before after did)
-in_told_row (Some (Ls target)) answer before after v seen folders did = told_same (may_end_told (Some (Ls target)) (status_of answer)) (in_row (Some (Ls target)) answer before after did)
-in_told_row (Some (Cat target)) answer before after v seen folders did = told_same (may_end_told (Some (Cat target)) (status_of answer)) (in_row (Some (Cat target)) answer before after did)
-in_told_row (Some (Fsck target)) answer before after v seen folders did = told_same (may_end_told (Some (Fsck target)) (status_of answer)) (in_row (Some (Fsck target)) answer before after did)
-in_told_row (Some (Mkdir change)) answer before after v seen folders did = told_same (may_end_told (Some (Mkdir change)) (status_of answer)) (in_row (Some (Mkdir change)) answer before after did)
-in_told_row (Some (Put change)) answer before after v seen folders did = told_same (may_end_told (Some (Put change)) (status_of answer)) (in_row (Some (Put change)) answer before after did)
-in_told_row (Some (Repair target)) answer before after v seen folders did = told_same (may_end_told (Some (Repair target)) (status_of answer)) (in_row (Some (Repair target)) answer before after did)
 in_told_row (Some (Migrate moving)) answer before after v seen folders did = migrate_told moving answer before after v seen folders did
 in_told_row (Some (Resume resuming)) answer before after v seen folders did = resume_told resuming answer before after v seen did
 in_told_row (Some (Retire resuming)) answer before after v seen folders did = retire_told resuming answer before after v seen did
-in_told_row (Some (Demo demonstration)) answer before after v seen folders did = told_same (may_end_told (Some (Demo demonstration)) (status_of answer)) (in_row (Some (Demo demonstration)) answer before after did)
+in_told_row command answer before after v seen folders did = told_same (may_end_told command (status_of answer)) (in_row command answer before after did)

@@ -1,5 +1,5 @@
 -- `migrate`: moving the tree of one vault into another, which is empty, through a new work folder.
-use Rattle.std.specs.Prelude.{◌≡◌, ◌⊎◌, ℕ, List, [], if◌then◌else◌, Option, Some, None, IsTrue, MatchOption}
+use Rattle.std.specs.Prelude.{◌≡◌, ◌⊎◌, ℕ, List, if◌then◌else◌, Option, Some, None, IsTrue, MatchOption}
 use Rattle.std.specs.Io.KnownBytes.{Keeps}
 use Rattle.folder_spec.specs.Event.{Told}
 use Rattle.plain_tree.specs.declared.name_map.NameMap.TheVariants.{Same}
@@ -15,7 +15,7 @@ use Rattle.migrate_core.specs.Written.{MayWriteTree}
 use Rattle.migrate_core.specs.declared.fault.MoveFault.{MoveFault}
 use Rattle.migrate_core.specs.declared.fault.MoveFault.TheVariants.{Load}
 use Rattle.migrate_core.specs.declared.placing.Done as moved
-use Rattle.port_model.specs.Draws.{ByteStream, Draws}
+use Rattle.port_model.specs.Draws.{ByteStream}
 use Rattle.tree_match.specs.Guard.{Migration}
 use Rattle.tree_match.specs.declared.answer.Side.TheVariants.{Target}
 use Rattle.vault_cli.specs.Moving.{AnswersMove, ArePhrases, Comes, Completes, KeepsAll, Outcome, RefusesUndrawn, done_text, is_of_migration}
@@ -86,13 +86,8 @@ pub record MigratesApart (moving : Moving) (answer : Answer) (told told' : Optio
   pub completes : (g : Migration) → IfSeen told (λ v. IsAskedFor g moving v → CanBegin g v → Completes answer)
   pub prints : PrintsDone done_text (λ done. HasMigrated moving done told told') answer taken taken'
 
--- overlapping folders are refused by the words alone
-pub record RefusesTwo (two : Pair) (answer : Answer) (told told' : Option Told) (taken taken' : Option (List ℕ)) (stream stream' : Option ByteStream) : Type 0 where
-  pub refuses : RefusesOverlap two.first two.second answer told told' taken taken'
-  pub undrawn : Draws stream stream' []
-
 -- `migrate`, which takes nothing of the input
 pub record MigratesTree (moving : Moving) (answer : Answer) (before after : World) : Type 0 where
   pub apart : MatchOption (first_overlap moving) (MigratesApart moving answer before.told after.told before.taken after.taken before.random after.random)
-      (λ two. RefusesTwo two answer before.told after.told before.taken after.taken before.random after.random)
+      (λ two. RefusesOverlap two.first two.second answer before after)
   pub untouched : Keeps before.left after.left

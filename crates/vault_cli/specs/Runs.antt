@@ -3,12 +3,12 @@ use Rattle.std.specs.Prelude.{◌≡◌, ◌⊎◌, Option, Some, None}
 use Rattle.std.specs.Io.KnownBytes.{Keeps}
 use Rattle.folder_spec.specs.Seen.{under}
 use Rattle.folder_spec.specs.View.{View}
-use Rattle.reading_commands.specs.Cat.{ShowsContent}
+use Rattle.reading_commands.specs.Cat.{WritesFile}
 use Rattle.reading_commands.specs.DecryptFile.{DecryptsFile}
 use Rattle.vault_cli.specs.Demo.{Demonstrates}
 use Rattle.checking_commands.specs.Fsck.{ChecksVault}
 use Rattle.writing_commands.specs.Init.{MakesVault}
-use Rattle.reading_commands.specs.Ls.{ShowsItems}
+use Rattle.reading_commands.specs.Ls.{ListsItems}
 use Rattle.vault_cli.specs.Migrate.{MigratesTree}
 use Rattle.writing_commands.specs.Mkdir.{MakesDirectoryIn}
 use Rattle.command_opening.specs.Opening.{Opens}
@@ -16,15 +16,13 @@ use Rattle.writing_commands.specs.Put.{StoresFile}
 use Rattle.checking_commands.specs.Repair.{RepairsVault}
 use Rattle.vault_cli.specs.Resume.{ResumesTree}
 use Rattle.vault_cli.specs.Retire.{RetiresSource}
-use Rattle.command_opening.specs.Shown.{Reads}
 use Rattle.command_opening.specs.World.{World}
 use Rattle.vault_read.specs.Laws.{HasOwnFolders}
 use Rattle.vault_spec.specs.Vault.{Vault}
 use Rattle.command_answers.specs.declared.answer.Answer.{Answer}
-use Rattle.command_answers.specs.declared.answer.Answer.TheVariants.{BadCommandLine, OutOfMemory, FolderFault}
+use Rattle.command_answers.specs.declared.answer.Answer.TheVariants.{BadCommandLine, OutOfMemory}
 use Rattle.command_words.specs.declared.commands.Command.{Command}
 use Rattle.command_words.specs.declared.commands.Command.TheVariants.{DecryptFile, Init, Ls, Cat, Fsck, Mkdir, Put, Repair, Migrate, Resume, Retire, Demo}
-use Rattle.command_words.specs.declared.commands.Target.{Target}
 
 -- words that make no command, of which nothing comes
 pub record IsNoCommand (answer : Answer) (before after : World) : Type 0 where
@@ -32,17 +30,6 @@ pub record IsNoCommand (answer : Answer) (before after : World) : Type 0 where
   pub unchanged : after.told ≡ before.told
   pub untouched : Keeps before.left after.left
   pub unwritten : Keeps before.taken after.taken
-
--- `ls`, which writes nothing before all is known, and takes nothing of the input
-pub record ListsItems (target : Target) (answer : Answer) (before after : World) : Type 0 where
-  pub reads : Reads (ShowsItems target) answer before.told after.told before.taken after.taken
-  pub quiet : answer ≡ FolderFault → Keeps before.taken after.taken
-  pub untouched : Keeps before.left after.left
-
--- `cat`, which takes nothing of the input
-pub record WritesFile (target : Target) (answer : Answer) (before after : World) : Type 0 where
-  pub reads : Reads (ShowsContent target) answer before.told after.told before.taken after.taken
-  pub untouched : Keeps before.left after.left
 
 abbrev pub Executes : Option Command → Answer → World → World → Type 0
 Executes None answer before after = IsNoCommand answer before after

@@ -1,12 +1,13 @@
 //! `migrate`: moves the tree of one vault into another.
-ghost use Rattle.std.specs.Prelude.{◌≡◌, Ok, Err, IfErr, IfOk, IsTrue, MatchOption};
+ghost use Rattle.std.specs.Prelude.{◌≡◌, ℕ, Bool, List, Option, Ok, Err, IfErr, IfOk, IsTrue};
 ghost use Rattle.folder_spec.specs.Seen.{IfSeen};
 ghost use Rattle.migrate_core.specs.Completing.{CanBegin};
 ghost use Rattle.migrate_core.specs.Moving.{MovesOnly};
 ghost use Rattle.port_model.specs.Counts.{CountRose};
 ghost use Rattle.tree_match.specs.Guard.{Migration};
+ghost use Rattle.command_opening.specs.World.{World};
 ghost use Rattle.command_words.specs.Written.{AreWritten};
-ghost use Rattle.vault_cli.specs.Migrate.{ComesTo, HasMigrated, IsAskedFor, MayCome, MigratesApart, RefusesTwo, first_overlap, root_of};
+ghost use Rattle.vault_cli.specs.Migrate.{ComesTo, HasMigrated, IsAskedFor, MayCome, MigratesApart, MigratesTree, root_of};
 ghost use Rattle.vault_cli.specs.Moving.{Completes, KeepsAll, is_of_stop};
 
 use crate::moving::{answer_to, print_done, read_passes};
@@ -29,9 +30,10 @@ pub(crate) fn migrate<F: Folder, R: Randoms, O: Sink>(
     out: &mut O,
 ) -> Answer
     requires written { AreWritten moving.now }
-    ensures apart { MatchOption (first_overlap moving.now)
-        (MigratesApart moving.now result (F.told folder.old) (F.told folder.new) (O.taken out.old) (O.taken out.new) (R.left random.old) (R.left random.new))
-        (λ two. RefusesTwo two result (F.told folder.old) (F.told folder.new) (O.taken out.old) (O.taken out.new) (R.left random.old) (R.left random.new)) }
+    // Whatever the input gives, which it isn't handed.
+    ensures migrates { (left : Option (List ℕ)) (ended : Bool) → MigratesTree moving.now result
+        (record { told = F.told folder.old; left = left; ended = ended; taken = O.taken out.old; random = R.left random.old })
+        (record { told = F.told folder.new; left = left; ended = ended; taken = O.taken out.new; random = R.left random.new }) }
     ensures folder_fault { result ≡ Answer.FolderFault → CountRose (F.faults folder.old) (F.faults folder.new) }
     ensures random_fault { result ≡ Answer.RandomFault → CountRose (R.faults random.old) (R.faults random.new) }
     ensures output_fault { result ≡ Answer.OutputFault → CountRose (O.faults out.old) (O.faults out.new) }

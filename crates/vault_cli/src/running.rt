@@ -1,11 +1,12 @@
 //! Running a command.
-ghost use Rattle.std.specs.Prelude.{◌≡◌, ◌⊎◌, IsNone, IsTrue, map, string_bytes};
+ghost use Rattle.std.specs.Prelude.{◌≡◌, ◌⊎◌, IsNone, IsTrue, Some, map, string_bytes};
 ghost use Rattle.port_model.specs.Counts.{CountRose};
 ghost use Rattle.command_answers.specs.Answers.{status_of};
 ghost use Rattle.command_answers.specs.Messages.{IsReported, TakesText, line_of};
 ghost use Rattle.command_answers.specs.Rows.{may_end, may_end_told};
 ghost use Rattle.folder_spec.specs.Seen.{IfSeen};
 ghost use Rattle.command_words.specs.Commands.{command_of};
+ghost use Rattle.command_words.specs.Written.{HasTexts, IsSmall};
 ghost use Rattle.vault_cli.specs.Runs.{Executes, OwnsFolders};
 ghost use Rattle.command_opening.specs.World.{World};
 
@@ -91,17 +92,41 @@ fn execute<F: Folder, R: Randoms, I: Source, O: Sink>(
     match Command::from_words(alloc, words) {
         Err(_) => Answer::OutOfMemory,
         Ok(None) => Answer::BadCommandLine,
-        Ok(Some(Command::DecryptFile(key))) => decrypt_file(alloc, &key, input, out),
-        Ok(Some(Command::Init(new))) => init(alloc, &new, folder, random),
-        Ok(Some(Command::Ls(target))) => ls(alloc, &target, folder, out),
-        Ok(Some(Command::Cat(target))) => cat(alloc, &target, folder, out),
-        Ok(Some(Command::Fsck(target))) => fsck(alloc, &target, folder, out),
-        Ok(Some(Command::Mkdir(change))) => mkdir(alloc, &change, folder, random),
-        Ok(Some(Command::Put(change))) => put(alloc, &change, folder, random, input),
-        Ok(Some(Command::Repair(target))) => repair(alloc, &target, folder, out),
-        Ok(Some(Command::Migrate(moving))) => migrate(alloc, &moving, folder, random, out),
-        Ok(Some(Command::Resume(resuming))) => resume(alloc, &resuming, folder, random, out),
-        Ok(Some(Command::Retire(resuming))) => retire(alloc, &resuming, folder, out),
-        Ok(Some(Command::Demo(demonstration))) => demo(alloc, &demonstration, out),
+        Ok(Some(command)) => execute_command(alloc, &command, folder, random, input, out),
+    }
+}
+
+// Does what a command says. It is borrowed, so that no exit drops it.
+fn execute_command<F: Folder, R: Randoms, I: Source, O: Sink>(
+    alloc: Global,
+    command: &Command,
+    folder: &mut F,
+    random: &mut R,
+    input: &mut I,
+    out: &mut O,
+) -> Answer
+    requires texts { HasTexts command.now }
+    requires small { IsSmall command.now }
+    ensures executes { Executes (Some command.now) result
+        (record { told = F.told folder.old; left = I.left input.old; ended = I.ended input.old; taken = O.taken out.old; random = R.left random.old })
+        (record { told = F.told folder.new; left = I.left input.new; ended = I.ended input.new; taken = O.taken out.new; random = R.left random.new }) }
+    ensures folder_fault { result ≡ Answer.FolderFault → CountRose (F.faults folder.old) (F.faults folder.new) }
+    ensures input_fault { result ≡ Answer.InputFault → CountRose (I.faults input.old) (I.faults input.new) }
+    ensures output_fault { result ≡ Answer.OutputFault → CountRose (O.faults out.old) (O.faults out.new) }
+    ensures random_fault { result ≡ Answer.RandomFault → CountRose (R.faults random.old) (R.faults random.new) }
+{
+    match command {
+        Command::DecryptFile(key) => decrypt_file(alloc, key, input, out),
+        Command::Init(new) => init(alloc, new, folder, random),
+        Command::Ls(target) => ls(alloc, target, folder, out),
+        Command::Cat(target) => cat(alloc, target, folder, out),
+        Command::Fsck(target) => fsck(alloc, target, folder, out),
+        Command::Mkdir(change) => mkdir(alloc, change, folder, random),
+        Command::Put(change) => put(alloc, change, folder, random, input),
+        Command::Repair(target) => repair(alloc, target, folder, out),
+        Command::Migrate(moving) => migrate(alloc, moving, folder, random, out),
+        Command::Resume(resuming) => resume(alloc, resuming, folder, random, out),
+        Command::Retire(resuming) => retire(alloc, resuming, folder, out),
+        Command::Demo(demonstration) => demo(alloc, demonstration, out),
     }
 }

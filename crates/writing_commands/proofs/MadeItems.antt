@@ -1,6 +1,7 @@
 -- An item is made in a vault after the work folder was made ready.
 use Rattle.std.proofs.Common.{◌≡◌, ◌⊎◌, zero, suc, ℕ, Bool, true, false, List, [], ◌∷◌, Option, Some, Result, Ok, Err, OnOk, IfErr, inl, inr, refl, sym, ap, subst, arith, IsTrue}
 use Rattle.std.specs.Prelude.{Contains}
+use Rattle.std.specs.Io.KnownBytes.{Keeps}
 use Rattle.std.proofs.KnownBytes.{Keeps-refl}
 use Rattle.content_writing.specs.Content.{Ending, Whole}
 use Rattle.content_writing.specs.declared.fault.PutFault.{PutFault}
@@ -15,36 +16,32 @@ use Rattle.folder_spec.specs.View.{View, AgreeIn, Shows}
 use Rattle.folder_spec.proofs.Edits.{unchanged_shows}
 use Rattle.folder_spec.proofs.Moments.{went_on, went_more, went_to}
 use Rattle.plain_tree.specs.Names as plain
-use Rattle.port_model.specs.Draws.{ByteStream, Draws}
-use Rattle.vault_read.specs.Contents.{IsOfPath}
 use Rattle.vault_read.specs.Opened.{OpenedVault}
-use Rattle.vault_read.specs.declared.fault.FindFault.{FindFault}
 use Rattle.vault_read.specs.declared.fault.FindFault.TheVariants as finds
 use Rattle.vault_spec.specs.Making.{NewItem, NewDirectory}
-use Rattle.vault_spec.specs.Vault.{Vault, Either}
+use Rattle.vault_spec.specs.Vault.{Vault}
 use Rattle.vault_write.specs.Calls.{How, New, making_by, AnswersBy, MakesOne, MakesAt, MakesDirectory}
 use Rattle.vault_write.specs.Faults.{IsDirectoryFault}
 use Rattle.vault_write.specs.Making.{Placing, Making, format, path_of, is_elsewhere, StagesOrPlaces}
 use Rattle.vault_write.specs.Placing.{ShowsOne, ShowsNewTree, IsMaking, EndsAs, making_at}
 use Rattle.vault_write.specs.Trees.{KeepsTree, GainsItem, opens_as}
 use Rattle.work_folder.specs.Entering.{EntersAs}
-use Rattle.command_beginning.proofs.Beginnings.{Alike, Begins, Outside, apart_of_both, apart_of_unstaged, as_before_in, as_before_then, begun_then, none_drawn, not_begun_at, same_under, seen_after, seen_alike, went_alone, work_alone}
+use Rattle.command_beginning.proofs.Beginnings.{Alike, Begins, Outside, apart_of_both, apart_of_unstaged, as_before_in, as_before_then, begun_then, same_under, seen_after, seen_alike, went_alone}
+use Rattle.command_beginning.proofs.Endings.{ended_before, made_beside, makes_nothing}
 use Rattle.command_opening.proofs.Refusals.{pass_gives, unless_then}
 use Rattle.command_beginning.proofs.Sites.{site_then}
-use Rattle.command_beginning.specs.Beginning.{IsBeginning, ChangesWork, OfSite, OfWork, RefusesOverlapping}
+use Rattle.command_beginning.specs.Beginning.{IsBeginning, ChangesWork, OfSite, OfWork}
 use Rattle.command_opening.specs.Tests.{is_of_beginning}
 use Rattle.writing_commands.specs.Faults.{answer_to_making}
-use Rattle.command_opening.specs.Faults.{of_find}
-use Rattle.writing_commands.specs.Items.{ShowsOneBeside, ShowsNewTreeBeside, IsMakingBeside, MakesNamed, MakesItem, MakesIn}
-use Rattle.writing_commands.specs.Mkdir.{MakesDirectoryApart, MakesDirectoryIn, is_of_directory}
+use Rattle.writing_commands.specs.Items.{ChangesThere, ChangesVault, ShowsOneBeside, ShowsNewTreeBeside, IsMakingBeside, MakesNamed, MakesItem, MakesIn}
+use Rattle.writing_commands.specs.Mkdir.{MakesDirectoryIn, is_of_directory}
 use Rattle.command_opening.specs.Opening.{Opens, OfVault}
 use Rattle.command_opening.specs.Places.{overlap}
 use Rattle.command_beginning.specs.Refusing.{RefusesSite}
-use Rattle.command_opening.specs.Refusing.{Unless}
 use Rattle.command_opening.specs.Shown.{refused}
 use Rattle.command_opening.specs.World.{World}
 use Rattle.command_answers.specs.declared.answer.Answer.{Answer}
-use Rattle.command_answers.specs.declared.answer.Answer.TheVariants.{FolderFault, OutOfMemory, Overlap}
+use Rattle.command_answers.specs.declared.answer.Answer.TheVariants.{OutOfMemory, Overlap}
 use Rattle.command_words.specs.declared.commands.Change.{Change}
 
 -- ---- at each moment
@@ -159,106 +156,66 @@ site_gives change v answer next vault opens entered holds =
     pass_gives change.target.pass (v change.target.pass) (refused answer) (λ phrase. OfWork v change.work answer (OfVault v change.target.vault phrase (refused answer) next)) opens.0 opens.1
     (Ok tt, entered, (Ok vault, opens.2, holds))
 
--- ---- a directory
+-- ---- in the vault that is opened
 
-found_own : (fault : FindFault) → IsTrue (is_of_directory (of_find fault))
-found_own (finds.NotFound path) = refl
-found_own (finds.WrongKind path) = refl
-found_own (finds.NoDirKey at) = refl
-found_own (finds.NoFolder at) = refl
-found_own finds.Failed = refl
-found_own finds.NoMemory = refl
+module _ (is_own : Answer → Bool) (change : Change) (Makes : Vault → Type 0) where
+  pub vault_changed : (answer : Answer) (before after : World) (vault : Vault) → overlap change.target.vault change.work ≡ false → IfSeen before.told (λ v. Opens v change.target.vault change.target.pass vault)
+      → IfSeen before.told (λ v. EntersAs v change.work (Ok tt)) → IsTrue (is_own answer) → Makes vault → Keeps before.taken after.taken → ChangesVault is_own change Makes answer before after
+  vault_changed answer before after vault apart opens entered own makes unwritten =
+      made_beside is_of_beginning change.target.vault change.work (λ v. OfSite change v answer Makes) (ChangesThere is_own change Makes answer before) answer before after apart unwritten (record {
+        cause = λ v seen. inr (inr (site_gives change v answer Makes vault (opens v seen) (entered v seen) makes));
+        comes = inr (record { vault = vault; opens = opens; own = own; makes = makes });
+      })
+
+  -- where the command doesn't come to the making
+  pub vault_unchanged : (answer : Answer) (w : World) (told : Option Told)
+      → (overlap change.target.vault change.work ≡ true → ((answer ≡ Overlap change.target.vault change.work) ⊎ (answer ≡ OutOfMemory)) × (told ≡ w.told))
+      → (overlap change.target.vault change.work ≡ false → IfSeen w.told (λ v. RefusesSite change v answer)) → (overlap change.target.vault change.work ≡ false → IsTrue (is_of_beginning answer))
+      → ChangesWork change.work w.told told → ChangesVault is_own change Makes answer w (record w { told = told })
+  vault_unchanged answer w told overlapping refuses own begins =
+      ended_before is_of_beginning change.target.vault change.work (λ v. OfSite change v answer Makes) (ChangesThere is_own change Makes answer w) answer w told overlapping
+      (λ apart v seen. unless_then (OfSite change v answer (λ vault. ⊥)) (OfSite change v answer Makes) answer (site_then change v answer (λ vault. ⊥) Makes (λ vault none. absurd none)) (refuses apart v seen))
+      own begins
+
+  -- where it isn't begun
+  pub nothing_changed : (w : World) → ChangesVault is_own change Makes OutOfMemory w w
+  nothing_changed w = makes_nothing is_of_beginning change.target.vault change.work (λ v. OfSite change v OutOfMemory Makes) (ChangesThere is_own change Makes OutOfMemory w) refl w
+
+-- ---- a directory
 
 own_fault : (result : Result (Unit {0}) PutFault) → IfErr result (λ fault. IsDirectoryFault fault) → IsTrue (is_of_directory (answer_to_making result))
 own_fault (Ok done) is = refl
-own_fault (Err (puts.Find fault)) is = found_own fault
-own_fault (Err (puts.NotAllowed path)) is = refl
-own_fault (Err (puts.Taken at)) is = refl
-own_fault (Err (puts.Damaged at fault)) is = absurd is
 own_fault (Err (puts.Limit limit)) is = absurd is
-own_fault (Err puts.ZeroRandom) is = refl
 own_fault (Err puts.Source) is = absurd is
-own_fault (Err puts.Random) is = refl
-own_fault (Err puts.Failed) is = refl
-own_fault (Err puts.NoMemory) is = refl
+own_fault (Err (puts.Find finds.Failed)) is = refl
+own_fault (Err (puts.Find fault)) is = refl
+own_fault (Err fault) is = refl
 
-pub directory_failed : (result : Result (Unit {0}) PutFault) → IfErr result (λ fault. IsDirectoryFault fault) → answer_to_making result ≡ FolderFault → result ≡ Err puts.Failed
-directory_failed (Ok done) own is = cc
-directory_failed (Err (puts.Find fault)) own is = absurd (no_find fault own is)
-  where
-    no_find : (fault : FindFault) → IsOfPath fault → of_find fault ≡ FolderFault → ⊥
-    no_find (finds.NotFound path) own is = cc
-    no_find (finds.WrongKind path) own is = cc
-    no_find (finds.NoDirKey at) own is = cc
-    no_find (finds.NoFolder at) own is = cc
-    no_find finds.Failed own is = own
-    no_find finds.NoMemory own is = own
-directory_failed (Err (puts.NotAllowed path)) own is = cc
-directory_failed (Err (puts.Taken at)) own is = cc
-directory_failed (Err (puts.Damaged at fault)) own is = absurd own
-directory_failed (Err (puts.Limit limit)) own is = absurd own
-directory_failed (Err puts.ZeroRandom) own is = cc
-directory_failed (Err puts.Source) own is = absurd own
-directory_failed (Err puts.Random) own is = cc
-directory_failed (Err puts.Failed) own is = refl
-directory_failed (Err puts.NoMemory) own is = cc
+module _ (change : Change) where
+  abbrev pub MakesIt : Answer → World → World → Vault → Type 0
+  MakesIt answer before after vault = MakesIn New change NewDirectory Whole vault answer before.told after.told before.random after.random
 
-pub directory_made : Outside → Alike → (change : Change) (vault : OpenedVault) (work : Path) (answer : Answer) (result : Result (Unit {0}) PutFault) (t u w : Option Told) (stream stream' : Option ByteStream)
-    → ((a : Told) → t ≡ Some a → IsSound a.state) → overlap change.target.vault change.work ≡ false → vault.root ≡ change.target.vault → work ≡ change.work → ChangesWork change.work t u
-    → IfSeen t (λ v. Opens v change.target.vault change.target.pass vault.vault) → IfSeen t (λ v. EntersAs v change.work (Ok tt))
-    → IfErr result (λ fault. IsDirectoryFault fault) → answer ≡ answer_to_making result → MakesDirectory vault work change.target.path stream stream' u w result
-    → MakesDirectoryApart change answer t w stream stream'
-directory_made outside alike change vault work answer result t u w stream stream' sound apart is_root is_work begins opens entered fault is makes =
-    let there : OpenedVault = record { root = change.target.vault; vault = vault.vault } in
-    let at_root : MakesAt New there work change.target.path NewDirectory Whole makes.drawn u w result =
-    subst (λ root. MakesAt New (record { root = root; vault = vault.vault }) work change.target.path NewDirectory Whole makes.drawn u w result) is_root makes.makes in
-    let at_work : MakesAt New there change.work change.target.path NewDirectory Whole makes.drawn u w result =
-    subst (λ place. MakesAt New there place change.target.path NewDirectory Whole makes.drawn u w result) is_work at_root in
-    let made : MakesIn New change NewDirectory Whole vault.vault answer t w stream stream' = record {
-      result = result;
-      is = is;
-      drawn = makes.drawn;
-      were_drawn = makes.were_drawn;
-      makes = item_made outside alike New there change.work change.target.path NewDirectory Whole makes.drawn t u w result sound apart begins at_work;
-    } in record {
-      cause = λ v seen. inr (inr (site_gives change v answer (λ opened. MakesIn New change NewDirectory Whole opened answer t w stream stream') vault.vault (opens v seen) (entered v seen) made));
-      comes = inr (record { vault = vault.vault; opens = opens; own = subst (λ a. IsTrue (is_of_directory a)) (sym is) (own_fault result fault); makes = made });
-    }
+  pub directory_made : Outside → Alike → (vault : OpenedVault) (work : Path) (answer : Answer) (result : Result (Unit {0}) PutFault) (u : Option Told) (before after : World)
+      → ((a : Told) → before.told ≡ Some a → IsSound a.state) → overlap change.target.vault change.work ≡ false → vault.root ≡ change.target.vault → work ≡ change.work → ChangesWork change.work before.told u
+      → IfSeen before.told (λ v. Opens v change.target.vault change.target.pass vault.vault) → IfSeen before.told (λ v. EntersAs v change.work (Ok tt))
+      → IfErr result (λ fault. IsDirectoryFault fault) → answer ≡ answer_to_making result → MakesDirectory vault work change.target.path before.random after.random u after.told result
+      → Keeps before.left after.left → Keeps before.taken after.taken → MakesDirectoryIn change answer before after
+  directory_made outside alike vault work answer result u before after sound apart is_root is_work begins opens entered fault is makes untouched unwritten =
+      let there : OpenedVault = record { root = change.target.vault; vault = vault.vault } in
+      let at_root : MakesAt New there work change.target.path NewDirectory Whole makes.drawn u after.told result =
+      subst (λ root. MakesAt New (record { root = root; vault = vault.vault }) work change.target.path NewDirectory Whole makes.drawn u after.told result) is_root makes.makes in
+      let at_work : MakesAt New there change.work change.target.path NewDirectory Whole makes.drawn u after.told result =
+      subst (λ place. MakesAt New there place change.target.path NewDirectory Whole makes.drawn u after.told result) is_work at_root in
+      let made : MakesIt answer before after vault.vault = record {
+        result = result;
+        is = is;
+        drawn = makes.drawn;
+        were_drawn = makes.were_drawn;
+        makes = item_made outside alike New there change.work change.target.path NewDirectory Whole makes.drawn before.told u after.told result sound apart begins at_work;
+      } in record {
+        changes = vault_changed is_of_directory change (MakesIt answer before after) answer before after vault.vault apart opens entered (subst (λ a. IsTrue (is_of_directory a)) (sym is) (own_fault result fault)) made unwritten;
+        untouched = untouched;
+      }
 
-pub apart_made : (change : Change) (answer : Answer) (t w : Option Told) (stream stream' : Option ByteStream) → overlap change.target.vault change.work ≡ false → MakesDirectoryApart change answer t w stream stream'
-    → Either (overlap change.target.vault change.work) (RefusesOverlapping change.target.vault change.work answer t w stream stream') (MakesDirectoryApart change answer t w stream stream')
-apart_made change answer t w stream stream' apart made =
-    subst (λ b. Either b (RefusesOverlapping change.target.vault change.work answer t w stream stream') (MakesDirectoryApart change answer t w stream stream')) (sym apart) made
-
--- a test that fails is the answer, whatever follows where all pass
-pub site_refused : (change : Change) (v : View) (answer : Answer) (next : Vault → Type 0) → RefusesSite change v answer → Unless answer (OfSite change v answer next)
-site_refused change v answer next refuses =
-    unless_then (OfSite change v answer (λ vault. ⊥)) (OfSite change v answer next) answer (site_then change v answer (λ vault. ⊥) next (λ vault none. absurd none)) refuses
-
--- where the command doesn't come to the making
-pub no_site : (change : Change) (answer : Answer) (t u : Option Told) (stream : Option ByteStream) → Draws stream stream []
-    → (overlap change.target.vault change.work ≡ true → ((answer ≡ Overlap change.target.vault change.work) ⊎ (answer ≡ OutOfMemory)) × (u ≡ t))
-    → (overlap change.target.vault change.work ≡ false → IfSeen t (λ v. RefusesSite change v answer)) → (overlap change.target.vault change.work ≡ false → IsTrue (is_of_beginning answer)) → ChangesWork change.work t u
-    → Either (overlap change.target.vault change.work) (RefusesOverlapping change.target.vault change.work answer t u stream stream) (MakesDirectoryApart change answer t u stream stream)
-no_site change answer t u stream undrawn overlapping refuses own begins = by (overlap change.target.vault change.work) refl
-  where
-    by : (b : Bool) → overlap change.target.vault change.work ≡ b → Either b (RefusesOverlapping change.target.vault change.work answer t u stream stream) (MakesDirectoryApart change answer t u stream stream)
-    by true is = record { answers = (overlapping is).0; unchanged = (overlapping is).1; undrawn = undrawn }
-    by false is = record {
-      cause = λ v seen. site_refused change v answer (λ vault. MakesIn New change NewDirectory Whole vault answer t u stream stream) (refuses is v seen);
-      comes = inl (record { own = own is; changes = work_alone change.work t u stream stream begins undrawn });
-    }
-
--- ---- where the command isn't begun
-
-pub either_made : (b : Bool) (P Q : Type 0) → P → Q → Either b P Q
-either_made true P Q p q = p
-either_made false P Q p q = q
-
-pub makes_no_directory : (change : Change) (w : World) → MakesDirectoryIn change OutOfMemory w w
-makes_no_directory change w = record {
-  apart = either_made (overlap change.target.vault change.work) _ _ (record { answers = inr refl; unchanged = refl; undrawn = none_drawn w.random })
-      (record { cause = λ v is. inr (inl refl); comes = inl (not_begun_at is_of_beginning refl change.work w.told w.random) });
-  untouched = Keeps-refl w.left;
-  unwritten = Keeps-refl w.taken;
-}
+  pub makes_no_directory : (w : World) → MakesDirectoryIn change OutOfMemory w w
+  makes_no_directory w = record { changes = nothing_changed is_of_directory change (MakesIt OutOfMemory w w) w; untouched = Keeps-refl w.left }

@@ -1,7 +1,8 @@
 -- A new vault is made after the work folder was made ready.
-use Rattle.std.proofs.Common.{◌≡◌, ◌⊎◌, ℕ, Bool, true, false, List, [], ◌∷◌, Option, Some, None, Result, Ok, Err, OnOk, inl, inr, refl, sym, ap, subst, arith, IsTrue}
+use Rattle.std.proofs.Common.{◌≡◌, ◌⊎◌, ℕ, true, false, List, [], ◌∷◌, Option, Some, None, Result, Ok, Err, OnOk, inl, inr, refl, sym, ap, subst, arith, IsTrue}
 use Rattle.std.specs.Prelude.{is_none}
 use Rattle.content_writing.specs.declared.fault.PutFault.{PutFault}
+use Rattle.std.specs.Io.KnownBytes.{Keeps}
 use Rattle.std.proofs.KnownBytes.{Keeps-refl}
 use Rattle.cryptomator_conf.specs.declared.conf.Combo.{Combo}
 use Rattle.cryptomator_conf.specs.declared.conf.Combo.TheVariants.{SivGcm, SivCtrMac}
@@ -16,22 +17,24 @@ use Rattle.folder_spec.specs.Seen.{IfSeen, IsSeen}
 use Rattle.folder_spec.proofs.Edits.{publishes_nothing, publishes_joined, published_joined, publishes_in_part, published_in_part, unchanged_present}
 use Rattle.folder_spec.proofs.Moments.{went_on, went_more, went_to}
 use Rattle.folder_spec.proofs.Paths.{below-parent}
-use Rattle.port_model.specs.Draws.{ByteStream, Draws}
+use Rattle.port_model.specs.Draws.{ByteStream}
 use Rattle.command_words.specs.declared.values.Format.{Format}
 use Rattle.command_words.specs.declared.values.Format.TheVariants.{Gocryptfs, Cryptomator, CryptomatorCtrMac}
 use Rattle.vault_spec.specs.NewVault.{go_files, cm_files, new_go_vault, new_cm_vault}
-use Rattle.vault_spec.specs.Vault.{Vault, Either}
+use Rattle.vault_spec.specs.Vault.{Vault}
 use Rattle.vault_write.specs.Founding.{Founds, FoundsCm, IsFounding, IsNewVault, founding, new_go, new_cm, texts, vault_edit}
 use Rattle.vault_write.specs.Making.{StagesOrPlaces, is_apart, is_unstaged}
 use Rattle.work_folder.specs.Entering.{EntersAs}
-use Rattle.command_beginning.proofs.Beginnings.{Begins, apart_of_both, apart_of_unstaged, as_before_in, as_before_then, begun_then, no_overlap, none_drawn, not_begun_at, seen_after, unchanged_work, unstaged, work_alone}
+use Rattle.command_beginning.proofs.Beginnings.{Begins, apart_of_both, apart_of_unstaged, as_before_in, as_before_then, begun_then, no_overlap, seen_after, unstaged}
+use Rattle.command_beginning.proofs.Endings.{ended_before, ends_before, made_beside, makes_nothing}
+use Rattle.command_opening.proofs.Overlaps.{none_drawn}
 use Rattle.command_opening.proofs.Refusals.{pass_gives, pass_then}
-use Rattle.command_beginning.proofs.Sites.{work_then}
-use Rattle.command_beginning.specs.Beginning.{IsBeginning, ChangesWork, EndsBefore, RefusesOverlapping}
+use Rattle.command_beginning.proofs.Sites.{begins_nowhere, work_then}
+use Rattle.command_beginning.specs.Beginning.{IsBeginning, ChangesWork, MakesApart}
 use Rattle.command_opening.specs.Tests.{is_of_readying}
 use Rattle.command_opening.specs.Places.{OfDirectory, OfMissing, overlap}
 use Rattle.writing_commands.specs.Faults.{answer_to_making}
-use Rattle.writing_commands.specs.Init.{FoundsAs, FoundsNew, FoundsVault, IsMakingVault, IsOfFounding, MakesVault, MakesVaultApart, DrawsCryptomator, DrawsVault, OfNewPlace, OfPlace, RefusesPlace, cm_cost, cost_of}
+use Rattle.writing_commands.specs.Init.{FoundsAs, FoundsNew, FoundsVault, IsMakingVault, IsOfFounding, MakesVault, DrawsCryptomator, DrawsVault, OfNewPlace, OfPlace, RefusesPlace, cm_cost, cost_of}
 use Rattle.command_opening.specs.Opening.{IsPhrase}
 use Rattle.command_opening.specs.Refusing.{RefusesPass, Unless}
 use Rattle.command_beginning.specs.Refusing.{RefusesWork}
@@ -152,14 +155,6 @@ module _ (new : NewVault) (phrase : List ℕ) (answer : Answer) (t u w : Option 
   pub vault_made : FoundsAs new phrase answer u w stream stream' → FoundsVault new answer t w stream stream'
   vault_made founds = of_kind new.format refl founds.result founds.is founds.founds
 
--- ---- where it isn't made
-
-pub ended_before : (work : Path) (answer : Answer) (t u w : Option Told) (stream stream' : Option ByteStream) → ChangesWork work t u → RefusesPlace answer u w stream stream' → EndsBefore is_of_readying work answer t w stream stream'
-ended_before work answer t u w stream stream' begins refuses = record {
-  own = refuses.own;
-  changes = work_alone work t w stream stream' (subst (ChangesWork work t) (sym refuses.unchanged) begins) refuses.undrawn;
-}
-
 -- ---- why
 
 -- what is seen at the place, and above it, is what was seen there at first
@@ -196,51 +191,49 @@ pass_caused new v answer (inr (inr refuses)) = inr (inr (pass_then new.pass (v n
 
 -- ---- the whole call
 
-pub made_apart : (new : NewVault) (phrase : List ℕ) (answer : Answer) (t u w : Option Told) (stream stream' : Option ByteStream) → ((a : Told) → t ≡ Some a → IsSound a.state) → overlap new.vault new.work ≡ false
-    → ChangesWork new.work t u → IfSeen t (λ v. IsPhrase (v new.pass) phrase) → IfSeen t (λ v. EntersAs v new.work (Ok tt))
-    → IfSeen u (λ v. Unless answer (OfPlace new v answer)) → RefusesPlace answer u w stream stream' ⊎ FoundsAs new phrase answer u w stream stream' → MakesVaultApart new answer t w stream stream'
-made_apart new phrase answer t u w stream stream' sound apart begins reads entered cause made = record {
-  cause = λ v is.
-      let after : (x : View) × IsSeen u x × AgreeIn (apart_from new.work) x v = seen_after new.work t u begins v is in
-      place_caused new v after.0 answer phrase apart after.2 (reads v is) (entered v is) (cause after.0 after.1);
-  comes = elim made [
-    | inl refuses ↦ inl (ended_before new.work answer t u w stream stream' begins refuses)
-    | inr founds ↦ inr (vault_made new phrase answer t u w stream stream' sound begins reads founds)
-  ];
-}
+module _ (new : NewVault) where
+  abbrev pub Tests : Answer → View → Type 0
+  Tests answer v = OfNewPlace new v answer (IsOfFounding answer)
 
-pub not_entered : (new : NewVault) (phrase : List ℕ) (answer : Answer) (t u : Option Told) (stream : Option ByteStream) → Draws stream stream [] → IsTrue (is_of_readying answer) → ChangesWork new.work t u
-    → IfSeen t (λ v. IsPhrase (v new.pass) phrase) → IfSeen t (λ v. RefusesWork v new.work answer) → MakesVaultApart new answer t u stream stream
-not_entered new phrase answer t u stream undrawn own begins reads refuses = record {
-  cause = λ v is. work_caused new v answer phrase (reads v is) (refuses v is);
-  comes = inl (record { own = own; changes = work_alone new.work t u stream stream begins undrawn });
-}
+  abbrev pub IsFounded : Answer → World → World → Type 0
+  IsFounded answer before after = FoundsVault new answer before.told after.told before.random after.random
 
-pub not_read : (new : NewVault) (answer : Answer) (t u : Option Told) (stream : Option ByteStream) → Draws stream stream [] → u ≡ t
-    → (overlap new.vault new.work ≡ true → (answer ≡ Overlap new.vault new.work) ⊎ (answer ≡ OutOfMemory)) → (overlap new.vault new.work ≡ false → IfSeen t (λ v. RefusesPass new.pass (v new.pass) answer))
-    → (overlap new.vault new.work ≡ false → IsTrue (is_of_readying answer))
-    → Either (overlap new.vault new.work) (RefusesOverlapping new.vault new.work answer t u stream stream) (MakesVaultApart new answer t u stream stream)
-not_read new answer t u stream undrawn same overlapping refuses own = by (overlap new.vault new.work) refl
-  where
-    by : (b : Bool) → overlap new.vault new.work ≡ b → Either b (RefusesOverlapping new.vault new.work answer t u stream stream) (MakesVaultApart new answer t u stream stream)
-    by true is = record { answers = overlapping is; unchanged = same; undrawn = undrawn }
-    by false is = record {
-      cause = λ v seen. pass_caused new v answer (refuses is v seen);
-      comes = inl (record { own = own is; changes = unchanged_work new.work t u stream same undrawn });
-    }
+  abbrev pub Apart : Answer → World → World → Type 0
+  Apart answer before after = MakesApart is_of_readying new.work (Tests answer) (IsFounded answer before after) answer before after
 
--- ---- where the command isn't begun
+  pub made_apart : (phrase : List ℕ) (answer : Answer) (u : Option Told) (before after : World) → ((a : Told) → before.told ≡ Some a → IsSound a.state) → overlap new.vault new.work ≡ false
+      → ChangesWork new.work before.told u → IfSeen before.told (λ v. IsPhrase (v new.pass) phrase) → IfSeen before.told (λ v. EntersAs v new.work (Ok tt))
+      → IfSeen u (λ v. Unless answer (OfPlace new v answer)) → RefusesPlace answer u after.told before.random after.random ⊎ FoundsAs new phrase answer u after.told before.random after.random
+      → Keeps before.left after.left → Apart answer before after
+  made_apart phrase answer u before after sound apart begins reads entered cause made untouched = record {
+    cause = λ v is.
+        let later : (x : View) × IsSeen u x × AgreeIn (apart_from new.work) x v = seen_after new.work before.told u begins v is in
+        place_caused new v later.0 answer phrase apart later.2 (reads v is) (entered v is) (cause later.0 later.1);
+    comes = elim made [
+      | inl refuses ↦ inl (ends_before is_of_readying new.work answer before after refuses.own (subst (ChangesWork new.work before.told) (sym refuses.unchanged) begins) refuses.undrawn untouched)
+      | inr founds ↦ inr (vault_made new phrase answer before.told u after.told before.random after.random sound begins reads founds)
+    ];
+  }
 
-nothing_made : (new : NewVault) (t : Option Told) (stream : Option ByteStream) → MakesVaultApart new OutOfMemory t t stream stream
-nothing_made new t stream = record { cause = λ v is. inr (inl refl); comes = inl (not_begun_at is_of_readying refl new.work t stream) }
+  pub not_entered : (phrase : List ℕ) (answer : Answer) (w : World) (told : Option Told) → IsTrue (is_of_readying answer) → ChangesWork new.work w.told told → IfSeen w.told (λ v. IsPhrase (v new.pass) phrase)
+      → IfSeen w.told (λ v. RefusesWork v new.work answer) → Apart answer w (record w { told = told })
+  not_entered phrase answer w told own begins reads refuses = record {
+    cause = λ v is. work_caused new v answer phrase (reads v is) (refuses v is);
+    comes = inl (ends_before is_of_readying new.work answer w (record w { told = told }) own begins (none_drawn w.random) (Keeps-refl w.left));
+  }
 
-either_made : (b : Bool) (P Q : Type 0) → P → Q → Either b P Q
-either_made true P Q p q = p
-either_made false P Q p q = q
+  pub vault_made_beside : (answer : Answer) (before after : World) → overlap new.vault new.work ≡ false → Keeps before.left after.left → Keeps before.taken after.taken → Apart answer before after → MakesVault new answer before after
+  vault_made_beside answer before after apart untouched unwritten made =
+      record { makes = made_beside is_of_readying new.vault new.work (Tests answer) (IsFounded answer before after) answer before after apart unwritten made; untouched = untouched }
 
-pub makes_no_vault : (new : NewVault) (w : World) → MakesVault new OutOfMemory w w
-makes_no_vault new w = record {
-  apart = either_made (overlap new.vault new.work) _ _ (record { answers = inr refl; unchanged = refl; undrawn = none_drawn w.random }) (nothing_made new w.told w.random);
-  untouched = Keeps-refl w.left;
-  unwritten = Keeps-refl w.taken;
-}
+  pub not_read : (answer : Answer) (w : World) (told : Option Told) → told ≡ w.told → (overlap new.vault new.work ≡ true → (answer ≡ Overlap new.vault new.work) ⊎ (answer ≡ OutOfMemory))
+      → (overlap new.vault new.work ≡ false → IfSeen w.told (λ v. RefusesPass new.pass (v new.pass) answer)) → (overlap new.vault new.work ≡ false → IsTrue (is_of_readying answer))
+      → MakesVault new answer w (record w { told = told })
+  not_read answer w told same overlapping refuses own = record {
+    makes = ended_before is_of_readying new.vault new.work (Tests answer) (IsFounded answer w (record w { told = told })) answer w told (λ is. (overlapping is, same))
+        (λ apart v seen. pass_caused new v answer (refuses apart v seen)) own (begins_nowhere new.work w.told told same);
+    untouched = Keeps-refl w.left;
+  }
+
+  pub makes_no_vault : (w : World) → MakesVault new OutOfMemory w w
+  makes_no_vault w = record { makes = makes_nothing is_of_readying new.vault new.work (Tests OutOfMemory) (IsFounded OutOfMemory w w) refl w; untouched = Keeps-refl w.left }

@@ -1,7 +1,6 @@
 -- The input is stored as a file of a vault.
-use Rattle.std.proofs.Common.{◌≡◌, ◌⊎◌, ℕ, Bool, true, false, List, [], length, take, Option, Some, None, Result, Ok, Err, OnOk, IfErr, inl, inr, refl, sym, ap, ◌∙◌, subst, nat_le, if◌then◌else◌, IsTrue}
+use Rattle.std.proofs.Common.{◌≡◌, ℕ, Bool, true, false, List, [], length, take, Option, Some, None, Result, Ok, Err, OnOk, refl, sym, ap, ◌∙◌, subst, nat_le, if◌then◌else◌, IsTrue}
 use Rattle.std.specs.Io.KnownBytes.{Keeps}
-use Rattle.std.proofs.KnownBytes.{Keeps-refl}
 use Rattle.chunk_files.specs.Keys.{Keys}
 use Rattle.content_writing.specs.Content.{Coming, Gave, HasEnded, Whole, TooLong, content_limit, coming_from, ends, within}
 use Rattle.content_writing.specs.declared.fault.PutFault.{PutFault}
@@ -10,31 +9,26 @@ use Rattle.folder_spec.specs.Path.{Path}
 use Rattle.folder_spec.specs.State.{IsSound}
 use Rattle.folder_spec.specs.Event.{Told}
 use Rattle.folder_spec.specs.Seen.{IfSeen}
-use Rattle.port_model.specs.Draws.{ByteStream, Draws}
-use Rattle.vault_read.specs.Contents.{IsOfPath}
+use Rattle.port_model.specs.Draws.{ByteStream}
 use Rattle.vault_read.specs.Opened.{OpenedVault}
-use Rattle.vault_read.specs.declared.fault.FindFault.{FindFault}
 use Rattle.vault_read.specs.declared.fault.FindFault.TheVariants as finds
 use Rattle.vault_read.specs.declared.fault.Limit.TheVariants.{Input}
 use Rattle.vault_spec.specs.Making.{NewFile}
-use Rattle.vault_spec.specs.Vault.{Vault, Either}
+use Rattle.vault_spec.specs.Vault.{Vault}
 use Rattle.vault_write.specs.Calls.{InPlace, MakesAt, MakesFile, TakesContent, Writing}
-use Rattle.vault_write.specs.Faults.{IsFileFault}
 use Rattle.work_folder.specs.Entering.{EntersAs}
-use Rattle.command_beginning.proofs.Beginnings.{Alike, Outside, none_drawn, not_begun_at, work_alone}
-use Rattle.writing_commands.proofs.MadeItems.{either_made, item_made, site_gives, site_refused}
-use Rattle.command_beginning.specs.Beginning.{ChangesWork, RefusesOverlapping}
-use Rattle.command_opening.specs.Tests.{is_of_beginning}
+use Rattle.command_beginning.proofs.Beginnings.{Alike, Outside}
+use Rattle.writing_commands.proofs.MadeItems.{item_made, nothing_changed, vault_changed}
+use Rattle.writing_commands.proofs.Makings.{all_done}
+use Rattle.command_beginning.specs.Beginning.{ChangesWork}
 use Rattle.writing_commands.specs.Faults.{answer_to_making}
-use Rattle.command_opening.specs.Faults.{of_find}
 use Rattle.writing_commands.specs.Items.{MakesIn}
 use Rattle.command_opening.specs.Opening.{Opens}
 use Rattle.command_opening.specs.Places.{overlap}
-use Rattle.writing_commands.specs.Put.{StoresFile, StoresFileApart, StoresIn, TakesInput, is_of_file}
-use Rattle.command_beginning.specs.Refusing.{RefusesSite}
+use Rattle.writing_commands.specs.Put.{StoresFile, StoresIn, TakesInput, is_of_file}
 use Rattle.command_opening.specs.World.{World}
 use Rattle.command_answers.specs.declared.answer.Answer.{Answer}
-use Rattle.command_answers.specs.declared.answer.Answer.TheVariants.{Done, FolderFault, InputFault, OutOfMemory, Overlap, RandomFault}
+use Rattle.command_answers.specs.declared.answer.Answer.TheVariants.{Done, OutOfMemory}
 use Rattle.command_words.specs.declared.commands.Change.{Change}
 
 -- ---- the input
@@ -71,106 +65,11 @@ all_bytes room bytes is = by (nat_le (length bytes) room) is
 ends_alike : (given : List ℕ) (before : Coming) (left : Option Coming) → Gave given (Some before) left → left ≡ Some (ends Whole) → before.ending ≡ Whole
 ends_alike given before left gave is = ap (λ (c : Coming). c.ending) (subst (λ l. Gave given (Some before) l) is gave)
 
--- ---- the answer
-
-found_own : (fault : FindFault) → IsTrue (is_of_file (of_find fault))
-found_own (finds.NotFound path) = refl
-found_own (finds.WrongKind path) = refl
-found_own (finds.NoDirKey at) = refl
-found_own (finds.NoFolder at) = refl
-found_own finds.Failed = refl
-found_own finds.NoMemory = refl
-
 own : (result : Result (Unit {0}) PutFault) → IsTrue (is_of_file (answer_to_making result))
 own (Ok done) = refl
-own (Err (puts.Find fault)) = found_own fault
-own (Err (puts.NotAllowed path)) = refl
-own (Err (puts.Taken at)) = refl
-own (Err (puts.Damaged at fault)) = refl
-own (Err (puts.Limit limit)) = refl
-own (Err puts.ZeroRandom) = refl
-own (Err puts.Source) = refl
-own (Err puts.Random) = refl
-own (Err puts.Failed) = refl
-own (Err puts.NoMemory) = refl
-
--- that the folder failed is told as such
-pub file_failed : (result : Result (Unit {0}) PutFault) → IfErr result (λ fault. IsFileFault fault) → answer_to_making result ≡ FolderFault → result ≡ Err puts.Failed
-file_failed (Ok done) own is = cc
-file_failed (Err (puts.Find fault)) own is = absurd (no_find fault own is)
-  where
-    no_find : (fault : FindFault) → IsOfPath fault → of_find fault ≡ FolderFault → ⊥
-    no_find (finds.NotFound path) own is = cc
-    no_find (finds.WrongKind path) own is = cc
-    no_find (finds.NoDirKey at) own is = cc
-    no_find (finds.NoFolder at) own is = cc
-    no_find finds.Failed own is = own
-    no_find finds.NoMemory own is = own
-file_failed (Err (puts.NotAllowed path)) own is = cc
-file_failed (Err (puts.Taken at)) own is = cc
-file_failed (Err (puts.Damaged at fault)) own is = cc
-file_failed (Err (puts.Limit limit)) own is = cc
-file_failed (Err puts.ZeroRandom) own is = cc
-file_failed (Err puts.Source) own is = cc
-file_failed (Err puts.Random) own is = cc
-file_failed (Err puts.Failed) own is = refl
-file_failed (Err puts.NoMemory) own is = cc
-
--- the answers of a stream, and that all is done
-abbrev is_apart : Answer → Bool
-is_apart Done = true
-is_apart InputFault = true
-is_apart RandomFault = true
-is_apart answer = false
-
-found_no_other : (fault : FindFault) → is_apart (of_find fault) ≡ false
-found_no_other (finds.NotFound path) = refl
-found_no_other (finds.WrongKind path) = refl
-found_no_other (finds.NoDirKey at) = refl
-found_no_other (finds.NoFolder at) = refl
-found_no_other finds.Failed = refl
-found_no_other finds.NoMemory = refl
-
-not_found_so : (fault : FindFault) (answer : Answer) → is_apart answer ≡ true → of_find fault ≡ answer → ⊥
-not_found_so fault answer apart is = let no : true ≡ false = sym apart ∙ sym (ap is_apart is) ∙ found_no_other fault in cc
-
-not_done : (fault : PutFault) → answer_to_making (Err fault) ≡ Done → ⊥
-not_done (puts.Find fault) is = not_found_so fault Done refl is
-not_done (puts.NotAllowed path) is = cc
-not_done (puts.Taken at) is = cc
-not_done (puts.Damaged at fault) is = cc
-not_done (puts.Limit limit) is = cc
-not_done puts.ZeroRandom is = cc
-not_done puts.Source is = cc
-not_done puts.Random is = cc
-not_done puts.Failed is = cc
-not_done puts.NoMemory is = cc
-
-pub input_failed : (result : Result (Unit {0}) PutFault) → answer_to_making result ≡ InputFault → result ≡ Err puts.Source
-input_failed (Ok done) is = cc
-input_failed (Err (puts.Find fault)) is = absurd (not_found_so fault InputFault refl is)
-input_failed (Err (puts.NotAllowed path)) is = cc
-input_failed (Err (puts.Taken at)) is = cc
-input_failed (Err (puts.Damaged at fault)) is = cc
-input_failed (Err (puts.Limit limit)) is = cc
-input_failed (Err puts.ZeroRandom) is = cc
-input_failed (Err puts.Source) is = refl
-input_failed (Err puts.Random) is = cc
-input_failed (Err puts.Failed) is = cc
-input_failed (Err puts.NoMemory) is = cc
-
-pub random_failed : (result : Result (Unit {0}) PutFault) → answer_to_making result ≡ RandomFault → result ≡ Err puts.Random
-random_failed (Ok done) is = cc
-random_failed (Err (puts.Find fault)) is = absurd (not_found_so fault RandomFault refl is)
-random_failed (Err (puts.NotAllowed path)) is = cc
-random_failed (Err (puts.Taken at)) is = cc
-random_failed (Err (puts.Damaged at fault)) is = cc
-random_failed (Err (puts.Limit limit)) is = cc
-random_failed (Err puts.ZeroRandom) is = cc
-random_failed (Err puts.Source) is = cc
-random_failed (Err puts.Random) is = refl
-random_failed (Err puts.Failed) is = cc
-random_failed (Err puts.NoMemory) is = cc
+own (Err (puts.Find finds.Failed)) = refl
+own (Err (puts.Find fault)) = refl
+own (Err fault) = refl
 
 -- ---- what was taken
 
@@ -192,74 +91,40 @@ input_taken keys w answer room room' passed passed' left left' stream stream' re
 
     by_answer : (r : Result (Unit {0}) PutFault) → answer_to_making r ≡ Done → OnOk r (HasEnded Whole (coming_from room passed left) (coming_from room' passed' left')) → (bytes : List ℕ) → left ≡ Some bytes → (w.content ≡ bytes) × (left' ≡ Some [])
     by_answer (Ok done) is ended = all ended
-    by_answer (Err fault) is ended = absurd (not_done fault is)
+    by_answer (Err fault) is ended = let no = all_done (Err fault) is in cc
 
 -- ---- the file
 
-module _ (change : Change) (answer : Answer) (t w : Option Told) (stream stream' : Option ByteStream) (left left' : Option (List ℕ)) where
-  abbrev pub OrRefuses : Bool → Type 0
-  OrRefuses b = Either b (RefusesOverlapping change.target.vault change.work answer t w stream stream' × Keeps left left') (StoresFileApart change answer t w stream stream' left left')
+module _ (change : Change) where
+  abbrev pub StoresIt : Answer → World → World → Vault → Type 0
+  StoresIt answer before after vault = StoresIn change vault answer before.told after.told before.random after.random before.left after.left
 
-  abbrev Stores : Vault → Type 0
-  Stores vault = StoresIn change vault answer t w stream stream' left left'
+  pub file_made : Outside → Alike → (vault : OpenedVault) (work : Path) (answer : Answer) (result : Result (Unit {0}) PutFault) (u : Option Told) (before after : World) (room room' : ℕ) (passed passed' : Bool)
+      → ((a : Told) → before.told ≡ Some a → IsSound a.state) → overlap change.target.vault change.work ≡ false → vault.root ≡ change.target.vault → work ≡ change.work → ChangesWork change.work before.told u
+      → IfSeen before.told (λ v. Opens v change.target.vault change.target.pass vault.vault) → IfSeen before.told (λ v. EntersAs v change.work (Ok tt))
+      → answer ≡ answer_to_making result → room ≡ content_limit → passed ≡ false
+      → MakesFile InPlace vault work change.target.path (coming_from room passed before.left) (coming_from room' passed' after.left) before.random after.random u after.told result
+      → Keeps before.taken after.taken → StoresFile change answer before after
+  file_made outside alike vault work answer result u before after room room' passed passed' sound apart is_root is_work begins opens entered is fresh unpassed makes unwritten =
+      let writing : Writing = makes.writing in
+      let there : OpenedVault = record { root = change.target.vault; vault = vault.vault } in
+      let at_root : MakesAt InPlace there work change.target.path (NewFile writing.content) writing.ending writing.drawn u after.told result =
+      subst (λ root. MakesAt InPlace (record { root = root; vault = vault.vault }) work change.target.path (NewFile writing.content) writing.ending writing.drawn u after.told result) is_root makes.makes in
+      let at_work : MakesAt InPlace there change.work change.target.path (NewFile writing.content) writing.ending writing.drawn u after.told result =
+      subst (λ place. MakesAt InPlace there place change.target.path (NewFile writing.content) writing.ending writing.drawn u after.told result) is_work at_root in
+      let made : MakesIn InPlace change (NewFile writing.content) writing.ending vault.vault answer before.told after.told before.random after.random = record {
+        result = result;
+        is = is;
+        drawn = writing.drawn;
+        were_drawn = makes.takes.were_drawn;
+        makes = item_made outside alike InPlace there change.work change.target.path (NewFile writing.content) writing.ending writing.drawn before.told u after.told result sound apart begins at_work;
+      } in
+      vault_changed is_of_file change (StoresIt answer before after) answer before after vault.vault apart opens entered (subst (λ a. IsTrue (is_of_file a)) (sym is) (own result)) (record {
+        content = writing.content;
+        ending = writing.ending;
+        makes = made;
+        takes = input_taken _ writing answer room room' passed passed' before.left after.left before.random after.random result fresh unpassed is makes.takes;
+      }) unwritten
 
-  stored : (vault : Vault) → IfSeen t (λ v. Opens v change.target.vault change.target.pass vault) → IfSeen t (λ v. EntersAs v change.work (Ok tt)) → IsTrue (is_of_file answer) → Stores vault
-      → StoresFileApart change answer t w stream stream' left left'
-  stored vault opens entered own stores = record {
-    cause = λ v seen. inr (inr (site_gives change v answer Stores vault (opens v seen) (entered v seen) stores));
-    comes = inr (record { vault = vault; opens = opens; own = own; stores = stores });
-  }
-
-  pub apart_stored : overlap change.target.vault change.work ≡ false → StoresFileApart change answer t w stream stream' left left' → OrRefuses (overlap change.target.vault change.work)
-  apart_stored apart stores = subst OrRefuses (sym apart) stores
-
-pub file_made : Outside → Alike → (change : Change) (vault : OpenedVault) (work : Path) (answer : Answer) (result : Result (Unit {0}) PutFault) (t u w : Option Told) (stream stream' : Option ByteStream)
-    (room room' : ℕ) (passed passed' : Bool) (left left' : Option (List ℕ))
-    → ((a : Told) → t ≡ Some a → IsSound a.state) → overlap change.target.vault change.work ≡ false → vault.root ≡ change.target.vault → work ≡ change.work → ChangesWork change.work t u
-    → IfSeen t (λ v. Opens v change.target.vault change.target.pass vault.vault) → IfSeen t (λ v. EntersAs v change.work (Ok tt))
-    → answer ≡ answer_to_making result → room ≡ content_limit → passed ≡ false
-    → MakesFile InPlace vault work change.target.path (coming_from room passed left) (coming_from room' passed' left') stream stream' u w result
-    → StoresFileApart change answer t w stream stream' left left'
-file_made outside alike change vault work answer result t u w stream stream' room room' passed passed' left left' sound apart is_root is_work begins opens entered is fresh unpassed makes =
-    let writing : Writing = makes.writing in
-    let there : OpenedVault = record { root = change.target.vault; vault = vault.vault } in
-    let at_root : MakesAt InPlace there work change.target.path (NewFile writing.content) writing.ending writing.drawn u w result =
-    subst (λ root. MakesAt InPlace (record { root = root; vault = vault.vault }) work change.target.path (NewFile writing.content) writing.ending writing.drawn u w result) is_root makes.makes in
-    let at_work : MakesAt InPlace there change.work change.target.path (NewFile writing.content) writing.ending writing.drawn u w result =
-    subst (λ place. MakesAt InPlace there place change.target.path (NewFile writing.content) writing.ending writing.drawn u w result) is_work at_root in
-    let made : MakesIn InPlace change (NewFile writing.content) writing.ending vault.vault answer t w stream stream' = record {
-      result = result;
-      is = is;
-      drawn = writing.drawn;
-      were_drawn = makes.takes.were_drawn;
-      makes = item_made outside alike InPlace there change.work change.target.path (NewFile writing.content) writing.ending writing.drawn t u w result sound apart begins at_work;
-    } in
-    stored change answer t w stream stream' left left' vault.vault opens entered (subst (λ a. IsTrue (is_of_file a)) (sym is) (own result)) (record {
-      content = writing.content;
-      ending = writing.ending;
-      makes = made;
-      takes = input_taken _ writing answer room room' passed passed' left left' stream stream' result fresh unpassed is makes.takes;
-    })
-
--- where the command doesn't come to the making
-pub none_stored : (change : Change) (answer : Answer) (t u : Option Told) (stream : Option ByteStream) (left : Option (List ℕ)) → Draws stream stream []
-    → (overlap change.target.vault change.work ≡ true → ((answer ≡ Overlap change.target.vault change.work) ⊎ (answer ≡ OutOfMemory)) × (u ≡ t))
-    → (overlap change.target.vault change.work ≡ false → IfSeen t (λ v. RefusesSite change v answer)) → (overlap change.target.vault change.work ≡ false → IsTrue (is_of_beginning answer)) → ChangesWork change.work t u
-    → OrRefuses change answer t u stream stream left left (overlap change.target.vault change.work)
-none_stored change answer t u stream left undrawn overlapping refuses own begins = by (overlap change.target.vault change.work) refl
-  where
-    by : (b : Bool) → overlap change.target.vault change.work ≡ b → OrRefuses change answer t u stream stream left left b
-    by true is = (record { answers = (overlapping is).0; unchanged = (overlapping is).1; undrawn = undrawn }, Keeps-refl left)
-    by false is = record {
-      cause = λ v seen. site_refused change v answer (Stores change answer t u stream stream left left) (refuses is v seen);
-      comes = inl (record { own = own is; changes = work_alone change.work t u stream stream begins undrawn }, Keeps-refl left);
-    }
-
--- ---- where the command isn't begun
-
-pub stores_nothing : (change : Change) (w : World) → StoresFile change OutOfMemory w w
-stores_nothing change w = record {
-  apart = either_made (overlap change.target.vault change.work) _ _ (record { answers = inr refl; unchanged = refl; undrawn = none_drawn w.random }, Keeps-refl w.left)
-      (record { cause = λ v is. inr (inl refl); comes = inl (not_begun_at is_of_beginning refl change.work w.told w.random, Keeps-refl w.left) });
-  unwritten = Keeps-refl w.taken;
-}
+  pub stores_nothing : (w : World) → StoresFile change OutOfMemory w w
+  stores_nothing w = nothing_changed is_of_file change (StoresIt OutOfMemory w w) w

@@ -20,15 +20,14 @@ use Rattle.port_model.specs.Draws.{ByteStream, Draws}
 use Rattle.command_words.specs.declared.values.Format.{Format}
 use Rattle.command_words.specs.declared.values.Format.TheVariants.{Gocryptfs, Cryptomator, CryptomatorCtrMac}
 use Rattle.vault_spec.specs.NewVault.{go_files, cm_files, new_go_vault, new_cm_vault}
-use Rattle.vault_spec.specs.Vault.{Vault, Either}
+use Rattle.vault_spec.specs.Vault.{Vault}
 use Rattle.vault_write.specs.Founding.{FoundsGo, FoundsCm, IsGoDraw, IsCmDraw, GoDrew, CmDrew, IsNewVault, founding, texts, vault_edit}
 use Rattle.vault_write.specs.Making.{StagesOrPlaces}
 use Rattle.command_opening.specs.Tests.{is_of_readying}
-use Rattle.command_beginning.specs.Beginning.{RefusesOverlapping, OfWork, EndsBefore}
-use Rattle.command_opening.specs.Places.{OfFree, overlap}
+use Rattle.command_beginning.specs.Beginning.{MakesBeside, OfWork}
+use Rattle.command_opening.specs.Places.{OfFree}
 use Rattle.writing_commands.specs.Faults.{answer_to_making}
 use Rattle.command_opening.specs.Opening.{IsPhrase, OfPassFile}
-use Rattle.command_opening.specs.Refusing.{Unless}
 use Rattle.command_opening.specs.Shown.{refused}
 use Rattle.command_opening.specs.World.{World}
 use Rattle.command_answers.specs.declared.answer.Answer.{Answer}
@@ -89,15 +88,10 @@ pub record FoundsVault (new : NewVault) (answer : Answer) (told told' : Option T
   pub settled : OnOk result (FromTo (λ a b. HasSettledIn (apart_from new.work) (vault_edit new.vault made ∷ []) a.state b.state) told told')
   pub vault : OnOk result ((vault : Vault) × IsNewVault made phrase vault)
 
-pub record MakesVaultApart (new : NewVault) (answer : Answer) (told told' : Option Told) (stream stream' : Option ByteStream) : Type 0 where
-  pub cause : IfSeen told (λ v. Unless answer (OfNewPlace new v answer (IsOfFounding answer)))
-  pub comes : EndsBefore is_of_readying new.work answer told told' stream stream' ⊎ FoundsVault new answer told told' stream stream'
-
 -- `init`, which takes nothing of the input and writes nothing
 pub record MakesVault (new : NewVault) (answer : Answer) (before after : World) : Type 0 where
-  pub apart : Either (overlap new.vault new.work) (RefusesOverlapping new.vault new.work answer before.told after.told before.random after.random) (MakesVaultApart new answer before.told after.told before.random after.random)
+  pub makes : MakesBeside is_of_readying new.vault new.work (λ v. OfNewPlace new v answer (IsOfFounding answer)) (FoundsVault new answer before.told after.told before.random after.random) answer before after
   pub untouched : Keeps before.left after.left
-  pub unwritten : Keeps before.taken after.taken
 
 -- ---- private contracts
 

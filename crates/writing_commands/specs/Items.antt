@@ -1,6 +1,6 @@
 -- Making an item at a plain path of a vault, behind a work folder that is made ready first: a crash at any moment leaves the old tree
 -- or the new one.
-use Rattle.std.specs.Prelude.{◌≡◌, ◌⊎◌, ◌≤◌, ℕ, Bool, List, [], ◌∷◌, ◌++◌, length, Result, OnOk, Option}
+use Rattle.std.specs.Prelude.{◌≡◌, ◌⊎◌, ◌≤◌, ℕ, Bool, List, [], ◌∷◌, ◌++◌, length, Result, OnOk, Option, IsTrue}
 use Rattle.content_writing.specs.Content.{Ending, Whole}
 use Rattle.content_writing.specs.declared.fault.PutFault.{PutFault}
 use Rattle.folder_spec.specs.Path.{Path}
@@ -22,6 +22,10 @@ use Rattle.vault_write.specs.Making.{Placing, Making, format, path_of, StagesOrP
 use Rattle.vault_write.specs.Placing.{ShowsOne, EndsAs, making_at}
 use Rattle.vault_write.specs.Trees.{KeepsTree, GainsItem, opens_as}
 use Rattle.writing_commands.specs.Faults.{answer_to_making}
+use Rattle.command_beginning.specs.Beginning.{MakesBeside, OfSite}
+use Rattle.command_opening.specs.Opening.{Opens}
+use Rattle.command_opening.specs.Tests.{is_of_beginning}
+use Rattle.command_opening.specs.World.{World}
 use Rattle.command_answers.specs.declared.answer.Answer.{Answer}
 use Rattle.command_words.specs.declared.commands.Change.{Change}
 
@@ -74,3 +78,15 @@ pub record MakesIn (how : How) (change : Change) (item : NewItem) (ending : Endi
   pub drawn : List ℕ
   pub were_drawn : Draws stream stream' drawn
   pub makes : MakesItem how (record { root = change.target.vault; vault = vault }) change.work change.target.path item ending drawn told told' result
+
+-- the vault that is opened is changed so, with an answer of its own
+pub record ChangesThere (is_own : Answer → Bool) (change : Change) (Makes : Vault → Type 0) (answer : Answer) (before : World) : Type 0 where
+  pub vault : Vault
+  pub opens : IfSeen before.told (λ v. Opens v change.target.vault change.target.pass vault)
+  pub own : IsTrue (is_own answer)
+  pub makes : Makes vault
+
+-- A command changes a vault so, where all its tests pass.
+abbrev pub ChangesVault : (Answer → Bool) → Change → (Vault → Type 0) → Answer → World → World → Type 0
+ChangesVault is_own change Makes answer before after =
+    MakesBeside is_of_beginning change.target.vault change.work (λ v. OfSite change v answer Makes) (ChangesThere is_own change Makes answer before) answer before after

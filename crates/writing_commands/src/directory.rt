@@ -1,10 +1,8 @@
 //! `mkdir`: makes a directory in a vault.
-ghost use Rattle.std.specs.Prelude.{◌≡◌, Err};
+ghost use Rattle.std.specs.Prelude.{◌≡◌, ℕ, Bool, List, Option};
 ghost use Rattle.port_model.specs.Counts.{CountRose};
-ghost use Rattle.vault_spec.specs.Vault.{Either};
-ghost use Rattle.command_beginning.specs.Beginning.{RefusesOverlapping};
-ghost use Rattle.writing_commands.specs.Mkdir.{MakesDirectoryApart};
-ghost use Rattle.command_opening.specs.Places.{overlap};
+ghost use Rattle.writing_commands.specs.Mkdir.{MakesDirectoryIn};
+ghost use Rattle.command_opening.specs.World.{World};
 
 use crate::faults::answer_to_making;
 use command_answers::Answer;
@@ -24,9 +22,10 @@ pub fn mkdir<F: Folder, R: Randoms>(
     folder: &mut F,
     random: &mut R,
 ) -> Answer
-    ensures comes { Either (overlap change.now.target.vault change.now.work)
-        (RefusesOverlapping change.now.target.vault change.now.work result (F.told folder.old) (F.told folder.new) (R.left random.old) (R.left random.new))
-        (MakesDirectoryApart change.now result (F.told folder.old) (F.told folder.new) (R.left random.old) (R.left random.new)) }
+    // Whatever the input gives and the output took, which it isn't handed.
+    ensures makes { (left : Option (List ℕ)) (ended : Bool) (taken : Option (List ℕ)) → MakesDirectoryIn change.now result
+        (record { told = F.told folder.old; left = left; ended = ended; taken = taken; random = R.left random.old })
+        (record { told = F.told folder.new; left = left; ended = ended; taken = taken; random = R.left random.new }) }
     ensures folder_fault { result ≡ Answer.FolderFault → CountRose (F.faults folder.old) (F.faults folder.new) }
     ensures random_fault { result ≡ Answer.RandomFault → CountRose (R.faults random.old) (R.faults random.new) }
 {

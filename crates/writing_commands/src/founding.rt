@@ -1,15 +1,14 @@
 //! `init`: makes a vault.
-ghost use Rattle.std.specs.Prelude.{◌≡◌, ◌⊎◌, ◌≤◌, false, Err};
+ghost use Rattle.std.specs.Prelude.{◌≡◌, ◌⊎◌, ◌≤◌, ℕ, Bool, false, List, Option, Err};
 ghost use Rattle.folder_spec.specs.Seen.{IfSeen};
 ghost use Rattle.port_model.specs.Counts.{CountRose};
 ghost use Rattle.vault_write.specs.Founding.{MayFound};
 ghost use Rattle.vault_write.specs.Placing.{MayMake};
-ghost use Rattle.command_beginning.specs.Beginning.{RefusesOverlapping};
 ghost use Rattle.command_opening.specs.Places.{overlap};
-ghost use Rattle.vault_spec.specs.Vault.{Either};
-ghost use Rattle.writing_commands.specs.Init.{cost_of, FoundsAs, FoundsNew, MakesVaultApart, OfPlace, RefusesPlace};
+ghost use Rattle.writing_commands.specs.Init.{cost_of, FoundsAs, FoundsNew, MakesVault, OfPlace, RefusesPlace};
 ghost use Rattle.command_opening.specs.Opening.{IsPhrase};
 ghost use Rattle.command_opening.specs.Refusing.{Unless};
+ghost use Rattle.command_opening.specs.World.{World};
 
 use crate::faults::answer_to_making;
 use command_answers::Answer;
@@ -32,9 +31,10 @@ pub fn init<F: Folder, R: Randoms>(
     folder: &mut F,
     random: &mut R,
 ) -> Answer
-    ensures comes { Either (overlap new.now.vault new.now.work)
-        (RefusesOverlapping new.now.vault new.now.work result (F.told folder.old) (F.told folder.new) (R.left random.old) (R.left random.new))
-        (MakesVaultApart new.now result (F.told folder.old) (F.told folder.new) (R.left random.old) (R.left random.new)) }
+    // Whatever the input gives and the output took, which it isn't handed.
+    ensures makes { (left : Option (List ℕ)) (ended : Bool) (taken : Option (List ℕ)) → MakesVault new.now result
+        (record { told = F.told folder.old; left = left; ended = ended; taken = taken; random = R.left random.old })
+        (record { told = F.told folder.new; left = left; ended = ended; taken = taken; random = R.left random.new }) }
     ensures folder_fault { result ≡ Answer.FolderFault → CountRose (F.faults folder.old) (F.faults folder.new) }
     ensures random_fault { result ≡ Answer.RandomFault → CountRose (R.faults random.old) (R.faults random.new) }
 {
@@ -55,7 +55,9 @@ fn make_apart<F: Folder, R: Randoms>(
 ) -> Answer
     requires apart { overlap new.now.vault new.now.work ≡ false }
     requires phrase { IfSeen (F.told folder.old) (λ v. IsPhrase (v new.now.pass) phrase.now) }
-    ensures made { MakesVaultApart new.now result (F.told folder.old) (F.told folder.new) (R.left random.old) (R.left random.new) }
+    ensures makes { (left : Option (List ℕ)) (ended : Bool) (taken : Option (List ℕ)) → MakesVault new.now result
+        (record { told = F.told folder.old; left = left; ended = ended; taken = taken; random = R.left random.old })
+        (record { told = F.told folder.new; left = left; ended = ended; taken = taken; random = R.left random.new }) }
     ensures folder_fault { result ≡ Answer.FolderFault → CountRose (F.faults folder.old) (F.faults folder.new) }
     ensures random_fault { result ≡ Answer.RandomFault → CountRose (R.faults random.old) (R.faults random.new) }
 {

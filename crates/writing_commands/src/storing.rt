@@ -1,11 +1,8 @@
 //! `put`: stores the input as a file of a vault.
-ghost use Rattle.std.specs.Io.KnownBytes.{Keeps};
-ghost use Rattle.std.specs.Prelude.{◌≡◌};
+ghost use Rattle.std.specs.Prelude.{◌≡◌, ℕ, List, Option};
 ghost use Rattle.port_model.specs.Counts.{CountRose};
-ghost use Rattle.vault_spec.specs.Vault.{Either};
-ghost use Rattle.command_beginning.specs.Beginning.{RefusesOverlapping};
-ghost use Rattle.command_opening.specs.Places.{overlap};
-ghost use Rattle.writing_commands.specs.Put.{StoresFileApart};
+ghost use Rattle.command_opening.specs.World.{World};
+ghost use Rattle.writing_commands.specs.Put.{StoresFile};
 
 use crate::faults::answer_to_making;
 use command_answers::Answer;
@@ -26,9 +23,10 @@ pub fn put<F: Folder, R: Randoms, I: Source>(
     random: &mut R,
     input: &mut I,
 ) -> Answer
-    ensures comes { Either (overlap change.now.target.vault change.now.work)
-        (RefusesOverlapping change.now.target.vault change.now.work result (F.told folder.old) (F.told folder.new) (R.left random.old) (R.left random.new) × Keeps (I.left input.old) (I.left input.new))
-        (StoresFileApart change.now result (F.told folder.old) (F.told folder.new) (R.left random.old) (R.left random.new) (I.left input.old) (I.left input.new)) }
+    // Whatever the output took, which it isn't handed.
+    ensures stores { (taken : Option (List ℕ)) → StoresFile change.now result
+        (record { told = F.told folder.old; left = I.left input.old; ended = I.ended input.old; taken = taken; random = R.left random.old })
+        (record { told = F.told folder.new; left = I.left input.new; ended = I.ended input.new; taken = taken; random = R.left random.new }) }
     ensures folder_fault { result ≡ Answer.FolderFault → CountRose (F.faults folder.old) (F.faults folder.new) }
     ensures input_fault { result ≡ Answer.InputFault → CountRose (I.faults input.old) (I.faults input.new) }
     ensures random_fault { result ≡ Answer.RandomFault → CountRose (R.faults random.old) (R.faults random.new) }

@@ -1,12 +1,31 @@
-use Rattle.std.proofs.Common.{sym, ◌∙◌}
-use Rattle.checking_commands.proofs.Repairs.{refused_apart, repair_refused}
+use Rattle.std.proofs.Common.{subst, sym, ◌∙◌}
+use Rattle.std.proofs.KnownBytes.{Keeps-refl}
+use Rattle.command_answers.specs.Printing.{PrintsText}
+use Rattle.checking_commands.specs.Repair.{moved_text}
+use Rattle.command_opening.specs.World.{World}
+use Rattle.checking_commands.proofs.Repairs.{not_repaired, repair_printed, repair_refused, repaired_apart}
 use Rattle.checking_commands.proofs.repairing.repair.Goals as goal
 
-pub returns-in-Err-clause-apart : goal.returns-in-Err-clause-apart
-returns-in-Err-clause-apart g c =
+pub returns-then-do_overlap-clause-repairs : goal.returns-then-do_overlap-clause-repairs
+returns-then-do_overlap-clause-repairs g c left ended random =
+    not_repaired c.args.target.now c.overlapping.result
+    (record { told = g.F.Folder.told c.args.folder.now; left = left; ended = ended; taken = g.O.Sink.taken c.args.out.now; random = random }) (sym c.do_overlap.ensures ∙ c.if-do_overlap.true)
+    c.overlapping.ensures
+
+pub returns-in-Err-clause-repairs : goal.returns-in-Err-clause-repairs
+returns-in-Err-clause-repairs g c left ended random =
     let target = c.args.target.now in
-    let told = g.F.Folder.told c.args.folder.now in
-    let told' = g.F.Folder.told c.move_strays.new.folder in
     let taken = g.O.Sink.taken c.args.out.now in
-    refused_apart target c.in-Err.answer told told' taken (sym c.do_overlap.ensures ∙ c.if-do_overlap.false)
-    (repair_refused target c.in-Err.answer told told' taken c.in-Err.ensures.own c.in-Err.ensures.cause c.in-Err.ensures.tested c.in-Err.ensures.moves)
+    let before : World = record { told = g.F.Folder.told c.args.folder.now; left = left; ended = ended; taken = taken; random = random } in
+    let after : World = record before { told = g.F.Folder.told c.move_strays.new.folder } in
+    repaired_apart target c.in-Err.answer before after (sym c.do_overlap.ensures ∙ c.if-do_overlap.false) (Keeps-refl left)
+    (repair_refused target c.in-Err.answer before.told after.told taken c.in-Err.ensures.own c.in-Err.ensures.cause c.in-Err.ensures.tested c.in-Err.ensures.moves)
+
+pub returns-in-Ok-clause-repairs : goal.returns-in-Ok-clause-repairs
+returns-in-Ok-clause-repairs g c left ended random =
+    let target = c.args.target.now in
+    let before : World = record { told = g.F.Folder.told c.args.folder.now; left = left; ended = ended; taken = g.O.Sink.taken c.args.out.now; random = random } in
+    let after : World = record { told = g.F.Folder.told c.move_strays.new.folder; left = left; ended = ended; taken = g.O.Sink.taken c.print_moved.new.out; random = random } in
+    repaired_apart target c.print_moved.result before after (sym c.do_overlap.ensures ∙ c.if-do_overlap.false) (Keeps-refl left)
+    (repair_printed target c.in-Ok.moved.items c.print_moved.result before.told after.told before.taken after.taken c.in-Ok.ensures.moved c.in-Ok.ensures.passed c.in-Ok.ensures.moves
+    (subst (λ moved. PrintsText (moved_text moved) c.print_moved.result before.taken after.taken) c.as_slice.ensures.value c.print_moved.ensures.prints) c.print_moved.ensures.answers)

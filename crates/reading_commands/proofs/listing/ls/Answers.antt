@@ -1,6 +1,8 @@
 use Rattle.std.proofs.Common.{[], ◌∷◌, ◌∙◌, refl, string_bytes, subst, sym}
 use Rattle.std.specs.Io.KnownBytes.{Appends}
+use Rattle.std.proofs.KnownBytes.{Keeps-refl}
 use Rattle.std.proofs.lemmas.List.{append-nil}
+use Rattle.port_model.specs.Told.{AppendsPrefix}
 use Rattle.reading_commands.specs.Ls.{ShowsItems}
 use Rattle.reading_commands.proofs.Listings.{items_are_one}
 use Rattle.command_answers.specs.declared.answer.Answer.TheVariants.{Done, OutputFault}
@@ -9,21 +11,40 @@ use Rattle.command_opening.proofs.Printings.{is_another}
 use Rattle.command_opening.proofs.Showing.{reads_by, reads_refused}
 use Rattle.reading_commands.proofs.listing.ls.Goals as goal
 
-pub returns-in-Err-clause-reads : goal.returns-in-Err-clause-reads
-returns-in-Err-clause-reads g c =
-    reads_refused (ShowsItems c.args.target.now) c.in-Err.answer (g.F.Folder.told c.args.folder.now) (g.F.Folder.told c.listing.new.folder) (g.O.Sink.taken c.args.out.now)
-    (items_are_one c.roots_have_one_answer.ensures c.directories_have_one_list.ensures c.args.target.now) c.in-Err.ensures.told c.in-Err.ensures.own c.in-Err.ensures.refused
+pub returns-in-Err-clause-lists : goal.returns-in-Err-clause-lists
+returns-in-Err-clause-lists g c left ended random = record {
+  reads = reads_refused (ShowsItems c.args.target.now) c.in-Err.answer (g.F.Folder.told c.args.folder.now) (g.F.Folder.told c.listing.new.folder) (g.O.Sink.taken c.args.out.now)
+      (items_are_one c.roots_have_one_answer.ensures c.directories_have_one_list.ensures c.args.target.now) c.in-Err.ensures.told c.in-Err.ensures.own c.in-Err.ensures.refused;
+  quiet = λ failed. Keeps-refl (g.O.Sink.taken c.args.out.now);
+  untouched = Keeps-refl left;
+}
 
 pub returns-in-Err-clause-output_fault : goal.returns-in-Err-clause-output_fault
 returns-in-Err-clause-output_fault g c = λ fault. absurd (is_another is_refusal c.in-Err.answer OutputFault c.in-Err.ensures.own refl fault)
 
-pub returns-in-Ok-put-clause-reads : goal.returns-in-Ok-put-clause-reads
-returns-in-Ok-put-clause-reads g c =
-    reads_by (ShowsItems c.args.target.now) Done (g.F.Folder.told c.args.folder.now) (g.F.Folder.told c.listing.new.folder) (g.O.Sink.taken c.args.out.now) (g.O.Sink.taken c.put.new.self)
-    (items_are_one c.roots_have_one_answer.ensures c.directories_have_one_list.ensures c.args.target.now) c.in-Ok.ensures.told refl
-    (λ v is. (
-      record { pieces = string_bytes c.in-Ok.text ∷ []; answer = Done },
-      c.in-Ok.ensures.text v is,
-      refl,
-      subst (Appends (g.O.Sink.taken c.args.out.now) (g.O.Sink.taken c.put.new.self)) (c.as_bytes.ensures.value ∙ sym (append-nil (string_bytes c.in-Ok.text))) c.in-Ok-put.ensures.whole,
-    ))
+pub returns-in-Ok-put-clause-lists : goal.returns-in-Ok-put-clause-lists
+returns-in-Ok-put-clause-lists g c left ended random = record {
+  reads = reads_by (ShowsItems c.args.target.now) Done (g.F.Folder.told c.args.folder.now) (g.F.Folder.told c.listing.new.folder) (g.O.Sink.taken c.args.out.now) (g.O.Sink.taken c.put.new.self)
+      (items_are_one c.roots_have_one_answer.ensures c.directories_have_one_list.ensures c.args.target.now) c.in-Ok.ensures.told refl
+      (λ v is. (
+        record { pieces = string_bytes c.in-Ok.text ∷ []; answer = Done },
+        c.in-Ok.ensures.text v is,
+        refl,
+        subst (Appends (g.O.Sink.taken c.args.out.now) (g.O.Sink.taken c.put.new.self)) (c.as_bytes.ensures.value ∙ sym (append-nil (string_bytes c.in-Ok.text))) c.in-Ok-put.ensures.whole,
+      ));
+  quiet = λ failed. cc;
+  untouched = Keeps-refl left;
+}
+
+pub returns-clause-lists : goal.returns-clause-lists
+returns-clause-lists g c left ended random = record {
+  reads = reads_by (ShowsItems c.args.target.now) OutputFault (g.F.Folder.told c.args.folder.now) (g.F.Folder.told c.listing.new.folder) (g.O.Sink.taken c.args.out.now) (g.O.Sink.taken c.put.new.self)
+      (items_are_one c.roots_have_one_answer.ensures c.directories_have_one_list.ensures c.args.target.now) c.in-Ok.ensures.told refl
+      (λ v is. (
+        record { pieces = string_bytes c.in-Ok.text ∷ []; answer = Done },
+        c.in-Ok.ensures.text v is,
+        subst (AppendsPrefix (g.O.Sink.taken c.args.out.now) (g.O.Sink.taken c.put.new.self)) (c.as_bytes.ensures.value ∙ sym (append-nil (string_bytes c.in-Ok.text))) c.in-Err-put.ensures.fault_takes_a_prefix,
+      ));
+  quiet = λ failed. cc;
+  untouched = Keeps-refl left;
+}

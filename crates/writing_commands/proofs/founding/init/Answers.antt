@@ -1,7 +1,17 @@
+use Rattle.std.proofs.Common.{subst}
+use Rattle.command_opening.specs.World.{World}
+use Rattle.writing_commands.specs.Init.{MakesVault}
 use Rattle.writing_commands.proofs.MadeVaults.{not_read}
 use Rattle.writing_commands.proofs.founding.init.Goals as goal
 
-pub returns-in-Err-clause-comes : goal.returns-in-Err-clause-comes
-returns-in-Err-clause-comes g c =
-    not_read c.args.new.now c.in-Err.answer (g.F.Folder.told c.args.folder.now) (g.F.Folder.told c.read_apart.new.folder) (g.R.Randoms.left c.args.random.now)
-    (c.draws_compose.ensures.none (g.R.Randoms.left c.args.random.now)) c.read_apart.ensures.told c.in-Err.ensures.overlapping c.in-Err.ensures.refused c.in-Err.ensures.own
+pub returns-in-Ok-clause-makes : goal.returns-in-Ok-clause-makes
+returns-in-Ok-clause-makes g c left ended taken =
+    let after : World = record { told = g.F.Folder.told c.make_apart.new.folder; left = left; ended = ended; taken = taken; random = g.R.Randoms.left c.make_apart.new.random } in
+    subst (λ told. MakesVault c.args.new.now c.make_apart.result (record { told = told; left = left; ended = ended; taken = taken; random = g.R.Randoms.left c.args.random.now }) after)
+    c.read_apart.ensures.told (c.make_apart.ensures.makes left ended taken)
+
+pub returns-in-Err-clause-makes : goal.returns-in-Err-clause-makes
+returns-in-Err-clause-makes g c left ended taken =
+    not_read c.args.new.now c.in-Err.answer
+    (record { told = g.F.Folder.told c.args.folder.now; left = left; ended = ended; taken = taken; random = g.R.Randoms.left c.args.random.now }) (g.F.Folder.told c.read_apart.new.folder)
+    c.read_apart.ensures.told c.in-Err.ensures.overlapping c.in-Err.ensures.refused c.in-Err.ensures.own

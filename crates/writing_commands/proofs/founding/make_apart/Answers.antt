@@ -1,13 +1,19 @@
-use Rattle.writing_commands.proofs.MadeVaults.{made_apart, not_entered}
+use Rattle.std.proofs.KnownBytes.{Keeps-refl}
+use Rattle.command_opening.specs.World.{World}
+use Rattle.writing_commands.proofs.MadeVaults.{made_apart, not_entered, vault_made_beside}
 use Rattle.writing_commands.proofs.founding.make_apart.Goals as goal
 
-pub returns-in-Ok-clause-made : goal.returns-in-Ok-clause-made
-returns-in-Ok-clause-made g c =
-    made_apart c.args.new.now c.args.phrase.now c.make_in.result (g.F.Folder.told c.args.folder.now) (g.F.Folder.told c.enter_settled.new.folder) (g.F.Folder.told c.make_in.new.folder)
-    (g.R.Randoms.left c.args.random.now) (g.R.Randoms.left c.make_in.new.random) (g.met.F.Folder.sound c.args.folder.now) c.requires.apart c.in-Ok.ensures.moments c.requires.phrase
-    c.in-Ok.ensures.entered c.make_in.ensures.cause c.make_in.ensures.made
+pub returns-in-Ok-clause-makes : goal.returns-in-Ok-clause-makes
+returns-in-Ok-clause-makes g c left ended taken =
+    let before : World = record { told = g.F.Folder.told c.args.folder.now; left = left; ended = ended; taken = taken; random = g.R.Randoms.left c.args.random.now } in
+    let after : World = record { told = g.F.Folder.told c.make_in.new.folder; left = left; ended = ended; taken = taken; random = g.R.Randoms.left c.make_in.new.random } in
+    vault_made_beside c.args.new.now c.make_in.result before after c.requires.apart (Keeps-refl left) (Keeps-refl taken)
+    (made_apart c.args.new.now c.args.phrase.now c.make_in.result (g.F.Folder.told c.enter_settled.new.folder) before after (g.met.F.Folder.sound c.args.folder.now) c.requires.apart
+    c.in-Ok.ensures.moments c.requires.phrase c.in-Ok.ensures.entered c.make_in.ensures.cause c.make_in.ensures.made (Keeps-refl left))
 
-pub returns-in-Err-clause-made : goal.returns-in-Err-clause-made
-returns-in-Err-clause-made g c =
-    not_entered c.args.new.now c.args.phrase.now c.in-Err.answer (g.F.Folder.told c.args.folder.now) (g.F.Folder.told c.enter_settled.new.folder) (g.R.Randoms.left c.args.random.now)
-    (c.draws_compose.ensures.none (g.R.Randoms.left c.args.random.now)) c.in-Err.ensures.own c.in-Err.ensures.moments c.requires.phrase c.in-Err.ensures.refused
+pub returns-in-Err-clause-makes : goal.returns-in-Err-clause-makes
+returns-in-Err-clause-makes g c left ended taken =
+    let before : World = record { told = g.F.Folder.told c.args.folder.now; left = left; ended = ended; taken = taken; random = g.R.Randoms.left c.args.random.now } in
+    let told = g.F.Folder.told c.enter_settled.new.folder in
+    vault_made_beside c.args.new.now c.in-Err.answer before (record before { told = told }) c.requires.apart (Keeps-refl left) (Keeps-refl taken)
+    (not_entered c.args.new.now c.args.phrase.now c.in-Err.answer before told c.in-Err.ensures.own c.in-Err.ensures.moments c.requires.phrase c.in-Err.ensures.refused)

@@ -1,12 +1,17 @@
 use Rattle.std.proofs.Common.{◌≡◌, subst, sym, ◌∙◌}
+use Rattle.std.proofs.KnownBytes.{Keeps-refl}
 use Rattle.port_model.specs.Counts.{CountRose}
 use Rattle.command_opening.proofs.Counts.{rose_after}
-use Rattle.writing_commands.proofs.StoredFiles.{OrRefuses, apart_stored, file_failed, file_made, input_failed, none_stored, random_failed}
-use Rattle.command_opening.specs.Places.{overlap}
+use Rattle.command_opening.specs.World.{World}
+use Rattle.vault_write.specs.Faults.{IsFileFault}
+use Rattle.writing_commands.specs.Put.{StoresFile, is_of_file}
+use Rattle.writing_commands.proofs.MadeItems.{vault_unchanged}
+use Rattle.writing_commands.proofs.Makings.{folder_failed, input_failed, random_failed}
+use Rattle.writing_commands.proofs.StoredFiles.{StoresIt, file_made}
 use Rattle.writing_commands.proofs.storing.put.Goals as goal
 
-pub returns-in-Ok-clause-comes : goal.returns-in-Ok-clause-comes
-returns-in-Ok-clause-comes g c =
+pub returns-in-Ok-clause-stores : goal.returns-in-Ok-clause-stores
+returns-in-Ok-clause-stores g c taken =
     let change = c.args.change.now in
     let answer = c.answer_to_making.result in
     let told = g.F.Folder.told c.args.folder.now in
@@ -15,24 +20,24 @@ returns-in-Ok-clause-comes g c =
     let stream' = g.R.Randoms.left c.put.new.random in
     let content = c.new-content.result in
     let content' = c.put.new.content in
-    let left = g.I.Source.left content.source.now in
-    let left' = g.I.Source.left content'.source.now in
-    let apart = overlap change.target.vault change.work in
-    let stored : OrRefuses change answer told told' stream stream' left left' apart =
-    apart_stored change answer told told' stream stream' left left' c.in-Ok.ensures.apart
-    (file_made c.roots_show_their_own.ensures.outside c.roots_show_their_own.ensures.alike change c.in-Ok.site.vault c.in-Ok.site.work answer c.put.result
-    told (g.F.Folder.told c.begin.new.folder) told' stream stream' content.room.bytes content'.room.bytes content.room.passed content'.room.passed left left'
+    let before : World = record { told = told; left = g.I.Source.left content.source.now; ended = g.I.Source.ended content.source.now; taken = taken; random = stream } in
+    let after : World = record { told = told'; left = g.I.Source.left content'.source.now; ended = g.I.Source.ended content'.source.now; taken = taken; random = stream' } in
+    let first : World = record { told = told; left = g.I.Source.left c.args.input.now; ended = g.I.Source.ended c.args.input.now; taken = taken; random = stream } in
+    let stored : StoresFile change answer before after =
+    file_made change c.roots_show_their_own.ensures.outside c.roots_show_their_own.ensures.alike c.in-Ok.site.vault c.in-Ok.site.work answer c.put.result
+    (g.F.Folder.told c.begin.new.folder) before after content.room.bytes content'.room.bytes content.room.passed content'.room.passed
     (g.met.F.Folder.sound c.args.folder.now) c.in-Ok.ensures.apart c.in-Ok.ensures.root c.in-Ok.ensures.work c.in-Ok.ensures.moments
-    c.in-Ok.ensures.opened c.in-Ok.ensures.entered c.answer_to_making.ensures c.new-content.ensures.room c.new-content.ensures.passed c.put.ensures.made) in
+    c.in-Ok.ensures.opened c.in-Ok.ensures.entered c.answer_to_making.ensures c.new-content.ensures.room c.new-content.ensures.passed c.put.ensures.made (Keeps-refl taken) in
     -- the input that the content kept is the one that is given back
     let back : c.input-1.given.0 ≡ content'.source.now = c.input-1.given.1 (sym (c.put.ensures.lender ∙ c.new-content.ensures.lender)) in
-    subst (λ source. OrRefuses change answer told told' stream stream' (g.I.Source.left c.args.input.now) (g.I.Source.left source) apart) (sym back)
-    (subst (λ source. OrRefuses change answer told told' stream stream' (g.I.Source.left source) left' apart) c.new-content.ensures.source stored)
+    subst (λ source. StoresFile change answer first (record { told = told'; left = g.I.Source.left source; ended = g.I.Source.ended source; taken = taken; random = stream' })) (sym back)
+    (subst (λ source. StoresFile change answer (record { told = told; left = g.I.Source.left source; ended = g.I.Source.ended source; taken = taken; random = stream }) after)
+    c.new-content.ensures.source stored)
 
 pub returns-in-Ok-clause-folder_fault : goal.returns-in-Ok-clause-folder_fault
 returns-in-Ok-clause-folder_fault g c = λ is.
     rose_after (g.F.Folder.faults c.args.folder.now) (g.F.Folder.faults c.begin.new.folder) (g.F.Folder.faults c.put.new.folder) c.in-Ok.ensures.grows
-    (c.put.ensures.failed.1 (file_failed c.put.result c.put.ensures.fault (sym c.answer_to_making.ensures ∙ is)))
+    (c.put.ensures.failed.1 (folder_failed (λ fault. IsFileFault fault) (λ none. none) c.put.result c.put.ensures.fault (sym c.answer_to_making.ensures ∙ is)))
 
 pub returns-in-Ok-clause-input_fault : goal.returns-in-Ok-clause-input_fault
 returns-in-Ok-clause-input_fault g c = λ is.
@@ -44,7 +49,9 @@ returns-in-Ok-clause-input_fault g c = λ is.
 pub returns-in-Ok-clause-random_fault : goal.returns-in-Ok-clause-random_fault
 returns-in-Ok-clause-random_fault g c = λ is. c.put.ensures.random.1 (random_failed c.put.result (sym c.answer_to_making.ensures ∙ is))
 
-pub returns-in-Err-clause-comes : goal.returns-in-Err-clause-comes
-returns-in-Err-clause-comes g c =
-    none_stored c.args.change.now c.in-Err.answer (g.F.Folder.told c.args.folder.now) (g.F.Folder.told c.begin.new.folder) (g.R.Randoms.left c.args.random.now) (g.I.Source.left c.args.input.now)
-    (c.draws_compose.ensures.none (g.R.Randoms.left c.args.random.now)) c.in-Err.ensures.overlapping c.in-Err.ensures.refused c.in-Err.ensures.own c.in-Err.ensures.moments
+pub returns-in-Err-clause-stores : goal.returns-in-Err-clause-stores
+returns-in-Err-clause-stores g c taken =
+    let before : World = record { told = g.F.Folder.told c.args.folder.now; left = g.I.Source.left c.args.input.now; ended = g.I.Source.ended c.args.input.now; taken = taken; random = g.R.Randoms.left c.args.random.now } in
+    let told = g.F.Folder.told c.begin.new.folder in
+    vault_unchanged is_of_file c.args.change.now (StoresIt c.args.change.now c.in-Err.answer before (record before { told = told })) c.in-Err.answer before told
+    c.in-Err.ensures.overlapping c.in-Err.ensures.refused c.in-Err.ensures.own c.in-Err.ensures.moments

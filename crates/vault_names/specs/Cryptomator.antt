@@ -8,10 +8,15 @@ use Rattle.base64.specs.GeneralPurpose.{encode_of}
 use Rattle.cryptomator_conf.specs.declared.keys.CmKeys.{CmKeys}
 use Rattle.json_fields.specs.Base64.{is_base64url}
 use Rattle.sha1.specs.Sha1.{sha1}
+use Rattle.siv_mode.specs.Keys.{Keys}
 use Rattle.siv_mode.specs.Siv.{siv_encrypt}
 use Rattle.plain_tree.specs.Names.{is_name}
 use Rattle.vault_names.specs.declared.entry.Stored.{Stored}
 use Rattle.vault_names.specs.Base32.{base32}
+
+-- a vault's two keys, as SIV has them
+abbrev pub keys_of : Keys (List ℕ) → CmKeys
+keys_of keys = record { enc = keys.ctr; mac = keys.mac }
 
 -- SIV under a vault's keys: S2V under the MAC key, and counter mode under the encryption key
 abbrev pub siv_under : CmKeys → List (List ℕ) → List ℕ → List ℕ

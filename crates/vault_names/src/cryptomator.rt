@@ -3,7 +3,7 @@ ghost use Rattle.std.specs.Prelude.{◌≡◌, ◌≢◌, ◌++◌, ℕ, List, f
 ghost use Rattle.aes_lanes.specs.Bytes.{AreBytes};
 ghost use Rattle.cryptomator_conf.specs.Id.{id_of};
 ghost use Rattle.plain_tree.specs.Names.{is_name};
-ghost use Rattle.vault_names.specs.Cryptomator.{cm_entry_of, cm_text, cm_long_name, cm_stored, cm_folder_of, padded_base64url, IsCmTextOf};
+ghost use Rattle.vault_names.specs.Cryptomator.{cm_entry_of, cm_text, cm_long_name, cm_stored, cm_folder_of, keys_of, padded_base64url, IsCmTextOf};
 
 use crate::base32::base32_of;
 use crate::entry::{NameFault, Stored};
@@ -16,10 +16,64 @@ use sha1::Sha1;
 use siv_mode::laws::{opens_to_one_text, sealed_texts_are_bytes, unsealing_undoes_sealing};
 use siv_mode::{Siv, SivFault};
 use std::alloc::{AllocError, Global};
+use std::marker::Model;
 use text_model::Text;
 
+/// The keys of a Cryptomator vault's names, expanded for many names. Contracts see them as the vault's keys.
+#[derive(Drop)]
+pub struct CmNameKeys {
+    siv: Siv<Key256>,
+}
+
+impl Model for CmNameKeys {
+    ghost use Rattle.cryptomator_conf.specs.declared.keys.CmKeys.{CmKeys};
+    ghost use Rattle.vault_names.specs.Cryptomator.{keys_of};
+
+    ghost Value = { CmKeys };
+
+    ghost view = { λ names. keys_of names.siv };
+}
+
+impl CmNameKeys {
+    /// A vault's keys, expanded.
+    pub fn new(keys: &CmKeys) -> CmNameKeys
+        ensures { result ≡ keys.now }
+    {
+        CmNameKeys { siv: siv_of(keys) }
+    }
+
+    /// What is stored of a name in the directory of this id, in a vault of this threshold.
+    pub fn store(
+        &self,
+        alloc: Global,
+        threshold: u32,
+        id: &[u8],
+        name: &Name,
+    ) -> Result<Stored, AllocError>
+        ensures { IfOk result (λ entry. entry ≡ cm_stored self.now threshold id.now name.now) }
+    {
+        store_under(alloc, &self.siv, threshold, id, name)
+    }
+
+    /// The name that encrypts to a text, in the directory of this id. The text is the whole encrypted one, an entry's name or
+    /// what a long-name file holds.
+    pub fn read(&self, alloc: Global, id: &[u8], text: &str) -> Result<Name, NameFault>
+        ensures name { IfOk result (λ name. IsCmTextOf self.now id.now name text.now) }
+        ensures not_stored { result ≡ Err NameFault.NotStored
+            → (name : List ℕ) → ¬ IsCmTextOf self.now id.now name text.now }
+    {
+        read_under(alloc, &self.siv, id, text)
+    }
+
+    /// The folder of the entries of the directory of this id, in 32 characters.
+    pub fn folder(&self, alloc: Global, id: &[u8]) -> Result<String, AllocError>
+        ensures { IfOk result (λ folder. string_bytes folder ≡ cm_folder_of self.now id.now) }
+    {
+        folder_under(alloc, &self.siv, id)
+    }
+}
+
 /// What is stored of a name in the directory of this id, in a vault of this threshold.
-#[tactic(auto, unfolding(crate::specs::Cryptomator::cm_stored))]
 pub fn cm_store(
     alloc: Global,
     keys: &CmKeys,
@@ -29,7 +83,20 @@ pub fn cm_store(
 ) -> Result<Stored, AllocError>
     ensures { IfOk result (λ entry. entry ≡ cm_stored keys.now threshold id.now name.now) }
 {
-    cm_entry(alloc, threshold, encrypted_text(alloc, keys, id, name)?)
+    CmNameKeys::new(keys).store(alloc, threshold, id, name)
+}
+
+#[tactic(auto, unfolding(crate::specs::Cryptomator::cm_stored))]
+fn store_under(
+    alloc: Global,
+    siv: &Siv<Key256>,
+    threshold: u32,
+    id: &[u8],
+    name: &Name,
+) -> Result<Stored, AllocError>
+    ensures { IfOk result (λ entry. entry ≡ cm_stored (keys_of siv.now) threshold id.now name.now) }
+{
+    cm_entry(alloc, threshold, encrypted_text(alloc, siv, id, name)?)
 }
 
 /// What is stored of the name that has this encrypted text, in a vault of this threshold.
@@ -65,7 +132,14 @@ pub fn cm_read(alloc: Global, keys: &CmKeys, id: &[u8], text: &str) -> Result<Na
     ensures not_stored { result ≡ Err NameFault.NotStored
         → (name : List ℕ) → ¬ IsCmTextOf keys.now id.now name text.now }
 {
-    let siv = siv_of(keys);
+    CmNameKeys::new(keys).read(alloc, id, text)
+}
+
+fn read_under(alloc: Global, siv: &Siv<Key256>, id: &[u8], text: &str) -> Result<Name, NameFault>
+    ensures name { IfOk result (λ name. IsCmTextOf (keys_of siv.now) id.now name text.now) }
+    ensures not_stored { result ≡ Err NameFault.NotStored
+        → (name : List ℕ) → ¬ IsCmTextOf (keys_of siv.now) id.now name text.now }
+{
     aes::directions_undo_each_other();
     sealed_texts_are_bytes();
     unsealing_undoes_sealing();
@@ -82,11 +156,16 @@ pub fn cm_read(alloc: Global, keys: &CmKeys, id: &[u8], text: &str) -> Result<Na
 }
 
 /// The folder of the entries of the directory of this id, in 32 characters.
-#[tactic(auto, unfolding(crate::specs::Cryptomator::cm_folder_of))]
 pub fn cm_folder(alloc: Global, keys: &CmKeys, id: &[u8]) -> Result<String, AllocError>
     ensures { IfOk result (λ folder. string_bytes folder ≡ cm_folder_of keys.now id.now) }
 {
-    let siv = siv_of(keys);
+    CmNameKeys::new(keys).folder(alloc, id)
+}
+
+#[tactic(auto, unfolding(crate::specs::Cryptomator::cm_folder_of))]
+fn folder_under(alloc: Global, siv: &Siv<Key256>, id: &[u8]) -> Result<String, AllocError>
+    ensures { IfOk result (λ folder. string_bytes folder ≡ cm_folder_of (keys_of siv.now) id.now) }
+{
     let sealed = siv.seal(alloc, None, id)?;
     let text = base32_of(&Sha1::digest(sealed.as_slice()));
     Ok(String::from_utf8(Vec::from_slice(alloc, &text)?).unwrap())
@@ -103,13 +182,12 @@ pub fn new_dir_id(alloc: Global, drawn: &[u8; 16]) -> Result<String, AllocError>
 #[tactic(auto, unfolding(crate::specs::Cryptomator::cm_text))]
 fn encrypted_text(
     alloc: Global,
-    keys: &CmKeys,
+    siv: &Siv<Key256>,
     id: &[u8],
     name: &Name,
 ) -> Result<String, AllocError>
-    ensures { IfOk result (λ text. string_bytes text ≡ cm_text keys.now id.now name.now) }
+    ensures { IfOk result (λ text. string_bytes text ≡ cm_text (keys_of siv.now) id.now name.now) }
 {
-    let siv = siv_of(keys);
     let sealed = siv.seal(alloc, Some(id), name.bytes())?;
     let mut text = URL_SAFE.encode(alloc, sealed.as_slice())?;
     text.push_str(".c9r")?;

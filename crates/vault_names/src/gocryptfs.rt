@@ -14,6 +14,7 @@ use gocrypt_conf::GoKeys;
 use plain_tree::{Name, NameNewFault};
 use sha2::{Digest, Sha256};
 use std::alloc::{AllocError, Global};
+use std::marker::Model;
 use text_model::Text;
 
 /// The greatest length of a text that is an entry's name, in characters.
@@ -22,12 +23,60 @@ pub const MAX_ENTRY_SIZE: usize = 255;
 // The size of the 128 blocks that EME takes at most.
 const MAX_SIZE: usize = 128 * BLOCK_SIZE;
 
+/// The key of a gocryptfs vault's names, expanded for many names. Contracts see it as the key's 32 bytes.
+#[derive(Drop)]
+pub struct GoNameKeys {
+    eme: Eme,
+}
+
+impl Model for GoNameKeys {
+    ghost use Rattle.std.specs.Prelude.{ℕ, List};
+
+    ghost Value = { List ℕ };
+
+    ghost view = { λ names. names.eme };
+}
+
+impl GoNameKeys {
+    /// The key of a vault's names, expanded.
+    pub fn new(keys: &GoKeys) -> GoNameKeys
+        ensures { result ≡ keys.now.names }
+    {
+        GoNameKeys {
+            eme: Eme::new(Key256::new(&keys.names)),
+        }
+    }
+
+    /// What is stored of a name in the directory whose `gocryptfs.diriv` holds `iv`.
+    pub fn store(&self, alloc: Global, iv: &Block, name: &Name) -> Result<Stored, AllocError>
+        ensures { IfOk result (λ entry. entry ≡ stored self.now iv.now name.now) }
+    {
+        store_under(alloc, &self.eme, iv, name)
+    }
+
+    /// The name that encrypts to a text, in the directory whose `gocryptfs.diriv` holds `iv`. The text is the whole
+    /// encrypted one, an entry's name or what a long-name file holds.
+    pub fn read(&self, alloc: Global, iv: &Block, text: &str) -> Result<Name, NameFault>
+        ensures name { IfOk result (λ name. IsTextOf self.now iv.now name text.now) }
+        ensures not_stored { result ≡ Err NameFault.NotStored
+            → (name : List ℕ) → ¬ IsTextOf self.now iv.now name text.now }
+    {
+        read_under(alloc, &self.eme, iv, text)
+    }
+}
+
 /// What is stored of a name in the directory whose `gocryptfs.diriv` holds `iv`.
-#[tactic(auto, unfolding(crate::specs::Gocryptfs::stored))]
 pub fn go_store(alloc: Global, keys: &GoKeys, iv: &Block, name: &Name) -> Result<Stored, AllocError>
     ensures { IfOk result (λ entry. entry ≡ stored keys.now.names iv.now name.now) }
 {
-    go_entry(alloc, encrypted_text(alloc, keys, iv, name)?)
+    GoNameKeys::new(keys).store(alloc, iv, name)
+}
+
+#[tactic(auto, unfolding(crate::specs::Gocryptfs::stored))]
+fn store_under(alloc: Global, eme: &Eme, iv: &Block, name: &Name) -> Result<Stored, AllocError>
+    ensures { IfOk result (λ entry. entry ≡ stored eme.now iv.now name.now) }
+{
+    go_entry(alloc, encrypted_text(alloc, eme, iv, name)?)
 }
 
 /// What is stored of the name that has this encrypted text.
@@ -63,29 +112,32 @@ pub fn go_read(alloc: Global, keys: &GoKeys, iv: &Block, text: &str) -> Result<N
     ensures not_stored { result ≡ Err NameFault.NotStored
         → (name : List ℕ) → ¬ IsTextOf keys.now.names iv.now name text.now }
 {
+    GoNameKeys::new(keys).read(alloc, iv, text)
+}
+
+fn read_under(alloc: Global, eme: &Eme, iv: &Block, text: &str) -> Result<Name, NameFault>
+    ensures name { IfOk result (λ name. IsTextOf eme.now iv.now name text.now) }
+    ensures not_stored { result ≡ Err NameFault.NotStored
+        → (name : List ℕ) → ¬ IsTextOf eme.now iv.now name text.now }
+{
     directions_undo_each_other();
     blocks_stay_blocks();
     let Some(mut blocks) = encrypted_blocks(alloc, text)? else {
         return Err(NameFault::NotStored);
     };
-    Eme::new(Key256::new(&keys.names)).decrypt(iv, blocks.as_mut_slice());
+    eme.decrypt(iv, blocks.as_mut_slice());
     unpadded_name(alloc, blocks.as_slice().as_flattened())
 }
 
 // The whole encrypted text of a name.
 #[tactic(auto, unfolding(crate::specs::Gocryptfs::go_text))]
-fn encrypted_text(
-    alloc: Global,
-    keys: &GoKeys,
-    iv: &Block,
-    name: &Name,
-) -> Result<String, AllocError>
-    ensures { IfOk result (λ text. string_bytes text ≡ go_text keys.now.names iv.now name.now) }
+fn encrypted_text(alloc: Global, eme: &Eme, iv: &Block, name: &Name) -> Result<String, AllocError>
+    ensures { IfOk result (λ text. string_bytes text ≡ go_text eme.now iv.now name.now) }
 {
     let whole = padded_bytes(alloc, name.bytes())?;
     let (blocks, _) = whole.as_slice().as_chunks::<BLOCK_SIZE>();
     let mut blocks = Vec::from_slice(alloc, blocks)?;
-    Eme::new(Key256::new(&keys.names)).encrypt(iv, blocks.as_mut_slice());
+    eme.encrypt(iv, blocks.as_mut_slice());
     URL_SAFE_NO_PAD.encode(alloc, blocks.as_slice().as_flattened())
 }
 

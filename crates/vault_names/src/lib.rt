@@ -9,6 +9,6 @@ pub mod laws;
 mod padding;
 
 pub use base32::base32_of;
-pub use cryptomator::{cm_entry, cm_folder, cm_long, cm_read, cm_store, new_dir_id};
+pub use cryptomator::{CmNameKeys, cm_entry, cm_folder, cm_long, cm_read, cm_store, new_dir_id};
 pub use entry::{NameFault, Stored};
-pub use gocryptfs::{go_entry, go_long, go_read, go_store};
+pub use gocryptfs::{GoNameKeys, go_entry, go_long, go_read, go_store};

@@ -2,6 +2,8 @@
 use Rattle.std.specs.Prelude.{◌≡◌, ℕ, List, length}
 use Rattle.folder_spec.specs.Path.{Path}
 use Rattle.vault_spec.specs.Vault.{Vault, Gocryptfs, Cryptomator}
+use Rattle.vault_read.specs.declared.vault.OpenedKeys.{OpenedKeys}
+use Rattle.vault_read.specs.declared.vault.OpenedKeys.TheVariants as opened
 use Rattle.vault_read.specs.declared.vault.VaultKeys.{VaultKeys}
 use Rattle.vault_read.specs.declared.vault.VaultKeys.TheVariants as keys
 use Rattle.vault_read.specs.declared.vault.VaultKind.{VaultKind}
@@ -15,6 +17,11 @@ pub record OpenedVault : Type 0 where
 abbrev pub vault_of : VaultKeys → Vault
 vault_of (keys.Gocryptfs go) = Gocryptfs go
 vault_of (keys.Cryptomator cm) = Cryptomator cm
+
+-- the same of keys that are expanded
+abbrev pub vault_with : OpenedKeys → Vault
+vault_with (opened.Gocryptfs go) = Gocryptfs go
+vault_with (opened.Cryptomator cm) = Cryptomator cm
 
 abbrev pub kind_of : Vault → VaultKind
 kind_of (Gocryptfs go) = kind.Gocryptfs

@@ -22,7 +22,7 @@ use crate::finding::enter_at;
 use crate::items::{EntryItem, item_at};
 use crate::looking::{SmallFile, joined, read_under};
 use crate::standing::{Directory, full_path};
-use crate::vault::{Vault, VaultKeys, VaultKind};
+use crate::vault::{OpenedKeys, Vault, VaultKind};
 use folder_model::{Entry, Folder};
 use folder_spec::FolderFault;
 use plain_tree::{Name, NodeKind, PlainPath};
@@ -33,7 +33,7 @@ use vault_names::laws::{
     cm_long_names_are_plain, cm_text_has_one_name, cm_texts_are_plain, long_names_are_plain,
     text_has_one_name, texts_are_plain,
 };
-use vault_names::{NameFault, Stored, cm_entry, cm_read, go_entry, go_read};
+use vault_names::{NameFault, Stored, cm_entry, go_entry};
 use vault_spec::laws::what_is_found_stands;
 
 const LONG_START: &str = "gocryptfs.longname.";
@@ -302,8 +302,8 @@ fn stored_by(alloc: Global, vault: &Vault, text: &Text) -> Result<Stored, AllocE
 {
     let text = String::from_str(alloc, text.as_str())?;
     match vault.keys() {
-        VaultKeys::Gocryptfs(_) => go_entry(alloc, text),
-        VaultKeys::Cryptomator(vault) => cm_entry(alloc, vault.threshold, text),
+        OpenedKeys::Gocryptfs(_) => go_entry(alloc, text),
+        OpenedKeys::Cryptomator(cm) => cm_entry(alloc, cm.threshold(), text),
     }
 }
 
@@ -331,12 +331,12 @@ fn name_of(alloc: Global, vault: &Vault, key: &[u8], text: &str) -> Result<Optio
     ensures none { IfOk result (λ found. found ≡ None → (name : List ℕ) → ¬ IsNameOf vault.now.vault key.now name text.now) }
 {
     let read = match vault.keys() {
-        VaultKeys::Gocryptfs(keys) => {
+        OpenedKeys::Gocryptfs(go) => {
             let mut block = [0; 16];
             block.copy_from_slice(key);
-            go_read(alloc, keys, &block, text)
+            go.names().read(alloc, &block, text)
         }
-        VaultKeys::Cryptomator(vault) => cm_read(alloc, &vault.keys, key, text),
+        OpenedKeys::Cryptomator(cm) => cm.names().read(alloc, key, text),
     };
     match read {
         Ok(name) => Ok(Some(name)),
@@ -351,12 +351,12 @@ fn texts_tell_names(vault: &Vault, key: &[u8])
     ensures { TellsNames vault.now.vault key.now }
 {
     match vault.keys() {
-        VaultKeys::Gocryptfs(_) => {
+        OpenedKeys::Gocryptfs(_) => {
             text_has_one_name();
             texts_are_plain();
             long_names_are_plain();
         }
-        VaultKeys::Cryptomator(_) => {
+        OpenedKeys::Cryptomator(_) => {
             cm_text_has_one_name();
             cm_texts_are_plain();
             cm_long_names_are_plain();

@@ -5,7 +5,7 @@ ghost use Rattle.vault_names.specs.Gocryptfs as gocryptfs;
 ghost use Rattle.vault_names.specs.Base32.{is_base32};
 ghost use Rattle.vault_spec.specs.Vault.{format_of};
 ghost use Rattle.vault_spec.specs.Cryptomator as cryptomator;
-ghost use Rattle.vault_read.specs.Opened.{FitsKey, IsCryptomator, kind_of, vault_of};
+ghost use Rattle.vault_read.specs.Opened.{FitsKey, IsCryptomator, kind_of, vault_of, vault_with};
 
 use crate::looking::joined;
 use chunk_files::ContentKeys;
@@ -16,7 +16,7 @@ use plain_tree::Name;
 use std::alloc::{AllocError, Global};
 use std::marker::Model;
 use vault_names::laws::cm_folders_are_plain;
-use vault_names::{Stored, cm_folder, cm_store, go_store};
+use vault_names::{CmNameKeys, GoNameKeys, Stored};
 
 /// The formats of vaults.
 #[derive(Clone, Copy, Debug, PartialEq, Eq)]
@@ -51,21 +51,111 @@ pub enum VaultKeys {
     Cryptomator(CmVault),
 }
 
+/// The keys of a gocryptfs vault, with that of its names expanded. Contracts see the keys.
+#[derive(Drop)]
+pub struct GoOpened {
+    keys: GoKeys,
+    names: GoNameKeys,
+}
+
+impl Model for GoOpened {
+    ghost use Rattle.std.specs.Prelude.{◌≡◌};
+    ghost use Rattle.gocrypt_conf.specs.declared.keys.GoKeys.{GoKeys};
+
+    ghost Value = { GoKeys };
+
+    ghost view = { λ go. go.keys };
+
+    ghost invariant = { λ go. go.names ≡ go.keys.names };
+}
+
+impl GoOpened {
+    fn new(keys: GoKeys) -> GoOpened
+        ensures { result ≡ keys }
+    {
+        GoOpened {
+            keys,
+            names: GoNameKeys::new(&keys),
+        }
+    }
+
+    pub(crate) fn names(&self) -> &GoNameKeys
+        ensures { result.now ≡ self.now.names }
+    {
+        &self.names
+    }
+}
+
+/// What the files of an opened Cryptomator vault say, with its keys expanded for names. Contracts see the former.
+#[derive(Drop)]
+pub struct CmOpened {
+    vault: CmVault,
+    names: CmNameKeys,
+}
+
+impl Model for CmOpened {
+    ghost use Rattle.std.specs.Prelude.{◌≡◌};
+    ghost use Rattle.vault_spec.specs.Cryptomator.{CmVault};
+
+    ghost Value = { CmVault };
+
+    ghost view = { λ cm. cm.vault };
+
+    ghost invariant = { λ cm. cm.names ≡ cm.vault.keys };
+}
+
+impl CmOpened {
+    fn new(vault: CmVault) -> CmOpened
+        ensures { result ≡ vault }
+    {
+        let names = CmNameKeys::new(&vault.keys);
+        CmOpened { vault, names }
+    }
+
+    pub(crate) fn names(&self) -> &CmNameKeys
+        ensures { result.now ≡ self.now.keys }
+    {
+        &self.names
+    }
+
+    pub(crate) fn threshold(&self) -> u32
+        ensures { result ≡ self.now.threshold }
+    {
+        self.vault.threshold
+    }
+}
+
+// The keys of an opened vault, expanded for names.
+#[derive(Drop)]
+pub(crate) enum OpenedKeys {
+    Gocryptfs(GoOpened),
+    Cryptomator(CmOpened),
+}
+
+fn expanded(keys: VaultKeys) -> OpenedKeys
+    ensures { vault_with result ≡ vault_of keys }
+{
+    match keys {
+        VaultKeys::Gocryptfs(keys) => OpenedKeys::Gocryptfs(GoOpened::new(keys)),
+        VaultKeys::Cryptomator(vault) => OpenedKeys::Cryptomator(CmOpened::new(vault)),
+    }
+}
+
 /// An opened vault: its root and its keys.
 ///
 /// Contracts see it as the root's path, and the vault that its files and the passphrase are.
 #[derive(Drop)]
 pub struct Vault {
     root: FPath,
-    keys: VaultKeys,
+    keys: OpenedKeys,
 }
 
 impl Model for Vault {
-    ghost use Rattle.vault_read.specs.Opened.{OpenedVault, vault_of};
+    ghost use Rattle.vault_read.specs.Opened.{OpenedVault, vault_with};
 
     ghost Value = { OpenedVault };
 
-    ghost view = { λ vault. record { root = vault.root; vault = vault_of vault.keys } };
+    ghost view = { λ vault. record { root = vault.root; vault = vault_with vault.keys } };
 }
 
 impl Vault {
@@ -74,11 +164,14 @@ impl Vault {
         ensures root { result.root ≡ root }
         ensures vault { result.vault ≡ vault_of keys }
     {
-        Vault { root, keys }
+        Vault {
+            root,
+            keys: expanded(keys),
+        }
     }
 
-    pub(crate) fn keys(&self) -> &VaultKeys
-        ensures { vault_of result.now ≡ self.now.vault }
+    pub(crate) fn keys(&self) -> &OpenedKeys
+        ensures { vault_with result.now ≡ self.now.vault }
     {
         &self.keys
     }
@@ -87,8 +180,8 @@ impl Vault {
         ensures { result ≡ kind_of self.now.vault }
     {
         match &self.keys {
-            VaultKeys::Gocryptfs(_) => VaultKind::Gocryptfs,
-            VaultKeys::Cryptomator(_) => VaultKind::Cryptomator,
+            OpenedKeys::Gocryptfs(_) => VaultKind::Gocryptfs,
+            OpenedKeys::Cryptomator(_) => VaultKind::Cryptomator,
         }
     }
 
@@ -103,8 +196,8 @@ impl Vault {
         ensures { result ≡ (format_of self.now.vault).content }
     {
         match &self.keys {
-            VaultKeys::Gocryptfs(keys) => ContentKeys::go(&keys.content),
-            VaultKeys::Cryptomator(vault) => contents_by(vault),
+            OpenedKeys::Gocryptfs(go) => ContentKeys::go(&go.keys.content),
+            OpenedKeys::Cryptomator(cm) => contents_by(&cm.vault),
         }
     }
 }
@@ -129,23 +222,23 @@ pub fn stored_in(
     ensures { IfOk result (λ stored. stored ≡ (format_of vault.now.vault).stored key.now name.now) }
 {
     match &vault.keys {
-        VaultKeys::Gocryptfs(keys) => store_by_block(alloc, keys, key, name),
-        VaultKeys::Cryptomator(vault) => cm_store(alloc, &vault.keys, vault.threshold, key, name),
+        OpenedKeys::Gocryptfs(go) => store_by_block(alloc, go.names(), key, name),
+        OpenedKeys::Cryptomator(cm) => cm.names().store(alloc, cm.threshold(), key, name),
     }
 }
 
 fn store_by_block(
     alloc: Global,
-    keys: &GoKeys,
+    names: &GoNameKeys,
     key: &[u8],
     name: &Name,
 ) -> Result<Stored, AllocError>
     requires { length key.now ≡ 16 }
-    ensures { IfOk result (λ stored. stored ≡ gocryptfs.stored keys.now.names key.now name.now) }
+    ensures { IfOk result (λ stored. stored ≡ gocryptfs.stored names.now key.now name.now) }
 {
     let mut block = [0; 16];
     block.copy_from_slice(key);
-    go_store(alloc, keys, &block, name)
+    names.store(alloc, &block, name)
 }
 
 /// The folder that holds the entries of the directory with this id. The vault is Cryptomator's.
@@ -162,17 +255,17 @@ pub fn folder_of(alloc: Global, vault: &Vault, at: &FPath, key: &[u8]) -> Result
     ensures { IfOk result (λ folder. folder ≡ (format_of vault.now.vault).folder_of at.now key.now) }
 {
     match &vault.keys {
-        VaultKeys::Gocryptfs(_) => at.copy(),
-        VaultKeys::Cryptomator(vault) => folder_of_id(alloc, &vault.keys, key),
+        OpenedKeys::Gocryptfs(_) => at.copy(),
+        OpenedKeys::Cryptomator(cm) => folder_of_id(alloc, cm.names(), key),
     }
 }
 
 // The content folder of an id.
-fn folder_of_id(alloc: Global, keys: &CmKeys, id: &[u8]) -> Result<FPath, AllocError>
-    ensures { IfOk result (λ at. at ≡ cryptomator.content_folder keys.now id.now) }
+fn folder_of_id(alloc: Global, names: &CmNameKeys, id: &[u8]) -> Result<FPath, AllocError>
+    ensures { IfOk result (λ at. at ≡ cryptomator.content_folder names.now id.now) }
 {
     cm_folders_are_plain();
-    folder_named(alloc, cm_folder(alloc, keys, id)?)
+    folder_named(alloc, names.folder(alloc, id)?)
 }
 
 // The content folder that a base32 text of 32 characters names.

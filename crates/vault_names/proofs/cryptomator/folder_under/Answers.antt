@@ -1,7 +1,7 @@
 use Rattle.std.proofs.Common.{sym, ◌∙◌, subst}
 use Rattle.std.specs.Str.{IsUtf8}
 use Rattle.vault_names.proofs.Groups.{utf8-base32}
-use Rattle.vault_names.proofs.cryptomator.cm_folder.Goals as goal
+use Rattle.vault_names.proofs.cryptomator.folder_under.Goals as goal
 
 pub unwrap-requires : goal.unwrap-requires
 unwrap-requires c =

@@ -3,6 +3,7 @@ use Rattle.std.proofs.lemmas.Result.{err_from_is_err_and}
 use Rattle.folder_spec.specs.Seen.{IfSeen, IsSeen}
 use Rattle.migrate_core.specs.Moved.{MovesTold}
 use Rattle.migrate_core.specs.Completing.{CanResume}
+use Rattle.migrate_core.specs.Moving.{MovesOnly}
 use Rattle.tree_match.specs.Guard.{Migration}
 use Rattle.vault_cli.specs.Moving.{ArePhrases, Completes}
 use Rattle.vault_cli.specs.Resume.{IsResumedFor, IsWritten, MayCome, root_by}
@@ -117,3 +118,15 @@ returns-clause-completes g c = λ m v is asked can.
     c.as_slice.result.now c.as_slice-2.result.now v c.as_slice.ensures c.as_slice-2.ensures (c.in_ok-known.ensures.source v is) (c.in_ok-known.ensures.target v is) in
     chance_answered resuming.work (root_by resuming.work known.journal c.in-Err.fault) c.in-Err.fault c.stopped.result
     (c.in-Err.ensures.completes m v seen (resumed_is m resuming v c.as_slice.result.now c.as_slice-2.result.now are asked) can) c.stopped.ensures.answers
+
+pub returns-in-Ok-clause-moves : goal.returns-in-Ok-clause-moves
+returns-in-Ok-clause-moves g c = λ v journal is fits stands.
+    let same = c.in_ok-known.ensures.told in
+    subst (λ t. MovesOnly c.args.resuming.now.work journal.target t (g.F.Folder.told c.resume.new.folder)) same
+    (c.in-Ok.ensures.moves v journal (subst (λ t. IsSeen t v) (sym same) is) fits stands)
+
+pub returns-clause-moves : goal.returns-clause-moves
+returns-clause-moves g c = λ v journal is fits stands.
+    let same = c.in_ok-known.ensures.told in
+    subst (λ t. MovesOnly c.args.resuming.now.work journal.target t (g.F.Folder.told c.resume.new.folder)) same
+    (c.in-Err.ensures.moves v journal (subst (λ t. IsSeen t v) (sym same) is) fits stands)

@@ -1,7 +1,6 @@
 -- The configuration files of a Cryptomator vault (format 8), and its keys.
 pub mod Fault
 pub mod Combo
-pub mod Id
 pub mod Keys
 pub mod Master
 pub mod Jwt

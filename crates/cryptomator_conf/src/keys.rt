@@ -8,13 +8,6 @@ use std::alloc::{AllocError, Global};
 use std::str;
 use unicode_normalization::to_nfc;
 
-/// The two keys of a Cryptomator vault: to encrypt with, and to make tags with.
-#[derive(Clone, Copy, PartialEq, Eq)]
-pub struct CmKeys {
-    pub enc: [u8; 32],
-    pub mac: [u8; 32],
-}
-
 // The key that both keys are wrapped under.
 #[tactic(auto, unfolding(crate::specs::Keys::wrapping_key))]
 pub(crate) fn wrapping_key(

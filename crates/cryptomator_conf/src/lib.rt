@@ -4,9 +4,8 @@
 
 pub mod conf;
 pub mod fault;
-pub mod id;
 mod jwt;
-pub mod keys;
+mod keys;
 pub mod laws;
 pub mod making;
 pub mod master;
@@ -16,8 +15,6 @@ pub mod vault;
 
 pub use conf::{Alg, CmDraw, CmFiles, Combo, MasterFile, VaultFile};
 pub use fault::{BadSignature, CmConfFault, UnlockFault};
-pub use id::id_text;
-pub use keys::CmKeys;
 pub use making::{make, make_combo};
 pub use master::read_master;
 pub use signing::check_signature;

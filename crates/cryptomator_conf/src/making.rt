@@ -6,8 +6,7 @@ ghost use Rattle.cryptomator_conf.specs.Text.{made_master, master_text, payload_
 ghost use Rattle.cryptomator_conf.specs.Value.{master_data};
 
 use crate::conf::{CmDraw, CmFiles, Combo};
-use crate::id::id_text;
-use crate::keys::{CmKeys, wrapping_key};
+use crate::keys::wrapping_key;
 use crate::signing::signing_key;
 use aes_lanes::Key256;
 use base64::engine::general_purpose::{STANDARD, URL_SAFE_NO_PAD};
@@ -17,6 +16,7 @@ use key_wrap::wrap_key;
 use serde_json::{Value, json};
 use std::alloc::{AllocError, Global};
 use text_model::Bytes;
+use vault_keys::{CmKeys, id_text};
 
 const HEADER: &str =
     "{\"alg\":\"HS256\",\"kid\":\"masterkeyfile:masterkey.cryptomator\",\"typ\":\"JWT\"}";

@@ -5,9 +5,9 @@ ghost use Rattle.cryptomator_conf.specs.Signature.{signature_of};
 
 use crate::conf::{Alg, VaultFile};
 use crate::fault::BadSignature;
-use crate::keys::CmKeys;
 use aes_lanes::same_bytes;
 use kdf_suite::{hmac256, hmac384, hmac512};
+use vault_keys::CmKeys;
 
 /// Whether the signature of `vault.cryptomator` is the keys'. It takes no memory.
 pub fn check_signature(file: &VaultFile, keys: &CmKeys) -> Result<(), BadSignature>

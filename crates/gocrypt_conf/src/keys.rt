@@ -5,13 +5,7 @@ ghost use Rattle.gocrypt_conf.specs.Keys.{derived_key, keys_of, unlocking_key};
 
 use kdf_suite::{ScryptCost, hkdf256, scrypt};
 use std::alloc::{AllocError, Global};
-
-/// The two keys of a gocryptfs vault: of AES-256-GCM for contents, and of EME over AES-256 for names.
-#[derive(Clone, Copy, PartialEq, Eq)]
-pub struct GoKeys {
-    pub content: [u8; 32],
-    pub names: [u8; 32],
-}
+use vault_keys::GoKeys;
 
 const CONTENT_INFO: &[u8] = b"AES-GCM file content encryption";
 

@@ -5,7 +5,7 @@
 pub mod conf;
 pub mod fault;
 mod fields;
-pub mod keys;
+mod keys;
 pub mod laws;
 pub mod making;
 mod master_key;
@@ -14,7 +14,6 @@ pub mod unlocking;
 
 pub use conf::{GoConf, GoDraw};
 pub use fault::{GoConfFault, UnlockFault};
-pub use keys::GoKeys;
 pub use making::make;
 pub use reading::read;
 pub use unlocking::unlock;

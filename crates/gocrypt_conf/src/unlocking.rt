@@ -1,15 +1,16 @@
 //! The keys that a configuration and a passphrase give.
 
 ghost use Rattle.std.specs.Prelude.{◌≡◌, IfOk, Err};
-ghost use Rattle.gocrypt_conf.specs.declared.keys.GoKeys.{GoKeys};
+ghost use Rattle.vault_keys.specs.declared.keys.GoKeys.{GoKeys};
 ghost use Rattle.gocrypt_conf.specs.declared.fault.UnlockFault.TheVariants.{WrongPass};
 ghost use Rattle.gocrypt_conf.specs.MasterKey.{Unlocks};
 
 use crate::conf::GoConf;
 use crate::fault::UnlockFault;
-use crate::keys::{GoKeys, keys_of, unlocking_key};
+use crate::keys::{keys_of, unlocking_key};
 use crate::master_key::unseal_master;
 use std::alloc::Global;
+use vault_keys::GoKeys;
 
 /// The keys of a vault, from its configuration and passphrase.
 ///

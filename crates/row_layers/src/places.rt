@@ -1,12 +1,12 @@
 //! Lines that make vaults and what is in them, or name what stands in a vault's folder.
 use crate::writing::init;
-use cryptomator_conf::{CmKeys, Combo};
+use cryptomator_conf::Combo;
 use folder_model::FPath;
-use gocrypt_conf::GoKeys;
 use plain_tree::{NodeKind, PlainPath};
 use port_model::MemSink;
 use row_stage::{Stage, Stop};
 use row_words::cut;
+use vault_keys::{CmKeys, GoKeys};
 use vault_read::{CmVault, Vault, VaultKeys, cat, enter, find, list};
 
 /// The passphrase of the vaults in rows.

@@ -1,7 +1,7 @@
 //! Stored names of Cryptomator, vault format 8: SIV over AES-256, in base64url with padding.
 ghost use Rattle.std.specs.Prelude.{◌≡◌, ◌≢◌, ◌++◌, ℕ, List, false, codes, IfOk, OnErr, IsTrue, MatchOption, Err, string_bytes};
 ghost use Rattle.aes_lanes.specs.Bytes.{AreBytes};
-ghost use Rattle.cryptomator_conf.specs.Id.{id_of};
+ghost use Rattle.vault_keys.specs.Id.{id_of};
 ghost use Rattle.plain_tree.specs.Names.{is_name};
 ghost use Rattle.vault_names.specs.Cryptomator.{cm_entry_of, cm_text, cm_long_name, cm_stored, cm_folder_of, keys_of, padded_base64url, IsCmTextOf};
 
@@ -10,7 +10,6 @@ use crate::entry::{NameFault, Stored};
 use aes_lanes::{Key256, laws as aes};
 use base64::DecodeAllocError;
 use base64::engine::general_purpose::URL_SAFE;
-use cryptomator_conf::{CmKeys, id_text};
 use plain_tree::Name;
 use sha1::Sha1;
 use siv_mode::laws::{opens_to_one_text, sealed_texts_are_bytes, unsealing_undoes_sealing};
@@ -18,6 +17,7 @@ use siv_mode::{Siv, SivFault};
 use std::alloc::{AllocError, Global};
 use std::marker::Model;
 use text_model::Text;
+use vault_keys::{CmKeys, id_text};
 
 /// The keys of a Cryptomator vault's names, expanded for many names. Contracts see them as the vault's keys.
 #[derive(Drop)]
@@ -26,7 +26,7 @@ pub struct CmNameKeys {
 }
 
 impl Model for CmNameKeys {
-    ghost use Rattle.cryptomator_conf.specs.declared.keys.CmKeys.{CmKeys};
+    ghost use Rattle.vault_keys.specs.declared.keys.CmKeys.{CmKeys};
     ghost use Rattle.vault_names.specs.Cryptomator.{keys_of};
 
     ghost Value = { CmKeys };

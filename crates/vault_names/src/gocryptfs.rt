@@ -10,12 +10,12 @@ use base64::DecodeAllocError;
 use base64::engine::general_purpose::URL_SAFE_NO_PAD;
 use eme_mode::Eme;
 use eme_mode::laws::{blocks_stay_blocks, directions_undo_each_other};
-use gocrypt_conf::GoKeys;
 use plain_tree::{Name, NameNewFault};
 use sha2::{Digest, Sha256};
 use std::alloc::{AllocError, Global};
 use std::marker::Model;
 use text_model::Text;
+use vault_keys::GoKeys;
 
 /// The greatest length of a text that is an entry's name, in characters.
 pub const MAX_ENTRY_SIZE: usize = 255;

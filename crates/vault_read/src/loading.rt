@@ -15,7 +15,7 @@ use crate::looking::{SmallFile, read_small};
 use crate::vault::{CmVault, Vault, VaultKeys, VaultKind};
 use cryptomator_conf as cryptomator;
 use cryptomator_conf::{
-    CmConfFault, CmKeys, MasterFile, VaultFile, check_signature, read_master, read_vault,
+    CmConfFault, MasterFile, VaultFile, check_signature, read_master, read_vault,
 };
 use folder_model::{FPath, Folder, Kind};
 use folder_spec::FolderFault;
@@ -23,6 +23,7 @@ use gocrypt_conf as gocryptfs;
 use gocrypt_conf::GoConfFault;
 use std::alloc::Global;
 use text_model::Bytes;
+use vault_keys::CmKeys;
 
 // The most bytes of a configuration file.
 const MAX_SIZE: usize = 65_536;

@@ -9,12 +9,12 @@ ghost use Rattle.vault_read.specs.Opened.{FitsKey, IsCryptomator, kind_of, vault
 
 use crate::looking::joined;
 use chunk_files::ContentKeys;
-use cryptomator_conf::{CmKeys, Combo};
+use cryptomator_conf::Combo;
 use folder_model::FPath;
-use gocrypt_conf::GoKeys;
 use plain_tree::Name;
 use std::alloc::{AllocError, Global};
 use std::marker::Model;
+use vault_keys::{CmKeys, GoKeys};
 use vault_names::laws::cm_folders_are_plain;
 use vault_names::{CmNameKeys, GoNameKeys, Stored};
 
@@ -60,7 +60,7 @@ pub struct GoOpened {
 
 impl Model for GoOpened {
     ghost use Rattle.std.specs.Prelude.{◌≡◌};
-    ghost use Rattle.gocrypt_conf.specs.declared.keys.GoKeys.{GoKeys};
+    ghost use Rattle.vault_keys.specs.declared.keys.GoKeys.{GoKeys};
 
     ghost Value = { GoKeys };
 

@@ -7,7 +7,7 @@ ghost use Rattle.folder_spec.specs.Path as folder;
 ghost use Rattle.folder_spec.specs.Seen.{under};
 ghost use Rattle.folder_spec.specs.View.{View, Folder, NoEntry};
 ghost use Rattle.gocrypt_conf.specs.declared.conf.GoDraw.{GoDraw};
-ghost use Rattle.gocrypt_conf.specs.declared.keys.GoKeys.{GoKeys};
+ghost use Rattle.vault_keys.specs.declared.keys.GoKeys.{GoKeys};
 ghost use Rattle.kdf_suite.specs.ScryptCost.{Cost};
 ghost use Rattle.plain_tree.specs.Names.{Path};
 ghost use Rattle.vault_spec.specs.Adding.{NewItemsComeAlone, NewItemsStayClean, ContentsAreReplacedAlone, ReplacedContentsStayClean};

@@ -14,7 +14,7 @@ use Rattle.content_writing.proofs.Sixteens.{drawn_so_far}
 use Rattle.content_writing.specs.Faults.{of_folder}
 use Rattle.content_writing.specs.declared.fault.PutFault.{PutFault}
 use Rattle.content_writing.specs.declared.fault.PutFault.TheVariants as puts
-use Rattle.cryptomator_conf.specs.Id.{id_of}
+use Rattle.vault_keys.specs.Id.{id_of}
 use Rattle.folder_spec.specs.declared.FolderFault.{FolderFault}
 use Rattle.folder_spec.specs.Path.{Path, parent}
 use Rattle.folder_spec.proofs.Paths.{child-not_base}

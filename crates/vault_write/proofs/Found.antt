@@ -16,8 +16,8 @@ use Rattle.vault_read.specs.declared.vault.VaultKind.TheVariants as kind
 use Rattle.vault_read.specs.declared.finding.DirPlace.{DirPlace}
 use Rattle.vault_spec.specs.Find.{enter}
 use Rattle.vault_spec.specs.Format.{Format, Directory, taken_at}
-use Rattle.cryptomator_conf.specs.Id.{id_of}
-use Rattle.gocrypt_conf.specs.declared.keys.GoKeys.{GoKeys}
+use Rattle.vault_keys.specs.Id.{id_of}
+use Rattle.vault_keys.specs.declared.keys.GoKeys.{GoKeys}
 use Rattle.vault_names.specs.Cryptomator.{cm_folder_of}
 use Rattle.vault_spec.specs.Cryptomator.{cm_format, taken_folders}
 use Rattle.vault_spec.specs.Gocryptfs.{full_name, go_format, go_taken, taken_unless}

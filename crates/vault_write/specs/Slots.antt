@@ -1,6 +1,6 @@
 -- Where a new item is to stand, and what looking for that answers (private contracts only).
 use Rattle.std.specs.Prelude.{◌≡◌, ◌≢◌, ◌⊎◌, ◌≤◌, ℕ, Bool, true, false, List, ◌++◌, length, Option, Some, None, Result, Ok, Err}
-use Rattle.cryptomator_conf.specs.Id.{id_of}
+use Rattle.vault_keys.specs.Id.{id_of}
 use Rattle.port_model.specs.Counts.{CountRose}
 use Rattle.port_model.specs.Draws.{ByteStream, Draws}
 use Rattle.folder_spec.specs.Event.{Told}

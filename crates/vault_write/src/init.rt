@@ -21,8 +21,8 @@ ghost use Rattle.vault_write.specs.Founding.{MayFound, Founds, FoundsGo, FoundsC
 use crate::drawing::{draw_cm, draw_go};
 use crate::stage::staged_at;
 use content_writing::PutFault;
+use cryptomator_conf::Combo;
 use cryptomator_conf::laws::made_files_give_back_their_keys;
-use cryptomator_conf::{CmKeys, Combo};
 use folder_model::{FPath, Folder};
 use folder_spec::FolderFault;
 use folder_staging::laws::{
@@ -34,6 +34,7 @@ use gocrypt_conf::laws::made_texts_give_back_their_keys;
 use kdf_suite::ScryptCost;
 use port_model::Randoms;
 use std::alloc::Global;
+use vault_keys::CmKeys;
 use vault_names::cm_folder;
 use vault_names::laws::cm_folders_are_plain;
 use vault_spec::laws::{

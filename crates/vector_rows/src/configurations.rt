@@ -1,4 +1,4 @@
-//! Calls of gocrypt_conf and cryptomator_conf.
+//! Calls of vault_keys, gocrypt_conf and cryptomator_conf.
 
 ghost use Rattle.std.specs.Prelude.{◌<◌};
 
@@ -6,12 +6,11 @@ use crate::answer::Answer;
 use crate::arguments::Arguments;
 use crate::keys::{cost, cost_shown};
 use base64::engine::general_purpose::{STANDARD, URL_SAFE_NO_PAD};
-use cryptomator_conf::{
-    CmDraw, CmFiles, CmKeys, Combo, check_signature, id_text, make_combo, read_master,
-};
+use cryptomator_conf::{CmDraw, CmFiles, Combo, check_signature, make_combo, read_master};
 use gocrypt_conf::{GoConf, GoDraw};
 use kdf_suite::hmac256;
 use std::alloc::{AllocError, Global};
+use vault_keys::{CmKeys, id_text};
 
 /// Makes a call of this module, and says whether there is one of this name.
 pub fn answer(name: &str, args: &mut Arguments, answer: &mut Answer) -> bool {

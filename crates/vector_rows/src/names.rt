@@ -5,10 +5,9 @@ use crate::arguments::Arguments;
 use crate::configurations::keys;
 use crate::paths::name;
 use aes_lanes::Block;
-use cryptomator_conf::CmKeys;
-use gocrypt_conf::GoKeys;
 use plain_tree::Name;
 use std::alloc::AllocError;
+use vault_keys::{CmKeys, GoKeys};
 use vault_names::{
     NameFault, Stored, base32_of, cm_folder, cm_long, cm_read, cm_store, go_long, go_read,
     go_store, new_dir_id,

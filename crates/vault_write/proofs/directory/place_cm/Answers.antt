@@ -1,6 +1,6 @@
 use Rattle.std.proofs.Common.{Err, refl, sym, ap, ◌∙◌, subst, arith}
 use Rattle.std.proofs.lemmas.Result.{err_from_is_err_and}
-use Rattle.cryptomator_conf.specs.Id.{id_of}
+use Rattle.vault_keys.specs.Id.{id_of}
 use Rattle.folder_spec.specs.Event.{FromTo}
 use Rattle.folder_spec.specs.Seen.{IfSeen}
 use Rattle.vault_spec.specs.Making.{NewDirectory}

@@ -1,0 +1,2 @@
+-- The keys of vaults, and the ids that are drawn for them.
+pub mod Id

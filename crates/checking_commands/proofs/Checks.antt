@@ -9,7 +9,7 @@ use Rattle.folder_spec.specs.Seen.{IfSeen, under}
 use Rattle.folder_spec.specs.View.{View}
 use Rattle.plain_tree.specs.Shown.{shown_path}
 use Rattle.vault_read.specs.Laws.{HaveOneAnswer}
-use Rattle.vault_read.specs.declared.fault.Limit.TheVariants as limited
+use Rattle.vault_faults.specs.declared.fault.Limit.TheVariants as limited
 use Rattle.vault_spec.specs.Findings.{number_of}
 use Rattle.vault_spec.specs.Format.{Format}
 use Rattle.vault_spec.specs.Vault.{Vault, format_of}

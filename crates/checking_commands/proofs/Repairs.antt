@@ -13,7 +13,7 @@ use Rattle.folder_spec.specs.View.{Found, NoEntry, Folder, FileOf, Special, View
 use Rattle.vault_read.specs.Laws.{HasOwnFolders}
 use Rattle.vault_spec.specs.Adding.{OpensAs}
 use Rattle.vault_spec.specs.Moving.{IsStray}
-use Rattle.vault_read.specs.declared.fault.Limit.TheVariants as limited
+use Rattle.vault_faults.specs.declared.fault.Limit.TheVariants as limited
 use Rattle.vault_spec.specs.Vault.{Vault, Either, format_of}
 use Rattle.vault_walk.specs.Survey.{HasTooMany}
 use Rattle.vault_walk.specs.Surveyed.{IsOnlyTooDeep}

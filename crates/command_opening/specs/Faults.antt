@@ -1,12 +1,12 @@
 -- The answers to the faults of reading a vault.
 use Rattle.std.specs.Prelude.{◌++◌}
 use Rattle.folder_spec.specs.Path.{Path}
-use Rattle.vault_read.specs.declared.fault.FindFault.{FindFault}
-use Rattle.vault_read.specs.declared.fault.FindFault.TheVariants as find
+use Rattle.vault_faults.specs.declared.fault.FindFault.{FindFault}
+use Rattle.vault_faults.specs.declared.fault.FindFault.TheVariants as find
 use Rattle.vault_read.specs.declared.fault.LoadFault.{LoadFault}
 use Rattle.vault_read.specs.declared.fault.LoadFault.TheVariants as load
-use Rattle.vault_read.specs.declared.fault.Limit as reading
-use Rattle.vault_read.specs.declared.fault.Limit.TheVariants as limited
+use Rattle.vault_faults.specs.declared.fault.Limit as reading
+use Rattle.vault_faults.specs.declared.fault.Limit.TheVariants as limited
 use Rattle.vault_spec.specs.Vault.{go_conf, vault_file}
 use Rattle.command_answers.specs.declared.answer.Answer.{Answer}
 use Rattle.command_answers.specs.declared.answer.Answer.TheVariants.{OutOfMemory, FolderFault, Refused, WrongPass, NotFound, WrongKind, Damaged, Limit}

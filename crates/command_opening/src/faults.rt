@@ -3,7 +3,7 @@ ghost use Rattle.std.specs.Prelude.{◌≡◌};
 ghost use Rattle.command_opening.specs.Faults.{of_find, of_limit};
 
 use command_answers::{Answer, Damage, Limit, Named};
-use vault_read::FindFault;
+use vault_faults::FindFault;
 
 /// The answer to a plain path that isn't found or entered.
 pub fn answer_to_find(fault: FindFault) -> Answer
@@ -20,13 +20,13 @@ pub fn answer_to_find(fault: FindFault) -> Answer
 }
 
 /// The limit that reading passes.
-pub fn limit_of(limit: vault_read::Limit) -> Limit
+pub fn limit_of(limit: vault_faults::Limit) -> Limit
     ensures { result ≡ of_limit limit }
 {
     match limit {
-        vault_read::Limit::Depth => Limit::Depth,
-        vault_read::Limit::Items => Limit::Items,
-        vault_read::Limit::Length(at) => Limit::Length(at),
-        vault_read::Limit::Input => Limit::Input,
+        vault_faults::Limit::Depth => Limit::Depth,
+        vault_faults::Limit::Items => Limit::Items,
+        vault_faults::Limit::Length(at) => Limit::Length(at),
+        vault_faults::Limit::Input => Limit::Input,
     }
 }

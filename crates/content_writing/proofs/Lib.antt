@@ -5,6 +5,4 @@ pub mod Sixteens
 pub mod Standing
 mod Exits
 mod StoredParts
-mod Refills
 mod Underway
-mod Lengths

@@ -5,7 +5,7 @@ use Rattle.std.proofs.lemmas.Bool.Decides.{leb_tells}
 use Rattle.std.proofs.Math.Dec.{leb-zero}
 use Rattle.std.proofs.Math.Seq.{take-append-add}
 use Rattle.std.specs.Io.KnownBytes.{Consumes, IsAtEnd}
-use Rattle.vault_read.specs.declared.fault.Limit.TheVariants.{Input}
+use Rattle.vault_faults.specs.declared.fault.Limit.TheVariants.{Input}
 use Rattle.content_writing.specs.Content.{Whole, TooLong, ends, bytes_before, within, coming_from, Gives}
 
 le_behind : (k a b : ℕ) → nat_le (k + a) (k + b) ≡ nat_le a b

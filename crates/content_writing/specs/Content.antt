@@ -2,19 +2,14 @@
 --
 -- A content reads at most one file of the folder, at a path that it names. What is still to come is a function of what stands
 -- there, so that a change elsewhere leaves it.
-use Rattle.std.specs.Prelude.{◌≡◌, ℕ, Bool, zero, suc, nat_le, List, [], ◌++◌, take, length, Option, Some, None, Result, Ok, Err, ◌&&◌, ◌||◌, not, if◌then◌else◌}
-use Rattle.std.specs.List.{concat}
-use Rattle.chunk_files.specs.Decoding.{Decoding}
-use Rattle.chunk_files.specs.Reading.{Reading}
-use Rattle.chunk_files.specs.Reading as reading
+use Rattle.std.specs.Prelude.{◌≡◌, ℕ, Bool, zero, suc, nat_le, List, [], ◌++◌, take, length, Option, Some, None, Result, Ok, Err, if◌then◌else◌}
 use Rattle.chunk_files.specs.declared.fault.ChunkFault.{ChunkFault}
 use Rattle.folder_spec.specs.Path.{Path}
 use Rattle.folder_spec.specs.Event.{Told}
-use Rattle.folder_spec.specs.View.{Found, NoEntry, Folder, FileOf, Special, View}
+use Rattle.folder_spec.specs.View.{Found, NoEntry, View}
 use Rattle.folder_spec.specs.Seen.{IfSeen, IsSeen, seen}
-use Rattle.vault_read.specs.declared.fault.Limit.{Limit}
-use Rattle.vault_read.specs.declared.fault.Limit.TheVariants.{Input, Length}
-use Rattle.vault_read.specs.Contents.{Reader, still}
+use Rattle.vault_faults.specs.declared.fault.Limit.{Limit}
+use Rattle.vault_faults.specs.declared.fault.Limit.TheVariants.{Input}
 use Rattle.content_writing.specs.declared.fault.PutFault.{PutFault}
 use Rattle.content_writing.specs.declared.fault.PutFault.TheVariants as puts
 
@@ -117,36 +112,3 @@ within room bytes = if nat_le (length bytes) room then record { bytes = bytes; e
 abbrev pub coming_from : ℕ → Bool → Option (List ℕ) → Option Coming
 coming_from room passed None = None
 coming_from room passed (Some bytes) = Some (if passed then ends (TooLong Input) else within room bytes)
-
--- ---- the content of a file of a vault
-
--- how the reading of the file at a path ends
-abbrev pub ending_of : Path → reading.Ending → Ending
-ending_of at reading.Whole = Whole
-ending_of at (reading.Faulty fault) = Damaged at fault
-ending_of at reading.Wanting = TooLong (Length at)
-
--- the bytes held, and what a reading gives behind them
-abbrev pub held_before : Path → List ℕ → Reading → Coming
-held_before at held r = record { bytes = held ++ concat r.chunks; ending = ending_of at r.ending }
-
--- whether a file with these bytes has as many as were read of it, and no more where its end was told
-abbrev pub suits : Decoding → List ℕ → Bool
-suits d bytes = nat_le d.taken (length bytes) && (not d.ended || nat_le (length bytes) d.taken)
-
--- this is to come, where there is room for its bytes
-abbrev pub fitting : ℕ → Coming → Option Coming
-fitting room c = if nat_le (length c.bytes) room then Some c else None
-
--- What is to come of a reader's file, by what stands at its path, behind the bytes held. As much as a file gives from its start on
--- has room in the limit.
-abbrev pub coming_read : Reader → ℕ → List ℕ → Found → Option Coming
-coming_read reader room held (FileOf bytes) = if suits reader.decoding bytes then fitting room (held_before reader.at held (still reader.decoding bytes)) else None
-coming_read reader room held NoEntry = None
-coming_read reader room held Folder = None
-coming_read reader room held Special = None
-
--- the bytes held, if a buffer was taken
-abbrev pub held_in : Option (List ℕ) → List ℕ
-held_in None = []
-held_in (Some held) = held

@@ -4,5 +4,3 @@ pub mod Content
 pub mod Laws
 pub mod Writing
 pub mod Streaming
-pub mod Refilling
-pub mod VaultContents

@@ -4,7 +4,7 @@ use folder_model::FPath;
 use folder_spec::FolderFault;
 use plain_tree::PlainPath;
 use std::alloc::AllocError;
-use vault_read::{CatFault, FindFault, Limit};
+use vault_faults::{CatFault, FindFault, Limit};
 
 /// Why an item isn't made.
 #[derive(Debug, Drop)]

@@ -5,16 +5,13 @@ pub mod content;
 pub mod fault;
 mod gathered;
 mod gathering;
-mod held;
 pub mod laws;
 mod room;
 pub mod source_content;
 mod storing;
-pub mod vault_content;
 pub mod writing;
 
 pub use content::Content;
 pub use fault::PutFault;
 pub use source_content::SourceContent;
-pub use vault_content::VaultContent;
 pub use writing::{Buffers, write_content};

@@ -6,7 +6,7 @@ ghost use Rattle.content_writing.specs.Content.{content_limit, coming_from, Give
 
 use crate::fault::PutFault;
 use port_model::Source;
-use vault_read::Limit;
+use vault_faults::Limit;
 
 // The most bytes of a content, 2^40.
 const CONTENT_LIMIT: u64 = 1_099_511_627_776;

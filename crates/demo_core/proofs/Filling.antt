@@ -19,8 +19,8 @@ use Rattle.vault_write.specs.Faults.{IsDirectoryFault, IsFileFault}
 use Rattle.vault_read.specs.Contents.{IsOfPath}
 use Rattle.vault_read.specs.Finding as finding
 use Rattle.vault_read.specs.Opened.{OpenedVault, kind_of}
-use Rattle.vault_read.specs.declared.fault.FindFault.{FindFault}
-use Rattle.vault_read.specs.declared.fault.FindFault.TheVariants as find
+use Rattle.vault_faults.specs.declared.fault.FindFault.{FindFault}
+use Rattle.vault_faults.specs.declared.fault.FindFault.TheVariants as find
 use Rattle.vault_read.specs.declared.vault.VaultKind.TheVariants as kind
 use Rattle.port_model.specs.Draws.{ByteStream, Draws}
 use Rattle.vault_spec.specs.Find.{enter}

@@ -36,7 +36,7 @@ use Rattle.tree_match.specs.declared.answer.Side.TheVariants as side
 use Rattle.tree_match.specs.declared.answer.Side as sides
 use Rattle.vault_read.specs.Laws.{HaveOneAnswer}
 use Rattle.vault_read.specs.Opened.{OpenedVault}
-use Rattle.vault_read.specs.declared.fault.Limit.TheVariants as limit
+use Rattle.vault_faults.specs.declared.fault.Limit.TheVariants as limit
 use Rattle.vault_spec.proofs.Mapped.{contains_mapped}
 use Rattle.vault_spec.specs.Alike.{place_of}
 use Rattle.vault_spec.specs.Format.{Format}

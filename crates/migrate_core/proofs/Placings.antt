@@ -13,8 +13,8 @@ use Rattle.plain_tree.specs.Names as plain
 use Rattle.plain_tree.specs.declared.NodeKind.TheVariants.{Dir, File}
 use Rattle.port_model.specs.Draws.{ByteStream}
 use Rattle.content_writing.specs.Content.{Coming, Ending, Whole, still_coming}
-use Rattle.content_writing.specs.VaultContents.{path_of, coming_of}
-use Rattle.content_writing.specs.declared.vault_content.VaultContent.{VaultContent}
+use Rattle.vault_contents.specs.VaultContents.{path_of, coming_of}
+use Rattle.vault_contents.specs.declared.vault_content.VaultContent.{VaultContent}
 use Rattle.content_writing.specs.declared.fault.PutFault.{PutFault}
 use Rattle.content_writing.specs.declared.fault.PutFault.TheVariants.{NoMemory, Taken}
 use Rattle.tree_match.proofs.Kept.{behind_none}

@@ -4,9 +4,10 @@ use Rattle.std.specs.List.{concat}
 use Rattle.chunk_files.specs.Decoding.{started}
 use Rattle.chunk_files.specs.Keys.{Keys}
 use Rattle.chunk_files.specs.Reading as reading
-use Rattle.content_writing.specs.Content.{Coming, Ending, Whole, IsReady, IsTold, coming_read, content_limit, ending_of, held_before, still_coming}
-use Rattle.content_writing.specs.VaultContents.{path_of, coming_of}
-use Rattle.content_writing.specs.declared.vault_content.VaultContent.{VaultContent}
+use Rattle.content_writing.specs.Content.{Coming, Ending, Whole, IsReady, IsTold, content_limit, still_coming}
+use Rattle.vault_contents.specs.Coming.{coming_read, ending_of, held_before}
+use Rattle.vault_contents.specs.VaultContents.{path_of, coming_of}
+use Rattle.vault_contents.specs.declared.vault_content.VaultContent.{VaultContent}
 use Rattle.folder_spec.specs.Path.{Path, below}
 use Rattle.folder_spec.specs.Event.{Told}
 use Rattle.folder_spec.specs.Seen.{IfSeen, IsSeen, seen, under}

@@ -2,7 +2,8 @@
 use Rattle.std.proofs.Common.{◌≡◌, ◌≢◌, ℕ, zero, arith, List, [], ◌∷◌, ◌++◌, Contains, Option, Some, None, Result, Ok, Err, IfErr, inl, inr, refl, sym, ap, ◌∙◌, subst}
 use Rattle.chunk_files.specs.Reading as reading
 use Rattle.chunk_files.specs.declared.fault.ChunkFault.{ChunkFault}
-use Rattle.content_writing.specs.Content.{Coming, Ending, Damaged, TooLong, ending_of}
+use Rattle.content_writing.specs.Content.{Coming, Ending, Damaged, TooLong}
+use Rattle.vault_contents.specs.Coming.{ending_of}
 use Rattle.content_writing.specs.declared.fault.PutFault.{PutFault}
 use Rattle.content_writing.specs.declared.fault.PutFault.TheVariants as put
 use Rattle.folder_spec.proofs.Paths.{base_or_child}
@@ -14,14 +15,14 @@ use Rattle.plain_tree.specs.declared.NodeKind.TheVariants.{File}
 use Rattle.tree_match.specs.Comparing.{bytes_found, content_at}
 use Rattle.vault_read.specs.Contents.{IsOfPath, limited_reading}
 use Rattle.vault_read.specs.Finding.{Refuses}
-use Rattle.vault_read.specs.declared.fault.FindFault.{FindFault}
-use Rattle.vault_read.specs.declared.fault.FindFault.TheVariants as finds
+use Rattle.vault_faults.specs.declared.fault.FindFault.{FindFault}
+use Rattle.vault_faults.specs.declared.fault.FindFault.TheVariants as finds
 use Rattle.vault_spec.specs.Find.{Locked, NotFound, Refusal, WrongKind, enter}
 use Rattle.vault_spec.specs.Format.{Directory}
 use Rattle.vault_spec.specs.declared.Lack.TheVariants as lacks
 use Rattle.vault_read.specs.Opened.{OpenedVault}
-use Rattle.vault_read.specs.declared.fault.Limit.{Limit}
-use Rattle.vault_read.specs.declared.fault.Limit.TheVariants as limit
+use Rattle.vault_faults.specs.declared.fault.Limit.{Limit}
+use Rattle.vault_faults.specs.declared.fault.Limit.TheVariants as limit
 use Rattle.plain_tree.specs.Names as plain
 use Rattle.vault_spec.specs.Making.{Allows, NewItem}
 use Rattle.vault_spec.specs.Plan.{Planned}

@@ -20,7 +20,8 @@ use Rattle.folder_spec.specs.Region.{IsAsBefore, Spares, SparesOld, apart_from}
 use Rattle.folder_spec.specs.Seen.{under}
 use Rattle.folder_spec.specs.Written.{HoldFronts}
 use Rattle.folder_spec.specs.declared.FolderFault.{FolderFault}
-use Rattle.content_writing.specs.Content.{Coming, Ending, Whole, content_limit, coming_read, ending_of, held_before}
+use Rattle.content_writing.specs.Content.{Coming, Ending, Whole, content_limit}
+use Rattle.vault_contents.specs.Coming.{coming_read, ending_of, held_before}
 use Rattle.content_writing.specs.declared.fault.PutFault.{PutFault}
 use Rattle.content_writing.specs.declared.fault.PutFault.TheVariants as put
 use Rattle.content_writing.specs.declared.fault.PutFault.TheVariants.{Taken}

@@ -10,7 +10,7 @@ use Rattle.plain_tree.specs.Names as plain
 use Rattle.tree_match.specs.Comparing.{content_at}
 use Rattle.tree_match.specs.Guard.{AllowsTree, Building, Case, Done, IsGuarded, IsNotBegun, IsSeparate, IsWork, Migration, NotBegun, Retired, VaultAt, kinds_in}
 use Rattle.tree_match.specs.declared.answer.MatchFault.TheVariants as match
-use Rattle.vault_read.specs.declared.fault.Limit.TheVariants as limit
+use Rattle.vault_faults.specs.declared.fault.Limit.TheVariants as limit
 use Rattle.vault_spec.specs.Standing.{File, standing}
 use Rattle.vault_spec.specs.Vault.{format_of}
 use Rattle.vault_walk.specs.Surveyed.{IsWithin}

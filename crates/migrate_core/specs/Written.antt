@@ -24,7 +24,8 @@ use Rattle.vault_spec.specs.Plan.{Planned}
 use Rattle.vault_spec.specs.Vault.{Vault, IsVault, format_of}
 use Rattle.vault_write.specs.Making.{IsPlace, Placing}
 use Rattle.vault_write.specs.Refusing.{Answers, TakesRoot}
-use Rattle.content_writing.specs.Content.{Ending, Whole, ending_of}
+use Rattle.content_writing.specs.Content.{Ending, Whole}
+use Rattle.vault_contents.specs.Coming.{ending_of}
 use Rattle.content_writing.specs.declared.fault.PutFault.{PutFault}
 use Rattle.content_writing.specs.declared.fault.PutFault.TheVariants as put
 use Rattle.migrate_core.specs.declared.fault.MoveFault.{MoveFault}

@@ -21,8 +21,6 @@ ghost use Rattle.migrate_core.specs.Sides.{AllowsEach, AllowsLast, AreSeparate, 
 
 use crate::fault::MoveFault;
 use crate::sides::Sides;
-use content_writing::VaultContent;
-use content_writing::laws::files_fit_as_contents;
 use folder_model::{FPath, Folder};
 use move_journal::{Journal, Phase};
 use plain_tree::laws::prefix_comes_first;
@@ -33,6 +31,8 @@ use std::alloc::Global;
 use tree_match::laws::{
     guarded_migrations_are_seen, placing_keeps_migrations_guarded, walks_tell_the_tree,
 };
+use vault_contents::VaultContent;
+use vault_contents::laws::files_fit_as_contents;
 use vault_read::ContentReader;
 use vault_read::laws::{files_have_their_contents, items_keep_vaults};
 use vault_spec::laws::{what_is_found_stands, what_stands_is_found_step_by_step};

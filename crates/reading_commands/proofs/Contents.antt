@@ -10,11 +10,11 @@ use Rattle.plain_tree.specs.Names as plain
 use Rattle.vault_read.specs.Contents.{file_found, content_at, IsContent, WritesContent, Cats}
 use Rattle.vault_read.specs.Finding.{Refuses}
 use Rattle.vault_read.specs.Laws.{HaveOneAnswer}
-use Rattle.vault_read.specs.declared.fault.CatFault.{CatFault}
-use Rattle.vault_read.specs.declared.fault.CatFault.TheVariants as cat
-use Rattle.vault_read.specs.declared.fault.FindFault.{FindFault}
-use Rattle.vault_read.specs.declared.fault.FindFault.TheVariants as find
-use Rattle.vault_read.specs.declared.fault.Limit.TheVariants as limited
+use Rattle.vault_faults.specs.declared.fault.CatFault.{CatFault}
+use Rattle.vault_faults.specs.declared.fault.CatFault.TheVariants as cat
+use Rattle.vault_faults.specs.declared.fault.FindFault.{FindFault}
+use Rattle.vault_faults.specs.declared.fault.FindFault.TheVariants as find
+use Rattle.vault_faults.specs.declared.fault.Limit.TheVariants as limited
 use Rattle.vault_spec.specs.Find.{Refusal}
 use Rattle.vault_spec.specs.Find as spec
 use Rattle.folder_spec.specs.Seen.{IfSeen, IsSeen, under}

@@ -6,7 +6,8 @@ use plain_tree::{NodeKind, PlainPath};
 use row_stage::stage::MOST_SHOWN;
 use row_stage::{Handed, Stage};
 use row_words::cut;
-use vault_read::{FindFault, Vault, VaultKind, cat, enter, find, list};
+use vault_faults::FindFault;
+use vault_read::{Vault, VaultKind, cat, enter, find, list};
 
 /// The letter of a directory or a file.
 pub fn node_letter(node: NodeKind) -> &'static str {

@@ -3,13 +3,14 @@ use crate::faults::put_fault;
 use crate::places::{PASSPHRASE, plain_path, vault_named};
 use crate::staging::is_not_below;
 use crate::work::entered;
-use content_writing::{Buffers, VaultContent, write_content};
+use content_writing::{Buffers, write_content};
 use cryptomator_conf::Combo;
 use folder_model::FPath;
 use kdf_suite::ScryptCost;
 use plain_tree::PlainPath;
 use row_stage::{Handed, Stage, Stop};
 use row_words::cut;
+use vault_contents::VaultContent;
 use vault_read::{ContentReader, Vault};
 use vault_write::{
     PutFault, SourceContent, init_cm, init_cm_combo, init_go, place_dir, place_file, put,

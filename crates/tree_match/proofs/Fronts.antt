@@ -6,7 +6,7 @@ use Rattle.std.proofs.lemmas.Bool.Decides.{eqb_tells}
 use Rattle.std.proofs.lemmas.List.{take-append-drop, length-take-le}
 use Rattle.chunk_files.specs.Reading.{Ending, Whole, Wanting, Faulty}
 use Rattle.folder_spec.specs.Path.{Path}
-use Rattle.vault_read.specs.declared.fault.Limit.TheVariants.{Depth, Items, Length, Input}
+use Rattle.vault_faults.specs.declared.fault.Limit.TheVariants.{Depth, Items, Length, Input}
 use Rattle.tree_match.specs.Comparing.{Content, Outcome, Is, Stops, IsFault, is_cut, compared}
 use Rattle.tree_match.specs.Pieces.{Opened, nothing_before, uncompared}
 use Rattle.tree_match.specs.declared.answer.MatchFault.{MatchFault}

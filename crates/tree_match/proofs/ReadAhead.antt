@@ -5,9 +5,9 @@ use Rattle.std.proofs.lemmas.List.{length-take-le, length-take, length-drop, nil
 use Rattle.chunk_files.specs.Reading.{Reading, Whole, Wanting, Faulty, ends}
 use Rattle.folder_spec.specs.Path.{Path}
 use Rattle.vault_read.specs.Contents.{Passes, GivesBytes, Gives}
-use Rattle.vault_read.specs.declared.fault.Limit.TheVariants.{Depth, Items, Length, Input}
-use Rattle.vault_read.specs.declared.fault.CatFault.{CatFault}
-use Rattle.vault_read.specs.declared.fault.CatFault.TheVariants as cat
+use Rattle.vault_faults.specs.declared.fault.Limit.TheVariants.{Depth, Items, Length, Input}
+use Rattle.vault_faults.specs.declared.fault.CatFault.{CatFault}
+use Rattle.vault_faults.specs.declared.fault.CatFault.TheVariants as cat
 use Rattle.tree_match.specs.Comparing.{IsFault, content_of}
 use Rattle.tree_match.specs.Pieces.{Opened, nothing_before, of_reader, uncompared}
 use Rattle.tree_match.proofs.Fronts.{front}

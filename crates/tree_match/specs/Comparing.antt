@@ -7,7 +7,7 @@ use Rattle.chunk_files.specs.Reading.{Ending, Whole, Wanting, Faulty, Reading}
 use Rattle.folder_spec.specs.Path.{Path}
 use Rattle.folder_spec.specs.View.{View, Found, NoEntry, Folder, FileOf, Special}
 use Rattle.vault_read.specs.Contents.{limited_reading}
-use Rattle.vault_read.specs.declared.fault.Limit.TheVariants.{Depth, Items, Length, Input}
+use Rattle.vault_faults.specs.declared.fault.Limit.TheVariants.{Depth, Items, Length, Input}
 use Rattle.tree_match.specs.declared.answer.MatchFault.{MatchFault}
 use Rattle.tree_match.specs.declared.answer.MatchFault.TheVariants.{Damaged, Limit, Failed, NoMemory}
 

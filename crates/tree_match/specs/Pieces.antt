@@ -8,8 +8,8 @@ use Rattle.folder_spec.specs.Path.{Path}
 use Rattle.plain_tree.specs.Names as plain
 use Rattle.plain_tree.specs.Order.{path_cmp, path_eq}
 use Rattle.vault_read.specs.Contents.{content_limit, still}
-use Rattle.vault_read.specs.declared.fault.CatFault.{CatFault}
-use Rattle.vault_read.specs.declared.fault.CatFault.TheVariants as cat
+use Rattle.vault_faults.specs.declared.fault.CatFault.{CatFault}
+use Rattle.vault_faults.specs.declared.fault.CatFault.TheVariants as cat
 use Rattle.vault_spec.specs.Plan.{Planned}
 use Rattle.tree_match.specs.Comparing.{Content, IsFault}
 use Rattle.tree_match.specs.declared.answer.MatchFault.{MatchFault}

@@ -3,7 +3,7 @@ use chunk_files::ChunkFault;
 use folder_model::FPath;
 use plain_tree::PlainPath;
 use std::alloc::AllocError;
-use vault_read::{CatFault, Limit};
+use vault_faults::{CatFault, Limit};
 
 /// Either vault of a migration.
 #[derive(Clone, Copy, Debug, PartialEq, Eq)]

@@ -4,10 +4,10 @@ use Rattle.chunk_files.specs.declared.fault.ChunkFault.{ChunkFault}
 use Rattle.chunk_files.specs.Reading.{Ending, Whole, Wanting, Faulty, Reading}
 use Rattle.folder_spec.specs.Path.{Path}
 use Rattle.vault_read.specs.Contents.{Gives, GivesBytes, IsReaderFault, Passes, Stops}
-use Rattle.vault_read.specs.declared.fault.Limit.{Limit}
-use Rattle.vault_read.specs.declared.fault.Limit.TheVariants.{Depth, Items, Length, Input}
-use Rattle.vault_read.specs.declared.fault.CatFault.{CatFault}
-use Rattle.vault_read.specs.declared.fault.CatFault.TheVariants as cat
+use Rattle.vault_faults.specs.declared.fault.Limit.{Limit}
+use Rattle.vault_faults.specs.declared.fault.Limit.TheVariants.{Depth, Items, Length, Input}
+use Rattle.vault_faults.specs.declared.fault.CatFault.{CatFault}
+use Rattle.vault_faults.specs.declared.fault.CatFault.TheVariants as cat
 
 passed : (before after : Reading) → Passes before after → before.ending ≡ after.ending
 passed before after (k, is) = ap (λ (r : Reading). r.ending) is

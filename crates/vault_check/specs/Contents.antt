@@ -16,7 +16,7 @@ use Rattle.vault_spec.specs.Findings.{finding_of, number_of}
 use Rattle.vault_spec.specs.Format.{Format}
 use Rattle.vault_spec.specs.Plan.{Planned}
 use Rattle.vault_walk.specs.declared.fault.Finding.{Finding}
-use Rattle.vault_read.specs.declared.fault.Limit.TheVariants as limit
+use Rattle.vault_faults.specs.declared.fault.Limit.TheVariants as limit
 use Rattle.vault_check.specs.declared.fault.CheckFault.{CheckFault}
 use Rattle.vault_check.specs.declared.fault.CheckFault.TheVariants as check
 

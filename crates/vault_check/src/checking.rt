@@ -4,7 +4,7 @@ ghost use Rattle.folder_spec.specs.Path.{Path};
 ghost use Rattle.folder_spec.specs.Seen.{IfSeen, IsSeen, under};
 ghost use Rattle.folder_spec.specs.View.{View};
 ghost use Rattle.port_model.specs.Counts.{CountRose};
-ghost use Rattle.vault_read.specs.declared.fault.Limit.TheVariants.{Depth, Items, Length};
+ghost use Rattle.vault_faults.specs.declared.fault.Limit.TheVariants.{Depth, Items, Length};
 ghost use Rattle.vault_spec.specs.Vault.{format_of};
 ghost use Rattle.vault_walk.specs.Survey.{HasTooMany};
 ghost use Rattle.vault_walk.specs.Surveyed.{IsOnlyTooDeep, IsWithin};

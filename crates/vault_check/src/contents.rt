@@ -4,7 +4,7 @@ ghost use Rattle.chunk_files.specs.Reading.{Wanting};
 ghost use Rattle.folder_spec.specs.Path.{Path};
 ghost use Rattle.folder_spec.specs.Seen.{IfSeen, ShowsFile};
 ghost use Rattle.port_model.specs.Counts.{CountRose};
-ghost use Rattle.vault_read.specs.declared.fault.Limit.TheVariants.{Length};
+ghost use Rattle.vault_faults.specs.declared.fault.Limit.TheVariants.{Length};
 ghost use Rattle.vault_spec.specs.Findings.{finding_of, number_of};
 ghost use Rattle.vault_spec.specs.Vault.{format_of};
 ghost use Rattle.vault_check.specs.Contents.{AreContentsOf, EndsAs, HasRead, IsContentFault, content_of, ending_of, told_damage};
@@ -15,7 +15,8 @@ use chunk_files::{ChunkBuf, ChunkFault};
 use folder_model::{FPath, Folder};
 use plain_tree::NodeKind;
 use std::alloc::{AllocError, Global};
-use vault_read::{CatFault, ContentReader, Vault};
+use vault_faults::CatFault;
+use vault_read::{ContentReader, Vault};
 use vault_walk::{Finding, PlanItem};
 
 // The paths of the files' contents in order, each once.

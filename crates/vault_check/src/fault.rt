@@ -1,7 +1,7 @@
 //! Why a vault isn't checked, or isn't repaired.
 use folder_spec::FolderFault;
 use std::alloc::AllocError;
-use vault_read::Limit;
+use vault_faults::Limit;
 use vault_walk::WalkFault;
 
 /// Why a vault isn't checked, or isn't repaired.

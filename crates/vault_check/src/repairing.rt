@@ -6,7 +6,7 @@ ghost use Rattle.folder_spec.specs.Path.{Path};
 ghost use Rattle.folder_spec.specs.Seen.{IfSeen, under};
 ghost use Rattle.folder_spec.specs.State.{present};
 ghost use Rattle.port_model.specs.Counts.{CountRose};
-ghost use Rattle.vault_read.specs.declared.fault.Limit.TheVariants.{Depth, Items};
+ghost use Rattle.vault_faults.specs.declared.fault.Limit.TheVariants.{Depth, Items};
 ghost use Rattle.vault_spec.specs.Moving.{IsStray};
 ghost use Rattle.vault_spec.specs.Vault.{format_of};
 ghost use Rattle.vault_walk.specs.Survey.{HasTooMany};

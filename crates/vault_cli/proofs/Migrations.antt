@@ -36,7 +36,7 @@ use Rattle.tree_match.specs.Alone.{StaysGuarded}
 use Rattle.tree_match.specs.Guard.{Migration, Guarded, IsSafe, LosesNothing}
 use Rattle.tree_match.specs.declared.answer.MatchFault.TheVariants as match
 use Rattle.tree_match.specs.declared.answer.Side.{Side}
-use Rattle.vault_read.specs.declared.fault.Limit.TheVariants as limit
+use Rattle.vault_faults.specs.declared.fault.Limit.TheVariants as limit
 use Rattle.vault_read.specs.declared.fault.LoadFault.{LoadFault}
 use Rattle.vault_cli.specs.Migrate.{HasMigrated, IsAskedFor, MigratesApart, MigratesTree, Pair, first_overlap, pair}
 use Rattle.vault_cli.specs.Migrate as migrating

@@ -6,7 +6,7 @@ use Rattle.migrate_core.specs.Completing.{IsOfChance}
 use Rattle.migrate_core.specs.declared.fault.MoveFault.{MoveFault}
 use Rattle.migrate_core.specs.declared.fault.MoveFault.TheVariants as move
 use Rattle.tree_match.specs.declared.answer.MatchFault.TheVariants as match
-use Rattle.vault_read.specs.declared.fault.Limit.TheVariants as limit
+use Rattle.vault_faults.specs.declared.fault.Limit.TheVariants as limit
 use Rattle.command_answers.specs.Answers.{status_of}
 use Rattle.vault_cli.specs.Demo.{EndsWork, chances_by, is_status_of_chance}
 use Rattle.vault_cli.specs.Faults.{of_move}

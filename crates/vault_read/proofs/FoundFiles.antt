@@ -15,8 +15,8 @@ use Rattle.vault_spec.specs.Find.{Refusal, find}
 use Rattle.vault_spec.specs.Find as spec
 use Rattle.vault_spec.specs.declared.Lack.{Lack}
 use Rattle.vault_spec.specs.Vault.{Vault, Gocryptfs, Cryptomator, format_of}
-use Rattle.vault_read.specs.declared.fault.FindFault.{FindFault}
-use Rattle.vault_read.specs.declared.fault.FindFault.TheVariants.{NotFound, WrongKind, NoDirKey, NoFolder, Failed, NoMemory}
+use Rattle.vault_faults.specs.declared.fault.FindFault.{FindFault}
+use Rattle.vault_faults.specs.declared.fault.FindFault.TheVariants.{NotFound, WrongKind, NoDirKey, NoFolder, Failed, NoMemory}
 use Rattle.vault_read.specs.declared.finding.Place.{Place}
 use Rattle.vault_read.specs.Finding.{Refuses, IsPlace}
 use Rattle.vault_read.specs.Contents.{file_found}

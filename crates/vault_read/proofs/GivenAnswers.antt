@@ -6,9 +6,9 @@ use Rattle.chunk_files.specs.Decoding.{Decoding}
 use Rattle.folder_spec.specs.Path.{Path}
 use Rattle.vault_read.specs.Contents.{Passes, GivesBytes, Gives, still}
 use Rattle.vault_read.specs.Reading.{GivesOf}
-use Rattle.vault_read.specs.declared.fault.Limit.TheVariants.{Length}
-use Rattle.vault_read.specs.declared.fault.CatFault.{CatFault}
-use Rattle.vault_read.specs.declared.fault.CatFault.TheVariants.{Damaged, Limit}
+use Rattle.vault_faults.specs.declared.fault.Limit.TheVariants.{Length}
+use Rattle.vault_faults.specs.declared.fault.CatFault.{CatFault}
+use Rattle.vault_faults.specs.declared.fault.CatFault.TheVariants.{Damaged, Limit}
 use Rattle.vault_read.specs.declared.reader.Given.{Given}
 use Rattle.vault_read.specs.declared.reader.Given.TheVariants.{Bytes, End, Damage, PastLimit}
 

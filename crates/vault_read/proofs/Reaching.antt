@@ -8,8 +8,8 @@ use Rattle.vault_spec.specs.Standing.{Standing, Absent, Strange, File, Dir, root
 use Rattle.vault_spec.specs.Find.{Refusal, find, find_from, enter, enter_from, entered, item_there, then_in}
 use Rattle.vault_spec.specs.Find as spec
 use Rattle.vault_spec.specs.declared.Lack.TheVariants as lacks
-use Rattle.vault_read.specs.declared.fault.FindFault.{FindFault}
-use Rattle.vault_read.specs.declared.fault.FindFault.TheVariants.{NotFound, WrongKind, NoDirKey, NoFolder, Failed, NoMemory}
+use Rattle.vault_faults.specs.declared.fault.FindFault.{FindFault}
+use Rattle.vault_faults.specs.declared.fault.FindFault.TheVariants.{NotFound, WrongKind, NoDirKey, NoFolder, Failed, NoMemory}
 use Rattle.vault_read.specs.Finding.{Refuses, reached_from}
 
 -- what is reached stands there

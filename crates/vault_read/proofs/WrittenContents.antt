@@ -13,13 +13,14 @@ use Rattle.plain_tree.specs.Names as plain
 use Rattle.chunk_files.specs.Reading.{Ending, Whole, Wanting, Faulty, Reading, ends, chunk_before}
 use Rattle.chunk_files.specs.Decoding.{chunks_before}
 use Rattle.vault_spec.specs.Format.{Format}
-use Rattle.vault_read.specs.Contents.{IsCatFault, IsReaderFault, Passes, Stops, GivesBytes, Gives, Writes, IsContent, Cats, content_at, of_find}
+use Rattle.vault_read.specs.Contents.{IsCatFault, IsReaderFault, Passes, Stops, GivesBytes, Gives, Writes, IsContent, Cats, content_at}
+use Rattle.vault_faults.specs.Contents.{of_find}
 use Rattle.vault_read.specs.Reading.{HasWritten}
-use Rattle.vault_read.specs.declared.fault.FindFault.{FindFault}
-use Rattle.vault_read.specs.declared.fault.FindFault.TheVariants as finds
-use Rattle.vault_read.specs.declared.fault.Limit.TheVariants.{Depth, Items, Length, Input}
-use Rattle.vault_read.specs.declared.fault.CatFault.{CatFault}
-use Rattle.vault_read.specs.declared.fault.CatFault.TheVariants.{Find, Damaged, Limit, Sink, Failed, NoMemory}
+use Rattle.vault_faults.specs.declared.fault.FindFault.{FindFault}
+use Rattle.vault_faults.specs.declared.fault.FindFault.TheVariants as finds
+use Rattle.vault_faults.specs.declared.fault.Limit.TheVariants.{Depth, Items, Length, Input}
+use Rattle.vault_faults.specs.declared.fault.CatFault.{CatFault}
+use Rattle.vault_faults.specs.declared.fault.CatFault.TheVariants.{Find, Damaged, Limit, Sink, Failed, NoMemory}
 use Rattle.vault_read.specs.Finding.{Refuses}
 
 nothing_joined : (k : ℕ) → concat (replicate {A = List ℕ} k []) ≡ []

@@ -3,8 +3,6 @@ use Rattle.std.specs.Prelude.{◌≡◌, ◌⊎◌, ℕ, zero, suc, ◌≤◌, t
 use Rattle.std.specs.List.{concat}
 use Rattle.std.specs.Io.KnownBytes.{Appends, Keeps}
 use Rattle.port_model.specs.Told.{AppendsPrefix}
-use Rattle.folder_spec.specs.declared.FolderFault.{FolderFault}
-use Rattle.folder_spec.specs.declared.FolderFault.TheVariants as folder
 use Rattle.folder_spec.specs.Path.{Path}
 use Rattle.folder_spec.specs.View.{View, FileOf}
 use Rattle.folder_spec.specs.Seen.{under}
@@ -18,11 +16,11 @@ use Rattle.vault_spec.specs.Standing.{Standing, Absent, Strange, File, Dir, stan
 use Rattle.vault_spec.specs.Find.{Refusal, find}
 use Rattle.vault_spec.specs.Find as spec
 use Rattle.vault_read.specs.Finding.{Refuses}
-use Rattle.vault_read.specs.declared.fault.FindFault.{FindFault}
-use Rattle.vault_read.specs.declared.fault.FindFault.TheVariants as finds
-use Rattle.vault_read.specs.declared.fault.Limit.TheVariants.{Depth, Items, Length, Input}
-use Rattle.vault_read.specs.declared.fault.CatFault.{CatFault}
-use Rattle.vault_read.specs.declared.fault.CatFault.TheVariants.{Find, Damaged, Limit, Sink, Failed, NoMemory}
+use Rattle.vault_faults.specs.declared.fault.FindFault.{FindFault}
+use Rattle.vault_faults.specs.declared.fault.FindFault.TheVariants as finds
+use Rattle.vault_faults.specs.declared.fault.Limit.TheVariants.{Depth, Items, Length, Input}
+use Rattle.vault_faults.specs.declared.fault.CatFault.{CatFault}
+use Rattle.vault_faults.specs.declared.fault.CatFault.TheVariants.{Find, Damaged, Limit, Sink, Failed, NoMemory}
 
 -- the most bytes of a content file, 2^40
 abbrev pub content_limit : ℕ
@@ -92,20 +90,6 @@ IsReaderFault at (Find fault) = ⊥
 IsReaderFault at Sink = ⊥
 
 -- ---- `cat`
-
--- the fault of a folder, and of looking for a path, as reading a content tells it
-abbrev pub of_folder : FolderFault → CatFault
-of_folder folder.Failed = Failed
-of_folder folder.Refused = Failed
-of_folder folder.NoMemory = NoMemory
-
-abbrev pub of_find : FindFault → CatFault
-of_find (finds.NotFound path) = Find (finds.NotFound path)
-of_find (finds.WrongKind path) = Find (finds.WrongKind path)
-of_find (finds.NoDirKey at) = Find (finds.NoDirKey at)
-of_find (finds.NoFolder at) = Find (finds.NoFolder at)
-of_find finds.Failed = Failed
-of_find finds.NoMemory = NoMemory
 
 -- the file that is found, by where its content is; a directory is of the wrong kind
 abbrev pub file_found : plain.Path → Result Standing Refusal → Result Path Refusal

@@ -1,7 +1,5 @@
 -- How looking for a plain path answers, by what stands there.
 use Rattle.std.specs.Prelude.{◌≡◌, [], ◌∷◌, ◌++◌, Result, Ok, Err}
-use Rattle.folder_spec.specs.declared.FolderFault.{FolderFault}
-use Rattle.folder_spec.specs.declared.FolderFault.TheVariants as folder
 use Rattle.folder_spec.specs.Path.{Path}
 use Rattle.folder_spec.specs.View.{View}
 use Rattle.plain_tree.specs.Names as plain
@@ -11,16 +9,10 @@ use Rattle.vault_spec.specs.Standing.{Standing, Absent, Strange, File, Dir, stan
 use Rattle.vault_spec.specs.Find.{Refusal, entered, then_in}
 use Rattle.vault_spec.specs.Find as spec
 use Rattle.vault_spec.specs.declared.Lack.TheVariants as lacks
-use Rattle.vault_read.specs.declared.fault.FindFault.{FindFault}
-use Rattle.vault_read.specs.declared.fault.FindFault.TheVariants.{NotFound, WrongKind, NoDirKey, NoFolder, Failed, NoMemory}
+use Rattle.vault_faults.specs.declared.fault.FindFault.{FindFault}
+use Rattle.vault_faults.specs.declared.fault.FindFault.TheVariants.{NotFound, WrongKind, NoDirKey, NoFolder, Failed, NoMemory}
 use Rattle.vault_read.specs.declared.finding.Place.{Place}
 use Rattle.vault_read.specs.declared.finding.DirPlace.{DirPlace}
-
--- the fault of a folder, as looking for a path tells it
-abbrev pub of_folder : FolderFault → FindFault
-of_folder folder.Failed = Failed
-of_folder folder.Refused = Failed
-of_folder folder.NoMemory = NoMemory
 
 -- The folder may fail, and memory may be refused, whatever stands there. Any other fault is this refusal, with its folder's path
 -- behind the root's.

@@ -9,7 +9,6 @@ ghost use Rattle.vault_read.specs.Finding.{Refuses};
 ghost use Rattle.vault_read.specs.Reading.{IsContentAt};
 ghost use Rattle.vault_read.specs.Contents.{IsBeingRead, still, content_at, IsCatFault, Writes, Cats};
 
-use crate::fault::{CatFault, FindFault};
 use crate::finding::find;
 use crate::reader::ContentReader;
 use crate::vault::Vault;
@@ -18,6 +17,7 @@ use folder_model::{FPath, Folder};
 use plain_tree::{NodeKind, PlainPath};
 use port_model::Sink;
 use std::alloc::Global;
+use vault_faults::{CatFault, FindFault};
 use vault_spec::laws::what_is_found_stands;
 
 /// Writes the content of the file at a plain path chunk by chunk, and answers its length.

@@ -12,7 +12,6 @@ ghost use Rattle.vault_read.specs.Opened.{FitsKey};
 ghost use Rattle.vault_read.specs.Stands.{standing_of, EntersFit};
 ghost use Rattle.vault_read.specs.Finding.{Refuses, IsPlace, IsDirPlace, reached_from};
 
-use crate::fault::FindFault;
 use crate::looking::joined;
 use crate::standing::{Directory, Standing, root_standing, standing_in};
 use crate::vault::Vault;
@@ -20,6 +19,7 @@ use folder_model::{FPath, Folder};
 use plain_tree::{Name, NodeKind, PlainPath};
 use std::alloc::{AllocError, Global};
 use text_model::Bytes;
+use vault_faults::FindFault;
 use vault_spec::Lack;
 
 /// A file or directory of a vault, and its path in the folder: the vault's root for the root, the entry for another directory,

@@ -17,7 +17,7 @@ pub mod standing;
 pub mod vault;
 
 pub use content::cat;
-pub use fault::{CatFault, FindFault, Limit, LoadFault};
+pub use fault::LoadFault;
 pub use finding::{DirPlace, Place, enter, find};
 pub use items::{EntryItem, item_at};
 pub use listing::{Item, NameAt, list, name_at};

@@ -17,7 +17,6 @@ ghost use Rattle.vault_read.specs.Items.{item_of};
 ghost use Rattle.vault_read.specs.Listing.{AreSorted, HasItems, IsItemOf, IsNameOf, IsTextAt, TellsNames, has_form, is_entry, is_long, named_item, stored_by};
 ghost use Rattle.vault_read.specs.declared.looking.SmallFile.TheVariants.{Whole};
 
-use crate::fault::FindFault;
 use crate::finding::enter_at;
 use crate::items::{EntryItem, item_at};
 use crate::looking::{SmallFile, joined, read_under};
@@ -29,6 +28,7 @@ use plain_tree::{Name, NodeKind, PlainPath};
 use std::alloc::{AllocError, Global};
 use std::marker::Model;
 use text_model::Text;
+use vault_faults::FindFault;
 use vault_names::laws::{
     cm_long_names_are_plain, cm_text_has_one_name, cm_texts_are_plain, long_names_are_plain,
     text_has_one_name, texts_are_plain,

@@ -9,13 +9,13 @@ ghost use Rattle.vault_spec.specs.Vault.{format_of};
 ghost use Rattle.vault_read.specs.Contents.{content_limit, limited_reading, Suits, IsBeingRead, still, Gives, IsReaderFault};
 ghost use Rattle.vault_read.specs.Reading.{IsInStep, FeedsOn, GivesGiven, GoesOn};
 
-use crate::fault::{CatFault, Limit};
 use crate::vault::Vault;
 use chunk_files::{ChunkBuf, ChunkFault, Decoder, Step};
 use folder_model::{FPath, Folder};
 use folder_spec::FolderFault;
 use std::alloc::{AllocError, Global};
 use std::marker::Model;
+use vault_faults::{CatFault, Limit};
 
 // The most bytes of a content file, 2^40.
 const CONTENT_LIMIT: u64 = 1_099_511_627_776;

@@ -1,7 +1,7 @@
 -- How the answers of a walk's calls go on.
 use Rattle.std.proofs.Common.{inl, inr, ℕ, ◌≤◌, Err, arith}
 use Rattle.port_model.specs.Counts.{CountRose}
-use Rattle.vault_read.specs.declared.fault.Limit.TheVariants as limit
+use Rattle.vault_faults.specs.declared.fault.Limit.TheVariants as limit
 use Rattle.vault_walk.specs.Levels.{Answers}
 use Rattle.vault_walk.specs.declared.fault.WalkFault.{WalkFault}
 use Rattle.vault_walk.specs.declared.fault.WalkFault.TheVariants as fault

@@ -10,7 +10,7 @@ use Rattle.plain_tree.specs.declared.NodeKind.{NodeKind}
 use Rattle.plain_tree.specs.declared.NodeKind.TheVariants as node
 use Rattle.port_model.specs.Counts.{CountRose}
 use Rattle.vault_read.specs.Opened.{FitsKey}
-use Rattle.vault_read.specs.declared.fault.Limit.TheVariants as limit
+use Rattle.vault_faults.specs.declared.fault.Limit.TheVariants as limit
 use Rattle.vault_spec.specs.Findings.{number_of}
 use Rattle.vault_spec.specs.Format.{Format, Directory, key_of}
 use Rattle.vault_spec.specs.Plan.{Planned}

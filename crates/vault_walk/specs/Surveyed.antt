@@ -18,7 +18,7 @@ use Rattle.vault_walk.specs.declared.fault.WalkFault.TheVariants as fault
 use Rattle.vault_walk.specs.declared.found.Found.{Found}
 use Rattle.vault_walk.specs.declared.surveying.Surveyed.{Surveyed}
 use Rattle.vault_walk.specs.declared.twice.Target.{Target}
-use Rattle.vault_read.specs.declared.fault.Limit.TheVariants as limit
+use Rattle.vault_faults.specs.declared.fault.Limit.TheVariants as limit
 
 abbrev pub placed : Path → Planned → Planned
 placed root item = record { path = item.path; node = item.node; at = root ++ item.at }

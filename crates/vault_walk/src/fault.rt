@@ -3,7 +3,7 @@ use chunk_files::ChunkFault;
 use folder_model::FPath;
 use folder_spec::FolderFault;
 use std::alloc::AllocError;
-use vault_read::Limit;
+use vault_faults::Limit;
 
 /// A finding: its path in the folder, its number, and the fault of a damaged content.
 #[derive(Debug, Drop)]

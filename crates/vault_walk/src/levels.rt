@@ -30,7 +30,8 @@ use plain_tree::{NodeKind, PlainPath};
 use std::alloc::{AllocError, Global};
 use std::collections::BTreeSet;
 use std::marker::Model;
-use vault_read::{Directory, Limit, Standing, Vault, root_standing};
+use vault_faults::Limit;
+use vault_read::{Directory, Standing, Vault, root_standing};
 use vault_spec::laws::what_stands_is_found_step_by_step;
 use vault_spec::{Finding, Lack};
 

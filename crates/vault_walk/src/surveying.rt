@@ -11,7 +11,7 @@ ghost use Rattle.folder_spec.specs.View.{View};
 ghost use Rattle.plain_tree.specs.declared.NodeKind.TheVariants as node;
 ghost use Rattle.port_model.specs.Counts.{CountRose};
 ghost use Rattle.vault_read.specs.Laws.{HasOwnFolders};
-ghost use Rattle.vault_read.specs.declared.fault.Limit.TheVariants.{Depth, Items};
+ghost use Rattle.vault_faults.specs.declared.fault.Limit.TheVariants.{Depth, Items};
 ghost use Rattle.vault_spec.specs.Findings.{IsClean, IsFileAt};
 ghost use Rattle.vault_spec.specs.Plan.{Planned};
 ghost use Rattle.vault_spec.specs.Vault.{format_of};

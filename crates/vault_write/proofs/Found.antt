@@ -8,8 +8,8 @@ use Rattle.folder_spec.specs.Seen.{IfSeen, IsSeen, under}
 use Rattle.folder_spec.specs.View.{Found, NoEntry, Folder, FileOf, Special, View}
 use Rattle.plain_tree.specs.Names as plain
 use Rattle.vault_read.specs.Finding.{IsDirPlace, Refuses}
-use Rattle.vault_read.specs.declared.fault.FindFault.{FindFault}
-use Rattle.vault_read.specs.declared.fault.FindFault.TheVariants as finds
+use Rattle.vault_faults.specs.declared.fault.FindFault.{FindFault}
+use Rattle.vault_faults.specs.declared.fault.FindFault.TheVariants as finds
 use Rattle.content_writing.specs.Faults.{of_find}
 use Rattle.vault_read.specs.Opened.{OpenedVault, kind_of}
 use Rattle.vault_read.specs.declared.vault.VaultKind.TheVariants as kind

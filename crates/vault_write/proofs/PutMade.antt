@@ -17,8 +17,8 @@ use Rattle.plain_tree.specs.Names as plain
 use Rattle.vault_read.specs.Finding.{Refuses}
 use Rattle.vault_read.specs.Laws.{KeepsVaults}
 use Rattle.vault_read.specs.Opened.{OpenedVault}
-use Rattle.vault_read.specs.declared.fault.FindFault.{FindFault}
-use Rattle.vault_read.specs.declared.fault.FindFault.TheVariants as finds
+use Rattle.vault_faults.specs.declared.fault.FindFault.{FindFault}
+use Rattle.vault_faults.specs.declared.fault.FindFault.TheVariants as finds
 use Rattle.vault_spec.specs.Find as spec
 use Rattle.vault_spec.specs.Find.{Refusal, enter}
 use Rattle.vault_spec.specs.declared.Lack.TheVariants as lacks

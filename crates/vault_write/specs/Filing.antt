@@ -18,7 +18,7 @@ use Rattle.plain_tree.specs.Names as plain
 use Rattle.work_folder.specs.Entering.{IsReady}
 use Rattle.work_folder.specs.Entries.{stage_path}
 use Rattle.vault_read.specs.Opened.{OpenedVault}
-use Rattle.vault_read.specs.declared.fault.FindFault.TheVariants as finds
+use Rattle.vault_faults.specs.declared.fault.FindFault.TheVariants as finds
 use Rattle.vault_spec.specs.Cryptomator.{content_file, full_file}
 use Rattle.vault_spec.specs.Find.{Refusal, enter}
 use Rattle.vault_spec.specs.Making.{Allows, NewFile, NewItem, full_texts}

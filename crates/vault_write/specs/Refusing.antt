@@ -5,7 +5,7 @@ use Rattle.std.specs.Prelude.{◌≡◌, ◌≢◌, ℕ, List, [], ◌++◌, len
 use Rattle.folder_spec.specs.Path.{Path}
 use Rattle.folder_spec.specs.View.{View}
 use Rattle.vault_read.specs.Finding.{Refuses}
-use Rattle.vault_read.specs.declared.fault.FindFault.TheVariants as finds
+use Rattle.vault_faults.specs.declared.fault.FindFault.TheVariants as finds
 use Rattle.vault_spec.specs.Find.{enter}
 use Rattle.vault_spec.specs.Format.{Directory}
 use Rattle.vault_spec.specs.Making.{Allows, draws, taken}

@@ -32,8 +32,9 @@ use plain_tree::{Name, NodeKind, PlainPath};
 use port_model::Randoms;
 use std::alloc::Global;
 use text_model::Text;
+use vault_faults::FindFault;
 use vault_read::laws::{files_have_their_contents, items_keep_vaults};
-use vault_read::{FindFault, Place, Vault, VaultKind, find};
+use vault_read::{Place, Vault, VaultKind, find};
 use vault_spec::laws::what_is_found_stands;
 use work_folder::Work;
 

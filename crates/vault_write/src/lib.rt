@@ -12,7 +12,7 @@ pub mod laws;
 mod slot;
 mod stage;
 
-pub use content_writing::{Content, PutFault, SourceContent, VaultContent};
+pub use content_writing::{Content, PutFault, SourceContent};
 pub use directory::place_dir;
 pub use file::{place_file, put};
 pub use init::{init_cm, init_cm_combo, init_go};

@@ -17,7 +17,7 @@ use Rattle.folder_spec.proofs.Edits.{unchanged_shows}
 use Rattle.folder_spec.proofs.Moments.{went_on, went_more, went_to}
 use Rattle.plain_tree.specs.Names as plain
 use Rattle.vault_read.specs.Opened.{OpenedVault}
-use Rattle.vault_read.specs.declared.fault.FindFault.TheVariants as finds
+use Rattle.vault_faults.specs.declared.fault.FindFault.TheVariants as finds
 use Rattle.vault_spec.specs.Making.{NewItem, NewDirectory}
 use Rattle.vault_spec.specs.Vault.{Vault}
 use Rattle.vault_write.specs.Calls.{How, New, making_by, AnswersBy, MakesOne, MakesAt, MakesDirectory}

@@ -11,8 +11,8 @@ use Rattle.folder_spec.specs.Event.{Told}
 use Rattle.folder_spec.specs.Seen.{IfSeen}
 use Rattle.port_model.specs.Draws.{ByteStream}
 use Rattle.vault_read.specs.Opened.{OpenedVault}
-use Rattle.vault_read.specs.declared.fault.FindFault.TheVariants as finds
-use Rattle.vault_read.specs.declared.fault.Limit.TheVariants.{Input}
+use Rattle.vault_faults.specs.declared.fault.FindFault.TheVariants as finds
+use Rattle.vault_faults.specs.declared.fault.Limit.TheVariants.{Input}
 use Rattle.vault_spec.specs.Making.{NewFile}
 use Rattle.vault_spec.specs.Vault.{Vault}
 use Rattle.vault_write.specs.Calls.{InPlace, MakesAt, MakesFile, TakesContent, Writing}

@@ -2,7 +2,7 @@ use Rattle.std.proofs.Common.{Err, Ok, arith, refl, sym, ap, ◌∙◌, subst, [
 use Rattle.std.proofs.lemmas.Result.{err_from_is_err_and}
 use Rattle.chunk_files.specs.Decoding.{started}
 use Rattle.content_writing.specs.Content.{still_coming}
-use Rattle.content_writing.specs.VaultContents.{path_of, coming_of}
+use Rattle.vault_contents.specs.VaultContents.{path_of, coming_of}
 use Rattle.tree_match.specs.Alone.{Begun}
 use Rattle.vault_spec.specs.Making.{NewFile}
 use Rattle.vault_spec.specs.Plan.{Planned}

@@ -5,7 +5,7 @@ use Rattle.std.proofs.lemmas.Result.{err_from_is_err_and}
 use Rattle.folder_spec.specs.Seen.{IsSeen, under}
 use Rattle.vault_spec.specs.Alike.{place_of}
 use Rattle.vault_spec.specs.Vault.{format_of}
-use Rattle.vault_read.specs.declared.fault.Limit.TheVariants as limit
+use Rattle.vault_faults.specs.declared.fault.Limit.TheVariants as limit
 use Rattle.vault_check.specs.declared.fault.CheckFault.TheVariants as check
 use Rattle.vault_check.specs.Contents.{TellsDamage}
 use Rattle.vault_check.proofs.Damages.{contents_there, none_too_long, too_long}

@@ -3,7 +3,7 @@ use Rattle.std.proofs.lemmas.Result.{err_from_is_err_and}
 use Rattle.chunk_files.specs.Reading.{Wanting}
 use Rattle.folder_spec.specs.Seen.{IsSeen}
 use Rattle.vault_spec.specs.Vault.{format_of}
-use Rattle.vault_read.specs.declared.fault.Limit.TheVariants as limit
+use Rattle.vault_faults.specs.declared.fault.Limit.TheVariants as limit
 use Rattle.vault_check.specs.Contents.{EndsAs, TellsDamage, NoContent, Content}
 use Rattle.vault_check.specs.declared.fault.CheckFault.TheVariants as check
 use Rattle.vault_check.proofs.Contained.{front_more}

@@ -2,7 +2,7 @@ use Rattle.std.proofs.Common.{◌≡◌, ◌∙◌, refl, sym, ap, subst, arith}
 use Rattle.chunk_files.specs.Reading.{Reading}
 use Rattle.folder_spec.specs.Seen.{IsSeen, ShowsFile}
 use Rattle.vault_read.specs.Contents.{still}
-use Rattle.vault_read.specs.declared.fault.Limit.TheVariants.{Length}
+use Rattle.vault_faults.specs.declared.fault.Limit.TheVariants.{Length}
 use Rattle.vault_check.proofs.Endings.{ends_later, ends_whole, ends_faulty, ends_wanting, limit_named}
 use Rattle.vault_check.proofs.contents.fault_of.Goals as goal
 

@@ -1,7 +1,7 @@
 use Rattle.std.proofs.Common.{Err, refl, ap, ◌∙◌}
 use Rattle.content_writing.specs.Content.{still_coming}
 use Rattle.content_writing.specs.declared.fault.PutFault.TheVariants as puts
-use Rattle.vault_read.specs.declared.fault.FindFault.TheVariants as finds
+use Rattle.vault_faults.specs.declared.fault.FindFault.TheVariants as finds
 use Rattle.vault_write.specs.Calls.{InPlace, MakesFile}
 use Rattle.vault_write.proofs.DirectoryPlaced.{no_names}
 use Rattle.vault_write.proofs.FileMade.{root_file}

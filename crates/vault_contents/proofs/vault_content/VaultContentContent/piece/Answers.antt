@@ -4,10 +4,11 @@ use Rattle.std.proofs.lemmas.Result.{err_from_is_err_and}
 use Rattle.folder_spec.specs.View.{Found, FileOf, View}
 use Rattle.folder_spec.specs.Seen.{IsSeen}
 use Rattle.vault_read.specs.Contents.{Reader, Suits, still}
-use Rattle.content_writing.specs.Content.{Gives, IsTold, coming_read, held_before, held_in}
-use Rattle.content_writing.specs.Refilling.{Refills}
-use Rattle.content_writing.proofs.Refills.{GivesPiece, told_suits, read_suits, gives_told, piece_given, piece_failed}
-use Rattle.content_writing.proofs.vault_content.VaultContentContent.piece.Goals as goal
+use Rattle.content_writing.specs.Content.{Gives, IsTold}
+use Rattle.vault_contents.specs.Coming.{coming_read, held_before, held_in}
+use Rattle.vault_contents.specs.Refilling.{Refills}
+use Rattle.vault_contents.proofs.Refills.{GivesPiece, told_suits, read_suits, gives_told, piece_given, piece_failed}
+use Rattle.vault_contents.proofs.vault_content.VaultContentContent.piece.Goals as goal
 
 pub refill-filled-requires : goal.refill-filled-requires
 refill-filled-requires g c = λ v seen.

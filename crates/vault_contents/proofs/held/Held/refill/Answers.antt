@@ -2,11 +2,11 @@ use Rattle.std.proofs.Common.{◌≡◌, ◌≤◌, ◌-◌, ℕ, List, [], leng
 use Rattle.std.proofs.lemmas.List.{length-take-le, length-drop}
 use Rattle.std.proofs.lemmas.Result.{err_from_is_err_and}
 use Rattle.vault_read.specs.Contents.{still}
-use Rattle.content_writing.specs.Content.{held_before}
+use Rattle.vault_contents.specs.Coming.{held_before}
 use Rattle.content_writing.specs.Faults.{of_cat}
-use Rattle.content_writing.specs.Refilling.{Refills}
-use Rattle.content_writing.proofs.Refills.{refilled, unfilled}
-use Rattle.content_writing.proofs.held.Held.refill.Goals as goal
+use Rattle.vault_contents.specs.Refilling.{Refills}
+use Rattle.vault_contents.proofs.Refills.{refilled, unfilled}
+use Rattle.vault_contents.proofs.held.Held.refill.Goals as goal
 
 held_size : (start end : ℕ) (chunk : List ℕ) → end ≤ length chunk → length (take (end - start) (drop start chunk)) ≡ end - start
 held_size start end chunk within = length-take-le (end - start) (drop start chunk) (omega (arith, length-drop start chunk, within))

@@ -1,12 +1,12 @@
 //! The content of a file of a vault.
 ghost use Rattle.std.specs.Prelude.{◌≡◌, ◌≤◌, [], Some, None, IfOk, IfErr};
 ghost use Rattle.folder_spec.specs.View.{Found};
-ghost use Rattle.content_writing.specs.Content.{content_limit, coming_read, held_in};
+ghost use Rattle.content_writing.specs.Content.{content_limit};
+ghost use Rattle.vault_contents.specs.Coming.{coming_read, held_in};
 
-use crate::content::Content;
-use crate::fault::PutFault;
 use crate::held::Held;
 use chunk_files::ChunkBuf;
+use content_writing::{Content, PutFault};
 use folder_model::Folder;
 use std::alloc::{AllocError, Global};
 use vault_read::ContentReader;
@@ -25,7 +25,7 @@ pub struct VaultContent {
 }
 
 impl VaultContent {
-    ghost use Rattle.content_writing.specs.VaultContents.{path_of, coming_of};
+    ghost use Rattle.vault_contents.specs.VaultContents.{path_of, coming_of};
 
     /// The content that a reader still gives. It takes no memory; its buffer is taken by the first piece.
     pub fn new(alloc: Global, reader: ContentReader) -> VaultContent
@@ -56,8 +56,8 @@ impl VaultContent {
 }
 
 impl<F: Folder> Content<F> for VaultContent {
-    ghost use Rattle.content_writing.specs.Laws.{vault_contents_fit};
-    ghost use Rattle.content_writing.specs.VaultContents.{path_of, coming_of};
+    ghost use Rattle.vault_contents.specs.Laws.{vault_contents_fit};
+    ghost use Rattle.vault_contents.specs.VaultContents.{path_of, coming_of};
 
     ghost reads = { λ c. path_of c };
 

@@ -4,11 +4,11 @@ ghost use Rattle.port_model.specs.Counts.{CountRose};
 ghost use Rattle.folder_spec.specs.View.{FileOf};
 ghost use Rattle.folder_spec.specs.Seen.{IfSeen};
 ghost use Rattle.vault_read.specs.Contents.{IsBeingRead, still};
-ghost use Rattle.content_writing.specs.Content.{held_before};
-ghost use Rattle.content_writing.specs.Refilling.{Refills, IsReadingFault};
+ghost use Rattle.vault_contents.specs.Coming.{held_before};
+ghost use Rattle.vault_contents.specs.Refilling.{Refills, IsReadingFault};
 
-use crate::fault::PutFault;
 use chunk_files::ChunkBuf;
+use content_writing::PutFault;
 use folder_model::Folder;
 use std::alloc::{AllocError, Global};
 use std::marker::Model;

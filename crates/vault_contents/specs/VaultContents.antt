@@ -2,8 +2,9 @@
 use Rattle.std.specs.Prelude.{Option, Some}
 use Rattle.folder_spec.specs.Path.{Path}
 use Rattle.folder_spec.specs.View.{Found}
-use Rattle.content_writing.specs.declared.vault_content.VaultContent.{VaultContent}
-use Rattle.content_writing.specs.Content.{Coming, coming_read, held_in}
+use Rattle.vault_contents.specs.declared.vault_content.VaultContent.{VaultContent}
+use Rattle.content_writing.specs.Content.{Coming}
+use Rattle.vault_contents.specs.Coming.{coming_read, held_in}
 
 -- the path of the file
 abbrev pub path_of : VaultContent → Option Path

@@ -1,0 +1,19 @@
+//! A law of the definitions. The function computes nothing, and its clause is the law.
+ghost use Rattle.std.specs.Prelude.{◌≡◌, ℕ, List, [], Some};
+ghost use Rattle.chunk_files.specs.Decoding.{started};
+ghost use Rattle.chunk_files.specs.Keys.{Keys};
+ghost use Rattle.folder_spec.specs.Path.{Path};
+ghost use Rattle.folder_spec.specs.View.{FileOf};
+ghost use Rattle.content_writing.specs.Content.{content_limit};
+ghost use Rattle.vault_read.specs.Contents.{limited_reading};
+ghost use Rattle.vault_contents.specs.Coming.{coming_read, held_before};
+
+use chunk_files::laws::readings_are_no_longer;
+
+/// The law that a file of a vault tells from its start on all that it gives: no more bytes than are read of
+/// it, for which a content has room.
+pub fn files_fit_as_contents()
+    ensures { (keys : Keys) (at : Path) (bytes : List ℕ) → coming_read (record { at = at; decoding = started keys }) content_limit [] (FileOf bytes) ≡ Some (held_before at [] (limited_reading keys bytes)) }
+{
+    readings_are_no_longer();
+}

@@ -1,0 +1,3 @@
+-- Why calls refuse that look for a path of a vault or read a content of it.
+pub mod Finding
+pub mod Contents

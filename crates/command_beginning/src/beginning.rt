@@ -10,7 +10,7 @@ ghost use Rattle.command_beginning.specs.Faults.{of_work};
 ghost use Rattle.command_opening.specs.Opening.{IsPhrase, Opens};
 ghost use Rattle.command_opening.specs.Refusing.{RefusesPass};
 ghost use Rattle.command_beginning.specs.Refusing.{RefusesSite, RefusesWork};
-ghost use Rattle.vault_write.specs.Placing.{MayMake};
+ghost use Rattle.content_writing.specs.Placing.{MayMake};
 
 use command_answers::{Answer, Limit, Named};
 use command_opening::{do_overlap, load, overlapping, read_pass};

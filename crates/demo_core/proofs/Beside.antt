@@ -2,7 +2,7 @@
 use Rattle.std.proofs.Common.{◌≡◌, ◌≢◌, ℕ, Bool, List, Option, Result, Some, None, IsTrue, ◌∙◌, ◌&&◌, true, false, not, is_none, ap, subst, sym, refl}
 use Rattle.content_writing.specs.declared.fault.PutFault.{PutFault}
 use Rattle.vault_write.specs.Founding.{Founds, MayFound, IsFounding, founding, texts, vault_edit}
-use Rattle.vault_write.specs.Making.{StagesOrPlaces, is_apart, is_inside, is_unstaged}
+use Rattle.content_writing.specs.Making.{StagesOrPlaces, is_apart, is_inside, is_unstaged}
 use Rattle.folder_spec.specs.Event.{Event, FromTo, Told}
 use Rattle.folder_spec.specs.Moments.{Moments, Went}
 use Rattle.folder_spec.specs.Path.{Part, Path, below}

@@ -20,7 +20,7 @@ use Rattle.vault_read.specs.declared.fault.LoadFault.{LoadFault}
 use Rattle.vault_read.specs.declared.fault.LoadFault.TheVariants as load
 use Rattle.vault_spec.specs.Vault.{Answer, IsVault, Loads, Vault}
 use Rattle.vault_write.specs.Founding.{CmDrew, GoDrew}
-use Rattle.vault_write.specs.Making.{is_apart, is_inside, is_unstaged}
+use Rattle.content_writing.specs.Making.{is_apart, is_inside, is_unstaged}
 use Rattle.work_folder.specs.Entering.{Empties, EntersAs, IsFresh, IsReady}
 use Rattle.work_folder.specs.Entries.{IsForeign, is_foreign, stage_path}
 use Rattle.work_folder.specs.Looking as looking

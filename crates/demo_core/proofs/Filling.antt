@@ -18,7 +18,8 @@ use Rattle.folder_spec.specs.State.{State}
 use Rattle.vault_write.specs.Faults.{IsDirectoryFault, IsFileFault}
 use Rattle.vault_read.specs.Contents.{IsOfPath}
 use Rattle.vault_read.specs.Finding as finding
-use Rattle.vault_read.specs.Opened.{OpenedVault, kind_of}
+use Rattle.vault_spec.specs.Opened.{OpenedVault}
+use Rattle.vault_read.specs.Opened.{kind_of}
 use Rattle.vault_faults.specs.declared.fault.FindFault.{FindFault}
 use Rattle.vault_faults.specs.declared.fault.FindFault.TheVariants as find
 use Rattle.vault_read.specs.declared.vault.VaultKind.TheVariants as kind
@@ -31,11 +32,11 @@ use Rattle.vault_spec.specs.Opens.{tree}
 use Rattle.vault_spec.specs.Tidy.{IsTidy, OwnPlacesAreFree}
 use Rattle.vault_spec.specs.Vault.{Cryptomator, Gocryptfs, IsVault, Vault, format_of}
 use Rattle.vault_write.specs.Calls.{MakesAt, MakesOne, New, making_by}
-use Rattle.vault_write.specs.Making.{Placing, StagesOrPlaces, is_apart}
-use Rattle.vault_write.specs.Placing.{EndsAs, HasVault, IsMaking, ShowsNewTree, making_at}
+use Rattle.content_writing.specs.Making.{Placing, StagesOrPlaces, is_apart}
+use Rattle.content_writing.specs.Placing.{EndsAs, HasVault, IsMaking, ShowsNewTree, making_at}
 use Rattle.vault_write.specs.Refusing.{Answers, HasTaken}
-use Rattle.vault_write.specs.Trees.{GainsItem, StaysGood}
-use Rattle.vault_write.specs.Trees as trees
+use Rattle.content_writing.specs.Trees.{GainsItem, StaysGood}
+use Rattle.content_writing.specs.Trees as trees
 use Rattle.demo_core.specs.Drawing.{HasZeroRun}
 use Rattle.demo_core.specs.Demonstration.{bytes_from, content_of, is_directory, path_of, size_of}
 use Rattle.demo_core.specs.Making.{HoldsAlone, IsBeside, IsItemFault, IsOfItem, IsPutOfChance, IsPutTaken, phrase}

@@ -17,7 +17,8 @@ use Rattle.folder_spec.proofs.Tellings.{from_to_more, from_to_then}
 use Rattle.plain_tree.specs.Names as plain
 use Rattle.content_writing.specs.declared.fault.PutFault.{PutFault}
 use Rattle.vault_read.specs.Laws.{HaveOneAnswer}
-use Rattle.vault_read.specs.Opened.{OpenedVault, kind_of}
+use Rattle.vault_spec.specs.Opened.{OpenedVault}
+use Rattle.vault_read.specs.Opened.{kind_of}
 use Rattle.vault_read.specs.declared.vault.VaultKind.{VaultKind}
 use Rattle.vault_read.specs.declared.vault.VaultKind.TheVariants as kind
 use Rattle.vault_spec.specs.Alike.{HasFolders}
@@ -26,9 +27,9 @@ use Rattle.vault_spec.specs.Opens.{NoItem, tree}
 use Rattle.vault_spec.specs.Tidy.{IsTidy}
 use Rattle.vault_spec.specs.Vault.{Answer, IsVault, Vault, format_of}
 use Rattle.vault_write.specs.Founding.{IsNewVault, vault_edit}
-use Rattle.vault_write.specs.Making.{is_inside, is_staged, is_unstaged}
+use Rattle.content_writing.specs.Making.{is_inside, is_staged, is_unstaged}
 use Rattle.work_folder.specs.Entries.{stage_path}
-use Rattle.vault_write.specs.Trees.{ShowsVault}
+use Rattle.content_writing.specs.Trees.{ShowsVault}
 use Rattle.demo_core.specs.Making.{HoldsAlone, HoldsInOrder, HoldsItems, StandsNew, phrase}
 use Rattle.demo_core.specs.Tree.{HasItems}
 use Rattle.demo_core.proofs.Entered.{empty_orderly}

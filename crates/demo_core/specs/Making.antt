@@ -12,13 +12,14 @@ use Rattle.content_writing.specs.declared.fault.PutFault.TheVariants as put
 use Rattle.vault_read.specs.declared.fault.LoadFault.TheVariants as load
 use Rattle.vault_read.specs.declared.vault.VaultKind.{VaultKind}
 use Rattle.vault_read.specs.Contents.{IsOfPath}
-use Rattle.vault_read.specs.Opened.{OpenedVault, kind_of}
+use Rattle.vault_spec.specs.Opened.{OpenedVault}
+use Rattle.vault_read.specs.Opened.{kind_of}
 use Rattle.kdf_suite.specs.ScryptCost.{Cost}
 use Rattle.vault_spec.specs.Opens.{tree}
 use Rattle.vault_spec.specs.Tidy.{IsTidy}
 use Rattle.vault_spec.specs.Vault.{Vault, IsVault, format_of}
 use Rattle.vault_write.specs.Founding.{IsNewVault}
-use Rattle.vault_write.specs.Trees.{ShowsVault}
+use Rattle.content_writing.specs.Trees.{ShowsVault}
 use Rattle.work_folder.specs.Entering.{IsFresh}
 use Rattle.work_folder.specs.declared.fault.WorkFault.TheVariants as work
 use Rattle.demo_core.specs.Tree.{HasItems}

@@ -17,7 +17,7 @@ use Rattle.move_journal.specs.declared.journal.Phase.TheVariants.{Building}
 use Rattle.tree_match.specs.Alone.{Progress, Unbegun, Begun, IsAlone, StaysAlone, StaysGuarded}
 use Rattle.tree_match.specs.Guard.{AllowsTree, IsPlanOf, Migration, Tells, tree_at}
 use Rattle.tree_match.specs.Trees.{Side, IsWalkOf}
-use Rattle.vault_read.specs.Opened.{OpenedVault}
+use Rattle.vault_spec.specs.Opened.{OpenedVault}
 use Rattle.vault_spec.specs.Opens.{tree}
 use Rattle.vault_spec.specs.Plan.{Planned}
 use Rattle.vault_spec.specs.Vault.{format_of}

@@ -11,7 +11,7 @@ use Rattle.folder_spec.specs.declared.FolderFault.{FolderFault}
 use Rattle.folder_spec.specs.declared.FolderFault.TheVariants as folder
 use Rattle.folder_spec.specs.declared.Kind.{Kind}
 use Rattle.folder_spec.specs.declared.Kind.TheVariants as kind
-use Rattle.vault_write.specs.Making.{is_inside}
+use Rattle.content_writing.specs.Making.{is_inside}
 use Rattle.migrate_core.proofs.Planned.{own_folders}
 use Rattle.migrate_core.proofs.Writings.{in_second}
 use Rattle.migrate_core.specs.Causes.{Answer, Begins, BeginsApart, BeginsWith, EndsSo, ForbidsLast, IsOfMoving, IsStop, Moves, Opens, PassesOr, StopsAt, StopsMatch, TestsApart, TestsEmpty, TestsNames, TestsPair, Then, Unless, Walks, of_refusal, own}
@@ -35,7 +35,7 @@ use Rattle.tree_match.specs.declared.answer.MatchFault.TheVariants as match
 use Rattle.tree_match.specs.declared.answer.Side.TheVariants as side
 use Rattle.tree_match.specs.declared.answer.Side as sides
 use Rattle.vault_read.specs.Laws.{HaveOneAnswer}
-use Rattle.vault_read.specs.Opened.{OpenedVault}
+use Rattle.vault_spec.specs.Opened.{OpenedVault}
 use Rattle.vault_faults.specs.declared.fault.Limit.TheVariants as limit
 use Rattle.vault_spec.proofs.Mapped.{contains_mapped}
 use Rattle.vault_spec.specs.Alike.{place_of}

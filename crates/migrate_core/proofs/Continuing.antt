@@ -50,7 +50,7 @@ use Rattle.tree_match.specs.declared.answer.MatchFault.TheVariants as match
 use Rattle.tree_match.specs.declared.answer.Side.TheVariants as side
 use Rattle.tree_match.proofs.InOrder.{same_lists, not_twice}
 use Rattle.vault_read.specs.Laws.{HaveOneAnswer}
-use Rattle.vault_read.specs.Opened.{OpenedVault}
+use Rattle.vault_spec.specs.Opened.{OpenedVault}
 use Rattle.vault_faults.specs.declared.fault.Limit.TheVariants as limit
 use Rattle.vault_spec.specs.Alike.{HasFolders}
 use Rattle.vault_spec.specs.Opens.{Tree}

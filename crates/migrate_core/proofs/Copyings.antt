@@ -14,7 +14,7 @@ use Rattle.plain_tree.specs.declared.NodeKind.TheVariants.{Dir, File}
 use Rattle.port_model.specs.Draws.{ByteStream}
 use Rattle.tree_match.proofs.Placing.{part_gains}
 use Rattle.tree_match.specs.Guard.{IsPartOf}
-use Rattle.vault_read.specs.Opened.{OpenedVault}
+use Rattle.vault_spec.specs.Opened.{OpenedVault}
 use Rattle.vault_spec.specs.Adding.{OpensWith}
 use Rattle.vault_spec.specs.Alike.{IsOrderly}
 use Rattle.vault_spec.specs.Findings.{IsClean}
@@ -24,9 +24,9 @@ use Rattle.vault_spec.specs.Plan.{Planned}
 use Rattle.vault_spec.specs.Vault.{format_of}
 use Rattle.vault_walk.specs.Surveyed.{IsWithin}
 use Rattle.vault_write.specs.Calls.{MakesAt, MakesOne, MakesDirectory, New}
-use Rattle.vault_write.specs.Making.{Placing, is_apart}
-use Rattle.vault_write.specs.Placing.{EndsAs}
-use Rattle.vault_write.specs.Trees.{StaysGood, opens_as}
+use Rattle.content_writing.specs.Making.{Placing, is_apart}
+use Rattle.content_writing.specs.Placing.{EndsAs}
+use Rattle.content_writing.specs.Trees.{StaysGood, opens_as}
 use Rattle.migrate_core.proofs.Movings.{AreSound, moves_to, seen_stays, source_apart}
 use Rattle.migrate_core.proofs.Placings.{no_answer}
 use Rattle.migrate_core.proofs.Planned.{DirectoriesOpen, FilesFit, FilesOpen, file_opens, reader_of, walk_of}

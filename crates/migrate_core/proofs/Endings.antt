@@ -22,7 +22,7 @@ use Rattle.tree_match.specs.Comparing.{Is}
 use Rattle.tree_match.specs.Guard.{Migration, Guarded, HoldsAll, HoldsSource, IsPartOf, IsThere, IsWhole, Tells, tree_at}
 use Rattle.tree_match.specs.Trees.{Side, HoldsAllBy, AsSame, IsPartIn, IsWalkOf, match_of}
 use Rattle.tree_match.specs.declared.answer.Match.TheVariants.{Same}
-use Rattle.vault_read.specs.Opened.{OpenedVault}
+use Rattle.vault_spec.specs.Opened.{OpenedVault}
 use Rattle.vault_spec.specs.Alike.{IsOrderly}
 use Rattle.vault_read.specs.Laws.{HasOwnFolders}
 use Rattle.vault_spec.specs.Findings.{IsClean}

@@ -15,12 +15,12 @@ use Rattle.folder_spec.proofs.Regions.{as_before, as_before_on, as_before_then, 
 use Rattle.folder_spec.proofs.Tellings.{from_to_more, from_to_on, from_to_same}
 use Rattle.tree_match.proofs.Kept.{not_staged, turned}
 use Rattle.vault_read.specs.Laws.{HasOwnFolders}
-use Rattle.vault_read.specs.Opened.{OpenedVault}
+use Rattle.vault_spec.specs.Opened.{OpenedVault}
 use Rattle.vault_spec.specs.Findings.{IsClean, IsFileAt}
 use Rattle.vault_spec.specs.Plan.{Planned}
 use Rattle.vault_spec.specs.Vault.{format_of}
 use Rattle.vault_walk.specs.Surveyed.{IsPlanOf}
-use Rattle.vault_write.specs.Making.{is_apart, is_staged}
+use Rattle.content_writing.specs.Making.{is_apart, is_staged}
 use Rattle.migrate_core.specs.Moving.{OnlyBrings, MovesBeside}
 use Rattle.migrate_core.specs.Sides.{AreSeparate, IsWalked}
 

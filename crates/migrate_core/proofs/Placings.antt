@@ -21,16 +21,16 @@ use Rattle.tree_match.proofs.Kept.{behind_none}
 use Rattle.tree_match.specs.Alone.{Begun, IsAlone, StaysGuarded}
 use Rattle.tree_match.specs.Guard.{AreApart, Migration}
 use Rattle.tree_match.specs.Placed.{ItemAt, IsHeld, Places, placing_of}
-use Rattle.vault_read.specs.Opened.{OpenedVault}
+use Rattle.vault_spec.specs.Opened.{OpenedVault}
 use Rattle.vault_spec.specs.Find.{Refusal, enter}
 use Rattle.vault_spec.specs.Format.{Directory}
 use Rattle.vault_spec.specs.Making.{NewItem, NewDirectory, NewFile}
 use Rattle.vault_spec.specs.Plan.{Planned}
 use Rattle.vault_write.proofs.Runs.{went_with}
 use Rattle.vault_write.specs.Calls.{New, MakesAt, MakesDirectory, MakesFile, MakesOne}
-use Rattle.vault_write.specs.Making.{Making, Placing, MayCome, StagesOrPlaces, is_apart, is_inside, is_staged, format, making_in, new_item}
-use Rattle.vault_write.specs.Placing.{IsMaking, making_at}
-use Rattle.vault_write.specs.Trees.{opens_as}
+use Rattle.content_writing.specs.Making.{Making, Placing, MayCome, StagesOrPlaces, is_apart, is_inside, is_staged, format, making_in, new_item}
+use Rattle.content_writing.specs.Placing.{IsMaking, making_at}
+use Rattle.content_writing.specs.Trees.{opens_as}
 use Rattle.work_folder.specs.Entering.{IsReady}
 use Rattle.work_folder.specs.Entries.{stage_path}
 use Rattle.migrate_core.proofs.Leadings.{goes_nowhere}

@@ -21,14 +21,14 @@ use Rattle.tree_match.specs.Guard.{AreApart, HoldsSource, Migration}
 use Rattle.tree_match.specs.Trees.{Side, IsWalkOf}
 use Rattle.vault_read.specs.Contents.{Reader, limited_reading}
 use Rattle.vault_read.specs.Laws.{HasOwnFolders}
-use Rattle.vault_read.specs.Opened.{OpenedVault}
+use Rattle.vault_spec.specs.Opened.{OpenedVault}
 use Rattle.vault_spec.specs.Alike.{IsOrderly}
 use Rattle.vault_spec.specs.Findings.{IsFileAt}
 use Rattle.vault_spec.specs.Opens.{Content, Directory, tree}
 use Rattle.vault_spec.specs.Plan.{Planned}
 use Rattle.vault_spec.specs.Vault.{Vault, Gocryptfs, Cryptomator, format_of}
 use Rattle.vault_write.specs.Calls.{ReadsElsewhere}
-use Rattle.vault_write.specs.Placing.{MayMake}
+use Rattle.content_writing.specs.Placing.{MayMake}
 use Rattle.work_folder.specs.Entering as entering
 use Rattle.migrate_core.proofs.Movings.{source_not_in_target, source_not_in_work}
 use Rattle.migrate_core.specs.Sides.{AreSeparate, IsItemOf, IsWalked, opened_at, side_of}

@@ -16,7 +16,7 @@ use Rattle.tree_match.specs.Alone.{Progress, Begun, Finished, IsAlone, StaysAlon
 use Rattle.tree_match.specs.Guard as guard
 use Rattle.tree_match.specs.Guard.{AreApart, IsDone, Migration, Tells}
 use Rattle.tree_match.specs.Trees.{Side, IsWalkOf}
-use Rattle.vault_read.specs.Opened.{OpenedVault}
+use Rattle.vault_spec.specs.Opened.{OpenedVault}
 use Rattle.vault_spec.proofs.Mapped.{contains_mapped, mapped_from}
 use Rattle.vault_spec.specs.Opens.{Tree, tree}
 use Rattle.vault_spec.specs.Plan.{Planned}

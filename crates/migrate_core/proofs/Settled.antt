@@ -20,7 +20,7 @@ use Rattle.tree_match.specs.Alone.{Progress, Unbegun, Begun, Finished, IsIn, IsA
 use Rattle.tree_match.specs.Guard as guard
 use Rattle.tree_match.specs.Guard.{VaultAt, Migration, Guarded, IsGuarded, IsThere, Tells, HasJournal, Case, NotBegun, Building, Retired, LastJournal, Stands, Gone}
 use Rattle.vault_read.specs.Laws.{HaveOneAnswer}
-use Rattle.vault_read.specs.Opened.{OpenedVault}
+use Rattle.vault_spec.specs.Opened.{OpenedVault}
 use Rattle.vault_spec.specs.Vault.{Vault, LoadsFrom, IsVault}
 use Rattle.work_folder.specs.Entries.{HasNoForeign, is_foreign, stage_path}
 use Rattle.work_folder.specs.Looking.{Tests, TestsEntries, TestsJournal, TestsKind, TestsParent}

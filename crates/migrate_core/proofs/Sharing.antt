@@ -23,7 +23,7 @@ use Rattle.port_model.specs.Draws.{ByteStream, Draws}
 use Rattle.tree_match.specs.Guard.{AreApart, IsPlanOf}
 use Rattle.tree_match.specs.Trees.{IsWalkOf}
 use Rattle.vault_read.specs.Laws.{KeepsVaults}
-use Rattle.vault_read.specs.Opened.{OpenedVault}
+use Rattle.vault_spec.specs.Opened.{OpenedVault}
 use Rattle.vault_spec.proofs.Mapped.{contains_mapped}
 use Rattle.vault_spec.specs.Alike.{IsNoItem}
 use Rattle.vault_spec.specs.Format.{Format, file_bytes}
@@ -38,7 +38,7 @@ use Rattle.vault_spec.specs.Tidy.{IsTidy}
 use Rattle.vault_spec.specs.Vault.{IsVault, Vault, format_of}
 use Rattle.vault_walk.specs.Survey.{IsOrdered}
 use Rattle.vault_write.specs.Calls.{MakesAt, New}
-use Rattle.vault_write.specs.Making.{is_apart}
+use Rattle.content_writing.specs.Making.{is_apart}
 use Rattle.vault_write.specs.Refusing.{Answers}
 use Rattle.migrate_core.proofs.Compared.{TellsTree, planned_at}
 use Rattle.migrate_core.proofs.Copyings.{copied_as}

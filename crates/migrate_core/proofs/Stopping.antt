@@ -20,7 +20,7 @@ use Rattle.vault_faults.specs.declared.fault.FindFault.TheVariants as finds
 use Rattle.vault_spec.specs.Find.{Locked, NotFound, Refusal, WrongKind, enter}
 use Rattle.vault_spec.specs.Format.{Directory}
 use Rattle.vault_spec.specs.declared.Lack.TheVariants as lacks
-use Rattle.vault_read.specs.Opened.{OpenedVault}
+use Rattle.vault_spec.specs.Opened.{OpenedVault}
 use Rattle.vault_faults.specs.declared.fault.Limit.{Limit}
 use Rattle.vault_faults.specs.declared.fault.Limit.TheVariants as limit
 use Rattle.plain_tree.specs.Names as plain
@@ -29,7 +29,7 @@ use Rattle.vault_spec.specs.Plan.{Planned}
 use Rattle.vault_spec.specs.Vault.{format_of}
 use Rattle.vault_write.specs.Calls.{MakesAt, MakesOne, New}
 use Rattle.vault_write.specs.Faults.{IsDirectoryFault, IsFileFault}
-use Rattle.vault_write.specs.Making.{Placing}
+use Rattle.content_writing.specs.Making.{Placing}
 use Rattle.vault_write.specs.Refusing.{Answers, TakesRoot}
 use Rattle.migrate_core.proofs.Causing.{stop_more}
 use Rattle.migrate_core.proofs.Planned.{FilesFit}

@@ -21,7 +21,7 @@ use Rattle.move_journal.specs.Reading.{StandsIn}
 use Rattle.move_journal.proofs.Standing.{stands_alike}
 use Rattle.tree_match.proofs.Kept.{behind_none, entry_inside, staged_in}
 use Rattle.tree_match.specs.Guard.{AreApart}
-use Rattle.vault_write.specs.Making.{is_apart, is_inside, is_staged}
+use Rattle.content_writing.specs.Making.{is_apart, is_inside, is_staged}
 use Rattle.work_folder.specs.Changing.{ChangesAt, ChangesOnly, IsChangingAt}
 use Rattle.work_folder.specs.Entering.{IsReady, IsFresh}
 use Rattle.work_folder.specs.Entries.{journal_path, stage_path}

@@ -44,7 +44,7 @@ use Rattle.plain_tree.specs.declared.name_map.NameMap.{NameMap}
 use Rattle.port_model.specs.Draws.{ByteStream, Draws}
 use Rattle.tree_match.specs.Comparing.{bytes_found, content_at}
 use Rattle.vault_read.specs.Contents.{limited_reading}
-use Rattle.vault_read.specs.Opened.{OpenedVault}
+use Rattle.vault_spec.specs.Opened.{OpenedVault}
 use Rattle.vault_spec.specs.Find.{Refusal}
 use Rattle.vault_spec.specs.Findings.{IsFileAt}
 use Rattle.vault_spec.specs.Format.{Directory}
@@ -54,10 +54,10 @@ use Rattle.vault_spec.specs.Plan.{Planned}
 use Rattle.vault_spec.specs.Vault.{IsVault, format_of}
 use Rattle.chunk_files.specs.Keys.{Keys}
 use Rattle.vault_write.specs.Calls.{MakesAt, MakesOne, New}
-use Rattle.vault_write.specs.Making.{IsPlace, Making, Placing, StagesOrPlaces, format, making_in, new_item, path_of}
-use Rattle.vault_write.specs.Placing.{IsMaking, making_at}
+use Rattle.content_writing.specs.Making.{IsPlace, Making, Placing, StagesOrPlaces, format, making_in, new_item, path_of}
+use Rattle.content_writing.specs.Placing.{IsMaking, making_at}
 use Rattle.work_folder.specs.Changing.{ChangesAt, ChangesOnly, IsChangingAt}
-use Rattle.vault_write.specs.Making.{is_apart}
+use Rattle.content_writing.specs.Making.{is_apart}
 use Rattle.migrate_core.proofs.Movings.{AreSound, source_apart, source_beside}
 use Rattle.migrate_core.proofs.Placings.{below_root}
 use Rattle.migrate_core.proofs.WorkFolders.{apart_at, elsewhere_at, not_in_root, not_moved}

@@ -28,7 +28,7 @@ use Rattle.tree_match.specs.declared.answer.Side.TheVariants.{Source, Target}
 use Rattle.tree_match.specs.declared.answer.Where.{Where}
 use Rattle.tree_match.specs.declared.answer.Where.TheVariants as place
 use Rattle.vault_read.specs.Laws.{HasOwnFolders}
-use Rattle.vault_read.specs.Opened.{OpenedVault}
+use Rattle.vault_spec.specs.Opened.{OpenedVault}
 use Rattle.vault_faults.specs.declared.fault.Limit.TheVariants as limit
 use Rattle.vault_read.specs.declared.fault.LoadFault.{LoadFault}
 use Rattle.vault_read.specs.declared.fault.LoadFault.TheVariants as load

@@ -9,7 +9,7 @@ use Rattle.move_journal.specs.declared.journal.Phase.{Phase}
 use Rattle.move_journal.specs.declared.journal.Phase.TheVariants as phase
 use Rattle.tree_match.specs.Alone.{Progress, Begun, Finished, IsAlone, IsIn, StaysGuarded}
 use Rattle.tree_match.specs.Guard.{Migration, Guarded, HoldsAll, Tells}
-use Rattle.vault_read.specs.Opened.{OpenedVault}
+use Rattle.vault_spec.specs.Opened.{OpenedVault}
 use Rattle.migrate_core.specs.Sides.{AreSides}
 
 -- a migration that is guarded when a call begins is guarded at each moment of it

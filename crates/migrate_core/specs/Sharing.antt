@@ -9,7 +9,7 @@ use Rattle.plain_tree.specs.declared.NodeKind.{NodeKind}
 use Rattle.plain_tree.specs.declared.NodeKind.TheVariants.{Dir, File}
 use Rattle.port_model.specs.Draws.{ByteStream, Draws}
 use Rattle.content_writing.specs.declared.fault.PutFault.TheVariants as put
-use Rattle.vault_read.specs.Opened.{OpenedVault}
+use Rattle.vault_spec.specs.Opened.{OpenedVault}
 use Rattle.vault_spec.specs.Alike.{IsNoItem}
 use Rattle.vault_spec.specs.Find.{enter}
 use Rattle.vault_spec.specs.Format.{Directory}
@@ -21,7 +21,7 @@ use Rattle.vault_spec.specs.Staying.{LoadsAlike}
 use Rattle.vault_spec.specs.Tidy.{HasOwnPlace, IsTidy}
 use Rattle.vault_spec.specs.Vault.{Vault, IsVault, format_of}
 use Rattle.vault_walk.specs.Surveyed.{IsPlanOf}
-use Rattle.vault_write.specs.Trees.{ShowsVault}
+use Rattle.content_writing.specs.Trees.{ShowsVault}
 use Rattle.migrate_core.specs.Copying.{HasCopied, HaveOwnFolders, IsCopying, tree_in}
 use Rattle.migrate_core.specs.Moved.{opened_in}
 use Rattle.migrate_core.specs.Written.{WasSeen}

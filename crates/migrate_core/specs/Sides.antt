@@ -14,7 +14,7 @@ use Rattle.plain_tree.specs.declared.name_map.NameMap.{NameMap}
 use Rattle.tree_match.specs.Guard.{VaultAt, Migration, AreApart}
 use Rattle.tree_match.specs.Trees.{Side}
 use Rattle.vault_read.specs.Laws.{HasOwnFolders}
-use Rattle.vault_read.specs.Opened.{OpenedVault}
+use Rattle.vault_spec.specs.Opened.{OpenedVault}
 use Rattle.vault_spec.specs.Findings.{IsClean, IsFileAt}
 use Rattle.vault_spec.specs.Format.{Format}
 use Rattle.vault_spec.specs.Making.{Allows}

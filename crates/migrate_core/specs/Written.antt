@@ -17,12 +17,12 @@ use Rattle.plain_tree.specs.declared.NodeKind.TheVariants.{Dir, File}
 use Rattle.plain_tree.specs.declared.name_map.NameMap.{NameMap}
 use Rattle.port_model.specs.Draws.{ByteStream, Draws}
 use Rattle.tree_match.specs.Comparing.{content_at}
-use Rattle.vault_read.specs.Opened.{OpenedVault}
+use Rattle.vault_spec.specs.Opened.{OpenedVault}
 use Rattle.vault_spec.specs.Format.{Directory}
 use Rattle.vault_spec.specs.Making.{NewItem, NewDirectory, NewFile, draws, edits, files}
 use Rattle.vault_spec.specs.Plan.{Planned}
 use Rattle.vault_spec.specs.Vault.{Vault, IsVault, format_of}
-use Rattle.vault_write.specs.Making.{IsPlace, Placing}
+use Rattle.content_writing.specs.Making.{IsPlace, Placing}
 use Rattle.vault_write.specs.Refusing.{Answers, TakesRoot}
 use Rattle.content_writing.specs.Content.{Ending, Whole}
 use Rattle.vault_contents.specs.Coming.{ending_of}

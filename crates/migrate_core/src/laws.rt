@@ -15,7 +15,7 @@ ghost use Rattle.migrate_core.specs.Limits.{HasSmallContents, IsLonger, PassesLi
 ghost use Rattle.migrate_core.specs.declared.fault.MoveFault.{MoveFault};
 ghost use Rattle.migrate_core.specs.declared.placing.Done.{Done};
 ghost use Rattle.vault_read.specs.Laws.{HasOwnFolders};
-ghost use Rattle.vault_read.specs.Opened.{OpenedVault};
+ghost use Rattle.vault_spec.specs.Opened.{OpenedVault};
 ghost use Rattle.vault_spec.specs.Alike.{HasFolders};
 ghost use Rattle.vault_spec.specs.Standing.{File, standing};
 ghost use Rattle.vault_spec.specs.Vault.{format_of};

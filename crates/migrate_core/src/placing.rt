@@ -6,7 +6,7 @@ ghost use Rattle.move_journal.specs.Journal.{IsDigest};
 ghost use Rattle.tree_match.specs.Alone.{Begun};
 ghost use Rattle.vault_spec.specs.Vault.{format_of};
 ghost use Rattle.vault_walk.specs.Survey.{IsOrdered};
-ghost use Rattle.vault_write.specs.Making.{is_apart};
+ghost use Rattle.content_writing.specs.Making.{is_apart};
 ghost use Rattle.work_folder.specs.Entering.{IsReady};
 ghost use Rattle.migrate_core.specs.Causes.{IsStop, StopsSeen, nothing_stops};
 ghost use Rattle.migrate_core.specs.Copying.{CopiesAll, CopiesMissing, CopiesOne, Enters, HasCopied};

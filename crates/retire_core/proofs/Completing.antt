@@ -43,7 +43,7 @@ use Rattle.tree_match.specs.declared.answer.MatchFault.TheVariants as match
 use Rattle.tree_match.specs.declared.answer.Side.{Side}
 use Rattle.tree_match.specs.declared.answer.Side.TheVariants as side
 use Rattle.vault_read.specs.Laws.{HasOwnFolders, HaveOneAnswer}
-use Rattle.vault_read.specs.Opened.{OpenedVault}
+use Rattle.vault_spec.specs.Opened.{OpenedVault}
 use Rattle.vault_faults.specs.declared.fault.Limit.TheVariants as limit
 use Rattle.vault_spec.specs.Alike.{HasFolders, IsOrderly, place_of}
 use Rattle.vault_spec.specs.Plan.{Planned}
@@ -53,7 +53,7 @@ use Rattle.vault_spec.specs.Vault.{Cryptomator, Gocryptfs, LoadRefusal, Loads, V
 use Rattle.vault_walk.specs.Surveyed.{IsPlanOf}
 use Rattle.vault_walk.specs.declared.fault.WalkFault.{WalkFault}
 use Rattle.vault_walk.specs.declared.fault.WalkFault.TheVariants as walk
-use Rattle.vault_write.specs.Making.{is_inside}
+use Rattle.content_writing.specs.Making.{is_inside}
 use Rattle.work_folder.specs.Entries.{HasNoForeign, is_foreign, journal_path, new_journal_path, stage_path}
 use Rattle.work_folder.specs.Looking.{TestsEntries}
 use Rattle.work_folder.specs.Looking as looking

@@ -19,7 +19,7 @@ use Rattle.tree_match.specs.Guard.{Migration, Guarded, IsDone, IsGuarded, IsReti
 use Rattle.vault_spec.specs.Alike.{IsOrderly}
 use Rattle.vault_spec.specs.Findings.{IsClean}
 use Rattle.vault_spec.specs.Vault.{Vault, format_of}
-use Rattle.vault_write.specs.Making.{is_inside}
+use Rattle.content_writing.specs.Making.{is_inside}
 use Rattle.work_folder.specs.Entries.{is_foreign, journal_path, stage_path}
 use Rattle.retire_core.proofs.RetiredTables.{kinds_in_table, only_table, rest_seen, same_foreign, same_nodes, target_alike}
 use Rattle.retire_core.specs.Guarding.{IsDoneAtRest, IsRetiredTable, IsRetiring}

@@ -20,7 +20,7 @@ use Rattle.tree_match.specs.declared.answer.Side.{Side}
 use Rattle.tree_match.specs.declared.answer.Side.TheVariants.{Source, Target}
 use Rattle.tree_match.specs.declared.answer.Where.{Where}
 use Rattle.tree_match.specs.declared.answer.Where.TheVariants as place
-use Rattle.vault_read.specs.Opened.{OpenedVault}
+use Rattle.vault_spec.specs.Opened.{OpenedVault}
 use Rattle.vault_spec.specs.Plan.{Planned}
 use Rattle.vault_spec.specs.Vault.{LoadRefusal, Loads}
 use Rattle.work_folder.specs.Entries.{new_journal_path, stage_path}

@@ -15,7 +15,7 @@ use Rattle.move_journal.specs.declared.journal.Phase.TheVariants.{Done}
 use Rattle.move_journal.specs.Reading.{StandsIn}
 use Rattle.tree_match.specs.Guard.{IsPartOf, old_path}
 use Rattle.vault_read.specs.Laws.{HasOwnFolders}
-use Rattle.vault_read.specs.Opened.{OpenedVault}
+use Rattle.vault_spec.specs.Opened.{OpenedVault}
 use Rattle.vault_spec.specs.Opens.{tree}
 use Rattle.vault_spec.specs.Vault.{Vault, IsVault, format_of}
 

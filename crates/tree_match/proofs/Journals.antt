@@ -28,7 +28,7 @@ use Rattle.tree_match.specs.Guard.{Migration, AreApart, IsSeparate, IsThere, Hol
 use Rattle.plain_tree.specs.Names as plain
 use Rattle.vault_spec.specs.Opens.{tree}
 use Rattle.vault_spec.specs.Vault.{format_of}
-use Rattle.vault_write.specs.Making.{is_inside}
+use Rattle.content_writing.specs.Making.{is_inside}
 use Rattle.work_folder.specs.Entries.{journal_path, new_journal_path, stage_path, is_foreign}
 
 -- ---- the work folder of each table

@@ -13,7 +13,7 @@ use Rattle.folder_spec.specs.declared.Kind.TheVariants as kind
 use Rattle.tree_match.proofs.Guards.{or_cases, in_source, at_root, RootsAreAlike, ImagesShow, guarded_by, kinds_of, kinds_of_image}
 use Rattle.tree_match.specs.Alone.{Progress, Unbegun, Begun, Finished, IsIn, IsAlone}
 use Rattle.tree_match.specs.Guard.{Migration, AreApart, IsSeparate, HoldsSource, Case, NotBegun, Building, Done, Retired, has_old, IsWork, kinds_in, IsGuarded, Guarded, is_kept}
-use Rattle.vault_write.specs.Making.{is_inside, is_staged}
+use Rattle.content_writing.specs.Making.{is_inside, is_staged}
 use Rattle.work_folder.specs.Entries.{journal_path, is_foreign}
 
 -- ---- paths

@@ -26,9 +26,9 @@ use Rattle.vault_spec.specs.Adding.{OpensAs, OpensWith}
 use Rattle.vault_spec.specs.Making.{NewItem, NewDirectory, NewFile}
 use Rattle.vault_spec.specs.Opens.{NoItem, Tree, tree}
 use Rattle.vault_spec.specs.Vault.{format_of}
-use Rattle.vault_write.specs.Making.{Placing, Making, is_inside, is_staged, is_elsewhere, StagesOrPlaces}
-use Rattle.vault_write.specs.Placing.{HasVault, ShowsOne, IsMaking, making_at}
-use Rattle.vault_write.specs.Trees.{KeepsVault, KeepsTree, GainsItem, opens_as}
+use Rattle.content_writing.specs.Making.{Placing, Making, is_inside, is_staged, is_elsewhere, StagesOrPlaces}
+use Rattle.content_writing.specs.Placing.{HasVault, ShowsOne, IsMaking, making_at}
+use Rattle.content_writing.specs.Trees.{KeepsVault, KeepsTree, GainsItem, opens_as}
 use Rattle.work_folder.specs.Entries.{journal_path, is_foreign}
 
 -- ---- the region of both vaults and the journal

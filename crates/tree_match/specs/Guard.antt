@@ -25,8 +25,8 @@ use Rattle.vault_spec.specs.Opens.{Opened, NoItem, Directory, Content, Broken, T
 use Rattle.vault_spec.specs.Plan.{Planned, paths_of}
 use Rattle.vault_spec.specs.Vault.{Vault, format_of, IsVault}
 use Rattle.vault_walk.specs.Digest.{plan_digest}
-use Rattle.vault_write.specs.Making.{is_inside}
-use Rattle.vault_write.specs.Trees.{ShowsVault}
+use Rattle.content_writing.specs.Making.{is_inside}
+use Rattle.content_writing.specs.Trees.{ShowsVault}
 use Rattle.work_folder.specs.Entries.{journal_path, stage_path, is_foreign}
 
 -- where a vault stands, by which passphrase it opens, and as which vault

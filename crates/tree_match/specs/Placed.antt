@@ -9,9 +9,9 @@ use Rattle.content_writing.specs.Content.{Ending, Whole}
 use Rattle.content_writing.specs.declared.fault.PutFault.{PutFault}
 use Rattle.tree_match.specs.Guard.{Migration, tree_at}
 use Rattle.vault_spec.specs.Making.{NewItem}
-use Rattle.vault_write.specs.Making.{Placing, Making}
-use Rattle.vault_write.specs.Placing.{Makes}
-use Rattle.vault_write.specs.Trees.{opens_as}
+use Rattle.content_writing.specs.Making.{Placing, Making}
+use Rattle.content_writing.specs.Placing.{Makes}
+use Rattle.content_writing.specs.Trees.{opens_as}
 
 -- an item with its path
 pub record ItemAt : Type 0 where

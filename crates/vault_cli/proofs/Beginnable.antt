@@ -25,7 +25,7 @@ use Rattle.port_model.specs.Draws.{ByteStream}
 use Rattle.tree_match.specs.Guard.{Migration}
 use Rattle.tree_match.specs.declared.answer.MatchFault.TheVariants as match
 use Rattle.vault_read.specs.Laws.{HasOwnFolders, HaveOneAnswer}
-use Rattle.vault_read.specs.Opened.{OpenedVault}
+use Rattle.vault_spec.specs.Opened.{OpenedVault}
 use Rattle.vault_faults.specs.declared.fault.Limit.TheVariants as limit
 use Rattle.vault_spec.specs.Vault.{IsVault}
 use Rattle.vault_cli.specs.Demo.{Chances, EndsSo, EndsWork, IsStatus, chances, chances_by}

@@ -14,7 +14,7 @@ use Rattle.migrate_core.specs.declared.fault.MoveFault.{MoveFault}
 use Rattle.migrate_core.specs.declared.fault.MoveFault.TheVariants.{Place}
 use Rattle.migrate_core.specs.declared.placing.Done.{Done}
 use Rattle.port_model.specs.Draws.{ByteStream, Draws}
-use Rattle.vault_read.specs.Opened.{OpenedVault}
+use Rattle.vault_spec.specs.Opened.{OpenedVault}
 use Rattle.vault_spec.specs.Plan.{Planned}
 
 -- ---- one part after the other

@@ -23,7 +23,7 @@ use Rattle.retire_core.specs.Completing.{CanRetire, KeepsLimits}
 use Rattle.tree_match.specs.Comparing.{content_at}
 use Rattle.tree_match.specs.Guard.{Done, IsPlanOf, IsSeparate, IsWhole, IsWork, Migration, VaultAt, kinds_in, old_path}
 use Rattle.tree_match.specs.Trees.{IsWalkOf, Side}
-use Rattle.vault_read.specs.Opened.{OpenedVault}
+use Rattle.vault_spec.specs.Opened.{OpenedVault}
 use Rattle.vault_spec.specs.Alike.{IsOrderly}
 use Rattle.vault_spec.specs.Depth.{IsWithinSteps}
 use Rattle.vault_spec.specs.Findings.{IsClean}
@@ -36,8 +36,8 @@ use Rattle.vault_spec.specs.Standing.{File, standing}
 use Rattle.vault_spec.specs.Vault.{Vault, format_of}
 use Rattle.vault_walk.specs.Survey.{depth_limit}
 use Rattle.vault_walk.specs.Surveyed as walks
-use Rattle.vault_write.specs.Making.{is_inside}
-use Rattle.vault_write.specs.Trees.{ShowsVault}
+use Rattle.content_writing.specs.Making.{is_inside}
+use Rattle.content_writing.specs.Trees.{ShowsVault}
 use Rattle.work_folder.specs.Entries.{is_foreign, journal_path, stage_path}
 use Rattle.vault_cli.specs.DemoSteps.{CanCarry, HasCarried, Sees}
 use Rattle.vault_cli.specs.DemoTrees.{moving_folder, source_of, target_of}

@@ -31,7 +31,7 @@ use Rattle.vault_spec.specs.Opens.{AreItems, Tree, tree}
 use Rattle.vault_spec.specs.Plan.{IsPlan, Planned, paths_of}
 use Rattle.vault_spec.specs.Vault.{IsVault, Vault, format_of}
 use Rattle.vault_walk.specs.Surveyed.{IsPlanOf, placed}
-use Rattle.vault_write.specs.Trees.{ShowsVault}
+use Rattle.content_writing.specs.Trees.{ShowsVault}
 use Rattle.work_folder.specs.Entering.{IsFresh}
 use Rattle.vault_cli.specs.Demo.{IsBare}
 use Rattle.vault_cli.specs.DemoSteps.{CanCarry, CanLead, HasCarried, HoldsWell, IsBeside, Sees, kind_from}

@@ -35,7 +35,7 @@ use Rattle.tree_match.specs.declared.answer.MatchFault.{MatchFault}
 use Rattle.tree_match.specs.declared.answer.MatchFault.TheVariants as matches
 use Rattle.tree_match.specs.declared.answer.Side.{Side}
 use Rattle.tree_match.specs.declared.answer.Side.TheVariants as sides
-use Rattle.vault_read.specs.Opened.{OpenedVault}
+use Rattle.vault_spec.specs.Opened.{OpenedVault}
 use Rattle.vault_faults.specs.declared.fault.FindFault.TheVariants as finds
 use Rattle.vault_read.specs.declared.fault.LoadFault.TheVariants as loads
 use Rattle.vault_spec.specs.Format.{Format}

@@ -11,7 +11,7 @@ use Rattle.vault_read.specs.declared.vault.VaultKind.{VaultKind}
 use Rattle.vault_read.specs.declared.vault.VaultKind.TheVariants as kind
 use Rattle.vault_spec.specs.Tidy.{IsTidy}
 use Rattle.vault_spec.specs.Vault.{format_of}
-use Rattle.vault_write.specs.Trees.{ShowsVault}
+use Rattle.content_writing.specs.Trees.{ShowsVault}
 use Rattle.vault_cli.specs.DemoTrees.{kind_to, moving_folder, source_of, target_of, third_root}
 use Rattle.vault_cli.specs.declared.demo.Leg.{Leg}
 use Rattle.vault_cli.specs.declared.demo.Leg.TheVariants.{There, Back}

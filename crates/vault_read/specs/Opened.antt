@@ -1,6 +1,5 @@
--- An opened vault as contracts see it, and what its calls ask.
+-- How the keys and the kind of an opened vault are told, and what its calls ask.
 use Rattle.std.specs.Prelude.{◌≡◌, ℕ, List, length}
-use Rattle.folder_spec.specs.Path.{Path}
 use Rattle.vault_spec.specs.Vault.{Vault, Gocryptfs, Cryptomator}
 use Rattle.vault_read.specs.declared.vault.OpenedKeys.{OpenedKeys}
 use Rattle.vault_read.specs.declared.vault.OpenedKeys.TheVariants as opened
@@ -8,11 +7,6 @@ use Rattle.vault_read.specs.declared.vault.VaultKeys.{VaultKeys}
 use Rattle.vault_read.specs.declared.vault.VaultKeys.TheVariants as keys
 use Rattle.vault_read.specs.declared.vault.VaultKind.{VaultKind}
 use Rattle.vault_read.specs.declared.vault.VaultKind.TheVariants as kind
-
--- the root's path, and the vault
-pub record OpenedVault : Type 0 where
-  pub root : Path
-  pub vault : Vault
 
 abbrev pub vault_of : VaultKeys → Vault
 vault_of (keys.Gocryptfs go) = Gocryptfs go

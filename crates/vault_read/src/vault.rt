@@ -151,7 +151,8 @@ pub struct Vault {
 }
 
 impl Model for Vault {
-    ghost use Rattle.vault_read.specs.Opened.{OpenedVault, vault_with};
+    ghost use Rattle.vault_spec.specs.Opened.{OpenedVault};
+    ghost use Rattle.vault_read.specs.Opened.{vault_with};
 
     ghost Value = { OpenedVault };
 

@@ -11,6 +11,7 @@ pub mod Reached
 pub mod Depth
 pub mod Findings
 pub mod Vault
+pub mod Opened
 pub mod Making
 pub mod NewVault
 pub mod Alike

@@ -13,7 +13,7 @@ use Rattle.folder_spec.proofs.Tables.{present_is_table}
 use Rattle.plain_tree.specs.Names as plain
 use Rattle.plain_tree.specs.Names.{is_name}
 use Rattle.vault_read.specs.Laws.{KeepsVaults}
-use Rattle.vault_read.specs.Opened.{OpenedVault}
+use Rattle.vault_spec.specs.Opened.{OpenedVault}
 use Rattle.vault_spec.specs.Alike.{HasFolders}
 use Rattle.vault_spec.specs.Format as format
 use Rattle.vault_spec.specs.Making.{NewDirectory, edits, files, full_texts}
@@ -21,8 +21,8 @@ use Rattle.vault_spec.specs.Reached.{Leads}
 use Rattle.vault_spec.specs.Vault.{format_of}
 use Rattle.work_folder.specs.Entering.{IsReady}
 use Rattle.vault_write.specs.Editing.{HasBegun, MayCome}
-use Rattle.vault_write.specs.Making.{Placing, Making, making_in}
-use Rattle.vault_write.specs.Placing.{MayMake}
+use Rattle.content_writing.specs.Making.{Placing, Making, making_in}
+use Rattle.content_writing.specs.Placing.{MayMake}
 use Rattle.vault_write.specs.Slots.{IsSlot, placing}
 use Rattle.vault_write.proofs.Edited.{begun}
 use Rattle.vault_write.proofs.Found.{Enters}

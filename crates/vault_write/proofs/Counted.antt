@@ -9,7 +9,7 @@ use Rattle.port_model.specs.Counts.{CountRose}
 use Rattle.vault_write.specs.Faults.{IsDirectoryFault, IsFileFault, IsPlaceFault}
 use Rattle.chunk_files.specs.Keys.{Keys}
 use Rattle.plain_tree.specs.Names as plain
-use Rattle.vault_read.specs.Opened.{OpenedVault}
+use Rattle.vault_spec.specs.Opened.{OpenedVault}
 use Rattle.vault_write.specs.Calls.{Writing}
 use Rattle.vault_write.specs.Filing.{IsAtDirectory, PlacesBy, StopsBy}
 use Rattle.folder_spec.specs.declared.FolderFault.{FolderFault}

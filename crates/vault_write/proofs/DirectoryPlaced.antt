@@ -28,7 +28,8 @@ use Rattle.plain_tree.specs.Names.{is_name}
 use Rattle.port_model.specs.Draws.{ByteStream, Draws}
 use Rattle.vault_names.specs.Cryptomator.{cm_folder_of, is_id_character}
 use Rattle.vault_read.specs.Laws.{KeepsVaults}
-use Rattle.vault_read.specs.Opened.{OpenedVault, IsCryptomator, kind_of}
+use Rattle.vault_spec.specs.Opened.{OpenedVault}
+use Rattle.vault_read.specs.Opened.{IsCryptomator, kind_of}
 use Rattle.vault_read.specs.declared.vault.VaultKind.TheVariants as kind
 use Rattle.vault_spec.specs.Cryptomator.{CmVault, cm_format, directory_id, shelf_named, folder_named, taken_unless_folder, taken_folders}
 use Rattle.vault_spec.specs.Format.{is_bytes, taken_at}
@@ -39,8 +40,8 @@ use Rattle.vault_spec.specs.Vault.{Vault, Gocryptfs, Cryptomator, format_of}
 use Rattle.vault_write.specs.Calls.{MakesDirectory}
 use Rattle.vault_write.specs.Editing.{Edits, HasFinished, HasBegun, GoPlaces, CmPlaces, go_making, cm_making}
 use Rattle.vault_write.specs.Founding.{SomeDrew, DrawsSome}
-use Rattle.vault_write.specs.Making.{Placing, Making, format}
-use Rattle.vault_write.specs.Placing.{MayMake}
+use Rattle.content_writing.specs.Making.{Placing, Making, format}
+use Rattle.content_writing.specs.Placing.{MayMake}
 use Rattle.vault_write.specs.Refusing.{Answers, TakesRoot}
 use Rattle.vault_write.specs.Showing.{EditsShowTrees, SettledEditsShowTrees}
 use Rattle.vault_write.specs.Slots.{IsSlot, IsTakenAt, IsShelfTaken, IsHomeTaken, DrewAtMost, PlacesOne, wants_text, placing}

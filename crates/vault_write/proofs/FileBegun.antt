@@ -16,7 +16,8 @@ use Rattle.vault_keys.specs.declared.keys.GoKeys.{GoKeys}
 use Rattle.plain_tree.specs.Names as plain
 use Rattle.plain_tree.specs.Names.{is_name}
 use Rattle.vault_read.specs.Laws.{KeepsVaults}
-use Rattle.vault_read.specs.Opened.{OpenedVault, kind_of}
+use Rattle.vault_spec.specs.Opened.{OpenedVault}
+use Rattle.vault_read.specs.Opened.{kind_of}
 use Rattle.vault_read.specs.declared.vault.VaultKind.TheVariants as kind
 use Rattle.vault_spec.specs.Adding.{ComesAlone, StaysClean}
 use Rattle.vault_spec.specs.Staying.{StaysVault}
@@ -34,12 +35,12 @@ use Rattle.vault_spec.specs.Vault.{Vault, Gocryptfs, Cryptomator, format_of}
 use Rattle.content_writing.specs.declared.fault.PutFault.{PutFault}
 use Rattle.vault_write.specs.Editing.{GoPlaces, MayCome, side_edits}
 use Rattle.vault_write.specs.Filing.{entry_edit}
-use Rattle.vault_write.specs.Making.{Placing, Making, format, making_in, new_item, path_of}
-use Rattle.vault_write.specs.Placing.{MayMake, making_at}
+use Rattle.content_writing.specs.Making.{Placing, Making, format, making_in, new_item, path_of}
+use Rattle.content_writing.specs.Placing.{MayMake, making_at}
 use Rattle.vault_write.specs.Refusing.{Answers, HasTaken}
 use Rattle.vault_write.specs.Showing.{MakesAlone}
 use Rattle.vault_write.specs.Slots.{IsSlot, IsSideTaken, RefusesItem, placing, wants_text}
-use Rattle.vault_write.specs.Trees.{opens_as}
+use Rattle.content_writing.specs.Trees.{opens_as}
 use Rattle.vault_write.proofs.Begun.{FoldersStand, all_are, entry_comes, folders_seen, same_making}
 use Rattle.vault_write.proofs.Found.{Enters}
 use Rattle.vault_write.proofs.GoBegun.{go_places, sides_are, untaken}

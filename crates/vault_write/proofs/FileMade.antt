@@ -24,7 +24,8 @@ use Rattle.content_writing.proofs.Standing.{IsStill, ready_now, still_same}
 use Rattle.plain_tree.specs.Names as plain
 use Rattle.plain_tree.specs.Names.{is_name}
 use Rattle.vault_read.specs.Laws.{KeepsVaults}
-use Rattle.vault_read.specs.Opened.{OpenedVault, kind_of}
+use Rattle.vault_spec.specs.Opened.{OpenedVault}
+use Rattle.vault_read.specs.Opened.{kind_of}
 use Rattle.vault_read.specs.declared.vault.VaultKind.TheVariants as kind
 use Rattle.vault_spec.specs.Adding.{OpensAs}
 use Rattle.vault_spec.specs.Anywhere.{ComesAtLast}
@@ -42,8 +43,8 @@ use Rattle.content_writing.specs.declared.fault.PutFault.TheVariants as puts
 use Rattle.vault_write.specs.Calls.{AnswersRoot, How, MakesFile, MakesOne, New, ReadsElsewhere, Writing}
 use Rattle.vault_write.specs.Editing.{AddsEdits, Edits, HasBegun, HasEdited, HasFinished, IsEditing, MayCome, SeesSome, side_edits}
 use Rattle.vault_write.specs.Filing.{DoesLast, IsWhole, OnlyStages, PlacesEntry, PlacesBy, PlacesFile, StopsBy, entry_edit, entry_files}
-use Rattle.vault_write.specs.Making.{Placing, Making, format, path_of, new_item, is_unstaged, StagesOrPlaces}
-use Rattle.vault_write.specs.Placing.{IsMaking, MayMake, making_at, EndsAs}
+use Rattle.content_writing.specs.Making.{Placing, Making, format, path_of, new_item, is_unstaged, StagesOrPlaces}
+use Rattle.content_writing.specs.Placing.{IsMaking, MayMake, making_at, EndsAs}
 use Rattle.vault_write.specs.Refusing.{Answers, HasTaken}
 use Rattle.vault_write.specs.Showing.{EditsShowTrees, EditsBeforeTheLastKeepTrees, SettledEditsShowTrees}
 use Rattle.vault_write.specs.Slots.{RefusesItem, placing, wants_text}

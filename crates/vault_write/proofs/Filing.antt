@@ -38,7 +38,7 @@ use Rattle.content_writing.specs.declared.fault.PutFault.TheVariants as puts
 use Rattle.vault_write.specs.Calls.{ReadsElsewhere, TakesContent, Writing}
 use Rattle.vault_write.specs.Editing.{AddsEdits, AddsName, HasEdited, MayCome}
 use Rattle.vault_write.specs.Filing.{DoesLast, IsWhole, OnlyStages, PlacesEntry, PublishesEntry, StagesEntry, StopsBy, entry_edit, entry_files, entry_view, file_of}
-use Rattle.vault_write.specs.Making.{Making, is_inside, is_unstaged}
+use Rattle.content_writing.specs.Making.{Making, is_inside, is_unstaged}
 use Rattle.vault_write.proofs.Adding.{adds_nothing, adds_renamed, adds_staging, file_staged, file_staging, finishes, IsStagedWhole, renames_allowed, staged_below}
 use Rattle.vault_write.proofs.Directories.{Are, AreSeen, Gain, gains, name_place, whole_staged}
 use Rattle.vault_write.proofs.Edited.{StagingAt}

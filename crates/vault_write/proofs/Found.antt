@@ -11,7 +11,8 @@ use Rattle.vault_read.specs.Finding.{IsDirPlace, Refuses}
 use Rattle.vault_faults.specs.declared.fault.FindFault.{FindFault}
 use Rattle.vault_faults.specs.declared.fault.FindFault.TheVariants as finds
 use Rattle.content_writing.specs.Faults.{of_find}
-use Rattle.vault_read.specs.Opened.{OpenedVault, kind_of}
+use Rattle.vault_spec.specs.Opened.{OpenedVault}
+use Rattle.vault_read.specs.Opened.{kind_of}
 use Rattle.vault_read.specs.declared.vault.VaultKind.TheVariants as kind
 use Rattle.vault_read.specs.declared.finding.DirPlace.{DirPlace}
 use Rattle.vault_spec.specs.Find.{enter}

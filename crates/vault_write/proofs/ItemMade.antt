@@ -33,11 +33,11 @@ use Rattle.content_writing.specs.declared.fault.PutFault.TheVariants as puts
 use Rattle.work_folder.specs.Entering.{IsReady}
 use Rattle.vault_write.specs.Calls.{MakesOne, New}
 use Rattle.vault_write.specs.Editing.{IsEditing, SeesSome, Edits, HasFinished}
-use Rattle.vault_write.specs.Making.{Placing, Making, format, path_of, new_item, is_unstaged, is_elsewhere, StagesOrPlaces}
-use Rattle.vault_write.specs.Placing.{IsMaking, ShowsNewTree, making_at, EndsAs, Makes}
+use Rattle.content_writing.specs.Making.{Placing, Making, format, path_of, new_item, is_unstaged, is_elsewhere, StagesOrPlaces}
+use Rattle.content_writing.specs.Placing.{IsMaking, ShowsNewTree, making_at, EndsAs, Makes}
 use Rattle.vault_write.specs.Refusing.{HasTaken, Answers}
 use Rattle.vault_write.specs.Showing.{MakeItem, MakeItemAt, EditsShowTrees, SettledEditsShowTrees}
-use Rattle.vault_write.specs.Trees.{StaysGood, opens_as}
+use Rattle.content_writing.specs.Trees.{StaysGood, opens_as}
 use Rattle.vault_write.proofs.Stages.{root_unstaged}
 use Rattle.vault_write.proofs.TreesShown.{old_alone}
 

@@ -16,7 +16,7 @@ use Rattle.folder_spec.proofs.Seen.{seen_of, one_view}
 use Rattle.plain_tree.specs.Names as plain
 use Rattle.vault_read.specs.Finding.{Refuses}
 use Rattle.vault_read.specs.Laws.{KeepsVaults}
-use Rattle.vault_read.specs.Opened.{OpenedVault}
+use Rattle.vault_spec.specs.Opened.{OpenedVault}
 use Rattle.vault_faults.specs.declared.fault.FindFault.{FindFault}
 use Rattle.vault_faults.specs.declared.fault.FindFault.TheVariants as finds
 use Rattle.vault_spec.specs.Find as spec
@@ -34,8 +34,8 @@ use Rattle.content_writing.specs.declared.fault.PutFault.{PutFault}
 use Rattle.content_writing.specs.declared.fault.PutFault.TheVariants as puts
 use Rattle.vault_write.specs.Calls.{InPlace, MakesOne, New}
 use Rattle.vault_write.specs.Filing.{IsAtDirectory, IsDir, IsOverFault, MayReplace, PlacesFile, StandsAs, StandsUnder}
-use Rattle.vault_write.specs.Making.{Placing, format, path_of, is_elsewhere, put_by, put_item, new_item, StagesOrPlaces}
-use Rattle.vault_write.specs.Placing.{EndsAs, IsMaking, MayMake, making_at}
+use Rattle.content_writing.specs.Making.{Placing, format, path_of, is_elsewhere, put_by, put_item, new_item, StagesOrPlaces}
+use Rattle.content_writing.specs.Placing.{EndsAs, IsMaking, MayMake, making_at}
 use Rattle.vault_write.specs.Refusing.{Answers, AnswersPut, AnswersPutBy, ForbidsName}
 use Rattle.vault_write.specs.Slots.{RefusesItem, placing}
 use Rattle.vault_write.proofs.Filing.{takes_none, untaken}

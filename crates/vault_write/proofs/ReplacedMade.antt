@@ -18,7 +18,7 @@ use Rattle.folder_spec.proofs.Moments.{went_more, went_to}
 use Rattle.folder_spec.proofs.Tellings.{from_to_more}
 use Rattle.plain_tree.specs.Names as plain
 use Rattle.vault_read.specs.Laws.{KeepsVaults}
-use Rattle.vault_read.specs.Opened.{OpenedVault}
+use Rattle.vault_spec.specs.Opened.{OpenedVault}
 use Rattle.vault_spec.specs.Adding.{OpensAs, OpensWith}
 use Rattle.vault_spec.specs.Alike.{IsOrderly}
 use Rattle.vault_spec.specs.Making as making
@@ -36,12 +36,12 @@ use Rattle.content_writing.specs.declared.fault.PutFault.TheVariants as puts
 use Rattle.vault_write.specs.Calls.{InPlace, MakesOne, Writing}
 use Rattle.vault_write.specs.Editing.{Edits, HasFinished, IsEditing, SeesSome}
 use Rattle.vault_write.specs.Filing.{DoesReplace, IsWhole, OnlyStages, PlacesBy, PlacesFile, ReplacesContent, StopsBy, replace_making}
-use Rattle.vault_write.specs.Making.{Placing, format, path_of, put_by, put_item, is_unstaged, StagesOrPlaces}
-use Rattle.vault_write.specs.Placing.{IsMaking, MayMake, ShowsNewTree, making_at, EndsAs, Makes}
+use Rattle.content_writing.specs.Making.{Placing, format, path_of, put_by, put_item, is_unstaged, StagesOrPlaces}
+use Rattle.content_writing.specs.Placing.{IsMaking, MayMake, ShowsNewTree, making_at, EndsAs, Makes}
 use Rattle.vault_write.specs.Refusing.{AnswersOver, AnswersPut, AnswersPutBy}
 use Rattle.vault_write.specs.Showing.{EditsShowTrees, EditsBeforeTheLastKeepTrees, MakeItem, MakesAlone, SettledEditsShowTrees}
 use Rattle.vault_write.specs.Slots.{placing}
-use Rattle.vault_write.specs.Trees.{StaysGood, opens_as}
+use Rattle.content_writing.specs.Trees.{StaysGood, opens_as}
 use Rattle.vault_write.proofs.Begun.{folders_seen}
 use Rattle.vault_write.proofs.FileBegun.{opens_whole}
 use Rattle.vault_write.proofs.FileMade.{begins_at, first_shown, stopped_making}

@@ -28,7 +28,7 @@ use Rattle.content_writing.specs.Faults.{of_folder}
 use Rattle.content_writing.specs.declared.fault.PutFault.{PutFault}
 use Rattle.vault_write.specs.Editing.{IsEditing, Edits, HasFinished}
 use Rattle.vault_write.specs.Filing.{DoesReplace, MayReplace, ReplacesContent, ReplacesEntry, StagesEntry, StopsBy, file_of, replace_making}
-use Rattle.vault_write.specs.Making.{StagesOrPlaces, is_apart, is_unstaged}
+use Rattle.content_writing.specs.Making.{StagesOrPlaces, is_apart, is_unstaged}
 use Rattle.vault_write.proofs.Adding.{IsStagedWhole, adds_nothing, free_in_stage}
 use Rattle.vault_write.proofs.Edited.{StagingAt, some_part, bare_of}
 use Rattle.vault_write.proofs.Directories.{whole_staged}

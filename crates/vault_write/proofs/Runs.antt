@@ -12,7 +12,7 @@ use Rattle.folder_spec.specs.View.{FileOf, found}
 use Rattle.folder_spec.specs.Written.{IsFrontOfOne, HoldFronts}
 use Rattle.folder_spec.proofs.Tables.{present_is_table}
 use Rattle.work_folder.specs.Entries.{stage_path}
-use Rattle.vault_write.specs.Making.{Making, is_staged, StagesOrPlaces}
+use Rattle.content_writing.specs.Making.{Making, is_staged, StagesOrPlaces}
 use Rattle.vault_write.proofs.Stages.{in_stage, at_root}
 
 -- more is known of each state, and with it of each event

@@ -14,11 +14,11 @@ use Rattle.vault_spec.specs.Findings.{IsClean}
 use Rattle.vault_spec.specs.Format.{Format}
 use Rattle.vault_spec.specs.Opens.{Opened}
 use Rattle.content_writing.specs.Content.{Ending, Whole}
-use Rattle.vault_write.specs.Making.{Placing, format, path_of, is_staged, is_unstaged}
-use Rattle.vault_write.specs.Placing.{HasVault, ShowsOne, ShowsOldOrNewTree, ShowsNewTree}
+use Rattle.content_writing.specs.Making.{Placing, format, path_of, is_staged, is_unstaged}
+use Rattle.content_writing.specs.Placing.{HasVault, ShowsOne, ShowsOldOrNewTree, ShowsNewTree}
 use Rattle.vault_spec.specs.Staying.{LoadsAlike, StaysVault}
 use Rattle.vault_write.specs.Showing.{MakeItem, MakeItemAt, MakesAlone}
-use Rattle.vault_write.specs.Trees.{KeepsTree, GainsItem, opens_as}
+use Rattle.content_writing.specs.Trees.{KeepsTree, GainsItem, opens_as}
 
 -- edits below a root are edits of what it shows
 abbrev pub RootsShowEdits : Type 0

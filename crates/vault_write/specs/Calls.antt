@@ -7,13 +7,13 @@ use Rattle.folder_spec.specs.Event.{Told}
 use Rattle.folder_spec.specs.Seen.{IfSeen, under}
 use Rattle.folder_spec.specs.View.{View}
 use Rattle.plain_tree.specs.Names as plain
-use Rattle.vault_read.specs.Opened.{OpenedVault}
+use Rattle.vault_spec.specs.Opened.{OpenedVault}
 use Rattle.vault_spec.specs.Making.{NewItem, NewDirectory, NewFile, draws}
 use Rattle.vault_spec.specs.Vault.{format_of}
 use Rattle.content_writing.specs.Content.{Coming, Ending, Whole, Gave, HasEnded}
 use Rattle.content_writing.specs.Writing.{DrewNoZeros}
-use Rattle.vault_write.specs.Making.{Placing, Making, format, new_item, put_item}
-use Rattle.vault_write.specs.Placing.{Makes}
+use Rattle.content_writing.specs.Making.{Placing, Making, format, new_item, put_item}
+use Rattle.content_writing.specs.Placing.{Makes}
 use Rattle.vault_write.specs.Refusing.{Answers, AnswersPut, TakesRoot, PutsRoot}
 use Rattle.content_writing.specs.declared.fault.PutFault.{PutFault}
 use Rattle.content_writing.specs.declared.fault.PutFault.TheVariants as puts

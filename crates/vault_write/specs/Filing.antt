@@ -17,7 +17,7 @@ use Rattle.folder_staging.specs.Folders.{StagesFolder, HasStaged}
 use Rattle.plain_tree.specs.Names as plain
 use Rattle.work_folder.specs.Entering.{IsReady}
 use Rattle.work_folder.specs.Entries.{stage_path}
-use Rattle.vault_read.specs.Opened.{OpenedVault}
+use Rattle.vault_spec.specs.Opened.{OpenedVault}
 use Rattle.vault_faults.specs.declared.fault.FindFault.TheVariants as finds
 use Rattle.vault_spec.specs.Cryptomator.{content_file, full_file}
 use Rattle.vault_spec.specs.Find.{Refusal, enter}
@@ -31,7 +31,7 @@ use Rattle.content_writing.specs.declared.fault.PutFault.{PutFault}
 use Rattle.content_writing.specs.declared.fault.PutFault.TheVariants as puts
 use Rattle.vault_write.specs.Calls.{How, MakesOne, TakesContent, Writing}
 use Rattle.vault_write.specs.Editing.{AddsEdits, Edits, HasEdited, HasFinished}
-use Rattle.vault_write.specs.Making.{Making}
+use Rattle.content_writing.specs.Making.{Making}
 use Rattle.vault_write.specs.Slots.{IsSlot, IsTakenAt, RefusesItem, placing}
 
 -- what an entry shows that has these bytes: a file of them, or a folder with that and the text of a long name

@@ -28,8 +28,8 @@ use Rattle.vault_spec.specs.NewVault.{go_files, cm_files, new_go_vault, new_cm_v
 use Rattle.vault_spec.specs.Tidy.{IsTidy}
 use Rattle.vault_spec.specs.Vault.{Vault, Gocryptfs, Cryptomator, format_of, IsVault}
 use Rattle.vault_write.specs.declared.drawing.GoParts.{GoParts}
-use Rattle.vault_write.specs.Making.{Making, is_unstaged, is_apart, StagesOrPlaces}
-use Rattle.vault_write.specs.Placing.{MayMake}
+use Rattle.content_writing.specs.Making.{Making, is_unstaged, is_apart, StagesOrPlaces}
+use Rattle.content_writing.specs.Placing.{MayMake}
 
 -- the stage is ready, and nothing stands at the path in a directory
 pub record MayFound (told : Option Told) (work at : Path) : Type 0 where

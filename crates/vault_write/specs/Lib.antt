@@ -1,8 +1,5 @@
 -- Making the items of vaults: what a crash may leave, what is written and drawn, and why a call refuses.
 pub mod Faults
-pub mod Trees
-pub mod Making
-pub mod Placing
 pub mod Refusing
 pub mod Editing
 pub mod Calls

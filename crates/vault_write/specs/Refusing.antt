@@ -12,7 +12,7 @@ use Rattle.vault_spec.specs.Making.{Allows, draws, taken}
 use Rattle.vault_spec.specs.Standing.{Standing, Absent, Strange, File, Dir, standing}
 use Rattle.content_writing.specs.Content.{Ending, Whole, Damaged, TooLong}
 use Rattle.content_writing.specs.Writing.{DrewNoZeros, DrewZeros}
-use Rattle.vault_write.specs.Making.{Placing, format, path_of}
+use Rattle.content_writing.specs.Making.{Placing, format, path_of}
 use Rattle.content_writing.specs.declared.fault.PutFault.{PutFault}
 use Rattle.content_writing.specs.declared.fault.PutFault.TheVariants as puts
 

@@ -8,7 +8,7 @@ use Rattle.folder_spec.specs.Path.{Path, child}
 use Rattle.folder_spec.specs.Seen.{IfSeen, under}
 use Rattle.folder_spec.specs.View.{Found, NoEntry, Folder, FileOf, Special, View}
 use Rattle.plain_tree.specs.Names as plain
-use Rattle.vault_read.specs.Opened.{OpenedVault}
+use Rattle.vault_spec.specs.Opened.{OpenedVault}
 use Rattle.vault_spec.specs.Find.{enter}
 use Rattle.vault_spec.specs.Format.{Format, Directory}
 use Rattle.vault_spec.specs.Cryptomator.{taken_unless_folder}
@@ -19,7 +19,7 @@ use Rattle.content_writing.specs.Content.{Ending, Whole}
 use Rattle.content_writing.specs.declared.fault.PutFault.{PutFault}
 use Rattle.content_writing.specs.declared.fault.PutFault.TheVariants as puts
 use Rattle.vault_write.specs.Calls.{MakesOne, New}
-use Rattle.vault_write.specs.Making.{Placing}
+use Rattle.content_writing.specs.Making.{Placing}
 use Rattle.vault_write.specs.Refusing.{Answers}
 
 abbrev pub placing : OpenedVault → Path → plain.Path → List ℕ → NewItem → Placing

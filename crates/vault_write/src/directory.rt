@@ -11,7 +11,7 @@ ghost use Rattle.vault_spec.specs.Vault.{format_of};
 ghost use Rattle.vault_write.specs.Calls.{MakesDirectory};
 ghost use Rattle.vault_write.specs.Editing.{AddsEdits, HomePlaces, GoPlaces, CmPlaces, HasBegun, DoesEdits, shelf_edits, home_edits, go_making, cm_making};
 ghost use Rattle.vault_write.specs.Faults.{IsDirectoryFault};
-ghost use Rattle.vault_write.specs.Placing.{MayMake};
+ghost use Rattle.content_writing.specs.Placing.{MayMake};
 ghost use Rattle.vault_write.specs.Slots.{IsSlot, PlacesOne, placing};
 
 use crate::drawing::{draw_id, draw_some};

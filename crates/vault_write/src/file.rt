@@ -12,7 +12,7 @@ ghost use Rattle.vault_write.specs.Calls.{MakesFile, New, InPlace, ReadsElsewher
 ghost use Rattle.vault_write.specs.Editing.{MayCome};
 ghost use Rattle.vault_write.specs.Faults.{IsFileFault};
 ghost use Rattle.vault_write.specs.Filing.{StagesEntry, PlacesEntry, PlacesFile, PublishesEntry, MayReplace, ReplacesEntry, ReplacesContent, IsSlotOver, StandsAs, StandsUnder, IsAtDirectory};
-ghost use Rattle.vault_write.specs.Placing.{MayMake};
+ghost use Rattle.content_writing.specs.Placing.{MayMake};
 ghost use Rattle.vault_spec.specs.Making.{Allows};
 ghost use Rattle.vault_spec.specs.Standing.{standing};
 ghost use Rattle.vault_write.specs.Slots.{IsSlot, CountsFailed};

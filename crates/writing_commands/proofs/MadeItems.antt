@@ -16,15 +16,15 @@ use Rattle.folder_spec.specs.View.{View, AgreeIn, Shows}
 use Rattle.folder_spec.proofs.Edits.{unchanged_shows}
 use Rattle.folder_spec.proofs.Moments.{went_on, went_more, went_to}
 use Rattle.plain_tree.specs.Names as plain
-use Rattle.vault_read.specs.Opened.{OpenedVault}
+use Rattle.vault_spec.specs.Opened.{OpenedVault}
 use Rattle.vault_faults.specs.declared.fault.FindFault.TheVariants as finds
 use Rattle.vault_spec.specs.Making.{NewItem, NewDirectory}
 use Rattle.vault_spec.specs.Vault.{Vault}
 use Rattle.vault_write.specs.Calls.{How, New, making_by, AnswersBy, MakesOne, MakesAt, MakesDirectory}
 use Rattle.vault_write.specs.Faults.{IsDirectoryFault}
-use Rattle.vault_write.specs.Making.{Placing, Making, format, path_of, is_elsewhere, StagesOrPlaces}
-use Rattle.vault_write.specs.Placing.{ShowsOne, ShowsNewTree, IsMaking, EndsAs, making_at}
-use Rattle.vault_write.specs.Trees.{KeepsTree, GainsItem, opens_as}
+use Rattle.content_writing.specs.Making.{Placing, Making, format, path_of, is_elsewhere, StagesOrPlaces}
+use Rattle.content_writing.specs.Placing.{ShowsOne, ShowsNewTree, IsMaking, EndsAs, making_at}
+use Rattle.content_writing.specs.Trees.{KeepsTree, GainsItem, opens_as}
 use Rattle.work_folder.specs.Entering.{EntersAs}
 use Rattle.command_beginning.proofs.Beginnings.{Alike, Begins, Outside, apart_of_both, apart_of_unstaged, as_before_in, as_before_then, begun_then, same_under, seen_after, seen_alike, went_alone}
 use Rattle.command_beginning.proofs.Endings.{ended_before, made_beside, makes_nothing}

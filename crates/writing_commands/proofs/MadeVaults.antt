@@ -23,7 +23,7 @@ use Rattle.command_words.specs.declared.values.Format.TheVariants.{Gocryptfs, Cr
 use Rattle.vault_spec.specs.NewVault.{go_files, cm_files, new_go_vault, new_cm_vault}
 use Rattle.vault_spec.specs.Vault.{Vault}
 use Rattle.vault_write.specs.Founding.{Founds, FoundsCm, IsFounding, IsNewVault, founding, new_go, new_cm, texts, vault_edit}
-use Rattle.vault_write.specs.Making.{StagesOrPlaces, is_apart, is_unstaged}
+use Rattle.content_writing.specs.Making.{StagesOrPlaces, is_apart, is_unstaged}
 use Rattle.work_folder.specs.Entering.{EntersAs}
 use Rattle.command_beginning.proofs.Beginnings.{Begins, apart_of_both, apart_of_unstaged, as_before_in, as_before_then, begun_then, no_overlap, seen_after, unstaged}
 use Rattle.command_beginning.proofs.Endings.{ended_before, ends_before, made_beside, makes_nothing}

@@ -10,7 +10,7 @@ use Rattle.folder_spec.specs.State.{IsSound}
 use Rattle.folder_spec.specs.Event.{Told}
 use Rattle.folder_spec.specs.Seen.{IfSeen}
 use Rattle.port_model.specs.Draws.{ByteStream}
-use Rattle.vault_read.specs.Opened.{OpenedVault}
+use Rattle.vault_spec.specs.Opened.{OpenedVault}
 use Rattle.vault_faults.specs.declared.fault.FindFault.TheVariants as finds
 use Rattle.vault_faults.specs.declared.fault.Limit.TheVariants.{Input}
 use Rattle.vault_spec.specs.Making.{NewFile}

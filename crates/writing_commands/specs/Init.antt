@@ -22,7 +22,7 @@ use Rattle.command_words.specs.declared.values.Format.TheVariants.{Gocryptfs, Cr
 use Rattle.vault_spec.specs.NewVault.{go_files, cm_files, new_go_vault, new_cm_vault}
 use Rattle.vault_spec.specs.Vault.{Vault}
 use Rattle.vault_write.specs.Founding.{FoundsGo, FoundsCm, IsGoDraw, IsCmDraw, GoDrew, CmDrew, IsNewVault, founding, texts, vault_edit}
-use Rattle.vault_write.specs.Making.{StagesOrPlaces}
+use Rattle.content_writing.specs.Making.{StagesOrPlaces}
 use Rattle.command_opening.specs.Tests.{is_of_readying}
 use Rattle.command_beginning.specs.Beginning.{MakesBeside, OfWork}
 use Rattle.command_opening.specs.Places.{OfFree}

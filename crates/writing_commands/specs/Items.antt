@@ -16,11 +16,11 @@ use Rattle.plain_tree.specs.Names as plain
 use Rattle.port_model.specs.Draws.{ByteStream, Draws}
 use Rattle.vault_spec.specs.Making.{NewItem, draws}
 use Rattle.vault_spec.specs.Vault.{Vault}
-use Rattle.vault_read.specs.Opened.{OpenedVault}
+use Rattle.vault_spec.specs.Opened.{OpenedVault}
 use Rattle.vault_write.specs.Calls.{How, making_by, AnswersBy, AnswersRoot}
-use Rattle.vault_write.specs.Making.{Placing, Making, format, path_of, StagesOrPlaces}
-use Rattle.vault_write.specs.Placing.{ShowsOne, EndsAs, making_at}
-use Rattle.vault_write.specs.Trees.{KeepsTree, GainsItem, opens_as}
+use Rattle.content_writing.specs.Making.{Placing, Making, format, path_of, StagesOrPlaces}
+use Rattle.content_writing.specs.Placing.{ShowsOne, EndsAs, making_at}
+use Rattle.content_writing.specs.Trees.{KeepsTree, GainsItem, opens_as}
 use Rattle.writing_commands.specs.Faults.{answer_to_making}
 use Rattle.command_beginning.specs.Beginning.{MakesBeside, OfSite}
 use Rattle.command_opening.specs.Opening.{Opens}

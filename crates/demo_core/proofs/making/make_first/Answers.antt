@@ -4,7 +4,7 @@ use Rattle.content_writing.specs.declared.fault.PutFault.TheVariants as put
 use Rattle.folder_spec.specs.Region.{apart_from_both}
 use Rattle.folder_spec.specs.Seen.{IsSeen}
 use Rattle.vault_read.specs.declared.vault.VaultKind.TheVariants as kind
-use Rattle.vault_write.specs.Making.{is_apart}
+use Rattle.content_writing.specs.Making.{is_apart}
 use Rattle.work_folder.specs.Entering.{IsFresh, IsReady}
 use Rattle.demo_core.specs.Making.{IsBeside, making_folder}
 use Rattle.demo_core.specs.Sharing.{GoesOn, SharesPlace}

@@ -9,7 +9,7 @@ use Rattle.work_folder.specs.Entering.{EntersAs, IsFresh, IsReady}
 use Rattle.work_folder.specs.Looking.{Gives}
 use Rattle.folder_spec.specs.Path.{below}
 use Rattle.folder_spec.specs.Seen.{ShowsFree, seen}
-use Rattle.vault_write.specs.Making.{is_apart}
+use Rattle.content_writing.specs.Making.{is_apart}
 use Rattle.demo_core.specs.Making.{IsBeside, MakesBeside, making_folder}
 use Rattle.demo_core.proofs.Chances.{enter_chance, free_stays, fresh_stays}
 use Rattle.demo_core.proofs.Beside.{beside_then, made_beside, may_found, shown_told, told_after, work_beside, work_first}

@@ -13,7 +13,7 @@ use Rattle.migrate_core.proofs.Settled.{begins, settled_by, still_settled}
 use Rattle.migrate_core.proofs.Endings.{tree_moved}
 use Rattle.migrate_core.specs.Moved.{Placed}
 use Rattle.migrate_core.proofs.Causing.{Next, opens_pass, opens_refused, refused_as, then_passes, work_refused}
-use Rattle.vault_read.specs.Opened.{OpenedVault}
+use Rattle.vault_spec.specs.Opened.{OpenedVault}
 use Rattle.migrate_core.specs.Causes.{BeginsWith, Opens, Then, Unless}
 use Rattle.migrate_core.specs.Faults.{of_work}
 use Rattle.migrate_core.specs.declared.placing.Done.{Done}

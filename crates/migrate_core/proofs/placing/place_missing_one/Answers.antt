@@ -1,7 +1,7 @@
 use Rattle.std.proofs.Common.{refl, sym, ◌∙◌, Contains, [], cond, not, subst, ◌∷◌, IfErr}
 use Rattle.folder_spec.specs.Seen.{seen}
 use Rattle.tree_match.specs.Alone.{Begun}
-use Rattle.vault_write.specs.Making.{is_apart}
+use Rattle.content_writing.specs.Making.{is_apart}
 use Rattle.migrate_core.proofs.Leadings.{nothing_told, one_view, still_guards, still_leads}
 use Rattle.migrate_core.proofs.Movings.{moves_nowhere}
 use Rattle.migrate_core.proofs.Planned.{seen_of}

@@ -5,7 +5,7 @@ use Rattle.vault_spec.specs.Making.{NewFile}
 use Rattle.vault_spec.specs.Vault.{format_of}
 use Rattle.vault_write.specs.Calls.{New}
 use Rattle.vault_write.specs.Filing.{PlacesFile}
-use Rattle.vault_write.specs.Placing.{MayMake}
+use Rattle.content_writing.specs.Placing.{MayMake}
 use Rattle.vault_write.specs.Slots.{IsSlot}
 use Rattle.vault_write.proofs.FileMade.{file_refused, placed_at}
 use Rattle.vault_write.proofs.Filing.{at_fault}

@@ -6,7 +6,7 @@ use Rattle.vault_spec.specs.Standing.{standing}
 use Rattle.vault_spec.specs.Vault.{format_of}
 use Rattle.vault_write.specs.Calls.{InPlace, New}
 use Rattle.vault_write.specs.Filing.{IsAtDirectory, IsSlotOver, PlacesFile, StandsAs}
-use Rattle.vault_write.specs.Placing.{MayMake}
+use Rattle.content_writing.specs.Placing.{MayMake}
 use Rattle.vault_write.proofs.FileMade.{placed_at}
 use Rattle.vault_write.proofs.Filing.{at_fault}
 use Rattle.vault_write.proofs.PutMade.{directory_refused, over_refused, put_new, put_refused, stands_then}

@@ -8,7 +8,7 @@ use Rattle.folder_spec.specs.Edit.{Edit, edit_under, edits_under}
 use Rattle.folder_spec.specs.Region.{apart_from}
 use Rattle.plain_tree.specs.Names as plain
 use Rattle.work_folder.specs.Entries.{stage_path}
-use Rattle.vault_read.specs.Opened.{OpenedVault}
+use Rattle.vault_spec.specs.Opened.{OpenedVault}
 use Rattle.vault_spec.specs.Find.{Refusal, enter}
 use Rattle.vault_spec.specs.Format.{Format, Directory}
 use Rattle.vault_spec.specs.Making.{NewItem, NewDirectory, NewFile, edits, files, stored_bytes, replacing}

@@ -13,8 +13,8 @@ use Rattle.vault_spec.specs.Adding.{OpensAs, OpensWith}
 use Rattle.vault_spec.specs.Alike.{IsOrderly}
 use Rattle.vault_spec.specs.Findings.{IsClean}
 use Rattle.vault_spec.specs.Opens.{opened}
-use Rattle.vault_write.specs.Making.{Placing, Making, format, path_of, is_staged, is_elsewhere, StagesOrPlaces}
-use Rattle.vault_write.specs.Trees.{ShowsVault, KeepsTree, GainsItem, StaysGood, opens_as}
+use Rattle.content_writing.specs.Making.{Placing, Making, format, path_of, is_staged, is_elsewhere, StagesOrPlaces}
+use Rattle.content_writing.specs.Trees.{ShowsVault, KeepsTree, GainsItem, StaysGood, opens_as}
 use Rattle.content_writing.specs.Content.{Ending, Whole}
 use Rattle.content_writing.specs.declared.fault.PutFault.{PutFault}
 use Rattle.content_writing.specs.declared.fault.PutFault.TheVariants as puts

@@ -13,13 +13,13 @@ use Rattle.command_answers.specs.declared.answer.Answer.{Answer}
 use Rattle.command_answers.specs.declared.answer.Answer.TheVariants.{OutOfMemory}
 use Rattle.command_words.specs.declared.commands.Command.{Command}
 use Rattle.command_words.specs.declared.commands.Command.TheVariants.{DecryptFile, Init, Ls, Cat, Fsck, Mkdir, Put, Repair, Migrate, Resume, Retire, Demo}
-use Rattle.vault_cli.proofs.Demonstrations.{demonstrates_nothing}
+use Rattle.demonstration.proofs.Demonstrations.{demonstrates_nothing}
 use Rattle.reading_commands.proofs.Decryptions.{decrypts_nothing}
 use Rattle.writing_commands.proofs.MadeItems.{makes_no_directory}
 use Rattle.writing_commands.proofs.MadeVaults.{makes_no_vault}
-use Rattle.vault_cli.proofs.Migrations.{AreSafe, migrates_nothing, resumes_nothing}
+use Rattle.moving_commands.proofs.Migrations.{AreSafe, migrates_nothing, resumes_nothing}
 use Rattle.checking_commands.proofs.Repairs.{repairs_nothing}
-use Rattle.vault_cli.proofs.Retirings.{retires_nothing}
+use Rattle.moving_commands.proofs.Retirings.{retires_nothing}
 use Rattle.vault_cli.proofs.Rows.{in_row}
 use Rattle.writing_commands.proofs.StoredFiles.{stores_nothing}
 

@@ -1,15 +1,3 @@
 mod Executions
-mod Migrations
-mod Retirings
-mod Demonstrations
-mod Statuses
-mod DemonstratedTrees
-mod Legs
-mod GoodOrder
-mod DemoDraws
-mod Steps
-mod Movable
-mod Beginnable
-mod SharedPlaces
 mod Rows
 mod ToldRows

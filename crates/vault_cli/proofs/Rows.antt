@@ -29,17 +29,17 @@ use Rattle.command_beginning.specs.Faults.{of_put}
 use Rattle.command_beginning.specs.Beginning.{MakesApart, MakesBeside}
 use Rattle.command_opening.specs.Tests.{is_of_beginning, is_of_readying}
 use Rattle.reading_commands.specs.DecryptFile.{answer_to_end}
-use Rattle.vault_cli.specs.Demo.{is_of_chance, is_of_demonstration}
+use Rattle.demonstration.specs.Demo.{is_of_chance, is_of_demonstration}
 use Rattle.writing_commands.specs.Faults.{answer_to_making}
 use Rattle.checking_commands.specs.Fsck.{is_of_checking}
 use Rattle.writing_commands.specs.Init.{DrawsCryptomator, DrawsVault, MakesVault}
-use Rattle.vault_cli.specs.Migrate.{MigratesApart, MigratesTree, Pair, first_overlap}
+use Rattle.moving_commands.specs.Migrate.{MigratesApart, MigratesTree, Pair, first_overlap}
 use Rattle.writing_commands.specs.Mkdir.{MakesDirectoryIn, is_of_directory}
-use Rattle.vault_cli.specs.Moving.{is_of_migration, is_of_told_migration}
+use Rattle.moving_commands.specs.Moving.{is_of_migration, is_of_told_migration}
 use Rattle.command_opening.specs.Places.{overlap, RefusesOverlap}
 use Rattle.writing_commands.specs.Put.{StoresFile, is_of_file}
 use Rattle.checking_commands.specs.Repair.{RepairsApart, RepairsVault, is_of_repairing}
-use Rattle.vault_cli.specs.Retire.{is_of_retiring}
+use Rattle.moving_commands.specs.Retire.{is_of_retiring}
 use Rattle.vault_cli.specs.Runs.{Executes}
 use Rattle.command_opening.specs.Shown.{is_of_reading}
 use Rattle.command_opening.specs.World.{World}

@@ -62,17 +62,17 @@ use Rattle.command_words.specs.declared.commands.Passes.{Passes}
 use Rattle.command_words.specs.declared.commands.Resuming.{Resuming}
 use Rattle.command_opening.proofs.Printings.{IsPrinted}
 use Rattle.vault_cli.proofs.Rows.{in_row}
-use Rattle.vault_cli.specs.Faults.{of_move, of_retire}
-use Rattle.vault_cli.specs.Migrate.{MigratesApart, MigratesTree, Pair, first_overlap}
-use Rattle.vault_cli.specs.Migrate as migrating
-use Rattle.vault_cli.specs.Moving.{AnswersMove, ArePhrases, Outcome, OfPasses}
+use Rattle.moving_answers.specs.Faults.{of_move, of_retire}
+use Rattle.moving_commands.specs.Migrate.{MigratesApart, MigratesTree, Pair, first_overlap}
+use Rattle.moving_commands.specs.Migrate as migrating
+use Rattle.moving_commands.specs.Moving.{AnswersMove, ArePhrases, Outcome, OfPasses}
 use Rattle.command_opening.specs.Opening.{OfPassFile, passphrase_in}
 use Rattle.command_opening.specs.Places.{RefusesOverlap}
 use Rattle.command_opening.specs.Refusing as refusing
-use Rattle.vault_cli.specs.Resume.{ResumesTree}
-use Rattle.vault_cli.specs.Resume as resuming_on
-use Rattle.vault_cli.specs.Retire.{AnswersRetire, RetiresSource}
-use Rattle.vault_cli.specs.Retire as retiring_on
+use Rattle.moving_commands.specs.Resume.{ResumesTree}
+use Rattle.moving_commands.specs.Resume as resuming_on
+use Rattle.moving_commands.specs.Retire.{AnswersRetire, RetiresSource}
+use Rattle.moving_commands.specs.Retire as retiring_on
 use Rattle.vault_cli.specs.Runs.{Executes, OwnsFolders}
 use Rattle.command_opening.specs.Shown.{Shown, is_of_opening, refused}
 use Rattle.command_opening.specs.World.{World}

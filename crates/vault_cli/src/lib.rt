@@ -1,14 +1,8 @@
-//! The command line: what each command does between its streams, and the answer that it ends with. The words that make a command are
-//! read below, and so are the statuses and messages of answers.
+//! The command line: what the words ask for is done by the crates of the commands, and its answer becomes the status and the message that
+//! the program ends with.
 #![tactic(auto)]
 
-mod demo;
-mod faults;
-mod migrate;
-mod moving;
-mod resume;
-mod retire;
 mod running;
 
-pub use demo::demo_in;
+pub use demonstration::demo_in;
 pub use running::run;

@@ -10,16 +10,14 @@ ghost use Rattle.command_words.specs.Written.{HasTexts, IsSmall};
 ghost use Rattle.vault_cli.specs.Runs.{Executes, OwnsFolders};
 ghost use Rattle.command_opening.specs.World.{World};
 
-use crate::demo::demo;
-use crate::migrate::migrate;
-use crate::resume::resume;
-use crate::retire::retire;
 use checking_commands::{fsck, repair};
 use command_answers::laws::{reports_are_answers, words_alone_end_with_2};
 use command_answers::{Answer, report};
 use command_words::Command;
 use command_words::laws::demonstrations_are_small;
+use demonstration::demo;
 use folder_model::Folder;
+use moving_commands::{migrate, resume, retire};
 use port_model::{Randoms, Sink, Source};
 use reading_commands::{cat, decrypt_file, ls};
 use std::alloc::Global;

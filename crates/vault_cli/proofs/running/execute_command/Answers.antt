@@ -1,10 +1,8 @@
 use Rattle.std.proofs.Common.{false, None, Some, refl, sym, subst}
-use Rattle.std.proofs.KnownBytes.{Keeps-refl}
-use Rattle.vault_cli.specs.Demo.{Demonstrates}
 use Rattle.vault_cli.specs.Runs.{Executes}
 use Rattle.command_opening.specs.World.{World}
 use Rattle.command_answers.specs.declared.answer.Answer.TheVariants.{FolderFault, InputFault, OutputFault, RandomFault}
-use Rattle.command_words.specs.declared.commands.Command.TheVariants.{DecryptFile, Init, Ls, Cat, Mkdir, Put, Repair, Migrate}
+use Rattle.command_words.specs.declared.commands.Command.TheVariants.{DecryptFile, Init, Ls, Cat, Mkdir, Put, Repair, Migrate, Resume, Retire, Demo}
 use Rattle.vault_cli.proofs.Executions.{not_named}
 use Rattle.vault_cli.proofs.running.execute_command.Goals as goal
 
@@ -62,18 +60,23 @@ returns-in-Migrate-clause-executes g c =
     let after : World = record { told = g.F.Folder.told c.migrate.new.folder; left = g.I.Source.left c.args.input.now; ended = g.I.Source.ended c.args.input.now; taken = g.O.Sink.taken c.migrate.new.out; random = g.R.Randoms.left c.migrate.new.random } in
     subst (λ command. Executes (Some command) c.migrate.result before after) (sym c.in-Migrate.is) (c.migrate.ensures.migrates before.left before.ended)
 
+pub returns-in-Resume-clause-executes : goal.returns-in-Resume-clause-executes
+returns-in-Resume-clause-executes g c =
+    let before : World = record { told = g.F.Folder.told c.args.folder.now; left = g.I.Source.left c.args.input.now; ended = g.I.Source.ended c.args.input.now; taken = g.O.Sink.taken c.args.out.now; random = g.R.Randoms.left c.args.random.now } in
+    let after : World = record { told = g.F.Folder.told c.resume.new.folder; left = g.I.Source.left c.args.input.now; ended = g.I.Source.ended c.args.input.now; taken = g.O.Sink.taken c.resume.new.out; random = g.R.Randoms.left c.resume.new.random } in
+    subst (λ command. Executes (Some command) c.resume.result before after) (sym c.in-Resume.is) (c.resume.ensures.resumes before.left before.ended)
+
+pub returns-in-Retire-clause-executes : goal.returns-in-Retire-clause-executes
+returns-in-Retire-clause-executes g c =
+    let before : World = record { told = g.F.Folder.told c.args.folder.now; left = g.I.Source.left c.args.input.now; ended = g.I.Source.ended c.args.input.now; taken = g.O.Sink.taken c.args.out.now; random = g.R.Randoms.left c.args.random.now } in
+    let after : World = record { told = g.F.Folder.told c.retire.new.folder; left = g.I.Source.left c.args.input.now; ended = g.I.Source.ended c.args.input.now; taken = g.O.Sink.taken c.retire.new.out; random = g.R.Randoms.left c.args.random.now } in
+    subst (λ command. Executes (Some command) c.retire.result before after) (sym c.in-Retire.is) (c.retire.ensures.retires before.left before.ended before.random)
+
 pub returns-in-Demo-clause-executes : goal.returns-in-Demo-clause-executes
 returns-in-Demo-clause-executes g c =
-    let arm = c.in-Demo in
-    let told = g.F.Folder.told c.args.folder.now in
-    let left = g.I.Source.left c.args.input.now in
-    let ended = g.I.Source.ended c.args.input.now in
-    let random = g.R.Randoms.left c.args.random.now in
-    let before : World = record { told = told; left = left; ended = ended; taken = g.O.Sink.taken c.args.out.now; random = random } in
-    let after : World = record { told = told; left = left; ended = ended; taken = g.O.Sink.taken c.demo.new.out; random = random } in
-    let did : Demonstrates arm.demonstration c.demo.result before after =
-    record { own = c.demo.ensures.own; steady = c.demo.ensures.no_folder; told = c.demo.ensures.does.0; ends = c.demo.ensures.does.1; prints = c.demo.ensures.does.2; unchanged = refl; untouched = Keeps-refl left; undrawn = refl } in
-    subst (λ command. Executes (Some command) c.demo.result before after) (sym arm.is) did
+    let before : World = record { told = g.F.Folder.told c.args.folder.now; left = g.I.Source.left c.args.input.now; ended = g.I.Source.ended c.args.input.now; taken = g.O.Sink.taken c.args.out.now; random = g.R.Randoms.left c.args.random.now } in
+    let after : World = record { told = g.F.Folder.told c.args.folder.now; left = g.I.Source.left c.args.input.now; ended = g.I.Source.ended c.args.input.now; taken = g.O.Sink.taken c.demo.new.out; random = g.R.Randoms.left c.args.random.now } in
+    subst (λ command. Executes (Some command) c.demo.result before after) (sym c.in-Demo.is) (c.demo.ensures.demonstrates before.told before.left before.ended before.random)
 
 -- ---- what a command isn't handed it doesn't name
 
@@ -118,3 +121,21 @@ returns-in-Repair-clause-random_fault g c = λ is. absurd (not_named (Repair c.i
 
 pub returns-in-Migrate-clause-input_fault : goal.returns-in-Migrate-clause-input_fault
 returns-in-Migrate-clause-input_fault g c = λ is. absurd (not_named (Migrate c.in-Migrate.moving) c.migrate.result InputFault _ _ (c.migrate.ensures.migrates None false) refl is)
+
+pub returns-in-Resume-clause-input_fault : goal.returns-in-Resume-clause-input_fault
+returns-in-Resume-clause-input_fault g c = λ is. absurd (not_named (Resume c.in-Resume.resuming) c.resume.result InputFault _ _ (c.resume.ensures.resumes None false) refl is)
+
+pub returns-in-Retire-clause-input_fault : goal.returns-in-Retire-clause-input_fault
+returns-in-Retire-clause-input_fault g c = λ is. absurd (not_named (Retire c.in-Retire.resuming) c.retire.result InputFault _ _ (c.retire.ensures.retires None false None) refl is)
+
+pub returns-in-Retire-clause-random_fault : goal.returns-in-Retire-clause-random_fault
+returns-in-Retire-clause-random_fault g c = λ is. absurd (not_named (Retire c.in-Retire.resuming) c.retire.result RandomFault _ _ (c.retire.ensures.retires None false None) refl is)
+
+pub returns-in-Demo-clause-folder_fault : goal.returns-in-Demo-clause-folder_fault
+returns-in-Demo-clause-folder_fault g c = λ is. absurd (not_named (Demo c.in-Demo.demonstration) c.demo.result FolderFault _ _ (c.demo.ensures.demonstrates None None false None) refl is)
+
+pub returns-in-Demo-clause-input_fault : goal.returns-in-Demo-clause-input_fault
+returns-in-Demo-clause-input_fault g c = λ is. absurd (not_named (Demo c.in-Demo.demonstration) c.demo.result InputFault _ _ (c.demo.ensures.demonstrates None None false None) refl is)
+
+pub returns-in-Demo-clause-random_fault : goal.returns-in-Demo-clause-random_fault
+returns-in-Demo-clause-random_fault g c = λ is. absurd (not_named (Demo c.in-Demo.demonstration) c.demo.result RandomFault _ _ (c.demo.ensures.demonstrates None None false None) refl is)

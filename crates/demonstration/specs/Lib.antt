@@ -1,0 +1,3 @@
+pub mod DemoTrees
+pub mod Demo
+pub mod DemoSteps

@@ -1,0 +1,361 @@
+-- Migrations that are led on: nothing is lost at any moment, and what was done where one wasn't begun.
+use Rattle.std.proofs.Common.{◌≡◌, ℕ, Bool, true, false, List, Option, Some, None, Result, Ok, Err, inl, inr, refl, sym, ap, ◌∙◌, subst, IsTrue, ◌⊎◌}
+use Rattle.std.specs.Prelude.{◌≢◌, MatchOption, MatchResult, if◌then◌else◌}
+use Rattle.std.proofs.lemmas.Bool.{or_left}
+use Rattle.std.specs.Io.KnownBytes as known
+use Rattle.std.proofs.KnownBytes.{Keeps-refl}
+use Rattle.content_writing.specs.declared.fault.PutFault.TheVariants as puts
+use Rattle.folder_spec.specs.Event.{Told}
+use Rattle.folder_spec.specs.Image.{Image, IsImage}
+use Rattle.folder_spec.specs.Moments.{Went}
+use Rattle.folder_spec.specs.Path.{Path}
+use Rattle.folder_spec.specs.Region.{IsAsBefore, apart_from_both}
+use Rattle.folder_spec.specs.Seen.{IfSeen, IsSeen}
+use Rattle.folder_spec.specs.State.{State}
+use Rattle.folder_spec.specs.View.{Found, FileOf, View, view_of}
+use Rattle.folder_spec.proofs.Moments.{went_more, went_nowhere}
+use Rattle.folder_spec.proofs.Regions.{as_before}
+use Rattle.folder_spec.proofs.Tellings.{from_to_more, from_to_same}
+use Rattle.migrate_core.specs.Completing.{CanBegin, CanResume, IsOfChance}
+use Rattle.migrate_core.specs.Faults as causes
+use Rattle.migrate_core.specs.Leading.{KeepsGuarded}
+use Rattle.migrate_core.specs.Moving.{MovesOnly, OnlyBrings}
+use Rattle.migrate_core.specs.Sides.{IsAsked, IsResumed}
+use Rattle.migrate_core.specs.declared.fault.MoveFault.{MoveFault}
+use Rattle.migrate_core.specs.declared.fault.MoveFault.TheVariants as moves
+use Rattle.migrate_core.specs.declared.placing.Done as moved
+use Rattle.move_journal.specs.Journal.{IsJournal}
+use Rattle.move_journal.specs.Writing.{GivesBack}
+use Rattle.move_journal.specs.Reading.{ReadsAs, journal_bytes, StandsIn}
+use Rattle.move_journal.specs.declared.journal.JournalFault.{JournalFault}
+use Rattle.move_journal.specs.declared.journal.JournalFault.TheVariants as journal
+use Rattle.move_journal.specs.declared.journal.Journal.{Journal}
+use Rattle.move_journal.proofs.Standing.{ReadsBack, read_stands}
+use Rattle.port_model.specs.Draws.{ByteStream}
+use Rattle.tree_match.specs.Alone.{StaysGuarded}
+use Rattle.tree_match.specs.Guard.{Migration, Guarded, IsSafe, LosesNothing}
+use Rattle.tree_match.specs.declared.answer.MatchFault.TheVariants as match
+use Rattle.tree_match.specs.declared.answer.Side.{Side}
+use Rattle.vault_faults.specs.declared.fault.Limit.TheVariants as limit
+use Rattle.vault_read.specs.declared.fault.LoadFault.{LoadFault}
+use Rattle.moving_commands.specs.Migrate.{HasMigrated, IsAskedFor, MigratesApart, MigratesTree, Pair, first_overlap, pair}
+use Rattle.moving_commands.specs.Migrate as migrating
+use Rattle.moving_answers.specs.Faults.{of_move}
+use Rattle.moving_answers.specs.Stops.{is_of_stop, is_of_told_stop}
+use Rattle.moving_commands.specs.Moving.{AnswersMove, ArePhrases, Comes, Completes, FailPasses, KeepsAll, OfPasses, Outcome, RefusesPasses, RefusesUndrawn, done_text, is_of_chance}
+use Rattle.command_opening.specs.Opening.{IsPhrase, OfPassFile, passphrase_in}
+use Rattle.command_opening.specs.Places.{RefusesOverlap, overlap}
+use Rattle.command_answers.specs.Printing.{PrintsText}
+use Rattle.command_opening.specs.Refusing.{RefusesPass, Unless}
+use Rattle.moving_commands.specs.Resume.{HasResumed, IsResumedFor, Resumes, ResumesTree}
+use Rattle.moving_commands.specs.Resume as resuming_on
+use Rattle.command_opening.specs.Shown.{is_of_end, refused}
+use Rattle.command_opening.specs.World.{World}
+use Rattle.command_answers.specs.declared.answer.Answer.{Answer}
+use Rattle.command_answers.specs.declared.answer.Answer.TheVariants.{OutOfMemory, FolderFault, Overlap}
+use Rattle.command_words.specs.declared.commands.Moving.{Moving}
+use Rattle.command_words.specs.declared.commands.Passes.{Passes}
+use Rattle.command_words.specs.declared.commands.Resuming.{Resuming}
+use Rattle.command_opening.proofs.Overlaps.{none_drawn, refuses_overlap}
+use Rattle.command_opening.proofs.Printings.{IsPrinted, nothing_printed, printed, printed_is_own}
+use Rattle.command_opening.proofs.Refusals.{pass_gives, pass_taken, pass_then, unless_then}
+
+-- ---- nothing is lost
+
+abbrev pub AreSafe : Type 0
+AreSafe = (g : Migration) (s : State) (image : Image) → Guarded g s → IsImage s image → IsSafe g (view_of image)
+
+module _ (law : AreSafe) (g : Migration) (told told' : Option Told) where
+  loses_nothing : (s : State) → Guarded g s → LosesNothing g s
+  loses_nothing s guarded = record { guarded = guarded; safe = λ image is. law g s image guarded is }
+
+  abbrev Keeps : Told → Told → Type 0
+  Keeps a b = Guarded g a.state → Went (LosesNothing g) (λ s e. Unit {0}) a b
+
+  pub keeps_all : KeepsGuarded g told told' → KeepsAll g told told'
+  keeps_all = from_to_more (λ a b. Guarded g a.state → StaysGuarded g a b) Keeps told told' (λ a b is stays guarded.
+      went_more (Guarded g) (LosesNothing g) (λ s e. Unit {0}) (λ s e. Unit {0}) a b loses_nothing (λ s e x. x) (stays guarded))
+
+  pub keeps_same : told' ≡ told → KeepsAll g told told'
+  keeps_same same = from_to_same Keeps told told' same (λ a guarded. went_nowhere (LosesNothing g) (λ s e. Unit {0}) a (loses_nothing a.state guarded))
+
+pub moves_nothing : (work target : Path) (told told' : Option Told) → told' ≡ told → MovesOnly work target told told'
+moves_nothing work target told told' same =
+    from_to_same (λ a b. Went (IsAsBefore (apart_from_both work target) a.state) (λ s e. OnlyBrings target s e.call) a b) told told' same
+    (λ a. went_nowhere (IsAsBefore (apart_from_both work target) a.state) (λ s e. OnlyBrings target s e.call) a (as_before (apart_from_both work target) a.state))
+
+-- ---- the passphrases
+
+phrase_is_one : (there : Found) (a b : List ℕ) → IsPhrase there a → IsPhrase there b → a ≡ b
+phrase_is_one there a b p q =
+    let both : FileOf p.0 ≡ FileOf q.0 = sym p.1 ∙ q.1 in
+    let same : p.0 ≡ q.0 = cc in
+    p.3 ∙ ap passphrase_in same ∙ sym q.3
+
+pub first_refused : (passes : Passes) (v : View) (answer : Answer) → RefusesPass passes.source (v passes.source) answer → FailPasses passes v answer
+first_refused passes v answer =
+    unless_then (OfPassFile passes.source (v passes.source) (refused answer) (λ s. ⊥)) (OfPasses passes v answer (λ s t. ⊥)) answer
+    (pass_then passes.source (v passes.source) (refused answer) (λ s. ⊥) (λ s. OfPassFile passes.target (v passes.target) (refused answer) (λ t. ⊥)) (λ s none. absurd none))
+
+pub second_refused : (passes : Passes) (v : View) (answer : Answer) (source : List ℕ) → IsPhrase (v passes.source) source → RefusesPass passes.target (v passes.target) answer → FailPasses passes v answer
+second_refused passes v answer source is =
+    unless_then (OfPassFile passes.target (v passes.target) (refused answer) (λ t. ⊥)) (OfPasses passes v answer (λ s t. ⊥)) answer
+    (pass_gives passes.source (v passes.source) (refused answer) (λ s. OfPassFile passes.target (v passes.target) (refused answer) (λ t. ⊥)) source is)
+
+pub phrases_are : (passes : Passes) (source target source_pass target_pass : List ℕ) (v : View) → source_pass ≡ source → target_pass ≡ target → IsPhrase (v passes.source) source → IsPhrase (v passes.target) target
+    → ArePhrases passes source_pass target_pass v
+phrases_are passes source target source_pass target_pass v first second is is' =
+    record { source = subst (IsPhrase (v passes.source)) (sym first) is; target = subst (IsPhrase (v passes.target)) (sym second) is' }
+
+-- where both stand in their files, nothing of these refuses
+pub phrases_read : (passes : Passes) (source target : List ℕ) (v : View) (answer : Answer) (P : Type 0) → ArePhrases passes source target v → FailPasses passes v answer → Unless answer P
+phrases_read passes source target v answer P are =
+    unless_then (OfPasses passes v answer (λ s t. ⊥)) P answer (λ of.
+    absurd (pass_taken passes.target (v passes.target) (refused answer) (λ t. ⊥) target are.target
+    (pass_taken passes.source (v passes.source) (refused answer) (λ s. OfPassFile passes.target (v passes.target) (refused answer) (λ t. ⊥)) source are.source of)))
+
+-- the migration that is asked for is the one whose passphrases were read
+pub asked_is : (g : Migration) (moving : Moving) (v : View) (source target : List ℕ) → ArePhrases moving.passes source target v → IsAskedFor g moving v → IsAsked g moving.source moving.target moving.work source target
+asked_is g moving v source target are asked = record {
+  source = asked.asked.source;
+  target = asked.asked.target;
+  work = asked.asked.work;
+  opens_source = phrase_is_one (v moving.passes.source) g.source.pass source asked.phrases.source are.source;
+  opens_target = phrase_is_one (v moving.passes.target) g.target.pass target asked.phrases.target are.target;
+}
+
+pub resumed_is : (g : Migration) (resuming : Resuming) (v : View) (source target : List ℕ) → ArePhrases resuming.passes source target v → IsResumedFor g resuming v → IsResumed g resuming.work source target
+resumed_is g resuming v source target are asked = record {
+  work = asked.resumed.work;
+  opens_source = phrase_is_one (v resuming.passes.source) g.source.pass source asked.phrases.source are.source;
+  opens_target = phrase_is_one (v resuming.passes.target) g.target.pass target asked.phrases.target are.target;
+}
+
+-- so a call that goes on with it loses nothing
+pub keeps_resumed : AreSafe → (g : Migration) (resuming : Resuming) (v : View) (told mid told' : Option Told) (source target : List ℕ) → mid ≡ told → ArePhrases resuming.passes source target v
+    → (IsResumed g resuming.work source target → KeepsGuarded g mid told') → IsResumedFor g resuming v → KeepsAll g told told'
+keeps_resumed law g resuming v told mid told' source target same are guard asked =
+    keeps_all law g told told' (subst (λ t. KeepsGuarded g t told') same (guard (resumed_is g resuming v source target are asked)))
+
+-- ---- the journal
+
+pub journal_found : (work : Path) (v : View) (j : Journal) → ReadsAs (journal_bytes v work) (Ok j) → resuming_on.IsFoundJournal work v (Some j)
+journal_found work v j reads = (is_journal (journal_bytes v work) reads, read_stands work v j reads)
+  where
+    is_journal : (file : Option (List ℕ)) → ReadsAs file (Ok j) → IsJournal j
+    is_journal (Some bytes) reads = reads.0
+    is_journal None reads = absurd reads
+
+-- the root of a vault that isn't opened is that of the journal, where one is read
+pub root_read : (work : Path) (v : View) (side : Side) (found : Option Journal) (j : Journal) → resuming_on.IsFoundJournal work v found → ReadsAs (journal_bytes v work) (Ok j)
+    → (named : Option Journal → Path) → ((k : Journal) → named (Some k) ≡ resuming_on.root_in k side) → resuming_on.IsRootIn work v side (named found)
+root_read work v side (Some k) j is reads named same = (k, is.0, is.1, same k)
+root_read work v side None j is reads named same = let stands : IsJournal j × StandsIn work j v = journal_found work v j reads in absurd (is j stands.0 stands.1)
+
+-- what is so of the journal that stands in the work folder
+abbrev pub OfJournal : Path → Option Told → (Journal → Type 0) → Type 0
+OfJournal work told P = (v : View) (journal : Journal) → IsSeen told v → IsJournal journal → StandsIn work journal v → P journal
+
+-- what a call says of it is said of what was told before, where that is the same
+pub journal_since : (work : Path) (P : Journal → Option Told → Type 0) (told mid : Option Told) → mid ≡ told → OfJournal work mid (λ journal. P journal mid) → OfJournal work told (λ journal. P journal told)
+journal_since work P told mid same = subst (λ t. OfJournal work t (λ journal. P journal t)) same
+
+-- a journal that stands is read
+pub journal_missing : ReadsBack → (work : Path) (v : View) (result : Result Journal JournalFault) → ((j : Journal) → ¬ GivesBack j result) → ReadsAs (journal_bytes v work) result → resuming_on.IsFoundJournal work v None
+journal_missing law work v result none reads j good stands = none j (law work v j result good stands reads)
+
+-- ---- what a migration comes to
+
+pub passes_unread : (passes : Passes) (answer : Answer) (told told' : Option Told) (v : View) → told' ≡ told → FailPasses passes v answer → RefusesPasses passes answer told told' v
+passes_unread passes answer told told' v same fail = record { answers = fail; unchanged = same }
+
+pub unread_undrawn : (passes : Passes) (answer : Answer) (told told' : Option Told) (stream : Option ByteStream) (v : View) → told' ≡ told → FailPasses passes v answer → RefusesUndrawn passes answer told told' stream stream v
+unread_undrawn passes answer told told' stream v same fail = (passes_unread passes answer told told' v same fail, none_drawn stream)
+
+cut_completes : (answer : Answer) → Unless answer ⊥ → Completes answer
+cut_completes answer (inl failed) = subst Completes (sym failed) refl
+cut_completes answer (inr (inl memory)) = subst Completes (sym memory) refl
+cut_completes answer (inr (inr none)) = absurd none
+
+-- where both passphrases stand in their files
+pub read_completes : (passes : Passes) (source target : List ℕ) (v : View) (answer : Answer) → ArePhrases passes source target v → FailPasses passes v answer → Completes answer
+read_completes passes source target v answer are fail = cut_completes answer (phrases_read passes source target v answer ⊥ are fail)
+
+chance : (work root : Path) (fault : MoveFault) → IsOfChance fault → IsTrue (is_of_chance (of_move work root fault))
+chance work root moves.Failed of = refl
+chance work root moves.NoMemory of = refl
+chance work root (moves.Place puts.Random) of = refl
+chance work root (moves.Place puts.ZeroRandom) of = refl
+chance work root (moves.Place (puts.Taken at)) of = refl
+chance work root (moves.Match (match.Limit (limit.Length at))) of = refl
+chance work root fault of = absurd of
+
+-- what chance has it is answered as such
+pub chance_answered : (work root : Path) (fault : MoveFault) (answer : Answer) → IsOfChance fault → (answer ≡ OutOfMemory) ⊎ (answer ≡ of_move work root fault) → Completes answer
+chance_answered work root fault answer of (inl memory) = subst Completes (sym memory) refl
+chance_answered work root fault answer of (inr is) = or_left (is_of_chance answer) (is_of_end answer) (subst (λ a. IsTrue (is_of_chance a)) (sym is) (chance work root fault of))
+
+pub cut_short : (passes : Passes) (v : View) (answer : Answer) → (answer ≡ FolderFault) ⊎ (answer ≡ OutOfMemory) → FailPasses passes v answer
+cut_short passes v answer (inl failed) = inl failed
+cut_short passes v answer (inr memory) = inr (inl memory)
+
+module _ {O : Type 0} (passes : Passes) (IsCaused DoesSo : List ℕ → List ℕ → O → Type 0) (v : View) where
+  pub comes_as : (P Q : O → Type 0) → ((outcome : O) → P outcome → Q outcome) → Comes passes IsCaused DoesSo P v → Comes passes IsCaused DoesSo Q v
+  comes_as P Q f comes = record {
+    source_pass = comes.source_pass;
+    target_pass = comes.target_pass;
+    phrases = comes.phrases;
+    outcome = comes.outcome;
+    cause = comes.cause;
+    does = comes.does;
+    answers = f comes.outcome comes.answers;
+  }
+
+move_printed : (work : Path) (IsRoot : MoveFault → Path → Type 0) (answer : Answer) (done : moved.Done) → IsPrinted answer → (outcome : Outcome) → outcome ≡ Ok done → AnswersMove work IsRoot answer outcome
+move_printed work IsRoot answer done is_printed outcome is = subst (AnswersMove work IsRoot answer) (sym is) is_printed
+
+-- ---- `migrate`
+
+module _ (moving : Moving) where
+  abbrev pick : Bool → Bool → Bool → Option Pair
+  pick one two three =
+      if one then Some (pair moving.source moving.target)
+      else if two then Some (pair moving.source moving.work)
+      else if three then Some (pair moving.target moving.work)
+      else None
+
+  -- the first two folders that overlap
+  pub first_two : overlap moving.source moving.target ≡ true → first_overlap moving ≡ Some (pair moving.source moving.target)
+  first_two is = ap (λ b. pick b (overlap moving.source moving.work) (overlap moving.target moving.work)) is
+
+  pub second_two : overlap moving.source moving.target ≡ false → overlap moving.source moving.work ≡ true → first_overlap moving ≡ Some (pair moving.source moving.work)
+  second_two first is = ap (λ b. pick b (overlap moving.source moving.work) (overlap moving.target moving.work)) first ∙ ap (λ b. pick false b (overlap moving.target moving.work)) is
+
+  by_last : (b : Bool) → overlap moving.source moving.target ≡ false → overlap moving.source moving.work ≡ false → overlap moving.target moving.work ≡ b → first_overlap moving ≡ pick false false b
+  by_last b first second is =
+      ap (λ b. pick b (overlap moving.source moving.work) (overlap moving.target moving.work)) first ∙ ap (λ b. pick false b (overlap moving.target moving.work)) second ∙ ap (pick false false) is
+
+  pub third_two : overlap moving.source moving.target ≡ false → overlap moving.source moving.work ≡ false → overlap moving.target moving.work ≡ true → first_overlap moving ≡ Some (pair moving.target moving.work)
+  third_two = by_last true
+
+  pub no_two : overlap moving.source moving.target ≡ false → overlap moving.source moving.work ≡ false → overlap moving.target moving.work ≡ false → first_overlap moving ≡ None
+  no_two = by_last false
+
+  pub two_refused : (two : Pair) (answer : Answer) (w : World) → first_overlap moving ≡ Some two → (answer ≡ Overlap two.first two.second) ⊎ (answer ≡ OutOfMemory) → MigratesTree moving answer w w
+  two_refused two answer w is answers = record {
+    apart = subst (λ (o : Option Pair). MatchOption o (MigratesApart moving answer w.told w.told w.taken w.taken w.random w.random) (λ (p : Pair). RefusesOverlap p.first p.second answer w w)) (sym is)
+        (refuses_overlap two.first two.second answer w w.told answers refl);
+    untouched = Keeps-refl w.left;
+  }
+
+  pub migrated_apart : (answer : Answer) (before after : World) → first_overlap moving ≡ None → known.Keeps before.left after.left → MigratesApart moving answer before.told after.told before.taken after.taken before.random after.random
+      → MigratesTree moving answer before after
+  migrated_apart answer before after none untouched migrates = record {
+    apart = subst (λ (o : Option Pair). MatchOption o (MigratesApart moving answer before.told after.told before.taken after.taken before.random after.random) (λ (p : Pair). RefusesOverlap p.first p.second answer before after))
+        (sym none) migrates;
+    untouched = untouched;
+  }
+
+  pub migrate_stopped : (answer : Answer) (told told' : Option Told) (taken : Option (List ℕ)) (stream stream' : Option ByteStream) → IsTrue (is_of_stop answer)
+      → IfSeen told (λ v. migrating.MayCome moving answer told told' stream stream' v)
+      → ((g : Migration) → IfSeen told (λ v. IsAskedFor g moving v → KeepsAll g told told')) → MovesOnly moving.work moving.target told told'
+      → ((g : Migration) → IfSeen told (λ v. IsAskedFor g moving v → CanBegin g v → Completes answer)) → MigratesApart moving answer told told' taken taken stream stream'
+  migrate_stopped answer told told' taken stream stream' own comes keeps moves completes = record {
+    own = or_left (is_of_stop answer) (is_of_end answer) own;
+    comes = comes;
+    keeps = keeps;
+    moves = moves;
+    completes = completes;
+    prints = nothing_printed done_text (λ done. HasMigrated moving done told told') is_of_stop answer taken own refl refl;
+  }
+
+  pub migrate_printed : (done : moved.Done) (answer : Answer) (told told' : Option Told) (taken taken' : Option (List ℕ)) (stream stream' : Option ByteStream) → HasMigrated moving done told told'
+      → IfSeen told (λ v. migrating.ComesTo moving (λ outcome. outcome ≡ Ok done) told told' stream stream' v)
+      → ((g : Migration) → IfSeen told (λ v. IsAskedFor g moving v → KeepsAll g told told')) → MovesOnly moving.work moving.target told told'
+      → PrintsText (done_text done) answer taken taken' → IsPrinted answer → MigratesApart moving answer told told' taken taken' stream stream'
+  migrate_printed done answer told told' taken taken' stream stream' has comes keeps moves prints is_printed = record {
+    own = printed_is_own is_of_stop answer refl is_printed;
+    comes = λ v is. inr (comes_as moving.passes (migrating.IsCaused moving v) (migrating.IsWritten moving told told' stream stream') v (λ outcome. outcome ≡ Ok done)
+        (AnswersMove moving.work (migrating.IsRootOf moving) answer) (move_printed moving.work (migrating.IsRootOf moving) answer done is_printed) (comes v is));
+    keeps = keeps;
+    moves = moves;
+    completes = λ g v is asked can. printed_is_own is_of_chance answer refl is_printed;
+    prints = printed done_text (λ done. HasMigrated moving done told told') done answer taken taken' has prints is_printed;
+  }
+
+  migrates_nothing_apart : AreSafe → (told : Option Told) (taken : Option (List ℕ)) (stream : Option ByteStream) → MigratesApart moving OutOfMemory told told taken taken stream stream
+  migrates_nothing_apart law told taken stream =
+      migrate_stopped OutOfMemory told told taken stream stream refl (λ v is. inl (unread_undrawn moving.passes OutOfMemory told told stream v refl (inr (inl refl)))) (λ g v is asked. keeps_same law g told told refl)
+      (moves_nothing moving.work moving.target told told refl) (λ g v is asked can. refl)
+
+  pub migrates_nothing : AreSafe → (w : World) → MigratesTree moving OutOfMemory w w
+  migrates_nothing law w = record { apart = by (first_overlap moving); untouched = Keeps-refl w.left }
+    where
+      by : (o : Option Pair) → MatchOption o (MigratesApart moving OutOfMemory w.told w.told w.taken w.taken w.random w.random) (λ two. RefusesOverlap two.first two.second OutOfMemory w w)
+      by None = migrates_nothing_apart law w.told w.taken w.random
+      by (Some two) = refuses_overlap two.first two.second OutOfMemory w w.told (inr refl) refl
+
+-- ---- `resume`
+
+module _ (resuming : Resuming) where
+  abbrev Brings : Option Told → Option Told → Type 0
+  Brings told told' = OfJournal resuming.work told (λ journal. MovesOnly resuming.work journal.target told told')
+
+  pub resume_stopped : (answer : Answer) (told told' : Option Told) (taken : Option (List ℕ)) (stream stream' : Option ByteStream) → IsTrue (is_of_told_stop answer)
+      → IfSeen told (λ v. resuming_on.MayCome resuming answer told told' stream stream' v)
+      → ((g : Migration) → IfSeen told (λ v. IsResumedFor g resuming v → KeepsAll g told told')) → Brings told told'
+      → ((g : Migration) → IfSeen told (λ v. IsResumedFor g resuming v → CanResume g v → Completes answer)) → Resumes resuming answer told told' taken taken stream stream'
+  resume_stopped answer told told' taken stream stream' own comes keeps moves completes = record {
+    own = or_left (is_of_told_stop answer) (is_of_end answer) own;
+    comes = comes;
+    keeps = keeps;
+    moves = moves;
+    completes = completes;
+    prints = nothing_printed done_text (λ done. HasResumed resuming done told told') is_of_told_stop answer taken own refl refl;
+  }
+
+  pub resume_printed : (done : moved.Done) (answer : Answer) (told told' : Option Told) (taken taken' : Option (List ℕ)) (stream stream' : Option ByteStream) → HasResumed resuming done told told'
+      → IfSeen told (λ v. resuming_on.ComesTo resuming (λ outcome. outcome ≡ Ok done) told told' stream stream' v)
+      → ((g : Migration) → IfSeen told (λ v. IsResumedFor g resuming v → KeepsAll g told told')) → Brings told told'
+      → PrintsText (done_text done) answer taken taken' → IsPrinted answer → Resumes resuming answer told told' taken taken' stream stream'
+  resume_printed done answer told told' taken taken' stream stream' has comes keeps moves prints is_printed = record {
+    own = printed_is_own is_of_told_stop answer refl is_printed;
+    comes = λ v is. inr (comes_as resuming.passes (resuming_on.IsCaused resuming v) (resuming_on.IsWritten resuming told told' stream stream' v) v (λ outcome. outcome ≡ Ok done)
+        (AnswersMove resuming.work (resuming_on.IsRootOf resuming.work v) answer) (move_printed resuming.work (resuming_on.IsRootOf resuming.work v) answer done is_printed) (comes v is));
+    keeps = keeps;
+    moves = moves;
+    completes = λ g v is asked can. printed_is_own is_of_chance answer refl is_printed;
+    prints = printed done_text (λ done. HasResumed resuming done told told') done answer taken taken' has prints is_printed;
+  }
+
+  pub resumes_nothing : AreSafe → (w : World) → ResumesTree resuming OutOfMemory w w
+  resumes_nothing law w = record {
+    resumes = resume_stopped OutOfMemory w.told w.told w.taken w.random w.random refl (λ v is. inl (unread_undrawn resuming.passes OutOfMemory w.told w.told w.random v refl (inr (inl refl)))) (λ g v is asked. keeps_same law g w.told w.told refl)
+        (λ v journal is good stands. moves_nothing resuming.work journal.target w.told w.told refl) (λ g v is asked can. refl);
+    untouched = Keeps-refl w.left;
+  }
+
+  -- the root that is named of a vault that isn't opened is the journal's
+  module _ (v : View) where
+    no_load : (side : Side) (f : LoadFault) (fault : JournalFault) → moves.Load side f ≢ causes.of_journal fault
+    no_load side f journal.NoJournal same = cc
+    no_load side f fault same = cc
+
+    abbrev stopped_by : MoveFault → Outcome
+    stopped_by fault = Err fault
+
+    fault_is : (a b : MoveFault) → stopped_by a ≡ stopped_by b → a ≡ b
+    fault_is a b same = cc
+
+    load_root : (found : Option Journal) (side : Side) (f : LoadFault) → resuming_on.IsFoundJournal resuming.work v found → (tested : Result Journal JournalFault) (P : Journal → Type 0)
+        → ReadsAs (journal_bytes v resuming.work) tested → MatchResult tested P (λ fault. stopped_by (moves.Load side f) ≡ stopped_by (causes.of_journal fault))
+        → resuming_on.IsRootOf resuming.work v (moves.Load side f) (resuming_on.root_by resuming.work found (moves.Load side f))
+    load_root found side f is (Ok j) P reads match = root_read resuming.work v side found j is reads (λ o. resuming_on.root_by resuming.work o (moves.Load side f)) (λ k. refl)
+    load_root found side f is (Err fault) P reads match = absurd (no_load side f fault (fault_is (moves.Load side f) (causes.of_journal fault) match))
+
+    pub journal_root : (found : Option Journal) (fault : MoveFault) → resuming_on.IsFoundJournal resuming.work v found → (s t : List ℕ) → resuming_on.IsCaused resuming v s t (Err fault)
+        → resuming_on.IsRootOf resuming.work v fault (resuming_on.root_by resuming.work found fault)
+    journal_root found (moves.Load side f) is s t (inl failed) = let no = fault_is (moves.Load side f) moves.Failed failed in cc
+    journal_root found (moves.Load side f) is s t (inr (inl memory)) = let no = fault_is (moves.Load side f) moves.NoMemory memory in cc
+    journal_root found (moves.Load side f) is s t (inr (inr tested)) = load_root found side f is tested.0 _ tested.1 tested.2
+    journal_root found fault is s t cause = tt

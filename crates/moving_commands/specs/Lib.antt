@@ -1,0 +1,4 @@
+pub mod Moving
+pub mod Migrate
+pub mod Resume
+pub mod Retire

@@ -1,0 +1,93 @@
+-- `migrate`: moving the tree of one vault into another, which is empty, through a new work folder.
+use Rattle.std.specs.Prelude.{◌≡◌, ◌⊎◌, ℕ, List, if◌then◌else◌, Option, Some, None, IsTrue, MatchOption}
+use Rattle.std.specs.Io.KnownBytes.{Keeps}
+use Rattle.folder_spec.specs.Event.{Told}
+use Rattle.plain_tree.specs.declared.name_map.NameMap.TheVariants.{Same}
+use Rattle.folder_spec.specs.Path.{Path}
+use Rattle.folder_spec.specs.Seen.{IfSeen}
+use Rattle.folder_spec.specs.View.{View}
+use Rattle.migrate_core.specs.Causes.{Begins, Unless}
+use Rattle.migrate_core.specs.Completing.{CanBegin}
+use Rattle.migrate_core.specs.Moved.{MovesTree}
+use Rattle.migrate_core.specs.Moving.{MovesOnly}
+use Rattle.migrate_core.specs.Sides.{IsAsked}
+use Rattle.migrate_core.specs.Written.{MayWriteTree}
+use Rattle.migrate_core.specs.declared.fault.MoveFault.{MoveFault}
+use Rattle.migrate_core.specs.declared.fault.MoveFault.TheVariants.{Load}
+use Rattle.migrate_core.specs.declared.placing.Done as moved
+use Rattle.port_model.specs.Draws.{ByteStream}
+use Rattle.tree_match.specs.Guard.{Migration}
+use Rattle.tree_match.specs.declared.answer.Side.TheVariants.{Target}
+use Rattle.moving_commands.specs.Moving.{AnswersMove, ArePhrases, Comes, Completes, KeepsAll, Outcome, RefusesUndrawn, done_text, is_of_migration}
+use Rattle.command_opening.specs.Places.{overlap, RefusesOverlap}
+use Rattle.command_answers.specs.Printing.{PrintsDone}
+use Rattle.command_opening.specs.World.{World}
+use Rattle.command_answers.specs.declared.answer.Answer.{Answer}
+use Rattle.command_words.specs.declared.commands.Moving.{Moving}
+
+-- two folders that overlap
+pub record Pair : Type 0 where
+  pub first : Path
+  pub second : Path
+
+abbrev pub pair : Path → Path → Pair
+pair first second = record { first = first; second = second }
+
+-- the first two of the three folders that overlap, in the order of the words
+abbrev pub first_overlap : Moving → Option Pair
+first_overlap moving =
+    if overlap moving.source moving.target then Some (pair moving.source moving.target)
+    else if overlap moving.source moving.work then Some (pair moving.source moving.work)
+    else if overlap moving.target moving.work then Some (pair moving.target moving.work)
+    else None
+
+-- The migration that the words ask for: its folders are those, and its passphrases those in the two files.
+pub record IsAskedFor (g : Migration) (moving : Moving) (v : View) : Type 0 where
+  pub asked : IsAsked g moving.source moving.target moving.work g.source.pass g.target.pass
+  pub phrases : ArePhrases moving.passes g.source.pass g.target.pass v
+
+-- both vaults, which the passphrases in the two files open, are clean and have one tree, and the journal says so
+pub record HasMigrated (moving : Moving) (done : moved.Done) (told told' : Option Told) : Type 0 where
+  pub source_pass : List ℕ
+  pub target_pass : List ℕ
+  pub phrases : IfSeen told (λ v. ArePhrases moving.passes source_pass target_pass v)
+  pub moves : MovesTree Same moving.source moving.target moving.work source_pass target_pass done told told'
+
+-- the root of the vault that isn't opened
+abbrev pub root_of : Moving → MoveFault → Path
+root_of moving (Load Target fault) = moving.target
+root_of moving fault = moving.source
+
+abbrev pub IsRootOf : Moving → MoveFault → Path → Type 0
+IsRootOf moving fault root = root ≡ root_of moving fault
+
+-- why `begin` comes to what it comes to under these passphrases, by what is seen at first; and what it draws and writes
+abbrev pub IsCaused : Moving → View → List ℕ → List ℕ → Outcome → Type 0
+IsCaused moving v source_pass target_pass outcome = Unless outcome (Begins moving.source moving.target moving.work source_pass target_pass v outcome)
+
+abbrev pub IsWritten : Moving → Option Told → Option Told → Option ByteStream → Option ByteStream → List ℕ → List ℕ → Outcome → Type 0
+IsWritten moving told told' stream stream' source_pass target_pass outcome = MayWriteTree outcome Same moving.source moving.target source_pass target_pass stream stream' told told'
+
+abbrev pub ComesTo : Moving → (Outcome → Type 0) → Option Told → Option Told → Option ByteStream → Option ByteStream → View → Type 0
+ComesTo moving IsAnswered told told' stream stream' v = Comes moving.passes (IsCaused moving v) (IsWritten moving told told' stream stream') IsAnswered v
+
+-- or the passphrases aren't read
+abbrev pub MayCome : Moving → Answer → Option Told → Option Told → Option ByteStream → Option ByteStream → View → Type 0
+MayCome moving answer told told' stream stream' v =
+    RefusesUndrawn moving.passes answer told told' stream stream' v ⊎ ComesTo moving (AnswersMove moving.work (IsRootOf moving) answer) told told' stream stream' v
+
+-- Of folders that don't overlap: whatever the answer is, nothing is lost; all but the work folder and the target stays as it was, and
+-- nothing of the target is removed or replaced. At 0 the tree is moved. Where no test can fail and no content is damaged, it comes to that.
+pub record MigratesApart (moving : Moving) (answer : Answer) (told told' : Option Told) (taken taken' : Option (List ℕ)) (stream stream' : Option ByteStream) : Type 0 where
+  pub own : IsTrue (is_of_migration answer)
+  pub comes : IfSeen told (λ v. MayCome moving answer told told' stream stream' v)
+  pub keeps : (g : Migration) → IfSeen told (λ v. IsAskedFor g moving v → KeepsAll g told told')
+  pub moves : MovesOnly moving.work moving.target told told'
+  pub completes : (g : Migration) → IfSeen told (λ v. IsAskedFor g moving v → CanBegin g v → Completes answer)
+  pub prints : PrintsDone done_text (λ done. HasMigrated moving done told told') answer taken taken'
+
+-- `migrate`, which takes nothing of the input
+pub record MigratesTree (moving : Moving) (answer : Answer) (before after : World) : Type 0 where
+  pub apart : MatchOption (first_overlap moving) (MigratesApart moving answer before.told after.told before.taken after.taken before.random after.random)
+      (λ two. RefusesOverlap two.first two.second answer before after)
+  pub untouched : Keeps before.left after.left

@@ -1,0 +1,97 @@
+-- `resume`: going on with the migration that the journal in a work folder tells of.
+use Rattle.std.specs.Prelude.{ℕ, List, Option, Some, None, IsTrue, ◌≡◌, ◌⊎◌}
+use Rattle.std.specs.Io.KnownBytes.{Keeps}
+use Rattle.folder_spec.specs.Event.{Told}
+use Rattle.folder_spec.specs.Path.{Path}
+use Rattle.folder_spec.specs.Seen.{IfSeen, IsSeen}
+use Rattle.folder_spec.specs.View.{View}
+use Rattle.migrate_core.specs.Causes.{Unless}
+use Rattle.migrate_core.specs.Causes as causes
+use Rattle.migrate_core.specs.Completing.{CanResume}
+use Rattle.migrate_core.specs.Moved.{MovesTold}
+use Rattle.migrate_core.specs.Moving.{MovesOnly}
+use Rattle.migrate_core.specs.Sides.{IsResumed}
+use Rattle.migrate_core.specs.Written.{MayWriteTold}
+use Rattle.migrate_core.specs.declared.fault.MoveFault.{MoveFault}
+use Rattle.migrate_core.specs.declared.fault.MoveFault.TheVariants.{Load}
+use Rattle.migrate_core.specs.declared.placing.Done as moved
+use Rattle.move_journal.specs.Journal.{IsJournal}
+use Rattle.move_journal.specs.declared.journal.Journal.{Journal}
+use Rattle.move_journal.specs.Reading.{StandsIn}
+use Rattle.port_model.specs.Draws.{ByteStream}
+use Rattle.tree_match.specs.Guard.{Migration}
+use Rattle.tree_match.specs.declared.answer.Side.{Side}
+use Rattle.tree_match.specs.declared.answer.Side.TheVariants.{Source, Target}
+use Rattle.moving_commands.specs.Moving.{AnswersMove, ArePhrases, Comes, Completes, KeepsAll, Outcome, RefusesUndrawn, done_text, is_of_told_migration}
+use Rattle.command_answers.specs.Printing.{PrintsDone}
+use Rattle.command_opening.specs.World.{World}
+use Rattle.command_answers.specs.declared.answer.Answer.{Answer}
+use Rattle.command_words.specs.declared.commands.Resuming.{Resuming}
+
+-- a migration through the work folder, whose passphrases are those in the two files
+pub record IsResumedFor (g : Migration) (resuming : Resuming) (v : View) : Type 0 where
+  pub resumed : IsResumed g resuming.work g.source.pass g.target.pass
+  pub phrases : ArePhrases resuming.passes g.source.pass g.target.pass v
+
+-- both vaults, which the journal tells and the passphrases in the two files open, are clean and have one tree, and the journal says so
+pub record HasResumed (resuming : Resuming) (done : moved.Done) (told told' : Option Told) : Type 0 where
+  pub source_pass : List ℕ
+  pub target_pass : List ℕ
+  pub phrases : IfSeen told (λ v. ArePhrases resuming.passes source_pass target_pass v)
+  pub moves : IfSeen told (λ v. MovesTold resuming.work source_pass target_pass done told told' v)
+
+-- the root of a vault that the journal tells
+abbrev pub root_in : Journal → Side → Path
+root_in journal Source = journal.source
+root_in journal Target = journal.target
+
+-- so the journal tells the root of the vault on this side
+abbrev pub IsRootIn : Path → View → Side → Path → Type 0
+IsRootIn work v side root = (journal : Journal) × IsJournal journal × StandsIn work journal v × (root ≡ root_in journal side)
+
+-- the root of the vault that isn't opened is the journal's
+abbrev pub IsRootOf : Path → View → MoveFault → Path → Type 0
+IsRootOf work v (Load side fault) root = IsRootIn work v side root
+IsRootOf work v fault root = Unit {0}
+
+-- why `resume` comes to what it comes to under these passphrases, by what is seen at first; and what it draws and writes
+abbrev pub IsCaused : Resuming → View → List ℕ → List ℕ → Outcome → Type 0
+IsCaused resuming v source_pass target_pass outcome = Unless outcome (causes.Resumes resuming.work source_pass target_pass v outcome)
+
+abbrev pub IsWritten : Resuming → Option Told → Option Told → Option ByteStream → Option ByteStream → View → List ℕ → List ℕ → Outcome → Type 0
+IsWritten resuming told told' stream stream' v source_pass target_pass outcome = MayWriteTold outcome resuming.work source_pass target_pass stream stream' told told' v
+
+abbrev pub ComesTo : Resuming → (Outcome → Type 0) → Option Told → Option Told → Option ByteStream → Option ByteStream → View → Type 0
+ComesTo resuming IsAnswered told told' stream stream' v = Comes resuming.passes (IsCaused resuming v) (IsWritten resuming told told' stream stream' v) IsAnswered v
+
+-- or the passphrases aren't read, or the folder failed, or memory was refused
+abbrev pub MayCome : Resuming → Answer → Option Told → Option Told → Option ByteStream → Option ByteStream → View → Type 0
+MayCome resuming answer told told' stream stream' v =
+    RefusesUndrawn resuming.passes answer told told' stream stream' v ⊎ ComesTo resuming (AnswersMove resuming.work (IsRootOf resuming.work v) answer) told told' stream stream' v
+
+-- Whatever the answer is, nothing is lost; where a journal stands in the work folder, all but that folder and the target stays as it was,
+-- and nothing of the target is removed or replaced. At 0 the tree is moved. Where no test can fail and no content is damaged, it comes to
+-- that.
+pub record Resumes (resuming : Resuming) (answer : Answer) (told told' : Option Told) (taken taken' : Option (List ℕ)) (stream stream' : Option ByteStream) : Type 0 where
+  pub own : IsTrue (is_of_told_migration answer)
+  pub comes : IfSeen told (λ v. MayCome resuming answer told told' stream stream' v)
+  pub keeps : (g : Migration) → IfSeen told (λ v. IsResumedFor g resuming v → KeepsAll g told told')
+  pub moves : (v : View) (journal : Journal) → IsSeen told v → IsJournal journal → StandsIn resuming.work journal v → MovesOnly resuming.work journal.target told told'
+  pub completes : (g : Migration) → IfSeen told (λ v. IsResumedFor g resuming v → CanResume g v → Completes answer)
+  pub prints : PrintsDone done_text (λ done. HasResumed resuming done told told') answer taken taken'
+
+-- `resume`, which takes nothing of the input
+pub record ResumesTree (resuming : Resuming) (answer : Answer) (before after : World) : Type 0 where
+  pub resumes : Resumes resuming answer before.told after.told before.taken after.taken before.random after.random
+  pub untouched : Keeps before.left after.left
+
+-- ---- private contracts
+
+-- the journal that stands in the work folder, where one does
+abbrev pub IsFoundJournal : Path → View → Option Journal → Type 0
+IsFoundJournal work v None = (journal : Journal) → IsJournal journal → ¬ StandsIn work journal v
+IsFoundJournal work v (Some journal) = IsJournal journal × StandsIn work journal v
+
+abbrev pub root_by : Path → Option Journal → MoveFault → Path
+root_by work (Some journal) (Load side fault) = root_in journal side
+root_by work found fault = work

@@ -177,6 +177,10 @@ folder_ends c answer is = plain_ends c answer (λ known. or_else (is_of_folder a
 abbrev pub SomeLed : Chances → ℕ → Leg → Option (List ℕ) → Option (List ℕ) → Type 0
 SomeLed c count leg taken last = (led : Led) × IsLed c count led × AppendsPrefix taken last (led_text leg led)
 
+-- the same of an equal one
+pub led_as : (c : Chances) (count : ℕ) (leg : Leg) (led led' : Led) (taken last : Option (List ℕ)) → led ≡ led' → PrintsLed c count leg (Ok led) taken last → PrintsLed c count leg (Ok led') taken last
+led_as c count leg led led' taken last is = subst (λ l. PrintsLed c count leg (Ok l) taken last) is
+
 -- its line was begun
 pub some_led : (c : Chances) (count : ℕ) (leg : Leg) (status : ℕ) (taken last : Option (List ℕ)) → IsStatus c status → AppendsPrefix taken last (moved_text leg status) → SomeLed c count leg taken last
 some_led c count leg zero taken last is front = (leds.Retired count, (λ known. refl), front)

@@ -124,51 +124,20 @@ OnDiffer X (moves.Differ path how) = X
 OnDiffer X fault = Unit {0}
 
 work_or : (X : Type 0) (fault : WorkFault) → OnDiffer X (of_work fault)
-work_or X (works.NoParent at) = tt
-work_or X (works.WrongKind at) = tt
-work_or X (works.Foreign at) = tt
-work_or X works.Begun = tt
-work_or X works.Depth = tt
 work_or X works.Failed = tt
-work_or X works.NoMemory = tt
+work_or X fault = tt
 
 walk_or : (X : Type 0) (fault : WalkFault) → OnDiffer X (of_walk fault)
-walk_or X (walks.NotClean finding) = tt
-walk_or X (walks.Limit which) = tt
 walk_or X walks.Failed = tt
-walk_or X walks.NoMemory = tt
+walk_or X fault = tt
 
 stop_or : (Is X : Type 0) (Q : PutFault → Type 0) → (¬ Is → X) → (fault : MoveFault) → IsStop Is Q fault → OnDiffer X fault
-stop_or Is X Q not (moves.Work fault) stops = tt
-stop_or Is X Q not (moves.Journal fault) stops = tt
-stop_or Is X Q not (moves.Overlap first second) stops = tt
-stop_or Is X Q not (moves.Load side fault) stops = tt
-stop_or Is X Q not (moves.Walk fault) stops = tt
-stop_or Is X Q not (moves.NotEmpty at) stops = tt
-stop_or Is X Q not (moves.NotAllowed path) stops = tt
-stop_or Is X Q not (moves.Changed plan items plan' items') stops = tt
-stop_or Is X Q not (moves.Match fault) stops = tt
 stop_or Is X Q not (moves.Differ path how) stops = not stops
-stop_or Is X Q not (moves.Place fault) stops = tt
-stop_or Is X Q not moves.SourceGone stops = tt
-stop_or Is X Q not moves.Failed stops = tt
-stop_or Is X Q not moves.NoMemory stops = tt
+stop_or Is X Q not fault stops = tt
 
 less_differs : (X : Type 0) → ¬ X → (fault : MoveFault) → OnDiffer X fault → OnDiffer ⊥ fault
-less_differs X not (moves.Work fault) differs = tt
-less_differs X not (moves.Journal fault) differs = tt
-less_differs X not (moves.Overlap first second) differs = tt
-less_differs X not (moves.Load side fault) differs = tt
-less_differs X not (moves.Walk fault) differs = tt
-less_differs X not (moves.NotEmpty at) differs = tt
-less_differs X not (moves.NotAllowed path) differs = tt
-less_differs X not (moves.Changed plan items plan' items') differs = tt
-less_differs X not (moves.Match fault) differs = tt
 less_differs X not (moves.Differ path how) differs = not differs
-less_differs X not (moves.Place fault) differs = tt
-less_differs X not moves.SourceGone differs = tt
-less_differs X not moves.Failed differs = tt
-less_differs X not moves.NoMemory differs = tt
+less_differs X not fault differs = tt
 
 module _ (from to work : Path) (source_pass target_pass : List ℕ) (v : View) (why : MoveFault) where
   -- the two vaults open, and two directories of one of them share a folder
@@ -224,42 +193,25 @@ NotBegun (moves.Work works.Begun) = ⊥
 NotBegun fault = Unit {0}
 
 not_by_journal : (fault : JournalFault) → NotBegun (of_journal fault)
-not_by_journal journals.NoJournal = tt
-not_by_journal (journals.BadJournal number) = tt
-not_by_journal journals.TooLarge = tt
 not_by_journal journals.Failed = tt
-not_by_journal journals.NoMemory = tt
+not_by_journal fault = tt
 
 not_by_entries : (old : Bool) (v : View) (work : Path) (fault : WorkFault) → TestsEntries old v work (Err fault) → NotBegun (of_work fault)
-not_by_entries old v work (works.NoParent at) tested = tt
-not_by_entries old v work (works.WrongKind at) tested = tt
-not_by_entries old v work (works.Foreign at) tested = tt
 not_by_entries old v work works.Begun (inl passed) = cc passed.1
 not_by_entries old v work works.Begun (inr first) = cc first.2
-not_by_entries old v work works.Depth tested = tt
-not_by_entries old v work works.Failed tested = tt
-not_by_entries old v work works.NoMemory tested = tt
+not_by_entries old v work fault tested = tt
 
 not_by_stage : (v : View) (work : Path) (fault : WorkFault) → Empties v work (Err fault) → NotBegun (of_work fault)
-not_by_stage v work (works.NoParent at) empties = tt
-not_by_stage v work (works.WrongKind at) empties = tt
-not_by_stage v work (works.Foreign at) empties = tt
 not_by_stage v work works.Begun empties = absurd empties
-not_by_stage v work works.Depth empties = tt
-not_by_stage v work works.Failed empties = tt
-not_by_stage v work works.NoMemory empties = tt
+not_by_stage v work fault empties = tt
 
 not_by_walk : (fault : WalkFault) → NotBegun (of_walk fault)
-not_by_walk (walks.NotClean finding) = tt
-not_by_walk (walks.Limit which) = tt
 not_by_walk walks.Failed = tt
-not_by_walk walks.NoMemory = tt
+not_by_walk fault = tt
 
 not_by_match : (fault : MatchFault) → NotBegun (of_match fault)
-not_by_match (matches.Damaged at why) = tt
-not_by_match (matches.Limit which) = tt
 not_by_match matches.Failed = tt
-not_by_match matches.NoMemory = tt
+not_by_match fault = tt
 
 not_by_source : (phase : Phase) (work source : Path) (v : View) (why : MoveFault) → TestsSource phase work source v (Err why) → NotBegun why
 not_by_source phases.Building work source v why is = cc is
@@ -272,19 +224,7 @@ not_by_difference (Differs path how) why is = subst NotBegun (sym (fault_is why 
 
 not_by_stop : (Is : Type 0) (Q : PutFault → Type 0) (why : MoveFault) → IsStop Is Q why → NotBegun why
 not_by_stop Is Q (moves.Work fault) stops = absurd stops
-not_by_stop Is Q (moves.Journal fault) stops = tt
-not_by_stop Is Q (moves.Overlap first second) stops = tt
-not_by_stop Is Q (moves.Load side fault) stops = tt
-not_by_stop Is Q (moves.Walk fault) stops = tt
-not_by_stop Is Q (moves.NotEmpty at) stops = tt
-not_by_stop Is Q (moves.NotAllowed path) stops = tt
-not_by_stop Is Q (moves.Changed plan items plan' items') stops = tt
-not_by_stop Is Q (moves.Match fault) stops = tt
-not_by_stop Is Q (moves.Differ path how) stops = tt
-not_by_stop Is Q (moves.Place fault) stops = tt
-not_by_stop Is Q moves.SourceGone stops = tt
-not_by_stop Is Q moves.Failed stops = tt
-not_by_stop Is Q moves.NoMemory stops = tt
+not_by_stop Is Q fault stops = tt
 
 module _ (work : Path) (source_pass target_pass : List ℕ) (v : View) (why : MoveFault) where
   module _ (journal : Journal) (a b : OpenedVault) where
@@ -343,39 +283,25 @@ NeverBegun (retires.Work works.Begun) = ⊥
 NeverBegun fault = Unit {0}
 
 never_by_journal : (fault : JournalFault) → NeverBegun (retired.of_journal fault)
-never_by_journal journals.NoJournal = tt
-never_by_journal (journals.BadJournal number) = tt
-never_by_journal journals.TooLarge = tt
 never_by_journal journals.Failed = tt
-never_by_journal journals.NoMemory = tt
+never_by_journal fault = tt
 
 never_by_entries : (old : Bool) (v : View) (work : Path) (fault : WorkFault) → TestsEntries old v work (Err fault) → NeverBegun (retired.of_work fault)
-never_by_entries old v work (works.NoParent at) tested = tt
-never_by_entries old v work (works.WrongKind at) tested = tt
-never_by_entries old v work (works.Foreign at) tested = tt
 never_by_entries old v work works.Begun (inl passed) = cc passed.1
 never_by_entries old v work works.Begun (inr first) = cc first.2
-never_by_entries old v work works.Depth tested = tt
-never_by_entries old v work works.Failed tested = tt
-never_by_entries old v work works.NoMemory tested = tt
+never_by_entries old v work fault tested = tt
 
 never_by_walk : (fault : WalkFault) → NeverBegun (retired.of_walk fault)
-never_by_walk (walks.NotClean finding) = tt
-never_by_walk (walks.Limit which) = tt
 never_by_walk walks.Failed = tt
-never_by_walk walks.NoMemory = tt
+never_by_walk fault = tt
 
 never_by_match : (fault : MatchFault) → NeverBegun (retired.of_match fault)
-never_by_match (matches.Damaged at why) = tt
-never_by_match (matches.Limit which) = tt
 never_by_match matches.Failed = tt
-never_by_match matches.NoMemory = tt
+never_by_match fault = tt
 
 never_by_removal : (fault : RemovalFault) → NeverBegun (retired.of_removal fault)
-never_by_removal removals.Depth = tt
-never_by_removal (removals.Other at) = tt
 never_by_removal removals.Failed = tt
-never_by_removal removals.NoMemory = tt
+never_by_removal fault = tt
 
 never_by_phase : (journal : Journal) (phase : Phase) (why : RetireFault) → retiring.TestsPhase journal phase (Err why) → NeverBegun why
 never_by_phase journal phases.Building why is = subst NeverBegun (sym (fault_is why retires.Unfinished is)) tt

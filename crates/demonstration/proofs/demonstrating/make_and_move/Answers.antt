@@ -11,38 +11,16 @@ use Rattle.demonstration.proofs.demonstrating.make_and_move.Goals as goal
 
 pub returns-in_err-make_items-clause-prints : goal.returns-in_err-make_items-clause-prints
 returns-in_err-make_items-clause-prints g c =
-    let f = g.F.Folder.faults c.args.folder.now in
-    let f' = g.F.Folder.faults c.make_items.new.folder in
-    let r = g.R.Randoms.faults c.args.random.now in
-    let r' = g.R.Randoms.faults c.make_items.new.random in
-    let s = g.R.Randoms.left c.args.random.now in
-    let s' = g.R.Randoms.left c.make_items.new.random in
-    let t = g.F.Folder.told c.args.folder.now in
-    let t' = g.F.Folder.told c.make_items.new.folder in
-    let taken = g.O.Sink.taken c.args.out.now in
-    let text = made_text c.args.seed c.args.count in
     let n = c.args.count in
     let p = err_from_is_err_and c.from_residual.result c.from_residual.ensures.1 in
-    way_stopped (IsWay (chances f f' r r' s s' t t' c.args.count (IsBare (g.F.Folder.told c.args.folder.now))) n) (λ way. text ++ way_text way) c.from_residual.result p.0 taken taken p.1
-    (Arrived n n, (λ known. (refl, refl)), nothing_yet taken (text ++ way_text (Arrived n n)))
+    way_stopped (IsWay _ n) (λ way. made_text c.args.seed n ++ way_text way) c.from_residual.result p.0 _ _ p.1 (Arrived n n, (λ known. (refl, refl)), nothing_yet _ (made_text c.args.seed n ++ way_text (Arrived n n)))
 
 pub returns-in_err-tell_made-clause-prints : goal.returns-in_err-tell_made-clause-prints
 returns-in_err-tell_made-clause-prints g c =
-    let f = g.F.Folder.faults c.args.folder.now in
-    let f' = g.F.Folder.faults c.make_items.new.folder in
-    let r = g.R.Randoms.faults c.args.random.now in
-    let r' = g.R.Randoms.faults c.make_items.new.random in
-    let s = g.R.Randoms.left c.args.random.now in
-    let s' = g.R.Randoms.left c.make_items.new.random in
-    let t = g.F.Folder.told c.args.folder.now in
-    let t' = g.F.Folder.told c.make_items.new.folder in
-    let taken = g.O.Sink.taken c.args.out.now in
-    let last = g.O.Sink.taken c.tell_made.new.out in
-    let text = made_text c.args.seed c.args.count in
     let n = c.args.count in
     let p = err_from_is_err_and c.from_residual-in_err-tell_made.result c.from_residual-in_err-tell_made.ensures.1 in
-    way_stopped (IsWay (chances f f' r r' s s' t t' c.args.count (IsBare (g.F.Folder.told c.args.folder.now))) n) (λ way. text ++ way_text way) c.from_residual-in_err-tell_made.result p.0 taken last p.1
-    (Arrived n n, (λ known. (refl, refl)), front_of_more taken last text (way_text (Arrived n n)) c.in_err-tell_made.ensures.prints)
+    way_stopped (IsWay _ n) (λ way. made_text c.args.seed n ++ way_text way) c.from_residual-in_err-tell_made.result p.0 _ _ p.1
+    (Arrived n n, (λ known. (refl, refl)), front_of_more _ _ (made_text c.args.seed n) (way_text (Arrived n n)) c.in_err-tell_made.ensures.prints)
 
 pub returns-clause-prints : goal.returns-clause-prints
 returns-clause-prints g c =

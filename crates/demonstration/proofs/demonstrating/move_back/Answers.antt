@@ -1,78 +1,31 @@
 use Rattle.std.proofs.Common.{refl, subst}
-use Rattle.std.specs.Io.KnownBytes.{Appends}
 use Rattle.std.proofs.lemmas.Result.{err_from_is_err_and}
-use Rattle.demonstration.specs.Demo.{Arrived, IsLed, IsWayBack, OnRetired, back_text, chances, led_text, moved_text, retired_text}
-use Rattle.demonstration.specs.DemoSteps.{CanLead, Sees}
+use Rattle.demonstration.specs.Demo.{Arrived, IsWayBack, OnRetired, back_text, moved_text, retired_text}
 use Rattle.demonstration.specs.DemoTrees.{Leads, WhereTold, second_root, third_root}
 use Rattle.demonstration.specs.declared.leading.Leg.TheVariants.{Back}
-use Rattle.demonstration.proofs.Demonstrations.{all_then, front_then, some_back, way_stopped}
+use Rattle.demonstration.proofs.Demonstrations.{all_then, front_then, led_as, some_back, way_stopped}
 use Rattle.demonstration.proofs.demonstrating.move_back.Goals as goal
 use Rattle.vault_read.specs.declared.vault.VaultKind.TheVariants.{Gocryptfs}
 
 pub returns-in_err-status-clause-prints : goal.returns-in_err-status-clause-prints
 returns-in_err-status-clause-prints g c count =
-    let f = g.F.Folder.faults c.args.folder.now in
-    let f' = g.F.Folder.faults c.lead.new.folder in
-    let r = g.R.Randoms.faults c.args.random.now in
-    let r' = g.R.Randoms.faults c.lead.new.random in
-    let s = g.R.Randoms.left c.args.random.now in
-    let s' = g.R.Randoms.left c.lead.new.random in
-    let t = g.F.Folder.told c.args.folder.now in
-    let t' = g.F.Folder.told c.lead.new.folder in
-    let k = chances f f' r r' s s' t t' count (Sees (CanLead Back) count (g.F.Folder.told c.args.folder.now)) in
-    let taken = g.O.Sink.taken c.args.out.now in
-    let last = g.O.Sink.taken c.lead.new.out in
     let p = err_from_is_err_and c.from_residual.result c.from_residual.ensures.1 in
-    way_stopped (IsWayBack k count c.args.first) back_text c.from_residual.result p.0 taken last p.1 (some_back k count c.args.first taken last (c.in_err-status.ensures.prints count))
+    way_stopped (IsWayBack _ count c.args.first) back_text c.from_residual.result p.0 _ _ p.1 (some_back _ count c.args.first _ _ (c.in_err-status.ensures.prints count))
 
 pub returns-in_err-tell_retired-in-Retired-clause-prints : goal.returns-in_err-tell_retired-in-Retired-clause-prints
 returns-in_err-tell_retired-in-Retired-clause-prints g c count =
-    let f = g.F.Folder.faults c.args.folder.now in
-    let f' = g.F.Folder.faults c.lead.new.folder in
-    let r = g.R.Randoms.faults c.args.random.now in
-    let r' = g.R.Randoms.faults c.lead.new.random in
-    let s = g.R.Randoms.left c.args.random.now in
-    let s' = g.R.Randoms.left c.lead.new.random in
-    let t = g.F.Folder.told c.args.folder.now in
-    let t' = g.F.Folder.told c.lead.new.folder in
-    let k = chances f f' r r' s s' t t' count (Sees (CanLead Back) count (g.F.Folder.told c.args.folder.now)) in
-    let taken = g.O.Sink.taken c.args.out.now in
-    let mid = g.O.Sink.taken c.lead.new.out in
-    let last = g.O.Sink.taken c.tell_retired.new.out in
     let p = err_from_is_err_and c.from_residual-in_err-tell_retired-in-Retired.result c.from_residual-in_err-tell_retired-in-Retired.ensures.1 in
-    let led = subst (λ l. IsLed k count l × Appends taken mid (led_text Back l)) c.in-Retired.is (c.in_ok-status.ensures.prints count) in
-    way_stopped (IsWayBack k count c.args.first) back_text c.from_residual-in_err-tell_retired-in-Retired.result p.0 taken last p.1
-    (Arrived c.args.first c.in-Retired.second, (refl, led.0), front_then taken mid last (moved_text Back 0) (retired_text c.args.first c.in-Retired.second) led.1 c.in_err-tell_retired-in-Retired.ensures.prints)
+    let led = led_as _ count Back _ _ _ _ c.in-Retired.is (c.in_ok-status.ensures.prints count) in
+    way_stopped (IsWayBack _ count c.args.first) back_text c.from_residual-in_err-tell_retired-in-Retired.result p.0 _ _ p.1
+    (Arrived c.args.first c.in-Retired.second, (refl, led.0), front_then _ _ _ (moved_text Back 0) (retired_text c.args.first c.in-Retired.second) led.1 c.in_err-tell_retired-in-Retired.ensures.prints)
 
 pub returns-in-Stopped-clause-prints : goal.returns-in-Stopped-clause-prints
-returns-in-Stopped-clause-prints g c count =
-    let f = g.F.Folder.faults c.args.folder.now in
-    let f' = g.F.Folder.faults c.lead.new.folder in
-    let r = g.R.Randoms.faults c.args.random.now in
-    let r' = g.R.Randoms.faults c.lead.new.random in
-    let s = g.R.Randoms.left c.args.random.now in
-    let s' = g.R.Randoms.left c.lead.new.random in
-    let t = g.F.Folder.told c.args.folder.now in
-    let t' = g.F.Folder.told c.lead.new.folder in
-    let k = chances f f' r r' s s' t t' count (Sees (CanLead Back) count (g.F.Folder.told c.args.folder.now)) in
-    subst (λ l. IsLed k count l × Appends (g.O.Sink.taken c.args.out.now) (g.O.Sink.taken c.lead.new.out) (led_text Back l)) c.in-Stopped.is (c.in_ok-status.ensures.prints count)
+returns-in-Stopped-clause-prints g c count = led_as _ count Back _ _ _ _ c.in-Stopped.is (c.in_ok-status.ensures.prints count)
 
 pub returns-in_ok-tell_retired-in-Retired-clause-prints : goal.returns-in_ok-tell_retired-in-Retired-clause-prints
 returns-in_ok-tell_retired-in-Retired-clause-prints g c count =
-    let f = g.F.Folder.faults c.args.folder.now in
-    let f' = g.F.Folder.faults c.lead.new.folder in
-    let r = g.R.Randoms.faults c.args.random.now in
-    let r' = g.R.Randoms.faults c.lead.new.random in
-    let s = g.R.Randoms.left c.args.random.now in
-    let s' = g.R.Randoms.left c.lead.new.random in
-    let t = g.F.Folder.told c.args.folder.now in
-    let t' = g.F.Folder.told c.lead.new.folder in
-    let k = chances f f' r r' s s' t t' count (Sees (CanLead Back) count (g.F.Folder.told c.args.folder.now)) in
-    let taken = g.O.Sink.taken c.args.out.now in
-    let mid = g.O.Sink.taken c.lead.new.out in
-    let last = g.O.Sink.taken c.tell_retired.new.out in
-    let led = subst (λ l. IsLed k count l × Appends taken mid (led_text Back l)) c.in-Retired.is (c.in_ok-status.ensures.prints count) in
-    ((refl, led.0), all_then taken mid last (moved_text Back 0) (retired_text c.args.first c.in-Retired.second) led.1 c.in_ok-tell_retired-in-Retired.ensures.prints)
+    let led = led_as _ count Back _ _ _ _ c.in-Retired.is (c.in_ok-status.ensures.prints count) in
+    ((refl, led.0), all_then _ _ _ (moved_text Back 0) (retired_text c.args.first c.in-Retired.second) led.1 c.in_ok-tell_retired-in-Retired.ensures.prints)
 
 pub returns-in_ok-tell_retired-in-Retired-clause-leads : goal.returns-in_ok-tell_retired-in-Retired-clause-leads
 returns-in_ok-tell_retired-in-Retired-clause-leads g c =

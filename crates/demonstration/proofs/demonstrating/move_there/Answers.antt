@@ -7,39 +7,18 @@ use Rattle.demonstration.specs.DemoSteps.{CanLead, Sees}
 use Rattle.demonstration.specs.DemoTrees.{Leads, LeadsBoth, WhereTold, first_root, second_root, third_root}
 use Rattle.demonstration.specs.declared.leading.Leg.TheVariants.{There, Back}
 use Rattle.demonstration.proofs.Beginnable.{so_part}
-use Rattle.demonstration.proofs.Demonstrations.{back_then, part_after, some_way, way_stopped}
+use Rattle.demonstration.proofs.Demonstrations.{back_then, led_as, part_after, some_way, way_stopped}
 use Rattle.demonstration.proofs.Legs.{both_lead, on_end}
 use Rattle.demonstration.proofs.demonstrating.move_there.Goals as goal
 use Rattle.vault_read.specs.declared.vault.VaultKind.TheVariants as kind
 
 pub returns-in_err-status-clause-prints : goal.returns-in_err-status-clause-prints
 returns-in_err-status-clause-prints g c count =
-    let f = g.F.Folder.faults c.args.folder.now in
-    let f' = g.F.Folder.faults c.lead.new.folder in
-    let r = g.R.Randoms.faults c.args.random.now in
-    let r' = g.R.Randoms.faults c.lead.new.random in
-    let s = g.R.Randoms.left c.args.random.now in
-    let s' = g.R.Randoms.left c.lead.new.random in
-    let t = g.F.Folder.told c.args.folder.now in
-    let t' = g.F.Folder.told c.lead.new.folder in
-    let k = chances f f' r r' s s' t t' count (Sees (CanLead There) count (g.F.Folder.told c.args.folder.now)) in
-    let taken = g.O.Sink.taken c.args.out.now in
-    let last = g.O.Sink.taken c.lead.new.out in
     let p = err_from_is_err_and c.from_residual.result c.from_residual.ensures.1 in
-    way_stopped (IsWay k count) way_text c.from_residual.result p.0 taken last p.1 (some_way k count taken last (c.in_err-status.ensures.prints count))
+    way_stopped (IsWay _ count) way_text c.from_residual.result p.0 _ _ p.1 (some_way _ count _ _ (c.in_err-status.ensures.prints count))
 
 pub returns-in-Stopped-clause-prints : goal.returns-in-Stopped-clause-prints
-returns-in-Stopped-clause-prints g c count =
-    let f = g.F.Folder.faults c.args.folder.now in
-    let f' = g.F.Folder.faults c.lead.new.folder in
-    let r = g.R.Randoms.faults c.args.random.now in
-    let r' = g.R.Randoms.faults c.lead.new.random in
-    let s = g.R.Randoms.left c.args.random.now in
-    let s' = g.R.Randoms.left c.lead.new.random in
-    let t = g.F.Folder.told c.args.folder.now in
-    let t' = g.F.Folder.told c.lead.new.folder in
-    let k = chances f f' r r' s s' t t' count (Sees (CanLead There) count (g.F.Folder.told c.args.folder.now)) in
-    subst (λ l. IsLed k count l × Appends (g.O.Sink.taken c.args.out.now) (g.O.Sink.taken c.lead.new.out) (led_text There l)) c.in-Stopped.is (c.in_ok-status.ensures.prints count)
+returns-in-Stopped-clause-prints g c count = led_as _ count There _ _ _ _ c.in-Stopped.is (c.in_ok-status.ensures.prints count)
 
 pub returns-in-Retired-clause-prints : goal.returns-in-Retired-clause-prints
 returns-in-Retired-clause-prints g c count =

@@ -1,8 +1,7 @@
 use Rattle.std.proofs.Common.{refl, subst}
 use Rattle.std.specs.Io.KnownBytes.{Appends}
 use Rattle.std.proofs.lemmas.Result.{err_from_is_err_and}
-use Rattle.demonstration.specs.Demo.{chances, moved_text}
-use Rattle.demonstration.specs.DemoSteps.{CanLead, Sees}
+use Rattle.demonstration.specs.Demo.{moved_text}
 use Rattle.demonstration.specs.declared.leading.Led.TheVariants.{Retired}
 use Rattle.demonstration.proofs.Demonstrations.{led_stopped, nothing_yet, some_led, whole_front}
 use Rattle.demonstration.proofs.Legs.{leg_leads}
@@ -11,50 +10,20 @@ use Rattle.demonstration.proofs.leading.lead.Goals as goal
 
 pub returns-in_err-status-clause-prints : goal.returns-in_err-status-clause-prints
 returns-in_err-status-clause-prints g c count =
-    let f = g.F.Folder.faults c.args.folder.now in
-    let f' = g.F.Folder.faults c.move_to.new.folder in
-    let r = g.R.Randoms.faults c.args.random.now in
-    let r' = g.R.Randoms.faults c.move_to.new.random in
-    let s = g.R.Randoms.left c.args.random.now in
-    let s' = g.R.Randoms.left c.move_to.new.random in
-    let t = g.F.Folder.told c.args.folder.now in
-    let t' = g.F.Folder.told c.move_to.new.folder in
-    let taken = g.O.Sink.taken c.args.out.now in
     let p = err_from_is_err_and c.from_residual.result c.from_residual.ensures.1 in
-    led_stopped (chances f f' r r' s s' t t' count (Sees (CanLead c.args.leg) count (g.F.Folder.told c.args.folder.now))) count c.args.leg c.from_residual.result p.0 taken taken p.1
-    (Retired count, (λ known. refl), nothing_yet taken (moved_text c.args.leg 0))
+    led_stopped _ count c.args.leg c.from_residual.result p.0 _ _ p.1 (Retired count, (λ known. refl), nothing_yet _ (moved_text c.args.leg 0))
 
 pub returns-in_err-tell_moved-clause-prints : goal.returns-in_err-tell_moved-clause-prints
 returns-in_err-tell_moved-clause-prints g c count =
-    let f = g.F.Folder.faults c.args.folder.now in
-    let f' = g.F.Folder.faults c.move_to.new.folder in
-    let r = g.R.Randoms.faults c.args.random.now in
-    let r' = g.R.Randoms.faults c.move_to.new.random in
-    let s = g.R.Randoms.left c.args.random.now in
-    let s' = g.R.Randoms.left c.move_to.new.random in
-    let t = g.F.Folder.told c.args.folder.now in
-    let t' = g.F.Folder.told c.move_to.new.folder in
-    let k = chances f f' r r' s s' t t' count (Sees (CanLead c.args.leg) count (g.F.Folder.told c.args.folder.now)) in
-    let taken = g.O.Sink.taken c.args.out.now in
-    let last = g.O.Sink.taken c.tell_moved.new.out in
     let p = err_from_is_err_and c.from_residual-in_err-tell_moved.result c.from_residual-in_err-tell_moved.ensures.1 in
-    led_stopped k count c.args.leg c.from_residual-in_err-tell_moved.result p.0 taken last p.1
-    (some_led k count c.args.leg c.in_ok-status.status taken last (c.in_ok-status.ensures.status count) c.in_err-tell_moved.ensures.prints)
+    led_stopped _ count c.args.leg c.from_residual-in_err-tell_moved.result p.0 _ _ p.1 (some_led _ count c.args.leg c.in_ok-status.status _ _ (c.in_ok-status.ensures.status count) c.in_err-tell_moved.ensures.prints)
 
 pub returns-in_err-retire_source-clause-prints : goal.returns-in_err-retire_source-clause-prints
 returns-in_err-retire_source-clause-prints g c count =
-    let f = g.F.Folder.faults c.args.folder.now in
-    let f' = g.F.Folder.faults c.retire_source.new.folder in
-    let r = g.R.Randoms.faults c.args.random.now in
-    let r' = g.R.Randoms.faults c.move_to.new.random in
-    let s = g.R.Randoms.left c.args.random.now in
-    let s' = g.R.Randoms.left c.move_to.new.random in
-    let t = g.F.Folder.told c.args.folder.now in
-    let t' = g.F.Folder.told c.retire_source.new.folder in
     let taken = g.O.Sink.taken c.args.out.now in
     let last = g.O.Sink.taken c.tell_moved.new.out in
     let p = err_from_is_err_and c.from_residual-in_err-retire_source.result c.from_residual-in_err-retire_source.ensures.1 in
-    led_stopped (chances f f' r r' s s' t t' count (Sees (CanLead c.args.leg) count (g.F.Folder.told c.args.folder.now))) count c.args.leg c.from_residual-in_err-retire_source.result p.0 taken last p.1
+    led_stopped _ count c.args.leg c.from_residual-in_err-retire_source.result p.0 taken last p.1
     (Retired count, (λ known. refl), whole_front taken last (moved_text c.args.leg 0) (subst (λ status. Appends taken last (moved_text c.args.leg status)) c.if-status-ne0.false c.in_ok-tell_moved.ensures.prints))
 
 pub returns-clause-leads : goal.returns-clause-leads

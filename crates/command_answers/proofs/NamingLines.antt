@@ -2,7 +2,7 @@
 use Rattle.std.proofs.Common.{◌≡◌, false, refl}
 use Rattle.command_answers.specs.Messages.{is_plain, line, line_of, message_of}
 use Rattle.command_answers.specs.declared.answer.Answer.{Answer}
-use Rattle.command_answers.specs.declared.answer.Answer.TheVariants.{Done, Findings, BadCommandLine, OutOfMemory, FolderFault, InputFault, OutputFault, RandomFault, Refused, WrongPass, NotFound, WrongKind, DamagedInput, Damaged, NotAllowed, NotClean, Overlap, NotEmpty, Begun, Unusable, Changed, Differ, ZeroRandom, Taken, Limit, Retired}
+use Rattle.command_answers.specs.declared.answer.Answer.TheVariants.{Done, Findings, BadCommandLine, OutOfMemory, FolderFault, InputFault, OutputFault, RandomFault, Refused, WrongPass, NotFound, WrongKind, DamagedInput, Damaged, NotAllowed, NotClean, Overlap, NotEmpty, Begun, Unusable, Changed, Differ, ZeroRandom, Taken, Limit, Retired, Meet}
 
 -- it has a message, and so a line
 pub naming_line : (answer : Answer) → is_plain answer ≡ false → line_of answer ≡ line (message_of answer)
@@ -32,3 +32,4 @@ naming_line (Unusable work why) is = refl
 naming_line (Changed plan items plan' items') is = refl
 naming_line (Differ path how) is = refl
 naming_line (Retired work) is = refl
+naming_line (Meet one other) is = refl

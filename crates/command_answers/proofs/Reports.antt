@@ -7,7 +7,7 @@ use Rattle.command_answers.specs.Answers.{status_of}
 use Rattle.command_answers.specs.Messages.{IsReported}
 use Rattle.command_answers.specs.Rows.{is_among, may_end, may_end_told, row_of}
 use Rattle.command_answers.specs.declared.answer.Answer.{Answer}
-use Rattle.command_answers.specs.declared.answer.Answer.TheVariants.{Done, Findings, BadCommandLine, OutOfMemory, FolderFault, InputFault, OutputFault, RandomFault, Refused, WrongPass, NotFound, WrongKind, DamagedInput, Damaged, NotAllowed, NotClean, Overlap, NotEmpty, Begun, Unusable, Changed, Differ, ZeroRandom, Taken, Limit, Retired}
+use Rattle.command_answers.specs.declared.answer.Answer.TheVariants.{Done, Findings, BadCommandLine, OutOfMemory, FolderFault, InputFault, OutputFault, RandomFault, Refused, WrongPass, NotFound, WrongKind, DamagedInput, Damaged, NotAllowed, NotClean, Overlap, NotEmpty, Begun, Unusable, Changed, Differ, ZeroRandom, Taken, Limit, Retired, Meet}
 use Rattle.command_words.specs.declared.commands.Command.{Command}
 use Rattle.command_words.specs.declared.commands.Command.TheVariants.{DecryptFile, Init, Ls, Cat, Fsck, Mkdir, Put, Repair, Migrate, Resume, Retire, Demo}
 
@@ -106,6 +106,7 @@ is_answer_of (Changed plan items plan' items') few = absurd (omega (arith, few))
 is_answer_of (Differ path how) few = absurd (omega (arith, few))
 is_answer_of (Retired work) few = absurd (omega (arith, few))
 is_answer_of (Limit which) few = absurd (omega (arith, few))
+is_answer_of (Meet one other) few = absurd (omega (arith, few))
 
 pub with_status : (answer : Answer) (status : ℕ) → status ≤ 7 → status_of answer ≡ status → answer ≡ answer_of status
 with_status answer status few is = is_answer_of answer (omega (arith, few, is)) ∙ ap answer_of is

@@ -3,7 +3,7 @@ use Rattle.std.specs.Prelude.{ℕ}
 use Rattle.folder_spec.specs.declared.FolderFault as folders
 use Rattle.folder_spec.specs.declared.FolderFault.TheVariants as folder
 use Rattle.command_answers.specs.declared.answer.Answer.{Answer}
-use Rattle.command_answers.specs.declared.answer.Answer.TheVariants.{Done, Findings, BadCommandLine, OutOfMemory, FolderFault, InputFault, OutputFault, RandomFault, Refused, WrongPass, NotFound, WrongKind, DamagedInput, Damaged, NotAllowed, NotClean, Overlap, NotEmpty, Begun, Unusable, Changed, Differ, ZeroRandom, Taken, Limit, Retired}
+use Rattle.command_answers.specs.declared.answer.Answer.TheVariants.{Done, Findings, BadCommandLine, OutOfMemory, FolderFault, InputFault, OutputFault, RandomFault, Refused, WrongPass, NotFound, WrongKind, DamagedInput, Damaged, NotAllowed, NotClean, Overlap, NotEmpty, Begun, Unusable, Changed, Differ, ZeroRandom, Taken, Limit, Retired, Meet}
 
 abbrev pub status_of : Answer → ℕ
 status_of Done = 0
@@ -32,6 +32,7 @@ status_of ZeroRandom = 21
 status_of (Taken at) = 22
 status_of (Limit which) = 23
 status_of (Retired work) = 24
+status_of (Meet one other) = 25
 
 -- the answer to a fault of the folder
 abbrev pub of_folder : folders.FolderFault → Answer

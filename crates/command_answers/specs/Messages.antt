@@ -10,7 +10,7 @@ use Rattle.gocrypt_conf.specs.Fault as gocryptfs
 use Rattle.hex.specs.Hex.{encode_lower}
 use Rattle.plain_tree.specs.Shown.{shown, shown_path}
 use Rattle.command_answers.specs.declared.answer.Answer.{Answer}
-use Rattle.command_answers.specs.declared.answer.Answer.TheVariants.{Done, Findings, BadCommandLine, OutOfMemory, FolderFault, InputFault, OutputFault, RandomFault, Refused, WrongPass, NotFound, WrongKind, DamagedInput, Damaged, NotAllowed, NotClean, Overlap, NotEmpty, Begun, Unusable, Changed, Differ, ZeroRandom, Taken, Limit, Retired}
+use Rattle.command_answers.specs.declared.answer.Answer.TheVariants.{Done, Findings, BadCommandLine, OutOfMemory, FolderFault, InputFault, OutputFault, RandomFault, Refused, WrongPass, NotFound, WrongKind, DamagedInput, Damaged, NotAllowed, NotClean, Overlap, NotEmpty, Begun, Unusable, Changed, Differ, ZeroRandom, Taken, Limit, Retired, Meet}
 use Rattle.command_answers.specs.declared.answer.Named.{Named}
 use Rattle.command_answers.specs.declared.answer.Named.TheVariants as named
 use Rattle.command_answers.specs.declared.answer.Refusal.{Refusal}
@@ -106,6 +106,7 @@ message_of ZeroRandom = codes "zero random bytes"
 message_of (Taken at) = codes "place taken: " ++ shown_path at
 message_of (Limit which) = codes "limit: " ++ limit_text which
 message_of (Retired work) = codes "source retired: " ++ shown_path work
+message_of (Meet one other) = codes "names meet: " ++ shown_path one ++ codes " " ++ shown_path other
 
 abbrev pub line : List ℕ → List ℕ
 line text = codes "vaultmove: " ++ text ++ 10 ∷ []

@@ -26,9 +26,9 @@ row_of (Some (Put change)) = row (4 ∷ 5 ∷ 7 ∷ 8 ∷ 9 ∷ 10 ∷ 11 ∷ 12
 row_of (Some (Mkdir change)) = row (4 ∷ 7 ∷ 8 ∷ 9 ∷ 10 ∷ 11 ∷ 12 ∷ 13 ∷ 15 ∷ 16 ∷ 17 ∷ 21 ∷ 22 ∷ 23 ∷ [])
 row_of (Some (Fsck checking)) = row (1 ∷ 4 ∷ 6 ∷ 8 ∷ 9 ∷ 10 ∷ 11 ∷ 23 ∷ [])
 row_of (Some (Repair repairing)) = row (4 ∷ 6 ∷ 8 ∷ 9 ∷ 10 ∷ 11 ∷ 15 ∷ 16 ∷ 23 ∷ [])
-row_of (Some (Migrate moving)) = row_but (20 ∷ []) (4 ∷ 6 ∷ 7 ∷ 8 ∷ 9 ∷ 10 ∷ 11 ∷ 12 ∷ 13 ∷ 14 ∷ 15 ∷ 16 ∷ 17 ∷ 21 ∷ 22 ∷ 23 ∷ [])
-row_of (Some (Resume resuming)) = row_but (17 ∷ []) (4 ∷ 6 ∷ 7 ∷ 8 ∷ 9 ∷ 10 ∷ 11 ∷ 12 ∷ 13 ∷ 14 ∷ 15 ∷ 16 ∷ 18 ∷ 19 ∷ 20 ∷ 21 ∷ 22 ∷ 23 ∷ 24 ∷ [])
-row_of (Some (Retire resuming)) = row_but (17 ∷ []) (4 ∷ 6 ∷ 8 ∷ 9 ∷ 10 ∷ 11 ∷ 12 ∷ 14 ∷ 15 ∷ 16 ∷ 18 ∷ 20 ∷ 23 ∷ [])
+row_of (Some (Migrate moving)) = row_but (20 ∷ []) (4 ∷ 6 ∷ 7 ∷ 8 ∷ 9 ∷ 10 ∷ 11 ∷ 12 ∷ 13 ∷ 14 ∷ 15 ∷ 16 ∷ 17 ∷ 21 ∷ 22 ∷ 23 ∷ 25 ∷ [])
+row_of (Some (Resume resuming)) = row_but (17 ∷ []) (4 ∷ 6 ∷ 7 ∷ 8 ∷ 9 ∷ 10 ∷ 11 ∷ 12 ∷ 13 ∷ 14 ∷ 15 ∷ 16 ∷ 18 ∷ 19 ∷ 20 ∷ 21 ∷ 22 ∷ 23 ∷ 24 ∷ 25 ∷ [])
+row_of (Some (Retire resuming)) = row_but (17 ∷ []) (4 ∷ 6 ∷ 8 ∷ 9 ∷ 10 ∷ 11 ∷ 12 ∷ 13 ∷ 14 ∷ 15 ∷ 16 ∷ 18 ∷ 20 ∷ 23 ∷ 25 ∷ [])
 row_of (Some (Demo demonstration)) = row (6 ∷ 21 ∷ 22 ∷ [])
 
 abbrev pub is_among : List ℕ → ℕ → Bool

@@ -128,6 +128,8 @@ pub enum Answer {
     Limit(Limit),
     /// The source of the migration in this work folder is retired.
     Retired(FPath),
+    /// The items at these two paths of a migration's source come to one path in its target.
+    Meet(PlainPath, PlainPath),
 }
 
 impl Answer {
@@ -162,6 +164,7 @@ impl Answer {
             Answer::Taken(_) => 22,
             Answer::Limit(_) => 23,
             Answer::Retired(_) => 24,
+            Answer::Meet(_, _) => 25,
         }
     }
 }

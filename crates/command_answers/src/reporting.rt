@@ -4,7 +4,7 @@ ghost use Rattle.command_answers.specs.Messages.{IsReported, TakesText, is_plain
 
 use crate::answer::Answer;
 use crate::texts::{
-    at_path, behind, both_paths, changed_text, damage_text, differ_text, finding_name, flaw_text,
+    at_path, behind, both, changed_text, damage_text, differ_text, finding_name, flaw_text,
     limit_text, named_text, refusal_text, shown_folder,
 };
 use port_model::Sink;
@@ -96,7 +96,12 @@ fn message_of(alloc: Global, answer: &Answer) -> Result<String, AllocError>
             at,
             finding_name(*number),
         ),
-        Answer::Overlap(first, second) => both_paths(alloc, "folders overlap: ", first, second),
+        Answer::Overlap(first, second) => both(
+            alloc,
+            "folders overlap: ",
+            shown_folder(alloc, first)?.as_str(),
+            shown_folder(alloc, second)?.as_str(),
+        ),
         Answer::NotEmpty(at) => behind(alloc, "not empty: ", shown_folder(alloc, at)?.as_str()),
         Answer::Begun(work) => behind(
             alloc,
@@ -119,6 +124,12 @@ fn message_of(alloc: Global, answer: &Answer) -> Result<String, AllocError>
             alloc,
             "source retired: ",
             shown_folder(alloc, work)?.as_str(),
+        ),
+        Answer::Meet(one, other) => both(
+            alloc,
+            "names meet: ",
+            one.shown()?.as_str(),
+            other.shown()?.as_str(),
         ),
         _ => Ok(String::new(alloc)),
     }

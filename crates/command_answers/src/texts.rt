@@ -35,17 +35,17 @@ pub(crate) fn at_path(
 }
 
 // Words, and two paths.
-pub(crate) fn both_paths(
+pub(crate) fn both(
     alloc: Global,
     words: &str,
-    first: &FPath,
-    second: &FPath,
+    first: &str,
+    second: &str,
 ) -> Result<String, AllocError>
-    ensures { IfOk result (λ text. string_bytes text ≡ words.now ++ shown_path first.now ++ codes " " ++ shown_path second.now) }
+    ensures { IfOk result (λ text. string_bytes text ≡ words.now ++ first.now ++ codes " " ++ second.now) }
 {
-    let mut text = behind(alloc, words, shown_folder(alloc, first)?.as_str())?;
+    let mut text = behind(alloc, words, first)?;
     text.push_str(" ")?;
-    text.push_str(shown_folder(alloc, second)?.as_str())?;
+    text.push_str(second)?;
     Ok(text)
 }
 

@@ -2,8 +2,9 @@
 use crate::layer::drop_done;
 use folder_model::FPath;
 use migrate_core::{Done, MoveFault, begin, resume};
+use migration_sides::Side;
 use move_journal::JournalFault;
-use plain_tree::PlainPath;
+use plain_tree::{NameMap, PlainPath};
 use retire_core::{RetireFault, Retired, retire};
 use row_layers::faults::{
     journal_fault, load_fault, match_fault, path_fault, plain_fault, put_fault, walk_fault,
@@ -13,12 +14,17 @@ use row_layers::journals::parsed;
 use row_layers::places::PASSPHRASE;
 use row_stage::{Handed, Stage};
 use row_words::{Said, cut};
-use tree_match::{Side, Where};
+use tree_match::Where;
 use vault_read::LoadFault;
 
 fn overlap(said: &mut Said, one: &FPath, other: &FPath) {
     path_fault(said, "Overlap", one);
     said.made(other.text());
+}
+
+fn meet(said: &mut Said, one: &PlainPath, other: &PlainPath) {
+    plain_fault(said, "Meet", one);
+    said.made(other.shown());
 }
 
 fn side_fault(said: &mut Said, side: &Side, fault: &LoadFault) {
@@ -57,6 +63,7 @@ fn move_fault(said: &mut Said, fault: &MoveFault) {
         MoveFault::Walk(fault) => walk_fault(said, fault),
         MoveFault::NotEmpty(at) => path_fault(said, "NotEmpty", at),
         MoveFault::NotAllowed(path) => plain_fault(said, "NotAllowed", path),
+        MoveFault::Meet(one, other) => meet(said, one, other),
         MoveFault::Changed(was, items, is, now) => changed(said, was, *items, is, *now),
         MoveFault::Match(fault) => match_fault(said, fault),
         MoveFault::Differ(path, how) => differ(said, path, how),
@@ -75,6 +82,8 @@ fn retire_fault(said: &mut Said, fault: &RetireFault) {
         RetireFault::Overlap(one, other) => overlap(said, one, other),
         RetireFault::Load(side, fault) => side_fault(said, side, fault),
         RetireFault::Walk(fault) => walk_fault(said, fault),
+        RetireFault::NotAllowed(path) => plain_fault(said, "NotAllowed", path),
+        RetireFault::Meet(one, other) => meet(said, one, other),
         RetireFault::Match(fault) => match_fault(said, fault),
         RetireFault::Differ(path, how) => differ(said, path, how),
         RetireFault::Depth => said.word("Depth"),
@@ -113,17 +122,23 @@ fn say_retired(stage: &mut Stage, answer: Result<Retired, RetireFault>) {
     }
 }
 
-// Begins to move: `FROM TO WORK`.
+// Begins to move: `FROM TO WORK`, and `nfc` behind them where names come to form C.
 fn call_begin(stage: &mut Stage, words: &str, handed: &mut Handed) {
     let (from, words) = cut(words);
-    let (to, work) = cut(words);
+    let (to, words) = cut(words);
+    let (work, rule) = cut(words);
+    let names = if rule == "nfc" {
+        NameMap::Nfc
+    } else {
+        NameMap::Same
+    };
     let work = stage.path(work);
     let (Some(from), Some(to)) = (parsed(stage, from), parsed(stage, to)) else {
         return;
     };
     let (alloc, folder, random) = (stage.alloc, &mut stage.folder, &mut handed.random);
     let answer = begin(
-        alloc, folder, &from, &to, &work, PASSPHRASE, PASSPHRASE, random,
+        alloc, folder, &from, &to, &work, names, PASSPHRASE, PASSPHRASE, random,
     );
     say_moved(stage, answer);
 }
@@ -137,10 +152,11 @@ fn retired(stage: &mut Stage, work: &FPath) -> Result<Retired, RetireFault> {
     retire(stage.alloc, &mut stage.folder, work, PASSPHRASE, PASSPHRASE)
 }
 
-// Goes on with a migration, or begins it where no journal says of one: `FROM TO WORK`. It says a fault alone.
+// Goes on with a migration, or begins it where no journal says of one: `FROM TO WORK`, and maybe `nfc`. It says a fault alone.
 fn call_go_on(stage: &mut Stage, words: &str, handed: &mut Handed) {
     let (_, places) = cut(words);
-    let (_, work) = cut(places);
+    let (_, places) = cut(places);
+    let (work, _) = cut(places);
     let work = stage.path(work);
     match resumed(stage, &work, handed) {
         Err(MoveFault::Journal(JournalFault::NoJournal)) => call_begin(stage, words, handed),
@@ -158,7 +174,7 @@ fn call_retire_on(stage: &mut Stage, work: &FPath) {
     drop_done(stage);
 }
 
-/// Plays `begin FROM TO WORK`, `resume WORK` and `retire WORK`, and `go_on FROM TO WORK` and `retire_on WORK` after a stop.
+/// Plays `begin FROM TO WORK [nfc]`, `resume WORK` and `retire WORK`, and `go_on FROM TO WORK [nfc]` and `retire_on WORK` after a stop.
 pub fn call_moving(stage: &mut Stage, verb: &str, words: &str, handed: &mut Handed) {
     match verb {
         "begin" => return call_begin(stage, words, handed),

@@ -1,5 +1,5 @@
--- The names of the demonstration's items are ASCII, and so in Unicode's normalization form C.
-use Rattle.std.proofs.Common.{◌≡◌, ◌≢◌, ◌∙◌, ◌+◌, ◌/◌, ◌%◌, ◌<◌, ℕ, zero, suc, Bool, true, false, cond, nat_eq, List, [], ◌∷◌, ◌++◌, codes, replicate, Contains, inl, inr, sym, ap, subst, arith}
+-- The names of the demonstration's items are names. They are ASCII, and so in Unicode's normalization form C.
+use Rattle.std.proofs.Common.{◌≡◌, ◌≢◌, ◌∙◌, ◌+◌, ◌/◌, ◌%◌, ◌<◌, ℕ, zero, suc, Bool, true, false, cond, nat_eq, List, [], ◌∷◌, ◌++◌, codes, replicate, Contains, inl, inr, IsTrue, sym, ap, subst, arith}
 use Rattle.std.specs.Str.{IsAscii, IsUtf8, chars}
 use Rattle.std.proofs.lemmas.List.Elements.{Contains-push_cases}
 use Rattle.std.proofs.lemmas.Str.{IsUtf8-from_ascii, chars-encodes, encodes-IsAscii, encodes_same}
@@ -7,12 +7,13 @@ use Rattle.std.proofs.lemmas.Str.Ascii.{All-from_ascii, IsAscii-cons, IsAscii-ni
 use Rattle.unicode_normalization.proofs.FormsLemmas.{normalize-ascii}
 use Rattle.unicode_normalization.specs.Forms.{IsInForm}
 use Rattle.unicode_normalization.specs.declared.Form.TheVariants.{Nfc}
-use Rattle.plain_tree.specs.Names.{IsNfc, Path}
+use Rattle.plain_tree.specs.Names.{IsNfc, Path, is_name}
 use Rattle.vault_spec.specs.Format.{Format}
 use Rattle.vault_spec.specs.Making.{Allows}
 use Rattle.vault_spec.specs.Opens.{NoItem, Tree}
 use Rattle.demo_core.specs.Demonstration.{digits, directory_name, directory_path, file_name, is_directory, path_of}
 use Rattle.demo_core.specs.Tree.{HasItems}
+use Rattle.demo_core.proofs.Naming.{is_name-directory, is_name-file}
 use Rattle.demo_core.proofs.Numbered.{number_at}
 
 -- ---- ASCII
@@ -53,38 +54,45 @@ nfc_ascii name ascii =
 
 -- ---- names of items
 
-in_directory : (k : ℕ) (name : List ℕ) → Contains (directory_path k) name → IsAscii name
-in_directory zero name there = elim (Contains-push_cases [] (directory_name zero) name there) [
-  | inl none ↦ let less : none.0 < 0 = none.1 in absurd (omega (arith, less))
-  | inr last ↦ subst IsAscii last (ascii_directory zero)
-]
-in_directory (suc k) name there = by (nat_eq (suc k % 4) 0) (in_directory k name) there
-  where
-    by : (b : Bool) → (Contains (directory_path k) name → IsAscii name) → Contains (cond b [] (directory_path k) ++ directory_name (suc k) ∷ []) name → IsAscii name
-    by true above here = elim (Contains-push_cases [] (directory_name (suc k)) name here) [
-      | inl none ↦ let less : none.0 < 0 = none.1 in absurd (omega (arith, less))
-      | inr last ↦ subst IsAscii last (ascii_directory (suc k))
-    ]
-    by false above here = elim (Contains-push_cases (directory_path k) (directory_name (suc k)) name here) [
-      | inl front ↦ above front
-      | inr last ↦ subst IsAscii last (ascii_directory (suc k))
-    ]
+module _ (P : List ℕ → Type 0) (directories : (k : ℕ) → P (directory_name k)) (files : (number : ℕ) → P (file_name number)) where
+  in_directory : (k : ℕ) (name : List ℕ) → Contains (directory_path k) name → P name
+  in_directory zero name there = elim (Contains-push_cases [] (directory_name zero) name there) [
+    | inl none ↦ let less : none.0 < 0 = none.1 in absurd (omega (arith, less))
+    | inr last ↦ subst P last (directories zero)
+  ]
+  in_directory (suc k) name there = by (nat_eq (suc k % 4) 0) (in_directory k name) there
+    where
+      by : (b : Bool) → (Contains (directory_path k) name → P name) → Contains (cond b [] (directory_path k) ++ directory_name (suc k) ∷ []) name → P name
+      by true above here = elim (Contains-push_cases [] (directory_name (suc k)) name here) [
+        | inl none ↦ let less : none.0 < 0 = none.1 in absurd (omega (arith, less))
+        | inr last ↦ subst P last (directories (suc k))
+      ]
+      by false above here = elim (Contains-push_cases (directory_path k) (directory_name (suc k)) name here) [
+        | inl front ↦ above front
+        | inr last ↦ subst P last (directories (suc k))
+      ]
 
-in_item : (number : ℕ) (name : List ℕ) → Contains (path_of number) name → IsAscii name
-in_item number name there = by (is_directory number) there
-  where
-    by : (b : Bool) → Contains (cond b (directory_path (number / 10)) (directory_path (number / 10) ++ file_name number ∷ [])) name → IsAscii name
-    by true here = in_directory (number / 10) name here
-    by false here = elim (Contains-push_cases (directory_path (number / 10)) (file_name number) name here) [
-      | inl front ↦ in_directory (number / 10) name front
-      | inr last ↦ subst IsAscii last (ascii_file number)
-    ]
+  in_item : (number : ℕ) (name : List ℕ) → Contains (path_of number) name → P name
+  in_item number name there = by (is_directory number) there
+    where
+      by : (b : Bool) → Contains (cond b (directory_path (number / 10)) (directory_path (number / 10) ++ file_name number ∷ [])) name → P name
+      by true here = in_directory (number / 10) name here
+      by false here = elim (Contains-push_cases (directory_path (number / 10)) (file_name number) name here) [
+        | inl front ↦ in_directory (number / 10) name front
+        | inr last ↦ subst P last (files number)
+      ]
+
+  in_tree : (seed count : ℕ) (t : Tree) → HasItems seed count t → (path : Path) (name : List ℕ) → t path ≢ NoItem → Contains path name → P name
+  in_tree seed count t has path name opens there =
+      let item = number_at seed count t has path (some path there) opens in
+      in_item item.0 name (subst (λ p. Contains p name) item.2 there)
+    where
+      some : (path : Path) → Contains path name → path ≢ []
+      some [] there = let less : there.0 < 0 = there.1 in absurd (omega (arith, less))
+      some (a ∷ rest) there = λ e. cc e
 
 pub allowed : (f : Format) (seed count : ℕ) (t : Tree) → HasItems seed count t → (path : Path) (name : List ℕ) → t path ≢ NoItem → Contains path name → Allows f name
-allowed f seed count t has path name opens there =
-    let item = number_at seed count t has path (some path there) opens in
-    λ needs. nfc_ascii name (in_item item.0 name (subst (λ p. Contains p name) item.2 there))
-  where
-    some : (path : Path) → Contains path name → path ≢ []
-    some [] there = let less : there.0 < 0 = there.1 in absurd (omega (arith, less))
-    some (a ∷ rest) there = λ e. cc e
+allowed f seed count t has path name opens there needs = nfc_ascii name (in_tree IsAscii ascii_directory ascii_file seed count t has path name opens there)
+
+pub named : (seed count : ℕ) (t : Tree) → HasItems seed count t → (path : Path) (name : List ℕ) → t path ≢ NoItem → Contains path name → IsTrue (is_name name)
+named = in_tree (λ name. IsTrue (is_name name)) is_name-directory is_name-file

@@ -1,12 +1,12 @@
 -- The names of the demonstration's items are names.
-use Rattle.std.proofs.Common.{◌≡◌, ◌≢◌, ◌∙◌, ◌+◌, ◌-◌, ◌<◌, ◌≤◌, ◌/◌, ◌%◌, ℕ, zero, suc, true, false, List, [], ◌∷◌, ◌++◌, ◌&&◌, length, codes, replicate, nat_lt, nat_le, nat_eq, IsTrue, refl, ap, subst, arith, append-nil}
+use Rattle.std.proofs.Common.{◌≡◌, ◌≢◌, ◌∙◌, ◌+◌, ◌-◌, ◌<◌, ◌≤◌, ◌/◌, ◌%◌, ℕ, zero, suc, Bool, true, false, cond, List, [], ◌∷◌, ◌++◌, ◌&&◌, length, codes, replicate, nat_lt, nat_le, nat_eq, IsTrue, refl, sym, ap, subst, arith, append-nil}
 use Rattle.std.specs.List.{list_all}
 use Rattle.std.proofs.lemmas.List.{length-append}
 use Rattle.std.proofs.lemmas.List.Folds.{list_all-append}
 use Rattle.std.proofs.lemmas.Bool.Decides.{nat_tests}
 use Rattle.std.proofs.lemmas.Grind.{common_steps}
 use Rattle.plain_tree.specs.Names.{is_name, is_name_byte, is_dots}
-use Rattle.demo_core.specs.Demonstration.{digits, directory_name, directory_path}
+use Rattle.demo_core.specs.Demonstration.{digits, directory_name, directory_path, file_name}
 
 pub digits_none : (count n : ℕ) → count ≡ 0 → [] ≡ digits count n
 digits_none zero n e = refl
@@ -61,6 +61,13 @@ is_name-short number = subst (λ name. IsTrue (is_name name)) (append-nil (codes
 
 pub is_name-long : (number : ℕ) → IsTrue (is_name (codes "file" ++ digits 6 number ++ replicate 180 120))
 is_name-long number = file_name_by number (replicate 180 120) (omega arith) refl
+
+pub is_name-file : (number : ℕ) → IsTrue (is_name (file_name number))
+is_name-file number = by (nat_eq (number % 25) 7)
+  where
+    by : (b : Bool) → IsTrue (is_name (codes "file" ++ digits 6 number ++ cond b (replicate 180 120) []))
+    by true = is_name-long number
+    by false = subst (λ end. IsTrue (is_name (codes "file" ++ end))) (sym (append-nil (digits 6 number))) (is_name-short number)
 
 pub directory_path_at_root : (count : ℕ) → count % 4 ≡ 0 → [] ++ directory_name count ∷ [] ≡ directory_path count
 directory_path_at_root zero e = refl

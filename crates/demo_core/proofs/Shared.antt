@@ -1,5 +1,5 @@
 -- In a clean and tidy vault the place of the next item is taken only where it shares it.
-use Rattle.std.proofs.Common.{◌≡◌, ◌≢◌, ◌∙◌, ◌∷◌, ◌++◌, ◌<◌, ◌≤◌, ◌%◌, ◌/◌, [], ℕ, append_assoc, Option, Bool, true, false, cond, nat_eq, codes, replicate, List, Some, None, Ok, IsTrue, arith, append-nil, refl, sym, ap, subst}
+use Rattle.std.proofs.Common.{◌≡◌, ◌≢◌, ◌∙◌, ◌∷◌, ◌++◌, ◌<◌, ◌≤◌, ◌/◌, [], ℕ, append_assoc, Option, Bool, true, false, List, Some, None, Ok, IsTrue, arith, refl, sym, ap, subst}
 use Rattle.folder_spec.proofs.Moments.{went_more, went_nowhere, went_on}
 use Rattle.folder_spec.proofs.Tellings.{from_to_more, from_to_on, from_to_same}
 use Rattle.folder_spec.specs.Event.{Event, Told}
@@ -23,14 +23,14 @@ use Rattle.vault_spec.specs.Reached.{Leads}
 use Rattle.vault_spec.specs.Standing.{Absent, Dir, File, Standing, Strange, standing, standing_in}
 use Rattle.vault_spec.specs.Tidy.{IsTidy, OwnPlacesAreFree}
 use Rattle.vault_spec.specs.Vault.{IsVault, Vault, format_of}
-use Rattle.demo_core.specs.Demonstration.{digits, is_directory, path_of}
+use Rattle.demo_core.specs.Demonstration.{is_directory, path_of}
 use Rattle.demo_core.specs.Making.{IsBeside, phrase}
 use Rattle.demo_core.specs.Sharing.{GoesOn, LacksOwnPlace, SharesPlace}
 use Rattle.demo_core.specs.Tree.{HasItems}
 use Rattle.demo_core.proofs.Apart.{item_front, item_name, path_ends, paths_tell}
 use Rattle.demo_core.proofs.Drawn.{Compose}
 use Rattle.demo_core.proofs.Entered.{EnteredLeads}
-use Rattle.demo_core.proofs.Naming.{is_name-directory, is_name-long, is_name-short}
+use Rattle.demo_core.proofs.Naming.{is_name-directory, is_name-file}
 use Rattle.demo_core.proofs.Within.{StandBehind, content_opens}
 
 abbrev pub HaveContents : Type 0
@@ -38,11 +38,7 @@ HaveContents = (vault : Vault) (v : View) (path : plain.Path) (at : folder.Path)
 
 named : (b : Bool) (number : ℕ) → IsTrue (is_name (item_name b number))
 named true number = is_name-directory (number / 10)
-named false number = by (nat_eq (number % 25) 7)
-  where
-    by : (b : Bool) → IsTrue (is_name (codes "file" ++ digits 6 number ++ cond b (replicate 180 120) []))
-    by true = is_name-long number
-    by false = subst (λ end. IsTrue (is_name (codes "file" ++ end))) (sym (append-nil (digits 6 number))) (is_name-short number)
+named false number = is_name-file number
 
 -- where nothing opens no item stands
 no_item : (f : Format) (v : View) (s : Standing) → ((at : folder.Path) → s ≡ File at → ShowsFile v at) → opened_at f v s ≡ NoItem → IsNoItem s

@@ -1,8 +1,8 @@
 //! Laws of the definitions. Each function does nothing, and its clauses are the law.
-ghost use Rattle.std.specs.Prelude.{◌≡◌, ◌≢◌, ◌≤◌, ◌⊎◌, [], ℕ, List, ◌++◌, length, Contains};
+ghost use Rattle.std.specs.Prelude.{◌≡◌, ◌≢◌, ◌≤◌, ◌⊎◌, [], ℕ, List, ◌++◌, length, Contains, IsTrue};
 ghost use Rattle.chunk_files.specs.Keys.{Keys};
 ghost use Rattle.content_writing.specs.Writing.{DrewZeros};
-ghost use Rattle.plain_tree.specs.Names.{Path};
+ghost use Rattle.plain_tree.specs.Names.{Path, is_name};
 ghost use Rattle.vault_spec.specs.Format.{Format};
 ghost use Rattle.vault_spec.specs.Making.{Allows};
 ghost use Rattle.vault_spec.specs.Opens.{AreItems, Content, Directory, NoItem, Tree, tree};
@@ -27,9 +27,10 @@ pub fn trees_have_so_many_items()
     ensures { (seed count : ℕ) (t : Tree) (paths : List Path) → count ≤ 10000 → HasItems seed count t → AreItems t paths → length paths ≡ count }
 {}
 
-/// Each name in a tree of items is allowed in a vault of either format.
+/// Each name in a tree of items is a name, and allowed in a vault of either format.
 pub fn names_of_items_are_allowed()
-    ensures { (f : Format) (seed count : ℕ) (t : Tree) → HasItems seed count t → (path : Path) (name : List ℕ) → t path ≢ NoItem → Contains path name → Allows f name }
+    ensures named { (seed count : ℕ) (t : Tree) → HasItems seed count t → (path : Path) (name : List ℕ) → t path ≢ NoItem → Contains path name → IsTrue (is_name name) }
+    ensures allowed { (f : Format) (seed count : ℕ) (t : Tree) → HasItems seed count t → (path : Path) (name : List ℕ) → t path ≢ NoItem → Contains path name → Allows f name }
 {}
 
 /// In a tree of items each is a directory, or a file of at most 70,000 bytes that opens whole.

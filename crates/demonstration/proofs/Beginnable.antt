@@ -12,7 +12,6 @@ use Rattle.migrate_core.specs.Completing.{CanBegin, IsOfChance}
 use Rattle.migrate_core.specs.Faults.{Blamed, is_of_begin}
 use Rattle.migrate_core.specs.Limits.{HasSmallContents, IsOfLimit, PassesInTree, PassesLimit}
 use Rattle.migrate_core.specs.Copying.{tree_in}
-use Rattle.migrate_core.specs.Moved.{opened_in}
 use Rattle.migrate_core.specs.Moving.{MovesOnly, OnlyBrings}
 use Rattle.migrate_core.specs.Sharing.{IsOfTaken, SharesInTree}
 use Rattle.migrate_core.specs.Sides.{IsAsked}
@@ -20,9 +19,10 @@ use Rattle.migrate_core.specs.Written.{MayWriteTree}
 use Rattle.migrate_core.specs.declared.fault.MoveFault.{MoveFault}
 use Rattle.migrate_core.specs.declared.fault.MoveFault.TheVariants.{Match as Matching}
 use Rattle.migrate_core.specs.declared.placing.Done.{Done}
+use Rattle.migration_sides.specs.Sides.{opened_in}
 use Rattle.port_model.specs.Counts.{CountRose}
 use Rattle.port_model.specs.Draws.{ByteStream}
-use Rattle.tree_match.specs.Guard.{Migration}
+use Rattle.migration_spec.specs.Guard.{AreOpenedBy, Migration}
 use Rattle.tree_match.specs.declared.answer.MatchFault.TheVariants as match
 use Rattle.vault_read.specs.Laws.{HasOwnFolders, HaveOneAnswer}
 use Rattle.vault_spec.specs.Opened.{OpenedVault}
@@ -40,19 +40,19 @@ use Rattle.demonstration.proofs.DemonstratedTrees.{AreAlike, region_stays}
 use Rattle.demonstration.proofs.Demonstrations.{IsPart, ends_more, so_more}
 use Rattle.demonstration.proofs.GoodOrder.{own_of_good, well_alike}
 use Rattle.demonstration.proofs.Legs.{apart_moving}
-use Rattle.demonstration.proofs.SharedPlaces.{leg_shares}
-use Rattle.demonstration.proofs.Movable.{AreMovable, PlansTell, can_begin, is_asked, migration_of, small_contents}
+use Rattle.demonstration.proofs.SharedPlaces.{WalksStay, leg_shares}
+use Rattle.demonstration.proofs.Movable.{AreMovable, PlansTell, are_opened, can_begin, is_asked, migration_of, small_contents}
 
 abbrev pub SmallPass : Type 0
-SmallPass = (from to : OpenedVault) (v : View) (at : Path) → HasOwnFolders from.vault (under from.root v) → HasSmallContents (tree_in from v) → ¬ PassesLimit from to v at
+SmallPass = (from to : OpenedVault) (v : View) (at : Path) → HasOwnFolders from.vault (under from.root v) → HasSmallContents (tree_in from v) → ¬ PassesLimit Same from to v at
 
 -- what `begin` says of the fault with which it stops, between these roots
 pub record StopsAt (from to work : Path) (fault : MoveFault) (f f' r r' : ℕ) (s s' : Option ByteStream) (t t' : Option Told) : Type 0 where
   pub blamed : Blamed is_of_begin (CountRose f f') (CountRose r r') fault
-  pub completes : (g : Migration) → IfSeen t (λ v. IsAsked g from to work phrase phrase → CanBegin g v → IsOfChance fault)
-  pub too_long : IsOfLimit (PassesInTree from to phrase phrase t t') fault
+  pub completes : (g : Migration) → IfSeen t (λ v. IsAsked g Same from to work → AreOpenedBy g phrase phrase v → CanBegin g v → IsOfChance fault)
+  pub too_long : IsOfLimit (PassesInTree Same from to phrase phrase t t') fault
   pub written : IfSeen t (λ v. MayWriteTree {T = Done} (Err fault) Same from to phrase phrase s s' t t')
-  pub shared : IsOfTaken (SharesInTree from to phrase phrase s s' t t') fault
+  pub shared : IsOfTaken (SharesInTree Same from to phrase phrase s s' t t') fault
   pub moves : MovesOnly work to t t'
 
 abbrev pub Stops : Leg → MoveFault → (f f' r r' : ℕ) → Option ByteStream → Option ByteStream → Option Told → Option Told → Type 0
@@ -64,7 +64,7 @@ stops_by leg from to work fault f f' r r' s s' t t' one other third stops =
     subst (λ p. StopsAt p (target_of leg) moving_folder fault f f' r r' s s' t t') one
     (subst (λ p. StopsAt from p moving_folder fault f f' r r' s s' t t') other (subst (λ p. StopsAt from to p fault f f' r r' s s' t t') third stops))
 
-module _ (alike : AreAlike) (one : HaveOneAnswer) (laws : AreMovable) (plans : PlansTell) (passes : SmallPass) (leg : Leg) (fault : MoveFault) (f f' r r' : ℕ) (s s' : Option ByteStream) where
+module _ (alike : AreAlike) (one : HaveOneAnswer) (laws : AreMovable) (plans : PlansTell) (walks : WalksStay) (passes : SmallPass) (leg : Leg) (fault : MoveFault) (f f' r r' : ℕ) (s s' : Option ByteStream) where
   -- no content passes the limit
   no_limit : (count : ℕ) (t t' : Option Told) → ((a : Told) → t ≡ Some a → IsSound a.state) → Stops leg fault f f' r r' s s' t t' → Sees (CanCarry leg) count t → (at : Path) → fault ≢ Matching (match.Limit (limit.Length at))
   no_limit count (Some a) (Some b) sound stops sees at is =
@@ -79,8 +79,8 @@ module _ (alike : AreAlike) (one : HaveOneAnswer) (laws : AreMovable) (plans : P
       can : CanCarry leg sees.seed count (seen a.state)
       can = subst (CanCarry leg sees.seed count) sees.seen sees.shown
 
-      tree : PassesInTree from (target_of leg) phrase phrase (Some a) (Some b) at
-      tree = subst (IsOfLimit (PassesInTree from (target_of leg) phrase phrase (Some a) (Some b))) is stops.too_long
+      tree : PassesInTree Same from (target_of leg) phrase phrase (Some a) (Some b) at
+      tree = subst (IsOfLimit (PassesInTree Same from (target_of leg) phrase phrase (Some a) (Some b))) is stops.too_long
 
       same : under from (seen b.state) ≡ under from (seen a.state)
       same = region_stays alike from (apart_from_both moving_folder (target_of leg)) (λ s e. OnlyBrings (target_of leg) s e.call) a b (sound a refl) (apart_moving leg) stops.moves
@@ -97,6 +97,7 @@ module _ (alike : AreAlike) (one : HaveOneAnswer) (laws : AreMovable) (plans : P
   of_chance count (Some a) t' sound stops sees =
       let can : CanCarry leg sees.seed count (seen a.state) = subst (CanCarry leg sees.seed count) sees.seen sees.shown in
       stops.completes (migration_of leg can.source.items.vault can.target.items.vault (seen a.state)) (seen a.state) refl (is_asked leg can.source.items.vault can.target.items.vault (seen a.state))
+      (are_opened leg can.source.items.vault can.target.items.vault (seen a.state) can.source.items.opens can.target.items.opens)
       (can_begin laws leg sees.seed count a.state (sound a refl) sees.few can)
   of_chance count None t' sound stops sees = absurd sees.seen
 
@@ -109,9 +110,9 @@ module _ (alike : AreAlike) (one : HaveOneAnswer) (laws : AreMovable) (plans : P
         (subst (λ why. MayWriteTree {T = Done} (Err why) Same (source_of leg) (target_of leg) phrase phrase s s' t t') is (stops.written sees.view sees.seen));
     shared = λ sees taken. (
       target_of leg,
-      leg_shares one plans leg count s s' t t'
+      leg_shares one plans walks leg count s s' t t'
           (goes_by (λ s0 here. IsAsBefore (apart_from_both moving_folder (target_of leg)) s0 here) (λ s0 here e. OnlyBrings (target_of leg) here e.call) t t' stops.moves)
-          (subst (IsOfTaken (SharesInTree (source_of leg) (target_of leg) phrase phrase s s' t t')) taken.1 stops.shared) sees,
+          (subst (IsOfTaken (SharesInTree Same (source_of leg) (target_of leg) phrase phrase s s' t t')) taken.1 stops.shared) sees,
     );
     known = λ sees. (of_chance count t t' sound stops sees, no_limit count t t' sound stops sees);
   }) status ends

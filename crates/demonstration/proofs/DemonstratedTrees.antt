@@ -1,5 +1,5 @@
 -- The tree of the demonstration goes from vault to vault.
-use Rattle.std.proofs.Common.{◌≡◌, ◌≢◌, ◌++◌, ◌∷◌, [], ℕ, Bool, List, Option, sym, subst, ◌∙◌}
+use Rattle.std.proofs.Common.{◌≡◌, ◌≢◌, ◌↔◌, ◌++◌, ◌∷◌, [], ℕ, Bool, List, Option, sym, subst, ◌∙◌}
 use Rattle.demo_core.proofs.Apart.{item_front, item_name, path_ends}
 use Rattle.demo_core.proofs.Standing.{same_vault}
 use Rattle.demo_core.specs.Demonstration.{is_directory, path_of}
@@ -14,6 +14,7 @@ use Rattle.folder_spec.specs.State.{IsSound, State}
 use Rattle.folder_spec.specs.View.{AgreeIn, View}
 use Rattle.folder_spec.proofs.Moments.{went_to}
 use Rattle.folder_spec.proofs.Regions.{seen_as_before}
+use Rattle.mapped_trees.specs.Trees.{IsMapped}
 use Rattle.migrate_core.specs.Moved.{MovesTree}
 use Rattle.migrate_core.specs.declared.placing.Done.{Done}
 use Rattle.plain_tree.specs.Names as plain
@@ -47,11 +48,15 @@ held_alike kind root seed count v w same held = record {
   items = subst (λ u. HasItems seed count (tree (format_of held.vault) u)) (sym same) held.items;
 }
 
+-- by the rule that names stay, a tree is the mapped tree of itself alone
+abbrev pub TreesStay : Type 0
+TreesStay = (m t : Tree) → IsMapped Same m t ↔ ((path : plain.Path) → t path ≡ m path)
+
 -- A migration brings them to the target, which its passphrase opens still.
-pub held_moved : HaveOneAnswer → (first second : VaultKind) (from to work : Path) (done : Done) (seed count : ℕ) (t u : Option Told) (v w : View) → (moves : MovesTree Same from to work phrase phrase done t u)
+pub held_moved : HaveOneAnswer → TreesStay → (first second : VaultKind) (from to work : Path) (done : Done) (seed count : ℕ) (t u : Option Told) (v w : View) → (moves : MovesTree Same from to work phrase phrase done t u)
     → IsSeen t v → IsSeen u w → under from w ≡ under from v → HasOwnFolders moves.source (under from w) → HasOwnFolders moves.target (under to w)
     → kind_of moves.target ≡ second → HoldsItems first from seed count v → HoldsItems second to seed count w
-held_moved one first second from to work done seed count t u v w moves before after same own_source own_target is held =
+held_moved one stay first second from to work done seed count t u v w moves before after same own_source own_target is held =
     let vault : held.vault ≡ moves.source = same_vault one (under from v) held.vault moves.source held.opens (moves.opens_source v before) in
     let items : HasItems seed count (tree (format_of moves.source) (under from w)) =
     subst (λ x. HasItems seed count (tree (format_of x) (under from w))) vault (subst (λ x. HasItems seed count (tree (format_of held.vault) x)) (sym same) held.items) in
@@ -60,7 +65,7 @@ held_moved one first second from to work done seed count t u v w moves before af
       is = is;
       opens = moves.opens_still w after;
       items = items_alike seed count (tree (format_of moves.source) (under from w)) (tree (format_of moves.target) (under to w))
-          (λ path proper. (moves.moved w after).trees own_source own_target path proper) items;
+          (λ path proper. (stay (tree (format_of moves.source) (under from w)) (tree (format_of moves.target) (under to w))).0 ((moves.moved w after).trees own_source own_target) path) items;
     }
 
 -- What is at a root and below it is an own view, which is the same where it is alike.

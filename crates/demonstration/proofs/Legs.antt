@@ -33,7 +33,7 @@ use Rattle.demonstration.specs.declared.demonstrating.Way.{Way as Ended}
 use Rattle.demonstration.specs.declared.demonstrating.Way.TheVariants as ways
 use Rattle.demonstration.specs.declared.leading.Leg.{Leg}
 use Rattle.demonstration.specs.declared.leading.Leg.TheVariants.{There, Back}
-use Rattle.demonstration.proofs.DemonstratedTrees.{AreAlike, held_alike, held_moved, region_stays}
+use Rattle.demonstration.proofs.DemonstratedTrees.{AreAlike, TreesStay, held_alike, held_moved, region_stays}
 use Rattle.demonstration.proofs.GoodOrder.{new_own, own_folders, own_of_good}
 
 -- ---- roots
@@ -85,15 +85,15 @@ items_made seed count t u holds beside = where_told (MakesItems seed count) t u 
 
 -- ---- one migration
 
-carries : AreAlike → HaveOneAnswer → (second : VaultKind) (from to : Path) (done : Done) (a b c : Told) → IsSound a.state → IsSound b.state → IsWithin from (apart_from_both making_folder to)
+carries : AreAlike → HaveOneAnswer → TreesStay → (second : VaultKind) (from to : Path) (done : Done) (a b c : Told) → IsSound a.state → IsSound b.state → IsWithin from (apart_from_both making_folder to)
     → IsWithin from (apart_from_both moving_folder to) → MakesBeside to (Some a) (Some b) → StandsNew second to b.state → (moves : MovesTree Same from to moving_folder phrase phrase done (Some b) (Some c))
     → MovesOnly moving_folder to (Some b) (Some c) → Carries second from to a c
-carries alike one second from to done a b c sound_a sound_b beside apart made new moves only = record {
+carries alike one stay second from to done a b c sound_a sound_b beside apart made new moves only = record {
   goes = go_then a b c (goes_on (IsAsBefore (apart_from_both making_folder to) a.state) (λ s e. Unit {0}) a b made) (goes_on (IsAsBefore (apart_from_both moving_folder to) b.state) (λ s e. OnlyBrings to s e.call) b c only);
   is = λ vault opened. subst (λ x. kind_of x ≡ second) (same_vault one (under to (seen c.state)) moves.target vault opens opened) is;
   own = λ own_from vault opened. subst (λ x. HasOwnFolders x (under to (seen c.state))) (same_vault one (under to (seen c.state)) moves.target vault opens opened) (own_to own_from);
   holds = λ first seed count own_from held.
-      held_moved one first second from to moving_folder done seed count (Some b) (Some c) (seen b.state) (seen c.state) moves refl refl (stays_then from apart)
+      held_moved one stay first second from to moving_folder done seed count (Some b) (Some c) (seen b.state) (seen c.state) moves refl refl (stays_then from apart)
       (subst (HasOwnFolders moves.source) (sym (stays_then from apart ∙ stays_first from beside)) (own_source own_from)) (own_to own_from) is
       (held_alike first from seed count (seen a.state) (seen b.state) (stays_first from beside) held);
   stays = λ root one two. stays_then root two ∙ stays_first root one;
@@ -124,19 +124,19 @@ carries alike one second from to done a b c sound_a sound_b beside apart made ne
           target = new_own one second to moves.target b.state (moves.opens_target (seen b.state) refl) new;
         })).1
 
-leg_told : AreAlike → HaveOneAnswer → (leg : Leg) (t u w : Option Told) → ((a : Told) → t ≡ Some a → IsSound a.state) → ((a : Told) → u ≡ Some a → IsSound a.state) → MakesBeside (target_of leg) t u
+leg_told : AreAlike → HaveOneAnswer → TreesStay → (leg : Leg) (t u w : Option Told) → ((a : Told) → t ≡ Some a → IsSound a.state) → ((a : Told) → u ≡ Some a → IsSound a.state) → MakesBeside (target_of leg) t u
     → IsNewAt (kind_to leg) (target_of leg) u → IsMoved (source_of leg) (target_of leg) u w → FromTo (Carries (kind_to leg) (source_of leg) (target_of leg)) t w
-leg_told alike one leg (Some a) (Some b) (Some c) first second made new moved =
-    carries alike one (kind_to leg) (source_of leg) (target_of leg) moved.0 a b c (first a refl) (second b refl) (apart_making leg) (apart_moving leg) made (new b refl) moved.1 moved.2
-leg_told alike one leg None None None first second made new moved = tt
-leg_told alike one leg (Some a) None w first second made new moved = absurd made
-leg_told alike one leg None (Some b) w first second made new moved = absurd made
-leg_told alike one leg (Some a) (Some b) None first second made new moved = absurd moved.2
-leg_told alike one leg None None (Some c) first second made new moved = absurd moved.2
+leg_told alike one stay leg (Some a) (Some b) (Some c) first second made new moved =
+    carries alike one stay (kind_to leg) (source_of leg) (target_of leg) moved.0 a b c (first a refl) (second b refl) (apart_making leg) (apart_moving leg) made (new b refl) moved.1 moved.2
+leg_told alike one stay leg None None None first second made new moved = tt
+leg_told alike one stay leg (Some a) None w first second made new moved = absurd made
+leg_told alike one stay leg None (Some b) w first second made new moved = absurd made
+leg_told alike one stay leg (Some a) (Some b) None first second made new moved = absurd moved.2
+leg_told alike one stay leg None None (Some c) first second made new moved = absurd moved.2
 
-pub leg_carries : AreAlike → HaveOneAnswer → (leg : Leg) (t u w : Option Told) → ((a : Told) → t ≡ Some a → IsSound a.state) → ((a : Told) → u ≡ Some a → IsSound a.state) → MakesBeside (target_of leg) t u
+pub leg_carries : AreAlike → HaveOneAnswer → TreesStay → (leg : Leg) (t u w : Option Told) → ((a : Told) → t ≡ Some a → IsSound a.state) → ((a : Told) → u ≡ Some a → IsSound a.state) → MakesBeside (target_of leg) t u
     → IsNewAt (kind_to leg) (target_of leg) u → IsMoved (source_of leg) (target_of leg) u w → WhereTold (Carries (kind_to leg) (source_of leg) (target_of leg)) t w
-leg_carries alike one leg t u w first second made new moved = where_told (Carries (kind_to leg) (source_of leg) (target_of leg)) t w (leg_told alike one leg t u w first second made new moved)
+leg_carries alike one stay leg t u w first second made new moved = where_told (Carries (kind_to leg) (source_of leg) (target_of leg)) t w (leg_told alike one stay leg t u w first second made new moved)
 
 -- ---- its source is retired
 

@@ -16,12 +16,17 @@ use Rattle.folder_spec.proofs.Paths.{begins_or_not, below-append}
 use Rattle.migrate_core.specs.Completing.{CanBegin}
 use Rattle.migrate_core.specs.Copying.{tree_in}
 use Rattle.migrate_core.specs.Limits.{HasSmallContents, IsSmall}
-use Rattle.migrate_core.specs.Moved.{IsTidyWork, opened_in}
-use Rattle.migrate_core.specs.Sides.{AreTold, IsAsked, IsResumed}
+use Rattle.migrate_core.specs.Moved.{IsTidyWork}
+use Rattle.migrate_core.specs.Sides.{AreTold, IsAsked}
+use Rattle.migration_sides.specs.Sides.{opened_in}
+use Rattle.plain_tree.specs.Mapped.{mapped_name}
 use Rattle.plain_tree.specs.Names as plain
+use Rattle.plain_tree.specs.declared.name_map.NameMap.TheVariants.{Same}
 use Rattle.retire_core.specs.Completing.{CanRetire, KeepsLimits}
 use Rattle.tree_match.specs.Comparing.{content_at}
-use Rattle.tree_match.specs.Guard.{Done, IsPlanOf, IsSeparate, IsWhole, IsWork, Migration, VaultAt, kinds_in, old_path}
+use Rattle.migration_spec.specs.Guard.{AreOpenedBy, Done, IsSeparate, IsWork, Migration, kinds_in, old_path}
+use Rattle.mapped_trees.specs.Plans.{IsPlanOf}
+use Rattle.mapped_trees.specs.Trees.{AllowsMapped, AllowsTree, IsWhole, StaysApart}
 use Rattle.tree_match.specs.Trees.{IsWalkOf, Side}
 use Rattle.vault_spec.specs.Opened.{OpenedVault}
 use Rattle.vault_spec.specs.Alike.{IsOrderly}
@@ -33,7 +38,7 @@ use Rattle.vault_spec.specs.Opens as opens
 use Rattle.vault_spec.specs.Opens.{Opened, NoItem, Directory, Content, Tree, opened, opened_at, tree}
 use Rattle.vault_spec.specs.Plan.{Planned}
 use Rattle.vault_spec.specs.Standing.{File, standing}
-use Rattle.vault_spec.specs.Vault.{Vault, format_of}
+use Rattle.vault_spec.specs.Vault.{IsVault, Vault, format_of}
 use Rattle.vault_walk.specs.Survey.{depth_limit}
 use Rattle.vault_walk.specs.Surveyed as walks
 use Rattle.content_writing.specs.Making.{is_inside}
@@ -48,11 +53,21 @@ use Rattle.demonstration.proofs.GoodOrder.{own_of_good}
 -- ---- what laws say of its items
 
 pub record AreMovable : Type 0 where
-  pub names : (f : Format) (seed count : ℕ) (t : Tree) → HasItems seed count t → (path : plain.Path) (name : List ℕ) → t path ≢ NoItem → Contains path name → Allows f name
+  pub apart : (m : Tree) → StaysApart Same m
+  pub named : (seed count : ℕ) (t : Tree) → HasItems seed count t → (path : plain.Path) (name : List ℕ) → t path ≢ NoItem → Contains path name → IsTrue (plain.is_name name)
+  pub allowed : (f : Format) (seed count : ℕ) (t : Tree) → HasItems seed count t → (path : plain.Path) (name : List ℕ) → t path ≢ NoItem → Contains path name → Allows f name
   pub short : (seed count : ℕ) (t : Tree) → HasItems seed count t → (path : plain.Path) → path ≢ [] → t path ≢ NoItem → (t path ≡ Directory) ⊎ ((content : List ℕ) × (t path ≡ Content content) × (length content ≤ 70000))
   pub fits : (vault : Vault) (v : View) (seed count : ℕ) → count ≤ 2000 → HasItems seed count (tree (format_of vault) v) → walks.IsWithin (format_of vault) v
   pub whole : (a : OpenedVault) (v : View) (path : plain.Path) (at : Path) → HasSmallContents (tree_in a v) → standing (format_of a.vault) (under a.root v) path ≡ File at
       → (content_at (format_of a.vault).content v (a.root ++ at)).ending ≡ Whole
+
+-- a name that stays is allowed
+allows_same : (f : Format) (name : List ℕ) → IsTrue (plain.is_name name) → Allows f name → AllowsMapped Same f name
+unfolding mapped_name
+allows_same f name named allowed = record { named = named; allowed = allowed }
+
+allows_items : AreMovable → (f : Format) (seed count : ℕ) (t : Tree) → HasItems seed count t → AllowsTree Same f t
+allows_items laws f seed count t items path name some among = allows_same f name (laws.named seed count t items path name some among) (laws.allowed f seed count t items path name some among)
 
 -- the root of a vault in good order is a directory
 root_opens : (f : Format) (v : View) → IsOrderly f v → opened f v [] ≡ Directory
@@ -79,19 +94,22 @@ small_contents laws vault root seed count v good items = by
 
 -- ---- the migration of a leg
 
-abbrev pub vault_at : Path → Vault → VaultAt
-vault_at root vault = record { root = root; pass = phrase; vault = vault }
-
 abbrev pub migration_of : Leg → Vault → Vault → View → Migration
 migration_of leg source target v = record {
-  source = vault_at (source_of leg) source;
-  target = vault_at (target_of leg) target;
+  source = opened_in (source_of leg) source;
+  target = opened_in (target_of leg) target;
   work = moving_folder;
+  names = Same;
   held = tree (format_of source) (under (source_of leg) v);
 }
 
-pub is_asked : (leg : Leg) (source target : Vault) (v : View) → IsAsked (migration_of leg source target v) (source_of leg) (target_of leg) moving_folder phrase phrase
-is_asked leg source target v = record { source = refl; target = refl; work = refl; opens_source = refl; opens_target = refl }
+pub is_asked : (leg : Leg) (source target : Vault) (v : View) → IsAsked (migration_of leg source target v) Same (source_of leg) (target_of leg) moving_folder
+is_asked leg source target v = record { source = refl; target = refl; work = refl; names = refl }
+
+-- the passphrase of the demonstration opens its vaults
+pub are_opened : (leg : Leg) (source target : Vault) (v : View) → IsVault (under (source_of leg) v) phrase source → IsVault (under (target_of leg) v) phrase target
+    → AreOpenedBy (migration_of leg source target v) phrase phrase v
+are_opened leg source target v opens_source opens_target = record { source = λ there. opens_source; target = λ there. opens_target }
 
 are_separate : (leg : Leg) (source target : Vault) (v : View) → IsSeparate (migration_of leg source target v)
 are_separate There source target v = record { vaults = record { one = refl; other = refl }; source = record { one = refl; other = refl }; target = record { one = refl; other = refl } }
@@ -119,15 +137,16 @@ pub can_begin : AreMovable → (leg : Leg) (seed count : ℕ) (s : State) → Is
 can_begin laws leg seed count s sound few can = record {
   separate = are_separate leg source target (seen s);
   begun = record {
-    source = record { there = record { loads = can.source.items.opens; good = can.source.good }; held = λ path. refl };
+    source = record { there = record { pass = phrase; loads = can.source.items.opens; good = can.source.good }; held = λ path. refl };
     journal = nothing_seen s sound moving_folder (codes "journal" ∷ []) can.work;
-    target = record { loads = can.target.items.opens; good = can.target.good };
+    target = record { pass = phrase; loads = can.target.items.opens; good = can.target.good };
     empty = λ path proper. can.target.items.items.others path proper (λ number none. absurd (omega (arith, none)));
   };
   above = can.beside.base;
   work = free_work s sound can.work;
   stage = λ rest deep. nothing_seen s sound moving_folder (codes "stage" ∷ rest) can.work;
-  allowed = λ path name some among. laws.names (format_of target) seed count (tree (format_of source) (under (source_of leg) (seen s))) can.source.items.items path name some among;
+  allowed = allows_items laws (format_of target) seed count held can.source.items.items;
+  apart = laws.apart held;
   source = record {
     items = laws.fits source (under (source_of leg) (seen s)) seed count few can.source.items.items;
     contents = λ path at stands. laws.whole (opened_in (source_of leg) source) (seen s) path at (small_contents laws source (source_of leg) seed count (seen s) can.source.good can.source.items.items) stands;
@@ -140,6 +159,9 @@ can_begin laws leg seed count s sound few can = record {
 
     target : Vault
     target = can.target.items.vault
+
+    held : Tree
+    held = tree (format_of source) (under (source_of leg) (seen s))
 
 -- ---- and retired
 
@@ -215,7 +237,7 @@ can_retire laws plans shallow leg seed count s sound few can = record {
   separate = are_separate leg source target (seen s);
   guarded = record {
     case = Done (record {
-      source = record { there = record { loads = can.source.items.opens; good = can.source.good }; held = λ path. refl };
+      source = record { there = record { pass = phrase; loads = can.source.items.opens; good = can.source.good }; held = λ path. refl };
       journal = record {
         journal = can.says.journal;
         is = can.says.is;
@@ -231,8 +253,15 @@ can_retire laws plans shallow leg seed count s sound few can = record {
         };
         stands = can.says.stands;
       };
-      target = record { there = record { loads = can.target.items.opens; good = can.target.good }; all = record { held = same; whole = whole } };
-      allowed = λ path name some among. laws.names (format_of target) seed count held can.source.items.items path name some among;
+      target = record {
+        there = record { pass = phrase; loads = can.target.items.opens; good = can.target.good };
+        all = record {
+          held = can.trees (own_of_good source (source_of leg) (seen s) can.source.good) (own_of_good target (target_of leg) (seen s) can.target.good);
+          apart = laws.apart held;
+          whole = whole;
+        };
+      };
+      allowed = allows_items laws (format_of target) seed count held can.source.items.items;
     });
     work = tidy_work s sound can.tidy can.says.stands.text can.says.stands.file;
   };
@@ -260,14 +289,10 @@ can_retire laws plans shallow leg seed count s sound few can = record {
     told : (items : List Planned) × walks.IsPlanOf (source_of leg) (format_of source) (under (source_of leg) (seen s)) items × AreTold can.says.journal items
     told = can.tells (own_of_good source (source_of leg) (seen s) can.source.good)
 
-    same : (path : plain.Path) → tree (format_of target) (under (target_of leg) (seen s)) path ≡ held path
-    same [] = root_opens (format_of target) (under (target_of leg) (seen s)) can.target.good.orderly ∙ sym (root_opens (format_of source) (under (source_of leg) (seen s)) can.source.good.orderly)
-    same (name ∷ rest) = can.trees (own_of_good source (source_of leg) (seen s) can.source.good) (own_of_good target (target_of leg) (seen s) can.target.good) (name ∷ rest) (λ none. cc none)
-
     whole : (path : plain.Path) → IsWhole (held path)
     whole path = whole_if_small (held path) (small_contents laws source (source_of leg) seed count (seen s) can.source.good can.source.items.items path)
 
-    keeps : (vault : Vault) (root : Path) → ShowsVault (format_of vault) root (seen s) → HasItems seed count (tree (format_of vault) (under root (seen s))) → KeepsLimits (vault_at root vault) (seen s)
+    keeps : (vault : Vault) (root : Path) → ShowsVault (format_of vault) root (seen s) → HasItems seed count (tree (format_of vault) (under root (seen s))) → KeepsLimits (opened_in root vault) (seen s)
     keeps vault root good items = record {
       items = laws.fits vault (under root (seen s)) seed count few items;
       contents = λ path at stands wanting.
@@ -277,9 +302,10 @@ can_retire laws plans shallow leg seed count s sound few can = record {
 
 -- what follows of a migration that can be retired follows where it was carried
 pub carried_retires : AreMovable → PlansTell → CleanIsShallow → (X : Type 0) (leg : Leg) (count : ℕ) (work : Path) (t : Option Told) → ((a : Told) → t ≡ Some a → IsSound a.state) → work ≡ moving_folder
-    → ((g : Migration) → IfSeen t (λ v. IsResumed g work phrase phrase → CanRetire g v → X)) → Sees (HasCarried leg) count t → X
+    → ((g : Migration) → IfSeen t (λ v. g.work ≡ work → AreOpenedBy g phrase phrase v → CanRetire g v → X)) → Sees (HasCarried leg) count t → X
 carried_retires laws plans shallow X leg count work (Some a) sound is completes sees =
     let can : HasCarried leg sees.seed count (seen a.state) = subst (HasCarried leg sees.seed count) sees.seen sees.shown in
-    completes (migration_of leg can.source.items.vault can.target.items.vault (seen a.state)) (seen a.state) refl (record { work = sym is; opens_source = refl; opens_target = refl })
+    completes (migration_of leg can.source.items.vault can.target.items.vault (seen a.state)) (seen a.state) refl (sym is)
+    (are_opened leg can.source.items.vault can.target.items.vault (seen a.state) can.source.items.opens can.target.items.opens)
     (can_retire laws plans shallow leg sees.seed count a.state (sound a refl) sees.few can)
 carried_retires laws plans shallow X leg count work None sound is completes sees = absurd sees.seen

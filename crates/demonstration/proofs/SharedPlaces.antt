@@ -1,5 +1,5 @@
 -- Where a migration of the demonstration stops at a taken place, one of its items has no place of its own.
-use Rattle.std.proofs.Common.{◌≡◌, ◌≢◌, ◌<◌, ℕ, Bool, true, false, cond, Option, Some, None, IsTrue, refl, sym, ap, subst, ◌∙◌}
+use Rattle.std.proofs.Common.{◌≡◌, ◌≢◌, ◌<◌, ℕ, Bool, true, false, cond, List, Option, Some, None, IsTrue, refl, sym, ap, subst, ◌∙◌}
 use Rattle.demo_core.specs.Demonstration.{content_of, is_directory, path_of}
 use Rattle.demo_core.specs.Making.{phrase}
 use Rattle.demo_core.specs.Sharing.{GoesOn, LacksOwnPlace, SharesPlace}
@@ -8,17 +8,22 @@ use Rattle.demo_core.proofs.Numbered.{number_at}
 use Rattle.demo_core.proofs.Standing.{same_vault}
 use Rattle.folder_spec.specs.Event.{Told}
 use Rattle.folder_spec.specs.Seen.{seen, under}
-use Rattle.migrate_core.specs.Moved.{opened_in}
+use Rattle.folder_spec.specs.View.{View}
 use Rattle.migrate_core.specs.Sharing as moving
-use Rattle.migrate_core.specs.Sharing.{IsMadeFor, IsTidyAt, OneOfSourceShares, SharesInTree}
+use Rattle.migrate_core.specs.Sharing.{IsMadeFor, OneOfSourceShares, SharesInTree}
+use Rattle.migration_sides.specs.Sides.{opened_in}
 use Rattle.plain_tree.specs.declared.NodeKind.{NodeKind}
 use Rattle.plain_tree.specs.declared.NodeKind.TheVariants as node
+use Rattle.plain_tree.specs.declared.name_map.NameMap.TheVariants.{Same}
 use Rattle.port_model.specs.Draws.{ByteStream}
-use Rattle.tree_match.specs.Guard.{IsPlanOf, node_of}
+use Rattle.mapped_trees.specs.Plans.{IsPlanOf, node_of}
+use Rattle.tree_match.specs.Mapping.{IsMappedPlan}
+use Rattle.tree_match.specs.Trees.{IsWalkOf, Side}
 use Rattle.vault_read.specs.Laws.{HasOwnFolders, HaveOneAnswer}
 use Rattle.vault_spec.specs.Making.{NewItem, NewDirectory, NewFile}
 use Rattle.vault_spec.specs.Opens as opens
 use Rattle.vault_spec.specs.Opens.{Opened, NoItem, Tree, tree}
+use Rattle.vault_spec.specs.Plan.{Planned}
 use Rattle.vault_spec.specs.Tidy.{IsTidy}
 use Rattle.vault_spec.specs.Vault.{IsVault, Vault, format_of}
 use Rattle.demonstration.specs.DemoSteps.{CanCarry, Sees}
@@ -27,6 +32,10 @@ use Rattle.demonstration.specs.declared.leading.Leg.{Leg}
 use Rattle.demonstration.proofs.DemonstratedTrees.{no_root}
 use Rattle.demonstration.proofs.GoodOrder.{own_of_good}
 use Rattle.demonstration.proofs.Movable.{PlansTell}
+
+-- by the rule that names stay, the mapped plan of a walk is that plan
+abbrev pub WalksStay : Type 0
+WalksStay = (v : View) (a : Side) (mapped : List Planned) → IsWalkOf v a → IsMappedPlan Same a.items mapped → mapped ≡ a.items
 
 -- an item that the plan has opens, and as a directory where it is one
 some_opens : (o : Opened) (kind : NodeKind) → node_of o ≡ Some kind → o ≢ NoItem
@@ -43,9 +52,9 @@ made_directory : (kind : NodeKind) (item : NewItem) → IsMadeFor kind item → 
 made_directory node.Dir item is same = refl
 made_directory node.File item is same = let never : NewFile is.0 ≡ NewDirectory = sym is.1 ∙ same in cc never
 
-module _ (one : HaveOneAnswer) (plans : PlansTell) (leg : Leg) (seed count : ℕ) (a : Told) (can : CanCarry leg seed count (seen a.state)) where
+module _ (one : HaveOneAnswer) (plans : PlansTell) (walks : WalksStay) (leg : Leg) (seed count : ℕ) (a : Told) (can : CanCarry leg seed count (seen a.state)) where
   lacks_place : (source target : Vault) → IsVault (under (source_of leg) (seen a.state)) phrase source → IsVault (under (target_of leg) (seen a.state)) phrase target → (s s' : Option ByteStream) (t t' : Option Told)
-      → (x : OneOfSourceShares (opened_in (source_of leg) source) (opened_in (target_of leg) target) s s' t t' (seen a.state))
+      → (x : OneOfSourceShares Same (opened_in (source_of leg) source) (opened_in (target_of leg) target) s s' t t' (seen a.state))
       → (number : ℕ) × (number < count) × LacksOwnPlace number (under (target_of leg) x.shares.moment) x.shares.drawn
   lacks_place source target opens_source opens_target s s' t t' x = (
     found.0,
@@ -72,6 +81,9 @@ module _ (one : HaveOneAnswer) (plans : PlansTell) (leg : Leg) (seed count : ℕ
       shares : moving.SharesPlace (opened_in (target_of leg) target) x.shares.item x.shares.drawn x.shares.moment
       shares = x.shares.shares
 
+      side : Side
+      side = record { vault = source; root = source_of leg; items = x.items_are.own }
+
       items_tree : Tree
       items_tree = tree (format_of source) (under (source_of leg) (seen a.state))
 
@@ -80,13 +92,13 @@ module _ (one : HaveOneAnswer) (plans : PlansTell) (leg : Leg) (seed count : ℕ
           (same_vault one (under (source_of leg) (seen a.state)) can.source.items.vault source can.source.items.opens opens_source) can.source.items.items
 
       plan : IsPlanOf (tree (format_of source) (under (source_of leg) (seen a.state))) x.items
-      plan = plans (seen a.state) (record { vault = source; root = source_of leg; items = x.items }) x.items_are
+      plan = subst (IsPlanOf items_tree) (sym (walks (seen a.state) side x.items x.items_are.are x.items_are.same)) (plans (seen a.state) side x.items_are.are)
 
       found : (number : ℕ) × (number < count) × (x.shares.item.path ≡ path_of number)
       found = number_at seed count (tree (format_of source) (under (source_of leg) (seen a.state))) items x.shares.item.path
           (λ root. no_root shares.front shares.name (sym shares.is ∙ root)) (some_opens (tree (format_of source) (under (source_of leg) (seen a.state)) x.shares.item.path) x.shares.item.node (plan.nodes x.shares.item x.shares.among))
 
-  one_shares : (b : Told) (s s' : Option ByteStream) → SharesInTree (source_of leg) (target_of leg) phrase phrase s s' (Some a) (Some b) → SharesPlace (target_of leg) (Some a) (Some b) s s' count
+  one_shares : (b : Told) (s s' : Option ByteStream) → SharesInTree Same (source_of leg) (target_of leg) phrase phrase s s' (Some a) (Some b) → SharesPlace (target_of leg) (Some a) (Some b) s s' count
   one_shares b s s' shares =
       let lacks = lacks_place shares.source shares.target (shares.opens_source (seen a.state) refl) (shares.opens_target (seen a.state) refl) s s' (Some a) (Some b) x in
       let was = x.shares.seen in
@@ -108,7 +120,7 @@ module _ (one : HaveOneAnswer) (plans : PlansTell) (leg : Leg) (seed count : ℕ
       source_is : can.source.items.vault ≡ shares.source
       source_is = same_vault one (under (source_of leg) (seen a.state)) can.source.items.vault shares.source can.source.items.opens (shares.opens_source (seen a.state) refl)
 
-      x : OneOfSourceShares (opened_in (source_of leg) shares.source) (opened_in (target_of leg) shares.target) s s' (Some a) (Some b) (seen a.state)
+      x : OneOfSourceShares Same (opened_in (source_of leg) shares.source) (opened_in (target_of leg) shares.target) s s' (Some a) (Some b) (seen a.state)
       x = shares.shares (seen a.state) refl
           (record {
             source = subst (λ v. HasOwnFolders v (under (source_of leg) (seen a.state))) source_is (own_of_good can.source.items.vault (source_of leg) (seen a.state) can.source.good);
@@ -116,8 +128,8 @@ module _ (one : HaveOneAnswer) (plans : PlansTell) (leg : Leg) (seed count : ℕ
           })
           (subst (λ v. IsTidy (format_of v) (under (target_of leg) (seen a.state))) target_is can.tidy)
 
-pub leg_shares : HaveOneAnswer → PlansTell → (leg : Leg) (count : ℕ) (s s' : Option ByteStream) (t t' : Option Told) → GoesOn t t' → SharesInTree (source_of leg) (target_of leg) phrase phrase s s' t t' → Sees (CanCarry leg) count t
+pub leg_shares : HaveOneAnswer → PlansTell → WalksStay → (leg : Leg) (count : ℕ) (s s' : Option ByteStream) (t t' : Option Told) → GoesOn t t' → SharesInTree Same (source_of leg) (target_of leg) phrase phrase s s' t t' → Sees (CanCarry leg) count t
     → SharesPlace (target_of leg) t t' s s' count
-leg_shares one plans leg count s s' (Some a) (Some b) goes shares sees = one_shares one plans leg sees.seed count a (subst (CanCarry leg sees.seed count) sees.seen sees.shown) b s s' shares
-leg_shares one plans leg count s s' None t' goes shares sees = absurd sees.seen
-leg_shares one plans leg count s s' (Some a) None goes shares sees = absurd goes
+leg_shares one plans walks leg count s s' (Some a) (Some b) goes shares sees = one_shares one plans walks leg sees.seed count a (subst (CanCarry leg sees.seed count) sees.seen sees.shown) b s s' shares
+leg_shares one plans walks leg count s s' None t' goes shares sees = absurd sees.seen
+leg_shares one plans walks leg count s s' (Some a) None goes shares sees = absurd goes

@@ -18,10 +18,11 @@ use Rattle.folder_spec.specs.State.{IsSound, State}
 use Rattle.folder_spec.specs.View.{Folder, NoEntry, View}
 use Rattle.folder_spec.proofs.Moments.{went_to}
 use Rattle.folder_spec.proofs.Regions.{seen_as_before}
-use Rattle.migrate_core.specs.Moved.{HasMoved, IsTidyWork, MovesTree, TellsItems, opened_in}
+use Rattle.migrate_core.specs.Moved.{HasMoved, HaveMappedTree, IsTidyWork, MovesTree, TellsItems}
 use Rattle.migrate_core.specs.Sides.{AreTold}
 use Rattle.migrate_core.specs.Moving.{MovesOnly, OnlyBrings}
 use Rattle.migrate_core.specs.declared.placing.Done.{Done}
+use Rattle.migration_sides.specs.Sides.{opened_in}
 use Rattle.plain_tree.specs.Names as plain
 use Rattle.plain_tree.specs.declared.name_map.NameMap.TheVariants.{Same}
 use Rattle.vault_read.specs.Laws.{HasOwnFolders, HaveOneAnswer}
@@ -38,7 +39,7 @@ use Rattle.demonstration.specs.DemoSteps.{CanCarry, CanLead, HasCarried, HoldsWe
 use Rattle.demonstration.specs.DemoTrees.{IsMoved, IsNewAt, IsWithin, Leaves, LeavesSource, first_root, kind_to, moving_folder, second_root, source_of, target_of, third_root}
 use Rattle.demonstration.specs.declared.leading.Leg.{Leg}
 use Rattle.demonstration.specs.declared.leading.Leg.TheVariants.{There, Back}
-use Rattle.demonstration.proofs.DemonstratedTrees.{AreAlike, items_alike, region_stays}
+use Rattle.demonstration.proofs.DemonstratedTrees.{AreAlike, TreesStay, items_alike, region_stays}
 use Rattle.demonstration.proofs.GoodOrder.{IsNewWell, first_well, new_well, own_of_good, well_alike}
 use Rattle.demonstration.proofs.Legs.{apart_making, apart_moving, within}
 
@@ -210,10 +211,10 @@ third_moving : (leg : Leg) → leg ≡ There → in_moving leg third_root
 third_moving There is = refl
 third_moving Back is = cc is
 
-carried : AreAlike → HaveOneAnswer → HaveSoMany → PlansAreTrees → (leg : Leg) (seed count : ℕ) (done : Done) (a b : Told) → IsSound a.state → count ≤ 2000 → CanCarry leg seed count (seen a.state)
+carried : AreAlike → HaveOneAnswer → TreesStay → HaveSoMany → PlansAreTrees → (leg : Leg) (seed count : ℕ) (done : Done) (a b : Told) → IsSound a.state → count ≤ 2000 → CanCarry leg seed count (seen a.state)
     → (moves : MovesTree Same (source_of leg) (target_of leg) moving_folder phrase phrase done (Some a) (Some b)) → MovesOnly moving_folder (target_of leg) (Some a) (Some b) → IsTidyWork moving_folder (seen b.state)
     → HasCarried leg seed count (seen b.state)
-carried alike one so_many plans leg seed count done a b sound few can moves only tidy = record {
+carried alike one stay so_many plans leg seed count done a b sound few can moves only tidy = record {
   beside = beside_alike leg (seen a.state) (seen b.state) (at [] (base_moving leg) ∙ can.beside.base) (stays making_folder (within making_folder region (making_moving leg)))
       (λ is. at third_root (third_moving leg is)) can.beside;
   source = source_well;
@@ -222,9 +223,7 @@ carried alike one so_many plans leg seed count done a b sound few can moves only
   all = count_is;
   says = moved.says;
   tells = subst (λ x. TellsItems (opened_in from x) moved.says.journal (seen b.state)) (sym still_is) moved.tells;
-  trees = λ own own_to path proper.
-      moved.trees (subst (λ x. HasOwnFolders x (under from (seen b.state))) still_is own) own_to path proper
-      ∙ ap (λ x. tree (format_of x) (under from (seen b.state)) path) (sym still_is);
+  trees = subst (λ x. HaveMappedTree Same (opened_in from x) (opened_in to moves.target) (seen b.state)) (sym still_is) moved.trees;
   tidy = tidy;
 }
   where
@@ -281,7 +280,10 @@ carried alike one so_many plans leg seed count done a b sound few can moves only
         is = subst (λ x. kind_of x ≡ kind_to leg) target_is can.target.items.is;
         opens = moves.opens_still (seen b.state) refl;
         items = items_alike seed count (tree (format_of moves.source) (under from (seen b.state))) (tree (format_of moves.target) (under to (seen b.state)))
-            (λ path proper. moved.trees own_after (own_of_good moves.target to (seen b.state) good) path proper) source_items;
+            (λ path proper.
+            (stay (tree (format_of moves.source) (under from (seen b.state))) (tree (format_of moves.target) (under to (seen b.state)))).0
+            (moved.trees own_after (own_of_good moves.target to (seen b.state) good)) path)
+            source_items;
       };
       good = good;
     }
@@ -296,17 +298,17 @@ carried alike one so_many plans leg seed count done a b sound few can moves only
         (plans moves.source (under from (seen b.state)) told.1.plan told.1.is) in
         sym moved.says.items ∙ told.2.1 ∙ lengths ∙ sym (length-map told.1.plan (λ (item : Planned). item.path)) ∙ paths
 
-pub is_carried : AreAlike → HaveOneAnswer → HaveSoMany → PlansAreTrees → (leg : Leg) (count : ℕ) (t u : Option Told) → ((a : Told) → t ≡ Some a → IsSound a.state) → IsMoved (source_of leg) (target_of leg) t u
+pub is_carried : AreAlike → HaveOneAnswer → TreesStay → HaveSoMany → PlansAreTrees → (leg : Leg) (count : ℕ) (t u : Option Told) → ((a : Told) → t ≡ Some a → IsSound a.state) → IsMoved (source_of leg) (target_of leg) t u
     → IfSeen u (λ v. IsTidyWork moving_folder v) → Sees (CanCarry leg) count t → Sees (HasCarried leg) count u
-is_carried alike one so_many plans leg count (Some a) (Some b) sound moved tidy sees = record {
+is_carried alike one stay so_many plans leg count (Some a) (Some b) sound moved tidy sees = record {
   few = sees.few;
   seed = sees.seed;
   view = seen b.state;
   seen = refl;
-  shown = carried alike one so_many plans leg sees.seed count moved.0 a b (sound a refl) sees.few (subst (CanCarry leg sees.seed count) sees.seen sees.shown) moved.1 moved.2 (tidy (seen b.state) refl);
+  shown = carried alike one stay so_many plans leg sees.seed count moved.0 a b (sound a refl) sees.few (subst (CanCarry leg sees.seed count) sees.seen sees.shown) moved.1 moved.2 (tidy (seen b.state) refl);
 }
-is_carried alike one so_many plans leg count None u sound moved tidy sees = absurd sees.seen
-is_carried alike one so_many plans leg count (Some a) None sound moved tidy sees = absurd moved.2
+is_carried alike one stay so_many plans leg count None u sound moved tidy sees = absurd sees.seen
+is_carried alike one stay so_many plans leg count (Some a) None sound moved tidy sees = absurd moved.2
 
 -- ---- its source is retired
 

@@ -6,7 +6,8 @@ use Rattle.folder_spec.specs.Event.{Told}
 use Rattle.folder_spec.specs.Path.{Path}
 use Rattle.folder_spec.specs.Seen.{IsSeen, under}
 use Rattle.folder_spec.specs.View.{Folder, NoEntry, View}
-use Rattle.migrate_core.specs.Moved.{HaveOneTree, IsTidyWork, SaysDone, TellsItems, opened_in}
+use Rattle.migrate_core.specs.Moved.{HaveMappedTree, IsTidyWork, SaysDone, TellsItems}
+use Rattle.migration_sides.specs.Sides.{opened_in}
 use Rattle.vault_read.specs.declared.vault.VaultKind.{VaultKind}
 use Rattle.vault_read.specs.declared.vault.VaultKind.TheVariants as kind
 use Rattle.vault_spec.specs.Tidy.{IsTidy}
@@ -55,7 +56,7 @@ pub record HasCarried (leg : Leg) (seed count : ℕ) (v : View) : Type 0 where
   pub all : moved ≡ count
   pub says : SaysDone Same (source_of leg) (target_of leg) moving_folder moved v
   pub tells : TellsItems (opened_in (source_of leg) source.items.vault) says.journal v
-  pub trees : HaveOneTree (opened_in (source_of leg) source.items.vault) (opened_in (target_of leg) target.items.vault) v
+  pub trees : HaveMappedTree Same (opened_in (source_of leg) source.items.vault) (opened_in (target_of leg) target.items.vault) v
   pub tidy : IsTidyWork moving_folder v
 
 -- this is seen, of up to 2,000 items

@@ -27,16 +27,18 @@ use demo_core::laws::{
 use demo_core::{MakeFault, PASSPHRASE, make_vault, place};
 use folder_model::{FPath, Folder};
 use folder_spec::laws::roots_show_their_own;
+use mapped_trees::laws::trees_stay_by_same;
 use migrate_core::MoveFault;
 use migrate_core::laws::small_contents_pass_no_limit;
+use migration_sides::Side;
 use move_journal::laws::journals_are_read_back;
 use moving_answers::{answer_to_move, answer_to_retire};
+use plain_tree::NameMap;
 use port_model::laws::draws_compose;
 use port_model::{Randoms, Sink};
 use retire_core::RetireFault;
 use std::alloc::{AllocError, Global};
-use tree_match::Side;
-use tree_match::laws::walks_tell_the_tree;
+use tree_match::laws::{plans_stay_by_same, walks_tell_the_tree, what_is_held_opens_the_same};
 use vault_read::VaultKind;
 use vault_read::laws::roots_have_one_answer;
 use vault_spec::laws::{clean_vaults_are_shallow, plans_are_the_tree};
@@ -132,6 +134,7 @@ fn move_to<F: Folder, R: Randoms>(
     draws_compose();
     roots_have_one_answer();
     roots_show_their_own();
+    trees_stay_by_same();
     make_target(alloc, folder, leg, random)?;
     migrate(alloc, folder, leg, random)
 }
@@ -209,17 +212,28 @@ fn migrate<F: Folder, R: Randoms>(
     items_are_directories_or_short_files();
     names_of_items_are_allowed();
     plans_are_the_tree();
+    plans_stay_by_same();
     roots_have_one_answer();
     roots_show_their_own();
     small_contents_pass_no_limit();
     trees_have_so_many_items();
     trees_of_items_pass_no_limit();
+    trees_stay_by_same();
     walks_tell_the_tree();
+    what_is_held_opens_the_same();
     let source = leg.source(alloc)?;
     let target = leg.target(alloc)?;
     let work = place(alloc, "m")?;
     match migrate_core::begin(
-        alloc, folder, &source, &target, &work, PASSPHRASE, PASSPHRASE, random,
+        alloc,
+        folder,
+        &source,
+        &target,
+        &work,
+        NameMap::Same,
+        PASSPHRASE,
+        PASSPHRASE,
+        random,
     ) {
         Ok(_) => Ok(0),
         Err(fault) => status_of(&work, &source, &target, fault),
@@ -258,6 +272,7 @@ fn retire_source<F: Folder>(alloc: Global, folder: &mut F, leg: Leg) -> Result<u
     roots_show_their_own();
     small_contents_pass_no_limit();
     trees_of_items_pass_no_limit();
+    trees_stay_by_same();
     walks_tell_the_tree();
     let work = place(alloc, "m")?;
     let source = leg.source(alloc)?;

@@ -8,8 +8,19 @@ use Rattle.content_writing.specs.declared.fault.PutFault.{PutFault}
 use Rattle.content_writing.specs.declared.fault.PutFault.TheVariants as put
 use Rattle.port_model.specs.Counts.{CountRose}
 use Rattle.vault_write.specs.Faults.{IsFileFault}
-use Rattle.migrate_core.specs.Faults.{Blamed, is_of_begin, is_of_resume, of_folder, of_put}
+use Rattle.migration_sides.specs.Faults.{IsBlamed, IsStepFault}
+use Rattle.migration_sides.specs.declared.fault.Side.{Side}
+use Rattle.migration_sides.specs.declared.fault.StepFault.{StepFault}
+use Rattle.migration_sides.specs.declared.fault.StepFault.TheVariants as step
+use Rattle.tree_match.specs.declared.answer.MapFault.{MapFault}
+use Rattle.tree_match.specs.declared.answer.MapFault.TheVariants as map_
+use Rattle.vault_read.specs.declared.fault.LoadFault.{LoadFault}
+use Rattle.vault_read.specs.declared.fault.LoadFault.TheVariants as load
+use Rattle.vault_walk.specs.declared.fault.WalkFault.{WalkFault}
+use Rattle.vault_walk.specs.declared.fault.WalkFault.TheVariants as walk
+use Rattle.migrate_core.specs.Faults.{Blamed, IsMoveFault, is_of_begin, is_of_resume, of_folder, of_map, of_put, of_step}
 use Rattle.migrate_core.specs.declared.fault.MoveFault.{MoveFault}
+use Rattle.migrate_core.specs.declared.fault.MoveFault.TheVariants.{Load, Walk}
 
 -- since earlier counts
 pub blamed_since : (is_own is_more : MoveFault → Bool) → ((fault : MoveFault) → IsTrue (is_own fault) → IsTrue (is_more fault)) → (f f1 f2 r r1 r2 : ℕ) → f ≤ f1 → r ≤ r1 → (fault : MoveFault)
@@ -44,3 +55,59 @@ blamed_file put.NoMemory own none failed drawn = record { own = tt; may = refl; 
 pub blamed_later : {T : Type 0} (f f1 f2 r r1 r2 : ℕ) (result : Result T MoveFault) → f ≤ f1 → r ≤ r1 → IfErr result (Blamed is_of_begin (CountRose f1 f2) (CountRose r1 r2)) → IfErr result (Blamed is_of_resume (CountRose f f2) (CountRose r r2))
 blamed_later f f1 f2 r r1 r2 (Ok value) folder random b = tt
 blamed_later f f1 f2 r r1 r2 (Err fault) folder random b = blamed_since is_of_begin is_of_resume (λ why begins. refl) f f1 f2 r r1 r2 folder random fault b
+
+-- ---- a step that the commands share
+
+of_load : (side : Side) (fault : LoadFault) → IsStepFault (step.Load side fault) → IsMoveFault (Load side fault)
+of_load side (load.Missing at) own = tt
+of_load side (load.WrongKind at) own = tt
+of_load side (load.TooLarge at) own = tt
+of_load side (load.Go why) own = tt
+of_load side (load.Cm at why) own = tt
+of_load side load.WrongPass own = tt
+of_load side load.BadSignature own = tt
+of_load side load.Failed own = own
+of_load side load.NoMemory own = own
+
+of_walk : (fault : WalkFault) → IsStepFault (step.Walk fault) → IsMoveFault (Walk fault)
+of_walk (walk.NotClean finding) own = tt
+of_walk (walk.Limit which) own = tt
+of_walk walk.Failed own = own
+of_walk walk.NoMemory own = own
+
+-- each of its faults may be told by the call
+abbrev pub TellsSteps : (MoveFault → Bool) → Type 0
+TellsSteps is_own = (fault : StepFault) → IsTrue (is_own (of_step fault))
+
+pub blamed_by : {F G R : Type 0} (is_own : MoveFault → Bool) → TellsSteps is_own → (F → G) → (fault : StepFault) → IsBlamed F fault → Blamed is_own G R (of_step fault)
+blamed_by is_own tells more (step.Overlap p q) b = record { own = tt; may = tells (step.Overlap p q); failed = λ is. cc is; drawn = λ is. cc is }
+blamed_by is_own tells more (step.Load side why) b = record { own = of_load side why b.own; may = tells (step.Load side why); failed = λ is. cc is; drawn = λ is. cc is }
+blamed_by is_own tells more (step.Walk why) b = record { own = of_walk why b.own; may = tells (step.Walk why); failed = λ is. cc is; drawn = λ is. cc is }
+blamed_by is_own tells more step.Failed b = record { own = tt; may = tells step.Failed; failed = λ is. more (b.failed refl); drawn = λ is. cc is }
+blamed_by is_own tells more step.NoMemory b = record { own = tt; may = tells step.NoMemory; failed = λ is. cc is; drawn = λ is. cc is }
+
+begin_tells : TellsSteps is_of_begin
+begin_tells (step.Overlap p q) = refl
+begin_tells (step.Load side why) = refl
+begin_tells (step.Walk why) = refl
+begin_tells step.Failed = refl
+begin_tells step.NoMemory = refl
+
+-- since an earlier count
+pub step_begins : {R : Type 0} (f f1 f2 : ℕ) (fault : StepFault) → f ≤ f1 → IsBlamed (CountRose f1 f2) fault → Blamed is_of_begin (CountRose f f2) R (of_step fault)
+step_begins f f1 f2 fault before = blamed_by is_of_begin begin_tells (rose_since f f1 f2 before) fault
+
+pub step_resumes : {R : Type 0} (f f1 f2 : ℕ) (fault : StepFault) → f ≤ f1 → IsBlamed (CountRose f1 f2) fault → Blamed is_of_resume (CountRose f f2) R (of_step fault)
+step_resumes f f1 f2 fault before = blamed_by is_of_resume (λ why. refl) (rose_since f f1 f2 before) fault
+
+-- the folders' names alone
+pub apart_begins : {F R : Type 0} (fault : StepFault) → IsBlamed ⊥ fault → Blamed is_of_begin F R (of_step fault)
+apart_begins fault = blamed_by is_of_begin begin_tells (λ none. absurd none) fault
+
+pub apart_resumes : {F R : Type 0} (fault : StepFault) → IsBlamed ⊥ fault → Blamed is_of_resume F R (of_step fault)
+apart_resumes fault = blamed_by is_of_resume (λ why. refl) (λ none. absurd none) fault
+
+pub map_begins : {F R : Type 0} (fault : MapFault) → Blamed is_of_begin F R (of_map fault)
+map_begins (map_.NotAName path) = record { own = tt; may = refl; failed = λ is. cc is; drawn = λ is. cc is }
+map_begins (map_.Meet one other) = record { own = tt; may = refl; failed = λ is. cc is; drawn = λ is. cc is }
+map_begins map_.NoMemory = record { own = tt; may = refl; failed = λ is. cc is; drawn = λ is. cc is }

@@ -1,96 +1,74 @@
 -- The first test that fails is the answer: parts of a chain of tests, and what a call tells of each.
-use Rattle.std.proofs.Common.{◌≡◌, ◌⊎◌, inl, inr, List, [], ◌∷◌, ℕ, length, get_or, zero, suc, ◌<◌, arith, true, is_some, Option, Result, Ok, Err, refl, sym, ap, ◌∙◌, subst, IfErr, subst₂}
-use Rattle.std.proofs.lemmas.Bool.{false≢true}
+use Rattle.std.proofs.Common.{◌≡◌, ◌⊎◌, inl, inr, List, [], ◌∷◌, ℕ, length, get_or, zero, suc, ◌<◌, arith, Option, Result, Ok, Err, refl, sym, ap, subst, IfErr}
 use Rattle.folder_spec.specs.declared.FolderFault.{FolderFault}
 use Rattle.folder_spec.specs.declared.FolderFault.TheVariants as folder
-use Rattle.tree_match.specs.Guard.{AreApart}
-use Rattle.tree_match.specs.declared.answer.Side.TheVariants as side
-use Rattle.folder_spec.specs.Path.{Path, below}
-use Rattle.folder_spec.specs.Seen.{under}
 use Rattle.folder_spec.specs.View.{View}
 use Rattle.move_journal.specs.Reading.{ReadsAs}
 use Rattle.move_journal.specs.declared.journal.Journal.{Journal}
 use Rattle.move_journal.specs.declared.journal.JournalFault.{JournalFault}
 use Rattle.move_journal.specs.declared.journal.JournalFault.TheVariants as journal
-use Rattle.tree_match.specs.Comparing.{Outcome, Answers}
-use Rattle.tree_match.specs.declared.answer.Match.{Match}
 use Rattle.plain_tree.specs.Names as plain
+use Rattle.plain_tree.specs.declared.name_map.NameMap.{NameMap}
+use Rattle.migration_sides.proofs.Chains as chains
+use Rattle.migration_sides.specs.Tests.{Then, nothing_follows, own}
+use Rattle.tree_match.specs.Comparing.{Outcome, Answers}
+use Rattle.tree_match.specs.Mapping.{MapsTo}
+use Rattle.tree_match.specs.Trees.{Compares}
+use Rattle.tree_match.specs.declared.answer.Match.{Match}
 use Rattle.tree_match.specs.declared.answer.Match.TheVariants.{Same, Contained}
 use Rattle.tree_match.specs.declared.answer.MatchFault.{MatchFault}
 use Rattle.tree_match.specs.declared.answer.MatchFault.TheVariants as match
-use Rattle.tree_match.specs.declared.answer.Side.{Side}
-use Rattle.vault_read.specs.Loading as loading
 use Rattle.vault_spec.specs.Opened.{OpenedVault}
 use Rattle.vault_faults.specs.declared.fault.Limit.TheVariants as limit
-use Rattle.vault_read.specs.declared.fault.LoadFault.{LoadFault}
-use Rattle.vault_read.specs.declared.fault.LoadFault.TheVariants as load
+use Rattle.vault_spec.specs.Format.{Format}
 use Rattle.vault_spec.specs.Plan.{Planned}
-use Rattle.vault_spec.specs.Vault.{Vault, LoadRefusal, Loads, format_of}
-use Rattle.vault_spec.specs.Vault as vault
-use Rattle.vault_walk.specs.Survey.{HasTooMany}
-use Rattle.vault_walk.specs.Surveyed.{IsFirstFinding, IsOnlyTooDeep, IsWalkFault, IsWithin}
-use Rattle.vault_walk.specs.declared.fault.Finding.{Finding}
-use Rattle.vault_walk.specs.declared.fault.WalkFault.{WalkFault}
-use Rattle.vault_walk.specs.declared.fault.WalkFault.TheVariants as walk
+use Rattle.vault_spec.specs.Vault.{format_of}
+use Rattle.vault_walk.specs.declared.plan.Plan.{Plan}
 use Rattle.work_folder.specs.Looking as work
 use Rattle.work_folder.specs.Looking.{Gives}
 use Rattle.work_folder.specs.declared.fault.WorkFault.{WorkFault}
 use Rattle.work_folder.specs.declared.fault.WorkFault.TheVariants as works
-use Rattle.migrate_core.specs.Causes.{Answer, Compares, ForbidsLast, IsOfMoving, IsStop, Moves, Opens, StopsAt, StopsMatch, RefusesBoth, RefusesLoad, RefusesWalk, RefusesWalks, TestsHeld, TestsItems, TestsMatch, TestsNames, TestsTold, Then, Unless, Walks, WalksBoth, nothing_follows, nothing_stops, of_refusal, own}
+use Rattle.migrate_core.specs.Causes.{Answer, ForbidsMappedLast, IsOfMoving, IsStop, Moves, Refuses, StopsAt, StopsMatch, TestsHeld, TestsItems, TestsMapped, TestsMatch, TestsNames, TestsTold, Unless, nothing_stops}
 use Rattle.migrate_core.specs.Copying.{HaveOwnFolders}
-use Rattle.migrate_core.specs.Faults.{of_folder, of_journal, of_load, of_match, of_put, of_walk, of_work}
-use Rattle.vault_spec.specs.Format.{Format}
-use Rattle.migrate_core.specs.Moved.{opened_in}
-use Rattle.migrate_core.specs.Sides.{AllowsEach, AllowsLast}
+use Rattle.migrate_core.specs.Faults.{of_folder, of_journal, of_map, of_match, of_put, of_work}
+use Rattle.migrate_core.specs.Sides.{AllowsEachMapped, AllowsMappedLast}
 use Rattle.content_writing.specs.declared.fault.PutFault.{PutFault}
 use Rattle.content_writing.specs.declared.fault.PutFault.TheVariants as put
 use Rattle.migrate_core.specs.declared.fault.MoveFault.TheVariants as moves
 use Rattle.migrate_core.specs.declared.fault.MoveFault.{MoveFault}
 use Rattle.migrate_core.specs.declared.fault.MoveFault.TheVariants.{Failed, NoMemory, NotAllowed}
 
--- ---- parts of a chain
+-- ---- parts of a chain, by the faults of a migration
 
 pub unless_more : {X : Type 0} (answer : Answer X) (P Q : Type 0) → (P → Q) → Unless answer P → Unless answer Q
-unless_more answer P Q more (inl failed) = inl failed
-unless_more answer P Q more (inr (inl none)) = inr (inl none)
-unless_more answer P Q more (inr (inr p)) = inr (inr (more p))
+unless_more answer P Q more = chains.unless_more Failed NoMemory answer P Q more
+
+pub passed_is : {X : Type 0} (x : X) (P : Type 0) → Unless (Ok x) P → P
+passed_is x P = chains.passed_is Failed NoMemory x P
 
 pub then_passes : {X Y F : Type 0} (told : F → MoveFault) (test : Result X F → Type 0) (next : X → Answer Y → Type 0) (answer : Answer Y) (x : X) → test (Ok x)
     → Unless answer (next x answer) → Unless answer (Then told test next answer)
-then_passes told test next answer x passed = unless_more answer (next x answer) (Then told test next answer) (λ n. (Ok x, passed, n))
-
-abbrev failing : (Y : Type 0) → MoveFault → Answer Y
-failing Y fault = Err fault
-
-err_is : {Y Z : Type 0} (fault why : MoveFault) → failing Y fault ≡ Err why → failing Z fault ≡ Err why
-err_is fault why e = cc e
+then_passes told test next answer x passed = chains.then_passes Failed NoMemory told test next answer x passed
 
 pub then_more : {X Y Z F : Type 0} (told : F → MoveFault) (test : Result X F → Type 0) (next : X → Answer Y → Type 0) (next' : X → Answer Z → Type 0) (fault : MoveFault)
     → ((x : X) → next x (Err fault) → next' x (Err fault)) → Then told test next (Err fault) → Then told test next' (Err fault)
-then_more told test next next' fault more (Ok x, passed, n) = (Ok x, passed, more x n)
-then_more told test next next' fault more (Err why, refused, is) = (Err why, refused, err_is fault (told why) is)
-
-unless_err : {Y Z : Type 0} (fault : MoveFault) (P Q : Type 0) → (P → Q) → Unless {X = Y} (Err fault) P → Unless {X = Z} (Err fault) Q
-unless_err fault P Q more (inl failed) = inl (err_is fault Failed failed)
-unless_err fault P Q more (inr (inl none)) = inr (inl (err_is fault NoMemory none))
-unless_err fault P Q more (inr (inr p)) = inr (inr (more p))
+then_more told test next next' fault more = chains.then_more Failed NoMemory told test next next' fault more
 
 -- what a part refuses, the chain refuses
 pub part_refused : {X Y Z F : Type 0} (told : F → MoveFault) (test : Result X F → Type 0) (next : X → Answer Y → Type 0) (next' : X → Answer Z → Type 0) (fault : MoveFault)
     → ((x : X) → next x (Err fault) → next' x (Err fault)) → Unless {X = Y} (Err fault) (Then told test next (Err fault)) → Unless {X = Z} (Err fault) (Then told test next' (Err fault))
-part_refused told test next next' fault more = unless_err fault (Then told test next (Err fault)) (Then told test next' (Err fault)) (then_more told test next next' fault more)
+part_refused told test next next' fault more = chains.part_refused Failed NoMemory told test next next' fault more
 
 -- a test of the chain's own
 pub own_refused : {X Z : Type 0} (test : Answer X → Type 0) (next : X → Answer Z → Type 0) (fault : MoveFault) → Unless {X = X} (Err fault) (test (Err fault)) → Unless {X = Z} (Err fault) (Then own test next (Err fault))
-own_refused test next fault = unless_err fault (test (Err fault)) (Then own test next (Err fault)) (λ t. (Err fault, t, refl))
-
-passed_is : {X : Type 0} (x : X) (P : Type 0) → Unless (Ok x) P → P
-passed_is x P (inl e) = cc e
-passed_is x P (inr (inl e)) = cc e
-passed_is x P (inr (inr p)) = p
+own_refused test next fault = chains.own_refused Failed NoMemory test next fault
 
 pub own_passes : {X Y : Type 0} (test : Answer X → Type 0) (next : X → Answer Y → Type 0) (answer : Answer Y) (x : X) → Unless (Ok x) (test (Ok x)) → Unless answer (next x answer) → Unless answer (Then own test next answer)
-own_passes test next answer x passed = then_passes own test next answer x (passed_is x (test (Ok x)) passed)
+own_passes test next answer x passed = chains.own_passes Failed NoMemory test next answer x passed
+
+-- what holds of the fault that a call gave holds of the answer
+pub refused_as : {Y : Type 0} (P : Answer Y → Type 0) (answer : Answer Y) (fault why : MoveFault) → answer ≡ Err fault → fault ≡ why → P (Err why) → P answer
+refused_as P answer fault why is same h = chains.refused_as P answer fault why is same h
 
 -- ---- the work folder, and the journal
 
@@ -110,35 +88,6 @@ journal_refused file next journal.TooLarge h = inr (inr (Err journal.TooLarge, h
 journal_refused file next journal.Failed h = inl refl
 journal_refused file next journal.NoMemory h = inr (inl refl)
 
--- ---- the vaults
-
-pub load_refused : (side : Side) (root : Path) (v : View) (pass : List ℕ) (why : LoadFault) → loading.Refuses root (Loads (under root v) pass) why → RefusesLoad side v root pass (of_load side why)
-load_refused side root v pass (load.Missing at) (rest, is, h) = inr (inr (Err (vault.Missing rest), h, ap (λ (p : Path). Err (of_load side (load.Missing p))) is))
-load_refused side root v pass (load.WrongKind at) (rest, is, h) = inr (inr (Err (vault.WrongKind rest), h, ap (λ (p : Path). Err (of_load side (load.WrongKind p))) is))
-load_refused side root v pass (load.TooLarge at) (rest, is, h) = inr (inr (Err (vault.TooLarge rest), h, ap (λ (p : Path). Err (of_load side (load.TooLarge p))) is))
-load_refused side root v pass (load.Go fault) h = inr (inr (Err (vault.GoRefused fault), h, refl))
-load_refused side root v pass (load.Cm at fault) (rest, is, h) = inr (inr (Err (vault.CmRefused rest fault), h, ap (λ (p : Path). Err (of_load side (load.Cm p fault))) is))
-load_refused side root v pass load.WrongPass h = inr (inr (Err vault.WrongPass, h, refl))
-load_refused side root v pass load.BadSignature h = inr (inr (Err vault.BadSignature, h, refl))
-load_refused side root v pass load.Failed h = inl refl
-load_refused side root v pass load.NoMemory h = inr (inl refl)
-
--- what a walk answers
-pub record WalkTells (a : OpenedVault) (v : View) (why : WalkFault) : Type 0 where
-  pub not_clean : (finding : Finding) → why ≡ walk.NotClean finding → IsFirstFinding a.root (format_of a.vault) (under a.root v) finding
-  pub items : why ≡ walk.Limit limit.Items → HasTooMany (format_of a.vault) (under a.root v)
-  pub depth : why ≡ walk.Limit limit.Depth → IsOnlyTooDeep (format_of a.vault) (under a.root v)
-  pub limits_first : (finding : Finding) → why ≡ walk.NotClean finding → IsWithin (format_of a.vault) (under a.root v)
-
-pub walk_refused : (a : OpenedVault) (v : View) (why : WalkFault) → IsWalkFault why → WalkTells a v why → RefusesWalk a v (of_walk why)
-walk_refused a v (walk.NotClean finding) can tells = inr (inr (Err (walk.NotClean finding), (tells.limits_first finding refl, tells.not_clean finding refl), refl))
-walk_refused a v (walk.Limit limit.Items) can tells = inr (inr (Err (walk.Limit limit.Items), tells.items refl, refl))
-walk_refused a v (walk.Limit limit.Depth) can tells = inr (inr (Err (walk.Limit limit.Depth), tells.depth refl, refl))
-walk_refused a v (walk.Limit (limit.Length at)) can tells = absurd can
-walk_refused a v (walk.Limit limit.Input) can tells = absurd can
-walk_refused a v walk.Failed can tells = inl refl
-walk_refused a v walk.NoMemory can tells = inr (inl refl)
-
 -- ---- comparing
 
 pub match_refused : {Y : Type 0} (outcome : Outcome Match) (next : Match → Answer Y → Type 0) (why : MatchFault) → Answers outcome (Err why) → Unless {X = Y} (Err (of_match why)) (Then of_match (Answers outcome) next (Err (of_match why)))
@@ -149,59 +98,10 @@ match_refused outcome next match.NoMemory h = inr (inl refl)
 
 -- ---- at an exit
 
--- what holds of the fault that a call gave holds of the answer
-pub refused_as : {Y : Type 0} (P : Answer Y → Type 0) (answer : Answer Y) (fault why : MoveFault) → answer ≡ Err fault → fault ≡ why → P (Err why) → P answer
-refused_as P answer fault why is same h = subst P (sym (is ∙ ap Err same)) h
-
 pub folder_unless : {Y : Type 0} (P : Type 0) (fault : FolderFault) → Unless {X = Y} (Err (of_folder fault)) P
 folder_unless P folder.Failed = inl refl
 folder_unless P folder.Refused = inl refl
 folder_unless P folder.NoMemory = inr (inl refl)
-
--- ---- both vaults
-
-abbrev pub Next : Type 0 → Type 0 → Type 1
-Next X Y = X → X → Answer Y → Type 0
-
-pub opens_refused : {Z : Type 0} (v : View) (from to : Path) (from_pass to_pass : List ℕ) (next : Next OpenedVault Z) (fault : MoveFault) → RefusesBoth v from to from_pass to_pass fault
-    → Unless {X = Z} (Err fault) (Opens v from to from_pass to_pass next (Err fault))
-opens_refused v from to from_pass to_pass next fault =
-    part_refused (of_refusal side.Source from) (Loads (under from v) from_pass) (λ source. Then (of_refusal side.Target to) (Loads (under to v) to_pass) nothing_follows)
-    (λ source. Then (of_refusal side.Target to) (Loads (under to v) to_pass) (λ target. next (opened_in from source) (opened_in to target))) fault
-    (λ source. then_more (of_refusal side.Target to) (Loads (under to v) to_pass) nothing_follows (λ target. next (opened_in from source) (opened_in to target)) fault (λ target n. absurd n))
-
-pub source_refused : (v : View) (from to : Path) (from_pass to_pass : List ℕ) (fault : MoveFault) → RefusesLoad side.Source v from from_pass fault → RefusesBoth v from to from_pass to_pass fault
-source_refused v from to from_pass to_pass fault =
-    part_refused (of_refusal side.Source from) (Loads (under from v) from_pass) nothing_follows
-    (λ source. Then (of_refusal side.Target to) (Loads (under to v) to_pass) nothing_follows) fault (λ source n. absurd n)
-
-pub target_refused : (v : View) (from to : Path) (from_pass to_pass : List ℕ) (source : Vault) (fault : MoveFault) → Loads (under from v) from_pass (Ok source) → RefusesLoad side.Target v to to_pass fault
-    → RefusesBoth v from to from_pass to_pass fault
-target_refused v from to from_pass to_pass source fault opened =
-    then_passes (of_refusal side.Source from) (Loads (under from v) from_pass) (λ source. Then (of_refusal side.Target to) (Loads (under to v) to_pass) nothing_follows) (Err fault) source opened
-
-pub opens_pass : {Z : Type 0} (v : View) (from to : Path) (from_pass to_pass : List ℕ) (next : Next OpenedVault Z) (answer : Answer Z) (source target : OpenedVault) → source.root ≡ from → target.root ≡ to
-    → Loads (under from v) from_pass (Ok source.vault) → Loads (under to v) to_pass (Ok target.vault) → Unless answer (next source target answer) → Unless answer (Opens v from to from_pass to_pass next answer)
-opens_pass v from to from_pass to_pass next answer source target at_from at_to one other h =
-    then_passes (of_refusal side.Source from) (Loads (under from v) from_pass) (λ s. Then (of_refusal side.Target to) (Loads (under to v) to_pass) (λ t. next (opened_in from s) (opened_in to t))) answer source.vault one
-    (then_passes (of_refusal side.Target to) (Loads (under to v) to_pass) (λ t. next (opened_in from source.vault) (opened_in to t)) answer target.vault other
-    (subst₂ (λ (p q : Path). Unless answer (next (opened_in p source.vault) (opened_in q target.vault) answer)) at_from at_to h))
-
-pub walks_refused : {Z : Type 0} (from to : OpenedVault) (v : View) (next : Next (List Planned) Z) (fault : MoveFault) → RefusesWalks from to v fault → Unless {X = Z} (Err fault) (WalksBoth from to v next (Err fault))
-walks_refused from to v next fault =
-    part_refused of_walk (Walks from v) (λ items. Then of_walk (Walks to v) nothing_follows) (λ items. Then of_walk (Walks to v) (λ there. next items there)) fault
-    (λ items. then_more of_walk (Walks to v) nothing_follows (λ there. next items there) fault (λ there n. absurd n))
-
-pub first_refused : (from to : OpenedVault) (v : View) (fault : MoveFault) → RefusesWalk from v fault → RefusesWalks from to v fault
-first_refused from to v fault = part_refused of_walk (Walks from v) nothing_follows (λ items. Then of_walk (Walks to v) nothing_follows) fault (λ items n. absurd n)
-
-pub second_refused : (from to : OpenedVault) (v : View) (items : List Planned) (fault : MoveFault) → Walks from v (Ok items) → RefusesWalk to v fault → RefusesWalks from to v fault
-second_refused from to v items fault walked = then_passes of_walk (Walks from v) (λ items. Then of_walk (Walks to v) nothing_follows) (Err fault) items walked
-
-pub walks_pass : {Z : Type 0} (from to : OpenedVault) (v : View) (next : Next (List Planned) Z) (answer : Answer Z) (items there : List Planned) → Walks from v (Ok items) → Walks to v (Ok there)
-    → Unless answer (next items there answer) → Unless answer (WalksBoth from to v next answer)
-walks_pass from to v next answer items there one other h =
-    then_passes of_walk (Walks from v) (λ items. Then of_walk (Walks to v) (λ there. next items there)) answer items one (then_passes of_walk (Walks to v) (λ there. next items there) answer there other h)
 
 -- ---- once items are moved
 
@@ -238,6 +138,7 @@ stop_more Is More P Q (moves.Overlap p q) given more is = is
 stop_more Is More P Q (moves.Load side why) given more is = is
 stop_more Is More P Q (moves.NotEmpty at) given more is = is
 stop_more Is More P Q (moves.NotAllowed path) given more is = is
+stop_more Is More P Q (moves.Meet one other) given more is = is
 stop_more Is More P Q (moves.Changed plan items plan' items') given more is = is
 stop_more Is More P Q moves.SourceGone given more is = is
 
@@ -257,61 +158,78 @@ put_stop Is P put.Random is = is
 put_stop Is P put.Failed is = tt
 put_stop Is P put.NoMemory is = tt
 
--- ---- single tests
+-- ---- mapping
 
-pub pair_fails : (p q : Path) → (is_some (below q p) ≡ true) ⊎ (is_some (below p q) ≡ true) → ¬ AreApart p q
-pair_fails p q h apart = elim h [
-  | inl is ↦ absurd (false≢true (sym (ap is_some apart.other) ∙ is))
-  | inr is ↦ absurd (false≢true (sym (ap is_some apart.one) ∙ is))
-]
+module _ {Z : Type 0} (rule : NameMap) (f : Format) (items : List Planned) (next : List Planned → Answer Z → Type 0) where
+  abbrev named : Answer (Unit {0}) → Type 0
+  named = TestsNames rule f items
+
+  abbrev mapping : {Y : Type 0} → (List Planned → Answer Y → Type 0) → Answer Y → Type 0
+  mapping after = Then of_map (MapsTo rule items) (λ (plan : Plan). after plan.items)
+
+  mapped_more : {Y : Type 0} (before : List Planned → Answer Y → Type 0) (fault : MoveFault) → ((mapped : List Planned) → before mapped (Err fault) → next mapped (Err fault))
+      → TestsMapped rule f items before (Err fault) → TestsMapped rule f items next (Err fault)
+  mapped_more before fault more =
+      then_more own named (λ _. mapping before) (λ _. mapping next) fault
+      (λ _. then_more of_map (MapsTo rule items) (λ plan. before plan.items) (λ plan. next plan.items) fault (λ plan. more plan.items))
+
+  pub mapped_refused : (fault : MoveFault) → Refuses (TestsMapped rule f items nothing_follows) fault → Unless {X = Z} (Err fault) (TestsMapped rule f items next (Err fault))
+  mapped_refused fault =
+      part_refused own named (λ _. mapping nothing_follows) (λ _. mapping next) fault
+      (λ _. then_more of_map (MapsTo rule items) (λ plan. nothing_follows plan.items) (λ plan. next plan.items) fault (λ plan none. absurd none))
+
+  pub mapped_pass : (answer : Answer Z) (plan : Plan) → named (Ok tt) → MapsTo rule items (Ok plan) → Unless answer (next plan.items answer) → Unless answer (TestsMapped rule f items next answer)
+  mapped_pass answer plan passed maps h = then_passes own named (λ _. mapping next) answer tt passed (then_passes of_map (MapsTo rule items) (λ plan. next plan.items) answer plan maps h)
 
 -- ---- the tests of the items
-
-then_on : {X Y Z F : Type 0} (told : F → MoveFault) (test : Result X F → Type 0) (next : X → Answer Y → Type 0) (next' : X → Answer Z → Type 0) (value : Y) (answer : Answer Z)
-    → ((x : X) → next x (Ok value) → next' x answer) → Then told test next (Ok value) → Then told test next' answer
-then_on told test next next' value answer more (Ok x, passed, n) = (Ok x, passed, more x n)
-then_on told test next next' value answer more (Err why, refused, is) = cc is
 
 abbrev pub Passed : Answer (Unit {0}) → Type 0
 Passed answer = answer ≡ Ok tt
 
+-- they passed, with these at their mapped paths
+abbrev pub PassedWith : List Planned → List Planned → Answer (Unit {0}) → Type 0
+PassedWith mapped items answer = (items ≡ mapped) × (answer ≡ Ok tt)
+
 module _ {Z : Type 0} (a : OpenedVault) (items : List Planned) (b : OpenedVault) (others : List Planned) (v : View) (next : Answer Z → Type 0) where
-  match_more : (fault : MoveFault) → TestsMatch a items b others v Passed (Err fault) → TestsMatch a items b others v next (Err fault)
-  match_more fault =
-      then_more of_match (Compares a items b others v) (λ m. Then own (TestsHeld m) (λ _. Passed)) (λ m. Then own (TestsHeld m) (λ _. next)) fault
+  match_more : {Y : Type 0} (before : Answer Y → Type 0) (fault : MoveFault) → (before (Err fault) → next (Err fault)) → TestsMatch a items b others v before (Err fault) → TestsMatch a items b others v next (Err fault)
+  match_more before fault more =
+      then_more of_match (Compares a items b others v) (λ m. Then own (TestsHeld m) (λ _. before)) (λ m. Then own (TestsHeld m) (λ _. next)) fault
+      (λ m. then_more own (TestsHeld m) (λ _. before) (λ _. next) fault (λ _. more))
+
+  pub matching_refused : (fault : MoveFault) → Unless {X = Unit {0}} (Err fault) (TestsMatch a items b others v Passed (Err fault)) → Unless {X = Z} (Err fault) (TestsMatch a items b others v next (Err fault))
+  matching_refused fault =
+      part_refused of_match (Compares a items b others v) (λ m. Then own (TestsHeld m) (λ _. Passed)) (λ m. Then own (TestsHeld m) (λ _. next)) fault
       (λ m. then_more own (TestsHeld m) (λ _. Passed) (λ _. next) fault (λ _ e. cc e))
 
-  match_on : (answer : Answer Z) → next answer → TestsMatch a items b others v Passed (Ok tt) → TestsMatch a items b others v next answer
-  match_on answer h =
-      then_on of_match (Compares a items b others v) (λ m. Then own (TestsHeld m) (λ _. Passed)) (λ m. Then own (TestsHeld m) (λ _. next)) tt answer
-      (λ m. then_on own (TestsHeld m) (λ _. Passed) (λ _. next) tt answer (λ _ _. h))
+  pub match_on : (answer : Answer Z) → next answer → TestsMatch a items b others v Passed (Ok tt) → TestsMatch a items b others v next answer
+  match_on answer h (Ok m, matches, (Ok done, held, is)) = (Ok m, matches, (Ok done, held, h))
+  match_on answer h (Ok m, matches, (Err why, held, is)) = cc is
+  match_on answer h (Err why, matches, is) = cc is
 
-module _ {Z : Type 0} (from to : OpenedVault) (journal : Journal) (v : View) (items there : List Planned) (next : Answer Z → Type 0) where
+module _ {Z : Type 0} (from to : OpenedVault) (journal : Journal) (v : View) (items there : List Planned) (next : List Planned → Answer Z → Type 0) where
   abbrev told : Answer (Unit {0}) → Type 0
   told = TestsTold journal items
 
-  abbrev names : Answer (Unit {0}) → Type 0
-  names = TestsNames (format_of to.vault) items
+  abbrev mapped_then : {Y : Type 0} → (List Planned → Answer Y → Type 0) → Answer Y → Type 0
+  mapped_then after = TestsMapped journal.names (format_of to.vault) items (λ mapped. TestsMatch to there from mapped v (after mapped))
 
-  abbrev matches : {Y : Type 0} → (Answer Y → Type 0) → Answer Y → Type 0
-  matches after = TestsMatch to there from items v after
-
-  pub items_refused : (fault : MoveFault) → Unless {X = Unit {0}} (Err fault) (TestsItems from to journal v items there Passed (Err fault)) → Unless {X = Z} (Err fault) (TestsItems from to journal v items there next (Err fault))
+  pub items_refused : (fault : MoveFault) → Refuses (TestsItems from to journal v items there nothing_follows) fault → Unless {X = Z} (Err fault) (TestsItems from to journal v items there next (Err fault))
   items_refused fault =
-      part_refused own told (λ _. Then own names (λ _. matches Passed)) (λ _. Then own names (λ _. matches next)) fault
-      (λ _. then_more own names (λ _. matches Passed) (λ _. matches next) fault (λ _. match_more to there from items v next fault))
+      part_refused own told (λ _. mapped_then nothing_follows) (λ _. mapped_then next) fault
+      (λ _. mapped_more journal.names (format_of to.vault) items (λ mapped. TestsMatch to there from mapped v (next mapped)) (λ mapped. TestsMatch to there from mapped v (nothing_follows mapped)) fault
+      (λ mapped. match_more to there from mapped v (next mapped) (nothing_follows mapped) fault (λ none. absurd none)))
 
-  pub items_pass : (answer : Answer Z) → Unless {X = Unit {0}} (Ok tt) (TestsItems from to journal v items there Passed (Ok tt)) → Unless answer (next answer) → Unless answer (TestsItems from to journal v items there next answer)
-  items_pass answer passed = unless_more answer (next answer) (TestsItems from to journal v items there next answer) (λ h. on h (passed_is value (TestsItems from to journal v items there Passed (Ok value)) passed))
-    where
-      value : Unit {0}
-      value = tt
+  items_on : (mapped : List Planned) (answer : Answer Z) → next mapped answer → TestsItems from to journal v items there (PassedWith mapped) (Ok tt) → TestsItems from to journal v items there next answer
+  items_on mapped answer h (Ok one, says, (Ok two, names, (Ok plan, maps, (Ok m, matches, (Ok last, held, (is, e)))))) =
+      (Ok one, says, (Ok two, names, (Ok plan, maps, (Ok m, matches, (Ok last, held, subst (λ xs. next xs answer) (sym is) h)))))
+  items_on mapped answer h (Ok one, says, (Ok two, names, (Ok plan, maps, (Ok m, matches, (Err why, held, is))))) = cc is
+  items_on mapped answer h (Ok one, says, (Ok two, names, (Ok plan, maps, (Err why, matches, is)))) = cc is
+  items_on mapped answer h (Ok one, says, (Ok two, names, (Err why, maps, is))) = cc is
+  items_on mapped answer h (Ok one, says, (Err why, names, is)) = cc is
+  items_on mapped answer h (Err why, says, is) = cc is
 
-      names_on : next answer → Then own names (λ _. matches Passed) (Ok value) → Then own names (λ _. matches next) answer
-      names_on h = then_on own names (λ _. matches Passed) (λ _. matches next) value answer (λ _. match_on to there from items v next answer h)
-
-      on : next answer → Then own told (λ _. Then own names (λ _. matches Passed)) (Ok value) → Then own told (λ _. Then own names (λ _. matches next)) answer
-      on h = then_on own told (λ _. Then own names (λ _. matches Passed)) (λ _. Then own names (λ _. matches next)) value answer (λ _. names_on h)
+  pub items_pass : (mapped : List Planned) (answer : Answer Z) → TestsItems from to journal v items there (PassedWith mapped) (Ok tt) → Unless answer (next mapped answer) → Unless answer (TestsItems from to journal v items there next answer)
+  items_pass mapped answer passed = unless_more answer (next mapped answer) (TestsItems from to journal v items there next answer) (λ h. items_on mapped answer h passed)
 
 -- the target's items are so in the source
 pub none_differs : (m : Match) → (m ≡ Same) ⊎ ((path : plain.Path) × (m ≡ Contained path)) → TestsHeld m (Ok tt)
@@ -320,21 +238,21 @@ none_differs m (inr contained) = subst (λ x. TestsHeld x (Ok tt)) (sym containe
 
 -- ---- names
 
-pub names_pass : (f : Format) (items : List Planned) → AllowsEach f items → TestsNames f items (Ok tt)
-names_pass f [] allowed = refl
-names_pass f (item ∷ items) allowed =
-    (Ok tt, inl (allowed item (zero, omega arith, refl), refl), names_pass f items (λ other among. allowed other (suc among.0, omega (arith, among.1), among.2)))
+pub names_pass : (rule : NameMap) (f : Format) (items : List Planned) → AllowsEachMapped rule f items → TestsNames rule f items (Ok tt)
+names_pass rule f [] allowed = refl
+names_pass rule f (item ∷ items) allowed =
+    (Ok tt, inl (allowed item (zero, omega arith, refl), refl), names_pass rule f items (λ other among. allowed other (suc among.0, omega (arith, among.1), among.2)))
 
 -- the first one that isn't allowed
-names_fail : (f : Format) (items : List Planned) (k : ℕ) (item : Planned) → ((j : ℕ) → j < k → (other : Planned) → AllowsLast f (get_or items j other).path) → k < length items → item ≡ get_or items k item
-    → ForbidsLast f item.path → TestsNames f items (Err (NotAllowed item.path))
-names_fail f [] k item before inside at forbids = absurd (omega (arith, inside))
-names_fail f (y ∷ items) zero item before inside at forbids =
-    (Err (NotAllowed y.path), inr (subst (λ (z : Planned). ForbidsLast f z.path) at forbids, refl), ap (λ (z : Planned). Err (NotAllowed z.path)) at)
-names_fail f (y ∷ items) (suc k) item before inside at forbids =
-    (Ok tt, inl (before 0 (omega arith) y, refl), names_fail f items k item (λ j lt other. before (suc j) (omega (arith, lt)) other) (omega (arith, inside)) at forbids)
+names_fail : (rule : NameMap) (f : Format) (items : List Planned) (k : ℕ) (item : Planned) → ((j : ℕ) → j < k → (other : Planned) → AllowsMappedLast rule f (get_or items j other).path) → k < length items → item ≡ get_or items k item
+    → ForbidsMappedLast rule f item.path → TestsNames rule f items (Err (NotAllowed item.path))
+names_fail rule f [] k item before inside at forbids = absurd (omega (arith, inside))
+names_fail rule f (y ∷ items) zero item before inside at forbids =
+    (Err (NotAllowed y.path), inr (subst (λ (z : Planned). ForbidsMappedLast rule f z.path) at forbids, refl), ap (λ (z : Planned). Err (NotAllowed z.path)) at)
+names_fail rule f (y ∷ items) (suc k) item before inside at forbids =
+    (Ok tt, inl (before 0 (omega arith) y, refl), names_fail rule f items k item (λ j lt other. before (suc j) (omega (arith, lt)) other) (omega (arith, inside)) at forbids)
 
-pub names_refused : (f : Format) (items : List Planned) (k : ℕ) (item : Planned) (fault : MoveFault) → ((j : ℕ) → j < k → (other : Planned) → AllowsLast f (get_or items j other).path) → k < length items
-    → item ≡ get_or items k item → (fault ≡ NoMemory) ⊎ (ForbidsLast f item.path × (fault ≡ NotAllowed item.path)) → Unless {X = Unit {0}} (Err fault) (TestsNames f items (Err fault))
-names_refused f items k item fault before inside at (inl none) = inr (inl (ap Err none))
-names_refused f items k item fault before inside at (inr forbids) = inr (inr (subst (λ why. TestsNames f items (Err why)) (sym forbids.1) (names_fail f items k item before inside at forbids.0)))
+pub names_refused : (rule : NameMap) (f : Format) (items : List Planned) (k : ℕ) (item : Planned) (fault : MoveFault) → ((j : ℕ) → j < k → (other : Planned) → AllowsMappedLast rule f (get_or items j other).path) → k < length items
+    → item ≡ get_or items k item → (fault ≡ NoMemory) ⊎ (ForbidsMappedLast rule f item.path × (fault ≡ NotAllowed item.path)) → Unless {X = Unit {0}} (Err fault) (TestsNames rule f items (Err fault))
+names_refused rule f items k item fault before inside at (inl none) = inr (inl (ap Err none))
+names_refused rule f items k item fault before inside at (inr forbids) = inr (inr (subst (λ why. TestsNames rule f items (Err why)) (sym forbids.1) (names_fail rule f items k item before inside at forbids.0)))

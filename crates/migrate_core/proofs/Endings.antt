@@ -1,5 +1,6 @@
 -- Ending a migration: that the target holds all that the source held, and what writing so in the journal does.
 use Rattle.std.proofs.Common.{◌≡◌, ◌≢◌, ℕ, List, ◌∷◌, ◌++◌, [], length, Option, Some, None, Result, Ok, Err, IfOk, OnOk, refl, sym, ap, ◌∙◌, subst}
+use Rattle.std.proofs.Math.Path.{fun_ext}
 use Rattle.folder_spec.specs.declared.FolderFault.{FolderFault}
 use Rattle.folder_spec.specs.Event.{Told, FromTo}
 use Rattle.folder_spec.specs.Path.{Path}
@@ -15,36 +16,37 @@ use Rattle.move_journal.specs.Reading.{journal_path, StandsIn}
 use Rattle.move_journal.specs.Writing.{Writes, HasWritten}
 use Rattle.move_journal.specs.declared.journal.Journal.{Journal}
 use Rattle.move_journal.specs.declared.journal.Phase.TheVariants as phase
-use Rattle.plain_tree.specs.Names as plain
 use Rattle.plain_tree.specs.declared.name_map.NameMap.{NameMap}
-use Rattle.tree_match.specs.Alone.{Progress, Unbegun, Begun, Finished, IsAlone, IsIn, StaysGuarded}
+use Rattle.migration_spec.specs.Alone.{Progress, Unbegun, Begun, Finished, IsAlone, IsIn, StaysGuarded}
 use Rattle.tree_match.specs.Comparing.{Is}
-use Rattle.tree_match.specs.Guard.{Migration, Guarded, HoldsAll, HoldsSource, IsPartOf, IsThere, IsWhole, Tells, tree_at}
-use Rattle.tree_match.specs.Trees.{Side, HoldsAllBy, AsSame, IsPartIn, IsWalkOf, match_of}
+use Rattle.migration_spec.specs.Guard.{Migration, Guarded, HoldsAll, HoldsSource, IsThere, Tells, tree_at}
+use Rattle.mapped_trees.specs.Trees.{HasNoBroken, IsHeldIn, IsMapped, IsPartOf, IsWhole, StaysApart}
+use Rattle.migration_sides.specs.Sides.{AreSeparate, IsWalked, opened_in}
+use Rattle.tree_match.specs.Trees.{Side, HoldsAllBy, AsSame, IsMappedWalkOf, IsWalkOf, match_of, side_of, tree_of}
 use Rattle.tree_match.specs.declared.answer.Match.TheVariants.{Same}
 use Rattle.vault_spec.specs.Opened.{OpenedVault}
-use Rattle.vault_spec.specs.Alike.{IsOrderly}
 use Rattle.vault_read.specs.Laws.{HasOwnFolders}
 use Rattle.vault_spec.specs.Findings.{IsClean}
 use Rattle.vault_spec.specs.Format.{Format}
-use Rattle.vault_spec.specs.Opens as opens
 use Rattle.vault_spec.specs.Opens.{Opened, NoItem, Directory, Content, Broken, Tree, opened, tree}
 use Rattle.vault_spec.specs.Plan.{Planned}
 use Rattle.vault_spec.specs.Vault.{IsVault, Vault, format_of}
 use Rattle.migrate_core.proofs.Keeping.{still_opens, still_seen}
+use Rattle.migrate_core.proofs.Compared.{MappedStayApart}
 use Rattle.migrate_core.proofs.Leadings.{if_ok}
-use Rattle.migrate_core.proofs.Movings.{AreSound, moves_to, source_beside, turned_over, under_stays}
-use Rattle.migrate_core.proofs.Planned.{SeenAlone, seen_of, source_held, source_walk, walk_of}
+use Rattle.migrate_core.proofs.MappedItems.{mapped_count}
+use Rattle.migrate_core.proofs.Movings.{AreSound, mapped_walk, moves_to, source_beside, turned_over, under_stays}
+use Rattle.migrate_core.proofs.Planned.{SeenAlone, seen_of, source_held, source_mapped_walk, walk_of}
 use Rattle.migrate_core.proofs.SameItems.{same_length}
-use Rattle.migrate_core.specs.Copying.{StayGood}
+use Rattle.migrate_core.specs.Copying.{StayGood, tree_in}
 use Rattle.migrate_core.specs.Leading.{FinishesFrom, Goes, Leads, progress_of}
 use Rattle.vault_walk.specs.Surveyed.{IsPlanOf}
 use Rattle.migrate_core.specs.Limits.{EndsBy}
 use Rattle.migrate_core.specs.declared.fault.MoveFault.{MoveFault}
 use Rattle.migrate_core.specs.declared.placing.Done.{Done}
-use Rattle.migrate_core.specs.Moved.{HasMoved, HasPlaced, HaveOneTree, Moved, MovesTold, MovesTree, Placed, done_of, lacking, opened_in}
+use Rattle.migrate_core.specs.Moved.{HasMoved, HasPlaced, HaveMappedTree, Moved, MovesTold, MovesTree, Placed, done_of, lacking}
 use Rattle.migrate_core.specs.Moving.{MovesOnly}
-use Rattle.migrate_core.specs.Sides.{AreSeparate, AreSides, AreTold, IsWalked, opened_at, side_of}
+use Rattle.migrate_core.specs.Sides.{AreItemsToMove, AreSides, AreTold, IsMappedWalk}
 
 -- the target is there, however far the migration has come
 pub target_in : (g : Migration) (p : Progress) (v : View) → IsIn g p v → IsThere g.target v
@@ -52,48 +54,57 @@ target_in g Unbegun v is = is.target
 target_in g Begun v is = is.target
 target_in g Finished v is = is.target.there
 
--- the root of a vault in good order opens
-pub root_directory : (f : Format) (u : View) → IsOrderly f u → tree f u [] ≡ Directory
+-- the root of a vault opens
+pub root_directory : (f : Format) (u : View) → tree f u [] ≡ Directory
 unfolding opened
-root_directory f u orderly = ap (opens.opened_at f u) orderly.root
+root_directory f u = refl
 
--- trees of which each is part of the other are one, and no file of it is broken
-named_parts_are_one : (m n : Tree) → IsPartOf m n → IsPartOf n m → (path : plain.Path) → path ≢ [] → (n path ≡ m path) × IsWhole (m path)
-named_parts_are_one m n part back path named = by (m path) refl (n path) refl
-  where
-    is_there : (o : Opened) → m path ≡ o → o ≢ NoItem → (n path ≡ m path) × IsWhole (m path)
-    is_there o is some = let h = part path named (λ none. some (sym is ∙ none)) in (sym h.0, h.1)
-
-    other_there : m path ≡ NoItem → (p : Opened) → n path ≡ p → p ≢ NoItem → (n path ≡ m path) × IsWhole (m path)
-    other_there is p is_other some = let h = back path named (λ none. some (sym is_other ∙ none)) in (h.0, subst IsWhole (sym is) tt)
-
-    by : (o : Opened) → m path ≡ o → (p : Opened) → n path ≡ p → (n path ≡ m path) × IsWhole (m path)
-    by NoItem is NoItem is_other = (is_other ∙ sym is, subst IsWhole (sym is) tt)
-    by NoItem is Directory is_other = other_there is Directory is_other (λ e. cc e)
-    by NoItem is (Content bytes) is_other = other_there is (Content bytes) is_other (λ e. cc e)
-    by NoItem is (Broken chunks fault) is_other = other_there is (Broken chunks fault) is_other (λ e. cc e)
-    by Directory is p is_other = is_there Directory is (λ e. cc e)
-    by (Content bytes) is p is_other = is_there (Content bytes) is (λ e. cc e)
-    by (Broken chunks fault) is p is_other = is_there (Broken chunks fault) is (λ e. cc e)
-
--- so with their roots
-parts_are_one : (m n : Tree) → m [] ≡ Directory → n [] ≡ Directory → IsPartOf m n → IsPartOf n m → (path : plain.Path) → (n path ≡ m path) × IsWhole (m path)
-parts_are_one m n m_root n_root part back [] = (n_root ∙ sym m_root, subst IsWhole (sym m_root) tt)
-parts_are_one m n m_root n_root part back (name ∷ rest) = named_parts_are_one m n part back (name ∷ rest) (λ e. cc e)
-
-abbrev pub HeldIsPart : Type 0
-HeldIsPart = (v : View) (a b : Side) → IsWalkOf v a → IsWalkOf v b → HoldsAllBy (match_of v a b) → IsPartIn v a b
+abbrev pub HoldsHeld : Type 0
+HoldsHeld = (v : View) (names : NameMap) (a b : Side) → IsMappedWalkOf names v a → IsWalkOf v b → HoldsAllBy (match_of v a b) → IsHeldIn names (tree_of v a) (tree_of v b)
 
 abbrev pub SameIsPart : Type 0
-SameIsPart = (v : View) (a b : Side) → IsWalkOf v a → IsWalkOf v b → match_of v a b ≡ Is Same → IsPartIn v b a
+SameIsPart = (v : View) (names : NameMap) (a b : Side) → IsMappedWalkOf names v a → IsWalkOf v b → match_of v a b ≡ Is Same → IsPartOf names (tree_of v b) (tree_of v a)
+
+-- a tree that is held in another, of which that is part, comes to that
+abbrev pub BothAreMapped : Type 0
+BothAreMapped = (names : NameMap) (m t : Tree) → t [] ≡ m [] → IsHeldIn names m t → IsPartOf names t m → IsMapped names m t
+
+-- a tree that is held in another has no broken file, where its root is a directory
+held_whole : (rule : NameMap) (m t : Tree) → m [] ≡ Directory → IsHeldIn rule m t → HasNoBroken m
+held_whole rule m t root held [] = subst IsWhole (sym root) tt
+held_whole rule m t root held (name ∷ rest) = by (m (name ∷ rest)) refl
+  where
+    some : (o : Opened) → m (name ∷ rest) ≡ o → o ≢ NoItem → IsWhole o
+    some o is item = subst IsWhole is (held (name ∷ rest) (λ e. cc e) (λ none. item (sym is ∙ none))).1
+
+    by : (o : Opened) → m (name ∷ rest) ≡ o → IsWhole o
+    by NoItem is = tt
+    by Directory is = tt
+    by (Content bytes) is = tt
+    by (Broken chunks fault) is = some (Broken chunks fault) is (λ e. cc e)
+
+module _ (held_in : HoldsHeld) (same_part : SameIsPart) (mapped : BothAreMapped) (rule : NameMap) (from to : OpenedVault) (items others : List Planned) (v : View) (walk : IsMappedWalkOf rule v (side_of from items)) (walk_to : IsWalkOf v (side_of to others))
+    (same : match_of v (side_of from items) (side_of to others) ≡ Is Same) where
+  same_held : IsHeldIn rule (tree_in from v) (tree_in to v)
+  same_held = held_in v rule (side_of from items) (side_of to others) walk walk_to (subst HoldsAllBy (sym same) AsSame)
+
+  -- of two vaults that compare as the same the second has the mapped tree of the first
+  pub same_mapped : IsMapped rule (tree_in from v) (tree_in to v)
+  same_mapped =
+      mapped rule (tree_in from v) (tree_in to v) (root_directory (format_of to.vault) (under to.root v) ∙ sym (root_directory (format_of from.vault) (under from.root v))) same_held
+      (same_part v rule (side_of from items) (side_of to others) walk walk_to same)
+
+  pub same_whole : HasNoBroken (tree_in from v)
+  same_whole = held_whole rule (tree_in from v) (tree_in to v) (root_directory (format_of from.vault) (under from.root v)) same_held
 
 -- where the two vaults compare as the same, the target holds all that the source held
-pub holds_all : SeenAlone → HeldIsPart → SameIsPart → (g : Migration) (p : Progress) (t : Option Told) (a : Told) (items others : List Planned) → t ≡ Some a → IsAlone g p a.state
-    → IsWalked t (opened_at g.source) items → IsWalked t (opened_at g.target) others
-    → match_of (seen a.state) (side_of (opened_at g.source) items) (side_of (opened_at g.target) others) ≡ Is Same → HoldsAll g (seen a.state)
-holds_all shown held_part same_part g p t a items others is at walked walked_target same = record {
-  held = λ path. (one path).0 ∙ source.held path;
-  whole = λ path. subst IsWhole (source.held path) (one path).1;
+pub holds_all : SeenAlone → MappedStayApart → HoldsHeld → SameIsPart → BothAreMapped → (g : Migration) (p : Progress) (t : Option Told) (a : Told) (items others : List Planned) → t ≡ Some a → IsAlone g p a.state
+    → IsMappedWalk g.names t g.source items → IsWalked t g.target others
+    → match_of (seen a.state) (side_of g.source items) (side_of g.target others) ≡ Is Same → HoldsAll g (seen a.state)
+holds_all shown apart held_in same_part mapped g p t a items others is at walked walked_target same = record {
+  held = subst (λ m. IsMapped g.names m (tree_at g.target v)) source_is (same_mapped held_in same_part mapped g.names g.source g.target items others v from_walk to_walk same);
+  apart = subst (StaysApart g.names) source_is (apart v g.names (side_of g.source items) from_walk);
+  whole = subst HasNoBroken source_is (same_whole held_in same_part mapped g.names g.source g.target items others v from_walk to_walk same);
 }
   where
     v : View
@@ -102,20 +113,17 @@ holds_all shown held_part same_part g p t a items others is at walked walked_tar
     source : HoldsSource g v
     source = source_held shown g p a.state at
 
+    source_is : tree_at g.source v ≡ g.held
+    source_is = fun_ext source.held
+
     target : IsThere g.target v
     target = target_in g p v (shown g p a.state at)
 
-    from_walk : IsWalkOf v (side_of (opened_at g.source) items)
-    from_walk = source_walk shown g p t a items is at walked
+    from_walk : IsMappedWalkOf g.names v (side_of g.source items)
+    from_walk = source_mapped_walk shown g p t a items is at walked
 
-    to_walk : IsWalkOf v (side_of (opened_at g.target) others)
-    to_walk = walk_of (opened_at g.target) others t v walked_target (seen_of t a is) target.good.orderly
-
-    one : (path : plain.Path) → (tree_at g.target v path ≡ tree_at g.source v path) × IsWhole (tree_at g.source v path)
-    one = parts_are_one (tree_at g.source v) (tree_at g.target v) (root_directory (format_of g.source.vault) (under g.source.root v) source.there.good.orderly)
-        (root_directory (format_of g.target.vault) (under g.target.root v) target.good.orderly)
-        (held_part v (side_of (opened_at g.source) items) (side_of (opened_at g.target) others) from_walk to_walk (subst HoldsAllBy (sym same) AsSame))
-        (same_part v (side_of (opened_at g.source) items) (side_of (opened_at g.target) others) from_walk to_walk same)
+    to_walk : IsWalkOf v (side_of g.target others)
+    to_walk = walk_of g.target others t v walked_target (seen_of t a is) target.good.orderly
 
 -- ---- the journal says so
 
@@ -180,45 +188,54 @@ pub says_failed : {T U E D : Type 0} (g : Migration) (j : Journal) (t u : Option
 says_failed g j t u result other fault is h = (h.0, subst (λ r. IfOk r (λ value. FromTo (λ a b. IsAlone g (progress_of j.phase) a.state → HoldsAll g (seen a.state) → IsAlone g Finished b.state) t u)) (sym is) tt)
 
 -- and so does what ends a migration between two vaults that compare as the same
-pub finish_goes : {T E : Type 0} → SeenAlone → HeldIsPart → SameIsPart → (g : Migration) (from to : OpenedVault) (work : Path) → AreSides g from to work → (p : Progress) (items others : List Planned) (t u : Option Told) (result : Result T E)
-    → IsWalked t from items → IsWalked t to others → IfSeen t (λ v. match_of v (side_of from items) (side_of to others) ≡ Is Same)
+pub finish_goes : {T E : Type 0} → SeenAlone → MappedStayApart → HoldsHeld → SameIsPart → BothAreMapped → (g : Migration) (rule : NameMap) (from to : OpenedVault) (work : Path) → AreSides g rule from to work
+    → (p : Progress) (items others : List Planned) (t u : Option Told) (result : Result T E)
+    → IsMappedWalk rule t from items → IsWalked t to others → IfSeen t (λ v. match_of v (side_of from items) (side_of to others) ≡ Is Same)
     → FinishesFrom g p t u result → Goes g p Finished t u result
-finish_goes shown held_part same_part g from to work sides p items others t u result walked walked_target same h =
+finish_goes shown apart held_in same_part mapped g rule from to work sides p items others t u result walked walked_target same h =
     finishes_goes g p t u result
-    (λ a is at. holds_all shown held_part same_part g p t a items others is at (subst (λ x. IsWalked t x items) sides.source walked) (subst (λ x. IsWalked t x others) sides.target walked_target)
-    (subst (λ y. match_of (seen a.state) (side_of (opened_at g.source) items) (side_of y others) ≡ Is Same) sides.target
+    (λ a is at. holds_all shown apart held_in same_part mapped g p t a items others is at
+    (subst (λ names. IsMappedWalk names t g.source items) sides.names (subst (λ x. IsMappedWalk rule t x items) sides.source walked)) (subst (λ x. IsWalked t x others) sides.target walked_target)
+    (subst (λ y. match_of (seen a.state) (side_of g.source items) (side_of y others) ≡ Is Same) sides.target
     (subst (λ x. match_of (seen a.state) (side_of x items) (side_of to others) ≡ Is Same) sides.source (same (seen a.state) (seen_of t a is))))) h
 
 -- ---- in the end
 
--- two walked vaults that compare as the same have one tree
-one_tree : HeldIsPart → SameIsPart → (from to : OpenedVault) (items others : List Planned) (t : Option Told) → IsWalked t from items → IsWalked t to others
-    → IfSeen t (λ v. match_of v (side_of from items) (side_of to others) ≡ Is Same) → IfSeen t (λ v. HaveOneTree from to v)
-one_tree held_part same_part from to items others t walked walked_target same v is own own_target path named =
-    let a = walked.plan v is own in
-    let b = walked_target.plan v is own_target in
-    (named_parts_are_one (tree (format_of from.vault) (under from.root v)) (tree (format_of to.vault) (under to.root v))
-    (held_part v (side_of from items) (side_of to others) a b (subst HoldsAllBy (sym (same v is)) AsSame)) (same_part v (side_of from items) (side_of to others) a b (same v is)) path named).0
+-- of two walked vaults that compare as the same the second has the mapped tree of the first
+one_tree : HoldsHeld → SameIsPart → BothAreMapped → (rule : NameMap) (from to : OpenedVault) (items others : List Planned) (t : Option Told) → IsMappedWalk rule t from items → IsWalked t to others
+    → IfSeen t (λ v. match_of v (side_of from items) (side_of to others) ≡ Is Same) → IfSeen t (λ v. HaveMappedTree rule from to v)
+one_tree held_in same_part mapped rule from to items others t walked walked_target same v is own own_target =
+    same_mapped held_in same_part mapped rule from to items others v (record { own = walked.own; walk = walked.walked.plan v is own; mapped = walked.mapped }) (walked_target.plan v is own_target) (same v is)
 
 -- what is seen of two vaults that are left alone
-pub has_moved : HeldIsPart → SameIsPart → (from to : OpenedVault) (work : Path) (items others : List Planned) (journal : Journal) (t u : Option Told) → AreSeparate from.root to.root work → AreSound t
-    → IsJournal journal → journal.source ≡ from.root → journal.target ≡ to.root → AreTold journal items → IsWalked t from items → IsWalked t to others
+pub has_moved : HoldsHeld → SameIsPart → BothAreMapped → (from to : OpenedVault) (work : Path) (own items others : List Planned) (journal : Journal) (t u : Option Told) → AreSeparate from.root to.root work → AreSound t
+    → IsJournal journal → journal.source ≡ from.root → journal.target ≡ to.root → AreTold journal own → AreItemsToMove journal.names t from own items → IsWalked t to others
     → IfSeen t (λ v. match_of v (side_of from items) (side_of to others) ≡ Is Same)
     → MovesOnly work to.root t u → MovesOnly work from.root t u → IfSeen u (λ v. StandsIn work (done_of journal) v)
     → (count : ℕ) → count ≡ length others → IfSeen u (λ v. HasMoved journal.names from to work count v)
-has_moved held_part same_part from to work items others journal (Some a) (Some b) separate sound is source target told_items walked walked_target same beside_target beside_source says count counted v seen_is =
+has_moved held_in same_part mapped from to work own items others journal (Some a) (Some b) separate sound is source target told_items moving walked_target same beside_target beside_source says count counted v seen_is =
     record {
-      source = subst (IsClean (format_of from.vault)) (sym from_same) (walked.clean w refl);
+      source = subst (IsClean (format_of from.vault)) (sym from_same) (moving.walked.clean w refl);
       target = subst (IsClean (format_of to.vault)) (sym to_same) (walked_target.clean w refl);
-      trees = λ own own_target path named.
-          ap (λ x. tree (format_of to.vault) x path) to_same
-          ∙ one_tree held_part same_part from to items others (Some a) walked walked_target same w refl (subst (HasOwnFolders from.vault) from_same own) (subst (HasOwnFolders to.vault) to_same own_target) path named
-          ∙ ap (λ x. tree (format_of from.vault) x path) (sym from_same);
-      items = λ own.
-          (others, subst (λ x. IsPlanOf to.root (format_of to.vault) x others) (sym to_same) (walked_target.plan w refl (subst (HasOwnFolders to.vault) to_same own)), counted);
-      says = record { journal = done_of journal; is = done_is journal is; phase = refl; names = refl; source = source; target = target; items = told_items.1 ∙ same_length w (side_of from items) (side_of to others) (walked.ordered w refl) (walked_target.ordered w refl) (same w refl) ∙ sym counted; stands = says v seen_is };
-      tells = λ own.
-          (items, subst (λ x. IsPlanOf from.root (format_of from.vault) x items) (sym from_same) (walked.plan w refl (subst (HasOwnFolders from.vault) from_same own)), told_items);
+      trees = λ alone alone_target.
+          subst (λ x. IsMapped journal.names (tree (format_of from.vault) (under from.root v)) (tree (format_of to.vault) x)) (sym to_same)
+          (subst (λ x. IsMapped journal.names (tree (format_of from.vault) x) (tree_in to w)) (sym from_same)
+          (one_tree held_in same_part mapped journal.names from to items others (Some a) (mapped_walk journal.names (Some a) from own items moving) walked_target same w refl
+          (subst (HasOwnFolders from.vault) from_same alone) (subst (HasOwnFolders to.vault) to_same alone_target)));
+      items = λ alone.
+          (others, subst (λ x. IsPlanOf to.root (format_of to.vault) x others) (sym to_same) (walked_target.plan w refl (subst (HasOwnFolders to.vault) to_same alone)), counted);
+      says = record {
+        journal = done_of journal;
+        is = done_is journal is;
+        phase = refl;
+        names = refl;
+        source = source;
+        target = target;
+        items = told_items.1 ∙ mapped_count journal.names own items moving.same ∙ same_length w (side_of from items) (side_of to others) moving.same.ordered (walked_target.ordered w refl) (same w refl) ∙ sym counted;
+        stands = says v seen_is;
+      };
+      tells = λ alone.
+          (own, subst (λ x. IsPlanOf from.root (format_of from.vault) x own) (sym from_same) (moving.walked.plan w refl (subst (HasOwnFolders from.vault) from_same alone)), told_items);
     }
   where
     w : View
@@ -231,9 +248,9 @@ has_moved held_part same_part from to work items others journal (Some a) (Some b
     to_same : under to.root v ≡ under to.root w
     to_same = ap (under to.root) seen_is ∙ under_stays (apart_from_both work from.root) to.root a.state b.state (sound a refl) (λ rest. source_beside to.root from.root work rest (turned_over from.root to.root work separate))
         (moves_to (apart_from_both work from.root) from.root (Some a) (Some b) beside_source)
-has_moved held_part same_part from to work items others journal None None separate sound is source target told_items walked walked_target same beside_target beside_source says count counted v seen_is = absurd seen_is
-has_moved held_part same_part from to work items others journal None (Some b) separate sound is source target told_items walked walked_target same beside_target beside_source says count counted v seen_is = absurd beside_target
-has_moved held_part same_part from to work items others journal (Some a) None separate sound is source target told_items walked walked_target same beside_target beside_source says count counted v seen_is = absurd seen_is
+has_moved held_in same_part mapped from to work own items others journal None None separate sound is source target told_items moving walked_target same beside_target beside_source says count counted v seen_is = absurd seen_is
+has_moved held_in same_part mapped from to work own items others journal None (Some b) separate sound is source target told_items moving walked_target same beside_target beside_source says count counted v seen_is = absurd beside_target
+has_moved held_in same_part mapped from to work own items others journal (Some a) None separate sound is source target told_items moving walked_target same beside_target beside_source says count counted v seen_is = absurd seen_is
 
 -- after it is written that all is done, that stands
 pub written_stands : (work : Path) (j : Journal) (t u : Option Told) → HasWritten work j t u → IfSeen u (λ v. StandsIn work j v)
@@ -263,13 +280,13 @@ opened_is x root is = ap (λ r. opened_in r x.vault) is
 
 pub tree_moved : (Q : Type 0) (names : NameMap) (from to work : Path) (from_pass to_pass : List ℕ) (source target : OpenedVault) (t u : Option Told) (result : Result Done MoveFault) → source.root ≡ from → target.root ≡ to → AreSound t → MovesOnly work to t u
     → IfSeen t (λ v. IsVault (under from v) from_pass source.vault) → IfSeen t (λ v. IsVault (under to v) to_pass target.vault)
-    → Placed source target t result → Moved names source target work u result → EndsBy (StayGood source target t u) Q source target u result → IfOk result (λ done. MovesTree names from to work from_pass to_pass done t u)
+    → Placed names source target t result → Moved names source target work u result → EndsBy (StayGood source target t u) Q names source target u result → IfOk result (λ done. MovesTree names from to work from_pass to_pass done t u)
 tree_moved Q names from to work from_pass to_pass source target t u (Ok done) source_at target_at sound went opens opens_target placed moved ends = record {
   source = source.vault;
   target = target.vault;
   opens_source = opens;
   opens_target = opens_target;
-  placed = λ v is. subst (λ x. HasPlaced x (opened_in to target.vault) done.placed v) (opened_is source from source_at) (subst (λ y. HasPlaced source y done.placed v) (opened_is target to target_at) (placed v is));
+  placed = λ v is. subst (λ x. HasPlaced names x (opened_in to target.vault) done.placed v) (opened_is source from source_at) (subst (λ y. HasPlaced names source y done.placed v) (opened_is target to target_at) (placed v is));
   moved = λ v is. subst (λ x. HasMoved names x (opened_in to target.vault) work done.items v) (opened_is source from source_at) (subst (λ y. HasMoved names source y work done.items v) (opened_is target to target_at) (moved v is));
   opens_still = opened_still work to to_pass target.vault t u sound went opens_target
       (λ v is. subst (λ root. IsClean (format_of target.vault) (under root v)) target_at (moved v is).target);
@@ -303,7 +320,8 @@ if_ok_more P Q (Ok value) more h = more value h
 if_ok_more P Q (Err fault) more h = tt
 
 -- of two walks, so many items were placed
-pub placed_of : {E : Type 0} (from to : OpenedVault) (items there : List Planned) (t : Option Told) (result : Result Done E) → IsWalked t from items → IsWalked t to there
-    → IfOk result (λ done. IfSeen t (λ v. done.placed ≡ lacking there items)) → Placed from to t result
-placed_of from to items there t (Ok done) walked walked_target placed = λ v is own own_target. (items, there, walked.plan v is own, walked_target.plan v is own_target, placed v is)
-placed_of from to items there t (Err fault) walked walked_target placed = tt
+pub placed_of : {E : Type 0} (rule : NameMap) (from to : OpenedVault) (own items there : List Planned) (t : Option Told) (result : Result Done E) → AreItemsToMove rule t from own items → IsWalked t to there
+    → IfOk result (λ done. IfSeen t (λ v. done.placed ≡ lacking there items)) → Placed rule from to t result
+placed_of rule from to own items there t (Ok done) moving walked_target placed = λ v is alone alone_target.
+    (items, there, record { own = own; are = moving.walked.plan v is alone; same = moving.same }, walked_target.plan v is alone_target, placed v is)
+placed_of rule from to own items there t (Err fault) moving walked_target placed = tt

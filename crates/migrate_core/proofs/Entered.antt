@@ -14,11 +14,12 @@ use Rattle.chunk_files.specs.Reading.{Ending, Faulty, Wanting, Whole}
 use Rattle.folder_spec.specs.Path as folder
 use Rattle.folder_spec.specs.Seen.{under}
 use Rattle.folder_spec.specs.View.{View}
+use Rattle.plain_tree.specs.Mapped.{mapped_path}
 use Rattle.plain_tree.specs.Names as plain
 use Rattle.plain_tree.specs.Order.{path_cmp}
-use Rattle.tree_match.specs.Guard.{IsPlanOf}
+use Rattle.plain_tree.specs.declared.name_map.NameMap.{NameMap}
+use Rattle.mapped_trees.specs.Trees.{IsMappedItem}
 use Rattle.vault_spec.specs.Opened.{OpenedVault}
-use Rattle.vault_spec.proofs.Mapped.{contains_mapped, mapped_from}
 use Rattle.vault_spec.specs.Alike.{IsOrderly, place_of}
 use Rattle.vault_spec.specs.Find.{enter}
 use Rattle.vault_spec.specs.Format.{Directory, Format}
@@ -32,6 +33,7 @@ use Rattle.vault_spec.specs.declared.Lack.{Lack}
 use Rattle.vault_walk.specs.Survey.{IsOrdered}
 use Rattle.migrate_core.proofs.Endings.{root_directory}
 use Rattle.migrate_core.proofs.Fronts.{StandBelow, directory_above}
+use Rattle.migrate_core.proofs.MappedItems.{ComesFrom, MappedParts, TellsMapped, comes_from, item_at, mapped_parts, opens_from}
 use Rattle.migrate_core.specs.Copying.{Enters, HasCopied, tree_in}
 
 -- ---- a directory that opens in an orderly vault
@@ -99,22 +101,29 @@ before items ordered x item j k in_j at_j in_k at_k less = elim (cases_order j k
 abbrev pub ParentsFirst : Type 0
 ParentsFirst = (p : plain.Path) (name : List ℕ) → path_cmp p (p ++ name ∷ []) ≡ Less
 
-pub next_enters : StandBelow → EnteredLeads → ParentsFirst → (from to : OpenedVault) (there items : List Planned) (k : ℕ) (item : Planned) (v : View) → IsPlanOf (tree_in from v) items → IsOrdered items
-    → k < length items → item ≡ get_or items k item → HasCopied from to (there ++ take k items) v → Enters to item v
-next_enters below leads first from to there items k item v plan ordered inside at copied front name is =
+pub next_enters : StandBelow → EnteredLeads → ParentsFirst → (rule : NameMap) (from to : OpenedVault) (there items : List Planned) (k : ℕ) (item : Planned) (v : View) → TellsMapped rule (tree_in from v) items
+    → k < length items → item ≡ get_or items k item → HasCopied rule from to (there ++ take k items) v → Enters to item v
+next_enters below leads first rule from to there items k item v tells inside at copied front name is =
     let way : (dir : Directory) × Leads (format_of to.vault) (under to.root v) front dir = leads_to below (format_of to.vault) (under to.root v) copied.copying.target.orderly front (opens_there front is) in
     (way.0, (leads (format_of to.vault) (under to.root v) front way.0).1 way.1)
   where
+    opens_no : opens.Directory ≢ NoItem
+    opens_no e = cc e
+
     opens_there : (front : plain.Path) → item.path ≡ front ++ name ∷ [] → tree_in to v front ≡ opens.Directory
-    opens_there [] is = root_directory (format_of to.vault) (under to.root v) copied.copying.target.orderly
+    opens_there [] is = root_directory (format_of to.vault) (under to.root v)
     opens_there (a ∷ rest) is =
-        let there_item : tree_in from v item.path ≢ NoItem = ((plan.items.items item.path).0 (contains_mapped (λ (x : Planned). x.path) items item (k, inside, sym at))).1 in
-        let directory : tree_in from v (a ∷ rest) ≡ opens.Directory = directory_above below (format_of from.vault) (under from.root v) (a ∷ rest) name (subst (λ p. tree_in from v p ≢ NoItem) is there_item) in
-        let x = mapped_from (λ (x : Planned). x.path) items (a ∷ rest) ((plan.items.items (a ∷ rest)).1 (λ e. cc e, λ none. opens_no (sym directory ∙ none))) in
-        let less : path_cmp x.0.path item.path ≡ Less = ap (λ p. path_cmp p item.path) x.2 ∙ ap (path_cmp (a ∷ rest)) is ∙ first (a ∷ rest) name in
-        let early : x.1.0 < k = before items ordered x.0 item x.1.0 k x.1.1 x.1.2 inside at less in
-        let has : tree_in to v x.0.path ≢ NoItem = copied.has x.0 (Contains-append_right there (take k items) x.0 (in_front items k x.1.0 x.0 early x.1.1 x.1.2)) in
-        (copied.copying.part (a ∷ rest) (λ e. cc e) (subst (λ p. tree_in to v p ≢ NoItem) x.2 has)).0 ∙ directory
+        let source : ComesFrom rule (tree_in from v) item = comes_from rule (tree_in from v) items item tells (k, inside, sym at) in
+        let parts : MappedParts rule source.path (a ∷ rest) name = mapped_parts rule source.path (a ∷ rest) name (source.comes ∙ is) in
+        let directory : tree_in from v parts.own ≡ opens.Directory = directory_above below (format_of from.vault) (under from.root v) parts.own parts.last (subst (λ p. tree_in from v p ≢ NoItem) parts.is source.opens) in
+        let stands : tree_in from v parts.own ≢ NoItem = λ none. opens_no (sym directory ∙ none) in
+        let x = item_at rule (tree_in from v) items parts.own tells (not_root parts.own parts.maps) stands in
+        let here : x.0.path ≡ a ∷ rest = x.2 ∙ parts.maps in
+        let less : path_cmp x.0.path item.path ≡ Less = ap (λ p. path_cmp p item.path) here ∙ ap (path_cmp (a ∷ rest)) is ∙ first (a ∷ rest) name in
+        let early : x.1.0 < k = before items tells.mapped.ordered x.0 item x.1.0 k x.1.1 x.1.2 inside at less in
+        let has : tree_in to v (a ∷ rest) ≢ NoItem = subst (λ p. tree_in to v p ≢ NoItem) here (copied.has x.0 (Contains-append_right there (take k items) x.0 (in_front items k x.1.0 x.0 early x.1.1 x.1.2))) in
+        sym (opens_from rule (tree_in from v) parts.own (tree_in to v (a ∷ rest)) tells.apart stands has
+        (subst (λ p. IsMappedItem rule (tree_in from v) p (tree_in to v (a ∷ rest))) (sym parts.maps) (copied.copying.part (a ∷ rest) (λ e. cc e) has).0)) ∙ directory
       where
-        opens_no : opens.Directory ≢ NoItem
-        opens_no e = cc e
+        not_root : (own : plain.Path) → mapped_path rule own ≡ a ∷ rest → own ≢ []
+        not_root own maps root = let none : mapped_path rule [] ≡ a ∷ rest = ap (mapped_path rule) (sym root) ∙ maps in cc none

@@ -1,4 +1,4 @@
--- That a vault which allows the last name of each item of a plan allows the names of the whole tree.
+-- That a vault which allows the last mapped name of each item of a plan allows those of the whole tree.
 use Rattle.std.proofs.Common.{◌≡◌, ◌≢◌, ℕ, zero, suc, List, ◌∷◌, [], ◌++◌, Some, refl, sym, ap, ◌∙◌, subst, append_assoc, append-nil, arith}
 use Rattle.std.specs.Prelude.{Contains}
 use Rattle.folder_spec.proofs.Paths.{child-injective, child-not_base}
@@ -6,16 +6,18 @@ use Rattle.folder_spec.specs.Path as folder
 use Rattle.folder_spec.specs.Seen.{under}
 use Rattle.folder_spec.specs.View.{View}
 use Rattle.plain_tree.specs.Names as plain
-use Rattle.tree_match.specs.Guard.{AllowsTree, HoldsSource, IsPlanOf, Migration, tree_at}
+use Rattle.migration_spec.specs.Guard.{HoldsSource, Migration, tree_at}
+use Rattle.mapped_trees.specs.Plans.{IsPlanOf}
+use Rattle.mapped_trees.specs.Trees.{AllowsTree}
 use Rattle.vault_spec.proofs.Mapped.{mapped_from}
 use Rattle.vault_spec.specs.Alike.{place_of}
 use Rattle.vault_spec.specs.Format.{Format}
 use Rattle.vault_spec.specs.Opens as opens
-use Rattle.vault_spec.specs.Opens.{NoItem, Directory, Tree, opened, tree}
+use Rattle.vault_spec.specs.Opens.{NoItem, Directory, opened, tree}
 use Rattle.vault_spec.specs.Plan.{Planned, StandsBelow}
 use Rattle.vault_spec.specs.Standing.{Standing, Absent, Strange, File, Dir, standing}
 use Rattle.vault_spec.specs.Vault.{format_of}
-use Rattle.migrate_core.specs.Sides.{AllowsEach}
+use Rattle.migrate_core.specs.Sides.{AllowsEachMapped}
 
 -- what stands at a path stands below a directory
 abbrev pub StandBelow : Type 0
@@ -58,7 +60,8 @@ divided [] name (k, lt, at) = absurd (omega (arith, lt))
 divided (a ∷ path) name (zero, lt, at) = ([], path, ap (λ x. x ∷ path) at)
 divided (a ∷ path) name (suc k, lt, at) = let more = divided path name (k, omega (arith, lt), at) in (a ∷ more.0, more.1, ap (λ q. a ∷ q) more.2)
 
-pub allows_tree : StandBelow → (g : Migration) (v : View) (items : List Planned) → HoldsSource g v → IsPlanOf (tree_at g.source v) items → AllowsEach (format_of g.target.vault) items → AllowsTree g.target g.held
+pub allows_tree : StandBelow → (g : Migration) (v : View) (items : List Planned) → HoldsSource g v → IsPlanOf (tree_at g.source v) items → AllowsEachMapped g.names (format_of g.target.vault) items
+    → AllowsTree g.names (format_of g.target.vault) g.held
 allows_tree below g v items source plan allowed path name there among =
     let parts = divided path name among in
     let front : plain.Path = parts.0 ++ name ∷ [] in

@@ -6,8 +6,8 @@ use Rattle.folder_spec.specs.Event.{Told, FromTo}
 use Rattle.folder_spec.specs.Seen.{IfSeen, IsSeen, seen}
 use Rattle.folder_spec.specs.View.{View}
 use Rattle.migrate_core.specs.Leading.{Guards, Leads, Goes}
-use Rattle.tree_match.specs.Alone.{Progress, IsAlone, StaysGuarded, StaysAlone}
-use Rattle.tree_match.specs.Guard.{Migration, Guarded}
+use Rattle.migration_spec.specs.Alone.{Progress, IsAlone, StaysGuarded, StaysAlone}
+use Rattle.migration_spec.specs.Guard.{Migration, Guarded}
 
 -- nothing has changed
 pub still_guards : (g : Migration) (p : Progress) (t u : Option Told) → u ≡ t → Guards g p t u

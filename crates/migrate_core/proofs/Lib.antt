@@ -11,6 +11,8 @@ mod Fronts
 mod Keeping
 mod Leadings
 mod Limits
+mod MappedItems
+mod MappedNames
 mod Movings
 mod Placings
 mod Planned

@@ -20,13 +20,21 @@ use Rattle.folder_spec.specs.declared.FolderFault.{FolderFault}
 use Rattle.folder_spec.specs.declared.FolderFault.TheVariants as folder
 use Rattle.move_journal.specs.declared.journal.JournalFault.{JournalFault}
 use Rattle.move_journal.specs.declared.journal.JournalFault.TheVariants as journals
+use Rattle.migration_sides.specs.Sides.{IsWalked, opened_in}
+use Rattle.migration_sides.specs.declared.fault.StepFault.{StepFault}
+use Rattle.migration_sides.specs.declared.fault.StepFault.TheVariants as steps
+use Rattle.plain_tree.specs.Mapped.{mapped_path}
 use Rattle.plain_tree.specs.Names as plain
 use Rattle.port_model.specs.Draws.{ByteStream}
 use Rattle.plain_tree.specs.declared.NodeKind.TheVariants as node
+use Rattle.plain_tree.specs.declared.name_map.NameMap.{NameMap}
 use Rattle.tree_match.proofs.CutItems.{EndsWithin, IsCutItem, cut_content, cut_item}
 use Rattle.tree_match.proofs.HeldTrees.{file_stands, planned}
 use Rattle.tree_match.specs.Comparing.{Answers, Content, Outcome, Stops, bytes_found, content_at}
 use Rattle.tree_match.specs.Matching.{matched}
+use Rattle.tree_match.specs.Trees.{side_of}
+use Rattle.tree_match.specs.declared.answer.MapFault.{MapFault}
+use Rattle.tree_match.specs.declared.answer.MapFault.TheVariants as maps
 use Rattle.tree_match.specs.declared.answer.Match.{Match}
 use Rattle.tree_match.specs.declared.answer.MatchFault.{MatchFault}
 use Rattle.tree_match.specs.declared.answer.MatchFault.TheVariants as match
@@ -45,17 +53,17 @@ use Rattle.work_folder.specs.declared.fault.WorkFault.{WorkFault}
 use Rattle.work_folder.specs.declared.fault.WorkFault.TheVariants as works
 use Rattle.migrate_core.proofs.Causing.{refused_as}
 use Rattle.migrate_core.proofs.Copyings.{copied_as}
+use Rattle.migrate_core.proofs.MappedItems.{own_item}
 use Rattle.migrate_core.proofs.Sharing.{later_taken, share_in_tree, stops_more, taken_for, taken_more}
 use Rattle.migrate_core.proofs.Within.{FilesAreThere}
 use Rattle.migrate_core.specs.Causes.{StopsLater}
 use Rattle.migrate_core.specs.Copying.{CopiesAll, HasCopied, MayBegin, StayGood, tree_in}
-use Rattle.migrate_core.specs.Faults.{of_folder, of_journal, of_match, of_work}
+use Rattle.migrate_core.specs.Faults.{of_folder, of_journal, of_map, of_match, of_step, of_work}
 use Rattle.migrate_core.specs.Sharing.{IsOfTaken, SharesInTree, SharesWhereTidy}
 use Rattle.migrate_core.specs.Limits.{StopsElsewhere, StopsFor, EndsBy, HasSmallContents, IsContentAt, IsCut, IsLonger, IsOfLimit, IsSmall, PassesAsTold, PassesInTree, PassesLimit, content_in}
-use Rattle.migrate_core.specs.Moved.{opened_in}
-use Rattle.migrate_core.specs.Sides.{IsWalked, side_of}
+use Rattle.migrate_core.specs.Sides.{IsMappedWalk}
 use Rattle.migrate_core.specs.declared.fault.MoveFault.{MoveFault}
-use Rattle.migrate_core.specs.declared.fault.MoveFault.TheVariants.{Work, Journal as Unread, Overlap, Load, Walk, NotEmpty, NotAllowed, Changed, Match as Matching, Differ, Place, SourceGone, Failed, NoMemory}
+use Rattle.migrate_core.specs.declared.fault.MoveFault.TheVariants.{Work, Journal as Unread, Overlap, Load, Walk, NotEmpty, NotAllowed, Meet, Changed, Match as Matching, Differ, Place, SourceGone, Failed, NoMemory}
 
 -- ---- how much is read where reading ends at the limit
 
@@ -117,8 +125,8 @@ longer_at short keys v q at same wanting = subst (IsLonger v) same (by (v q) ref
     by Folder is = absurd (omega (arith, subst (λ found. content_limit < length (bytes_found found)) is more))
     by Special is = absurd (omega (arith, subst (λ found. content_limit < length (bytes_found found)) is more))
 
-pub passed_longer : FilesAreNotMuchLonger → (from to : OpenedVault) (v : View) (at : Path) → PassesLimit from to v at → IsLonger v at
-passed_longer short from to v at p = by p.cut
+pub passed_longer : FilesAreNotMuchLonger → (rule : NameMap) (from to : OpenedVault) (v : View) (at : Path) → PassesLimit rule from to v at → IsLonger v at
+passed_longer short rule from to v at p = by p.cut
   where
     by : IsCut at (content_in from v p.source) (content_in to v p.target) ⊎ IsCut at (content_in to v p.target) (content_in from v p.source) → IsLonger v at
     by (inl cut) = longer_at short (format_of from.vault).content v (from.root ++ p.source) at cut.place cut.wanting
@@ -162,8 +170,8 @@ small_ends short files a v path at small stands =
     let whole = small_read short files a v path at small stands in
     ap (λ (r : Reading). r.ending) whole.read ∙ whole.file.whole
 
-pub small_passes : FilesAreNotMuchLonger → FilesAreThere → (from to : OpenedVault) (v : View) (at : Path) → HasOwnFolders from.vault (under from.root v) → HasSmallContents (tree_in from v) → PassesLimit from to v at → ⊥
-small_passes short files from to v at own small p = by p.cut
+pub small_passes : FilesAreNotMuchLonger → FilesAreThere → (rule : NameMap) (from to : OpenedVault) (v : View) (at : Path) → HasOwnFolders from.vault (under from.root v) → HasSmallContents (tree_in from v) → PassesLimit rule from to v at → ⊥
+small_passes short files rule from to v at own small p = by p.cut
   where
     whole : IsReadWhole (format_of from.vault).content (v (from.root ++ p.source))
     whole = small_read short files from v p.path p.source small (p.in_source own)
@@ -202,10 +210,24 @@ its_content a items t v walked is x among file = record {
         subst (λ q. standing (format_of a.vault) (under a.root v) q ≡ File behind.0) (ap (λ (z : Planned). z.path) p.1)
         (file_stands (standing (format_of a.vault) (under a.root v) p.0.path) p.0.at (p.2.node ∙ ap Some is_file) p.2.place ∙ ap File (same_rest a.root p.0.at behind.0 at))
 
+-- an item of the source at its mapped path, and where the content of the file stands from which it comes
+record ItComes (rule : NameMap) (a : OpenedVault) (v : View) (x : Planned) : Type 0 where
+  path : plain.Path
+  comes : mapped_path rule path ≡ x.path
+  rest : Path
+  place : x.at ≡ a.root ++ rest
+  stands : IsContentAt a v path rest
+
+it_comes : (rule : NameMap) (a : OpenedVault) (items : List Planned) (t : Option Told) (v : View) → IsMappedWalk rule t a items → IsSeen t v → (x : Planned) → Contains items x → x.node ≡ node.File → ItComes rule a v x
+it_comes rule a items t v walked is x among file =
+    let own = own_item rule walked.own items x walked.mapped among in
+    let its : ItsContent a v own.0 = its_content a walked.own t v walked.walked is own.0 own.1 (ap (λ (z : Planned). z.node) own.2 ∙ file) in
+    record { path = own.0.path; comes = ap (λ (z : Planned). z.path) own.2; rest = its.rest; place = ap (λ (z : Planned). z.at) (sym own.2) ∙ its.place; stands = its.stands }
+
 is_cut : (at : Path) (one other : Content) → EndsWithin at Wanting one other → IsCut at one other
 is_cut at one other e = record { place = e.place; wanting = e.ends; begins = e.begins }
 
-module _ (from to : OpenedVault) (items others : List Planned) (t : Option Told) (v : View) (walked : IsWalked t from items) (walked_to : IsWalked t to others) (is : IsSeen t v) (at : Path) where
+module _ (rule : NameMap) (from to : OpenedVault) (items others : List Planned) (t : Option Told) (v : View) (walked : IsMappedWalk rule t from items) (walked_to : IsWalked t to others) (is : IsSeen t v) (at : Path) where
   abbrev keys : Keys
   keys = (format_of from.vault).content
 
@@ -213,17 +235,17 @@ module _ (from to : OpenedVault) (items others : List Planned) (t : Option Told)
   keys_to = (format_of to.vault).content
 
   -- the source with the target
-  pub source_first : matched keys items keys_to others v ≡ Stops at Wanting → PassesLimit from to v at
+  pub source_first : matched keys items keys_to others v ≡ Stops at Wanting → PassesLimit rule from to v at
   source_first stops =
       let c : IsCutItem keys keys_to v items others at Wanting = cut_item keys keys_to v items others at Wanting stops in
-      let x : ItsContent from v c.item = its_content from items t v walked is c.item c.among c.file in
+      let x : ItComes rule from v c.item = it_comes rule from items t v walked is c.item c.among c.file in
       let y : ItsContent to v c.other = its_content to others t v walked_to is c.other c.among_others c.other_file in
       record {
-        path = c.item.path;
+        path = x.path;
         source = x.rest;
         target = y.rest;
         in_source = x.stands;
-        in_target = subst (λ p. IsContentAt to v p y.rest) c.same y.stands;
+        in_target = subst (λ p. IsContentAt to v p y.rest) (c.same ∙ sym x.comes) y.stands;
         cut = subst₂ (λ p q. IsCut at (content_at keys v p) (content_at keys_to v q) ⊎ IsCut at (content_at keys_to v q) (content_at keys v p)) x.place y.place
             (elim (cut_content (content_at keys v c.item.at) (content_at keys_to v c.other.at) at Wanting c.stops) [
               | inl e ↦ inl (is_cut at _ _ e)
@@ -232,17 +254,17 @@ module _ (from to : OpenedVault) (items others : List Planned) (t : Option Told)
       }
 
   -- the target with the source
-  pub target_first : matched keys_to others keys items v ≡ Stops at Wanting → PassesLimit from to v at
+  pub target_first : matched keys_to others keys items v ≡ Stops at Wanting → PassesLimit rule from to v at
   target_first stops =
       let c : IsCutItem keys_to keys v others items at Wanting = cut_item keys_to keys v others items at Wanting stops in
-      let x : ItsContent from v c.other = its_content from items t v walked is c.other c.among_others c.other_file in
+      let x : ItComes rule from v c.other = it_comes rule from items t v walked is c.other c.among_others c.other_file in
       let y : ItsContent to v c.item = its_content to others t v walked_to is c.item c.among c.file in
       record {
-        path = c.item.path;
+        path = x.path;
         source = x.rest;
         target = y.rest;
-        in_source = subst (λ p. IsContentAt from v p x.rest) c.same x.stands;
-        in_target = y.stands;
+        in_source = x.stands;
+        in_target = subst (λ p. IsContentAt to v p y.rest) (sym c.same ∙ sym x.comes) y.stands;
         cut = subst₂ (λ p q. IsCut at (content_at keys v p) (content_at keys_to v q) ⊎ IsCut at (content_at keys_to v q) (content_at keys v p)) x.place y.place
             (elim (cut_content (content_at keys_to v c.item.at) (content_at keys v c.other.at) at Wanting c.stops) [
               | inl e ↦ inr (is_cut at _ _ e)
@@ -271,6 +293,7 @@ not_compared P Q (Load side fault) none = tt
 not_compared P Q (Walk fault) none = tt
 not_compared P Q (NotEmpty at) none = tt
 not_compared P Q (NotAllowed path) none = tt
+not_compared P Q (Meet one other) none = tt
 not_compared P Q (Changed plan items plan' items') none = tt
 not_compared P Q (Differ path how) none = tt
 not_compared P Q (Place fault) none = tt
@@ -302,6 +325,18 @@ journal_compares journals.TooLarge = tt
 journal_compares journals.Failed = tt
 journal_compares journals.NoMemory = tt
 
+pub step_compares : (fault : StepFault) → StopsElsewhere (of_step fault)
+step_compares (steps.Overlap first second) = tt
+step_compares (steps.Load side fault) = tt
+step_compares (steps.Walk fault) = tt
+step_compares steps.Failed = tt
+step_compares steps.NoMemory = tt
+
+pub map_compares : (fault : MapFault) → StopsElsewhere (of_map fault)
+map_compares (maps.NotAName path) = tt
+map_compares (maps.Meet one other) = tt
+map_compares maps.NoMemory = tt
+
 -- ---- by the answer of a call
 
 -- what is so at each view of the one is so of the path
@@ -320,6 +355,7 @@ limit_all S P Q (Load side fault) all h = tt
 limit_all S P Q (Walk fault) all h = tt
 limit_all S P Q (NotEmpty at) all h = tt
 limit_all S P Q (NotAllowed path) all h = tt
+limit_all S P Q (Meet one other) all h = tt
 limit_all S P Q (Changed plan items plan' items') all h = tt
 limit_all S P Q (Differ path how) all h = tt
 limit_all S P Q (Place fault) all h = tt
@@ -334,22 +370,22 @@ limit_more P Q (Err fault) more h = limit_all (λ v. Unit {0}) (λ v. P) Q fault
 pub none_compared : {T : Type 0} (Q : Path → Type 0) (result : Result T MoveFault) (fault why : MoveFault) → result ≡ Err fault → fault ≡ why → StopsElsewhere why → IfErr result (IsOfLimit Q)
 none_compared Q result fault why is same none = refused_as (λ answer. IfErr answer (IsOfLimit Q)) result fault why is same (uncompared Q why none)
 
-pub ends_stopped : {T : Type 0} (P Q : Type 0) (from to : OpenedVault) (t : Option Told) (result : Result T MoveFault) (fault why : MoveFault) → result ≡ Err fault → fault ≡ why → StopsFor Q why → EndsBy P Q from to t result
-ends_stopped P Q from to t result fault why is same stops =
-    refused_as (λ answer. EndsBy P Q from to t answer) result fault why is same ((λ v seen. not_compared (PassesLimit from to v) Q why stops), taken_for Q Q why (λ h. h) stops)
+pub ends_stopped : {T : Type 0} (P Q : Type 0) (rule : NameMap) (from to : OpenedVault) (t : Option Told) (result : Result T MoveFault) (fault why : MoveFault) → result ≡ Err fault → fault ≡ why → StopsFor Q why → EndsBy P Q rule from to t result
+ends_stopped P Q rule from to t result fault why is same stops =
+    refused_as (λ answer. EndsBy P Q rule from to t answer) result fault why is same ((λ v seen. not_compared (PassesLimit rule from to v) Q why stops), taken_for Q Q why (λ h. h) stops)
 
-pub ends_uncompared : {T : Type 0} (P Q : Type 0) (from to : OpenedVault) (t : Option Told) (result : Result T MoveFault) (fault why : MoveFault) → result ≡ Err fault → fault ≡ why → StopsElsewhere why → EndsBy P Q from to t result
-ends_uncompared P Q from to t result fault why is same none = ends_stopped P Q from to t result fault why is same (stops_more ⊥ Q why (λ never. absurd never) none)
+pub ends_uncompared : {T : Type 0} (P Q : Type 0) (rule : NameMap) (from to : OpenedVault) (t : Option Told) (result : Result T MoveFault) (fault why : MoveFault) → result ≡ Err fault → fault ≡ why → StopsElsewhere why → EndsBy P Q rule from to t result
+ends_uncompared P Q rule from to t result fault why is same none = ends_stopped P Q rule from to t result fault why is same (stops_more ⊥ Q why (λ never. absurd never) none)
 
-pub ends_more : {T : Type 0} (P Q R S : Type 0) (from to : OpenedVault) (t : Option Told) (result : Result T MoveFault) → (P → Q) → (R → S) → EndsBy P R from to t result → EndsBy Q S from to t result
-ends_more P Q R S from to t (Ok value) more further ends = more ends
-ends_more P Q R S from to t (Err fault) more further ends = (ends.0, taken_more R S fault further ends.1)
+pub ends_more : {T : Type 0} (P Q R S : Type 0) (rule : NameMap) (from to : OpenedVault) (t : Option Told) (result : Result T MoveFault) → (P → Q) → (R → S) → EndsBy P R rule from to t result → EndsBy Q S rule from to t result
+ends_more P Q R S rule from to t (Ok value) more further ends = more ends
+ends_more P Q R S rule from to t (Err fault) more further ends = (ends.0, taken_more R S fault further ends.1)
 
 -- where no item is placed any more
-pub ends_later : {T : Type 0} (P Q : Type 0) (Is R : View → Type 0) (from to : OpenedVault) (t u w : Option Told) (result : Result T MoveFault) → (P → Q) → IfSeen t (λ v. (x : View) × IsSeen u x)
-    → IfErr result (StopsLater Is u) → EndsBy P (Unit {0}) from to w result → EndsBy Q (IfSeen t (λ v. R v)) from to w result
-ends_later P Q Is R from to t u w (Ok value) more after later ends = more ends
-ends_later P Q Is R from to t u w (Err fault) more after later ends = (ends.0, later_taken Is R t u fault after later)
+pub ends_later : {T : Type 0} (P Q : Type 0) (Is R : View → Type 0) (rule : NameMap) (from to : OpenedVault) (t u w : Option Told) (result : Result T MoveFault) → (P → Q) → IfSeen t (λ v. (x : View) × IsSeen u x)
+    → IfErr result (StopsLater Is u) → EndsBy P (Unit {0}) rule from to w result → EndsBy Q (IfSeen t (λ v. R v)) rule from to w result
+ends_later P Q Is R rule from to t u w (Ok value) more after later ends = more ends
+ends_later P Q Is R rule from to t u w (Err fault) more after later ends = (ends.0, later_taken Is R t u fault after later)
 
 pub none_taken : {T : Type 0} (Q : Type 0) (result : Result T MoveFault) (fault why : MoveFault) → result ≡ Err fault → fault ≡ why → StopsElsewhere why → IfErr result (IsOfTaken Q)
 none_taken Q result fault why is same none = refused_as (λ answer. IfErr answer (IsOfTaken Q)) result fault why is same (taken_for ⊥ Q why (λ never. absurd never) none)
@@ -359,30 +395,30 @@ if_taken P Q (Ok value) more h = tt
 if_taken P Q (Err fault) more h = taken_more P Q fault more h
 
 -- of the vaults that two roots and their passphrases are
-pub limit_in_tree : {T : Type 0} (P Q : Type 0) (from to : Path) (pass pass' : List ℕ) (source target : OpenedVault) (t u : Option Told) (result : Result T MoveFault) → source.root ≡ from → target.root ≡ to
+pub limit_in_tree : {T : Type 0} (P Q : Type 0) (rule : NameMap) (from to : Path) (pass pass' : List ℕ) (source target : OpenedVault) (t u : Option Told) (result : Result T MoveFault) → source.root ≡ from → target.root ≡ to
     → IfSeen t (λ v. IsVault (under from v) pass source.vault) → IfSeen t (λ v. IsVault (under to v) pass' target.vault)
-    → EndsBy P Q source target u result → IfErr result (IsOfLimit (PassesInTree from to pass pass' t u))
-limit_in_tree P Q from to pass pass' source target t u (Ok value) at_from at_to opens opens_to ends = tt
-limit_in_tree P Q from to pass pass' source target t u (Err fault) at_from at_to opens opens_to ends =
-    limit_all (IsSeen u) (PassesLimit source target) (PassesInTree from to pass pass' t u) fault
+    → EndsBy P Q rule source target u result → IfErr result (IsOfLimit (PassesInTree rule from to pass pass' t u))
+limit_in_tree P Q rule from to pass pass' source target t u (Ok value) at_from at_to opens opens_to ends = tt
+limit_in_tree P Q rule from to pass pass' source target t u (Err fault) at_from at_to opens opens_to ends =
+    limit_all (IsSeen u) (PassesLimit rule source target) (PassesInTree rule from to pass pass' t u) fault
     (λ at passes. record {
       source = source.vault;
       target = target.vault;
       opens_source = opens;
       opens_target = opens_to;
-      passes = λ v is. subst₂ (λ p q. PassesLimit (opened_in p source.vault) (opened_in q target.vault) v at) at_from at_to (passes v is);
+      passes = λ v is. subst₂ (λ p q. PassesLimit rule (opened_in p source.vault) (opened_in q target.vault) v at) at_from at_to (passes v is);
     }) ends.0
 
-pub shared_in_tree : {T : Type 0} (P : Type 0) (from to : Path) (pass pass' : List ℕ) (source target : OpenedVault) (s s' : Option ByteStream) (t u : Option Told) (result : Result T MoveFault) → source.root ≡ from → target.root ≡ to
+pub shared_in_tree : {T : Type 0} (P : Type 0) (rule : NameMap) (from to : Path) (pass pass' : List ℕ) (source target : OpenedVault) (s s' : Option ByteStream) (t u : Option Told) (result : Result T MoveFault) → source.root ≡ from → target.root ≡ to
     → IfSeen t (λ v. IsVault (under from v) pass source.vault) → IfSeen t (λ v. IsVault (under to v) pass' target.vault)
-    → EndsBy P (SharesWhereTidy source target s s' t u) source target u result → IfErr result (IsOfTaken (SharesInTree from to pass pass' s s' t u))
-shared_in_tree P from to pass pass' source target s s' t u (Ok value) at_from at_to opens opens_to ends = tt
-shared_in_tree P from to pass pass' source target s s' t u (Err fault) at_from at_to opens opens_to ends =
-    taken_more (SharesWhereTidy source target s s' t u) (SharesInTree from to pass pass' s s' t u) fault (share_in_tree from to pass pass' source target s s' t u at_from at_to opens opens_to) ends.1
+    → EndsBy P (SharesWhereTidy rule source target s s' t u) rule source target u result → IfErr result (IsOfTaken (SharesInTree rule from to pass pass' s s' t u))
+shared_in_tree P rule from to pass pass' source target s s' t u (Ok value) at_from at_to opens opens_to ends = tt
+shared_in_tree P rule from to pass pass' source target s s' t u (Err fault) at_from at_to opens opens_to ends =
+    taken_more (SharesWhereTidy rule source target s s' t u) (SharesInTree rule from to pass pass' s s' t u) fault (share_in_tree rule from to pass pass' source target s s' t u at_from at_to opens opens_to) ends.1
 
 -- what is seen at first is seen where the vaults are opened
-pub in_tree_before : (from to : Path) (pass pass' : List ℕ) (t0 t u : Option Told) → IfSeen t0 (λ v. IsSeen t v) → (at : Path) → PassesInTree from to pass pass' t u at → PassesInTree from to pass pass' t0 u at
-in_tree_before from to pass pass' t0 t u before at p = record {
+pub in_tree_before : (rule : NameMap) (from to : Path) (pass pass' : List ℕ) (t0 t u : Option Told) → IfSeen t0 (λ v. IsSeen t v) → (at : Path) → PassesInTree rule from to pass pass' t u at → PassesInTree rule from to pass pass' t0 u at
+in_tree_before rule from to pass pass' t0 t u before at p = record {
   source = p.source;
   target = p.target;
   opens_source = λ v is. p.opens_source v (before v is);
@@ -395,16 +431,16 @@ as_told_before work pass pass' t0 t u before v at p = record {
   journal = p.journal;
   is = p.is;
   stands = p.stands;
-  passes = in_tree_before p.journal.source p.journal.target pass pass' t0 t u before at p.passes;
+  passes = in_tree_before p.journal.names p.journal.source p.journal.target pass pass' t0 t u before at p.passes;
 }
 
 -- ---- in good order
 
 -- where no two directories of either vault shared a folder, and both were copied into
-pub good_copies : (from to : OpenedVault) (there items : List Planned) (t u w : Option Told) → MayBegin from to there t → IfSeen t (λ v. (x : View) × IsSeen u x)
+pub good_copies : (rule : NameMap) (from to : OpenedVault) (there items : List Planned) (t u w : Option Told) → MayBegin rule from to there t → IfSeen t (λ v. (x : View) × IsSeen u x)
     → ((v x : View) → IsSeen t v → IsSeen u x → under from.root x ≡ under from.root v) → ((v x : View) → IsSeen t v → IsSeen u x → under to.root x ≡ under to.root v)
-    → CopiesAll from to there items u w → StayGood from to t w
-good_copies from to there items t u w may then_ source_is target_is copies v y is_v is_y own =
+    → CopiesAll rule from to there items u w → StayGood from to t w
+good_copies rule from to there items t u w may then_ source_is target_is copies v y is_v is_y own =
     let x : (x : View) × IsSeen u x = then_ v is_v in
-    let has : HasCopied from to items y = copies x.0 y x.1 is_y (copied_as from to there v x.0 (source_is v x.0 is_v x.1) (target_is v x.0 is_v x.1) (may v is_v own)) in
+    let has : HasCopied rule from to items y = copies x.0 y x.1 is_y (copied_as rule from to there v x.0 (source_is v x.0 is_v x.1) (target_is v x.0 is_v x.1) (may v is_v own)) in
     (has.copying.source, has.copying.target)

@@ -13,7 +13,9 @@ use Rattle.folder_spec.proofs.Moments.{went_nowhere, went_on, went_more, went_to
 use Rattle.folder_spec.proofs.Paths.{below-apart}
 use Rattle.folder_spec.proofs.Regions.{as_before, as_before_on, as_before_then, as_before_within, seen_as_before}
 use Rattle.folder_spec.proofs.Tellings.{from_to_more, from_to_on, from_to_same}
-use Rattle.tree_match.proofs.Kept.{not_staged, turned}
+use Rattle.migration_sides.specs.Sides.{AreSeparate, IsWalked}
+use Rattle.migration_spec.proofs.Kept.{not_staged, turned}
+use Rattle.plain_tree.specs.declared.name_map.NameMap.{NameMap}
 use Rattle.vault_read.specs.Laws.{HasOwnFolders}
 use Rattle.vault_spec.specs.Opened.{OpenedVault}
 use Rattle.vault_spec.specs.Findings.{IsClean, IsFileAt}
@@ -22,7 +24,7 @@ use Rattle.vault_spec.specs.Vault.{format_of}
 use Rattle.vault_walk.specs.Surveyed.{IsPlanOf}
 use Rattle.content_writing.specs.Making.{is_apart, is_staged}
 use Rattle.migrate_core.specs.Moving.{OnlyBrings, MovesBeside}
-use Rattle.migrate_core.specs.Sides.{AreSeparate, IsWalked}
+use Rattle.migrate_core.specs.Sides.{AreItemsToMove, IsMappedWalk}
 
 -- ---- one after the other
 
@@ -129,3 +131,16 @@ walked_stays region from items (Some a) (Some b) inside sound stayed walked = re
 walked_stays region from items None None inside sound stayed walked = walked
 walked_stays region from items None (Some b) inside sound stayed walked = absurd stayed
 walked_stays region from items (Some a) None inside sound stayed walked = absurd stayed
+
+-- and so it does at the mapped paths
+pub mapped_stays : (region : Path → Bool) (rule : NameMap) (from : OpenedVault) (items : List Planned) (t u : Option Told) → ((rest : Path) → IsTrue (region (from.root ++ rest))) → AreSound t
+    → FromTo (λ a b. IsAsBefore region a.state b.state) t u → IsMappedWalk rule t from items → IsMappedWalk rule u from items
+mapped_stays region rule from items t u inside sound stayed walked = record { own = walked.own; walked = walked_stays region from walked.own t u inside sound stayed walked.walked; mapped = walked.mapped }
+
+pub moving_stays : (region : Path → Bool) (rule : NameMap) (from : OpenedVault) (own mapped : List Planned) (t u : Option Told) → ((rest : Path) → IsTrue (region (from.root ++ rest))) → AreSound t
+    → FromTo (λ a b. IsAsBefore region a.state b.state) t u → AreItemsToMove rule t from own mapped → AreItemsToMove rule u from own mapped
+moving_stays region rule from own mapped t u inside sound stayed items = record { walked = walked_stays region from own t u inside sound stayed items.walked; same = items.same }
+
+-- the items to move are such a walk
+pub mapped_walk : (rule : NameMap) (t : Option Told) (from : OpenedVault) (own mapped : List Planned) → AreItemsToMove rule t from own mapped → IsMappedWalk rule t from mapped
+mapped_walk rule t from own mapped items = record { own = own; walked = items.walked; mapped = items.same }

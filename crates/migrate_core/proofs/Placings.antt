@@ -9,18 +9,21 @@ use Rattle.folder_spec.specs.Seen.{IfSeen, seen, under}
 use Rattle.folder_spec.specs.View.{View}
 use Rattle.folder_spec.proofs.Paths.{base_or_child, begins_or_not, below-apart}
 use Rattle.folder_spec.proofs.Tellings.{from_to_more}
+use Rattle.mapped_trees.specs.Trees.{IsMappedItem}
 use Rattle.plain_tree.specs.Names as plain
 use Rattle.plain_tree.specs.declared.NodeKind.TheVariants.{Dir, File}
+use Rattle.plain_tree.specs.declared.name_map.NameMap.{NameMap}
 use Rattle.port_model.specs.Draws.{ByteStream}
 use Rattle.content_writing.specs.Content.{Coming, Ending, Whole, still_coming}
 use Rattle.vault_contents.specs.VaultContents.{path_of, coming_of}
 use Rattle.vault_contents.specs.declared.vault_content.VaultContent.{VaultContent}
 use Rattle.content_writing.specs.declared.fault.PutFault.{PutFault}
 use Rattle.content_writing.specs.declared.fault.PutFault.TheVariants.{NoMemory, Taken}
-use Rattle.tree_match.proofs.Kept.{behind_none}
-use Rattle.tree_match.specs.Alone.{Begun, IsAlone, StaysGuarded}
-use Rattle.tree_match.specs.Guard.{AreApart, Migration}
-use Rattle.tree_match.specs.Placed.{ItemAt, IsHeld, Places, placing_of}
+use Rattle.migration_spec.proofs.Kept.{behind_none}
+use Rattle.migration_spec.specs.Alone.{Begun, IsAlone, StaysGuarded}
+use Rattle.migration_spec.specs.Guard.{Migration}
+use Rattle.work_folder.specs.Apart.{AreApart}
+use Rattle.migration_spec.specs.Placed.{ItemAt, IsHeld, Places, placing_of}
 use Rattle.vault_spec.specs.Opened.{OpenedVault}
 use Rattle.vault_spec.specs.Find.{Refusal, enter}
 use Rattle.vault_spec.specs.Format.{Directory}
@@ -38,7 +41,7 @@ use Rattle.migrate_core.proofs.Movings.{AreSound, moves_nowhere}
 use Rattle.migrate_core.proofs.Planned.{DirectoriesOpen, FilesFit, FilesOpen, IsContentOf, SeenAlone, content_coming, directory_held, file_held}
 use Rattle.migrate_core.specs.Leading.{Goes, Leads}
 use Rattle.migrate_core.specs.Moving.{OnlyBrings, MovesBeside}
-use Rattle.migrate_core.specs.Sides.{AreSides, IsItemOf, opened_at}
+use Rattle.migrate_core.specs.Sides.{AreSides, IsItemOf}
 
 -- ---- a new item is brought
 
@@ -119,14 +122,14 @@ PlacingLeads = (g : Migration) (x : ItemAt) (a b : Told) → IsAlone g Begun a.s
 
 -- at a path at which the source held the item, where its content comes whole
 pub made_goes : PlacingGuards → PlacingLeads → (g : Migration) (path : plain.Path) (item : NewItem) (ending : Ending) (drawn : List ℕ) (t u : Option Told) (result : Answer)
-    → ((a : Told) → t ≡ Some a → IsAlone g Begun a.state → ending ≡ Whole → opens_as item ≡ g.held path) → AreSound u
-    → MakesAt New (opened_at g.target) g.work path item ending drawn t u result → Goes g Begun Begun t u result
+    → ((a : Told) → t ≡ Some a → IsAlone g Begun a.state → ending ≡ Whole → IsMappedItem g.names g.held path (opens_as item)) → AreSound u
+    → MakesAt New g.target g.work path item ending drawn t u result → Goes g Begun Begun t u result
 made_goes guards leads g path item ending drawn t u result held sound made = elim (base_or_child path) [
   | inl root ↦ goes_nowhere g Begun t u result (made.root root).0
   | inr named ↦
       let x : ItemAt = record { front = named.0; name = named.1; item = item } in
       let one : MakesOne New (placing_of g x) ending drawn t u result = made.named named.0 named.1 named.2 in
-      named_goes x t u result one (λ a is at whole. held a is at whole ∙ ap g.held named.2) sound
+      named_goes x t u result one (λ a is at whole. subst (λ p. IsMappedItem g.names g.held p (opens_as item)) named.2 (held a is at whole)) sound
 ]
   where
     placed : (x : ItemAt) (a b : Told) (result : Answer) → MakesOne New (placing_of g x) ending drawn (Some a) (Some b) result → (ending ≡ Whole → IsHeld g x) → IsSound b.state → Places g x a b result
@@ -160,13 +163,13 @@ made_goes guards leads g path item ending drawn t u result held sound made = eli
 
 -- ---- a directory of the source, and a file of it
 
-module _ (guards : PlacingGuards) (leads : PlacingLeads) (shown : SeenAlone) (g : Migration) (from to : OpenedVault) (work : Path) (sides : AreSides g from to work) (item : Planned) (t u : Option Told)
-    (s s' : Option ByteStream) (result : Answer) (of : IsItemOf t from item) (sound : AreSound u) where
-  item_here : IsItemOf t (opened_at g.source) item
-  item_here = subst (λ x. IsItemOf t x item) sides.source of
+module _ (guards : PlacingGuards) (leads : PlacingLeads) (shown : SeenAlone) (g : Migration) (rule : NameMap) (from to : OpenedVault) (work : Path) (sides : AreSides g rule from to work) (item : Planned) (t u : Option Told)
+    (s s' : Option ByteStream) (result : Answer) (of : IsItemOf rule t from item) (sound : AreSound u) where
+  item_here : IsItemOf g.names t g.source item
+  item_here = subst (λ names. IsItemOf names t g.source item) sides.names (subst (λ x. IsItemOf rule t x item) sides.source of)
 
-  made_here : (new : NewItem) (ending : Ending) (drawn : List ℕ) → MakesAt New to work item.path new ending drawn t u result → MakesAt New (opened_at g.target) g.work item.path new ending drawn t u result
-  made_here new ending drawn made = subst (λ w. MakesAt New (opened_at g.target) w item.path new ending drawn t u result) sides.work
+  made_here : (new : NewItem) (ending : Ending) (drawn : List ℕ) → MakesAt New to work item.path new ending drawn t u result → MakesAt New g.target g.work item.path new ending drawn t u result
+  made_here new ending drawn made = subst (λ w. MakesAt New g.target w item.path new ending drawn t u result) sides.work
       (subst (λ x. MakesAt New x work item.path new ending drawn t u result) sides.target made)
 
   pub directory_goes : DirectoriesOpen → item.node ≡ Dir → MakesDirectory to work item.path s s' t u result → Goes g Begun Begun t u result
@@ -178,5 +181,5 @@ module _ (guards : PlacingGuards) (leads : PlacingLeads) (shown : SeenAlone) (g 
   file_goes opens fits node content gives left made =
       made_goes guards leads g item.path (NewFile made.writing.content) made.writing.ending made.writing.drawn t u result
       (λ a is at whole. file_held shown opens fits g Begun t a item is at item_here node made.writing.content made.writing.ending
-      (λ c told. made.takes.told c (ap (λ x. still_coming (path_of content) x (coming_of content)) is ∙ content_coming (opened_at g.source) item content (subst (λ x. IsContentOf x item content) sides.source gives) a ∙ told)) whole)
+      (λ c told. made.takes.told c (ap (λ x. still_coming (path_of content) x (coming_of content)) is ∙ content_coming g.source item content (subst (λ x. IsContentOf x item content) sides.source gives) a ∙ told)) whole)
       sound (made_here (NewFile made.writing.content) made.writing.ending made.writing.drawn made.makes)

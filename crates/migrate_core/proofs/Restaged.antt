@@ -1,36 +1,44 @@
 -- Going on with a migration whose stage is made ready anew.
-use Rattle.std.proofs.Common.{◌≡◌, ◌&&◌, Bool, true, false, ℕ, List, [], ◌∷◌, Option, Some, None, Result, refl, sym, ap, ◌∙◌, subst, codes, IsTrue, is_none}
+use Rattle.std.proofs.Common.{◌≡◌, ◌≢◌, ◌&&◌, Bool, true, false, List, [], ◌∷◌, Option, Some, None, Result, refl, sym, ap, ◌∙◌, subst, codes, IsTrue, is_none}
+use Rattle.std.proofs.Math.Path.{fun_ext}
 use Rattle.folder_spec.proofs.Paths.{below-apart}
 use Rattle.folder_spec.proofs.Replaces.{apart-below}
 use Rattle.folder_spec.specs.Event.{Told, FromTo}
 use Rattle.folder_spec.specs.Moments.{Went}
 use Rattle.folder_spec.specs.Path.{Path}
 use Rattle.folder_spec.specs.Region.{IsAsBefore, apart_from, apart_from_both}
-use Rattle.folder_spec.specs.Seen.{IfSeen, IsSeen, seen, under}
+use Rattle.folder_spec.specs.Seen.{IfSeen, IsSeen, seen}
 use Rattle.folder_spec.specs.View.{View}
 use Rattle.move_journal.specs.declared.journal.Journal.{Journal}
 use Rattle.move_journal.specs.declared.journal.Phase.{Phase}
 use Rattle.move_journal.specs.declared.journal.Phase.TheVariants as phase
-use Rattle.tree_match.proofs.Kept.{behind_none}
-use Rattle.tree_match.specs.Alone.{Progress, Begun, Finished, IsAlone, StaysAlone}
-use Rattle.tree_match.specs.Guard as guard
-use Rattle.tree_match.specs.Guard.{AreApart, IsDone, Migration, Tells}
-use Rattle.tree_match.specs.Trees.{Side, IsWalkOf}
+use Rattle.migration_spec.proofs.Kept.{behind_none}
+use Rattle.migration_spec.specs.Alone.{Progress, Begun, Finished, IsAlone, StaysAlone}
+use Rattle.migration_spec.specs.Guard.{IsDone, Migration, Tells, tree_at}
+use Rattle.work_folder.specs.Apart.{AreApart}
+use Rattle.migration_sides.specs.Sides.{IsWalked}
+use Rattle.mapped_trees.specs.Plans.{IsPlanOf}
+use Rattle.mapped_trees.specs.Trees.{IsMapped}
+use Rattle.plain_tree.specs.Mapped.{mapped_path}
+use Rattle.plain_tree.specs.Names as plain
+use Rattle.plain_tree.specs.declared.name_map.NameMap.{NameMap}
+use Rattle.tree_match.specs.Mapping.{IsMappedPlan}
+use Rattle.tree_match.specs.Trees.{Side, IsWalkOf, side_of, tree_of}
 use Rattle.vault_spec.specs.Opened.{OpenedVault}
 use Rattle.vault_spec.proofs.Mapped.{contains_mapped, mapped_from}
-use Rattle.vault_spec.specs.Opens.{Tree, tree}
+use Rattle.vault_spec.specs.Opens.{Tree}
 use Rattle.vault_spec.specs.Plan.{Planned}
-use Rattle.vault_spec.specs.Vault.{format_of}
 use Rattle.work_folder.specs.Changing.{ChangesAt}
 use Rattle.work_folder.specs.Entering.{IsStage, IsBelowStage}
 use Rattle.work_folder.specs.Entries.{stage_path}
 use Rattle.migrate_core.proofs.Leadings.{goes_given, goes_on}
+use Rattle.migrate_core.proofs.MappedItems.{own_item}
 use Rattle.migrate_core.proofs.Movings.{moves_to, moves_within}
 use Rattle.migrate_core.proofs.Planned.{SeenAlone, seen_of, walk_of}
 use Rattle.migrate_core.proofs.WorkFolders.{changing_moves}
 use Rattle.migrate_core.specs.Leading.{Goes, Guards, Leads, LeadsTold, progress_of}
 use Rattle.migrate_core.specs.Moving.{MovesBeside, OnlyBrings}
-use Rattle.migrate_core.specs.Sides.{AreSides, IsWalked, StandAll, opened_at, side_of}
+use Rattle.migrate_core.specs.Sides.{AreItemsToMove, AreSides, StandAll}
 
 -- ---- the stage alone
 
@@ -77,38 +85,45 @@ stage_alone stages g p work (Some a) None is changes = absurd changes
 
 -- a walk tells the tree
 abbrev pub PlansTell : Type 0
-PlansTell = (v : View) (a : Side) → IsWalkOf v a → guard.IsPlanOf (tree (format_of a.vault) (under a.root v)) a.items
+PlansTell = (v : View) (a : Side) → IsWalkOf v a → IsPlanOf (tree_of v a) a.items
 
-stands_in : (t m : Tree) (items there : List Planned) → guard.IsPlanOf t items → guard.IsPlanOf m there → ((path : List (List ℕ)) → t path ≡ m path) → StandAll items there
-stands_in t m items there plan other same item among =
-    let here = (plan.items.items item.path).0 (contains_mapped (λ (x : Planned). x.path) items item among) in
-    let found = mapped_from (λ (x : Planned). x.path) there item.path ((other.items.items item.path).1 (here.0, λ none. here.1 (same item.path ∙ none))) in
-    (found.0, found.1, found.2)
+not_root : (rule : NameMap) (path : plain.Path) → path ≢ [] → mapped_path rule path ≢ []
+not_root rule [] named e = named refl
+not_root rule (name ∷ path) named e = cc e
 
-pub all_stand : PlansTell → (g : Migration) (t : Option Told) (v : View) (items there : List Planned) → IsSeen t v → IsDone g v → IsWalked t (opened_at g.source) items → IsWalked t (opened_at g.target) there
-    → StandAll items there
-all_stand tell g t v items there is done walked other =
-    stands_in (guard.tree_at g.source v) (guard.tree_at g.target v) items there
-    (tell v (side_of (opened_at g.source) items) (walk_of (opened_at g.source) items t v walked is done.source.there.good.orderly))
-    (tell v (side_of (opened_at g.target) there) (walk_of (opened_at g.target) there t v other is done.target.there.good.orderly))
-    (λ path. done.source.held path ∙ sym (done.target.all.held path))
+stands_in : (rule : NameMap) (t m : Tree) (own mapped there : List Planned) → IsPlanOf t own → IsMappedPlan rule own mapped → IsPlanOf m there → IsMapped rule t m → StandAll mapped there
+stands_in rule t m own mapped there plan same other is item among =
+    let o = own_item rule own mapped item same among in
+    let path : plain.Path = mapped_path rule o.0.path in
+    let here = (plan.items.items o.0.path).0 (contains_mapped (λ (x : Planned). x.path) own o.0 o.1) in
+    let found = mapped_from (λ (x : Planned). x.path) there path ((other.items.items path).1 (not_root rule o.0.path here.0, λ none. here.1 (sym (is.each o.0.path here.1) ∙ none))) in
+    (found.0, found.1, found.2 ∙ ap (λ (x : Planned). x.path) o.2)
+
+pub all_stand : PlansTell → (g : Migration) (t : Option Told) (v : View) (own mapped there : List Planned) → IsSeen t v → IsDone g v → AreItemsToMove g.names t g.source own mapped → IsWalked t g.target there → StandAll mapped there
+all_stand tell g t v own mapped there is done walked other =
+    stands_in g.names (tree_at g.source v) (tree_at g.target v) own mapped there
+    (tell v (side_of g.source own) (walk_of g.source own t v walked.walked is done.source.there.good.orderly)) walked.same
+    (tell v (side_of g.target there) (walk_of g.target there t v other is done.target.there.good.orderly))
+    (subst (λ (m : Tree). IsMapped g.names m (tree_at g.target v)) (sym (fun_ext done.source.held)) done.target.all.held)
 
 -- ---- going on
 
-pub rest_goes : {T E : Type 0} → SeenAlone → PlansTell → (region : Path → Bool) (root : Path) (g : Migration) (from to : OpenedVault) (through : Path) (journal : Journal) (items there : List Planned)
-    → (t u w : Option Told) (result : Result T E) → MovesBeside region root t w → AreSides g from to through → Tells g journal → IsWalked t from items → IsWalked t to there
+pub rest_goes : {T E : Type 0} → SeenAlone → PlansTell → (region : Path → Bool) (root : Path) (g : Migration) (from to : OpenedVault) (through : Path) (journal : Journal) (own mapped there : List Planned)
+    → (t u w : Option Told) (result : Result T E) → MovesBeside region root t w → AreSides g journal.names from to through → Tells g journal → AreItemsToMove journal.names t from own mapped → IsWalked t to there
     → ((p : Progress) → Guards g p t u × Leads g p p t u)
     → (journal.phase ≡ phase.Building → LeadsTold from to through journal Begun Finished u w result)
-    → (journal.phase ≡ phase.Done → StandAll items there → LeadsTold from to through journal Finished Finished u w result)
+    → (journal.phase ≡ phase.Done → StandAll mapped there → LeadsTold from to through journal Finished Finished u w result)
     → Goes g (progress_of journal.phase) Finished t w result
-rest_goes shown tell region root g from to through journal items there t u w result went sides tells walked other first building done = by_phase journal.phase refl
+rest_goes shown tell region root g from to through journal own mapped there t u w result went sides tells walked other first building done = by_phase journal.phase refl
   where
-    stand : (a : Told) → t ≡ Some a → IsAlone g Finished a.state → StandAll items there
-    stand a is at =
-        all_stand tell g t (seen a.state) items there (seen_of t a is) (shown g Finished a.state at) (subst (λ o. IsWalked t o items) sides.source walked) (subst (λ o. IsWalked t o there) sides.target other)
+    walked_here : AreItemsToMove g.names t g.source own mapped
+    walked_here = subst (λ o. AreItemsToMove g.names t o own mapped) sides.source (subst (λ n. AreItemsToMove n t from own mapped) sides.names walked)
+
+    stand : (a : Told) → t ≡ Some a → IsAlone g Finished a.state → StandAll mapped there
+    stand a is at = all_stand tell g t (seen a.state) own mapped there (seen_of t a is) (shown g Finished a.state at) walked_here (subst (λ o. IsWalked t o there) sides.target other)
 
     by_phase : (p : Phase) → journal.phase ≡ p → Goes g (progress_of p) Finished t w result
     by_phase phase.Building is = goes_on g Begun Begun Finished t u w result (first Begun).0 (first Begun).1 (building is g sides tells)
     by_phase phase.Done is =
-        goes_given (StandAll items there) (λ a b. Went (IsAsBefore region a.state) (λ s e. OnlyBrings root s e.call) a b) g Finished Finished t w result went stand
+        goes_given (StandAll mapped there) (λ a b. Went (IsAsBefore region a.state) (λ s e. OnlyBrings root s e.call) a b) g Finished Finished t w result went stand
         (λ all. goes_on g Finished Finished Finished t u w result (first Finished).0 (first Finished).1 (done is all g sides tells))

@@ -1,5 +1,5 @@
 -- What a call finds of a settled migration: the vaults that it opens are its sides, and how far it has come.
-use Rattle.std.proofs.Common.{◌≡◌, ◌≢◌, ◌⊎◌, ℕ, List, Bool, true, false, Option, Some, None, Result, Ok, refl, sym, ap, ◌∙◌, subst, subst₂, inl, inr, append-nil, codes}
+use Rattle.std.proofs.Common.{◌≡◌, ◌≢◌, ◌⊎◌, ℕ, List, Bool, true, false, Option, Some, None, Result, Ok, refl, sym, ap, ◌∙◌, subst, inl, inr, append-nil, codes}
 use Rattle.folder_spec.specs.declared.FolderFault.{FolderFault}
 use Rattle.folder_spec.proofs.Moments.{went_nowhere, went_on, went_by_call}
 use Rattle.folder_spec.proofs.Tables.{present_is_table}
@@ -16,18 +16,19 @@ use Rattle.move_journal.specs.declared.journal.Journal.{Journal}
 use Rattle.move_journal.specs.declared.journal.Phase.{Phase}
 use Rattle.move_journal.specs.declared.journal.Phase.TheVariants as phase
 use Rattle.move_journal.proofs.Standing.{HaveOneJournal, not_missing, read_stands}
-use Rattle.tree_match.specs.Alone.{Progress, Unbegun, Begun, Finished, IsIn, IsAlone, StaysGuarded}
-use Rattle.tree_match.specs.Guard as guard
-use Rattle.tree_match.specs.Guard.{VaultAt, Migration, Guarded, IsGuarded, IsThere, Tells, HasJournal, Case, NotBegun, Building, Retired, LastJournal, Stands, Gone}
+use Rattle.migration_spec.specs.Alone.{Progress, Unbegun, Begun, Finished, IsIn, IsAlone, KeepsGuarded, StaysGuarded}
+use Rattle.migration_spec.specs.Guard as guard
+use Rattle.migration_spec.specs.Guard.{AreOpenedBy, Migration, Guarded, IsGuarded, IsThere, Tells, HasJournal, Case, NotBegun, Building, Retired, LastJournal, Stands, Gone}
+use Rattle.plain_tree.specs.declared.name_map.NameMap.{NameMap}
 use Rattle.vault_read.specs.Laws.{HaveOneAnswer}
 use Rattle.vault_spec.specs.Opened.{OpenedVault}
 use Rattle.vault_spec.specs.Vault.{Vault, LoadsFrom, IsVault}
 use Rattle.work_folder.specs.Entries.{HasNoForeign, is_foreign, stage_path}
 use Rattle.work_folder.specs.Looking.{Tests, TestsEntries, TestsJournal, TestsKind, TestsParent}
 use Rattle.migrate_core.proofs.Movings.{AreSound}
-use Rattle.migrate_core.specs.Leading.{Guards, IsSettled, KeepsGuarded, KeepsSettled, progress_of}
+use Rattle.migrate_core.specs.Leading.{Guards, IsSettled, KeepsSettled, progress_of}
 use Rattle.migrate_core.specs.Moving.{MovesBeside}
-use Rattle.migrate_core.specs.Sides.{AreSides, IsAsked, IsInUse, IsResumed, opened_at}
+use Rattle.migrate_core.specs.Sides.{AreSides, IsAsked, IsInUse}
 
 -- ---- laws that are cited
 
@@ -68,12 +69,11 @@ pub record IsLoaded (v : View) (opened : OpenedVault) (root : Path) (pass : List
 pub root_stands : (v : View) (root : Path) (pass : List ℕ) (vault : Vault) → IsVault (under root v) pass vault → v root ≢ NoEntry
 root_stands v root pass vault loads none = cc (subst (λ (x : Found). LoadsFrom x (under root v) pass (Ok vault)) (ap v (append-nil root) ∙ none) loads)
 
-pub one_side : HaveOneAnswer → (a : VaultAt) (v : View) (opened : OpenedVault) (root : Path) (pass : List ℕ) → IsLoaded v opened root pass → a.root ≡ root → a.pass ≡ pass
-    → IsVault (under a.root v) a.pass a.vault → opened ≡ opened_at a
-one_side one a v opened root pass loaded at by there = λ i. record { root = (loaded.stands ∙ sym at) i; vault = same i }
+pub one_side : HaveOneAnswer → (a : OpenedVault) (v : View) (opened : OpenedVault) (root : Path) (pass : List ℕ) → IsLoaded v opened root pass → a.root ≡ root → IsVault (under a.root v) pass a.vault → opened ≡ a
+one_side one a v opened root pass loaded at there = λ i. record { root = (loaded.stands ∙ sym at) i; vault = same i }
   where
     same : opened.vault ≡ a.vault
-    same = let e = one (under a.root v) a.pass (Ok opened.vault) (Ok a.vault) (subst₂ (λ r p. IsVault (under r v) p opened.vault) (sym at) (sym by) loaded.loads) there in cc
+    same = let e = one (under a.root v) pass (Ok opened.vault) (Ok a.vault) (subst (λ r. IsVault (under r v) pass opened.vault) (sym at) loaded.loads) there in cc e
 
 -- ---- a migration that is to begin
 
@@ -104,23 +104,24 @@ no_journal s work text sound tests stands =
     by_journal Special e h = cc e
 
 -- what leads a settled migration on
-pub record IsFound (g : Migration) (p : Progress) (s : State) (from to : OpenedVault) (through : Path) : Type 0 where
-  pub sides : AreSides g from to through
+pub record IsFound (g : Migration) (p : Progress) (s : State) (rule : NameMap) (from to : OpenedVault) (through : Path) : Type 0 where
+  pub sides : AreSides g rule from to through
   pub alone : IsAlone g p s
 
-pub begins : HaveOneAnswer → AreSeen → (g : Migration) (s : State) (from to : OpenedVault) (source target through : Path) (from_pass to_pass : List ℕ)
-    → IsAsked g source target through from_pass to_pass → IsSettled g s → Tests (seen s) through (Ok tt)
-    → IsLoaded (seen s) from source from_pass → IsLoaded (seen s) to target to_pass → IsFound g Unbegun s from to through
-begins one are_seen g s from to source target through from_pass to_pass asked settled tests loaded other = by_case (are_seen g s settled.sound settled.guarded).case
+pub begins : HaveOneAnswer → AreSeen → (g : Migration) (s : State) (rule : NameMap) (from to : OpenedVault) (source target through : Path) (from_pass to_pass : List ℕ)
+    → IsAsked g rule source target through → AreOpenedBy g from_pass to_pass (seen s) → IsSettled g s → Tests (seen s) through (Ok tt)
+    → IsLoaded (seen s) from source from_pass → IsLoaded (seen s) to target to_pass → IsFound g Unbegun s rule from to through
+begins one are_seen g s rule from to source target through from_pass to_pass asked opened settled tests loaded other = by_case (are_seen g s settled.sound settled.guarded).case
   where
     none_there : (text : List ℕ) → seen s (journal_path g.work) ≢ FileOf text
     none_there text = subst (λ w. seen s (journal_path w) ≢ FileOf text) (sym asked.work) (no_journal s through text settled.sound tests)
 
-    by_case : Case g (seen s) → IsFound g Unbegun s from to through
+    by_case : Case g (seen s) → IsFound g Unbegun s rule from to through
     by_case (NotBegun is) = record {
       sides = record {
-        source = one_side one g.source (seen s) from source from_pass loaded asked.source asked.opens_source is.source.there.loads;
-        target = one_side one g.target (seen s) to target to_pass other asked.target asked.opens_target is.target.loads;
+        source = one_side one g.source (seen s) from source from_pass loaded asked.source (opened.source is.source.there);
+        target = one_side one g.target (seen s) to target to_pass other asked.target (opened.target is.target);
+        names = sym asked.names;
         work = sym asked.work;
       };
       alone = settled.alone Unbegun is;
@@ -132,16 +133,16 @@ begins one are_seen g s from to source target through from_pass to_pass asked se
 -- ---- a migration that is resumed
 
 pub record IsFoundAgain (g : Migration) (s : State) (from to : OpenedVault) (through : Path) (journal : Journal) : Type 0 where
-  pub found : IsFound g (progress_of journal.phase) s from to through
+  pub found : IsFound g (progress_of journal.phase) s journal.names from to through
   pub tells : Tells g journal
 
 pub resumes : HaveOneAnswer → AreSeen → HaveOneJournal → (g : Migration) (s : State) (from to : OpenedVault) (through : Path) (journal : Journal) (from_pass to_pass : List ℕ)
-    → IsResumed g through from_pass to_pass → IsJournal journal → IsSettled g s → IsInUse (seen s) through journal
+    → g.work ≡ through → AreOpenedBy g from_pass to_pass (seen s) → IsJournal journal → IsSettled g s → IsInUse (seen s) through journal
     → IsLoaded (seen s) from journal.source from_pass → IsLoaded (seen s) to journal.target to_pass → IsFoundAgain g s from to through journal
-resumes one are_seen one_journal g s from to through journal from_pass to_pass resumed is_journal settled used loaded other = by_case (are_seen g s settled.sound settled.guarded).case
+resumes one are_seen one_journal g s from to through journal from_pass to_pass resumed opened is_journal settled used loaded other = by_case (are_seen g s settled.sound settled.guarded).case
   where
     stands : StandsIn g.work journal (seen s)
-    stands = subst (λ w. StandsIn w journal (seen s)) (sym resumed.work) used.stands
+    stands = subst (λ w. StandsIn w journal (seen s)) (sym resumed) used.stands
 
     is_told : (p : Phase) (has : HasJournal g p (seen s)) → has.journal ≡ journal
     is_told p has = one_journal g.work (seen s) has.journal journal has.is is_journal has.stands stands
@@ -158,9 +159,10 @@ resumes one are_seen one_journal g s from to through journal from_pass to_pass r
         record {
           found = record {
             sides = record {
-              source = one_side one g.source (seen s) from journal.source from_pass loaded (sym tells.source) resumed.opens_source source.loads;
-              target = one_side one g.target (seen s) to journal.target to_pass other (sym tells.target) resumed.opens_target target.loads;
-              work = sym resumed.work;
+              source = one_side one g.source (seen s) from journal.source from_pass loaded (sym tells.source) (opened.source source);
+              target = one_side one g.target (seen s) to journal.target to_pass other (sym tells.target) (opened.target target);
+              names = tells.names;
+              work = sym resumed;
             };
             alone = subst (λ q. IsAlone g (progress_of q) s) (sym (in_phase p has)) alone;
           };
@@ -225,6 +227,11 @@ pub settle_seen : (t u : Option Told) (value : Unit {0}) → Changes Settle t u 
 settle_seen (Some a) (Some b) value changes v is = is ∙ ap (λ (c : Told). seen c.state) (sym changes.1)
 settle_seen None u value changes v is = absurd is
 settle_seen (Some a) None value changes v is = absurd changes
+
+pub settle_was_seen : (t u : Option Told) (value : Unit {0}) → Changes Settle t u (Ok value) → IfSeen u (λ v. IsSeen t v)
+settle_was_seen (Some a) (Some b) value changes v is = is ∙ ap (λ (c : Told). seen c.state) changes.1
+settle_was_seen None (Some b) value changes v is = absurd changes
+settle_was_seen t None value changes v is = absurd is
 
 -- ---- a work folder that is in use
 

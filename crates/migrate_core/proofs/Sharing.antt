@@ -1,42 +1,44 @@
 -- That only an item which shares its place stops at a taken one, where the target is tidy.
-use Rattle.std.proofs.Common.{◌≡◌, ◌≢◌, inl, inr, ◌<◌, ◌+◌, ℕ, zero, suc, Bool, true, false, cond, List, [], ◌∷◌, ◌++◌, length, take, get_or, Contains, IsTrue, Option, Some, None, Err, refl, sym, ap, ◌∙◌, subst, subst₂, append_assoc, arith}
+use Rattle.std.proofs.Common.{◌≡◌, ◌≢◌, inl, inr, ◌<◌, ◌+◌, ℕ, zero, suc, Bool, true, false, ◌&&◌, List, [], ◌∷◌, ◌++◌, length, take, get_or, Contains, IsTrue, Option, Some, None, Err, refl, sym, ap, ◌∙◌, subst, subst₂, append_assoc, arith}
 use Rattle.std.proofs.lemmas.Cmp.{tied_itself}
 use Rattle.std.proofs.lemmas.List.{get_or_default, take_more}
 use Rattle.std.proofs.lemmas.List.Elements.{Contains-append_left, Contains-append_right}
+use Rattle.std.specs.List.{list_all}
 use Rattle.std.specs.declared.cmp.Ordering.TheVariants.{Less, Equal}
 use Rattle.content_writing.specs.Content.{Ending}
 use Rattle.content_writing.specs.declared.fault.PutFault.{PutFault}
 use Rattle.content_writing.specs.declared.fault.PutFault.TheVariants as put
 use Rattle.folder_spec.proofs.Moments.{went_more, went_nowhere, went_on}
-use Rattle.folder_spec.proofs.Paths.{base_or_child, child-injective, child-last}
+use Rattle.folder_spec.proofs.Paths.{base_or_child}
 use Rattle.folder_spec.proofs.Tellings.{from_to_on}
 use Rattle.folder_spec.specs.Event.{Told}
 use Rattle.folder_spec.specs.Moments.{Went}
-use Rattle.folder_spec.specs.Path.{Path, child}
+use Rattle.folder_spec.specs.Path.{Path}
 use Rattle.folder_spec.specs.Region.{IsAsBefore}
 use Rattle.folder_spec.specs.Seen.{IfSeen, IsSeen, seen, under}
 use Rattle.folder_spec.specs.View.{View}
 use Rattle.plain_tree.specs.Names as plain
 use Rattle.plain_tree.specs.Names.{is_name}
+use Rattle.plain_tree.specs.Mapped.{mapped_path}
 use Rattle.plain_tree.specs.Order.{path_cmp}
+use Rattle.plain_tree.specs.declared.name_map.NameMap.{NameMap}
 use Rattle.port_model.specs.Draws.{ByteStream, Draws}
-use Rattle.tree_match.specs.Guard.{AreApart, IsPlanOf}
-use Rattle.tree_match.specs.Trees.{IsWalkOf}
+use Rattle.migration_sides.specs.Sides.{IsWalked, opened_in}
+use Rattle.work_folder.specs.Apart.{AreApart}
+use Rattle.tree_match.specs.Trees.{IsWalkOf, side_of}
 use Rattle.vault_read.specs.Laws.{KeepsVaults}
 use Rattle.vault_spec.specs.Opened.{OpenedVault}
-use Rattle.vault_spec.proofs.Mapped.{contains_mapped}
 use Rattle.vault_spec.specs.Alike.{IsNoItem}
-use Rattle.vault_spec.specs.Format.{Format, file_bytes}
+use Rattle.vault_spec.specs.Format.{file_bytes}
 use Rattle.vault_spec.specs.Making.{NewItem}
 use Rattle.vault_spec.specs.Opens as opens
 use Rattle.vault_spec.specs.Opens.{NoItem, Opened, opened, opened_file, tree}
-use Rattle.vault_spec.specs.Plan.{Planned, StandsBelow}
+use Rattle.vault_spec.specs.Plan.{Planned}
 use Rattle.vault_spec.specs.Reached.{Leads}
-use Rattle.vault_spec.specs.Standing.{Absent, Dir, File, Standing, Strange, holds_full, item_at, standing, standing_in, standing_of}
+use Rattle.vault_spec.specs.Standing.{Absent, Dir, File, Standing, Strange, standing, standing_in}
 use Rattle.vault_spec.specs.Staying.{LoadsAlike}
 use Rattle.vault_spec.specs.Tidy.{IsTidy}
 use Rattle.vault_spec.specs.Vault.{IsVault, Vault, format_of}
-use Rattle.vault_walk.specs.Survey.{IsOrdered}
 use Rattle.vault_write.specs.Calls.{MakesAt, New}
 use Rattle.content_writing.specs.Making.{is_apart}
 use Rattle.vault_write.specs.Refusing.{Answers}
@@ -44,23 +46,21 @@ use Rattle.migrate_core.proofs.Compared.{TellsTree, planned_at}
 use Rattle.migrate_core.proofs.Copyings.{copied_as}
 use Rattle.migrate_core.proofs.Endings.{root_directory}
 use Rattle.migrate_core.proofs.Entered.{EnteredLeads, paths_total}
-use Rattle.migrate_core.proofs.Fronts.{StandBelow, stands_in}
 use Rattle.migrate_core.proofs.Leadings.{seen_then}
+use Rattle.migrate_core.proofs.MappedItems.{ComesFrom, TellsMapped, comes_from}
 use Rattle.migrate_core.proofs.Placings.{made_moves}
-use Rattle.migrate_core.proofs.Planned.{walk_of}
 use Rattle.migrate_core.proofs.Stopping.{Stays}
 use Rattle.migrate_core.proofs.Within.{FilesAreThere, StandBehind, content_opens}
 use Rattle.migrate_core.specs.Causes.{IsStop, StopsLater, nothing_stops}
 use Rattle.migrate_core.specs.Copying.{Copies, HasCopied, MayBegin, tree_in}
 use Rattle.migrate_core.specs.Faults.{of_put}
 use Rattle.migrate_core.specs.Limits.{StopsFor}
-use Rattle.migrate_core.specs.Moved.{opened_in}
 use Rattle.migrate_core.specs.Moving.{MovesBeside, OnlyBrings}
 use Rattle.migrate_core.specs.Sharing.{HasOnly, IsFilled, IsFresh, IsMadeFor, IsOfTaken, Lacks, OneShares, SharesFrom, SharesInTree, SharesPlace, SharesWhereTidy}
-use Rattle.migrate_core.specs.Sides.{IsItemOf, IsWalked, side_of}
+use Rattle.migrate_core.specs.Sides.{AreItemsToMove}
 use Rattle.migrate_core.specs.Written.{HasGone, WasSeen}
 use Rattle.migrate_core.specs.declared.fault.MoveFault.{MoveFault}
-use Rattle.migrate_core.specs.declared.fault.MoveFault.TheVariants.{Work, Journal as Unread, Overlap, Load, Walk, NotEmpty, NotAllowed, Changed, Match as Matching, Differ, Place, SourceGone, Failed, NoMemory}
+use Rattle.migrate_core.specs.declared.fault.MoveFault.TheVariants.{Work, Journal as Unread, Overlap, Load, Walk, NotEmpty, NotAllowed, Meet, Changed, Match as Matching, Differ, Place, SourceGone, Failed, NoMemory}
 
 -- ---- faults
 
@@ -83,6 +83,7 @@ by_taken Q (Load side why) is = tt
 by_taken Q (Walk why) is = tt
 by_taken Q (NotEmpty at) is = tt
 by_taken Q (NotAllowed path) is = tt
+by_taken Q (Meet one other) is = tt
 by_taken Q (Changed plan items plan' items') is = tt
 by_taken Q (Differ path how) is = tt
 by_taken Q SourceGone is = tt
@@ -122,6 +123,7 @@ stops_more P Q (Load side why) more h = tt
 stops_more P Q (Walk why) more h = tt
 stops_more P Q (NotEmpty at) more h = tt
 stops_more P Q (NotAllowed path) more h = tt
+stops_more P Q (Meet one other) more h = tt
 stops_more P Q (Changed plan items plan' items') more h = tt
 stops_more P Q (Differ path how) more h = tt
 stops_more P Q SourceGone more h = tt
@@ -181,9 +183,9 @@ module _ (region : Path → Bool) (root : Path) where
         shares = one.shares;
       }
 
-  pub in_tree_since : (from to : Path) (pass pass' : List ℕ) (s s' : Option ByteStream) (t u w : Option Told) → MovesBeside region root t u → IfSeen t (λ v. IsSeen u v) → SharesInTree from to pass pass' s s' u w
-      → SharesInTree from to pass pass' s s' t w
-  in_tree_since from to pass pass' s s' t u w went known h = record {
+  pub in_tree_since : (rule : NameMap) (from to : Path) (pass pass' : List ℕ) (s s' : Option ByteStream) (t u w : Option Told) → MovesBeside region root t u → IfSeen t (λ v. IsSeen u v) → SharesInTree rule from to pass pass' s s' u w
+      → SharesInTree rule from to pass pass' s s' t w
+  in_tree_since rule from to pass pass' s s' t u w went known h = record {
     source = h.source;
     target = h.target;
     opens_source = λ v is. h.opens_source v (known v is);
@@ -221,51 +223,38 @@ no_item files vault u path none = by (standing (format_of vault) u path) refl no
         let there = files vault u path at e in
         absurd (content_opens (format_of vault).content there.0 (ap (λ x. opened_file (format_of vault).content (file_bytes x)) (sym there.1) ∙ n))
 
--- the last name of what opens is a name
-last_name : StandBelow → (f : Format) (v : View) (front : plain.Path) (name : List ℕ) → tree f v (front ++ name ∷ []) ≢ NoItem → IsTrue (is_name name)
-unfolding opened standing_in
-last_name below f v front name there = by (is_name name) refl
+-- the last name of a path of names is a name
+last_name : (front : plain.Path) (name : List ℕ) → IsTrue (list_all is_name (front ++ name ∷ [])) → IsTrue (is_name name)
+last_name [] name named = by (is_name name) named
   where
-    up : StandsBelow f v (front ++ name ∷ [])
-    up = stands_in below f v front name there
-
-    same : name ≡ up.name
-    same = child-last up.front name up.name (ap (λ p. p ++ name ∷ []) (sym (child-injective front up.front name up.name up.is)) ∙ up.is)
-
-    unnamed : (other : List ℕ) → is_name other ≡ false → standing_in f v up.dir other ≡ Absent
-    unnamed other is =
-        let s = f.stored up.dir.key other in
-        ap (λ b. cond b (standing_of f v (child up.dir.folder s.name) (holds_full f v up.dir s) (item_at f v up.dir s)) Absent) is
-
-    by : (b : Bool) → is_name name ≡ b → IsTrue (is_name name)
+    by : (b : Bool) → (b && true) ≡ true → b ≡ true
+    by true is = refl
+    by false is = cc is
+last_name (a ∷ front) name named = last_name front name (by (is_name a) named)
+  where
+    by : (b : Bool) → (b && list_all is_name (front ++ name ∷ [])) ≡ true → list_all is_name (front ++ name ∷ []) ≡ true
     by true is = is
-    by false is = absurd (there (ap (opens.opened_at f v) (sym up.stands ∙ unnamed up.name (sym (ap is_name same) ∙ is))))
+    by false is = cc is
 
-module _ (below : StandBelow) (behind : StandBehind) (files : FilesAreThere) (leads : EnteredLeads) (tells : TellsTree) (from to : OpenedVault) (laws : KeepsVaults (format_of to.vault)) (work : Path) (planned : Planned)
-    (item : NewItem) (ending : Ending) (drawn : List ℕ) (s s' : Option ByteStream) (were_drawn : Draws s s' drawn) (t u : Option Told) (of : IsItemOf t from planned) (kind : IsMadeFor planned.node item) where
-  taken_shares : (at : Path) → MakesAt New to work planned.path item ending drawn t u (Err (put.Taken at)) → IfSeen t (λ v. Lacks from to planned v → SharesPlace to planned drawn v)
+module _ (behind : StandBehind) (files : FilesAreThere) (leads : EnteredLeads) (rule : NameMap) (from to : OpenedVault) (laws : KeepsVaults (format_of to.vault)) (work : Path) (planned : Planned)
+    (item : NewItem) (ending : Ending) (drawn : List ℕ) (s s' : Option ByteStream) (were_drawn : Draws s s' drawn) (t u : Option Told) (named : IsTrue (list_all is_name planned.path)) (kind : IsMadeFor planned.node item) where
+  taken_shares : (at : Path) → MakesAt New to work planned.path item ending drawn t u (Err (put.Taken at)) → IfSeen t (λ v. Lacks rule from to planned v → SharesPlace to planned drawn v)
   taken_shares at made v is l = elim (base_or_child planned.path) [
-    | inl root ↦ absurd (no_directory (sym (root_directory (format_of to.vault) (under to.root v) l.copying.target.orderly) ∙ ap (tree_in to v) (sym root) ∙ l.lacks))
-    | inr named ↦ shares named.0 named.1 named.2 ((made.named named.0 named.1 named.2).answer v is)
+    | inl root ↦ absurd (no_directory (sym (root_directory (format_of to.vault) (under to.root v)) ∙ ap (tree_in to v) (sym root) ∙ l.lacks))
+    | inr below ↦ shares below.0 below.1 below.2 ((made.named below.0 below.1 below.2).answer v is)
   ]
     where
       no_directory : opens.Directory ≢ NoItem
       no_directory e = cc e
 
-      plan : IsPlanOf (tree_in from v) of.items
-      plan = tells v (side_of from of.items) (walk_of from of.items t v of.walked is l.copying.source.orderly)
-
-      in_source : tree_in from v planned.path ≢ NoItem
-      in_source = ((plan.items.items planned.path).0 (contains_mapped (λ (x : Planned). x.path) of.items planned of.among)).1
-
       shares : (front : plain.Path) (name : List ℕ) → planned.path ≡ front ++ name ∷ []
           → Answers (record { vault = to; work = work; front = front; name = name; item = item }) drawn ending (under to.root v) (Err (put.Taken at)) → SharesPlace to planned drawn v
-      shares front name named a = record {
+      shares front name path a = record {
         good = l.copying.target;
         tidy = l.tidy;
         front = front;
         name = name;
-        is = named;
+        is = path;
         dir = a.2.dir;
         entered = a.2.there.entered;
         missing = missing;
@@ -273,7 +262,7 @@ module _ (below : StandBelow) (behind : StandBehind) (files : FilesAreThere) (le
         kind = kind;
         shares = λ own.
             let never : Some a.0 ≡ None = sym a.2.is ∙ laws.free (under to.root v) front a.2.dir name item drawn l.copying.target.clean l.tidy way
-            (last_name below (format_of from.vault) (under from.root v) front name (subst (λ p. tree_in from v p ≢ NoItem) named in_source)) missing own in
+            (last_name front name (subst (λ p. IsTrue (list_all is_name p)) path named)) missing own in
             cc never;
       }
         where
@@ -282,10 +271,10 @@ module _ (below : StandBelow) (behind : StandBehind) (files : FilesAreThere) (le
 
           missing : IsNoItem (standing_in (format_of to.vault) (under to.root v) a.2.dir name)
           missing = subst IsNoItem (behind (format_of to.vault) (under to.root v) front a.2.dir name way)
-              (no_item files to.vault (under to.root v) (front ++ name ∷ []) (subst (λ p. tree_in to v p ≡ NoItem) named l.lacks))
+              (no_item files to.vault (under to.root v) (front ++ name ∷ []) (subst (λ p. tree_in to v p ≡ NoItem) path l.lacks))
 
-  pub item_stops : AreApart to.root work → (why : PutFault) → MakesAt New to work planned.path item ending drawn t u (Err why) → StopsFor (SharesFrom (Lacks from to planned) to (planned ∷ []) s s' t u) (of_put why)
-  item_stops apart why made = put_stops (SharesFrom (Lacks from to planned) to (planned ∷ []) s s' t u) why
+  pub item_stops : AreApart to.root work → (why : PutFault) → MakesAt New to work planned.path item ending drawn t u (Err why) → StopsFor (SharesFrom (Lacks rule from to planned) to (planned ∷ []) s s' t u) (of_put why)
+  item_stops apart why made = put_stops (SharesFrom (Lacks rule from to planned) to (planned ∷ []) s s' t u) why
       (λ at same v is l. record {
         item = planned;
         among = (0, omega arith, refl);
@@ -306,9 +295,9 @@ nothing_else opens.Directory some = absurd (some (λ e. cc e))
 nothing_else (opens.Content bytes) some = absurd (some (λ e. cc e))
 nothing_else (opens.Broken chunks fault) some = absurd (some (λ e. cc e))
 
-pub filled_as : (from to : OpenedVault) (there : List Planned) (v w : View) → under from.root w ≡ under from.root v → under to.root w ≡ under to.root v → IsFilled from to there v → IsFilled from to there w
-filled_as from to there v w same_from same_to h = (
-  copied_as from to there v w same_from same_to h.0,
+pub filled_as : (rule : NameMap) (from to : OpenedVault) (there : List Planned) (v w : View) → under from.root w ≡ under from.root v → under to.root w ≡ under to.root v → IsFilled rule from to there v → IsFilled rule from to there w
+filled_as rule from to there v w same_from same_to h = (
+  copied_as rule from to there v w same_from same_to h.0,
   record {
     tidy = subst (IsTidy (format_of to.vault)) (sym same_to) h.1.tidy;
     empty = λ path named. ap (λ x. tree (format_of to.vault) x path) same_to ∙ h.1.empty path named;
@@ -321,9 +310,9 @@ none_filled to v w same h = (
   subst (λ y. LoadsAlike (under to.root v) (under to.root y)) (sym same) (λ pass vault opens. opens),
 )
 
-pub one_filled : (from to : OpenedVault) (items : List Planned) (k : ℕ) (item : Planned) (x v w : View) → k < length items → item ≡ get_or items k item → HasOnly to (take k items) v × LoadsAlike (under to.root x) (under to.root v)
-    → Copies from to item v w → HasOnly to (take (k + 1) items) w × LoadsAlike (under to.root x) (under to.root w)
-one_filled from to items k item x v w inside at h copies = (
+pub one_filled : (rule : NameMap) (from to : OpenedVault) (items : List Planned) (k : ℕ) (item : Planned) (x v w : View) → k < length items → item ≡ get_or items k item → HasOnly to (take k items) v × LoadsAlike (under to.root x) (under to.root v)
+    → Copies rule from to item v w → HasOnly to (take (k + 1) items) w × LoadsAlike (under to.root x) (under to.root w)
+one_filled rule from to items k item x v w inside at h copies = (
   subst (λ xs. HasOnly to xs w) (ap (λ x. take k items ++ x ∷ []) at ∙ sym (take_more items k item inside)) (record {
     tidy = copies.tidy h.0.tidy;
     only = λ path named there. elim (copies.gains path there) [
@@ -342,12 +331,19 @@ in_take (y ∷ xs) (suc k) x (zero, lt, at) = (0, omega arith, omega arith, at)
 in_take (y ∷ xs) (suc k) x (suc j, lt, at) = let c = in_take xs k x (j, omega (arith, lt), at) in (suc c.0, omega (arith, c.1), omega (arith, c.2), c.3)
 
 -- the next item isn't there yet
-pub next_lacks : (from to : OpenedVault) (there items : List Planned) (k : ℕ) (item : Planned) (v : View) → IsPlanOf (tree_in from v) items → IsOrdered items → k < length items → item ≡ get_or items k item
-    → HasCopied from to (there ++ take k items) v → HasOnly to (take k items) v → Lacks from to item v
-next_lacks from to there items k item v plan ordered inside at copied only = record { copying = copied.copying; tidy = only.tidy; lacks = nothing_else (tree_in to v item.path) lacks }
+pub next_lacks : (rule : NameMap) (from to : OpenedVault) (there items : List Planned) (k : ℕ) (item : Planned) (v : View) → TellsMapped rule (tree_in from v) items → k < length items → item ≡ get_or items k item
+    → HasCopied rule from to (there ++ take k items) v → HasOnly to (take k items) v → Lacks rule from to item v
+next_lacks rule from to there items k item v tells inside at copied only = record { copying = copied.copying; tidy = only.tidy; lacks = nothing_else (tree_in to v item.path) lacks }
   where
+    source : ComesFrom rule (tree_in from v) item
+    source = comes_from rule (tree_in from v) items item tells (k, inside, sym at)
+
     named : item.path ≢ []
-    named = ((plan.items.items item.path).0 (contains_mapped (λ (x : Planned). x.path) items item (k, inside, sym at))).0
+    named root = by source.path source.named (source.comes ∙ root)
+      where
+        by : (path : plain.Path) → path ≢ [] → mapped_path rule path ≡ [] → ⊥
+        by [] some maps = some refl
+        by (a ∷ path) some maps = cc maps
 
     never_less : Equal ≢ Less
     never_less e = cc e
@@ -356,16 +352,17 @@ next_lacks from to there items k item v plan ordered inside at copied only = rec
     lacks there =
         let x : (x : Planned) × Contains (take k items) x × (x.path ≡ item.path) = only.only item.path named there in
         let j : (j : ℕ) × (j < k) × (j < length items) × (get_or items j x.0 ≡ x.0) = in_take items k x.0 x.1 in
-        let less : path_cmp (get_or items j.0 item).path (get_or items k item).path ≡ Less = ordered j.0 k item j.1 inside in
+        let less : path_cmp (get_or items j.0 item).path (get_or items k item).path ≡ Less = tells.mapped.ordered j.0 k item j.1 inside in
         let same : (get_or items j.0 item).path ≡ item.path = ap (λ (z : Planned). z.path) (sym (get_or_default items j.0 x.0 item j.2) ∙ j.3) ∙ x.2 in
         never_less (sym (tied_itself paths_total item.path) ∙ ap (λ p. path_cmp p item.path) (sym same) ∙ ap (λ (z : Planned). path_cmp (get_or items j.0 item).path z.path) at ∙ less)
 
 -- ---- of the vaults
 
-pub source_shares : TellsTree → (from to : OpenedVault) (items : List Planned) (s s' : Option ByteStream) (t u : Option Told) → MayBegin from to [] t → IsWalked t from items → IsWalked t to [] → SharesFrom (IsFilled from to []) to items s s' t u → SharesWhereTidy from to s s' t u
-source_shares tells from to items s s' t u may walked walked_to shares v is own tidy = record {
-  items = items;
-  items_are = walked.plan v is own.source;
+pub source_shares : TellsTree → (rule : NameMap) (from to : OpenedVault) (items mapped : List Planned) (s s' : Option ByteStream) (t u : Option Told) → MayBegin rule from to [] t → AreItemsToMove rule t from items mapped → IsWalked t to []
+    → SharesFrom (IsFilled rule from to []) to mapped s s' t u → SharesWhereTidy rule from to s s' t u
+source_shares tells rule from to items mapped s s' t u may walked walked_to shares v is own tidy = record {
+  items = mapped;
+  items_are = record { own = items; are = walked.walked.plan v is own.source; same = walked.same };
   shares = shares v is (
     may v is own,
     record {
@@ -379,12 +376,12 @@ source_shares tells from to items s s' t u may walked walked_to shares v is own 
     b : IsWalkOf v (side_of to [])
     b = walked_to.plan v is own.target
 
-pub share_in_tree : (from to : Path) (pass pass' : List ℕ) (source target : OpenedVault) (s s' : Option ByteStream) (t u : Option Told) → source.root ≡ from → target.root ≡ to → IfSeen t (λ v. IsVault (under from v) pass source.vault)
-    → IfSeen t (λ v. IsVault (under to v) pass' target.vault) → SharesWhereTidy source target s s' t u → SharesInTree from to pass pass' s s' t u
-share_in_tree from to pass pass' source target s s' t u at_from at_to opens opens_to shares = record {
+pub share_in_tree : (rule : NameMap) (from to : Path) (pass pass' : List ℕ) (source target : OpenedVault) (s s' : Option ByteStream) (t u : Option Told) → source.root ≡ from → target.root ≡ to
+    → IfSeen t (λ v. IsVault (under from v) pass source.vault) → IfSeen t (λ v. IsVault (under to v) pass' target.vault) → SharesWhereTidy rule source target s s' t u → SharesInTree rule from to pass pass' s s' t u
+share_in_tree rule from to pass pass' source target s s' t u at_from at_to opens opens_to shares = record {
   source = source.vault;
   target = target.vault;
   opens_source = opens;
   opens_target = opens_to;
-  shares = subst₂ (λ p q. SharesWhereTidy (opened_in p source.vault) (opened_in q target.vault) s s' t u) at_from at_to shares;
+  shares = subst₂ (λ p q. SharesWhereTidy rule (opened_in p source.vault) (opened_in q target.vault) s s' t u) at_from at_to shares;
 }

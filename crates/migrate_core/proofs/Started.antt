@@ -1,5 +1,5 @@
 -- That the source may be copied into the target when the moving begins.
-use Rattle.std.proofs.Common.{◌≡◌, List, [], ◌∷◌, ◌++◌, append_assoc, Contains, Option, Some, None, Ok, Err, inl, inr, refl, sym, ap, ◌∙◌, subst, arith}
+use Rattle.std.proofs.Common.{◌≡◌, List, [], ◌∷◌, ◌++◌, append_assoc, Contains, Option, Some, None, Ok, Err, refl, sym, ap, ◌∙◌, subst, arith}
 use Rattle.folder_spec.specs.Event.{Told}
 use Rattle.folder_spec.proofs.Tables.{present_is_table}
 use Rattle.folder_spec.specs.Path.{Path}
@@ -7,7 +7,12 @@ use Rattle.folder_spec.specs.Seen.{IfSeen, seen, under}
 use Rattle.folder_spec.specs.State.{State, present}
 use Rattle.folder_spec.specs.View.{View, found}
 use Rattle.tree_match.specs.Comparing.{Is}
-use Rattle.tree_match.specs.Trees.{AndFurther, AsSame, HoldsAllBy, IsPartIn, IsWalkOf, match_of}
+use Rattle.mapped_trees.specs.Trees.{IsPartOf}
+use Rattle.migration_sides.specs.Causes.{Walks}
+use Rattle.migration_sides.specs.Sides.{IsWalked}
+use Rattle.plain_tree.specs.declared.name_map.NameMap.{NameMap}
+use Rattle.tree_match.specs.Mapping.{IsMappedPlan}
+use Rattle.tree_match.specs.Trees.{AndFurther, AsSame, HoldsAllBy, IsMappedWalkOf, IsWalkOf, Side, match_of, side_of, tree_of}
 use Rattle.tree_match.specs.declared.answer.Match.{Match}
 use Rattle.tree_match.specs.declared.answer.Match.TheVariants.{Contained, Differs, Same}
 use Rattle.move_journal.specs.declared.journal.Journal.{Journal}
@@ -18,13 +23,11 @@ use Rattle.vault_spec.specs.Alike.{HasFolders, IsOrderly}
 use Rattle.vault_spec.specs.Findings.{IsClean}
 use Rattle.vault_spec.specs.Plan.{Planned}
 use Rattle.vault_spec.specs.Vault.{format_of}
-use Rattle.migrate_core.proofs.Causing.{Passed}
+use Rattle.migrate_core.proofs.Causing.{PassedWith}
 use Rattle.migrate_core.proofs.Compared.{TellsTree, planned_at}
-use Rattle.migrate_core.proofs.Endings.{HeldIsPart}
 use Rattle.migrate_core.proofs.Movings.{AreSound}
-use Rattle.migrate_core.specs.Causes.{TestsHeld, TestsItems, Unless, Walks}
+use Rattle.migrate_core.specs.Causes.{TestsHeld, TestsItems}
 use Rattle.migrate_core.specs.Copying.{MayBegin, tree_in}
-use Rattle.migrate_core.specs.Sides.{IsWalked, side_of}
 
 -- what is seen has its folders, also at a root
 seen_folders : (root : Path) (t : Option Told) → AreSound t → IfSeen t (λ v. HasFolders (under root v))
@@ -44,12 +47,12 @@ abbrev pub CleanIsOrderly : OpenedVault → Type 0
 CleanIsOrderly a = (v : View) → HasFolders v → HasOwnFolders a.vault v → IsClean (format_of a.vault) v → IsOrderly (format_of a.vault) v
 
 -- the target's tree is part of the source's, as walks of both tell
-abbrev pub HeldAtFirst : OpenedVault → OpenedVault → List Planned → List Planned → Option Told → Type 0
-HeldAtFirst from to items there t = IfSeen t (λ v. IsWalkOf v (side_of from items) → IsWalkOf v (side_of to there) → IsPartIn v (side_of to there) (side_of from items))
+abbrev pub HeldAtFirst : NameMap → OpenedVault → OpenedVault → List Planned → List Planned → Option Told → Type 0
+HeldAtFirst rule from to items there t = IfSeen t (λ v. IsWalkOf v (side_of from items) → IsWalkOf v (side_of to there) → IsPartOf rule (tree_in to v) (tree_in from v))
 
-pub may_begin : TellsTree → (from to : OpenedVault) → CleanIsOrderly from → CleanIsOrderly to → (items there : List Planned) (t : Option Told) → AreSound t → IsWalked t from items → IsWalked t to there
-    → IfSeen t (λ v. Walks from v (Ok items)) → HeldAtFirst from to items there t → MayBegin from to there t
-may_begin tells from to orderly orderly_to items there t sound walked walked_to passed held v is own = record {
+pub may_begin : TellsTree → (rule : NameMap) (from to : OpenedVault) → CleanIsOrderly from → CleanIsOrderly to → (items there : List Planned) (t : Option Told) → AreSound t → IsWalked t from items → IsWalked t to there
+    → IfSeen t (λ v. Walks from v (Ok items)) → HeldAtFirst rule from to items there t → MayBegin rule from to there t
+may_begin tells rule from to orderly orderly_to items there t sound walked walked_to passed held v is own = record {
   copying = record {
     source = record { clean = walked.clean v is; orderly = orderly (under from.root v) (seen_folders from.root t sound v is) own.source (walked.clean v is) };
     within = (passed v is).0;
@@ -63,27 +66,34 @@ may_begin tells from to orderly orderly_to items there t sound walked walked_to 
     b = walked_to.plan v is own.target
 
 -- nothing is in an empty target
-pub empty_held : TellsTree → (from to : OpenedVault) (items : List Planned) (t : Option Told) → HeldAtFirst from to items [] t
-empty_held tells from to items t v is a b path named there =
+pub empty_held : TellsTree → (rule : NameMap) (from to : OpenedVault) (items : List Planned) (t : Option Told) → HeldAtFirst rule from to items [] t
+empty_held tells rule from to items t v is a b path named there =
     let x : (x : Planned) × Contains [] x × (x.path ≡ path) = planned_at (tree_in to v) [] (tells v (side_of to []) b) path named there in
     absurd (omega (arith, x.1.1))
 
+-- what a vault holds of a mapped one is part of it
+abbrev pub HeldIsPartOf : Type 0
+HeldIsPartOf = (v : View) (rule : NameMap) (a b : Side) → IsWalkOf v a → IsMappedWalkOf rule v b → HoldsAllBy (match_of v a b) → IsPartOf rule (tree_of v a) (tree_of v b)
+
 -- what is in the target was compared
-module _ (from to : OpenedVault) (journal : Journal) (v : View) (items there : List Planned) where
-  held_by_match : (m : Match) → match_of v (side_of to there) (side_of from items) ≡ Is m → TestsHeld m (Ok tt) → HoldsAllBy (match_of v (side_of to there) (side_of from items))
-  held_by_match Same is passed = subst HoldsAllBy (sym is) AsSame
-  held_by_match (Contained path) is passed = subst HoldsAllBy (sym is) (AndFurther path)
-  held_by_match (Differs path how) is passed = cc passed
+module _ (from to : OpenedVault) (journal : Journal) (v : View) (items mapped there : List Planned) where
+  abbrev Held : List Planned → Type 0
+  Held others = HoldsAllBy (match_of v (side_of to there) (side_of from others))
 
-  pub items_held : Unless {X = Unit {0}} (Ok tt) (TestsItems from to journal v items there Passed (Ok tt)) → HoldsAllBy (match_of v (side_of to there) (side_of from items))
-  items_held (inl e) = cc e
-  items_held (inr (inl e)) = cc e
-  items_held (inr (inr (Err why, tested, is))) = cc is
-  items_held (inr (inr (Ok value, told, (Err why, names, is)))) = cc is
-  items_held (inr (inr (Ok value, told, (Ok other, names, (Err why, matches, is))))) = cc is
-  items_held (inr (inr (Ok value, told, (Ok other, names, (Ok m, matches, (Err why, held, is)))))) = cc is
-  items_held (inr (inr (Ok value, told, (Ok other, names, (Ok m, matches, (Ok last, held, is)))))) = held_by_match m matches held
+  held_by_match : (others : List Planned) (m : Match) → match_of v (side_of to there) (side_of from others) ≡ Is m → TestsHeld m (Ok tt) → Held others
+  held_by_match others Same is passed = subst HoldsAllBy (sym is) AsSame
+  held_by_match others (Contained path) is passed = subst HoldsAllBy (sym is) (AndFurther path)
+  held_by_match others (Differs path how) is passed = cc passed
 
-pub matched_held : HeldIsPart → (from to : OpenedVault) (journal : Journal) (items there : List Planned) (t : Option Told)
-    → IfSeen t (λ v. Unless {X = Unit {0}} (Ok tt) (TestsItems from to journal v items there Passed (Ok tt))) → HeldAtFirst from to items there t
-matched_held part from to journal items there t passed v is a b = part v (side_of to there) (side_of from items) b a (items_held from to journal v items there (passed v is))
+  pub items_held : TestsItems from to journal v items there (PassedWith mapped) (Ok tt) → Held mapped
+  items_held (Err why, tested, is) = cc is
+  items_held (Ok value, told, (Err why, names, is)) = cc is
+  items_held (Ok value, told, (Ok other, names, (Err why, maps, is))) = cc is
+  items_held (Ok value, told, (Ok other, names, (Ok plan, maps, (Err why, matches, is)))) = cc is
+  items_held (Ok value, told, (Ok other, names, (Ok plan, maps, (Ok m, matches, (Err why, held, is))))) = cc is
+  items_held (Ok value, told, (Ok other, names, (Ok plan, maps, (Ok m, matches, (Ok last, held, (is, e)))))) = subst Held is (held_by_match plan.items m matches held)
+
+pub matched_held : HeldIsPartOf → (rule : NameMap) (from to : OpenedVault) (journal : Journal) (items mapped there : List Planned) (t : Option Told) → IsMappedPlan rule items mapped
+    → IfSeen t (λ v. TestsItems from to journal v items there (PassedWith mapped) (Ok tt)) → HeldAtFirst rule from to items there t
+matched_held part rule from to journal items mapped there t same passed v is a b =
+    part v rule (side_of to there) (side_of from mapped) b (record { own = items; walk = a; mapped = same }) (items_held from to journal v items mapped there (passed v is))

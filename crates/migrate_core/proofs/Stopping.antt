@@ -12,6 +12,7 @@ use Rattle.folder_spec.specs.Path.{Path}
 use Rattle.folder_spec.specs.Seen.{IfSeen, IsSeen, seen, under}
 use Rattle.folder_spec.specs.View.{Found, View}
 use Rattle.plain_tree.specs.declared.NodeKind.TheVariants.{File}
+use Rattle.plain_tree.specs.declared.name_map.NameMap.{NameMap}
 use Rattle.tree_match.specs.Comparing.{bytes_found, content_at}
 use Rattle.vault_read.specs.Contents.{IsOfPath, limited_reading}
 use Rattle.vault_read.specs.Finding.{Refuses}
@@ -218,8 +219,8 @@ by_ending from to item v put.Failed node read allowed can told = tt
 by_ending from to item v put.NoMemory node read allowed can told = tt
 
 -- a file of which the content was told
-pub file_stops : FilesFit → (from to : OpenedVault) (item : Planned) (t : Option Told) (content : List ℕ) (ending : Ending) (why : PutFault) → item.node ≡ File → why ≢ put.Source → AllowsLast (format_of to.vault) item.path → IsFileFault why
-    → IsItemOf t from item → ToldContent from item t content ending → IfSeen t (λ v. Tells to item.path v ending why) → IfSeen t (λ v. StopsAt (Enters to item v) from v (item ∷ []) why)
-file_stops fits from to item t content ending why node read allowed can of told ends v is =
+pub file_stops : FilesFit → (rule : NameMap) (from to : OpenedVault) (item : Planned) (t : Option Told) (content : List ℕ) (ending : Ending) (why : PutFault) → item.node ≡ File → why ≢ put.Source → AllowsLast (format_of to.vault) item.path → IsFileFault why
+    → IsItemOf rule t from item → ToldContent from item t content ending → IfSeen t (λ v. Tells to item.path v ending why) → IfSeen t (λ v. StopsAt (Enters to item v) from v (item ∷ []) why)
+file_stops fits rule from to item t content ending why node read allowed can of told ends v is =
     by_ending from to item v why node read allowed can
-    (subst (λ (x : Ending). Tells to item.path v x why) (ap (λ (c : Coming). c.ending) (content_told fits from item t content ending node of told v is)) (ends v is))
+    (subst (λ (x : Ending). Tells to item.path v x why) (ap (λ (c : Coming). c.ending) (content_told fits rule from item t content ending node of told v is)) (ends v is))

@@ -19,8 +19,8 @@ use Rattle.move_journal.specs.Writing.{IsWorkFolder, IsWriting, Writes, HasWritt
 use Rattle.move_journal.specs.declared.journal.Journal.{Journal}
 use Rattle.move_journal.specs.Reading.{StandsIn}
 use Rattle.move_journal.proofs.Standing.{stands_alike}
-use Rattle.tree_match.proofs.Kept.{behind_none, entry_inside, staged_in}
-use Rattle.tree_match.specs.Guard.{AreApart}
+use Rattle.migration_spec.proofs.Kept.{behind_none, entry_inside, staged_in}
+use Rattle.work_folder.specs.Apart.{AreApart}
 use Rattle.content_writing.specs.Making.{is_apart, is_inside, is_staged}
 use Rattle.work_folder.specs.Changing.{ChangesAt, ChangesOnly, IsChangingAt}
 use Rattle.work_folder.specs.Entering.{IsReady, IsFresh}

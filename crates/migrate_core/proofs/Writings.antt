@@ -24,16 +24,15 @@ use Rattle.content_writing.specs.Content.{Coming, Ending, Whole, content_limit}
 use Rattle.vault_contents.specs.Coming.{coming_read, ending_of, held_before}
 use Rattle.content_writing.specs.declared.fault.PutFault.{PutFault}
 use Rattle.content_writing.specs.declared.fault.PutFault.TheVariants as put
-use Rattle.content_writing.specs.declared.fault.PutFault.TheVariants.{Taken}
 use Rattle.folder_spec.specs.declared.FolderFault.TheVariants as folder
 use Rattle.work_folder.specs.declared.fault.WorkFault.{WorkFault}
 use Rattle.work_folder.specs.declared.fault.WorkFault.TheVariants as works
 use Rattle.vault_write.specs.Refusing.{Answers, HasTaken}
 use Rattle.move_journal.specs.declared.journal.JournalFault.{JournalFault}
 use Rattle.move_journal.specs.declared.journal.JournalFault.TheVariants as journals
-use Rattle.migrate_core.specs.Faults.{IsOfTest, of_folder, of_journal, of_put, of_work}
+use Rattle.migrate_core.specs.Faults.{IsOfTest, of_folder, of_journal, of_map, of_put, of_step, of_work}
 use Rattle.migrate_core.specs.declared.fault.MoveFault.{MoveFault}
-use Rattle.migrate_core.specs.declared.fault.MoveFault.TheVariants.{Work, Journal as Unread, Overlap, Load, Walk, NotEmpty, NotAllowed, Changed, Match as Matching, Differ, Place, SourceGone, Failed, NoMemory}
+use Rattle.migrate_core.specs.declared.fault.MoveFault.TheVariants.{Work, Journal as Unread, Overlap, Load, Walk, NotEmpty, NotAllowed, Meet, Changed, Match as Matching, Differ, Place, SourceGone, Failed, NoMemory}
 use Rattle.move_journal.specs.Journal.{IsJournal, journal_text}
 use Rattle.move_journal.specs.Writing.{IsWriting, elsewhere}
 use Rattle.move_journal.specs.Writing as journal
@@ -61,15 +60,20 @@ use Rattle.content_writing.specs.Making.{is_apart}
 use Rattle.migrate_core.proofs.Movings.{AreSound, source_apart, source_beside}
 use Rattle.migrate_core.proofs.Placings.{below_root}
 use Rattle.migrate_core.proofs.WorkFolders.{apart_at, elsewhere_at, not_in_root, not_moved}
-use Rattle.tree_match.specs.Guard.{AreApart}
-use Rattle.migrate_core.proofs.Planned.{FilesFit, reader_of}
-use Rattle.migrate_core.specs.Moved.{done_of, is_there, opened_in}
+use Rattle.work_folder.specs.Apart.{AreApart}
+use Rattle.migrate_core.proofs.Planned.{FilesFit, mapped_behind, mapped_files, reader_of}
+use Rattle.migration_sides.specs.Sides.{AreSeparate, opened_in}
+use Rattle.migration_sides.specs.declared.fault.StepFault.{StepFault}
+use Rattle.migration_sides.specs.declared.fault.StepFault.TheVariants as steps
+use Rattle.tree_match.specs.declared.answer.MapFault.{MapFault}
+use Rattle.tree_match.specs.declared.answer.MapFault.TheVariants as maps
+use Rattle.migrate_core.specs.Moved.{done_of, is_there}
 use Rattle.migrate_core.specs.Causes.{IsStop, StopsLater, nothing_stops}
 use Rattle.folder_spec.specs.Region.{apart_from_both}
 use Rattle.vault_walk.specs.Survey.{IsOrdered}
 use Rattle.move_journal.specs.declared.journal.Phase.TheVariants.{Done}
 use Rattle.move_journal.specs.Reading.{StandsIn}
-use Rattle.migrate_core.specs.Sides.{AreSeparate, AreTold, IsItemOf, IsWalked, new_journal}
+use Rattle.migrate_core.specs.Sides.{AreTold, IsItemOf, IsMappedWalk, new_journal}
 use Rattle.migrate_core.specs.Written.{IsRefusal, HasGone, IsOfNoItem, WasAnswered, WasSeen, WereAnswered, ending_by, ending_in, last_answer, placing_in, BringsOnlyTo, IsMadePlace, IsPlaceOf, WritesBeside, AreCopies, HoldsOnly, IsCopyOf, IsFileOf, IsOneOf, MadeItem, MayWrite, MayWriteTold, MayWriteTree, Writes, WritesAll, WritesBy, WritesFirst, WritesLacked, WritesNothing, WritesOnly, WritesTree, journal_texts, lacked, slices}
 
 -- ---- members
@@ -220,6 +224,7 @@ is_test (Load side fault) other = tt
 is_test (Walk fault) other = tt
 is_test (NotEmpty at) other = tt
 is_test (NotAllowed path) other = tt
+is_test (Meet one more) other = tt
 is_test (Changed plan items plan' items') other = tt
 is_test (Matching fault) other = tt
 is_test (Differ path how) other = tt
@@ -239,6 +244,7 @@ untold (Load side fault) none = refl
 untold (Walk fault) none = refl
 untold (NotEmpty at) none = refl
 untold (NotAllowed path) none = refl
+untold (Meet one other) none = refl
 untold (Changed plan items plan' items') none = refl
 untold (Matching fault) none = refl
 untold (Differ path how) none = refl
@@ -562,31 +568,31 @@ directory_ends from item t node v is = ap (λ node. ending_by node (ending_of it
 abbrev pub ToldContent : OpenedVault → Planned → Option Told → List ℕ → Ending → Type 0
 ToldContent from item t content ending = (a : Told) → t ≡ Some a → (c : Coming) → coming_read (reader_of from item) content_limit [] (seen a.state item.at) ≡ Some c → c ≡ record { bytes = content; ending = ending }
 
-pub content_told : FilesFit → (from : OpenedVault) (item : Planned) (t : Option Told) (content : List ℕ) (ending : Ending) → item.node ≡ File → IsItemOf t from item → ToldContent from item t content ending
+pub content_told : FilesFit → (rule : NameMap) (from : OpenedVault) (item : Planned) (t : Option Told) (content : List ℕ) (ending : Ending) → item.node ≡ File → IsItemOf rule t from item → ToldContent from item t content ending
     → IfSeen t (λ v. record { bytes = content; ending = ending } ≡ held_before item.at [] (limited_reading (format_of from.vault).content (bytes_found (v item.at))))
-content_told fits from item None content ending node of told v is = absurd is
-content_told fits from item (Some a) content ending node of told v is =
+content_told fits rule from item None content ending node of told v is = absurd is
+content_told fits rule from item (Some a) content ending node of told v is =
     let keys : Keys = (format_of from.vault).content in
-    let there : IsFileAt (seen a.state) item.at = of.walked.files (seen a.state) refl item of.among node in
+    let there : IsFileAt (seen a.state) item.at = mapped_files rule from of.items (Some a) of.walked (seen a.state) refl item of.among node in
     let coming : held_before item.at [] (limited_reading keys there.0) ≡ record { bytes = content; ending = ending } =
     told a refl (held_before item.at [] (limited_reading keys there.0)) (ap (coming_read (reader_of from item) content_limit []) there.1 ∙ fits keys item.at there.0) in
     let found : bytes_found (v item.at) ≡ there.0 = ap (λ (w : View). bytes_found (w item.at)) is ∙ ap bytes_found there.1 in
     sym coming ∙ ap (λ (bytes : List ℕ). held_before item.at [] (limited_reading keys bytes)) (sym found)
 
-pub file_copy : FilesFit → (from : OpenedVault) (item : Planned) (t : Option Told) (path : plain.Path) (content drawn : List ℕ) (ending : Ending) → path ≡ item.path → item.node ≡ File → IsItemOf t from item → ToldContent from item t content ending
+pub file_copy : FilesFit → (rule : NameMap) (from : OpenedVault) (item : Planned) (t : Option Told) (path : plain.Path) (content drawn : List ℕ) (ending : Ending) → path ≡ item.path → item.node ≡ File → IsItemOf rule t from item → ToldContent from item t content ending
     → IsCopy from item t (record { path = path; item = NewFile content; drawn = drawn })
-file_copy fits from item t path content drawn ending at node of told v is = record {
+file_copy fits rule from item t path content drawn ending at node of told v is = record {
   path = at;
   directory = λ dir. absurd (other (sym node ∙ dir));
-  file = λ file. ap (λ (c : Coming). NewFile c.bytes) (content_told fits from item t content ending node of told v is);
+  file = λ file. ap (λ (c : Coming). NewFile c.bytes) (content_told fits rule from item t content ending node of told v is);
 }
   where
     other : File ≡ Dir → ⊥
     other e = cc e
 
-pub file_ends : FilesFit → (from : OpenedVault) (item : Planned) (t : Option Told) (content : List ℕ) (ending : Ending) → item.node ≡ File → IsItemOf t from item → ToldContent from item t content ending → EndsIn from item t ending
-file_ends fits from item t content ending node of told v is =
-    ap (λ (c : Coming). c.ending) (content_told fits from item t content ending node of told v is)
+pub file_ends : FilesFit → (rule : NameMap) (from : OpenedVault) (item : Planned) (t : Option Told) (content : List ℕ) (ending : Ending) → item.node ≡ File → IsItemOf rule t from item → ToldContent from item t content ending → EndsIn from item t ending
+file_ends fits rule from item t content ending node of told v is =
+    ap (λ (c : Coming). c.ending) (content_told fits rule from item t content ending node of told v is)
     ∙ ap (λ node. ending_by node (ending_of item.at (content_at (format_of from.vault).content v item.at).ending)) (sym node)
 
 -- ---- what makes no file of an item
@@ -718,9 +724,10 @@ pub lacked_split : (there xs : List Planned) (k : ℕ) → lacked there (take k 
 lacked_split there xs k = sym (lacked_more there (take k xs) (drop k xs)) ∙ ap (lacked there) (take-append-drop k xs)
 
 -- an item of the source stands apart from what is staged and from the target
-pub source_place : (from : OpenedVault) (root work : Path) (items : List Planned) {t : Option Told} (item : Planned) → AreSeparate from.root root work → IsWalked t from items → Contains items item → IsTrue (is_apart work root item.at)
-source_place from root work items item separate walked among =
-    let behind = walked.behind item among in
+pub source_place : (rule : NameMap) (from : OpenedVault) (root work : Path) (items : List Planned) (t : Option Told) (item : Planned) → AreSeparate from.root root work → IsMappedWalk rule t from items → Contains items item
+    → IsTrue (is_apart work root item.at)
+source_place rule from root work items t item separate walked among =
+    let behind = mapped_behind rule from items t walked item among in
     subst (λ at. IsTrue (is_apart work root at)) (sym behind.1) (source_apart from.root root work behind.0 separate)
 
 pub next_among : (items : List Planned) (k : ℕ) (item : Planned) → k < length items → item ≡ get_or items k item → (one : Planned) → Contains (item ∷ []) one → Contains items one
@@ -758,6 +765,18 @@ journal_refuses journals.TooLarge = tt
 journal_refuses journals.Failed = tt
 journal_refuses journals.NoMemory = tt
 
+pub step_refuses : (fault : StepFault) → IsOfTest (of_step fault)
+step_refuses (steps.Overlap first second) = tt
+step_refuses (steps.Load side fault) = tt
+step_refuses (steps.Walk fault) = tt
+step_refuses steps.Failed = tt
+step_refuses steps.NoMemory = tt
+
+pub map_refuses : (fault : MapFault) → IsOfTest (of_map fault)
+map_refuses (maps.NotAName path) = tt
+map_refuses (maps.Meet one other) = tt
+map_refuses maps.NoMemory = tt
+
 pub nothing_written : {T : Type 0} (result : Result T MoveFault) → IsRefusal result → (s : Option ByteStream) (t u : Option Told) → Draws s s [] → u ≡ t → WritesNothing result s s t u
 nothing_written result refused s t u undrawn same = record { refused = refused; undrawn = undrawn; files = only_nowhere (BringsOnlyTo [] (λ at. ⊥)) (λ file. ⊥) t u same }
 
@@ -784,10 +803,12 @@ module _ (s s' : Option ByteStream) (t u w : Option Told) (known : IfSeen t (λ 
   lacked_after : {T : Type 0} (result : Result T MoveFault) (names : NameMap) (from to : OpenedVault) → WritesLacked result names from to s s' u w → WritesLacked result names from to s s' t w
   lacked_after result names from to h = record {
     items = h.items;
+    mapped = h.mapped;
     there = h.there;
     items_are = λ v is. h.items_are v (known v is);
+    mapped_are = h.mapped_are;
     there_are = λ v is. h.there_are v (known v is);
-    writes = by_after from to (lacked h.there h.items) (journal_texts names from.root to.root h.items) s s' t u w known before result h.writes;
+    writes = by_after from to (lacked h.there h.mapped) (journal_texts names from.root to.root h.items) s s' t u w known before result h.writes;
   }
 
   tree_after : {T : Type 0} (result : Result T MoveFault) (names : NameMap) (from to : Path) (pass pass' : List ℕ) → WritesTree result names from to pass pass' s s' u w → WritesTree result names from to pass pass' s s' t w
@@ -820,9 +841,10 @@ told_of result work pass pass' s s' t t' v j is stands may = elim may [
 
 -- ---- what the calls need
 
-pub source_beside_at : (from : OpenedVault) (root work : Path) (items : List Planned) {t : Option Told} (item : Planned) → AreSeparate from.root root work → IsWalked t from items → Contains items item → IsTrue (apart_from_both work root item.at)
-source_beside_at from root work items item separate walked among =
-    let behind = walked.behind item among in
+pub source_beside_at : (rule : NameMap) (from : OpenedVault) (root work : Path) (items : List Planned) (t : Option Told) (item : Planned) → AreSeparate from.root root work → IsMappedWalk rule t from items → Contains items item
+    → IsTrue (apart_from_both work root item.at)
+source_beside_at rule from root work items t item separate walked among =
+    let behind = mapped_behind rule from items t walked item among in
     subst (λ at. IsTrue (apart_from_both work root at)) (sym behind.1) (source_beside from.root root work behind.0 separate)
 
 pub none_ordered : IsOrdered []

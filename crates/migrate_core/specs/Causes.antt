@@ -1,88 +1,59 @@
 -- Why `begin` and `resume` refuse before they change anything: their tests in order, by what is seen at first. The first test that fails
 -- is the answer.
-use Rattle.std.specs.Prelude.{◌≡◌, ◌≢◌, ◌⊎◌, ◌∷◌, [], List, ℕ, length, ◌++◌, Bool, true, false, Result, Ok, Err, MatchResult, Contains, Option}
+use Rattle.std.specs.Prelude.{◌≡◌, ◌≢◌, ◌⊎◌, ◌∷◌, [], List, ℕ, length, ◌++◌, Bool, true, false, Result, Ok, Err, Contains, Option}
 use Rattle.chunk_files.specs.Reading.{Ending, Faulty, Wanting}
 use Rattle.content_writing.specs.declared.fault.PutFault.{PutFault}
 use Rattle.content_writing.specs.declared.fault.PutFault.TheVariants as put
 use Rattle.folder_spec.specs.Event.{Told}
 use Rattle.folder_spec.specs.Path.{Path}
-use Rattle.folder_spec.specs.Seen.{IfSeen, under}
+use Rattle.folder_spec.specs.Seen.{IfSeen}
 use Rattle.folder_spec.specs.View.{NoEntry, View}
 use Rattle.move_journal.specs.Reading.{ReadsAs, journal_bytes}
 use Rattle.move_journal.specs.declared.journal.Journal.{Journal}
 use Rattle.move_journal.specs.declared.journal.Phase.{Phase}
 use Rattle.move_journal.specs.declared.journal.Phase.TheVariants as phase
 use Rattle.plain_tree.specs.Names as plain
+use Rattle.plain_tree.specs.declared.name_map.NameMap.{NameMap}
 use Rattle.plain_tree.specs.declared.NodeKind.TheVariants.{File}
-use Rattle.tree_match.specs.Comparing.{Answers, content_at}
-use Rattle.tree_match.specs.Guard.{AreApart, old_path}
-use Rattle.tree_match.specs.Matching.{matched}
+use Rattle.tree_match.specs.Comparing.{content_at}
+use Rattle.migration_sides.specs.Causes.{Opens, TestsApart, WalksBoth}
+use Rattle.migration_sides.specs.Tests.{PassesOr, Then, UnlessBy, own}
+use Rattle.migration_spec.specs.Guard.{old_path}
+use Rattle.mapped_trees.specs.Trees.{AllowsMapped}
+use Rattle.tree_match.specs.Mapping.{MapsTo}
+use Rattle.tree_match.specs.Trees.{Compares}
 use Rattle.tree_match.specs.declared.answer.How.{How}
 use Rattle.tree_match.specs.declared.answer.How.TheVariants as how
 use Rattle.tree_match.specs.declared.answer.Match.{Match}
 use Rattle.tree_match.specs.declared.answer.Match.TheVariants.{Same, Contained, Differs}
 use Rattle.tree_match.specs.declared.answer.MatchFault.{MatchFault}
 use Rattle.tree_match.specs.declared.answer.MatchFault.TheVariants as match
-use Rattle.tree_match.specs.declared.answer.Side.{Side}
-use Rattle.tree_match.specs.declared.answer.Side.TheVariants.{Source, Target}
 use Rattle.tree_match.specs.declared.answer.Where.{Where}
 use Rattle.tree_match.specs.declared.answer.Where.TheVariants as place
-use Rattle.vault_read.specs.Laws.{HasOwnFolders}
 use Rattle.vault_spec.specs.Opened.{OpenedVault}
 use Rattle.vault_faults.specs.declared.fault.Limit.TheVariants as limit
-use Rattle.vault_read.specs.declared.fault.LoadFault.{LoadFault}
-use Rattle.vault_read.specs.declared.fault.LoadFault.TheVariants as load
-use Rattle.vault_spec.specs.Findings.{IsClean}
 use Rattle.vault_spec.specs.Format.{Format}
-use Rattle.vault_spec.specs.Making.{Allows}
 use Rattle.vault_spec.specs.Plan.{Planned}
-use Rattle.vault_spec.specs.Vault.{Vault, LoadRefusal, Loads, format_of}
-use Rattle.vault_spec.specs.Vault as vault
+use Rattle.vault_spec.specs.Vault.{format_of}
 use Rattle.vault_walk.specs.Digest.{plan_digest}
-use Rattle.vault_walk.specs.Survey.{HasTooMany}
-use Rattle.vault_walk.specs.Surveyed.{IsFirstFinding, IsOnlyTooDeep, IsPlanOf, IsWithin}
-use Rattle.vault_walk.specs.declared.fault.WalkFault.{WalkFault}
-use Rattle.vault_walk.specs.declared.fault.WalkFault.TheVariants as walk
 use Rattle.work_folder.specs.Entering.{Empties, EntersAs}
 use Rattle.work_folder.specs.Looking.{Tests, TestsEntries}
 use Rattle.work_folder.specs.Looking as work
 use Rattle.migrate_core.specs.Copying.{HaveOwnFolders}
-use Rattle.migrate_core.specs.Faults.{of_journal, of_match, of_walk, of_work}
-use Rattle.migrate_core.specs.Moved.{opened_in}
-use Rattle.migrate_core.specs.Sides.{AllowsLast, AreTold}
+use Rattle.migrate_core.specs.Faults.{of_journal, of_map, of_match, of_step, of_work}
+use Rattle.migrate_core.specs.Sides.{AllowsMappedLast, AreTold}
 use Rattle.migrate_core.specs.declared.fault.MoveFault.{MoveFault}
-use Rattle.migrate_core.specs.declared.fault.MoveFault.TheVariants.{Work, Journal as Unread, Overlap, Load, Walk, NotEmpty, NotAllowed, Changed, Match as Matching, Differ, Place, SourceGone, Failed, NoMemory}
-
--- ---- one test after the other
+use Rattle.migrate_core.specs.declared.fault.MoveFault.TheVariants.{Work, Journal as Unread, Overlap, Load, Walk, NotEmpty, NotAllowed, Meet, Changed, Match as Matching, Differ, Place, SourceGone, Failed, NoMemory}
 
 -- what a call may answer of which one test is a part
 abbrev pub Answer : Type 0 → Type 0
 Answer X = Result X MoveFault
 
--- its own fault, where a test fails, and else what follows of what it gives
-abbrev pub Then : {X Y F G : Type 0} → (F → G) → (Result X F → Type 0) → (X → Result Y G → Type 0) → Result Y G → Type 0
-Then {X = X} {F = F} told test next answer = (tested : Result X F) × test tested × MatchResult tested (λ x. next x answer) (λ fault. answer ≡ Err (told fault))
-
--- a fault that is told as it is
-abbrev pub own : {G : Type 0} → G → G
-own fault = fault
-
 -- the folder may always fail, and memory run out
 abbrev pub Unless : {X : Type 0} → Answer X → Type 0 → Type 0
-Unless answer P = (answer ≡ Err Failed) ⊎ ((answer ≡ Err NoMemory) ⊎ P)
+Unless answer P = UnlessBy Failed NoMemory answer P
 
--- passes where this is so, and fails by this fault where that is
-abbrev pub PassesOr : {G : Type 0} → Type 0 → Type 0 → G → Result (Unit {0}) G → Type 0
-PassesOr passes fails fault answer = (passes × (answer ≡ Ok tt)) ⊎ (fails × (answer ≡ Err fault))
-
--- ---- the folders
-
-abbrev pub TestsPair : Path → Path → Answer (Unit {0}) → Type 0
-TestsPair p q = PassesOr (AreApart p q) (¬ AreApart p q) (Overlap p q)
-
--- no two of the three folders overlap
-abbrev pub TestsApart : Path → Path → Path → Answer (Unit {0}) → Type 0
-TestsApart from to work = Then own (TestsPair from to) (λ _. Then own (TestsPair from work) (λ _. TestsPair to work))
+-- ---- the source
 
 abbrev pub IsGone : Path → Path → View → Type 0
 IsGone work source v = (v (old_path work) ≢ NoEntry) ⊎ (v source ≡ NoEntry)
@@ -92,46 +63,6 @@ abbrev pub TestsSource : Phase → Path → Path → View → Answer (Unit {0}) 
 TestsSource phase.Building work source v answer = answer ≡ Ok tt
 TestsSource phase.Done work source v answer = PassesOr (¬ IsGone work source v) (IsGone work source v) SourceGone answer
 
--- ---- the vaults
-
--- why a vault isn't opened, with paths of the folder
-abbrev pub refused_at : Path → LoadRefusal → LoadFault
-refused_at root (vault.Missing at) = load.Missing (root ++ at)
-refused_at root (vault.WrongKind at) = load.WrongKind (root ++ at)
-refused_at root (vault.TooLarge at) = load.TooLarge (root ++ at)
-refused_at root (vault.GoRefused fault) = load.Go fault
-refused_at root (vault.CmRefused at fault) = load.Cm (root ++ at) fault
-refused_at root vault.WrongPass = load.WrongPass
-refused_at root vault.BadSignature = load.BadSignature
-
-abbrev pub of_refusal : Side → Path → LoadRefusal → MoveFault
-of_refusal side root refusal = Load side (refused_at root refusal)
-
--- each of the two roots and its passphrase are a vault
-abbrev pub Opens : {Y : Type 0} → View → (from to : Path) (from_pass to_pass : List ℕ) → (OpenedVault → OpenedVault → Answer Y → Type 0) → Answer Y → Type 0
-Opens v from to from_pass to_pass next =
-    Then (of_refusal Source from) (Loads (under from v) from_pass) (λ source.
-    Then (of_refusal Target to) (Loads (under to v) to_pass) (λ target. next (opened_in from source) (opened_in to target)))
-
--- these are the vault's items, where no two of its directories share a folder
-abbrev pub AreItemsOf : OpenedVault → View → List Planned → Type 0
-AreItemsOf a v items = HasOwnFolders a.vault (under a.root v) → IsPlanOf a.root (format_of a.vault) (under a.root v) items
-
--- a walk of the vault: it passes no limit, then it is clean
-abbrev pub Walks : OpenedVault → View → Result (List Planned) WalkFault → Type 0
-Walks a v (Ok items) = IsWithin (format_of a.vault) (under a.root v) × IsClean (format_of a.vault) (under a.root v) × AreItemsOf a v items
-Walks a v (Err (walk.Limit limit.Items)) = HasTooMany (format_of a.vault) (under a.root v)
-Walks a v (Err (walk.Limit limit.Depth)) = IsOnlyTooDeep (format_of a.vault) (under a.root v)
-Walks a v (Err (walk.NotClean finding)) = IsWithin (format_of a.vault) (under a.root v) × IsFirstFinding a.root (format_of a.vault) (under a.root v) finding
-Walks a v (Err (walk.Limit (limit.Length at))) = ⊥
-Walks a v (Err (walk.Limit limit.Input)) = ⊥
-Walks a v (Err walk.Failed) = ⊥
-Walks a v (Err walk.NoMemory) = ⊥
-
--- both are walked
-abbrev pub WalksBoth : {Y : Type 0} → OpenedVault → OpenedVault → View → (List Planned → List Planned → Answer Y → Type 0) → Answer Y → Type 0
-WalksBoth from to v next = Then of_walk (Walks from v) (λ items. Then of_walk (Walks to v) (λ there. next items there))
-
 -- ---- the items
 
 -- the target is empty
@@ -139,25 +70,26 @@ abbrev pub TestsEmpty : List Planned → Answer (Unit {0}) → Type 0
 TestsEmpty [] answer = answer ≡ Ok tt
 TestsEmpty (item ∷ items) answer = answer ≡ Err (NotEmpty item.at)
 
--- the last name of a path isn't allowed
-pub record ForbidsLast (f : Format) (path : plain.Path) : Type 0 where
+-- the last name of a path, mapped, is no name or not allowed
+pub record ForbidsMappedLast (rule : NameMap) (f : Format) (path : plain.Path) : Type 0 where
   pub front : plain.Path
   pub name : List ℕ
   pub is : path ≡ front ++ name ∷ []
-  pub forbidden : ¬ Allows f name
+  pub forbidden : ¬ AllowsMapped rule f name
 
--- each name is allowed
-abbrev pub TestsNames : Format → List Planned → Answer (Unit {0}) → Type 0
-TestsNames f [] answer = answer ≡ Ok tt
-TestsNames f (item ∷ items) answer = Then own (PassesOr (AllowsLast f item.path) (ForbidsLast f item.path) (NotAllowed item.path)) (λ _. TestsNames f items) answer
+-- each mapped name is a name and allowed
+abbrev pub TestsNames : NameMap → Format → List Planned → Answer (Unit {0}) → Type 0
+TestsNames rule f [] answer = answer ≡ Ok tt
+TestsNames rule f (item ∷ items) answer =
+    Then own (PassesOr (AllowsMappedLast rule f item.path) (ForbidsMappedLast rule f item.path) (NotAllowed item.path)) (λ _. TestsNames rule f items) answer
+
+-- so it is, and no two of the items come to one path: then they are these at their mapped paths
+abbrev pub TestsMapped : {Y : Type 0} → NameMap → Format → List Planned → (List Planned → Answer Y → Type 0) → Answer Y → Type 0
+TestsMapped rule f items next = Then own (TestsNames rule f items) (λ _. Then of_map (MapsTo rule items) (λ plan. next plan.items))
 
 -- the source has the items that the journal tells
 abbrev pub TestsTold : Journal → List Planned → Answer (Unit {0}) → Type 0
 TestsTold journal items = PassesOr (AreTold journal items) (¬ AreTold journal items) (Changed journal.plan journal.items (plan_digest items) (length items))
-
--- what comparing the items of a vault with those of another tells
-abbrev pub Compares : OpenedVault → List Planned → OpenedVault → List Planned → View → Result Match MatchFault → Type 0
-Compares a items b others v = Answers (matched (format_of a.vault).content items (format_of b.vault).content others v)
 
 -- how an item of the target isn't so in the source
 abbrev pub where_in : How → Where
@@ -223,6 +155,7 @@ IsStop Is P (Overlap p q) = ⊥
 IsStop Is P (Load side fault) = ⊥
 IsStop Is P (NotEmpty at) = ⊥
 IsStop Is P (NotAllowed path) = ⊥
+IsStop Is P (Meet one other) = ⊥
 IsStop Is P (Changed plan items plan' items') = ⊥
 IsStop Is P SourceGone = ⊥
 
@@ -234,38 +167,38 @@ IsOfMoving Is P (Err fault) = IsStop Is P fault
 abbrev pub Moves : {Y : Type 0} → (work.Answer → Type 0) → OpenedVault → OpenedVault → View → List Planned → Answer Y → Type 0
 Moves readies from to v items = Then of_work readies (λ _. IsOfMoving (HaveOwnFolders from to v) (StopsAt (HaveOwnFolders from to v) from v items))
 
--- `begin` between two opened vaults: both are clean, the target is empty, and it allows each name
-abbrev pub BeginsWith : {Y : Type 0} → OpenedVault → OpenedVault → Path → View → Answer Y → Type 0
-BeginsWith from to work v =
-    WalksBoth from to v (λ items there.
+-- `begin` between two opened vaults: both are clean, the target is empty and allows each mapped name, and no two items come to one path
+abbrev pub BeginsWith : {Y : Type 0} → NameMap → OpenedVault → OpenedVault → Path → View → Answer Y → Type 0
+BeginsWith rule from to work v =
+    WalksBoth of_step from to v (λ items there.
     Then own (TestsEmpty there) (λ _.
-    Then own (TestsNames (format_of to.vault) items) (λ _. Moves (EntersAs v work) from to v items)))
+    TestsMapped rule (format_of to.vault) items (λ mapped. Moves (EntersAs v work) from to v mapped)))
 
 -- behind the test that the folders don't overlap: the work folder can be made ready, and both vaults open
-abbrev pub BeginsApart : {Y : Type 0} → (from to work : Path) (from_pass to_pass : List ℕ) → View → Answer Y → Type 0
-BeginsApart from to work from_pass to_pass v =
+abbrev pub BeginsApart : {Y : Type 0} → NameMap → (from to work : Path) (from_pass to_pass : List ℕ) → View → Answer Y → Type 0
+BeginsApart rule from to work from_pass to_pass v =
     Then of_work (Tests v work) (λ _.
-    Opens v from to from_pass to_pass (λ source target. BeginsWith source target work v))
+    Opens of_step v from to from_pass to_pass (λ source target. BeginsWith rule source target work v))
 
-abbrev pub Begins : {Y : Type 0} → (from to work : Path) (from_pass to_pass : List ℕ) → View → Answer Y → Type 0
-Begins from to work from_pass to_pass v = Then own (TestsApart from to work) (λ _. BeginsApart from to work from_pass to_pass v)
+abbrev pub Begins : {Y : Type 0} → NameMap → (from to work : Path) (from_pass to_pass : List ℕ) → View → Answer Y → Type 0
+Begins rule from to work from_pass to_pass v = Then of_step (TestsApart from to work) (λ _. BeginsApart rule from to work from_pass to_pass v)
 
--- the tests of the items that the walks gave: the source has those of the journal, the target allows each name, and each item of the
--- target is so in the source
-abbrev pub TestsItems : {Y : Type 0} → OpenedVault → OpenedVault → Journal → View → List Planned → List Planned → (Answer Y → Type 0) → Answer Y → Type 0
+-- the tests of the items that the walks gave: the source has those of the journal, the target allows each mapped name, no two items come
+-- to one path, and each item of the target is so among the mapped ones
+abbrev pub TestsItems : {Y : Type 0} → OpenedVault → OpenedVault → Journal → View → List Planned → List Planned → (List Planned → Answer Y → Type 0) → Answer Y → Type 0
 TestsItems from to journal v items there next =
     Then own (TestsTold journal items) (λ _.
-    Then own (TestsNames (format_of to.vault) items) (λ _. TestsMatch to there from items v next))
+    TestsMapped journal.names (format_of to.vault) items (λ mapped. TestsMatch to there from mapped v (next mapped)))
 
 -- `resume` between two opened vaults: both are clean
 abbrev pub ResumesWith : {Y : Type 0} → OpenedVault → OpenedVault → Path → Journal → View → Answer Y → Type 0
-ResumesWith from to work journal v = WalksBoth from to v (λ items there. TestsItems from to journal v items there (Moves (Empties v work) from to v items))
+ResumesWith from to work journal v = WalksBoth of_step from to v (λ items there. TestsItems from to journal v items there (λ mapped. Moves (Empties v work) from to v mapped))
 
 -- behind the tests of the work folder: the source is there still, and both vaults open
 abbrev pub ResumesTold : {Y : Type 0} → Path → (from_pass to_pass : List ℕ) → View → Journal → Answer Y → Type 0
 ResumesTold work from_pass to_pass v journal =
     Then own (TestsSource journal.phase work journal.source v) (λ _.
-    Opens v journal.source journal.target from_pass to_pass (λ source target. ResumesWith source target work journal v))
+    Opens of_step v journal.source journal.target from_pass to_pass (λ source target. ResumesWith source target work journal v))
 
 abbrev pub is_done : Phase → Bool
 is_done phase.Building = false
@@ -275,7 +208,7 @@ is_done phase.Done = true
 abbrev pub Resumes : {Y : Type 0} → Path → (from_pass to_pass : List ℕ) → View → Answer Y → Type 0
 Resumes work from_pass to_pass v =
     Then of_journal (ReadsAs (journal_bytes v work)) (λ journal.
-    Then own (TestsApart journal.source journal.target work) (λ _.
+    Then of_step (TestsApart journal.source journal.target work) (λ _.
     Then of_work (TestsEntries (is_done journal.phase) v work) (λ _. ResumesTold work from_pass to_pass v journal)))
 
 -- ---- refusals of a part (private contracts only)
@@ -283,21 +216,6 @@ Resumes work from_pass to_pass v =
 -- so it would be if nothing may follow
 abbrev pub Refuses : (Answer (Unit {0}) → Type 0) → MoveFault → Type 0
 Refuses test fault = Unless {X = Unit {0}} (Err fault) (test (Err fault))
-
-abbrev pub nothing_follows : {X Y : Type 0} → X → Answer Y → Type 0
-nothing_follows x answer = ⊥
-
-abbrev pub RefusesLoad : Side → View → Path → List ℕ → MoveFault → Type 0
-RefusesLoad side v root pass = Refuses (Then (of_refusal side root) (Loads (under root v) pass) nothing_follows)
-
-abbrev pub RefusesBoth : View → (from to : Path) (from_pass to_pass : List ℕ) → MoveFault → Type 0
-RefusesBoth v from to from_pass to_pass = Refuses (Opens v from to from_pass to_pass (λ source. nothing_follows))
-
-abbrev pub RefusesWalk : OpenedVault → View → MoveFault → Type 0
-RefusesWalk a v = Refuses (Then of_walk (Walks a v) nothing_follows)
-
-abbrev pub RefusesWalks : OpenedVault → OpenedVault → View → MoveFault → Type 0
-RefusesWalks from to v = Refuses (WalksBoth from to v (λ items. nothing_follows))
 
 -- no item isn't placed
 abbrev pub nothing_stops : PutFault → Type 0

@@ -1,15 +1,17 @@
 -- When no test of `begin` or `resume` fails, and no content stops it: the migration hasn't begun, or goes on, and no limit is passed.
-use Rattle.std.specs.Prelude.{◌≡◌, ◌<◌, ◌++◌, length, false}
+use Rattle.std.specs.Prelude.{◌≡◌, ◌++◌, false}
 use Rattle.chunk_files.specs.Reading.{Whole}
 use Rattle.content_writing.specs.declared.fault.PutFault.TheVariants as put
 use Rattle.folder_spec.specs.Path.{Path, parent}
 use Rattle.folder_spec.specs.Seen.{under}
-use Rattle.folder_spec.specs.View.{Folder, NoEntry, View}
-use Rattle.folder_staging.specs.Removal.{deepest}
+use Rattle.folder_spec.specs.View.{Folder, View}
+use Rattle.migration_sides.specs.Sides.{IsShallow}
 use Rattle.plain_tree.specs.Names as plain
 use Rattle.tree_match.specs.Comparing.{content_at}
-use Rattle.tree_match.specs.Guard.{AllowsTree, Building, Case, Done, IsGuarded, IsNotBegun, IsSeparate, IsWork, Migration, NotBegun, Retired, VaultAt, kinds_in}
+use Rattle.migration_spec.specs.Guard.{Building, Case, Done, IsGuarded, IsNotBegun, IsSeparate, IsWork, Migration, NotBegun, Retired, kinds_in}
+use Rattle.mapped_trees.specs.Trees.{AllowsTree, StaysApart}
 use Rattle.tree_match.specs.declared.answer.MatchFault.TheVariants as match
+use Rattle.vault_spec.specs.Opened.{OpenedVault}
 use Rattle.vault_faults.specs.declared.fault.Limit.TheVariants as limit
 use Rattle.vault_spec.specs.Standing.{File, standing}
 use Rattle.vault_spec.specs.Vault.{format_of}
@@ -18,12 +20,8 @@ use Rattle.work_folder.specs.Entries.{stage_path}
 use Rattle.migrate_core.specs.declared.fault.MoveFault.{MoveFault}
 use Rattle.migrate_core.specs.declared.fault.MoveFault.TheVariants.{Match as Matching, Place, Failed, NoMemory}
 
--- nothing stands deeper below the path than a removal goes down
-abbrev pub IsShallow : Path → View → Type 0
-IsShallow at v = (rest : Path) → deepest < length rest → v (at ++ rest) ≡ NoEntry
-
 -- the vault passes no limit, neither in the number and the depth of its items nor by the content of a file, and no content is damaged
-pub record IsIntact (a : VaultAt) (v : View) : Type 0 where
+pub record IsIntact (a : OpenedVault) (v : View) : Type 0 where
   pub items : IsWithin (format_of a.vault) (under a.root v)
   pub contents : (path : plain.Path) (at : Path) → standing (format_of a.vault) (under a.root v) path ≡ File at → (content_at (format_of a.vault).content v (a.root ++ at)).ending ≡ Whole
 
@@ -33,7 +31,8 @@ pub record CanBegin (g : Migration) (v : View) : Type 0 where
   pub above : v (parent g.work) ≡ Folder
   pub work : IsWork false (kinds_in v) g.work
   pub stage : IsShallow (stage_path g.work) v
-  pub allowed : AllowsTree g.target g.held
+  pub allowed : AllowsTree g.names (format_of g.target.vault) g.held
+  pub apart : StaysApart g.names g.held
   pub source : IsIntact g.source v
   pub target : IsWithin (format_of g.target.vault) (under g.target.root v)
 

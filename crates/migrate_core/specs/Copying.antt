@@ -4,7 +4,8 @@ use Rattle.folder_spec.specs.Event.{Told}
 use Rattle.folder_spec.specs.Seen.{IfSeen, IsSeen, under}
 use Rattle.folder_spec.specs.View.{View}
 use Rattle.plain_tree.specs.Names as plain
-use Rattle.tree_match.specs.Guard.{IsPartOf}
+use Rattle.plain_tree.specs.declared.name_map.NameMap.{NameMap}
+use Rattle.mapped_trees.specs.Trees.{IsPartOf}
 use Rattle.vault_read.specs.Laws.{HasOwnFolders}
 use Rattle.vault_spec.specs.Opened.{OpenedVault}
 use Rattle.vault_spec.specs.Find.{enter}
@@ -26,19 +27,19 @@ pub record HaveOwnFolders (from to : OpenedVault) (v : View) : Type 0 where
 abbrev pub tree_in : OpenedVault → View → Tree
 tree_in a v = tree (format_of a.vault) (under a.root v)
 
--- both vaults are in good order, the source passes no limit, and each item of the target is so in the source and isn't broken
-pub record IsCopying (from to : OpenedVault) (v : View) : Type 0 where
+-- both vaults are in good order, the source passes no limit, and each item of the target is one of the mapped source and isn't broken
+pub record IsCopying (rule : NameMap) (from to : OpenedVault) (v : View) : Type 0 where
   pub source : ShowsVault (format_of from.vault) from.root v
   pub within : IsWithin (format_of from.vault) (under from.root v)
   pub target : ShowsVault (format_of to.vault) to.root v
-  pub part : IsPartOf (tree_in to v) (tree_in from v)
+  pub part : IsPartOf rule (tree_in to v) (tree_in from v)
 
 abbrev pub HasItem : OpenedVault → View → Planned → Type 0
 HasItem a v item = tree_in a v item.path ≢ NoItem
 
 -- the target has these items already
-pub record HasCopied (from to : OpenedVault) (items : List Planned) (v : View) : Type 0 where
-  pub copying : IsCopying from to v
+pub record HasCopied (rule : NameMap) (from to : OpenedVault) (items : List Planned) (v : View) : Type 0 where
+  pub copying : IsCopying rule from to v
   pub has : (item : Planned) → Contains items item → HasItem to v item
 
 -- the directory that is to have the item is entered
@@ -47,8 +48,8 @@ Enters to item v = (front : plain.Path) (name : List ℕ) → item.path ≡ fron
 
 -- from the one view to the other the target gained the item and no other, and lost none; where it was tidy it is so still; and
 -- each passphrase opens it as it did
-pub record Copies (from to : OpenedVault) (item : Planned) (v w : View) : Type 0 where
-  pub copying : IsCopying from to w
+pub record Copies (rule : NameMap) (from to : OpenedVault) (item : Planned) (v w : View) : Type 0 where
+  pub copying : IsCopying rule from to w
   pub has : HasItem to w item
   pub keeps : (path : plain.Path) → tree_in to v path ≢ NoItem → tree_in to w path ≢ NoItem
   pub gains : (path : plain.Path) → tree_in to w path ≢ NoItem → (path ≡ item.path) ⊎ (tree_in to v path ≢ NoItem)
@@ -56,20 +57,20 @@ pub record Copies (from to : OpenedVault) (item : Planned) (v w : View) : Type 0
   pub loads : LoadsAlike (under to.root v) (under to.root w)
 
 -- it does so, where it was being copied into
-abbrev pub CopiesOne : OpenedVault → OpenedVault → Planned → Option Told → Option Told → Type 0
-CopiesOne from to item told told' = (v w : View) → IsSeen told v → IsSeen told' w → IsCopying from to v → Copies from to item v w
+abbrev pub CopiesOne : NameMap → OpenedVault → OpenedVault → Planned → Option Told → Option Told → Type 0
+CopiesOne rule from to item told told' = (v w : View) → IsSeen told v → IsSeen told' w → IsCopying rule from to v → Copies rule from to item v w
 
 -- the same of an item that may be among these, which the target has already
-abbrev pub CopiesMissing : OpenedVault → OpenedVault → List Planned → Planned → Option Told → Option Told → Type 0
-CopiesMissing from to there item told told' = (v w : View) → IsSeen told v → IsSeen told' w → HasCopied from to there v → Copies from to item v w
+abbrev pub CopiesMissing : NameMap → OpenedVault → OpenedVault → List Planned → Planned → Option Told → Option Told → Type 0
+CopiesMissing rule from to there item told told' = (v w : View) → IsSeen told v → IsSeen told' w → HasCopied rule from to there v → Copies rule from to item v w
 
 -- where it had the ones, it has the others then
-abbrev pub CopiesAll : OpenedVault → OpenedVault → List Planned → List Planned → Option Told → Option Told → Type 0
-CopiesAll from to there items told told' = (v w : View) → IsSeen told v → IsSeen told' w → HasCopied from to there v → HasCopied from to items w
+abbrev pub CopiesAll : NameMap → OpenedVault → OpenedVault → List Planned → List Planned → Option Told → Option Told → Type 0
+CopiesAll rule from to there items told told' = (v w : View) → IsSeen told v → IsSeen told' w → HasCopied rule from to there v → HasCopied rule from to items w
 
 -- so it is where no two directories of either vault share a folder
-abbrev pub MayBegin : OpenedVault → OpenedVault → List Planned → Option Told → Type 0
-MayBegin from to there told = IfSeen told (λ v. HaveOwnFolders from to v → HasCopied from to there v)
+abbrev pub MayBegin : NameMap → OpenedVault → OpenedVault → List Planned → Option Told → Type 0
+MayBegin rule from to there told = IfSeen told (λ v. HaveOwnFolders from to v → HasCopied rule from to there v)
 
 -- and in good order both are then
 abbrev pub StayGood : OpenedVault → OpenedVault → Option Told → Option Told → Type 0

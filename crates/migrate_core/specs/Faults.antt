@@ -7,18 +7,19 @@ use Rattle.folder_spec.specs.declared.FolderFault.{FolderFault}
 use Rattle.folder_spec.specs.declared.FolderFault.TheVariants as folder
 use Rattle.move_journal.specs.declared.journal.JournalFault.{JournalFault}
 use Rattle.move_journal.specs.declared.journal.JournalFault.TheVariants as journal
+use Rattle.migration_sides.specs.declared.fault.StepFault.{StepFault}
+use Rattle.migration_sides.specs.declared.fault.StepFault.TheVariants as step
+use Rattle.tree_match.specs.declared.answer.MapFault.{MapFault}
+use Rattle.tree_match.specs.declared.answer.MapFault.TheVariants as map
 use Rattle.tree_match.specs.declared.answer.MatchFault.{MatchFault}
 use Rattle.tree_match.specs.declared.answer.MatchFault.TheVariants as match
-use Rattle.tree_match.specs.declared.answer.Side.{Side}
 use Rattle.vault_read.specs.Contents.{IsOfPath}
-use Rattle.vault_read.specs.declared.fault.LoadFault.{LoadFault}
 use Rattle.vault_read.specs.declared.fault.LoadFault.TheVariants as load
-use Rattle.vault_walk.specs.declared.fault.WalkFault.{WalkFault}
 use Rattle.vault_walk.specs.declared.fault.WalkFault.TheVariants as walk
 use Rattle.work_folder.specs.declared.fault.WorkFault.{WorkFault}
 use Rattle.work_folder.specs.declared.fault.WorkFault.TheVariants as work
 use Rattle.migrate_core.specs.declared.fault.MoveFault.{MoveFault}
-use Rattle.migrate_core.specs.declared.fault.MoveFault.TheVariants.{Work, Journal, Load, Walk, Changed, Match, Place, SourceGone, Failed, NoMemory}
+use Rattle.migrate_core.specs.declared.fault.MoveFault.TheVariants.{Work, Journal, Overlap, Load, Walk, NotAllowed, Meet, Changed, Match, Place, SourceGone, Failed, NoMemory}
 
 abbrev pub of_folder : FolderFault → MoveFault
 of_folder folder.Failed = Failed
@@ -35,15 +36,17 @@ of_journal journal.Failed = Failed
 of_journal journal.NoMemory = NoMemory
 of_journal fault = Journal fault
 
-abbrev pub of_load : Side → LoadFault → MoveFault
-of_load side load.Failed = Failed
-of_load side load.NoMemory = NoMemory
-of_load side fault = Load side fault
+abbrev pub of_step : StepFault → MoveFault
+of_step (step.Overlap first second) = Overlap first second
+of_step (step.Load side fault) = Load side fault
+of_step (step.Walk fault) = Walk fault
+of_step step.Failed = Failed
+of_step step.NoMemory = NoMemory
 
-abbrev pub of_walk : WalkFault → MoveFault
-of_walk walk.Failed = Failed
-of_walk walk.NoMemory = NoMemory
-of_walk fault = Walk fault
+abbrev pub of_map : MapFault → MoveFault
+of_map (map.NotAName path) = NotAllowed path
+of_map (map.Meet one other) = Meet one other
+of_map map.NoMemory = NoMemory
 
 abbrev pub of_match : MatchFault → MoveFault
 of_match match.Failed = Failed

@@ -7,14 +7,11 @@ use Rattle.folder_spec.specs.State.{State, IsSound}
 use Rattle.move_journal.specs.declared.journal.Journal.{Journal}
 use Rattle.move_journal.specs.declared.journal.Phase.{Phase}
 use Rattle.move_journal.specs.declared.journal.Phase.TheVariants as phase
-use Rattle.tree_match.specs.Alone.{Progress, Begun, Finished, IsAlone, IsIn, StaysGuarded}
-use Rattle.tree_match.specs.Guard.{Migration, Guarded, HoldsAll, Tells}
+use Rattle.migration_spec.specs.Alone.{Progress, Begun, Finished, IsAlone, IsIn, StaysGuarded}
+use Rattle.migration_spec.specs.Guard.{Migration, Guarded, HoldsAll, Tells}
+use Rattle.plain_tree.specs.declared.name_map.NameMap.{NameMap}
 use Rattle.vault_spec.specs.Opened.{OpenedVault}
 use Rattle.migrate_core.specs.Sides.{AreSides}
-
--- a migration that is guarded when a call begins is guarded at each moment of it
-abbrev pub KeepsGuarded : Migration → Option Told → Option Told → Type 0
-KeepsGuarded g = FromTo (λ a b. Guarded g a.state → StaysGuarded g a b)
 
 -- the migration is guarded, and where no change is pending of what stands in both vaults and at the journal
 pub record IsSettled (g : Migration) (s : State) : Type 0 where
@@ -38,16 +35,16 @@ abbrev pub Goes : {T E : Type 0} → Migration → Progress → Progress → Opt
 Goes g p q told told' result = Guards g p told told' × IfOk result (λ value. Leads g p q told told')
 
 -- each migration of these vaults through this work folder
-abbrev pub LeadsEach : {T E : Type 0} → OpenedVault → OpenedVault → Path → Progress → Progress → Option Told → Option Told → Result T E → Type 0
-LeadsEach from to through p q told told' result = (g : Migration) → AreSides g from to through → Goes g p q told told' result
+abbrev pub LeadsEach : {T E : Type 0} → NameMap → OpenedVault → OpenedVault → Path → Progress → Progress → Option Told → Option Told → Result T E → Type 0
+LeadsEach rule from to through p q told told' result = (g : Migration) → AreSides g rule from to through → Goes g p q told told' result
 
 -- the same without an answer
-abbrev pub HasLed : OpenedVault → OpenedVault → Path → Progress → Progress → Option Told → Option Told → Type 0
-HasLed from to through p q told told' = (g : Migration) → AreSides g from to through → Guards g p told told' × Leads g p q told told'
+abbrev pub HasLed : NameMap → OpenedVault → OpenedVault → Path → Progress → Progress → Option Told → Option Told → Type 0
+HasLed rule from to through p q told told' = (g : Migration) → AreSides g rule from to through → Guards g p told told' × Leads g p q told told'
 
 -- each of which this journal tells
 abbrev pub LeadsTold : {T E : Type 0} → OpenedVault → OpenedVault → Path → Journal → Progress → Progress → Option Told → Option Told → Result T E → Type 0
-LeadsTold from to through journal p q told told' result = (g : Migration) → AreSides g from to through → Tells g journal → Goes g p q told told' result
+LeadsTold from to through journal p q told told' result = (g : Migration) → AreSides g journal.names from to through → Tells g journal → Goes g p q told told' result
 
 -- how far a migration has come whose journal is in this phase
 abbrev pub progress_of : Phase → Progress

@@ -1,5 +1,5 @@
 -- What is so once a migration is done.
-use Rattle.std.specs.Prelude.{◌≡◌, ◌≢◌, ℕ, Bool, not, is_some, List, [], length, codes, Option, Result, IfOk}
+use Rattle.std.specs.Prelude.{◌≡◌, ◌≢◌, ℕ, Bool, not, is_some, List, length, codes, Option, Result, IfOk}
 use Rattle.std.specs.List.{filter}
 use Rattle.folder_spec.specs.Path.{Part, Path, child}
 use Rattle.folder_spec.specs.Event.{Told}
@@ -9,25 +9,25 @@ use Rattle.move_journal.specs.Journal.{IsJournal}
 use Rattle.move_journal.specs.Reading.{StandsIn}
 use Rattle.move_journal.specs.declared.journal.Journal.{Journal}
 use Rattle.move_journal.specs.declared.journal.Phase.TheVariants as phase
-use Rattle.plain_tree.specs.Names as plain
 use Rattle.plain_tree.specs.declared.name_map.NameMap.{NameMap}
 use Rattle.tree_match.specs.Matching.{item_with}
 use Rattle.vault_read.specs.Laws.{HasOwnFolders}
 use Rattle.vault_spec.specs.Opened.{OpenedVault}
 use Rattle.vault_spec.specs.Findings.{IsClean}
-use Rattle.vault_spec.specs.Opens.{tree}
 use Rattle.vault_spec.specs.Plan.{Planned}
 use Rattle.vault_spec.specs.Vault.{Vault, IsVault, format_of}
 use Rattle.vault_walk.specs.Surveyed.{IsPlanOf}
 use Rattle.work_folder.specs.Entering.{IsReady}
 use Rattle.migrate_core.specs.Sides.{AreTold}
-use Rattle.migrate_core.specs.Copying.{StayGood}
+use Rattle.mapped_trees.specs.Trees.{IsMapped}
+use Rattle.migration_sides.specs.Sides.{opened_in}
+use Rattle.tree_match.specs.Mapping.{IsMappedPlan}
+use Rattle.migrate_core.specs.Copying.{StayGood, tree_in}
 use Rattle.migrate_core.specs.declared.placing.Done.{Done}
 
--- where no two directories of either vault share a folder, both open the same at each plain path
-abbrev pub HaveOneTree : OpenedVault → OpenedVault → View → Type 0
-HaveOneTree from to v = HasOwnFolders from.vault (under from.root v) → HasOwnFolders to.vault (under to.root v)
-    → (path : plain.Path) → path ≢ [] → tree (format_of to.vault) (under to.root v) path ≡ tree (format_of from.vault) (under from.root v) path
+-- where no two directories of either vault share a folder, the second has the mapped tree of the first
+abbrev pub HaveMappedTree : NameMap → OpenedVault → OpenedVault → View → Type 0
+HaveMappedTree rule from to v = HasOwnFolders from.vault (under from.root v) → HasOwnFolders to.vault (under to.root v) → IsMapped rule (tree_in from v) (tree_in to v)
 
 -- the journal that says that all is done
 abbrev pub done_of : Journal → Journal
@@ -52,11 +52,11 @@ HasItems a count v = HasOwnFolders a.vault (under a.root v) → (items : List Pl
 abbrev pub TellsItems : OpenedVault → Journal → View → Type 0
 TellsItems a journal v = HasOwnFolders a.vault (under a.root v) → (items : List Planned) × IsPlanOf a.root (format_of a.vault) (under a.root v) items × AreTold journal items
 
--- both vaults are clean and have one tree, of so many items, and the journal says so and tells them
+-- both vaults are clean, the target has the mapped tree of the source, of so many items, and the journal says so and tells those of the source
 pub record HasMoved (names : NameMap) (from to : OpenedVault) (work : Path) (count : ℕ) (v : View) : Type 0 where
   pub source : IsClean (format_of from.vault) (under from.root v)
   pub target : IsClean (format_of to.vault) (under to.root v)
-  pub trees : HaveOneTree from to v
+  pub trees : HaveMappedTree names from to v
   pub items : HasItems to count v
   pub says : SaysDone names from.root to.root work count v
   pub tells : TellsItems from says.journal v
@@ -82,16 +82,19 @@ StaysTidyWork work told told' = (IfSeen told (λ v. IsTidyWork work v)) → IfSe
 abbrev pub Moved : {E : Type 0} → NameMap → OpenedVault → OpenedVault → Path → Option Told → Result Done E → Type 0
 Moved names from to work told result = IfOk result (λ done. IfSeen told (λ v. HasMoved names from to work done.items v))
 
--- so many items were placed as the second vault lacked of the first, where no two directories of either share a folder
-abbrev pub HasPlaced : OpenedVault → OpenedVault → ℕ → View → Type 0
-HasPlaced from to count v = HasOwnFolders from.vault (under from.root v) → HasOwnFolders to.vault (under to.root v)
-    → (items there : List Planned) × IsPlanOf from.root (format_of from.vault) (under from.root v) items × IsPlanOf to.root (format_of to.vault) (under to.root v) there × (count ≡ lacking there items)
+-- the items of the vault that the source is, at their mapped paths
+pub record AreMappedItems (rule : NameMap) (from : OpenedVault) (v : View) (mapped : List Planned) : Type 0 where
+  pub own : List Planned
+  pub are : IsPlanOf from.root (format_of from.vault) (under from.root v) own
+  pub same : IsMappedPlan rule own mapped
 
-abbrev pub Placed : {E : Type 0} → OpenedVault → OpenedVault → Option Told → Result Done E → Type 0
-Placed from to told result = IfOk result (λ done. IfSeen told (λ v. HasPlaced from to done.placed v))
+-- so many items were placed as the second vault lacked of the mapped first, where no two directories of either share a folder
+abbrev pub HasPlaced : NameMap → OpenedVault → OpenedVault → ℕ → View → Type 0
+HasPlaced rule from to count v = HasOwnFolders from.vault (under from.root v) → HasOwnFolders to.vault (under to.root v)
+    → (items there : List Planned) × AreMappedItems rule from v items × IsPlanOf to.root (format_of to.vault) (under to.root v) there × (count ≡ lacking there items)
 
-abbrev pub opened_in : Path → Vault → OpenedVault
-opened_in root vault = record { root = root; vault = vault }
+abbrev pub Placed : {E : Type 0} → NameMap → OpenedVault → OpenedVault → Option Told → Result Done E → Type 0
+Placed rule from to told result = IfOk result (λ done. IfSeen told (λ v. HasPlaced rule from to done.placed v))
 
 -- Of the vaults that two roots and their passphrases are. The target is opened so afterwards too, and where no two directories of either
 -- shared a folder, both are in good order then.
@@ -100,7 +103,7 @@ pub record MovesTree (names : NameMap) (from to work : Path) (from_pass to_pass 
   pub target : Vault
   pub opens_source : IfSeen told (λ v. IsVault (under from v) from_pass source)
   pub opens_target : IfSeen told (λ v. IsVault (under to v) to_pass target)
-  pub placed : IfSeen told (λ v. HasPlaced (opened_in from source) (opened_in to target) done.placed v)
+  pub placed : IfSeen told (λ v. HasPlaced names (opened_in from source) (opened_in to target) done.placed v)
   pub moved : IfSeen told' (λ v. HasMoved names (opened_in from source) (opened_in to target) work done.items v)
   pub opens_still : IfSeen told' (λ v. IsVault (under to v) to_pass target)
   pub stays_good : StayGood (opened_in from source) (opened_in to target) told told'

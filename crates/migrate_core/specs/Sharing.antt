@@ -6,6 +6,7 @@ use Rattle.folder_spec.specs.Seen.{IfSeen, IsSeen, under}
 use Rattle.folder_spec.specs.View.{View}
 use Rattle.plain_tree.specs.Names as plain
 use Rattle.plain_tree.specs.declared.NodeKind.{NodeKind}
+use Rattle.plain_tree.specs.declared.name_map.NameMap.{NameMap}
 use Rattle.plain_tree.specs.declared.NodeKind.TheVariants.{Dir, File}
 use Rattle.port_model.specs.Draws.{ByteStream, Draws}
 use Rattle.content_writing.specs.declared.fault.PutFault.TheVariants as put
@@ -20,10 +21,10 @@ use Rattle.vault_spec.specs.Standing.{standing_in}
 use Rattle.vault_spec.specs.Staying.{LoadsAlike}
 use Rattle.vault_spec.specs.Tidy.{HasOwnPlace, IsTidy}
 use Rattle.vault_spec.specs.Vault.{Vault, IsVault, format_of}
-use Rattle.vault_walk.specs.Surveyed.{IsPlanOf}
 use Rattle.content_writing.specs.Trees.{ShowsVault}
 use Rattle.migrate_core.specs.Copying.{HasCopied, HaveOwnFolders, IsCopying, tree_in}
-use Rattle.migrate_core.specs.Moved.{opened_in}
+use Rattle.migration_sides.specs.Sides.{opened_in}
+use Rattle.migrate_core.specs.Moved.{AreMappedItems}
 use Rattle.migrate_core.specs.Written.{WasSeen}
 use Rattle.migrate_core.specs.declared.fault.MoveFault.{MoveFault}
 use Rattle.migrate_core.specs.declared.fault.MoveFault.TheVariants.{Place}
@@ -65,24 +66,24 @@ pub record OneShares (to : OpenedVault) (items : List Planned) (first : View) (s
   pub loads : LoadsAlike (under to.root first) (under to.root moment)
   pub shares : SharesPlace to item drawn moment
 
--- an item of the source does
-pub record OneOfSourceShares (from to : OpenedVault) (stream stream' : Option ByteStream) (told told' : Option Told) (v : View) : Type 0 where
+-- an item of the source does, at its mapped path
+pub record OneOfSourceShares (rule : NameMap) (from to : OpenedVault) (stream stream' : Option ByteStream) (told told' : Option Told) (v : View) : Type 0 where
   pub items : List Planned
-  pub items_are : IsPlanOf from.root (format_of from.vault) (under from.root v) items
+  pub items_are : AreMappedItems rule from v items
   pub shares : OneShares to items v stream stream' told told'
 
 -- where at first no two directories of either vault share a folder, and the target is tidy
-abbrev pub SharesWhereTidy : OpenedVault → OpenedVault → Option ByteStream → Option ByteStream → Option Told → Option Told → Type 0
-SharesWhereTidy from to stream stream' told told' = (v : View) → IsSeen told v → HaveOwnFolders from to v → IsTidyAt to v
-    → OneOfSourceShares from to stream stream' told told' v
+abbrev pub SharesWhereTidy : NameMap → OpenedVault → OpenedVault → Option ByteStream → Option ByteStream → Option Told → Option Told → Type 0
+SharesWhereTidy rule from to stream stream' told told' = (v : View) → IsSeen told v → HaveOwnFolders from to v → IsTidyAt to v
+    → OneOfSourceShares rule from to stream stream' told told' v
 
 -- of the vaults that two roots and their passphrases are
-pub record SharesInTree (from to : Path) (from_pass to_pass : List ℕ) (stream stream' : Option ByteStream) (told told' : Option Told) : Type 0 where
+pub record SharesInTree (rule : NameMap) (from to : Path) (from_pass to_pass : List ℕ) (stream stream' : Option ByteStream) (told told' : Option Told) : Type 0 where
   pub source : Vault
   pub target : Vault
   pub opens_source : IfSeen told (λ v. IsVault (under from v) from_pass source)
   pub opens_target : IfSeen told (λ v. IsVault (under to v) to_pass target)
-  pub shares : SharesWhereTidy (opened_in from source) (opened_in to target) stream stream' told told'
+  pub shares : SharesWhereTidy rule (opened_in from source) (opened_in to target) stream stream' told told'
 
 -- of a fault that names a taken place, this is so
 abbrev pub IsOfTaken : Type 0 → MoveFault → Type 0
@@ -96,8 +97,8 @@ abbrev pub SharesFrom : (View → Type 0) → OpenedVault → List Planned → O
 SharesFrom Is to items stream stream' told told' = IfSeen told (λ v. Is v → OneShares to items v stream stream' told told')
 
 -- the target is copied into, is tidy, and doesn't have the item yet
-pub record Lacks (from to : OpenedVault) (item : Planned) (v : View) : Type 0 where
-  pub copying : IsCopying from to v
+pub record Lacks (rule : NameMap) (from to : OpenedVault) (item : Planned) (v : View) : Type 0 where
+  pub copying : IsCopying rule from to v
   pub tidy : IsTidyAt to v
   pub lacks : tree_in to v item.path ≡ NoItem
 
@@ -107,8 +108,8 @@ pub record IsFresh (to : OpenedVault) (v : View) : Type 0 where
   pub empty : (path : plain.Path) → path ≢ [] → tree_in to v path ≡ NoItem
 
 -- it has the ones already, and was fresh
-abbrev pub IsFilled : OpenedVault → OpenedVault → List Planned → View → Type 0
-IsFilled from to there v = HasCopied from to there v × IsFresh to v
+abbrev pub IsFilled : NameMap → OpenedVault → OpenedVault → List Planned → View → Type 0
+IsFilled rule from to there v = HasCopied rule from to there v × IsFresh to v
 
 -- it is tidy, and nothing but its root and some of these items open in it
 pub record HasOnly (to : OpenedVault) (items : List Planned) (v : View) : Type 0 where
@@ -116,6 +117,6 @@ pub record HasOnly (to : OpenedVault) (items : List Planned) (v : View) : Type 0
   pub only : (path : plain.Path) → path ≢ [] → tree_in to v path ≢ NoItem → (item : Planned) × Contains items item × (item.path ≡ path)
 
 -- it was fresh, and has only these of the items; and each passphrase opens it as it did
-abbrev pub FillsOnly : OpenedVault → OpenedVault → List Planned → List Planned → Option Told → Option Told → Type 0
-FillsOnly from to there items told told' = (v w : View) → IsSeen told v → IsSeen told' w → IsFilled from to there v
+abbrev pub FillsOnly : NameMap → OpenedVault → OpenedVault → List Planned → List Planned → Option Told → Option Told → Type 0
+FillsOnly rule from to there items told told' = (v w : View) → IsSeen told v → IsSeen told' w → IsFilled rule from to there v
     → HasOnly to items w × LoadsAlike (under to.root v) (under to.root w)

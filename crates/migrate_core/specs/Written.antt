@@ -30,9 +30,11 @@ use Rattle.content_writing.specs.declared.fault.PutFault.{PutFault}
 use Rattle.content_writing.specs.declared.fault.PutFault.TheVariants as put
 use Rattle.migrate_core.specs.declared.fault.MoveFault.{MoveFault}
 use Rattle.migrate_core.specs.declared.fault.MoveFault.TheVariants.{Place}
-use Rattle.migrate_core.specs.Causes.{AreItemsOf}
+use Rattle.migration_sides.specs.Causes.{AreItemsOf}
+use Rattle.migration_sides.specs.Sides.{opened_in}
+use Rattle.tree_match.specs.Mapping.{IsMappedPlan}
 use Rattle.migrate_core.specs.Faults.{IsOfTest}
-use Rattle.migrate_core.specs.Moved.{done_of, is_there, opened_in}
+use Rattle.migrate_core.specs.Moved.{done_of, is_there}
 use Rattle.migrate_core.specs.Sides.{new_journal}
 
 -- an item that was made in the target, and the bytes drawn for it
@@ -41,7 +43,7 @@ pub record MadeItem : Type 0 where
   pub item : NewItem
   pub drawn : List ℕ
 
--- it is this item of the source, with the content that its file gives
+-- it is this item of the source at its mapped path, with the content that its file gives
 pub record IsCopyOf (from : OpenedVault) (v : View) (planned : Planned) (x : MadeItem) : Type 0 where
   pub path : x.path ≡ planned.path
   pub directory : planned.node ≡ Dir → x.item ≡ NewDirectory
@@ -193,13 +195,15 @@ abbrev pub WritesBy : {T : Type 0} → Result T MoveFault → OpenedVault → Op
 WritesBy (Ok value) = WritesAll
 WritesBy (Err fault) = WritesFirst fault
 
--- between two opened vaults, the items of the source that the target lacks
+-- between two opened vaults, the items of the source, at their mapped paths, that the target lacks
 pub record WritesLacked {T : Type 0} (result : Result T MoveFault) (names : NameMap) (from to : OpenedVault) (stream stream' : Option ByteStream) (told told' : Option Told) : Type 0 where
   pub items : List Planned
+  pub mapped : List Planned
   pub there : List Planned
   pub items_are : IfSeen told (λ v. AreItemsOf from v items)
+  pub mapped_are : IsMappedPlan names items mapped
   pub there_are : IfSeen told (λ v. AreItemsOf to v there)
-  pub writes : WritesBy result from to (lacked there items) (journal_texts names from.root to.root items) stream stream' told told'
+  pub writes : WritesBy result from to (lacked there mapped) (journal_texts names from.root to.root items) stream stream' told told'
 
 -- a test refuses
 abbrev pub IsRefusal : {T : Type 0} → Result T MoveFault → Type 0

@@ -2,10 +2,11 @@
 use content_writing::PutFault;
 use folder_model::FPath;
 use folder_spec::FolderFault;
+use migration_sides::{Side, StepFault};
 use move_journal::JournalFault;
 use plain_tree::PlainPath;
 use std::alloc::AllocError;
-use tree_match::{MatchFault, Side, Where};
+use tree_match::{MapFault, MatchFault, Where};
 use vault_read::LoadFault;
 use vault_walk::WalkFault;
 use work_folder::WorkFault;
@@ -25,8 +26,10 @@ pub enum MoveFault {
     Walk(WalkFault),
     /// The target has an item already, at this path.
     NotEmpty(FPath),
-    /// The target allows no such name.
+    /// The last name of the item at this path of the source, mapped, is no name, or the target doesn't allow it.
     NotAllowed(PlainPath),
+    /// The items at these two paths of the source come to one path.
+    Meet(PlainPath, PlainPath),
     /// The source has changed: the digest of its plan and its number of items by the journal, and those that it has.
     Changed([u8; 32], u64, [u8; 32], u64),
     /// The two vaults aren't compared to the end.
@@ -98,17 +101,34 @@ impl From<JournalFault> for MoveFault {
     }
 }
 
-impl From<WalkFault> for MoveFault {
+impl From<StepFault> for MoveFault {
     ghost use Rattle.std.specs.Prelude.{◌≡◌};
-    ghost use Rattle.migrate_core.specs.Faults.{of_walk};
+    ghost use Rattle.migrate_core.specs.Faults.{of_step};
 
-    ghost from_gives = { λ fault result. result ≡ of_walk fault };
+    ghost from_gives = { λ fault result. result ≡ of_step fault };
 
-    fn from(fault: WalkFault) -> MoveFault {
+    fn from(fault: StepFault) -> MoveFault {
         match fault {
-            WalkFault::Failed => MoveFault::Failed,
-            WalkFault::NoMemory => MoveFault::NoMemory,
-            fault => MoveFault::Walk(fault),
+            StepFault::Overlap(first, second) => MoveFault::Overlap(first, second),
+            StepFault::Load(side, fault) => MoveFault::Load(side, fault),
+            StepFault::Walk(fault) => MoveFault::Walk(fault),
+            StepFault::Failed => MoveFault::Failed,
+            StepFault::NoMemory => MoveFault::NoMemory,
+        }
+    }
+}
+
+impl From<MapFault> for MoveFault {
+    ghost use Rattle.std.specs.Prelude.{◌≡◌};
+    ghost use Rattle.migrate_core.specs.Faults.{of_map};
+
+    ghost from_gives = { λ fault result. result ≡ of_map fault };
+
+    fn from(fault: MapFault) -> MoveFault {
+        match fault {
+            MapFault::NotAName(path) => MoveFault::NotAllowed(path),
+            MapFault::Meet(one, other) => MoveFault::Meet(one, other),
+            MapFault::NoMemory => MoveFault::NoMemory,
         }
     }
 }

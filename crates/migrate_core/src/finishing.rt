@@ -6,10 +6,10 @@ ghost use Rattle.folder_spec.specs.Seen.{IfSeen};
 ghost use Rattle.move_journal.specs.Journal.{IsJournal, journal_text};
 ghost use Rattle.move_journal.specs.Writing.{IsWorkFolder};
 ghost use Rattle.move_journal.specs.Reading.{StandsIn};
-ghost use Rattle.tree_match.specs.Alone.{Begun, Finished};
+ghost use Rattle.migration_spec.specs.Alone.{Begun, Finished};
 ghost use Rattle.tree_match.specs.Comparing.{Is};
-ghost use Rattle.tree_match.specs.Guard.{AreApart};
-ghost use Rattle.tree_match.specs.Trees.{IsSameOrTooLong, match_of};
+ghost use Rattle.work_folder.specs.Apart.{AreApart};
+ghost use Rattle.tree_match.specs.Trees.{IsSameOrTooLong, match_of, side_of};
 ghost use Rattle.tree_match.specs.declared.answer.Match.TheVariants.{Same};
 ghost use Rattle.vault_spec.specs.Vault.{format_of};
 ghost use Rattle.vault_walk.specs.Survey.{IsOrdered};
@@ -23,19 +23,21 @@ ghost use Rattle.migrate_core.specs.Moved.{Moved, StaysTidyWork, done_of, lackin
 ghost use Rattle.migrate_core.specs.Moving.{MovesOnly};
 ghost use Rattle.migrate_core.specs.Written.{WritesBeside, WritesBy, lacked};
 ghost use Rattle.migrate_core.specs.Sharing.{IsFilled, SharesFrom};
-ghost use Rattle.migrate_core.specs.Sides.{AllowsEach, AreSeparate, AreTold, IsWalked, StandAll, side_of};
+ghost use Rattle.migrate_core.specs.Sides.{AllowsEach, AreItemsToMove, AreTold, IsMappedWalk, StandAll};
+ghost use Rattle.migration_sides.specs.Sides.{AreSeparate, IsWalked};
 
 use crate::fault::MoveFault;
 use crate::placing::{Done, place_missing};
-use crate::sides::{Sides, walk_one};
 use folder_model::{FPath, Folder};
+use mapped_trees::laws::mapped_trees_are_held;
+use migration_sides::{Sides, walk_one};
+use migration_spec::laws::{guarded_migrations_are_seen, journals_keep_migrations_guarded};
 use move_journal::{Journal, Phase, write};
 use port_model::Randoms;
 use port_model::laws::draws_compose;
 use std::alloc::Global;
 use tree_match::laws::{
-    guarded_migrations_are_seen, journals_keep_migrations_guarded, walks_tell_the_tree,
-    what_is_held_opens_the_same,
+    mapped_walks_tell_the_mapped_tree, walks_tell_the_tree, what_is_held_opens_the_same,
 };
 use tree_match::{How, Match, Where, holds_all};
 use vault_read::laws::files_have_their_contents;
@@ -43,20 +45,27 @@ use vault_spec::laws::what_stands_is_found_step_by_step;
 use vault_walk::{Plan, PlanItem};
 use work_folder::Work;
 
+// The items of the source: as a walk answered them, and at their mapped paths.
+#[derive(Drop)]
+pub(crate) struct Items {
+    pub(crate) own: Plan,
+    pub(crate) mapped: Plan,
+}
+
 // Places what the target lacks of the source, and ends the migration.
 pub(crate) fn go_on<F: Folder, R: Randoms>(
     alloc: Global,
     folder: &mut F,
     work: &Work,
     sides: &Sides,
-    source: &Plan,
+    items: &Items,
     there: &[PlanItem],
     journal: Journal,
     random: &mut R,
 ) -> Result<Done, MoveFault>
     requires apart { AreSeparate sides.now.source.root sides.now.target.root work.now }
-    requires walked { IsWalked (F.told folder.old) sides.now.source source.now.items }
-    requires allowed { AllowsEach (format_of sides.now.target.vault) source.now.items }
+    requires walked { AreItemsToMove sides.now.names (F.told folder.old) sides.now.source items.now.own.items items.now.mapped.items }
+    requires allowed { AllowsEach (format_of sides.now.target.vault) items.now.mapped.items }
     requires ready { IfSeen (F.told folder.old) (λ v. IsReady v work.now) }
     requires there { IfSeen (F.told folder.old) (λ v. IsOrdered there.now) }
     requires journal { IsJournal journal }
@@ -64,24 +73,25 @@ pub(crate) fn go_on<F: Folder, R: Randoms>(
     requires stands { journal.phase ≡ Phase.Done → IfSeen (F.told folder.old) (λ v. StandsIn work.now journal v) }
     requires source { journal.source ≡ sides.now.source.root }
     requires target { journal.target ≡ sides.now.target.root }
-    requires items { AreTold journal source.now.items }
+    requires names { journal.names ≡ sides.now.names }
+    requires items { AreTold journal items.now.own.items }
     ensures moved { Moved journal.names sides.now.source sides.now.target work.now (F.told folder.new) result }
-    ensures placed { IfOk result (λ done. IfSeen (F.told folder.old) (λ v. done.placed ≡ lacking there.now source.now.items)) }
+    ensures placed { IfOk result (λ done. IfSeen (F.told folder.old) (λ v. done.placed ≡ lacking there.now items.now.mapped.items)) }
     ensures building { journal.phase ≡ Phase.Building → LeadsTold sides.now.source sides.now.target work.now journal Begun Finished (F.told folder.old) (F.told folder.new) result }
-    ensures done { journal.phase ≡ Phase.Done → StandAll source.now.items there.now → LeadsTold sides.now.source sides.now.target work.now journal Finished Finished (F.told folder.old) (F.told folder.new) result }
+    ensures done { journal.phase ≡ Phase.Done → StandAll items.now.mapped.items there.now → LeadsTold sides.now.source sides.now.target work.now journal Finished Finished (F.told folder.old) (F.told folder.new) result }
     ensures tidy { IfOk result (λ done. StaysTidyWork work.now (F.told folder.old) (F.told folder.new)) }
     ensures moves { MovesOnly work.now sides.now.target.root (F.told folder.old) (F.told folder.new) }
     ensures grows { F.faults folder.old ≤ F.faults folder.new }
     ensures random { R.faults random.old ≤ R.faults random.new }
     ensures blamed { IfErr result (Blamed is_of_begin (CountRose (F.faults folder.old) (F.faults folder.new)) (CountRose (R.faults random.old) (R.faults random.new))) }
-    ensures moving { IfErr result (StopsSeen (HasCopied sides.now.source sides.now.target there.now) (F.told folder.old) sides.now.source source.now.items) }
-    ensures ends { EndsBy (CopiesAll sides.now.source sides.now.target there.now source.now.items (F.told folder.old) (F.told folder.new)) (SharesFrom (IsFilled sides.now.source sides.now.target there.now) sides.now.target source.now.items (R.left random.old) (R.left random.new) (F.told folder.old) (F.told folder.new)) sides.now.source sides.now.target (F.told folder.new) result }
-    ensures written { IsOrdered there.now → WritesBy result sides.now.source sides.now.target (lacked there.now source.now.items) (journal_text (done_of journal) ∷ []) (R.left random.old) (R.left random.new) (F.told folder.old) (F.told folder.new) }
+    ensures moving { IfErr result (StopsSeen (HasCopied sides.now.names sides.now.source sides.now.target there.now) (F.told folder.old) sides.now.source items.now.mapped.items) }
+    ensures ends { EndsBy (CopiesAll sides.now.names sides.now.source sides.now.target there.now items.now.mapped.items (F.told folder.old) (F.told folder.new)) (SharesFrom (IsFilled sides.now.names sides.now.source sides.now.target there.now) sides.now.target items.now.mapped.items (R.left random.old) (R.left random.new) (F.told folder.old) (F.told folder.new)) sides.now.names sides.now.source sides.now.target (F.told folder.new) result }
+    ensures written { IsOrdered there.now → WritesBy result sides.now.source sides.now.target (lacked there.now items.now.mapped.items) (journal_text (done_of journal) ∷ []) (R.left random.old) (R.left random.new) (F.told folder.old) (F.told folder.new) }
 {
     draws_compose();
-    let items = source.items.as_slice();
-    let placed = place_missing(alloc, folder, work, sides, items, there, random)?;
-    finish(alloc, folder, work.at(), sides, source, journal, placed)
+    let mapped = items.mapped.items.as_slice();
+    let placed = place_missing(alloc, folder, work, sides, mapped, there, random)?;
+    finish(alloc, folder, work.at(), sides, items, journal, placed)
 }
 
 // Compares the two vaults once all is placed, and says in the journal that all is done.
@@ -90,18 +100,19 @@ pub(crate) fn finish<F: Folder>(
     folder: &mut F,
     work: &FPath,
     sides: &Sides,
-    source: &Plan,
+    items: &Items,
     journal: Journal,
     placed: u64,
 ) -> Result<Done, MoveFault>
     requires apart { AreSeparate sides.now.source.root sides.now.target.root work.now }
-    requires walked { IsWalked (F.told folder.old) sides.now.source source.now.items }
+    requires walked { AreItemsToMove sides.now.names (F.told folder.old) sides.now.source items.now.own.items items.now.mapped.items }
     requires journal { IsJournal journal }
     requires work_folder { IfSeen (F.told folder.old) (λ v. IsWorkFolder v work.now) }
     requires stands { journal.phase ≡ Phase.Done → IfSeen (F.told folder.old) (λ v. StandsIn work.now journal v) }
     requires source { journal.source ≡ sides.now.source.root }
     requires target { journal.target ≡ sides.now.target.root }
-    requires items { AreTold journal source.now.items }
+    requires names { journal.names ≡ sides.now.names }
+    requires items { AreTold journal items.now.own.items }
     ensures moved { Moved journal.names sides.now.source sides.now.target work.now (F.told folder.new) result }
     ensures placed { IfOk result (λ done. done.placed ≡ placed) }
     ensures guard { LeadsTold sides.now.source sides.now.target work.now journal (progress_of journal.phase) Finished (F.told folder.old) (F.told folder.new) result }
@@ -109,17 +120,19 @@ pub(crate) fn finish<F: Folder>(
     ensures moves { MovesOnly work.now sides.now.target.root (F.told folder.old) (F.told folder.new) }
     ensures grows { F.faults folder.old ≤ F.faults folder.new }
     ensures blamed { IfErr result (Blamed is_of_begin (CountRose (F.faults folder.old) (F.faults folder.new)) ⊥) }
-    ensures moving { IfErr result (StopsLater (HasCopied sides.now.source sides.now.target source.now.items) (F.told folder.old)) }
-    ensures ends { EndsBy (CopiesAll sides.now.source sides.now.target source.now.items source.now.items (F.told folder.old) (F.told folder.new)) (Unit {0}) sides.now.source sides.now.target (F.told folder.new) result }
+    ensures moving { IfErr result (StopsLater (HasCopied sides.now.names sides.now.source sides.now.target items.now.mapped.items) (F.told folder.old)) }
+    ensures ends { EndsBy (CopiesAll sides.now.names sides.now.source sides.now.target items.now.mapped.items items.now.mapped.items (F.told folder.old) (F.told folder.new)) (Unit {0}) sides.now.names sides.now.source sides.now.target (F.told folder.new) result }
     ensures written { WritesBeside sides.now.target.root (λ file. Contains (journal_text (done_of journal) ∷ []) file) (F.told folder.old) (F.told folder.new) }
 {
     files_have_their_contents();
     guarded_migrations_are_seen();
+    mapped_trees_are_held();
+    mapped_walks_tell_the_mapped_tree();
     walks_tell_the_tree();
     what_is_held_opens_the_same();
     what_stands_is_found_step_by_step();
     let target = walk_one(alloc, folder, &sides.target)?;
-    test_same(alloc, folder, sides, source, &target)?;
+    test_same(alloc, folder, sides, &items.mapped, &target)?;
     say_done(alloc, folder, work, journal)?;
     Ok(Done {
         placed,
@@ -127,24 +140,24 @@ pub(crate) fn finish<F: Folder>(
     })
 }
 
-// The two vaults hold the same.
+// The target holds the same as the source at its mapped paths.
 fn test_same<F: Folder>(
     alloc: Global,
     folder: &mut F,
     sides: &Sides,
-    source: &Plan,
+    mapped: &Plan,
     target: &Plan,
 ) -> Result<(), MoveFault>
-    requires source { IsWalked (F.told folder.old) sides.now.source source.now.items }
+    requires source { IsMappedWalk sides.now.names (F.told folder.old) sides.now.source mapped.now.items }
     requires target { IsWalked (F.told folder.old) sides.now.target target.now.items }
     ensures told { F.told folder.new ≡ F.told folder.old }
-    ensures same { OnOk result (IfSeen (F.told folder.old) (λ v. match_of v (side_of sides.now.source source.now.items) (side_of sides.now.target target.now.items) ≡ Is Same)) }
+    ensures same { OnOk result (IfSeen (F.told folder.old) (λ v. match_of v (side_of sides.now.source mapped.now.items) (side_of sides.now.target target.now.items) ≡ Is Same)) }
     ensures grows { F.faults folder.old ≤ F.faults folder.new }
     ensures blamed { IfErr result (Blamed is_of_begin (CountRose (F.faults folder.old) (F.faults folder.new)) ⊥) }
-    ensures moving { IfErr result (StopsLater (λ v. IsSameOrTooLong (match_of v (side_of sides.now.source source.now.items) (side_of sides.now.target target.now.items))) (F.told folder.old)) }
-    ensures limit { IfErr result (PassesSeen sides.now.source sides.now.target (F.told folder.old)) }
+    ensures moving { IfErr result (StopsLater (λ v. IsSameOrTooLong (match_of v (side_of sides.now.source mapped.now.items) (side_of sides.now.target target.now.items))) (F.told folder.old)) }
+    ensures limit { IfErr result (PassesSeen sides.now.names sides.now.source sides.now.target (F.told folder.old)) }
 {
-    match holds_all(alloc, folder, &sides.source, source, &sides.target, target)? {
+    match holds_all(alloc, folder, &sides.source, mapped, &sides.target, target)? {
         Match::Same => Ok(()),
         Match::Contained(path) => Err(MoveFault::Differ(path, Where::Extra)),
         Match::Differs(path, how) => Err(MoveFault::Differ(path, where_of(how))),

@@ -5,9 +5,9 @@ mod beginning;
 pub mod fault;
 mod finishing;
 pub mod laws;
+mod names;
 mod placing;
 mod resuming;
-mod sides;
 
 pub use beginning::begin;
 pub use fault::MoveFault;

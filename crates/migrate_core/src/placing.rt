@@ -3,7 +3,7 @@ ghost use Rattle.std.specs.Prelude.{◌≡◌, ◌≤◌, ◌∷◌, [], not, If
 ghost use Rattle.port_model.specs.Counts.{CountRose};
 ghost use Rattle.folder_spec.specs.Seen.{IfSeen};
 ghost use Rattle.move_journal.specs.Journal.{IsDigest};
-ghost use Rattle.tree_match.specs.Alone.{Begun};
+ghost use Rattle.migration_spec.specs.Alone.{Begun};
 ghost use Rattle.vault_spec.specs.Vault.{format_of};
 ghost use Rattle.vault_walk.specs.Survey.{IsOrdered};
 ghost use Rattle.content_writing.specs.Making.{is_apart};
@@ -17,20 +17,20 @@ ghost use Rattle.migrate_core.specs.Moved.{is_there, lacking};
 ghost use Rattle.migrate_core.specs.Moving.{MovesBeside};
 ghost use Rattle.migrate_core.specs.Written.{WritesBy, lacked};
 ghost use Rattle.migrate_core.specs.Sharing.{IsFilled, Lacks, SharesFrom};
-ghost use Rattle.migrate_core.specs.Sides.{AllowsEach, AllowsLast, AreSeparate, IsItemOf, IsWalked, StandAll, StandsIn, new_journal};
+ghost use Rattle.migrate_core.specs.Sides.{AllowsEach, AllowsLast, IsItemOf, IsMappedWalk, StandAll, StandsIn, new_journal};
+ghost use Rattle.migration_sides.specs.Sides.{AreSeparate};
 
 use crate::fault::MoveFault;
-use crate::sides::Sides;
 use folder_model::{FPath, Folder};
+use migration_sides::Sides;
+use migration_spec::laws::{guarded_migrations_are_seen, placing_keeps_migrations_guarded};
 use move_journal::{Journal, Phase};
 use plain_tree::laws::prefix_comes_first;
 use plain_tree::{NameMap, NodeKind};
 use port_model::Randoms;
 use port_model::laws::draws_compose;
 use std::alloc::Global;
-use tree_match::laws::{
-    guarded_migrations_are_seen, placing_keeps_migrations_guarded, walks_tell_the_tree,
-};
+use tree_match::laws::{mapped_walks_tell_the_mapped_tree, walks_tell_the_tree};
 use vault_contents::VaultContent;
 use vault_contents::laws::files_fit_as_contents;
 use vault_read::ContentReader;
@@ -48,8 +48,13 @@ pub struct Done {
 }
 
 // The journal of a migration that begins.
-pub(crate) fn journal_of(source: &FPath, target: &FPath, plan: &Plan) -> Result<Journal, MoveFault>
-    ensures new { IfOk result (λ journal. journal ≡ new_journal NameMap.Same source.now target.now plan.now.items) }
+pub(crate) fn journal_of(
+    source: &FPath,
+    target: &FPath,
+    names: NameMap,
+    plan: &Plan,
+) -> Result<Journal, MoveFault>
+    ensures new { IfOk result (λ journal. journal ≡ new_journal names source.now target.now plan.now.items) }
     ensures digest { IfOk result (λ journal. IsDigest journal.plan) }
     ensures blamed { IfErr result (Blamed is_of_begin ⊥ ⊥) }
     ensures uncompared { IfErr result StopsElsewhere }
@@ -57,7 +62,7 @@ pub(crate) fn journal_of(source: &FPath, target: &FPath, plan: &Plan) -> Result<
 {
     Ok(Journal {
         phase: Phase::Building,
-        names: NameMap::Same,
+        names,
         source: source.copy()?,
         target: target.copy()?,
         items: plan.items.as_slice().len() as u64,
@@ -65,7 +70,7 @@ pub(crate) fn journal_of(source: &FPath, target: &FPath, plan: &Plan) -> Result<
     })
 }
 
-// Places each item that the target lacks, in order. Both plans are in order of their paths.
+// Places each item that the target lacks, in order of the mapped paths. Both plans are in order of their paths.
 pub(crate) fn place_missing<F: Folder, R: Randoms>(
     alloc: Global,
     folder: &mut F,
@@ -76,11 +81,11 @@ pub(crate) fn place_missing<F: Folder, R: Randoms>(
     random: &mut R,
 ) -> Result<u64, MoveFault>
     requires apart { AreSeparate sides.now.source.root sides.now.target.root work.now }
-    requires walked { IsWalked (F.told folder.old) sides.now.source items.now }
+    requires walked { IsMappedWalk sides.now.names (F.told folder.old) sides.now.source items.now }
     requires allowed { AllowsEach (format_of sides.now.target.vault) items.now }
     requires ready { IfSeen (F.told folder.old) (λ v. IsReady v work.now) }
     requires there { IfSeen (F.told folder.old) (λ v. IsOrdered there.now) }
-    ensures guard { LeadsEach sides.now.source sides.now.target work.now Begun Begun (F.told folder.old) (F.told folder.new) result }
+    ensures guard { LeadsEach sides.now.names sides.now.source sides.now.target work.now Begun Begun (F.told folder.old) (F.told folder.new) result }
     ensures moves { MovesBeside (is_apart work.now sides.now.target.root) sides.now.target.root (F.told folder.old) (F.told folder.new) }
     ensures ready { IfOk result (λ placed. IfSeen (F.told folder.new) (λ v. IsReady v work.now)) }
     ensures none { StandAll items.now there.now → F.told folder.new ≡ F.told folder.old }
@@ -88,13 +93,14 @@ pub(crate) fn place_missing<F: Folder, R: Randoms>(
     ensures grows { F.faults folder.old ≤ F.faults folder.new }
     ensures random { R.faults random.old ≤ R.faults random.new }
     ensures blamed { IfErr result (Blamed is_of_begin (CountRose (F.faults folder.old) (F.faults folder.new)) (CountRose (R.faults random.old) (R.faults random.new))) }
-    ensures stops { IfErr result (StopsFor (SharesFrom (IsFilled sides.now.source sides.now.target there.now) sides.now.target items.now (R.left random.old) (R.left random.new) (F.told folder.old) (F.told folder.new))) }
-    ensures copies { IfOk result (λ placed. CopiesAll sides.now.source sides.now.target there.now items.now (F.told folder.old) (F.told folder.new)) }
-    ensures moving { IfErr result (StopsSeen (HasCopied sides.now.source sides.now.target there.now) (F.told folder.old) sides.now.source items.now) }
+    ensures stops { IfErr result (StopsFor (SharesFrom (IsFilled sides.now.names sides.now.source sides.now.target there.now) sides.now.target items.now (R.left random.old) (R.left random.new) (F.told folder.old) (F.told folder.new))) }
+    ensures copies { IfOk result (λ placed. CopiesAll sides.now.names sides.now.source sides.now.target there.now items.now (F.told folder.old) (F.told folder.new)) }
+    ensures moving { IfErr result (StopsSeen (HasCopied sides.now.names sides.now.source sides.now.target there.now) (F.told folder.old) sides.now.source items.now) }
     ensures written { IsOrdered there.now → WritesBy result sides.now.source sides.now.target (lacked there.now items.now) [] (R.left random.old) (R.left random.new) (F.told folder.old) (F.told folder.new) }
 {
     draws_compose();
     prefix_comes_first();
+    mapped_walks_tell_the_mapped_tree();
     walks_tell_the_tree();
     what_is_found_stands();
     what_stands_is_found_step_by_step();
@@ -118,20 +124,20 @@ fn place_missing_one<F: Folder, R: Randoms>(
     random: &mut R,
 ) -> Result<bool, MoveFault>
     requires apart { AreSeparate sides.now.source.root sides.now.target.root work.now }
-    requires item { IsItemOf (F.told folder.old) sides.now.source item.now }
+    requires item { IsItemOf sides.now.names (F.told folder.old) sides.now.source item.now }
     requires allowed { AllowsLast (format_of sides.now.target.vault) item.now.path }
     requires ready { IfSeen (F.told folder.old) (λ v. IsReady v work.now) }
     requires there { IfSeen (F.told folder.old) (λ v. IsOrdered there.now) }
-    ensures guard { LeadsEach sides.now.source sides.now.target work.now Begun Begun (F.told folder.old) (F.told folder.new) result }
+    ensures guard { LeadsEach sides.now.names sides.now.source sides.now.target work.now Begun Begun (F.told folder.old) (F.told folder.new) result }
     ensures moves { MovesBeside (is_apart work.now sides.now.target.root) sides.now.target.root (F.told folder.old) (F.told folder.new) }
     ensures ready { IfOk result (λ placed. IfSeen (F.told folder.new) (λ v. IsReady v work.now)) }
     ensures none { StandsIn item.now there.now → F.told folder.new ≡ F.told folder.old }
     ensures counted { IfOk result (λ placed. IsOrdered there.now → placed ≡ not (is_there there.now item.now)) }
-    ensures copies { IfOk result (λ placed. CopiesMissing sides.now.source sides.now.target there.now item.now (F.told folder.old) (F.told folder.new)) }
+    ensures copies { IfOk result (λ placed. CopiesMissing sides.now.names sides.now.source sides.now.target there.now item.now (F.told folder.old) (F.told folder.new)) }
     ensures grows { F.faults folder.old ≤ F.faults folder.new }
     ensures random { R.faults random.old ≤ R.faults random.new }
     ensures blamed { IfErr result (Blamed is_of_begin (CountRose (F.faults folder.old) (F.faults folder.new)) (CountRose (R.faults random.old) (R.faults random.new))) }
-    ensures stops { IfErr result (StopsFor (SharesFrom (Lacks sides.now.source sides.now.target item.now) sides.now.target (item.now ∷ []) (R.left random.old) (R.left random.new) (F.told folder.old) (F.told folder.new))) }
+    ensures stops { IfErr result (StopsFor (SharesFrom (Lacks sides.now.names sides.now.source sides.now.target item.now) sides.now.target (item.now ∷ []) (R.left random.old) (R.left random.new) (F.told folder.old) (F.told folder.new))) }
     ensures moving { IfErr result (StopsSeen (Enters sides.now.target item.now) (F.told folder.old) sides.now.source (item.now ∷ [])) }
     ensures written { IsOrdered there.now → WritesBy result sides.now.source sides.now.target (lacked there.now (item.now ∷ [])) [] (R.left random.old) (R.left random.new) (F.told folder.old) (F.told folder.new) }
 {
@@ -162,17 +168,17 @@ fn place<F: Folder, R: Randoms>(
     random: &mut R,
 ) -> Result<(), MoveFault>
     requires apart { AreSeparate sides.now.source.root sides.now.target.root work.now }
-    requires item { IsItemOf (F.told folder.old) sides.now.source item.now }
+    requires item { IsItemOf sides.now.names (F.told folder.old) sides.now.source item.now }
     requires allowed { AllowsLast (format_of sides.now.target.vault) item.now.path }
     requires ready { IfSeen (F.told folder.old) (λ v. IsReady v work.now) }
-    ensures guard { LeadsEach sides.now.source sides.now.target work.now Begun Begun (F.told folder.old) (F.told folder.new) result }
+    ensures guard { LeadsEach sides.now.names sides.now.source sides.now.target work.now Begun Begun (F.told folder.old) (F.told folder.new) result }
     ensures moves { MovesBeside (is_apart work.now sides.now.target.root) sides.now.target.root (F.told folder.old) (F.told folder.new) }
     ensures ready { IfOk result (λ placed. IfSeen (F.told folder.new) (λ v. IsReady v work.now)) }
-    ensures copies { IfOk result (λ placed. CopiesOne sides.now.source sides.now.target item.now (F.told folder.old) (F.told folder.new)) }
+    ensures copies { IfOk result (λ placed. CopiesOne sides.now.names sides.now.source sides.now.target item.now (F.told folder.old) (F.told folder.new)) }
     ensures grows { F.faults folder.old ≤ F.faults folder.new }
     ensures random { R.faults random.old ≤ R.faults random.new }
     ensures blamed { IfErr result (Blamed is_of_begin (CountRose (F.faults folder.old) (F.faults folder.new)) (CountRose (R.faults random.old) (R.faults random.new))) }
-    ensures stops { IfErr result (StopsFor (SharesFrom (Lacks sides.now.source sides.now.target item.now) sides.now.target (item.now ∷ []) (R.left random.old) (R.left random.new) (F.told folder.old) (F.told folder.new))) }
+    ensures stops { IfErr result (StopsFor (SharesFrom (Lacks sides.now.names sides.now.source sides.now.target item.now) sides.now.target (item.now ∷ []) (R.left random.old) (R.left random.new) (F.told folder.old) (F.told folder.new))) }
     ensures moving { IfErr result (StopsSeen (Enters sides.now.target item.now) (F.told folder.old) sides.now.source (item.now ∷ [])) }
     ensures written { WritesBy result sides.now.source sides.now.target (item.now ∷ []) [] (R.left random.old) (R.left random.new) (F.told folder.old) (F.told folder.new) }
 {
@@ -180,9 +186,10 @@ fn place<F: Folder, R: Randoms>(
     guarded_migrations_are_seen();
     items_keep_vaults();
     placing_keeps_migrations_guarded();
-    walks_tell_the_tree();
+    mapped_walks_tell_the_mapped_tree();
     what_is_found_stands();
     what_stands_is_found_step_by_step();
+    let _named = item.path.names();
     match item.node {
         NodeKind::Dir => Ok(place_dir(alloc, folder, work, &sides.target, &item.path, random)?),
         NodeKind::File => place_content(alloc, folder, work, sides, item, random),
@@ -200,17 +207,17 @@ fn place_content<F: Folder, R: Randoms>(
 ) -> Result<(), MoveFault>
     requires file { item.now.node ≡ NodeKind.File }
     requires apart { AreSeparate sides.now.source.root sides.now.target.root work.now }
-    requires item { IsItemOf (F.told folder.old) sides.now.source item.now }
+    requires item { IsItemOf sides.now.names (F.told folder.old) sides.now.source item.now }
     requires allowed { AllowsLast (format_of sides.now.target.vault) item.now.path }
     requires ready { IfSeen (F.told folder.old) (λ v. IsReady v work.now) }
-    ensures guard { LeadsEach sides.now.source sides.now.target work.now Begun Begun (F.told folder.old) (F.told folder.new) result }
+    ensures guard { LeadsEach sides.now.names sides.now.source sides.now.target work.now Begun Begun (F.told folder.old) (F.told folder.new) result }
     ensures moves { MovesBeside (is_apart work.now sides.now.target.root) sides.now.target.root (F.told folder.old) (F.told folder.new) }
     ensures ready { IfOk result (λ placed. IfSeen (F.told folder.new) (λ v. IsReady v work.now)) }
-    ensures copies { IfOk result (λ placed. CopiesOne sides.now.source sides.now.target item.now (F.told folder.old) (F.told folder.new)) }
+    ensures copies { IfOk result (λ placed. CopiesOne sides.now.names sides.now.source sides.now.target item.now (F.told folder.old) (F.told folder.new)) }
     ensures grows { F.faults folder.old ≤ F.faults folder.new }
     ensures random { R.faults random.old ≤ R.faults random.new }
     ensures blamed { IfErr result (Blamed is_of_begin (CountRose (F.faults folder.old) (F.faults folder.new)) (CountRose (R.faults random.old) (R.faults random.new))) }
-    ensures stops { IfErr result (StopsFor (SharesFrom (Lacks sides.now.source sides.now.target item.now) sides.now.target (item.now ∷ []) (R.left random.old) (R.left random.new) (F.told folder.old) (F.told folder.new))) }
+    ensures stops { IfErr result (StopsFor (SharesFrom (Lacks sides.now.names sides.now.source sides.now.target item.now) sides.now.target (item.now ∷ []) (R.left random.old) (R.left random.new) (F.told folder.old) (F.told folder.new))) }
     ensures moving { IfErr result (StopsSeen (Enters sides.now.target item.now) (F.told folder.old) sides.now.source (item.now ∷ [])) }
     ensures written { WritesBy result sides.now.source sides.now.target (item.now ∷ []) [] (R.left random.old) (R.left random.new) (F.told folder.old) (F.told folder.new) }
 {
@@ -220,9 +227,10 @@ fn place_content<F: Folder, R: Randoms>(
     guarded_migrations_are_seen();
     items_keep_vaults();
     placing_keeps_migrations_guarded();
-    walks_tell_the_tree();
+    mapped_walks_tell_the_mapped_tree();
     what_is_found_stands();
     what_stands_is_found_step_by_step();
+    let _named = item.path.names();
     let reader = ContentReader::start(alloc, &sides.source, &item.at)?;
     let mut content = VaultContent::new(alloc, reader);
     Ok(place_file(

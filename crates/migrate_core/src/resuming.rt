@@ -2,39 +2,43 @@
 ghost use Rattle.std.specs.Prelude.{◌≡◌, ◌≢◌, ◌⊎◌, ◌≤◌, ◌∷◌, [], IfErr, IfOk, Ok, OnOk};
 ghost use Rattle.port_model.specs.Counts.{CountRose};
 ghost use Rattle.folder_spec.specs.Seen.{IfSeen, IsSeen};
-ghost use Rattle.folder_spec.specs.View.{FileOf, NoEntry, View};
+ghost use Rattle.folder_spec.specs.View.{NoEntry, View};
 ghost use Rattle.move_journal.specs.Journal.{IsJournal, journal_text};
 ghost use Rattle.move_journal.specs.Reading.{StandsIn};
-ghost use Rattle.tree_match.specs.Alone.{Finished};
-ghost use Rattle.tree_match.specs.Guard.{Migration};
+ghost use Rattle.migration_spec.specs.Alone.{KeepsGuarded, Finished};
+ghost use Rattle.migration_spec.specs.Guard.{AreOpenedBy, Migration};
 ghost use Rattle.vault_spec.specs.Vault.{format_of};
 ghost use Rattle.work_folder.specs.Entering.{Empties};
-ghost use Rattle.migrate_core.specs.Causes.{Moves, Resumes, ResumesTold, ResumesWith, TestsItems, TestsMatch, TestsSource, TestsTold, Unless, is_done, where_in};
+ghost use Rattle.migrate_core.specs.Causes.{Moves, Refuses, Resumes, ResumesTold, ResumesWith, TestsItems, TestsMatch, TestsSource, TestsTold, Unless, is_done, where_in};
 ghost use Rattle.migrate_core.specs.Completing.{CanResume, IsOfChance};
 ghost use Rattle.migrate_core.specs.Copying.{MayBegin, StayGood};
 ghost use Rattle.migrate_core.specs.Faults.{Blamed, IsOfTest, is_of_resume};
-ghost use Rattle.migrate_core.specs.Leading.{KeepsGuarded, KeepsSettled, LeadsTold, progress_of};
+ghost use Rattle.migrate_core.specs.Leading.{KeepsSettled, LeadsTold, progress_of};
 ghost use Rattle.migrate_core.specs.Limits.{StopsElsewhere, EndsBy, IsOfLimit, PassesAsTold, PassesInTree, PassesSeen};
 ghost use Rattle.migrate_core.specs.Moved.{done_of, Moved, MovesTold, MovesTree, Placed, lacking};
 ghost use Rattle.migrate_core.specs.Moving.{MovesOnly};
 ghost use Rattle.migrate_core.specs.Written.{MayWrite, MayWriteTold, MayWriteTree, WritesBy, lacked};
-ghost use Rattle.migrate_core.specs.Sides.{AllowsEach, AreSeparate, AreTold, IsInUse, IsResumed, IsWalked};
+ghost use Rattle.migrate_core.specs.Sides.{AllowsEach, AreItemsToMove, AreTold, IsInUse, IsMappedWalk};
+ghost use Rattle.migration_sides.specs.Sides.{AreSeparate, IsWalked};
+ghost use Rattle.migration_sides.specs.Tests.{nothing_follows};
+ghost use Rattle.tree_match.specs.Mapping.{IsMappedPlan};
 
 use crate::fault::MoveFault;
-use crate::finishing::go_on;
+use crate::finishing::{Items, go_on};
 use crate::laws::what_can_resume_is_done;
+use crate::names::map_allowed;
 use crate::placing::Done;
-use crate::sides::{Plans, Sides, load_both, test_apart, test_names, walk_both};
 use folder_model::{FPath, Folder, Kind};
+use migration_sides::{Plans, Sides, load_both, test_apart, walk_both};
+use migration_spec::laws::{
+    guarded_migrations_are_seen, settling_and_entering_keep_migrations_guarded,
+};
 use move_journal::laws::journals_are_read_back;
 use move_journal::{Journal, Phase, read};
 use port_model::Randoms;
 use port_model::laws::draws_compose;
 use std::alloc::Global;
-use tree_match::laws::{
-    guarded_migrations_are_seen, settling_and_entering_keep_migrations_guarded,
-    walks_tell_the_tree, what_is_held_opens_the_same,
-};
+use tree_match::laws::{walks_tell_the_tree, what_is_held_opens_the_same};
 use tree_match::{How, Match, Where, holds_all};
 use vault_read::laws::{clean_vaults_are_orderly, roots_have_one_answer};
 use vault_walk::{Plan, plan_digest};
@@ -43,8 +47,8 @@ use work_folder::Work;
 /// Goes on with the migration that the journal in a work folder tells of, from whatever a stop left.
 ///
 /// The tests, in their order: the journal is there; the three folders don't overlap; nothing foreign is in the work folder; the source is
-/// there still; both vaults open and are clean; the source has the items that the journal names; the target allows each name; and each
-/// item of the target is so in the source.
+/// there still; both vaults open and are clean; the source has the items that the journal names; the target allows each name, mapped by
+/// the journal's rule; no two items come to one path; and each item of the target is so among the mapped ones.
 pub fn resume<F: Folder, R: Randoms>(
     alloc: Global,
     folder: &mut F,
@@ -53,7 +57,7 @@ pub fn resume<F: Folder, R: Randoms>(
     target_pass: &[u8],
     random: &mut R,
 ) -> Result<Done, MoveFault>
-    ensures guard { (g : Migration) → IsResumed g work.now source_pass.now target_pass.now → KeepsGuarded g (F.told folder.old) (F.told folder.new) }
+    ensures guard { (g : Migration) → g.work ≡ work.now → IfSeen (F.told folder.old) (λ v. AreOpenedBy g source_pass.now target_pass.now v) → KeepsGuarded g (F.told folder.old) (F.told folder.new) }
     ensures moves { (v : View) (journal : Journal) → IsSeen (F.told folder.old) v → IsJournal journal → StandsIn work.now journal v
         → MovesOnly work.now journal.target (F.told folder.old) (F.told folder.new) }
     ensures moved { IfOk result (λ done. IfSeen (F.told folder.old) (λ v. MovesTold work.now source_pass.now target_pass.now done (F.told folder.old) (F.told folder.new) v)) }
@@ -62,7 +66,7 @@ pub fn resume<F: Folder, R: Randoms>(
     ensures blamed { IfErr result (Blamed is_of_resume (CountRose (F.faults folder.old) (F.faults folder.new)) (CountRose (R.faults random.old) (R.faults random.new))) }
     ensures cause { IfSeen (F.told folder.old) (λ v. Unless result (Resumes work.now source_pass.now target_pass.now v result)) }
     ensures written { IfSeen (F.told folder.old) (λ v. MayWriteTold result work.now source_pass.now target_pass.now (R.left random.old) (R.left random.new) (F.told folder.old) (F.told folder.new) v) }
-    ensures completes { (g : Migration) → IfSeen (F.told folder.old) (λ v. IsResumed g work.now source_pass.now target_pass.now → CanResume g v → IfErr result IsOfChance) }
+    ensures completes { (g : Migration) → IfSeen (F.told folder.old) (λ v. g.work ≡ work.now → AreOpenedBy g source_pass.now target_pass.now v → CanResume g v → IfErr result IsOfChance) }
     ensures too_long { IfSeen (F.told folder.old) (λ v. IfErr result (IsOfLimit (PassesAsTold work.now source_pass.now target_pass.now (F.told folder.old) (F.told folder.new) v))) }
 {
     draws_compose();
@@ -81,7 +85,7 @@ fn resume_settled<F: Folder, R: Randoms>(
     target_pass: &[u8],
     random: &mut R,
 ) -> Result<Done, MoveFault>
-    ensures guard { (g : Migration) → IsResumed g work.now source_pass.now target_pass.now → KeepsSettled g (F.told folder.old) (F.told folder.new) }
+    ensures guard { (g : Migration) → g.work ≡ work.now → IfSeen (F.told folder.old) (λ v. AreOpenedBy g source_pass.now target_pass.now v) → KeepsSettled g (F.told folder.old) (F.told folder.new) }
     ensures moves { (v : View) (journal : Journal) → IsSeen (F.told folder.old) v → IsJournal journal → StandsIn work.now journal v
         → MovesOnly work.now journal.target (F.told folder.old) (F.told folder.new) }
     ensures moved { IfOk result (λ done. IfSeen (F.told folder.old) (λ v. MovesTold work.now source_pass.now target_pass.now done (F.told folder.old) (F.told folder.new) v)) }
@@ -131,14 +135,14 @@ fn resume_told<F: Folder, R: Randoms>(
     requires journal { IsJournal journal }
     requires apart { AreSeparate journal.source journal.target work.now }
     requires used { IfSeen (F.told folder.old) (λ v. IsInUse v work.now journal) }
-    ensures guard { (g : Migration) → IsResumed g work.now source_pass.now target_pass.now → KeepsSettled g (F.told folder.old) (F.told folder.new) }
+    ensures guard { (g : Migration) → g.work ≡ work.now → IfSeen (F.told folder.old) (λ v. AreOpenedBy g source_pass.now target_pass.now v) → KeepsSettled g (F.told folder.old) (F.told folder.new) }
     ensures moves { MovesOnly work.now journal.target (F.told folder.old) (F.told folder.new) }
     ensures moved { IfOk result (λ done. MovesTree journal.names journal.source journal.target work.now source_pass.now target_pass.now done (F.told folder.old) (F.told folder.new)) }
     ensures grows { F.faults folder.old ≤ F.faults folder.new }
     ensures random { R.faults random.old ≤ R.faults random.new }
     ensures blamed { IfErr result (Blamed is_of_resume (CountRose (F.faults folder.old) (F.faults folder.new)) (CountRose (R.faults random.old) (R.faults random.new))) }
     ensures cause { IfSeen (F.told folder.old) (λ v. Unless result (ResumesTold work.now source_pass.now target_pass.now v journal result)) }
-    ensures too_long { IfErr result (IsOfLimit (PassesInTree journal.source journal.target source_pass.now target_pass.now (F.told folder.old) (F.told folder.new))) }
+    ensures too_long { IfErr result (IsOfLimit (PassesInTree journal.names journal.source journal.target source_pass.now target_pass.now (F.told folder.old) (F.told folder.new))) }
     ensures written { IfSeen (F.told folder.old) (λ v. MayWriteTree result journal.names journal.source journal.target source_pass.now target_pass.now (R.left random.old) (R.left random.new) (F.told folder.old) (F.told folder.new)) }
 {
     draws_compose();
@@ -153,6 +157,7 @@ fn resume_told<F: Folder, R: Randoms>(
         source_pass,
         &journal.target,
         target_pass,
+        journal.names,
     )?;
     resume_with(alloc, folder, work, &sides, journal, random)
 }
@@ -191,15 +196,16 @@ fn resume_with<F: Folder, R: Randoms>(
     requires used { IfSeen (F.told folder.old) (λ v. IsInUse v work.now journal) }
     requires source_named { journal.source ≡ sides.now.source.root }
     requires target_named { journal.target ≡ sides.now.target.root }
+    requires names_named { journal.names ≡ sides.now.names }
     ensures moved { Moved journal.names sides.now.source sides.now.target work.now (F.told folder.new) result }
-    ensures placed { Placed sides.now.source sides.now.target (F.told folder.old) result }
+    ensures placed { Placed sides.now.names sides.now.source sides.now.target (F.told folder.old) result }
     ensures guard { LeadsTold sides.now.source sides.now.target work.now journal (progress_of journal.phase) Finished (F.told folder.old) (F.told folder.new) result }
     ensures moves { MovesOnly work.now sides.now.target.root (F.told folder.old) (F.told folder.new) }
     ensures grows { F.faults folder.old ≤ F.faults folder.new }
     ensures random { R.faults random.old ≤ R.faults random.new }
     ensures blamed { IfErr result (Blamed is_of_resume (CountRose (F.faults folder.old) (F.faults folder.new)) (CountRose (R.faults random.old) (R.faults random.new))) }
     ensures cause { IfSeen (F.told folder.old) (λ v. Unless result (ResumesWith sides.now.source sides.now.target work.now journal v result)) }
-    ensures ends { EndsBy (StayGood sides.now.source sides.now.target (F.told folder.old) (F.told folder.new)) (Unit {0}) sides.now.source sides.now.target (F.told folder.new) result }
+    ensures ends { EndsBy (StayGood sides.now.source sides.now.target (F.told folder.old) (F.told folder.new)) (Unit {0}) sides.now.names sides.now.source sides.now.target (F.told folder.new) result }
     ensures written { IfSeen (F.told folder.old) (λ v. MayWrite result journal.names sides.now.source sides.now.target (R.left random.old) (R.left random.new) (F.told folder.old) (F.told folder.new)) }
 {
     draws_compose();
@@ -207,74 +213,78 @@ fn resume_with<F: Folder, R: Randoms>(
     what_is_held_opens_the_same();
     clean_vaults_are_orderly();
     let plans = walk_both(alloc, folder, sides)?;
-    test_plans(alloc, folder, sides, &plans, &journal)?;
-    place_rest(alloc, folder, work, sides, &plans, journal, random)
+    let mapped = test_plans(alloc, folder, sides, &plans, &journal)?;
+    let Plans { source, target } = plans;
+    let items = Items {
+        own: source,
+        mapped,
+    };
+    place_rest(alloc, folder, work, sides, &items, &target, journal, random)
 }
 
-// The source has the items that the journal names, the target allows each name, and each item of the target is so in the source.
+// The items of the source at their mapped paths: the source has those that the journal names, the target allows each mapped name, no two
+// come to one path, and each item of the target is so among them.
 fn test_plans<F: Folder>(
     alloc: Global,
     folder: &mut F,
     sides: &Sides,
     plans: &Plans,
     journal: &Journal,
-) -> Result<(), MoveFault>
+) -> Result<Plan, MoveFault>
     requires source { IsWalked (F.told folder.old) sides.now.source plans.now.source.items }
     requires target { IsWalked (F.told folder.old) sides.now.target plans.now.target.items }
+    requires names { journal.now.names ≡ sides.now.names }
     ensures told { F.told folder.new ≡ F.told folder.old }
     ensures grows { F.faults folder.old ≤ F.faults folder.new }
-    ensures allowed { OnOk result (AllowsEach (format_of sides.now.target.vault) plans.now.source.items) }
+    ensures mapped { IfOk result (λ mapped. IsMappedPlan sides.now.names plans.now.source.items mapped.items) }
+    ensures allowed { IfOk result (λ mapped. AllowsEach (format_of sides.now.target.vault) mapped.items) }
     ensures named { OnOk result (AreTold journal.now plans.now.source.items) }
     ensures tested { IfErr result IsOfTest }
-    ensures limit { IfErr result (PassesSeen sides.now.source sides.now.target (F.told folder.old)) }
+    ensures limit { IfErr result (PassesSeen sides.now.names sides.now.source sides.now.target (F.told folder.old)) }
     ensures blamed { IfErr result (Blamed is_of_resume (CountRose (F.faults folder.old) (F.faults folder.new)) ⊥) }
-    ensures cause { IfSeen (F.told folder.old) (λ v. Unless result (TestsItems sides.now.source sides.now.target journal.now v plans.now.source.items plans.now.target.items (λ answer. answer ≡ Ok tt) result)) }
+    ensures passed { IfOk result (λ mapped. IfSeen (F.told folder.old) (λ v. TestsItems {Y = Unit {0}} sides.now.source sides.now.target journal.now v plans.now.source.items plans.now.target.items (λ items answer. (items ≡ mapped.items) × (answer ≡ Ok tt)) (Ok tt))) }
+    ensures cause { IfErr result (λ fault. IfSeen (F.told folder.old) (λ v. Refuses (TestsItems sides.now.source sides.now.target journal.now v plans.now.source.items plans.now.target.items nothing_follows) fault)) }
 {
-    test_changed(journal, plans)?;
-    test_names(&sides.target, plans.source.items.as_slice())?;
-    test_held(alloc, folder, sides, plans)
+    test_changed(journal, &plans.source)?;
+    let mapped = map_allowed(alloc, sides, &plans.source)?;
+    test_held(alloc, folder, sides, &mapped, &plans.target)?;
+    Ok(mapped)
 }
 
 // The source has the items that the journal names.
-fn test_changed(journal: &Journal, plans: &Plans) -> Result<(), MoveFault>
-    ensures told { OnOk result (AreTold journal.now plans.now.source.items) }
+fn test_changed(journal: &Journal, plan: &Plan) -> Result<(), MoveFault>
+    ensures told { OnOk result (AreTold journal.now plan.now.items) }
     ensures tested { IfErr result IsOfTest }
     ensures uncompared { IfErr result StopsElsewhere }
     ensures blamed { IfErr result (Blamed is_of_resume ⊥ ⊥) }
-    ensures cause { Unless result (TestsTold journal.now plans.now.source.items result) }
+    ensures cause { Unless result (TestsTold journal.now plan.now.items result) }
 {
-    let digest = plan_digest(&plans.source)?;
-    let items = plans.source.items.as_slice().len() as u64;
+    let digest = plan_digest(plan)?;
+    let items = plan.items.as_slice().len() as u64;
     if digest != journal.plan || items != journal.items {
         return Err(MoveFault::Changed(journal.plan, journal.items, digest, items));
     }
     Ok(())
 }
 
-// Each item of the target is so in the source.
+// Each item of the target is so among those of the source at their mapped paths.
 fn test_held<F: Folder>(
     alloc: Global,
     folder: &mut F,
     sides: &Sides,
-    plans: &Plans,
+    mapped: &Plan,
+    target: &Plan,
 ) -> Result<(), MoveFault>
-    requires source { IsWalked (F.told folder.old) sides.now.source plans.now.source.items }
-    requires target { IsWalked (F.told folder.old) sides.now.target plans.now.target.items }
+    requires source { IsMappedWalk sides.now.names (F.told folder.old) sides.now.source mapped.now.items }
+    requires target { IsWalked (F.told folder.old) sides.now.target target.now.items }
     ensures told { F.told folder.new ≡ F.told folder.old }
     ensures grows { F.faults folder.old ≤ F.faults folder.new }
     ensures tested { IfErr result IsOfTest }
-    ensures limit { IfErr result (PassesSeen sides.now.source sides.now.target (F.told folder.old)) }
+    ensures limit { IfErr result (PassesSeen sides.now.names sides.now.source sides.now.target (F.told folder.old)) }
     ensures blamed { IfErr result (Blamed is_of_resume (CountRose (F.faults folder.old) (F.faults folder.new)) ⊥) }
-    ensures cause { IfSeen (F.told folder.old) (λ v. Unless result (TestsMatch sides.now.target plans.now.target.items sides.now.source plans.now.source.items v (λ answer. answer ≡ Ok tt) result)) }
+    ensures cause { IfSeen (F.told folder.old) (λ v. Unless result (TestsMatch sides.now.target target.now.items sides.now.source mapped.now.items v (λ answer. answer ≡ Ok tt) result)) }
 {
-    match holds_all(
-        alloc,
-        folder,
-        &sides.target,
-        &plans.target,
-        &sides.source,
-        &plans.source,
-    )? {
+    match holds_all(alloc, folder, &sides.target, target, &sides.source, mapped)? {
         Match::Same | Match::Contained(_) => Ok(()),
         Match::Differs(path, how) => Err(MoveFault::Differ(path, where_of(how))),
     }
@@ -297,45 +307,38 @@ fn place_rest<F: Folder, R: Randoms>(
     folder: &mut F,
     work: &FPath,
     sides: &Sides,
-    plans: &Plans,
+    items: &Items,
+    target: &Plan,
     journal: Journal,
     random: &mut R,
 ) -> Result<Done, MoveFault>
     requires journal { IsJournal journal }
     requires apart { AreSeparate sides.now.source.root sides.now.target.root work.now }
     requires used { IfSeen (F.told folder.old) (λ v. IsInUse v work.now journal) }
-    requires source { IsWalked (F.told folder.old) sides.now.source plans.now.source.items }
-    requires target { IsWalked (F.told folder.old) sides.now.target plans.now.target.items }
-    requires allowed { AllowsEach (format_of sides.now.target.vault) plans.now.source.items }
-    requires copying { MayBegin sides.now.source sides.now.target plans.now.target.items (F.told folder.old) }
+    requires source { AreItemsToMove sides.now.names (F.told folder.old) sides.now.source items.now.own.items items.now.mapped.items }
+    requires target { IsWalked (F.told folder.old) sides.now.target target.now.items }
+    requires allowed { AllowsEach (format_of sides.now.target.vault) items.now.mapped.items }
+    requires copying { MayBegin sides.now.names sides.now.source sides.now.target target.now.items (F.told folder.old) }
     requires source_named { journal.source ≡ sides.now.source.root }
     requires target_named { journal.target ≡ sides.now.target.root }
-    requires items_named { AreTold journal plans.now.source.items }
+    requires names_named { journal.names ≡ sides.now.names }
+    requires items_named { AreTold journal items.now.own.items }
     ensures moved { Moved journal.names sides.now.source sides.now.target work.now (F.told folder.new) result }
-    ensures placed { IfOk result (λ done. IfSeen (F.told folder.old) (λ v. done.placed ≡ lacking plans.now.target.items plans.now.source.items)) }
+    ensures placed { IfOk result (λ done. IfSeen (F.told folder.old) (λ v. done.placed ≡ lacking target.now.items items.now.mapped.items)) }
     ensures guard { LeadsTold sides.now.source sides.now.target work.now journal (progress_of journal.phase) Finished (F.told folder.old) (F.told folder.new) result }
     ensures moves { MovesOnly work.now sides.now.target.root (F.told folder.old) (F.told folder.new) }
     ensures grows { F.faults folder.old ≤ F.faults folder.new }
     ensures random { R.faults random.old ≤ R.faults random.new }
     ensures blamed { IfErr result (Blamed is_of_resume (CountRose (F.faults folder.old) (F.faults folder.new)) (CountRose (R.faults random.old) (R.faults random.new))) }
-    ensures cause { IfSeen (F.told folder.old) (λ v. Unless result (Moves (Empties v work.now) sides.now.source sides.now.target v plans.now.source.items result)) }
-    ensures ends { EndsBy (StayGood sides.now.source sides.now.target (F.told folder.old) (F.told folder.new)) (Unit {0}) sides.now.source sides.now.target (F.told folder.new) result }
-    ensures written { IfSeen (F.told folder.old) (λ v. WritesBy result sides.now.source sides.now.target (lacked plans.now.target.items plans.now.source.items) (journal_text (done_of journal) ∷ []) (R.left random.old) (R.left random.new) (F.told folder.old) (F.told folder.new)) }
+    ensures cause { IfSeen (F.told folder.old) (λ v. Unless result (Moves (Empties v work.now) sides.now.source sides.now.target v items.now.mapped.items result)) }
+    ensures ends { EndsBy (StayGood sides.now.source sides.now.target (F.told folder.old) (F.told folder.new)) (Unit {0}) sides.now.names sides.now.source sides.now.target (F.told folder.new) result }
+    ensures written { IfSeen (F.told folder.old) (λ v. WritesBy result sides.now.source sides.now.target (lacked target.now.items items.now.mapped.items) (journal_text (done_of journal) ∷ []) (R.left random.old) (R.left random.new) (F.told folder.old) (F.told folder.new)) }
 {
     draws_compose();
     guarded_migrations_are_seen();
     settling_and_entering_keep_migrations_guarded();
     walks_tell_the_tree();
     let again = Work::again(folder, work)?;
-    let there = plans.target.items.as_slice();
-    go_on(
-        alloc,
-        folder,
-        &again,
-        sides,
-        &plans.source,
-        there,
-        journal,
-        random,
-    )
+    let there = target.items.as_slice();
+    go_on(alloc, folder, &again, sides, items, there, journal, random)
 }

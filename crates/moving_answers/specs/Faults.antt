@@ -14,7 +14,7 @@ use Rattle.tree_match.specs.declared.answer.Where.TheVariants as differs
 use Rattle.vault_walk.specs.declared.fault.WalkFault.{WalkFault}
 use Rattle.vault_walk.specs.declared.fault.WalkFault.TheVariants as walk
 use Rattle.command_answers.specs.declared.answer.Answer.{Answer}
-use Rattle.command_answers.specs.declared.answer.Answer.TheVariants.{OutOfMemory, FolderFault, Damaged, NotAllowed, NotClean, Overlap, NotEmpty, Unusable, Changed, Differ, Limit, Retired}
+use Rattle.command_answers.specs.declared.answer.Answer.TheVariants.{OutOfMemory, FolderFault, Damaged, NotAllowed, NotClean, Overlap, NotEmpty, Unusable, Changed, Differ, Limit, Retired, Meet}
 use Rattle.command_answers.specs.declared.answer.Difference.{Difference}
 use Rattle.command_answers.specs.declared.answer.Difference.TheVariants as difference
 use Rattle.command_answers.specs.declared.answer.Damage.TheVariants as damage
@@ -58,6 +58,7 @@ of_move work root (move.Load side fault) = of_load root fault
 of_move work root (move.Walk fault) = of_walk fault
 of_move work root (move.NotEmpty at) = NotEmpty at
 of_move work root (move.NotAllowed path) = NotAllowed path
+of_move work root (move.Meet one other) = Meet one other
 of_move work root (move.Changed plan items plan' items') = Changed plan items plan' items'
 of_move work root (move.Match fault) = of_match fault
 of_move work root (move.Differ path how) = Differ path (of_where how)
@@ -74,6 +75,8 @@ of_retire work root retire.Unfinished = Unusable work flaw.Building
 of_retire work root (retire.Overlap first second) = Overlap first second
 of_retire work root (retire.Load side fault) = of_load root fault
 of_retire work root (retire.Walk fault) = of_walk fault
+of_retire work root (retire.NotAllowed path) = NotAllowed path
+of_retire work root (retire.Meet one other) = Meet one other
 of_retire work root (retire.Match fault) = of_match fault
 of_retire work root (retire.Differ path how) = Differ path (of_where how)
 of_retire work root retire.Depth = Limit limit.Removal

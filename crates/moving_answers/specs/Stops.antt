@@ -1,7 +1,7 @@
 -- With which answers a migration may stop, and the retiring of its source.
 use Rattle.std.specs.Prelude.{Bool, true, false}
 use Rattle.command_answers.specs.declared.answer.Answer.{Answer}
-use Rattle.command_answers.specs.declared.answer.Answer.TheVariants.{OutOfMemory, FolderFault, RandomFault, Refused, WrongPass, NotFound, WrongKind, Damaged, NotAllowed, NotClean, Overlap, NotEmpty, Begun, Unusable, Changed, Differ, ZeroRandom, Taken, Limit, Retired}
+use Rattle.command_answers.specs.declared.answer.Answer.TheVariants.{OutOfMemory, FolderFault, RandomFault, Refused, WrongPass, NotFound, WrongKind, Damaged, NotAllowed, NotClean, Overlap, NotEmpty, Begun, Unusable, Changed, Differ, ZeroRandom, Taken, Limit, Retired, Meet}
 
 -- whether a migration that begins may stop with this answer
 abbrev pub is_of_stop : Answer → Bool
@@ -14,6 +14,7 @@ is_of_stop (NotFound what) = true
 is_of_stop (WrongKind what) = true
 is_of_stop (Damaged at how) = true
 is_of_stop (NotAllowed path) = true
+is_of_stop (Meet one other) = true
 is_of_stop (NotClean at number) = true
 is_of_stop (Overlap first second) = true
 is_of_stop (NotEmpty at) = true
@@ -40,6 +41,8 @@ is_of_refusal (WrongPass root) = true
 is_of_refusal (NotFound what) = true
 is_of_refusal (WrongKind what) = true
 is_of_refusal (Damaged at how) = true
+is_of_refusal (NotAllowed path) = true
+is_of_refusal (Meet one other) = true
 is_of_refusal (NotClean at number) = true
 is_of_refusal (Overlap first second) = true
 is_of_refusal (NotEmpty at) = true

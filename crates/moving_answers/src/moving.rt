@@ -32,6 +32,7 @@ pub fn answer_to_move(work: &FPath, root: &FPath, fault: MoveFault) -> Answer
         MoveFault::Walk(fault) => answer_to_walk(fault),
         MoveFault::NotEmpty(at) => Answer::NotEmpty(at),
         MoveFault::NotAllowed(path) => Answer::NotAllowed(path),
+        MoveFault::Meet(one, other) => Answer::Meet(one, other),
         MoveFault::Changed(plan, items, plan_now, items_now) => {
             Answer::Changed(plan, items, plan_now, items_now)
         }

@@ -25,6 +25,8 @@ pub fn answer_to_retire(work: &FPath, root: &FPath, fault: RetireFault) -> Answe
         RetireFault::Overlap(first, second) => Answer::Overlap(first, second),
         RetireFault::Load(_, fault) => answer_to_load(root, fault),
         RetireFault::Walk(fault) => answer_to_walk(fault),
+        RetireFault::NotAllowed(path) => Answer::NotAllowed(path),
+        RetireFault::Meet(one, other) => Answer::Meet(one, other),
         RetireFault::Match(fault) => answer_to_match(fault),
         RetireFault::Differ(path, how) => Answer::Differ(path, difference_of(how)),
         RetireFault::Depth => Answer::Limit(Limit::Removal),

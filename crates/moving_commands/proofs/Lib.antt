@@ -1,2 +1,3 @@
 pub mod Migrations
 pub mod Retirings
+mod Histories

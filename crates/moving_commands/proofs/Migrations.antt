@@ -15,12 +15,11 @@ use Rattle.folder_spec.specs.State.{State}
 use Rattle.folder_spec.specs.View.{Found, FileOf, View, view_of}
 use Rattle.folder_spec.proofs.Moments.{went_more, went_nowhere}
 use Rattle.folder_spec.proofs.Regions.{as_before}
+use Rattle.folder_spec.proofs.Seen.{one_view}
 use Rattle.folder_spec.proofs.Tellings.{from_to_more, from_to_same}
 use Rattle.migrate_core.specs.Completing.{CanBegin, CanResume, IsOfChance}
 use Rattle.migrate_core.specs.Faults as causes
-use Rattle.migrate_core.specs.Leading.{KeepsGuarded}
 use Rattle.migrate_core.specs.Moving.{MovesOnly, OnlyBrings}
-use Rattle.migrate_core.specs.Sides.{IsAsked, IsResumed}
 use Rattle.migrate_core.specs.declared.fault.MoveFault.{MoveFault}
 use Rattle.migrate_core.specs.declared.fault.MoveFault.TheVariants as moves
 use Rattle.migrate_core.specs.declared.placing.Done as moved
@@ -32,17 +31,17 @@ use Rattle.move_journal.specs.declared.journal.JournalFault.TheVariants as journ
 use Rattle.move_journal.specs.declared.journal.Journal.{Journal}
 use Rattle.move_journal.proofs.Standing.{ReadsBack, read_stands}
 use Rattle.port_model.specs.Draws.{ByteStream}
-use Rattle.tree_match.specs.Alone.{StaysGuarded}
-use Rattle.tree_match.specs.Guard.{Migration, Guarded, IsSafe, LosesNothing}
+use Rattle.migration_spec.specs.Alone.{KeepsGuarded, StaysGuarded}
+use Rattle.migration_spec.specs.Guard.{AreOpenedBy, Guarded, IsOpenedBy, IsSafe, LosesNothing, Migration}
 use Rattle.tree_match.specs.declared.answer.MatchFault.TheVariants as match
-use Rattle.tree_match.specs.declared.answer.Side.{Side}
+use Rattle.migration_sides.specs.declared.fault.Side.{Side}
 use Rattle.vault_faults.specs.declared.fault.Limit.TheVariants as limit
 use Rattle.vault_read.specs.declared.fault.LoadFault.{LoadFault}
 use Rattle.moving_commands.specs.Migrate.{HasMigrated, IsAskedFor, MigratesApart, MigratesTree, Pair, first_overlap, pair}
 use Rattle.moving_commands.specs.Migrate as migrating
 use Rattle.moving_answers.specs.Faults.{of_move}
 use Rattle.moving_answers.specs.Stops.{is_of_stop, is_of_told_stop}
-use Rattle.moving_commands.specs.Moving.{AnswersMove, ArePhrases, Comes, Completes, FailPasses, KeepsAll, OfPasses, Outcome, RefusesPasses, RefusesUndrawn, done_text, is_of_chance}
+use Rattle.moving_commands.specs.Moving.{AnswersMove, ArePhrases, Comes, Completes, FailPasses, HoldKeys, KeepsAll, OfPasses, Outcome, RefusesPasses, RefusesUndrawn, done_text, is_of_chance}
 use Rattle.command_opening.specs.Opening.{IsPhrase, OfPassFile, passphrase_in}
 use Rattle.command_opening.specs.Places.{RefusesOverlap, overlap}
 use Rattle.command_answers.specs.Printing.{PrintsText}
@@ -114,28 +113,22 @@ phrases_read passes source target v answer P are =
     absurd (pass_taken passes.target (v passes.target) (refused answer) (λ t. ⊥) target are.target
     (pass_taken passes.source (v passes.source) (refused answer) (λ s. OfPassFile passes.target (v passes.target) (refused answer) (λ t. ⊥)) source are.source of)))
 
--- the migration that is asked for is the one whose passphrases were read
-pub asked_is : (g : Migration) (moving : Moving) (v : View) (source target : List ℕ) → ArePhrases moving.passes source target v → IsAskedFor g moving v → IsAsked g moving.source moving.target moving.work source target
-asked_is g moving v source target are asked = record {
-  source = asked.asked.source;
-  target = asked.asked.target;
-  work = asked.asked.work;
-  opens_source = phrase_is_one (v moving.passes.source) g.source.pass source asked.phrases.source are.source;
-  opens_target = phrase_is_one (v moving.passes.target) g.target.pass target asked.phrases.target are.target;
+-- where the two files hold the keys of a migration's vaults, the passphrases that were read open them
+pub keys_read : (g : Migration) (passes : Passes) (v : View) (source target : List ℕ) → ArePhrases passes source target v → HoldKeys g passes v → AreOpenedBy g source target v
+keys_read g passes v source target are keys = record {
+  source = subst (λ pass. IsOpenedBy g.source pass v) (phrase_is_one (v passes.source) keys.source_pass source keys.phrases.source are.source) keys.opened.source;
+  target = subst (λ pass. IsOpenedBy g.target pass v) (phrase_is_one (v passes.target) keys.target_pass target keys.phrases.target are.target) keys.opened.target;
 }
 
-pub resumed_is : (g : Migration) (resuming : Resuming) (v : View) (source target : List ℕ) → ArePhrases resuming.passes source target v → IsResumedFor g resuming v → IsResumed g resuming.work source target
-resumed_is g resuming v source target are asked = record {
-  work = asked.resumed.work;
-  opens_source = phrase_is_one (v resuming.passes.source) g.source.pass source asked.phrases.source are.source;
-  opens_target = phrase_is_one (v resuming.passes.target) g.target.pass target asked.phrases.target are.target;
-}
+-- so it is of all that is seen, where no more was done
+pub keys_seen : (g : Migration) (passes : Passes) (v : View) (told mid : Option Told) (source target : List ℕ) → mid ≡ told → IsSeen told v → ArePhrases passes source target v → HoldKeys g passes v
+    → IfSeen mid (λ w. AreOpenedBy g source target w)
+keys_seen g passes v told mid source target same is are keys w seen =
+    subst (λ x. AreOpenedBy g source target x) (one_view told v w is (subst (λ t. IsSeen t w) same seen)) (keys_read g passes v source target are keys)
 
--- so a call that goes on with it loses nothing
-pub keeps_resumed : AreSafe → (g : Migration) (resuming : Resuming) (v : View) (told mid told' : Option Told) (source target : List ℕ) → mid ≡ told → ArePhrases resuming.passes source target v
-    → (IsResumed g resuming.work source target → KeepsGuarded g mid told') → IsResumedFor g resuming v → KeepsAll g told told'
-keeps_resumed law g resuming v told mid told' source target same are guard asked =
-    keeps_all law g told told' (subst (λ t. KeepsGuarded g t told') same (guard (resumed_is g resuming v source target are asked)))
+-- a call that goes on with it loses nothing
+pub keeps_since : AreSafe → (g : Migration) (told mid told' : Option Told) → mid ≡ told → KeepsGuarded g mid told' → KeepsAll g told told'
+keeps_since law g told mid told' same guard = keeps_all law g told told' (subst (λ t. KeepsGuarded g t told') same guard)
 
 -- ---- the journal
 

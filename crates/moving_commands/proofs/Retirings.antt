@@ -19,8 +19,8 @@ use Rattle.retire_core.specs.Retiring.{RemovesOnly, TouchesOnly, retiring_by}
 use Rattle.retire_core.specs.declared.fault.RetireFault.{RetireFault}
 use Rattle.retire_core.specs.declared.fault.RetireFault.TheVariants as faults
 use Rattle.retire_core.specs.declared.retiring.Retired.{Retired}
-use Rattle.tree_match.specs.Guard.{Migration}
-use Rattle.tree_match.specs.declared.answer.Side.{Side}
+use Rattle.migration_spec.specs.Guard.{Migration}
+use Rattle.migration_sides.specs.declared.fault.Side.{Side}
 use Rattle.vault_read.specs.declared.fault.LoadFault.{LoadFault}
 use Rattle.moving_commands.specs.Moving.{KeepsAll}
 use Rattle.command_answers.specs.Printing.{PrintsText}

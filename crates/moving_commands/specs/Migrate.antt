@@ -16,9 +16,9 @@ use Rattle.migrate_core.specs.declared.fault.MoveFault.{MoveFault}
 use Rattle.migrate_core.specs.declared.fault.MoveFault.TheVariants.{Load}
 use Rattle.migrate_core.specs.declared.placing.Done as moved
 use Rattle.port_model.specs.Draws.{ByteStream}
-use Rattle.tree_match.specs.Guard.{Migration}
-use Rattle.tree_match.specs.declared.answer.Side.TheVariants.{Target}
-use Rattle.moving_commands.specs.Moving.{AnswersMove, ArePhrases, Comes, Completes, KeepsAll, Outcome, RefusesUndrawn, done_text, is_of_migration}
+use Rattle.migration_spec.specs.Guard.{Migration}
+use Rattle.migration_sides.specs.declared.fault.Side.TheVariants.{Target}
+use Rattle.moving_commands.specs.Moving.{AnswersMove, ArePhrases, Comes, Completes, HoldKeys, KeepsAll, Outcome, RefusesUndrawn, done_text, is_of_migration}
 use Rattle.command_opening.specs.Places.{overlap, RefusesOverlap}
 use Rattle.command_answers.specs.Printing.{PrintsDone}
 use Rattle.command_opening.specs.World.{World}
@@ -41,10 +41,10 @@ first_overlap moving =
     else if overlap moving.target moving.work then Some (pair moving.target moving.work)
     else None
 
--- The migration that the words ask for: its folders are those, and its passphrases those in the two files.
+-- The migration that the words ask for: its folders are those, its names stay, and the two files hold the keys of its vaults.
 pub record IsAskedFor (g : Migration) (moving : Moving) (v : View) : Type 0 where
-  pub asked : IsAsked g moving.source moving.target moving.work g.source.pass g.target.pass
-  pub phrases : ArePhrases moving.passes g.source.pass g.target.pass v
+  pub asked : IsAsked g Same moving.source moving.target moving.work
+  pub keys : HoldKeys g moving.passes v
 
 -- both vaults, which the passphrases in the two files open, are clean and have one tree, and the journal says so
 pub record HasMigrated (moving : Moving) (done : moved.Done) (told told' : Option Told) : Type 0 where
@@ -63,7 +63,7 @@ IsRootOf moving fault root = root ≡ root_of moving fault
 
 -- why `begin` comes to what it comes to under these passphrases, by what is seen at first; and what it draws and writes
 abbrev pub IsCaused : Moving → View → List ℕ → List ℕ → Outcome → Type 0
-IsCaused moving v source_pass target_pass outcome = Unless outcome (Begins moving.source moving.target moving.work source_pass target_pass v outcome)
+IsCaused moving v source_pass target_pass outcome = Unless outcome (Begins Same moving.source moving.target moving.work source_pass target_pass v outcome)
 
 abbrev pub IsWritten : Moving → Option Told → Option Told → Option ByteStream → Option ByteStream → List ℕ → List ℕ → Outcome → Type 0
 IsWritten moving told told' stream stream' source_pass target_pass outcome = MayWriteTree outcome Same moving.source moving.target source_pass target_pass stream stream' told told'

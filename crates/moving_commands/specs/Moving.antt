@@ -7,7 +7,7 @@ use Rattle.folder_spec.specs.View.{View}
 use Rattle.migrate_core.specs.declared.fault.MoveFault.{MoveFault}
 use Rattle.migrate_core.specs.declared.placing.Done as moved
 use Rattle.port_model.specs.Draws.{ByteStream, Draws}
-use Rattle.tree_match.specs.Guard.{Migration, Guarded, LosesNothing}
+use Rattle.migration_spec.specs.Guard.{AreOpenedBy, Migration, Guarded, LosesNothing}
 use Rattle.moving_answers.specs.Faults.{of_move}
 use Rattle.moving_answers.specs.Stops.{is_of_stop, is_of_told_stop}
 use Rattle.command_opening.specs.Opening.{IsPhrase, OfPassFile}
@@ -24,6 +24,13 @@ use Rattle.command_words.specs.declared.commands.Passes.{Passes}
 pub record ArePhrases (passes : Passes) (source_pass target_pass : List ℕ) (v : View) : Type 0 where
   pub source : IsPhrase (v passes.source) source_pass
   pub target : IsPhrase (v passes.target) target_pass
+
+-- they hold passphrases that open both vaults of the migration, where these are there
+pub record HoldKeys (g : Migration) (passes : Passes) (v : View) : Type 0 where
+  pub source_pass : List ℕ
+  pub target_pass : List ℕ
+  pub phrases : ArePhrases passes source_pass target_pass v
+  pub opened : AreOpenedBy g source_pass target_pass v
 
 -- what follows of the passphrases in the two files
 abbrev pub OfPasses : Passes → View → Answer → (List ℕ → List ℕ → Type 0) → Type 0

@@ -10,7 +10,6 @@ use Rattle.migrate_core.specs.Causes as causes
 use Rattle.migrate_core.specs.Completing.{CanResume}
 use Rattle.migrate_core.specs.Moved.{MovesTold}
 use Rattle.migrate_core.specs.Moving.{MovesOnly}
-use Rattle.migrate_core.specs.Sides.{IsResumed}
 use Rattle.migrate_core.specs.Written.{MayWriteTold}
 use Rattle.migrate_core.specs.declared.fault.MoveFault.{MoveFault}
 use Rattle.migrate_core.specs.declared.fault.MoveFault.TheVariants.{Load}
@@ -19,21 +18,22 @@ use Rattle.move_journal.specs.Journal.{IsJournal}
 use Rattle.move_journal.specs.declared.journal.Journal.{Journal}
 use Rattle.move_journal.specs.Reading.{StandsIn}
 use Rattle.port_model.specs.Draws.{ByteStream}
-use Rattle.tree_match.specs.Guard.{Migration}
-use Rattle.tree_match.specs.declared.answer.Side.{Side}
-use Rattle.tree_match.specs.declared.answer.Side.TheVariants.{Source, Target}
-use Rattle.moving_commands.specs.Moving.{AnswersMove, ArePhrases, Comes, Completes, KeepsAll, Outcome, RefusesUndrawn, done_text, is_of_told_migration}
+use Rattle.migration_spec.specs.Guard.{Migration}
+use Rattle.migration_sides.specs.declared.fault.Side.{Side}
+use Rattle.migration_sides.specs.declared.fault.Side.TheVariants.{Source, Target}
+use Rattle.moving_commands.specs.Moving.{AnswersMove, ArePhrases, Comes, Completes, HoldKeys, KeepsAll, Outcome, RefusesUndrawn, done_text, is_of_told_migration}
 use Rattle.command_answers.specs.Printing.{PrintsDone}
 use Rattle.command_opening.specs.World.{World}
 use Rattle.command_answers.specs.declared.answer.Answer.{Answer}
 use Rattle.command_words.specs.declared.commands.Resuming.{Resuming}
 
--- a migration through the work folder, whose passphrases are those in the two files
+-- a migration through the work folder, of whose vaults the two files hold the keys
 pub record IsResumedFor (g : Migration) (resuming : Resuming) (v : View) : Type 0 where
-  pub resumed : IsResumed g resuming.work g.source.pass g.target.pass
-  pub phrases : ArePhrases resuming.passes g.source.pass g.target.pass v
+  pub work : g.work ≡ resuming.work
+  pub keys : HoldKeys g resuming.passes v
 
--- both vaults, which the journal tells and the passphrases in the two files open, are clean and have one tree, and the journal says so
+-- both vaults, which the journal tells and the passphrases in the two files open, are clean, the target has the mapped tree of the source by
+-- the journal's rule, and the journal says so
 pub record HasResumed (resuming : Resuming) (done : moved.Done) (told told' : Option Told) : Type 0 where
   pub source_pass : List ℕ
   pub target_pass : List ℕ

@@ -15,7 +15,7 @@ use Rattle.retire_core.specs.Retiring.{HasRetired, RemovesOnly, TouchesOnly, ret
 use Rattle.retire_core.specs.declared.fault.RetireFault.{RetireFault}
 use Rattle.retire_core.specs.declared.fault.RetireFault.TheVariants.{Load}
 use Rattle.retire_core.specs.declared.retiring.Retired.{Retired}
-use Rattle.tree_match.specs.Guard.{Migration}
+use Rattle.migration_spec.specs.Guard.{Migration}
 use Rattle.moving_answers.specs.Faults.{of_retire}
 use Rattle.moving_answers.specs.Stops.{is_of_refusal}
 use Rattle.moving_commands.specs.Moving.{Comes, KeepsAll, RefusesPasses}

@@ -1,6 +1,7 @@
 //! The commands that move: `migrate`, `resume` and `retire`.
 #![tactic(auto)]
 
+pub mod laws;
 mod migrating;
 mod moving;
 mod resuming;

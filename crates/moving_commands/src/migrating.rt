@@ -4,7 +4,7 @@ ghost use Rattle.folder_spec.specs.Seen.{IfSeen};
 ghost use Rattle.migrate_core.specs.Completing.{CanBegin};
 ghost use Rattle.migrate_core.specs.Moving.{MovesOnly};
 ghost use Rattle.port_model.specs.Counts.{CountRose};
-ghost use Rattle.tree_match.specs.Guard.{Migration};
+ghost use Rattle.migration_spec.specs.Guard.{Migration};
 ghost use Rattle.command_opening.specs.World.{World};
 ghost use Rattle.command_words.specs.Written.{AreWritten};
 ghost use Rattle.moving_commands.specs.Migrate.{ComesTo, HasMigrated, IsAskedFor, MayCome, MigratesApart, MigratesTree, root_of};
@@ -17,11 +17,12 @@ use command_opening::{do_overlap, overlapping};
 use command_words::Moving;
 use folder_model::{FPath, Folder};
 use migrate_core::{Done, MoveFault};
+use migration_sides::Side;
+use migration_spec::laws::guarded_migrations_are_safe;
 use moving_answers::answer_to_move;
+use plain_tree::NameMap;
 use port_model::{Randoms, Sink};
 use std::alloc::Global;
-use tree_match::Side;
-use tree_match::laws::guarded_migrations_are_safe;
 
 /// Moves the source's tree into the target, and then writes what was done.
 pub fn migrate<F: Folder, R: Randoms, O: Sink>(
@@ -98,6 +99,7 @@ fn begin<F: Folder, R: Randoms>(
         &moving.source,
         &moving.target,
         &moving.work,
+        NameMap::Same,
         phrases.source.as_slice(),
         phrases.target.as_slice(),
         random,

@@ -8,7 +8,7 @@ ghost use Rattle.migrate_core.specs.Moving.{MovesOnly};
 ghost use Rattle.move_journal.specs.Journal.{IsJournal};
 ghost use Rattle.move_journal.specs.Reading.{StandsIn};
 ghost use Rattle.port_model.specs.Counts.{CountRose};
-ghost use Rattle.tree_match.specs.Guard.{Migration};
+ghost use Rattle.migration_spec.specs.Guard.{Migration};
 ghost use Rattle.command_opening.specs.World.{World};
 ghost use Rattle.moving_answers.specs.Faults.{of_move};
 ghost use Rattle.moving_answers.specs.Stops.{is_of_told_stop};
@@ -21,12 +21,12 @@ use command_words::Resuming;
 use content_writing::PutFault;
 use folder_model::{FPath, Folder};
 use migrate_core::{Done, MoveFault};
+use migration_sides::Side;
+use migration_spec::laws::guarded_migrations_are_safe;
 use move_journal::Journal;
 use moving_answers::answer_to_move;
 use port_model::{Randoms, Sink};
 use std::alloc::Global;
-use tree_match::Side;
-use tree_match::laws::guarded_migrations_are_safe;
 
 /// Goes on with the migration that the journal tells of, and then writes what was done.
 pub fn resume<F: Folder, R: Randoms, O: Sink>(

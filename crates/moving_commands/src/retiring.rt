@@ -5,7 +5,7 @@ ghost use Rattle.port_model.specs.Counts.{CountRose};
 ghost use Rattle.port_model.specs.Draws.{ByteStream};
 ghost use Rattle.retire_core.specs.Completing.{CanRetire};
 ghost use Rattle.retire_core.specs.Faults.{IsRetireFault};
-ghost use Rattle.tree_match.specs.Guard.{Migration};
+ghost use Rattle.migration_spec.specs.Guard.{Migration};
 ghost use Rattle.command_answers.specs.Printing.{PrintsText};
 ghost use Rattle.command_opening.specs.World.{World};
 ghost use Rattle.moving_answers.specs.Faults.{of_retire};
@@ -18,13 +18,13 @@ use crate::moving::learn;
 use command_answers::{Answer, print};
 use command_words::Resuming;
 use folder_model::{FPath, Folder};
+use migration_sides::Side;
+use migration_spec::laws::guarded_migrations_are_safe;
 use move_journal::Journal;
 use moving_answers::answer_to_retire;
 use port_model::Sink;
 use retire_core::{RetireFault, Retired};
 use std::alloc::{AllocError, Global};
-use tree_match::Side;
-use tree_match::laws::guarded_migrations_are_safe;
 
 /// Removes the source of the migration that the journal tells of, and the work folder, and then writes how many items it had.
 pub fn retire<F: Folder, O: Sink>(

@@ -15,10 +15,11 @@ use Rattle.folder_spec.specs.Region.{IsAsBefore, Spares, apart_from, apart_from_
 use Rattle.folder_spec.specs.Seen.{IfSeen, IsSeen, moved_view, seen}
 use Rattle.folder_spec.specs.State.{State, IsSound}
 use Rattle.folder_spec.specs.View.{Folder, NoEntry, View}
-use Rattle.tree_match.proofs.Guards.{ImagesShow, RootsAreAlike}
-use Rattle.tree_match.proofs.Kept.{behind_none}
-use Rattle.tree_match.specs.Alone.{StaysGuarded}
-use Rattle.tree_match.specs.Guard.{AreApart, Guarded, Migration, old_path}
+use Rattle.migration_spec.proofs.Guards.{ImagesShow, RootsAreAlike}
+use Rattle.migration_spec.proofs.Kept.{behind_none}
+use Rattle.migration_spec.specs.Alone.{StaysGuarded}
+use Rattle.migration_spec.specs.Guard.{Guarded, Migration, old_path}
+use Rattle.work_folder.specs.Apart.{AreApart}
 use Rattle.retire_core.proofs.Cleared.{seen_then}
 use Rattle.retire_core.proofs.Going.{AreSound}
 use Rattle.retire_core.proofs.Renamed.{HasNoSpecial, moved_guarded, moved_settled}

@@ -1,5 +1,5 @@
 -- Why the faults of `retire` may come.
-use Rattle.std.proofs.Common.{IfErr, Ok, ◌≡◌, ◌≤◌, ℕ, Option, Some, Result, Err}
+use Rattle.std.proofs.Common.{IfErr, Ok, ◌≡◌, ◌≤◌, ℕ, Option, Some, Result, Err, refl}
 use Rattle.folder_model.proofs.Counting.{counts_after, counts_at_fault, rose_since}
 use Rattle.folder_model.specs.Answers.{Answers, Counts, CountsAbove}
 use Rattle.folder_spec.specs.declared.FolderFault.{FolderFault}
@@ -10,8 +10,13 @@ use Rattle.folder_spec.specs.Path.{Path}
 use Rattle.folder_spec.specs.View.{kind_found}
 use Rattle.folder_staging.specs.declared.removal.RemovalFault.{RemovalFault}
 use Rattle.folder_staging.specs.declared.removal.RemovalFault.TheVariants as removal
+use Rattle.migration_sides.specs.Faults.{IsBlamed, IsStepFault}
+use Rattle.migration_sides.specs.declared.fault.StepFault.{StepFault}
+use Rattle.migration_sides.specs.declared.fault.StepFault.TheVariants as step
 use Rattle.port_model.specs.Counts.{CountRose}
-use Rattle.retire_core.specs.Faults.{Blamed, IsLaterFault, IsRetireFault, of_folder, of_removal}
+use Rattle.vault_read.specs.declared.fault.LoadFault.TheVariants as load
+use Rattle.vault_walk.specs.declared.fault.WalkFault.TheVariants as walk
+use Rattle.retire_core.specs.Faults.{Blamed, IsLaterFault, IsRetireFault, of_folder, of_removal, of_step}
 use Rattle.retire_core.specs.declared.fault.RetireFault.{RetireFault}
 use Rattle.retire_core.specs.declared.fault.RetireFault.TheVariants as retire
 
@@ -44,6 +49,36 @@ blamed_removal before mid after (removal.Other at) result is le failed = record 
 blamed_removal before mid after removal.Failed result is le failed = record { own = tt; failed = λ same. rose_since before mid after le (failed is) }
 blamed_removal before mid after removal.NoMemory result is le failed = record { own = tt; failed = λ is. cc is }
 
+-- ---- a step that both commands share
+
+pub blamed_step : (folder : Type 0) (fault : StepFault) → IsBlamed folder fault → Blamed IsLaterFault folder (of_step fault)
+blamed_step folder fault b = record { own = step_own fault b.own; failed = λ is. b.failed (step_failed fault is) }
+  where
+    step_own : (fault : StepFault) → IsStepFault fault → IsLaterFault (of_step fault)
+    step_own (step.Overlap one two) is = tt
+    step_own (step.Load side load.Failed) is = absurd is
+    step_own (step.Load side load.NoMemory) is = absurd is
+    step_own (step.Load side (load.Missing at)) is = tt
+    step_own (step.Load side (load.WrongKind at)) is = tt
+    step_own (step.Load side (load.TooLarge at)) is = tt
+    step_own (step.Load side (load.Go why)) is = tt
+    step_own (step.Load side (load.Cm at why)) is = tt
+    step_own (step.Load side load.WrongPass) is = tt
+    step_own (step.Load side load.BadSignature) is = tt
+    step_own (step.Walk walk.Failed) is = absurd is
+    step_own (step.Walk walk.NoMemory) is = absurd is
+    step_own (step.Walk (walk.NotClean finding)) is = tt
+    step_own (step.Walk (walk.Limit which)) is = tt
+    step_own step.Failed is = tt
+    step_own step.NoMemory is = tt
+
+    step_failed : (fault : StepFault) → of_step fault ≡ retire.Failed → fault ≡ step.Failed
+    step_failed (step.Overlap one two) is = cc is
+    step_failed (step.Load side why) is = cc is
+    step_failed (step.Walk why) is = cc is
+    step_failed step.Failed is = refl
+    step_failed step.NoMemory is = cc is
+
 -- ---- once the journal is read
 
 -- such a fault is one that `retire` may answer
@@ -54,6 +89,8 @@ later_own (retire.Work fault) later = later
 later_own (retire.Overlap one two) later = later
 later_own (retire.Load side fault) later = later
 later_own (retire.Walk fault) later = later
+later_own (retire.NotAllowed path) later = later
+later_own (retire.Meet one other) later = later
 later_own (retire.Match fault) later = later
 later_own (retire.Differ path how) later = later
 later_own retire.Depth later = later

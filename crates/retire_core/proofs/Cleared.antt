@@ -16,8 +16,8 @@ use Rattle.folder_spec.specs.State.{State}
 use Rattle.folder_spec.specs.View.{Folder, NoEntry, View}
 use Rattle.folder_staging.specs.Removal.{IsBare, IsRemoving, IsWithin, Reach, Removes, RemovesWithin, deepest, from}
 use Rattle.folder_staging.specs.declared.removal.RemovalFault.{RemovalFault}
-use Rattle.tree_match.proofs.Kept.{behind_none, is_below}
-use Rattle.tree_match.specs.Guard.{old_path}
+use Rattle.migration_spec.proofs.Kept.{behind_none, is_below}
+use Rattle.migration_spec.specs.Guard.{old_path}
 use Rattle.work_folder.specs.Entries.{journal_path}
 use Rattle.retire_core.proofs.Going.{AreSound, IsWhole, behind_inside, fallen_same}
 use Rattle.retire_core.specs.Clearing.{Clears, ClearsAt, ClearsBeside, ClearsEntry, ClearsOnly, ClearsRest, HasOnlyJournal, IsGone, IsInOrder, Leaves}

@@ -1,5 +1,6 @@
 -- Over a guarded migration that can be retired each test passes, unless the folder fails or memory runs out.
-use Rattle.std.proofs.Common.{◌≡◌, ◌≢◌, ◌⊎◌, inl, inr, List, [], ◌∷◌, ◌++◌, ◌&&◌, ◌||◌, not, if◌then◌else◌, ℕ, Bool, true, false, Option, Some, None, Result, Ok, Err, MatchResult, IfErr, IsTrue, refl, sym, ap, ◌∙◌, subst, subst₂, append-nil, append_assoc, bytes_eq, codes, arith, zero, suc, Contains}
+use Rattle.std.proofs.Math.Path.{fun_ext}
+use Rattle.std.proofs.Common.{◌≡◌, ◌≢◌, ◌⊎◌, inl, inr, List, [], ◌∷◌, ◌++◌, ◌&&◌, if◌then◌else◌, ℕ, Bool, true, false, Option, Some, None, Result, Ok, Err, MatchResult, IfErr, IsTrue, refl, sym, ap, ◌∙◌, subst, subst₂, append-nil, append_assoc, bytes_eq, codes, arith, zero, suc, Contains}
 use Rattle.std.specs.Prelude.{nat_eq}
 use Rattle.std.specs.List.{starts_with}
 use Rattle.chunk_files.specs.Keys.{Keys}
@@ -7,64 +8,59 @@ use Rattle.chunk_files.specs.Reading.{Wanting}
 use Rattle.folder_spec.proofs.Paths.{below-append, below-apart}
 use Rattle.folder_spec.specs.Path.{Part, Path, below, child}
 use Rattle.folder_spec.specs.Seen.{moved_found, moved_view, under}
-use Rattle.folder_spec.specs.View.{FileOf, Folder, Found, NoEntry, Special, View, kind_found}
-use Rattle.folder_spec.specs.declared.Kind.{Kind}
+use Rattle.folder_spec.specs.View.{Folder, Found, NoEntry, Special, View, kind_found}
 use Rattle.folder_spec.specs.declared.Kind.TheVariants as kind
 use Rattle.folder_staging.specs.Removal.{RemovesAs, deepest, from}
 use Rattle.folder_staging.specs.declared.removal.RemovalFault.{RemovalFault}
 use Rattle.folder_staging.specs.declared.removal.RemovalFault.TheVariants as removal
-use Rattle.migrate_core.specs.Causes.{Compares, PassesOr, Then, Walks, own}
-use Rattle.migrate_core.specs.Completing.{IsShallow}
-use Rattle.migrate_core.specs.Moved.{opened_in}
-use Rattle.migrate_core.specs.Sides.{side_of}
+use Rattle.mapped_trees.specs.Plans as plans
+use Rattle.mapped_trees.specs.Trees.{HasNoBroken, IsHeldIn, IsMapped, IsWhole, StaysApart}
+use Rattle.migration_spec.proofs.Entries.{none_foreign, old_free, with_old}
+use Rattle.migration_sides.proofs.Passing.{Any, apart_met, both_open, both_walked, entries_met, given, met, only_or, read_back}
+use Rattle.migration_sides.specs.Causes.{TestsApart}
+use Rattle.migration_sides.specs.Sides.{IsShallow}
+use Rattle.migration_sides.specs.Tests.{Then, own}
+use Rattle.migration_sides.specs.declared.fault.Side.{Side}
 use Rattle.move_journal.specs.Journal.{IsJournal}
 use Rattle.move_journal.specs.Reading.{ReadsAs, journal_bytes, StandsIn}
-use Rattle.move_journal.specs.Writing.{GivesBack}
 use Rattle.move_journal.specs.declared.journal.Journal.{Journal}
-use Rattle.move_journal.specs.declared.journal.JournalFault.{JournalFault}
-use Rattle.move_journal.specs.declared.journal.JournalFault.TheVariants as journals
 use Rattle.move_journal.specs.declared.journal.Phase.TheVariants as phase
 use Rattle.move_journal.proofs.Standing.{ReadsBack, not_missing}
 use Rattle.plain_tree.specs.Names as plain
+use Rattle.plain_tree.specs.declared.name_map.NameMap.{NameMap}
 use Rattle.plain_tree.specs.declared.NodeKind.{NodeKind}
 use Rattle.plain_tree.specs.declared.NodeKind.TheVariants.{Dir, File}
-use Rattle.tree_match.proofs.HeldTrees.{found_with, planned}
-use Rattle.tree_match.specs.Comparing.{Answers, Content, Is, Outcome, Stops, compared, content_at, is_cut}
-use Rattle.tree_match.specs.Guard as guard
-use Rattle.tree_match.specs.Guard.{AreApart, Case, HasJournal, IsDone, IsPartOf, IsRetired, IsThere, IsWork, LastJournal, Migration, VaultAt, Stands, Gone, has_old, has_old_by, kinds_in, old_path, tree_at}
+use Rattle.tree_match.proofs.HeldTrees.{IsNoDifference, found_with}
+use Rattle.tree_match.proofs.Passing.{compares_met, each_file, each_mapped_file, each_named, map_met}
+use Rattle.tree_match.specs.Comparing.{Content, Is, Outcome, Stops, compared, content_at, is_cut}
+use Rattle.migration_spec.specs.Guard as guard
+use Rattle.migration_spec.specs.Guard.{AreOpenedBy, Case, HasJournal, IsDone, IsWork, LastJournal, Migration, Stands, Gone, has_old, has_old_by, kinds_in, old_path, tree_at}
+use Rattle.work_folder.specs.Apart.{AreApart}
+use Rattle.tree_match.specs.Mapping.{AreFirstToMeet, IsMappedPlan, MapsTo}
 use Rattle.tree_match.specs.Matching.{by_item, first_differing, first_further, held_as, held_by, item_with, matched}
-use Rattle.tree_match.specs.Trees.{AreSame, IsSameOrTooLong, IsTooLong, IsPartIn, IsWalkOf, match_of}
+use Rattle.tree_match.specs.Trees.{Compares, HoldsAllOrTooLong, IsMappedWalkOf, IsWalkOf, match_of, side_of, tree_of}
 use Rattle.tree_match.specs.Trees as trees
 use Rattle.tree_match.specs.declared.answer.How.{How}
 use Rattle.tree_match.specs.declared.answer.Match.{Match}
-use Rattle.tree_match.specs.declared.answer.Match.TheVariants.{Same}
-use Rattle.tree_match.specs.declared.answer.MatchFault.{MatchFault}
-use Rattle.tree_match.specs.declared.answer.MatchFault.TheVariants as match
-use Rattle.tree_match.specs.declared.answer.Side.{Side}
-use Rattle.tree_match.specs.declared.answer.Side.TheVariants as side
-use Rattle.vault_read.specs.Laws.{HasOwnFolders, HaveOneAnswer}
-use Rattle.vault_spec.specs.Opened.{OpenedVault}
-use Rattle.vault_faults.specs.declared.fault.Limit.TheVariants as limit
-use Rattle.vault_spec.specs.Alike.{HasFolders, IsOrderly, place_of}
+use Rattle.tree_match.specs.declared.answer.MapFault.{MapFault}
+use Rattle.tree_match.specs.declared.answer.Match.TheVariants.{Same, Contained, Differs}
+use Rattle.vault_read.specs.Laws.{HaveOneAnswer}
+use Rattle.vault_spec.specs.Alike.{HasFolders}
+use Rattle.vault_spec.specs.Opens.{Tree}
 use Rattle.vault_spec.specs.Plan.{Planned}
-use Rattle.vault_spec.specs.Listing.{node_of}
-use Rattle.vault_spec.specs.Standing as stood
-use Rattle.vault_spec.specs.Vault.{Cryptomator, Gocryptfs, LoadRefusal, Loads, Vault, format_of}
+use Rattle.vault_spec.specs.Vault.{format_of}
 use Rattle.vault_walk.specs.Surveyed.{IsPlanOf}
-use Rattle.vault_walk.specs.declared.fault.WalkFault.{WalkFault}
-use Rattle.vault_walk.specs.declared.fault.WalkFault.TheVariants as walk
+use Rattle.vault_walk.specs.declared.plan.Plan.{Plan}
 use Rattle.content_writing.specs.Making.{is_inside}
 use Rattle.work_folder.specs.Entries.{HasNoForeign, is_foreign, journal_path, new_journal_path, stage_path}
 use Rattle.work_folder.specs.Looking.{TestsEntries}
-use Rattle.work_folder.specs.Looking as looking
 use Rattle.work_folder.specs.declared.fault.WorkFault.TheVariants as works
 use Rattle.retire_core.proofs.Causing.{away_there, beside, none_behind}
 use Rattle.retire_core.proofs.Renamed.{HasNoSpecial}
-use Rattle.retire_core.specs.Causes.{Answer, IsOfFolder, Opens, Passes, ReadsDone, Retires, RetiresTold, TestsApart, TestsAway, TestsClean, TestsFree, TestsHeld, TestsItems, TestsMatch, TestsPair, TestsPhase, TestsRemoval, TestsRemovals, TestsVaults, moved_away, of_refusal, retired_of}
-use Rattle.retire_core.specs.Completing.{CanRetire, IsAtEnd, KeepsLimits, PassesNoLimit}
-use Rattle.retire_core.specs.Faults.{of_journal, of_match, of_removal, of_walk, of_work}
-use Rattle.retire_core.specs.declared.fault.RetireFault.{RetireFault}
-use Rattle.retire_core.specs.declared.fault.RetireFault.TheVariants.{Overlap, Work}
+use Rattle.retire_core.specs.Causes.{Answer, IsOfFolder, Passes, ReadsDone, Retires, RetiresTold, TestsAway, TestsFree, TestsHeld, TestsItems, TestsMapped, TestsMatch, TestsPhase, TestsRemoval, TestsRemovals, TestsVaults, moved_away, retired_of}
+use Rattle.retire_core.specs.Completing.{CanRetire, IsAtEnd, PassesNoLimit}
+use Rattle.retire_core.specs.Faults.{of_journal, of_map, of_match, of_removal, of_step, of_work}
+use Rattle.retire_core.specs.declared.fault.RetireFault.TheVariants.{Work}
 use Rattle.retire_core.specs.declared.retiring.Retired.{Retired}
 
 -- ---- tests that can only pass
@@ -73,85 +69,16 @@ use Rattle.retire_core.specs.declared.retiring.Retired.{Retired}
 abbrev Only : {X : Type 0} → (X → Type 0) → Answer X → Type 0
 Only P answer = MatchResult answer P IsOfFolder
 
-abbrev Any : {X : Type 0} → X → Type 0
-Any x = Unit {0}
-
-met : {X Y F : Type 0} (told : F → RetireFault) (test : Result X F → Type 0) (next : X → Answer Y → Type 0) (P : X → Type 0) (R : Y → Type 0) (answer : Answer Y)
-    → ((tested : Result X F) → test tested → MatchResult tested P (λ why. IsOfFolder (told why))) → ((x : X) → P x → next x answer → Only R answer) → Then told test next answer → Only R answer
-met told test next P R answer only goes (Ok x, passed, n) = goes x (only (Ok x) passed) n
-met told test next P R answer only goes (Err why, refused, is) = subst (Only R) (sym is) (only (Err why) refused)
-
-given : {X : Type 0} (P : X → Type 0) (x : X) (answer : Answer X) → P x → answer ≡ Ok x → Only P answer
-given P x answer p is = subst (Only P) (sym is) p
-
-only_or : (passes fails : Type 0) (fault : RetireFault) (answer : Answer (Unit {0})) → ¬ fails → PassesOr passes fails fault answer → Only Any answer
-only_or passes fails fault answer never (inl passed) = given Any tt answer tt passed.1
-only_or passes fails fault answer never (inr failed) = absurd (never failed.0)
-
 -- ---- the journal, and the folders
 
 module _ (reads : ReadsBack) (work : Path) (v : View) (journal : Journal) (is : IsJournal journal) (done : journal.phase ≡ phase.Done) (stands : StandsIn work journal v) where
-  by_read : (t : Result Journal JournalFault) → GivesBack journal t → MatchResult t (λ k. k ≡ journal) (λ why. IsOfFolder (of_journal why))
-  by_read (Ok k) back = back
-  by_read (Err journals.NoJournal) back = absurd back
-  by_read (Err (journals.BadJournal number)) back = absurd back
-  by_read (Err journals.TooLarge) back = absurd back
-  by_read (Err journals.Failed) back = inl refl
-  by_read (Err journals.NoMemory) back = inr refl
-
   in_phase : (answer : Answer Journal) (k : Journal) → k ≡ journal → TestsPhase k k.phase answer → Only (λ x. x ≡ journal) answer
-  in_phase answer k same tested = given (λ x. x ≡ journal) k answer same (subst (λ p. TestsPhase k p answer) (ap (λ (x : Journal). x.phase) same ∙ done) tested)
+  in_phase answer k same tested = given IsOfFolder (λ x. x ≡ journal) k answer same (subst (λ p. TestsPhase k p answer) (ap (λ (x : Journal). x.phase) same ∙ done) tested)
 
   read_met : (answer : Answer Journal) → ReadsDone work v answer → Only (λ x. x ≡ journal) answer
   read_met answer =
-      met of_journal (ReadsAs (journal_bytes v work)) (λ (k : Journal). TestsPhase k k.phase) (λ k. k ≡ journal) (λ x. x ≡ journal) answer
-      (λ t tested. by_read t (reads work v journal t is stands tested)) (in_phase answer)
-
-apart_met : (p q work : Path) → AreApart p q → AreApart p work → AreApart q work → (answer : Answer (Unit {0})) → TestsApart p q work answer → Only Any answer
-apart_met p q work one two three answer =
-    met own (TestsPair p q) (λ _. Then own (TestsPair p work) (λ _. TestsPair q work)) Any Any answer (λ t. only_or (AreApart p q) (¬ AreApart p q) (Overlap p q) t (λ not. not one))
-    (λ _ _. met own (TestsPair p work) (λ _. TestsPair q work) Any Any answer (λ t. only_or (AreApart p work) (¬ AreApart p work) (Overlap p work) t (λ not. not two))
-    (λ _ _. only_or (AreApart q work) (¬ AreApart q work) (Overlap q work) answer (λ not. not three)))
-
-entries_met : (v : View) (work : Path) → HasNoForeign true v work → (t : looking.Answer) → TestsEntries true v work t → MatchResult t Any (λ why. IsOfFolder (of_work why))
-entries_met v work none t (inl passed) = subst (λ (x : looking.Answer). MatchResult x Any (λ why. IsOfFolder (of_work why))) (sym passed.1) tt
-entries_met v work none t (inr failed) = absurd (none failed.0 failed.1.foreign)
-
--- ---- the vaults
-
-opens_met : HaveOneAnswer → (which : Side) (root : Path) (pass : List ℕ) (v : View) (vault : Vault) → Loads (under root v) pass (Ok vault) → (answer : Answer OpenedVault) → Opens which root pass v answer
-    → Only (λ a. a ≡ opened_in root vault) answer
-opens_met one which root pass v vault opens answer =
-    met (of_refusal which root) (Loads (under root v) pass) (λ x. Passes (opened_in root x)) (λ x. x ≡ vault) (λ a. a ≡ opened_in root vault) answer
-    (λ t loads. by_vault t (one (under root v) pass t (Ok vault) loads opens)) (λ x same. given (λ a. a ≡ opened_in root vault) (opened_in root x) answer (ap (opened_in root) same))
-  where
-    by_vault : (t : Result Vault LoadRefusal) → t ≡ Ok vault → MatchResult t (λ x. x ≡ vault) (λ why. IsOfFolder (of_refusal which root why))
-    by_vault (Ok x) e = cc e
-    by_vault (Err why) e = cc e
-
-own_folders : (vault : Vault) (v : View) → IsOrderly (format_of vault) v → HasOwnFolders vault v
-own_folders (Gocryptfs keys) v orderly = tt
-own_folders (Cryptomator cm) v orderly = orderly.own_folder
-
-module _ (a : VaultAt) (v : View) (there : IsThere a v) (keeps : KeepsLimits a v) where
-  abbrev opened : OpenedVault
-  opened = opened_in a.root a.vault
-
-  abbrev IsPlan : List Planned → Type 0
-  IsPlan items = IsPlanOf a.root (format_of a.vault) (under a.root v) items
-
-  by_walk : (t : Result (List Planned) WalkFault) → Walks opened v t → MatchResult t IsPlan (λ why. IsOfFolder (of_walk why))
-  by_walk (Ok items) walked = walked.2 (own_folders a.vault (under a.root v) there.good.orderly)
-  by_walk (Err (walk.Limit limit.Items)) walked = absurd (keeps.items.items walked)
-  by_walk (Err (walk.Limit limit.Depth)) walked = absurd (keeps.items.depth walked.deep)
-  by_walk (Err (walk.NotClean finding)) walked = absurd (there.good.clean walked.1.first.finding walked.1.first.at walked.1.of_structure walked.1.found)
-  by_walk (Err (walk.Limit (limit.Length at))) walked = absurd walked
-  by_walk (Err (walk.Limit limit.Input)) walked = absurd walked
-  by_walk (Err walk.Failed) walked = absurd walked
-  by_walk (Err walk.NoMemory) walked = absurd walked
-
-  clean_met : (answer : Answer (List Planned)) → TestsClean opened v answer → Only IsPlan answer
-  clean_met answer = met of_walk (Walks opened v) Passes IsPlan IsPlan answer by_walk (λ items is. given IsPlan items answer is)
+      met IsOfFolder of_journal (ReadsAs (journal_bytes v work)) (λ (k : Journal). TestsPhase k k.phase) (λ k. k ≡ journal) (λ x. x ≡ journal) answer
+      (λ t tested. read_back (λ why. IsOfFolder (of_journal why)) (inl refl) (inr refl) journal t (reads work v journal t is stands tested)) (in_phase answer)
 
 -- ---- no content that is compared passes the limit
 
@@ -199,73 +126,58 @@ module _ (a b : Keys) (v : View) (items others : List Planned) (one : AreShort a
   matched_short : (at : Path) → matched a items b others v ≢ Stops at Wanting
   matched_short at = first_short (λ x. held_by a b v x (item_with x.path others)) items (first_further items others) at (λ x among. by_short x among (item_with x.path others) refl at)
 
--- a file of the plan stands where it says
-is_file : (s : stood.Standing) (n : NodeKind) (at : Path) → n ≡ File → node_of s ≡ Some n → place_of s ≡ Some at → s ≡ stood.File at
-is_file (stood.File there) n at is node place = let same : there ≡ at = cc place in ap stood.File same
-is_file (stood.Dir there directory) n at is node place = let clash : Some Dir ≡ Some File = node ∙ ap Some is in cc clash
-is_file stood.Absent n at is node place = cc node
-is_file (stood.Strange there) n at is node place = cc node
-
-are_short : (a : VaultAt) (v : View) → KeepsLimits a v → (items : List Planned) → IsWalkOf v (side_of (opened_in a.root a.vault) items) → AreShort (format_of a.vault).content v items
-are_short a v keeps items walk x among is =
-    let p = planned v (side_of (opened_in a.root a.vault) items) walk x among in
-    subst (λ (z : Planned). z.node ≡ File → (content_at (format_of a.vault).content v z.at).ending ≢ Wanting) p.1
-    (λ file. keeps.contents p.0.path p.0.at (is_file (stood.standing (format_of a.vault) (under a.root v) p.0.path) p.0.node p.0.at file p.2.node p.2.place)) is
-
 -- ---- the target holds the source
 
-abbrev pub AreAlike : Type 0
-AreAlike = (v : View) (a b : trees.Side) → IsWalkOf v a → IsWalkOf v b → IsPartIn v a b → IsPartIn v b a → IsSameOrTooLong (match_of v a b)
+-- what is cited of mapped trees and of vaults that are compared
+pub record AreHeldAlike : Type 0 where
+  pub plan : (v : View) (a : trees.Side) → IsWalkOf v a → plans.IsPlanOf (tree_of v a) a.items
+  pub meet : (v : View) (names : NameMap) (a : trees.Side) (one other : plain.Path) → IsWalkOf v a → StaysApart names (tree_of v a) → ¬ AreFirstToMeet names a.items one other
+  pub held : (names : NameMap) (m t : Tree) → IsMapped names m t → HasNoBroken m → IsHeldIn names m t
+  pub holds : (v : View) (names : NameMap) (a b : trees.Side) → IsMappedWalkOf names v a → IsWalkOf v b → IsHeldIn names (tree_of v a) (tree_of v b) → HoldsAllOrTooLong (match_of v a b)
 
-by_same : {o : Outcome Match} → IsSameOrTooLong o → ((at : Path) → o ≢ Stops at Wanting) → (t : Result Match MatchFault) → Answers o t → MatchResult t (λ m. m ≡ Same) (λ why. IsOfFolder (of_match why))
-by_same AreSame short (Ok m) answers = cc answers
-by_same AreSame short (Err (match.Damaged at fault)) answers = cc answers
-by_same AreSame short (Err (match.Limit (limit.Length at))) answers = cc answers
-by_same AreSame short (Err (match.Limit limit.Depth)) answers = absurd answers
-by_same AreSame short (Err (match.Limit limit.Items)) answers = absurd answers
-by_same AreSame short (Err (match.Limit limit.Input)) answers = absurd answers
-by_same AreSame short (Err match.Failed) answers = inl refl
-by_same AreSame short (Err match.NoMemory) answers = inr refl
-by_same (IsTooLong at) short t answers = absurd (short at refl)
+passes_held : (m : Match) (answer : Answer (Unit {0})) → IsNoDifference m → TestsMatch m answer → Only Any answer
+passes_held Same answer held tested = given IsOfFolder Any tt answer tt tested
+passes_held (Contained path) answer held tested = given IsOfFolder Any tt answer tt tested
+passes_held (Differs path how) answer held tested = absurd held
 
-module _ (one : HaveOneAnswer) (are_alike : AreAlike) (g : Migration) (v : View) (done : IsDone g v) (limits : PassesNoLimit g v) where
-  abbrev source : OpenedVault
-  source = opened_in g.source.root g.source.vault
+module _ (one : HaveOneAnswer) (cited : AreHeldAlike) (g : Migration) (from_pass to_pass : List ℕ) (v : View) (opened : AreOpenedBy g from_pass to_pass v) (done : IsDone g v) (limits : PassesNoLimit g v) where
+  held_in : IsHeldIn g.names (tree_at g.source v) (tree_at g.target v)
+  held_in path named there =
+      let same = done.source.held path in
+      let held = cited.held g.names g.held (tree_at g.target v) done.target.all.held done.target.all.whole path named (λ none. there (same ∙ none)) in
+      (held.0 ∙ sym same, subst IsWhole (sym same) held.1)
 
-  abbrev target : OpenedVault
-  target = opened_in g.target.root g.target.vault
+  stays_apart : StaysApart g.names (tree_at g.source v)
+  stays_apart p q there there_too = done.target.all.apart p q (λ none. there (done.source.held p ∙ none)) (λ none. there_too (done.source.held q ∙ none))
 
-  there_in : IsPartOf (tree_at g.source v) (tree_at g.target v)
-  there_in path named there =
-      let same = done.source.held path ∙ sym (done.target.all.held path) in
-      (same, subst guard.IsWhole (sym (done.source.held path)) (done.target.all.whole path))
+  maps_met : (items : List Planned) → IsWalkOf v (side_of g.source items) → (t : Result Plan MapFault) → MapsTo g.names items t → MatchResult t (λ plan. IsMappedPlan g.names items plan.items) (λ why. IsOfFolder (of_map why))
+  maps_met items is = map_met (λ why. IsOfFolder (of_map why)) (inr refl) g.names items
+      (each_named g.names (format_of g.target.vault) g.held items (subst (λ (t : Tree). plans.IsPlanOf t items) (fun_ext done.source.held) (cited.plan v (side_of g.source items) is)) done.allowed)
+      (λ p q. cited.meet v g.names (side_of g.source items) p q is stays_apart)
 
-  back_in : IsPartOf (tree_at g.target v) (tree_at g.source v)
-  back_in path named there =
-      let same = done.target.all.held path ∙ sym (done.source.held path) in
-      (same, subst guard.IsWhole (sym (done.target.all.held path)) (done.target.all.whole path))
+  items_met : (items mapped others : List Planned) (answer : Answer (Unit {0})) → IsWalkOf v (side_of g.source items) → IsMappedPlan g.names items mapped → IsWalkOf v (side_of g.target others)
+      → TestsItems g.source mapped g.target others v answer → Only Any answer
+  items_met items mapped others answer is maps is_too =
+      met IsOfFolder of_match (Compares g.source mapped g.target others v) TestsMatch IsNoDifference Any answer
+      (compares_met (λ why. IsOfFolder (of_match why)) (inl refl) (inr refl) (match_of v (side_of g.source mapped) (side_of g.target others))
+      (cited.holds v g.names (side_of g.source mapped) (side_of g.target others) (record { own = items; walk = is; mapped = maps }) is_too held_in)
+      (λ at too_long. absurd (matched_short (format_of g.source.vault).content (format_of g.target.vault).content v mapped others
+      (each_mapped_file (λ ending. ending ≢ Wanting) g.source v limits.source.contents items is g.names mapped maps) (each_file (λ ending. ending ≢ Wanting) g.target v limits.target.contents others is_too) at too_long)))
+      (λ m held tested. passes_held m answer held tested)
 
-  items_met : (items others : List Planned) (answer : Answer (Unit {0})) → IsWalkOf v (side_of source items) → IsWalkOf v (side_of target others) → TestsItems source items target others v answer → Only Any answer
-  items_met items others answer is is_too =
-      met of_match (Compares source items target others v) TestsMatch (λ m. m ≡ Same) Any answer
-      (by_same (are_alike v (side_of source items) (side_of target others) is is_too there_in back_in)
-      (matched_short (format_of g.source.vault).content (format_of g.target.vault).content v items others (are_short g.source v limits.source items is) (are_short g.target v limits.target others is_too)))
-      (λ m same tested. given Any tt answer tt (subst (λ x. TestsMatch x answer) same tested))
+  mapped_met : (items others : List Planned) (answer : Answer (Unit {0})) → IsWalkOf v (side_of g.source items) → IsWalkOf v (side_of g.target others) → TestsMapped g.names g.source items g.target others v answer → Only Any answer
+  mapped_met items others answer is is_too =
+      met IsOfFolder of_map (MapsTo g.names items) (λ (plan : Plan). TestsItems g.source plan.items g.target others v) (λ (plan : Plan). IsMappedPlan g.names items plan.items) Any answer (maps_met items is)
+      (λ plan maps. items_met items plan.items others answer is maps is_too)
 
-  vaults_met : (answer : Answer (Unit {0})) → TestsVaults source target v answer → Only Any answer
+  vaults_met : (answer : Answer (Unit {0})) → TestsVaults g.names g.source g.target v answer → Only Any answer
   vaults_met answer =
-      met own (TestsClean source v) (λ items. Then own (TestsClean target v) (λ others. TestsItems source items target others v)) (IsPlan g.source v done.source.there limits.source) Any answer
-      (clean_met g.source v done.source.there limits.source)
-      (λ items is. met own (TestsClean target v) (λ others. TestsItems source items target others v) (IsPlan g.target v done.target.there limits.target) Any answer
-      (clean_met g.target v done.target.there limits.target) (λ others is_too. items_met items others answer is is_too))
+      both_walked IsOfFolder of_step g.source g.target v (λ items others. TestsMapped g.names g.source items g.target others v) answer done.source.there.good limits.source.items done.target.there.good limits.target.items
+      (λ items others is is_too tested. mapped_met items others answer is is_too tested)
 
-  held_met : (answer : Answer (Unit {0})) → TestsHeld g.source.root g.target.root g.source.pass g.target.pass v answer → Only Any answer
+  held_met : (answer : Answer (Unit {0})) → TestsHeld g.names g.source.root g.target.root from_pass to_pass v answer → Only Any answer
   held_met answer =
-      met own (Opens side.Source g.source.root g.source.pass v) (λ a. Then own (Opens side.Target g.target.root g.target.pass v) (λ b. TestsVaults a b v)) (λ a. a ≡ source) Any answer
-      (opens_met one side.Source g.source.root g.source.pass v g.source.vault done.source.there.loads)
-      (λ a is. met own (Opens side.Target g.target.root g.target.pass v) (λ b. TestsVaults a b v) (λ b. b ≡ target) Any answer
-      (opens_met one side.Target g.target.root g.target.pass v g.target.vault done.target.there.loads)
-      (λ b is_too tested. vaults_met answer (subst₂ (λ (x y : OpenedVault). TestsVaults x y v answer) is is_too tested)))
+      both_open IsOfFolder of_step one g.source g.target v from_pass to_pass (λ a b. TestsVaults g.names a b v) answer (opened.source done.source.there) (opened.target done.target.there) (vaults_met answer)
 
 -- ---- removals
 
@@ -275,7 +187,7 @@ pub record IsRemovable (at : Path) (v : View) : Type 0 where
   pub shallow : IsShallow at v
 
 removal_met : (at : Path) (v : View) → IsRemovable at v → (answer : Answer (Unit {0})) → TestsRemoval at v answer → Only Any answer
-removal_met at v may answer = met of_removal (RemovesAs (from at deepest) v) Passes Any Any answer by_fault (λ done _ is. given Any tt answer tt is)
+removal_met at v may answer = met IsOfFolder of_removal (RemovesAs (from at deepest) v) Passes Any Any answer by_fault (λ done _ is. given IsOfFolder Any tt answer tt is)
   where
     by_fault : (t : Result (Unit {0}) RemovalFault) → RemovesAs (from at deepest) v t → MatchResult t Any (λ why. IsOfFolder (of_removal why))
     by_fault (Ok done) removes = tt
@@ -286,21 +198,15 @@ removal_met at v may answer = met of_removal (RemovesAs (from at deepest) v) Pas
 
 removals_met : (work : Path) (v : View) → IsRemovable (old_path work) v → IsRemovable (stage_path work) v → IsRemovable (new_journal_path work) v → (answer : Answer (Unit {0})) → TestsRemovals work v answer → Only Any answer
 removals_met work v old stage new answer =
-    met own (TestsRemoval (old_path work) v) (λ _. Then own (TestsRemoval (stage_path work) v) (λ _. TestsRemoval (new_journal_path work) v)) Any Any answer (removal_met (old_path work) v old)
-    (λ _ _. met own (TestsRemoval (stage_path work) v) (λ _. TestsRemoval (new_journal_path work) v) Any Any answer (removal_met (stage_path work) v stage)
+    met IsOfFolder own (TestsRemoval (old_path work) v) (λ _. Then own (TestsRemoval (stage_path work) v) (λ _. TestsRemoval (new_journal_path work) v)) Any Any answer (removal_met (old_path work) v old)
+    (λ _ _. met IsOfFolder own (TestsRemoval (stage_path work) v) (λ _. TestsRemoval (new_journal_path work) v) Any Any answer (removal_met (stage_path work) v stage)
     (λ _ _. removal_met (new_journal_path work) v new answer))
 
 -- ---- what stands in the work folder
 
 module _ (old : Bool) (work : Path) (v : View) (folders : HasFolders v) (stands : v (journal_path work) ≢ NoEntry) (is : IsWork old (kinds_in v) work) where
   entries : HasNoForeign old v work
-  entries = elim is.folder [
-    | inl missing ↦ absurd (clash (sym (ap kind_found (folders work (codes "journal") stands)) ∙ missing))
-    | inr there ↦ there.1
-  ]
-    where
-      clash : kind.Dir ≡ kind.Missing → ⊥
-      clash e = cc e
+  entries = none_foreign old v work folders is stands
 
   -- none is special
   entry_ordinary : (name : Part) → v (child work name) ≢ Special
@@ -364,74 +270,61 @@ module _ (work root : Path) (v : View) (apart : AreApart root work) where
 
 -- ---- the call
 
-abbrev AwayAt : Path → (from_pass to_pass : List ℕ) → View → Path → Path → Answer (Unit {0}) → Type 0
-AwayAt work from_pass to_pass v p q answer = ((v p ≡ NoEntry) × (answer ≡ Ok tt)) ⊎ ((v p ≢ NoEntry) × Then own (TestsFree work v) (λ _. TestsHeld p q from_pass to_pass v) answer)
+abbrev AwayAt : Path → (from_pass to_pass : List ℕ) → View → NameMap → Path → Path → Answer (Unit {0}) → Type 0
+AwayAt work from_pass to_pass v rule p q answer = ((v p ≡ NoEntry) × (answer ≡ Ok tt)) ⊎ ((v p ≢ NoEntry) × Then own (TestsFree work v) (λ _. TestsHeld rule p q from_pass to_pass v) answer)
 
 -- what the laws say that are cited
 pub record AreCited : Type 0 where
   pub reads : ReadsBack
   pub one : HaveOneAnswer
-  pub alike : AreAlike
+  pub alike : AreHeldAlike
   pub none_special : HasNoSpecial
 
-module _ (laws : AreCited) (g : Migration) (v : View) (folders : HasFolders v) (separate : guard.IsSeparate g) (limits : PassesNoLimit g v) where
+module _ (laws : AreCited) (g : Migration) (from_pass to_pass : List ℕ) (v : View) (folders : HasFolders v) (opened : AreOpenedBy g from_pass to_pass v) (separate : guard.IsSeparate g) (limits : PassesNoLimit g v) where
   abbrev work : Path
   work = g.work
 
   -- behind the journal
   module _ (has : HasJournal g phase.Done v) (none : HasNoForeign true v work)
-      (away : (answer : Answer (Unit {0})) → AwayAt work g.source.pass g.target.pass v g.source.root g.target.root answer → Only Any answer)
+      (away : (answer : Answer (Unit {0})) → AwayAt work from_pass to_pass v g.names g.source.root g.target.root answer → Only Any answer)
       (removals : (answer : Answer (Unit {0})) → TestsRemovals work (moved_away (v g.source.root) g.source.root work v) answer → Only Any answer) where
     abbrev journal : Journal
     journal = has.journal
 
-    told_met : (answer : Answer Retired) → RetiresTold work g.source.pass g.target.pass journal v answer → Only Any answer
+    told_met : (answer : Answer Retired) → RetiresTold work from_pass to_pass journal v answer → Only Any answer
     told_met answer =
-        met own (TestsAway work g.source.pass g.target.pass journal v) (λ _. Then own (TestsRemovals work (moved_away (v journal.source) journal.source work v)) (λ _. Passes (retired_of journal))) Any Any answer
-        (λ t tested. away t (subst₂ (λ (p q : Path). AwayAt work g.source.pass g.target.pass v p q t) has.tells.source has.tells.target tested))
-        (λ _ _. met own (TestsRemovals work (moved_away (v journal.source) journal.source work v)) (λ _. Passes (retired_of journal)) Any Any answer
-        (λ t tested. removals t (subst (λ (p : Path). TestsRemovals work (moved_away (v p) p work v) t) has.tells.source tested)) (λ _ _ is. given Any (retired_of journal) answer tt is))
+        met IsOfFolder own (TestsAway work from_pass to_pass journal v) (λ _. Then own (TestsRemovals work (moved_away (v journal.source) journal.source work v)) (λ _. Passes (retired_of journal))) Any Any answer
+        (λ t tested. away t (subst (λ (n : NameMap). AwayAt work from_pass to_pass v n g.source.root g.target.root t) has.tells.names
+        (subst₂ (λ (p q : Path). AwayAt work from_pass to_pass v journal.names p q t) has.tells.source has.tells.target tested)))
+        (λ _ _. met IsOfFolder own (TestsRemovals work (moved_away (v journal.source) journal.source work v)) (λ _. Passes (retired_of journal)) Any Any answer
+        (λ t tested. removals t (subst (λ (p : Path). TestsRemovals work (moved_away (v p) p work v) t) has.tells.source tested)) (λ _ _ is. given IsOfFolder Any (retired_of journal) answer tt is))
 
     abbrev folders_next : Journal → Answer Retired → Type 0
-    folders_next k = Then own (TestsApart k.source k.target work) (λ _. Then of_work (TestsEntries true v work) (λ _. RetiresTold work g.source.pass g.target.pass k v))
+    folders_next k = Then of_step (TestsApart k.source k.target work) (λ _. Then of_work (TestsEntries true v work) (λ _. RetiresTold work from_pass to_pass k v))
 
     folders_met : (answer : Answer Retired) → folders_next journal answer → Only Any answer
     folders_met answer =
-        met own (TestsApart journal.source journal.target work) (λ _. Then of_work (TestsEntries true v work) (λ _. RetiresTold work g.source.pass g.target.pass journal v)) Any Any answer
-        (λ t tested. apart_met g.source.root g.target.root work separate.vaults separate.source separate.target t (subst₂ (λ (p q : Path). TestsApart p q work t) has.tells.source has.tells.target tested))
-        (λ _ _. met of_work (TestsEntries true v work) (λ _. RetiresTold work g.source.pass g.target.pass journal v) Any Any answer (entries_met v work none) (λ _ _. told_met answer))
+        met IsOfFolder of_step (TestsApart journal.source journal.target work) (λ _. Then of_work (TestsEntries true v work) (λ _. RetiresTold work from_pass to_pass journal v)) Any Any answer
+        (λ t tested. apart_met (λ why. IsOfFolder (of_step why)) g.source.root g.target.root work separate.vaults separate.source separate.target t (subst₂ (λ (p q : Path). TestsApart p q work t) has.tells.source has.tells.target tested))
+        (λ _ _. met IsOfFolder of_work (TestsEntries true v work) (λ _. RetiresTold work from_pass to_pass journal v) Any Any answer (entries_met (λ why. IsOfFolder (of_work why)) true v work none) (λ _ _. told_met answer))
 
-    all_met : (answer : Answer Retired) → Retires work g.source.pass g.target.pass v answer → Only Any answer
+    all_met : (answer : Answer Retired) → Retires work from_pass to_pass v answer → Only Any answer
     all_met answer =
-        met own (ReadsDone work v) folders_next (λ k. k ≡ journal) Any answer (read_met laws.reads work v journal has.is has.in_phase has.stands)
+        met IsOfFolder own (ReadsDone work v) folders_next (λ k. k ≡ journal) Any answer (read_met laws.reads work v journal has.is has.in_phase has.stands)
         (λ k same tested. folders_met answer (subst (λ x. folders_next x answer) same tested))
 
   journal_there : HasJournal g phase.Done v → v (journal_path work) ≢ NoEntry
   journal_there has = not_missing work has.journal v has.stands
 
-  -- what isn't foreign without `old` isn't with it
-  with_old : HasNoForeign false v work → HasNoForeign true v work
-  with_old none name = by_kind (kind_found (v (child work name))) (none name)
-    where
-      by_kind : (k : Kind) → ¬ IsTrue (is_foreign false name k) → ¬ IsTrue (is_foreign true name k)
-      by_kind kind.Missing isnt foreign = isnt foreign
-      by_kind kind.File isnt foreign = isnt foreign
-      by_kind kind.Other isnt foreign = isnt foreign
-      by_kind kind.Dir isnt foreign = by_name (bytes_eq name (codes "stage")) (bytes_eq name (codes "old")) isnt foreign
-        where
-          by_name : (stage old : Bool) → ¬ IsTrue (not (stage || (false && old))) → ¬ IsTrue (not (stage || (true && old)))
-          by_name true old isnt foreign = isnt foreign
-          by_name false old isnt foreign = isnt refl
-
   -- done, with the source there
-  by_done : IsDone g v → IsWork false (kinds_in v) work → (answer : Answer Retired) → Retires work g.source.pass g.target.pass v answer → Only Any answer
-  by_done done is = all_met done.journal (with_old none) away removals
+  by_done : IsDone g v → IsWork false (kinds_in v) work → (answer : Answer Retired) → Retires work from_pass to_pass v answer → Only Any answer
+  by_done done is = all_met done.journal (with_old v work none) away removals
     where
       stands : v (journal_path work) ≢ NoEntry
       stands = journal_there done.journal
 
       none : HasNoForeign false v work
-      none = entries false work v folders stands is
+      none = none_foreign false v work folders is stands
 
       root_there : v g.source.root ≡ Folder
       root_there = ap v (sym (append-nil g.source.root)) ∙ done.source.there.good.orderly.root_there
@@ -442,21 +335,12 @@ module _ (laws : AreCited) (g : Migration) (v : View) (folders : HasFolders v) (
           clash : Folder ≡ NoEntry → ⊥
           clash e = cc e
 
-      old_free : v (old_path work) ≡ NoEntry
-      old_free = by_found (v (old_path work)) refl
-        where
-          by_found : (x : Found) → v (old_path work) ≡ x → v (old_path work) ≡ NoEntry
-          by_found NoEntry e = e
-          by_found Folder e = absurd (none (codes "old") (ap (λ x. is_foreign false (codes "old") (kind_found x)) e))
-          by_found (FileOf bytes) e = absurd (none (codes "old") (ap (λ x. is_foreign false (codes "old") (kind_found x)) e))
-          by_found Special e = absurd (none (codes "old") (ap (λ x. is_foreign false (codes "old") (kind_found x)) e))
-
-      away : (answer : Answer (Unit {0})) → AwayAt work g.source.pass g.target.pass v g.source.root g.target.root answer → Only Any answer
+      away : (answer : Answer (Unit {0})) → AwayAt work from_pass to_pass v g.names g.source.root g.target.root answer → Only Any answer
       away answer (inl gone) = absurd (is_there gone.0)
       away answer (inr there) =
-          met own (TestsFree work v) (λ _. TestsHeld g.source.root g.target.root g.source.pass g.target.pass v) Any Any answer
-          (λ t. only_or (v (old_path work) ≡ NoEntry) (v (old_path work) ≢ NoEntry) (Work (works.Foreign (old_path work))) t (λ taken. taken old_free))
-          (λ _ _. held_met laws.one laws.alike g v done limits answer) there.1
+          met IsOfFolder own (TestsFree work v) (λ _. TestsHeld g.names g.source.root g.target.root from_pass to_pass v) Any Any answer
+          (λ t. only_or IsOfFolder (v (old_path work) ≡ NoEntry) (v (old_path work) ≢ NoEntry) (Work (works.Foreign (old_path work))) t (λ taken. taken (old_free v work none)))
+          (λ _ _. held_met laws.one laws.alike g from_pass to_pass v opened done limits answer) there.1
 
       removals : (answer : Answer (Unit {0})) → TestsRemovals work (moved_away (v g.source.root) g.source.root work v) answer → Only Any answer
       removals answer tested =
@@ -467,14 +351,14 @@ module _ (laws : AreCited) (g : Migration) (v : View) (folders : HasFolders v) (
           (subst (λ (x : View). TestsRemovals work x answer) (sym (away_there g.source.root work v (v g.source.root) is_there)) tested)
 
   -- retired, while the journal stands
-  by_retired : v g.source.root ≡ NoEntry → HasJournal g phase.Done v → IsWork true (kinds_in v) work → (answer : Answer Retired) → Retires work g.source.pass g.target.pass v answer → Only Any answer
-  by_retired gone has is = all_met has (entries true work v folders stands is) away removals
+  by_retired : v g.source.root ≡ NoEntry → HasJournal g phase.Done v → IsWork true (kinds_in v) work → (answer : Answer Retired) → Retires work from_pass to_pass v answer → Only Any answer
+  by_retired gone has is = all_met has (none_foreign true v work folders is stands) away removals
     where
       stands : v (journal_path work) ≢ NoEntry
       stands = journal_there has
 
-      away : (answer : Answer (Unit {0})) → AwayAt work g.source.pass g.target.pass v g.source.root g.target.root answer → Only Any answer
-      away answer (inl passed) = given Any tt answer tt passed.1
+      away : (answer : Answer (Unit {0})) → AwayAt work from_pass to_pass v g.names g.source.root g.target.root answer → Only Any answer
+      away answer (inl passed) = given IsOfFolder Any tt answer tt passed.1
       away answer (inr there) = absurd (there.0 gone)
 
       removals : (answer : Answer (Unit {0})) → TestsRemovals work (moved_away (v g.source.root) g.source.root work v) answer → Only Any answer
@@ -483,11 +367,11 @@ module _ (laws : AreCited) (g : Migration) (v : View) (folders : HasFolders v) (
           (subst (λ (x : Found). TestsRemovals work (moved_away x g.source.root work v) answer) gone tested)
 
   by_last : v g.source.root ≡ NoEntry → (last : LastJournal g v) → IsTrue (has_old_by g v last) → IsWork (has_old_by g v last) (kinds_in v) work → (answer : Answer Retired)
-      → Retires work g.source.pass g.target.pass v answer → Only Any answer
+      → Retires work from_pass to_pass v answer → Only Any answer
   by_last gone (Stands has) stands is = by_retired gone has is
   by_last gone (Gone none) stands is = absurd (cc stands)
 
-  by_case : (case : Case g v) → IsAtEnd g v case → IsWork (has_old g v case) (kinds_in v) work → (answer : Answer Retired) → Retires work g.source.pass g.target.pass v answer → Only Any answer
+  by_case : (case : Case g v) → IsAtEnd g v case → IsWork (has_old g v case) (kinds_in v) work → (answer : Answer Retired) → Retires work from_pass to_pass v answer → Only Any answer
   by_case (guard.NotBegun x) end is = absurd end
   by_case (guard.Building x) end is = absurd end
   by_case (guard.Done x) end is = by_done x is
@@ -497,5 +381,7 @@ if_only : {X : Type 0} (answer : Answer X) → Only Any answer → IfErr answer 
 if_only (Ok x) only = tt
 if_only (Err fault) only = only
 
-pub goes_through : AreCited → (g : Migration) (v : View) (answer : Answer Retired) → HasFolders v → CanRetire g v → Retires g.work g.source.pass g.target.pass v answer → IfErr answer IsOfFolder
-goes_through laws g v answer folders can tested = if_only answer (by_case laws g v folders can.separate can.limits can.guarded.case can.end can.guarded.work answer tested)
+pub goes_through : AreCited → (g : Migration) (from_pass to_pass : List ℕ) (v : View) (answer : Answer Retired) → HasFolders v → AreOpenedBy g from_pass to_pass v → CanRetire g v → Retires g.work from_pass to_pass v answer
+    → IfErr answer IsOfFolder
+goes_through laws g from_pass to_pass v answer folders opened can tested =
+    if_only answer (by_case laws g from_pass to_pass v folders opened can.separate can.limits can.guarded.case can.end can.guarded.work answer tested)

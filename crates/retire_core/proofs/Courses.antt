@@ -13,14 +13,14 @@ use Rattle.folder_spec.specs.Region.{IsAsBefore, apart_from, apart_from_both, at
 use Rattle.folder_spec.specs.Seen.{IfSeen, IsSeen, seen}
 use Rattle.folder_spec.specs.State.{State, IsSound, present}
 use Rattle.folder_spec.specs.View.{FileOf, Folder, Found, NoEntry, Special, View, found, kind_found}
-use Rattle.migrate_core.specs.Leading.{KeepsGuarded}
 use Rattle.move_journal.specs.Journal.{IsJournal}
 use Rattle.move_journal.specs.declared.journal.Journal.{Journal}
 use Rattle.move_journal.specs.declared.journal.Phase.TheVariants as phase
 use Rattle.move_journal.specs.Reading.{StandsIn}
-use Rattle.tree_match.proofs.Guards.{ImagesShow, RootsAreAlike}
-use Rattle.tree_match.specs.Alone.{StaysGuarded}
-use Rattle.tree_match.specs.Guard.{AreApart, Guarded, Migration, old_path}
+use Rattle.migration_spec.proofs.Guards.{ImagesShow, RootsAreAlike}
+use Rattle.migration_spec.specs.Alone.{KeepsGuarded, StaysGuarded}
+use Rattle.migration_spec.specs.Guard.{Guarded, Migration, old_path}
+use Rattle.work_folder.specs.Apart.{AreApart}
 use Rattle.vault_write.proofs.Runs.{went_with}
 use Rattle.work_folder.specs.Entries.{HasNoForeign, is_foreign, journal_path}
 use Rattle.work_folder.specs.Looking.{TestsEntries}

@@ -17,9 +17,9 @@ use Rattle.folder_spec.specs.State.{State, IsSound, present}
 use Rattle.folder_spec.specs.View.{NoEntry}
 use Rattle.folder_staging.specs.Removal.{IsRemoving, IsWithin, Reach, Removes, RemovesWithin, deepest, from}
 use Rattle.folder_staging.specs.declared.removal.RemovalFault.{RemovalFault}
-use Rattle.tree_match.proofs.Guards.{ImagesShow, RootsAreAlike}
-use Rattle.tree_match.specs.Alone.{StaysGuarded}
-use Rattle.tree_match.specs.Guard.{Migration, Guarded, old_path}
+use Rattle.migration_spec.proofs.Guards.{ImagesShow, RootsAreAlike}
+use Rattle.migration_spec.specs.Alone.{StaysGuarded}
+use Rattle.migration_spec.specs.Guard.{Migration, Guarded, old_path}
 use Rattle.work_folder.specs.Entries.{journal_path}
 use Rattle.retire_core.proofs.RetiredTables.{removing, retiring_guarded, same_nodes}
 use Rattle.retire_core.specs.Guarding.{IsAtRest, IsDoneAtRest, IsRetiredTable, IsRetiring, KeepsDone, KeepsFromRest, KeepsRetiring}

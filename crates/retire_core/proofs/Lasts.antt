@@ -6,8 +6,8 @@ use Rattle.folder_spec.specs.Event.{Changes, RemoveDir, RemoveFile, Settle, Told
 use Rattle.folder_spec.specs.Path.{Path, below, child}
 use Rattle.folder_spec.specs.Region.{at_or_below}
 use Rattle.folder_spec.specs.Seen.{IfSeen, IsSeen, seen}
-use Rattle.tree_match.proofs.Guards.{RootsAreAlike}
-use Rattle.tree_match.specs.Guard.{Migration, old_path}
+use Rattle.migration_spec.proofs.Guards.{RootsAreAlike}
+use Rattle.migration_spec.specs.Guard.{Migration, old_path}
 use Rattle.work_folder.specs.Entries.{journal_path}
 use Rattle.retire_core.proofs.Cleared.{inside_apart, rest_call}
 use Rattle.retire_core.proofs.Going.{behind_inside, nothing_seen, removed_dir, removed_file, retiring_call, settled_retiring}

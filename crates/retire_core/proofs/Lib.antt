@@ -1,4 +1,3 @@
-mod Histories
 mod RetiredTables
 mod CleanVaults
 mod Renamed

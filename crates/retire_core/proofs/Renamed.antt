@@ -12,16 +12,16 @@ use Rattle.folder_spec.specs.declared.Kind.TheVariants as kind
 use Rattle.folder_spec.specs.declared.Spot.{Spot}
 use Rattle.folder_spec.specs.declared.Spot.TheVariants.{Nothing, FileNode}
 use Rattle.move_journal.specs.declared.journal.Phase.TheVariants as phase
-use Rattle.tree_match.proofs.Guards.{ImagesShow, RootsAreAlike, guarded_by, ShowsCase, journal_alike}
-use Rattle.tree_match.proofs.Kept.{apart_below, behind_none, is_below, kept_is}
-use Rattle.tree_match.specs.Guard as guard
-use Rattle.tree_match.specs.Guard.{Migration, Guarded, IsDone, IsGuarded, IsRetired, IsWork, Stands, has_old, is_kept, kinds_in, old_path}
+use Rattle.migration_spec.proofs.Guards.{ImagesShow, RootsAreAlike, guarded_by, ShowsCase, journal_alike, target_alike}
+use Rattle.migration_spec.proofs.Kept.{apart_below, behind_none, is_below, kept_is}
+use Rattle.migration_spec.specs.Guard as guard
+use Rattle.migration_spec.specs.Guard.{Migration, Guarded, IsGuarded, IsRetired, IsWork, Stands, has_old, is_kept, kinds_in, old_path}
 use Rattle.vault_spec.specs.Alike.{IsOrderly}
 use Rattle.vault_spec.specs.Findings.{IsClean}
 use Rattle.vault_spec.specs.Vault.{Vault, format_of}
 use Rattle.content_writing.specs.Making.{is_inside}
 use Rattle.work_folder.specs.Entries.{is_foreign, journal_path, stage_path}
-use Rattle.retire_core.proofs.RetiredTables.{kinds_in_table, only_table, rest_seen, same_foreign, same_nodes, target_alike}
+use Rattle.retire_core.proofs.RetiredTables.{kinds_in_table, only_table, rest_seen, same_foreign, same_nodes}
 use Rattle.retire_core.specs.Guarding.{IsDoneAtRest, IsRetiredTable, IsRetiring}
 
 -- below the root of a clean vault are only files and directories

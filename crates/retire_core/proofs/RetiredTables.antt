@@ -19,12 +19,10 @@ use Rattle.move_journal.specs.declared.journal.Journal.{Journal}
 use Rattle.move_journal.specs.declared.journal.Phase.TheVariants as phase
 use Rattle.move_journal.proofs.Standing.{HaveOneJournal, not_missing}
 use Rattle.move_journal.specs.Reading.{StandsIn}
-use Rattle.tree_match.proofs.Guards.{ImagesShow, RootsAreAlike, guarded_by, journal_alike, kind_of_found, kinds_of, there_alike}
-use Rattle.tree_match.proofs.Kept.{apart_below, table_image}
-use Rattle.tree_match.specs.Guard as guard
-use Rattle.tree_match.specs.Guard.{Migration, Building, Case, Gone, Guarded, HasJournal, HoldsTarget, IsDone, IsGuarded, IsRetired, IsSeparate, IsWork, LastJournal, NotBegun, Retired, Stands, has_old, has_old_by, is_kept, kinds_in, old_path}
-use Rattle.vault_spec.specs.Opens.{tree}
-use Rattle.vault_spec.specs.Vault.{format_of}
+use Rattle.migration_spec.proofs.Guards.{ImagesShow, RootsAreAlike, guarded_by, journal_alike, kind_of_found, kinds_of, target_alike}
+use Rattle.migration_spec.proofs.Kept.{apart_below, table_image}
+use Rattle.migration_spec.specs.Guard as guard
+use Rattle.migration_spec.specs.Guard.{Migration, Building, Case, Gone, Guarded, IsDone, IsGuarded, IsRetired, IsWork, LastJournal, NotBegun, Retired, Stands, has_old, has_old_by, kinds_in, old_path}
 use Rattle.work_folder.specs.Entries.{is_foreign, journal_path}
 use Rattle.retire_core.specs.Guarding.{IsAtRest, IsRetiredTable, IsRetiring}
 
@@ -94,13 +92,6 @@ retiring_guarded alike shown g s is = guarded_by alike shown g s is.separate (λ
       case = Retired x.retired;
       work = subst (λ k. IsWork (has_old_by g (view_in s t) x.retired.journal) k g.work) (kinds_in_table s t) x.work;
     })
-
--- what the target holds, where the same stands there
-pub target_alike : (g : Migration) (v w : View) → under g.target.root w ≡ under g.target.root v → HoldsTarget g w → HoldsTarget g v
-target_alike g v w same is = record {
-  there = there_alike g.target v w same is.there;
-  all = record { held = λ path. ap (λ u. tree (format_of g.target.vault) u path) (sym same) ∙ is.all.held path; whole = is.all.whole };
-}
 
 -- ---- at rest
 

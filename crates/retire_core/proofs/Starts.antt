@@ -14,8 +14,8 @@ use Rattle.move_journal.specs.declared.journal.Phase.{Phase}
 use Rattle.move_journal.specs.declared.journal.Phase.TheVariants as phase
 use Rattle.move_journal.specs.Reading.{StandsIn}
 use Rattle.move_journal.proofs.Standing.{HaveOneJournal, not_missing}
-use Rattle.tree_match.specs.Guard as guard
-use Rattle.tree_match.specs.Guard.{Migration, Building, Case, Gone, HasJournal, IsDone, LastJournal, NotBegun, Retired, Stands}
+use Rattle.migration_spec.specs.Guard as guard
+use Rattle.migration_spec.specs.Guard.{Migration, Building, Case, Gone, HasJournal, LastJournal, NotBegun, Retired, Stands}
 use Rattle.retire_core.proofs.RetiredTables.{rest_done, rest_retired, rest_seen}
 use Rattle.retire_core.specs.Clearing.{MovesHeldOnly}
 use Rattle.retire_core.specs.Guarding.{ComesFromDone, ComesTo, IsAtRest, IsDoneAtRest, KeepsDone, KeepsFromRest}

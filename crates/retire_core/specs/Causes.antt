@@ -2,33 +2,33 @@
 -- source is retired.
 use Rattle.std.specs.Prelude.{◌≡◌, ◌≢◌, ◌⊎◌, ℕ, List, true, Result, Ok, Err}
 use Rattle.folder_spec.specs.Path.{Path}
-use Rattle.folder_spec.specs.Seen.{moved_view, under}
+use Rattle.folder_spec.specs.Seen.{moved_view}
 use Rattle.folder_spec.specs.View.{Found, NoEntry, View}
 use Rattle.folder_staging.specs.Removal.{RemovesAs, deepest, from}
-use Rattle.migrate_core.specs.Causes.{Compares, PassesOr, Then, Walks, own, refused_at}
-use Rattle.migrate_core.specs.Moved.{opened_in}
+use Rattle.migration_sides.specs.Causes.{Opens, TestsApart, WalksBoth}
+use Rattle.migration_sides.specs.Tests.{PassesOr, Then, UnlessBy, own}
+use Rattle.plain_tree.specs.declared.name_map.NameMap.{NameMap}
+use Rattle.tree_match.specs.Mapping.{MapsTo}
+use Rattle.tree_match.specs.Trees.{Compares}
 use Rattle.move_journal.specs.Reading.{ReadsAs, journal_bytes}
 use Rattle.move_journal.specs.declared.journal.Journal.{Journal}
 use Rattle.move_journal.specs.declared.journal.Phase.{Phase}
 use Rattle.move_journal.specs.declared.journal.Phase.TheVariants as phase
-use Rattle.tree_match.specs.Guard.{AreApart, old_path}
+use Rattle.migration_spec.specs.Guard.{old_path}
 use Rattle.tree_match.specs.declared.answer.How.{How}
 use Rattle.tree_match.specs.declared.answer.How.TheVariants as how
 use Rattle.tree_match.specs.declared.answer.Match.{Match}
 use Rattle.tree_match.specs.declared.answer.Match.TheVariants.{Same, Contained, Differs}
-use Rattle.tree_match.specs.declared.answer.Side.{Side}
-use Rattle.tree_match.specs.declared.answer.Side.TheVariants.{Source, Target}
 use Rattle.tree_match.specs.declared.answer.Where.{Where}
 use Rattle.tree_match.specs.declared.answer.Where.TheVariants as place
 use Rattle.vault_spec.specs.Opened.{OpenedVault}
 use Rattle.vault_spec.specs.Plan.{Planned}
-use Rattle.vault_spec.specs.Vault.{LoadRefusal, Loads}
 use Rattle.work_folder.specs.Entries.{new_journal_path, stage_path}
 use Rattle.work_folder.specs.Looking.{TestsEntries}
 use Rattle.work_folder.specs.declared.fault.WorkFault.TheVariants.{Foreign}
-use Rattle.retire_core.specs.Faults.{of_journal, of_match, of_removal, of_walk, of_work}
+use Rattle.retire_core.specs.Faults.{of_journal, of_map, of_match, of_removal, of_step, of_work}
 use Rattle.retire_core.specs.declared.fault.RetireFault.{RetireFault}
-use Rattle.retire_core.specs.declared.fault.RetireFault.TheVariants.{Work, Unfinished, Overlap, Load, Differ, Failed, NoMemory}
+use Rattle.retire_core.specs.declared.fault.RetireFault.TheVariants.{Work, Unfinished, Differ, Failed, NoMemory}
 use Rattle.retire_core.specs.declared.retiring.Retired.{Retired}
 
 -- what a call may answer of which one test is a part
@@ -37,7 +37,7 @@ Answer X = Result X RetireFault
 
 -- the folder may always fail, and memory run out
 abbrev pub Unless : {X : Type 0} → Answer X → Type 0 → Type 0
-Unless answer P = (answer ≡ Err Failed) ⊎ ((answer ≡ Err NoMemory) ⊎ P)
+Unless answer P = UnlessBy Failed NoMemory answer P
 
 -- the folder failed, or memory ran out
 abbrev pub IsOfFolder : RetireFault → Type 0
@@ -47,7 +47,7 @@ IsOfFolder fault = (fault ≡ Failed) ⊎ (fault ≡ NoMemory)
 abbrev pub Passes : {X : Type 0} → X → Answer X → Type 0
 Passes value answer = answer ≡ Ok value
 
--- ---- the journal, and the folders
+-- ---- the journal
 
 -- it says that all is done
 abbrev pub TestsPhase : Journal → Phase → Answer Journal → Type 0
@@ -58,25 +58,7 @@ TestsPhase journal phase.Done answer = answer ≡ Ok journal
 abbrev pub ReadsDone : Path → View → Answer Journal → Type 0
 ReadsDone work v = Then of_journal (ReadsAs (journal_bytes v work)) (λ journal. TestsPhase journal journal.phase)
 
-abbrev pub TestsPair : Path → Path → Answer (Unit {0}) → Type 0
-TestsPair p q = PassesOr (AreApart p q) (¬ AreApart p q) (Overlap p q)
-
--- no two of the three folders overlap
-abbrev pub TestsApart : Path → Path → Path → Answer (Unit {0}) → Type 0
-TestsApart from to work = Then own (TestsPair from to) (λ _. Then own (TestsPair from work) (λ _. TestsPair to work))
-
 -- ---- whether the target holds the source
-
-abbrev pub of_refusal : Side → Path → LoadRefusal → RetireFault
-of_refusal side root refusal = Load side (refused_at root refusal)
-
--- the root and its passphrase are a vault
-abbrev pub Opens : Side → Path → List ℕ → View → Answer OpenedVault → Type 0
-Opens side root pass v = Then (of_refusal side root) (Loads (under root v) pass) (λ vault. Passes (opened_in root vault))
-
--- the vault passes no limit and is clean, and these are its items
-abbrev pub TestsClean : OpenedVault → View → Answer (List Planned) → Type 0
-TestsClean a v = Then of_walk (Walks a v) Passes
 
 -- how an item of the source isn't so in the target
 abbrev pub where_of : How → Where
@@ -84,7 +66,7 @@ where_of how.Missing = place.Missing
 where_of how.Kind = place.Kind
 where_of how.Content = place.Content
 
--- each item of the source is so in the target, which may have more
+-- each item of the source is so in the target at its mapped path, which may have more
 abbrev pub TestsMatch : Match → Answer (Unit {0}) → Type 0
 TestsMatch Same answer = answer ≡ Ok tt
 TestsMatch (Contained path) answer = answer ≡ Ok tt
@@ -94,17 +76,17 @@ TestsMatch (Differs path how) answer = answer ≡ Err (Differ path (where_of how
 abbrev pub TestsItems : OpenedVault → List Planned → OpenedVault → List Planned → View → Answer (Unit {0}) → Type 0
 TestsItems source items target others v = Then of_match (Compares source items target others v) TestsMatch
 
+-- each mapped name is a name, no two items come to one path, and so it is
+abbrev pub TestsMapped : NameMap → OpenedVault → List Planned → OpenedVault → List Planned → View → Answer (Unit {0}) → Type 0
+TestsMapped rule source items target others v = Then of_map (MapsTo rule items) (λ mapped. TestsItems source mapped.items target others v)
+
 -- both are clean, and so it is
-abbrev pub TestsVaults : OpenedVault → OpenedVault → View → Answer (Unit {0}) → Type 0
-TestsVaults source target v =
-    Then own (TestsClean source v) (λ items.
-    Then own (TestsClean target v) (λ others. TestsItems source items target others v))
+abbrev pub TestsVaults : NameMap → OpenedVault → OpenedVault → View → Answer (Unit {0}) → Type 0
+TestsVaults rule source target v = WalksBoth of_step source target v (λ items others. TestsMapped rule source items target others v)
 
 -- both open, and so it is
-abbrev pub TestsHeld : (from to : Path) (from_pass to_pass : List ℕ) → View → Answer (Unit {0}) → Type 0
-TestsHeld from to from_pass to_pass v =
-    Then own (Opens Source from from_pass v) (λ source.
-    Then own (Opens Target to to_pass v) (λ target. TestsVaults source target v))
+abbrev pub TestsHeld : NameMap → (from to : Path) (from_pass to_pass : List ℕ) → View → Answer (Unit {0}) → Type 0
+TestsHeld rule from to from_pass to_pass v = Opens of_step v from to from_pass to_pass (λ source target. TestsVaults rule source target v)
 
 -- ---- moving the source into the work folder
 
@@ -116,7 +98,7 @@ TestsFree work v = PassesOr (v (old_path work) ≡ NoEntry) (v (old_path work) �
 abbrev pub TestsAway : Path → (from_pass to_pass : List ℕ) → Journal → View → Answer (Unit {0}) → Type 0
 TestsAway work from_pass to_pass journal v answer =
     ((v journal.source ≡ NoEntry) × (answer ≡ Ok tt))
-    ⊎ ((v journal.source ≢ NoEntry) × Then own (TestsFree work v) (λ _. TestsHeld journal.source journal.target from_pass to_pass v) answer)
+    ⊎ ((v journal.source ≢ NoEntry) × Then own (TestsFree work v) (λ _. TestsHeld journal.names journal.source journal.target from_pass to_pass v) answer)
 
 -- what is seen then, by what was at the source
 abbrev pub moved_away : Found → Path → Path → View → View
@@ -151,7 +133,7 @@ RetiresTold work from_pass to_pass journal v =
 abbrev pub Retires : Path → (from_pass to_pass : List ℕ) → View → Answer Retired → Type 0
 Retires work from_pass to_pass v =
     Then own (ReadsDone work v) (λ journal.
-    Then own (TestsApart journal.source journal.target work) (λ _.
+    Then of_step (TestsApart journal.source journal.target work) (λ _.
     Then of_work (TestsEntries true v work) (λ _. RetiresTold work from_pass to_pass journal v)))
 
 -- ---- refusals of a part (private contracts only)

@@ -7,7 +7,7 @@ use Rattle.folder_spec.specs.Region.{IsAsBefore, apart_from, apart_from_both, at
 use Rattle.folder_spec.specs.Seen.{IfSeen, IsSeen, ShowsFile, seen}
 use Rattle.folder_spec.specs.State.{State}
 use Rattle.folder_spec.specs.View.{Folder, NoEntry, View}
-use Rattle.tree_match.specs.Guard.{old_path}
+use Rattle.migration_spec.specs.Guard.{old_path}
 use Rattle.work_folder.specs.Entries.{journal_path}
 use Rattle.retire_core.specs.Retiring.{Retiring, IsHeld}
 

@@ -4,17 +4,18 @@ use Rattle.chunk_files.specs.Reading.{Wanting}
 use Rattle.folder_spec.specs.Path.{Path}
 use Rattle.folder_spec.specs.Seen.{under}
 use Rattle.folder_spec.specs.View.{View}
-use Rattle.migrate_core.specs.Completing.{IsShallow}
+use Rattle.migration_sides.specs.Sides.{IsShallow}
 use Rattle.plain_tree.specs.Names as plain
 use Rattle.tree_match.specs.Comparing.{content_at}
-use Rattle.tree_match.specs.Guard.{Migration, VaultAt, Case, NotBegun, Building, Done, Retired, IsGuarded, IsSeparate, has_old_by, old_path}
+use Rattle.migration_spec.specs.Guard.{Migration, Case, NotBegun, Building, Done, Retired, IsGuarded, IsSeparate, has_old_by, old_path}
+use Rattle.vault_spec.specs.Opened.{OpenedVault}
 use Rattle.vault_spec.specs.Standing.{File, standing}
 use Rattle.vault_spec.specs.Vault.{format_of}
 use Rattle.vault_walk.specs.Surveyed.{IsWithin}
 use Rattle.work_folder.specs.Entries.{stage_path}
 
 -- the vault passes no limit: neither in the number and the depth of its items, nor by the content of a file
-pub record KeepsLimits (a : VaultAt) (v : View) : Type 0 where
+pub record KeepsLimits (a : OpenedVault) (v : View) : Type 0 where
   pub items : IsWithin (format_of a.vault) (under a.root v)
   pub contents : (path : plain.Path) (at : Path) → standing (format_of a.vault) (under a.root v) path ≡ File at → (content_at (format_of a.vault).content v (a.root ++ at)).ending ≢ Wanting
 

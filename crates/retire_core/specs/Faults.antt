@@ -7,15 +7,18 @@ use Rattle.folder_staging.specs.declared.removal.RemovalFault.{RemovalFault}
 use Rattle.folder_staging.specs.declared.removal.RemovalFault.TheVariants as removal
 use Rattle.move_journal.specs.declared.journal.JournalFault.{JournalFault}
 use Rattle.move_journal.specs.declared.journal.JournalFault.TheVariants as journal
+use Rattle.migration_sides.specs.declared.fault.StepFault.{StepFault}
+use Rattle.migration_sides.specs.declared.fault.StepFault.TheVariants as step
+use Rattle.tree_match.specs.declared.answer.MapFault.{MapFault}
+use Rattle.tree_match.specs.declared.answer.MapFault.TheVariants as map
 use Rattle.tree_match.specs.declared.answer.MatchFault.{MatchFault}
 use Rattle.tree_match.specs.declared.answer.MatchFault.TheVariants as match
 use Rattle.vault_read.specs.declared.fault.LoadFault.TheVariants as load
-use Rattle.vault_walk.specs.declared.fault.WalkFault.{WalkFault}
 use Rattle.vault_walk.specs.declared.fault.WalkFault.TheVariants as walk
 use Rattle.work_folder.specs.declared.fault.WorkFault.{WorkFault}
 use Rattle.work_folder.specs.declared.fault.WorkFault.TheVariants as work
 use Rattle.retire_core.specs.declared.fault.RetireFault.{RetireFault}
-use Rattle.retire_core.specs.declared.fault.RetireFault.TheVariants.{Work, Journal, Unfinished, Load, Walk, Match, Depth, Failed, NoMemory}
+use Rattle.retire_core.specs.declared.fault.RetireFault.TheVariants.{Work, Journal, Unfinished, Overlap, Load, Walk, NotAllowed, Meet, Match, Depth, Failed, NoMemory}
 
 abbrev pub of_folder : FolderFault → RetireFault
 of_folder folder.Failed = Failed
@@ -38,10 +41,17 @@ of_journal journal.Failed = Failed
 of_journal journal.NoMemory = NoMemory
 of_journal fault = Journal fault
 
-abbrev pub of_walk : WalkFault → RetireFault
-of_walk walk.Failed = Failed
-of_walk walk.NoMemory = NoMemory
-of_walk fault = Walk fault
+abbrev pub of_step : StepFault → RetireFault
+of_step (step.Overlap first second) = Overlap first second
+of_step (step.Load side fault) = Load side fault
+of_step (step.Walk fault) = Walk fault
+of_step step.Failed = Failed
+of_step step.NoMemory = NoMemory
+
+abbrev pub of_map : MapFault → RetireFault
+of_map (map.NotAName path) = NotAllowed path
+of_map (map.Meet one other) = Meet one other
+of_map map.NoMemory = NoMemory
 
 abbrev pub of_match : MatchFault → RetireFault
 of_match match.Failed = Failed

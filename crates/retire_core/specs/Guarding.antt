@@ -7,8 +7,8 @@ use Rattle.folder_spec.specs.Path.{Path}
 use Rattle.folder_spec.specs.Seen.{seen}
 use Rattle.folder_spec.specs.State.{State, Table, IsClean, IsSound, IsTableOf}
 use Rattle.folder_spec.specs.View.{view_in}
-use Rattle.tree_match.specs.Alone.{StaysGuarded}
-use Rattle.tree_match.specs.Guard.{Migration, Guarded, IsDone, IsRetired, IsSeparate, IsWork, has_old_by, is_kept, kinds_in}
+use Rattle.migration_spec.specs.Alone.{StaysGuarded}
+use Rattle.migration_spec.specs.Guard.{Migration, Guarded, IsDone, IsRetired, IsSeparate, IsWork, has_old_by, is_kept, kinds_in}
 
 -- the migration is guarded, and no directory change is pending
 pub record IsAtRest (g : Migration) (s : State) : Type 0 where

@@ -1,7 +1,6 @@
--- Retiring a source: what is removed and when, why it is refused, how the faults are told, and histories.
+-- Retiring a source: what is removed and when, why it is refused, and how the faults are told.
 pub mod Faults
 pub mod Retiring
-pub mod History
 pub mod Guarding
 pub mod Clearing
 pub mod Causes

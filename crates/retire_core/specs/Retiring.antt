@@ -7,33 +7,36 @@ use Rattle.folder_spec.specs.Region.{IsAsBefore, apart_from_both, at_or_below}
 use Rattle.folder_spec.specs.Seen.{IfSeen, seen, under}
 use Rattle.folder_spec.specs.State.{State}
 use Rattle.folder_spec.specs.View.{NoEntry, View}
-use Rattle.migrate_core.specs.Moved.{opened_in}
+use Rattle.migration_sides.specs.Sides.{opened_in}
 use Rattle.move_journal.specs.Journal.{IsJournal}
 use Rattle.move_journal.specs.declared.journal.Journal.{Journal}
 use Rattle.move_journal.specs.declared.journal.Phase.{Phase}
 use Rattle.move_journal.specs.declared.journal.Phase.TheVariants.{Done}
 use Rattle.move_journal.specs.Reading.{StandsIn}
-use Rattle.tree_match.specs.Guard.{IsPartOf, old_path}
+use Rattle.migration_spec.specs.Guard.{old_path}
+use Rattle.mapped_trees.specs.Trees.{IsHeldIn}
+use Rattle.plain_tree.specs.declared.name_map.NameMap.{NameMap}
 use Rattle.vault_read.specs.Laws.{HasOwnFolders}
 use Rattle.vault_spec.specs.Opened.{OpenedVault}
 use Rattle.vault_spec.specs.Opens.{tree}
 use Rattle.vault_spec.specs.Vault.{Vault, IsVault, format_of}
 
--- Where a source and a target stand, through which work folder, by which passphrases they open, and how far the journal says that the
--- migration has come.
+-- Where a source and a target stand, through which work folder and by which rule for names, by which passphrases they open, and how far the
+-- journal says that the migration has come.
 pub record Retiring : Type 0 where
   pub from : Path
   pub to : Path
   pub work : Path
+  pub names : NameMap
   pub from_pass : List ℕ
   pub to_pass : List ℕ
   pub phase : Phase
 
--- Where no two directories of either vault share a folder, each item of the first opens in the second as the same directory or with the
--- same content.
-abbrev pub AreHeld : OpenedVault → OpenedVault → View → Type 0
-AreHeld a b v = HasOwnFolders a.vault (under a.root v) → HasOwnFolders b.vault (under b.root v)
-    → IsPartOf (tree (format_of a.vault) (under a.root v)) (tree (format_of b.vault) (under b.root v))
+-- Where no two directories of either vault share a folder, each item of the first opens in the second, at its mapped path, as the same
+-- directory or with the same content.
+abbrev pub AreHeld : NameMap → OpenedVault → OpenedVault → View → Type 0
+AreHeld rule a b v = HasOwnFolders a.vault (under a.root v) → HasOwnFolders b.vault (under b.root v)
+    → IsHeldIn rule (tree (format_of a.vault) (under a.root v)) (tree (format_of b.vault) (under b.root v))
 
 -- Both vaults open, and the target holds each item of the source.
 pub record IsHeld (r : Retiring) (v : View) : Type 0 where
@@ -41,7 +44,7 @@ pub record IsHeld (r : Retiring) (v : View) : Type 0 where
   pub target : Vault
   pub opens_source : IsVault (under r.from v) r.from_pass source
   pub opens_target : IsVault (under r.to v) r.to_pass target
-  pub held : AreHeld (opened_in r.from source) (opened_in r.to target) v
+  pub held : AreHeld r.names (opened_in r.from source) (opened_in r.to target) v
 
 -- The call removes something in the work folder or the work folder itself, or settles; or it moves the source as a whole into the work
 -- folder, in a state in which the target holds all of it.
@@ -80,7 +83,7 @@ RemovesOnly r = Moments (λ s0 s. Unit {0}) (λ s0 s e. Removes r s0 s e.call)
 
 -- the migration that this journal tells, by these passphrases
 abbrev pub retiring_by : Path → List ℕ → List ℕ → Journal → Retiring
-retiring_by work from_pass to_pass journal = record { from = journal.source; to = journal.target; work = work; from_pass = from_pass; to_pass = to_pass; phase = journal.phase }
+retiring_by work from_pass to_pass journal = record { from = journal.source; to = journal.target; work = work; names = journal.names; from_pass = from_pass; to_pass = to_pass; phase = journal.phase }
 
 -- The journal that stood in the work folder said that all is done, of so many items; and now the source is gone that it named, and so is
 -- the work folder.

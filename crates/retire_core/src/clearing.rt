@@ -3,8 +3,7 @@ ghost use Rattle.std.specs.Prelude.{◌≡◌, ◌≢◌, ◌≤◌, [], IfErr, 
 ghost use Rattle.port_model.specs.Counts.{CountRose};
 ghost use Rattle.folder_spec.specs.Path.{child};
 ghost use Rattle.folder_spec.specs.Seen.{IfSeen};
-ghost use Rattle.folder_spec.specs.View.{NoEntry};
-ghost use Rattle.tree_match.specs.Guard.{Migration};
+ghost use Rattle.migration_spec.specs.Guard.{Migration};
 ghost use Rattle.retire_core.specs.Causes.{IsOfFolder, TestsRemoval, TestsRemovals, Unless};
 ghost use Rattle.retire_core.specs.Clearing.{ClearsEntry, ClearsOnly, ClearsRest, HasOnlyJournal, IsGone, IsInOrder, Leaves};
 ghost use Rattle.retire_core.specs.Faults.{Blamed, IsLaterFault};

@@ -2,10 +2,11 @@
 use folder_model::FPath;
 use folder_spec::FolderFault;
 use folder_staging::RemovalFault;
+use migration_sides::{Side, StepFault};
 use move_journal::JournalFault;
 use plain_tree::PlainPath;
 use std::alloc::AllocError;
-use tree_match::{MatchFault, Side, Where};
+use tree_match::{MapFault, MatchFault, Where};
 use vault_read::LoadFault;
 use vault_walk::WalkFault;
 use work_folder::WorkFault;
@@ -25,6 +26,10 @@ pub enum RetireFault {
     Load(Side, LoadFault),
     /// A vault isn't clean, or passes a limit.
     Walk(WalkFault),
+    /// A name of the item at this path of the source, mapped, is no name.
+    NotAllowed(PlainPath),
+    /// The items at these two paths of the source come to one path.
+    Meet(PlainPath, PlainPath),
     /// The two vaults aren't compared to the end.
     Match(MatchFault),
     /// An item of the source isn't so in the target.
@@ -108,17 +113,34 @@ impl From<JournalFault> for RetireFault {
     }
 }
 
-impl From<WalkFault> for RetireFault {
+impl From<StepFault> for RetireFault {
     ghost use Rattle.std.specs.Prelude.{◌≡◌};
-    ghost use Rattle.retire_core.specs.Faults.{of_walk};
+    ghost use Rattle.retire_core.specs.Faults.{of_step};
 
-    ghost from_gives = { λ fault result. result ≡ of_walk fault };
+    ghost from_gives = { λ fault result. result ≡ of_step fault };
 
-    fn from(fault: WalkFault) -> RetireFault {
+    fn from(fault: StepFault) -> RetireFault {
         match fault {
-            WalkFault::Failed => RetireFault::Failed,
-            WalkFault::NoMemory => RetireFault::NoMemory,
-            fault => RetireFault::Walk(fault),
+            StepFault::Overlap(first, second) => RetireFault::Overlap(first, second),
+            StepFault::Load(side, fault) => RetireFault::Load(side, fault),
+            StepFault::Walk(fault) => RetireFault::Walk(fault),
+            StepFault::Failed => RetireFault::Failed,
+            StepFault::NoMemory => RetireFault::NoMemory,
+        }
+    }
+}
+
+impl From<MapFault> for RetireFault {
+    ghost use Rattle.std.specs.Prelude.{◌≡◌};
+    ghost use Rattle.retire_core.specs.Faults.{of_map};
+
+    ghost from_gives = { λ fault result. result ≡ of_map fault };
+
+    fn from(fault: MapFault) -> RetireFault {
+        match fault {
+            MapFault::NotAName(path) => RetireFault::NotAllowed(path),
+            MapFault::Meet(one, other) => RetireFault::Meet(one, other),
+            MapFault::NoMemory => RetireFault::NoMemory,
         }
     }
 }

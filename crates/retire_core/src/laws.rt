@@ -1,9 +1,8 @@
 //! Laws of the definitions. Each function does nothing, and its clauses are the laws.
-ghost use Rattle.std.specs.Prelude.{◌≢◌, IfErr, List, Result};
+ghost use Rattle.std.specs.Prelude.{◌≢◌, ℕ, IfErr, List, Result};
 ghost use Rattle.folder_spec.specs.Path.{Path};
-ghost use Rattle.folder_spec.specs.State.{State};
 ghost use Rattle.folder_spec.specs.View.{Special, View};
-ghost use Rattle.tree_match.specs.Guard.{LosesNothing, Migration};
+ghost use Rattle.migration_spec.specs.Guard.{AreOpenedBy, Migration};
 ghost use Rattle.vault_spec.specs.Alike.{HasFolders, IsOrderly};
 ghost use Rattle.vault_spec.specs.Findings.{IsClean};
 ghost use Rattle.vault_spec.specs.Vault.{Vault, format_of};
@@ -11,26 +10,14 @@ ghost use Rattle.retire_core.specs.Causes.{IsOfFolder, Retires};
 ghost use Rattle.retire_core.specs.Completing.{CanRetire};
 ghost use Rattle.retire_core.specs.declared.fault.RetireFault.{RetireFault};
 ghost use Rattle.retire_core.specs.declared.retiring.Retired.{Retired};
-ghost use Rattle.retire_core.specs.History.{Run, IsHistory, IsStateIn};
 
+use mapped_trees::laws::mapped_trees_are_held;
 use move_journal::laws::journals_are_read_back;
 use tree_match::laws::{
-    guarded_migrations_are_safe, settling_and_entering_keep_migrations_guarded,
-    what_is_held_opens_the_same,
+    mapped_walks_tell_the_mapped_tree, walks_tell_the_tree, what_is_held_opens_the_same,
 };
 use vault_read::laws::roots_have_one_answer;
 use vault_spec::laws::entries_of_clean_vaults_are_accounted_for;
-
-/// In whatever order the three commands are run, stopped and run again: at every moment of every run, and after a crash there, each file
-/// that the source held when the migration began opens with its content in the source or at its path in the target.
-///
-/// It rests on what the three commands say of their own runs by their clauses `guard`.
-pub fn histories_are_borne()
-    ensures { (g : Migration) (first : Run) (more : List Run) (s : State) → IsHistory g first more → IsStateIn first more s → LosesNothing g s }
-{
-    guarded_migrations_are_safe();
-    settling_and_entering_keep_migrations_guarded();
-}
 
 /// Below the root of a clean vault that is in good order are only files and directories.
 pub fn clean_vaults_have_only_files_and_directories()
@@ -39,12 +26,17 @@ pub fn clean_vaults_have_only_files_and_directories()
     entries_of_clean_vaults_are_accounted_for();
 }
 
-/// Where a guarded migration can be retired, no test of `retire` fails: its source is retired, unless the folder fails or memory runs out.
+/// Where a guarded migration can be retired, and these passphrases open its vaults, no test of `retire` fails: its source is retired, unless
+/// the folder fails or memory runs out.
 pub fn what_can_be_retired_is_retired()
-    ensures { (g : Migration) (v : View) (answer : Result Retired RetireFault) → HasFolders v → CanRetire g v → Retires g.work g.source.pass g.target.pass v answer → IfErr answer IsOfFolder }
+    ensures { (g : Migration) (from_pass to_pass : List ℕ) (v : View) (answer : Result Retired RetireFault) → HasFolders v → AreOpenedBy g from_pass to_pass v → CanRetire g v
+        → Retires g.work from_pass to_pass v answer → IfErr answer IsOfFolder }
 {
     clean_vaults_have_only_files_and_directories();
     journals_are_read_back();
+    mapped_trees_are_held();
+    mapped_walks_tell_the_mapped_tree();
     roots_have_one_answer();
+    walks_tell_the_tree();
     what_is_held_opens_the_same();
 }

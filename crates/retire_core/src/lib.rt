@@ -1,11 +1,11 @@
-//! Removing a source that was moved: the one command that removes anything, and what holds of whole histories of commands.
+//! Removing a source that was moved: the one command that removes anything.
 #![tactic(auto)]
 
 mod clearing;
 pub mod fault;
+mod holding;
 pub mod laws;
 mod retiring;
-mod sides;
 
 pub use fault::RetireFault;
 pub use retiring::{Retired, retire};

@@ -3,28 +3,30 @@ ghost use Rattle.std.specs.Prelude.{◌≡◌, ◌≢◌, ◌≤◌, [], IfErr, 
 ghost use Rattle.port_model.specs.Counts.{CountRose};
 ghost use Rattle.folder_spec.specs.Seen.{IfSeen, IsSeen, moved_view};
 ghost use Rattle.folder_spec.specs.View.{Folder, NoEntry, View};
-ghost use Rattle.migrate_core.specs.Leading.{KeepsGuarded};
-ghost use Rattle.migrate_core.specs.Sides.{AreSeparate, IsResumed};
+ghost use Rattle.migration_sides.specs.Sides.{AreSeparate};
+ghost use Rattle.migration_spec.specs.Alone.{KeepsGuarded};
+ghost use Rattle.migration_spec.specs.Guard.{AreOpenedBy, Migration, old_path};
+ghost use Rattle.work_folder.specs.Apart.{AreApart};
 ghost use Rattle.move_journal.specs.Journal.{IsJournal};
 ghost use Rattle.move_journal.specs.Reading.{StandsIn};
-ghost use Rattle.tree_match.specs.Guard.{AreApart, Migration, old_path};
 ghost use Rattle.retire_core.specs.Causes.{IsOfFolder, ReadsDone, Retires, RetiresTold, TestsAway, TestsFree, TestsHeld, Unless, moved_away};
 ghost use Rattle.retire_core.specs.Clearing.{IsGone, IsInOrder, MovesHeldOnly, MovesOnly};
 ghost use Rattle.retire_core.specs.Completing.{CanRetire};
 ghost use Rattle.retire_core.specs.Faults.{Blamed, IsLaterFault, IsRetireFault};
 ghost use Rattle.retire_core.specs.Guarding.{ComesFromDone, ComesTo, KeepsDone, KeepsFromRest};
-ghost use Rattle.retire_core.specs.Retiring.{HasRetired, IsHeld, RemovesOnly, TouchesOnly, retiring_by};
+ghost use Rattle.retire_core.specs.Retiring.{HasRetired, RemovesOnly, TouchesOnly, retiring_by};
 
 use crate::clearing::clear;
 use crate::fault::RetireFault;
+use crate::holding::test_held;
 use crate::laws::{clean_vaults_have_only_files_and_directories, what_can_be_retired_is_retired};
-use crate::sides::{load_both, test_apart, test_held};
 use folder_model::{FPath, Folder, Kind};
 use folder_spec::laws::{images_show_views, roots_show_their_own};
+use migration_sides::{load_both, test_apart};
+use migration_spec::laws::settling_and_entering_keep_migrations_guarded;
 use move_journal::laws::journals_are_read_back;
 use move_journal::{Journal, Phase, read};
 use std::alloc::Global;
-use tree_match::laws::settling_and_entering_keep_migrations_guarded;
 use work_folder::{Work, WorkFault};
 
 /// What was retired.
@@ -39,9 +41,9 @@ pub struct Retired {
 ///
 /// The tests, in their order: the journal is there and says that all is done; the three folders don't overlap; nothing foreign is in the
 /// work folder. Where the source is there: it wasn't moved into the work folder before; both vaults open and are clean; and the target
-/// holds each item of the source. Then the source is moved into the work folder, to `old`, at once. All is removed from there, and the
-/// journal last, so that a stop at any moment leaves the source whole in its place, or the target with all that it held. Where the source
-/// isn't there, only what is left to be removed is.
+/// holds each item of the source at its path mapped by the journal's rule. Then the source is moved into the work folder, to `old`, at once.
+/// All is removed from there, and the journal last, so that a stop at any moment leaves the source whole in its place, or the target with
+/// all that it held. Where the source isn't there, only what is left to be removed is.
 pub fn retire<F: Folder>(
     alloc: Global,
     folder: &mut F,
@@ -49,13 +51,13 @@ pub fn retire<F: Folder>(
     source_pass: &[u8],
     target_pass: &[u8],
 ) -> Result<Retired, RetireFault>
-    ensures guard { (g : Migration) → IsResumed g work.now source_pass.now target_pass.now → KeepsGuarded g (F.told folder.old) (F.told folder.new) }
+    ensures guard { (g : Migration) → g.work ≡ work.now → KeepsGuarded g (F.told folder.old) (F.told folder.new) }
     ensures touches { (v : View) (journal : Journal) → IsSeen (F.told folder.old) v → IsJournal journal → StandsIn work.now journal v
         → TouchesOnly (retiring_by work.now source_pass.now target_pass.now journal) (F.told folder.old) (F.told folder.new) }
     ensures removes { (v : View) (journal : Journal) → IsSeen (F.told folder.old) v → IsJournal journal → StandsIn work.now journal v
         → RemovesOnly (retiring_by work.now source_pass.now target_pass.now journal) (F.told folder.old) (F.told folder.new) }
     ensures retired { IfOk result (λ retired. IfSeen (F.told folder.old) (λ v. HasRetired work.now retired.items (F.told folder.new) v)) }
-    ensures completes { (g : Migration) → IfSeen (F.told folder.old) (λ v. IsResumed g work.now source_pass.now target_pass.now → CanRetire g v → IfErr result IsOfFolder) }
+    ensures completes { (g : Migration) → IfSeen (F.told folder.old) (λ v. g.work ≡ work.now → AreOpenedBy g source_pass.now target_pass.now v → CanRetire g v → IfErr result IsOfFolder) }
     ensures grows { F.faults folder.old ≤ F.faults folder.new }
     ensures blamed { IfErr result (Blamed IsRetireFault (CountRose (F.faults folder.old) (F.faults folder.new))) }
     ensures cause { IfSeen (F.told folder.old) (λ v. Unless result (Retires work.now source_pass.now target_pass.now v result)) }
@@ -74,7 +76,7 @@ fn retire_settled<F: Folder>(
     source_pass: &[u8],
     target_pass: &[u8],
 ) -> Result<Retired, RetireFault>
-    ensures guard { (g : Migration) → IsResumed g work.now source_pass.now target_pass.now → KeepsFromRest g (F.told folder.old) (F.told folder.new) }
+    ensures guard { (g : Migration) → g.work ≡ work.now → KeepsFromRest g (F.told folder.old) (F.told folder.new) }
     ensures touches { (v : View) (journal : Journal) → IsSeen (F.told folder.old) v → IsJournal journal → StandsIn work.now journal v
         → TouchesOnly (retiring_by work.now source_pass.now target_pass.now journal) (F.told folder.old) (F.told folder.new) }
     ensures removes { (v : View) (journal : Journal) → IsSeen (F.told folder.old) v → IsJournal journal → StandsIn work.now journal v
@@ -122,7 +124,7 @@ fn retire_told<F: Folder>(
     requires apart { AreSeparate journal.now.source journal.now.target work.now }
     requires stands { IfSeen (F.told folder.old) (λ v. StandsIn work.now journal.now v) }
     requires order { IfSeen (F.told folder.old) (λ v. IsInOrder v work.now) }
-    ensures guard { (g : Migration) → IsResumed g work.now source_pass.now target_pass.now → KeepsFromRest g (F.told folder.old) (F.told folder.new) }
+    ensures guard { (g : Migration) → g.work ≡ work.now → KeepsFromRest g (F.told folder.old) (F.told folder.new) }
     ensures touches { TouchesOnly (retiring_by work.now source_pass.now target_pass.now journal.now) (F.told folder.old) (F.told folder.new) }
     ensures removes { RemovesOnly (retiring_by work.now source_pass.now target_pass.now journal.now) (F.told folder.old) (F.told folder.new) }
     ensures source { OnOk result (IsGone journal.now.source (F.told folder.new)) }
@@ -155,8 +157,8 @@ fn put_away<F: Folder>(
     requires apart { AreSeparate journal.now.source journal.now.target work.now }
     requires stands { IfSeen (F.told folder.old) (λ v. StandsIn work.now journal.now v) }
     requires order { IfSeen (F.told folder.old) (λ v. IsInOrder v work.now) }
-    ensures guard { (g : Migration) → IsResumed g work.now source_pass.now target_pass.now → KeepsFromRest g (F.told folder.old) (F.told folder.new) }
-    ensures comes { OnOk result ((g : Migration) → IsResumed g work.now source_pass.now target_pass.now → ComesTo g (F.told folder.old) (F.told folder.new)) }
+    ensures guard { (g : Migration) → g.work ≡ work.now → KeepsFromRest g (F.told folder.old) (F.told folder.new) }
+    ensures comes { OnOk result ((g : Migration) → g.work ≡ work.now → ComesTo g (F.told folder.old) (F.told folder.new)) }
     ensures moves { MovesHeldOnly (retiring_by work.now source_pass.now target_pass.now journal.now) (F.told folder.old) (F.told folder.new) }
     ensures unmoved { IfSeen (F.told folder.old) (λ v. v journal.now.source ≡ NoEntry → F.told folder.new ≡ F.told folder.old) }
     ensures gone { OnOk result (IsGone journal.now.source (F.told folder.new)) }
@@ -209,7 +211,7 @@ fn move_held<F: Folder>(
     ensures leaves { (v w : View) → IsSeen (F.told folder.old) v → IsSeen (F.told folder.new) w → IsInOrder v work.now → IsInOrder w work.now }
     ensures grows { F.faults folder.old ≤ F.faults folder.new }
     ensures blamed { IfErr result (Blamed IsLaterFault (CountRose (F.faults folder.old) (F.faults folder.new))) }
-    ensures cause { IfSeen (F.told folder.old) (λ v. Unless result (TestsHeld journal.now.source journal.now.target source_pass.now target_pass.now v result)) }
+    ensures cause { IfSeen (F.told folder.old) (λ v. Unless result (TestsHeld journal.now.names journal.now.source journal.now.target source_pass.now target_pass.now v result)) }
     ensures seen { OnOk result ((v w : View) → IsSeen (F.told folder.old) v → IsSeen (F.told folder.new) w → w ≡ moved_view v journal.now.source (old_path work.now)) }
 {
     let sides = load_both(
@@ -219,6 +221,7 @@ fn move_held<F: Folder>(
         source_pass,
         &journal.target,
         target_pass,
+        journal.names,
     )?;
     test_held(alloc, folder, &sides)?;
     move_source(folder, &journal.source, work)

@@ -1,11 +1,3 @@
-pub mod Guards
-mod Along
-pub mod Kept
-pub mod Placing
-mod Sounds
-mod Settling
-mod Entering
-mod Journals
 mod Fronts
 mod ReadAhead
 mod Merging
@@ -14,7 +6,11 @@ mod MappedPlans
 pub mod InOrder
 mod WholeContents
 mod CutContents
-pub mod SameTrees
 pub mod HeldTrees
+mod ToldTrees
+mod HeldParts
+mod SameTrees
 pub mod SamePaths
+mod MappedTrees
 pub mod CutItems
+pub mod Passing

@@ -14,7 +14,7 @@ use Rattle.vault_spec.proofs.Mapped.{all_pairs_mapped, contains_mapped, mapped_f
 use Rattle.vault_spec.specs.Plan.{Planned}
 use Rattle.vault_walk.specs.Survey.{IsOrdered}
 
-paths_decide : (p q : plain.Path) → Decides (path_eq p q) (p ≡ q)
+pub paths_decide : (p q : plain.Path) → Decides (path_eq p q) (p ≡ q)
 paths_decide = pointwise_decides bytes_decides
 
 both_true : (a b : Bool) → (a ≡ true → b ≡ true) → (b ≡ true → a ≡ true) → a ≡ b
@@ -23,10 +23,13 @@ both_true false false one other = refl
 both_true true false one other = sym (one refl)
 both_true false true one other = other refl
 
+pub paths_flip : (p q : plain.Path) → path_eq p q ≡ path_eq q p
+paths_flip p q = both_true (path_eq p q) (path_eq q p) (λ e. (paths_decide q p).1 (sym ((paths_decide p q).0 e))) (λ e. (paths_decide p q).1 (sym ((paths_decide q p).0 e)))
+
 equivalence : IsEquivalence path_eq
 equivalence = record {
   refl = λ p. (paths_decide p p).1 refl;
-  symm = λ p q. both_true (path_eq p q) (path_eq q p) (λ e. (paths_decide q p).1 (sym ((paths_decide p q).0 e))) (λ e. (paths_decide p q).1 (sym ((paths_decide q p).0 e)));
+  symm = paths_flip;
   congr = λ p q r e. ap (λ x. path_eq x r) ((paths_decide p q).0 e);
 }
 
@@ -51,7 +54,7 @@ paths items = map (λ (item : Planned). item.path) items
 paths_total : IsTotalOrder path_cmp
 paths_total = lists_total nat_list_cmp_total
 
-less_apart : (p q : plain.Path) → path_cmp p q ≡ Less → p ≢ q
+pub less_apart : (p q : plain.Path) → path_cmp p q ≡ Less → p ≢ q
 less_apart p q less same = let never : Equal ≡ Less = sym (tied_itself paths_total q) ∙ ap (λ x. path_cmp x q) (sym same) ∙ less in cc never
 
 pub distinct_paths : (items : List Planned) → IsOrdered items → IsDistinct path_eq (paths items)

@@ -1,5 +1,6 @@
--- That vaults of one tree compare as the same, unless a content passes the limit.
-use Rattle.std.proofs.Common.{◌≡◌, ◌≢◌, ◌⊎◌, inl, inr, ℕ, suc, ◌≤◌, ◌&&◌, nat_eq, nat_le, List, [], ◌∷◌, ◌++◌, length, take, Bool, true, false, if◌then◌else◌, Option, Some, None, refl, sym, ap, subst, ◌∙◌, arith, Contains, length-append, append-nil}
+-- That vaults whose items tell one tree compare as the same, and that one whose tree is part of the other's is held, unless a content
+-- passes the limit.
+use Rattle.std.proofs.Common.{◌≡◌, ◌≢◌, inl, inr, ℕ, suc, ◌≤◌, ◌&&◌, nat_eq, nat_le, List, [], ◌∷◌, ◌++◌, length, take, Bool, true, false, if◌then◌else◌, Option, Some, None, refl, sym, ap, subst, ◌∙◌, arith, Contains, length-append, append-nil}
 use Rattle.std.proofs.lemmas.Bool.{leb-true, leb-false, false≢true}
 use Rattle.std.proofs.lemmas.List.{take-take, take_at}
 use Rattle.std.specs.List.{concat, starts_with}
@@ -9,27 +10,27 @@ use Rattle.chunk_files.specs.Contents.{readable}
 use Rattle.chunk_files.specs.Keys.{Keys}
 use Rattle.chunk_files.specs.Reading.{Ending, Reading, Whole, Wanting, Faulty}
 use Rattle.folder_spec.specs.Path as folder
-use Rattle.folder_spec.specs.Seen.{ShowsFile, under}
-use Rattle.folder_spec.specs.View.{View, FileOf}
+use Rattle.folder_spec.specs.Seen.{ShowsFile}
+use Rattle.folder_spec.specs.View.{View}
+use Rattle.mapped_trees.specs.Plans.{node_of}
+use Rattle.mapped_trees.specs.Trees.{IsWhole}
 use Rattle.plain_tree.specs.Names as plain
 use Rattle.plain_tree.specs.Order.{path_eq}
 use Rattle.plain_tree.specs.declared.NodeKind.{NodeKind}
 use Rattle.plain_tree.specs.declared.NodeKind.TheVariants as node
 use Rattle.vault_read.specs.Contents.{content_limit, limited_reading}
-use Rattle.vault_spec.proofs.Mapped.{contains_mapped}
 use Rattle.vault_spec.specs.Format.{Format, file_bytes}
-use Rattle.vault_spec.specs.Opens.{Opened, NoItem, Content, tree, opened, opened_at, opened_by, opened_file}
-use Rattle.vault_spec.specs.Plan.{Planned, IsPlanned}
-use Rattle.vault_spec.specs.Standing.{File, standing}
+use Rattle.vault_spec.specs.Opens.{Opened, NoItem, Content, Tree, opened_by, opened_file}
+use Rattle.vault_spec.specs.Plan.{Planned}
 use Rattle.vault_spec.specs.Vault.{format_of}
-use Rattle.vault_walk.specs.Surveyed.{placed}
 use Rattle.tree_match.proofs.CutContents.{Partly, All, Front, partly_read}
 use Rattle.tree_match.proofs.Differing.{holds_none, holds_one, further_found, further_none, further_end}
-use Rattle.tree_match.proofs.HeldTrees.{FilesAreThere, PlansAreTheTree, file_stands, found_with, first_or_among, in_plan, planned, stopped, tells_tree}
+use Rattle.tree_match.proofs.HeldParts.{IsPart, OpenAlike}
+use Rattle.tree_match.proofs.HeldTrees.{found_with, first_or_among, stopped}
+use Rattle.tree_match.proofs.ToldTrees.{TellsTree, opens_file, opens_node}
 use Rattle.tree_match.specs.Comparing.{Outcome, Is, Stops, compared, content_at, content_of, bytes_found, is_cut}
-use Rattle.tree_match.specs.Guard.{IsWhole, node_of}
 use Rattle.tree_match.specs.Matching.{content_held, first_differing, first_further, held_as, held_by, item_with}
-use Rattle.tree_match.specs.Trees.{Side, IsWalkOf, IsPartIn, HoldsAllBy, AsSame, AndFurther, IsSameOrTooLong, AreSame, IsTooLong, match_of}
+use Rattle.tree_match.specs.Trees.{Side, HoldsAllBy, AsSame, AndFurther, HoldsAllOrTooLong, IsSameOrTooLong, AreSame, IsTooLong, match_of}
 use Rattle.tree_match.specs.declared.answer.How.{How}
 use Rattle.tree_match.specs.declared.answer.Match.{Match}
 use Rattle.tree_match.specs.declared.answer.Match.TheVariants.{Same}
@@ -122,16 +123,14 @@ opened_whole keys at bytes there whole = by (readable keys bytes).ending there w
     by Wanting there whole = absurd (there refl)
     by (Faulty fault) there whole = absurd whole
 
-file_reads : (f : Format) (u : View) (path : plain.Path) (at : folder.Path) (bytes : List ℕ) → standing f u path ≡ File at → u at ≡ FileOf bytes
-    → opened f u path ≢ NoItem → IsWhole (opened f u path) → ReadsTo f u at (opened f u path)
-unfolding opened
-file_reads f u path at bytes stands there named whole =
-    let is : opened f u path ≡ opened_file f.content (Some bytes) = ap (opened_at f u) stands ∙ ap (λ found. opened_file f.content (file_bytes found)) there in
-    let ended : (readable f.content bytes).ending ≡ Whole = opened_whole f.content at bytes (subst (λ o. o ≢ NoItem) is named) (subst IsWhole is whole) in
+file_reads : (f : Format) (v : View) (at : folder.Path) (o : Opened) → o ≡ opened_file f.content (file_bytes (v at)) → ShowsFile v at → o ≢ NoItem → IsWhole o → ReadsTo f v at o
+file_reads f v at o opens there named whole =
+    let is : o ≡ opened_file f.content (Some there.0) = opens ∙ ap (λ found. opened_file f.content (file_bytes found)) there.1 in
+    let ended : (readable f.content there.0).ending ≡ Whole = opened_whole f.content at there.0 (subst (λ o. o ≢ NoItem) is named) (subst IsWhole is whole) in
     record {
-      content = concat (readable f.content bytes).chunks;
-      opens = is ∙ ap (opened_by (readable f.content bytes).chunks) ended;
-      partly = subst (λ found. Partly (concat (readable f.content bytes).chunks) (limited_reading f.content (bytes_found found))) (sym there) (partly_read content_limit f.content bytes ended);
+      content = concat (readable f.content there.0).chunks;
+      opens = is ∙ ap (opened_by (readable f.content there.0).chunks) ended;
+      partly = subst (λ found. Partly (concat (readable f.content there.0).chunks) (limited_reading f.content (bytes_found found))) (sym there.1) (partly_read content_limit f.content there.0 ended);
     }
 
 content_is : (x y : List ℕ) → Content x ≡ Content y → x ≡ y
@@ -143,24 +142,8 @@ reads_alike f g v w p q o one other =
     alike one.content p q (limited_reading f.content (bytes_found (v p))) (limited_reading g.content (bytes_found (w q))) one.partly
     (subst (λ c. Partly c (limited_reading g.content (bytes_found (w q)))) same other.partly)
 
-module _ (files : FilesAreThere) (plans : PlansAreTheTree) (v : View) where
-  item_reads : (c : Side) → IsWalkOf v c → (x : Planned) → Contains c.items x → x.node ≡ node.File → tree (format_of c.vault) (under c.root v) x.path ≢ NoItem
-      → IsWhole (tree (format_of c.vault) (under c.root v) x.path) → ReadsTo (format_of c.vault) v x.at (tree (format_of c.vault) (under c.root v) x.path)
-  item_reads c walk x among is_file named whole =
-      let p : (y : Planned) × (placed c.root y ≡ x) × IsPlanned (format_of c.vault) (under c.root v) y = planned v c walk x among in
-      subst (λ (z : Planned). z.node ≡ node.File → tree (format_of c.vault) (under c.root v) z.path ≢ NoItem → IsWhole (tree (format_of c.vault) (under c.root v) z.path)
-      → ReadsTo (format_of c.vault) v z.at (tree (format_of c.vault) (under c.root v) z.path)) p.1
-      (λ is named whole.
-      let stands : standing (format_of c.vault) (under c.root v) p.0.path ≡ File p.0.at = file_stands (standing (format_of c.vault) (under c.root v) p.0.path) p.0.at (p.2.node ∙ ap Some is) p.2.place in
-      let there : ShowsFile (under c.root v) p.0.at = files c.vault (under c.root v) p.0.path p.0.at stands in
-      let reads : ReadsTo (format_of c.vault) (under c.root v) p.0.at (tree (format_of c.vault) (under c.root v) p.0.path) = file_reads (format_of c.vault) (under c.root v) p.0.path p.0.at there.0 stands there.1 named whole in
-      record { content = reads.content; opens = reads.opens; partly = reads.partly }) is_file named whole
-
-  item_is : (c : Side) → IsWalkOf v c → (x : Planned) → Contains c.items x → (x.path ≢ []) × (tree (format_of c.vault) (under c.root v) x.path ≢ NoItem)
-  item_is c walk x among = ((tells_tree plans v c walk).items.items x.path).0 (contains_mapped (λ (item : Planned). item.path) c.items x among)
-
 -- where one has the path, an item is found
-some_with : (path : plain.Path) (others : List Planned) (o : Planned) → Contains others o → o.path ≡ path → (found : Planned) × (item_with path others ≡ Some found)
+pub some_with : (path : plain.Path) (others : List Planned) (o : Planned) → Contains others o → o.path ≡ path → (found : Planned) × (item_with path others ≡ Some found)
 some_with path [] o among is = absurd (omega (arith, among.1))
 some_with path (z ∷ zs) o among is = by (path_eq z.path path) refl (some_with path zs o)
   where
@@ -171,12 +154,14 @@ some_with path (z ∷ zs) o among is = by (path_eq z.path path) refl (some_with 
       | inr rest ↦ later rest is
     ]
 
-module _ (files : FilesAreThere) (plans : PlansAreTheTree) (v : View) (a b : Side) (walk_a : IsWalkOf v a) (walk_b : IsWalkOf v b) (one : IsPartIn v a b) where
+module _ (v : View) (a b : Side) (t u : Tree) (tells_a : TellsTree v a t) (tells_b : TellsTree v b u) (one : IsPart t u) where
+  at_item : (x : Planned) → Contains a.items x → OpenAlike t u x.path
+  at_item x among = one x.path (tells_a.items x among).0 (tells_a.items x among).1
+
   found_in_other : (x : Planned) → Contains a.items x → (o : Planned) × (item_with x.path b.items ≡ Some o) × Contains b.items o × (o.path ≡ x.path)
   found_in_other x among =
-      let is : (x.path ≢ []) × (tree (format_of a.vault) (under a.root v) x.path ≢ NoItem) = item_is files plans v a walk_a x among in
-      let there : tree (format_of b.vault) (under b.root v) x.path ≢ NoItem = subst (λ o. o ≢ NoItem) (one x.path is.0 is.1).0 is.1 in
-      let other : (o : Planned) × Contains b.items o × (o.path ≡ x.path) = in_plan plans v b walk_b x.path is.0 there in
+      let there : u x.path ≢ NoItem = subst (λ o. o ≢ NoItem) (at_item x among).0 (tells_a.items x among).1 in
+      let other : (o : Planned) × Contains b.items o × (o.path ≡ x.path) = tells_b.each x.path (tells_a.items x among).0 there in
       let found : (o : Planned) × (item_with x.path b.items ≡ Some o) = some_with x.path b.items other.0 other.1 other.2 in
       let with_path : Contains b.items found.0 × (found.0.path ≡ x.path) = found_with x.path b.items found.0 found.1 in
       (found.0, found.1, with_path.0, with_path.1)
@@ -185,17 +170,11 @@ module _ (files : FilesAreThere) (plans : PlansAreTheTree) (v : View) (a b : Sid
       → TellsThis None (held_as x.node o.node (compared (content_at (format_of a.vault).content v x.at) (content_at (format_of b.vault).content v o.at)))
   held_alike x o in_a in_b same = by x.node o.node refl refl
     where
-      is : (x.path ≢ []) × (tree (format_of a.vault) (under a.root v) x.path ≢ NoItem)
-      is = item_is files plans v a walk_a x in_a
-
-      both : (tree (format_of a.vault) (under a.root v) x.path ≡ tree (format_of b.vault) (under b.root v) x.path) × IsWhole (tree (format_of a.vault) (under a.root v) x.path)
-      both = one x.path is.0 is.1
-
-      there : tree (format_of b.vault) (under b.root v) o.path ≡ tree (format_of a.vault) (under a.root v) x.path
-      there = ap (tree (format_of b.vault) (under b.root v)) same ∙ sym both.0
+      there : u o.path ≡ t x.path
+      there = ap u same ∙ sym (at_item x in_a).0
 
       nodes : Some x.node ≡ Some o.node
-      nodes = sym ((tells_tree plans v a walk_a).nodes x in_a) ∙ ap node_of (sym there) ∙ (tells_tree plans v b walk_b).nodes o in_b
+      nodes = sym (opens_node v a t tells_a x in_a) ∙ ap node_of (sym there) ∙ opens_node v b u tells_b o in_b
 
       outcome : Outcome Bool
       outcome = compared (content_at (format_of a.vault).content v x.at) (content_at (format_of b.vault).content v o.at)
@@ -211,11 +190,12 @@ module _ (files : FilesAreThere) (plans : PlansAreTheTree) (v : View) (a b : Sid
           other : Some node.File ≡ Some node.Dir → ⊥
           other e = cc e
       by node.File node.File is_x is_o =
-          let first : ReadsTo (format_of a.vault) v x.at (tree (format_of a.vault) (under a.root v) x.path) = item_reads files plans v a walk_a x in_a is_x is.1 both.1 in
-          let second : ReadsTo (format_of b.vault) v o.at (tree (format_of b.vault) (under b.root v) o.path) =
-          item_reads files plans v b walk_b o in_b is_o (subst (λ t. t ≢ NoItem) (sym there) is.1) (subst IsWhole (sym there) both.1) in
-          held_tells outcome (reads_alike (format_of a.vault) (format_of b.vault) v v x.at o.at (tree (format_of a.vault) (under a.root v) x.path) first
-          (subst (ReadsTo (format_of b.vault) v o.at) there second))
+          let some : t x.path ≢ NoItem = (tells_a.items x in_a).1 in
+          let whole : IsWhole (t x.path) = (at_item x in_a).1 in
+          let first : ReadsTo (format_of a.vault) v x.at (t x.path) = file_reads (format_of a.vault) v x.at (t x.path) (opens_file v a t tells_a x in_a is_x) (tells_a.files x in_a is_x) some whole in
+          let second : ReadsTo (format_of b.vault) v o.at (t x.path) =
+          file_reads (format_of b.vault) v o.at (t x.path) (sym there ∙ opens_file v b u tells_b o in_b is_o) (tells_b.files o in_b is_o) some whole in
+          held_tells outcome (reads_alike (format_of a.vault) (format_of b.vault) v v x.at o.at (t x.path) first second)
 
   held_one : (x : Planned) → Contains a.items x → TellsThis None (held_by (format_of a.vault).content (format_of b.vault).content v x (item_with x.path b.items))
   held_one x among =
@@ -238,17 +218,13 @@ all_tell held (x ∷ xs) each = by (held x) refl (each x (0, omega arith, refl))
     by _ is Told later = subst IsSameOrTooLong (sym (holds_one held (Is Same) x xs is)) later
     by _ is (Cut at) later = subst IsSameOrTooLong (sym (stopped held (Is Same) x xs at Wanting is)) (IsTooLong at)
 
-pub one_tree_matches : FilesAreThere → PlansAreTheTree → (v : View) (a b : Side) → IsWalkOf v a → IsWalkOf v b → IsPartIn v a b → IsPartIn v b a → IsSameOrTooLong (match_of v a b)
-one_tree_matches files plans v a b walk_a walk_b one other =
+pub one_tree_matches : (v : View) (a b : Side) (t u : Tree) → TellsTree v a t → TellsTree v b u → IsPart t u → IsPart u t → IsSameOrTooLong (match_of v a b)
+one_tree_matches v a b t u tells_a tells_b one other =
     let held : Planned → Outcome (Option How) = λ item. held_by (format_of a.vault).content (format_of b.vault).content v item (item_with item.path b.items) in
-    let none : first_further a.items b.items ≡ Same = none_further a.items b.items (λ o among. let found = found_in_other files plans v b a walk_b walk_a other o among in (found.0, found.1)) in
-    subst (λ (m : Match). IsSameOrTooLong (first_differing held a.items (Is m))) (sym none) (all_tell held a.items (held_one files plans v a b walk_a walk_b one))
+    let none : first_further a.items b.items ≡ Same = none_further a.items b.items (λ o among. let found = found_in_other v b a u t tells_b tells_a other o among in (found.0, found.1)) in
+    subst (λ (m : Match). IsSameOrTooLong (first_differing held a.items (Is m))) (sym none) (all_tell held a.items (held_one v a b t u tells_a tells_b one))
 
 -- ---- a tree that is part of another
-
--- all items are held; or the content of a file passes the limit before its end
-abbrev pub HoldsAllOrTooLong : Outcome Match → Type 0
-HoldsAllOrTooLong outcome = HoldsAllBy outcome ⊎ ((at : folder.Path) × (outcome ≡ Stops at Wanting))
 
 further_or_same : (items others : List Planned) → HoldsAllBy (Is (first_further items others))
 further_or_same items [] = subst (λ (m : Match). HoldsAllBy (Is m)) (sym (further_end items)) AsSame
@@ -266,7 +242,7 @@ all_held held last all (x ∷ xs) each = by (held x) refl (each x (0, omega arit
     by _ is Told later = subst HoldsAllOrTooLong (sym (holds_one held (Is last) x xs is)) later
     by _ is (Cut at) later = subst HoldsAllOrTooLong (sym (stopped held (Is last) x xs at Wanting is)) (inr (at, refl))
 
-pub part_matches : FilesAreThere → PlansAreTheTree → (v : View) (a b : Side) → IsWalkOf v a → IsWalkOf v b → IsPartIn v a b → HoldsAllOrTooLong (match_of v a b)
-part_matches files plans v a b walk_a walk_b one =
+pub part_matches : (v : View) (a b : Side) (t u : Tree) → TellsTree v a t → TellsTree v b u → IsPart t u → HoldsAllOrTooLong (match_of v a b)
+part_matches v a b t u tells_a tells_b one =
     all_held (λ item. held_by (format_of a.vault).content (format_of b.vault).content v item (item_with item.path b.items)) (first_further a.items b.items) (further_or_same a.items b.items) a.items
-    (held_one files plans v a b walk_a walk_b one)
+    (held_one v a b t u tells_a tells_b one)

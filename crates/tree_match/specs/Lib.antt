@@ -1,8 +1,4 @@
--- Migrations: the states in which they are guarded, what is safe, how far they have come, and items that are placed. Vaults that are
--- compared.
-pub mod Guard
-pub mod Alone
-pub mod Placed
+-- Vaults that are compared by their plans, and plans whose names a rule maps.
 pub mod Comparing
 pub mod Matching
 pub mod Mapping

@@ -5,13 +5,6 @@ use plain_tree::PlainPath;
 use std::alloc::AllocError;
 use vault_faults::{CatFault, Limit};
 
-/// Either vault of a migration.
-#[derive(Clone, Copy, Debug, PartialEq, Eq)]
-pub enum Side {
-    Source,
-    Target,
-}
-
 /// How an item of a vault differs from what another holds.
 #[derive(Clone, Copy, Debug, PartialEq, Eq)]
 pub enum How {

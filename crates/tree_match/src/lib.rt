@@ -1,4 +1,4 @@
-//! Two vaults of a migration: when it is guarded, and that it stays so; and whether one holds all that the other does.
+//! Whether one vault of a migration holds all that the other does, by their plans; and plans whose names come to another form on the way.
 #![tactic(auto)]
 
 pub mod answer;
@@ -7,6 +7,6 @@ pub mod laws;
 pub mod mapping;
 pub mod matching;
 
-pub use answer::{How, MapFault, Match, MatchFault, Side, Where};
+pub use answer::{How, MapFault, Match, MatchFault, Where};
 pub use mapping::map_plan;
 pub use matching::holds_all;

@@ -7,11 +7,16 @@ use Rattle.content_writing.specs.declared.fault.PutFault.TheVariants as puts
 use Rattle.folder_spec.specs.Path.{Path}
 use Rattle.folder_spec.specs.Seen.{IfSeen, IsSeen, under}
 use Rattle.folder_spec.specs.View.{Found, NoEntry, Folder, FileOf, Special, View}
-use Rattle.migrate_core.specs.Causes.{Begins, BeginsApart, BeginsWith, Compares, ForbidsLast, IsOfMoving, IsStop, Moves, Opens, PassesOr, Resumes, ResumesTold, ResumesWith, StopsAt, TestsApart, TestsEmpty, TestsHeld, TestsItems, TestsMatch, TestsNames, TestsSource, TestsTold, Then, Walks, is_done, of_refusal, own, where_in}
+use Rattle.migrate_core.specs.Causes.{Begins, BeginsApart, BeginsWith, ForbidsMappedLast, IsOfMoving, IsStop, Moves, Resumes, ResumesTold, ResumesWith, StopsAt, TestsEmpty, TestsHeld, TestsItems, TestsMapped, TestsMatch, TestsNames, TestsSource, TestsTold, is_done, where_in}
 use Rattle.migrate_core.specs.Copying.{HaveOwnFolders}
-use Rattle.migrate_core.specs.Faults.{of_journal, of_match, of_walk, of_work}
-use Rattle.migrate_core.specs.Moved.{opened_in}
-use Rattle.migrate_core.specs.Sides.{AllowsLast, AreTold}
+use Rattle.migrate_core.specs.Faults.{of_journal, of_map, of_match, of_step, of_work}
+use Rattle.migration_sides.specs.Causes.{Opens, TestsApart, Walks, WalksBoth, of_refusal}
+use Rattle.migration_sides.specs.Faults.{of_walk}
+use Rattle.migration_sides.specs.Sides.{opened_in}
+use Rattle.migration_sides.specs.Tests.{PassesOr, Then, own}
+use Rattle.migration_sides.specs.declared.fault.StepFault.{StepFault}
+use Rattle.migration_sides.specs.declared.fault.StepFault.TheVariants as steps
+use Rattle.migrate_core.specs.Sides.{AllowsMappedLast, AreTold}
 use Rattle.migrate_core.specs.declared.fault.MoveFault.{MoveFault}
 use Rattle.migrate_core.specs.declared.fault.MoveFault.TheVariants as moves
 use Rattle.migrate_core.specs.declared.placing.Done as placing
@@ -28,13 +33,18 @@ use Rattle.retire_core.specs.declared.fault.RetireFault.{RetireFault}
 use Rattle.retire_core.specs.declared.fault.RetireFault.TheVariants as retires
 use Rattle.folder_staging.specs.declared.removal.RemovalFault.{RemovalFault}
 use Rattle.folder_staging.specs.declared.removal.RemovalFault.TheVariants as removals
-use Rattle.tree_match.specs.Guard.{AreApart, old_path}
+use Rattle.migration_spec.specs.Guard.{old_path}
 use Rattle.tree_match.specs.declared.answer.Match.{Match}
 use Rattle.tree_match.specs.declared.answer.Match.TheVariants.{Same, Contained, Differs}
 use Rattle.tree_match.specs.declared.answer.MatchFault.{MatchFault}
 use Rattle.tree_match.specs.declared.answer.MatchFault.TheVariants as matches
-use Rattle.tree_match.specs.declared.answer.Side.{Side}
-use Rattle.tree_match.specs.declared.answer.Side.TheVariants as sides
+use Rattle.plain_tree.specs.declared.name_map.NameMap.{NameMap}
+use Rattle.plain_tree.specs.declared.name_map.NameMap.TheVariants as rules
+use Rattle.tree_match.specs.Mapping.{MapsTo}
+use Rattle.tree_match.specs.Trees.{Compares}
+use Rattle.tree_match.specs.declared.answer.MapFault.{MapFault}
+use Rattle.tree_match.specs.declared.answer.MapFault.TheVariants as maps
+use Rattle.migration_sides.specs.declared.fault.Side.TheVariants as sides
 use Rattle.vault_spec.specs.Opened.{OpenedVault}
 use Rattle.vault_faults.specs.declared.fault.FindFault.TheVariants as finds
 use Rattle.vault_read.specs.declared.fault.LoadFault.TheVariants as loads
@@ -42,7 +52,6 @@ use Rattle.vault_spec.specs.Format.{Format}
 use Rattle.vault_spec.specs.Plan.{Planned}
 use Rattle.vault_spec.specs.Vault.{Either, Loads, Vault, format_of}
 use Rattle.vault_walk.specs.Digest.{plan_digest}
-use Rattle.vault_walk.specs.declared.fault.WalkFault.{WalkFault}
 use Rattle.vault_walk.specs.declared.fault.WalkFault.TheVariants as walks
 use Rattle.folder_staging.specs.Removal.{RemovesAs, deepest, from}
 use Rattle.work_folder.specs.Entering.{Empties, EntersAs}
@@ -95,22 +104,43 @@ told_or : {G : Type 0} (P : G → Type 0) (passes fails : Type 0) (fault why : G
 told_or P passes fails fault why holds (inl passed) = cc passed.1
 told_or P passes fails fault why holds (inr failed) = subst P (sym (fault_is why fault failed.1)) holds
 
-module _ {G : Type 0} (P : G → Type 0) (two : Path → Path → G) (holds : (p q : Path) → P (two p q)) where
-  abbrev pair_apart : Path → Path → Result (Unit {0}) G → Type 0
-  pair_apart p q = PassesOr (AreApart p q) (¬ AreApart p q) (two p q)
+-- where it holds of whatever a step refuses by, it holds of what the command answers, unless of what may follow
+module _ {G : Type 0} (P : G → Type 0) (told : StepFault → G) (holds : (fault : StepFault) → P (told fault)) (v : View) (why : G) where
+  told_apart : {Y : Type 0} (from to work : Path) (next : Unit {0} → Result Y G → Type 0) → (next tt (Err why) → P why) → Then told (TestsApart from to work) next (Err why) → P why
+  told_apart from to work next rest = told_then P told (TestsApart from to work) next why (λ fault tested. holds fault) (λ x passed. rest)
 
-  told_apart : (from to work : Path) (why : G) → Then own (pair_apart from to) (λ (_ : Unit {0}). Then own (pair_apart from work) (λ (_ : Unit {0}). pair_apart to work)) (Err why) → P why
-  told_apart from to work why =
-      told_then P own (pair_apart from to) (λ (_ : Unit {0}). Then own (pair_apart from work) (λ (_ : Unit {0}). pair_apart to work)) why
-      (λ fault. told_or P (AreApart from to) (¬ AreApart from to) (two from to) fault (holds from to))
-      (λ x passed. told_then P own (pair_apart from work) (λ (_ : Unit {0}). pair_apart to work) why (λ fault. told_or P (AreApart from work) (¬ AreApart from work) (two from work) fault (holds from work))
-      (λ y passes. told_or P (AreApart to work) (¬ AreApart to work) (two to work) why (holds to work)))
+  told_opens : {Y : Type 0} (from to : Path) (source_pass target_pass : List ℕ) (next : OpenedVault → OpenedVault → Result Y G → Type 0)
+      → ((source target : Vault) → Loads (under from v) source_pass (Ok source) → Loads (under to v) target_pass (Ok target) → next (opened_in from source) (opened_in to target) (Err why) → P why)
+      → Opens told v from to source_pass target_pass next (Err why) → P why
+  told_opens from to source_pass target_pass next rest =
+      told_then P (λ refusal. told (of_refusal sides.Source from refusal)) (Loads (under from v) source_pass)
+      (λ source. Then (λ refusal. told (of_refusal sides.Target to refusal)) (Loads (under to v) target_pass) (λ target. next (opened_in from source) (opened_in to target))) why
+      (λ refusal refused. holds (of_refusal sides.Source from refusal))
+      (λ source loads. told_then P (λ refusal. told (of_refusal sides.Target to refusal)) (Loads (under to v) target_pass) (λ target. next (opened_in from source) (opened_in to target)) why
+      (λ refusal refused. holds (of_refusal sides.Target to refusal)) (λ target loads_too. rest source target loads loads_too))
 
-told_names : (P : MoveFault → Type 0) → ((at : plain.Path) → P (moves.NotAllowed at)) → (f : Format) (items : List Planned) (why : MoveFault) → TestsNames f items (Err why) → P why
-told_names P holds f [] why is = cc is
-told_names P holds f (item ∷ items) why tested =
-    told_then P own (PassesOr (AllowsLast f item.path) (ForbidsLast f item.path) (moves.NotAllowed item.path)) (λ (_ : Unit {0}). TestsNames f items) why
-    (λ fault. told_or P (AllowsLast f item.path) (ForbidsLast f item.path) (moves.NotAllowed item.path) fault (holds item.path)) (λ x passed. told_names P holds f items why) tested
+  told_walks : {Y : Type 0} (a b : OpenedVault) (next : List Planned → List Planned → Result Y G → Type 0) → ((items there : List Planned) → next items there (Err why) → P why)
+      → WalksBoth told a b v next (Err why) → P why
+  told_walks a b next rest =
+      told_then P (λ fault. told (of_walk fault)) (Walks a v) (λ items. Then (λ fault. told (of_walk fault)) (Walks b v) (λ there. next items there)) why (λ fault refused. holds (of_walk fault))
+      (λ items walked. told_then P (λ fault. told (of_walk fault)) (Walks b v) (λ there. next items there) why (λ fault refused. holds (of_walk fault)) (λ there walked_too. rest items there))
+
+-- and so it is of a plan that isn't mapped
+told_maps : {Y G : Type 0} (P : G → Type 0) (told : MapFault → G) → ((fault : MapFault) → P (told fault)) → (rule : NameMap) (items : List Planned) (next : List Planned → Result Y G → Type 0) (why : G)
+    → ((mapped : List Planned) → next mapped (Err why) → P why) → Then told (MapsTo rule items) (λ plan. next plan.items) (Err why) → P why
+told_maps P told holds rule items next why rest = told_then P told (MapsTo rule items) (λ plan. next plan.items) why (λ fault refused. holds fault) (λ plan maps. rest plan.items)
+
+told_names : (P : MoveFault → Type 0) → ((at : plain.Path) → P (moves.NotAllowed at)) → (rule : NameMap) (f : Format) (items : List Planned) (why : MoveFault) → TestsNames rule f items (Err why) → P why
+told_names P holds rule f [] why is = cc is
+told_names P holds rule f (item ∷ items) why tested =
+    told_then P own (PassesOr (AllowsMappedLast rule f item.path) (ForbidsMappedLast rule f item.path) (moves.NotAllowed item.path)) (λ (_ : Unit {0}). TestsNames rule f items) why
+    (λ fault. told_or P (AllowsMappedLast rule f item.path) (ForbidsMappedLast rule f item.path) (moves.NotAllowed item.path) fault (holds item.path)) (λ x passed. told_names P holds rule f items why) tested
+
+told_mapped : (P : MoveFault → Type 0) → ((at : plain.Path) → P (moves.NotAllowed at)) → ((fault : MapFault) → P (of_map fault)) → (rule : NameMap) (f : Format) (items : List Planned)
+    (next : List Planned → Result placing.Done MoveFault → Type 0) (why : MoveFault) → ((mapped : List Planned) → next mapped (Err why) → P why) → TestsMapped rule f items next (Err why) → P why
+told_mapped P forbids holds rule f items next why rest =
+    told_then P own (TestsNames rule f items) (λ (_ : Unit {0}). Then of_map (MapsTo rule items) (λ plan. next plan.items)) why (λ fault. told_names P forbids rule f items fault)
+    (λ x passed. told_maps P of_map holds rule items next why rest)
 
 told_empty : (P : MoveFault → Type 0) → ((at : Path) → P (moves.NotEmpty at)) → (there : List Planned) (why : MoveFault) → TestsEmpty there (Err why) → P why
 told_empty P holds [] why is = cc is
@@ -127,9 +157,13 @@ work_or : (X : Type 0) (fault : WorkFault) → OnDiffer X (of_work fault)
 work_or X works.Failed = tt
 work_or X fault = tt
 
-walk_or : (X : Type 0) (fault : WalkFault) → OnDiffer X (of_walk fault)
-walk_or X walks.Failed = tt
-walk_or X fault = tt
+step_or : (X : Type 0) (fault : StepFault) → OnDiffer X (of_step fault)
+step_or X steps.Failed = tt
+step_or X fault = tt
+
+map_or : (X : Type 0) (fault : MapFault) → OnDiffer X (of_map fault)
+map_or X maps.NoMemory = tt
+map_or X fault = tt
 
 stop_or : (Is X : Type 0) (Q : PutFault → Type 0) → (¬ Is → X) → (fault : MoveFault) → IsStop Is Q fault → OnDiffer X fault
 stop_or Is X Q not (moves.Differ path how) stops = not stops
@@ -145,15 +179,12 @@ module _ (from to work : Path) (source_pass target_pass : List ℕ) (v : View) (
   SharesFolder =
       (source target : Vault) × Loads (under from v) source_pass (Ok source) × Loads (under to v) target_pass (Ok target) × (¬ HaveOwnFolders (opened_in from source) (opened_in to target) v)
 
-  module _ (a b : OpenedVault) (shares : ¬ HaveOwnFolders a b v → SharesFolder) where
+  module _ (rule : NameMap) (a b : OpenedVault) (shares : ¬ HaveOwnFolders a b v → SharesFolder) where
     abbrev moved : List Planned → Result placing.Done MoveFault → Type 0
     moved items = Moves (EntersAs v work) a b v items
 
-    abbrev allowed : List Planned → Result placing.Done MoveFault → Type 0
-    allowed items = Then own (TestsNames (format_of b.vault) items) (λ (_ : Unit {0}). moved items)
-
     abbrev emptied : List Planned → List Planned → Result placing.Done MoveFault → Type 0
-    emptied items there = Then own (TestsEmpty there) (λ (_ : Unit {0}). allowed items)
+    emptied items there = Then own (TestsEmpty there) (λ (_ : Unit {0}). TestsMapped rule (format_of b.vault) items moved)
 
     moved_or : (items : List Planned) → moved items (Err why) → OnDiffer SharesFolder why
     moved_or items =
@@ -162,28 +193,19 @@ module _ (from to work : Path) (source_pass target_pass : List ℕ) (v : View) (
 
     emptied_or : (items there : List Planned) → emptied items there (Err why) → OnDiffer SharesFolder why
     emptied_or items there =
-        told_then (OnDiffer SharesFolder) own (TestsEmpty there) (λ (_ : Unit {0}). allowed items) why (λ fault. told_empty (OnDiffer SharesFolder) (λ at. tt) there fault)
-        (λ x passed. told_then (OnDiffer SharesFolder) own (TestsNames (format_of b.vault) items) (λ (_ : Unit {0}). moved items) why
-        (λ fault. told_names (OnDiffer SharesFolder) (λ at. tt) (format_of b.vault) items fault) (λ y passes. moved_or items))
+        told_then (OnDiffer SharesFolder) own (TestsEmpty there) (λ (_ : Unit {0}). TestsMapped rule (format_of b.vault) items moved) why (λ fault. told_empty (OnDiffer SharesFolder) (λ at. tt) there fault)
+        (λ x passed. told_mapped (OnDiffer SharesFolder) (λ at. tt) (map_or SharesFolder) rule (format_of b.vault) items moved why moved_or)
 
-    with_or : BeginsWith {Y = placing.Done} a b work v (Err why) → OnDiffer SharesFolder why
-    with_or =
-        told_then (OnDiffer SharesFolder) of_walk (Walks a v) (λ items. Then of_walk (Walks b v) (λ there. emptied items there)) why (λ fault refused. walk_or SharesFolder fault)
-        (λ items walked. told_then (OnDiffer SharesFolder) of_walk (Walks b v) (λ there. emptied items there) why (λ fault refused. walk_or SharesFolder fault) (λ there walked_too. emptied_or items there))
+    with_or : BeginsWith {Y = placing.Done} rule a b work v (Err why) → OnDiffer SharesFolder why
+    with_or = told_walks (OnDiffer SharesFolder) of_step (step_or SharesFolder) v why a b emptied emptied_or
 
-  opens_or : Opens {Y = placing.Done} v from to source_pass target_pass (λ a b. BeginsWith a b work v) (Err why) → OnDiffer SharesFolder why
-  opens_or =
-      told_then (OnDiffer SharesFolder) (of_refusal sides.Source from) (Loads (under from v) source_pass)
-      (λ source. Then (of_refusal sides.Target to) (Loads (under to v) target_pass) (λ target. BeginsWith {Y = placing.Done} (opened_in from source) (opened_in to target) work v)) why (λ refusal refused. tt)
-      (λ source loads. told_then (OnDiffer SharesFolder) (of_refusal sides.Target to) (Loads (under to v) target_pass) (λ target. BeginsWith {Y = placing.Done} (opened_in from source) (opened_in to target) work v) why (λ refusal refused. tt)
-      (λ target loads_too. with_or (opened_in from source) (opened_in to target) (λ shared. (source, target, loads, loads_too, shared))))
-
-  begins_or : Begins {Y = placing.Done} from to work source_pass target_pass v (Err why) → OnDiffer SharesFolder why
-  begins_or =
-      told_then (OnDiffer SharesFolder) own (TestsApart from to work) (λ (_ : Unit {0}). BeginsApart {Y = placing.Done} from to work source_pass target_pass v) why
-      (λ fault. told_apart (OnDiffer SharesFolder) moves.Overlap (λ p q. tt) from to work fault)
-      (λ x passed. told_then (OnDiffer SharesFolder) of_work (Tests v work) (λ (_ : Unit {0}). Opens {Y = placing.Done} v from to source_pass target_pass (λ a b. BeginsWith a b work v)) why
-      (λ fault refused. work_or SharesFolder fault) (λ y passes. opens_or))
+  begins_or : (rule : NameMap) → Begins {Y = placing.Done} rule from to work source_pass target_pass v (Err why) → OnDiffer SharesFolder why
+  begins_or rule =
+      told_apart (OnDiffer SharesFolder) of_step (step_or SharesFolder) v why from to work (λ (_ : Unit {0}). BeginsApart {Y = placing.Done} rule from to work source_pass target_pass v)
+      (told_then (OnDiffer SharesFolder) of_work (Tests v work) (λ (_ : Unit {0}). Opens {Y = placing.Done} of_step v from to source_pass target_pass (λ a b. BeginsWith rule a b work v)) why
+      (λ fault refused. work_or SharesFolder fault)
+      (λ y passes. told_opens (OnDiffer SharesFolder) of_step (step_or SharesFolder) v why from to source_pass target_pass (λ a b. BeginsWith {Y = placing.Done} rule a b work v)
+      (λ source target loads loads_too. with_or rule (opened_in from source) (opened_in to target) (λ shared. (source, target, loads, loads_too, shared)))))
 
 -- ---- `resume`
 
@@ -205,9 +227,13 @@ not_by_stage : (v : View) (work : Path) (fault : WorkFault) → Empties v work (
 not_by_stage v work works.Begun empties = absurd empties
 not_by_stage v work fault empties = tt
 
-not_by_walk : (fault : WalkFault) → NotBegun (of_walk fault)
-not_by_walk walks.Failed = tt
-not_by_walk fault = tt
+not_by_step : (fault : StepFault) → NotBegun (of_step fault)
+not_by_step steps.Failed = tt
+not_by_step fault = tt
+
+not_by_map : (fault : MapFault) → NotBegun (of_map fault)
+not_by_map maps.NoMemory = tt
+not_by_map fault = tt
 
 not_by_match : (fault : MatchFault) → NotBegun (of_match fault)
 not_by_match matches.Failed = tt
@@ -244,36 +270,30 @@ module _ (work : Path) (source_pass target_pass : List ℕ) (v : View) (why : Mo
         told_then NotBegun of_match (Compares b there a items v) (λ m. Then own (TestsHeld m) (λ (_ : Unit {0}). goes items)) why (λ fault compared. not_by_match fault)
         (λ m compared. told_then NotBegun own (TestsHeld m) (λ (_ : Unit {0}). goes items) why (not_by_difference m) (λ x passed. goes_not items))
 
-    items_not : (items there : List Planned) → TestsItems a b journal v items there (goes items) (Err why) → NotBegun why
+    items_not : (items there : List Planned) → TestsItems a b journal v items there goes (Err why) → NotBegun why
     items_not items there =
-        told_then NotBegun own (TestsTold journal items) (λ (_ : Unit {0}). Then own (TestsNames (format_of b.vault) items) (λ (_ : Unit {0}). compares items there)) why
+        told_then NotBegun own (TestsTold journal items) (λ (_ : Unit {0}). TestsMapped journal.names (format_of b.vault) items (λ mapped. compares mapped there)) why
         (λ fault. told_or NotBegun (AreTold journal items) (¬ AreTold journal items) (moves.Changed journal.plan journal.items (plan_digest items) (length items)) fault tt)
-        (λ x passed. told_then NotBegun own (TestsNames (format_of b.vault) items) (λ (_ : Unit {0}). compares items there) why (λ fault. told_names NotBegun (λ at. tt) (format_of b.vault) items fault)
-        (λ y passes. compares_not items there))
+        (λ x passed. told_mapped NotBegun (λ at. tt) not_by_map journal.names (format_of b.vault) items (λ mapped. compares mapped there) why (λ mapped. compares_not mapped there))
 
     with_not : ResumesWith {Y = placing.Done} a b work journal v (Err why) → NotBegun why
-    with_not =
-        told_then NotBegun of_walk (Walks a v) (λ items. Then of_walk (Walks b v) (λ there. TestsItems a b journal v items there (goes items))) why (λ fault walked. not_by_walk fault)
-        (λ items walked. told_then NotBegun of_walk (Walks b v) (λ there. TestsItems a b journal v items there (goes items)) why (λ fault walked_too. not_by_walk fault) (λ there walked_too. items_not items there))
+    with_not = told_walks NotBegun of_step not_by_step v why a b (λ items there. TestsItems a b journal v items there goes) items_not
 
   told_not : (journal : Journal) → ResumesTold {Y = placing.Done} work source_pass target_pass v journal (Err why) → NotBegun why
   told_not journal =
       told_then NotBegun own (TestsSource journal.phase work journal.source v)
-      (λ (_ : Unit {0}). Opens {Y = placing.Done} v journal.source journal.target source_pass target_pass (λ a b. ResumesWith a b work journal v)) why (not_by_source journal.phase work journal.source v)
-      (λ x passed. told_then NotBegun (of_refusal sides.Source journal.source) (Loads (under journal.source v) source_pass)
-      (λ source. Then (of_refusal sides.Target journal.target) (Loads (under journal.target v) target_pass) (λ target. ResumesWith {Y = placing.Done} (opened_in journal.source source) (opened_in journal.target target) work journal v)) why
-      (λ refusal refused. tt)
-      (λ source loads. told_then NotBegun (of_refusal sides.Target journal.target) (Loads (under journal.target v) target_pass) (λ target. ResumesWith {Y = placing.Done} (opened_in journal.source source) (opened_in journal.target target) work journal v) why
-      (λ refusal refused. tt) (λ target loads_too. with_not journal (opened_in journal.source source) (opened_in journal.target target))))
+      (λ (_ : Unit {0}). Opens {Y = placing.Done} of_step v journal.source journal.target source_pass target_pass (λ a b. ResumesWith a b work journal v)) why (not_by_source journal.phase work journal.source v)
+      (λ x passed. told_opens NotBegun of_step not_by_step v why journal.source journal.target source_pass target_pass (λ a b. ResumesWith {Y = placing.Done} a b work journal v)
+      (λ source target loads loads_too. with_not journal (opened_in journal.source source) (opened_in journal.target target)))
 
   resumes_not : Resumes {Y = placing.Done} work source_pass target_pass v (Err why) → NotBegun why
   resumes_not =
       told_then NotBegun of_journal (ReadsAs (journal_bytes v work))
-      (λ journal. Then own (TestsApart journal.source journal.target work) (λ (_ : Unit {0}). Then of_work (TestsEntries (is_done journal.phase) v work) (λ (_ : Unit {0}). ResumesTold {Y = placing.Done} work source_pass target_pass v journal))) why
+      (λ journal. Then of_step (TestsApart journal.source journal.target work) (λ (_ : Unit {0}). Then of_work (TestsEntries (is_done journal.phase) v work) (λ (_ : Unit {0}). ResumesTold {Y = placing.Done} work source_pass target_pass v journal))) why
       (λ fault reads. not_by_journal fault)
-      (λ journal reads. told_then NotBegun own (TestsApart journal.source journal.target work) (λ (_ : Unit {0}). Then of_work (TestsEntries (is_done journal.phase) v work) (λ (_ : Unit {0}). ResumesTold {Y = placing.Done} work source_pass target_pass v journal)) why
-      (λ fault. told_apart NotBegun moves.Overlap (λ p q. tt) journal.source journal.target work fault)
-      (λ x passed. told_then NotBegun of_work (TestsEntries (is_done journal.phase) v work) (λ (_ : Unit {0}). ResumesTold {Y = placing.Done} work source_pass target_pass v journal) why
+      (λ journal reads. told_apart NotBegun of_step not_by_step v why journal.source journal.target work
+      (λ (_ : Unit {0}). Then of_work (TestsEntries (is_done journal.phase) v work) (λ (_ : Unit {0}). ResumesTold {Y = placing.Done} work source_pass target_pass v journal))
+      (told_then NotBegun of_work (TestsEntries (is_done journal.phase) v work) (λ (_ : Unit {0}). ResumesTold {Y = placing.Done} work source_pass target_pass v journal) why
       (not_by_entries (is_done journal.phase) v work) (λ y passes. told_not journal)))
 
 -- ---- `retire`
@@ -291,9 +311,13 @@ never_by_entries old v work works.Begun (inl passed) = cc passed.1
 never_by_entries old v work works.Begun (inr first) = cc first.2
 never_by_entries old v work fault tested = tt
 
-never_by_walk : (fault : WalkFault) → NeverBegun (retired.of_walk fault)
-never_by_walk walks.Failed = tt
-never_by_walk fault = tt
+never_by_step : (fault : StepFault) → NeverBegun (retired.of_step fault)
+never_by_step steps.Failed = tt
+never_by_step fault = tt
+
+never_by_map : (fault : MapFault) → NeverBegun (retired.of_map fault)
+never_by_map maps.NoMemory = tt
+never_by_map fault = tt
 
 never_by_match : (fault : MatchFault) → NeverBegun (retired.of_match fault)
 never_by_match matches.Failed = tt
@@ -322,34 +346,25 @@ module _ (work : Path) (source_pass target_pass : List ℕ) (v : View) where
       told_then NeverBegun retired.of_journal (ReadsAs (journal_bytes v work)) (λ (journal : Journal). retiring.TestsPhase journal journal.phase) why (λ fault reads. never_by_journal fault)
       (λ journal reads. never_by_phase journal journal.phase why)
 
-  opens_never : (side : Side) (root : Path) (pass : List ℕ) (why : RetireFault) → retiring.Opens side root pass v (Err why) → NeverBegun why
-  opens_never side root pass why =
-      told_then NeverBegun (retiring.of_refusal side root) (Loads (under root v) pass) (λ (vault : Vault). retiring.Passes (opened_in root vault)) why (λ refusal refused. tt) (λ vault loads. passes_not (opened_in root vault) why)
-
-  clean_never : (a : OpenedVault) (why : RetireFault) → retiring.TestsClean a v (Err why) → NeverBegun why
-  clean_never a why = told_then NeverBegun retired.of_walk (Walks a v) retiring.Passes why (λ fault walked. never_by_walk fault) (λ items walked. passes_not items why)
-
   items_never : (a : OpenedVault) (items : List Planned) (b : OpenedVault) (others : List Planned) (why : RetireFault) → retiring.TestsItems a items b others v (Err why) → NeverBegun why
   items_never a items b others why =
       told_then NeverBegun retired.of_match (Compares a items b others v) retiring.TestsMatch why (λ fault compared. never_by_match fault) (λ m compared. never_by_difference m why)
 
-  vaults_never : (a b : OpenedVault) (why : RetireFault) → retiring.TestsVaults a b v (Err why) → NeverBegun why
-  vaults_never a b why =
-      told_then NeverBegun own (retiring.TestsClean a v) (λ items. Then own (retiring.TestsClean b v) (λ others. retiring.TestsItems a items b others v)) why (clean_never a)
-      (λ items clean. told_then NeverBegun own (retiring.TestsClean b v) (λ others. retiring.TestsItems a items b others v) why (clean_never b) (λ others clean_too. items_never a items b others why))
+  vaults_never : (rule : NameMap) (a b : OpenedVault) (why : RetireFault) → retiring.TestsVaults rule a b v (Err why) → NeverBegun why
+  vaults_never rule a b why =
+      told_walks NeverBegun retired.of_step never_by_step v why a b (λ items others. Then retired.of_map (MapsTo rule items) (λ mapped. retiring.TestsItems a mapped.items b others v))
+      (λ items others. told_maps NeverBegun retired.of_map never_by_map rule items (λ mapped. retiring.TestsItems a mapped b others v) why (λ mapped. items_never a mapped b others why))
 
-  held_never : (from to : Path) (why : RetireFault) → retiring.TestsHeld from to source_pass target_pass v (Err why) → NeverBegun why
-  held_never from to why =
-      told_then NeverBegun own (retiring.Opens sides.Source from source_pass v) (λ source. Then own (retiring.Opens sides.Target to target_pass v) (λ target. retiring.TestsVaults source target v)) why
-      (opens_never sides.Source from source_pass)
-      (λ source opens. told_then NeverBegun own (retiring.Opens sides.Target to target_pass v) (λ target. retiring.TestsVaults source target v) why (opens_never sides.Target to target_pass)
-      (λ target opens_too. vaults_never source target why))
+  held_never : (rule : NameMap) (from to : Path) (why : RetireFault) → retiring.TestsHeld rule from to source_pass target_pass v (Err why) → NeverBegun why
+  held_never rule from to why =
+      told_opens NeverBegun retired.of_step never_by_step v why from to source_pass target_pass (λ a b. retiring.TestsVaults rule a b v)
+      (λ source target loads loads_too. vaults_never rule (opened_in from source) (opened_in to target) why)
 
   away_never : (journal : Journal) (why : RetireFault) → retiring.TestsAway work source_pass target_pass journal v (Err why) → NeverBegun why
   away_never journal why (inl gone) = cc gone.1
   away_never journal why (inr there) =
-      told_then NeverBegun own (retiring.TestsFree work v) (λ (_ : Unit {0}). retiring.TestsHeld journal.source journal.target source_pass target_pass v) why
-      (λ fault. told_or NeverBegun (v (old_path work) ≡ NoEntry) (v (old_path work) ≢ NoEntry) (retires.Work (works.Foreign (old_path work))) fault tt) (λ x free. held_never journal.source journal.target why) there.1
+      told_then NeverBegun own (retiring.TestsFree work v) (λ (_ : Unit {0}). retiring.TestsHeld journal.names journal.source journal.target source_pass target_pass v) why
+      (λ fault. told_or NeverBegun (v (old_path work) ≡ NoEntry) (v (old_path work) ≢ NoEntry) (retires.Work (works.Foreign (old_path work))) fault tt) (λ x free. held_never journal.names journal.source journal.target why) there.1
 
   removal_never : (at : Path) (w : View) (why : RetireFault) → retiring.TestsRemoval at w (Err why) → NeverBegun why
   removal_never at w why =
@@ -372,11 +387,11 @@ module _ (work : Path) (source_pass target_pass : List ℕ) (v : View) where
   retires_never : (why : RetireFault) → retiring.Retires work source_pass target_pass v (Err why) → NeverBegun why
   retires_never why =
       told_then NeverBegun own (retiring.ReadsDone work v)
-      (λ journal. Then own (retiring.TestsApart journal.source journal.target work) (λ (_ : Unit {0}). Then retired.of_work (TestsEntries true v work) (λ (_ : Unit {0}). retiring.RetiresTold work source_pass target_pass journal v))) why
+      (λ journal. Then retired.of_step (TestsApart journal.source journal.target work) (λ (_ : Unit {0}). Then retired.of_work (TestsEntries true v work) (λ (_ : Unit {0}). retiring.RetiresTold work source_pass target_pass journal v))) why
       reads_never
-      (λ journal reads. told_then NeverBegun own (retiring.TestsApart journal.source journal.target work) (λ (_ : Unit {0}). Then retired.of_work (TestsEntries true v work) (λ (_ : Unit {0}). retiring.RetiresTold work source_pass target_pass journal v)) why
-      (λ fault. told_apart NeverBegun retires.Overlap (λ p q. tt) journal.source journal.target work fault)
-      (λ x passed. told_then NeverBegun retired.of_work (TestsEntries true v work) (λ (_ : Unit {0}). retiring.RetiresTold work source_pass target_pass journal v) why (never_by_entries true v work)
+      (λ journal reads. told_apart NeverBegun retired.of_step never_by_step v why journal.source journal.target work
+      (λ (_ : Unit {0}). Then retired.of_work (TestsEntries true v work) (λ (_ : Unit {0}). retiring.RetiresTold work source_pass target_pass journal v))
+      (told_then NeverBegun retired.of_work (TestsEntries true v work) (λ (_ : Unit {0}). retiring.RetiresTold work source_pass target_pass journal v) why (never_by_entries true v work)
       (λ y passes. gone_never journal why)))
 
 -- ---- the answers
@@ -470,7 +485,7 @@ migrate_told moving answer before after v seen folders did = by (first_overlap m
     by_cause source_pass target_pass phrases fault (inl failed) = subst (OnDiffer ⊥) (sym (fault_is fault moves.Failed failed)) tt
     by_cause source_pass target_pass phrases fault (inr (inl memory)) = subst (OnDiffer ⊥) (sym (fault_is fault moves.NoMemory memory)) tt
     by_cause source_pass target_pass phrases fault (inr (inr begins)) =
-        less_differs (SharesFolder moving.source moving.target moving.work source_pass target_pass v fault) (no_share source_pass target_pass phrases) fault (begins_or moving.source moving.target moving.work source_pass target_pass v fault begins)
+        less_differs (SharesFolder moving.source moving.target moving.work source_pass target_pass v fault) (no_share source_pass target_pass phrases) fault (begins_or moving.source moving.target moving.work source_pass target_pass v fault rules.Same begins)
 
     by_outcome : (source_pass target_pass : List ℕ) → ArePhrases moving.passes source_pass target_pass v → (outcome : Outcome) → migrating.IsCaused moving v source_pass target_pass outcome
         → AnswersMove moving.work (migrating.IsRootOf moving) answer outcome → EndsTold (Some (Migrate moving)) answer

@@ -17,11 +17,11 @@ use command_words::Command;
 use command_words::laws::demonstrations_are_small;
 use demonstration::demo;
 use folder_model::Folder;
+use migration_spec::laws::guarded_migrations_are_safe;
 use moving_commands::{migrate, resume, retire};
 use port_model::{Randoms, Sink, Source};
 use reading_commands::{cat, decrypt_file, ls};
 use std::alloc::Global;
-use tree_match::laws::guarded_migrations_are_safe;
 use writing_commands::{init, mkdir, put};
 
 /// Does what the words after the program's name ask for, and answers the status to end with. Every status but 0 and 1 writes its line

@@ -12,7 +12,7 @@ use Rattle.folder_spec.specs.View.{Found, NoEntry, Folder, FileOf, Special, View
 use Rattle.vault_faults.specs.declared.fault.CatFault.{CatFault}
 use Rattle.vault_faults.specs.declared.fault.CatFault.TheVariants as cats
 use Rattle.vault_faults.specs.declared.fault.Limit.TheVariants.{Depth, Items, Input, Length}
-use Rattle.vault_read.specs.Contents.{Reader, Suits, Passes, Stops, GivesBytes, IsBeingRead, still}
+use Rattle.vault_read.specs.Contents.{Reader, Suits, Passes, Stops, IsBeingRead, still}
 use Rattle.vault_read.specs.Contents as read
 use Rattle.content_writing.specs.Content.{Coming, Whole, Damaged, TooLong, ends, bytes_before, IsTold, Steps, Gives}
 use Rattle.vault_contents.specs.Coming.{ending_of, held_before, suits, fitting, coming_read}

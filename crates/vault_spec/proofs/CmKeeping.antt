@@ -16,7 +16,7 @@ use Rattle.vault_names.specs.Cryptomator.{cm_stored, cm_folder_of}
 use Rattle.vault_spec.specs.Format.{Directory, FileItem, DirectoryItem, Expected, Shelf, ContentFolder, Extra}
 use Rattle.vault_spec.specs.Cryptomator.{CmVault, cm_format, top, id_file, content_file, full_file, directory_id, shelf_named, content_folder, is_base32_text, cm_role, file_role, folder_role, inner_role, full_files, new_file_edit, taken_entry}
 use Rattle.vault_spec.specs.Standing.{Standing, Absent, Strange, File, Dir, entry_at, standing_in}
-use Rattle.vault_spec.specs.Opens.{Opened, opened_file}
+use Rattle.vault_spec.specs.Opens.{opened_file}
 use Rattle.vault_spec.specs.Opens as opens
 use Rattle.vault_spec.specs.Reached.{Leads}
 use Rattle.vault_spec.specs.Alike.{IsOrderly}

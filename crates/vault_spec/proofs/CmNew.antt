@@ -5,7 +5,6 @@ use Rattle.folder_spec.specs.Path.{Part, Path, child, below}
 use Rattle.folder_spec.specs.View.{Found, NoEntry, Folder, FileOf, Special, View}
 use Rattle.folder_spec.specs.Edit.{edited, directory_edit, folder_view}
 use Rattle.plain_tree.specs.Names as plain
-use Rattle.plain_tree.specs.Names.{is_name}
 use Rattle.vault_keys.specs.declared.keys.CmKeys.{CmKeys}
 use Rattle.vault_names.specs.Cryptomator.{cm_stored, cm_folder_of}
 use Rattle.vault_spec.specs.declared.Finding.{Finding}
@@ -17,7 +16,7 @@ use Rattle.vault_spec.specs.Cryptomator.{CmVault, cm_format, top, shelf_named, f
 use Rattle.vault_spec.specs.RootFiles.{is_root_file}
 use Rattle.vault_spec.specs.Standing.{Dir, item_at}
 use Rattle.vault_spec.specs.Reached.{Leads}
-use Rattle.vault_spec.specs.Findings.{IsUnnamed, IsDirectoryItem, IsLocked, IsOrphanName, IsOrphanFolder, IsInside, IsExtra, IsClean}
+use Rattle.vault_spec.specs.Findings.{IsUnnamed, IsDirectoryItem, IsLocked, IsOrphanName, IsOrphanFolder, IsInside, IsClean}
 use Rattle.vault_spec.specs.Findings as findings
 use Rattle.vault_spec.specs.Alike.{IsNoItem}
 use Rattle.vault_spec.specs.Empty.{IsEmptyVault}

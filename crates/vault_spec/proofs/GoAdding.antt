@@ -18,7 +18,7 @@ use Rattle.vault_spec.specs.declared.Lack.TheVariants.{NoFolder}
 use Rattle.vault_spec.specs.Format.{Directory, file_bytes, is_folder, taken_at, key_of}
 use Rattle.vault_spec.specs.Gocryptfs.{key_file, full_name, directory_key, go_item, go_format, full_edits, full_edits_at, taken_unless, go_taken}
 use Rattle.vault_spec.specs.Standing.{File, Dir, entry_at, is_file_of, holds, holds_full, standing_of, standing_in, directory_with}
-use Rattle.vault_spec.specs.Opens.{Opened, Content, opened_at, opened_file}
+use Rattle.vault_spec.specs.Opens.{Opened, opened_at, opened_file}
 use Rattle.vault_spec.specs.Opens as opens
 use Rattle.vault_spec.specs.Reached.{Leads}
 use Rattle.vault_spec.specs.Alike.{IsNoItem, HasFolders, IsLeaf}

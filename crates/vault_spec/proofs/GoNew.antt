@@ -15,7 +15,7 @@ use Rattle.vault_spec.specs.declared.Finding.TheVariants as is
 use Rattle.vault_spec.specs.Format.{Directory, Nothing, NoItem}
 use Rattle.vault_spec.specs.Gocryptfs.{key_file, directory_key, go_format, is_full_name}
 use Rattle.vault_spec.specs.Standing.{Dir, entry_at, standing_in, directory_with}
-use Rattle.vault_spec.specs.Findings.{Belongs, IsUnnamed, IsDirectoryItem, IsLocked, IsOrphanName, IsTwice, IsClean}
+use Rattle.vault_spec.specs.Findings.{Belongs, IsUnnamed, IsDirectoryItem, IsLocked, IsOrphanName, IsClean}
 use Rattle.vault_spec.specs.Findings as findings
 use Rattle.vault_spec.specs.Alike.{IsNoItem}
 use Rattle.vault_spec.specs.Empty.{IsEmptyVault}

@@ -6,7 +6,6 @@ use Rattle.folder_spec.specs.View.{Found, NoEntry, Folder, FileOf, Special, View
 use Rattle.folder_spec.specs.Edit.{Edit, file_edit, folder_edit, view_after}
 use Rattle.vault_keys.specs.declared.keys.GoKeys.{GoKeys}
 use Rattle.plain_tree.specs.Names as plain
-use Rattle.plain_tree.specs.Names.{is_name}
 use Rattle.vault_names.specs.Gocryptfs.{stored}
 use Rattle.vault_spec.specs.Format.{Directory, Expected, ContentFolder}
 use Rattle.vault_spec.specs.Gocryptfs.{key_file, full_name, is_full_name, directory_key, go_format, full_edits, full_edits_at}

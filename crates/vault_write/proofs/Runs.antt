@@ -1,16 +1,11 @@
 -- Runs of calls of which more is known.
-use Rattle.std.proofs.Common.{arith, ◌≡◌, ℕ, ◌<◌, ◌≤◌, Bool, true, false, List, [], ◌∷◌, ◌++◌, refl, sym, ap, ◌∙◌, inl, subst, IsTrue, nat_lt, ltb-true, ltb-false}
+use Rattle.std.proofs.Common.{◌≡◌, List, [], ◌∷◌, ◌++◌, inl, IsTrue}
 use Rattle.folder_spec.specs.declared.Spot.{Spot}
-use Rattle.folder_spec.specs.declared.Spot.TheVariants.{Nothing, Directory, FileNode, Odd}
 use Rattle.folder_spec.specs.Path.{Part, Path, child}
-use Rattle.folder_spec.specs.State.{State, Table, Node, present, IsSound, IsTableOf}
+use Rattle.folder_spec.specs.State.{State}
 use Rattle.folder_spec.specs.Event.{Call, MakeDir, Create, Append, Sync, Settle, Rename, RemoveFile, RemoveDir, Event, after, Told}
 use Rattle.folder_spec.specs.Moments.{EachState, EachEvent, Went}
-use Rattle.folder_spec.specs.Region.{AlikeIn, IsAsBefore, StagesAt, at_or_below}
-use Rattle.folder_spec.specs.Seen.{seen}
-use Rattle.folder_spec.specs.View.{FileOf, found}
-use Rattle.folder_spec.specs.Written.{IsFrontOfOne, HoldFronts}
-use Rattle.folder_spec.proofs.Tables.{present_is_table}
+use Rattle.folder_spec.specs.Region.{StagesAt, at_or_below}
 use Rattle.work_folder.specs.Entries.{stage_path}
 use Rattle.content_writing.specs.Making.{Making, is_staged, StagesOrPlaces}
 use Rattle.vault_write.proofs.Stages.{in_stage, at_root}

@@ -11,6 +11,7 @@ use Rattle.demonstration.specs.DemoTrees.{moving_folder, target_of}
 use Rattle.demonstration.proofs.DemoDraws.{drew_none, moving_drew}
 use Rattle.demonstration.proofs.Beginnable.{Stops, begun_ends, status_ends, stops_by}
 use Rattle.demonstration.proofs.Movable.{AreMovable}
+use Rattle.demonstration.proofs.SharedPlaces.{WalksStay}
 use Rattle.demonstration.proofs.Steps.{is_carried}
 use Rattle.demonstration.proofs.leading.migrate.Goals as goal
 
@@ -39,7 +40,7 @@ pub returns-in-Ok-clause-carried : goal.returns-in-Ok-clause-carried
 returns-in-Ok-clause-carried g c same count sees =
     let t = g.F.Folder.told c.args.folder.now in
     let u = g.F.Folder.told c.begin.new.folder in
-    is_carried c.roots_show_their_own.ensures.alike c.roots_have_one_answer.ensures c.trees_have_so_many_items.ensures c.plans_are_the_tree.ensures c.args.leg count t u (λ a is. g.met.F.Folder.sound c.args.folder.now a is)
+    is_carried c.roots_show_their_own.ensures.alike c.roots_have_one_answer.ensures c.trees_stay_by_same.ensures.mapped c.trees_have_so_many_items.ensures c.plans_are_the_tree.ensures c.args.leg count t u (λ a is. g.met.F.Folder.sound c.args.folder.now a is)
     (returns-in-Ok-clause-moved g c same) (subst (λ w. IfSeen u (λ v. IsTidyWork w v)) c.in_ok-work.ensures.is c.in-Ok.ensures.tidy) sees
 
 pub returns-clause-status : goal.returns-clause-status
@@ -54,11 +55,19 @@ returns-clause-status g c count =
     let s' = g.R.Randoms.left c.begin.new.random in
     let t = g.F.Folder.told c.args.folder.now in
     let t' = g.F.Folder.told c.begin.new.folder in
-    let laws : AreMovable = record { names = c.names_of_items_are_allowed.ensures; short = c.items_are_directories_or_short_files.ensures; fits = c.trees_of_items_pass_no_limit.ensures; whole = c.small_contents_pass_no_limit.ensures.whole } in
+    let laws : AreMovable = record {
+      apart = c.trees_stay_by_same.ensures.apart;
+      named = c.names_of_items_are_allowed.ensures.named;
+      allowed = c.names_of_items_are_allowed.ensures.allowed;
+      short = c.items_are_directories_or_short_files.ensures;
+      fits = c.trees_of_items_pass_no_limit.ensures;
+      whole = c.small_contents_pass_no_limit.ensures.whole;
+    } in
+    let walks : WalksStay = λ v a mapped walk same. c.plans_stay_by_same.ensures a.items mapped (c.what_is_held_opens_the_same.ensures.matchable v a walk).ordered same in
     let stops : Stops leg fault f f' r r' s s' t t' = stops_by leg c.in_ok-source.source c.in_ok-target.target c.in_ok-work.work fault f f' r r' s s' t t' c.in_ok-source.ensures.is c.in_ok-target.ensures.is c.in_ok-work.ensures.is
     (record { blamed = c.in-Err.ensures.blamed; completes = c.in-Err.ensures.completes; too_long = c.in-Err.ensures.too_long; shared = c.in-Err.ensures.shared; written = c.in-Err.ensures.written; moves = c.begin.ensures.moves }) in
     status_ends (chances_by fault) (chances f f' r r' s s' t t' count (Sees (CanCarry leg) count t)) c.status_of.result
-    (λ status. begun_ends c.roots_show_their_own.ensures.alike c.roots_have_one_answer.ensures laws c.walks_tell_the_tree.ensures.plan c.small_contents_pass_no_limit.ensures.small leg fault f f' r r' s s' count t t' status (λ a is. g.met.F.Folder.sound c.args.folder.now a is) stops)
+    (λ status. begun_ends c.roots_show_their_own.ensures.alike c.roots_have_one_answer.ensures laws c.walks_tell_the_tree.ensures.plan walks (c.small_contents_pass_no_limit.ensures.small Same) leg fault f f' r r' s s' count t t' status (λ a is. g.met.F.Folder.sound c.args.folder.now a is) stops)
     (c.status_of.ensures.status c.in-Err.ensures.blamed.own c.in-Err.ensures.blamed.may)
 
 pub returns-in-Ok-clause-drew : goal.returns-in-Ok-clause-drew

@@ -16,7 +16,7 @@ returns-clause-carries g c =
     let u = g.F.Folder.told c.make_target.new.folder in
     let w = g.F.Folder.told c.migrate.new.folder in
     on_zero c.migrate.result (IsMoved (source_of leg) (target_of leg) u w) (WhereTold (Carries (kind_to leg) (source_of leg) (target_of leg)) t w)
-    (λ moved. leg_carries c.roots_show_their_own.ensures.alike c.roots_have_one_answer.ensures leg t u w (λ a is. g.met.F.Folder.sound c.args.folder.now a is) (λ a is. g.met.F.Folder.sound c.make_target.new.folder a is)
+    (λ moved. leg_carries c.roots_show_their_own.ensures.alike c.roots_have_one_answer.ensures c.trees_stay_by_same.ensures.mapped leg t u w (λ a is. g.met.F.Folder.sound c.args.folder.now a is) (λ a is. g.met.F.Folder.sound c.make_target.new.folder a is)
     c.in_ok-make_target.ensures.beside c.in_ok-make_target.ensures.new moved) c.migrate.ensures.moved
 
 pub returns-clause-drew : goal.returns-clause-drew

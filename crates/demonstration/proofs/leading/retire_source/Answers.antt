@@ -28,7 +28,14 @@ returns-in-Ok-clause-next g c count there sees =
 
 pub returns-clause-ends : goal.returns-clause-ends
 returns-clause-ends g c count sees =
-    let laws : AreMovable = record { names = c.names_of_items_are_allowed.ensures; short = c.items_are_directories_or_short_files.ensures; fits = c.trees_of_items_pass_no_limit.ensures; whole = c.small_contents_pass_no_limit.ensures.whole } in
+    let laws : AreMovable = record {
+      apart = c.trees_stay_by_same.ensures.apart;
+      named = c.names_of_items_are_allowed.ensures.named;
+      allowed = c.names_of_items_are_allowed.ensures.allowed;
+      short = c.items_are_directories_or_short_files.ensures;
+      fits = c.trees_of_items_pass_no_limit.ensures;
+      whole = c.small_contents_pass_no_limit.ensures.whole;
+    } in
     c.refused.ensures.folder
     (carried_retires laws c.walks_tell_the_tree.ensures.plan c.clean_vaults_are_shallow.ensures (IsOfFolder c.in-Err.fault) c.args.leg count c.in_ok-work.work (g.F.Folder.told c.args.folder.now) (λ a is. g.met.F.Folder.sound c.args.folder.now a is)
     c.in_ok-work.ensures.is c.in-Err.ensures.completes sees)

@@ -1,35 +1,38 @@
 use Rattle.std.proofs.Common.{IfErr, refl, inl}
 use Rattle.folder_spec.specs.Region.{apart_from_both}
-use Rattle.plain_tree.specs.declared.name_map.NameMap.TheVariants.{Same}
 use Rattle.migrate_core.proofs.Movings.{moves_nowhere, moves_on, settle_moves}
 use Rattle.migrate_core.proofs.Settled.{settle_fell, settle_then, still_guarded}
 use Rattle.migrate_core.proofs.Endings.{if_ok_more, moved_before}
-use Rattle.migrate_core.proofs.Settled.{settle_seen}
+use Rattle.migrate_core.proofs.Settled.{settle_seen, settle_was_seen}
 use Rattle.migrate_core.specs.Moved.{MovesTree}
-use Rattle.migrate_core.proofs.Causing.{folder_unless, own_passes, own_refused, refused_as}
-use Rattle.migrate_core.specs.Causes.{Begins, BeginsApart, TestsApart, Then, Unless, own}
+use Rattle.migration_sides.proofs.Told.{apart_passes, apart_refused}
+use Rattle.migration_sides.specs.Causes.{TestsApart}
+use Rattle.migration_sides.specs.Tests.{Then}
+use Rattle.migrate_core.proofs.Blaming.{apart_begins}
+use Rattle.migrate_core.proofs.Causing.{folder_unless, refused_as}
+use Rattle.migrate_core.specs.Causes.{Begins, BeginsApart, Unless}
 use Rattle.std.proofs.lemmas.Result.{err_from_is_err_and}
-use Rattle.migrate_core.specs.Faults.{is_of_begin, of_folder}
+use Rattle.migrate_core.specs.Faults.{is_of_begin, of_folder, of_step}
 use Rattle.migrate_core.specs.declared.placing.Done.{Done}
-use Rattle.migrate_core.proofs.Writings.{refusal_as, folder_refuses, may_write_after, nothing_written, settle_writes}
+use Rattle.migrate_core.proofs.Writings.{refusal_as, folder_refuses, may_write_after, nothing_written, settle_writes, step_refuses}
 use Rattle.migrate_core.proofs.Completing.{begin_completes, folder_chance, own_faults}
 use Rattle.migrate_core.specs.Completing.{IsOfChance}
 use Rattle.migrate_core.specs.Faults.{IsMoveFault}
-use Rattle.migrate_core.proofs.Limits.{folder_compares, if_taken, in_tree_before, limit_more, none_compared, none_taken}
+use Rattle.migrate_core.proofs.Limits.{folder_compares, if_taken, in_tree_before, limit_more, none_compared, none_taken, step_compares}
 use Rattle.migrate_core.specs.Limits.{PassesInTree}
 use Rattle.migrate_core.proofs.Sharing.{in_tree_since}
 use Rattle.migrate_core.specs.Sharing.{SharesInTree}
 use Rattle.migrate_core.proofs.beginning.begin.Goals as goal
 
 pub returns-in_err-test_apart-clause-guard : goal.returns-in_err-test_apart-clause-guard
-returns-in_err-test_apart-clause-guard g c = λ migration asked. still_guarded migration (g.F.Folder.told c.args.folder.now) (g.F.Folder.told c.args.folder.now) refl
+returns-in_err-test_apart-clause-guard g c = λ migration asked opened. still_guarded migration (g.F.Folder.told c.args.folder.now) (g.F.Folder.told c.args.folder.now) refl
 
 pub returns-in_err-test_apart-clause-moves : goal.returns-in_err-test_apart-clause-moves
 returns-in_err-test_apart-clause-moves g c =
     moves_nowhere (apart_from_both c.args.work.now c.args.target.now) c.args.target.now (g.F.Folder.told c.args.folder.now) (g.F.Folder.told c.args.folder.now) refl
 
 pub returns-in_err-settle-clause-guard : goal.returns-in_err-settle-clause-guard
-returns-in_err-settle-clause-guard g c = λ migration asked.
+returns-in_err-settle-clause-guard g c = λ migration asked opened.
     settle_fell c.settling_and_entering_keep_migrations_guarded.ensures.settles migration (g.F.Folder.told c.args.folder.now) (g.F.Folder.told c.settle.new.self) c.settle.result c.settle.ensures.changes
 
 pub returns-in_err-settle-clause-moves : goal.returns-in_err-settle-clause-moves
@@ -37,10 +40,12 @@ returns-in_err-settle-clause-moves g c =
     settle_moves (apart_from_both c.args.work.now c.args.target.now) c.args.target.now (g.F.Folder.told c.args.folder.now) (g.F.Folder.told c.settle.new.self) c.settle.result c.settle.ensures.changes
 
 pub returns-clause-guard : goal.returns-clause-guard
-returns-clause-guard g c = λ migration asked.
+returns-clause-guard g c = λ migration asked opened.
     let law = c.settling_and_entering_keep_migrations_guarded.ensures in
     settle_then law.settles law.alone migration (g.F.Folder.told c.args.folder.now) (g.F.Folder.told c.settle.new.self) (g.F.Folder.told c.begin_settled.new.folder) c.in_ok-settle.field-0
-    (g.met.F.Folder.sound c.args.folder.now) (g.met.F.Folder.sound c.settle.new.self) c.in_ok-settle.ensures.changes (c.begin_settled.ensures.guard migration asked)
+    (g.met.F.Folder.sound c.args.folder.now) (g.met.F.Folder.sound c.settle.new.self) c.in_ok-settle.ensures.changes
+    (c.begin_settled.ensures.guard migration asked
+    (λ v seen. opened v (settle_was_seen (g.F.Folder.told c.args.folder.now) (g.F.Folder.told c.settle.new.self) c.in_ok-settle.field-0 c.in_ok-settle.ensures.changes v seen)))
 
 pub returns-clause-moves : goal.returns-clause-moves
 returns-clause-moves g c =
@@ -59,23 +64,24 @@ returns-clause-moved g c =
     let t2 = g.F.Folder.told c.begin_settled.new.folder in
     let pass = c.args.source_pass.now in
     let pass' = c.args.target_pass.now in
-    if_ok_more (λ done. MovesTree Same from to work pass pass' done t1 t2) (λ done. MovesTree Same from to work pass pass' done t0 t2) c.begin_settled.result
-    (λ done. moved_before Same from to work pass pass' done t0 t1 t2 (settle_seen t0 t1 c.in_ok-settle.field-0 c.in_ok-settle.ensures.changes)) c.begin_settled.ensures.moved
+    if_ok_more (λ done. MovesTree c.args.names from to work pass pass' done t1 t2) (λ done. MovesTree c.args.names from to work pass pass' done t0 t2) c.begin_settled.result
+    (λ done. moved_before c.args.names from to work pass pass' done t0 t1 t2 (settle_seen t0 t1 c.in_ok-settle.field-0 c.in_ok-settle.ensures.changes)) c.begin_settled.ensures.moved
 
 pub returns-in_err-test_apart-clause-cause : goal.returns-in_err-test_apart-clause-cause
 returns-in_err-test_apart-clause-cause g c v seen =
     let from = c.args.source.now in
     let to = c.args.target.now in
     let work = c.args.work.now in
-    let begins = BeginsApart {Y = Done} from to work c.args.source_pass.now c.args.target_pass.now v in
+    let begins = BeginsApart {Y = Done} c.args.names from to work c.args.source_pass.now c.args.target_pass.now v in
     let p = err_from_is_err_and c.from_residual.result c.from_residual.ensures.1 in
-    refused_as (λ answer. Unless answer (Then own (TestsApart from to work) (λ _. begins) answer)) c.from_residual.result p.0 c.in_err-test_apart.field-0.0 p.1 p.2
-    (own_refused (TestsApart from to work) (λ _. begins) c.in_err-test_apart.field-0.0 c.in_err-test_apart.ensures.cause)
+    let why = c.in_err-test_apart.field-0.0 in
+    refused_as (λ answer. Unless answer (Then of_step (TestsApart from to work) (λ _. begins) answer)) c.from_residual.result p.0 (of_step why) p.1 p.2
+    (apart_refused of_step from to work (λ _. begins) why c.in_err-test_apart.ensures.cause)
 
 pub returns-in_err-settle-clause-cause : goal.returns-in_err-settle-clause-cause
 returns-in_err-settle-clause-cause g c v seen =
     let p = err_from_is_err_and c.from_residual-in_err-settle.result c.from_residual-in_err-settle.ensures.1 in
-    refused_as (λ answer. Unless answer (Begins c.args.source.now c.args.target.now c.args.work.now c.args.source_pass.now c.args.target_pass.now v answer)) c.from_residual-in_err-settle.result p.0
+    refused_as (λ answer. Unless answer (Begins c.args.names c.args.source.now c.args.target.now c.args.work.now c.args.source_pass.now c.args.target_pass.now v answer)) c.from_residual-in_err-settle.result p.0
     (of_folder c.in_err-settle.field-0.0) p.1 p.2 (folder_unless _ c.in_err-settle.field-0.0)
 
 pub returns-clause-cause : goal.returns-clause-cause
@@ -83,7 +89,7 @@ returns-clause-cause g c v seen =
     let from = c.args.source.now in
     let to = c.args.target.now in
     let work = c.args.work.now in
-    own_passes (TestsApart from to work) (λ _. BeginsApart from to work c.args.source_pass.now c.args.target_pass.now v) c.begin_settled.result tt c.in_ok-test_apart.ensures.cause
+    apart_passes of_step from to work (λ _. BeginsApart c.args.names from to work c.args.source_pass.now c.args.target_pass.now v) c.begin_settled.result c.in_ok-test_apart.ensures.cause
     (c.begin_settled.ensures.cause v (settle_seen (g.F.Folder.told c.args.folder.now) (g.F.Folder.told c.settle.new.self) c.in_ok-settle.field-0 c.in_ok-settle.ensures.changes v seen))
 
 pub returns-in_err-test_apart-clause-written : goal.returns-in_err-test_apart-clause-written
@@ -91,7 +97,7 @@ returns-in_err-test_apart-clause-written g c v seen =
     let told = g.F.Folder.told c.args.folder.now in
     let left = g.R.Randoms.left c.args.random.now in
     let p = err_from_is_err_and c.from_residual.result c.from_residual.ensures.1 in
-    let refused = refusal_as c.from_residual.result p.0 (c.in_err-test_apart.field-0.0) p.1 p.2 (c.in_err-test_apart.ensures.tested) in
+    let refused = refusal_as c.from_residual.result p.0 (of_step c.in_err-test_apart.field-0.0) p.1 p.2 (step_refuses c.in_err-test_apart.field-0.0) in
     inl (nothing_written c.from_residual.result refused left told told (c.draws_compose.ensures.none left) refl)
 
 pub returns-in_err-settle-clause-written : goal.returns-in_err-settle-clause-written
@@ -109,29 +115,41 @@ returns-clause-written g c v seen =
     let settled = g.F.Folder.told c.settle.new.self in
     let known = settle_seen told settled c.in_ok-settle.field-0 c.in_ok-settle.ensures.changes in
     may_write_after left (g.R.Randoms.left c.begin_settled.new.random) told settled (g.F.Folder.told c.begin_settled.new.folder) known (settle_writes told settled c.settle.result c.settle.ensures.changes)
-    c.begin_settled.result Same c.args.source.now c.args.target.now c.args.source_pass.now c.args.target_pass.now (c.begin_settled.ensures.written v (known v seen))
+    c.begin_settled.result c.args.names c.args.source.now c.args.target.now c.args.source_pass.now c.args.target_pass.now (c.begin_settled.ensures.written v (known v seen))
 
 pub returns-in_err-test_apart-clause-completes : goal.returns-in_err-test_apart-clause-completes
-returns-in_err-test_apart-clause-completes g c m v seen asked can =
-    let p = err_from_is_err_and c.from_residual.result c.from_residual.ensures.1 in
-    begin_completes m v c.args.source.now c.args.target.now c.args.work.now c.args.source_pass.now c.args.target_pass.now c.from_residual.result asked
-    (c.what_can_begin_is_done.ensures m v c.from_residual.result can (refused_as (λ answer. IfErr answer IsMoveFault) c.from_residual.result p.0 c.in_err-test_apart.field-0.0 p.1 p.2 c.in_err-test_apart.ensures.blamed.own))
+returns-in_err-test_apart-clause-completes g c m v seen asked opened can =
+    let pass = c.args.source_pass.now in
+    let pass' = c.args.target_pass.now in
+    let why = c.in_err-test_apart.field-0.0 in
+    let result = c.from_residual.result in
+    let p = err_from_is_err_and result c.from_residual.ensures.1 in
+    begin_completes m v c.args.names c.args.source.now c.args.target.now c.args.work.now pass pass' result asked
+    (c.what_can_begin_is_done.ensures m pass pass' v result opened can
+    (refused_as (λ answer. IfErr answer IsMoveFault) result p.0 (of_step why) p.1 p.2 (apart_begins {F = ⊥} {R = ⊥} why c.in_err-test_apart.ensures.blamed).own))
     (returns-in_err-test_apart-clause-cause g c v seen)
 
 pub returns-in_err-settle-clause-completes : goal.returns-in_err-settle-clause-completes
-returns-in_err-settle-clause-completes g c m v seen asked can =
+returns-in_err-settle-clause-completes g c m v seen asked opened can =
     let p = err_from_is_err_and c.from_residual-in_err-settle.result c.from_residual-in_err-settle.ensures.1 in
     refused_as (λ answer. IfErr answer IsOfChance) c.from_residual-in_err-settle.result p.0 (of_folder c.in_err-settle.field-0.0) p.1 p.2 (folder_chance c.in_err-settle.field-0.0)
 
 pub returns-clause-completes : goal.returns-clause-completes
-returns-clause-completes g c m v seen asked can =
-    begin_completes m v c.args.source.now c.args.target.now c.args.work.now c.args.source_pass.now c.args.target_pass.now c.begin_settled.result asked
-    (c.what_can_begin_is_done.ensures m v c.begin_settled.result can (own_faults is_of_begin c.begin_settled.result _ _ c.begin_settled.ensures.blamed)) (returns-clause-cause g c v seen)
+returns-clause-completes g c m v seen asked opened can =
+    let pass = c.args.source_pass.now in
+    let pass' = c.args.target_pass.now in
+    begin_completes m v c.args.names c.args.source.now c.args.target.now c.args.work.now pass pass' c.begin_settled.result asked
+    (c.what_can_begin_is_done.ensures m pass pass' v c.begin_settled.result opened can (own_faults is_of_begin c.begin_settled.result _ _ c.begin_settled.ensures.blamed)) (returns-clause-cause g c v seen)
+
+pub returns-in_err-test_apart-clause-blamed : goal.returns-in_err-test_apart-clause-blamed
+returns-in_err-test_apart-clause-blamed g c =
+    let p = err_from_is_err_and c.from_residual.result c.from_residual.ensures.1 in
+    rw (p.1, p.2) (apart_begins c.in_err-test_apart.field-0.0 c.in_err-test_apart.ensures.blamed)
 
 pub returns-in_err-test_apart-clause-too_long : goal.returns-in_err-test_apart-clause-too_long
 returns-in_err-test_apart-clause-too_long g c =
     let p = err_from_is_err_and c.from_residual.result c.from_residual.ensures.1 in
-    none_compared _ c.from_residual.result p.0 c.in_err-test_apart.field-0.0 p.1 p.2 c.in_err-test_apart.ensures.uncompared
+    none_compared _ c.from_residual.result p.0 (of_step c.in_err-test_apart.field-0.0) p.1 p.2 (step_compares c.in_err-test_apart.field-0.0)
 
 pub returns-in_err-settle-clause-too_long : goal.returns-in_err-settle-clause-too_long
 returns-in_err-settle-clause-too_long g c =
@@ -148,13 +166,13 @@ returns-clause-too_long g c =
     let t0 = g.F.Folder.told c.args.folder.now in
     let t1 = g.F.Folder.told c.settle.new.self in
     let t2 = g.F.Folder.told c.begin_settled.new.folder in
-    limit_more (PassesInTree from to pass pass' t1 t2) (PassesInTree from to pass pass' t0 t2) c.begin_settled.result
-    (in_tree_before from to pass pass' t0 t1 t2 (settle_seen t0 t1 c.in_ok-settle.field-0 c.in_ok-settle.ensures.changes)) c.begin_settled.ensures.too_long
+    limit_more (PassesInTree c.args.names from to pass pass' t1 t2) (PassesInTree c.args.names from to pass pass' t0 t2) c.begin_settled.result
+    (in_tree_before c.args.names from to pass pass' t0 t1 t2 (settle_seen t0 t1 c.in_ok-settle.field-0 c.in_ok-settle.ensures.changes)) c.begin_settled.ensures.too_long
 
 pub returns-in_err-test_apart-clause-shared : goal.returns-in_err-test_apart-clause-shared
 returns-in_err-test_apart-clause-shared g c =
     let p = err_from_is_err_and c.from_residual.result c.from_residual.ensures.1 in
-    none_taken _ c.from_residual.result p.0 c.in_err-test_apart.field-0.0 p.1 p.2 c.in_err-test_apart.ensures.uncompared
+    none_taken _ c.from_residual.result p.0 (of_step c.in_err-test_apart.field-0.0) p.1 p.2 (step_compares c.in_err-test_apart.field-0.0)
 
 pub returns-in_err-settle-clause-shared : goal.returns-in_err-settle-clause-shared
 returns-in_err-settle-clause-shared g c =
@@ -174,5 +192,5 @@ returns-clause-shared g c =
     let t1 = g.F.Folder.told c.settle.new.self in
     let t2 = g.F.Folder.told c.begin_settled.new.folder in
     let region = apart_from_both c.args.work.now to in
-    if_taken (SharesInTree from to pass pass' left left' t1 t2) (SharesInTree from to pass pass' left left' t0 t2) c.begin_settled.result
-    (in_tree_since region to from to pass pass' left left' t0 t1 t2 (settle_moves region to t0 t1 c.settle.result c.settle.ensures.changes) (settle_seen t0 t1 c.in_ok-settle.field-0 c.in_ok-settle.ensures.changes)) c.begin_settled.ensures.shared
+    if_taken (SharesInTree c.args.names from to pass pass' left left' t1 t2) (SharesInTree c.args.names from to pass pass' left left' t0 t2) c.begin_settled.result
+    (in_tree_since region to c.args.names from to pass pass' left left' t0 t1 t2 (settle_moves region to t0 t1 c.settle.result c.settle.ensures.changes) (settle_seen t0 t1 c.in_ok-settle.field-0 c.in_ok-settle.ensures.changes)) c.begin_settled.ensures.shared

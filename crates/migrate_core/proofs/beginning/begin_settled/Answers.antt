@@ -1,41 +1,45 @@
-use Rattle.std.proofs.Common.{◌≡◌, ◌∙◌, sym, subst, subst₂, Err, inl}
+use Rattle.std.proofs.Common.{◌≡◌, ◌∙◌, sym, subst, subst₂, Err, IfErr, IfOk, inl}
 use Rattle.folder_spec.specs.Region.{apart_from_both}
-use Rattle.plain_tree.specs.declared.name_map.NameMap.TheVariants.{Same}
 use Rattle.folder_spec.specs.Seen.{IsSeen, seen}
 use Rattle.move_journal.specs.Journal.{IsParsed}
-use Rattle.tree_match.specs.Alone.{Unbegun}
+use Rattle.migration_spec.specs.Alone.{Unbegun}
 use Rattle.migrate_core.specs.Leading.{Guards}
 use Rattle.migrate_core.specs.Moving.{MovesOnly}
-use Rattle.migrate_core.specs.Sides.{AreSeparate}
+use Rattle.migrate_core.specs.Sides.{IsAsked}
+use Rattle.migration_sides.proofs.Told.{opens_passes, opens_refused}
+use Rattle.migration_sides.specs.Causes.{Opens}
+use Rattle.migration_sides.specs.Sides.{AreSeparate}
+use Rattle.migration_sides.specs.Tests.{Then}
+use Rattle.migrate_core.proofs.Blaming.{step_begins}
 use Rattle.migrate_core.proofs.Movings.{moves_nowhere}
 use Rattle.migrate_core.proofs.Planned.{seen_of}
 use Rattle.migrate_core.proofs.Settled.{begins, settled_by, still_settled}
 use Rattle.migrate_core.proofs.Endings.{tree_moved}
-use Rattle.migrate_core.specs.Moved.{Placed}
-use Rattle.migrate_core.proofs.Causing.{Next, opens_pass, opens_refused, refused_as, then_passes, work_refused}
+use Rattle.migrate_core.specs.Moved.{MovesTree, Placed}
+use Rattle.migrate_core.proofs.Causing.{refused_as, then_passes, work_refused}
 use Rattle.vault_spec.specs.Opened.{OpenedVault}
-use Rattle.migrate_core.specs.Causes.{BeginsWith, Opens, Then, Unless}
-use Rattle.migrate_core.specs.Faults.{of_work}
+use Rattle.migrate_core.specs.Causes.{Answer, BeginsWith, Unless}
+use Rattle.migrate_core.specs.Faults.{of_step, of_work}
 use Rattle.migrate_core.specs.declared.placing.Done.{Done}
 use Rattle.std.proofs.lemmas.Result.{err_from_is_err_and}
 use Rattle.work_folder.specs.Looking.{Tests}
-use Rattle.migrate_core.proofs.Writings.{refusal_as, work_refuses, nothing_written, tree_of}
+use Rattle.migrate_core.proofs.Writings.{refusal_as, work_refuses, nothing_written, step_refuses, tree_of}
 use Rattle.migrate_core.specs.Written.{MayWrite}
-use Rattle.migrate_core.proofs.Limits.{limit_in_tree, none_compared, none_taken, shared_in_tree, work_compares}
+use Rattle.migrate_core.proofs.Limits.{limit_in_tree, none_compared, none_taken, shared_in_tree, step_compares, work_compares}
 use Rattle.migrate_core.specs.Copying.{StayGood}
-use Rattle.migrate_core.specs.Limits.{EndsBy}
-use Rattle.migrate_core.specs.Sharing.{SharesWhereTidy}
+use Rattle.migrate_core.specs.Limits.{EndsBy, IsOfLimit, PassesInTree}
+use Rattle.migrate_core.specs.Sharing.{IsOfTaken, SharesInTree, SharesWhereTidy}
 use Rattle.migrate_core.proofs.beginning.begin_settled.Goals as goal
 
 pub returns-in_err-look-clause-guard : goal.returns-in_err-look-clause-guard
-returns-in_err-look-clause-guard g c = λ migration asked. still_settled migration (g.F.Folder.told c.args.folder.now) (g.F.Folder.told c.look.new.folder) c.look.ensures.told
+returns-in_err-look-clause-guard g c = λ migration asked opened. still_settled migration (g.F.Folder.told c.args.folder.now) (g.F.Folder.told c.look.new.folder) c.look.ensures.told
 
 pub returns-in_err-look-clause-moves : goal.returns-in_err-look-clause-moves
 returns-in_err-look-clause-moves g c =
     moves_nowhere (apart_from_both c.args.work.now c.args.target.now) c.args.target.now (g.F.Folder.told c.args.folder.now) (g.F.Folder.told c.look.new.folder) c.look.ensures.told
 
 pub returns-in_err-sides-clause-guard : goal.returns-in_err-sides-clause-guard
-returns-in_err-sides-clause-guard g c = λ migration asked.
+returns-in_err-sides-clause-guard g c = λ migration asked opened.
     still_settled migration (g.F.Folder.told c.args.folder.now) (g.F.Folder.told c.load_both.new.folder) (c.load_both.ensures.told ∙ c.look.ensures.told)
 
 pub returns-in_err-sides-clause-moves : goal.returns-in_err-sides-clause-moves
@@ -53,7 +57,7 @@ pub begin_with-requires-clause-apart : goal.begin_with-requires-clause-apart
 begin_with-requires-clause-apart g c = subst₂ (λ p q. AreSeparate p q c.args.work.now) (sym c.in_ok-sides.ensures.source) (sym c.in_ok-sides.ensures.target) c.requires.apart
 
 pub returns-clause-guard : goal.returns-clause-guard
-returns-clause-guard g c = λ migration asked.
+returns-clause-guard g c = λ migration asked opened.
     let t0 = g.F.Folder.told c.args.folder.now in
     let t1 = g.F.Folder.told c.look.new.folder in
     let t2 = g.F.Folder.told c.load_both.new.folder in
@@ -65,8 +69,9 @@ returns-clause-guard g c = λ migration asked.
     (λ a is settled.
     let v = seen a.state in
     let shown = subst (λ t. IsSeen t v) (sym c.look.ensures.told) (seen_of t0 a is) in
-    let found = begins c.roots_have_one_answer.ensures c.guarded_migrations_are_seen.ensures.case migration a.state sides.source sides.target c.args.source.now c.args.target.now c.args.work.now
-    c.args.source_pass.now c.args.target_pass.now asked settled (c.in_ok-look.ensures.answer v (seen_of t0 a is)) (record { stands = loads.source; loads = loads.opens_source v shown })
+    let named : IsAsked migration sides.names c.args.source.now c.args.target.now c.args.work.now = record { source = asked.source; target = asked.target; work = asked.work; names = asked.names ∙ sym loads.names } in
+    let found = begins c.roots_have_one_answer.ensures c.guarded_migrations_are_seen.ensures.case migration a.state sides.names sides.source sides.target c.args.source.now c.args.target.now c.args.work.now
+    c.args.source_pass.now c.args.target_pass.now named (opened v (seen_of t0 a is)) settled (c.in_ok-look.ensures.answer v (seen_of t0 a is)) (record { stands = loads.source; loads = loads.opens_source v shown })
     (record { stands = loads.target; loads = loads.opens_target v shown }) in (
       found.alone,
       subst (λ t. Guards migration Unbegun t t3) same (c.begin_with.ensures.guard migration found.sides).0,
@@ -86,20 +91,28 @@ returns-clause-moved g c =
     let left = g.R.Randoms.left c.args.random.now in
     let left' = g.R.Randoms.left c.begin_with.new.random in
     let loads = c.in_ok-sides.ensures in
-    tree_moved (SharesWhereTidy sides.source sides.target left left' (g.F.Folder.told c.args.folder.now) (g.F.Folder.told c.begin_with.new.folder)) Same c.args.source.now c.args.target.now c.args.work.now c.args.source_pass.now c.args.target_pass.now sides.source sides.target (g.F.Folder.told c.args.folder.now) (g.F.Folder.told c.begin_with.new.folder)
+    let told = g.F.Folder.told c.args.folder.now in
+    let after = g.F.Folder.told c.begin_with.new.folder in
+    let from = c.args.source.now in
+    let to = c.args.target.now in
+    let work = c.args.work.now in
+    let pass = c.args.source_pass.now in
+    let pass' = c.args.target_pass.now in
+    let same = c.load_both.ensures.told ∙ c.look.ensures.told in
+    subst (λ n. IfOk c.begin_with.result (λ done. MovesTree n from to work pass pass' done told after)) loads.names
+    (tree_moved (SharesWhereTidy sides.names sides.source sides.target left left' told after) sides.names from to work pass pass' sides.source sides.target told after
     c.begin_with.result loads.source loads.target (g.met.F.Folder.sound c.args.folder.now)
-    (subst (λ root. MovesOnly c.args.work.now root (g.F.Folder.told c.args.folder.now) (g.F.Folder.told c.begin_with.new.folder)) loads.target
-    (subst (λ t. MovesOnly c.args.work.now sides.target.root t (g.F.Folder.told c.begin_with.new.folder)) (c.load_both.ensures.told ∙ c.look.ensures.told) c.begin_with.ensures.moves)) (λ v is. loads.opens_source v (subst (λ t. IsSeen t v) (sym c.look.ensures.told) is))
-    (λ v is. loads.opens_target v (subst (λ t. IsSeen t v) (sym c.look.ensures.told) is))
-    (subst (λ t. Placed sides.source sides.target t c.begin_with.result) (c.load_both.ensures.told ∙ c.look.ensures.told) c.begin_with.ensures.placed) c.begin_with.ensures.moved
-    (subst (λ t. EndsBy (StayGood sides.source sides.target t (g.F.Folder.told c.begin_with.new.folder)) (SharesWhereTidy sides.source sides.target left left' t (g.F.Folder.told c.begin_with.new.folder)) sides.source sides.target (g.F.Folder.told c.begin_with.new.folder) c.begin_with.result) (c.load_both.ensures.told ∙ c.look.ensures.told) c.begin_with.ensures.ends)
+    (subst (λ root. MovesOnly work root told after) loads.target (subst (λ t. MovesOnly work sides.target.root t after) same c.begin_with.ensures.moves))
+    (λ v is. loads.opens_source v (subst (λ t. IsSeen t v) (sym c.look.ensures.told) is)) (λ v is. loads.opens_target v (subst (λ t. IsSeen t v) (sym c.look.ensures.told) is))
+    (subst (λ t. Placed sides.names sides.source sides.target t c.begin_with.result) same c.begin_with.ensures.placed) c.begin_with.ensures.moved
+    (subst (λ t. EndsBy (StayGood sides.source sides.target t after) (SharesWhereTidy sides.names sides.source sides.target left left' t after) sides.names sides.source sides.target after c.begin_with.result) same c.begin_with.ensures.ends))
 
 pub returns-in_err-look-clause-cause : goal.returns-in_err-look-clause-cause
 returns-in_err-look-clause-cause g c v seen =
     let from = c.args.source.now in
     let to = c.args.target.now in
     let work = c.args.work.now in
-    let opens = λ (_ : Unit {0}). Opens {Y = Done} v from to c.args.source_pass.now c.args.target_pass.now (λ source target. BeginsWith source target work v) in
+    let opens = λ (_ : Unit {0}). Opens {Y = Done} of_step v from to c.args.source_pass.now c.args.target_pass.now (λ source target. BeginsWith c.args.names source target work v) in
     let why = c.in_err-look.field-0.0 in
     let p = err_from_is_err_and c.from_residual.result c.from_residual.ensures.1 in
     refused_as (λ answer. Unless answer (Then of_work (Tests v work) opens answer)) c.from_residual.result p.0 (of_work why) p.1 p.2 (work_refused (Tests v work) opens why (c.in_err-look.ensures.answer v seen))
@@ -109,12 +122,12 @@ returns-in_err-sides-clause-cause g c v seen =
     let from = c.args.source.now in
     let to = c.args.target.now in
     let work = c.args.work.now in
-    let opens = λ (_ : Unit {0}). Opens {Y = Done} v from to c.args.source_pass.now c.args.target_pass.now (λ source target. BeginsWith source target work v) in
-    let fault = c.in_err-sides.field-0.0 in
+    let opens = λ (_ : Unit {0}). Opens {Y = Done} of_step v from to c.args.source_pass.now c.args.target_pass.now (λ source target. BeginsWith c.args.names source target work v) in
+    let why = c.in_err-sides.field-0.0 in
     let p = err_from_is_err_and c.from_residual-in_err-sides.result c.from_residual-in_err-sides.ensures.1 in
-    refused_as (λ answer. Unless answer (Then of_work (Tests v work) opens answer)) c.from_residual-in_err-sides.result p.0 fault p.1 p.2
-    (then_passes of_work (Tests v work) opens (Err fault) tt (c.in_ok-look.ensures.answer v seen)
-    (opens_refused v from to c.args.source_pass.now c.args.target_pass.now (λ source target. BeginsWith source target work v) fault
+    refused_as (λ answer. Unless answer (Then of_work (Tests v work) opens answer)) c.from_residual-in_err-sides.result p.0 (of_step why) p.1 p.2
+    (then_passes of_work (Tests v work) opens (Err (of_step why)) tt (c.in_ok-look.ensures.answer v seen)
+    (opens_refused of_step v from to c.args.source_pass.now c.args.target_pass.now (λ source target. BeginsWith c.args.names source target work v) why
     (c.in_err-sides.ensures.cause v (subst (λ t. IsSeen t v) (sym c.look.ensures.told) seen))))
 
 pub returns-clause-cause : goal.returns-clause-cause
@@ -122,13 +135,15 @@ returns-clause-cause g c v seen =
     let from = c.args.source.now in
     let to = c.args.target.now in
     let work = c.args.work.now in
-    let next : Next OpenedVault Done = λ source target. BeginsWith source target work v in
+    let next : OpenedVault → OpenedVault → Answer Done → Type 0 = λ source target. BeginsWith c.args.names source target work v in
     let sides = c.in_ok-sides.sides in
     let loads = c.in_ok-sides.ensures in
     let looked = subst (λ t. IsSeen t v) (sym c.look.ensures.told) seen in
-    then_passes of_work (Tests v work) (λ _. Opens v from to c.args.source_pass.now c.args.target_pass.now next) c.begin_with.result tt (c.in_ok-look.ensures.answer v seen)
-    (opens_pass v from to c.args.source_pass.now c.args.target_pass.now next c.begin_with.result sides.source sides.target loads.source loads.target
-    (loads.opens_source v looked) (loads.opens_target v looked) (c.begin_with.ensures.cause v (subst (λ t. IsSeen t v) (sym c.load_both.ensures.told) looked)))
+    then_passes of_work (Tests v work) (λ _. Opens of_step v from to c.args.source_pass.now c.args.target_pass.now next) c.begin_with.result tt (c.in_ok-look.ensures.answer v seen)
+    (opens_passes of_step v from to c.args.source_pass.now c.args.target_pass.now next c.begin_with.result sides.source sides.target loads.source loads.target
+    (loads.opens_source v looked) (loads.opens_target v looked)
+    (subst (λ n. Unless c.begin_with.result (BeginsWith n sides.source sides.target work v c.begin_with.result)) loads.names
+    (c.begin_with.ensures.cause v (subst (λ t. IsSeen t v) (sym c.load_both.ensures.told) looked))))
 
 pub returns-in_err-look-clause-written : goal.returns-in_err-look-clause-written
 returns-in_err-look-clause-written g c v seen =
@@ -143,7 +158,7 @@ returns-in_err-sides-clause-written g c v seen =
     let told = g.F.Folder.told c.args.folder.now in
     let left = g.R.Randoms.left c.args.random.now in
     let p = err_from_is_err_and c.from_residual-in_err-sides.result c.from_residual-in_err-sides.ensures.1 in
-    let refused = refusal_as c.from_residual-in_err-sides.result p.0 (c.in_err-sides.field-0.0) p.1 p.2 (c.in_err-sides.ensures.tested) in
+    let refused = refusal_as c.from_residual-in_err-sides.result p.0 (of_step c.in_err-sides.field-0.0) p.1 p.2 (step_refuses c.in_err-sides.field-0.0) in
     inl (nothing_written c.from_residual-in_err-sides.result refused left told (g.F.Folder.told c.load_both.new.folder) (c.draws_compose.ensures.none left) (c.load_both.ensures.told ∙ c.look.ensures.told))
 
 pub returns-clause-written : goal.returns-clause-written
@@ -154,9 +169,10 @@ returns-clause-written g c v seen =
     let left2 = g.R.Randoms.left c.begin_with.new.random in
     let sides = c.in_ok-sides.sides in
     let loads = c.in_ok-sides.ensures in
-    tree_of c.begin_with.result Same c.args.source.now c.args.target.now c.args.source_pass.now c.args.target_pass.now sides.source sides.target left left2 told after loads.source loads.target
+    tree_of c.begin_with.result c.args.names c.args.source.now c.args.target.now c.args.source_pass.now c.args.target_pass.now sides.source sides.target left left2 told after loads.source loads.target
     (λ w is. loads.opens_source w (subst (λ t. IsSeen t w) (sym c.look.ensures.told) is)) (λ w is. loads.opens_target w (subst (λ t. IsSeen t w) (sym c.look.ensures.told) is))
-    (subst (λ t. MayWrite c.begin_with.result Same sides.source sides.target left left2 t after) (c.load_both.ensures.told ∙ c.look.ensures.told) c.begin_with.ensures.written)
+    (subst (λ n. MayWrite c.begin_with.result n sides.source sides.target left left2 told after) loads.names
+    (subst (λ t. MayWrite c.begin_with.result sides.names sides.source sides.target left left2 t after) (c.load_both.ensures.told ∙ c.look.ensures.told) c.begin_with.ensures.written))
 
 pub returns-in_err-look-clause-too_long : goal.returns-in_err-look-clause-too_long
 returns-in_err-look-clause-too_long g c =
@@ -167,17 +183,24 @@ returns-in_err-look-clause-too_long g c =
 pub returns-in_err-sides-clause-too_long : goal.returns-in_err-sides-clause-too_long
 returns-in_err-sides-clause-too_long g c =
     let p = err_from_is_err_and c.from_residual-in_err-sides.result c.from_residual-in_err-sides.ensures.1 in
-    none_compared _ c.from_residual-in_err-sides.result p.0 c.in_err-sides.field-0.0 p.1 p.2 c.in_err-sides.ensures.uncompared
+    none_compared _ c.from_residual-in_err-sides.result p.0 (of_step c.in_err-sides.field-0.0) p.1 p.2 (step_compares c.in_err-sides.field-0.0)
 
 pub returns-clause-too_long : goal.returns-clause-too_long
 returns-clause-too_long g c =
     let sides = c.in_ok-sides.sides in
     let loads = c.in_ok-sides.ensures in
+    let from = c.args.source.now in
+    let to = c.args.target.now in
+    let pass = c.args.source_pass.now in
+    let pass' = c.args.target_pass.now in
+    let told = g.F.Folder.told c.args.folder.now in
     let here = g.F.Folder.told c.load_both.new.folder in
     let after = g.F.Folder.told c.begin_with.new.folder in
-    limit_in_tree (StayGood sides.source sides.target here after) (SharesWhereTidy sides.source sides.target (g.R.Randoms.left c.args.random.now) (g.R.Randoms.left c.begin_with.new.random) here after) c.args.source.now c.args.target.now c.args.source_pass.now c.args.target_pass.now sides.source sides.target (g.F.Folder.told c.args.folder.now) after
+    subst (λ n. IfErr c.begin_with.result (IsOfLimit (PassesInTree n from to pass pass' told after))) loads.names
+    (limit_in_tree (StayGood sides.source sides.target here after) (SharesWhereTidy sides.names sides.source sides.target (g.R.Randoms.left c.args.random.now) (g.R.Randoms.left c.begin_with.new.random) here after)
+    sides.names from to pass pass' sides.source sides.target told after
     c.begin_with.result loads.source loads.target (λ v is. loads.opens_source v (subst (λ t. IsSeen t v) (sym c.look.ensures.told) is)) (λ v is. loads.opens_target v (subst (λ t. IsSeen t v) (sym c.look.ensures.told) is))
-    c.begin_with.ensures.ends
+    c.begin_with.ensures.ends)
 
 pub returns-in_err-look-clause-shared : goal.returns-in_err-look-clause-shared
 returns-in_err-look-clause-shared g c =
@@ -188,16 +211,30 @@ returns-in_err-look-clause-shared g c =
 pub returns-in_err-sides-clause-shared : goal.returns-in_err-sides-clause-shared
 returns-in_err-sides-clause-shared g c =
     let p = err_from_is_err_and c.from_residual-in_err-sides.result c.from_residual-in_err-sides.ensures.1 in
-    none_taken _ c.from_residual-in_err-sides.result p.0 c.in_err-sides.field-0.0 p.1 p.2 c.in_err-sides.ensures.uncompared
+    none_taken _ c.from_residual-in_err-sides.result p.0 (of_step c.in_err-sides.field-0.0) p.1 p.2 (step_compares c.in_err-sides.field-0.0)
 
 pub returns-clause-shared : goal.returns-clause-shared
 returns-clause-shared g c =
     let sides = c.in_ok-sides.sides in
     let loads = c.in_ok-sides.ensures in
+    let from = c.args.source.now in
+    let to = c.args.target.now in
+    let pass = c.args.source_pass.now in
+    let pass' = c.args.target_pass.now in
     let left = g.R.Randoms.left c.args.random.now in
     let left' = g.R.Randoms.left c.begin_with.new.random in
     let told = g.F.Folder.told c.args.folder.now in
     let after = g.F.Folder.told c.begin_with.new.folder in
-    shared_in_tree (StayGood sides.source sides.target told after) c.args.source.now c.args.target.now c.args.source_pass.now c.args.target_pass.now sides.source sides.target left left' told after
+    subst (λ n. IfErr c.begin_with.result (IsOfTaken (SharesInTree n from to pass pass' left left' told after))) loads.names
+    (shared_in_tree (StayGood sides.source sides.target told after) sides.names from to pass pass' sides.source sides.target left left' told after
     c.begin_with.result loads.source loads.target (λ v is. loads.opens_source v (subst (λ t. IsSeen t v) (sym c.look.ensures.told) is)) (λ v is. loads.opens_target v (subst (λ t. IsSeen t v) (sym c.look.ensures.told) is))
-    (subst (λ t. EndsBy (StayGood sides.source sides.target t after) (SharesWhereTidy sides.source sides.target left left' t after) sides.source sides.target after c.begin_with.result) (c.load_both.ensures.told ∙ c.look.ensures.told) c.begin_with.ensures.ends)
+    (subst (λ t. EndsBy (StayGood sides.source sides.target t after) (SharesWhereTidy sides.names sides.source sides.target left left' t after) sides.names sides.source sides.target after c.begin_with.result)
+    (c.load_both.ensures.told ∙ c.look.ensures.told) c.begin_with.ensures.ends))
+
+pub returns-in_err-sides-clause-blamed : goal.returns-in_err-sides-clause-blamed
+returns-in_err-sides-clause-blamed g c =
+    let n0 = g.F.Folder.faults c.args.folder.now in
+    let n1 = g.F.Folder.faults c.look.new.folder in
+    let n2 = g.F.Folder.faults c.load_both.new.folder in
+    let p = err_from_is_err_and c.from_residual-in_err-sides.result c.from_residual-in_err-sides.ensures.1 in
+    rw (p.1, p.2) (step_begins n0 n1 n2 c.in_err-sides.field-0.0 c.look.ensures.grows c.in_err-sides.ensures.blamed)

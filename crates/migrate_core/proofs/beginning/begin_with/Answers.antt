@@ -1,27 +1,30 @@
-use Rattle.std.proofs.Common.{◌≡◌, ◌∙◌, [], sym, ap, subst, Err, List, Ok, inl, inr}
+use Rattle.std.proofs.Common.{◌≡◌, ◌∙◌, [], sym, ap, subst, arith, Err, List, Ok, inl, inr}
 use Rattle.folder_spec.specs.Seen.{IfSeen, IsSeen}
-use Rattle.plain_tree.specs.declared.name_map.NameMap.TheVariants.{Same}
 use Rattle.migrate_core.proofs.Endings.{if_ok_more, placed_of}
 use Rattle.migrate_core.specs.Moved.{lacking}
 use Rattle.std.proofs.lemmas.Result.{err_from_is_err_and}
 use Rattle.folder_spec.specs.Region.{apart_from_both}
-use Rattle.tree_match.specs.Alone.{Unbegun, Finished}
+use Rattle.migration_spec.specs.Alone.{Unbegun, Finished}
 use Rattle.vault_spec.specs.Vault.{format_of}
 use Rattle.migrate_core.specs.Leading.{Goes}
 use Rattle.migrate_core.specs.Moving.{MovesOnly}
-use Rattle.migrate_core.specs.Sides.{AllowsEach, IsWalked}
+use Rattle.migration_sides.proofs.Told.{walks_passes, walks_refused}
+use Rattle.migration_sides.specs.Sides.{IsWalked}
+use Rattle.migration_sides.specs.Tests.{Then, own}
+use Rattle.migrate_core.proofs.Blaming.{step_begins}
 use Rattle.migrate_core.proofs.Leadings.{refused_nowhere}
 use Rattle.migrate_core.proofs.Movings.{moves_nowhere}
-use Rattle.migrate_core.proofs.Causing.{Next, own_passes, own_refused, refused_as, walks_pass, walks_refused}
-use Rattle.migrate_core.specs.Causes.{Answer, BeginsWith, Moves, TestsEmpty, TestsNames, Then, Unless, own}
+use Rattle.migrate_core.proofs.Causing.{mapped_pass, mapped_refused, own_passes, own_refused, refused_as}
+use Rattle.migrate_core.specs.Causes.{Answer, BeginsWith, Moves, TestsEmpty, TestsMapped, Unless}
+use Rattle.migrate_core.specs.Faults.{of_step}
 use Rattle.work_folder.specs.Entering.{EntersAs}
 use Rattle.migrate_core.specs.declared.placing.Done.{Done}
 use Rattle.vault_spec.specs.Plan.{Planned}
-use Rattle.migrate_core.proofs.Writings.{refusal_as, nothing_written}
+use Rattle.migrate_core.proofs.Writings.{refusal_as, nothing_written, step_refuses}
 use Rattle.migrate_core.specs.Written.{WritesBy, journal_texts, lacked}
 use Rattle.migrate_core.proofs.Started.{empty_held, may_begin}
 use Rattle.migrate_core.specs.Copying.{MayBegin}
-use Rattle.migrate_core.proofs.Limits.{ends_more, ends_uncompared}
+use Rattle.migrate_core.proofs.Limits.{ends_more, ends_uncompared, step_compares}
 use Rattle.migrate_core.specs.Copying.{StayGood}
 use Rattle.migrate_core.specs.Limits.{EndsBy}
 use Rattle.migrate_core.proofs.Sharing.{source_shares}
@@ -48,18 +51,21 @@ returns-in_err-test_empty-clause-moves g c =
     let target = c.args.sides.now.target.root in
     moves_nowhere (apart_from_both c.args.work.now target) target (g.F.Folder.told c.args.folder.now) (g.F.Folder.told c.walk_both.new.folder) c.walk_both.ensures.told
 
-pub returns-in_err-test_names-clause-guard : goal.returns-in_err-test_names-clause-guard
-returns-in_err-test_names-clause-guard g c =
-    let p = err_from_is_err_and c.from_residual-in_err-test_names.result c.from_residual-in_err-test_names.ensures.1 in
-    λ migration sides. refused_nowhere migration Unbegun Finished (g.F.Folder.told c.args.folder.now) (g.F.Folder.told c.walk_both.new.folder) c.from_residual-in_err-test_names.result p.0 p.1 c.walk_both.ensures.told
+pub returns-in_err-mapped-clause-guard : goal.returns-in_err-mapped-clause-guard
+returns-in_err-mapped-clause-guard g c =
+    let p = err_from_is_err_and c.from_residual-in_err-mapped.result c.from_residual-in_err-mapped.ensures.1 in
+    λ migration sides. refused_nowhere migration Unbegun Finished (g.F.Folder.told c.args.folder.now) (g.F.Folder.told c.walk_both.new.folder) c.from_residual-in_err-mapped.result p.0 p.1 c.walk_both.ensures.told
 
-pub returns-in_err-test_names-clause-moves : goal.returns-in_err-test_names-clause-moves
-returns-in_err-test_names-clause-moves g c =
+pub returns-in_err-mapped-clause-moves : goal.returns-in_err-mapped-clause-moves
+returns-in_err-mapped-clause-moves g c =
     let target = c.args.sides.now.target.root in
     moves_nowhere (apart_from_both c.args.work.now target) target (g.F.Folder.told c.args.folder.now) (g.F.Folder.told c.walk_both.new.folder) c.walk_both.ensures.told
 
 pub move_all-requires-clause-walked : goal.move_all-requires-clause-walked
-move_all-requires-clause-walked g c = subst (λ t. IsWalked t c.args.sides.now.source c.in_ok-plans.plans.source.items) (sym c.walk_both.ensures.told) c.in_ok-plans.ensures.source
+move_all-requires-clause-walked g c = record {
+  walked = subst (λ t. IsWalked t c.args.sides.now.source c.in_ok-plans.plans.source.items) (sym c.walk_both.ensures.told) c.in_ok-plans.ensures.source;
+  same = c.in_ok-mapped.ensures.mapped;
+}
 
 pub returns-clause-guard : goal.returns-clause-guard
 returns-clause-guard g c = λ migration sides.
@@ -68,71 +74,72 @@ returns-clause-guard g c = λ migration sides.
 pub returns-clause-moves : goal.returns-clause-moves
 returns-clause-moves g c = subst (λ t. MovesOnly c.args.work.now c.args.sides.now.target.root t (g.F.Folder.told c.move_all.new.folder)) c.walk_both.ensures.told c.move_all.ensures.moves
 
-pub move_all-requires-clause-allowed : goal.move_all-requires-clause-allowed
-move_all-requires-clause-allowed g c = subst (λ items. AllowsEach (format_of c.args.sides.now.target.vault) items) c.as_slice-2.ensures c.in_ok-test_names.ensures.allowed
-
 pub returns-clause-placed : goal.returns-clause-placed
 returns-clause-placed g c =
     let told = g.F.Folder.told c.args.folder.now in
-    placed_of c.args.sides.now.source c.args.sides.now.target c.in_ok-plans.plans.source.items c.in_ok-plans.plans.target.items told c.move_all.result c.in_ok-plans.ensures.source c.in_ok-plans.ensures.target
-    (if_ok_more (λ done. IfSeen (g.F.Folder.told c.walk_both.new.folder) (λ v. done.placed ≡ lacking [] c.in_ok-plans.plans.source.items))
-    (λ done. IfSeen told (λ v. done.placed ≡ lacking c.in_ok-plans.plans.target.items c.in_ok-plans.plans.source.items)) c.move_all.result
-    (λ done is v seen. is v (subst (λ t. IsSeen t v) (sym c.walk_both.ensures.told) seen) ∙ ap (λ there. lacking there c.in_ok-plans.plans.source.items) (sym (sym c.as_slice.ensures ∙ c.in_ok-test_empty.ensures.empty)))
+    let plans = c.in_ok-plans.plans in
+    let mapped = c.in_ok-mapped.mapped.items in
+    placed_of c.args.sides.now.names c.args.sides.now.source c.args.sides.now.target plans.source.items mapped plans.target.items told c.move_all.result
+    (record { walked = c.in_ok-plans.ensures.source; same = c.in_ok-mapped.ensures.mapped }) c.in_ok-plans.ensures.target
+    (if_ok_more (λ done. IfSeen (g.F.Folder.told c.walk_both.new.folder) (λ v. done.placed ≡ lacking [] mapped))
+    (λ done. IfSeen told (λ v. done.placed ≡ lacking plans.target.items mapped)) c.move_all.result
+    (λ done is v seen. is v (subst (λ t. IsSeen t v) (sym c.walk_both.ensures.told) seen) ∙ ap (λ there. lacking there mapped) (sym (sym c.as_slice.ensures ∙ c.in_ok-test_empty.ensures.empty)))
     c.move_all.ensures.placed)
 
 pub returns-in_err-plans-clause-cause : goal.returns-in_err-plans-clause-cause
 returns-in_err-plans-clause-cause g c v seen =
     let from = c.args.sides.now.source in
     let to = c.args.sides.now.target in
-    let moves : List Planned → Unit {0} → Answer Done → Type 0 = λ items _. Moves (EntersAs v c.args.work.now) from to v items in
-    let names : List Planned → Unit {0} → Answer Done → Type 0 = λ items _. Then own (TestsNames (format_of to.vault) items) (moves items) in
-    let next : Next (List Planned) Done = λ items there. Then own (TestsEmpty there) (names items) in
-    let fault = c.in_err-plans.field-0.0 in
+    let rule = c.args.sides.now.names in
+    let moves : List Planned → Answer Done → Type 0 = λ mapped. Moves (EntersAs v c.args.work.now) from to v mapped in
+    let next : List Planned → List Planned → Answer Done → Type 0 = λ items there. Then own (TestsEmpty there) (λ _. TestsMapped rule (format_of to.vault) items moves) in
+    let why = c.in_err-plans.field-0.0 in
     let p = err_from_is_err_and c.from_residual.result c.from_residual.ensures.1 in
-    refused_as (λ answer. Unless answer (BeginsWith from to c.args.work.now v answer)) c.from_residual.result p.0 fault p.1 p.2 (walks_refused from to v next fault (c.in_err-plans.ensures.cause v seen))
+    refused_as (λ answer. Unless answer (BeginsWith rule from to c.args.work.now v answer)) c.from_residual.result p.0 (of_step why) p.1 p.2 (walks_refused of_step from to v next why (c.in_err-plans.ensures.cause v seen))
 
 pub returns-in_err-test_empty-clause-cause : goal.returns-in_err-test_empty-clause-cause
 returns-in_err-test_empty-clause-cause g c v seen =
     let from = c.args.sides.now.source in
     let to = c.args.sides.now.target in
-    let moves : List Planned → Unit {0} → Answer Done → Type 0 = λ items _. Moves (EntersAs v c.args.work.now) from to v items in
-    let names : List Planned → Unit {0} → Answer Done → Type 0 = λ items _. Then own (TestsNames (format_of to.vault) items) (moves items) in
-    let next : Next (List Planned) Done = λ items there. Then own (TestsEmpty there) (names items) in
+    let rule = c.args.sides.now.names in
+    let moves : List Planned → Answer Done → Type 0 = λ mapped. Moves (EntersAs v c.args.work.now) from to v mapped in
+    let next : List Planned → List Planned → Answer Done → Type 0 = λ items there. Then own (TestsEmpty there) (λ _. TestsMapped rule (format_of to.vault) items moves) in
     let plans = c.in_ok-plans.plans in
     let fault = c.in_err-test_empty.field-0.0 in
     let p = err_from_is_err_and c.from_residual-in_err-test_empty.result c.from_residual-in_err-test_empty.ensures.1 in
-    refused_as (λ answer. Unless answer (BeginsWith from to c.args.work.now v answer)) c.from_residual-in_err-test_empty.result p.0 fault p.1 p.2
-    (walks_pass from to v next (Err fault) plans.source.items plans.target.items (c.in_ok-plans.ensures.passed_source v seen) (c.in_ok-plans.ensures.passed_target v seen)
-    (own_refused (TestsEmpty plans.target.items) (names plans.source.items) fault (subst (λ items. Unless {X = Unit {0}} (Err fault) (TestsEmpty items (Err fault))) c.as_slice.ensures c.in_err-test_empty.ensures.cause)))
+    refused_as (λ answer. Unless answer (BeginsWith rule from to c.args.work.now v answer)) c.from_residual-in_err-test_empty.result p.0 fault p.1 p.2
+    (walks_passes of_step from to v next (Err fault) plans.source.items plans.target.items (c.in_ok-plans.ensures.passed_source v seen) (c.in_ok-plans.ensures.passed_target v seen)
+    (own_refused (TestsEmpty plans.target.items) (λ _. TestsMapped rule (format_of to.vault) plans.source.items moves) fault
+    (subst (λ items. Unless {X = Unit {0}} (Err fault) (TestsEmpty items (Err fault))) c.as_slice.ensures c.in_err-test_empty.ensures.cause)))
 
-pub returns-in_err-test_names-clause-cause : goal.returns-in_err-test_names-clause-cause
-returns-in_err-test_names-clause-cause g c v seen =
+pub returns-in_err-mapped-clause-cause : goal.returns-in_err-mapped-clause-cause
+returns-in_err-mapped-clause-cause g c v seen =
     let from = c.args.sides.now.source in
     let to = c.args.sides.now.target in
-    let moves : List Planned → Unit {0} → Answer Done → Type 0 = λ items _. Moves (EntersAs v c.args.work.now) from to v items in
-    let names : List Planned → Unit {0} → Answer Done → Type 0 = λ items _. Then own (TestsNames (format_of to.vault) items) (moves items) in
-    let next : Next (List Planned) Done = λ items there. Then own (TestsEmpty there) (names items) in
+    let rule = c.args.sides.now.names in
+    let moves : List Planned → Answer Done → Type 0 = λ mapped. Moves (EntersAs v c.args.work.now) from to v mapped in
+    let next : List Planned → List Planned → Answer Done → Type 0 = λ items there. Then own (TestsEmpty there) (λ _. TestsMapped rule (format_of to.vault) items moves) in
     let plans = c.in_ok-plans.plans in
-    let fault = c.in_err-test_names.field-0.0 in
-    let p = err_from_is_err_and c.from_residual-in_err-test_names.result c.from_residual-in_err-test_names.ensures.1 in
-    refused_as (λ answer. Unless answer (BeginsWith from to c.args.work.now v answer)) c.from_residual-in_err-test_names.result p.0 fault p.1 p.2
-    (walks_pass from to v next (Err fault) plans.source.items plans.target.items (c.in_ok-plans.ensures.passed_source v seen) (c.in_ok-plans.ensures.passed_target v seen)
-    (own_passes (TestsEmpty plans.target.items) (names plans.source.items) (Err fault) tt (subst (λ items. Unless {X = Unit {0}} (Ok tt) (TestsEmpty items (Ok tt))) c.as_slice.ensures c.in_ok-test_empty.ensures.cause)
-    (own_refused (TestsNames (format_of to.vault) plans.source.items) (moves plans.source.items) fault
-    (subst (λ items. Unless {X = Unit {0}} (Err fault) (TestsNames (format_of to.vault) items (Err fault))) c.as_slice-2.ensures c.in_err-test_names.ensures.cause))))
+    let fault = c.in_err-mapped.field-0.0 in
+    let p = err_from_is_err_and c.from_residual-in_err-mapped.result c.from_residual-in_err-mapped.ensures.1 in
+    refused_as (λ answer. Unless answer (BeginsWith rule from to c.args.work.now v answer)) c.from_residual-in_err-mapped.result p.0 fault p.1 p.2
+    (walks_passes of_step from to v next (Err fault) plans.source.items plans.target.items (c.in_ok-plans.ensures.passed_source v seen) (c.in_ok-plans.ensures.passed_target v seen)
+    (own_passes (TestsEmpty plans.target.items) (λ _. TestsMapped rule (format_of to.vault) plans.source.items moves) (Err fault) tt
+    (subst (λ items. Unless {X = Unit {0}} (Ok tt) (TestsEmpty items (Ok tt))) c.as_slice.ensures c.in_ok-test_empty.ensures.cause)
+    (mapped_refused rule (format_of to.vault) plans.source.items moves fault c.in_err-mapped.ensures.cause)))
 
 pub returns-clause-cause : goal.returns-clause-cause
 returns-clause-cause g c v seen =
     let from = c.args.sides.now.source in
     let to = c.args.sides.now.target in
-    let moves : List Planned → Unit {0} → Answer Done → Type 0 = λ items _. Moves (EntersAs v c.args.work.now) from to v items in
-    let names : List Planned → Unit {0} → Answer Done → Type 0 = λ items _. Then own (TestsNames (format_of to.vault) items) (moves items) in
-    let next : Next (List Planned) Done = λ items there. Then own (TestsEmpty there) (names items) in
+    let rule = c.args.sides.now.names in
+    let moves : List Planned → Answer Done → Type 0 = λ mapped. Moves (EntersAs v c.args.work.now) from to v mapped in
+    let next : List Planned → List Planned → Answer Done → Type 0 = λ items there. Then own (TestsEmpty there) (λ _. TestsMapped rule (format_of to.vault) items moves) in
     let plans = c.in_ok-plans.plans in
-    walks_pass from to v next c.move_all.result plans.source.items plans.target.items (c.in_ok-plans.ensures.passed_source v seen) (c.in_ok-plans.ensures.passed_target v seen)
-    (own_passes (TestsEmpty plans.target.items) (names plans.source.items) c.move_all.result tt (subst (λ items. Unless {X = Unit {0}} (Ok tt) (TestsEmpty items (Ok tt))) c.as_slice.ensures c.in_ok-test_empty.ensures.cause)
-    (own_passes (TestsNames (format_of to.vault) plans.source.items) (moves plans.source.items) c.move_all.result tt
-    (subst (λ items. Unless {X = Unit {0}} (Ok tt) (TestsNames (format_of to.vault) items (Ok tt))) c.as_slice-2.ensures c.in_ok-test_names.ensures.cause)
+    walks_passes of_step from to v next c.move_all.result plans.source.items plans.target.items (c.in_ok-plans.ensures.passed_source v seen) (c.in_ok-plans.ensures.passed_target v seen)
+    (own_passes (TestsEmpty plans.target.items) (λ _. TestsMapped rule (format_of to.vault) plans.source.items moves) c.move_all.result tt
+    (subst (λ items. Unless {X = Unit {0}} (Ok tt) (TestsEmpty items (Ok tt))) c.as_slice.ensures c.in_ok-test_empty.ensures.cause)
+    (mapped_pass rule (format_of to.vault) plans.source.items moves c.move_all.result c.in_ok-mapped.mapped c.in_ok-mapped.ensures.passed c.in_ok-mapped.ensures.maps
     (c.move_all.ensures.cause v (subst (λ t. IsSeen t v) (sym c.walk_both.ensures.told) seen))))
 
 pub returns-in_err-plans-clause-written : goal.returns-in_err-plans-clause-written
@@ -140,7 +147,7 @@ returns-in_err-plans-clause-written g c =
     let told = g.F.Folder.told c.args.folder.now in
     let left = g.R.Randoms.left c.args.random.now in
     let p = err_from_is_err_and c.from_residual.result c.from_residual.ensures.1 in
-    let refused = refusal_as c.from_residual.result p.0 (c.in_err-plans.field-0.0) p.1 p.2 (c.in_err-plans.ensures.tested) in
+    let refused = refusal_as c.from_residual.result p.0 (of_step c.in_err-plans.field-0.0) p.1 p.2 (step_refuses c.in_err-plans.field-0.0) in
     inl (nothing_written c.from_residual.result refused left told (g.F.Folder.told c.walk_both.new.folder) (c.draws_compose.ensures.none left) c.walk_both.ensures.told)
 
 pub returns-in_err-test_empty-clause-written : goal.returns-in_err-test_empty-clause-written
@@ -151,13 +158,13 @@ returns-in_err-test_empty-clause-written g c =
     let refused = refusal_as c.from_residual-in_err-test_empty.result p.0 (c.in_err-test_empty.field-0.0) p.1 p.2 (c.in_err-test_empty.ensures.tested) in
     inl (nothing_written c.from_residual-in_err-test_empty.result refused left told (g.F.Folder.told c.walk_both.new.folder) (c.draws_compose.ensures.none left) c.walk_both.ensures.told)
 
-pub returns-in_err-test_names-clause-written : goal.returns-in_err-test_names-clause-written
-returns-in_err-test_names-clause-written g c =
+pub returns-in_err-mapped-clause-written : goal.returns-in_err-mapped-clause-written
+returns-in_err-mapped-clause-written g c =
     let told = g.F.Folder.told c.args.folder.now in
     let left = g.R.Randoms.left c.args.random.now in
-    let p = err_from_is_err_and c.from_residual-in_err-test_names.result c.from_residual-in_err-test_names.ensures.1 in
-    let refused = refusal_as c.from_residual-in_err-test_names.result p.0 (c.in_err-test_names.field-0.0) p.1 p.2 (c.in_err-test_names.ensures.tested) in
-    inl (nothing_written c.from_residual-in_err-test_names.result refused left told (g.F.Folder.told c.walk_both.new.folder) (c.draws_compose.ensures.none left) c.walk_both.ensures.told)
+    let p = err_from_is_err_and c.from_residual-in_err-mapped.result c.from_residual-in_err-mapped.ensures.1 in
+    let refused = refusal_as c.from_residual-in_err-mapped.result p.0 (c.in_err-mapped.field-0.0) p.1 p.2 (c.in_err-mapped.ensures.tested) in
+    inl (nothing_written c.from_residual-in_err-mapped.result refused left told (g.F.Folder.told c.walk_both.new.folder) (c.draws_compose.ensures.none left) c.walk_both.ensures.told)
 
 pub returns-clause-written : goal.returns-clause-written
 returns-clause-written g c =
@@ -168,13 +175,17 @@ returns-clause-written g c =
     let plans = c.in_ok-plans.plans in
     let after = g.F.Folder.told c.move_all.new.folder in
     let left2 = g.R.Randoms.left c.move_all.new.random in
+    let rule = c.args.sides.now.names in
+    let mapped = c.in_ok-mapped.mapped.items in
     inr (record {
       items = plans.source.items;
+      mapped = mapped;
       there = plans.target.items;
       items_are = c.in_ok-plans.ensures.source.plan;
+      mapped_are = c.in_ok-mapped.ensures.mapped;
       there_are = c.in_ok-plans.ensures.target.plan;
-      writes = subst (λ t. WritesBy c.move_all.result from to (lacked plans.target.items plans.source.items) (journal_texts Same from.root to.root plans.source.items) left left2 t after) c.walk_both.ensures.told
-          (subst (λ there. WritesBy c.move_all.result from to (lacked there plans.source.items) (journal_texts Same from.root to.root plans.source.items) left left2 (g.F.Folder.told c.walk_both.new.folder) after)
+      writes = subst (λ t. WritesBy c.move_all.result from to (lacked plans.target.items mapped) (journal_texts rule from.root to.root plans.source.items) left left2 t after) c.walk_both.ensures.told
+          (subst (λ there. WritesBy c.move_all.result from to (lacked there mapped) (journal_texts rule from.root to.root plans.source.items) left left2 (g.F.Folder.told c.walk_both.new.folder) after)
           (sym (sym c.as_slice.ensures ∙ c.in_ok-test_empty.ensures.empty)) c.move_all.ensures.written);
     })
 
@@ -182,27 +193,28 @@ pub move_all-requires-clause-copying : goal.move_all-requires-clause-copying
 move_all-requires-clause-copying g c =
     let from = c.args.sides.now.source in
     let to = c.args.sides.now.target in
+    let rule = c.args.sides.now.names in
     let told = g.F.Folder.told c.args.folder.now in
     let plans = c.in_ok-plans.plans in
     let walked_to = subst (IsWalked told to) (sym c.as_slice.ensures ∙ c.in_ok-test_empty.ensures.empty) c.in_ok-plans.ensures.target in
-    subst (MayBegin from to []) (sym c.walk_both.ensures.told)
-    (may_begin c.walks_tell_the_tree.ensures.plan from to (c.clean_vaults_are_orderly.ensures from.vault) (c.clean_vaults_are_orderly.ensures to.vault) plans.source.items [] told (g.met.F.Folder.sound c.args.folder.now)
-    c.in_ok-plans.ensures.source walked_to c.in_ok-plans.ensures.passed_source (empty_held c.walks_tell_the_tree.ensures.plan from to plans.source.items told))
+    subst (MayBegin rule from to []) (sym c.walk_both.ensures.told)
+    (may_begin c.walks_tell_the_tree.ensures.plan rule from to (c.clean_vaults_are_orderly.ensures from.vault) (c.clean_vaults_are_orderly.ensures to.vault) plans.source.items [] told (g.met.F.Folder.sound c.args.folder.now)
+    c.in_ok-plans.ensures.source walked_to c.in_ok-plans.ensures.passed_source (empty_held c.walks_tell_the_tree.ensures.plan rule from to plans.source.items told))
 
 pub returns-in_err-plans-clause-ends : goal.returns-in_err-plans-clause-ends
 returns-in_err-plans-clause-ends g c =
     let p = err_from_is_err_and c.from_residual.result c.from_residual.ensures.1 in
-    ends_uncompared _ _ c.args.sides.now.source c.args.sides.now.target (g.F.Folder.told c.walk_both.new.folder) c.from_residual.result p.0 c.in_err-plans.field-0.0 p.1 p.2 c.in_err-plans.ensures.uncompared
+    ends_uncompared _ _ c.args.sides.now.names c.args.sides.now.source c.args.sides.now.target (g.F.Folder.told c.walk_both.new.folder) c.from_residual.result p.0 (of_step c.in_err-plans.field-0.0) p.1 p.2 (step_compares c.in_err-plans.field-0.0)
 
 pub returns-in_err-test_empty-clause-ends : goal.returns-in_err-test_empty-clause-ends
 returns-in_err-test_empty-clause-ends g c =
     let p = err_from_is_err_and c.from_residual-in_err-test_empty.result c.from_residual-in_err-test_empty.ensures.1 in
-    ends_uncompared _ _ c.args.sides.now.source c.args.sides.now.target (g.F.Folder.told c.walk_both.new.folder) c.from_residual-in_err-test_empty.result p.0 c.in_err-test_empty.field-0.0 p.1 p.2 c.in_err-test_empty.ensures.uncompared
+    ends_uncompared _ _ c.args.sides.now.names c.args.sides.now.source c.args.sides.now.target (g.F.Folder.told c.walk_both.new.folder) c.from_residual-in_err-test_empty.result p.0 c.in_err-test_empty.field-0.0 p.1 p.2 c.in_err-test_empty.ensures.uncompared
 
-pub returns-in_err-test_names-clause-ends : goal.returns-in_err-test_names-clause-ends
-returns-in_err-test_names-clause-ends g c =
-    let p = err_from_is_err_and c.from_residual-in_err-test_names.result c.from_residual-in_err-test_names.ensures.1 in
-    ends_uncompared _ _ c.args.sides.now.source c.args.sides.now.target (g.F.Folder.told c.walk_both.new.folder) c.from_residual-in_err-test_names.result p.0 c.in_err-test_names.field-0.0 p.1 p.2 c.in_err-test_names.ensures.uncompared
+pub returns-in_err-mapped-clause-ends : goal.returns-in_err-mapped-clause-ends
+returns-in_err-mapped-clause-ends g c =
+    let p = err_from_is_err_and c.from_residual-in_err-mapped.result c.from_residual-in_err-mapped.ensures.1 in
+    ends_uncompared _ _ c.args.sides.now.names c.args.sides.now.source c.args.sides.now.target (g.F.Folder.told c.walk_both.new.folder) c.from_residual-in_err-mapped.result p.0 c.in_err-mapped.field-0.0 p.1 p.2 c.in_err-mapped.ensures.uncompared
 
 pub returns-clause-ends : goal.returns-clause-ends
 returns-clause-ends g c =
@@ -213,10 +225,20 @@ returns-clause-ends g c =
     let left = g.R.Randoms.left c.args.random.now in
     let left' = g.R.Randoms.left c.move_all.new.random in
     let plans = c.in_ok-plans.plans in
+    let rule = c.args.sides.now.names in
     let items = plans.source.items in
+    let mapped = c.in_ok-mapped.mapped.items in
     let walked_to = subst (IsWalked told to) (sym c.as_slice.ensures ∙ c.in_ok-test_empty.ensures.empty) c.in_ok-plans.ensures.target in
-    let may = may_begin c.walks_tell_the_tree.ensures.plan from to (c.clean_vaults_are_orderly.ensures from.vault) (c.clean_vaults_are_orderly.ensures to.vault) items [] told (g.met.F.Folder.sound c.args.folder.now)
-    c.in_ok-plans.ensures.source walked_to c.in_ok-plans.ensures.passed_source (empty_held c.walks_tell_the_tree.ensures.plan from to items told) in
-    ends_more (StayGood from to told after) (StayGood from to told after) (SharesFrom (IsFilled from to []) to items left left' told after) (SharesWhereTidy from to left left' told after) from to after c.move_all.result (λ good. good)
-    (source_shares c.walks_tell_the_tree.ensures.plan from to items left left' told after may c.in_ok-plans.ensures.source walked_to)
-    (subst (λ t. EndsBy (StayGood from to t after) (SharesFrom (IsFilled from to []) to items left left' t after) from to after c.move_all.result) c.walk_both.ensures.told c.move_all.ensures.ends)
+    let may = may_begin c.walks_tell_the_tree.ensures.plan rule from to (c.clean_vaults_are_orderly.ensures from.vault) (c.clean_vaults_are_orderly.ensures to.vault) items [] told (g.met.F.Folder.sound c.args.folder.now)
+    c.in_ok-plans.ensures.source walked_to c.in_ok-plans.ensures.passed_source (empty_held c.walks_tell_the_tree.ensures.plan rule from to items told) in
+    ends_more (StayGood from to told after) (StayGood from to told after) (SharesFrom (IsFilled rule from to []) to mapped left left' told after) (SharesWhereTidy rule from to left left' told after) rule from to after c.move_all.result
+    (λ good. good)
+    (source_shares c.walks_tell_the_tree.ensures.plan rule from to items mapped left left' told after may (record { walked = c.in_ok-plans.ensures.source; same = c.in_ok-mapped.ensures.mapped }) walked_to)
+    (subst (λ t. EndsBy (StayGood from to t after) (SharesFrom (IsFilled rule from to []) to mapped left left' t after) rule from to after c.move_all.result) c.walk_both.ensures.told c.move_all.ensures.ends)
+
+pub returns-in_err-plans-clause-blamed : goal.returns-in_err-plans-clause-blamed
+returns-in_err-plans-clause-blamed g c =
+    let n0 = g.F.Folder.faults c.args.folder.now in
+    let n1 = g.F.Folder.faults c.walk_both.new.folder in
+    let p = err_from_is_err_and c.from_residual.result c.from_residual.ensures.1 in
+    rw (p.1, p.2) (step_begins n0 n0 n1 c.in_err-plans.field-0.0 (omega arith) c.in_err-plans.ensures.blamed)

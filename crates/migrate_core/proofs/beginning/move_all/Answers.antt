@@ -1,17 +1,16 @@
 use Rattle.std.proofs.Common.{◌≡◌, [], Result, ◌∙◌, Ok, IfOk, sym, ap, subst, Err, Contains, ◌∷◌}
 use Rattle.folder_spec.specs.declared.FolderFault.{FolderFault}
-use Rattle.plain_tree.specs.declared.name_map.NameMap.TheVariants.{Same}
 use Rattle.std.proofs.lemmas.Result.{err_from_is_err_and}
 use Rattle.folder_spec.specs.Region.{apart_from_both}
 use Rattle.folder_spec.specs.Seen.{IfSeen}
 use Rattle.move_journal.specs.Writing.{IsWorkFolder, elsewhere}
 use Rattle.move_journal.specs.declared.journal.Journal.{Journal}
-use Rattle.tree_match.specs.Alone.{Begun, Finished, Unbegun}
+use Rattle.migration_spec.specs.Alone.{Begun, Finished, Unbegun}
 use Rattle.work_folder.specs.Changing.{ChangesAt}
 use Rattle.work_folder.specs.Entering.{IsLeftOver, IsReady, IsWorkOrStage, EntersAs}
-use Rattle.migrate_core.proofs.Beginnings.{enters_goes, told_goes, written_goes}
+use Rattle.migrate_core.proofs.Beginnings.{AreCited, enters_goes, told_goes, written_goes}
 use Rattle.migrate_core.proofs.Leadings.{goes_failed, goes_on, then_known}
-use Rattle.migrate_core.proofs.Movings.{moves_on, moves_to, seen_stays, source_beside, turned_over, walked_stays}
+use Rattle.migrate_core.proofs.Movings.{moves_on, moves_to, seen_stays, source_beside, mapped_walk, moving_stays, turned_over}
 use Rattle.migrate_core.proofs.WorkFolders.{entered_moves, fresh_folder, fresh_tidy, ready_stays, tidy_written, writing_moves, written_beside, written_folder, written_moves}
 use Rattle.migrate_core.specs.Leading.{LeadsTold}
 use Rattle.migrate_core.specs.Moving.{MovesOnly}
@@ -83,7 +82,7 @@ go_on-requires-clause-walked g c =
     let told = g.F.Folder.told c.args.folder.now in
     let entered = g.F.Folder.told c.enter.new.folder in
     let written = g.F.Folder.told c.write.new.folder in
-    walked_stays (apart_from_both work root) from c.args.plan.now.items told written (λ rest. source_beside from.root root work rest c.requires.apart) (g.met.F.Folder.sound c.args.folder.now)
+    moving_stays (apart_from_both work root) c.args.sides.now.names from c.args.items.now.own.items c.args.items.now.mapped.items told written (λ rest. source_beside from.root root work rest c.requires.apart) (g.met.F.Folder.sound c.args.folder.now)
     (moves_to (apart_from_both work root) root told written (moves_on (apart_from_both work root) root told entered written
     (entered_moves work root (IsWorkOrStage work) (IsLeftOver work) told entered c.requires.apart.target c.enter.ensures.enters.moments)
     (written_moves work root c.in_ok-journal.journal entered written c.requires.apart.target c.write.ensures.moments))) c.requires.walked
@@ -126,52 +125,72 @@ returns-clause-moves g c =
 
 pub returns-in_err-write-clause-guard : goal.returns-in_err-write-clause-guard
 returns-in_err-write-clause-guard g c m sides =
+    let cited : AreCited = record {
+      shown = c.guarded_migrations_are_seen.ensures.alone;
+      plans = c.walks_tell_the_tree.ensures.plan;
+      apart = c.mapped_walks_tell_the_mapped_tree.ensures.apart;
+      below = c.what_stands_is_found_step_by_step.ensures.below;
+      enters = c.settling_and_entering_keep_migrations_guarded.ensures.enters;
+      begins = c.journals_keep_migrations_guarded.ensures.begins;
+      begun = c.journals_keep_migrations_guarded.ensures.begun;
+    } in
     let from = c.args.sides.now.source in
     let to = c.args.sides.now.target in
     let work = c.args.work.now in
-    let items = c.args.plan.now.items in
+    let rule = c.args.sides.now.names in
+    let items = c.args.items.now.own.items in
+    let mapped = c.args.items.now.mapped.items in
     let told = g.F.Folder.told c.args.folder.now in
     let entered = g.F.Folder.told c.enter.new.folder in
     let written = g.F.Folder.told c.write.new.folder in
     let j = c.in_ok-journal.journal in
-    let is = c.in_ok-journal.ensures.new ∙ ap (λ r. new_journal Same r c.root-2.result.now items) c.root.ensures ∙ ap (λ r. new_journal Same from.root r items) c.root-2.ensures in
+    let is = c.in_ok-journal.ensures.new ∙ ap (λ r. new_journal rule r c.root-2.result.now items) c.root.ensures ∙ ap (λ r. new_journal rule from.root r items) c.root-2.ensures in
     let apart = c.requires.apart.target in
-    let walked = walked_stays (apart_from_both work to.root) from items told entered (λ rest. source_beside from.root to.root work rest c.requires.apart) (g.met.F.Folder.sound c.args.folder.now)
+    let walked = moving_stays (apart_from_both work to.root) rule from items mapped told entered (λ rest. source_beside from.root to.root work rest c.requires.apart) (g.met.F.Folder.sound c.args.folder.now)
     (moves_to (apart_from_both work to.root) to.root told entered (entered_moves work to.root (IsWorkOrStage work) (IsLeftOver work) told entered apart c.enter.ensures.enters.moments)) c.requires.walked in
     let p = err_from_is_err_and c.from_residual-in_err-write.result c.from_residual-in_err-write.ensures.1 in
     goes_failed m Unbegun Begun Finished told written c.write.result c.from_residual-in_err-write.result p.0 p.1
-    (written_goes c.guarded_migrations_are_seen.ensures.alone c.walks_tell_the_tree.ensures.plan c.what_stands_is_found_step_by_step.ensures.below
-    c.settling_and_entering_keep_migrations_guarded.ensures.enters c.journals_keep_migrations_guarded.ensures.begins c.journals_keep_migrations_guarded.ensures.begun from to work items told entered written j
-    c.write.result is c.requires.source c.requires.target c.in_ok-journal.ensures.digest c.requires.allowed walked (g.met.F.Folder.sound c.write.new.folder) c.enter.ensures.enters.moments c.write.ensures.moments
+    (written_goes cited rule from to work items mapped told entered written j
+    c.write.result is c.requires.source c.requires.target c.in_ok-journal.ensures.digest c.requires.named walked (g.met.F.Folder.sound c.write.new.folder) c.enter.ensures.enters.moments c.write.ensures.moments
     c.write.ensures.written m sides)
 
 pub returns-clause-guard : goal.returns-clause-guard
 returns-clause-guard g c m sides =
+    let cited : AreCited = record {
+      shown = c.guarded_migrations_are_seen.ensures.alone;
+      plans = c.walks_tell_the_tree.ensures.plan;
+      apart = c.mapped_walks_tell_the_mapped_tree.ensures.apart;
+      below = c.what_stands_is_found_step_by_step.ensures.below;
+      enters = c.settling_and_entering_keep_migrations_guarded.ensures.enters;
+      begins = c.journals_keep_migrations_guarded.ensures.begins;
+      begun = c.journals_keep_migrations_guarded.ensures.begun;
+    } in
     let from = c.args.sides.now.source in
     let to = c.args.sides.now.target in
     let work = c.args.work.now in
-    let items = c.args.plan.now.items in
+    let rule = c.args.sides.now.names in
+    let items = c.args.items.now.own.items in
+    let mapped = c.args.items.now.mapped.items in
     let told = g.F.Folder.told c.args.folder.now in
     let entered = g.F.Folder.told c.enter.new.folder in
     let written = g.F.Folder.told c.write.new.folder in
     let j = c.in_ok-journal.journal in
-    let is = c.in_ok-journal.ensures.new ∙ ap (λ r. new_journal Same r c.root-2.result.now items) c.root.ensures ∙ ap (λ r. new_journal Same from.root r items) c.root-2.ensures in
+    let is = c.in_ok-journal.ensures.new ∙ ap (λ r. new_journal rule r c.root-2.result.now items) c.root.ensures ∙ ap (λ r. new_journal rule from.root r items) c.root-2.ensures in
     let apart = c.requires.apart.target in
-    let walked = walked_stays (apart_from_both work to.root) from items told entered (λ rest. source_beside from.root to.root work rest c.requires.apart) (g.met.F.Folder.sound c.args.folder.now)
+    let walked = moving_stays (apart_from_both work to.root) rule from items mapped told entered (λ rest. source_beside from.root to.root work rest c.requires.apart) (g.met.F.Folder.sound c.args.folder.now)
     (moves_to (apart_from_both work to.root) to.root told entered (entered_moves work to.root (IsWorkOrStage work) (IsLeftOver work) told entered apart c.enter.ensures.enters.moments)) c.requires.walked in
     let after = g.F.Folder.told c.go_on.new.folder in
     let moved = entered_moves work to.root (IsWorkOrStage work) (IsLeftOver work) told entered apart c.enter.ensures.enters.moments in
-    let here = walked_stays (apart_from_both work to.root) from items entered written (λ rest. source_beside from.root to.root work rest c.requires.apart) (g.met.F.Folder.sound c.enter.new.folder)
+    let here = moving_stays (apart_from_both work to.root) rule from items mapped entered written (λ rest. source_beside from.root to.root work rest c.requires.apart) (g.met.F.Folder.sound c.enter.new.folder)
     (moves_to (apart_from_both work to.root) to.root entered written (written_moves work to.root j entered written apart c.write.ensures.moments)) walked in
     let done : Result (Unit {0}) FolderFault = Ok tt in
-    let one = written_goes c.guarded_migrations_are_seen.ensures.alone c.walks_tell_the_tree.ensures.plan c.what_stands_is_found_step_by_step.ensures.below
-    c.settling_and_entering_keep_migrations_guarded.ensures.enters c.journals_keep_migrations_guarded.ensures.begins c.journals_keep_migrations_guarded.ensures.begun from to work items told entered written j
-    done is c.requires.source c.requires.target c.in_ok-journal.ensures.digest c.requires.allowed walked (g.met.F.Folder.sound c.write.new.folder) c.enter.ensures.enters.moments c.write.ensures.moments
+    let one = written_goes cited rule from to work items mapped told entered written j
+    done is c.requires.source c.requires.target c.in_ok-journal.ensures.digest c.requires.named walked (g.met.F.Folder.sound c.write.new.folder) c.enter.ensures.enters.moments c.write.ensures.moments
     c.in_ok-write.ensures.written m sides in
     let goes = subst (λ k. LeadsTold from to c.in_ok-entered.entered k Begun Finished written after c.go_on.result) is (c.go_on.ensures.building (ap (λ (k : Journal). k.phase) is)) in
     goes_on m Unbegun Begun Finished told written after c.go_on.result one.0 one.1
-    (told_goes c.guarded_migrations_are_seen.ensures.alone c.walks_tell_the_tree.ensures.plan _ from to work items Begun Finished written after c.go_on.result c.go_on.ensures.moves here
-    (subst (λ w. LeadsTold from to w (new_journal Same from.root to.root items) Begun Finished written after c.go_on.result) c.in_ok-entered.ensures.path goes) m sides)
+    (told_goes c.guarded_migrations_are_seen.ensures.alone c.walks_tell_the_tree.ensures.plan _ rule from to work items Begun Finished written after c.go_on.result c.go_on.ensures.moves here.walked
+    (subst (λ w. LeadsTold from to w (new_journal rule from.root to.root items) Begun Finished written after c.go_on.result) c.in_ok-entered.ensures.path goes) m sides)
 
 pub go_on-requires-clause-stands : goal.go_on-requires-clause-stands
 go_on-requires-clause-stands g c phase =
@@ -182,6 +201,9 @@ go_on-requires-clause-source g c = ap (λ (j : Journal). j.source) c.in_ok-journ
 
 pub go_on-requires-clause-target : goal.go_on-requires-clause-target
 go_on-requires-clause-target g c = ap (λ (j : Journal). j.target) c.in_ok-journal.ensures.new ∙ c.root-2.ensures
+
+pub go_on-requires-clause-names : goal.go_on-requires-clause-names
+go_on-requires-clause-names g c = ap (λ (j : Journal). j.names) c.in_ok-journal.ensures.new
 
 pub go_on-requires-clause-items : goal.go_on-requires-clause-items
 go_on-requires-clause-items g c = (ap (λ (j : Journal). j.plan) c.in_ok-journal.ensures.new, ap (λ (j : Journal). j.items) c.in_ok-journal.ensures.new)
@@ -199,54 +221,62 @@ returns-clause-placed g c =
     let told = g.F.Folder.told c.args.folder.now in
     let entered = g.F.Folder.told c.enter.new.folder in
     let written = g.F.Folder.told c.write.new.folder in
-    if_ok_more (λ done. IfSeen written (λ v. done.placed ≡ lacking [] c.args.plan.now.items)) (λ done. IfSeen told (λ v. done.placed ≡ lacking [] c.args.plan.now.items)) c.go_on.result
+    if_ok_more (λ done. IfSeen written (λ v. done.placed ≡ lacking [] c.args.items.now.mapped.items)) (λ done. IfSeen told (λ v. done.placed ≡ lacking [] c.args.items.now.mapped.items)) c.go_on.result
     (λ done is. then_known _ told written (moves_on (apart_from_both c.args.work.now c.args.sides.now.target.root) c.args.sides.now.target.root told entered written
     (entered_moves c.args.work.now c.args.sides.now.target.root (IsWorkOrStage c.args.work.now) (IsLeftOver c.args.work.now) told entered c.requires.apart.target c.enter.ensures.enters.moments)
-    (written_moves c.args.work.now c.args.sides.now.target.root c.in_ok-journal.journal entered written c.requires.apart.target c.write.ensures.moments)) (done.placed ≡ lacking [] c.args.plan.now.items) is) c.go_on.ensures.placed
+    (written_moves c.args.work.now c.args.sides.now.target.root c.in_ok-journal.journal entered written c.requires.apart.target c.write.ensures.moments)) (done.placed ≡ lacking [] c.args.items.now.mapped.items) is) c.go_on.ensures.placed
 
 pub returns-in_err-entered-clause-cause : goal.returns-in_err-entered-clause-cause
 returns-in_err-entered-clause-cause g c v seen =
     let work = c.args.work.now in
     let from = c.args.sides.now.source in
     let to = c.args.sides.now.target in
-    let items = c.args.plan.now.items in
+    let rule = c.args.sides.now.names in
+    let items = c.args.items.now.own.items in
+    let mapped = c.args.items.now.mapped.items in
     let why = c.in_err-entered.field-0.0 in
     let p = err_from_is_err_and c.from_residual.result c.from_residual.ensures.1 in
-    refused_as (λ answer. Unless answer (Moves (EntersAs v work) from to v items answer)) c.from_residual.result p.0 (of_work why) p.1 p.2
-    (work_refused (EntersAs v work) (λ _. IsOfMoving (HaveOwnFolders from to v) (StopsAt (HaveOwnFolders from to v) from v items)) why (c.in_err-entered.ensures.enters.answer v seen))
+    refused_as (λ answer. Unless answer (Moves (EntersAs v work) from to v mapped answer)) c.from_residual.result p.0 (of_work why) p.1 p.2
+    (work_refused (EntersAs v work) (λ _. IsOfMoving (HaveOwnFolders from to v) (StopsAt (HaveOwnFolders from to v) from v mapped)) why (c.in_err-entered.ensures.enters.answer v seen))
 
 pub returns-in_err-journal-clause-cause : goal.returns-in_err-journal-clause-cause
 returns-in_err-journal-clause-cause g c v seen =
     let work = c.args.work.now in
     let from = c.args.sides.now.source in
     let to = c.args.sides.now.target in
-    let items = c.args.plan.now.items in
+    let rule = c.args.sides.now.names in
+    let items = c.args.items.now.own.items in
+    let mapped = c.args.items.now.mapped.items in
     let fault = c.in_err-journal.field-0.0 in
     let p = err_from_is_err_and c.from_residual-in_err-journal.result c.from_residual-in_err-journal.ensures.1 in
-    refused_as (λ answer. Unless answer (Moves (EntersAs v work) from to v items answer)) c.from_residual-in_err-journal.result p.0 fault p.1 p.2
-    (moves_pass (EntersAs v work) from to v items (Err fault) (c.in_ok-entered.ensures.enters.answer v seen)
-    (never_more (HaveOwnFolders from to v) (StopsAt (HaveOwnFolders from to v) from v items) fault c.in_err-journal.ensures.moving))
+    refused_as (λ answer. Unless answer (Moves (EntersAs v work) from to v mapped answer)) c.from_residual-in_err-journal.result p.0 fault p.1 p.2
+    (moves_pass (EntersAs v work) from to v mapped (Err fault) (c.in_ok-entered.ensures.enters.answer v seen)
+    (never_more (HaveOwnFolders from to v) (StopsAt (HaveOwnFolders from to v) from v mapped) fault c.in_err-journal.ensures.moving))
 
 pub returns-in_err-write-clause-cause : goal.returns-in_err-write-clause-cause
 returns-in_err-write-clause-cause g c v seen =
     let from = c.args.sides.now.source in
     let to = c.args.sides.now.target in
-    let items = c.args.plan.now.items in
+    let rule = c.args.sides.now.names in
+    let items = c.args.items.now.own.items in
+    let mapped = c.args.items.now.mapped.items in
     let p = err_from_is_err_and c.from_residual-in_err-write.result c.from_residual-in_err-write.ensures.1 in
-    refused_as (λ answer. Unless answer (Moves (EntersAs v c.args.work.now) from to v items answer)) c.from_residual-in_err-write.result p.0 (of_folder c.in_err-write.field-0.0) p.1 p.2 (folder_unless _ c.in_err-write.field-0.0)
+    refused_as (λ answer. Unless answer (Moves (EntersAs v c.args.work.now) from to v mapped answer)) c.from_residual-in_err-write.result p.0 (of_folder c.in_err-write.field-0.0) p.1 p.2 (folder_unless _ c.in_err-write.field-0.0)
 
 pub returns-clause-cause : goal.returns-clause-cause
 returns-clause-cause g c v seen =
     let from = c.args.sides.now.source in
     let to = c.args.sides.now.target in
     let work = c.args.work.now in
-    let items = c.args.plan.now.items in
+    let rule = c.args.sides.now.names in
+    let items = c.args.items.now.own.items in
+    let mapped = c.args.items.now.mapped.items in
     let told = g.F.Folder.told c.args.folder.now in
     let entered = g.F.Folder.told c.enter.new.folder in
     let written = g.F.Folder.told c.write.new.folder in
     let region = apart_from_both work to.root in
-    let kept = kept_by region from.root items told written (g.met.F.Folder.sound c.args.folder.now)
-    (λ one among. source_beside_at from to.root work items one c.requires.apart c.requires.walked among)
+    let kept = kept_by region from.root mapped told written (g.met.F.Folder.sound c.args.folder.now)
+    (λ one among. source_beside_at rule from to.root work mapped told one c.requires.apart (mapped_walk rule told from items mapped c.requires.walked) among)
     (moves_to region to.root told written (moves_on region to.root told entered written (entered_moves work to.root (IsWorkOrStage work) (IsLeftOver work) told entered c.requires.apart.target c.enter.ensures.enters.moments)
     (written_moves work to.root c.in_ok-journal.journal entered written c.requires.apart.target c.write.ensures.moments))) in
     let away = apart_from_both work from.root in
@@ -256,61 +286,67 @@ returns-clause-cause g c v seen =
     let target_is = seen_stays away to.root told written (g.met.F.Folder.sound c.args.folder.now) (λ rest. source_beside to.root from.root work rest (turned_over from.root to.root work c.requires.apart))
     (moves_to away from.root told written (moves_on away from.root told entered written (entered_moves work from.root (IsWorkOrStage work) (IsLeftOver work) told entered c.requires.apart.source c.enter.ensures.enters.moments)
     (written_moves work from.root c.in_ok-journal.journal entered written c.requires.apart.source c.write.ensures.moments))) in
-    moves_pass (EntersAs v work) from to v items c.go_on.result (c.in_ok-entered.ensures.enters.answer v seen)
-    (seen_stops c.go_on.result (HaveOwnFolders from to) from items told v seen (if_stops_before c.go_on.result (HasCopied from to []) (HaveOwnFolders from to) from items told written kept
-    (λ x w is_x is_w own. copied_as from to [] x w (source_is x w is_x is_w) (target_is x w is_x is_w) (c.requires.copying x is_x own)) c.go_on.ensures.moving))
+    moves_pass (EntersAs v work) from to v mapped c.go_on.result (c.in_ok-entered.ensures.enters.answer v seen)
+    (seen_stops c.go_on.result (HaveOwnFolders from to) from mapped told v seen (if_stops_before c.go_on.result (HasCopied rule from to []) (HaveOwnFolders from to) from mapped told written kept
+    (λ x w is_x is_w own. copied_as rule from to [] x w (source_is x w is_x is_w) (target_is x w is_x is_w) (c.requires.copying x is_x own)) c.go_on.ensures.moving))
 
 pub returns-in_err-entered-clause-written : goal.returns-in_err-entered-clause-written
 returns-in_err-entered-clause-written g c =
     let from = c.args.sides.now.source in
     let to = c.args.sides.now.target in
     let work = c.args.work.now in
-    let items = c.args.plan.now.items in
-    let texts = journal_texts Same from.root to.root items in
+    let rule = c.args.sides.now.names in
+    let items = c.args.items.now.own.items in
+    let mapped = c.args.items.now.mapped.items in
+    let texts = journal_texts rule from.root to.root items in
     let told = g.F.Folder.told c.args.folder.now in
     let left = g.R.Randoms.left c.args.random.now in
     let entered = g.F.Folder.told c.enter.new.folder in
     let entering = changing_writes work (IsWorkOrStage work) (IsLeftOver work) to.root c.requires.apart.target told entered c.enter.ensures.enters.moments in
     let p = err_from_is_err_and c.from_residual.result c.from_residual.ensures.1 in
-    refused_as (λ answer. WritesBy answer from to (lacked [] items) texts left left told entered) c.from_residual.result p.0 (of_work c.in_err-entered.field-0.0) p.1 p.2
-    (nothing_yet (of_work c.in_err-entered.field-0.0) from to (lacked [] items) texts left left told entered (work_refuses c.in_err-entered.field-0.0) (c.draws_compose.ensures.none left) entering)
+    refused_as (λ answer. WritesBy answer from to (lacked [] mapped) texts left left told entered) c.from_residual.result p.0 (of_work c.in_err-entered.field-0.0) p.1 p.2
+    (nothing_yet (of_work c.in_err-entered.field-0.0) from to (lacked [] mapped) texts left left told entered (work_refuses c.in_err-entered.field-0.0) (c.draws_compose.ensures.none left) entering)
 
 pub returns-in_err-journal-clause-written : goal.returns-in_err-journal-clause-written
 returns-in_err-journal-clause-written g c =
     let from = c.args.sides.now.source in
     let to = c.args.sides.now.target in
     let work = c.args.work.now in
-    let items = c.args.plan.now.items in
-    let texts = journal_texts Same from.root to.root items in
+    let rule = c.args.sides.now.names in
+    let items = c.args.items.now.own.items in
+    let mapped = c.args.items.now.mapped.items in
+    let texts = journal_texts rule from.root to.root items in
     let told = g.F.Folder.told c.args.folder.now in
     let left = g.R.Randoms.left c.args.random.now in
     let entered = g.F.Folder.told c.enter.new.folder in
     let entering = changing_writes work (IsWorkOrStage work) (IsLeftOver work) to.root c.requires.apart.target told entered c.enter.ensures.enters.moments in
     let p = err_from_is_err_and c.from_residual-in_err-journal.result c.from_residual-in_err-journal.ensures.1 in
-    refused_as (λ answer. WritesBy answer from to (lacked [] items) texts left left told entered) c.from_residual-in_err-journal.result p.0 c.in_err-journal.field-0.0 p.1 p.2
-    (nothing_yet c.in_err-journal.field-0.0 from to (lacked [] items) texts left left told entered (stop_is_test c.in_err-journal.field-0.0 (Unit {0}) c.in_err-journal.ensures.moving) (c.draws_compose.ensures.none left) entering)
+    refused_as (λ answer. WritesBy answer from to (lacked [] mapped) texts left left told entered) c.from_residual-in_err-journal.result p.0 c.in_err-journal.field-0.0 p.1 p.2
+    (nothing_yet c.in_err-journal.field-0.0 from to (lacked [] mapped) texts left left told entered (stop_is_test c.in_err-journal.field-0.0 (Unit {0}) c.in_err-journal.ensures.moving) (c.draws_compose.ensures.none left) entering)
 
 pub returns-in_err-write-clause-written : goal.returns-in_err-write-clause-written
 returns-in_err-write-clause-written g c =
     let from = c.args.sides.now.source in
     let to = c.args.sides.now.target in
     let work = c.args.work.now in
-    let items = c.args.plan.now.items in
-    let texts = journal_texts Same from.root to.root items in
+    let rule = c.args.sides.now.names in
+    let items = c.args.items.now.own.items in
+    let mapped = c.args.items.now.mapped.items in
+    let texts = journal_texts rule from.root to.root items in
     let told = g.F.Folder.told c.args.folder.now in
     let left = g.R.Randoms.left c.args.random.now in
     let entered = g.F.Folder.told c.enter.new.folder in
     let entering = changing_writes work (IsWorkOrStage work) (IsLeftOver work) to.root c.requires.apart.target told entered c.enter.ensures.enters.moments in
     let written = g.F.Folder.told c.write.new.folder in
     let j = c.in_ok-journal.journal in
-    let is = c.in_ok-journal.ensures.new ∙ ap (λ r. new_journal Same r c.root-2.result.now items) c.root.ensures ∙ ap (λ r. new_journal Same from.root r items) c.root-2.ensures in
+    let is = c.in_ok-journal.ensures.new ∙ ap (λ r. new_journal rule r c.root-2.result.now items) c.root.ensures ∙ ap (λ r. new_journal rule from.root r items) c.root-2.ensures in
     let writing = subst (λ (k : Journal). WritesBeside to.root (λ file. Contains (journal_text k ∷ []) file) entered written) is (journal_written work to.root c.requires.apart.target j entered written c.write.ensures.moments) in
-    let first = journal_text (new_journal Same from.root to.root items) ∷ [] in
-    let last = journal_text (done_of (new_journal Same from.root to.root items)) ∷ [] in
+    let first = journal_text (new_journal rule from.root to.root items) ∷ [] in
+    let last = journal_text (done_of (new_journal rule from.root to.root items)) ∷ [] in
     let so_far = beside_on to.root (λ file. ⊥) (λ file. Contains first file) (λ file. Contains first file) (λ file none. absurd none) (λ file text. text) told entered written entering writing in
     let p = err_from_is_err_and c.from_residual-in_err-write.result c.from_residual-in_err-write.ensures.1 in
-    refused_as (λ answer. WritesBy answer from to (lacked [] items) texts left left told written) c.from_residual-in_err-write.result p.0 (of_folder c.in_err-write.field-0.0) p.1 p.2
-    (texts_first (of_folder c.in_err-write.field-0.0) from to (lacked [] items) texts left left told written (folder_refuses c.in_err-write.field-0.0) (c.draws_compose.ensures.none left)
+    refused_as (λ answer. WritesBy answer from to (lacked [] mapped) texts left left told written) c.from_residual-in_err-write.result p.0 (of_folder c.in_err-write.field-0.0) p.1 p.2
+    (texts_first (of_folder c.in_err-write.field-0.0) from to (lacked [] mapped) texts left left told written (folder_refuses c.in_err-write.field-0.0) (c.draws_compose.ensures.none left)
     (only_more (BringsOnlyTo to.root (λ at. ⊥)) (BringsOnlyTo to.root (λ at. ⊥)) (λ file. Contains first file) (λ file. Contains texts file) (λ call is. is) (λ file text. in_first first last file text) told written so_far))
 
 pub returns-clause-written : goal.returns-clause-written
@@ -318,28 +354,30 @@ returns-clause-written g c =
     let from = c.args.sides.now.source in
     let to = c.args.sides.now.target in
     let work = c.args.work.now in
-    let items = c.args.plan.now.items in
-    let texts = journal_texts Same from.root to.root items in
+    let rule = c.args.sides.now.names in
+    let items = c.args.items.now.own.items in
+    let mapped = c.args.items.now.mapped.items in
+    let texts = journal_texts rule from.root to.root items in
     let told = g.F.Folder.told c.args.folder.now in
     let left = g.R.Randoms.left c.args.random.now in
     let entered = g.F.Folder.told c.enter.new.folder in
     let entering = changing_writes work (IsWorkOrStage work) (IsLeftOver work) to.root c.requires.apart.target told entered c.enter.ensures.enters.moments in
     let written = g.F.Folder.told c.write.new.folder in
     let j = c.in_ok-journal.journal in
-    let is = c.in_ok-journal.ensures.new ∙ ap (λ r. new_journal Same r c.root-2.result.now items) c.root.ensures ∙ ap (λ r. new_journal Same from.root r items) c.root-2.ensures in
+    let is = c.in_ok-journal.ensures.new ∙ ap (λ r. new_journal rule r c.root-2.result.now items) c.root.ensures ∙ ap (λ r. new_journal rule from.root r items) c.root-2.ensures in
     let writing = subst (λ (k : Journal). WritesBeside to.root (λ file. Contains (journal_text k ∷ []) file) entered written) is (journal_written work to.root c.requires.apart.target j entered written c.write.ensures.moments) in
-    let first = journal_text (new_journal Same from.root to.root items) ∷ [] in
-    let last = journal_text (done_of (new_journal Same from.root to.root items)) ∷ [] in
+    let first = journal_text (new_journal rule from.root to.root items) ∷ [] in
+    let last = journal_text (done_of (new_journal rule from.root to.root items)) ∷ [] in
     let so_far = beside_on to.root (λ file. ⊥) (λ file. Contains first file) (λ file. Contains first file) (λ file none. absurd none) (λ file text. text) told entered written entering writing in
     let after = g.F.Folder.told c.go_on.new.folder in
     let left2 = g.R.Randoms.left c.go_on.new.random in
     let region = apart_from_both work to.root in
-    let kept = kept_by region from.root (lacked [] items) told written (g.met.F.Folder.sound c.args.folder.now)
-    (λ one among. source_beside_at from to.root work items one c.requires.apart c.requires.walked (lacked_is [] items one among))
+    let kept = kept_by region from.root (lacked [] mapped) told written (g.met.F.Folder.sound c.args.folder.now)
+    (λ one among. source_beside_at rule from to.root work mapped told one c.requires.apart (mapped_walk rule told from items mapped c.requires.walked) (lacked_is [] mapped one among))
     (moves_to region to.root told written (moves_on region to.root told entered written (entered_moves work to.root (IsWorkOrStage work) (IsLeftOver work) told entered c.requires.apart.target c.enter.ensures.enters.moments)
     (written_moves work to.root j entered written c.requires.apart.target c.write.ensures.moments))) in
-    texts_then c.draws_compose.ensures.composed from to (lacked [] items) first last left left left2 told written after c.go_on.result kept (c.draws_compose.ensures.none left) so_far
-    (subst (λ (k : Journal). WritesBy c.go_on.result from to (lacked [] items) (journal_text (done_of k) ∷ []) left left2 written after) is (c.go_on.ensures.written none_ordered))
+    texts_then c.draws_compose.ensures.composed from to (lacked [] mapped) first last left left left2 told written after c.go_on.result kept (c.draws_compose.ensures.none left) so_far
+    (subst (λ (k : Journal). WritesBy c.go_on.result from to (lacked [] mapped) (journal_text (done_of k) ∷ []) left left2 written after) is (c.go_on.ensures.written none_ordered))
 
 pub returns-clause-tidy : goal.returns-clause-tidy
 returns-clause-tidy g c =
@@ -357,25 +395,27 @@ pub returns-in_err-entered-clause-ends : goal.returns-in_err-entered-clause-ends
 returns-in_err-entered-clause-ends g c =
     let why = c.in_err-entered.field-0.0 in
     let p = err_from_is_err_and c.from_residual.result c.from_residual.ensures.1 in
-    ends_uncompared _ _ c.args.sides.now.source c.args.sides.now.target (g.F.Folder.told c.enter.new.folder) c.from_residual.result p.0 (of_work why) p.1 p.2 (work_compares why)
+    ends_uncompared _ _ c.args.sides.now.names c.args.sides.now.source c.args.sides.now.target (g.F.Folder.told c.enter.new.folder) c.from_residual.result p.0 (of_work why) p.1 p.2 (work_compares why)
 
 pub returns-in_err-journal-clause-ends : goal.returns-in_err-journal-clause-ends
 returns-in_err-journal-clause-ends g c =
     let p = err_from_is_err_and c.from_residual-in_err-journal.result c.from_residual-in_err-journal.ensures.1 in
-    ends_uncompared _ _ c.args.sides.now.source c.args.sides.now.target (g.F.Folder.told c.enter.new.folder) c.from_residual-in_err-journal.result p.0 c.in_err-journal.field-0.0 p.1 p.2 c.in_err-journal.ensures.uncompared
+    ends_uncompared _ _ c.args.sides.now.names c.args.sides.now.source c.args.sides.now.target (g.F.Folder.told c.enter.new.folder) c.from_residual-in_err-journal.result p.0 c.in_err-journal.field-0.0 p.1 p.2 c.in_err-journal.ensures.uncompared
 
 pub returns-in_err-write-clause-ends : goal.returns-in_err-write-clause-ends
 returns-in_err-write-clause-ends g c =
     let why = c.in_err-write.field-0.0 in
     let p = err_from_is_err_and c.from_residual-in_err-write.result c.from_residual-in_err-write.ensures.1 in
-    ends_uncompared _ _ c.args.sides.now.source c.args.sides.now.target (g.F.Folder.told c.write.new.folder) c.from_residual-in_err-write.result p.0 (of_folder why) p.1 p.2 (folder_compares why)
+    ends_uncompared _ _ c.args.sides.now.names c.args.sides.now.source c.args.sides.now.target (g.F.Folder.told c.write.new.folder) c.from_residual-in_err-write.result p.0 (of_folder why) p.1 p.2 (folder_compares why)
 
 pub returns-clause-ends : goal.returns-clause-ends
 returns-clause-ends g c =
     let from = c.args.sides.now.source in
     let to = c.args.sides.now.target in
     let work = c.args.work.now in
-    let items = c.args.plan.now.items in
+    let rule = c.args.sides.now.names in
+    let items = c.args.items.now.own.items in
+    let mapped = c.args.items.now.mapped.items in
     let told = g.F.Folder.told c.args.folder.now in
     let entered = g.F.Folder.told c.enter.new.folder in
     let written = g.F.Folder.told c.write.new.folder in
@@ -390,9 +430,9 @@ returns-clause-ends g c =
     (written_moves work from.root c.in_ok-journal.journal entered written c.requires.apart.source c.write.ensures.moments) in
     let source_is = seen_stays region from.root told written (g.met.F.Folder.sound c.args.folder.now) (λ rest. source_beside from.root to.root work rest c.requires.apart) (moves_to region to.root told written moves) in
     let target_is = seen_stays away to.root told written (g.met.F.Folder.sound c.args.folder.now) (λ rest. source_beside to.root from.root work rest (turned_over from.root to.root work c.requires.apart)) (moves_to away from.root told written moves_away) in
-    ends_more (CopiesAll from to [] items written after) (StayGood from to told after) (SharesFrom (IsFilled from to []) to items left left' written after) (SharesFrom (IsFilled from to []) to items left left' told after) from to after c.go_on.result
-    (good_copies from to [] items told written after c.requires.copying (seen_then _ told written moves) source_is target_is)
-    (shares_before region to.root (IsFilled from to []) (IsFilled from to []) to items items left left left' told written after moves
-    (λ v w is_v is_w. filled_as from to [] v w (source_is v w is_v is_w) (target_is v w is_v is_w))
+    ends_more (CopiesAll rule from to [] mapped written after) (StayGood from to told after) (SharesFrom (IsFilled rule from to []) to mapped left left' written after) (SharesFrom (IsFilled rule from to []) to mapped left left' told after) rule from to after
+    c.go_on.result (good_copies rule from to [] mapped told written after c.requires.copying (seen_then _ told written moves) source_is target_is)
+    (shares_before region to.root (IsFilled rule from to []) (IsFilled rule from to []) to mapped mapped left left left' told written after moves
+    (λ v w is_v is_w. filled_as rule from to [] v w (source_is v w is_v is_w) (target_is v w is_v is_w))
     (λ v w is_v is_w filled. subst (LoadsAlike (under to.root v)) (sym (target_is v w is_v is_w)) (λ pass vault opens. opens)) (λ item among. among) c.draws_compose.ensures.composed (λ v is. ([], c.draws_compose.ensures.none left)))
     c.go_on.ensures.ends

@@ -2,26 +2,27 @@ use Rattle.std.proofs.Common.{Result, ◌∙◌, Ok, length, sym, ap, subst, Con
 use Rattle.std.proofs.lemmas.Result.{err_from_is_err_and}
 use Rattle.folder_spec.specs.Region.{apart_from_both}
 use Rattle.folder_spec.specs.Seen.{IsSeen}
-use Rattle.tree_match.specs.Alone.{Finished}
+use Rattle.migration_spec.specs.Alone.{Finished}
 use Rattle.migrate_core.specs.declared.fault.MoveFault.{MoveFault}
 use Rattle.migrate_core.proofs.Endings.{finish_goes, has_moved}
 use Rattle.migrate_core.proofs.Leadings.{goes_failed, refused_nowhere}
-use Rattle.migrate_core.proofs.Movings.{moves_nowhere}
+use Rattle.migrate_core.proofs.Movings.{mapped_walk, moves_nowhere}
 use Rattle.migrate_core.specs.Leading.{Goes, progress_of}
 use Rattle.migrate_core.specs.Moving.{MovesOnly}
-use Rattle.migrate_core.specs.Sides.{IsWalked}
+use Rattle.migrate_core.specs.Sides.{AreItemsToMove, IsMappedWalk}
+use Rattle.migration_sides.specs.Sides.{IsWalked}
 use Rattle.migrate_core.specs.Moved.{StaysTidyWork, done_of}
 use Rattle.migrate_core.proofs.Writings.{only_nowhere}
 use Rattle.move_journal.specs.Journal.{journal_text}
 use Rattle.migrate_core.specs.Written.{BringsOnlyTo, WritesBeside}
 use Rattle.std.proofs.Common.{IfErr}
-use Rattle.tree_match.specs.Trees.{IsSameOrTooLong, match_of}
+use Rattle.tree_match.specs.Trees.{IsSameOrTooLong, match_of, side_of}
 use Rattle.migrate_core.proofs.Causing.{never_more, refused_as, stop_more}
 use Rattle.migrate_core.proofs.Compared.{copied_matches, copied_within, walk_stops}
 use Rattle.migrate_core.specs.Causes.{StopsLater, nothing_stops}
 use Rattle.migrate_core.specs.Copying.{CopiesAll, HasCopied}
-use Rattle.migrate_core.specs.Sides.{side_of}
-use Rattle.migrate_core.proofs.Limits.{ends_uncompared}
+use Rattle.migrate_core.proofs.Limits.{ends_uncompared, step_compares}
+use Rattle.migrate_core.specs.Faults.{of_step}
 use Rattle.migrate_core.proofs.Copyings.{copied_as}
 use Rattle.migrate_core.proofs.Movings.{moves_to, seen_stays, source_beside, turned_over}
 use Rattle.migrate_core.specs.Limits.{EndsBy}
@@ -50,7 +51,11 @@ returns-in_err-test_same-clause-moves g c =
     moves_nowhere (apart_from_both c.args.work.now root) root (g.F.Folder.told c.args.folder.now) (g.F.Folder.told c.test_same.new.folder) (c.test_same.ensures.told ∙ c.walk_one.ensures.told)
 
 pub test_same-requires-clause-source : goal.test_same-requires-clause-source
-test_same-requires-clause-source g c = subst (λ t. IsWalked t c.args.sides.now.source c.args.source.now.items) (sym c.in_ok-target.ensures.told) c.requires.walked
+test_same-requires-clause-source g c =
+    let from = c.args.sides.now.source in
+    let rule = c.args.sides.now.names in
+    subst (λ t. IsMappedWalk rule t from c.args.items.now.mapped.items) (sym c.in_ok-target.ensures.told)
+    (mapped_walk rule (g.F.Folder.told c.args.folder.now) from c.args.items.now.own.items c.args.items.now.mapped.items c.requires.walked)
 
 pub test_same-requires-clause-target : goal.test_same-requires-clause-target
 test_same-requires-clause-target g c = subst (λ t. IsWalked t c.args.sides.now.target c.in_ok-target.target.items) (sym c.in_ok-target.ensures.told) c.in_ok-target.ensures.walked
@@ -66,13 +71,15 @@ returns-in_err-say_done-clause-guard g c m sides tells =
     let from = c.args.sides.now.source in
     let to = c.args.sides.now.target in
     let same = c.in_ok-test_same.ensures.told ∙ c.in_ok-target.ensures.told in
+    let rule = c.args.sides.now.names in
     let at = progress_of c.args.journal.phase in
     let p = err_from_is_err_and c.from_residual-in_err-say_done.result c.from_residual-in_err-say_done.ensures.1 in
     goes_failed m at Finished Finished told told' c.say_done.result c.from_residual-in_err-say_done.result p.0 p.1
     (subst (λ t. Goes m at Finished t told' c.say_done.result) same
-    (finish_goes c.guarded_migrations_are_seen.ensures.alone c.what_is_held_opens_the_same.ensures.held c.what_is_held_opens_the_same.ensures.same m from to c.args.work.now sides at
-    c.args.source.now.items c.in_ok-target.target.items here told' c.say_done.result
-    (subst (λ t. IsWalked t from c.args.source.now.items) (sym same) c.requires.walked) (subst (λ t. IsWalked t to c.in_ok-target.target.items) (sym same) c.in_ok-target.ensures.walked)
+    (finish_goes c.guarded_migrations_are_seen.ensures.alone c.mapped_walks_tell_the_mapped_tree.ensures.apart c.what_is_held_opens_the_same.ensures.held c.what_is_held_opens_the_same.ensures.same c.mapped_trees_are_held.ensures.both m rule from to c.args.work.now
+    (record { source = sides.source; target = sides.target; names = sym c.requires.names ∙ sides.names; work = sides.work }) at c.args.items.now.mapped.items c.in_ok-target.target.items here told' c.say_done.result
+    (subst (λ t. IsMappedWalk rule t from c.args.items.now.mapped.items) (sym same) (mapped_walk rule told from c.args.items.now.own.items c.args.items.now.mapped.items c.requires.walked))
+    (subst (λ t. IsWalked t to c.in_ok-target.target.items) (sym same) c.in_ok-target.ensures.walked)
     (λ v is. c.in_ok-test_same.ensures.same v (subst (λ t. IsSeen t v) c.in_ok-test_same.ensures.told is)) (c.say_done.ensures.guard m sides.work tells)))
 
 pub returns-in_err-say_done-clause-moves : goal.returns-in_err-say_done-clause-moves
@@ -88,12 +95,14 @@ returns-clause-guard g c m sides tells =
     let from = c.args.sides.now.source in
     let to = c.args.sides.now.target in
     let same = c.in_ok-test_same.ensures.told ∙ c.in_ok-target.ensures.told in
+    let rule = c.args.sides.now.names in
     let at = progress_of c.args.journal.phase in
     let done : Result (Unit {0}) MoveFault = Ok tt in
     subst (λ t. Goes m at Finished t told' done) same
-    (finish_goes c.guarded_migrations_are_seen.ensures.alone c.what_is_held_opens_the_same.ensures.held c.what_is_held_opens_the_same.ensures.same m from to c.args.work.now sides at
-    c.args.source.now.items c.in_ok-target.target.items here told' done
-    (subst (λ t. IsWalked t from c.args.source.now.items) (sym same) c.requires.walked) (subst (λ t. IsWalked t to c.in_ok-target.target.items) (sym same) c.in_ok-target.ensures.walked)
+    (finish_goes c.guarded_migrations_are_seen.ensures.alone c.mapped_walks_tell_the_mapped_tree.ensures.apart c.what_is_held_opens_the_same.ensures.held c.what_is_held_opens_the_same.ensures.same c.mapped_trees_are_held.ensures.both m rule from to c.args.work.now
+    (record { source = sides.source; target = sides.target; names = sym c.requires.names ∙ sides.names; work = sides.work }) at c.args.items.now.mapped.items c.in_ok-target.target.items here told' done
+    (subst (λ t. IsMappedWalk rule t from c.args.items.now.mapped.items) (sym same) (mapped_walk rule told from c.args.items.now.own.items c.args.items.now.mapped.items c.requires.walked))
+    (subst (λ t. IsWalked t to c.in_ok-target.target.items) (sym same) c.in_ok-target.ensures.walked)
     (λ v is. c.in_ok-test_same.ensures.same v (subst (λ t. IsSeen t v) c.in_ok-test_same.ensures.told is)) (c.in_ok-say_done.ensures.guard m sides.work tells))
 
 pub returns-clause-moves : goal.returns-clause-moves
@@ -110,9 +119,11 @@ returns-clause-moved g c =
     let from = c.args.sides.now.source in
     let to = c.args.sides.now.target in
     let same = c.in_ok-test_same.ensures.told ∙ c.in_ok-target.ensures.told in
-    has_moved c.what_is_held_opens_the_same.ensures.held c.what_is_held_opens_the_same.ensures.same from to c.args.work.now c.args.source.now.items c.in_ok-target.target.items c.args.journal
+    has_moved c.what_is_held_opens_the_same.ensures.held c.what_is_held_opens_the_same.ensures.same c.mapped_trees_are_held.ensures.both from to c.args.work.now c.args.items.now.own.items c.args.items.now.mapped.items c.in_ok-target.target.items c.args.journal
     here (g.F.Folder.told c.say_done.new.folder) c.requires.apart (g.met.F.Folder.sound c.test_same.new.folder) c.requires.journal c.requires.source c.requires.target c.requires.items
-    (subst (λ t. IsWalked t from c.args.source.now.items) (sym same) c.requires.walked) (subst (λ t. IsWalked t to c.in_ok-target.target.items) (sym same) c.in_ok-target.ensures.walked)
+    (subst (λ t. AreItemsToMove c.args.journal.names t from c.args.items.now.own.items c.args.items.now.mapped.items) (sym same)
+    (subst (λ names. AreItemsToMove names (g.F.Folder.told c.args.folder.now) from c.args.items.now.own.items c.args.items.now.mapped.items) (sym c.requires.names) c.requires.walked))
+    (subst (λ t. IsWalked t to c.in_ok-target.target.items) (sym same) c.in_ok-target.ensures.walked)
     (λ v is. c.in_ok-test_same.ensures.same v (subst (λ t. IsSeen t v) c.in_ok-test_same.ensures.told is))
     (c.say_done.ensures.moves to.root c.requires.apart.target) (c.say_done.ensures.moves from.root c.requires.apart.source) c.in_ok-say_done.ensures.says (length c.as_slice.result.now) (ap length c.as_slice.ensures)
 
@@ -132,37 +143,41 @@ pub returns-in_err-target-clause-moving : goal.returns-in_err-target-clause-movi
 returns-in_err-target-clause-moving g c =
     let from = c.args.sides.now.source in
     let to = c.args.sides.now.target in
-    let items = c.args.source.now.items in
+    let rule = c.args.sides.now.names in
+    let items = c.args.items.now.mapped.items in
     let fault = c.in_err-target.field-0.0 in
     let p = err_from_is_err_and c.from_residual.result c.from_residual.ensures.1 in
-    refused_as (λ answer. IfErr answer (StopsLater (HasCopied from to items) (g.F.Folder.told c.args.folder.now))) c.from_residual.result p.0 fault p.1 p.2
-    (λ v is. walk_stops to v (HasCopied from to items v) (λ h. h.copying.target.clean)
-    (λ h. copied_within c.what_stands_is_found_step_by_step.ensures.below c.what_stands_is_found_step_by_step.ensures.behind c.files_have_their_contents.ensures from to v h.copying) fault
+    refused_as (λ answer. IfErr answer (StopsLater (HasCopied rule from to items) (g.F.Folder.told c.args.folder.now))) c.from_residual.result p.0 (of_step fault) p.1 p.2
+    (λ v is. walk_stops to v (HasCopied rule from to items v) (λ h. h.copying.target.clean)
+    (λ h. copied_within c.what_stands_is_found_step_by_step.ensures.below c.what_stands_is_found_step_by_step.ensures.behind c.files_have_their_contents.ensures rule from to v h.copying) fault
     (c.in_err-target.ensures.cause v is))
 
 pub returns-in_err-test_same-clause-moving : goal.returns-in_err-test_same-clause-moving
 returns-in_err-test_same-clause-moving g c =
     let from = c.args.sides.now.source in
     let to = c.args.sides.now.target in
-    let items = c.args.source.now.items in
+    let rule = c.args.sides.now.names in
+    let items = c.args.items.now.mapped.items in
     let others = c.in_ok-target.target.items in
     let told = g.F.Folder.told c.args.folder.now in
     let fault = c.in_err-test_same.field-0.0 in
     let p = err_from_is_err_and c.from_residual-in_err-test_same.result c.from_residual-in_err-test_same.ensures.1 in
-    refused_as (λ answer. IfErr answer (StopsLater (HasCopied from to items) told)) c.from_residual-in_err-test_same.result p.0 fault p.1 p.2
-    (λ v is. stop_more (IsSameOrTooLong (match_of v (side_of from items) (side_of to others))) (HasCopied from to items v) nothing_stops nothing_stops fault
-    (copied_matches c.walks_tell_the_tree.ensures.plan c.what_is_held_opens_the_same.ensures.alike from to items others told told v c.requires.walked is c.in_ok-target.ensures.walked is) (λ why none. none)
+    refused_as (λ answer. IfErr answer (StopsLater (HasCopied rule from to items) told)) c.from_residual-in_err-test_same.result p.0 fault p.1 p.2
+    (λ v is. stop_more (IsSameOrTooLong (match_of v (side_of from items) (side_of to others))) (HasCopied rule from to items v) nothing_stops nothing_stops fault
+    (copied_matches c.walks_tell_the_tree.ensures.plan c.mapped_walks_tell_the_mapped_tree.ensures.apart c.what_is_held_opens_the_same.ensures.alike rule from to items others told told v
+    (mapped_walk rule told from c.args.items.now.own.items items c.requires.walked) is c.in_ok-target.ensures.walked is) (λ why none. none)
     (c.in_err-test_same.ensures.moving v (subst (λ t. IsSeen t v) (sym c.walk_one.ensures.told) is)))
 
 pub returns-in_err-say_done-clause-moving : goal.returns-in_err-say_done-clause-moving
 returns-in_err-say_done-clause-moving g c =
     let from = c.args.sides.now.source in
     let to = c.args.sides.now.target in
-    let items = c.args.source.now.items in
+    let rule = c.args.sides.now.names in
+    let items = c.args.items.now.mapped.items in
     let fault = c.in_err-say_done.field-0.0 in
     let p = err_from_is_err_and c.from_residual-in_err-say_done.result c.from_residual-in_err-say_done.ensures.1 in
-    refused_as (λ answer. IfErr answer (StopsLater (HasCopied from to items) (g.F.Folder.told c.args.folder.now))) c.from_residual-in_err-say_done.result p.0 fault p.1 p.2
-    (λ v is. never_more (HasCopied from to items v) nothing_stops fault c.in_err-say_done.ensures.moving)
+    refused_as (λ answer. IfErr answer (StopsLater (HasCopied rule from to items) (g.F.Folder.told c.args.folder.now))) c.from_residual-in_err-say_done.result p.0 fault p.1 p.2
+    (λ v is. never_more (HasCopied rule from to items v) nothing_stops fault c.in_err-say_done.ensures.moving)
 
 pub returns-clause-tidy : goal.returns-clause-tidy
 returns-clause-tidy g c = subst (λ t. StaysTidyWork c.args.work.now t (g.F.Folder.told c.say_done.new.folder)) (c.in_ok-test_same.ensures.told ∙ c.in_ok-target.ensures.told) c.in_ok-say_done.ensures.tidy
@@ -170,22 +185,24 @@ returns-clause-tidy g c = subst (λ t. StaysTidyWork c.args.work.now t (g.F.Fold
 pub returns-in_err-target-clause-ends : goal.returns-in_err-target-clause-ends
 returns-in_err-target-clause-ends g c =
     let p = err_from_is_err_and c.from_residual.result c.from_residual.ensures.1 in
-    ends_uncompared _ _ c.args.sides.now.source c.args.sides.now.target (g.F.Folder.told c.walk_one.new.folder) c.from_residual.result p.0 c.in_err-target.field-0.0 p.1 p.2 c.in_err-target.ensures.uncompared
+    let why = c.in_err-target.field-0.0 in
+    ends_uncompared _ _ c.args.sides.now.names c.args.sides.now.source c.args.sides.now.target (g.F.Folder.told c.walk_one.new.folder) c.from_residual.result p.0 (of_step why) p.1 p.2 (step_compares why)
 
 pub returns-in_err-test_same-clause-ends : goal.returns-in_err-test_same-clause-ends
 returns-in_err-test_same-clause-ends g c =
     let from = c.args.sides.now.source in
     let to = c.args.sides.now.target in
-    let items = c.args.source.now.items in
+    let rule = c.args.sides.now.names in
+    let items = c.args.items.now.mapped.items in
     let here = g.F.Folder.told c.test_same.new.folder in
     let p = err_from_is_err_and c.from_residual-in_err-test_same.result c.from_residual-in_err-test_same.ensures.1 in
-    refused_as (λ answer. EndsBy (CopiesAll from to items items (g.F.Folder.told c.args.folder.now) here) (Unit {0}) from to here answer) c.from_residual-in_err-test_same.result p.0 c.in_err-test_same.field-0.0 p.1 p.2
+    refused_as (λ answer. EndsBy (CopiesAll rule from to items items (g.F.Folder.told c.args.folder.now) here) (Unit {0}) rule from to here answer) c.from_residual-in_err-test_same.result p.0 c.in_err-test_same.field-0.0 p.1 p.2
     ((λ v is. c.in_err-test_same.ensures.limit v (subst (λ t. IsSeen t v) c.test_same.ensures.told is)), whichever_taken c.in_err-test_same.field-0.0)
 
 pub returns-in_err-say_done-clause-ends : goal.returns-in_err-say_done-clause-ends
 returns-in_err-say_done-clause-ends g c =
     let p = err_from_is_err_and c.from_residual-in_err-say_done.result c.from_residual-in_err-say_done.ensures.1 in
-    ends_uncompared _ _ c.args.sides.now.source c.args.sides.now.target (g.F.Folder.told c.say_done.new.folder) c.from_residual-in_err-say_done.result p.0 c.in_err-say_done.field-0.0 p.1 p.2 c.in_err-say_done.ensures.uncompared
+    ends_uncompared _ _ c.args.sides.now.names c.args.sides.now.source c.args.sides.now.target (g.F.Folder.told c.say_done.new.folder) c.from_residual-in_err-say_done.result p.0 c.in_err-say_done.field-0.0 p.1 p.2 c.in_err-say_done.ensures.uncompared
 
 pub returns-clause-ends : goal.returns-clause-ends
 returns-clause-ends g c v w is_v is_w has =
@@ -197,7 +214,7 @@ returns-clause-ends g c v w is_v is_w has =
     let same = c.in_ok-test_same.ensures.told ∙ c.in_ok-target.ensures.told in
     let region = apart_from_both work to.root in
     let away = apart_from_both work from.root in
-    copied_as from to c.args.source.now.items v w
+    copied_as c.args.sides.now.names from to c.args.items.now.mapped.items v w
     (seen_stays region from.root told after (g.met.F.Folder.sound c.args.folder.now) (λ rest. source_beside from.root to.root work rest c.requires.apart)
     (moves_to region to.root told after (subst (λ t. MovesOnly work to.root t after) same (c.say_done.ensures.moves to.root c.requires.apart.target))) v w is_v is_w)
     (seen_stays away to.root told after (g.met.F.Folder.sound c.args.folder.now) (λ rest. source_beside to.root from.root work rest (turned_over from.root to.root work c.requires.apart))

@@ -3,17 +3,17 @@ use Rattle.std.proofs.lemmas.Result.{err_from_is_err_and}
 use Rattle.folder_spec.specs.Region.{apart_from_both}
 use Rattle.folder_spec.specs.Seen.{IfSeen}
 use Rattle.move_journal.specs.Writing.{IsWorkFolder}
-use Rattle.tree_match.specs.Alone.{Begun, Finished}
+use Rattle.migration_spec.specs.Alone.{Begun, Finished}
 use Rattle.content_writing.specs.Making.{is_apart}
 use Rattle.migrate_core.proofs.Leadings.{goes_failed, goes_on, refused_nowhere, seen_then}
-use Rattle.migrate_core.proofs.Movings.{moves_on, moves_to, moves_within, source_apart, walked_stays}
+use Rattle.migrate_core.proofs.Movings.{mapped_walk, moves_on, moves_to, moves_within, moving_stays, source_apart}
 use Rattle.migrate_core.proofs.WorkFolders.{beside_staged, journal_stays, placing_has, tidy_placed, work_folder_stays}
 use Rattle.migrate_core.specs.Leading.{Goes, progress_of}
 use Rattle.migrate_core.proofs.Endings.{if_ok_more}
 use Rattle.migrate_core.specs.Moved.{Moved, StaysTidyWork, lacking, done_of}
 use Rattle.migrate_core.specs.Moving.{MovesOnly}
 use Rattle.migrate_core.specs.Copying.{CopiesAll, HasCopied}
-use Rattle.migrate_core.specs.Sides.{AllowsEach, IsWalked, StandAll}
+use Rattle.migrate_core.specs.Sides.{AllowsEach, IsMappedWalk, StandAll}
 use Rattle.vault_spec.specs.Vault.{format_of}
 use Rattle.migrate_core.specs.Written.{WritesAll, WritesBy, WritesFirst, lacked}
 use Rattle.migrate_core.proofs.Writings.{by_all, by_texts, then_texts}
@@ -28,19 +28,23 @@ use Rattle.migrate_core.specs.Sharing.{IsFilled, OneShares, SharesFrom}
 use Rattle.migrate_core.proofs.finishing.go_on.Goals as goal
 
 pub place_missing-requires-clause-walked : goal.place_missing-requires-clause-walked
-place_missing-requires-clause-walked g c = subst (λ items. IsWalked (g.F.Folder.told c.args.folder.now) c.args.sides.now.source items) (sym c.as_slice-items.ensures) c.requires.walked
+place_missing-requires-clause-walked g c =
+    let told = g.F.Folder.told c.args.folder.now in
+    let from = c.args.sides.now.source in
+    let rule = c.args.sides.now.names in
+    subst (λ items. IsMappedWalk rule told from items) (sym c.as_slice-mapped.ensures) (mapped_walk rule told from c.args.items.now.own.items c.args.items.now.mapped.items c.requires.walked)
 
 pub returns-in_err-placed-clause-building : goal.returns-in_err-placed-clause-building
 returns-in_err-placed-clause-building g c phase m sides tells =
     let p = err_from_is_err_and c.from_residual.result c.from_residual.ensures.1 in
     goes_failed m Begun Begun Finished (g.F.Folder.told c.args.folder.now) (g.F.Folder.told c.place_missing.new.folder) c.place_missing.result c.from_residual.result p.0 p.1
-    (c.place_missing.ensures.guard m sides)
+    (c.place_missing.ensures.guard m (record { source = sides.source; target = sides.target; names = sym c.requires.names ∙ sides.names; work = sides.work }))
 
 pub returns-in_err-placed-clause-done : goal.returns-in_err-placed-clause-done
 returns-in_err-placed-clause-done g c phase all m sides tells =
     let p = err_from_is_err_and c.from_residual.result c.from_residual.ensures.1 in
     refused_nowhere m Finished Finished (g.F.Folder.told c.args.folder.now) (g.F.Folder.told c.place_missing.new.folder) c.from_residual.result p.0 p.1
-    (c.place_missing.ensures.none (subst (λ items. StandAll items c.args.there.now) (sym c.as_slice-items.ensures) all))
+    (c.place_missing.ensures.none (subst (λ items. StandAll items c.args.there.now) (sym c.as_slice-mapped.ensures) all))
 
 pub returns-in_err-placed-clause-moves : goal.returns-in_err-placed-clause-moves
 returns-in_err-placed-clause-moves g c =
@@ -50,11 +54,12 @@ returns-in_err-placed-clause-moves g c =
 
 pub finish-requires-clause-walked : goal.finish-requires-clause-walked
 finish-requires-clause-walked g c =
+    let rule = c.args.sides.now.names in
     let from = c.args.sides.now.source in
     let to = c.args.sides.now.target in
     let told = g.F.Folder.told c.args.folder.now in
     let here = g.F.Folder.told c.place_missing.new.folder in
-    walked_stays (is_apart c.args.work.now to.root) from c.args.source.now.items told here (λ rest. source_apart from.root to.root c.args.work.now rest c.requires.apart) (g.met.F.Folder.sound c.args.folder.now)
+    moving_stays (is_apart c.args.work.now to.root) rule from c.args.items.now.own.items c.args.items.now.mapped.items told here (λ rest. source_apart from.root to.root c.args.work.now rest c.requires.apart) (g.met.F.Folder.sound c.args.folder.now)
     (moves_to (is_apart c.args.work.now to.root) to.root told here c.place_missing.ensures.moves) c.requires.walked
 
 pub finish-requires-clause-work_folder : goal.finish-requires-clause-work_folder
@@ -71,17 +76,17 @@ returns-clause-building g c phase m sides tells =
     let told = g.F.Folder.told c.args.folder.now in
     let here = g.F.Folder.told c.place_missing.new.folder in
     let told' = g.F.Folder.told c.finish.new.folder in
-    let placed = c.in_ok-placed.ensures.guard m sides in
+    let placed = c.in_ok-placed.ensures.guard m (record { source = sides.source; target = sides.target; names = sym c.requires.names ∙ sides.names; work = sides.work }) in
     goes_on m Begun Begun Finished told here told' c.finish.result placed.0 placed.1
-    (subst (λ p. Goes m p Finished here told' c.finish.result) (ap progress_of phase) (c.finish.ensures.guard m (record { source = sides.source; target = sides.target; work = c.at.ensures ∙ sides.work }) tells))
+    (subst (λ p. Goes m p Finished here told' c.finish.result) (ap progress_of phase) (c.finish.ensures.guard m (record { source = sides.source; target = sides.target; names = sides.names; work = c.at.ensures ∙ sides.work }) tells))
 
 pub returns-clause-done : goal.returns-clause-done
 returns-clause-done g c phase all m sides tells =
     let told = g.F.Folder.told c.args.folder.now in
     let told' = g.F.Folder.told c.finish.new.folder in
-    subst (λ t. Goes m Finished Finished t told' c.finish.result) (c.in_ok-placed.ensures.none (subst (λ items. StandAll items c.args.there.now) (sym c.as_slice-items.ensures) all))
+    subst (λ t. Goes m Finished Finished t told' c.finish.result) (c.in_ok-placed.ensures.none (subst (λ items. StandAll items c.args.there.now) (sym c.as_slice-mapped.ensures) all))
     (subst (λ p. Goes m p Finished (g.F.Folder.told c.place_missing.new.folder) told' c.finish.result) (ap progress_of phase)
-    (c.finish.ensures.guard m (record { source = sides.source; target = sides.target; work = c.at.ensures ∙ sides.work }) tells))
+    (c.finish.ensures.guard m (record { source = sides.source; target = sides.target; names = sides.names; work = c.at.ensures ∙ sides.work }) tells))
 
 pub returns-clause-moves : goal.returns-clause-moves
 returns-clause-moves g c =
@@ -106,15 +111,15 @@ returns-clause-moved g c = subst (λ w. Moved c.args.journal.names c.args.sides.
 
 pub returns-clause-placed : goal.returns-clause-placed
 returns-clause-placed g c =
-    if_ok_more (λ done. done.placed ≡ c.in_ok-placed.placed) (λ done. IfSeen (g.F.Folder.told c.args.folder.now) (λ v. done.placed ≡ lacking c.args.there.now c.args.source.now.items)) c.finish.result
-    (λ done is v seen. is ∙ c.in_ok-placed.ensures.counted (c.requires.there v seen) ∙ ap (lacking c.args.there.now) c.as_slice-items.ensures) c.finish.ensures.placed
+    if_ok_more (λ done. done.placed ≡ c.in_ok-placed.placed) (λ done. IfSeen (g.F.Folder.told c.args.folder.now) (λ v. done.placed ≡ lacking c.args.there.now c.args.items.now.mapped.items)) c.finish.result
+    (λ done is v seen. is ∙ c.in_ok-placed.ensures.counted (c.requires.there v seen) ∙ ap (lacking c.args.there.now) c.as_slice-mapped.ensures) c.finish.ensures.placed
 
 pub returns-in_err-placed-clause-written : goal.returns-in_err-placed-clause-written
 returns-in_err-placed-clause-written g c ordered =
     let from = c.args.sides.now.source in
     let to = c.args.sides.now.target in
     let there = c.args.there.now in
-    let items = c.args.source.now.items in
+    let items = c.args.items.now.mapped.items in
     let texts = journal_text (done_of c.args.journal) ∷ [] in
     let told = g.F.Folder.told c.args.folder.now in
     let here = g.F.Folder.told c.place_missing.new.folder in
@@ -123,46 +128,49 @@ returns-in_err-placed-clause-written g c ordered =
     let p = err_from_is_err_and c.from_residual.result c.from_residual.ensures.1 in
     by_texts from to (lacked there items) [] texts left left1 told here (λ text none. absurd (omega (arith, none.1))) c.from_residual.result
     (refused_as (λ answer. WritesBy answer from to (lacked there items) [] left left1 told here) c.from_residual.result p.0 c.in_err-placed.field-0.0 p.1 p.2
-    (subst (λ xs. WritesFirst c.in_err-placed.field-0.0 from to (lacked there xs) [] left left1 told here) c.as_slice-items.ensures (c.in_err-placed.ensures.written ordered)))
+    (subst (λ xs. WritesFirst c.in_err-placed.field-0.0 from to (lacked there xs) [] left left1 told here) c.as_slice-mapped.ensures (c.in_err-placed.ensures.written ordered)))
 
 pub returns-clause-written : goal.returns-clause-written
 returns-clause-written g c ordered =
+    let rule = c.args.sides.now.names in
     let from = c.args.sides.now.source in
     let to = c.args.sides.now.target in
     let there = c.args.there.now in
-    let items = c.args.source.now.items in
+    let items = c.args.items.now.mapped.items in
     let texts = journal_text (done_of c.args.journal) ∷ [] in
     let told = g.F.Folder.told c.args.folder.now in
     let here = g.F.Folder.told c.place_missing.new.folder in
     let left = g.R.Randoms.left c.args.random.now in
     let left1 = g.R.Randoms.left c.place_missing.new.random in
     let told' = g.F.Folder.told c.finish.new.folder in
-    by_all c.finish.result (HasCopied from to items) from to (lacked there items) texts left left1 told here told' (seen_then _ told here c.place_missing.ensures.moves) c.finish.ensures.moving
+    by_all c.finish.result (HasCopied rule from to items) from to (lacked there items) texts left left1 told here told' (seen_then _ told here c.place_missing.ensures.moves) c.finish.ensures.moving
     (then_texts c.draws_compose.ensures.composed from to (lacked there items) [] texts left left1 left1 told here told'
-    (subst (λ xs. WritesAll from to (lacked there xs) [] left left1 told here) c.as_slice-items.ensures (c.in_ok-placed.ensures.written ordered)) (c.draws_compose.ensures.none left1) c.finish.ensures.written)
+    (subst (λ xs. WritesAll from to (lacked there xs) [] left left1 told here) c.as_slice-mapped.ensures (c.in_ok-placed.ensures.written ordered)) (c.draws_compose.ensures.none left1) c.finish.ensures.written)
 
 pub returns-in_err-placed-clause-moving : goal.returns-in_err-placed-clause-moving
 returns-in_err-placed-clause-moving g c =
+    let rule = c.args.sides.now.names in
     let from = c.args.sides.now.source in
     let told = g.F.Folder.told c.args.folder.now in
-    let Has = HasCopied from c.args.sides.now.target c.args.there.now in
+    let Has = HasCopied rule from c.args.sides.now.target c.args.there.now in
     let p = err_from_is_err_and c.from_residual.result c.from_residual.ensures.1 in
-    refused_as (λ answer. IfErr answer (StopsSeen Has told from c.args.source.now.items)) c.from_residual.result p.0 c.in_err-placed.field-0.0 p.1 p.2
-    (subst (λ xs. StopsSeen Has told from xs c.in_err-placed.field-0.0) c.as_slice-items.ensures c.in_err-placed.ensures.moving)
+    refused_as (λ answer. IfErr answer (StopsSeen Has told from c.args.items.now.mapped.items)) c.from_residual.result p.0 c.in_err-placed.field-0.0 p.1 p.2
+    (subst (λ xs. StopsSeen Has told from xs c.in_err-placed.field-0.0) c.as_slice-mapped.ensures c.in_err-placed.ensures.moving)
 
 pub returns-clause-moving : goal.returns-clause-moving
 returns-clause-moving g c =
+    let rule = c.args.sides.now.names in
     let from = c.args.sides.now.source in
     let to = c.args.sides.now.target in
-    let items = c.args.source.now.items in
+    let items = c.args.items.now.mapped.items in
     let there = c.args.there.now in
     let told = g.F.Folder.told c.args.folder.now in
     let here = g.F.Folder.told c.place_missing.new.folder in
-    later_seen c.finish.result (HasCopied from to items) (HasCopied from to there) from items told here (subst (λ xs. CopiesAll from to there xs told here) c.as_slice-items.ensures c.in_ok-placed.ensures.copies)
+    later_seen c.finish.result (HasCopied rule from to items) (HasCopied rule from to there) from items told here (subst (λ xs. CopiesAll rule from to there xs told here) c.as_slice-mapped.ensures c.in_ok-placed.ensures.copies)
     (seen_then _ told here c.place_missing.ensures.moves) c.finish.ensures.moving
 
 pub place_missing-requires-clause-allowed : goal.place_missing-requires-clause-allowed
-place_missing-requires-clause-allowed g c = subst (λ items. AllowsEach (format_of c.args.sides.now.target.vault) items) (sym c.as_slice-items.ensures) c.requires.allowed
+place_missing-requires-clause-allowed g c = subst (λ items. AllowsEach (format_of c.args.sides.now.target.vault) items) (sym c.as_slice-mapped.ensures) c.requires.allowed
 
 pub returns-clause-tidy : goal.returns-clause-tidy
 returns-clause-tidy g c =
@@ -177,6 +185,7 @@ returns-clause-tidy g c =
 
 pub returns-in_err-placed-clause-ends : goal.returns-in_err-placed-clause-ends
 returns-in_err-placed-clause-ends g c =
+    let rule = c.args.sides.now.names in
     let from = c.args.sides.now.source in
     let to = c.args.sides.now.target in
     let told = g.F.Folder.told c.args.folder.now in
@@ -185,19 +194,21 @@ returns-in_err-placed-clause-ends g c =
     let left1 = g.R.Randoms.left c.place_missing.new.random in
     let fault = c.in_err-placed.field-0.0 in
     let p = err_from_is_err_and c.from_residual.result c.from_residual.ensures.1 in
-    ends_stopped _ (SharesFrom (IsFilled from to c.args.there.now) to c.args.source.now.items left left1 told here) from to here c.from_residual.result p.0 fault p.1 p.2
-    (subst (λ xs. StopsFor (SharesFrom (IsFilled from to c.args.there.now) to xs left left1 told here) fault) c.as_slice-items.ensures c.in_err-placed.ensures.stops)
+    ends_stopped _ (SharesFrom (IsFilled rule from to c.args.there.now) to c.args.items.now.mapped.items left left1 told here) rule from to here c.from_residual.result p.0 fault p.1 p.2
+    (subst (λ xs. StopsFor (SharesFrom (IsFilled rule from to c.args.there.now) to xs left left1 told here) fault) c.as_slice-mapped.ensures c.in_err-placed.ensures.stops)
 
 pub returns-clause-ends : goal.returns-clause-ends
 returns-clause-ends g c =
+    let rule = c.args.sides.now.names in
     let from = c.args.sides.now.source in
     let to = c.args.sides.now.target in
-    let items = c.args.source.now.items in
+    let items = c.args.items.now.mapped.items in
     let there = c.args.there.now in
     let told = g.F.Folder.told c.args.folder.now in
     let here = g.F.Folder.told c.place_missing.new.folder in
     let after = g.F.Folder.told c.finish.new.folder in
-    let copies : CopiesAll from to there items told here = subst (λ xs. CopiesAll from to there xs told here) c.as_slice-items.ensures c.in_ok-placed.ensures.copies in
-    ends_later (CopiesAll from to items items here after) (CopiesAll from to there items told after) (HasCopied from to items) (λ v. IsFilled from to there v → OneShares to items v (g.R.Randoms.left c.args.random.now) (g.R.Randoms.left c.place_missing.new.random) told after) from to told here after c.finish.result
+    let copies : CopiesAll rule from to there items told here = subst (λ xs. CopiesAll rule from to there xs told here) c.as_slice-mapped.ensures c.in_ok-placed.ensures.copies in
+    ends_later (CopiesAll rule from to items items here after) (CopiesAll rule from to there items told after) (HasCopied rule from to items)
+    (λ v. IsFilled rule from to there v → OneShares to items v (g.R.Randoms.left c.args.random.now) (g.R.Randoms.left c.place_missing.new.random) told after) rule from to told here after c.finish.result
     (λ stays v w is_v is_w has. let u = seen_then _ told here c.place_missing.ensures.moves v is_v in stays u.0 w u.1 is_w (copies v u.0 is_v u.1 has)) (seen_then _ told here c.place_missing.ensures.moves)
     c.finish.ensures.moving c.finish.ensures.ends

@@ -1,38 +1,45 @@
 use Rattle.std.proofs.Common.{IfErr}
 use Rattle.std.proofs.lemmas.Result.{err_from_is_err_and}
 use Rattle.folder_spec.specs.View.{View}
-use Rattle.tree_match.specs.Trees.{IsSameOrTooLong, match_of}
+use Rattle.tree_match.specs.Trees.{IsSameOrTooLong, match_of, side_of}
+use Rattle.migrate_core.proofs.Planned.{mapped_files}
 use Rattle.migrate_core.proofs.Causing.{refused_as}
 use Rattle.migrate_core.proofs.Compared.{match_stops}
 use Rattle.migrate_core.specs.Causes.{StopsLater}
 use Rattle.migrate_core.specs.Faults.{of_match}
-use Rattle.migrate_core.specs.Sides.{side_of}
 use Rattle.migrate_core.proofs.Limits.{by_match, source_first}
 use Rattle.migrate_core.specs.Limits.{PassesLimit, PassesSeen}
 use Rattle.migrate_core.proofs.finishing.test_same.Goals as goal
 
 pub holds_all-requires-clause-a : goal.holds_all-requires-clause-a
-holds_all-requires-clause-a g c v is = record { ordered = c.requires.source.ordered v is; files = c.requires.source.files v is }
+holds_all-requires-clause-a g c v is = record {
+  ordered = c.requires.source.mapped.ordered;
+  files = mapped_files c.args.sides.now.names c.args.sides.now.source c.args.mapped.now.items (g.F.Folder.told c.args.folder.now) c.requires.source v is;
+}
 
 pub returns-in_err-holds_all-clause-moving : goal.returns-in_err-holds_all-clause-moving
 returns-in_err-holds_all-clause-moving g c =
     let from = c.args.sides.now.source in
     let to = c.args.sides.now.target in
-    let Same : View → Type 0 = λ v. IsSameOrTooLong (match_of v (side_of from c.args.source.now.items) (side_of to c.args.target.now.items)) in
+    let Same : View → Type 0 = λ v. IsSameOrTooLong (match_of v (side_of from c.args.mapped.now.items) (side_of to c.args.target.now.items)) in
     let why = c.in_err-holds_all.field-0.0 in
     let p = err_from_is_err_and c.from_residual.result c.from_residual.ensures.1 in
     refused_as (λ answer. IfErr answer (StopsLater Same (g.F.Folder.told c.args.folder.now))) c.from_residual.result p.0 (of_match why) p.1 p.2
-    (λ v is. match_stops (match_of v (side_of from c.args.source.now.items) (side_of to c.args.target.now.items)) why (c.in_err-holds_all.ensures.answers v is))
+    (λ v is. match_stops (match_of v (side_of from c.args.mapped.now.items) (side_of to c.args.target.now.items)) why (c.in_err-holds_all.ensures.answers v is))
 
 pub returns-in_err-holds_all-clause-limit : goal.returns-in_err-holds_all-clause-limit
 returns-in_err-holds_all-clause-limit g c =
     let from = c.args.sides.now.source in
     let to = c.args.sides.now.target in
-    let items = c.args.source.now.items in
+    let items = c.args.mapped.now.items in
     let others = c.args.target.now.items in
+    let rule = c.args.sides.now.names in
     let told = g.F.Folder.told c.args.folder.now in
     let why = c.in_err-holds_all.field-0.0 in
     let p = err_from_is_err_and c.from_residual.result c.from_residual.ensures.1 in
-    refused_as (λ answer. IfErr answer (PassesSeen from to told)) c.from_residual.result p.0 (of_match why) p.1 p.2
-    (λ v is. by_match (PassesLimit from to v) (match_of v (side_of from items) (side_of to others)) why (c.in_err-holds_all.ensures.answers v is)
-    (source_first from to items others told v c.requires.source c.requires.target is))
+    refused_as (λ answer. IfErr answer (PassesSeen rule from to told)) c.from_residual.result p.0 (of_match why) p.1 p.2
+    (λ v is. by_match (PassesLimit rule from to v) (match_of v (side_of from items) (side_of to others)) why (c.in_err-holds_all.ensures.answers v is)
+    (source_first rule from to items others told v c.requires.source c.requires.target is))
+
+pub holds_all-requires-clause-b : goal.holds_all-requires-clause-b
+holds_all-requires-clause-b g c v is = record { ordered = c.requires.target.ordered v is; files = c.requires.target.files v is }

@@ -1,7 +1,9 @@
-use Rattle.std.proofs.Common.{Err, Ok, refl, sym, ap, ◌∙◌, subst, [], ◌∷◌, IfErr}
+use Rattle.std.proofs.Common.{IsTrue, Err, Ok, refl, sym, ap, ◌∙◌, subst, [], ◌∷◌, IfErr}
 use Rattle.std.proofs.lemmas.Result.{err_from_is_err_and}
+use Rattle.std.specs.List.{list_all}
 use Rattle.content_writing.specs.Content.{Whole}
-use Rattle.tree_match.specs.Alone.{Begun}
+use Rattle.migration_spec.specs.Alone.{Begun}
+use Rattle.plain_tree.specs.Names.{is_name}
 use Rattle.vault_spec.specs.Making.{NewDirectory}
 use Rattle.vault_spec.specs.Plan.{Planned}
 use Rattle.migrate_core.proofs.Leadings.{goes_failed}
@@ -29,8 +31,8 @@ returns-in_ok-place_dir-in-Dir-clause-guard g c m sides =
     let left' = g.R.Randoms.left c.place_dir.new.random in
     let from = c.args.sides.now.source in
     let to = c.args.sides.now.target in
-    directory_goes c.placing_keeps_migrations_guarded.ensures.one c.placing_keeps_migrations_guarded.ensures.next c.guarded_migrations_are_seen.ensures.alone m from to c.args.work.now sides c.args.item.now
-    told told' left left' (Ok tt) c.requires.item (g.met.F.Folder.sound c.place_dir.new.folder) c.walks_tell_the_tree.ensures.directory (sym (ap (λ (x : Planned). x.node) c.item.view_is) ∙ c.in-Dir.is)
+    directory_goes c.placing_keeps_migrations_guarded.ensures.one c.placing_keeps_migrations_guarded.ensures.next c.guarded_migrations_are_seen.ensures.alone m c.args.sides.now.names from to c.args.work.now sides c.args.item.now
+    told told' left left' (Ok tt) c.requires.item (g.met.F.Folder.sound c.place_dir.new.folder) c.mapped_walks_tell_the_mapped_tree.ensures.directory (sym (ap (λ (x : Planned). x.node) c.item.view_is) ∙ c.in-Dir.is)
     (subst (λ p. MakesDirectory to c.args.work.now p left left' told told' (Ok tt)) path c.in_ok-place_dir-in-Dir.ensures.made)
 
 pub returns-in_err-place_dir-in-Dir-clause-guard : goal.returns-in_err-place_dir-in-Dir-clause-guard
@@ -44,8 +46,8 @@ returns-in_err-place_dir-in-Dir-clause-guard g c m sides =
     let to = c.args.sides.now.target in
     let p = err_from_is_err_and c.from_residual.result c.from_residual.ensures.1 in
     goes_failed m Begun Begun Begun told told' c.place_dir.result c.from_residual.result p.0 p.1
-    (directory_goes c.placing_keeps_migrations_guarded.ensures.one c.placing_keeps_migrations_guarded.ensures.next c.guarded_migrations_are_seen.ensures.alone m from to c.args.work.now sides c.args.item.now
-    told told' left left' c.place_dir.result c.requires.item (g.met.F.Folder.sound c.place_dir.new.folder) c.walks_tell_the_tree.ensures.directory (sym (ap (λ (x : Planned). x.node) c.item.view_is) ∙ c.in-Dir.is)
+    (directory_goes c.placing_keeps_migrations_guarded.ensures.one c.placing_keeps_migrations_guarded.ensures.next c.guarded_migrations_are_seen.ensures.alone m c.args.sides.now.names from to c.args.work.now sides c.args.item.now
+    told told' left left' c.place_dir.result c.requires.item (g.met.F.Folder.sound c.place_dir.new.folder) c.mapped_walks_tell_the_mapped_tree.ensures.directory (sym (ap (λ (x : Planned). x.node) c.item.view_is) ∙ c.in-Dir.is)
     (subst (λ p. MakesDirectory to c.args.work.now p left left' told told' c.place_dir.result) path c.place_dir.ensures.made))
 
 pub returns-in_ok-place_dir-in-Dir-clause-moves : goal.returns-in_ok-place_dir-in-Dir-clause-moves
@@ -125,8 +127,8 @@ returns-in_ok-place_dir-in-Dir-clause-copies g c =
     let left = g.R.Randoms.left c.args.random.now in
     let left' = g.R.Randoms.left c.place_dir.new.random in
     let made = subst (λ q. MakesDirectory to work q left left' told told' (Ok tt)) (ap (λ (x : Planned). x.path) c.item.view_is) c.in_ok-place_dir-in-Dir.ensures.made in
-    directory_copies from to work c.args.item.now told told' c.requires.apart (g.met.F.Folder.sound c.args.folder.now)
-    (made_moves to work c.args.item.now.path NewDirectory Whole made.drawn told told' (Ok tt) made.makes c.requires.apart.target) c.requires.item c.walks_tell_the_tree.ensures.directory
+    directory_copies c.args.sides.now.names from to work c.args.item.now told told' c.requires.apart (g.met.F.Folder.sound c.args.folder.now)
+    (made_moves to work c.args.item.now.path NewDirectory Whole made.drawn told told' (Ok tt) made.makes c.requires.apart.target) c.requires.item c.mapped_walks_tell_the_mapped_tree.ensures.directory
     (sym (ap (λ (x : Planned). x.node) c.item.view_is) ∙ c.in-Dir.is) left left' made
 
 pub returns-in_err-place_dir-in-Dir-clause-stops : goal.returns-in_err-place_dir-in-Dir-clause-stops
@@ -142,7 +144,8 @@ returns-in_err-place_dir-in-Dir-clause-stops g c =
     let made = c.in_err-place_dir-in-Dir.ensures.made in
     let node = sym (ap (λ (x : Planned). x.node) c.item.view_is) ∙ c.in-Dir.is in
     let p = err_from_is_err_and c.from_residual.result c.from_residual.ensures.1 in
-    refused_as (λ answer. IfErr answer (StopsFor (SharesFrom (Lacks from to item) to (item ∷ []) left left' told told'))) c.from_residual.result p.0 (of_put why) p.1 p.2
-    (item_stops c.what_stands_is_found_step_by_step.ensures.below c.what_stands_is_found_step_by_step.ensures.behind c.files_have_their_contents.ensures c.what_is_found_stands.ensures.enters c.walks_tell_the_tree.ensures.plan
-    from to (c.items_keep_vaults.ensures to.vault) c.args.work.now item NewDirectory Whole made.drawn left left' made.were_drawn told told' c.requires.item (subst (λ kind. IsMadeFor kind NewDirectory) (sym node) refl) c.requires.apart.target why
+    refused_as (λ answer. IfErr answer (StopsFor (SharesFrom (Lacks c.args.sides.now.names from to item) to (item ∷ []) left left' told told'))) c.from_residual.result p.0 (of_put why) p.1 p.2
+    (item_stops c.what_stands_is_found_step_by_step.ensures.behind c.files_have_their_contents.ensures c.what_is_found_stands.ensures.enters c.args.sides.now.names
+    from to (c.items_keep_vaults.ensures to.vault) c.args.work.now item NewDirectory Whole made.drawn left left' made.were_drawn told told'
+    (subst (λ p. IsTrue (list_all is_name p)) (ap (λ (x : Planned). x.path) c.item.view_is) c.names-named.ensures.named) (subst (λ kind. IsMadeFor kind NewDirectory) (sym node) refl) c.requires.apart.target why
     (subst (λ q. MakesAt New to c.args.work.now q NewDirectory Whole made.drawn told told' (Err why)) (ap (λ (x : Planned). x.path) c.item.view_is) made.makes))

@@ -1,9 +1,11 @@
-use Rattle.std.proofs.Common.{Err, Ok, arith, refl, sym, ap, ◌∙◌, subst, [], ◌∷◌, IfErr}
+use Rattle.std.proofs.Common.{IsTrue, Err, Ok, arith, refl, sym, ap, ◌∙◌, subst, [], ◌∷◌, IfErr}
 use Rattle.std.proofs.lemmas.Result.{err_from_is_err_and}
+use Rattle.std.specs.List.{list_all}
 use Rattle.chunk_files.specs.Decoding.{started}
 use Rattle.content_writing.specs.Content.{still_coming}
 use Rattle.vault_contents.specs.VaultContents.{path_of, coming_of}
-use Rattle.tree_match.specs.Alone.{Begun}
+use Rattle.migration_spec.specs.Alone.{Begun}
+use Rattle.plain_tree.specs.Names.{is_name}
 use Rattle.vault_spec.specs.Making.{NewFile}
 use Rattle.vault_spec.specs.Plan.{Planned}
 use Rattle.vault_spec.specs.Vault.{format_of}
@@ -36,14 +38,14 @@ place_file-requires-clause-ready g c =
     let from = c.args.sides.now.source in
     let gives = content_is from c.args.item.now c.in_ok-reader.reader c.new-content.result
     (c.in_ok-reader.ensures.reader ∙ ap (λ (x : Planned). record { at = x.at; decoding = started (format_of from.vault).content }) c.item.view_is) c.new-content.ensures.reads c.new-content.ensures.coming in
-    content_ready c.files_fit_as_contents.ensures from c.args.item.now c.new-content.result gives (g.F.Folder.told c.args.folder.now) c.requires.item c.requires.file
+    content_ready c.files_fit_as_contents.ensures c.args.sides.now.names from c.args.item.now c.new-content.result gives (g.F.Folder.told c.args.folder.now) c.requires.item c.requires.file
 
 pub place_file-requires-clause-elsewhere : goal.place_file-requires-clause-elsewhere
 place_file-requires-clause-elsewhere g c =
     let from = c.args.sides.now.source in
     let gives = content_is from c.args.item.now c.in_ok-reader.reader c.new-content.result
     (c.in_ok-reader.ensures.reader ∙ ap (λ (x : Planned). record { at = x.at; decoding = started (format_of from.vault).content }) c.item.view_is) c.new-content.ensures.reads c.new-content.ensures.coming in
-    content_elsewhere from c.args.sides.now.target.root c.args.work.now c.args.item.now c.new-content.result gives c.requires.apart (g.F.Folder.told c.args.folder.now) c.requires.item
+    content_elsewhere c.args.sides.now.names from c.args.sides.now.target.root c.args.work.now c.args.item.now c.new-content.result gives c.requires.apart (g.F.Folder.told c.args.folder.now) c.requires.item
 
 pub returns-clause-guard : goal.returns-clause-guard
 returns-clause-guard g c m sides =
@@ -58,8 +60,8 @@ returns-clause-guard g c m sides =
     let after = still_coming (path_of c.new-content.result) told (coming_of c.place_file.new.content) in
     let gives = content_is from c.args.item.now c.in_ok-reader.reader c.new-content.result
     (c.in_ok-reader.ensures.reader ∙ ap (λ (x : Planned). record { at = x.at; decoding = started (format_of from.vault).content }) c.item.view_is) c.new-content.ensures.reads c.new-content.ensures.coming in
-    file_goes c.placing_keeps_migrations_guarded.ensures.one c.placing_keeps_migrations_guarded.ensures.next c.guarded_migrations_are_seen.ensures.alone m from to c.args.work.now sides c.args.item.now
-    told told' left left' (Ok tt) c.requires.item (g.met.F.Folder.sound c.place_file.new.folder) c.walks_tell_the_tree.ensures.file c.files_fit_as_contents.ensures c.requires.file c.new-content.result gives after
+    file_goes c.placing_keeps_migrations_guarded.ensures.one c.placing_keeps_migrations_guarded.ensures.next c.guarded_migrations_are_seen.ensures.alone m c.args.sides.now.names from to c.args.work.now sides c.args.item.now
+    told told' left left' (Ok tt) c.requires.item (g.met.F.Folder.sound c.place_file.new.folder) c.mapped_walks_tell_the_mapped_tree.ensures.file c.files_fit_as_contents.ensures c.requires.file c.new-content.result gives after
     (subst (λ p. MakesFile New to c.args.work.now p coming after left left' told told' (Ok tt)) path c.in_ok-place_file.ensures.made)
 
 pub returns-in_err-place_file-clause-guard : goal.returns-in_err-place_file-clause-guard
@@ -77,8 +79,8 @@ returns-in_err-place_file-clause-guard g c m sides =
     (c.in_ok-reader.ensures.reader ∙ ap (λ (x : Planned). record { at = x.at; decoding = started (format_of from.vault).content }) c.item.view_is) c.new-content.ensures.reads c.new-content.ensures.coming in
     let p = err_from_is_err_and c.from_residual-in_err-place_file.result c.from_residual-in_err-place_file.ensures.1 in
     goes_failed m Begun Begun Begun told told' c.place_file.result c.from_residual-in_err-place_file.result p.0 p.1
-    (file_goes c.placing_keeps_migrations_guarded.ensures.one c.placing_keeps_migrations_guarded.ensures.next c.guarded_migrations_are_seen.ensures.alone m from to c.args.work.now sides c.args.item.now
-    told told' left left' c.place_file.result c.requires.item (g.met.F.Folder.sound c.place_file.new.folder) c.walks_tell_the_tree.ensures.file c.files_fit_as_contents.ensures c.requires.file c.new-content.result gives after
+    (file_goes c.placing_keeps_migrations_guarded.ensures.one c.placing_keeps_migrations_guarded.ensures.next c.guarded_migrations_are_seen.ensures.alone m c.args.sides.now.names from to c.args.work.now sides c.args.item.now
+    told told' left left' c.place_file.result c.requires.item (g.met.F.Folder.sound c.place_file.new.folder) c.mapped_walks_tell_the_mapped_tree.ensures.file c.files_fit_as_contents.ensures c.requires.file c.new-content.result gives after
     (subst (λ p. MakesFile New to c.args.work.now p coming after left left' told told' c.place_file.result) path c.place_file.ensures.made))
 
 pub returns-clause-moves : goal.returns-clause-moves
@@ -134,8 +136,8 @@ returns-in_err-place_file-clause-written g c =
     let x : MadeItem = record { path = c.item.inside.path; item = NewFile w.content; drawn = w.drawn } in
     let told_so : ToldContent from item told w.content w.ending =
     λ a is coming comes. made.takes.told coming (ap (λ t. still_coming (path_of content) t (coming_of content)) is ∙ content_coming from item content gives a ∙ comes) in
-    let copy = file_copy c.files_fit_as_contents.ensures from item told c.item.inside.path w.content w.drawn w.ending path c.requires.file c.requires.item told_so in
-    let ends = file_ends c.files_fit_as_contents.ensures from item told w.content w.ending c.requires.file c.requires.item told_so in
+    let copy = file_copy c.files_fit_as_contents.ensures c.args.sides.now.names from item told c.item.inside.path w.content w.drawn w.ending path c.requires.file c.requires.item told_so in
+    let ends = file_ends c.files_fit_as_contents.ensures c.args.sides.now.names from item told w.content w.ending c.requires.file c.requires.item told_so in
     let p = err_from_is_err_and c.from_residual-in_err-place_file.result c.from_residual-in_err-place_file.ensures.1 in
     let why = c.in_err-place_file.field-0.0 in
     refused_as (λ answer. WritesBy answer from to (item ∷ []) [] left left' told told') c.from_residual-in_err-place_file.result p.0 (of_put why) p.1 p.2
@@ -159,8 +161,8 @@ returns-clause-written g c =
     let x : MadeItem = record { path = c.item.inside.path; item = NewFile w.content; drawn = w.drawn } in
     let told_so : ToldContent from item told w.content w.ending =
     λ a is coming comes. made.takes.told coming (ap (λ t. still_coming (path_of content) t (coming_of content)) is ∙ content_coming from item content gives a ∙ comes) in
-    let copy = file_copy c.files_fit_as_contents.ensures from item told c.item.inside.path w.content w.drawn w.ending path c.requires.file c.requires.item told_so in
-    let ends = file_ends c.files_fit_as_contents.ensures from item told w.content w.ending c.requires.file c.requires.item told_so in
+    let copy = file_copy c.files_fit_as_contents.ensures c.args.sides.now.names from item told c.item.inside.path w.content w.drawn w.ending path c.requires.file c.requires.item told_so in
+    let ends = file_ends c.files_fit_as_contents.ensures c.args.sides.now.names from item told w.content w.ending c.requires.file c.requires.item told_so in
     one_written from to c.args.work.now c.requires.apart.target item x w.ending left left' told told' made.takes.were_drawn copy ends made.makes
 
 pub returns-in_err-reader-clause-moving : goal.returns-in_err-reader-clause-moving
@@ -186,7 +188,7 @@ returns-in_err-place_file-clause-moving g c =
     let makes = subst (λ q. MakesAt New to c.args.work.now q (NewFile w.content) w.ending w.drawn told told' (Err why)) (ap (λ (x : Planned). x.path) c.item.view_is) made.makes in
     refused_as (λ answer. IfErr answer (StopsSeen (Enters to item) told from (item ∷ []))) c.from_residual-in_err-place_file.result p.0 (of_put why) p.1 p.2
     (λ v seen. put_stop (Enters to item v) (StopsAt (Enters to item v) from v (item ∷ [])) why
-    (file_stops c.files_fit_as_contents.ensures from to item told w.content w.ending why c.requires.file (λ is. omega (arith, e.source.1 (ap Err is))) c.requires.allowed e.fault c.requires.item
+    (file_stops c.files_fit_as_contents.ensures c.args.sides.now.names from to item told w.content w.ending why c.requires.file (λ is. omega (arith, e.source.1 (ap Err is))) c.requires.allowed e.fault c.requires.item
     (λ a is coming comes. made.takes.told coming (ap (λ t. still_coming (path_of content) t (coming_of content)) is ∙ content_coming from item content gives a ∙ comes))
     (refusal_tells to c.args.work.now item.path (NewFile w.content) w.ending w.drawn told told' why makes) v seen))
 
@@ -204,8 +206,8 @@ returns-clause-copies g c =
     let made = c.in_ok-place_file.ensures.made in
     let w = made.writing in
     let makes = subst (λ q. MakesAt New to work q (NewFile w.content) w.ending w.drawn told told' (Ok tt)) (ap (λ (x : Planned). x.path) c.item.view_is) made.makes in
-    file_copies from to work item told told' c.requires.apart (g.met.F.Folder.sound c.args.folder.now)
-    (made_moves to work item.path (NewFile w.content) w.ending w.drawn told told' (Ok tt) makes c.requires.apart.target) c.requires.item c.walks_tell_the_tree.ensures.file c.files_fit_as_contents.ensures c.requires.file w.content w.drawn w.ending
+    file_copies c.args.sides.now.names from to work item told told' c.requires.apart (g.met.F.Folder.sound c.args.folder.now)
+    (made_moves to work item.path (NewFile w.content) w.ending w.drawn told told' (Ok tt) makes c.requires.apart.target) c.requires.item c.mapped_walks_tell_the_mapped_tree.ensures.file c.files_fit_as_contents.ensures c.requires.file w.content w.drawn w.ending
     (λ a is coming comes. made.takes.told coming (ap (λ t. still_coming (path_of content) t (coming_of content)) is ∙ content_coming from item content gives a ∙ comes)) makes
 
 pub returns-in_err-place_file-clause-stops : goal.returns-in_err-place_file-clause-stops
@@ -221,7 +223,8 @@ returns-in_err-place_file-clause-stops g c =
     let made = c.in_err-place_file.ensures.made in
     let w = made.writing in
     let p = err_from_is_err_and c.from_residual-in_err-place_file.result c.from_residual-in_err-place_file.ensures.1 in
-    refused_as (λ answer. IfErr answer (StopsFor (SharesFrom (Lacks from to item) to (item ∷ []) left left' told told'))) c.from_residual-in_err-place_file.result p.0 (of_put why) p.1 p.2
-    (item_stops c.what_stands_is_found_step_by_step.ensures.below c.what_stands_is_found_step_by_step.ensures.behind c.files_have_their_contents.ensures c.what_is_found_stands.ensures.enters c.walks_tell_the_tree.ensures.plan
-    from to (c.items_keep_vaults.ensures to.vault) c.args.work.now item (NewFile w.content) w.ending w.drawn left left' made.takes.were_drawn told told' c.requires.item (subst (λ kind. IsMadeFor kind (NewFile w.content)) (sym c.requires.file) (w.content, refl)) c.requires.apart.target why
+    refused_as (λ answer. IfErr answer (StopsFor (SharesFrom (Lacks c.args.sides.now.names from to item) to (item ∷ []) left left' told told'))) c.from_residual-in_err-place_file.result p.0 (of_put why) p.1 p.2
+    (item_stops c.what_stands_is_found_step_by_step.ensures.behind c.files_have_their_contents.ensures c.what_is_found_stands.ensures.enters c.args.sides.now.names
+    from to (c.items_keep_vaults.ensures to.vault) c.args.work.now item (NewFile w.content) w.ending w.drawn left left' made.takes.were_drawn told told'
+    (subst (λ p. IsTrue (list_all is_name p)) (ap (λ (x : Planned). x.path) c.item.view_is) c.names-named.ensures.named) (subst (λ kind. IsMadeFor kind (NewFile w.content)) (sym c.requires.file) (w.content, refl)) c.requires.apart.target why
     (subst (λ q. MakesAt New to c.args.work.now q (NewFile w.content) w.ending w.drawn told told' (Err why)) (ap (λ (x : Planned). x.path) c.item.view_is) made.makes))

@@ -3,11 +3,12 @@ use Rattle.std.proofs.lemmas.List.{take_all}
 use Rattle.migrate_core.proofs.Searched.{counted_on}
 use Rattle.migrate_core.specs.Moved.{lacking}
 use Rattle.std.proofs.lemmas.Result.{err_from_is_err_and}
-use Rattle.tree_match.specs.Alone.{Begun}
+use Rattle.migration_spec.specs.Alone.{Begun}
 use Rattle.content_writing.specs.Making.{is_apart}
 use Rattle.migrate_core.proofs.Blaming.{blamed_since}
 use Rattle.migrate_core.proofs.Leadings.{goes_failed, goes_on, guards_on, leads_on, one_view, seen_before, still_guards, still_leads}
-use Rattle.migrate_core.proofs.Movings.{moves_nowhere, moves_on, moves_to, source_apart, walked_stays}
+use Rattle.migrate_core.proofs.Compared.{source_tells}
+use Rattle.migrate_core.proofs.Movings.{mapped_stays, moves_nowhere, moves_on, moves_to, source_apart}
 use Rattle.migrate_core.specs.Written.{BringsOnlyTo, WritesAll, WritesBy, WritesFirst, lacked, slices}
 use Rattle.migrate_core.proofs.Writings.{all_on, first_of_more, first_on, kept_by, lacked_is, lacked_next, lacked_split, next_among, only_nowhere, source_place, texts_alone}
 use Rattle.migrate_core.proofs.Causing.{refused_as}
@@ -15,9 +16,7 @@ use Rattle.migrate_core.proofs.Stopping.{stops_before}
 use Rattle.migrate_core.specs.Causes.{StopsSeen}
 use Rattle.migrate_core.proofs.Copyings.{all_copied, none_copied, one_copied, there_copied}
 use Rattle.migrate_core.proofs.Entered.{next_enters}
-use Rattle.migrate_core.proofs.Planned.{walk_of}
 use Rattle.migrate_core.specs.Copying.{Enters, HasCopied}
-use Rattle.migrate_core.specs.Sides.{side_of}
 use Rattle.migrate_core.proofs.Sharing.{next_lacks, none_filled, one_filled, shares_before, stops_more}
 use Rattle.migrate_core.specs.Limits.{StopsFor}
 use Rattle.migrate_core.specs.Sharing.{IsFilled, Lacks, SharesFrom}
@@ -38,7 +37,7 @@ loop-item-init g c =
       counted = λ ordered. refl;
       written = λ ordered. texts_alone c.args.sides.now.source c.args.sides.now.target [] [] (g.R.Randoms.left c.args.random.now) (g.R.Randoms.left c.args.random.now) told told
           (c.draws_compose.ensures.none (g.R.Randoms.left c.args.random.now)) (only_nowhere (BringsOnlyTo c.args.sides.now.target.root (λ at. ⊥)) (λ file. Contains [] file) told told refl);
-      copied = λ v w is_v is_w h. none_copied c.args.sides.now.source c.args.sides.now.target c.args.there.now v w (one_view told v w is_v is_w) h;
+      copied = λ v w is_v is_w h. none_copied c.args.sides.now.names c.args.sides.now.source c.args.sides.now.target c.args.there.now v w (one_view told v w is_v is_w) h;
       none = λ all. refl;
       fills = λ v w is_v is_w h. none_filled c.args.sides.now.target v w (one_view told v w is_v is_w) h.1;
     }
@@ -52,7 +51,7 @@ place_missing_one-requires-clause-item g c =
     let work = c.args.work.now in
     record {
       items = c.args.items.now;
-      walked = walked_stays (is_apart work to.root) from c.args.items.now told here (λ rest. source_apart from.root to.root work rest c.requires.apart) (g.met.F.Folder.sound c.args.folder.now)
+      walked = mapped_stays (is_apart work to.root) c.args.sides.now.names from c.args.items.now told here (λ rest. source_apart from.root to.root work rest c.requires.apart) (g.met.F.Folder.sound c.args.folder.now)
           (moves_to (is_apart work to.root) to.root told here c.loop-item.invariant.moves) c.requires.walked;
       among = (c.loop-item.item-index, c.loop-item-test.true, sym c.item-item.is);
     }
@@ -114,6 +113,7 @@ returns-clause-none g c = c.loop-item.invariant.none
 
 pub loop-item-preserved : goal.loop-item-preserved
 loop-item-preserved g c =
+    let rule = c.args.sides.now.names in
     let from = c.args.sides.now.source in
     let to = c.args.sides.now.target in
     let work = c.args.work.now in
@@ -128,7 +128,7 @@ loop-item-preserved g c =
     let k = c.loop-item.item-index in
     let item = c.item-item.result in
     let kept = kept_by (is_apart work to.root) from.root (lacked there (item ∷ [])) told here (g.met.F.Folder.sound c.args.folder.now)
-    (λ one among. source_place from to.root work items one (c.requires.apart) c.requires.walked (next_among items k item c.loop-item-test.true c.item-item.is one (lacked_is there (item ∷ []) one among)))
+    (λ one among. source_place rule from to.root work items told one c.requires.apart c.requires.walked (next_among items k item c.loop-item-test.true c.item-item.is one (lacked_is there (item ∷ []) one among)))
     (moves_to (is_apart work to.root) to.root told here c.loop-item.invariant.moves) in
     let i = c.loop-item.invariant in
     record {
@@ -159,12 +159,12 @@ loop-item-preserved g c =
       copied = λ v w is_v is_w h.
           let mid = seen_before _ here told' c.place_missing_one.ensures.moves w is_w in
           let before = i.copied v mid.0 is_v mid.1 h in
-          one_copied from to there items k item mid.0 w c.loop-item-test.true c.item-item.is before
-          (c.in_ok-place_missing_one.ensures.copies mid.0 w mid.1 is_w (there_copied from to there (take k items) mid.0 before));
+          one_copied rule from to there items k item mid.0 w c.loop-item-test.true c.item-item.is before
+          (c.in_ok-place_missing_one.ensures.copies mid.0 w mid.1 is_w (there_copied rule from to there (take k items) mid.0 before));
       fills = λ v w is_v is_w h.
           let mid = seen_before _ here told' c.place_missing_one.ensures.moves w is_w in
-          one_filled from to items k item v mid.0 w c.loop-item-test.true c.item-item.is (i.fills v mid.0 is_v mid.1 h)
-          (c.in_ok-place_missing_one.ensures.copies mid.0 w mid.1 is_w (there_copied from to there (take k items) mid.0 (i.copied v mid.0 is_v mid.1 h.0)));
+          one_filled rule from to items k item v mid.0 w c.loop-item-test.true c.item-item.is (i.fills v mid.0 is_v mid.1 h)
+          (c.in_ok-place_missing_one.ensures.copies mid.0 w mid.1 is_w (there_copied rule from to there (take k items) mid.0 (i.copied v mid.0 is_v mid.1 h.0)));
       none = λ all. c.place_missing_one.ensures.none (all c.item-item.result (c.loop-item.item-index, c.loop-item-test.true, sym c.item-item.is)) ∙ i.none all;
     }
 
@@ -173,6 +173,7 @@ returns-clause-counted g c ordered = c.loop-item.invariant.counted ordered ∙ a
 
 pub returns-in_err-place_missing_one-clause-written : goal.returns-in_err-place_missing_one-clause-written
 returns-in_err-place_missing_one-clause-written g c ordered =
+    let rule = c.args.sides.now.names in
     let from = c.args.sides.now.source in
     let to = c.args.sides.now.target in
     let work = c.args.work.now in
@@ -187,7 +188,7 @@ returns-in_err-place_missing_one-clause-written g c ordered =
     let k = c.loop-item.item-index in
     let item = c.item-item.result in
     let kept = kept_by (is_apart work to.root) from.root (lacked there (item ∷ [])) told here (g.met.F.Folder.sound c.args.folder.now)
-    (λ one among. source_place from to.root work items one (c.requires.apart) c.requires.walked (next_among items k item c.loop-item-test.true c.item-item.is one (lacked_is there (item ∷ []) one among)))
+    (λ one among. source_place rule from to.root work items told one c.requires.apart c.requires.walked (next_among items k item c.loop-item-test.true c.item-item.is one (lacked_is there (item ∷ []) one among)))
     (moves_to (is_apart work to.root) to.root told here c.loop-item.invariant.moves) in
     let p = err_from_is_err_and c.from_residual.result c.from_residual.ensures.1 in
     refused_as (λ answer. WritesBy answer from to (lacked there items) [] left left2 told told') c.from_residual.result p.0 c.in_err-place_missing_one.field-0.0 p.1 p.2
@@ -204,6 +205,7 @@ returns-clause-written g c ordered =
 
 pub returns-in_err-place_missing_one-clause-moving : goal.returns-in_err-place_missing_one-clause-moving
 returns-in_err-place_missing_one-clause-moving g c =
+    let rule = c.args.sides.now.names in
     let from = c.args.sides.now.source in
     let to = c.args.sides.now.target in
     let work = c.args.work.now in
@@ -214,17 +216,17 @@ returns-in_err-place_missing_one-clause-moving g c =
     let item = c.item-item.result in
     let fault = c.in_err-place_missing_one.field-0.0 in
     let kept = kept_by (is_apart work to.root) from.root (item ∷ []) told here (g.met.F.Folder.sound c.args.folder.now)
-    (λ one among. source_place from to.root work items one c.requires.apart c.requires.walked (next_among items k item c.loop-item-test.true c.item-item.is one among))
+    (λ one among. source_place rule from to.root work items told one c.requires.apart c.requires.walked (next_among items k item c.loop-item-test.true c.item-item.is one among))
     (moves_to (is_apart work to.root) to.root told here c.loop-item.invariant.moves) in
     let p = err_from_is_err_and c.from_residual.result c.from_residual.ensures.1 in
-    let walked = walked_stays (is_apart work to.root) from items told here (λ rest. source_apart from.root to.root work rest c.requires.apart) (g.met.F.Folder.sound c.args.folder.now)
+    let walked = mapped_stays (is_apart work to.root) rule from items told here (λ rest. source_apart from.root to.root work rest c.requires.apart) (g.met.F.Folder.sound c.args.folder.now)
     (moves_to (is_apart work to.root) to.root told here c.loop-item.invariant.moves) c.requires.walked in
-    refused_as (λ answer. IfErr answer (StopsSeen (HasCopied from to c.args.there.now) told from items)) c.from_residual.result p.0 fault p.1 p.2
-    (stops_before (Enters to item) (HasCopied from to c.args.there.now) from (item ∷ []) items told here fault kept (next_among items k item c.loop-item-test.true c.item-item.is)
+    refused_as (λ answer. IfErr answer (StopsSeen (HasCopied rule from to c.args.there.now) told from items)) c.from_residual.result p.0 fault p.1 p.2
+    (stops_before (Enters to item) (HasCopied rule from to c.args.there.now) from (item ∷ []) items told here fault kept (next_among items k item c.loop-item-test.true c.item-item.is)
     (λ v w is_v is_w h.
     let copied = c.loop-item.invariant.copied v w is_v is_w h in
-    next_enters c.what_stands_is_found_step_by_step.ensures.below c.what_is_found_stands.ensures.enters c.prefix_comes_first.ensures.child from to c.args.there.now items k item w
-    (c.walks_tell_the_tree.ensures.plan w (side_of from items) (walk_of from items here w walked is_w copied.copying.source.orderly)) (walked.ordered w is_w) c.loop-item-test.true c.item-item.is copied)
+    next_enters c.what_stands_is_found_step_by_step.ensures.below c.what_is_found_stands.ensures.enters c.prefix_comes_first.ensures.child rule from to c.args.there.now items k item w
+    (source_tells c.walks_tell_the_tree.ensures.plan c.mapped_walks_tell_the_mapped_tree.ensures.apart rule from items here w walked is_w copied.copying.source.orderly) c.loop-item-test.true c.item-item.is copied)
     c.in_err-place_missing_one.ensures.moving)
 
 pub place_missing_one-requires-clause-allowed : goal.place_missing_one-requires-clause-allowed
@@ -232,14 +234,16 @@ place_missing_one-requires-clause-allowed g c = c.requires.allowed c.item-item.r
 
 pub returns-clause-copies : goal.returns-clause-copies
 returns-clause-copies g c v w is_v is_w h =
+    let rule = c.args.sides.now.names in
     let from = c.args.sides.now.source in
     let to = c.args.sides.now.target in
     let there = c.args.there.now in
-    all_copied from to there c.args.items.now w
-    (subst (λ xs. HasCopied from to (there ++ xs) w) (take_all c.loop-item.item-index c.args.items.now c.loop-item-test.false) (c.loop-item.invariant.copied v w is_v is_w h))
+    all_copied rule from to there c.args.items.now w
+    (subst (λ xs. HasCopied rule from to (there ++ xs) w) (take_all c.loop-item.item-index c.args.items.now c.loop-item-test.false) (c.loop-item.invariant.copied v w is_v is_w h))
 
 pub returns-in_err-place_missing_one-clause-stops : goal.returns-in_err-place_missing_one-clause-stops
 returns-in_err-place_missing_one-clause-stops g c =
+    let rule = c.args.sides.now.names in
     let from = c.args.sides.now.source in
     let to = c.args.sides.now.target in
     let work = c.args.work.now in
@@ -255,15 +259,15 @@ returns-in_err-place_missing_one-clause-stops g c =
     let item = c.item-item.result in
     let fault = c.in_err-place_missing_one.field-0.0 in
     let i = c.loop-item.invariant in
-    let walked = walked_stays (is_apart work to.root) from items told here (λ rest. source_apart from.root to.root work rest c.requires.apart) (g.met.F.Folder.sound c.args.folder.now)
+    let walked = mapped_stays (is_apart work to.root) rule from items told here (λ rest. source_apart from.root to.root work rest c.requires.apart) (g.met.F.Folder.sound c.args.folder.now)
     (moves_to (is_apart work to.root) to.root told here i.moves) c.requires.walked in
     let p = err_from_is_err_and c.from_residual.result c.from_residual.ensures.1 in
-    refused_as (λ answer. IfErr answer (StopsFor (SharesFrom (IsFilled from to there) to items left left2 told told'))) c.from_residual.result p.0 fault p.1 p.2
-    (stops_more (SharesFrom (Lacks from to item) to (item ∷ []) left1 left2 here told') (SharesFrom (IsFilled from to there) to items left left2 told told') fault
-    (shares_before (is_apart work to.root) to.root (Lacks from to item) (IsFilled from to there) to (item ∷ []) items left left1 left2 told here told' i.moves
+    refused_as (λ answer. IfErr answer (StopsFor (SharesFrom (IsFilled rule from to there) to items left left2 told told'))) c.from_residual.result p.0 fault p.1 p.2
+    (stops_more (SharesFrom (Lacks rule from to item) to (item ∷ []) left1 left2 here told') (SharesFrom (IsFilled rule from to there) to items left left2 told told') fault
+    (shares_before (is_apart work to.root) to.root (Lacks rule from to item) (IsFilled rule from to there) to (item ∷ []) items left left1 left2 told here told' i.moves
     (λ v w is_v is_w h.
     let copied = i.copied v w is_v is_w h.0 in
-    next_lacks from to there items k item w (c.walks_tell_the_tree.ensures.plan w (side_of from items) (walk_of from items here w walked is_w copied.copying.source.orderly)) (walked.ordered w is_w) c.loop-item-test.true c.item-item.is
+    next_lacks rule from to there items k item w (source_tells c.walks_tell_the_tree.ensures.plan c.mapped_walks_tell_the_mapped_tree.ensures.apart rule from items here w walked is_w copied.copying.source.orderly) c.loop-item-test.true c.item-item.is
     copied (i.fills v w is_v is_w h).0)
     (λ v w is_v is_w h. (i.fills v w is_v is_w h).1) (next_among items k item c.loop-item-test.true c.item-item.is) c.draws_compose.ensures.composed
     (λ v is. let w = i.written (c.requires.there v is) in (slices w.made, w.writes.drawn))) c.in_err-place_missing_one.ensures.stops)

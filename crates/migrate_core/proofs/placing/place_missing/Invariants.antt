@@ -1,6 +1,6 @@
 use Rattle.std.proofs.Common.{◌≡◌, ◌≤◌, ◌++◌, take, []}
 use Rattle.folder_spec.specs.Seen.{IfSeen}
-use Rattle.tree_match.specs.Alone.{Begun}
+use Rattle.migration_spec.specs.Alone.{Begun}
 use Rattle.vault_walk.specs.Survey.{IsOrdered}
 use Rattle.content_writing.specs.Making.{is_apart}
 use Rattle.work_folder.specs.Entering.{IsReady}
@@ -19,12 +19,12 @@ invariant-loop-item g l = record {
   random : g.R.Randoms.faults l.initial.random ≤ g.R.Randoms.faults l.random;
   few : l.placed ≤ l.item-index;
   ready : IfSeen (g.F.Folder.told l.folder) (λ v. IsReady v l.work);
-  led : HasLed l.sides.source l.sides.target l.work Begun Begun (g.F.Folder.told l.initial.folder) (g.F.Folder.told l.folder);
+  led : HasLed l.sides.names l.sides.source l.sides.target l.work Begun Begun (g.F.Folder.told l.initial.folder) (g.F.Folder.told l.folder);
   moves : MovesBeside (is_apart l.work l.sides.target.root) l.sides.target.root (g.F.Folder.told l.initial.folder) (g.F.Folder.told l.folder);
   counted : IsOrdered l.there → l.placed ≡ lacking l.there (take l.item-index l.items);
   written : IsOrdered l.there → WritesAll l.sides.source l.sides.target (lacked l.there (take l.item-index l.items)) [] (g.R.Randoms.left l.initial.random) (g.R.Randoms.left l.random)
       (g.F.Folder.told l.initial.folder) (g.F.Folder.told l.folder);
-  copied : CopiesAll l.sides.source l.sides.target l.there (l.there ++ take l.item-index l.items) (g.F.Folder.told l.initial.folder) (g.F.Folder.told l.folder);
-  fills : FillsOnly l.sides.source l.sides.target l.there (take l.item-index l.items) (g.F.Folder.told l.initial.folder) (g.F.Folder.told l.folder);
+  copied : CopiesAll l.sides.names l.sides.source l.sides.target l.there (l.there ++ take l.item-index l.items) (g.F.Folder.told l.initial.folder) (g.F.Folder.told l.folder);
+  fills : FillsOnly l.sides.names l.sides.source l.sides.target l.there (take l.item-index l.items) (g.F.Folder.told l.initial.folder) (g.F.Folder.told l.folder);
   none : StandAll l.items l.there → g.F.Folder.told l.folder ≡ g.F.Folder.told l.initial.folder;
 }

@@ -1,6 +1,6 @@
 use Rattle.std.proofs.Common.{refl, sym, ◌∙◌, Contains, [], cond, not, subst, ◌∷◌, IfErr}
 use Rattle.folder_spec.specs.Seen.{seen}
-use Rattle.tree_match.specs.Alone.{Begun}
+use Rattle.migration_spec.specs.Alone.{Begun}
 use Rattle.content_writing.specs.Making.{is_apart}
 use Rattle.migrate_core.proofs.Leadings.{nothing_told, one_view, still_guards, still_leads}
 use Rattle.migrate_core.proofs.Movings.{moves_nowhere}
@@ -82,7 +82,7 @@ pub returns-then-stands-clause-copies : goal.returns-then-stands-clause-copies
 returns-then-stands-clause-copies g c v w is_v is_w h =
     let there = c.args.there.now in
     let item = c.args.item.now in
-    stands_copied c.args.sides.now.source c.args.sides.now.target there item v w (one_view (g.F.Folder.told c.args.folder.now) v w is_v is_w)
+    stands_copied c.args.sides.now.names c.args.sides.now.source c.args.sides.now.target there item v w (one_view (g.F.Folder.told c.args.folder.now) v w is_v is_w)
     (there_by item.path there (sym (c.stands.ensures (c.requires.there v is_v)) ∙ c.if-stands.true)) h
 
 pub returns-clause-copies : goal.returns-clause-copies
@@ -93,6 +93,10 @@ returns-in_err-place-clause-stops g c =
     let from = c.args.sides.now.source in
     let to = c.args.sides.now.target in
     let item = c.args.item.now in
+    let left = g.R.Randoms.left c.args.random.now in
+    let left' = g.R.Randoms.left c.place.new.random in
+    let told = g.F.Folder.told c.args.folder.now in
+    let told' = g.F.Folder.told c.place.new.folder in
     let p = err_from_is_err_and c.from_residual.result c.from_residual.ensures.1 in
-    refused_as (λ answer. IfErr answer (StopsFor (SharesFrom (Lacks from to item) to (item ∷ []) (g.R.Randoms.left c.args.random.now) (g.R.Randoms.left c.place.new.random) (g.F.Folder.told c.args.folder.now) (g.F.Folder.told c.place.new.folder)))) c.from_residual.result p.0 c.in_err-place.field-0.0 p.1 p.2
+    refused_as (λ answer. IfErr answer (StopsFor (SharesFrom (Lacks c.args.sides.now.names from to item) to (item ∷ []) left left' told told'))) c.from_residual.result p.0 c.in_err-place.field-0.0 p.1 p.2
     c.in_err-place.ensures.stops

@@ -1,16 +1,17 @@
 use Rattle.std.proofs.Common.{◌≡◌, ◌∙◌, Result, Ok, sym, ap, arith, subst, Contains, [], ◌∷◌, IfErr}
 use Rattle.std.proofs.lemmas.Result.{err_from_is_err_and}
 use Rattle.folder_spec.specs.Region.{apart_from, apart_from_both}
-use Rattle.tree_match.specs.Alone.{Finished}
+use Rattle.migration_spec.specs.Alone.{Finished}
 use Rattle.vault_walk.specs.Survey.{IsOrdered}
 use Rattle.move_journal.specs.Writing.{IsWorkFolder}
 use Rattle.work_folder.specs.Entering.{IsReady, Empties, IsBelowStage, IsStage}
 use Rattle.work_folder.specs.Entries.{stage_path}
 use Rattle.migrate_core.specs.Leading.{progress_of}
 use Rattle.migrate_core.specs.Moving.{MovesOnly}
-use Rattle.migrate_core.specs.Sides.{AreSeparate, StandAll}
+use Rattle.migration_sides.specs.Sides.{AreSeparate}
+use Rattle.migrate_core.specs.Sides.{AreItemsToMove, StandAll}
 use Rattle.migrate_core.proofs.Leadings.{alone_goes, goes_failed, then_known}
-use Rattle.migrate_core.proofs.Movings.{moves_on, moves_to, seen_stays, source_beside, turned_over, walked_stays}
+use Rattle.migrate_core.proofs.Movings.{moves_on, moves_to, seen_stays, source_beside, mapped_walk, moving_stays, turned_over}
 use Rattle.migrate_core.proofs.Restaged.{rest_goes, stage_alone, stage_apart, stage_moves, stage_stays, still_known}
 use Rattle.migrate_core.proofs.WorkFolders.{staging_has, work_folder_stays}
 use Rattle.folder_spec.specs.Seen.{IfSeen}
@@ -67,7 +68,7 @@ go_on-requires-clause-walked g c =
     let from = c.args.sides.now.source in
     let target = c.args.sides.now.target.root in
     let region = apart_from_both c.args.work.now target in
-    walked_stays region from c.args.plans.now.source.items t0 t1 (λ rest. source_beside from.root target c.args.work.now rest c.requires.apart) (g.met.F.Folder.sound c.args.folder.now)
+    moving_stays region c.args.sides.now.names from c.args.items.now.own.items c.args.items.now.mapped.items t0 t1 (λ rest. source_beside from.root target c.args.work.now rest c.requires.apart) (g.met.F.Folder.sound c.args.folder.now)
     (moves_to region target t0 t1 (stage_moves c.args.work.now target t0 t1 c.requires.apart.target c.again.ensures.restages.moments)) c.requires.source
 
 pub go_on-requires-clause-there : goal.go_on-requires-clause-there
@@ -76,7 +77,7 @@ go_on-requires-clause-there g c = λ v seen.
     let t1 = g.F.Folder.told c.again.new.folder in
     let target = c.args.sides.now.target.root in
     subst IsOrdered (sym c.as_slice-there.ensures)
-    (still_known (IsOrdered c.args.plans.now.target.items) (apart_from_both c.args.work.now target) target t0 t1 (stage_moves c.args.work.now target t0 t1 c.requires.apart.target c.again.ensures.restages.moments)
+    (still_known (IsOrdered c.args.target.now.items) (apart_from_both c.args.work.now target) target t0 t1 (stage_moves c.args.work.now target t0 t1 c.requires.apart.target c.again.ensures.restages.moments)
     c.requires.target.ordered v seen)
 
 pub go_on-requires-clause-work_folder : goal.go_on-requires-clause-work_folder
@@ -110,17 +111,19 @@ returns-clause-guard g c = λ migration sides tells.
     let from = c.args.sides.now.source in
     let to = c.args.sides.now.target in
     let journal = c.args.journal in
-    let items = c.args.plans.now.source.items in
-    let there = c.args.plans.now.target.items in
+    let rule = c.args.sides.now.names in
+    let own = c.args.items.now.own.items in
+    let mapped = c.args.items.now.mapped.items in
+    let there = c.args.target.now.items in
     let again = c.in_ok-again.again in
     let done : Result (Unit {0}) (Unit {0}) = Ok tt in
     let first = stage_moves work to.root t0 t1 c.requires.apart.target c.again.ensures.restages.moments in
     let later = subst (λ w. MovesOnly w to.root t1 t2) c.in_ok-again.ensures.path c.go_on.ensures.moves in
-    rest_goes c.guarded_migrations_are_seen.ensures.alone c.walks_tell_the_tree.ensures.plan (apart_from_both work to.root) to.root migration from to again journal items there t0 t1 t2 c.go_on.result
-    (moves_on (apart_from_both work to.root) to.root t0 t1 t2 first later) (record { source = sides.source; target = sides.target; work = c.in_ok-again.ensures.path ∙ sides.work }) tells
-    c.requires.source c.requires.target
+    rest_goes c.guarded_migrations_are_seen.ensures.alone c.walks_tell_the_tree.ensures.plan (apart_from_both work to.root) to.root migration from to again journal own mapped there t0 t1 t2 c.go_on.result
+    (moves_on (apart_from_both work to.root) to.root t0 t1 t2 first later) (record { source = sides.source; target = sides.target; names = sides.names; work = c.in_ok-again.ensures.path ∙ sides.work }) tells
+    (subst (λ n. AreItemsToMove n t0 from own mapped) (sym c.requires.names_named) c.requires.source) c.requires.target
     (λ p. alone_goes migration p t0 t1 done (stage_alone c.settling_and_entering_keep_migrations_guarded.ensures.restages migration p work t0 t1 sides.work c.again.ensures.restages.moments))
-    c.go_on.ensures.building (λ is all. c.go_on.ensures.done is (subst (StandAll items) (sym c.as_slice-there.ensures) all))
+    c.go_on.ensures.building (λ is all. c.go_on.ensures.done is (subst (StandAll mapped) (sym c.as_slice-there.ensures) all))
 
 pub go_on-requires-clause-stands : goal.go_on-requires-clause-stands
 go_on-requires-clause-stands g c phase =
@@ -139,68 +142,78 @@ returns-clause-placed g c =
     let t0 = g.F.Folder.told c.args.folder.now in
     let t1 = g.F.Folder.told c.again.new.folder in
     let target = c.args.sides.now.target.root in
-    let items = c.args.plans.now.source.items in
-    let there = c.args.plans.now.target.items in
-    if_ok_more (λ done. IfSeen t1 (λ v. done.placed ≡ lacking c.as_slice-there.result.now items)) (λ done. IfSeen t0 (λ v. done.placed ≡ lacking there items)) c.go_on.result
-    (λ done is v seen. then_known _ t0 t1 (stage_moves c.args.work.now target t0 t1 c.requires.apart.target c.again.ensures.restages.moments) (done.placed ≡ lacking c.as_slice-there.result.now items) is v seen
-    ∙ ap (λ xs. lacking xs items) c.as_slice-there.ensures) c.go_on.ensures.placed
+    let rule = c.args.sides.now.names in
+    let own = c.args.items.now.own.items in
+    let mapped = c.args.items.now.mapped.items in
+    let there = c.args.target.now.items in
+    if_ok_more (λ done. IfSeen t1 (λ v. done.placed ≡ lacking c.as_slice-there.result.now mapped)) (λ done. IfSeen t0 (λ v. done.placed ≡ lacking there mapped)) c.go_on.result
+    (λ done is v seen. then_known _ t0 t1 (stage_moves c.args.work.now target t0 t1 c.requires.apart.target c.again.ensures.restages.moments) (done.placed ≡ lacking c.as_slice-there.result.now mapped) is v seen
+    ∙ ap (λ xs. lacking xs mapped) c.as_slice-there.ensures) c.go_on.ensures.placed
 
 pub returns-in_err-again-clause-cause : goal.returns-in_err-again-clause-cause
 returns-in_err-again-clause-cause g c v seen =
     let from = c.args.sides.now.source in
     let to = c.args.sides.now.target in
-    let items = c.args.plans.now.source.items in
+    let rule = c.args.sides.now.names in
+    let own = c.args.items.now.own.items in
+    let mapped = c.args.items.now.mapped.items in
     let why = c.in_err-again.field-0.0 in
     let p = err_from_is_err_and c.from_residual.result c.from_residual.ensures.1 in
-    refused_as (λ answer. Unless answer (Moves (Empties v c.args.work.now) from to v items answer)) c.from_residual.result p.0 (of_work why) p.1 p.2
-    (work_refused (Empties v c.args.work.now) (λ _. IsOfMoving (HaveOwnFolders from to v) (StopsAt (HaveOwnFolders from to v) from v items)) why (c.in_err-again.ensures.restages.answer v seen))
+    refused_as (λ answer. Unless answer (Moves (Empties v c.args.work.now) from to v mapped answer)) c.from_residual.result p.0 (of_work why) p.1 p.2
+    (work_refused (Empties v c.args.work.now) (λ _. IsOfMoving (HaveOwnFolders from to v) (StopsAt (HaveOwnFolders from to v) from v mapped)) why (c.in_err-again.ensures.restages.answer v seen))
 
 pub returns-clause-cause : goal.returns-clause-cause
 returns-clause-cause g c v seen =
     let from = c.args.sides.now.source in
     let to = c.args.sides.now.target in
     let work = c.args.work.now in
-    let items = c.args.plans.now.source.items in
+    let rule = c.args.sides.now.names in
+    let own = c.args.items.now.own.items in
+    let mapped = c.args.items.now.mapped.items in
     let told = g.F.Folder.told c.args.folder.now in
     let ready = g.F.Folder.told c.again.new.folder in
     let region = apart_from_both work to.root in
-    let kept = kept_by region from.root items told ready (g.met.F.Folder.sound c.args.folder.now)
-    (λ one among. source_beside_at from to.root work items one c.requires.apart c.requires.source among)
+    let kept = kept_by region from.root mapped told ready (g.met.F.Folder.sound c.args.folder.now)
+    (λ one among. source_beside_at rule from to.root work mapped told one c.requires.apart (mapped_walk rule told from own mapped c.requires.source) among)
     (moves_to region to.root told ready (stage_moves work to.root told ready c.requires.apart.target c.again.ensures.restages.moments)) in
-    let there = c.args.plans.now.target.items in
+    let there = c.args.target.now.items in
     let away = apart_from_both work from.root in
     let source_is = seen_stays region from.root told ready (g.met.F.Folder.sound c.args.folder.now) (λ rest. source_beside from.root to.root work rest c.requires.apart)
     (moves_to region to.root told ready (stage_moves work to.root told ready c.requires.apart.target c.again.ensures.restages.moments)) in
     let target_is = seen_stays away to.root told ready (g.met.F.Folder.sound c.args.folder.now) (λ rest. source_beside to.root from.root work rest (turned_over from.root to.root work c.requires.apart))
     (moves_to away from.root told ready (stage_moves work from.root told ready c.requires.apart.source c.again.ensures.restages.moments)) in
-    moves_pass (Empties v work) from to v items c.go_on.result (c.in_ok-again.ensures.restages.answer v seen)
-    (seen_stops c.go_on.result (HaveOwnFolders from to) from items told v seen (if_stops_before c.go_on.result (HasCopied from to there) (HaveOwnFolders from to) from items told ready kept
-    (λ x w is_x is_w own. copied_as from to there x w (source_is x w is_x is_w) (target_is x w is_x is_w) (c.requires.copying x is_x own))
-    (subst (λ xs. IfErr c.go_on.result (StopsSeen (HasCopied from to xs) ready from items)) c.as_slice-there.ensures c.go_on.ensures.moving)))
+    moves_pass (Empties v work) from to v mapped c.go_on.result (c.in_ok-again.ensures.restages.answer v seen)
+    (seen_stops c.go_on.result (HaveOwnFolders from to) from mapped told v seen (if_stops_before c.go_on.result (HasCopied rule from to there) (HaveOwnFolders from to) from mapped told ready kept
+    (λ x w is_x is_w own. copied_as rule from to there x w (source_is x w is_x is_w) (target_is x w is_x is_w) (c.requires.copying x is_x own))
+    (subst (λ xs. IfErr c.go_on.result (StopsSeen (HasCopied rule from to xs) ready from mapped)) c.as_slice-there.ensures c.go_on.ensures.moving)))
 
 pub returns-in_err-again-clause-written : goal.returns-in_err-again-clause-written
 returns-in_err-again-clause-written g c v seen =
     let from = c.args.sides.now.source in
     let to = c.args.sides.now.target in
     let work = c.args.work.now in
-    let items = c.args.plans.now.source.items in
-    let there = c.args.plans.now.target.items in
+    let rule = c.args.sides.now.names in
+    let own = c.args.items.now.own.items in
+    let mapped = c.args.items.now.mapped.items in
+    let there = c.args.target.now.items in
     let texts = journal_text (done_of c.args.journal) ∷ [] in
     let told = g.F.Folder.told c.args.folder.now in
     let ready = g.F.Folder.told c.again.new.folder in
     let left = g.R.Randoms.left c.args.random.now in
     let staging = changing_writes (stage_path work) (IsStage work) (IsBelowStage work) to.root (stage_apart work to.root c.requires.apart.target) told ready c.again.ensures.restages.moments in
     let p = err_from_is_err_and c.from_residual.result c.from_residual.ensures.1 in
-    refused_as (λ answer. WritesBy answer from to (lacked there items) texts left left told ready) c.from_residual.result p.0 (of_work c.in_err-again.field-0.0) p.1 p.2
-    (nothing_yet (of_work c.in_err-again.field-0.0) from to (lacked there items) texts left left told ready (work_refuses c.in_err-again.field-0.0) (c.draws_compose.ensures.none left) staging)
+    refused_as (λ answer. WritesBy answer from to (lacked there mapped) texts left left told ready) c.from_residual.result p.0 (of_work c.in_err-again.field-0.0) p.1 p.2
+    (nothing_yet (of_work c.in_err-again.field-0.0) from to (lacked there mapped) texts left left told ready (work_refuses c.in_err-again.field-0.0) (c.draws_compose.ensures.none left) staging)
 
 pub returns-clause-written : goal.returns-clause-written
 returns-clause-written g c v seen =
     let from = c.args.sides.now.source in
     let to = c.args.sides.now.target in
     let work = c.args.work.now in
-    let items = c.args.plans.now.source.items in
-    let there = c.args.plans.now.target.items in
+    let rule = c.args.sides.now.names in
+    let own = c.args.items.now.own.items in
+    let mapped = c.args.items.now.mapped.items in
+    let there = c.args.target.now.items in
     let texts = journal_text (done_of c.args.journal) ∷ [] in
     let told = g.F.Folder.told c.args.folder.now in
     let ready = g.F.Folder.told c.again.new.folder in
@@ -209,12 +222,12 @@ returns-clause-written g c v seen =
     let after = g.F.Folder.told c.go_on.new.folder in
     let left2 = g.R.Randoms.left c.go_on.new.random in
     let region = apart_from_both work to.root in
-    let kept = kept_by region from.root (lacked there items) told ready (g.met.F.Folder.sound c.args.folder.now)
-    (λ one among. source_beside_at from to.root work items one c.requires.apart c.requires.source (lacked_is there items one among))
+    let kept = kept_by region from.root (lacked there mapped) told ready (g.met.F.Folder.sound c.args.folder.now)
+    (λ one among. source_beside_at rule from to.root work mapped told one c.requires.apart (mapped_walk rule told from own mapped c.requires.source) (lacked_is there mapped one among))
     (moves_to region to.root told ready (stage_moves work to.root told ready c.requires.apart.target c.again.ensures.restages.moments)) in
-    texts_then c.draws_compose.ensures.composed from to (lacked there items) [] texts left left left2 told ready after c.go_on.result kept (c.draws_compose.ensures.none left)
+    texts_then c.draws_compose.ensures.composed from to (lacked there mapped) [] texts left left left2 told ready after c.go_on.result kept (c.draws_compose.ensures.none left)
     (only_more (BringsOnlyTo to.root (λ at. ⊥)) (BringsOnlyTo to.root (λ at. ⊥)) (λ file. ⊥) (λ file. Contains [] file) (λ call is. is) (λ file none. absurd none) told ready staging)
-    (subst (λ xs. WritesBy c.go_on.result from to (lacked xs items) texts left left2 ready after) c.as_slice-there.ensures
+    (subst (λ xs. WritesBy c.go_on.result from to (lacked xs mapped) texts left left2 ready after) c.as_slice-there.ensures
     (c.go_on.ensures.written (subst IsOrdered (sym c.as_slice-there.ensures) (c.requires.target.ordered v seen))))
 
 pub returns-clause-blamed : goal.returns-clause-blamed
@@ -227,15 +240,17 @@ pub returns-in_err-again-clause-ends : goal.returns-in_err-again-clause-ends
 returns-in_err-again-clause-ends g c =
     let why = c.in_err-again.field-0.0 in
     let p = err_from_is_err_and c.from_residual.result c.from_residual.ensures.1 in
-    ends_uncompared _ _ c.args.sides.now.source c.args.sides.now.target (g.F.Folder.told c.again.new.folder) c.from_residual.result p.0 (of_work why) p.1 p.2 (work_compares why)
+    ends_uncompared _ _ c.args.sides.now.names c.args.sides.now.source c.args.sides.now.target (g.F.Folder.told c.again.new.folder) c.from_residual.result p.0 (of_work why) p.1 p.2 (work_compares why)
 
 pub returns-clause-ends : goal.returns-clause-ends
 returns-clause-ends g c =
     let from = c.args.sides.now.source in
     let to = c.args.sides.now.target in
     let work = c.args.work.now in
-    let items = c.args.plans.now.source.items in
-    let there = c.args.plans.now.target.items in
+    let rule = c.args.sides.now.names in
+    let own = c.args.items.now.own.items in
+    let mapped = c.args.items.now.mapped.items in
+    let there = c.args.target.now.items in
     let told = g.F.Folder.told c.args.folder.now in
     let ready = g.F.Folder.told c.again.new.folder in
     let after = g.F.Folder.told c.go_on.new.folder in
@@ -245,9 +260,9 @@ returns-clause-ends g c =
     let away = apart_from_both work from.root in
     let moves = stage_moves work to.root told ready c.requires.apart.target c.again.ensures.restages.moments in
     let moves_away = stage_moves work from.root told ready c.requires.apart.source c.again.ensures.restages.moments in
-    ends_more (CopiesAll from to there items ready after) (StayGood from to told after) (SharesFrom (IsFilled from to there) to items left left' ready after) (Unit {0}) from to after c.go_on.result
-    (good_copies from to there items told ready after c.requires.copying (seen_then _ told ready moves)
+    ends_more (CopiesAll rule from to there mapped ready after) (StayGood from to told after) (SharesFrom (IsFilled rule from to there) to mapped left left' ready after) (Unit {0}) rule from to after c.go_on.result
+    (good_copies rule from to there mapped told ready after c.requires.copying (seen_then _ told ready moves)
     (seen_stays region from.root told ready (g.met.F.Folder.sound c.args.folder.now) (λ rest. source_beside from.root to.root work rest c.requires.apart) (moves_to region to.root told ready moves))
     (seen_stays away to.root told ready (g.met.F.Folder.sound c.args.folder.now) (λ rest. source_beside to.root from.root work rest (turned_over from.root to.root work c.requires.apart)) (moves_to away from.root told ready moves_away)))
     (λ shares. tt)
-    (subst (λ xs. EndsBy (CopiesAll from to xs items ready after) (SharesFrom (IsFilled from to xs) to items left left' ready after) from to after c.go_on.result) c.as_slice-there.ensures c.go_on.ensures.ends)
+    (subst (λ xs. EndsBy (CopiesAll rule from to xs mapped ready after) (SharesFrom (IsFilled rule from to xs) to mapped left left' ready after) rule from to after c.go_on.result) c.as_slice-there.ensures c.go_on.ensures.ends)

@@ -1,6 +1,6 @@
 use Rattle.folder_spec.specs.Region.{apart_from_both}
 use Rattle.migrate_core.proofs.Movings.{moves_on, settle_moves}
-use Rattle.migrate_core.proofs.Settled.{settle_fell, settle_seen, settle_then}
+use Rattle.migrate_core.proofs.Settled.{settle_fell, settle_seen, settle_then, settle_was_seen}
 use Rattle.folder_spec.specs.Seen.{IfSeen}
 use Rattle.migrate_core.proofs.Endings.{if_ok_more, told_before}
 use Rattle.migrate_core.specs.Moved.{MovesTold}
@@ -18,14 +18,15 @@ use Rattle.migrate_core.specs.Limits.{PassesAsTold}
 use Rattle.migrate_core.proofs.resuming.resume.Goals as goal
 
 pub returns-in_err-settle-clause-guard : goal.returns-in_err-settle-clause-guard
-returns-in_err-settle-clause-guard g c = λ migration resumed.
+returns-in_err-settle-clause-guard g c = λ migration resumed opened.
     settle_fell c.settling_and_entering_keep_migrations_guarded.ensures.settles migration (g.F.Folder.told c.args.folder.now) (g.F.Folder.told c.settle.new.self) c.settle.result c.settle.ensures.changes
 
 pub returns-clause-guard : goal.returns-clause-guard
-returns-clause-guard g c = λ migration resumed.
+returns-clause-guard g c = λ migration resumed opened.
     let law = c.settling_and_entering_keep_migrations_guarded.ensures in
     settle_then law.settles law.alone migration (g.F.Folder.told c.args.folder.now) (g.F.Folder.told c.settle.new.self) (g.F.Folder.told c.resume_settled.new.folder) c.in_ok-settle.field-0
-    (g.met.F.Folder.sound c.args.folder.now) (g.met.F.Folder.sound c.settle.new.self) c.in_ok-settle.ensures.changes (c.resume_settled.ensures.guard migration resumed)
+    (g.met.F.Folder.sound c.args.folder.now) (g.met.F.Folder.sound c.settle.new.self) c.in_ok-settle.ensures.changes (c.resume_settled.ensures.guard migration resumed
+    (λ v seen. opened v (settle_was_seen (g.F.Folder.told c.args.folder.now) (g.F.Folder.told c.settle.new.self) c.in_ok-settle.field-0 c.in_ok-settle.ensures.changes v seen)))
 
 pub returns-in_err-settle-clause-moves : goal.returns-in_err-settle-clause-moves
 returns-in_err-settle-clause-moves g c = λ v journal seen is stands.
@@ -79,14 +80,16 @@ returns-clause-written g c v seen =
     c.resume_settled.result c.args.work.now c.args.source_pass.now c.args.target_pass.now v (c.resume_settled.ensures.written v (known v seen))
 
 pub returns-in_err-settle-clause-completes : goal.returns-in_err-settle-clause-completes
-returns-in_err-settle-clause-completes g c m v seen asked can =
+returns-in_err-settle-clause-completes g c m v seen asked opened can =
     let p = err_from_is_err_and c.from_residual.result c.from_residual.ensures.1 in
     refused_as (λ answer. IfErr answer IsOfChance) c.from_residual.result p.0 (of_folder c.in_err-settle.field-0.0) p.1 p.2 (folder_chance c.in_err-settle.field-0.0)
 
 pub returns-clause-completes : goal.returns-clause-completes
-returns-clause-completes g c m v seen asked can =
-    resume_completes m v c.args.work.now c.args.source_pass.now c.args.target_pass.now c.resume_settled.result asked
-    (c.what_can_resume_is_done.ensures m v c.resume_settled.result (folders_of (g.F.Folder.told c.args.folder.now) (g.met.F.Folder.sound c.args.folder.now) v seen) can
+returns-clause-completes g c m v seen asked opened can =
+    let pass = c.args.source_pass.now in
+    let pass' = c.args.target_pass.now in
+    resume_completes m v c.args.work.now pass pass' c.resume_settled.result asked
+    (c.what_can_resume_is_done.ensures m pass pass' v c.resume_settled.result (folders_of (g.F.Folder.told c.args.folder.now) (g.met.F.Folder.sound c.args.folder.now) v seen) opened can
     (own_faults is_of_resume c.resume_settled.result _ _ c.resume_settled.ensures.blamed)) (returns-clause-cause g c v seen)
 
 pub returns-in_err-settle-clause-too_long : goal.returns-in_err-settle-clause-too_long

@@ -8,25 +8,29 @@ use Rattle.migrate_core.proofs.Movings.{moves_nowhere}
 use Rattle.migrate_core.proofs.Settled.{in_use, journal_folder, still_settled}
 use Rattle.migrate_core.proofs.Endings.{if_ok_more}
 use Rattle.migrate_core.specs.Moved.{MovesTold, MovesTree}
-use Rattle.migrate_core.proofs.Causing.{journal_refused, own_passes, own_refused, refused_as, then_passes, work_refused}
-use Rattle.migrate_core.specs.Causes.{Resumes, ResumesTold, TestsApart, Then, Unless, is_done, own}
+use Rattle.migration_sides.proofs.Told.{apart_passes, apart_refused}
+use Rattle.migration_sides.specs.Causes.{TestsApart}
+use Rattle.migration_sides.specs.Tests.{Then}
+use Rattle.migrate_core.proofs.Blaming.{apart_resumes}
+use Rattle.migrate_core.proofs.Causing.{journal_refused, refused_as, then_passes, work_refused}
+use Rattle.migrate_core.specs.Causes.{Resumes, ResumesTold, Unless, is_done}
 use Rattle.work_folder.specs.Looking.{Gives, TestsEntries}
 use Rattle.move_journal.specs.Reading.{ReadsAs, journal_bytes}
 use Rattle.move_journal.proofs.Standing.{read_stands}
-use Rattle.migrate_core.specs.Faults.{of_journal, of_work}
+use Rattle.migrate_core.specs.Faults.{of_journal, of_step, of_work}
 use Rattle.migrate_core.specs.declared.placing.Done.{Done}
 use Rattle.std.proofs.lemmas.Result.{err_from_is_err_and}
-use Rattle.migrate_core.proofs.Writings.{refusal_as, work_refuses, journal_refuses, nothing_written, told_of}
+use Rattle.migrate_core.proofs.Writings.{refusal_as, work_refuses, journal_refuses, nothing_written, step_refuses, told_of}
 use Rattle.migrate_core.specs.Written.{MayWriteTree}
-use Rattle.migrate_core.proofs.Limits.{journal_compares, limit_more, none_compared, work_compares}
+use Rattle.migrate_core.proofs.Limits.{journal_compares, limit_more, none_compared, step_compares, work_compares}
 use Rattle.migrate_core.specs.Limits.{PassesAsTold, PassesInTree}
 use Rattle.migrate_core.proofs.resuming.resume_settled.Goals as goal
 
 pub returns-in_err-journal-clause-guard : goal.returns-in_err-journal-clause-guard
-returns-in_err-journal-clause-guard g c = λ migration resumed. still_settled migration (g.F.Folder.told c.args.folder.now) (g.F.Folder.told c.read.new.folder) c.read.ensures.told
+returns-in_err-journal-clause-guard g c = λ migration resumed opened. still_settled migration (g.F.Folder.told c.args.folder.now) (g.F.Folder.told c.read.new.folder) c.read.ensures.told
 
 pub returns-in_err-test_apart-clause-guard : goal.returns-in_err-test_apart-clause-guard
-returns-in_err-test_apart-clause-guard g c = λ migration resumed. still_settled migration (g.F.Folder.told c.args.folder.now) (g.F.Folder.told c.read.new.folder) c.read.ensures.told
+returns-in_err-test_apart-clause-guard g c = λ migration resumed opened. still_settled migration (g.F.Folder.told c.args.folder.now) (g.F.Folder.told c.read.new.folder) c.read.ensures.told
 
 pub look_again-requires : goal.look_again-requires
 look_again-requires g c = λ v seen.
@@ -34,7 +38,7 @@ look_again-requires g c = λ v seen.
     (c.in_ok-journal.ensures.answer v (subst (λ t. IsSeen t v) c.read.ensures.told seen))
 
 pub returns-in_err-look_again-clause-guard : goal.returns-in_err-look_again-clause-guard
-returns-in_err-look_again-clause-guard g c = λ migration resumed.
+returns-in_err-look_again-clause-guard g c = λ migration resumed opened.
     still_settled migration (g.F.Folder.told c.args.folder.now) (g.F.Folder.told c.look_again.new.folder) (c.look_again.ensures.told ∙ c.read.ensures.told)
 
 pub resume_told-requires-clause-used : goal.resume_told-requires-clause-used
@@ -44,8 +48,9 @@ resume_told-requires-clause-used g c = λ v seen.
     (c.in_ok-journal.ensures.answer v (subst (λ t. IsSeen t v) c.read.ensures.told before)) (c.in_ok-look_again.ensures.answer v before)
 
 pub returns-clause-guard : goal.returns-clause-guard
-returns-clause-guard g c = λ migration resumed.
-    subst (λ t. KeepsSettled migration t (g.F.Folder.told c.resume_told.new.folder)) (c.look_again.ensures.told ∙ c.read.ensures.told) (c.resume_told.ensures.guard migration resumed)
+returns-clause-guard g c = λ migration resumed opened.
+    subst (λ t. KeepsSettled migration t (g.F.Folder.told c.resume_told.new.folder)) (c.look_again.ensures.told ∙ c.read.ensures.told) (c.resume_told.ensures.guard migration resumed
+    (λ v seen. opened v (subst (λ t. IsSeen t v) (c.look_again.ensures.told ∙ c.read.ensures.told) seen)))
 
 pub returns-in_err-journal-clause-moves : goal.returns-in_err-journal-clause-moves
 returns-in_err-journal-clause-moves g c = λ v journal seen is stands.
@@ -91,7 +96,7 @@ returns-in_err-journal-clause-cause g c v seen =
     let pass' = c.args.target_pass.now in
     let told = λ (j : Journal). ResumesTold {Y = Done} work pass pass' v j in
     let entries = λ (j : Journal) (_ : Unit {0}). Then of_work (TestsEntries (is_done j.phase) v work) (λ _. told j) in
-    let folders = λ (j : Journal). Then own (TestsApart j.source j.target work) (entries j) in
+    let folders = λ (j : Journal). Then of_step (TestsApart j.source j.target work) (entries j) in
     let why = c.in_err-journal.field-0.0 in
     let p = err_from_is_err_and c.from_residual.result c.from_residual.ensures.1 in
     refused_as (λ answer. Unless answer (Resumes work pass pass' v answer)) c.from_residual.result p.0 (of_journal why) p.1 p.2
@@ -104,13 +109,13 @@ returns-in_err-test_apart-clause-cause g c v seen =
     let pass' = c.args.target_pass.now in
     let told = λ (j : Journal). ResumesTold {Y = Done} work pass pass' v j in
     let entries = λ (j : Journal) (_ : Unit {0}). Then of_work (TestsEntries (is_done j.phase) v work) (λ _. told j) in
-    let folders = λ (j : Journal). Then own (TestsApart j.source j.target work) (entries j) in
+    let folders = λ (j : Journal). Then of_step (TestsApart j.source j.target work) (entries j) in
     let read = c.in_ok-journal.journal in
-    let fault = c.in_err-test_apart.field-0.0 in
+    let why = c.in_err-test_apart.field-0.0 in
     let p = err_from_is_err_and c.from_residual-in_err-test_apart.result c.from_residual-in_err-test_apart.ensures.1 in
-    refused_as (λ answer. Unless answer (Resumes work pass pass' v answer)) c.from_residual-in_err-test_apart.result p.0 fault p.1 p.2
-    (then_passes of_journal (ReadsAs (journal_bytes v work)) folders (Err fault) read (c.in_ok-journal.ensures.answer v seen)
-    (own_refused (TestsApart read.source read.target work) (entries read) fault c.in_err-test_apart.ensures.cause))
+    refused_as (λ answer. Unless answer (Resumes work pass pass' v answer)) c.from_residual-in_err-test_apart.result p.0 (of_step why) p.1 p.2
+    (then_passes of_journal (ReadsAs (journal_bytes v work)) folders (Err (of_step why)) read (c.in_ok-journal.ensures.answer v seen)
+    (apart_refused of_step read.source read.target work (entries read) why c.in_err-test_apart.ensures.cause))
 
 pub returns-in_err-look_again-clause-cause : goal.returns-in_err-look_again-clause-cause
 returns-in_err-look_again-clause-cause g c v seen =
@@ -119,14 +124,14 @@ returns-in_err-look_again-clause-cause g c v seen =
     let pass' = c.args.target_pass.now in
     let told = λ (j : Journal). ResumesTold {Y = Done} work pass pass' v j in
     let entries = λ (j : Journal) (_ : Unit {0}). Then of_work (TestsEntries (is_done j.phase) v work) (λ _. told j) in
-    let folders = λ (j : Journal). Then own (TestsApart j.source j.target work) (entries j) in
+    let folders = λ (j : Journal). Then of_step (TestsApart j.source j.target work) (entries j) in
     let read = c.in_ok-journal.journal in
     let why = c.in_err-look_again.field-0.0 in
     let p = err_from_is_err_and c.from_residual-in_err-look_again.result c.from_residual-in_err-look_again.ensures.1 in
     let looked = c.in_err-look_again.ensures.answer v (subst (λ t. IsSeen t v) (sym c.read.ensures.told) seen) in
     refused_as (λ answer. Unless answer (Resumes work pass pass' v answer)) c.from_residual-in_err-look_again.result p.0 (of_work why) p.1 p.2
     (then_passes of_journal (ReadsAs (journal_bytes v work)) folders (Err (of_work why)) read (c.in_ok-journal.ensures.answer v seen)
-    (own_passes (TestsApart read.source read.target work) (entries read) (Err (of_work why)) tt c.in_ok-test_apart.ensures.cause
+    (apart_passes of_step read.source read.target work (entries read) (Err (of_work why)) c.in_ok-test_apart.ensures.cause
     (work_refused (TestsEntries (is_done read.phase) v work) (λ _. told read) why
     (subst (λ old. Gives {T = Unit {0}} (TestsEntries old v work) (Err why)) c.is_done.ensures looked))))
 
@@ -137,12 +142,12 @@ returns-clause-cause g c v seen =
     let pass' = c.args.target_pass.now in
     let told = λ (j : Journal). ResumesTold {Y = Done} work pass pass' v j in
     let entries = λ (j : Journal) (_ : Unit {0}). Then of_work (TestsEntries (is_done j.phase) v work) (λ _. told j) in
-    let folders = λ (j : Journal). Then own (TestsApart j.source j.target work) (entries j) in
+    let folders = λ (j : Journal). Then of_step (TestsApart j.source j.target work) (entries j) in
     let read = c.in_ok-journal.journal in
     let answer = c.resume_told.result in
     let once = subst (λ t. IsSeen t v) (sym c.read.ensures.told) seen in
     then_passes of_journal (ReadsAs (journal_bytes v work)) folders answer read (c.in_ok-journal.ensures.answer v seen)
-    (own_passes (TestsApart read.source read.target work) (entries read) answer tt c.in_ok-test_apart.ensures.cause
+    (apart_passes of_step read.source read.target work (entries read) answer c.in_ok-test_apart.ensures.cause
     (then_passes of_work (TestsEntries (is_done read.phase) v work) (λ _. told read) answer tt
     (subst (λ old. TestsEntries old v work (Ok tt)) c.is_done.ensures (c.in_ok-look_again.ensures.answer v once))
     (c.resume_told.ensures.cause v (subst (λ t. IsSeen t v) (sym c.look_again.ensures.told) once))))
@@ -160,7 +165,7 @@ returns-in_err-test_apart-clause-written g c v seen =
     let told = g.F.Folder.told c.args.folder.now in
     let left = g.R.Randoms.left c.args.random.now in
     let p = err_from_is_err_and c.from_residual-in_err-test_apart.result c.from_residual-in_err-test_apart.ensures.1 in
-    let refused = refusal_as c.from_residual-in_err-test_apart.result p.0 (c.in_err-test_apart.field-0.0) p.1 p.2 (c.in_err-test_apart.ensures.tested) in
+    let refused = refusal_as c.from_residual-in_err-test_apart.result p.0 (of_step c.in_err-test_apart.field-0.0) p.1 p.2 (step_refuses c.in_err-test_apart.field-0.0) in
     inl (nothing_written c.from_residual-in_err-test_apart.result refused left told (g.F.Folder.told c.read.new.folder) (c.draws_compose.ensures.none left) c.read.ensures.told)
 
 pub returns-in_err-look_again-clause-written : goal.returns-in_err-look_again-clause-written
@@ -193,7 +198,7 @@ returns-in_err-journal-clause-too_long g c v seen =
 pub returns-in_err-test_apart-clause-too_long : goal.returns-in_err-test_apart-clause-too_long
 returns-in_err-test_apart-clause-too_long g c v seen =
     let p = err_from_is_err_and c.from_residual-in_err-test_apart.result c.from_residual-in_err-test_apart.ensures.1 in
-    none_compared _ c.from_residual-in_err-test_apart.result p.0 c.in_err-test_apart.field-0.0 p.1 p.2 c.in_err-test_apart.ensures.uncompared
+    none_compared _ c.from_residual-in_err-test_apart.result p.0 (of_step c.in_err-test_apart.field-0.0) p.1 p.2 (step_compares c.in_err-test_apart.field-0.0)
 
 pub returns-in_err-look_again-clause-too_long : goal.returns-in_err-look_again-clause-too_long
 returns-in_err-look_again-clause-too_long g c v seen =
@@ -210,10 +215,15 @@ returns-clause-too_long g c v seen =
     let pass = c.args.source_pass.now in
     let pass' = c.args.target_pass.now in
     let read = c.in_ok-journal.journal in
-    limit_more (PassesInTree read.source read.target pass pass' t2 t3) (PassesAsTold work pass pass' t0 t3 v) c.resume_told.result
+    limit_more (PassesInTree read.names read.source read.target pass pass' t2 t3) (PassesAsTold work pass pass' t0 t3 v) c.resume_told.result
     (λ at passes. record {
       journal = read;
       is = c.in_ok-journal.ensures.journal;
       stands = read_stands work v read (c.in_ok-journal.ensures.answer v seen);
-      passes = subst (λ t. PassesInTree read.source read.target pass pass' t t3 at) (c.look_again.ensures.told ∙ c.read.ensures.told) passes;
+      passes = subst (λ t. PassesInTree read.names read.source read.target pass pass' t t3 at) (c.look_again.ensures.told ∙ c.read.ensures.told) passes;
     }) c.resume_told.ensures.too_long
+
+pub returns-in_err-test_apart-clause-blamed : goal.returns-in_err-test_apart-clause-blamed
+returns-in_err-test_apart-clause-blamed g c =
+    let p = err_from_is_err_and c.from_residual-in_err-test_apart.result c.from_residual-in_err-test_apart.ensures.1 in
+    rw (p.1, p.2) (apart_resumes c.in_err-test_apart.field-0.0 c.in_err-test_apart.ensures.blamed)

@@ -3,26 +3,30 @@ use Rattle.folder_spec.specs.Region.{apart_from_both}
 use Rattle.folder_spec.specs.Seen.{IsSeen, seen}
 use Rattle.migrate_core.specs.Leading.{Guards, progress_of}
 use Rattle.migrate_core.specs.Moving.{MovesOnly}
-use Rattle.migrate_core.specs.Sides.{AreSeparate}
+use Rattle.migration_sides.proofs.Told.{opens_passes, opens_refused}
+use Rattle.migration_sides.specs.Causes.{Opens}
+use Rattle.migration_sides.specs.Sides.{AreSeparate}
+use Rattle.migrate_core.proofs.Blaming.{step_resumes}
 use Rattle.migrate_core.proofs.Movings.{moves_nowhere}
 use Rattle.migrate_core.proofs.Planned.{seen_of}
 use Rattle.migrate_core.proofs.Settled.{resumes, settled_by, still_settled}
 use Rattle.migrate_core.proofs.Endings.{tree_moved}
 use Rattle.migrate_core.specs.Moved.{Placed}
-use Rattle.migrate_core.proofs.Causing.{Next, opens_pass, opens_refused, own_passes, own_refused, refused_as}
+use Rattle.migrate_core.proofs.Causing.{own_passes, own_refused, refused_as}
 use Rattle.vault_spec.specs.Opened.{OpenedVault}
-use Rattle.migrate_core.specs.Causes.{Opens, ResumesTold, ResumesWith, TestsSource, Unless}
+use Rattle.migrate_core.specs.Causes.{Answer, ResumesTold, ResumesWith, TestsSource, Unless}
+use Rattle.migrate_core.specs.Faults.{of_step}
 use Rattle.migrate_core.specs.declared.placing.Done.{Done}
 use Rattle.std.proofs.lemmas.Result.{err_from_is_err_and}
-use Rattle.migrate_core.proofs.Writings.{refusal_as, nothing_written, tree_of}
+use Rattle.migrate_core.proofs.Writings.{refusal_as, nothing_written, step_refuses, tree_of}
 use Rattle.migrate_core.specs.Written.{MayWrite}
-use Rattle.migrate_core.proofs.Limits.{limit_in_tree, none_compared}
+use Rattle.migrate_core.proofs.Limits.{limit_in_tree, none_compared, step_compares}
 use Rattle.migrate_core.specs.Copying.{StayGood}
 use Rattle.migrate_core.specs.Limits.{EndsBy}
 use Rattle.migrate_core.proofs.resuming.resume_told.Goals as goal
 
 pub returns-in_err-test_source-clause-guard : goal.returns-in_err-test_source-clause-guard
-returns-in_err-test_source-clause-guard g c = λ migration resumed.
+returns-in_err-test_source-clause-guard g c = λ migration resumed opened.
     still_settled migration (g.F.Folder.told c.args.folder.now) (g.F.Folder.told c.test_source.new.folder) c.test_source.ensures.told
 
 pub returns-in_err-test_source-clause-moves : goal.returns-in_err-test_source-clause-moves
@@ -31,7 +35,7 @@ returns-in_err-test_source-clause-moves g c =
     moves_nowhere (apart_from_both c.args.work.now target) target (g.F.Folder.told c.args.folder.now) (g.F.Folder.told c.test_source.new.folder) c.test_source.ensures.told
 
 pub returns-in_err-sides-clause-guard : goal.returns-in_err-sides-clause-guard
-returns-in_err-sides-clause-guard g c = λ migration resumed.
+returns-in_err-sides-clause-guard g c = λ migration resumed opened.
     still_settled migration (g.F.Folder.told c.args.folder.now) (g.F.Folder.told c.load_both.new.folder) (c.load_both.ensures.told ∙ c.test_source.ensures.told)
 
 pub returns-in_err-sides-clause-moves : goal.returns-in_err-sides-clause-moves
@@ -46,7 +50,7 @@ pub resume_with-requires-clause-used : goal.resume_with-requires-clause-used
 resume_with-requires-clause-used g c = λ v seen. c.requires.used v (subst (λ t. IsSeen t v) (c.load_both.ensures.told ∙ c.test_source.ensures.told) seen)
 
 pub returns-clause-guard : goal.returns-clause-guard
-returns-clause-guard g c = λ migration resumed.
+returns-clause-guard g c = λ migration resumed opened.
     let t0 = g.F.Folder.told c.args.folder.now in
     let t1 = g.F.Folder.told c.test_source.new.folder in
     let t2 = g.F.Folder.told c.load_both.new.folder in
@@ -61,7 +65,7 @@ returns-clause-guard g c = λ migration resumed.
     let v = seen a.state in
     let shown = subst (λ t. IsSeen t v) (sym c.test_source.ensures.told) (seen_of t0 a is) in
     let again = resumes c.roots_have_one_answer.ensures c.guarded_migrations_are_seen.ensures.case c.journals_are_read_back.ensures.stands migration a.state sides.source sides.target c.args.work.now journal
-    c.args.source_pass.now c.args.target_pass.now resumed c.requires.journal settled (c.requires.used v (seen_of t0 a is)) (record { stands = loads.source; loads = loads.opens_source v shown })
+    c.args.source_pass.now c.args.target_pass.now resumed (opened v (seen_of t0 a is)) c.requires.journal settled (c.requires.used v (seen_of t0 a is)) (record { stands = loads.source; loads = loads.opens_source v shown })
     (record { stands = loads.target; loads = loads.opens_target v shown }) in (
       again.found.alone,
       subst (λ t. Guards migration (progress_of journal.phase) t t3) same (c.resume_with.ensures.guard migration again.found.sides again.tells).0,
@@ -79,17 +83,25 @@ resume_with-requires-clause-source_named g c = sym c.in_ok-sides.ensures.source
 pub resume_with-requires-clause-target_named : goal.resume_with-requires-clause-target_named
 resume_with-requires-clause-target_named g c = sym c.in_ok-sides.ensures.target
 
+pub resume_with-requires-clause-names_named : goal.resume_with-requires-clause-names_named
+resume_with-requires-clause-names_named g c = sym c.in_ok-sides.ensures.names
+
 pub returns-clause-moved : goal.returns-clause-moved
 returns-clause-moved g c =
     let sides = c.in_ok-sides.sides in
     let loads = c.in_ok-sides.ensures in
-    tree_moved (Unit {0}) c.args.journal.names c.args.journal.source c.args.journal.target c.args.work.now c.args.source_pass.now c.args.target_pass.now sides.source sides.target (g.F.Folder.told c.args.folder.now)
-    (g.F.Folder.told c.resume_with.new.folder) c.resume_with.result loads.source loads.target (g.met.F.Folder.sound c.args.folder.now)
-    (subst (λ root. MovesOnly c.args.work.now root (g.F.Folder.told c.args.folder.now) (g.F.Folder.told c.resume_with.new.folder)) loads.target
-    (subst (λ t. MovesOnly c.args.work.now sides.target.root t (g.F.Folder.told c.resume_with.new.folder)) (c.load_both.ensures.told ∙ c.test_source.ensures.told) c.resume_with.ensures.moves)) (λ v is. loads.opens_source v (subst (λ t. IsSeen t v) (sym c.test_source.ensures.told) is))
-    (λ v is. loads.opens_target v (subst (λ t. IsSeen t v) (sym c.test_source.ensures.told) is))
-    (subst (λ t. Placed sides.source sides.target t c.resume_with.result) (c.load_both.ensures.told ∙ c.test_source.ensures.told) c.resume_with.ensures.placed) c.resume_with.ensures.moved
-    (subst (λ t. EndsBy (StayGood sides.source sides.target t (g.F.Folder.told c.resume_with.new.folder)) (Unit {0}) sides.source sides.target (g.F.Folder.told c.resume_with.new.folder) c.resume_with.result) (c.load_both.ensures.told ∙ c.test_source.ensures.told) c.resume_with.ensures.ends)
+    let names = c.args.journal.names in
+    let work = c.args.work.now in
+    let told = g.F.Folder.told c.args.folder.now in
+    let after = g.F.Folder.told c.resume_with.new.folder in
+    let same = c.load_both.ensures.told ∙ c.test_source.ensures.told in
+    tree_moved (Unit {0}) names c.args.journal.source c.args.journal.target work c.args.source_pass.now c.args.target_pass.now sides.source sides.target told after c.resume_with.result loads.source loads.target
+    (g.met.F.Folder.sound c.args.folder.now)
+    (subst (λ root. MovesOnly work root told after) loads.target (subst (λ t. MovesOnly work sides.target.root t after) same c.resume_with.ensures.moves))
+    (λ v is. loads.opens_source v (subst (λ t. IsSeen t v) (sym c.test_source.ensures.told) is)) (λ v is. loads.opens_target v (subst (λ t. IsSeen t v) (sym c.test_source.ensures.told) is))
+    (subst (λ n. Placed n sides.source sides.target told c.resume_with.result) loads.names (subst (λ t. Placed sides.names sides.source sides.target t c.resume_with.result) same c.resume_with.ensures.placed)) c.resume_with.ensures.moved
+    (subst (λ n. EndsBy (StayGood sides.source sides.target told after) (Unit {0}) n sides.source sides.target after c.resume_with.result) loads.names
+    (subst (λ t. EndsBy (StayGood sides.source sides.target t after) (Unit {0}) sides.names sides.source sides.target after c.resume_with.result) same c.resume_with.ensures.ends))
 
 pub returns-in_err-test_source-clause-cause : goal.returns-in_err-test_source-clause-cause
 returns-in_err-test_source-clause-cause g c v seen =
@@ -97,8 +109,8 @@ returns-in_err-test_source-clause-cause g c v seen =
     let journal = c.args.journal in
     let pass = c.args.source_pass.now in
     let pass' = c.args.target_pass.now in
-    let next : Next OpenedVault Done = λ source target. ResumesWith source target work journal v in
-    let opens = λ (_ : Unit {0}). Opens v journal.source journal.target pass pass' next in
+    let next : OpenedVault → OpenedVault → Answer Done → Type 0 = λ source target. ResumesWith source target work journal v in
+    let opens = λ (_ : Unit {0}). Opens of_step v journal.source journal.target pass pass' next in
     let tests = TestsSource journal.phase work journal.source v in
     let fault = c.in_err-test_source.field-0.0 in
     let p = err_from_is_err_and c.from_residual.result c.from_residual.ensures.1 in
@@ -110,14 +122,14 @@ returns-in_err-sides-clause-cause g c v seen =
     let journal = c.args.journal in
     let pass = c.args.source_pass.now in
     let pass' = c.args.target_pass.now in
-    let next : Next OpenedVault Done = λ source target. ResumesWith source target work journal v in
-    let opens = λ (_ : Unit {0}). Opens v journal.source journal.target pass pass' next in
+    let next : OpenedVault → OpenedVault → Answer Done → Type 0 = λ source target. ResumesWith source target work journal v in
+    let opens = λ (_ : Unit {0}). Opens of_step v journal.source journal.target pass pass' next in
     let tests = TestsSource journal.phase work journal.source v in
-    let fault = c.in_err-sides.field-0.0 in
+    let why = c.in_err-sides.field-0.0 in
     let p = err_from_is_err_and c.from_residual-in_err-sides.result c.from_residual-in_err-sides.ensures.1 in
-    refused_as (λ answer. Unless answer (ResumesTold work pass pass' v journal answer)) c.from_residual-in_err-sides.result p.0 fault p.1 p.2
-    (own_passes tests opens (Err fault) tt (c.in_ok-test_source.ensures.cause v seen)
-    (opens_refused v journal.source journal.target pass pass' next fault (c.in_err-sides.ensures.cause v (subst (λ t. IsSeen t v) (sym c.test_source.ensures.told) seen))))
+    refused_as (λ answer. Unless answer (ResumesTold work pass pass' v journal answer)) c.from_residual-in_err-sides.result p.0 (of_step why) p.1 p.2
+    (own_passes tests opens (Err (of_step why)) tt (c.in_ok-test_source.ensures.cause v seen)
+    (opens_refused of_step v journal.source journal.target pass pass' next why (c.in_err-sides.ensures.cause v (subst (λ t. IsSeen t v) (sym c.test_source.ensures.told) seen))))
 
 pub returns-clause-cause : goal.returns-clause-cause
 returns-clause-cause g c v seen =
@@ -125,15 +137,15 @@ returns-clause-cause g c v seen =
     let journal = c.args.journal in
     let pass = c.args.source_pass.now in
     let pass' = c.args.target_pass.now in
-    let next : Next OpenedVault Done = λ source target. ResumesWith source target work journal v in
-    let opens = λ (_ : Unit {0}). Opens v journal.source journal.target pass pass' next in
+    let next : OpenedVault → OpenedVault → Answer Done → Type 0 = λ source target. ResumesWith source target work journal v in
+    let opens = λ (_ : Unit {0}). Opens of_step v journal.source journal.target pass pass' next in
     let tests = TestsSource journal.phase work journal.source v in
     let answer = c.resume_with.result in
     let sides = c.in_ok-sides.sides in
     let loads = c.in_ok-sides.ensures in
     let once = subst (λ t. IsSeen t v) (sym c.test_source.ensures.told) seen in
     own_passes tests opens answer tt (c.in_ok-test_source.ensures.cause v seen)
-    (opens_pass v journal.source journal.target pass pass' next answer sides.source sides.target loads.source loads.target (loads.opens_source v once) (loads.opens_target v once)
+    (opens_passes of_step v journal.source journal.target pass pass' next answer sides.source sides.target loads.source loads.target (loads.opens_source v once) (loads.opens_target v once)
     (c.resume_with.ensures.cause v (subst (λ t. IsSeen t v) (sym c.load_both.ensures.told) once)))
 
 pub returns-in_err-test_source-clause-written : goal.returns-in_err-test_source-clause-written
@@ -149,7 +161,7 @@ returns-in_err-sides-clause-written g c v seen =
     let told = g.F.Folder.told c.args.folder.now in
     let left = g.R.Randoms.left c.args.random.now in
     let p = err_from_is_err_and c.from_residual-in_err-sides.result c.from_residual-in_err-sides.ensures.1 in
-    let refused = refusal_as c.from_residual-in_err-sides.result p.0 (c.in_err-sides.field-0.0) p.1 p.2 (c.in_err-sides.ensures.tested) in
+    let refused = refusal_as c.from_residual-in_err-sides.result p.0 (of_step c.in_err-sides.field-0.0) p.1 p.2 (step_refuses c.in_err-sides.field-0.0) in
     inl (nothing_written c.from_residual-in_err-sides.result refused left told (g.F.Folder.told c.load_both.new.folder) (c.draws_compose.ensures.none left) (c.load_both.ensures.told ∙ c.test_source.ensures.told))
 
 pub returns-clause-written : goal.returns-clause-written
@@ -173,7 +185,7 @@ returns-in_err-test_source-clause-too_long g c =
 pub returns-in_err-sides-clause-too_long : goal.returns-in_err-sides-clause-too_long
 returns-in_err-sides-clause-too_long g c =
     let p = err_from_is_err_and c.from_residual-in_err-sides.result c.from_residual-in_err-sides.ensures.1 in
-    none_compared _ c.from_residual-in_err-sides.result p.0 c.in_err-sides.field-0.0 p.1 p.2 c.in_err-sides.ensures.uncompared
+    none_compared _ c.from_residual-in_err-sides.result p.0 (of_step c.in_err-sides.field-0.0) p.1 p.2 (step_compares c.in_err-sides.field-0.0)
 
 pub returns-clause-too_long : goal.returns-clause-too_long
 returns-clause-too_long g c =
@@ -181,6 +193,15 @@ returns-clause-too_long g c =
     let loads = c.in_ok-sides.ensures in
     let here = g.F.Folder.told c.load_both.new.folder in
     let after = g.F.Folder.told c.resume_with.new.folder in
-    limit_in_tree (StayGood sides.source sides.target here after) (Unit {0}) c.args.journal.source c.args.journal.target c.args.source_pass.now c.args.target_pass.now sides.source sides.target (g.F.Folder.told c.args.folder.now) after
+    let good = StayGood sides.source sides.target here after in
+    limit_in_tree good (Unit {0}) c.args.journal.names c.args.journal.source c.args.journal.target c.args.source_pass.now c.args.target_pass.now sides.source sides.target (g.F.Folder.told c.args.folder.now) after
     c.resume_with.result loads.source loads.target (λ v is. loads.opens_source v (subst (λ t. IsSeen t v) (sym c.test_source.ensures.told) is)) (λ v is. loads.opens_target v (subst (λ t. IsSeen t v) (sym c.test_source.ensures.told) is))
-    c.resume_with.ensures.ends
+    (subst (λ n. EndsBy good (Unit {0}) n sides.source sides.target after c.resume_with.result) loads.names c.resume_with.ensures.ends)
+
+pub returns-in_err-sides-clause-blamed : goal.returns-in_err-sides-clause-blamed
+returns-in_err-sides-clause-blamed g c =
+    let n0 = g.F.Folder.faults c.args.folder.now in
+    let n1 = g.F.Folder.faults c.test_source.new.folder in
+    let n2 = g.F.Folder.faults c.load_both.new.folder in
+    let p = err_from_is_err_and c.from_residual-in_err-sides.result c.from_residual-in_err-sides.ensures.1 in
+    rw (p.1, p.2) (step_resumes n0 n1 n2 c.in_err-sides.field-0.0 c.test_source.ensures.grows c.in_err-sides.ensures.blamed)

@@ -1,26 +1,30 @@
-use Rattle.std.proofs.Common.{◌≡◌, ◌∙◌, sym, subst, Err, List, [], inl, inr, ◌∷◌}
+use Rattle.std.proofs.Common.{◌≡◌, ◌∙◌, sym, subst, arith, Err, List, [], inl, inr, ◌∷◌}
 use Rattle.migrate_core.proofs.Endings.{if_ok_more, placed_of}
 use Rattle.migrate_core.specs.Moved.{lacking, done_of}
 use Rattle.std.proofs.lemmas.Result.{err_from_is_err_and}
 use Rattle.folder_spec.specs.Region.{apart_from_both}
 use Rattle.folder_spec.specs.Seen.{IfSeen, IsSeen}
-use Rattle.tree_match.specs.Alone.{Finished}
+use Rattle.migration_spec.specs.Alone.{Finished}
 use Rattle.migrate_core.specs.Leading.{Goes, progress_of}
 use Rattle.migrate_core.specs.Moving.{MovesOnly}
-use Rattle.migrate_core.specs.Sides.{IsWalked}
+use Rattle.migration_sides.proofs.Told.{walks_passes, walks_refused}
+use Rattle.migration_sides.specs.Sides.{IsWalked}
+use Rattle.tree_match.specs.Mapping.{IsMappedPlan}
+use Rattle.migrate_core.proofs.Blaming.{step_resumes}
 use Rattle.migrate_core.proofs.Leadings.{refused_nowhere}
 use Rattle.migrate_core.proofs.Movings.{moves_nowhere}
-use Rattle.migrate_core.proofs.Causing.{Next, items_pass, items_refused, refused_as, walks_pass, walks_refused}
-use Rattle.migrate_core.specs.Causes.{Moves, ResumesWith, TestsItems, Unless}
+use Rattle.migrate_core.proofs.Causing.{items_pass, items_refused, refused_as}
+use Rattle.migrate_core.specs.Causes.{Answer, Moves, ResumesWith, TestsItems, Unless}
+use Rattle.migrate_core.specs.Faults.{of_step}
 use Rattle.work_folder.specs.Entering.{Empties}
 use Rattle.vault_spec.specs.Plan.{Planned}
 use Rattle.migrate_core.specs.declared.placing.Done.{Done}
-use Rattle.migrate_core.proofs.Writings.{refusal_as, by_texts, done_text, nothing_written}
+use Rattle.migrate_core.proofs.Writings.{refusal_as, by_texts, done_text, nothing_written, step_refuses}
 use Rattle.migrate_core.specs.Written.{WritesBy, journal_texts, lacked}
 use Rattle.move_journal.specs.Journal.{journal_text}
 use Rattle.migrate_core.proofs.Started.{matched_held, may_begin}
 use Rattle.migrate_core.specs.Copying.{MayBegin}
-use Rattle.migrate_core.proofs.Limits.{ends_uncompared}
+use Rattle.migrate_core.proofs.Limits.{ends_uncompared, step_compares}
 use Rattle.migrate_core.specs.Copying.{StayGood}
 use Rattle.migrate_core.specs.Limits.{EndsBy}
 use Rattle.migrate_core.proofs.Sharing.{whichever_taken}
@@ -42,13 +46,13 @@ test_plans-requires-clause-source g c = subst (λ t. IsWalked t c.args.sides.now
 pub test_plans-requires-clause-target : goal.test_plans-requires-clause-target
 test_plans-requires-clause-target g c = subst (λ t. IsWalked t c.args.sides.now.target c.in_ok-plans.plans.target.items) (sym c.walk_both.ensures.told) c.in_ok-plans.ensures.target
 
-pub returns-in_err-test_plans-clause-guard : goal.returns-in_err-test_plans-clause-guard
-returns-in_err-test_plans-clause-guard g c =
-    let p = err_from_is_err_and c.from_residual-in_err-test_plans.result c.from_residual-in_err-test_plans.ensures.1 in
-    λ migration sides tells. refused_nowhere migration (progress_of c.args.journal.phase) Finished (g.F.Folder.told c.args.folder.now) (g.F.Folder.told c.test_plans.new.folder) c.from_residual-in_err-test_plans.result p.0 p.1 (c.test_plans.ensures.told ∙ c.walk_both.ensures.told)
+pub returns-in_err-mapped-clause-guard : goal.returns-in_err-mapped-clause-guard
+returns-in_err-mapped-clause-guard g c =
+    let p = err_from_is_err_and c.from_residual-in_err-mapped.result c.from_residual-in_err-mapped.ensures.1 in
+    λ migration sides tells. refused_nowhere migration (progress_of c.args.journal.phase) Finished (g.F.Folder.told c.args.folder.now) (g.F.Folder.told c.test_plans.new.folder) c.from_residual-in_err-mapped.result p.0 p.1 (c.test_plans.ensures.told ∙ c.walk_both.ensures.told)
 
-pub returns-in_err-test_plans-clause-moves : goal.returns-in_err-test_plans-clause-moves
-returns-in_err-test_plans-clause-moves g c =
+pub returns-in_err-mapped-clause-moves : goal.returns-in_err-mapped-clause-moves
+returns-in_err-mapped-clause-moves g c =
     let target = c.args.sides.now.target.root in
     moves_nowhere (apart_from_both c.args.work.now target) target (g.F.Folder.told c.args.folder.now) (g.F.Folder.told c.test_plans.new.folder) (c.test_plans.ensures.told ∙ c.walk_both.ensures.told)
 
@@ -56,7 +60,10 @@ pub place_rest-requires-clause-used : goal.place_rest-requires-clause-used
 place_rest-requires-clause-used g c = λ v seen. c.requires.used v (subst (λ t. IsSeen t v) (c.test_plans.ensures.told ∙ c.walk_both.ensures.told) seen)
 
 pub place_rest-requires-clause-source : goal.place_rest-requires-clause-source
-place_rest-requires-clause-source g c = subst (λ t. IsWalked t c.args.sides.now.source c.in_ok-plans.plans.source.items) (sym (c.test_plans.ensures.told ∙ c.walk_both.ensures.told)) c.in_ok-plans.ensures.source
+place_rest-requires-clause-source g c = record {
+  walked = subst (λ t. IsWalked t c.args.sides.now.source c.in_ok-plans.plans.source.items) (sym (c.test_plans.ensures.told ∙ c.walk_both.ensures.told)) c.in_ok-plans.ensures.source;
+  same = c.in_ok-mapped.ensures.mapped;
+}
 
 pub place_rest-requires-clause-target : goal.place_rest-requires-clause-target
 place_rest-requires-clause-target g c = subst (λ t. IsWalked t c.args.sides.now.target c.in_ok-plans.plans.target.items) (sym (c.test_plans.ensures.told ∙ c.walk_both.ensures.told)) c.in_ok-plans.ensures.target
@@ -75,8 +82,10 @@ returns-clause-placed g c =
     let told = g.F.Folder.told c.args.folder.now in
     let items = c.in_ok-plans.plans.source.items in
     let there = c.in_ok-plans.plans.target.items in
-    placed_of c.args.sides.now.source c.args.sides.now.target items there told c.place_rest.result c.in_ok-plans.ensures.source c.in_ok-plans.ensures.target
-    (if_ok_more (λ done. IfSeen (g.F.Folder.told c.test_plans.new.folder) (λ v. done.placed ≡ lacking there items)) (λ done. IfSeen told (λ v. done.placed ≡ lacking there items)) c.place_rest.result
+    let mapped = c.in_ok-mapped.mapped.items in
+    placed_of c.args.sides.now.names c.args.sides.now.source c.args.sides.now.target items mapped there told c.place_rest.result
+    (record { walked = c.in_ok-plans.ensures.source; same = c.in_ok-mapped.ensures.mapped }) c.in_ok-plans.ensures.target
+    (if_ok_more (λ done. IfSeen (g.F.Folder.told c.test_plans.new.folder) (λ v. done.placed ≡ lacking there mapped)) (λ done. IfSeen told (λ v. done.placed ≡ lacking there mapped)) c.place_rest.result
     (λ done is v seen. is v (subst (λ t. IsSeen t v) (sym (c.test_plans.ensures.told ∙ c.walk_both.ensures.told)) seen)) c.place_rest.ensures.placed)
 
 pub returns-in_err-plans-clause-cause : goal.returns-in_err-plans-clause-cause
@@ -85,26 +94,27 @@ returns-in_err-plans-clause-cause g c v seen =
     let to = c.args.sides.now.target in
     let work = c.args.work.now in
     let journal = c.args.journal in
-    let next : Next (List Planned) Done = λ items there. TestsItems from to journal v items there (Moves (Empties v work) from to v items) in
-    let fault = c.in_err-plans.field-0.0 in
+    let next : List Planned → List Planned → Answer Done → Type 0 = λ items there. TestsItems from to journal v items there (λ mapped. Moves (Empties v work) from to v mapped) in
+    let why = c.in_err-plans.field-0.0 in
     let p = err_from_is_err_and c.from_residual.result c.from_residual.ensures.1 in
-    refused_as (λ answer. Unless answer (ResumesWith from to work journal v answer)) c.from_residual.result p.0 fault p.1 p.2 (walks_refused from to v next fault (c.in_err-plans.ensures.cause v seen))
+    refused_as (λ answer. Unless answer (ResumesWith from to work journal v answer)) c.from_residual.result p.0 (of_step why) p.1 p.2 (walks_refused of_step from to v next why (c.in_err-plans.ensures.cause v seen))
 
-pub returns-in_err-test_plans-clause-cause : goal.returns-in_err-test_plans-clause-cause
-returns-in_err-test_plans-clause-cause g c v seen =
+pub returns-in_err-mapped-clause-cause : goal.returns-in_err-mapped-clause-cause
+returns-in_err-mapped-clause-cause g c v seen =
     let from = c.args.sides.now.source in
     let to = c.args.sides.now.target in
     let work = c.args.work.now in
     let journal = c.args.journal in
-    let next : Next (List Planned) Done = λ items there. TestsItems from to journal v items there (Moves (Empties v work) from to v items) in
+    let moves : List Planned → Answer Done → Type 0 = λ mapped. Moves (Empties v work) from to v mapped in
+    let next : List Planned → List Planned → Answer Done → Type 0 = λ items there. TestsItems from to journal v items there moves in
     let plans = c.in_ok-plans.plans in
     let items = plans.source.items in
     let there = plans.target.items in
-    let fault = c.in_err-test_plans.field-0.0 in
-    let p = err_from_is_err_and c.from_residual-in_err-test_plans.result c.from_residual-in_err-test_plans.ensures.1 in
-    refused_as (λ answer. Unless answer (ResumesWith from to work journal v answer)) c.from_residual-in_err-test_plans.result p.0 fault p.1 p.2
-    (walks_pass from to v next (Err fault) items there (c.in_ok-plans.ensures.passed_source v seen) (c.in_ok-plans.ensures.passed_target v seen)
-    (items_refused from to journal v items there (Moves (Empties v work) from to v items) fault (c.in_err-test_plans.ensures.cause v (subst (λ t. IsSeen t v) (sym c.walk_both.ensures.told) seen))))
+    let fault = c.in_err-mapped.field-0.0 in
+    let p = err_from_is_err_and c.from_residual-in_err-mapped.result c.from_residual-in_err-mapped.ensures.1 in
+    refused_as (λ answer. Unless answer (ResumesWith from to work journal v answer)) c.from_residual-in_err-mapped.result p.0 fault p.1 p.2
+    (walks_passes of_step from to v next (Err fault) items there (c.in_ok-plans.ensures.passed_source v seen) (c.in_ok-plans.ensures.passed_target v seen)
+    (items_refused from to journal v items there moves fault (c.in_err-mapped.ensures.cause v (subst (λ t. IsSeen t v) (sym c.walk_both.ensures.told) seen))))
 
 pub returns-clause-cause : goal.returns-clause-cause
 returns-clause-cause g c v seen =
@@ -112,14 +122,15 @@ returns-clause-cause g c v seen =
     let to = c.args.sides.now.target in
     let work = c.args.work.now in
     let journal = c.args.journal in
-    let next : Next (List Planned) Done = λ items there. TestsItems from to journal v items there (Moves (Empties v work) from to v items) in
+    let moves : List Planned → Answer Done → Type 0 = λ mapped. Moves (Empties v work) from to v mapped in
+    let next : List Planned → List Planned → Answer Done → Type 0 = λ items there. TestsItems from to journal v items there moves in
     let plans = c.in_ok-plans.plans in
     let items = plans.source.items in
     let there = plans.target.items in
     let answer = c.place_rest.result in
     let once = subst (λ t. IsSeen t v) (sym c.walk_both.ensures.told) seen in
-    walks_pass from to v next answer items there (c.in_ok-plans.ensures.passed_source v seen) (c.in_ok-plans.ensures.passed_target v seen)
-    (items_pass from to journal v items there (Moves (Empties v work) from to v items) answer (c.in_ok-test_plans.ensures.cause v once)
+    walks_passes of_step from to v next answer items there (c.in_ok-plans.ensures.passed_source v seen) (c.in_ok-plans.ensures.passed_target v seen)
+    (items_pass from to journal v items there moves c.in_ok-mapped.mapped.items answer (c.in_ok-mapped.ensures.passed v once)
     (c.place_rest.ensures.cause v (subst (λ t. IsSeen t v) (sym c.test_plans.ensures.told) once)))
 
 pub returns-in_err-plans-clause-written : goal.returns-in_err-plans-clause-written
@@ -127,16 +138,16 @@ returns-in_err-plans-clause-written g c v seen =
     let told = g.F.Folder.told c.args.folder.now in
     let left = g.R.Randoms.left c.args.random.now in
     let p = err_from_is_err_and c.from_residual.result c.from_residual.ensures.1 in
-    let refused = refusal_as c.from_residual.result p.0 (c.in_err-plans.field-0.0) p.1 p.2 (c.in_err-plans.ensures.tested) in
+    let refused = refusal_as c.from_residual.result p.0 (of_step c.in_err-plans.field-0.0) p.1 p.2 (step_refuses c.in_err-plans.field-0.0) in
     inl (nothing_written c.from_residual.result refused left told (g.F.Folder.told c.walk_both.new.folder) (c.draws_compose.ensures.none left) c.walk_both.ensures.told)
 
-pub returns-in_err-test_plans-clause-written : goal.returns-in_err-test_plans-clause-written
-returns-in_err-test_plans-clause-written g c v seen =
+pub returns-in_err-mapped-clause-written : goal.returns-in_err-mapped-clause-written
+returns-in_err-mapped-clause-written g c v seen =
     let told = g.F.Folder.told c.args.folder.now in
     let left = g.R.Randoms.left c.args.random.now in
-    let p = err_from_is_err_and c.from_residual-in_err-test_plans.result c.from_residual-in_err-test_plans.ensures.1 in
-    let refused = refusal_as c.from_residual-in_err-test_plans.result p.0 (c.in_err-test_plans.field-0.0) p.1 p.2 (c.in_err-test_plans.ensures.tested) in
-    inl (nothing_written c.from_residual-in_err-test_plans.result refused left told (g.F.Folder.told c.test_plans.new.folder) (c.draws_compose.ensures.none left) (c.test_plans.ensures.told ∙ c.walk_both.ensures.told))
+    let p = err_from_is_err_and c.from_residual-in_err-mapped.result c.from_residual-in_err-mapped.ensures.1 in
+    let refused = refusal_as c.from_residual-in_err-mapped.result p.0 (c.in_err-mapped.field-0.0) p.1 p.2 (c.in_err-mapped.ensures.tested) in
+    inl (nothing_written c.from_residual-in_err-mapped.result refused left told (g.F.Folder.told c.test_plans.new.folder) (c.draws_compose.ensures.none left) (c.test_plans.ensures.told ∙ c.walk_both.ensures.told))
 
 pub returns-clause-written : goal.returns-clause-written
 returns-clause-written g c v seen =
@@ -151,47 +162,60 @@ returns-clause-written g c v seen =
     let after = g.F.Folder.told c.place_rest.new.folder in
     let left2 = g.R.Randoms.left c.place_rest.new.random in
     let same = c.test_plans.ensures.told ∙ c.walk_both.ensures.told in
-    let told_items = c.in_ok-test_plans.ensures.named in
+    let told_items = c.in_ok-mapped.ensures.named in
     let text = done_text journal from.root to.root items c.requires.source_named c.requires.target_named told_items in
+    let mapped = c.in_ok-mapped.mapped.items in
     inr (record {
       items = items;
+      mapped = mapped;
       there = there;
       items_are = c.in_ok-plans.ensures.source.plan;
+      mapped_are = subst (λ n. IsMappedPlan n items mapped) (sym c.requires.names_named) c.in_ok-mapped.ensures.mapped;
       there_are = c.in_ok-plans.ensures.target.plan;
-      writes = by_texts from to (lacked there items) (journal_text (done_of journal) ∷ []) (journal_texts journal.names from.root to.root items) left left2 told after text c.place_rest.result
-          (subst (λ t. WritesBy c.place_rest.result from to (lacked there items) (journal_text (done_of journal) ∷ []) left left2 t after) same
+      writes = by_texts from to (lacked there mapped) (journal_text (done_of journal) ∷ []) (journal_texts journal.names from.root to.root items) left left2 told after text c.place_rest.result
+          (subst (λ t. WritesBy c.place_rest.result from to (lacked there mapped) (journal_text (done_of journal) ∷ []) left left2 t after) same
           (c.place_rest.ensures.written v (subst (λ t. IsSeen t v) (sym same) seen)));
     })
 
 pub place_rest-requires-clause-copying : goal.place_rest-requires-clause-copying
 place_rest-requires-clause-copying g c =
+    let rule = c.args.sides.now.names in
     let from = c.args.sides.now.source in
     let to = c.args.sides.now.target in
     let told = g.F.Folder.told c.args.folder.now in
     let plans = c.in_ok-plans.plans in
-    subst (MayBegin from to plans.target.items) (sym (c.test_plans.ensures.told ∙ c.walk_both.ensures.told))
-    (may_begin c.walks_tell_the_tree.ensures.plan from to (c.clean_vaults_are_orderly.ensures from.vault) (c.clean_vaults_are_orderly.ensures to.vault) plans.source.items plans.target.items told (g.met.F.Folder.sound c.args.folder.now)
+    subst (MayBegin rule from to plans.target.items) (sym (c.test_plans.ensures.told ∙ c.walk_both.ensures.told))
+    (may_begin c.walks_tell_the_tree.ensures.plan rule from to (c.clean_vaults_are_orderly.ensures from.vault) (c.clean_vaults_are_orderly.ensures to.vault) plans.source.items plans.target.items told (g.met.F.Folder.sound c.args.folder.now)
     c.in_ok-plans.ensures.source c.in_ok-plans.ensures.target c.in_ok-plans.ensures.passed_source
-    (matched_held c.what_is_held_opens_the_same.ensures.held from to c.args.journal plans.source.items plans.target.items told
-    (λ v is. c.in_ok-test_plans.ensures.cause v (subst (λ t. IsSeen t v) (sym c.walk_both.ensures.told) is))))
+    (matched_held c.what_is_held_opens_the_same.ensures.part rule from to c.args.journal plans.source.items c.in_ok-mapped.mapped.items plans.target.items told c.in_ok-mapped.ensures.mapped
+    (λ v is. c.in_ok-mapped.ensures.passed v (subst (λ t. IsSeen t v) (sym c.walk_both.ensures.told) is))))
 
 pub returns-in_err-plans-clause-ends : goal.returns-in_err-plans-clause-ends
 returns-in_err-plans-clause-ends g c =
     let p = err_from_is_err_and c.from_residual.result c.from_residual.ensures.1 in
-    ends_uncompared _ _ c.args.sides.now.source c.args.sides.now.target (g.F.Folder.told c.walk_both.new.folder) c.from_residual.result p.0 c.in_err-plans.field-0.0 p.1 p.2 c.in_err-plans.ensures.uncompared
+    ends_uncompared _ _ c.args.sides.now.names c.args.sides.now.source c.args.sides.now.target (g.F.Folder.told c.walk_both.new.folder) c.from_residual.result p.0 (of_step c.in_err-plans.field-0.0) p.1 p.2 (step_compares c.in_err-plans.field-0.0)
 
-pub returns-in_err-test_plans-clause-ends : goal.returns-in_err-test_plans-clause-ends
-returns-in_err-test_plans-clause-ends g c =
-    let p = err_from_is_err_and c.from_residual-in_err-test_plans.result c.from_residual-in_err-test_plans.ensures.1 in
+pub returns-in_err-mapped-clause-ends : goal.returns-in_err-mapped-clause-ends
+returns-in_err-mapped-clause-ends g c =
+    let p = err_from_is_err_and c.from_residual-in_err-mapped.result c.from_residual-in_err-mapped.ensures.1 in
+    let rule = c.args.sides.now.names in
     let from = c.args.sides.now.source in
     let to = c.args.sides.now.target in
     let here = g.F.Folder.told c.test_plans.new.folder in
-    refused_as (λ answer. EndsBy (StayGood from to (g.F.Folder.told c.args.folder.now) here) (Unit {0}) from to here answer) c.from_residual-in_err-test_plans.result p.0 c.in_err-test_plans.field-0.0 p.1 p.2
-    ((λ v is. c.in_err-test_plans.ensures.limit v (subst (λ t. IsSeen t v) c.test_plans.ensures.told is)), whichever_taken c.in_err-test_plans.field-0.0)
+    refused_as (λ answer. EndsBy (StayGood from to (g.F.Folder.told c.args.folder.now) here) (Unit {0}) rule from to here answer) c.from_residual-in_err-mapped.result p.0 c.in_err-mapped.field-0.0 p.1 p.2
+    ((λ v is. c.in_err-mapped.ensures.limit v (subst (λ t. IsSeen t v) c.test_plans.ensures.told is)), whichever_taken c.in_err-mapped.field-0.0)
 
 pub returns-clause-ends : goal.returns-clause-ends
 returns-clause-ends g c =
+    let rule = c.args.sides.now.names in
     let from = c.args.sides.now.source in
     let to = c.args.sides.now.target in
     let after = g.F.Folder.told c.place_rest.new.folder in
-    subst (λ t. EndsBy (StayGood from to t after) (Unit {0}) from to after c.place_rest.result) (c.test_plans.ensures.told ∙ c.walk_both.ensures.told) c.place_rest.ensures.ends
+    subst (λ t. EndsBy (StayGood from to t after) (Unit {0}) rule from to after c.place_rest.result) (c.test_plans.ensures.told ∙ c.walk_both.ensures.told) c.place_rest.ensures.ends
+
+pub returns-in_err-plans-clause-blamed : goal.returns-in_err-plans-clause-blamed
+returns-in_err-plans-clause-blamed g c =
+    let n0 = g.F.Folder.faults c.args.folder.now in
+    let n1 = g.F.Folder.faults c.walk_both.new.folder in
+    let p = err_from_is_err_and c.from_residual.result c.from_residual.ensures.1 in
+    rw (p.1, p.2) (step_resumes n0 n0 n1 c.in_err-plans.field-0.0 (omega arith) c.in_err-plans.ensures.blamed)

@@ -1,7 +1,10 @@
 use Rattle.vault_spec.specs.Vault.{format_of}
 use Rattle.migrate_core.specs.Faults.{of_match}
 use Rattle.migrate_core.proofs.Causing.{Passed, match_refused, none_differs, own_passes, own_refused, refused_as, then_passes}
-use Rattle.migrate_core.specs.Causes.{Answer, Compares, TestsHeld, TestsMatch, Then, Unless, own}
+use Rattle.migration_sides.specs.Tests.{Then, own}
+use Rattle.tree_match.specs.Trees.{Compares}
+use Rattle.migrate_core.proofs.Planned.{mapped_files}
+use Rattle.migrate_core.specs.Causes.{Answer, TestsHeld, TestsMatch, Unless}
 use Rattle.tree_match.specs.declared.answer.Match.{Match}
 use Rattle.std.proofs.lemmas.Result.{err_from_is_err_and}
 use Rattle.tree_match.specs.Matching.{matched}
@@ -16,7 +19,10 @@ pub holds_all-requires-clause-a : goal.holds_all-requires-clause-a
 holds_all-requires-clause-a g c = λ v seen. record { ordered = c.requires.target.ordered v seen; files = c.requires.target.files v seen }
 
 pub holds_all-requires-clause-b : goal.holds_all-requires-clause-b
-holds_all-requires-clause-b g c = λ v seen. record { ordered = c.requires.source.ordered v seen; files = c.requires.source.files v seen }
+holds_all-requires-clause-b g c = λ v seen. record {
+  ordered = c.requires.source.mapped.ordered;
+  files = mapped_files c.args.sides.now.names c.args.sides.now.source c.args.mapped.now.items (g.F.Folder.told c.args.folder.now) c.requires.source v seen;
+}
 
 pub returns-in_err-holds_all-clause-cause : goal.returns-in_err-holds_all-clause-cause
 returns-in_err-holds_all-clause-cause g c v seen =
@@ -25,15 +31,15 @@ returns-in_err-holds_all-clause-cause g c v seen =
     let why = c.in_err-holds_all.field-0.0 in
     let held = λ (m : Match). Then own (TestsHeld m) (λ _. Passed) in
     let p = err_from_is_err_and c.from_residual.result c.from_residual.ensures.1 in
-    refused_as (λ answer. Unless answer (TestsMatch to c.args.plans.now.target.items from c.args.plans.now.source.items v Passed answer)) c.from_residual.result p.0 (of_match why) p.1 p.2
-    (match_refused (matched (format_of to.vault).content c.args.plans.now.target.items (format_of from.vault).content c.args.plans.now.source.items v) held why (c.in_err-holds_all.ensures.answers v seen))
+    refused_as (λ answer. Unless answer (TestsMatch to c.args.target.now.items from c.args.mapped.now.items v Passed answer)) c.from_residual.result p.0 (of_match why) p.1 p.2
+    (match_refused (matched (format_of to.vault).content c.args.target.now.items (format_of from.vault).content c.args.mapped.now.items v) held why (c.in_err-holds_all.ensures.answers v seen))
 
 pub returns-in-Same : goal.returns-in-Same
 returns-in-Same g c =
     let from = c.args.sides.now.source in
     let to = c.args.sides.now.target in
-    let items = c.args.plans.now.target.items in
-    let others = c.args.plans.now.source.items in
+    let items = c.args.target.now.items in
+    let others = c.args.mapped.now.items in
     let m = c.in_ok-holds_all.field-0 in
     let held : Match → Answer (Unit {0}) → Type 0 = λ m. Then own (TestsHeld m) (λ _. Passed) in
     record {
@@ -50,8 +56,8 @@ pub returns-clause-cause : goal.returns-clause-cause
 returns-clause-cause g c v seen =
     let from = c.args.sides.now.source in
     let to = c.args.sides.now.target in
-    let items = c.args.plans.now.target.items in
-    let others = c.args.plans.now.source.items in
+    let items = c.args.target.now.items in
+    let others = c.args.mapped.now.items in
     let m = c.in_ok-holds_all.field-0 in
     let held : Match → Answer (Unit {0}) → Type 0 = λ m. Then own (TestsHeld m) (λ _. Passed) in
     let path = c.in-Differs.path in
@@ -64,11 +70,12 @@ pub returns-in_err-holds_all-clause-limit : goal.returns-in_err-holds_all-clause
 returns-in_err-holds_all-clause-limit g c =
     let from = c.args.sides.now.source in
     let to = c.args.sides.now.target in
-    let items = c.args.plans.now.source.items in
-    let others = c.args.plans.now.target.items in
+    let rule = c.args.sides.now.names in
+    let items = c.args.mapped.now.items in
+    let others = c.args.target.now.items in
     let told = g.F.Folder.told c.args.folder.now in
     let why = c.in_err-holds_all.field-0.0 in
     let p = err_from_is_err_and c.from_residual.result c.from_residual.ensures.1 in
-    refused_as (λ answer. IfErr answer (PassesSeen from to told)) c.from_residual.result p.0 (of_match why) p.1 p.2
-    (λ v is. by_match (PassesLimit from to v) (matched (format_of to.vault).content others (format_of from.vault).content items v) why (c.in_err-holds_all.ensures.answers v is)
-    (target_first from to items others told v c.requires.source c.requires.target is))
+    refused_as (λ answer. IfErr answer (PassesSeen rule from to told)) c.from_residual.result p.0 (of_match why) p.1 p.2
+    (λ v is. by_match (PassesLimit rule from to v) (matched (format_of to.vault).content others (format_of from.vault).content items v) why (c.in_err-holds_all.ensures.answers v is)
+    (target_first rule from to items others told v c.requires.source c.requires.target is))

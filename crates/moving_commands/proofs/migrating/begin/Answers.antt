@@ -2,13 +2,12 @@ use Rattle.std.proofs.Common.{subst, Ok, Err, IfErr, inl, inr, refl, sym}
 use Rattle.std.proofs.lemmas.Result.{err_from_is_err_and}
 use Rattle.folder_spec.specs.Seen.{IfSeen, IsSeen}
 use Rattle.plain_tree.specs.declared.name_map.NameMap.TheVariants.{Same}
-use Rattle.migrate_core.specs.Leading.{KeepsGuarded}
 use Rattle.migrate_core.specs.Moved.{MovesTree}
 use Rattle.migrate_core.specs.Completing.{CanBegin}
-use Rattle.tree_match.specs.Guard.{Migration}
+use Rattle.migration_spec.specs.Guard.{Migration}
 use Rattle.moving_commands.specs.Migrate.{IsAskedFor, IsWritten, MayCome}
 use Rattle.moving_commands.specs.Moving.{ArePhrases, Completes}
-use Rattle.moving_commands.proofs.Migrations.{asked_is, chance_answered, keeps_all, keeps_same, phrases_are, read_completes, unread_undrawn}
+use Rattle.moving_commands.proofs.Migrations.{chance_answered, keeps_same, keeps_since, keys_read, keys_seen, phrases_are, read_completes, unread_undrawn}
 use Rattle.moving_commands.proofs.migrating.begin.Goals as goal
 
 pub returns-in_err-phrases-clause-keeps : goal.returns-in_err-phrases-clause-keeps
@@ -30,17 +29,17 @@ pub returns-in-Ok-clause-keeps : goal.returns-in-Ok-clause-keeps
 returns-in-Ok-clause-keeps g c = λ m v is asked.
     let are : ArePhrases c.args.moving.now.passes c.as_slice.result.now c.as_slice-2.result.now v = phrases_are c.args.moving.now.passes c.in_ok-phrases.phrases.source c.in_ok-phrases.phrases.target
     c.as_slice.result.now c.as_slice-2.result.now v c.as_slice.ensures c.as_slice-2.ensures (c.in_ok-phrases.ensures.source v is) (c.in_ok-phrases.ensures.target v is) in
-    keeps_all c.guarded_migrations_are_safe.ensures.safe m (g.F.Folder.told c.args.folder.now) (g.F.Folder.told c.begin.new.folder)
-    (subst (λ t. KeepsGuarded m t (g.F.Folder.told c.begin.new.folder)) c.in_ok-phrases.ensures.told
-    (c.in-Ok.ensures.guard m (asked_is m c.args.moving.now v c.as_slice.result.now c.as_slice-2.result.now are asked)))
+    keeps_since c.guarded_migrations_are_safe.ensures.safe m (g.F.Folder.told c.args.folder.now) (g.F.Folder.told c.read_passes.new.folder) (g.F.Folder.told c.begin.new.folder) c.in_ok-phrases.ensures.told
+    (c.in-Ok.ensures.guard m asked.asked
+    (keys_seen m c.args.moving.now.passes v (g.F.Folder.told c.args.folder.now) (g.F.Folder.told c.read_passes.new.folder) c.as_slice.result.now c.as_slice-2.result.now c.in_ok-phrases.ensures.told is are asked.keys))
 
 pub returns-clause-keeps : goal.returns-clause-keeps
 returns-clause-keeps g c = λ m v is asked.
     let are : ArePhrases c.args.moving.now.passes c.as_slice.result.now c.as_slice-2.result.now v = phrases_are c.args.moving.now.passes c.in_ok-phrases.phrases.source c.in_ok-phrases.phrases.target
     c.as_slice.result.now c.as_slice-2.result.now v c.as_slice.ensures c.as_slice-2.ensures (c.in_ok-phrases.ensures.source v is) (c.in_ok-phrases.ensures.target v is) in
-    keeps_all c.guarded_migrations_are_safe.ensures.safe m (g.F.Folder.told c.args.folder.now) (g.F.Folder.told c.begin.new.folder)
-    (subst (λ t. KeepsGuarded m t (g.F.Folder.told c.begin.new.folder)) c.in_ok-phrases.ensures.told
-    (c.in-Err.ensures.guard m (asked_is m c.args.moving.now v c.as_slice.result.now c.as_slice-2.result.now are asked)))
+    keeps_since c.guarded_migrations_are_safe.ensures.safe m (g.F.Folder.told c.args.folder.now) (g.F.Folder.told c.read_passes.new.folder) (g.F.Folder.told c.begin.new.folder) c.in_ok-phrases.ensures.told
+    (c.in-Err.ensures.guard m asked.asked
+    (keys_seen m c.args.moving.now.passes v (g.F.Folder.told c.args.folder.now) (g.F.Folder.told c.read_passes.new.folder) c.as_slice.result.now c.as_slice-2.result.now c.in_ok-phrases.ensures.told is are asked.keys))
 
 pub returns-in_err-phrases-clause-stopped : goal.returns-in_err-phrases-clause-stopped
 returns-in_err-phrases-clause-stopped g c =
@@ -95,7 +94,7 @@ returns-in_err-phrases-clause-completes g c =
     let told = g.F.Folder.told c.args.folder.now in
     let p = err_from_is_err_and c.from_residual.result c.from_residual.ensures.1 in
     subst (λ r. IfErr r (λ answer. (m : Migration) → IfSeen told (λ v. IsAskedFor m moving v → CanBegin m v → Completes answer))) (sym p.1) (λ m v is asked can.
-    subst Completes (sym p.2) (read_completes moving.passes m.source.pass m.target.pass v c.in_err-phrases.field-0.0 asked.phrases (c.in_err-phrases.ensures.refused v is)))
+    subst Completes (sym p.2) (read_completes moving.passes asked.keys.source_pass asked.keys.target_pass v c.in_err-phrases.field-0.0 asked.keys.phrases (c.in_err-phrases.ensures.refused v is)))
 
 pub returns-clause-completes : goal.returns-clause-completes
 returns-clause-completes g c = λ m v is asked can.
@@ -104,4 +103,4 @@ returns-clause-completes g c = λ m v is asked can.
     let are : ArePhrases moving.passes c.as_slice.result.now c.as_slice-2.result.now v = phrases_are moving.passes c.in_ok-phrases.phrases.source c.in_ok-phrases.phrases.target
     c.as_slice.result.now c.as_slice-2.result.now v c.as_slice.ensures c.as_slice-2.ensures (c.in_ok-phrases.ensures.source v is) (c.in_ok-phrases.ensures.target v is) in
     chance_answered moving.work c.root_of-root.result.now c.in-Err.fault c.answer_to_move.result
-    (c.in-Err.ensures.completes m v seen (asked_is m moving v c.as_slice.result.now c.as_slice-2.result.now are asked) can) c.answer_to_move.ensures.answers
+    (c.in-Err.ensures.completes m v seen asked.asked (keys_read m moving.passes v c.as_slice.result.now c.as_slice-2.result.now are asked.keys) can) c.answer_to_move.ensures.answers

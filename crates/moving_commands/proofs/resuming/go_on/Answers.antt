@@ -4,10 +4,10 @@ use Rattle.folder_spec.specs.Seen.{IfSeen, IsSeen}
 use Rattle.migrate_core.specs.Moved.{MovesTold}
 use Rattle.migrate_core.specs.Completing.{CanResume}
 use Rattle.migrate_core.specs.Moving.{MovesOnly}
-use Rattle.tree_match.specs.Guard.{Migration}
+use Rattle.migration_spec.specs.Guard.{Migration}
 use Rattle.moving_commands.specs.Moving.{ArePhrases, Completes}
 use Rattle.moving_commands.specs.Resume.{IsResumedFor, IsWritten, MayCome, root_by}
-use Rattle.moving_commands.proofs.Migrations.{chance_answered, journal_root, journal_since, keeps_resumed, keeps_same, phrases_are, read_completes, resumed_is, unread_undrawn}
+use Rattle.moving_commands.proofs.Migrations.{chance_answered, journal_root, journal_since, keeps_since, keeps_same, phrases_are, read_completes, keys_read, keys_seen, unread_undrawn}
 use Rattle.moving_commands.proofs.resuming.go_on.Goals as goal
 
 pub returns-in_err-known-clause-keeps : goal.returns-in_err-known-clause-keeps
@@ -40,19 +40,21 @@ returns-in-Ok-clause-resumed g c =
 
 pub returns-in-Ok-clause-keeps : goal.returns-in-Ok-clause-keeps
 returns-in-Ok-clause-keeps g c = λ m v is asked.
-    keeps_resumed c.guarded_migrations_are_safe.ensures.safe m c.args.resuming.now v (g.F.Folder.told c.args.folder.now) (g.F.Folder.told c.learn.new.folder) (g.F.Folder.told c.resume.new.folder)
-    c.as_slice.result.now c.as_slice-2.result.now c.in_ok-known.ensures.told
+    keeps_since c.guarded_migrations_are_safe.ensures.safe m (g.F.Folder.told c.args.folder.now) (g.F.Folder.told c.learn.new.folder) (g.F.Folder.told c.resume.new.folder) c.in_ok-known.ensures.told
+    (c.in-Ok.ensures.guard m asked.work
+    (keys_seen m c.args.resuming.now.passes v (g.F.Folder.told c.args.folder.now) (g.F.Folder.told c.learn.new.folder) c.as_slice.result.now c.as_slice-2.result.now c.in_ok-known.ensures.told is
     (phrases_are c.args.resuming.now.passes c.in_ok-known.known.phrases.source c.in_ok-known.known.phrases.target c.as_slice.result.now c.as_slice-2.result.now v c.as_slice.ensures c.as_slice-2.ensures
     (c.in_ok-known.ensures.source v is) (c.in_ok-known.ensures.target v is))
-    (c.in-Ok.ensures.guard m) asked
+    asked.keys))
 
 pub returns-clause-keeps : goal.returns-clause-keeps
 returns-clause-keeps g c = λ m v is asked.
-    keeps_resumed c.guarded_migrations_are_safe.ensures.safe m c.args.resuming.now v (g.F.Folder.told c.args.folder.now) (g.F.Folder.told c.learn.new.folder) (g.F.Folder.told c.resume.new.folder)
-    c.as_slice.result.now c.as_slice-2.result.now c.in_ok-known.ensures.told
+    keeps_since c.guarded_migrations_are_safe.ensures.safe m (g.F.Folder.told c.args.folder.now) (g.F.Folder.told c.learn.new.folder) (g.F.Folder.told c.resume.new.folder) c.in_ok-known.ensures.told
+    (c.in-Err.ensures.guard m asked.work
+    (keys_seen m c.args.resuming.now.passes v (g.F.Folder.told c.args.folder.now) (g.F.Folder.told c.learn.new.folder) c.as_slice.result.now c.as_slice-2.result.now c.in_ok-known.ensures.told is
     (phrases_are c.args.resuming.now.passes c.in_ok-known.known.phrases.source c.in_ok-known.known.phrases.target c.as_slice.result.now c.as_slice-2.result.now v c.as_slice.ensures c.as_slice-2.ensures
     (c.in_ok-known.ensures.source v is) (c.in_ok-known.ensures.target v is))
-    (c.in-Err.ensures.guard m) asked
+    asked.keys))
 
 pub returns-in-Ok-clause-came : goal.returns-in-Ok-clause-came
 returns-in-Ok-clause-came g c = λ v is.
@@ -107,7 +109,7 @@ returns-in_err-known-clause-completes g c =
     let told = g.F.Folder.told c.args.folder.now in
     let p = err_from_is_err_and c.from_residual.result c.from_residual.ensures.1 in
     subst (λ r. IfErr r (λ answer. (m : Migration) → IfSeen told (λ v. IsResumedFor m resuming v → CanResume m v → Completes answer))) (sym p.1) (λ m v is asked can.
-    subst Completes (sym p.2) (read_completes resuming.passes m.source.pass m.target.pass v c.in_err-known.field-0.0 asked.phrases (c.in_err-known.ensures.refused v is)))
+    subst Completes (sym p.2) (read_completes resuming.passes asked.keys.source_pass asked.keys.target_pass v c.in_err-known.field-0.0 asked.keys.phrases (c.in_err-known.ensures.refused v is)))
 
 pub returns-clause-completes : goal.returns-clause-completes
 returns-clause-completes g c = λ m v is asked can.
@@ -117,7 +119,7 @@ returns-clause-completes g c = λ m v is asked can.
     let are : ArePhrases resuming.passes c.as_slice.result.now c.as_slice-2.result.now v = phrases_are resuming.passes known.phrases.source known.phrases.target
     c.as_slice.result.now c.as_slice-2.result.now v c.as_slice.ensures c.as_slice-2.ensures (c.in_ok-known.ensures.source v is) (c.in_ok-known.ensures.target v is) in
     chance_answered resuming.work (root_by resuming.work known.journal c.in-Err.fault) c.in-Err.fault c.stopped.result
-    (c.in-Err.ensures.completes m v seen (resumed_is m resuming v c.as_slice.result.now c.as_slice-2.result.now are asked) can) c.stopped.ensures.answers
+    (c.in-Err.ensures.completes m v seen asked.work (keys_read m resuming.passes v c.as_slice.result.now c.as_slice-2.result.now are asked.keys) can) c.stopped.ensures.answers
 
 pub returns-in-Ok-clause-moves : goal.returns-in-Ok-clause-moves
 returns-in-Ok-clause-moves g c =

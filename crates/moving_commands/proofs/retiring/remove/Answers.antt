@@ -2,11 +2,11 @@ use Rattle.std.proofs.Common.{Ok, Err, IfErr, inl, inr, refl, sym, subst}
 use Rattle.std.proofs.lemmas.Result.{err_from_is_err_and}
 use Rattle.folder_spec.specs.Seen.{IfSeen, IsSeen}
 use Rattle.retire_core.specs.Completing.{CanRetire}
-use Rattle.tree_match.specs.Guard.{Migration}
+use Rattle.migration_spec.specs.Guard.{Migration}
 use Rattle.moving_commands.specs.Moving.{ArePhrases}
 use Rattle.moving_commands.specs.Resume.{IsResumedFor}
 use Rattle.moving_commands.specs.Retire.{Completes, MayCome, root_by}
-use Rattle.moving_commands.proofs.Migrations.{keeps_resumed, keeps_same, passes_unread, phrases_are, phrases_read, resumed_is}
+use Rattle.moving_commands.proofs.Migrations.{keeps_same, keeps_since, keys_read, passes_unread, phrases_are, phrases_read}
 use Rattle.moving_commands.proofs.Retirings.{folder_answered, retire_root, touches_since}
 use Rattle.moving_commands.proofs.retiring.remove.Goals as goal
 
@@ -26,19 +26,13 @@ returns-in_err-known-clause-stopped g c =
 
 pub returns-in-Ok-clause-keeps : goal.returns-in-Ok-clause-keeps
 returns-in-Ok-clause-keeps g c = λ m v is asked.
-    keeps_resumed c.guarded_migrations_are_safe.ensures.safe m c.args.resuming.now v (g.F.Folder.told c.args.folder.now) (g.F.Folder.told c.learn.new.folder) (g.F.Folder.told c.retire.new.folder)
-    c.as_slice.result.now c.as_slice-2.result.now c.in_ok-known.ensures.told
-    (phrases_are c.args.resuming.now.passes c.in_ok-known.known.phrases.source c.in_ok-known.known.phrases.target c.as_slice.result.now c.as_slice-2.result.now v c.as_slice.ensures c.as_slice-2.ensures
-    (c.in_ok-known.ensures.source v is) (c.in_ok-known.ensures.target v is))
-    (c.in-Ok.ensures.guard m) asked
+    keeps_since c.guarded_migrations_are_safe.ensures.safe m (g.F.Folder.told c.args.folder.now) (g.F.Folder.told c.learn.new.folder) (g.F.Folder.told c.retire.new.folder) c.in_ok-known.ensures.told
+    (c.in-Ok.ensures.guard m asked.work)
 
 pub returns-clause-keeps : goal.returns-clause-keeps
 returns-clause-keeps g c = λ m v is asked.
-    keeps_resumed c.guarded_migrations_are_safe.ensures.safe m c.args.resuming.now v (g.F.Folder.told c.args.folder.now) (g.F.Folder.told c.learn.new.folder) (g.F.Folder.told c.retire.new.folder)
-    c.as_slice.result.now c.as_slice-2.result.now c.in_ok-known.ensures.told
-    (phrases_are c.args.resuming.now.passes c.in_ok-known.known.phrases.source c.in_ok-known.known.phrases.target c.as_slice.result.now c.as_slice-2.result.now v c.as_slice.ensures c.as_slice-2.ensures
-    (c.in_ok-known.ensures.source v is) (c.in_ok-known.ensures.target v is))
-    (c.in-Err.ensures.guard m) asked
+    keeps_since c.guarded_migrations_are_safe.ensures.safe m (g.F.Folder.told c.args.folder.now) (g.F.Folder.told c.learn.new.folder) (g.F.Folder.told c.retire.new.folder) c.in_ok-known.ensures.told
+    (c.in-Err.ensures.guard m asked.work)
 
 pub returns-in-Ok-clause-retired : goal.returns-in-Ok-clause-retired
 returns-in-Ok-clause-retired g c = λ v is.
@@ -93,7 +87,7 @@ returns-in_err-known-clause-completes g c =
     let p = err_from_is_err_and c.from_residual.result c.from_residual.ensures.1 in
     subst (λ r. IfErr r (λ answer. (m : Migration) → IfSeen told (λ v. IsResumedFor m resuming v → CanRetire m v → Completes answer))) (sym p.1) (λ m v is asked can.
     subst Completes (sym p.2)
-    (phrases_read resuming.passes m.source.pass m.target.pass v c.in_err-known.field-0.0 _ asked.phrases (c.in_err-known.ensures.refused v is)))
+    (phrases_read resuming.passes asked.keys.source_pass asked.keys.target_pass v c.in_err-known.field-0.0 _ asked.keys.phrases (c.in_err-known.ensures.refused v is)))
 
 pub returns-clause-completes : goal.returns-clause-completes
 returns-clause-completes g c = λ m v is asked can.
@@ -103,4 +97,4 @@ returns-clause-completes g c = λ m v is asked can.
     let are : ArePhrases resuming.passes c.as_slice.result.now c.as_slice-2.result.now v = phrases_are resuming.passes known.phrases.source known.phrases.target
     c.as_slice.result.now c.as_slice-2.result.now v c.as_slice.ensures c.as_slice-2.ensures (c.in_ok-known.ensures.source v is) (c.in_ok-known.ensures.target v is) in
     folder_answered resuming.work (root_by resuming.work known.journal c.in-Err.fault) c.in-Err.fault c.refused.result
-    (c.in-Err.ensures.completes m v seen (resumed_is m resuming v c.as_slice.result.now c.as_slice-2.result.now are asked) can) c.refused.ensures.answers
+    (c.in-Err.ensures.completes m v seen asked.work (keys_read m resuming.passes v c.as_slice.result.now c.as_slice-2.result.now are asked.keys) can) c.refused.ensures.answers

@@ -1,8 +1,10 @@
 use Rattle.retire_core.proofs.Cleared.{only_then}
 use Rattle.retire_core.proofs.Going.{retiring_then}
 use Rattle.std.proofs.lemmas.Result.{err_from_is_err_and}
-use Rattle.retire_core.proofs.Causing.{ends, passed_is, refused_as}
+use Rattle.migration_sides.proofs.Chains.{passed_is, refused_as}
+use Rattle.retire_core.proofs.Causing.{ends}
 use Rattle.retire_core.specs.Causes.{TestsRemovals, Unless}
+use Rattle.retire_core.specs.declared.fault.RetireFault.TheVariants.{Failed, NoMemory}
 use Rattle.std.proofs.Common.{Ok}
 use Rattle.retire_core.proofs.clearing.clear.Goals as goal
 
@@ -22,4 +24,4 @@ returns-in_err-clear_beside-clause-cause g c v seen =
 
 pub returns-clause-cause : goal.returns-clause-cause
 returns-clause-cause g c v seen =
-    ends (TestsRemovals c.args.work.now v) c.clear_rest.result c.clear_rest.ensures.fails (passed_is tt (TestsRemovals c.args.work.now v (Ok tt)) (c.in_ok-clear_beside.ensures.cause v seen))
+    ends (TestsRemovals c.args.work.now v) c.clear_rest.result c.clear_rest.ensures.fails (passed_is Failed NoMemory tt (TestsRemovals c.args.work.now v (Ok tt)) (c.in_ok-clear_beside.ensures.cause v seen))

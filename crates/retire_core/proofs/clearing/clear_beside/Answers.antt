@@ -2,7 +2,8 @@ use Rattle.std.proofs.Common.{codes, refl, Err, Ok}
 use Rattle.retire_core.proofs.Cleared.{on_ok_journal, only_by_old, only_then, rest_by_entry}
 use Rattle.retire_core.proofs.Going.{retiring_then}
 use Rattle.std.proofs.lemmas.Result.{err_from_is_err_and}
-use Rattle.retire_core.proofs.Causing.{both_removed, old_stays, refused_as, removed_before, stage_stays}
+use Rattle.migration_sides.proofs.Chains.{refused_as}
+use Rattle.retire_core.proofs.Causing.{both_removed, old_stays, removed_before, stage_stays}
 use Rattle.retire_core.specs.Causes.{TestsRemovals, Unless}
 use Rattle.retire_core.proofs.clearing.clear_beside.Goals as goal
 

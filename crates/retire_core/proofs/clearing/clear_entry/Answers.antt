@@ -10,7 +10,8 @@ use Rattle.folder_spec.specs.declared.Kind.{Kind}
 use Rattle.retire_core.proofs.Blaming.{blamed_kind, blamed_removal}
 use Rattle.retire_core.proofs.Cleared.{bare_of, entry_cleared, entry_leaves, entry_same}
 use Rattle.retire_core.proofs.Going.{removes_retiring}
-use Rattle.retire_core.proofs.Causing.{folder_unless, none_removed, refused_as, removal_done, removal_refused}
+use Rattle.migration_sides.proofs.Chains.{refused_as}
+use Rattle.retire_core.proofs.Causing.{folder_unless, none_removed, removal_done, removal_refused}
 use Rattle.retire_core.proofs.Starts.{missing_by_kind, there_by_kind}
 use Rattle.retire_core.specs.Causes.{Refuses, TestsRemoval, Unless}
 use Rattle.retire_core.specs.Faults.{of_folder, of_removal}

@@ -1,18 +1,30 @@
 use Rattle.std.proofs.Common.{◌≡◌, ◌∙◌, OnOk, subst, subst₂, Err, Ok, sym}
 use Rattle.folder_spec.specs.Seen.{IsSeen, moved_view}
-use Rattle.migrate_core.specs.Moved.{opened_in}
-use Rattle.tree_match.specs.Guard.{Migration, old_path}
+use Rattle.migration_sides.specs.Sides.{opened_in}
+use Rattle.migration_spec.specs.Guard.{Migration, old_path}
+use Rattle.port_model.specs.Counts.{CountRose}
 use Rattle.retire_core.proofs.Away.{StaysInOrder, order_same}
+use Rattle.retire_core.proofs.Blaming.{blamed_step}
 use Rattle.retire_core.proofs.Courses.{held_moves, held_same}
 use Rattle.retire_core.proofs.Going.{done_same}
 use Rattle.retire_core.specs.Clearing.{MovesHeldOnly}
 use Rattle.retire_core.specs.Guarding.{ComesFromDone, KeepsDone}
 use Rattle.retire_core.specs.Retiring.{AreHeld, retiring_by}
 use Rattle.std.proofs.lemmas.Result.{err_from_is_err_and}
-use Rattle.retire_core.proofs.Causing.{both_opened, ends, passed_is, refused_as}
-use Rattle.retire_core.specs.Causes.{TestsHeld, Unless}
+use Rattle.migration_sides.proofs.Chains.{passed_is, refused_as}
+use Rattle.retire_core.proofs.Causing.{both_opened, closed, ends}
+use Rattle.retire_core.specs.Causes.{Answer, TestsHeld, TestsVaults, Unless}
+use Rattle.retire_core.specs.Faults.{of_step}
+use Rattle.retire_core.specs.declared.fault.RetireFault.{RetireFault}
+use Rattle.retire_core.specs.declared.fault.RetireFault.TheVariants.{Failed, NoMemory}
 use Rattle.folder_spec.specs.View.{View}
 use Rattle.retire_core.proofs.retiring.move_held.Goals as goal
+
+abbrev failing : RetireFault → Answer (Unit {0})
+failing why = Err why
+
+abbrev done : Answer (Unit {0})
+done = Ok tt
 
 pub returns-in_err-sides-clause-guard : goal.returns-in_err-sides-clause-guard
 returns-in_err-sides-clause-guard g c = λ migration at_source at_work. done_same migration (g.F.Folder.told c.args.folder.now) (g.F.Folder.told c.load_both.new.folder) c.load_both.ensures.told
@@ -20,6 +32,11 @@ returns-in_err-sides-clause-guard g c = λ migration at_source at_work. done_sam
 pub returns-in_err-sides-clause-moves : goal.returns-in_err-sides-clause-moves
 returns-in_err-sides-clause-moves g c =
     held_same (retiring_by c.args.work.now c.args.source_pass.now c.args.target_pass.now c.args.journal.now) (g.F.Folder.told c.args.folder.now) (g.F.Folder.told c.load_both.new.folder) c.load_both.ensures.told
+
+pub returns-in_err-sides-clause-blamed : goal.returns-in_err-sides-clause-blamed
+returns-in_err-sides-clause-blamed g c =
+    let p = err_from_is_err_and c.from_residual.result c.from_residual.ensures.1 in
+    rw (p.1, p.2) (blamed_step (CountRose (g.F.Folder.faults c.args.folder.now) (g.F.Folder.faults c.load_both.new.folder)) c.in_err-sides.field-0.0 c.in_err-sides.ensures.blamed)
 
 pub returns-in_err-sides-clause-leaves : goal.returns-in_err-sides-clause-leaves
 returns-in_err-sides-clause-leaves g c = order_same c.args.work.now (g.F.Folder.told c.args.folder.now) (g.F.Folder.told c.load_both.new.folder) c.load_both.ensures.told
@@ -72,7 +89,8 @@ returns-clause-moves g c =
       target = sides.target.vault;
       opens_source = loads.opens_source v first;
       opens_target = loads.opens_target v first;
-      held = subst₂ (λ p q. AreHeld (opened_in p sides.source.vault) (opened_in q sides.target.vault) v) loads.source loads.target (c.in_ok-test_held.ensures.held v before);
+      held = subst (λ n. AreHeld n (opened_in r.from sides.source.vault) (opened_in r.to sides.target.vault) v) loads.names
+          (subst₂ (λ p q. AreHeld sides.names (opened_in p sides.source.vault) (opened_in q sides.target.vault) v) loads.source loads.target (c.in_ok-test_held.ensures.held v before));
     }) c.move_source.ensures.moves)
 
 pub returns-clause-leaves : goal.returns-clause-leaves
@@ -81,38 +99,45 @@ returns-clause-leaves g c =
 
 pub returns-in_err-sides-clause-cause : goal.returns-in_err-sides-clause-cause
 returns-in_err-sides-clause-cause g c v seen =
+    let names = c.args.journal.now.names in
     let from = c.args.journal.now.source in
     let to = c.args.journal.now.target in
     let pass = c.args.source_pass.now in
     let pass_too = c.args.target_pass.now in
     let p = err_from_is_err_and c.from_residual.result c.from_residual.ensures.1 in
-    refused_as (λ answer. Unless answer (TestsHeld from to pass pass_too v answer)) c.from_residual.result p.0 (c.in_err-sides.field-0.0) p.1 p.2
-    (c.in_err-sides.ensures.cause v seen)
+    refused_as (λ answer. Unless answer (TestsHeld names from to pass pass_too v answer)) c.from_residual.result p.0 (of_step c.in_err-sides.field-0.0) p.1 p.2
+    (closed names from to pass pass_too v c.in_err-sides.field-0.0 (c.in_err-sides.ensures.cause v seen))
 
 pub returns-in_err-test_held-clause-cause : goal.returns-in_err-test_held-clause-cause
 returns-in_err-test_held-clause-cause g c v seen =
-    let from = c.args.journal.now.source in
-    let to = c.args.journal.now.target in
-    let pass = c.args.source_pass.now in
-    let pass_too = c.args.target_pass.now in
-    let p = err_from_is_err_and c.from_residual-in_err-test_held.result c.from_residual-in_err-test_held.ensures.1 in
-    refused_as (λ answer. Unless answer (TestsHeld from to pass pass_too v answer)) c.from_residual-in_err-test_held.result p.0 (c.in_err-test_held.field-0.0) p.1 p.2
-    (both_opened from to pass pass_too v c.in_ok-sides.sides.source c.in_ok-sides.sides.target (Err c.in_err-test_held.field-0.0) c.in_ok-sides.ensures.source c.in_ok-sides.ensures.target
-    (c.in_ok-sides.ensures.opens_source v seen) (c.in_ok-sides.ensures.opens_target v seen)
-    (c.in_err-test_held.ensures.cause v (subst (λ t. IsSeen t v) (sym c.load_both.ensures.told) seen)))
-
-pub returns-clause-cause : goal.returns-clause-cause
-returns-clause-cause g c v seen =
+    let names = c.args.journal.now.names in
     let from = c.args.journal.now.source in
     let to = c.args.journal.now.target in
     let pass = c.args.source_pass.now in
     let pass_too = c.args.target_pass.now in
     let sides = c.in_ok-sides.sides in
-    ends (TestsHeld from to pass pass_too v) c.move_source.result c.move_source.ensures.fails
-    (passed_is tt (TestsHeld from to pass pass_too v (Ok tt))
-    (both_opened from to pass pass_too v c.in_ok-sides.sides.source c.in_ok-sides.sides.target (Ok tt) c.in_ok-sides.ensures.source c.in_ok-sides.ensures.target
+    let why = c.in_err-test_held.field-0.0 in
+    let p = err_from_is_err_and c.from_residual-in_err-test_held.result c.from_residual-in_err-test_held.ensures.1 in
+    refused_as (λ answer. Unless answer (TestsHeld names from to pass pass_too v answer)) c.from_residual-in_err-test_held.result p.0 why p.1 p.2
+    (both_opened names from to pass pass_too v sides.source sides.target (failing why) c.in_ok-sides.ensures.source c.in_ok-sides.ensures.target
     (c.in_ok-sides.ensures.opens_source v seen) (c.in_ok-sides.ensures.opens_target v seen)
-    (c.in_ok-test_held.ensures.cause v (subst (λ t. IsSeen t v) (sym c.load_both.ensures.told) seen))))
+    (subst (λ n. Unless (failing why) (TestsVaults n sides.source sides.target v (failing why))) c.in_ok-sides.ensures.names
+    (c.in_err-test_held.ensures.cause v (subst (λ t. IsSeen t v) (sym c.load_both.ensures.told) seen))))
+
+pub returns-clause-cause : goal.returns-clause-cause
+returns-clause-cause g c v seen =
+    let names = c.args.journal.now.names in
+    let from = c.args.journal.now.source in
+    let to = c.args.journal.now.target in
+    let pass = c.args.source_pass.now in
+    let pass_too = c.args.target_pass.now in
+    let sides = c.in_ok-sides.sides in
+    ends (TestsHeld names from to pass pass_too v) c.move_source.result c.move_source.ensures.fails
+    (passed_is Failed NoMemory tt (TestsHeld names from to pass pass_too v (Ok tt))
+    (both_opened names from to pass pass_too v sides.source sides.target done c.in_ok-sides.ensures.source c.in_ok-sides.ensures.target
+    (c.in_ok-sides.ensures.opens_source v seen) (c.in_ok-sides.ensures.opens_target v seen)
+    (subst (λ n. Unless done (TestsVaults n sides.source sides.target v done)) c.in_ok-sides.ensures.names
+    (c.in_ok-test_held.ensures.cause v (subst (λ t. IsSeen t v) (sym c.load_both.ensures.told) seen)))))
 
 pub returns-clause-seen : goal.returns-clause-seen
 returns-clause-seen g c =

@@ -6,8 +6,7 @@ use Rattle.folder_spec.specs.Seen.{IfSeen, IsSeen, moved_view}
 use Rattle.folder_spec.specs.View.{View}
 use Rattle.folder_spec.specs.contracts.Kind.{the_type}
 use Rattle.folder_spec.specs.declared.Kind.TheVariants.{Missing}
-use Rattle.migrate_core.specs.Sides.{IsResumed}
-use Rattle.tree_match.specs.Guard.{Migration, old_path}
+use Rattle.migration_spec.specs.Guard.{Migration, old_path}
 use Rattle.retire_core.proofs.Blaming.{blamed_kind}
 use Rattle.retire_core.proofs.Courses.{held_same}
 use Rattle.retire_core.proofs.Going.{rest_same}
@@ -15,13 +14,14 @@ use Rattle.retire_core.proofs.Starts.{IsKnown, comes_by_done, comes_missing, mis
 use Rattle.retire_core.specs.Clearing.{IsGone, IsInOrder, MovesHeldOnly}
 use Rattle.retire_core.specs.Guarding.{ComesFromDone, ComesTo, KeepsDone}
 use Rattle.retire_core.specs.Retiring.{retiring_by}
-use Rattle.retire_core.proofs.Causing.{away_none, away_there, folder_unless, is_free, not_free, one_view, refused_as}
+use Rattle.migration_sides.proofs.Chains.{refused_as}
+use Rattle.retire_core.proofs.Causing.{away_none, away_there, folder_unless, is_free, not_free, one_view}
 use Rattle.retire_core.specs.Causes.{TestsAway, Unless, moved_away}
 use Rattle.retire_core.specs.Faults.{of_folder}
 use Rattle.retire_core.proofs.retiring.put_away.Goals as goal
 
 pub returns-in_err-kind-clause-guard : goal.returns-in_err-kind-clause-guard
-returns-in_err-kind-clause-guard g c = λ migration resumed. rest_same migration (g.F.Folder.told c.args.folder.now) (g.F.Folder.told c.kind.new.self) c.kind.ensures.told
+returns-in_err-kind-clause-guard g c = λ migration at_work. rest_same migration (g.F.Folder.told c.args.folder.now) (g.F.Folder.told c.kind.new.self) c.kind.ensures.told
 
 pub returns-in_err-kind-clause-moves : goal.returns-in_err-kind-clause-moves
 returns-in_err-kind-clause-moves g c =
@@ -35,12 +35,12 @@ returns-in_err-kind-clause-blamed g c =
     (blamed_kind (g.F.Folder.told c.args.folder.now) c.args.journal.now.source n0 n0 (g.F.Folder.faults c.kind.new.self) c.in_err-kind.field-0.0 (omega arith) c.in_err-kind.ensures.answer c.in_err-kind.ensures.counts)
 
 pub returns-then-eq-clause-comes : goal.returns-then-eq-clause-comes
-returns-then-eq-clause-comes g c = λ migration resumed.
+returns-then-eq-clause-comes g c = λ migration at_work.
     let t0 = g.F.Folder.told c.args.folder.now in
     let journal = c.args.journal.now in
     let kind = c.in_ok-kind.field-0 in
     let missing : kind ≡ Missing = same_true the_type (search rules) kind Missing (sym c.eq.ensures ∙ c.if-eq.true) in
-    let known : IsKnown migration journal t0 = record { one_journal = c.journals_are_read_back.ensures.stands; is = c.requires.journal; done = c.requires.phase; stands = λ v seen. subst (λ w. StandsIn w journal v) (sym resumed.work) (c.requires.stands v seen) } in
+    let known : IsKnown migration journal t0 = record { one_journal = c.journals_are_read_back.ensures.stands; is = c.requires.journal; done = c.requires.phase; stands = λ v seen. subst (λ w. StandsIn w journal v) (sym at_work) (c.requires.stands v seen) } in
     comes_missing migration journal t0 (g.F.Folder.told c.kind.new.self) known c.kind.ensures.told (missing_by_kind t0 journal.source kind c.in_ok-kind.ensures.answer missing)
 
 pub returns-in_err-test_free-clause-moves : goal.returns-in_err-test_free-clause-moves
@@ -48,7 +48,7 @@ returns-in_err-test_free-clause-moves g c =
     held_same (retiring_by c.args.work.now c.args.source_pass.now c.args.target_pass.now c.args.journal.now) (g.F.Folder.told c.args.folder.now) (g.F.Folder.told c.test_free.new.folder) (c.test_free.ensures.told ∙ c.kind.ensures.told)
 
 pub returns-clause-guard : goal.returns-clause-guard
-returns-clause-guard g c = λ migration resumed.
+returns-clause-guard g c = λ migration at_work.
     let t0 = g.F.Folder.told c.args.folder.now in
     let t3 = g.F.Folder.told c.move_held.new.folder in
     let same = c.test_free.ensures.told ∙ c.kind.ensures.told in
@@ -56,9 +56,9 @@ returns-clause-guard g c = λ migration resumed.
     let kind = c.in_ok-kind.field-0 in
     let isnt : kind ≢ Missing = (λ is. let equal : false ≡ true = sym c.if-eq.false ∙ c.eq.ensures ∙ ap (λ k. sameb the_type k Missing) is in cc equal) in
     let r = retiring_by c.args.work.now c.args.source_pass.now c.args.target_pass.now journal in
-    let known : IsKnown migration journal t0 = record { one_journal = c.journals_are_read_back.ensures.stands; is = c.requires.journal; done = c.requires.phase; stands = λ v seen. subst (λ w. StandsIn w journal v) (sym resumed.work) (c.requires.stands v seen) } in
+    let known : IsKnown migration journal t0 = record { one_journal = c.journals_are_read_back.ensures.stands; is = c.requires.journal; done = c.requires.phase; stands = λ v seen. subst (λ w. StandsIn w journal v) (sym at_work) (c.requires.stands v seen) } in
     rest_by_done migration journal r t0 t3 known (there_by_kind t0 journal.source kind c.in_ok-kind.ensures.answer isnt) (subst (λ t. MovesHeldOnly r t t3) same c.move_held.ensures.moves)
-    (λ at_source. subst (λ t. KeepsDone migration t t3) same (c.move_held.ensures.guard migration at_source resumed.work))
+    (λ at_source. subst (λ t. KeepsDone migration t t3) same (c.move_held.ensures.guard migration at_source at_work))
 
 pub returns-clause-comes : goal.returns-clause-comes
 returns-clause-comes g c =
@@ -72,12 +72,12 @@ returns-clause-comes g c =
     let isnt : kind ≢ Missing = (λ is. let equal : false ≡ true = sym c.if-eq.false ∙ c.eq.ensures ∙ ap (λ k. sameb the_type k Missing) is in cc equal) in
     let r = retiring_by work c.args.source_pass.now c.args.target_pass.now journal in
     on_ok_more ((migration : Migration) → migration.source.root ≡ journal.source → migration.work ≡ work → ComesFromDone migration t2 t3)
-    ((migration : Migration) → IsResumed migration work c.args.source_pass.now c.args.target_pass.now → ComesTo migration t0 t3) c.move_held.result
-    (λ comes migration resumed.
+    ((migration : Migration) → migration.work ≡ work → ComesTo migration t0 t3) c.move_held.result
+    (λ comes migration at_work.
     comes_by_done migration journal r t0 t3
-    (record { one_journal = c.journals_are_read_back.ensures.stands; is = c.requires.journal; done = c.requires.phase; stands = λ v seen. subst (λ w. StandsIn w journal v) (sym resumed.work) (c.requires.stands v seen) })
+    (record { one_journal = c.journals_are_read_back.ensures.stands; is = c.requires.journal; done = c.requires.phase; stands = λ v seen. subst (λ w. StandsIn w journal v) (sym at_work) (c.requires.stands v seen) })
     (there_by_kind t0 journal.source kind c.in_ok-kind.ensures.answer isnt) (subst (λ t. MovesHeldOnly r t t3) same c.move_held.ensures.moves)
-    (λ at_source. subst (λ t. ComesFromDone migration t t3) same (comes migration at_source resumed.work))) c.move_held.ensures.comes
+    (λ at_source. subst (λ t. ComesFromDone migration t t3) same (comes migration at_source at_work))) c.move_held.ensures.comes
 
 pub returns-clause-order : goal.returns-clause-order
 returns-clause-order g c =

@@ -1,14 +1,15 @@
-use Rattle.std.proofs.Common.{subst, subst₂, sym}
+use Rattle.std.proofs.Common.{subst, sym}
 use Rattle.retire_core.specs.Faults.{of_folder}
 use Rattle.retire_core.proofs.Courses.{folder_above, removes_settled, retired_earlier, settle_fell, settle_removes, settle_seen, settle_then, settle_touches, touches_then}
 use Rattle.retire_core.specs.Retiring.{retiring_by}
-use Rattle.retire_core.proofs.Causing.{folder_fails, folder_unless, refused_as, unless_completes}
+use Rattle.migration_sides.proofs.Chains.{refused_as}
+use Rattle.retire_core.proofs.Causing.{folder_fails, folder_unless, unless_completes}
 use Rattle.retire_core.specs.Causes.{Retires, Unless}
 use Rattle.std.proofs.lemmas.Result.{err_from_is_err_and}
 use Rattle.retire_core.proofs.retiring.retire.Goals as goal
 
 pub returns-in_err-settle-clause-guard : goal.returns-in_err-settle-clause-guard
-returns-in_err-settle-clause-guard g c = λ migration resumed.
+returns-in_err-settle-clause-guard g c = λ migration at_work.
     settle_fell c.settling_and_entering_keep_migrations_guarded.ensures.settles migration (g.F.Folder.told c.args.folder.now) (g.F.Folder.told c.settle.new.self) c.settle.result c.settle.ensures.changes
 
 pub returns-in_err-settle-clause-touches : goal.returns-in_err-settle-clause-touches
@@ -20,9 +21,9 @@ returns-in_err-settle-clause-removes g c = λ v journal seen is stands.
     settle_removes (retiring_by c.args.work.now c.args.source_pass.now c.args.target_pass.now journal) (g.F.Folder.told c.args.folder.now) (g.F.Folder.told c.settle.new.self) c.settle.result c.settle.ensures.changes
 
 pub returns-clause-guard : goal.returns-clause-guard
-returns-clause-guard g c = λ migration resumed.
+returns-clause-guard g c = λ migration at_work.
     settle_then c.settling_and_entering_keep_migrations_guarded.ensures.settles migration (g.F.Folder.told c.args.folder.now) (g.F.Folder.told c.settle.new.self) (g.F.Folder.told c.retire_settled.new.folder) c.in_ok-settle.field-0
-    (g.met.F.Folder.sound c.settle.new.self) c.in_ok-settle.ensures.changes (c.retire_settled.ensures.guard migration resumed)
+    (g.met.F.Folder.sound c.settle.new.self) c.in_ok-settle.ensures.changes (c.retire_settled.ensures.guard migration at_work)
 
 pub returns-clause-touches : goal.returns-clause-touches
 returns-clause-touches g c = λ v journal seen is stands.
@@ -59,13 +60,13 @@ returns-clause-cause g c v seen =
 pub returns-in_err-settle-clause-completes : goal.returns-in_err-settle-clause-completes
 returns-in_err-settle-clause-completes g c =
     let p = err_from_is_err_and c.from_residual.result c.from_residual.ensures.1 in
-    rw (p.1, p.2) (λ migration v seen resumed can. folder_fails c.in_err-settle.field-0.0)
+    rw (p.1, p.2) (λ migration v seen at_work opened can. folder_fails c.in_err-settle.field-0.0)
 
 pub returns-clause-completes : goal.returns-clause-completes
-returns-clause-completes g c = λ migration v seen resumed can.
+returns-clause-completes g c = λ migration v seen at_work opened can.
     let t0 = g.F.Folder.told c.args.folder.now in
     let cause = c.retire_settled.ensures.cause v (settle_seen t0 (g.F.Folder.told c.settle.new.self) c.in_ok-settle.field-0 c.in_ok-settle.ensures.changes v seen) in
     unless_completes c.retire_settled.result (Retires c.args.work.now c.args.source_pass.now c.args.target_pass.now v c.retire_settled.result)
-    (λ tested. c.what_can_be_retired_is_retired.ensures migration v c.retire_settled.result (λ p a there. folder_above t0 (g.met.F.Folder.sound c.args.folder.now) v seen p a there) can
-    (subst (λ w. Retires w migration.source.pass migration.target.pass v c.retire_settled.result) (sym resumed.work)
-    (subst₂ (λ x y. Retires c.args.work.now x y v c.retire_settled.result) (sym resumed.opens_source) (sym resumed.opens_target) tested))) cause
+    (λ tested. c.what_can_be_retired_is_retired.ensures migration c.args.source_pass.now c.args.target_pass.now v c.retire_settled.result
+    (λ p a there. folder_above t0 (g.met.F.Folder.sound c.args.folder.now) v seen p a there) opened can
+    (subst (λ w. Retires w c.args.source_pass.now c.args.target_pass.now v c.retire_settled.result) (sym at_work) tested)) cause

@@ -5,18 +5,19 @@ use Rattle.move_journal.specs.Reading.{StandsIn}
 use Rattle.move_journal.proofs.Standing.{not_missing}
 use Rattle.std.proofs.lemmas.Result.{err_from_is_err_and}
 use Rattle.port_model.specs.Counts.{CountRose}
-use Rattle.retire_core.proofs.Blaming.{blamed_later, if_err_both, later_own}
-use Rattle.retire_core.specs.Faults.{Blamed, IsLaterFault, IsRetireFault, of_work}
+use Rattle.retire_core.proofs.Blaming.{blamed_later, blamed_step, if_err_both, later_own}
+use Rattle.retire_core.specs.Faults.{Blamed, IsLaterFault, IsRetireFault, of_step, of_work}
 use Rattle.retire_core.proofs.Courses.{folder_above, in_order, removes_same, retired_by, touches_same}
 use Rattle.retire_core.proofs.Going.{rest_same}
 use Rattle.retire_core.specs.Guarding.{KeepsFromRest}
 use Rattle.retire_core.specs.Retiring.{RemovesOnly, TouchesOnly, retiring_by}
-use Rattle.retire_core.proofs.Causing.{foreign, is_told, not_done, overlapping, refused_as}
+use Rattle.migration_sides.proofs.Chains.{refused_as}
+use Rattle.retire_core.proofs.Causing.{foreign, is_told, not_done, overlapping}
 use Rattle.retire_core.specs.Causes.{Retires, Unless}
 use Rattle.retire_core.proofs.retiring.retire_settled.Goals as goal
 
 pub returns-in_err-journal-clause-guard : goal.returns-in_err-journal-clause-guard
-returns-in_err-journal-clause-guard g c = λ migration resumed. rest_same migration (g.F.Folder.told c.args.folder.now) (g.F.Folder.told c.read_done.new.folder) c.read_done.ensures.told
+returns-in_err-journal-clause-guard g c = λ migration at_work. rest_same migration (g.F.Folder.told c.args.folder.now) (g.F.Folder.told c.read_done.new.folder) c.read_done.ensures.told
 
 pub returns-in_err-journal-clause-touches : goal.returns-in_err-journal-clause-touches
 returns-in_err-journal-clause-touches g c = λ v journal seen is stands.
@@ -27,7 +28,7 @@ returns-in_err-journal-clause-removes g c = λ v journal seen is stands.
     removes_same (retiring_by c.args.work.now c.args.source_pass.now c.args.target_pass.now journal) (g.F.Folder.told c.args.folder.now) (g.F.Folder.told c.read_done.new.folder) c.read_done.ensures.told
 
 pub returns-in_err-test_apart-clause-guard : goal.returns-in_err-test_apart-clause-guard
-returns-in_err-test_apart-clause-guard g c = λ migration resumed. rest_same migration (g.F.Folder.told c.args.folder.now) (g.F.Folder.told c.read_done.new.folder) c.read_done.ensures.told
+returns-in_err-test_apart-clause-guard g c = λ migration at_work. rest_same migration (g.F.Folder.told c.args.folder.now) (g.F.Folder.told c.read_done.new.folder) c.read_done.ensures.told
 
 pub returns-in_err-test_apart-clause-touches : goal.returns-in_err-test_apart-clause-touches
 returns-in_err-test_apart-clause-touches g c = λ v journal seen is stands.
@@ -44,7 +45,7 @@ look_again-requires g c = λ v seen.
     (not_missing c.args.work.now c.in_ok-journal.journal v stands)
 
 pub returns-in_err-look_again-clause-guard : goal.returns-in_err-look_again-clause-guard
-returns-in_err-look_again-clause-guard g c = λ migration resumed.
+returns-in_err-look_again-clause-guard g c = λ migration at_work.
     rest_same migration (g.F.Folder.told c.args.folder.now) (g.F.Folder.told c.look_again.new.folder) (c.look_again.ensures.told ∙ c.read_done.ensures.told)
 
 pub returns-in_err-look_again-clause-touches : goal.returns-in_err-look_again-clause-touches
@@ -65,8 +66,8 @@ retire_told-requires-clause-order g c = λ v seen.
     in_order (g.F.Folder.told c.look_again.new.folder) (g.met.F.Folder.sound c.look_again.new.folder) v seen c.args.work.now stands.text stands.file (c.in_ok-look_again.ensures.answer v before)
 
 pub returns-clause-guard : goal.returns-clause-guard
-returns-clause-guard g c = λ migration resumed.
-    subst (λ t. KeepsFromRest migration t (g.F.Folder.told c.retire_told.new.folder)) (c.look_again.ensures.told ∙ c.read_done.ensures.told) (c.retire_told.ensures.guard migration resumed)
+returns-clause-guard g c = λ migration at_work.
+    subst (λ t. KeepsFromRest migration t (g.F.Folder.told c.retire_told.new.folder)) (c.look_again.ensures.told ∙ c.read_done.ensures.told) (c.retire_told.ensures.guard migration at_work)
 
 pub returns-clause-touches : goal.returns-clause-touches
 returns-clause-touches g c = λ v journal seen is stands.
@@ -100,7 +101,8 @@ returns-in_err-test_apart-clause-blamed g c =
     let p = err_from_is_err_and c.from_residual-in_err-test_apart.result c.from_residual-in_err-test_apart.ensures.1 in
     let fault = c.in_err-test_apart.field-0.0 in
     let blamed = c.in_err-test_apart.ensures.blamed in
-    rw (p.1, p.2) (record { own = later_own fault blamed.own; failed = λ is. absurd (blamed.failed is) })
+    let later = blamed_step ⊥ fault blamed in
+    rw (p.1, p.2) (record { own = later_own (of_step fault) later.own; failed = λ is. absurd (later.failed is) })
 
 pub returns-clause-blamed : goal.returns-clause-blamed
 returns-clause-blamed g c =
@@ -127,7 +129,7 @@ returns-in_err-test_apart-clause-cause g c v seen =
     let pass = c.args.source_pass.now in
     let pass_too = c.args.target_pass.now in
     let p = err_from_is_err_and c.from_residual-in_err-test_apart.result c.from_residual-in_err-test_apart.ensures.1 in
-    refused_as (λ answer. Unless answer (Retires work pass pass_too v answer)) c.from_residual-in_err-test_apart.result p.0 (c.in_err-test_apart.field-0.0) p.1 p.2
+    refused_as (λ answer. Unless answer (Retires work pass pass_too v answer)) c.from_residual-in_err-test_apart.result p.0 (of_step c.in_err-test_apart.field-0.0) p.1 p.2
     (overlapping work pass pass_too v c.in_ok-journal.journal (c.in_ok-journal.ensures.cause v seen) c.in_err-test_apart.field-0.0 c.in_err-test_apart.ensures.cause)
 
 pub returns-in_err-look_again-clause-cause : goal.returns-in_err-look_again-clause-cause

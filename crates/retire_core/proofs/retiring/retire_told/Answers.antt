@@ -1,7 +1,8 @@
 use Rattle.retire_core.proofs.Courses.{gone_still, not_base, removes_cleared, removes_moved, rest_then, touches_cleared, touches_moved}
 use Rattle.retire_core.specs.Retiring.{retiring_by}
 use Rattle.std.proofs.lemmas.Result.{err_from_is_err_and}
-use Rattle.retire_core.proofs.Causing.{is_retired, not_away, not_removed, refused_as, removed_then}
+use Rattle.migration_sides.proofs.Chains.{refused_as}
+use Rattle.retire_core.proofs.Causing.{is_retired, not_away, not_removed, removed_then}
 use Rattle.retire_core.specs.Causes.{RetiresTold, Unless}
 use Rattle.std.proofs.Common.{Err, Ok}
 use Rattle.retire_core.proofs.retiring.retire_told.Goals as goal
@@ -18,9 +19,9 @@ pub clear-requires-clause-below_base : goal.clear-requires-clause-below_base
 clear-requires-clause-below_base g c = not_base c.args.journal.now.source c.args.work.now c.requires.apart.source
 
 pub returns-in_err-clear-clause-guard : goal.returns-in_err-clear-clause-guard
-returns-in_err-clear-clause-guard g c = λ migration resumed.
+returns-in_err-clear-clause-guard g c = λ migration at_work.
     rest_then c.roots_show_their_own.ensures.alike c.images_show_views.ensures.one migration (g.F.Folder.told c.args.folder.now) (g.F.Folder.told c.put_away.new.folder) (g.F.Folder.told c.clear.new.folder)
-    (c.put_away.ensures.guard migration resumed) (c.in_ok-put_away.ensures.comes migration resumed) (c.clear.ensures.guard migration resumed.work)
+    (c.put_away.ensures.guard migration at_work) (c.in_ok-put_away.ensures.comes migration at_work) (c.clear.ensures.guard migration at_work)
 
 pub returns-in_err-clear-clause-touches : goal.returns-in_err-clear-clause-touches
 returns-in_err-clear-clause-touches g c =
@@ -33,9 +34,9 @@ returns-in_err-clear-clause-removes g c =
     c.requires.apart.source (g.met.F.Folder.sound c.put_away.new.folder) c.requires.phase c.in_ok-put_away.ensures.gone c.put_away.ensures.unmoved c.put_away.ensures.moves c.clear.ensures.clears
 
 pub returns-clause-guard : goal.returns-clause-guard
-returns-clause-guard g c = λ migration resumed.
+returns-clause-guard g c = λ migration at_work.
     rest_then c.roots_show_their_own.ensures.alike c.images_show_views.ensures.one migration (g.F.Folder.told c.args.folder.now) (g.F.Folder.told c.put_away.new.folder) (g.F.Folder.told c.clear.new.folder)
-    (c.put_away.ensures.guard migration resumed) (c.in_ok-put_away.ensures.comes migration resumed) (c.clear.ensures.guard migration resumed.work)
+    (c.put_away.ensures.guard migration at_work) (c.in_ok-put_away.ensures.comes migration at_work) (c.clear.ensures.guard migration at_work)
 
 pub returns-clause-touches : goal.returns-clause-touches
 returns-clause-touches g c =

@@ -1,7 +1,8 @@
 use Rattle.std.proofs.Common.{arith}
 use Rattle.std.proofs.lemmas.Result.{err_from_is_err_and}
 use Rattle.retire_core.proofs.Blaming.{blamed_kind}
-use Rattle.retire_core.proofs.Causing.{folder_unless, refused_as}
+use Rattle.migration_sides.proofs.Chains.{refused_as}
+use Rattle.retire_core.proofs.Causing.{folder_unless}
 use Rattle.retire_core.specs.Causes.{TestsFree, Unless}
 use Rattle.retire_core.specs.Faults.{of_folder}
 use Rattle.retire_core.proofs.retiring.test_free.Goals as goal

@@ -1,9 +1,0 @@
-use Rattle.std.proofs.Common.{ℕ, ◌<◌, get_or}
-use Rattle.vault_spec.specs.Plan.{Planned}
-use Rattle.vault_spec.specs.Vault.{format_of}
-use Rattle.migrate_core.specs.Sides.{AllowsLast}
-use Rattle.migrate_core.proofs.sides.test_names.Given as goal
-
--- those that were gone through are allowed
-abbrev pub invariant-loop-item : goal.invariant-loop-item
-invariant-loop-item l = (k : ℕ) → k < l.item-index → (other : Planned) → AllowsLast (format_of l.vault.vault) (get_or l.items k other).path

@@ -1,8 +1,0 @@
-use Rattle.tree_match.proofs.Guards.{image_is_guarded, guarded_is_safe}
-use Rattle.tree_match.proofs.laws.guarded_migrations_are_safe.Goals as goal
-
-pub returns : goal.returns
-returns c = record {
-  images = image_is_guarded c.images_are_states.ensures.again;
-  safe = guarded_is_safe;
-}

@@ -1,6 +1,8 @@
 -- Which statuses a command may end with: a row for each. It ends with no other, whatever the folder and the streams do.
-use Rattle.std.specs.Prelude.{ℕ, Bool, ◌==◌, ◌||◌, List, [], ◌∷◌, Option, None, Some}
+use Rattle.std.specs.Prelude.{ℕ, Bool, ◌==◌, ◌||◌, List, [], ◌∷◌, Option, None, Some, IsTrue}
 use Rattle.std.specs.List.{list_any}
+use Rattle.command_answers.specs.Answers.{status_of}
+use Rattle.command_answers.specs.declared.answer.Answer.{Answer}
 use Rattle.command_words.specs.declared.commands.Command.{Command}
 use Rattle.command_words.specs.declared.commands.Command.TheVariants.{DecryptFile, Init, Ls, Cat, Fsck, Mkdir, Put, Repair, Migrate, Resume, Retire, Demo}
 
@@ -41,3 +43,10 @@ may_end command status = is_among (row_of command).statuses status || is_among (
 -- over a folder that tells its state
 abbrev pub may_end_told : Option Command → ℕ → Bool
 may_end_told command status = is_among (row_of command).statuses status
+
+-- it may end with this answer: over any folder, and over one that tells its state
+abbrev pub Ends : Option Command → Answer → Type 0
+Ends command answer = IsTrue (may_end command (status_of answer))
+
+abbrev pub EndsTold : Option Command → Answer → Type 0
+EndsTold command answer = IsTrue (may_end_told command (status_of answer))

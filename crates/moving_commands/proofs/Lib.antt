@@ -1,3 +1,5 @@
 pub mod Migrations
 pub mod Retirings
 mod Histories
+pub mod Rows
+pub mod ToldRows

@@ -4,7 +4,7 @@ use Rattle.std.specs.Io.KnownBytes.{Keeps}
 use Rattle.folder_spec.specs.Event.{Told}
 use Rattle.plain_tree.specs.declared.name_map.NameMap.TheVariants.{Same}
 use Rattle.folder_spec.specs.Path.{Path}
-use Rattle.folder_spec.specs.Seen.{IfSeen}
+use Rattle.folder_spec.specs.Seen.{IfSeen, under}
 use Rattle.folder_spec.specs.View.{View}
 use Rattle.migrate_core.specs.Causes.{Begins, Unless}
 use Rattle.migrate_core.specs.Completing.{CanBegin}
@@ -17,8 +17,11 @@ use Rattle.migrate_core.specs.declared.fault.MoveFault.TheVariants.{Load}
 use Rattle.migrate_core.specs.declared.placing.Done as moved
 use Rattle.port_model.specs.Draws.{ByteStream}
 use Rattle.migration_spec.specs.Guard.{Migration}
+use Rattle.vault_read.specs.Laws.{HasOwnFolders}
+use Rattle.vault_spec.specs.Vault.{Vault}
 use Rattle.migration_sides.specs.declared.fault.Side.TheVariants.{Target}
 use Rattle.moving_commands.specs.Moving.{AnswersMove, ArePhrases, Comes, Completes, HoldKeys, KeepsAll, Outcome, RefusesUndrawn, done_text, is_of_migration}
+use Rattle.command_opening.specs.Opening.{Opens}
 use Rattle.command_opening.specs.Places.{overlap, RefusesOverlap}
 use Rattle.command_answers.specs.Printing.{PrintsDone}
 use Rattle.command_opening.specs.World.{World}
@@ -75,6 +78,12 @@ ComesTo moving IsAnswered told told' stream stream' v = Comes moving.passes (IsC
 abbrev pub MayCome : Moving → Answer → Option Told → Option Told → Option ByteStream → Option ByteStream → View → Type 0
 MayCome moving answer told told' stream stream' v =
     RefusesUndrawn moving.passes answer told told' stream stream' v ⊎ ComesTo moving (AnswersMove moving.work (IsRootOf moving) answer) told told' stream stream' v
+
+-- No two directories of either vault share a folder, of the two vaults that are compared once all is placed.
+abbrev pub OwnFolders : Moving → View → Type 0
+OwnFolders moving v =
+    (source target : Vault) → Opens v moving.source moving.passes.source source → Opens v moving.target moving.passes.target target
+    → HasOwnFolders source (under moving.source v) × HasOwnFolders target (under moving.target v)
 
 -- Of folders that don't overlap: whatever the answer is, nothing is lost; all but the work folder and the target stays as it was, and
 -- nothing of the target is removed or replaced. At 0 the tree is moved. Where no test can fail and no content is damaged, it comes to that.

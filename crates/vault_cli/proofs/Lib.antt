@@ -1,3 +1,2 @@
 mod Executions
 mod Rows
-mod ToldRows

@@ -1,16 +1,16 @@
 -- Each command answers what its row has.
-use Rattle.std.proofs.Common.{◌≡◌, ◌≢◌, ◌⊎◌, Bool, true, false, IsTrue, List, ℕ, Option, Some, None, Result, Ok, Err, inl, inr, refl, sym, subst}
-use Rattle.std.specs.Prelude.{MatchOption}
+use Rattle.std.proofs.Common.{◌≡◌, ◌≢◌, ◌⊎◌, ◌||◌, Bool, true, false, IsTrue, List, ℕ, Option, Some, None, Result, Ok, Err, inl, inr, refl, sym, subst}
 use Rattle.content_writing.specs.declared.fault.PutFault.{PutFault}
 use Rattle.content_writing.specs.declared.fault.PutFault.TheVariants as puts
 use Rattle.cryptomator_conf.specs.declared.conf.Combo.{Combo}
 use Rattle.cryptomator_conf.specs.declared.conf.Combo.TheVariants.{SivGcm, SivCtrMac}
 use Rattle.folder_spec.specs.Path.{Part, Path}
+use Rattle.folder_spec.specs.Seen.{IfSeen}
 use Rattle.folder_spec.specs.View.{View}
 use Rattle.port_model.specs.Draws.{ByteStream}
 use Rattle.vault_spec.specs.Vault.{Either}
 use Rattle.command_answers.specs.Answers.{status_of}
-use Rattle.command_answers.specs.Rows.{may_end}
+use Rattle.command_answers.specs.Rows.{Ends, EndsTold, may_end, may_end_told}
 use Rattle.command_answers.specs.declared.answer.Answer.{Answer}
 use Rattle.command_answers.specs.declared.answer.Answer.TheVariants.{Done, OutOfMemory, FolderFault, Overlap}
 use Rattle.command_words.specs.declared.commands.Change.{Change}
@@ -18,10 +18,8 @@ use Rattle.command_words.specs.declared.commands.Checking.{Checking}
 use Rattle.command_words.specs.declared.commands.Command.{Command}
 use Rattle.command_words.specs.declared.commands.Command.TheVariants.{DecryptFile, Init, Ls, Cat, Fsck, Mkdir, Put, Repair, Migrate, Resume, Retire, Demo}
 use Rattle.command_words.specs.declared.commands.Demonstration.{Demonstration}
-use Rattle.command_words.specs.declared.commands.Moving.{Moving}
 use Rattle.command_words.specs.declared.commands.NewVault.{NewVault}
 use Rattle.command_words.specs.declared.commands.Repairing.{Repairing}
-use Rattle.command_words.specs.declared.commands.Resuming.{Resuming}
 use Rattle.command_words.specs.declared.commands.Target.{Target}
 use Rattle.command_words.specs.declared.values.Format.{Format}
 use Rattle.command_words.specs.declared.values.Format.TheVariants.{Gocryptfs, Cryptomator, CryptomatorCtrMac}
@@ -33,14 +31,13 @@ use Rattle.demonstration.specs.Demo.{is_of_chance, is_of_demonstration}
 use Rattle.writing_commands.specs.Faults.{answer_to_making}
 use Rattle.checking_commands.specs.Fsck.{is_of_checking}
 use Rattle.writing_commands.specs.Init.{DrawsCryptomator, DrawsVault, MakesVault}
-use Rattle.moving_commands.specs.Migrate.{MigratesApart, MigratesTree, Pair, first_overlap}
+use Rattle.moving_commands.proofs.Rows.{migrate_row, resume_row, retire_row}
+use Rattle.moving_commands.proofs.ToldRows.{migrate_told, resume_told, retire_told}
 use Rattle.writing_commands.specs.Mkdir.{MakesDirectoryIn, is_of_directory}
-use Rattle.moving_commands.specs.Moving.{is_of_migration, is_of_told_migration}
 use Rattle.command_opening.specs.Places.{overlap, RefusesOverlap}
 use Rattle.writing_commands.specs.Put.{StoresFile, is_of_file}
 use Rattle.checking_commands.specs.Repair.{RepairsApart, RepairsVault, is_of_repairing}
-use Rattle.moving_commands.specs.Retire.{is_of_retiring}
-use Rattle.vault_cli.specs.Runs.{Executes}
+use Rattle.vault_cli.specs.Runs.{Executes, OwnsFolders}
 use Rattle.command_opening.specs.Shown.{is_of_reading}
 use Rattle.command_opening.specs.World.{World}
 use Rattle.reading_commands.specs.declared.decrypting.DecryptEnd.{DecryptEnd}
@@ -80,18 +77,6 @@ file_row : (change : Change) (answer : Answer) → IsTrue (is_of_file answer) �
 file_row change Done own = cc
 file_row change answer own = cc
 
-migration_row : (moving : Moving) (answer : Answer) → IsTrue (is_of_migration answer) → IsTrue (may_end (Some (Migrate moving)) (status_of answer))
-migration_row moving Done own = cc
-migration_row moving answer own = cc
-
-resuming_row : (resuming : Resuming) (answer : Answer) → IsTrue (is_of_told_migration answer) → IsTrue (may_end (Some (Resume resuming)) (status_of answer))
-resuming_row resuming Done own = cc
-resuming_row resuming answer own = cc
-
-retiring_row : (resuming : Resuming) (answer : Answer) → IsTrue (is_of_retiring answer) → IsTrue (may_end (Some (Retire resuming)) (status_of answer))
-retiring_row resuming Done own = cc
-retiring_row resuming answer own = cc
-
 demonstration_row : (demonstration : Demonstration) (answer : Answer) → IsTrue (is_of_chance answer) → IsTrue (is_of_demonstration answer) → answer ≢ FolderFault → IsTrue (may_end (Some (Demo demonstration)) (status_of answer))
 demonstration_row demonstration FolderFault chance own steady = absurd (steady refl)
 demonstration_row demonstration answer chance own steady = cc
@@ -127,9 +112,6 @@ founding_row new CryptomatorCtrMac phrase made files stream stream' (Err fault) 
 
 -- ---- by the command
 
-abbrev Ends : Option Command → Answer → Type 0
-Ends command answer = IsTrue (may_end command (status_of answer))
-
 -- overlapping folders, where the row has 15
 two_row : (command : Option Command) (answer : Answer) (one other : Path) → Ends command (Overlap one other) → Ends command OutOfMemory → (answer ≡ Overlap one other) ⊎ (answer ≡ OutOfMemory) → Ends command answer
 two_row command answer one other overlaps memory (inl two) = subst (Ends command) (sym two) overlaps
@@ -164,14 +146,6 @@ put_row : (change : Change) (answer : Answer) (before after : World) → StoresF
 put_row change answer before after did =
     beside_row (Some (Put change)) is_of_beginning change.target.vault change.work _ _ answer before after did refl refl (file_begun change answer) (λ there. file_row change answer there.own)
 
-migrate_row : (moving : Moving) (answer : Answer) (before after : World) → MigratesTree moving answer before after → Ends (Some (Migrate moving)) answer
-migrate_row moving answer before after did = by (first_overlap moving) did.apart
-  where
-    by : (o : Option Pair) → MatchOption o (MigratesApart moving answer before.told after.told before.taken after.taken before.random after.random)
-        (λ two. RefusesOverlap two.first two.second answer before after) → Ends (Some (Migrate moving)) answer
-    by None migrates = migration_row moving answer migrates.own
-    by (Some two) refuses = two_row (Some (Migrate moving)) answer two.first two.second refl refl refuses.answers
-
 -- what a command did tells an answer of its row
 pub in_row : (command : Option Command) (answer : Answer) (before after : World) → Executes command answer before after → Ends command answer
 in_row None answer before after did = elim did.answers [ inl bad ↦ subst (Ends None) (sym bad) refl | inr memory ↦ subst (Ends None) (sym memory) refl ]
@@ -184,6 +158,19 @@ in_row (Some (Init new)) answer before after did = init_row new answer before af
 in_row (Some (Mkdir change)) answer before after did = mkdir_row change answer before after did
 in_row (Some (Put change)) answer before after did = put_row change answer before after did
 in_row (Some (Migrate moving)) answer before after did = migrate_row moving answer before after did
-in_row (Some (Resume resuming)) answer before after did = resuming_row resuming answer did.resumes.own
-in_row (Some (Retire resuming)) answer before after did = retiring_row resuming answer did.retires.own
+in_row (Some (Resume resuming)) answer before after did = resume_row resuming answer before after did
+in_row (Some (Retire resuming)) answer before after did = retire_row resuming answer before after did
 in_row (Some (Demo demonstration)) answer before after did = demonstration_row demonstration answer (did.ends.others tt) did.own did.steady
+
+-- ---- over a folder that tells its state
+
+-- a row of which nothing is said of a folder that contradicts itself
+told_same : (a : Bool) → IsTrue (a || false) → IsTrue a
+told_same true may = refl
+told_same false may = may
+
+pub in_told_row : (command : Option Command) (answer : Answer) (before after : World) → IfSeen before.told (λ v. OwnsFolders command v → Executes command answer before after → EndsTold command answer)
+in_told_row (Some (Migrate moving)) answer before after v seen folders did = migrate_told moving answer before after v seen folders did
+in_told_row (Some (Resume resuming)) answer before after v seen folders did = resume_told resuming answer before after v seen did
+in_told_row (Some (Retire resuming)) answer before after v seen folders did = retire_told resuming answer before after v seen did
+in_told_row command answer before after v seen folders did = told_same (may_end_told command (status_of answer)) (in_row command answer before after did)

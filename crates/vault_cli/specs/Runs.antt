@@ -1,7 +1,6 @@
 -- What a run of the program makes of its words: each command is a case, with a definition of its own.
 use Rattle.std.specs.Prelude.{◌≡◌, ◌⊎◌, Option, Some, None}
 use Rattle.std.specs.Io.KnownBytes.{Keeps}
-use Rattle.folder_spec.specs.Seen.{under}
 use Rattle.folder_spec.specs.View.{View}
 use Rattle.reading_commands.specs.Cat.{WritesFile}
 use Rattle.reading_commands.specs.DecryptFile.{DecryptsFile}
@@ -9,16 +8,13 @@ use Rattle.demonstration.specs.Demo.{Demonstrates}
 use Rattle.checking_commands.specs.Fsck.{ChecksVault}
 use Rattle.writing_commands.specs.Init.{MakesVault}
 use Rattle.reading_commands.specs.Ls.{ListsItems}
-use Rattle.moving_commands.specs.Migrate.{MigratesTree}
+use Rattle.moving_commands.specs.Migrate.{MigratesTree, OwnFolders}
 use Rattle.writing_commands.specs.Mkdir.{MakesDirectoryIn}
-use Rattle.command_opening.specs.Opening.{Opens}
 use Rattle.writing_commands.specs.Put.{StoresFile}
 use Rattle.checking_commands.specs.Repair.{RepairsVault}
 use Rattle.moving_commands.specs.Resume.{ResumesTree}
 use Rattle.moving_commands.specs.Retire.{RetiresSource}
 use Rattle.command_opening.specs.World.{World}
-use Rattle.vault_read.specs.Laws.{HasOwnFolders}
-use Rattle.vault_spec.specs.Vault.{Vault}
 use Rattle.command_answers.specs.declared.answer.Answer.{Answer}
 use Rattle.command_answers.specs.declared.answer.Answer.TheVariants.{BadCommandLine, OutOfMemory}
 use Rattle.command_words.specs.declared.commands.Command.{Command}
@@ -48,7 +44,5 @@ Executes (Some (Demo demonstration)) answer before after = Demonstrates demonstr
 
 -- No two directories of either vault share a folder, of the two vaults that `migrate` compares once all is placed.
 abbrev pub OwnsFolders : Option Command → View → Type 0
-OwnsFolders (Some (Migrate moving)) v =
-    (source target : Vault) → Opens v moving.source moving.passes.source source → Opens v moving.target moving.passes.target target
-    → HasOwnFolders source (under moving.source v) × HasOwnFolders target (under moving.target v)
+OwnsFolders (Some (Migrate moving)) v = OwnFolders moving v
 OwnsFolders command v = Unit {0}

@@ -4,8 +4,7 @@ use Rattle.command_answers.proofs.Reports.{reported_as, with_status}
 use Rattle.command_answers.specs.Rows.{may_end, may_end_told}
 use Rattle.command_answers.specs.declared.answer.Answer.TheVariants.{FolderFault, InputFault, OutputFault, RandomFault}
 use Rattle.command_words.specs.declared.commands.Command.{Command}
-use Rattle.vault_cli.proofs.Rows.{in_row}
-use Rattle.vault_cli.proofs.ToldRows.{in_told_row}
+use Rattle.vault_cli.proofs.Rows.{in_row, in_told_row}
 use Rattle.vault_cli.proofs.running.run.Goals as goal
 
 by_none : ((status : ℕ) → IsTrue (may_end None status) → (status ≡ 2) ⊎ (status ≡ 3)) → (command : Option Command) (status : ℕ) → IsNone command → IsTrue (may_end command status) → (status ≡ 2) ⊎ (status ≡ 3)

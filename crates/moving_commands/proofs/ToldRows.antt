@@ -60,7 +60,7 @@ use Rattle.work_folder.specs.Looking.{Tests, TestsEntries}
 use Rattle.work_folder.specs.declared.fault.WorkFault.{WorkFault}
 use Rattle.work_folder.specs.declared.fault.WorkFault.TheVariants as works
 use Rattle.command_answers.specs.Answers.{status_of}
-use Rattle.command_answers.specs.Rows.{is_among, may_end, may_end_told, row_of}
+use Rattle.command_answers.specs.Rows.{Ends, EndsTold, is_among, may_end_told, row_of}
 use Rattle.command_answers.specs.declared.answer.Answer.{Answer}
 use Rattle.command_answers.specs.declared.answer.Answer.TheVariants.{Done, OutOfMemory, FolderFault, OutputFault, Refused, WrongPass, NotFound, WrongKind, Limit}
 use Rattle.command_answers.specs.declared.answer.Limit.TheVariants as limit
@@ -70,9 +70,9 @@ use Rattle.command_words.specs.declared.commands.Moving.{Moving}
 use Rattle.command_words.specs.declared.commands.Passes.{Passes}
 use Rattle.command_words.specs.declared.commands.Resuming.{Resuming}
 use Rattle.command_opening.proofs.Printings.{IsPrinted}
-use Rattle.vault_cli.proofs.Rows.{in_row}
+use Rattle.moving_commands.proofs.Rows.{migrate_row, resume_row, retire_row}
 use Rattle.moving_answers.specs.Faults.{of_move, of_retire}
-use Rattle.moving_commands.specs.Migrate.{MigratesApart, MigratesTree, Pair, first_overlap}
+use Rattle.moving_commands.specs.Migrate.{MigratesApart, MigratesTree, OwnFolders, Pair, first_overlap}
 use Rattle.moving_commands.specs.Migrate as migrating
 use Rattle.moving_commands.specs.Moving.{AnswersMove, ArePhrases, Outcome, OfPasses}
 use Rattle.command_opening.specs.Opening.{OfPassFile, passphrase_in}
@@ -82,7 +82,6 @@ use Rattle.moving_commands.specs.Resume.{ResumesTree}
 use Rattle.moving_commands.specs.Resume as resuming_on
 use Rattle.moving_commands.specs.Retire.{AnswersRetire, RetiresSource}
 use Rattle.moving_commands.specs.Retire as retiring_on
-use Rattle.vault_cli.specs.Runs.{Executes, OwnsFolders}
 use Rattle.command_opening.specs.Shown.{Shown, is_of_opening, refused}
 use Rattle.command_opening.specs.World.{World}
 
@@ -459,9 +458,6 @@ by_passes passes v answer (inr (inr of)) =
     by_file passes.source (v passes.source) answer (λ source. OfPassFile passes.target (v passes.target) (refused answer) (λ target. ⊥))
     (λ source. by_file passes.target (v passes.target) answer (λ target. ⊥) (λ target none. absurd none)) of
 
-abbrev EndsTold : Option Command → Answer → Type 0
-EndsTold command answer = IsTrue (may_end_told command (status_of answer))
-
 by_printing : (command : Option Command) (answer : Answer) → EndsTold command Done → EndsTold command OutputFault → EndsTold command OutOfMemory → IsPrinted answer → EndsTold command answer
 by_printing command answer done output memory (inl is) = subst (EndsTold command) (sym is) done
 by_printing command answer done output memory (inr (inl is)) = subst (EndsTold command) (sym is) output
@@ -469,12 +465,12 @@ by_printing command answer done output memory (inr (inr is)) = subst (EndsTold c
 
 -- ---- the three commands
 
-migrate_told : (moving : Moving) (answer : Answer) (before after : World) (v : View) → IsSeen before.told v → OwnsFolders (Some (Migrate moving)) v → MigratesTree moving answer before after
+pub migrate_told : (moving : Moving) (answer : Answer) (before after : World) (v : View) → IsSeen before.told v → OwnFolders moving v → MigratesTree moving answer before after
     → EndsTold (Some (Migrate moving)) answer
 migrate_told moving answer before after v seen folders did = by (first_overlap moving) did.apart
   where
-    any : IsTrue (may_end (Some (Migrate moving)) (status_of answer))
-    any = in_row (Some (Migrate moving)) answer before after did
+    any : Ends (Some (Migrate moving)) answer
+    any = migrate_row moving answer before after did
 
     no_share : (source_pass target_pass : List ℕ) → ArePhrases moving.passes source_pass target_pass v → SharesFolder moving.source moving.target moving.work source_pass target_pass v moves.Failed → ⊥
     no_share source_pass target_pass phrases (source, target, loads, loads_too, shared) =
@@ -504,11 +500,11 @@ migrate_told moving answer before after v seen folders did = by (first_overlap m
     by None migrates = came (migrates.comes v seen)
     by (Some two) refuses = elim refuses.answers [ inl overlaps ↦ subst (EndsTold (Some (Migrate moving))) (sym overlaps) refl | inr memory ↦ subst (EndsTold (Some (Migrate moving))) (sym memory) refl ]
 
-resume_told : (resuming : Resuming) (answer : Answer) (before after : World) → IfSeen before.told (λ v. ResumesTree resuming answer before after → EndsTold (Some (Resume resuming)) answer)
+pub resume_told : (resuming : Resuming) (answer : Answer) (before after : World) → IfSeen before.told (λ v. ResumesTree resuming answer before after → EndsTold (Some (Resume resuming)) answer)
 resume_told resuming answer before after v seen did = came (did.resumes.comes v seen)
   where
-    any : IsTrue (may_end (Some (Resume resuming)) (status_of answer))
-    any = in_row (Some (Resume resuming)) answer before after did
+    any : Ends (Some (Resume resuming)) answer
+    any = resume_row resuming answer before after did
 
     by_cause : (source_pass target_pass : List ℕ) (fault : MoveFault) → resuming_on.IsCaused resuming v source_pass target_pass (Err fault) → NotBegun fault
     by_cause source_pass target_pass fault (inl failed) = subst NotBegun (sym (fault_is fault moves.Failed failed)) tt
@@ -527,11 +523,11 @@ resume_told resuming answer before after v seen did = came (did.resumes.comes v 
     came (inl refuses) = by_opening (may_end_told (Some (Resume resuming))) refl refl refl refl refl refl refl answer (by_passes resuming.passes v answer refuses.0.answers)
     came (inr comes) = by_outcome comes.source_pass comes.target_pass comes.outcome comes.cause comes.answers
 
-retire_told : (resuming : Resuming) (answer : Answer) (before after : World) → IfSeen before.told (λ v. RetiresSource resuming answer before after → EndsTold (Some (Retire resuming)) answer)
+pub retire_told : (resuming : Resuming) (answer : Answer) (before after : World) → IfSeen before.told (λ v. RetiresSource resuming answer before after → EndsTold (Some (Retire resuming)) answer)
 retire_told resuming answer before after v seen did = came (did.retires.comes v seen)
   where
-    any : IsTrue (may_end (Some (Retire resuming)) (status_of answer))
-    any = in_row (Some (Retire resuming)) answer before after did
+    any : Ends (Some (Retire resuming)) answer
+    any = retire_row resuming answer before after did
 
     by_cause : (source_pass target_pass : List ℕ) (fault : RetireFault) → retiring_on.IsCaused resuming v source_pass target_pass (Err fault) → NeverBegun fault
     by_cause source_pass target_pass fault (inl failed) = subst NeverBegun (sym (fault_is fault retires.Failed failed)) tt
@@ -549,16 +545,3 @@ retire_told resuming answer before after v seen did = came (did.retires.comes v 
     came : retiring_on.MayCome resuming answer before.told after.told v → EndsTold (Some (Retire resuming)) answer
     came (inl refuses) = by_opening (may_end_told (Some (Retire resuming))) refl refl refl refl refl refl refl answer (by_passes resuming.passes v answer refuses.answers)
     came (inr comes) = by_outcome comes.source_pass comes.target_pass comes.outcome comes.cause comes.answers
-
--- ---- all
-
--- a row of which nothing is said of a folder that contradicts itself
-told_same : (a : Bool) → IsTrue (a || false) → IsTrue a
-told_same true may = refl
-told_same false may = may
-
-pub in_told_row : (command : Option Command) (answer : Answer) (before after : World) → IfSeen before.told (λ v. OwnsFolders command v → Executes command answer before after → EndsTold command answer)
-in_told_row (Some (Migrate moving)) answer before after v seen folders did = migrate_told moving answer before after v seen folders did
-in_told_row (Some (Resume resuming)) answer before after v seen folders did = resume_told resuming answer before after v seen did
-in_told_row (Some (Retire resuming)) answer before after v seen folders did = retire_told resuming answer before after v seen did
-in_told_row command answer before after v seen folders did = told_same (may_end_told command (status_of answer)) (in_row command answer before after did)

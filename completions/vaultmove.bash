@@ -9,7 +9,8 @@ _vaultmove() {
     case $command in
         init | mkdir | put) options='--pass --work' ;;
         ls | cat | fsck | repair) options='--pass' ;;
-        migrate | resume | retire) options='--from-pass --to-pass' ;;
+        migrate) options='--from-pass --to-pass --nfc' ;;
+        resume | retire) options='--from-pass --to-pass' ;;
     esac
     # A value behind `=`, which readline parts from its option.
     if [ "$word" = = ]; then word= before=${COMP_WORDS[COMP_CWORD - 1]}; fi

@@ -1,10 +1,12 @@
 -- The command that words make: the row of the first word's name is read over the others, and its values, in their order, are the
 -- command's arguments. Any other words make none.
-use Rattle.std.specs.Prelude.{ℕ, List, [], ◌∷◌, drop, Option, None, Some, option_map, option_and_then}
+use Rattle.std.specs.Prelude.{ℕ, Bool, true, false, List, [], ◌∷◌, drop, Option, None, Some, option_map, option_and_then}
 use Rattle.folder_spec.specs.Path.{Path}
 use Rattle.plain_tree.specs.Names as plain
+use Rattle.plain_tree.specs.declared.name_map.NameMap.{NameMap}
+use Rattle.plain_tree.specs.declared.name_map.NameMap.TheVariants.{Same, Nfc}
 use Rattle.command_words.specs.Rows.{Row, row_named}
-use Rattle.command_words.specs.Values.{folder_value, format_value, key_value, number_value, plain_value, written}
+use Rattle.command_words.specs.Values.{flag_value, folder_value, format_value, key_value, number_value, plain_value, written}
 use Rattle.command_words.specs.declared.commands.Change.{Change}
 use Rattle.command_words.specs.declared.commands.Checking.{Checking}
 use Rattle.command_words.specs.declared.commands.Command.{Command}
@@ -36,6 +38,9 @@ fourth values = first (drop 1 (drop 1 (drop 1 values)))
 
 abbrev pub fifth : List Value → Option Value
 fifth values = first (drop 1 (drop 1 (drop 1 (drop 1 values))))
+
+abbrev pub sixth : List Value → Option Value
+sixth values = first (drop 1 (drop 1 (drop 1 (drop 1 (drop 1 values)))))
 
 abbrev pub new_vault_by : Option Format → Option Path → Option Path → Option Path → Option NewVault
 new_vault_by (Some format) (Some vault) (Some pass) (Some work) = Some (record { format = format; vault = vault; pass = pass; work = work })
@@ -82,15 +87,21 @@ abbrev pub passes_of : Option Path → Option Path → Option Passes
 passes_of (Some source) (Some target) = Some (record { source = source; target = target })
 passes_of _ _ = None
 
-abbrev pub moving_by : Option Path → Option Path → Option Path → Option Passes → Option Moving
-moving_by (Some source) (Some target) (Some work) (Some passes) = Some (record { source = source; target = target; work = work; passes = passes })
-moving_by _ _ _ _ = None
+-- the rule for names, with `--nfc` or without it
+abbrev pub names_by : Bool → NameMap
+names_by true = Nfc
+names_by false = Same
 
--- `FROM TO WORK`, `--from-pass`, `--to-pass`
+abbrev pub moving_by : Option Path → Option Path → Option Path → Option Passes → Option Bool → Option Moving
+moving_by (Some source) (Some target) (Some work) (Some passes) (Some nfc) =
+    Some (record { source = source; target = target; work = work; passes = passes; names = names_by nfc })
+moving_by _ _ _ _ _ = None
+
+-- `FROM TO WORK`, `--from-pass`, `--to-pass`, `--nfc`
 abbrev pub moving_of : List Value → Option Moving
 moving_of values =
     moving_by (folder_value (first values)) (folder_value (second values)) (folder_value (third values))
-    (passes_of (folder_value (fourth values)) (folder_value (fifth values)))
+    (passes_of (folder_value (fourth values)) (folder_value (fifth values))) (flag_value (sixth values))
 
 abbrev pub resuming_by : Option Path → Option Passes → Option Resuming
 resuming_by (Some work) (Some passes) = Some (record { work = work; passes = passes })

@@ -34,8 +34,11 @@ pass_and_work = path (codes "--pass") ∷ path (codes "--work") ∷ []
 abbrev pub both_passes : List Valued
 both_passes = path (codes "--from-pass") ∷ path (codes "--to-pass") ∷ []
 
+abbrev pub flagged : Verb → List ℕ → List Kind → List Valued → List (List ℕ) → Row
+flagged verb name words options flags = record { verb = verb; name = name; words = words; options = options; flags = flags }
+
 abbrev pub row : Verb → List ℕ → List Kind → List Valued → Row
-row verb name words options = record { verb = verb; name = name; words = words; options = options; flags = [] }
+row verb name words options = flagged verb name words options []
 
 abbrev pub rows : List Row
 rows =
@@ -47,7 +50,7 @@ rows =
     ∷ row Mkdir (codes "mkdir") (FolderPath ∷ PlainPath ∷ []) pass_and_work
     ∷ row Put (codes "put") (FolderPath ∷ PlainPath ∷ []) pass_and_work
     ∷ row Repair (codes "repair") (FolderPath ∷ FolderPath ∷ []) pass
-    ∷ row Migrate (codes "migrate") (FolderPath ∷ FolderPath ∷ FolderPath ∷ []) both_passes
+    ∷ flagged Migrate (codes "migrate") (FolderPath ∷ FolderPath ∷ FolderPath ∷ []) both_passes (codes "--nfc" ∷ [])
     ∷ row Resume (codes "resume") (FolderPath ∷ []) both_passes
     ∷ row Retire (codes "retire") (FolderPath ∷ []) both_passes
     ∷ row Demo (codes "demo") (Number 18446744073709551615 ∷ Number 2000 ∷ []) []

@@ -133,3 +133,7 @@ key_value _ = None
 abbrev pub number_value : Option Value → Option ℕ
 number_value (Some (value.Number number)) = Some number
 number_value _ = None
+
+abbrev pub flag_value : Option Value → Option Bool
+flag_value (Some (value.Flag there)) = Some there
+flag_value _ = None

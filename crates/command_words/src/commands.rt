@@ -8,7 +8,7 @@ use crate::reading::values_of_words;
 use crate::rows::row_named;
 use crate::values::Format;
 use folder_model::FPath;
-use plain_tree::PlainPath;
+use plain_tree::{NameMap, PlainPath};
 use std::alloc::{AllocError, Global};
 
 /// A plain path in a vault, and the file that holds the vault's passphrase.
@@ -64,6 +64,8 @@ pub struct Moving {
     pub target: FPath,
     pub work: FPath,
     pub passes: Passes,
+    /// What becomes of names on the way.
+    pub names: NameMap,
 }
 
 /// The work folder of a migration that has begun.
@@ -99,7 +101,8 @@ pub enum Command {
     Put(Change),
     /// `repair VAULT LOST --pass FILE`: moves the strays of a vault into a new folder.
     Repair(Repairing),
-    /// `migrate FROM TO WORK --from-pass FILE --to-pass FILE`: moves a whole tree from one vault into another.
+    /// `migrate FROM TO WORK --from-pass FILE --to-pass FILE [--nfc]`: moves a whole tree from one vault into another, its names in NFC
+    /// where the flag stands.
     Migrate(Moving),
     /// `resume WORK --from-pass FILE --to-pass FILE`: goes on with a migration.
     Resume(Resuming),

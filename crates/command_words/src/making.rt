@@ -1,15 +1,16 @@
 //! Commands are made of what their words write.
 ghost use Rattle.std.specs.Prelude.{◌≡◌, All, IfSome};
 ghost use Rattle.move_journal.specs.Journal.{IsParsed};
-ghost use Rattle.command_words.specs.Commands.{change_of, checking_of, command_by, demonstration_of, moving_of, new_vault_of, passes_of, repairing_of, resuming_of, target_of};
+ghost use Rattle.command_words.specs.Commands.{change_of, checking_of, command_by, demonstration_of, moving_of, names_by, new_vault_of, passes_of, repairing_of, resuming_of, target_of};
 ghost use Rattle.command_words.specs.Written.{HasTexts, IsWritten};
 
 use crate::commands::{
     Change, Checking, Command, Demonstration, Moving, NewVault, Passes, Repairing, Resuming, Target,
 };
 use crate::rows::Verb;
-use crate::values::{Value, as_folder, as_format, as_key, as_number, as_plain};
+use crate::values::{Value, as_flag, as_folder, as_format, as_key, as_number, as_plain};
 use folder_model::FPath;
+use plain_tree::NameMap;
 
 /// The command of what its words write.
 pub(crate) fn command(verb: Verb, values: Vec<Value>) -> Option<Command>
@@ -121,12 +122,20 @@ fn moving(values: Vec<Value>) -> Option<Moving>
         return None;
     };
     let passes = passes(as_folder(values.next()), as_folder(values.next()))?;
+    let names = names_by(as_flag(values.next())?);
     Some(Moving {
         source,
         target,
         work,
         passes,
+        names,
     })
+}
+
+fn names_by(nfc: bool) -> NameMap
+    ensures { result ≡ names_by nfc }
+{
+    if nfc { NameMap::Nfc } else { NameMap::Same }
 }
 
 fn resuming(values: Vec<Value>) -> Option<Resuming>

@@ -164,7 +164,7 @@ static ROWS: [Row; 12] = [
                 kind: Kind::FolderPath,
             },
         ],
-        flags: &[],
+        flags: &["--nfc"],
     },
     Row {
         verb: Verb::Resume,

@@ -2,7 +2,7 @@
 ghost use Rattle.std.specs.Prelude.{◌≡◌, IfOk, IfSome};
 ghost use Rattle.move_journal.specs.Journal.{IsParsed};
 ghost use Rattle.plain_tree.specs.Reading.{read_path};
-ghost use Rattle.command_words.specs.Values.{folder_path, folder_value, format_of, format_value, key_of, key_value, number_value, plain_value, value_by};
+ghost use Rattle.command_words.specs.Values.{flag_value, folder_path, folder_value, format_of, format_value, key_of, key_value, number_value, plain_value, value_by};
 ghost use Rattle.command_words.specs.Written.{IsWritten};
 
 use crate::numbers::number_within;
@@ -145,6 +145,16 @@ pub(crate) fn as_number(value: Option<Value>) -> Option<u64>
 {
     match value {
         Some(Value::Number(number)) => Some(number),
+        _ => None,
+    }
+}
+
+/// Whether a flag is there.
+pub(crate) fn as_flag(value: Option<Value>) -> Option<bool>
+    ensures { result ≡ flag_value value }
+{
+    match value {
+        Some(Value::Flag(there)) => Some(there),
         _ => None,
     }
 }

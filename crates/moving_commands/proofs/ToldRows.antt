@@ -39,7 +39,6 @@ use Rattle.tree_match.specs.declared.answer.Match.TheVariants.{Same, Contained, 
 use Rattle.tree_match.specs.declared.answer.MatchFault.{MatchFault}
 use Rattle.tree_match.specs.declared.answer.MatchFault.TheVariants as matches
 use Rattle.plain_tree.specs.declared.name_map.NameMap.{NameMap}
-use Rattle.plain_tree.specs.declared.name_map.NameMap.TheVariants as rules
 use Rattle.tree_match.specs.Mapping.{MapsTo}
 use Rattle.tree_match.specs.Trees.{Compares}
 use Rattle.tree_match.specs.declared.answer.MapFault.{MapFault}
@@ -481,7 +480,7 @@ migrate_told moving answer before after v seen folders did = by (first_overlap m
     by_cause source_pass target_pass phrases fault (inl failed) = subst (OnDiffer ⊥) (sym (fault_is fault moves.Failed failed)) tt
     by_cause source_pass target_pass phrases fault (inr (inl memory)) = subst (OnDiffer ⊥) (sym (fault_is fault moves.NoMemory memory)) tt
     by_cause source_pass target_pass phrases fault (inr (inr begins)) =
-        less_differs (SharesFolder moving.source moving.target moving.work source_pass target_pass v fault) (no_share source_pass target_pass phrases) fault (begins_or moving.source moving.target moving.work source_pass target_pass v fault rules.Same begins)
+        less_differs (SharesFolder moving.source moving.target moving.work source_pass target_pass v fault) (no_share source_pass target_pass phrases) fault (begins_or moving.source moving.target moving.work source_pass target_pass v fault moving.names begins)
 
     by_outcome : (source_pass target_pass : List ℕ) → ArePhrases moving.passes source_pass target_pass v → (outcome : Outcome) → migrating.IsCaused moving v source_pass target_pass outcome
         → AnswersMove moving.work (migrating.IsRootOf moving) answer outcome → EndsTold (Some (Migrate moving)) answer

@@ -2,7 +2,6 @@
 use Rattle.std.specs.Prelude.{◌≡◌, ◌⊎◌, ℕ, List, if◌then◌else◌, Option, Some, None, IsTrue, MatchOption}
 use Rattle.std.specs.Io.KnownBytes.{Keeps}
 use Rattle.folder_spec.specs.Event.{Told}
-use Rattle.plain_tree.specs.declared.name_map.NameMap.TheVariants.{Same}
 use Rattle.folder_spec.specs.Path.{Path}
 use Rattle.folder_spec.specs.Seen.{IfSeen, under}
 use Rattle.folder_spec.specs.View.{View}
@@ -44,17 +43,18 @@ first_overlap moving =
     else if overlap moving.target moving.work then Some (pair moving.target moving.work)
     else None
 
--- The migration that the words ask for: its folders are those, its names stay, and the two files hold the keys of its vaults.
+-- The migration that the words ask for: its folders are those, its rule for names is that of the flag, and the two files hold the keys of
+-- its vaults.
 pub record IsAskedFor (g : Migration) (moving : Moving) (v : View) : Type 0 where
-  pub asked : IsAsked g Same moving.source moving.target moving.work
+  pub asked : IsAsked g moving.names moving.source moving.target moving.work
   pub keys : HoldKeys g moving.passes v
 
--- both vaults, which the passphrases in the two files open, are clean and have one tree, and the journal says so
+-- both vaults, which the passphrases in the two files open, are clean, the target has the mapped tree of the source, and the journal says so
 pub record HasMigrated (moving : Moving) (done : moved.Done) (told told' : Option Told) : Type 0 where
   pub source_pass : List ℕ
   pub target_pass : List ℕ
   pub phrases : IfSeen told (λ v. ArePhrases moving.passes source_pass target_pass v)
-  pub moves : MovesTree Same moving.source moving.target moving.work source_pass target_pass done told told'
+  pub moves : MovesTree moving.names moving.source moving.target moving.work source_pass target_pass done told told'
 
 -- the root of the vault that isn't opened
 abbrev pub root_of : Moving → MoveFault → Path
@@ -66,10 +66,10 @@ IsRootOf moving fault root = root ≡ root_of moving fault
 
 -- why `begin` comes to what it comes to under these passphrases, by what is seen at first; and what it draws and writes
 abbrev pub IsCaused : Moving → View → List ℕ → List ℕ → Outcome → Type 0
-IsCaused moving v source_pass target_pass outcome = Unless outcome (Begins Same moving.source moving.target moving.work source_pass target_pass v outcome)
+IsCaused moving v source_pass target_pass outcome = Unless outcome (Begins moving.names moving.source moving.target moving.work source_pass target_pass v outcome)
 
 abbrev pub IsWritten : Moving → Option Told → Option Told → Option ByteStream → Option ByteStream → List ℕ → List ℕ → Outcome → Type 0
-IsWritten moving told told' stream stream' source_pass target_pass outcome = MayWriteTree outcome Same moving.source moving.target source_pass target_pass stream stream' told told'
+IsWritten moving told told' stream stream' source_pass target_pass outcome = MayWriteTree outcome moving.names moving.source moving.target source_pass target_pass stream stream' told told'
 
 abbrev pub ComesTo : Moving → (Outcome → Type 0) → Option Told → Option Told → Option ByteStream → Option ByteStream → View → Type 0
 ComesTo moving IsAnswered told told' stream stream' v = Comes moving.passes (IsCaused moving v) (IsWritten moving told told' stream stream') IsAnswered v

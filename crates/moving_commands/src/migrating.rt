@@ -20,7 +20,6 @@ use migrate_core::{Done, MoveFault};
 use migration_sides::Side;
 use migration_spec::laws::guarded_migrations_are_safe;
 use moving_answers::answer_to_move;
-use plain_tree::NameMap;
 use port_model::{Randoms, Sink};
 use std::alloc::Global;
 
@@ -99,7 +98,7 @@ fn begin<F: Folder, R: Randoms>(
         &moving.source,
         &moving.target,
         &moving.work,
-        NameMap::Same,
+        moving.names,
         phrases.source.as_slice(),
         phrases.target.as_slice(),
         random,

@@ -1,7 +1,6 @@
 use Rattle.std.proofs.Common.{subst, Ok, Err, IfErr, inl, inr, refl, sym}
 use Rattle.std.proofs.lemmas.Result.{err_from_is_err_and}
 use Rattle.folder_spec.specs.Seen.{IfSeen, IsSeen}
-use Rattle.plain_tree.specs.declared.name_map.NameMap.TheVariants.{Same}
 use Rattle.migrate_core.specs.Moved.{MovesTree}
 use Rattle.migrate_core.specs.Completing.{CanBegin}
 use Rattle.migration_spec.specs.Guard.{Migration}
@@ -22,7 +21,7 @@ returns-in-Ok-clause-migrated g c =
       target_pass = c.as_slice-2.result.now;
       phrases = λ v is. phrases_are moving.passes c.in_ok-phrases.phrases.source c.in_ok-phrases.phrases.target c.as_slice.result.now c.as_slice-2.result.now v c.as_slice.ensures c.as_slice-2.ensures
           (c.in_ok-phrases.ensures.source v is) (c.in_ok-phrases.ensures.target v is);
-      moves = subst (λ t. MovesTree Same moving.source moving.target moving.work c.as_slice.result.now c.as_slice-2.result.now c.in-Ok.done t (g.F.Folder.told c.begin.new.folder)) c.in_ok-phrases.ensures.told c.in-Ok.ensures.moved;
+      moves = subst (λ t. MovesTree moving.names moving.source moving.target moving.work c.as_slice.result.now c.as_slice-2.result.now c.in-Ok.done t (g.F.Folder.told c.begin.new.folder)) c.in_ok-phrases.ensures.told c.in-Ok.ensures.moved;
     }
 
 pub returns-in-Ok-clause-keeps : goal.returns-in-Ok-clause-keeps

@@ -25,7 +25,7 @@ pub struct Place {
 }
 
 // Which of the machine's nodes a file or directory is.
-#[derive(Clone, Copy, Debug, PartialEq, Eq)]
+#[derive(Clone, Copy, PartialEq, Eq)]
 pub struct Node {
     pub device: u64,
     pub number: u64,

@@ -23,12 +23,18 @@ impl HostFolder {
     {
         self.test_barred()?;
         test_names(at)?;
-        if let Some(made) = self.handles.made_at(at) {
-            return made.file.sync_all().map_err(|error| cause_of(&error));
+        if let Some(synced) = self.sync_made(at) {
+            return synced;
         }
         self.may_change(at)?;
         let text = self.place_of(at, Kind::File)?;
         self.sync_at(text.as_str())
+    }
+
+    // Syncs the file that was made last, where it was made there.
+    fn sync_made(&self, at: &FPath) -> Option<Result<(), Cause>> {
+        let made = self.handles.made_at(at)?;
+        Some(made.file.sync_all().map_err(|error| cause_of(&error)))
     }
 
     // Syncs what stands at a text.

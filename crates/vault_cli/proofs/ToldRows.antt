@@ -41,6 +41,7 @@ use Rattle.tree_match.specs.declared.answer.MatchFault.TheVariants as matches
 use Rattle.plain_tree.specs.declared.name_map.NameMap.{NameMap}
 use Rattle.plain_tree.specs.declared.name_map.NameMap.TheVariants as rules
 use Rattle.tree_match.specs.Mapping.{MapsTo}
+use Rattle.tree_match.specs.Matching.{where_of}
 use Rattle.tree_match.specs.Trees.{Compares}
 use Rattle.tree_match.specs.declared.answer.MapFault.{MapFault}
 use Rattle.tree_match.specs.declared.answer.MapFault.TheVariants as maps
@@ -334,7 +335,7 @@ never_by_phase journal phases.Done why is = cc is
 never_by_difference : (m : Match) (why : RetireFault) → retiring.TestsMatch m (Err why) → NeverBegun why
 never_by_difference Same why is = cc is
 never_by_difference (Contained path) why is = cc is
-never_by_difference (Differs path how) why is = subst NeverBegun (sym (fault_is why (retires.Differ path (retiring.where_of how)) is)) tt
+never_by_difference (Differs path how) why is = subst NeverBegun (sym (fault_is why (retires.Differ path (where_of how)) is)) tt
 
 -- where a test passes, nothing follows
 passes_not : {X : Type 0} (x : X) (why : RetireFault) → retiring.Passes x (Err why) → NeverBegun why

@@ -749,11 +749,14 @@ pub by_all : {T : Type 0} (result : Result T MoveFault) (Is : View → Type 0) (
 by_all (Ok value) Is from to items texts s s' t u t' after stops all = all
 by_all (Err fault) Is from to items texts s s' t u t' after stops all = first_of_all from to items texts s s' t t' fault (λ v seen_v. let w = after v seen_v in stop_is_test fault (Is w.0) (stops w.0 w.1)) all
 
-pub refusal_as : {T : Type 0} (result : Result T MoveFault) (fault why : MoveFault) → result ≡ Err fault → fault ≡ why → IsOfTest why → IsRefusal result
-refusal_as {T = T} result fault why is same tested = subst (λ (r : Result T MoveFault). IsRefusal r) (sym (is ∙ ap Err same)) tested
+-- a test refuses, and nothing is drawn or written
+pub refused_written : {T : Type 0} (result : Result T MoveFault) (fault why : MoveFault) → result ≡ Err fault → fault ≡ why → IsOfTest why → (s : Option ByteStream) (t u : Option Told) → Draws s s [] → WritesBeside [] (λ file. ⊥) t u
+    → WritesNothing result s s t u
+refused_written {T = T} result fault why is same tested s t u undrawn files =
+    record { refused = subst (λ (r : Result T MoveFault). IsRefusal r) (sym (is ∙ ap Err same)) tested; undrawn = undrawn; files = files }
 
-pub nothing_written : {T : Type 0} (result : Result T MoveFault) → IsRefusal result → (s : Option ByteStream) (t u : Option Told) → Draws s s [] → u ≡ t → WritesNothing result s s t u
-nothing_written result refused s t u undrawn same = record { refused = refused; undrawn = undrawn; files = only_nowhere (BringsOnlyTo [] (λ at. ⊥)) (λ file. ⊥) t u same }
+pub nothing_written : {T : Type 0} (result : Result T MoveFault) (fault why : MoveFault) → result ≡ Err fault → fault ≡ why → IsOfTest why → (s : Option ByteStream) (t u : Option Told) → Draws s s [] → u ≡ t → WritesNothing result s s t u
+nothing_written result fault why is same tested s t u undrawn stays = refused_written result fault why is same tested s t u undrawn (only_nowhere (BringsOnlyTo [] (λ at. ⊥)) (λ file. ⊥) t u stays)
 
 -- the vaults are those of two roots and their passphrases
 pub tree_of : {T : Type 0} (result : Result T MoveFault) (names : NameMap) (from to : Path) (pass pass' : List ℕ) (source target : OpenedVault) (s s' : Option ByteStream) (t t' : Option Told) → source.root ≡ from → target.root ≡ to

@@ -12,7 +12,7 @@ use Rattle.migrate_core.specs.Causes.{Begins, BeginsApart, Unless}
 use Rattle.std.proofs.lemmas.Result.{err_from_is_err_and}
 use Rattle.migrate_core.specs.Faults.{is_of_begin, of_folder, of_step}
 use Rattle.migrate_core.specs.declared.placing.Done.{Done}
-use Rattle.migrate_core.proofs.Writings.{refusal_as, may_write_after, nothing_written, settle_writes}
+use Rattle.migrate_core.proofs.Writings.{refused_written, may_write_after, nothing_written, settle_writes}
 use Rattle.migrate_core.proofs.Completing.{begin_completes, folder_chance, own_faults}
 use Rattle.migrate_core.specs.Completing.{IsOfChance}
 use Rattle.migrate_core.specs.Faults.{IsMoveFault}
@@ -96,19 +96,16 @@ returns-clause-cause g c v seen =
 
 pub returns-in_err-test_apart-clause-written : goal.returns-in_err-test_apart-clause-written
 returns-in_err-test_apart-clause-written g c v seen =
-    let told = g.F.Folder.told c.args.folder.now in
-    let left = g.R.Randoms.left c.args.random.now in
     let p = err_from_is_err_and c.from_residual.result c.from_residual.ensures.1 in
-    let refused = refusal_as c.from_residual.result p.0 (of_step c.in_err-test_apart.field-0.0) p.1 p.2 (step_tested c.in_err-test_apart.field-0.0).1 in
-    inl (nothing_written c.from_residual.result refused left told told (c.draws_compose.ensures.none left) refl)
+    inl (nothing_written c.from_residual.result p.0 (of_step c.in_err-test_apart.field-0.0) p.1 p.2 (step_tested c.in_err-test_apart.field-0.0).1 (g.R.Randoms.left c.args.random.now) (g.F.Folder.told c.args.folder.now) (g.F.Folder.told c.args.folder.now) (c.draws_compose.ensures.none _) refl)
 
 pub returns-in_err-settle-clause-written : goal.returns-in_err-settle-clause-written
 returns-in_err-settle-clause-written g c v seen =
     let told = g.F.Folder.told c.args.folder.now in
-    let left = g.R.Randoms.left c.args.random.now in
+    let settled = g.F.Folder.told c.settle.new.self in
     let p = err_from_is_err_and c.from_residual-in_err-settle.result c.from_residual-in_err-settle.ensures.1 in
-    let refused = refusal_as c.from_residual-in_err-settle.result p.0 (of_folder c.in_err-settle.field-0.0) p.1 p.2 (folder_tested c.in_err-settle.field-0.0).1 in
-    inl (record { refused = refused; undrawn = c.draws_compose.ensures.none left; files = settle_writes told (g.F.Folder.told c.settle.new.self) c.settle.result c.settle.ensures.changes })
+    inl (refused_written c.from_residual-in_err-settle.result p.0 (of_folder c.in_err-settle.field-0.0) p.1 p.2 (folder_tested c.in_err-settle.field-0.0).1 (g.R.Randoms.left c.args.random.now) told settled (c.draws_compose.ensures.none _)
+    (settle_writes told settled c.settle.result c.settle.ensures.changes))
 
 pub returns-clause-written : goal.returns-clause-written
 returns-clause-written g c v seen =

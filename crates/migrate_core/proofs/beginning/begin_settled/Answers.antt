@@ -22,7 +22,7 @@ use Rattle.migrate_core.specs.Faults.{of_step, of_work}
 use Rattle.migrate_core.specs.declared.placing.Done.{Done}
 use Rattle.std.proofs.lemmas.Result.{err_from_is_err_and}
 use Rattle.work_folder.specs.Looking.{Tests}
-use Rattle.migrate_core.proofs.Writings.{refusal_as, nothing_written, tree_of}
+use Rattle.migrate_core.proofs.Writings.{nothing_written, tree_of}
 use Rattle.migrate_core.specs.Written.{MayWrite}
 use Rattle.migrate_core.proofs.Limits.{limit_in_tree, none_compared, none_taken, shared_in_tree}
 use Rattle.migrate_core.specs.Copying.{StayGood}
@@ -149,19 +149,13 @@ returns-clause-cause g c v seen =
 
 pub returns-in_err-look-clause-written : goal.returns-in_err-look-clause-written
 returns-in_err-look-clause-written g c v seen =
-    let told = g.F.Folder.told c.args.folder.now in
-    let left = g.R.Randoms.left c.args.random.now in
     let p = err_from_is_err_and c.from_residual.result c.from_residual.ensures.1 in
-    let refused = refusal_as c.from_residual.result p.0 (of_work c.in_err-look.field-0.0) p.1 p.2 (work_tested c.in_err-look.field-0.0).1 in
-    inl (nothing_written c.from_residual.result refused left told (g.F.Folder.told c.look.new.folder) (c.draws_compose.ensures.none left) c.look.ensures.told)
+    inl (nothing_written c.from_residual.result p.0 (of_work c.in_err-look.field-0.0) p.1 p.2 (work_tested c.in_err-look.field-0.0).1 (g.R.Randoms.left c.args.random.now) (g.F.Folder.told c.args.folder.now) (g.F.Folder.told c.look.new.folder) (c.draws_compose.ensures.none _) c.look.ensures.told)
 
 pub returns-in_err-sides-clause-written : goal.returns-in_err-sides-clause-written
 returns-in_err-sides-clause-written g c v seen =
-    let told = g.F.Folder.told c.args.folder.now in
-    let left = g.R.Randoms.left c.args.random.now in
     let p = err_from_is_err_and c.from_residual-in_err-sides.result c.from_residual-in_err-sides.ensures.1 in
-    let refused = refusal_as c.from_residual-in_err-sides.result p.0 (of_step c.in_err-sides.field-0.0) p.1 p.2 (step_tested c.in_err-sides.field-0.0).1 in
-    inl (nothing_written c.from_residual-in_err-sides.result refused left told (g.F.Folder.told c.load_both.new.folder) (c.draws_compose.ensures.none left) (c.load_both.ensures.told ∙ c.look.ensures.told))
+    inl (nothing_written c.from_residual-in_err-sides.result p.0 (of_step c.in_err-sides.field-0.0) p.1 p.2 (step_tested c.in_err-sides.field-0.0).1 (g.R.Randoms.left c.args.random.now) (g.F.Folder.told c.args.folder.now) (g.F.Folder.told c.load_both.new.folder) (c.draws_compose.ensures.none _) (c.load_both.ensures.told ∙ c.look.ensures.told))
 
 pub returns-clause-written : goal.returns-clause-written
 returns-clause-written g c v seen =

@@ -20,7 +20,7 @@ use Rattle.migrate_core.specs.Faults.{of_step}
 use Rattle.work_folder.specs.Entering.{EntersAs}
 use Rattle.migrate_core.specs.declared.placing.Done.{Done}
 use Rattle.vault_spec.specs.Plan.{Planned}
-use Rattle.migrate_core.proofs.Writings.{refusal_as, nothing_written}
+use Rattle.migrate_core.proofs.Writings.{nothing_written}
 use Rattle.migrate_core.specs.Written.{WritesBy, journal_texts, lacked}
 use Rattle.migrate_core.proofs.Started.{empty_held, may_begin}
 use Rattle.migrate_core.specs.Copying.{MayBegin}
@@ -147,27 +147,18 @@ returns-clause-cause g c v seen =
 
 pub returns-in_err-plans-clause-written : goal.returns-in_err-plans-clause-written
 returns-in_err-plans-clause-written g c =
-    let told = g.F.Folder.told c.args.folder.now in
-    let left = g.R.Randoms.left c.args.random.now in
     let p = err_from_is_err_and c.from_residual.result c.from_residual.ensures.1 in
-    let refused = refusal_as c.from_residual.result p.0 (of_step c.in_err-plans.field-0.0) p.1 p.2 (step_tested c.in_err-plans.field-0.0).1 in
-    inl (nothing_written c.from_residual.result refused left told (g.F.Folder.told c.walk_both.new.folder) (c.draws_compose.ensures.none left) c.walk_both.ensures.told)
+    inl (nothing_written c.from_residual.result p.0 (of_step c.in_err-plans.field-0.0) p.1 p.2 (step_tested c.in_err-plans.field-0.0).1 (g.R.Randoms.left c.args.random.now) (g.F.Folder.told c.args.folder.now) (g.F.Folder.told c.walk_both.new.folder) (c.draws_compose.ensures.none _) c.walk_both.ensures.told)
 
 pub returns-in_err-test_empty-clause-written : goal.returns-in_err-test_empty-clause-written
 returns-in_err-test_empty-clause-written g c =
-    let told = g.F.Folder.told c.args.folder.now in
-    let left = g.R.Randoms.left c.args.random.now in
     let p = err_from_is_err_and c.from_residual-in_err-test_empty.result c.from_residual-in_err-test_empty.ensures.1 in
-    let refused = refusal_as c.from_residual-in_err-test_empty.result p.0 (c.in_err-test_empty.field-0.0) p.1 p.2 (c.in_err-test_empty.ensures.tested) in
-    inl (nothing_written c.from_residual-in_err-test_empty.result refused left told (g.F.Folder.told c.walk_both.new.folder) (c.draws_compose.ensures.none left) c.walk_both.ensures.told)
+    inl (nothing_written c.from_residual-in_err-test_empty.result p.0 c.in_err-test_empty.field-0.0 p.1 p.2 c.in_err-test_empty.ensures.tested (g.R.Randoms.left c.args.random.now) (g.F.Folder.told c.args.folder.now) (g.F.Folder.told c.walk_both.new.folder) (c.draws_compose.ensures.none _) c.walk_both.ensures.told)
 
 pub returns-in_err-mapped-clause-written : goal.returns-in_err-mapped-clause-written
 returns-in_err-mapped-clause-written g c =
-    let told = g.F.Folder.told c.args.folder.now in
-    let left = g.R.Randoms.left c.args.random.now in
     let p = err_from_is_err_and c.from_residual-in_err-mapped.result c.from_residual-in_err-mapped.ensures.1 in
-    let refused = refusal_as c.from_residual-in_err-mapped.result p.0 (c.in_err-mapped.field-0.0) p.1 p.2 (c.in_err-mapped.ensures.tested) in
-    inl (nothing_written c.from_residual-in_err-mapped.result refused left told (g.F.Folder.told c.walk_both.new.folder) (c.draws_compose.ensures.none left) c.walk_both.ensures.told)
+    inl (nothing_written c.from_residual-in_err-mapped.result p.0 c.in_err-mapped.field-0.0 p.1 p.2 c.in_err-mapped.ensures.tested (g.R.Randoms.left c.args.random.now) (g.F.Folder.told c.args.folder.now) (g.F.Folder.told c.walk_both.new.folder) (c.draws_compose.ensures.none _) c.walk_both.ensures.told)
 
 pub returns-clause-written : goal.returns-clause-written
 returns-clause-written g c =

@@ -6,7 +6,7 @@ use Rattle.migrate_core.specs.Moved.{MovesTold}
 use Rattle.std.proofs.lemmas.Result.{err_from_is_err_and}
 use Rattle.migrate_core.specs.Faults.{is_of_resume, of_folder}
 use Rattle.migrate_core.specs.Causes.{Resumes, Unless}
-use Rattle.migrate_core.proofs.Writings.{refusal_as, settle_writes, told_after}
+use Rattle.migrate_core.proofs.Writings.{refused_written, settle_writes, told_after}
 use Rattle.std.proofs.Common.{IfErr, inl, Ok, refl}
 use Rattle.migrate_core.proofs.Completing.{folder_chance, own_faults}
 use Rattle.migrate_core.proofs.Continuing.{resume_completes}
@@ -69,10 +69,10 @@ returns-clause-cause g c v seen =
 pub returns-in_err-settle-clause-written : goal.returns-in_err-settle-clause-written
 returns-in_err-settle-clause-written g c v seen =
     let told = g.F.Folder.told c.args.folder.now in
-    let left = g.R.Randoms.left c.args.random.now in
+    let settled = g.F.Folder.told c.settle.new.self in
     let p = err_from_is_err_and c.from_residual.result c.from_residual.ensures.1 in
-    let refused = refusal_as c.from_residual.result p.0 (of_folder c.in_err-settle.field-0.0) p.1 p.2 (folder_tested c.in_err-settle.field-0.0).1 in
-    inl (record { refused = refused; undrawn = c.draws_compose.ensures.none left; files = settle_writes told (g.F.Folder.told c.settle.new.self) c.settle.result c.settle.ensures.changes })
+    inl (refused_written c.from_residual.result p.0 (of_folder c.in_err-settle.field-0.0) p.1 p.2 (folder_tested c.in_err-settle.field-0.0).1 (g.R.Randoms.left c.args.random.now) told settled (c.draws_compose.ensures.none _)
+    (settle_writes told settled c.settle.result c.settle.ensures.changes))
 
 pub returns-clause-written : goal.returns-clause-written
 returns-clause-written g c v seen =

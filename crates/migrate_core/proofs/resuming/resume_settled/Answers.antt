@@ -19,7 +19,7 @@ use Rattle.move_journal.proofs.Standing.{read_stands}
 use Rattle.migrate_core.specs.Faults.{of_journal, of_step, of_work}
 use Rattle.migrate_core.specs.declared.placing.Done.{Done}
 use Rattle.std.proofs.lemmas.Result.{err_from_is_err_and}
-use Rattle.migrate_core.proofs.Writings.{refusal_as, nothing_written, told_of}
+use Rattle.migrate_core.proofs.Writings.{nothing_written, told_of}
 use Rattle.migrate_core.specs.Written.{MayWriteTree}
 use Rattle.migrate_core.proofs.Limits.{limit_more, none_compared}
 use Rattle.migrate_core.specs.Limits.{PassesAsTold, PassesInTree}
@@ -156,27 +156,18 @@ returns-clause-cause g c v seen =
 
 pub returns-in_err-journal-clause-written : goal.returns-in_err-journal-clause-written
 returns-in_err-journal-clause-written g c v seen =
-    let told = g.F.Folder.told c.args.folder.now in
-    let left = g.R.Randoms.left c.args.random.now in
     let p = err_from_is_err_and c.from_residual.result c.from_residual.ensures.1 in
-    let refused = refusal_as c.from_residual.result p.0 (of_journal c.in_err-journal.field-0.0) p.1 p.2 (journal_tested c.in_err-journal.field-0.0).1 in
-    inl (nothing_written c.from_residual.result refused left told (g.F.Folder.told c.read.new.folder) (c.draws_compose.ensures.none left) c.read.ensures.told)
+    inl (nothing_written c.from_residual.result p.0 (of_journal c.in_err-journal.field-0.0) p.1 p.2 (journal_tested c.in_err-journal.field-0.0).1 (g.R.Randoms.left c.args.random.now) (g.F.Folder.told c.args.folder.now) (g.F.Folder.told c.read.new.folder) (c.draws_compose.ensures.none _) c.read.ensures.told)
 
 pub returns-in_err-test_apart-clause-written : goal.returns-in_err-test_apart-clause-written
 returns-in_err-test_apart-clause-written g c v seen =
-    let told = g.F.Folder.told c.args.folder.now in
-    let left = g.R.Randoms.left c.args.random.now in
     let p = err_from_is_err_and c.from_residual-in_err-test_apart.result c.from_residual-in_err-test_apart.ensures.1 in
-    let refused = refusal_as c.from_residual-in_err-test_apart.result p.0 (of_step c.in_err-test_apart.field-0.0) p.1 p.2 (step_tested c.in_err-test_apart.field-0.0).1 in
-    inl (nothing_written c.from_residual-in_err-test_apart.result refused left told (g.F.Folder.told c.read.new.folder) (c.draws_compose.ensures.none left) c.read.ensures.told)
+    inl (nothing_written c.from_residual-in_err-test_apart.result p.0 (of_step c.in_err-test_apart.field-0.0) p.1 p.2 (step_tested c.in_err-test_apart.field-0.0).1 (g.R.Randoms.left c.args.random.now) (g.F.Folder.told c.args.folder.now) (g.F.Folder.told c.read.new.folder) (c.draws_compose.ensures.none _) c.read.ensures.told)
 
 pub returns-in_err-look_again-clause-written : goal.returns-in_err-look_again-clause-written
 returns-in_err-look_again-clause-written g c v seen =
-    let told = g.F.Folder.told c.args.folder.now in
-    let left = g.R.Randoms.left c.args.random.now in
     let p = err_from_is_err_and c.from_residual-in_err-look_again.result c.from_residual-in_err-look_again.ensures.1 in
-    let refused = refusal_as c.from_residual-in_err-look_again.result p.0 (of_work c.in_err-look_again.field-0.0) p.1 p.2 (work_tested c.in_err-look_again.field-0.0).1 in
-    inl (nothing_written c.from_residual-in_err-look_again.result refused left told (g.F.Folder.told c.look_again.new.folder) (c.draws_compose.ensures.none left) (c.look_again.ensures.told ∙ c.read.ensures.told))
+    inl (nothing_written c.from_residual-in_err-look_again.result p.0 (of_work c.in_err-look_again.field-0.0) p.1 p.2 (work_tested c.in_err-look_again.field-0.0).1 (g.R.Randoms.left c.args.random.now) (g.F.Folder.told c.args.folder.now) (g.F.Folder.told c.look_again.new.folder) (c.draws_compose.ensures.none _) (c.look_again.ensures.told ∙ c.read.ensures.told))
 
 pub returns-clause-written : goal.returns-clause-written
 returns-clause-written g c v seen =

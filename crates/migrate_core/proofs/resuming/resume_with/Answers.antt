@@ -19,7 +19,7 @@ use Rattle.migrate_core.specs.Faults.{of_step}
 use Rattle.work_folder.specs.Entering.{Empties}
 use Rattle.vault_spec.specs.Plan.{Planned}
 use Rattle.migrate_core.specs.declared.placing.Done.{Done}
-use Rattle.migrate_core.proofs.Writings.{refusal_as, by_texts, done_text, nothing_written}
+use Rattle.migrate_core.proofs.Writings.{by_texts, done_text, nothing_written}
 use Rattle.migrate_core.specs.Written.{WritesBy, journal_texts, lacked}
 use Rattle.move_journal.specs.Journal.{journal_text}
 use Rattle.migrate_core.proofs.Started.{matched_held, may_begin}
@@ -137,19 +137,13 @@ returns-clause-cause g c v seen =
 
 pub returns-in_err-plans-clause-written : goal.returns-in_err-plans-clause-written
 returns-in_err-plans-clause-written g c v seen =
-    let told = g.F.Folder.told c.args.folder.now in
-    let left = g.R.Randoms.left c.args.random.now in
     let p = err_from_is_err_and c.from_residual.result c.from_residual.ensures.1 in
-    let refused = refusal_as c.from_residual.result p.0 (of_step c.in_err-plans.field-0.0) p.1 p.2 (step_tested c.in_err-plans.field-0.0).1 in
-    inl (nothing_written c.from_residual.result refused left told (g.F.Folder.told c.walk_both.new.folder) (c.draws_compose.ensures.none left) c.walk_both.ensures.told)
+    inl (nothing_written c.from_residual.result p.0 (of_step c.in_err-plans.field-0.0) p.1 p.2 (step_tested c.in_err-plans.field-0.0).1 (g.R.Randoms.left c.args.random.now) (g.F.Folder.told c.args.folder.now) (g.F.Folder.told c.walk_both.new.folder) (c.draws_compose.ensures.none _) c.walk_both.ensures.told)
 
 pub returns-in_err-mapped-clause-written : goal.returns-in_err-mapped-clause-written
 returns-in_err-mapped-clause-written g c v seen =
-    let told = g.F.Folder.told c.args.folder.now in
-    let left = g.R.Randoms.left c.args.random.now in
     let p = err_from_is_err_and c.from_residual-in_err-mapped.result c.from_residual-in_err-mapped.ensures.1 in
-    let refused = refusal_as c.from_residual-in_err-mapped.result p.0 (c.in_err-mapped.field-0.0) p.1 p.2 (c.in_err-mapped.ensures.tested) in
-    inl (nothing_written c.from_residual-in_err-mapped.result refused left told (g.F.Folder.told c.test_plans.new.folder) (c.draws_compose.ensures.none left) (c.test_plans.ensures.told ∙ c.walk_both.ensures.told))
+    inl (nothing_written c.from_residual-in_err-mapped.result p.0 c.in_err-mapped.field-0.0 p.1 p.2 c.in_err-mapped.ensures.tested (g.R.Randoms.left c.args.random.now) (g.F.Folder.told c.args.folder.now) (g.F.Folder.told c.test_plans.new.folder) (c.draws_compose.ensures.none _) (c.test_plans.ensures.told ∙ c.walk_both.ensures.told))
 
 pub returns-clause-written : goal.returns-clause-written
 returns-clause-written g c v seen =

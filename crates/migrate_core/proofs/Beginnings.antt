@@ -9,7 +9,6 @@ use Rattle.folder_spec.specs.Path.{Path}
 use Rattle.folder_spec.specs.Region.{SparesOld}
 use Rattle.folder_spec.specs.Seen.{seen}
 use Rattle.folder_spec.specs.State.{IsSound}
-use Rattle.folder_spec.specs.View.{View}
 use Rattle.move_journal.specs.Journal.{IsDigest, IsJournal, IsParsed, journal_text}
 use Rattle.move_journal.specs.Writing.{IsWriting, Writes, HasWritten, elsewhere}
 use Rattle.move_journal.specs.declared.journal.Journal.{Journal}
@@ -20,7 +19,7 @@ use Rattle.migration_spec.specs.Guard.{Migration, Tells, tree_at}
 use Rattle.mapped_trees.specs.Plans.{IsPlanOf}
 use Rattle.mapped_trees.specs.Trees.{AllowsTree, StaysApart}
 use Rattle.tree_match.specs.Mapping.{IsMappedPlan}
-use Rattle.tree_match.specs.Trees.{IsMappedWalkOf, IsWalkOf, Side, side_of, tree_of}
+use Rattle.tree_match.specs.Trees.{IsWalkOf, side_of}
 use Rattle.vault_spec.specs.Opened.{OpenedVault}
 use Rattle.vault_spec.specs.Plan.{Planned}
 use Rattle.vault_spec.specs.Vault.{format_of}
@@ -29,20 +28,15 @@ use Rattle.work_folder.specs.Changing.{ChangesAt}
 use Rattle.work_folder.specs.Entering.{IsWorkOrStage, IsLeftOver}
 use Rattle.migrate_core.proofs.Fronts.{StandBelow, allows_tree}
 use Rattle.migrate_core.proofs.Leadings.{alone_goes, goes_given, goes_on}
-use Rattle.migrate_core.proofs.Movings.{AreSound}
 use Rattle.migrate_core.proofs.Planned.{SeenAlone, source_held, source_walk}
 use Rattle.migrate_core.specs.Leading.{Goes, Leads, LeadsEach, LeadsTold}
 use Rattle.migrate_core.specs.Sides.{AllowsEachMapped, AreItemsToMove, AreSides, new_journal}
-
-abbrev pub WalksTellPlans : Type 0
-WalksTellPlans = (v : View) (a : Side) → IsWalkOf v a → IsPlanOf (tree_of v a) a.items
-
-abbrev pub MappedStayApart : Type 0
-MappedStayApart = (v : View) (rule : NameMap) (a : Side) → IsMappedWalkOf rule v a → StaysApart rule (tree_of v a)
+use Rattle.migration_spec.proofs.Tellings.{AreSound}
+use Rattle.tree_match.proofs.Passing.{MappedStayApart, TellsTree}
 
 -- ---- what is known of a migration whose source was walked
 
-module _ (shown : SeenAlone) (plans : WalksTellPlans) (g : Migration) (p : Progress) (t : Option Told) (a : Told) (items : List Planned) (is : t ≡ Some a) (at : IsAlone g p a.state)
+module _ (shown : SeenAlone) (plans : TellsTree) (g : Migration) (p : Progress) (t : Option Told) (a : Told) (items : List Planned) (is : t ≡ Some a) (at : IsAlone g p a.state)
     (walked : IsWalked t g.source items) where
   walk_seen : IsWalkOf (seen a.state) (side_of g.source items)
   walk_seen = source_walk shown g p t a items is at walked
@@ -122,7 +116,7 @@ new_is g rule from to work items sides =
 
 pub record AreCited : Type 0 where
   pub shown : SeenAlone
-  pub plans : WalksTellPlans
+  pub plans : TellsTree
   pub apart : MappedStayApart
   pub below : StandBelow
   pub enters : EntersAlone
@@ -154,7 +148,7 @@ new_journal_goes laws rule from to work items mapped t u result walked allowed s
     walked_here = subst (λ x. IsWalked t x items) sides.source walked.walked
 
 -- a call that leads on each migration of which the new journal tells leads on each whose source was walked
-pub told_goes : {T E : Type 0} → SeenAlone → WalksTellPlans → (S : Told → Told → Type 0) (rule : NameMap) (from to : OpenedVault) (work : Path) (items : List Planned) (p q : Progress) (t u : Option Told) (result : Result T E)
+pub told_goes : {T E : Type 0} → SeenAlone → TellsTree → (S : Told → Told → Type 0) (rule : NameMap) (from to : OpenedVault) (work : Path) (items : List Planned) (p q : Progress) (t u : Option Told) (result : Result T E)
     → FromTo S t u → IsWalked t from items → LeadsTold from to work (new_journal rule from.root to.root items) p q t u result → LeadsEach rule from to work p q t u result
 told_goes shown plans S rule from to work items p q t u result told walked leads g sides =
     goes_given (Tells g (new_journal rule from.root to.root items)) S g p q t u result told

@@ -16,7 +16,7 @@ use Rattle.plain_tree.specs.Names as plain
 use Rattle.plain_tree.specs.declared.name_map.NameMap.{NameMap}
 use Rattle.tree_match.specs.Comparing.{Answers, Is, Outcome, Stops}
 use Rattle.mapped_trees.specs.Plans.{IsPlanOf}
-use Rattle.mapped_trees.specs.Trees.{IsHeldIn, IsPartOf, IsWhole, StaysApart}
+use Rattle.mapped_trees.specs.Trees.{IsHeldIn, IsPartOf, IsWhole}
 use Rattle.tree_match.specs.Trees.{AreSame, IsMappedWalkOf, IsSameOrTooLong, IsTooLong, IsWalkOf, Side, match_of, side_of, side_with, tree_of}
 use Rattle.tree_match.specs.declared.answer.How.{How}
 use Rattle.tree_match.specs.declared.answer.Match.{Match}
@@ -37,11 +37,13 @@ use Rattle.vault_walk.specs.declared.fault.WalkFault.TheVariants as walk
 use Rattle.migrate_core.proofs.Fronts.{StandBelow}
 use Rattle.migrate_core.proofs.MappedItems.{TellsMapped, item_at, opens_from}
 use Rattle.migrate_core.proofs.Planned.{mapped_walk_of, walk_of}
-use Rattle.migrate_core.proofs.Within.{FilesAreThere, StandBehind, part_within}
+use Rattle.migrate_core.proofs.Within.{StandBehind, part_within}
 use Rattle.migrate_core.specs.Causes.{IsStop, nothing_stops}
 use Rattle.migrate_core.specs.Copying.{HasCopied, IsCopying, tree_in}
 use Rattle.migrate_core.specs.Faults.{of_match, of_step}
 use Rattle.migrate_core.specs.Sides.{IsMappedWalk}
+use Rattle.tree_match.proofs.Passing.{MappedStayApart, TellsTree}
+use Rattle.tree_match.proofs.HeldTrees.{FilesAreThere}
 
 -- ---- a walk
 
@@ -104,12 +106,6 @@ pub never_differs : (outcome : Outcome Match) (path : plain.Path) (how : How) �
 never_differs outcome path how is same = none_same outcome same (Differs path how) (λ e. cc e) is
 
 -- ---- once all is copied
-
-abbrev pub TellsTree : Type 0
-TellsTree = (v : View) (a : Side) → IsWalkOf v a → IsPlanOf (tree_of v a) a.items
-
-abbrev pub MappedStayApart : Type 0
-MappedStayApart = (v : View) (names : NameMap) (a : Side) → IsMappedWalkOf names v a → StaysApart names (tree_of v a)
 
 abbrev pub OneTreeMatches : Type 0
 OneTreeMatches = (v : View) (names : NameMap) (a b : Side) → IsMappedWalkOf names v a → IsWalkOf v b → IsHeldIn names (tree_of v a) (tree_of v b) → IsPartOf names (tree_of v b) (tree_of v a) → IsSameOrTooLong (match_of v a b)

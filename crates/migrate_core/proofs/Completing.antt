@@ -1,5 +1,5 @@
 -- Where a migration can begin, no test of `begin` fails, and no content stops it.
-use Rattle.std.proofs.Common.{◌≡◌, ◌≢◌, inl, inr, List, [], ◌∷◌, ◌++◌, ℕ, zero, suc, Bool, false, length, map, ◌≤◌, Result, Ok, Err, MatchResult, IfErr, Contains, refl, sym, ap, ◌∙◌, subst, arith}
+use Rattle.std.proofs.Common.{◌≡◌, ◌≢◌, inl, inr, List, [], ◌∷◌, ◌++◌, ℕ, zero, suc, Bool, false, length, ◌≤◌, Result, Ok, Err, MatchResult, IfErr, Contains, refl, sym, ap, ◌∙◌, subst, arith}
 use Rattle.std.proofs.Math.Path.{fun_ext}
 use Rattle.chunk_files.specs.Reading as reading
 use Rattle.content_writing.specs.declared.fault.PutFault.{PutFault}
@@ -9,7 +9,6 @@ use Rattle.folder_spec.specs.Path.{Path, parent}
 use Rattle.folder_spec.specs.Seen.{under}
 use Rattle.folder_spec.specs.View.{FileOf, Folder, Found, NoEntry, Special, View, kind_found}
 use Rattle.folder_spec.specs.declared.FolderFault.{FolderFault}
-use Rattle.folder_spec.specs.declared.FolderFault.TheVariants as folder
 use Rattle.folder_spec.specs.declared.Kind.{Kind}
 use Rattle.folder_spec.specs.declared.Kind.TheVariants as kind
 use Rattle.content_writing.specs.Making.{is_inside}
@@ -22,10 +21,10 @@ use Rattle.migrate_core.specs.Sides.{AllowsMappedLast, IsAsked}
 use Rattle.migrate_core.specs.declared.fault.MoveFault.{MoveFault}
 use Rattle.migrate_core.specs.declared.fault.MoveFault.TheVariants.{Work, Journal as Unread, Overlap, Load, Walk, NotEmpty, NotAllowed, Meet, Changed, Match as Matching, Differ, Place, SourceGone, Failed, NoMemory}
 use Rattle.plain_tree.specs.Names as plain
-use Rattle.plain_tree.specs.declared.NodeKind.TheVariants.{Dir, File}
-use Rattle.tree_match.proofs.Passing.{each_mapped_file, each_named, map_met}
+use Rattle.plain_tree.specs.declared.NodeKind.TheVariants.{File}
+use Rattle.tree_match.proofs.Passing.{NoneMeet, TellsTree, each_mapped_file, walk_maps}
 use Rattle.tree_match.specs.Comparing.{content_at}
-use Rattle.migration_sides.proofs.Passing.{Any, apart_met, both_open, both_walked, given, met, only_or, own_folders}
+use Rattle.migration_sides.proofs.Passing.{Any, apart_met, both_open, both_walked, given, met, only_or, own_folders, OnlyBy, if_only}
 use Rattle.migration_sides.specs.Causes.{Opens, TestsApart}
 use Rattle.migration_sides.specs.Sides.{IsShallow}
 use Rattle.migration_sides.specs.Tests.{PassesOr, Then, own}
@@ -34,8 +33,8 @@ use Rattle.migration_spec.specs.Guard.{AreOpenedBy, HoldsSource, IsWork, Migrati
 use Rattle.mapped_trees.specs.Plans.{IsPlanOf}
 use Rattle.mapped_trees.specs.Trees.{AllowsTree, StaysApart}
 use Rattle.plain_tree.specs.declared.name_map.NameMap.{NameMap}
-use Rattle.tree_match.specs.Mapping.{AreFirstToMeet, IsMappedPlan, MapsTo}
-use Rattle.tree_match.specs.Trees.{IsWalkOf, Side, side_of, tree_of}
+use Rattle.tree_match.specs.Mapping.{IsMappedPlan, MapsTo}
+use Rattle.tree_match.specs.Trees.{IsWalkOf, side_of}
 use Rattle.tree_match.specs.declared.answer.MapFault.{MapFault}
 use Rattle.tree_match.specs.declared.answer.MatchFault.{MatchFault}
 use Rattle.tree_match.specs.declared.answer.MatchFault.TheVariants as match
@@ -53,12 +52,15 @@ use Rattle.work_folder.specs.Entries.{HasNoForeign, journal_path, stage_path}
 use Rattle.work_folder.specs.Looking.{Tests, TestsJournal, TestsKind, TestsParent}
 use Rattle.work_folder.specs.Looking as looking
 use Rattle.work_folder.specs.declared.fault.WorkFault.TheVariants as works
+use Rattle.migration_sides.proofs.Chains.{unless_met}
+use Rattle.migration_sides.proofs.Told.{by_folder}
+use Rattle.vault_spec.specs.Alike.{IsOrderly}
 
 -- ---- tests that can only pass
 
 -- such a value, unless chance has it otherwise
 abbrev pub Only : {X : Type 0} → (X → Type 0) → Answer X → Type 0
-Only P answer = MatchResult answer P IsOfChance
+Only = OnlyBy IsOfChance
 
 -- ---- the folders
 
@@ -112,11 +114,9 @@ module _ (v : View) (work : Path) (above : v (parent work) ≡ Folder) (is : IsW
 
 -- ---- the items
 
-abbrev pub TellsTree : Type 0
-TellsTree = (v : View) (a : Side) → IsWalkOf v a → IsPlanOf (tree_of v a) a.items
-
-abbrev pub NoneMeet : Type 0
-NoneMeet = (v : View) (rule : NameMap) (a : Side) (one other : plain.Path) → IsWalkOf v a → StaysApart rule (tree_of v a) → ¬ AreFirstToMeet rule a.items one other
+-- no two directories of either vault share a folder where both are in good order
+pub own_both : (from to : OpenedVault) (v : View) → IsOrderly (format_of from.vault) (under from.root v) → IsOrderly (format_of to.vault) (under to.root v) → HaveOwnFolders from to v
+own_both from to v orderly orderly_too = record { source = own_folders from.vault (under from.root v) orderly; target = own_folders to.vault (under to.root v) orderly_too }
 
 -- a tree of the root alone has no items
 none_planned : (t : Tree) (items : List Planned) → guard.IsEmpty t → IsPlanOf t items → items ≡ []
@@ -148,9 +148,10 @@ module _ (tells : TellsTree) (meet : NoneMeet) (g : Migration) (v : View) (sourc
       allowed item.path name (is_held item among) (subst (λ (p : plain.Path). Contains p name) (sym is) (in_second front (name ∷ []) name (zero, omega arith, refl)))
 
   maps_met : (t : Result Plan MapFault) → MapsTo g.names items t → MatchResult t (λ plan. IsMappedPlan g.names items plan.items) (λ why. IsOfChance (of_map why))
-  maps_met = map_met (λ why. IsOfChance (of_map why)) tt g.names items
-      (each_named g.names (format_of g.target.vault) g.held items (subst (λ (t : Tree). IsPlanOf t items) (fun_ext source.held) (tells v (side_of g.source items) walk)) allowed)
-      (λ one other. meet v g.names (side_of g.source items) one other walk (subst (StaysApart g.names) (sym (fun_ext source.held)) apart))
+  maps_met =
+      let same = sym (fun_ext source.held) in
+      walk_maps tells meet (λ why. IsOfChance (of_map why)) tt g.names (format_of g.target.vault) v (side_of g.source items) walk
+      (subst (AllowsTree g.names (format_of g.target.vault)) same allowed) (subst (StaysApart g.names) same apart)
 
   pub mapped_met : {Y : Type 0} (next : List Planned → Answer Y → Type 0) (answer : Answer Y)
       → ((mapped : List Planned) → IsMappedPlan g.names items mapped → next mapped answer → Only Any answer)
@@ -228,10 +229,7 @@ pub record AreCited : Type 0 where
 
 module _ (laws : AreCited) (g : Migration) (v : View) (from_pass to_pass : List ℕ) (opened : AreOpenedBy g from_pass to_pass v) (can : CanBegin g v) where
   folders_own : HaveOwnFolders g.source g.target v
-  folders_own = record {
-    source = own_folders g.source.vault (under g.source.root v) can.begun.source.there.good.orderly;
-    target = own_folders g.target.vault (under g.target.root v) can.begun.target.good.orderly;
-  }
+  folders_own = own_both g.source g.target v can.begun.source.there.good.orderly can.begun.target.good.orderly
 
   module _ {Y : Type 0} (answer : Answer Y) (may : IfErr answer IsMoveFault) where
     abbrev moved : List Planned → Answer Y → Type 0
@@ -266,13 +264,9 @@ module _ (laws : AreCited) (g : Migration) (v : View) (from_pass to_pass : List 
         met IsOfChance of_step (TestsApart g.source.root g.target.root g.work) (λ _. BeginsApart g.names g.source.root g.target.root g.work from_pass to_pass v) Any Any answer
         (apart_met (λ why. IsOfChance (of_step why)) g.source.root g.target.root g.work can.separate.vaults can.separate.source can.separate.target) (λ _ _. apart_then)
 
-pub if_only : {X : Type 0} (answer : Answer X) → Only Any answer → IfErr answer IsOfChance
-if_only (Ok x) only = tt
-if_only (Err fault) only = only
-
 pub goes_through : AreCited → {Y : Type 0} (g : Migration) (from_pass to_pass : List ℕ) (v : View) (answer : Answer Y) → AreOpenedBy g from_pass to_pass v → CanBegin g v → IfErr answer IsMoveFault
     → Begins g.names g.source.root g.target.root g.work from_pass to_pass v answer → IfErr answer IsOfChance
-goes_through laws g from_pass to_pass v answer opened can may begins = if_only answer (begins_met laws g v from_pass to_pass opened can answer may begins)
+goes_through laws g from_pass to_pass v answer opened can may begins = if_only IsOfChance answer (begins_met laws g v from_pass to_pass opened can answer may begins)
 
 -- ---- by the answer
 
@@ -281,18 +275,15 @@ own_faults is_own (Ok value) folder random blamed = tt
 own_faults is_own (Err fault) folder random blamed = blamed.own
 
 pub folder_chance : (fault : FolderFault) → IsOfChance (of_folder fault)
-folder_chance folder.Failed = tt
-folder_chance folder.Refused = tt
-folder_chance folder.NoMemory = tt
+folder_chance = by_folder IsOfChance of_folder refl tt tt
 
 -- as it is asked for
 pub begin_completes : {Y : Type 0} (g : Migration) (v : View) (rule : NameMap) (from to work : Path) (from_pass to_pass : List ℕ) (answer : Answer Y) → IsAsked g rule from to work
     → (Begins g.names g.source.root g.target.root g.work from_pass to_pass v answer → IfErr answer IsOfChance) → Unless answer (Begins rule from to work from_pass to_pass v answer) → IfErr answer IsOfChance
-begin_completes g v rule from to work from_pass to_pass answer asked completes (inl failed) = subst (λ a. IfErr a IsOfChance) (sym failed) tt
-begin_completes g v rule from to work from_pass to_pass answer asked completes (inr (inl none)) = subst (λ a. IfErr a IsOfChance) (sym none) tt
-begin_completes g v rule from to work from_pass to_pass answer asked completes (inr (inr begins)) =
-    completes
+begin_completes g v rule from to work from_pass to_pass answer asked completes =
+    unless_met Failed NoMemory IsOfChance tt tt answer (Begins rule from to work from_pass to_pass v answer)
+    (λ begins. completes
     (subst (λ n. Begins n g.source.root g.target.root g.work from_pass to_pass v answer) (sym asked.names)
     (subst (λ p. Begins rule g.source.root g.target.root p from_pass to_pass v answer) (sym asked.work)
     (subst (λ p. Begins rule g.source.root p work from_pass to_pass v answer) (sym asked.target)
-    (subst (λ p. Begins rule p to work from_pass to_pass v answer) (sym asked.source) begins))))
+    (subst (λ p. Begins rule p to work from_pass to_pass v answer) (sym asked.source) begins)))))

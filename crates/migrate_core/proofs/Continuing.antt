@@ -3,22 +3,17 @@ use Rattle.std.proofs.Math.Path.{fun_ext}
 use Rattle.sha2.specs.Sha256.{sha256}
 use Rattle.std.specs.List.{flat_map}
 use Rattle.std.specs.declared.cmp.Ordering.TheVariants.{Less}
-use Rattle.std.proofs.Common.{◌≡◌, ◌≢◌, not, inl, inr, List, [], ◌∷◌, ◌++◌, ℕ, zero, suc, codes, length, map, Bool, true, false, Option, Some, None, IfErr, Contains, refl, sym, ap, ◌∙◌, subst, subst₂, arith, append-nil}
+use Rattle.std.proofs.Common.{◌≡◌, ◌≢◌, inl, inr, List, [], ◌∷◌, ◌++◌, ℕ, zero, suc, codes, length, map, Bool, true, false, Option, Some, None, IfErr, Contains, refl, sym, ap, ◌∙◌, subst, subst₂, arith, append-nil}
 use Rattle.std.proofs.lemmas.List.{length-map}
-use Rattle.folder_spec.proofs.Tables.{present_is_table}
-use Rattle.folder_spec.specs.Event.{Told}
-use Rattle.folder_spec.specs.Path.{Path, child}
-use Rattle.folder_spec.specs.Seen.{IfSeen, under}
-use Rattle.folder_spec.specs.State.{present}
-use Rattle.folder_spec.specs.View.{Folder, NoEntry, View, found}
-use Rattle.migrate_core.proofs.Completing.{NoneMeet, Only, TellsTree, if_only, mapped_met, mapped_whole, moving_met, staged_met}
-use Rattle.migrate_core.proofs.Movings.{AreSound}
-use Rattle.migrate_core.specs.Causes.{Answer, IsGone, IsOfMoving, Moves, Resumes, ResumesTold, ResumesWith, StopsAt, TestsHeld, TestsItems, TestsMapped, TestsMatch, TestsSource, TestsTold, Unless, is_done}
+use Rattle.folder_spec.specs.Path.{Path}
+use Rattle.folder_spec.specs.View.{Folder, NoEntry, View}
+use Rattle.migrate_core.proofs.Completing.{Only, own_both, mapped_met, mapped_whole, moving_met, staged_met}
+use Rattle.migrate_core.specs.Causes.{Answer, IsGone, IsOfMoving, Moves, Resumes, ResumesTold, ResumesWith, StopsAt, TestsHeld, TestsItems, TestsMapped, TestsMatch, TestsSource, TestsTold, Unless, is_done, where_in}
 use Rattle.migrate_core.specs.Completing.{CanResume, IsOfChance, IsToResume}
 use Rattle.migrate_core.specs.Copying.{HaveOwnFolders}
 use Rattle.migrate_core.specs.Faults.{IsMoveFault, of_journal, of_match, of_step, of_work}
 use Rattle.migrate_core.specs.Sides.{AreTold}
-use Rattle.migrate_core.specs.declared.fault.MoveFault.TheVariants.{Changed, SourceGone}
+use Rattle.migrate_core.specs.declared.fault.MoveFault.TheVariants.{Changed, Differ, SourceGone, Failed, NoMemory}
 use Rattle.move_journal.specs.Reading.{ReadsAs, journal_bytes}
 use Rattle.move_journal.specs.declared.journal.Journal.{Journal}
 use Rattle.move_journal.specs.declared.journal.Phase.{Phase}
@@ -29,11 +24,11 @@ use Rattle.plain_tree.specs.Order.{path_cmp}
 use Rattle.plain_tree.specs.Shown.{shown_path}
 use Rattle.plain_tree.specs.declared.NodeKind.{NodeKind}
 use Rattle.migration_spec.proofs.Entries.{none_foreign, old_free, with_old}
-use Rattle.migration_sides.proofs.Passing.{Any, apart_met, both_open, both_walked, entries_met, given, met, only_or, own_folders, read_back}
+use Rattle.migration_sides.proofs.Passing.{Any, apart_met, both_open, both_walked, entries_met, given, met, only_or, read_back, if_only}
 use Rattle.migration_sides.specs.Causes.{Opens, TestsApart}
 use Rattle.migration_sides.specs.Tests.{Then, own}
 use Rattle.tree_match.proofs.HeldTrees.{IsNoDifference}
-use Rattle.tree_match.proofs.Passing.{compares_met}
+use Rattle.tree_match.proofs.Passing.{NoneMeet, TellsTree, compares_met, holds_met}
 use Rattle.migration_spec.specs.Guard as guard
 use Rattle.migration_spec.specs.Guard.{AreOpenedBy, Case, HasJournal, HoldsSource, IsThere, IsWork, Migration, kinds_in, tree_at}
 use Rattle.mapped_trees.proofs.Held as mapped_trees
@@ -42,8 +37,6 @@ use Rattle.mapped_trees.specs.Trees.{AllowsTree, IsPartOf, StaysApart}
 use Rattle.plain_tree.specs.declared.name_map.NameMap.{NameMap}
 use Rattle.tree_match.specs.Mapping.{IsMappedPlan}
 use Rattle.tree_match.specs.Trees.{Compares, HoldsAllOrTooLong, IsMappedWalkOf, IsWalkOf, Side, match_of, side_of, tree_of}
-use Rattle.tree_match.specs.declared.answer.Match.{Match}
-use Rattle.tree_match.specs.declared.answer.Match.TheVariants.{Contained, Differs, Same}
 use Rattle.tree_match.proofs.InOrder.{same_lists, not_twice}
 use Rattle.vault_read.specs.Laws.{HaveOneAnswer}
 use Rattle.vault_spec.specs.Alike.{HasFolders}
@@ -54,6 +47,7 @@ use Rattle.vault_walk.specs.Digest.{kind_letter, plan_digest, plan_text}
 use Rattle.work_folder.specs.Entering.{Empties}
 use Rattle.work_folder.specs.Entries.{HasNoForeign, journal_path}
 use Rattle.work_folder.specs.Looking.{TestsEntries}
+use Rattle.migration_sides.proofs.Chains.{unless_met}
 
 -- ---- the items that a journal tells
 
@@ -86,24 +80,10 @@ module _ (t : Tree) (items others : List Planned) (one : IsPlanOf t items) (othe
 
 -- ---- what stands in the work folder
 
-pub folders_of : (t : Option Told) → AreSound t → IfSeen t (λ v. HasFolders v)
-folders_of (Some a) sound v is at name stands =
-    ap (λ (w : View). w at) is
-    ∙ ap (found (λ n. (a.state.nodes n).now)) (((sound a refl).tables (present a.state) (present_is_table a.state)).parents at name
-    (λ none. stands (ap (λ (w : View). w (child at name)) is ∙ ap (found (λ n. (a.state.nodes n).now)) none)))
-folders_of None sound v is at name stands = absurd is
-
 module _ (v : View) (work : Path) (folders : HasFolders v) (is : IsWork false (kinds_in v) work) (stands : v (journal_path work) ≢ NoEntry) where
   none_by : (old : Bool) → HasNoForeign old v work
   none_by false = none_foreign false v work folders is stands
   none_by true = with_old v work (none_foreign false v work folders is stands)
-
--- ---- comparing
-
-held_met : (m : Match) (answer : Answer (Unit {0})) → IsNoDifference m → TestsHeld m answer → Only Any answer
-held_met Same answer none tested = given IsOfChance Any tt answer tt tested
-held_met (Contained path) answer none tested = given IsOfChance Any tt answer tt tested
-held_met (Differs path how) answer none tested = absurd none
 
 -- ---- the call
 
@@ -136,10 +116,7 @@ module _ (laws : AreCited) (g : Migration) (v : View) (from_pass to_pass : List 
   stands = not_missing g.work journal v goes.journal.stands
 
   folders_own : HaveOwnFolders g.source g.target v
-  folders_own = record {
-    source = own_folders g.source.vault (under g.source.root v) goes.source.there.good.orderly;
-    target = own_folders g.target.vault (under g.target.root v) goes.target.good.orderly;
-  }
+  folders_own = own_both g.source g.target v goes.source.there.good.orderly goes.target.good.orderly
 
   source_there : v g.source.root ≢ NoEntry
   source_there gone =
@@ -177,7 +154,7 @@ module _ (laws : AreCited) (g : Migration) (v : View) (from_pass to_pass : List 
         met IsOfChance of_match (Compares g.target there g.source mapped v) (λ m. Then own (TestsHeld m) (λ _. moved mapped)) IsNoDifference Any answer
         (compares_met (λ why. IsOfChance (of_match why)) tt tt (match_of v (side_of g.target there) (side_of g.source mapped))
         (laws.part v g.names (side_of g.target there) (side_of g.source mapped) walk_there (record { own = items; walk = walk; mapped = same }) part_in) (λ at too_long. tt))
-        (λ m none. met IsOfChance own (TestsHeld m) (λ _. moved mapped) Any Any answer (λ t. held_met m t none) (λ _ _. moves_met items mapped walk same))
+        (λ m none. met IsOfChance own (TestsHeld m) (λ _. moved mapped) Any Any answer (λ t. holds_met IsOfChance (λ path how. Differ path (where_in how)) m t none) (λ _ _. moves_met items mapped walk same))
 
     abbrev items_then : NameMap → List Planned → List Planned → Answer Y → Type 0
     items_then rule items there = Then own (TestsTold journal items) (λ _. TestsMapped rule (format_of g.target.vault) items (λ mapped. TestsMatch g.target there g.source mapped v (moved mapped)))
@@ -236,11 +213,10 @@ module _ (laws : AreCited) (g : Migration) (v : View) (from_pass to_pass : List 
 
 pub goes_through_again : AreCited → {Y : Type 0} (g : Migration) (from_pass to_pass : List ℕ) (v : View) (answer : Answer Y) → HasFolders v → AreOpenedBy g from_pass to_pass v → CanResume g v → IfErr answer IsMoveFault
     → Resumes g.work from_pass to_pass v answer → IfErr answer IsOfChance
-goes_through_again laws g from_pass to_pass v answer folders opened can may tested = if_only answer (by_case laws g v from_pass to_pass opened folders can answer can.guarded.case can.going can.guarded.work may tested)
+goes_through_again laws g from_pass to_pass v answer folders opened can may tested = if_only IsOfChance answer (by_case laws g v from_pass to_pass opened folders can answer can.guarded.case can.going can.guarded.work may tested)
 
 -- as it is asked for
 pub resume_completes : {Y : Type 0} (g : Migration) (v : View) (work : Path) (from_pass to_pass : List ℕ) (answer : Answer Y) → g.work ≡ work
     → (Resumes g.work from_pass to_pass v answer → IfErr answer IsOfChance) → Unless answer (Resumes work from_pass to_pass v answer) → IfErr answer IsOfChance
-resume_completes g v work from_pass to_pass answer asked completes (inl failed) = subst (λ a. IfErr a IsOfChance) (sym failed) tt
-resume_completes g v work from_pass to_pass answer asked completes (inr (inl none)) = subst (λ a. IfErr a IsOfChance) (sym none) tt
-resume_completes g v work from_pass to_pass answer asked completes (inr (inr resumes)) = completes (subst (λ p. Resumes p from_pass to_pass v answer) (sym asked) resumes)
+resume_completes g v work from_pass to_pass answer asked completes =
+    unless_met Failed NoMemory IsOfChance tt tt answer (Resumes work from_pass to_pass v answer) (λ resumes. completes (subst (λ p. Resumes p from_pass to_pass v answer) (sym asked) resumes))

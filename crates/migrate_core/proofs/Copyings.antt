@@ -30,12 +30,13 @@ use Rattle.vault_write.specs.Calls.{MakesAt, MakesOne, MakesDirectory, New}
 use Rattle.content_writing.specs.Making.{Placing, is_apart}
 use Rattle.content_writing.specs.Placing.{EndsAs}
 use Rattle.content_writing.specs.Trees.{StaysGood, opens_as}
-use Rattle.migrate_core.proofs.Movings.{AreSound, moves_to, seen_stays, source_apart}
+use Rattle.migrate_core.proofs.Movings.{moves_to, seen_stays, source_apart}
 use Rattle.migrate_core.proofs.Placings.{no_answer}
 use Rattle.migrate_core.proofs.Planned.{DirectoriesOpen, FilesFit, FilesOpen, file_opens, mapped_walk_of, reader_of}
 use Rattle.migrate_core.specs.Copying.{Copies, CopiesOne, HasCopied, HasItem, IsCopying, tree_in}
 use Rattle.migrate_core.specs.Moving.{MovesBeside}
 use Rattle.migrate_core.specs.Sides.{IsItemOf, StandsIn}
+use Rattle.migration_spec.proofs.Tellings.{AreSound}
 
 -- ---- nothing of either vault is changed
 

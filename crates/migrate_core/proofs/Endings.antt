@@ -32,10 +32,10 @@ use Rattle.vault_spec.specs.Opens.{Opened, NoItem, Directory, Content, Broken, T
 use Rattle.vault_spec.specs.Plan.{Planned}
 use Rattle.vault_spec.specs.Vault.{IsVault, Vault, format_of}
 use Rattle.migrate_core.proofs.Keeping.{still_opens, still_seen}
-use Rattle.migrate_core.proofs.Compared.{MappedStayApart}
+use Rattle.tree_match.proofs.Passing.{MappedStayApart}
 use Rattle.migrate_core.proofs.Leadings.{if_ok}
 use Rattle.migrate_core.proofs.MappedItems.{mapped_count}
-use Rattle.migrate_core.proofs.Movings.{AreSound, mapped_walk, moves_to, source_beside, turned_over, under_stays}
+use Rattle.migrate_core.proofs.Movings.{mapped_walk, moves_to, source_beside, turned_over, under_stays}
 use Rattle.migrate_core.proofs.Planned.{SeenAlone, seen_of, source_held, source_mapped_walk, walk_of}
 use Rattle.migrate_core.proofs.SameItems.{same_length}
 use Rattle.migrate_core.specs.Copying.{StayGood, tree_in}
@@ -47,6 +47,7 @@ use Rattle.migrate_core.specs.declared.placing.Done.{Done}
 use Rattle.migrate_core.specs.Moved.{HasMoved, HasPlaced, HaveMappedTree, Moved, MovesTold, MovesTree, Placed, done_of, lacking}
 use Rattle.migrate_core.specs.Moving.{MovesOnly}
 use Rattle.migrate_core.specs.Sides.{AreItemsToMove, AreSides, AreTold, IsMappedWalk}
+use Rattle.migration_spec.proofs.Tellings.{AreSound}
 
 -- the target is there, however far the migration has come
 pub target_in : (g : Migration) (p : Progress) (v : View) → IsIn g p v → IsThere g.target v

@@ -1,10 +1,9 @@
 -- Calls that lead a migration on, one after the other.
-use Rattle.std.proofs.Common.{◌≡◌, Option, Some, None, Result, Ok, Err, IfOk, OnOk, refl, sym, ◌∙◌, subst}
+use Rattle.std.proofs.Common.{◌≡◌, Option, Some, None, Result, Ok, Err, IfOk, OnOk, refl, sym, subst}
 use Rattle.folder_spec.proofs.Moments.{went_nowhere, went_on, went_more, went_to}
 use Rattle.folder_spec.proofs.Tellings.{from_to_more, from_to_on, from_to_same}
 use Rattle.folder_spec.specs.Event.{Told, FromTo}
-use Rattle.folder_spec.specs.Seen.{IfSeen, IsSeen, seen}
-use Rattle.folder_spec.specs.View.{View}
+use Rattle.folder_spec.specs.Seen.{IfSeen, seen}
 use Rattle.migrate_core.specs.Leading.{Guards, Leads, Goes}
 use Rattle.migration_spec.specs.Alone.{Progress, IsAlone, StaysGuarded, StaysAlone}
 use Rattle.migration_spec.specs.Guard.{Migration, Guarded}
@@ -80,24 +79,6 @@ pub nothing_told : (S : Told → Told → Type 0) (t u : Option Told) → FromTo
 nothing_told S None None told none = refl
 nothing_told S (Some a) u told none = absurd (none a refl)
 nothing_told S None (Some b) told none = absurd told
-
--- what is seen afterwards was seen before, in some view
-pub seen_before : (S : Told → Told → Type 0) (t u : Option Told) → FromTo S t u → IfSeen u (λ v. (w : View) × IsSeen t w)
-seen_before S (Some a) (Some b) told v is = (seen a.state, refl)
-seen_before S None None told v is = absurd is
-seen_before S (Some a) None told v is = absurd is
-seen_before S None (Some b) told v is = absurd told
-
--- and what is seen before is followed by something seen
-pub seen_then : (S : Told → Told → Type 0) (t u : Option Told) → FromTo S t u → IfSeen t (λ v. (w : View) × IsSeen u w)
-seen_then S (Some a) (Some b) told v is = (seen b.state, refl)
-seen_then S None u told v is = absurd is
-seen_then S (Some a) None told v is = absurd told
-
--- at one time one view is seen
-pub one_view : (t : Option Told) (v w : View) → IsSeen t v → IsSeen t w → w ≡ v
-one_view (Some a) v w one other = other ∙ sym one
-one_view None v w one other = absurd one
 
 -- what is known where something is seen afterwards is known where something was seen before
 pub then_known : (S : Told → Told → Type 0) (t u : Option Told) → FromTo S t u → (X : Type 0) → IfSeen u (λ v. X) → IfSeen t (λ v. X)

@@ -16,7 +16,7 @@ mod MappedNames
 mod Movings
 mod Placings
 mod Planned
-mod ReadEnds
+mod Readied
 mod Restaged
 mod SameItems
 mod Searched
@@ -24,6 +24,7 @@ mod Settled
 mod Sharing
 mod Started
 mod Stopping
+mod Tested
 mod Within
 mod WorkFolders
 mod Writings

@@ -16,25 +16,17 @@ use Rattle.folder_spec.specs.Event.{Told}
 use Rattle.folder_spec.specs.Path.{Path}
 use Rattle.folder_spec.specs.Seen.{IfSeen, IsSeen, ShowsFile, under}
 use Rattle.folder_spec.specs.View.{Found, View, NoEntry, Folder, FileOf, Special}
-use Rattle.folder_spec.specs.declared.FolderFault.{FolderFault}
-use Rattle.folder_spec.specs.declared.FolderFault.TheVariants as folder
-use Rattle.move_journal.specs.declared.journal.JournalFault.{JournalFault}
-use Rattle.move_journal.specs.declared.journal.JournalFault.TheVariants as journals
 use Rattle.migration_sides.specs.Sides.{IsWalked, opened_in}
-use Rattle.migration_sides.specs.declared.fault.StepFault.{StepFault}
-use Rattle.migration_sides.specs.declared.fault.StepFault.TheVariants as steps
 use Rattle.plain_tree.specs.Mapped.{mapped_path}
 use Rattle.plain_tree.specs.Names as plain
 use Rattle.port_model.specs.Draws.{ByteStream}
 use Rattle.plain_tree.specs.declared.NodeKind.TheVariants as node
 use Rattle.plain_tree.specs.declared.name_map.NameMap.{NameMap}
 use Rattle.tree_match.proofs.CutItems.{EndsWithin, IsCutItem, cut_content, cut_item}
-use Rattle.tree_match.proofs.HeldTrees.{file_stands, planned}
+use Rattle.tree_match.proofs.HeldTrees.{file_stands, planned, FilesAreThere}
 use Rattle.tree_match.specs.Comparing.{Answers, Content, Outcome, Stops, bytes_found, content_at}
 use Rattle.tree_match.specs.Matching.{matched}
 use Rattle.tree_match.specs.Trees.{side_of}
-use Rattle.tree_match.specs.declared.answer.MapFault.{MapFault}
-use Rattle.tree_match.specs.declared.answer.MapFault.TheVariants as maps
 use Rattle.tree_match.specs.declared.answer.Match.{Match}
 use Rattle.tree_match.specs.declared.answer.MatchFault.{MatchFault}
 use Rattle.tree_match.specs.declared.answer.MatchFault.TheVariants as match
@@ -49,21 +41,18 @@ use Rattle.vault_spec.specs.Plan.{Planned, IsPlanned}
 use Rattle.vault_spec.specs.Standing.{File, standing}
 use Rattle.vault_spec.specs.Vault.{IsVault, format_of}
 use Rattle.vault_walk.specs.Surveyed.{placed}
-use Rattle.work_folder.specs.declared.fault.WorkFault.{WorkFault}
-use Rattle.work_folder.specs.declared.fault.WorkFault.TheVariants as works
-use Rattle.migrate_core.proofs.Causing.{refused_as}
 use Rattle.migrate_core.proofs.Copyings.{copied_as}
 use Rattle.migrate_core.proofs.MappedItems.{own_item}
 use Rattle.migrate_core.proofs.Sharing.{later_taken, share_in_tree, stops_more, taken_for, taken_more}
-use Rattle.migrate_core.proofs.Within.{FilesAreThere}
 use Rattle.migrate_core.specs.Causes.{StopsLater}
 use Rattle.migrate_core.specs.Copying.{CopiesAll, HasCopied, MayBegin, StayGood, tree_in}
-use Rattle.migrate_core.specs.Faults.{of_folder, of_journal, of_map, of_match, of_step, of_work}
+use Rattle.migrate_core.specs.Faults.{of_match}
 use Rattle.migrate_core.specs.Sharing.{IsOfTaken, SharesInTree, SharesWhereTidy}
 use Rattle.migrate_core.specs.Limits.{StopsElsewhere, StopsFor, EndsBy, HasSmallContents, IsContentAt, IsCut, IsLonger, IsOfLimit, IsSmall, PassesAsTold, PassesInTree, PassesLimit, content_in}
 use Rattle.migrate_core.specs.Sides.{IsMappedWalk}
 use Rattle.migrate_core.specs.declared.fault.MoveFault.{MoveFault}
 use Rattle.migrate_core.specs.declared.fault.MoveFault.TheVariants.{Work, Journal as Unread, Overlap, Load, Walk, NotEmpty, NotAllowed, Meet, Changed, Match as Matching, Differ, Place, SourceGone, Failed, NoMemory}
+use Rattle.migration_sides.proofs.Chains.{refused_as}
 
 -- ---- how much is read where reading ends at the limit
 
@@ -303,39 +292,6 @@ not_compared P Q NoMemory none = tt
 
 pub uncompared : (P : Path → Type 0) (fault : MoveFault) → StopsElsewhere fault → IsOfLimit P fault
 uncompared P fault none = not_compared P ⊥ fault none
-
-pub folder_compares : (fault : FolderFault) → StopsElsewhere (of_folder fault)
-folder_compares folder.Failed = tt
-folder_compares folder.Refused = tt
-folder_compares folder.NoMemory = tt
-
-pub work_compares : (fault : WorkFault) → StopsElsewhere (of_work fault)
-work_compares (works.NoParent p) = tt
-work_compares (works.WrongKind p) = tt
-work_compares (works.Foreign p) = tt
-work_compares works.Begun = tt
-work_compares works.Depth = tt
-work_compares works.Failed = tt
-work_compares works.NoMemory = tt
-
-pub journal_compares : (fault : JournalFault) → StopsElsewhere (of_journal fault)
-journal_compares journals.NoJournal = tt
-journal_compares (journals.BadJournal number) = tt
-journal_compares journals.TooLarge = tt
-journal_compares journals.Failed = tt
-journal_compares journals.NoMemory = tt
-
-pub step_compares : (fault : StepFault) → StopsElsewhere (of_step fault)
-step_compares (steps.Overlap first second) = tt
-step_compares (steps.Load side fault) = tt
-step_compares (steps.Walk fault) = tt
-step_compares steps.Failed = tt
-step_compares steps.NoMemory = tt
-
-pub map_compares : (fault : MapFault) → StopsElsewhere (of_map fault)
-map_compares (maps.NotAName path) = tt
-map_compares (maps.Meet one other) = tt
-map_compares maps.NoMemory = tt
 
 -- ---- by the answer of a call
 

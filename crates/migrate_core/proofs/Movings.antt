@@ -4,17 +4,17 @@ use Rattle.std.proofs.Math.Path.{fun_ext}
 use Rattle.folder_spec.specs.declared.FolderFault.{FolderFault}
 use Rattle.folder_spec.specs.Path.{Path, below}
 use Rattle.folder_spec.specs.State.{State, IsSound}
-use Rattle.folder_spec.specs.Event.{Event, Settle, Told, FromTo, Changes, Steps}
+use Rattle.folder_spec.specs.Event.{Settle, Told, FromTo, Changes}
 use Rattle.folder_spec.specs.Moments.{Went}
 use Rattle.folder_spec.specs.Region.{IsAsBefore, apart_from, apart_from_both}
 use Rattle.folder_spec.specs.Seen.{IsSeen, seen, under}
 use Rattle.folder_spec.specs.View.{View}
-use Rattle.folder_spec.proofs.Moments.{went_nowhere, went_on, went_more, went_to, went_by_call}
+use Rattle.folder_spec.proofs.Moments.{went_to}
 use Rattle.folder_spec.proofs.Paths.{below-apart}
-use Rattle.folder_spec.proofs.Regions.{as_before, as_before_on, as_before_then, as_before_within, seen_as_before}
-use Rattle.folder_spec.proofs.Tellings.{from_to_more, from_to_on, from_to_same}
+use Rattle.folder_spec.proofs.Regions.{seen_as_before}
+use Rattle.folder_spec.proofs.Tellings.{from_to_more}
 use Rattle.migration_sides.specs.Sides.{AreSeparate, IsWalked}
-use Rattle.migration_spec.proofs.Kept.{not_staged, turned}
+use Rattle.migration_spec.proofs.Kept.{not_staged, turned, beside_of}
 use Rattle.plain_tree.specs.declared.name_map.NameMap.{NameMap}
 use Rattle.vault_read.specs.Laws.{HasOwnFolders}
 use Rattle.vault_spec.specs.Opened.{OpenedVault}
@@ -23,31 +23,26 @@ use Rattle.vault_spec.specs.Plan.{Planned}
 use Rattle.vault_spec.specs.Vault.{format_of}
 use Rattle.vault_walk.specs.Surveyed.{IsPlanOf}
 use Rattle.content_writing.specs.Making.{is_apart, is_staged}
-use Rattle.migrate_core.specs.Moving.{OnlyBrings, MovesBeside}
+use Rattle.migrate_core.specs.Moving.{OnlyBrings, MovesBeside, MovesOnly}
 use Rattle.migrate_core.specs.Sides.{AreItemsToMove, IsMappedWalk}
+use Rattle.migration_spec.proofs.Staying.{Kind, stays_more, stays_on, stays_same, stays_settled}
+use Rattle.migration_spec.proofs.Tellings.{AreSound}
 
 -- ---- one after the other
 
 pub moves_nowhere : (region : Path → Bool) (root : Path) (t u : Option Told) → u ≡ t → MovesBeside region root t u
-moves_nowhere region root t u is =
-    from_to_same (λ a b. Went (IsAsBefore region a.state) (λ s e. OnlyBrings root s e.call) a b) t u is
-    (λ a. went_nowhere (IsAsBefore region a.state) (λ s e. OnlyBrings root s e.call) a (as_before region a.state))
+moves_nowhere region root = stays_same region (λ s0 s e. OnlyBrings root s e.call)
 
 pub moves_on : (region : Path → Bool) (root : Path) (t u w : Option Told) → MovesBeside region root t u → MovesBeside region root u w → MovesBeside region root t w
-moves_on region root t u w first later =
-    let Q : State → Event → Type 0 = λ s e. OnlyBrings root s e.call in
-    let R : Told → Told → Type 0 = λ a b. Went (IsAsBefore region a.state) (λ s e. OnlyBrings root s e.call) a b in
-    from_to_on R R R t u w
-    (λ a b c one two. went_on (IsAsBefore region a.state) Q a b c one
-    (went_more (IsAsBefore region b.state) (IsAsBefore region a.state) Q Q b c
-    (λ s stayed. as_before_then region region a.state b.state s (λ q inside. inside) (went_to (IsAsBefore region a.state) Q a b one) stayed) (λ s e is. is) two)) first later
+moves_on region root t u w =
+    let Q : Kind = λ s0 s e. OnlyBrings root s e.call in
+    stays_on region region Q Q t u w (λ q inside. inside) (λ s0 s1 s e is. is)
 
 -- in a smaller region
 pub moves_within : (region within : Path → Bool) (root : Path) (t u : Option Told) → ((q : Path) → IsTrue (region q) → IsTrue (within q)) → MovesBeside within root t u → MovesBeside region root t u
-moves_within region within root t u more moves =
-    let Q : State → Event → Type 0 = λ s e. OnlyBrings root s e.call in
-    from_to_more (λ a b. Went (IsAsBefore within a.state) Q a b) (λ a b. Went (IsAsBefore region a.state) Q a b) t u
-    (λ a b is went. went_more (IsAsBefore within a.state) (IsAsBefore region a.state) Q Q a b (λ s stayed. as_before_within region within a.state s more stayed) (λ s e is. is) went) moves
+moves_within region within root t u inside =
+    let Q : Kind = λ s0 s e. OnlyBrings root s e.call in
+    stays_more region within Q Q t u inside (λ s0 s e is. is)
 
 -- in the end the region is as it was
 pub moves_to : (region : Path → Bool) (root : Path) (t u : Option Told) → MovesBeside region root t u → FromTo (λ a b. IsAsBefore region a.state b.state) t u
@@ -57,10 +52,7 @@ moves_to region root t u moves =
 
 -- a settle moves nothing
 pub settle_moves : (region : Path → Bool) (root : Path) (t u : Option Told) (result : Result (Unit {0}) FolderFault) → Changes Settle t u result → MovesBeside region root t u
-settle_moves region root t u result changes =
-    from_to_more (λ a b. Steps Settle a b result) (λ a b. Went (IsAsBefore region a.state) (λ s e. OnlyBrings root s e.call) a b) t u
-    (λ a b is steps. went_by_call (IsAsBefore region a.state) (λ s e. OnlyBrings root s e.call) Settle a b result (as_before region a.state)
-    (λ allowed. as_before_on region a.state a.state Settle tt tt (as_before region a.state)) (λ added allowed. as_before region a.state) (λ outcome. tt) steps) changes
+settle_moves region root t u result = stays_settled region (λ s0 s e. OnlyBrings root s e.call) t u result (λ s outcome. tt)
 
 -- ---- the regions
 
@@ -71,9 +63,6 @@ both false b one other = absurd (cc one)
 -- what begins with neither is apart
 pub apart_of : (work root q : Path) → below work q ≡ None → below root q ≡ None → IsTrue (is_apart work root q)
 apart_of work root q one other = both (not (is_staged work q)) (apart_from root q) (ap not (not_staged work q one)) (ap is_none other)
-
-pub both_of : (work root q : Path) → below work q ≡ None → below root q ≡ None → IsTrue (apart_from_both work root q)
-both_of work root q one other = both (apart_from work q) (apart_from root q) (ap is_none one) (ap is_none other)
 
 -- the source is apart from the work folder and from the target
 module _ (from to through rest : Path) (separate : AreSeparate from to through) where
@@ -87,17 +76,13 @@ module _ (from to through rest : Path) (separate : AreSeparate from to through) 
   source_apart = apart_of through to (from ++ rest) source_not_in_work source_not_in_target
 
   pub source_beside : IsTrue (apart_from_both through to (from ++ rest))
-  source_beside = both_of through to (from ++ rest) source_not_in_work source_not_in_target
+  source_beside = beside_of through to (from ++ rest) source_not_in_work source_not_in_target
 
 -- and so is the target from the source
 pub turned_over : (from to through : Path) → AreSeparate from to through → AreSeparate to from through
 turned_over from to through separate = record { vaults = turned separate.vaults; source = separate.target; target = separate.source }
 
 -- ---- a walk
-
--- what a call tells of the state is sound
-abbrev pub AreSound : Option Told → Type 0
-AreSound t = (a : Told) → t ≡ Some a → IsSound a.state
 
 -- what is seen under a root that is as before
 pub under_stays : (region : Path → Bool) (root : Path) (a b : State) → IsSound a → ((rest : Path) → IsTrue (region (root ++ rest))) → IsAsBefore region a b → under root (seen b) ≡ under root (seen a)
@@ -109,6 +94,11 @@ pub seen_stays : (region : Path → Bool) (root : Path) (t u : Option Told) → 
 seen_stays region root (Some a) (Some b) sound inside stayed v w is_v is_w = ap (under root) is_w ∙ under_stays region root a.state b.state (sound a refl) inside stayed ∙ sym (ap (under root) is_v)
 seen_stays region root None u sound inside stayed v w is_v is_w = absurd is_v
 seen_stays region root (Some a) None sound inside stayed v w is_v is_w = absurd is_w
+
+-- so it is of the source of calls that move something only in the work folder or the target
+pub source_stays : (from to through : Path) (t u : Option Told) → AreSeparate from to through → AreSound t → MovesOnly through to t u → (v w : View) → IsSeen t v → IsSeen u w → under from w ≡ under from v
+source_stays from to through t u separate sound moves =
+    seen_stays (apart_from_both through to) from t u sound (λ rest. source_beside from to through rest separate) (moves_to (apart_from_both through to) to t u moves)
 
 -- a walk tells as much of a vault that is as before
 pub walked_stays : (region : Path → Bool) (from : OpenedVault) (items : List Planned) (t u : Option Told) → ((rest : Path) → IsTrue (region (from.root ++ rest))) → AreSound t
@@ -137,9 +127,20 @@ pub mapped_stays : (region : Path → Bool) (rule : NameMap) (from : OpenedVault
     → FromTo (λ a b. IsAsBefore region a.state b.state) t u → IsMappedWalk rule t from items → IsMappedWalk rule u from items
 mapped_stays region rule from items t u inside sound stayed walked = record { own = walked.own; walked = walked_stays region from walked.own t u inside sound stayed walked.walked; mapped = walked.mapped }
 
+-- so does one of the source while items are placed
+pub mapped_stay : (rule : NameMap) (from : OpenedVault) (to through : Path) (items : List Planned) (t u : Option Told) → AreSeparate from.root to through → AreSound t → MovesBeside (is_apart through to) to t u → IsMappedWalk rule t from items
+    → IsMappedWalk rule u from items
+mapped_stay rule from to through items t u separate sound moves =
+    mapped_stays (is_apart through to) rule from items t u (λ rest. source_apart from.root to through rest separate) sound (moves_to (is_apart through to) to t u moves)
+
 pub moving_stays : (region : Path → Bool) (rule : NameMap) (from : OpenedVault) (own mapped : List Planned) (t u : Option Told) → ((rest : Path) → IsTrue (region (from.root ++ rest))) → AreSound t
     → FromTo (λ a b. IsAsBefore region a.state b.state) t u → AreItemsToMove rule t from own mapped → AreItemsToMove rule u from own mapped
 moving_stays region rule from own mapped t u inside sound stayed items = record { walked = walked_stays region from own t u inside sound stayed items.walked; same = items.same }
+
+pub items_stay : (rule : NameMap) (from : OpenedVault) (to through : Path) (own mapped : List Planned) (t u : Option Told) → AreSeparate from.root to through → AreSound t → MovesOnly through to t u → AreItemsToMove rule t from own mapped
+    → AreItemsToMove rule u from own mapped
+items_stay rule from to through own mapped t u separate sound moves =
+    moving_stays (apart_from_both through to) rule from own mapped t u (λ rest. source_beside from.root to through rest separate) sound (moves_to (apart_from_both through to) to t u moves)
 
 -- the items to move are such a walk
 pub mapped_walk : (rule : NameMap) (t : Option Told) (from : OpenedVault) (own mapped : List Planned) → AreItemsToMove rule t from own mapped → IsMappedWalk rule t from mapped

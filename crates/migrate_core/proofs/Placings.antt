@@ -37,11 +37,12 @@ use Rattle.content_writing.specs.Trees.{opens_as}
 use Rattle.work_folder.specs.Entering.{IsReady}
 use Rattle.work_folder.specs.Entries.{stage_path}
 use Rattle.migrate_core.proofs.Leadings.{goes_nowhere}
-use Rattle.migrate_core.proofs.Movings.{AreSound, moves_nowhere}
+use Rattle.migrate_core.proofs.Movings.{moves_nowhere}
 use Rattle.migrate_core.proofs.Planned.{DirectoriesOpen, FilesFit, FilesOpen, IsContentOf, SeenAlone, content_coming, directory_held, file_held}
 use Rattle.migrate_core.specs.Leading.{Goes, Leads}
 use Rattle.migrate_core.specs.Moving.{OnlyBrings, MovesBeside}
 use Rattle.migrate_core.specs.Sides.{AreSides, IsItemOf}
+use Rattle.migration_spec.proofs.Tellings.{AreSound}
 
 -- ---- a new item is brought
 

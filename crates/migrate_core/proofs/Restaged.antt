@@ -1,8 +1,7 @@
 -- Going on with a migration whose stage is made ready anew.
-use Rattle.std.proofs.Common.{◌≡◌, ◌≢◌, ◌&&◌, Bool, true, false, List, [], ◌∷◌, Option, Some, None, Result, refl, sym, ap, ◌∙◌, subst, codes, IsTrue, is_none}
+use Rattle.std.proofs.Common.{◌≡◌, ◌≢◌, Bool, List, [], ◌∷◌, Option, Some, None, Result, refl, sym, ap, ◌∙◌, subst, codes}
 use Rattle.std.proofs.Math.Path.{fun_ext}
 use Rattle.folder_spec.proofs.Paths.{below-apart}
-use Rattle.folder_spec.proofs.Replaces.{apart-below}
 use Rattle.folder_spec.specs.Event.{Told, FromTo}
 use Rattle.folder_spec.specs.Moments.{Went}
 use Rattle.folder_spec.specs.Path.{Path}
@@ -16,7 +15,7 @@ use Rattle.migration_spec.proofs.Kept.{behind_none}
 use Rattle.migration_spec.specs.Alone.{Progress, Begun, Finished, IsAlone, StaysAlone}
 use Rattle.migration_spec.specs.Guard.{IsDone, Migration, Tells, tree_at}
 use Rattle.work_folder.specs.Apart.{AreApart}
-use Rattle.migration_sides.specs.Sides.{IsWalked}
+use Rattle.migration_sides.specs.Sides.{IsWalked, AreSeparate}
 use Rattle.mapped_trees.specs.Plans.{IsPlanOf}
 use Rattle.mapped_trees.specs.Trees.{IsMapped}
 use Rattle.plain_tree.specs.Mapped.{mapped_path}
@@ -35,10 +34,12 @@ use Rattle.migrate_core.proofs.Leadings.{goes_given, goes_on}
 use Rattle.migrate_core.proofs.MappedItems.{own_item}
 use Rattle.migrate_core.proofs.Movings.{moves_to, moves_within}
 use Rattle.migrate_core.proofs.Planned.{SeenAlone, seen_of, walk_of}
-use Rattle.migrate_core.proofs.WorkFolders.{changing_moves}
+use Rattle.migrate_core.proofs.WorkFolders.{beside_stage, changing_moves}
 use Rattle.migrate_core.specs.Leading.{Goes, Guards, Leads, LeadsTold, progress_of}
 use Rattle.migrate_core.specs.Moving.{MovesBeside, OnlyBrings}
 use Rattle.migrate_core.specs.Sides.{AreItemsToMove, AreSides, StandAll}
+use Rattle.migrate_core.proofs.Readied.{IsReadied}
+use Rattle.migration_spec.proofs.Tellings.{AreSound}
 
 -- ---- the stage alone
 
@@ -48,15 +49,14 @@ stage_apart work root apart = record {
   other = behind_none work (codes "stage" ∷ []) root apart.other;
 }
 
-left_of : (a b : Bool) → IsTrue (a && b) → IsTrue a
-left_of true b both = refl
-left_of false b both = absurd (cc both)
-
 pub stage_moves : (work root : Path) (t u : Option Told) → AreApart root work → ChangesAt (stage_path work) (IsStage work) (IsBelowStage work) t u → MovesBeside (apart_from_both work root) root t u
 stage_moves work root t u apart changes =
     moves_within (apart_from_both work root) (apart_from (stage_path work)) root t u
-    (λ q is. ap is_none (behind_none work (codes "stage" ∷ []) q (apart-below work q (left_of (apart_from work q) (apart_from root q) is))))
-    (changing_moves (stage_path work) (IsStage work) (IsBelowStage work) root t u (stage_apart work root apart) changes)
+    (beside_stage work root) (changing_moves (stage_path work) (IsStage work) (IsBelowStage work) root t u (stage_apart work root apart) changes)
+
+pub stage_readied : (work from to : Path) (t u : Option Told) → AreSeparate from to work → AreSound t → ChangesAt (stage_path work) (IsStage work) (IsBelowStage work) t u → IsReadied from to work t u
+stage_readied work from to t u separate sound changes =
+    record { separate = separate; sound = sound; moves = stage_moves work to t u separate.target changes; away = stage_moves work from t u separate.source changes }
 
 pub stage_stays : (work root : Path) (t u : Option Told) → AreApart root work → ChangesAt (stage_path work) (IsStage work) (IsBelowStage work) t u
     → FromTo (λ a b. IsAsBefore (apart_from (stage_path work)) a.state b.state) t u

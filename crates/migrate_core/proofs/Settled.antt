@@ -1,14 +1,10 @@
 -- What a call finds of a settled migration: the vaults that it opens are its sides, and how far it has come.
-use Rattle.std.proofs.Common.{◌≡◌, ◌≢◌, ◌⊎◌, ℕ, List, Bool, true, false, Option, Some, None, Result, Ok, refl, sym, ap, ◌∙◌, subst, inl, inr, append-nil, codes}
-use Rattle.folder_spec.specs.declared.FolderFault.{FolderFault}
-use Rattle.folder_spec.proofs.Moments.{went_nowhere, went_on, went_by_call}
-use Rattle.folder_spec.proofs.Tables.{present_is_table}
-use Rattle.folder_spec.proofs.Tellings.{from_to_more, from_to_same}
-use Rattle.folder_spec.specs.Event.{Told, Changes, Steps, Settle, Done, changed, told_after}
-use Rattle.folder_spec.specs.Path.{Part, Path, child, parent}
+use Rattle.std.proofs.Common.{◌≡◌, ◌≢◌, ◌⊎◌, ℕ, List, Bool, true, false, Option, Some, None, Ok, refl, sym, ap, ◌∙◌, subst, inl, inr, append-nil, codes}
+use Rattle.folder_spec.specs.Event.{Told, Changes, Settle, Done, changed, told_after}
+use Rattle.folder_spec.specs.Path.{Path, parent}
 use Rattle.folder_spec.specs.Seen.{IfSeen, IsSeen, seen, under}
-use Rattle.folder_spec.specs.State.{State, IsSound, present}
-use Rattle.folder_spec.specs.View.{Found, NoEntry, Folder, FileOf, Special, View, found, kind_found}
+use Rattle.folder_spec.specs.State.{State, IsSound}
+use Rattle.folder_spec.specs.View.{Found, NoEntry, Folder, FileOf, Special, View, kind_found}
 use Rattle.move_journal.specs.Journal.{IsJournal}
 use Rattle.move_journal.specs.Reading.{ReadsAs, journal_bytes, journal_path, StandsIn}
 use Rattle.move_journal.specs.Writing.{new_journal_path}
@@ -16,16 +12,18 @@ use Rattle.move_journal.specs.declared.journal.Journal.{Journal}
 use Rattle.move_journal.specs.declared.journal.Phase.{Phase}
 use Rattle.move_journal.specs.declared.journal.Phase.TheVariants as phase
 use Rattle.move_journal.proofs.Standing.{HaveOneJournal, not_missing, read_stands}
-use Rattle.migration_spec.specs.Alone.{Progress, Unbegun, Begun, Finished, IsIn, IsAlone, KeepsGuarded, StaysGuarded}
+use Rattle.migration_spec.specs.Alone.{Progress, Unbegun, Begun, Finished, IsIn, IsAlone, KeepsGuarded}
 use Rattle.migration_spec.specs.Guard as guard
 use Rattle.migration_spec.specs.Guard.{AreOpenedBy, Migration, Guarded, IsGuarded, IsThere, Tells, HasJournal, Case, NotBegun, Building, Retired, LastJournal, Stands, Gone}
 use Rattle.plain_tree.specs.declared.name_map.NameMap.{NameMap}
 use Rattle.vault_read.specs.Laws.{HaveOneAnswer}
 use Rattle.vault_spec.specs.Opened.{OpenedVault}
 use Rattle.vault_spec.specs.Vault.{Vault, LoadsFrom, IsVault}
-use Rattle.work_folder.specs.Entries.{HasNoForeign, is_foreign, stage_path}
+use Rattle.work_folder.specs.Entries.{is_foreign, stage_path}
 use Rattle.work_folder.specs.Looking.{Tests, TestsEntries, TestsJournal, TestsKind, TestsParent}
-use Rattle.migrate_core.proofs.Movings.{AreSound}
+use Rattle.migration_spec.proofs.Entries.{entries_pass}
+use Rattle.migration_spec.proofs.Settling.{SettlesGuarded, settle_then, still_guarded}
+use Rattle.migration_spec.proofs.Tellings.{AreSound, folders_in, folders_of}
 use Rattle.migrate_core.specs.Leading.{Guards, IsSettled, KeepsSettled, progress_of}
 use Rattle.migrate_core.specs.Moving.{MovesBeside}
 use Rattle.migrate_core.specs.Sides.{AreSides, IsAsked, IsInUse}
@@ -36,27 +34,9 @@ use Rattle.migrate_core.specs.Sides.{AreSides, IsAsked, IsInUse}
 abbrev pub AreSeen : Type 0
 AreSeen = (g : Migration) (s : State) → IsSound s → Guarded g s → IsGuarded g (seen s)
 
--- a text is that of one journal alone
-
--- a settle keeps migrations guarded
-abbrev pub SettlesGuarded : Type 0
-SettlesGuarded = (g : Migration) (s : State) → Guarded g s → Guarded g (changed s Settle)
-
--- and then nothing is pending of what counts
+-- behind a settle nothing is pending of what counts
 abbrev pub SettlesAlone : Type 0
 SettlesAlone = (g : Migration) (p : Progress) (s : State) → IsSound s → Guarded g s → IsIn g p (seen s) → IsAlone g p (changed s Settle)
-
--- ---- what is seen
-
--- what stands has a folder above it
-pub folder_above : (s : State) (work : Path) (name : Part) → IsSound s → seen s (child work name) ≢ NoEntry → seen s work ≡ Folder
-folder_above s work name sound stands =
-    ap (found (λ n. (s.nodes n).now)) ((sound.tables (present s) (present_is_table s)).parents work name (λ none. stands (ap (found (λ n. (s.nodes n).now)) none)))
-
-pub folder_seen_above : (t : Option Told) → AreSound t → IfSeen t (λ v. (work : Path) (name : Part) → v (child work name) ≢ NoEntry → v work ≡ Folder)
-folder_seen_above (Some a) sound v is work name stands =
-    ap (λ (w : View). w work) is ∙ folder_above a.state work name (sound a refl) (λ none. stands (ap (λ (w : View). w (child work name)) is ∙ none))
-folder_seen_above None sound v is work name stands = absurd is
 
 -- ---- the vaults
 
@@ -80,7 +60,7 @@ one_side one a v opened root pass loaded at there = λ i. record { root = (loade
 -- no journal stands where the tests of a work folder pass
 no_journal : (s : State) (work : Path) (text : List ℕ) → IsSound s → Tests (seen s) work (Ok tt) → seen s (journal_path work) ≢ FileOf text
 no_journal s work text sound tests stands =
-    by_journal (seen s (journal_path work)) stands (by_kind (seen s work) (folder_above s work (codes "journal") sound (λ none. file (sym stands ∙ none))) (by_parent (seen s (parent work)) tests))
+    by_journal (seen s (journal_path work)) stands (by_kind (seen s work) (folders_in s sound work (codes "journal") (λ none. file (sym stands ∙ none))) (by_parent (seen s (parent work)) tests))
   where
     file : FileOf text ≡ NoEntry → ⊥
     file e = cc e
@@ -183,10 +163,7 @@ resumes one are_seen one_journal g s from to through journal from_pass to_pass r
 
 -- nothing has changed
 pub still_settled : (g : Migration) (t u : Option Told) → u ≡ t → KeepsSettled g t u
-still_settled g t u is = from_to_same (λ a b. IsSettled g a.state → StaysGuarded g a b) t u is (λ a settled. went_nowhere (Guarded g) (λ s e. Unit {0}) a settled.guarded)
-
-pub still_guarded : (g : Migration) (t u : Option Told) → u ≡ t → KeepsGuarded g t u
-still_guarded g t u is = from_to_same (λ a b. Guarded g a.state → StaysGuarded g a b) t u is (λ a guarded. went_nowhere (Guarded g) (λ s e. Unit {0}) a guarded)
+still_settled g t u = still_guarded (IsSettled g) g t u (λ s settled. settled.guarded)
 
 -- what is found of it leads it on
 pub settled_by : (region : Path → Bool) (root : Path) (g : Migration) (p : Progress) (t u : Option Told) → MovesBeside region root t u
@@ -198,13 +175,7 @@ settled_by region root g p (Some a) None went known = absurd went
 
 -- ---- a settle
 
--- a settle that failed leaves it guarded
-pub settle_fell : SettlesGuarded → (g : Migration) (t u : Option Told) (result : Result (Unit {0}) FolderFault) → Changes Settle t u result → KeepsGuarded g t u
-settle_fell settles g t u result changes =
-    from_to_more (λ a b. Steps Settle a b result) (λ a b. Guarded g a.state → StaysGuarded g a b) t u
-    (λ a b is steps guarded. went_by_call (Guarded g) (λ s e. Unit {0}) Settle a b result guarded (λ allowed. settles g a.state guarded) (λ added allowed. guarded) (λ outcome. tt) steps) changes
-
--- and after one that was done it is settled
+-- after one that was done it is settled
 settled_at : SettlesGuarded → SettlesAlone → (g : Migration) (a b : Told) → IsSound a.state → IsSound b.state → Guarded g a.state → b ≡ told_after a Settle Done → IsSettled g b.state
 settled_at settles alone g a b sound sound_after guarded is = record {
   sound = sound_after;
@@ -212,35 +183,14 @@ settled_at settles alone g a b sound sound_after guarded is = record {
   alone = subst (λ (c : Told). (p : Progress) → IsIn g p (seen c.state) → IsAlone g p c.state) (sym is) (λ p is_in. alone g p a.state sound guarded is_in);
 }
 
-pub settle_then : SettlesGuarded → SettlesAlone → (g : Migration) (t u w : Option Told) (value : Unit {0}) → AreSound t → AreSound u → Changes Settle t u (Ok value) → KeepsSettled g u w → KeepsGuarded g t w
-settle_then settles alone g None None None value sound sound_after changes keeps = tt
-settle_then settles alone g (Some a) (Some b) (Some c) value sound sound_after changes keeps = λ guarded.
-    went_on (Guarded g) (λ s e. Unit {0}) a b c (settle_fell settles g (Some a) (Some b) (Ok value) changes guarded)
-    (keeps (settled_at settles alone g a b (sound a refl) (sound_after b refl) guarded changes.1))
-settle_then settles alone g None (Some b) w value sound sound_after changes keeps = absurd changes
-settle_then settles alone g (Some a) None w value sound sound_after changes keeps = absurd changes
-settle_then settles alone g None None (Some c) value sound sound_after changes keeps = absurd keeps
-settle_then settles alone g (Some a) (Some b) None value sound sound_after changes keeps = absurd keeps
-
--- what is seen stays so
-pub settle_seen : (t u : Option Told) (value : Unit {0}) → Changes Settle t u (Ok value) → IfSeen t (λ v. IsSeen u v)
-settle_seen (Some a) (Some b) value changes v is = is ∙ ap (λ (c : Told). seen c.state) (sym changes.1)
-settle_seen None u value changes v is = absurd is
-settle_seen (Some a) None value changes v is = absurd changes
-
-pub settle_was_seen : (t u : Option Told) (value : Unit {0}) → Changes Settle t u (Ok value) → IfSeen u (λ v. IsSeen t v)
-settle_was_seen (Some a) (Some b) value changes v is = is ∙ ap (λ (c : Told). seen c.state) changes.1
-settle_was_seen None (Some b) value changes v is = absurd changes
-settle_was_seen t None value changes v is = absurd is
+pub settle_goes : SettlesGuarded → SettlesAlone → (g : Migration) (t u w : Option Told) (value : Unit {0}) → AreSound t → AreSound u → Changes Settle t u (Ok value) → KeepsSettled g u w → KeepsGuarded g t w
+settle_goes settles alone g t u w value sound sound_after =
+    settle_then settles (IsSettled g) g t u w value (λ a b is is_then guarded. settled_at settles alone g a b (sound a is) (sound_after b is_then) guarded)
 
 -- ---- a work folder that is in use
 
--- no entry is foreign where the tests of the entries pass
-pub none_foreign : (old : Bool) (v : View) (work : Path) → TestsEntries old v work (Ok tt) → HasNoForeign old v work
-none_foreign old v work h = elim h [ inl none ↦ none.0 | inr some ↦ absurd (cc (some.2)) ]
-
 pub journal_folder : (t : Option Told) → AreSound t → IfSeen t (λ v. (work : Path) (journal : Journal) → ReadsAs (journal_bytes v work) (Ok journal) → v work ≡ Folder)
-journal_folder t sound v is work journal read = folder_seen_above t sound v is work (codes "journal") (λ none. not_missing work journal v (read_stands work v journal read) none)
+journal_folder t sound v is work journal read = folders_of t sound v is work (codes "journal") (λ none. not_missing work journal v (read_stands work v journal read) none)
 
 new_place : (old : Bool) (x : Found) → ¬ (is_foreign old (codes "journal.new") (kind_found x) ≡ true) → (x ≡ NoEntry) ⊎ ((bytes : List ℕ) × (x ≡ FileOf bytes))
 new_place old NoEntry none = inl refl
@@ -258,7 +208,7 @@ stage_place old Special none = absurd (none refl)
 pub in_use : (t : Option Told) → AreSound t → (v : View) → IsSeen t v → (work : Path) (journal : Journal) (old : Bool) → ReadsAs (journal_bytes v work) (Ok journal) → TestsEntries old v work (Ok tt)
     → IsInUse v work journal
 in_use t sound v is work journal old read tests =
-    let none = none_foreign old v work tests in
+    let none = entries_pass old v work tests in
     let stands = read_stands work v journal read in
     record {
       folder = record {

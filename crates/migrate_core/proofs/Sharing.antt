@@ -42,15 +42,15 @@ use Rattle.vault_spec.specs.Vault.{IsVault, Vault, format_of}
 use Rattle.vault_write.specs.Calls.{MakesAt, New}
 use Rattle.content_writing.specs.Making.{is_apart}
 use Rattle.vault_write.specs.Refusing.{Answers}
-use Rattle.migrate_core.proofs.Compared.{TellsTree, planned_at}
+use Rattle.migrate_core.proofs.Compared.{planned_at}
+use Rattle.tree_match.proofs.Passing.{TellsTree}
 use Rattle.migrate_core.proofs.Copyings.{copied_as}
 use Rattle.migrate_core.proofs.Endings.{root_directory}
 use Rattle.migrate_core.proofs.Entered.{EnteredLeads, paths_total}
-use Rattle.migrate_core.proofs.Leadings.{seen_then}
 use Rattle.migrate_core.proofs.MappedItems.{ComesFrom, TellsMapped, comes_from}
 use Rattle.migrate_core.proofs.Placings.{made_moves}
 use Rattle.migrate_core.proofs.Stopping.{Stays}
-use Rattle.migrate_core.proofs.Within.{FilesAreThere, StandBehind, content_opens}
+use Rattle.migrate_core.proofs.Within.{StandBehind, content_opens}
 use Rattle.migrate_core.specs.Causes.{IsStop, StopsLater, nothing_stops}
 use Rattle.migrate_core.specs.Copying.{Copies, HasCopied, MayBegin, tree_in}
 use Rattle.migrate_core.specs.Faults.{of_put}
@@ -61,6 +61,9 @@ use Rattle.migrate_core.specs.Sides.{AreItemsToMove}
 use Rattle.migrate_core.specs.Written.{HasGone, WasSeen}
 use Rattle.migrate_core.specs.declared.fault.MoveFault.{MoveFault}
 use Rattle.migrate_core.specs.declared.fault.MoveFault.TheVariants.{Work, Journal as Unread, Overlap, Load, Walk, NotEmpty, NotAllowed, Meet, Changed, Match as Matching, Differ, Place, SourceGone, Failed, NoMemory}
+use Rattle.migration_spec.proofs.Tellings.{seen_then}
+use Rattle.tree_match.proofs.HeldTrees.{FilesAreThere}
+use Rattle.migrate_core.proofs.Writings.{Compose}
 
 -- ---- faults
 
@@ -144,9 +147,6 @@ put_stops Q put.NoMemory is = tt
 
 -- ---- what is seen at a moment
 
-abbrev Composed : Type 0
-Composed = (first second third : Option ByteStream) (xs ys : List ℕ) → Draws first second xs → Draws second third ys → Draws first third (xs ++ ys)
-
 module _ (region : Path → Bool) (root : Path) where
   abbrev Moved : Told → Told → Type 0
   Moved a b = Went (IsAsBefore region a.state) (λ s e. OnlyBrings root s e.call) a b
@@ -165,7 +165,7 @@ module _ (region : Path → Bool) (root : Path) where
       (λ a b e went was. (was.0, went_on (λ s. Unit {0}) (λ s e. Unit {0}) a b was.0 (gone a b went) was.1, was.2, was.3))
 
   pub shares_before : (Is More : View → Type 0) (to : OpenedVault) (items more : List Planned) (r s s' : Option ByteStream) (t u w : Option Told) → MovesBeside region root t u → Stays More Is t u
-      → ((v x : View) → IsSeen t v → IsSeen u x → More v → LoadsAlike (under to.root v) (under to.root x)) → ((item : Planned) → Contains items item → Contains more item) → Composed → IfSeen t (λ v. (xs : List ℕ) × Draws r s xs)
+      → ((v x : View) → IsSeen t v → IsSeen u x → More v → LoadsAlike (under to.root v) (under to.root x)) → ((item : Planned) → Contains items item → Contains more item) → Compose → IfSeen t (λ v. (xs : List ℕ) × Draws r s xs)
       → SharesFrom Is to items s s' u w → SharesFrom More to more r s' t w
   shares_before Is More to items more r s s' t u w went stays alike within composed drew shares v is given =
       let x : (x : View) × IsSeen u x = seen_then _ t u went v is in

@@ -24,10 +24,11 @@ use Rattle.vault_spec.specs.Findings.{IsClean}
 use Rattle.vault_spec.specs.Plan.{Planned}
 use Rattle.vault_spec.specs.Vault.{format_of}
 use Rattle.migrate_core.proofs.Causing.{PassedWith}
-use Rattle.migrate_core.proofs.Compared.{TellsTree, planned_at}
-use Rattle.migrate_core.proofs.Movings.{AreSound}
+use Rattle.migrate_core.proofs.Compared.{planned_at}
+use Rattle.tree_match.proofs.Passing.{TellsTree}
 use Rattle.migrate_core.specs.Causes.{TestsHeld, TestsItems}
 use Rattle.migrate_core.specs.Copying.{MayBegin, tree_in}
+use Rattle.migration_spec.proofs.Tellings.{AreSound}
 
 -- what is seen has its folders, also at a root
 seen_folders : (root : Path) (t : Option Told) → AreSound t → IfSeen t (λ v. HasFolders (under root v))

@@ -5,7 +5,6 @@ use Rattle.chunk_files.specs.Contents.{readable}
 use Rattle.chunk_files.specs.Keys.{Keys}
 use Rattle.chunk_files.specs.Reading.{Ending, Faulty, Wanting, Whole}
 use Rattle.folder_spec.proofs.Paths.{child-injective, child-last, child-not_base}
-use Rattle.folder_spec.specs.Path as folder
 use Rattle.folder_spec.specs.Seen.{ShowsFile}
 use Rattle.folder_spec.specs.View.{View}
 use Rattle.plain_tree.specs.Mapped.{mapped_path}
@@ -27,15 +26,12 @@ use Rattle.vault_walk.specs.Survey.{HasTooMany, IsItem, IsNear, IsPathOf, IsTooD
 use Rattle.vault_walk.specs.Surveyed.{IsWithin}
 use Rattle.migrate_core.proofs.Fronts.{StandBelow, stands_in}
 use Rattle.migrate_core.proofs.MappedItems.{MappedParts, mapped_parts, mapped_size}
-use Rattle.migrate_core.proofs.ReadEnds.{whole_ends}
+use Rattle.vault_spec.proofs.Endings.{whole_ends}
+use Rattle.tree_match.proofs.HeldTrees.{FilesAreThere}
 
 -- what stands in a directory stands behind the path to it
 abbrev pub StandBehind : Type 0
 StandBehind = (f : Format) (v : View) (front : plain.Path) (dir : Directory) (name : List ℕ) → Leads f v front dir → standing f v (front ++ name ∷ []) ≡ standing_in f v dir name
-
--- the content of a file is there
-abbrev pub FilesAreThere : Type 0
-FilesAreThere = (vault : Vault) (v : View) (path : plain.Path) (at : folder.Path) → standing (format_of vault) v path ≡ File at → ShowsFile v at
 
 -- ---- what stands opens
 

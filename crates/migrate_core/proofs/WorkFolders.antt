@@ -1,7 +1,7 @@
 -- What making a work folder ready and writing a journal move; and what stays in the work folder.
 use Rattle.std.specs.Cmp.Lexicographic.{bytes_decides}
 use Rattle.std.specs.Str.{bytes_eq}
-use Rattle.std.proofs.Common.{◌≡◌, ◌≢◌, ◌&&◌, Bool, true, false, not, ℕ, List, ◌++◌, ◌∷◌, [], Option, Some, None, refl, sym, ap, ◌∙◌, subst, inl, inr, append-nil, append_assoc, codes, IsTrue, is_none}
+use Rattle.std.proofs.Common.{◌≡◌, ◌≢◌, Bool, true, false, not, ℕ, List, ◌++◌, ◌∷◌, [], Option, Some, None, refl, sym, ap, ◌∙◌, subst, inl, inr, append-nil, append_assoc, codes, IsTrue, is_none}
 use Rattle.folder_spec.specs.Path.{Part, Path, below, child}
 use Rattle.folder_spec.specs.State.{Node, State}
 use Rattle.folder_spec.specs.Event.{Call, MakeDir, Create, Append, Sync, Settle, Rename, RemoveFile, RemoveDir, Told, FromTo}
@@ -11,7 +11,6 @@ use Rattle.folder_spec.specs.Seen.{IfSeen, ShowsNothingOrFile, seen}
 use Rattle.folder_spec.specs.View.{View, FileOf, NoEntry, found}
 use Rattle.folder_spec.proofs.Moments.{went_more, went_to}
 use Rattle.folder_spec.proofs.Paths.{begins_or_not, below-append, below-apart, below-both, below-sibling}
-use Rattle.folder_spec.proofs.Replaces.{apart-below}
 use Rattle.folder_spec.proofs.Tellings.{from_to_more}
 use Rattle.folder_spec.proofs.Regions.{seen_as_before}
 use Rattle.move_journal.specs.Journal.{journal_text}
@@ -19,15 +18,16 @@ use Rattle.move_journal.specs.Writing.{IsWorkFolder, IsWriting, Writes, HasWritt
 use Rattle.move_journal.specs.declared.journal.Journal.{Journal}
 use Rattle.move_journal.specs.Reading.{StandsIn}
 use Rattle.move_journal.proofs.Standing.{stands_alike}
-use Rattle.migration_spec.proofs.Kept.{behind_none, entry_inside, staged_in}
+use Rattle.migration_spec.proofs.Kept.{behind_none, entry_inside, staged_in, beside_both}
 use Rattle.work_folder.specs.Apart.{AreApart}
 use Rattle.content_writing.specs.Making.{is_apart, is_inside, is_staged}
 use Rattle.work_folder.specs.Changing.{ChangesAt, ChangesOnly, IsChangingAt}
-use Rattle.work_folder.specs.Entering.{IsReady, IsFresh}
+use Rattle.work_folder.specs.Entering.{IsReady, IsFresh, IsLeftOver, IsWorkOrStage}
 use Rattle.work_folder.specs.Entries.{journal_path, stage_path}
-use Rattle.migrate_core.proofs.Movings.{AreSound, apart_of, both, moves_within}
+use Rattle.migrate_core.proofs.Movings.{apart_of, both, moves_within, moves_on}
 use Rattle.migrate_core.specs.Moved.{IsTidyWork, StaysTidyWork}
 use Rattle.migrate_core.specs.Moving.{OnlyBrings, MovesBeside, MovesOnly}
+use Rattle.migration_spec.proofs.Tellings.{AreSound}
 
 -- ---- calls that spare a region with the target in it
 
@@ -79,20 +79,12 @@ pub elsewhere_at : (work root : Path) → AreApart root work → (rest : Path) �
 elsewhere_at work root apart rest = elsewhere_of work (root ++ rest) (below-apart work root rest apart.other apart.one)
 
 -- what begins neither with the work folder nor with the target is in each of these regions
-first_of : (a b : Bool) → IsTrue (a && b) → IsTrue a
-first_of true b is = refl
-first_of false b is = absurd (cc is)
-
-second_of : (a b : Bool) → IsTrue (a && b) → IsTrue b
-second_of true b is = is
-second_of false b is = absurd (cc is)
-
 module _ (work root q : Path) (is : IsTrue (apart_from_both work root q)) where
   not_in_work : below work q ≡ None
-  not_in_work = apart-below work q (first_of (apart_from work q) (apart_from root q) is)
+  not_in_work = (beside_both work root q is).0
 
   pub beside_work : IsTrue (apart_from work q)
-  beside_work = first_of (apart_from work q) (apart_from root q) is
+  beside_work = ap is_none not_in_work
 
   pub beside_stage : IsTrue (apart_from (stage_path work) q)
   beside_stage = ap is_none (behind_none work (codes "stage" ∷ []) q not_in_work)
@@ -101,7 +93,7 @@ module _ (work root q : Path) (is : IsTrue (apart_from_both work root q)) where
   beside_journals = elsewhere_of work q not_in_work
 
   pub beside_staged : IsTrue (is_apart work root q)
-  beside_staged = apart_of work root q not_in_work (apart-below root q (second_of (apart_from work q) (apart_from root q) is))
+  beside_staged = apart_of work root q not_in_work (beside_both work root q is).1
 
 -- ---- what is moved
 
@@ -143,6 +135,11 @@ entered_moves work root Comes Goes t u apart changes =
 
 pub written_moves : (work root : Path) (j : Journal) (t u : Option Told) → AreApart root work → Writes work j t u → MovesOnly work root t u
 written_moves work root j t u apart writes = moves_within (apart_from_both work root) (elsewhere work) root t u (beside_journals work root) (writing_moves work root j t u apart writes)
+
+-- the work folder is made ready, and the journal written
+pub begun_moves : (work root : Path) (j : Journal) (t u w : Option Told) → AreApart root work → ChangesAt work (IsWorkOrStage work) (IsLeftOver work) t u → Writes work j u w → MovesOnly work root t w
+begun_moves work root j t u w apart enters writes =
+    moves_on (apart_from_both work root) root t u w (entered_moves work root (IsWorkOrStage work) (IsLeftOver work) t u apart enters) (written_moves work root j u w apart writes)
 
 -- ---- what stays
 

@@ -24,13 +24,8 @@ use Rattle.content_writing.specs.Content.{Coming, Ending, Whole, content_limit}
 use Rattle.vault_contents.specs.Coming.{coming_read, ending_of, held_before}
 use Rattle.content_writing.specs.declared.fault.PutFault.{PutFault}
 use Rattle.content_writing.specs.declared.fault.PutFault.TheVariants as put
-use Rattle.folder_spec.specs.declared.FolderFault.TheVariants as folder
-use Rattle.work_folder.specs.declared.fault.WorkFault.{WorkFault}
-use Rattle.work_folder.specs.declared.fault.WorkFault.TheVariants as works
 use Rattle.vault_write.specs.Refusing.{Answers, HasTaken}
-use Rattle.move_journal.specs.declared.journal.JournalFault.{JournalFault}
-use Rattle.move_journal.specs.declared.journal.JournalFault.TheVariants as journals
-use Rattle.migrate_core.specs.Faults.{IsOfTest, of_folder, of_journal, of_map, of_put, of_step, of_work}
+use Rattle.migrate_core.specs.Faults.{IsOfTest, of_put}
 use Rattle.migrate_core.specs.declared.fault.MoveFault.{MoveFault}
 use Rattle.migrate_core.specs.declared.fault.MoveFault.TheVariants.{Work, Journal as Unread, Overlap, Load, Walk, NotEmpty, NotAllowed, Meet, Changed, Match as Matching, Differ, Place, SourceGone, Failed, NoMemory}
 use Rattle.move_journal.specs.Journal.{IsJournal, journal_text}
@@ -57,16 +52,12 @@ use Rattle.content_writing.specs.Making.{IsPlace, Making, Placing, StagesOrPlace
 use Rattle.content_writing.specs.Placing.{IsMaking, making_at}
 use Rattle.work_folder.specs.Changing.{ChangesAt, ChangesOnly, IsChangingAt}
 use Rattle.content_writing.specs.Making.{is_apart}
-use Rattle.migrate_core.proofs.Movings.{AreSound, source_apart, source_beside}
+use Rattle.migrate_core.proofs.Movings.{source_apart, source_beside, moves_to}
 use Rattle.migrate_core.proofs.Placings.{below_root}
 use Rattle.migrate_core.proofs.WorkFolders.{apart_at, elsewhere_at, not_in_root, not_moved}
 use Rattle.work_folder.specs.Apart.{AreApart}
 use Rattle.migrate_core.proofs.Planned.{FilesFit, mapped_behind, mapped_files, reader_of}
 use Rattle.migration_sides.specs.Sides.{AreSeparate, opened_in}
-use Rattle.migration_sides.specs.declared.fault.StepFault.{StepFault}
-use Rattle.migration_sides.specs.declared.fault.StepFault.TheVariants as steps
-use Rattle.tree_match.specs.declared.answer.MapFault.{MapFault}
-use Rattle.tree_match.specs.declared.answer.MapFault.TheVariants as maps
 use Rattle.migrate_core.specs.Moved.{done_of, is_there}
 use Rattle.migrate_core.specs.Causes.{IsStop, StopsLater, nothing_stops}
 use Rattle.folder_spec.specs.Region.{apart_from_both}
@@ -75,6 +66,8 @@ use Rattle.move_journal.specs.declared.journal.Phase.TheVariants.{Done}
 use Rattle.move_journal.specs.Reading.{StandsIn}
 use Rattle.migrate_core.specs.Sides.{AreTold, IsItemOf, IsMappedWalk, new_journal}
 use Rattle.migrate_core.specs.Written.{IsRefusal, HasGone, IsOfNoItem, WasAnswered, WasSeen, WereAnswered, ending_by, ending_in, last_answer, placing_in, BringsOnlyTo, IsMadePlace, IsPlaceOf, WritesBeside, AreCopies, HoldsOnly, IsCopyOf, IsFileOf, IsOneOf, MadeItem, MayWrite, MayWriteTold, MayWriteTree, Writes, WritesAll, WritesBy, WritesFirst, WritesLacked, WritesNothing, WritesOnly, WritesTree, journal_texts, lacked, slices}
+use Rattle.migration_spec.proofs.Tellings.{AreSound}
+use Rattle.migrate_core.specs.Moving.{MovesBeside}
 
 -- ---- members
 
@@ -723,16 +716,31 @@ lacked_next there xs k x inside at =
 pub lacked_split : (there xs : List Planned) (k : ℕ) → lacked there (take k xs) ++ lacked there (drop k xs) ≡ lacked there xs
 lacked_split there xs k = sym (lacked_more there (take k xs) (drop k xs)) ∙ ap (lacked there) (take-append-drop k xs)
 
--- an item of the source stands apart from what is staged and from the target
+-- an item of the source stands in each region of all below its root
+pub source_in : (region : Path → Bool) (rule : NameMap) (from : OpenedVault) (items : List Planned) (t : Option Told) (item : Planned) → ((rest : Path) → IsTrue (region (from.root ++ rest))) → IsMappedWalk rule t from items → Contains items item
+    → IsTrue (region item.at)
+source_in region rule from items t item inside walked among =
+    let behind = mapped_behind rule from items t walked item among in
+    subst (λ at. IsTrue (region at)) (sym behind.1) (inside behind.0)
+
+-- so it stands apart from what is staged and from the target
 pub source_place : (rule : NameMap) (from : OpenedVault) (root work : Path) (items : List Planned) (t : Option Told) (item : Planned) → AreSeparate from.root root work → IsMappedWalk rule t from items → Contains items item
     → IsTrue (is_apart work root item.at)
-source_place rule from root work items t item separate walked among =
-    let behind = mapped_behind rule from items t walked item among in
-    subst (λ at. IsTrue (is_apart work root at)) (sym behind.1) (source_apart from.root root work behind.0 separate)
+source_place rule from root work items t item separate = source_in (is_apart work root) rule from items t item (λ rest. source_apart from.root root work rest separate)
+
+pub source_beside_at : (rule : NameMap) (from : OpenedVault) (root work : Path) (items : List Planned) (t : Option Told) (item : Planned) → AreSeparate from.root root work → IsMappedWalk rule t from items → Contains items item
+    → IsTrue (apart_from_both work root item.at)
+source_beside_at rule from root work items t item separate = source_in (apart_from_both work root) rule from items t item (λ rest. source_beside from.root root work rest separate)
 
 pub next_among : (items : List Planned) (k : ℕ) (item : Planned) → k < length items → item ≡ get_or items k item → (one : Planned) → Contains (item ∷ []) one → Contains items one
 next_among items k item inside at one (zero, lt, is) = subst (Contains items) is (k, inside, sym at)
 next_among items k item inside at one (suc j, lt, is) = absurd (omega (arith, lt))
+
+-- the file of the next item stays while those before are placed
+pub next_kept : (rule : NameMap) (from : OpenedVault) (root work : Path) (items : List Planned) (k : ℕ) (item : Planned) (some : List Planned) (t u : Option Told) → AreSeparate from.root root work → AreSound t → IsMappedWalk rule t from items
+    → k < length items → item ≡ get_or items k item → ((one : Planned) → Contains some one → Contains (item ∷ []) one) → MovesBeside (is_apart work root) root t u → Kept some t u
+next_kept rule from root work items k item some t u separate sound walked inside at are moves =
+    kept_by (is_apart work root) from.root some t u sound (λ one among. source_place rule from root work items t one separate walked (next_among items k item inside at one (are one among))) (moves_to (is_apart work root) root t u moves)
 
 -- ---- by the answer
 
@@ -741,44 +749,14 @@ pub by_all : {T : Type 0} (result : Result T MoveFault) (Is : View → Type 0) (
 by_all (Ok value) Is from to items texts s s' t u t' after stops all = all
 by_all (Err fault) Is from to items texts s s' t u t' after stops all = first_of_all from to items texts s s' t t' fault (λ v seen_v. let w = after v seen_v in stop_is_test fault (Is w.0) (stops w.0 w.1)) all
 
-pub refusal_as : {T : Type 0} (result : Result T MoveFault) (fault why : MoveFault) → result ≡ Err fault → fault ≡ why → IsOfTest why → IsRefusal result
-refusal_as {T = T} result fault why is same tested = subst (λ (r : Result T MoveFault). IsRefusal r) (sym (is ∙ ap Err same)) tested
+-- a test refuses, and nothing is drawn or written
+pub refused_written : {T : Type 0} (result : Result T MoveFault) (fault why : MoveFault) → result ≡ Err fault → fault ≡ why → IsOfTest why → (s : Option ByteStream) (t u : Option Told) → Draws s s [] → WritesBeside [] (λ file. ⊥) t u
+    → WritesNothing result s s t u
+refused_written {T = T} result fault why is same tested s t u undrawn files =
+    record { refused = subst (λ (r : Result T MoveFault). IsRefusal r) (sym (is ∙ ap Err same)) tested; undrawn = undrawn; files = files }
 
-pub folder_refuses : (fault : FolderFault) → IsOfTest (of_folder fault)
-folder_refuses folder.Failed = tt
-folder_refuses folder.Refused = tt
-folder_refuses folder.NoMemory = tt
-
-pub work_refuses : (fault : WorkFault) → IsOfTest (of_work fault)
-work_refuses (works.NoParent p) = tt
-work_refuses (works.WrongKind p) = tt
-work_refuses (works.Foreign p) = tt
-work_refuses works.Begun = tt
-work_refuses works.Depth = tt
-work_refuses works.Failed = tt
-work_refuses works.NoMemory = tt
-
-pub journal_refuses : (fault : JournalFault) → IsOfTest (of_journal fault)
-journal_refuses journals.NoJournal = tt
-journal_refuses (journals.BadJournal number) = tt
-journal_refuses journals.TooLarge = tt
-journal_refuses journals.Failed = tt
-journal_refuses journals.NoMemory = tt
-
-pub step_refuses : (fault : StepFault) → IsOfTest (of_step fault)
-step_refuses (steps.Overlap first second) = tt
-step_refuses (steps.Load side fault) = tt
-step_refuses (steps.Walk fault) = tt
-step_refuses steps.Failed = tt
-step_refuses steps.NoMemory = tt
-
-pub map_refuses : (fault : MapFault) → IsOfTest (of_map fault)
-map_refuses (maps.NotAName path) = tt
-map_refuses (maps.Meet one other) = tt
-map_refuses maps.NoMemory = tt
-
-pub nothing_written : {T : Type 0} (result : Result T MoveFault) → IsRefusal result → (s : Option ByteStream) (t u : Option Told) → Draws s s [] → u ≡ t → WritesNothing result s s t u
-nothing_written result refused s t u undrawn same = record { refused = refused; undrawn = undrawn; files = only_nowhere (BringsOnlyTo [] (λ at. ⊥)) (λ file. ⊥) t u same }
+pub nothing_written : {T : Type 0} (result : Result T MoveFault) (fault why : MoveFault) → result ≡ Err fault → fault ≡ why → IsOfTest why → (s : Option ByteStream) (t u : Option Told) → Draws s s [] → u ≡ t → WritesNothing result s s t u
+nothing_written result fault why is same tested s t u undrawn stays = refused_written result fault why is same tested s t u undrawn (only_nowhere (BringsOnlyTo [] (λ at. ⊥)) (λ file. ⊥) t u stays)
 
 -- the vaults are those of two roots and their passphrases
 pub tree_of : {T : Type 0} (result : Result T MoveFault) (names : NameMap) (from to : Path) (pass pass' : List ℕ) (source target : OpenedVault) (s s' : Option ByteStream) (t t' : Option Told) → source.root ≡ from → target.root ≡ to
@@ -840,12 +818,6 @@ told_of result work pass pass' s s' t t' v j is stands may = elim may [
 ]
 
 -- ---- what the calls need
-
-pub source_beside_at : (rule : NameMap) (from : OpenedVault) (root work : Path) (items : List Planned) (t : Option Told) (item : Planned) → AreSeparate from.root root work → IsMappedWalk rule t from items → Contains items item
-    → IsTrue (apart_from_both work root item.at)
-source_beside_at rule from root work items t item separate walked among =
-    let behind = mapped_behind rule from items t walked item among in
-    subst (λ at. IsTrue (apart_from_both work root at)) (sym behind.1) (source_beside from.root root work behind.0 separate)
 
 pub none_ordered : IsOrdered []
 none_ordered i j d before few = absurd (omega (arith, few))

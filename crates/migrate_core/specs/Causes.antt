@@ -21,11 +21,10 @@ use Rattle.migration_sides.specs.Tests.{PassesOr, Then, UnlessBy, own}
 use Rattle.migration_spec.specs.Guard.{old_path}
 use Rattle.mapped_trees.specs.Trees.{AllowsMapped}
 use Rattle.tree_match.specs.Mapping.{MapsTo}
-use Rattle.tree_match.specs.Trees.{Compares}
+use Rattle.tree_match.specs.Trees.{Compares, HoldsOr}
 use Rattle.tree_match.specs.declared.answer.How.{How}
 use Rattle.tree_match.specs.declared.answer.How.TheVariants as how
 use Rattle.tree_match.specs.declared.answer.Match.{Match}
-use Rattle.tree_match.specs.declared.answer.Match.TheVariants.{Same, Contained, Differs}
 use Rattle.tree_match.specs.declared.answer.MatchFault.{MatchFault}
 use Rattle.tree_match.specs.declared.answer.MatchFault.TheVariants as match
 use Rattle.tree_match.specs.declared.answer.Where.{Where}
@@ -99,9 +98,7 @@ where_in how.Content = place.Content
 
 -- each item of the target is so in the source
 abbrev pub TestsHeld : Match → Answer (Unit {0}) → Type 0
-TestsHeld Same answer = answer ≡ Ok tt
-TestsHeld (Contained path) answer = answer ≡ Ok tt
-TestsHeld (Differs path how) answer = answer ≡ Err (Differ path (where_in how))
+TestsHeld = HoldsOr (λ path how. Differ path (where_in how))
 
 -- so it is by comparing them
 abbrev pub TestsMatch : {Y : Type 0} → OpenedVault → List Planned → OpenedVault → List Planned → View → (Answer Y → Type 0) → Answer Y → Type 0

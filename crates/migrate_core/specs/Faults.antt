@@ -4,13 +4,10 @@ use Rattle.std.specs.Prelude.{◌≡◌, Bool, true, false, IsTrue}
 use Rattle.content_writing.specs.declared.fault.PutFault.{PutFault}
 use Rattle.content_writing.specs.declared.fault.PutFault.TheVariants as put
 use Rattle.folder_spec.specs.declared.FolderFault.{FolderFault}
-use Rattle.folder_spec.specs.declared.FolderFault.TheVariants as folder
 use Rattle.move_journal.specs.declared.journal.JournalFault.{JournalFault}
 use Rattle.move_journal.specs.declared.journal.JournalFault.TheVariants as journal
 use Rattle.migration_sides.specs.declared.fault.StepFault.{StepFault}
-use Rattle.migration_sides.specs.declared.fault.StepFault.TheVariants as step
 use Rattle.tree_match.specs.declared.answer.MapFault.{MapFault}
-use Rattle.tree_match.specs.declared.answer.MapFault.TheVariants as map
 use Rattle.tree_match.specs.declared.answer.MatchFault.{MatchFault}
 use Rattle.tree_match.specs.declared.answer.MatchFault.TheVariants as match
 use Rattle.vault_read.specs.Contents.{IsOfPath}
@@ -20,38 +17,27 @@ use Rattle.work_folder.specs.declared.fault.WorkFault.{WorkFault}
 use Rattle.work_folder.specs.declared.fault.WorkFault.TheVariants as work
 use Rattle.migrate_core.specs.declared.fault.MoveFault.{MoveFault}
 use Rattle.migrate_core.specs.declared.fault.MoveFault.TheVariants.{Work, Journal, Overlap, Load, Walk, NotAllowed, Meet, Changed, Match, Place, SourceGone, Failed, NoMemory}
+use Rattle.migration_sides.specs.Faults.{folder_as, journal_as, step_as, work_as}
+use Rattle.tree_match.specs.Comparing.{match_as}
+use Rattle.tree_match.specs.Mapping.{map_as}
 
 abbrev pub of_folder : FolderFault → MoveFault
-of_folder folder.Failed = Failed
-of_folder folder.Refused = Failed
-of_folder folder.NoMemory = NoMemory
+of_folder fault = folder_as Failed NoMemory fault
 
 abbrev pub of_work : WorkFault → MoveFault
-of_work work.Failed = Failed
-of_work work.NoMemory = NoMemory
-of_work fault = Work fault
+of_work fault = work_as Failed NoMemory Work fault
 
 abbrev pub of_journal : JournalFault → MoveFault
-of_journal journal.Failed = Failed
-of_journal journal.NoMemory = NoMemory
-of_journal fault = Journal fault
+of_journal fault = journal_as Failed NoMemory Journal fault
 
 abbrev pub of_step : StepFault → MoveFault
-of_step (step.Overlap first second) = Overlap first second
-of_step (step.Load side fault) = Load side fault
-of_step (step.Walk fault) = Walk fault
-of_step step.Failed = Failed
-of_step step.NoMemory = NoMemory
+of_step fault = step_as Failed NoMemory Overlap Load Walk fault
 
 abbrev pub of_map : MapFault → MoveFault
-of_map (map.NotAName path) = NotAllowed path
-of_map (map.Meet one other) = Meet one other
-of_map map.NoMemory = NoMemory
+of_map fault = map_as NoMemory NotAllowed Meet fault
 
 abbrev pub of_match : MatchFault → MoveFault
-of_match match.Failed = Failed
-of_match match.NoMemory = NoMemory
-of_match fault = Match fault
+of_match fault = match_as Failed NoMemory Match fault
 
 abbrev pub of_put : PutFault → MoveFault
 of_put put.Failed = Failed

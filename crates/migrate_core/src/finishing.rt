@@ -39,7 +39,7 @@ use std::alloc::Global;
 use tree_match::laws::{
     mapped_walks_tell_the_mapped_tree, walks_tell_the_tree, what_is_held_opens_the_same,
 };
-use tree_match::{How, Match, Where, holds_all};
+use tree_match::{Match, Where, holds_all, where_of};
 use vault_read::laws::files_have_their_contents;
 use vault_spec::laws::what_stands_is_found_step_by_step;
 use vault_walk::{Plan, PlanItem};
@@ -161,14 +161,6 @@ fn test_same<F: Folder>(
         Match::Same => Ok(()),
         Match::Contained(path) => Err(MoveFault::Differ(path, Where::Extra)),
         Match::Differs(path, how) => Err(MoveFault::Differ(path, where_of(how))),
-    }
-}
-
-fn where_of(how: How) -> Where {
-    match how {
-        How::Missing => Where::Missing,
-        How::Kind => Where::Kind,
-        How::Content => Where::Content,
     }
 }
 

@@ -286,12 +286,12 @@ fn test_held<F: Folder>(
 {
     match holds_all(alloc, folder, &sides.target, target, &sides.source, mapped)? {
         Match::Same | Match::Contained(_) => Ok(()),
-        Match::Differs(path, how) => Err(MoveFault::Differ(path, where_of(how))),
+        Match::Differs(path, how) => Err(MoveFault::Differ(path, where_in(how))),
     }
 }
 
 // An item of the target that the source lacks is further there.
-fn where_of(how: How) -> Where
+fn where_in(how: How) -> Where
     ensures { result ≡ where_in how }
 {
     match how {

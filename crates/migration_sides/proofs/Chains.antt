@@ -1,6 +1,6 @@
 -- Parts of a chain of tests, of which the folder may always fail and memory run out: a part that passes, one that refuses, and what is
 -- told on.
-use Rattle.std.proofs.Common.{◌≡◌, inl, inr, Result, Ok, Err, refl, sym, ap, ◌∙◌, subst}
+use Rattle.std.proofs.Common.{◌≡◌, inl, inr, IfErr, Result, Ok, Err, refl, sym, ap, ◌∙◌, subst}
 use Rattle.migration_sides.specs.Tests.{Then, UnlessBy, own}
 
 abbrev failing : {G : Type 0} (Y : Type 0) → G → Result Y G
@@ -25,6 +25,12 @@ module _ {G : Type 0} (failed none : G) where
   passed_is x P (inl e) = cc e
   passed_is x P (inr (inl e)) = cc e
   passed_is x P (inr (inr p)) = p
+
+  -- a chain of which no test fails, unless chance has it otherwise
+  pub unless_met : {X : Type 0} (Chance : G → Type 0) → Chance failed → Chance none → (answer : Result X G) (P : Type 0) → (P → IfErr answer Chance) → UnlessBy failed none answer P → IfErr answer Chance
+  unless_met {X = X} Chance one other answer P meets (inl fails) = subst (λ (x : Result X G). IfErr x Chance) (sym fails) one
+  unless_met {X = X} Chance one other answer P meets (inr (inl full)) = subst (λ (x : Result X G). IfErr x Chance) (sym full) other
+  unless_met Chance one other answer P meets (inr (inr p)) = meets p
 
   -- the same refusal of a chain that gives something else
   pub unless_err : {Y Z : Type 0} (fault : G) (P Q : Type 0) → (P → Q) → UnlessBy {X = Y} failed none (Err fault) P → UnlessBy {X = Z} failed none (Err fault) Q

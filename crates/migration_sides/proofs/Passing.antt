@@ -1,5 +1,5 @@
 -- Tests that nothing but chance can fail: the folder, memory, or what else a fault says that may always come.
-use Rattle.std.proofs.Common.{◌≡◌, inl, inr, Bool, List, ℕ, Result, Ok, Err, MatchResult, refl, sym, subst, subst₂}
+use Rattle.std.proofs.Common.{◌≡◌, inl, inr, Bool, IfErr, List, ℕ, Result, Ok, Err, MatchResult, refl, sym, subst, subst₂}
 use Rattle.content_writing.specs.Trees.{ShowsVault}
 use Rattle.folder_spec.specs.Path.{Path}
 use Rattle.folder_spec.specs.Seen.{under}
@@ -38,6 +38,10 @@ OnlyBy Chance P answer = MatchResult answer P Chance
 module _ {G : Type 0} (Chance : G → Type 0) where
   pub given : {X : Type 0} (P : X → Type 0) (x : X) (answer : Result X G) → P x → answer ≡ Ok x → OnlyBy Chance P answer
   given P x answer p is = subst (OnlyBy Chance P) (sym is) p
+
+  pub if_only : {X : Type 0} (answer : Result X G) → OnlyBy Chance Any answer → IfErr answer Chance
+  if_only (Ok x) only = tt
+  if_only (Err fault) only = only
 
   pub only_or : (passes fails : Type 0) (fault : G) (answer : Result (Unit {0}) G) → ¬ fails → PassesOr passes fails fault answer → OnlyBy Chance Any answer
   only_or passes fails fault answer never (inl passed) = given Any tt answer tt passed.1

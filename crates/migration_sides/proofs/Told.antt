@@ -1,9 +1,11 @@
 -- What a step tells of its tests, taken to the chain of a command that tells the step's fault by a fault of its own: where the tests pass,
 -- whatever follows counts; where one refuses, the command refuses.
-use Rattle.std.proofs.Common.{◌≡◌, ◌≢◌, inl, inr, List, ℕ, Result, Ok, Err, refl, ap, subst₂}
+use Rattle.std.proofs.Common.{◌≡◌, ◌≢◌, inl, inr, List, ℕ, Result, Ok, Err, refl, sym, ap, subst, subst₂}
 use Rattle.folder_spec.specs.Path.{Path}
 use Rattle.folder_spec.specs.Seen.{under}
 use Rattle.folder_spec.specs.View.{View}
+use Rattle.folder_spec.specs.declared.FolderFault.{FolderFault}
+use Rattle.folder_spec.specs.declared.FolderFault.TheVariants as folder
 use Rattle.vault_read.specs.Loading as loading
 use Rattle.vault_spec.specs.Opened.{OpenedVault}
 use Rattle.vault_faults.specs.declared.fault.Limit.TheVariants as limit
@@ -17,6 +19,10 @@ use Rattle.vault_walk.specs.Surveyed.{IsFirstFinding, IsOnlyTooDeep, IsWalkFault
 use Rattle.vault_walk.specs.declared.fault.Finding.{Finding}
 use Rattle.vault_walk.specs.declared.fault.WalkFault.{WalkFault}
 use Rattle.vault_walk.specs.declared.fault.WalkFault.TheVariants as walk
+use Rattle.work_folder.specs.Looking as work
+use Rattle.work_folder.specs.Looking.{Gives}
+use Rattle.work_folder.specs.declared.fault.WorkFault.{WorkFault}
+use Rattle.work_folder.specs.declared.fault.WorkFault.TheVariants as works
 use Rattle.migration_sides.proofs.Chains.{part_refused, passed_is, then_passes}
 use Rattle.migration_sides.specs.Causes.{Opens, Refuses, TestsApart, Unless, Walks, WalksBoth, of_refusal}
 use Rattle.migration_sides.specs.Faults.{of_walk}
@@ -60,6 +66,27 @@ step_refused told test next fault = unless_told told fault (test (Err fault)) (T
 pub step_passes : {X Y G : Type 0} (told : StepFault → G) (test : Result X StepFault → Type 0) (next : X → Result Y G → Type 0) (answer : Result Y G) (x : X) → Unless (Ok x) (test (Ok x))
     → UnlessTold told answer (next x answer) → UnlessTold told answer (Then told test next answer)
 step_passes told test next answer x passed = then_passes (told Failed) (told NoMemory) told test next answer x (passed_is Failed NoMemory x (test (Ok x)) passed)
+
+-- ---- the folder, and the work folder
+
+-- what is so of its failing and of want of memory is so of each of its faults
+pub by_folder : {G : Type 0} (P : G → Type 0) (told : FolderFault → G) → told folder.Refused ≡ told folder.Failed → P (told folder.Failed) → P (told folder.NoMemory) → (fault : FolderFault) → P (told fault)
+by_folder P told same failed none folder.Failed = failed
+by_folder P told same failed none folder.Refused = subst P (sym same) failed
+by_folder P told same failed none folder.NoMemory = none
+
+pub folder_unless : {X G : Type 0} (told : FolderFault → G) → told folder.Refused ≡ told folder.Failed → (P : Type 0) (fault : FolderFault) → UnlessBy {X = X} (told folder.Failed) (told folder.NoMemory) (Err (told fault)) P
+folder_unless {X = X} told same P = by_folder (λ why. UnlessBy {X = X} (told folder.Failed) (told folder.NoMemory) (Err why) P) told same (inl refl) (inr (inl refl))
+
+pub work_refused : {Y G : Type 0} (told : WorkFault → G) (test : work.Answer → Type 0) (next : Unit {0} → Result Y G → Type 0) (why : WorkFault) → Gives {T = Unit {0}} test (Err why)
+    → UnlessBy {X = Y} (told works.Failed) (told works.NoMemory) (Err (told why)) (Then told test next (Err (told why)))
+work_refused told test next (works.NoParent p) h = inr (inr (Err (works.NoParent p), h, refl))
+work_refused told test next (works.WrongKind p) h = inr (inr (Err (works.WrongKind p), h, refl))
+work_refused told test next (works.Foreign p) h = inr (inr (Err (works.Foreign p), h, refl))
+work_refused told test next works.Begun h = inr (inr (Err works.Begun, h, refl))
+work_refused told test next works.Depth h = inr (inr (Err works.Depth, h, refl))
+work_refused told test next works.Failed h = inl refl
+work_refused told test next works.NoMemory h = inr (inl refl)
 
 -- ---- the folders
 

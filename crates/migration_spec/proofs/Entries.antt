@@ -1,6 +1,6 @@
 -- What stands in the work folder of a migration.
 use Rattle.std.specs.Str.{bytes_eq}
-use Rattle.std.proofs.Common.{◌≡◌, ◌≢◌, ◌&&◌, ◌||◌, not, inl, inr, codes, Bool, true, false, IsTrue, refl, sym, ap, ◌∙◌}
+use Rattle.std.proofs.Common.{◌≡◌, ◌≢◌, ◌&&◌, ◌||◌, not, inl, inr, codes, Bool, true, false, IsTrue, Ok, refl, sym, ap, ◌∙◌}
 use Rattle.folder_spec.specs.Path.{Path, child}
 use Rattle.folder_spec.specs.View.{FileOf, Folder, Found, NoEntry, Special, View, kind_found}
 use Rattle.folder_spec.specs.declared.Kind.{Kind}
@@ -8,6 +8,11 @@ use Rattle.folder_spec.specs.declared.Kind.TheVariants as kind
 use Rattle.migration_spec.specs.Guard.{IsWork, kinds_in, old_path}
 use Rattle.vault_spec.specs.Alike.{HasFolders}
 use Rattle.work_folder.specs.Entries.{HasNoForeign, is_foreign, journal_path}
+use Rattle.work_folder.specs.Looking.{TestsEntries}
+
+-- no entry is foreign where the tests of the entries pass
+pub entries_pass : (old : Bool) (v : View) (work : Path) → TestsEntries old v work (Ok tt) → HasNoForeign old v work
+entries_pass old v work tests = elim tests [ inl passed ↦ passed.0 | inr failed ↦ absurd (cc (failed.2)) ]
 
 -- where a journal stands nothing foreign does
 pub none_foreign : (old : Bool) (v : View) (work : Path) → HasFolders v → IsWork old (kinds_in v) work → v (journal_path work) ≢ NoEntry → HasNoForeign old v work

@@ -1,8 +1,8 @@
 -- A case of a migration follows from what stands in both vaults and at the journal; and each case is safe.
-use Rattle.std.proofs.Common.{◌≡◌, ◌≢◌, ◌⊎◌, ℕ, Bool, true, false, ◌||◌, List, [], refl, sym, ap, ◌∙◌, inl, inr, subst, append-nil, IsTrue, is_some}
+use Rattle.std.proofs.Common.{◌≡◌, ◌≢◌, ◌⊎◌, ℕ, Bool, true, false, ◌||◌, List, refl, sym, ap, ◌∙◌, inl, inr, subst, IsTrue}
 use Rattle.std.proofs.Math.Path.{fun_ext}
-use Rattle.folder_spec.proofs.Paths.{path_eq-same, below-append}
-use Rattle.folder_spec.specs.Path.{Path, path_eq, below}
+use Rattle.folder_spec.proofs.Paths.{path_eq-same}
+use Rattle.folder_spec.specs.Path.{Path, path_eq}
 use Rattle.folder_spec.specs.declared.Spot.{Spot}
 use Rattle.folder_spec.specs.declared.Spot.TheVariants.{Nothing, Directory, FileNode, Odd}
 use Rattle.folder_spec.specs.State.{Table, State, IsTableOf, kind_of}
@@ -24,6 +24,7 @@ use Rattle.vault_spec.specs.Opened.{OpenedVault}
 use Rattle.vault_spec.specs.Opens.{Content, NoItem, tree}
 use Rattle.vault_spec.specs.Vault.{IsVault, format_of}
 use Rattle.work_folder.specs.Entries.{journal_path}
+use Rattle.folder_spec.proofs.Stages.{at_itself}
 
 pub or_left : (a b : Bool) → a ≡ true → (a || b) ≡ true
 or_left true b is = refl
@@ -49,9 +50,6 @@ pub at_journal : (g : Migration) → IsTrue (is_kept g (journal_path g.work))
 at_journal g =
     let q : Path = journal_path g.work in
     or_right (at_or_below g.source.root q) (at_or_below g.target.root q || path_eq q q) (or_right (at_or_below g.target.root q) (path_eq q q) (path_eq-same q))
-
-pub at_root : (root : Path) → IsTrue (at_or_below root root)
-at_root root = ap is_some (ap (below root) (sym (append-nil root)) ∙ below-append root [])
 
 -- ---- a case follows
 
@@ -137,7 +135,7 @@ case_alike alike g v w agree (Retired is) =
     let x = are_alike alike g v w agree in
     let same : (k : LastJournal g v) × (has_old_by g v k ≡ has_old_by g w is.journal) = last_journal_alike g v w x.journal is.journal in (
       Retired (record {
-        gone = agree g.source.root (in_source g g.source.root (at_root g.source.root)) ∙ is.gone;
+        gone = agree g.source.root (in_source g g.source.root (at_itself g.source.root)) ∙ is.gone;
         journal = same.0;
         target = target_alike g v w x.target is.target;
       }),

@@ -1,21 +1,22 @@
 -- What is shown while one view alone is shown, and the work folder of each table.
 use Rattle.std.specs.Prelude.{Contains}
-use Rattle.std.proofs.Common.{◌≡◌, ◌≢◌, ◌⊎◌, ℕ, zero, suc, Bool, true, false, ◌||◌, [], ◌∷◌, ◌++◌, Some, None, refl, sym, ap, ◌∙◌, inl, inr, subst, arith, append_assoc, append-nil, codes, bytes_eq, if◌then◌else◌, IsTrue}
+use Rattle.std.proofs.Common.{◌≡◌, ◌≢◌, ◌⊎◌, ℕ, zero, suc, Bool, true, false, ◌||◌, [], ◌∷◌, ◌++◌, Some, None, refl, sym, ap, ◌∙◌, inl, inr, subst, arith, append_assoc, append-nil, codes, bytes_eq, if◌then◌else◌, IsTrue, ◌&&◌, Option, is_none}
 use Rattle.folder_spec.proofs.Paths.{one_or_not, below-append, begins_or_not, below-both, below-apart}
 use Rattle.folder_spec.specs.Path.{Part, Path, path_eq, below, child}
 use Rattle.folder_spec.specs.declared.Spot.{Spot}
 use Rattle.folder_spec.specs.declared.Spot.TheVariants.{Nothing, Directory, FileNode, Odd}
 use Rattle.folder_spec.specs.State.{Table, State, IsTableOf, IsSound, IsSoundTable, kind_of}
 use Rattle.folder_spec.specs.Image.{Image, IsImage}
-use Rattle.folder_spec.specs.Region.{at_or_below}
+use Rattle.folder_spec.specs.Region.{apart_from_both, at_or_below}
 use Rattle.folder_spec.specs.View.{View, Folder, NoEntry, Shows, ShowsAmong, view_in, view_of}
 use Rattle.folder_spec.specs.declared.Kind.TheVariants as kind
-use Rattle.migration_spec.proofs.Guards.{or_cases, in_source, at_root, RootsAreAlike, ImagesShow, guarded_by, kinds_of, kinds_of_image}
+use Rattle.migration_spec.proofs.Guards.{or_cases, in_source, RootsAreAlike, ImagesShow, guarded_by, kinds_of, kinds_of_image}
 use Rattle.migration_spec.specs.Alone.{Progress, Unbegun, Begun, Finished, IsIn, IsAlone}
 use Rattle.migration_spec.specs.Guard.{Migration, IsSeparate, HoldsSource, Case, NotBegun, Building, Done, Retired, has_old, IsWork, kinds_in, IsGuarded, Guarded, is_kept}
 use Rattle.work_folder.specs.Apart.{AreApart}
 use Rattle.content_writing.specs.Making.{is_inside, is_staged}
 use Rattle.work_folder.specs.Entries.{journal_path, is_foreign}
+use Rattle.folder_spec.proofs.Stages.{at_itself}
 
 -- ---- paths
 
@@ -43,6 +44,18 @@ behind_none w more q none = elim (begins_or_not (w ++ more) q) [
 
 pub turned : {p q : Path} → AreApart p q → AreApart q p
 turned apart = record { one = apart.other; other = apart.one }
+
+-- what begins with neither of two paths
+pub beside_both : (p q at : Path) → IsTrue (apart_from_both p q at) → (below p at ≡ None) × (below q at ≡ None)
+beside_both p q at is = by (below p at) (below q at) is
+  where
+    by : (x y : Option Path) → IsTrue (is_none x && is_none y) → (x ≡ None) × (y ≡ None)
+    by None None is = (refl, refl)
+    by None (Some rest) is = absurd (cc is)
+    by (Some rest) y is = absurd (cc is)
+
+pub beside_of : (p q at : Path) → below p at ≡ None → below q at ≡ None → IsTrue (apart_from_both p q at)
+beside_of p q at one other = rw (one, other) refl
 
 -- ---- the region of both vaults and the journal
 
@@ -116,7 +129,7 @@ source_there g p v is = ap v (sym (append-nil g.source.root)) ∙ (source_in g p
 -- so none does while the source is there
 pub table_work : (g : Migration) (p : Progress) (s : State) → IsAlone g p s → (t : Table) → IsTableOf s t → IsWork false (kinds_of t) g.work
 table_work g p s b t is = source_work g s t b.sound b.guarded is
-    ((only_shown (is_kept g) s b.view b.alone t is).agrees g.source.root (in_source g g.source.root (at_root g.source.root)) ∙ source_there g p b.view b.holds)
+    ((only_shown (is_kept g) s b.view b.alone t is).agrees g.source.root (in_source g g.source.root (at_itself g.source.root)) ∙ source_there g p b.view b.holds)
 
 -- what is kept is the journal, or isn't in the work folder
 pub kept_is : (g : Migration) → IsSeparate g → (q : Path) → IsTrue (is_kept g q) → (journal_path g.work ≡ q) ⊎ (below g.work q ≡ None)

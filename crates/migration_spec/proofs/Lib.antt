@@ -1,9 +1,11 @@
 pub mod Guards
-mod Along
+pub mod Along
 pub mod Kept
 pub mod Placing
 mod Sounds
-mod Settling
+pub mod Settling
 mod Entering
 mod Journals
 pub mod Entries
+pub mod Staying
+pub mod Tellings

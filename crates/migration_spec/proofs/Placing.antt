@@ -24,7 +24,7 @@ use Rattle.migration_spec.specs.Guard.{Migration, IsSeparate, IsBuilding, Buildi
 use Rattle.migration_spec.specs.Placed.{ItemAt, path_of, placing_of, IsHeld, Places, PlaceEach}
 use Rattle.vault_spec.specs.Adding.{OpensAs, OpensWith}
 use Rattle.vault_spec.specs.Making.{NewItem, NewDirectory, NewFile}
-use Rattle.vault_spec.specs.Opens.{NoItem, Tree, tree}
+use Rattle.vault_spec.specs.Opens.{NoItem, Tree}
 use Rattle.vault_spec.specs.Vault.{format_of}
 use Rattle.content_writing.specs.Making.{Placing, Making, is_inside, is_staged, is_elsewhere, StagesOrPlaces}
 use Rattle.content_writing.specs.Placing.{HasVault, ShowsOne, IsMaking, making_at}

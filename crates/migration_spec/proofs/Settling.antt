@@ -1,15 +1,19 @@
 -- That a migration stays guarded through a settle, and what is shown then; and that it begins so.
-use Rattle.std.proofs.Common.{◌≡◌, false, List, [], ◌∷◌, refl, sym, inl, inr, subst}
+use Rattle.std.proofs.Common.{◌≡◌, ◌∙◌, false, List, [], ◌∷◌, Option, Some, None, Result, Ok, Err, refl, sym, ap, inl, inr, subst}
+use Rattle.folder_spec.proofs.Moments.{went_by_call, went_nowhere, went_on}
 use Rattle.folder_spec.proofs.Tables.{present_is_table}
+use Rattle.folder_spec.proofs.Tellings.{from_to_more, from_to_same}
+use Rattle.folder_spec.specs.declared.FolderFault.{FolderFault}
+use Rattle.folder_spec.specs.declared.FolderFault.TheVariants.{Failed, NoMemory, Refused}
 use Rattle.folder_spec.specs.State.{Table, State, IsTableOf, IsAmong, IsSound, HasNothingPending, last_of, present}
-use Rattle.folder_spec.specs.Event.{Settle, changed}
+use Rattle.folder_spec.specs.Event.{Changes, Done, FromTo, Settle, Steps, Told, changed, told_after}
 use Rattle.folder_spec.specs.Image.{Image, IsImage}
-use Rattle.folder_spec.specs.Seen.{seen}
+use Rattle.folder_spec.specs.Seen.{IfSeen, IsSeen, seen}
 use Rattle.folder_spec.specs.View.{Shows}
 use Rattle.migration_spec.proofs.Guards.{RootsAreAlike, ImagesShow, kinds_of, kind_of_found}
 use Rattle.migration_spec.proofs.Kept.{alone_by, source_work, source_there}
 use Rattle.migration_spec.proofs.Sounds.{KeepSound}
-use Rattle.migration_spec.specs.Alone.{Progress, Unbegun, IsIn, IsAlone}
+use Rattle.migration_spec.specs.Alone.{Progress, Unbegun, IsIn, IsAlone, KeepsGuarded, StaysGuarded}
 use Rattle.migration_spec.specs.Guard.{Migration, IsSeparate, IsNotBegun, IsWork, kinds_in, is_kept, Guarded}
 use Rattle.std.proofs.Math.Path.{fun_ext}
 
@@ -46,3 +50,46 @@ begins_alone alike shown g s sound pending separate is work = alone_by alike sho
 
     only_table : (t : Table) → IsTableOf s t → t ≡ present s
     only_table t among = only s.later pending.settled t among
+
+-- ---- a folder that may tell its state
+
+-- nothing has changed
+pub still_guarded : (From : State → Type 0) (g : Migration) (t u : Option Told) → ((s : State) → From s → Guarded g s) → u ≡ t → FromTo (λ a b. From a.state → StaysGuarded g a b) t u
+still_guarded From g t u guarded same = from_to_same (λ a b. From a.state → StaysGuarded g a b) t u same (λ a is. went_nowhere (Guarded g) (λ s e. Unit {0}) a (guarded a.state is))
+
+-- ---- a settle of it
+
+-- what is seen stays so
+pub settle_seen : (t u : Option Told) (done : Unit {0}) → Changes Settle t u (Ok done) → IfSeen t (λ v. IsSeen u v)
+settle_seen (Some a) (Some b) done changes v is = is ∙ ap (λ (c : Told). seen c.state) (sym changes.1)
+settle_seen None u done changes v is = absurd is
+settle_seen (Some a) None done changes v is = absurd changes
+
+pub settle_seen_back : (t u : Option Told) (result : Result (Unit {0}) FolderFault) → Changes Settle t u result → IfSeen u (λ v. IsSeen t v)
+settle_seen_back (Some a) (Some b) (Ok done) changes v is = is ∙ ap (λ (c : Told). seen c.state) changes.1
+settle_seen_back (Some a) (Some b) (Err Failed) changes v is = is ∙ ap (λ (c : Told). seen c.state) changes.1.2
+settle_seen_back (Some a) (Some b) (Err Refused) changes v is = absurd (changes.0 tt)
+settle_seen_back (Some a) (Some b) (Err NoMemory) changes v is = is ∙ ap (λ (c : Told). seen c.state) changes
+settle_seen_back None (Some b) result changes v is = absurd changes
+settle_seen_back t None result changes v is = absurd is
+
+abbrev pub SettlesGuarded : Type 0
+SettlesGuarded = (g : Migration) (s : State) → Guarded g s → Guarded g (changed s Settle)
+
+-- one that failed leaves a migration guarded
+pub settle_fell : SettlesGuarded → (g : Migration) (t u : Option Told) (result : Result (Unit {0}) FolderFault) → Changes Settle t u result → KeepsGuarded g t u
+settle_fell settles g t u result changes =
+    from_to_more (λ a b. Steps Settle a b result) (λ a b. Guarded g a.state → StaysGuarded g a b) t u
+    (λ a b is steps guarded. went_by_call (Guarded g) (λ s e. Unit {0}) Settle a b result guarded (λ allowed. settles g a.state guarded) (λ added allowed. guarded) (λ outcome. tt) steps) changes
+
+-- and so does one that was done with what goes on from there
+pub settle_then : SettlesGuarded → (From : State → Type 0) (g : Migration) (t u w : Option Told) (done : Unit {0})
+    → ((a b : Told) → t ≡ Some a → u ≡ Some b → Guarded g a.state → b ≡ told_after a Settle Done → From b.state) → Changes Settle t u (Ok done)
+    → FromTo (λ a b. From a.state → StaysGuarded g a b) u w → KeepsGuarded g t w
+settle_then settles From g (Some a) (Some b) (Some c) done at changes keeps = λ guarded.
+    went_on (Guarded g) (λ s e. Unit {0}) a b c (settle_fell settles g (Some a) (Some b) (Ok done) changes guarded) (keeps (at a b refl refl guarded changes.1))
+settle_then settles From g None None None done at changes keeps = tt
+settle_then settles From g None (Some b) w done at changes keeps = absurd changes
+settle_then settles From g (Some a) None w done at changes keeps = absurd changes
+settle_then settles From g None None (Some c) done at changes keeps = absurd keeps
+settle_then settles From g (Some a) (Some b) None done at changes keeps = absurd keeps

@@ -1,48 +1,33 @@
 -- The source is moved into the work folder, and that is settled: what changes, what is seen, and that a finished migration stays guarded.
-use Rattle.std.proofs.Common.{◌≡◌, ◌≢◌, Bool, true, false, ◌&&◌, [], ◌∷◌, ◌++◌, Option, Some, None, Result, Ok, Err, refl, sym, ap, ◌∙◌, inl, subst, append-nil, codes, bytes_eq, is_none, IsTrue}
-use Rattle.std.proofs.lemmas.Slice.Eq.{bytes_eq-Decides}
-use Rattle.folder_spec.proofs.Moments.{went_by_call, went_nowhere, went_on, went_to}
+use Rattle.std.proofs.Common.{◌≡◌, ◌≢◌, false, [], ◌∷◌, ◌++◌, Option, Some, None, Result, Ok, Err, refl, sym, ap, ◌∙◌, inl, subst, append-nil, codes, bytes_eq}
+use Rattle.folder_spec.proofs.Moments.{went_by_call, went_on, went_to}
 use Rattle.folder_spec.proofs.Paths.{below-apart, below-append, below-both, parent-child}
 use Rattle.folder_spec.proofs.Regions.{as_before, as_before_on}
-use Rattle.folder_spec.proofs.Seen.{may_call_allowed}
-use Rattle.folder_spec.proofs.Tellings.{from_to_more, from_to_on, from_to_same}
+use Rattle.folder_spec.proofs.Seen.{may_call_allowed, one_view}
+use Rattle.folder_spec.proofs.Tellings.{from_to_more, from_to_on}
 use Rattle.folder_spec.specs.declared.FolderFault.{FolderFault}
 use Rattle.folder_spec.specs.declared.FolderFault.TheVariants.{Failed, NoMemory, Refused}
 use Rattle.folder_spec.specs.Event.{Allowed, Changes, Rename, Settle, Steps, Told, changed}
 use Rattle.folder_spec.specs.Moments.{Went}
 use Rattle.folder_spec.specs.Path.{Part, Path, below, child}
-use Rattle.folder_spec.specs.Region.{IsAsBefore, Spares, apart_from, apart_from_both}
+use Rattle.folder_spec.specs.Region.{IsAsBefore, Spares, apart_from_both}
 use Rattle.folder_spec.specs.Seen.{IfSeen, IsSeen, moved_view, seen}
-use Rattle.folder_spec.specs.State.{State, IsSound}
+use Rattle.folder_spec.specs.State.{IsSound}
 use Rattle.folder_spec.specs.View.{Folder, NoEntry, View}
 use Rattle.migration_spec.proofs.Guards.{ImagesShow, RootsAreAlike}
-use Rattle.migration_spec.proofs.Kept.{behind_none}
+use Rattle.migration_spec.proofs.Kept.{behind_none, turned, beside_both}
 use Rattle.migration_spec.specs.Alone.{StaysGuarded}
 use Rattle.migration_spec.specs.Guard.{Guarded, Migration, old_path}
 use Rattle.work_folder.specs.Apart.{AreApart}
-use Rattle.retire_core.proofs.Cleared.{seen_then}
-use Rattle.retire_core.proofs.Going.{AreSound}
+use Rattle.retire_core.proofs.Cleared.{isnt_eq, seen_then}
 use Rattle.retire_core.proofs.Renamed.{HasNoSpecial, moved_guarded, moved_settled}
 use Rattle.retire_core.specs.Clearing.{IsGone, IsInOrder, MovesAway, MovesOnly}
 use Rattle.retire_core.specs.Guarding.{ComesFromDone, IsDoneAtRest, IsRetiring, KeepsDone}
+use Rattle.migration_spec.proofs.Tellings.{AreSound}
+use Rattle.migration_spec.proofs.Staying.{Kind, stays_on, stays_same, stays_settled}
+use Rattle.migration_spec.proofs.Settling.{SettlesGuarded}
 
 -- ---- regions
-
-pub both_parts : (a b : Bool) → IsTrue (a && b) → IsTrue a × IsTrue b
-both_parts true b is = (refl, is)
-both_parts false b is = absurd (cc is)
-
-pub none_of : (o : Option Path) → IsTrue (is_none o) → o ≡ None
-none_of None is = refl
-none_of (Some rest) is = absurd (cc is)
-
-pub beside_both : (from work q : Path) → IsTrue (apart_from_both from work q) → (below from q ≡ None) × (below work q ≡ None)
-beside_both from work q is =
-    let parts = both_parts (apart_from from q) (apart_from work q) is in
-    (none_of (below from q) parts.0, none_of (below work q) parts.1)
-
-pub beside_of : (from work q : Path) → below from q ≡ None → below work q ≡ None → IsTrue (apart_from_both from work q)
-beside_of from work q one two = rw (one, two) refl
 
 -- ---- what changes
 
@@ -50,10 +35,7 @@ rename_spares : (from work : Path) → Spares (apart_from_both from work) (Renam
 rename_spares from work q inside = let none = beside_both from work q inside in (behind_none work (codes "old" ∷ []) q none.1, none.0)
 
 pub moves_same : (from work : Path) (t u : Option Told) → u ≡ t → MovesOnly from work t u
-moves_same from work t u same =
-    let R = apart_from_both from work in
-    from_to_same (λ a b. Went (IsAsBefore R a.state) (λ s e. MovesAway from work a.state s e.call) a b) t u same
-    (λ a. went_nowhere (IsAsBefore R a.state) (λ s e. MovesAway from work a.state s e.call) a (as_before R a.state))
+moves_same from work = stays_same (apart_from_both from work) (λ s0 s e. MovesAway from work s0 s e.call)
 
 pub moves_call : (from work : Path) (t u : Option Told) (result : Result (Unit {0}) FolderFault) → Changes (Rename from (old_path work)) t u result → MovesOnly from work t u
 moves_call from work t u result changes =
@@ -66,37 +48,31 @@ moves_call from work t u result changes =
 pub moves_settled : (from work : Path) (t u w : Option Told) (result : Result (Unit {0}) FolderFault) → MovesOnly from work t u → Changes Settle u w result → MovesOnly from work t w
 moves_settled from work t u w result first changes =
     let R = apart_from_both from work in
-    from_to_on (λ a b. Went (IsAsBefore R a.state) (λ s e. MovesAway from work a.state s e.call) a b) (λ a b. Steps Settle a b result)
-    (λ a b. Went (IsAsBefore R a.state) (λ s e. MovesAway from work a.state s e.call) a b) t u w
-    (λ a b c one steps.
-    let so_far : IsAsBefore R a.state b.state = went_to (IsAsBefore R a.state) (λ s e. MovesAway from work a.state s e.call) a b one in
-    went_on (IsAsBefore R a.state) (λ s e. MovesAway from work a.state s e.call) a b c one
-    (went_by_call (IsAsBefore R a.state) (λ s e. MovesAway from work a.state s e.call) Settle b c result so_far
-    (λ allowed. as_before_on R a.state b.state Settle tt tt so_far) (λ added allowed. so_far) (λ outcome. tt) steps)) first changes
+    let Settles : Kind = λ s0 s e. e.call ≡ Settle in
+    stays_on R R (λ s0 s e. MovesAway from work s0 s e.call) Settles t u w (λ q apart. apart) (λ s0 s1 s e is. subst (MovesAway from work s0 s) (sym is) tt) first
+    (stays_settled R Settles u w result (λ s outcome. refl) changes)
 
 -- ---- it may be moved
+
+-- what overlaps nothing isn't the base
+pub not_base : (p q : Path) → AreApart p q → q ≢ []
+not_base p q apart is = clash (subst (λ z. below z p ≡ None) is apart.other)
+  where
+    clash : {x : Path} → Some x ≡ None → ⊥
+    clash e = cc e
 
 pub move_allowed : (from work : Path) (t : Option Told) → AreApart from work → IfSeen t (λ v. v from ≢ NoEntry) → IsGone (old_path work) t → IfSeen t (λ v. v work ≡ Folder)
     → (a : Told) → t ≡ Some a → Allowed a.state (Rename from (old_path work))
 move_allowed from work t apart there free folder a is =
     let shown : IsSeen t (seen a.state) = subst (λ o. IsSeen o (seen a.state)) (sym is) refl in
     may_call_allowed a.state (Rename from (old_path work)) (
-      not_base,
+      not_base work from (turned apart),
       there (seen a.state) shown,
       below-apart from work (codes "old" ∷ []) apart.one apart.other,
       inl (free (seen a.state) shown, ap (seen a.state) (parent-child work (codes "old")) ∙ folder (seen a.state) shown),
     )
-  where
-    clash : {x : Path} → Some x ≡ None → ⊥
-    clash e = cc e
-
-    not_base : from ≢ []
-    not_base is = clash (subst (λ p. below p work ≡ None) is apart.one)
 
 -- ---- guarded
-
-abbrev pub SettlesGuarded : Type 0
-SettlesGuarded = (g : Migration) (s : State) → Guarded g s → Guarded g (changed s Settle)
 
 -- the laws that are cited
 pub record AreLaws : Type 0 where
@@ -153,7 +129,7 @@ order_moved : (from work : Path) → AreApart from work → (v : View) → IsInO
 order_moved from work apart v order = record {
   folder = root_stays ∙ order.folder;
   journal = (order.journal.0, entry_stays (codes "journal") refl ∙ order.journal.1);
-  others = λ name one two three four. entry_stays name (isnt name four (bytes_eq (codes "old") name) refl) ∙ order.others name one two three four;
+  others = λ name one two three four. entry_stays name (isnt_eq name (codes "old") four) ∙ order.others name one two three four;
 }
   where
     stays : (q : Path) → below (old_path work) q ≡ None → below from q ≡ None → moved_view v from (old_path work) q ≡ v q
@@ -168,20 +144,12 @@ order_moved from work apart v order = record {
     entry_stays : (name : Part) → bytes_eq (codes "old") name ≡ false → moved_view v from (old_path work) (child work name) ≡ v (child work name)
     entry_stays name other = stays (child work name) (below-both work (codes "old" ∷ []) (name ∷ []) ∙ rw other refl) (in_work (name ∷ []))
 
-    isnt : (name : Part) → name ≢ codes "old" → (b : Bool) → bytes_eq (codes "old") name ≡ b → bytes_eq (codes "old") name ≡ false
-    isnt name other true e = absurd (other (sym ((bytes_eq-Decides (codes "old") name).0 e)))
-    isnt name other false e = e
-
 -- the same whether or not it was moved
 abbrev pub StaysInOrder : Path → Option Told → Option Told → Type 0
 StaysInOrder work t u = (v w : View) → IsSeen t v → IsSeen u w → IsInOrder v work → IsInOrder w work
 
 pub order_same : (work : Path) (t u : Option Told) → u ≡ t → StaysInOrder work t u
-order_same work t u same v w is is_now order = subst (λ (x : View). IsInOrder x work) (one t (subst (λ o. IsSeen o w) same is_now) is) order
-  where
-    one : (o : Option Told) → IsSeen o w → IsSeen o v → v ≡ w
-    one (Some a) two three = three ∙ sym two
-    one None two three = absurd two
+order_same work t u same v w is is_now order = subst (λ (x : View). IsInOrder x work) (one_view t v w is (subst (λ o. IsSeen o w) same is_now)) order
 
 pub order_call : (from work : Path) (t u : Option Told) (result : Result (Unit {0}) FolderFault) → AreApart from work → AreSound t → Changes (Rename from (old_path work)) t u result → StaysInOrder work t u
 order_call from work t u (Ok done) apart sound changes v w is is_now order =
@@ -198,12 +166,3 @@ order_call from work (Some a) None (Err fault) apart sound changes v w is is_now
 
 pub order_settled : (work : Path) (t u w : Option Told) (result : Result (Unit {0}) FolderFault) → StaysInOrder work t u → Changes Settle u w result → IfSeen w (λ x. IsSeen u x) → StaysInOrder work t w
 order_settled work t u w result first changes same v x is is_now order = first v x is (same x is_now) order
-
--- a settle leaves what is seen
-pub settle_seen_back : (t u : Option Told) (result : Result (Unit {0}) FolderFault) → Changes Settle t u result → IfSeen u (λ v. IsSeen t v)
-settle_seen_back (Some a) (Some b) (Ok done) changes v is = is ∙ ap (λ (c : Told). seen c.state) changes.1
-settle_seen_back (Some a) (Some b) (Err Failed) changes v is = is ∙ ap (λ (c : Told). seen c.state) changes.1.2
-settle_seen_back (Some a) (Some b) (Err Refused) changes v is = absurd (changes.0 tt)
-settle_seen_back (Some a) (Some b) (Err NoMemory) changes v is = is ∙ ap (λ (c : Told). seen c.state) changes
-settle_seen_back None (Some b) result changes v is = absurd changes
-settle_seen_back t None result changes v is = absurd is

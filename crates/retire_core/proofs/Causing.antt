@@ -1,17 +1,16 @@
 -- The first test that fails is the answer: parts of a chain of tests, and what a call tells of each.
-use Rattle.std.proofs.Common.{◌≡◌, ◌≢◌, inl, inr, List, [], ◌∷◌, ◌++◌, ℕ, Option, Some, None, Result, Ok, Err, true, false, refl, sym, ap, ◌∙◌, subst, IfErr, append-nil, append_assoc, bytes_eq}
+use Rattle.std.proofs.Common.{◌≡◌, ◌≢◌, inl, inr, List, [], ◌∷◌, ◌++◌, ℕ, Option, None, Result, Ok, Err, true, false, refl, sym, ap, ◌∙◌, subst, IfErr, append-nil, append_assoc, bytes_eq}
 use Rattle.folder_spec.proofs.Paths.{below-both}
 use Rattle.folder_spec.specs.Event.{Changes, Rename, Settle, Told}
 use Rattle.folder_spec.specs.Path.{Part, Path, below, child}
-use Rattle.folder_spec.specs.Seen.{IfSeen, IsSeen, moved_view, seen, under}
+use Rattle.folder_spec.specs.Seen.{IfSeen, IsSeen, moved_view, under}
 use Rattle.folder_spec.specs.View.{FileOf, Folder, Found, NoEntry, Special, View}
 use Rattle.folder_spec.specs.declared.FolderFault.{FolderFault}
-use Rattle.folder_spec.specs.declared.FolderFault.TheVariants as folder
 use Rattle.folder_staging.specs.Removal.{Reach, RemovesAs, deepest, from}
 use Rattle.folder_staging.specs.declared.removal.RemovalFault.{RemovalFault}
 use Rattle.folder_staging.specs.declared.removal.RemovalFault.TheVariants as removal
 use Rattle.migration_sides.proofs.Chains.{own_passes, own_refused, passed_is, then_passes, then_refused, unless_more}
-use Rattle.migration_sides.proofs.Told.{RefusesBoth, RefusesWalks, apart_passes, apart_refused, opens_passes, opens_refused, walks_passes, walks_refused}
+use Rattle.migration_sides.proofs.Told.{RefusesBoth, RefusesWalks, apart_passes, apart_refused, by_folder, opens_passes, opens_refused, walks_passes, walks_refused, work_refused}
 use Rattle.migration_sides.specs.Causes.{TestsApart, Walks}
 use Rattle.migration_sides.specs.Causes as sides
 use Rattle.migration_sides.specs.Tests.{Then, own}
@@ -30,11 +29,11 @@ use Rattle.work_folder.specs.Entries.{new_journal_path, stage_path}
 use Rattle.work_folder.specs.Looking as looking
 use Rattle.work_folder.specs.Looking.{TestsEntries}
 use Rattle.work_folder.specs.declared.fault.WorkFault.{WorkFault}
-use Rattle.work_folder.specs.declared.fault.WorkFault.TheVariants as works
 use Rattle.retire_core.proofs.Cleared.{seen_then}
 use Rattle.retire_core.proofs.CleanVaults.{folder_before}
-use Rattle.retire_core.proofs.Courses.{folder_above}
-use Rattle.retire_core.proofs.Going.{AreSound}
+use Rattle.folder_spec.proofs.Seen.{one_view}
+use Rattle.migration_spec.proofs.Tellings as tellings
+use Rattle.migration_spec.proofs.Tellings.{AreSound, folders_of}
 use Rattle.retire_core.specs.Causes.{Answer, IsOfFolder, Passes, ReadsDone, Refuses, Retires, RetiresTold, TestsAway, TestsFree, TestsHeld, TestsItems, TestsMapped, TestsRemoval, TestsRemovals, TestsVaults, Unless, moved_away, retired_of}
 use Rattle.retire_core.specs.Clearing.{ClearsEntry, Leaves, MovesHeldOnly}
 use Rattle.retire_core.specs.Faults.{of_folder, of_map, of_removal, of_step, of_work}
@@ -59,34 +58,10 @@ ends P (Ok done) fails passed = inr (inr passed)
 ends P (Err fault) (inl failed) passed = inl (ap Err failed)
 ends P (Err fault) (inr none) passed = inr (inl (ap Err none))
 
--- a call of which no test fails
-pub unless_completes : {X : Type 0} (answer : Answer X) (P : Type 0) → (P → IfErr answer IsOfFolder) → Unless answer P → IfErr answer IsOfFolder
-unless_completes {X = X} answer P completes (inl failed) = subst (λ (x : Answer X). IfErr x IsOfFolder) (sym failed) (inl refl)
-unless_completes {X = X} answer P completes (inr (inl none)) = subst (λ (x : Answer X). IfErr x IsOfFolder) (sym none) (inr refl)
-unless_completes answer P completes (inr (inr p)) = completes p
-
 -- ---- at an exit
 
-pub folder_unless : {Y : Type 0} (P : Type 0) (fault : FolderFault) → Unless {X = Y} (Err (of_folder fault)) P
-folder_unless P folder.Failed = inl refl
-folder_unless P folder.Refused = inl refl
-folder_unless P folder.NoMemory = inr (inl refl)
-
 pub folder_fails : (fault : FolderFault) → IsOfFolder (of_folder fault)
-folder_fails folder.Failed = inl refl
-folder_fails folder.Refused = inl refl
-folder_fails folder.NoMemory = inr refl
-
--- ---- single tests
-
-pub entries_refused : {Y : Type 0} (A : looking.Answer → Type 0) (next : Unit {0} → Answer Y → Type 0) (why : WorkFault) → looking.Gives {T = Unit {0}} A (Err why) → Refuses (Then of_work A next) (of_work why)
-entries_refused A next (works.NoParent p) h = then_refused Failed NoMemory of_work A next (works.NoParent p) h
-entries_refused A next (works.WrongKind p) h = then_refused Failed NoMemory of_work A next (works.WrongKind p) h
-entries_refused A next (works.Foreign p) h = then_refused Failed NoMemory of_work A next (works.Foreign p) h
-entries_refused A next works.Begun h = then_refused Failed NoMemory of_work A next works.Begun h
-entries_refused A next works.Depth h = then_refused Failed NoMemory of_work A next works.Depth h
-entries_refused A next works.Failed h = inl refl
-entries_refused A next works.NoMemory h = inr (inl refl)
+folder_fails = by_folder IsOfFolder of_folder refl (inl refl) (inr refl)
 
 -- ---- whether the target holds the source
 
@@ -124,10 +99,6 @@ module _ (rule : NameMap) (from to : Path) (from_pass to_pass : List ℕ) (v : V
   both_opened source target answer = opens_passes of_step v from to from_pass to_pass opened_next answer source target
 
 -- ---- what is seen
-
-pub one_view : (t : Option Told) (v w : View) → IsSeen t v → IsSeen t w → v ≡ w
-one_view (Some a) v w one two = one ∙ sym two
-one_view None v w one two = absurd one
 
 -- the source is moved
 pub moved_seen : (source work : Path) (t u w : Option Told) (one two : Unit {0}) → AreSound t → AreSound u → Changes (Rename source (old_path work)) t u (Ok one) → Changes Settle u w (Ok two)
@@ -182,16 +153,11 @@ removal_alike at v w answer same (tested, removes, told) = (tested, removes_alik
 pub beside : (work : Path) (gone name : Part) (rest : Path) → bytes_eq gone name ≡ false → below (child work gone) (child work name ++ rest) ≡ None
 beside work gone name rest other = ap (below (child work gone)) (append_assoc work (name ∷ []) rest) ∙ below-both work (gone ∷ []) (name ∷ rest) ∙ rw other refl
 
-seen_next : (at : Path) (t u : Option Told) → ClearsEntry at t u → IfSeen t (λ v. (w : View) × IsSeen u w)
-seen_next at (Some a) (Some b) went v is = (seen b.state, refl)
-seen_next at (Some a) None went v is = absurd went
-seen_next at None u went v is = absurd is
-
 -- by what was seen before another entry was removed
 pub removed_before : (work : Path) (gone name : Part) (t u : Option Told) (answer : Answer (Unit {0})) → bytes_eq gone name ≡ false → ClearsEntry (child work gone) t u → Leaves (child work gone) t u
     → IfSeen u (λ w. Unless answer (TestsRemoval (child work name) w answer)) → IfSeen t (λ v. Unless answer (TestsRemoval (child work name) v answer))
 removed_before work gone name t u answer other clears leaves cause v is =
-    let then_ = seen_next (child work gone) t u clears v is in
+    let then_ = tellings.seen_then _ t u clears v is in
     unless_more Failed NoMemory answer (TestsRemoval (child work name) then_.0 answer) (TestsRemoval (child work name) v answer)
     (removal_alike (child work name) v then_.0 answer (λ rest. leaves v then_.0 is then_.1 (child work name ++ rest) (beside work gone name rest other))) (cause then_.0 then_.1)
 
@@ -207,7 +173,7 @@ none_behind v folders at a more isnt = by_found (v (at ++ a ∷ more)) refl
 
 none_below : (t : Option Told) → AreSound t → IfSeen t (λ v. (at rest : Path) → v at ≡ NoEntry → v (at ++ rest) ≡ NoEntry)
 none_below t sound v is at [] none = ap v (append-nil at) ∙ none
-none_below t sound v is at (a ∷ more) none = none_behind v (λ p b up. folder_above t sound v is p b up) at a more (λ folder. clash (sym folder ∙ none))
+none_below t sound v is at (a ∷ more) none = none_behind v (folders_of t sound v is) at a more (λ folder. clash (sym folder ∙ none))
   where
     clash : Folder ≡ NoEntry → ⊥
     clash e = cc e
@@ -257,17 +223,11 @@ module _ (work : Path) (from_pass to_pass : List ℕ) (journal : Journal) (v : V
   is_retired away removed =
       test_passes (TestsAway work from_pass to_pass journal v) away_next (Ok (retired_of journal)) away (test_passes removals removed_next (Ok (retired_of journal)) removed (inr (inr refl)))
 
--- what is seen once the source is moved away, where it was there
-pub seen_away : (r : Retiring) (t u : Option Told) → MovesHeldOnly r t u → IfSeen t (λ v. (w : View) × IsSeen u w)
-seen_away r (Some a) (Some b) went v is = (seen b.state, refl)
-seen_away r (Some a) None went v is = absurd went
-seen_away r None u went v is = absurd is
-
 pub removed_then : (r : Retiring) (source work : Path) (t u : Option Told) (answer : Answer (Unit {0})) → MovesHeldOnly r t u
     → ((v w : View) → IsSeen t v → IsSeen u w → w ≡ moved_away (v source) source work v) → IfSeen u (λ w. Unless answer (TestsRemovals work w answer))
     → IfSeen t (λ v. Unless answer (TestsRemovals work (moved_away (v source) source work v) answer))
 removed_then r source work t u answer moves goes cause v is =
-    let then_ = seen_away r t u moves v is in
+    let then_ = tellings.seen_then _ t u moves v is in
     subst (λ (x : View). Unless answer (TestsRemovals work x answer)) (goes v then_.0 is then_.1) (cause then_.0 then_.1)
 
 module _ (work : Path) (from_pass to_pass : List ℕ) (v : View) where
@@ -292,7 +252,7 @@ module _ (work : Path) (from_pass to_pass : List ℕ) (v : View) where
       pub foreign : (why : WorkFault) → looking.Gives {T = Unit {0}} (TestsEntries true v work) (Err why) → Refuses (Retires work from_pass to_pass v) (of_work why)
       foreign why looked =
           own_passes Failed NoMemory (ReadsDone work v) journal_next (Err (of_work why)) journal done
-          (apart_passes of_step journal.source journal.target work (apart_next journal) (Err (of_work why)) apart (entries_refused (TestsEntries true v work) (entries_next journal) why looked))
+          (apart_passes of_step journal.source journal.target work (apart_next journal) (Err (of_work why)) apart (work_refused of_work (TestsEntries true v work) (entries_next journal) why looked))
 
       pub is_told : (answer : Answer Retired) → TestsEntries true v work (Ok tt) → Unless answer (RetiresTold work from_pass to_pass journal v answer) → Unless answer (Retires work from_pass to_pass v answer)
       is_told answer entries h =

@@ -1,13 +1,13 @@
 -- What is removed of a work folder, call by call, and what is seen of it then.
-use Rattle.std.proofs.Common.{◌≡◌, ◌≢◌, ℕ, Bool, true, false, [], ◌∷◌, ◌++◌, Option, Some, None, Result, Ok, Err, OnOk, refl, sym, ap, ◌∙◌, inl, inr, subst, append-nil, append_assoc, codes, bytes_eq, is_none, is_some, IsTrue, arith}
+use Rattle.std.proofs.Common.{◌≡◌, ◌≢◌, ℕ, Bool, true, false, [], ◌∷◌, Option, Some, None, Result, Ok, Err, OnOk, refl, sym, ap, ◌∙◌, inl, inr, subst, append-nil, append_assoc, codes, bytes_eq, is_none, is_some, IsTrue, arith}
 use Rattle.std.proofs.lemmas.Slice.Eq.{bytes_eq-Decides}
-use Rattle.folder_spec.proofs.Moments.{went_by_call, went_more, went_nowhere, went_on, went_to}
+use Rattle.folder_spec.proofs.Moments.{went_by_call, went_more, went_to}
 use Rattle.folder_spec.proofs.Paths.{below-both, child-apart, child-last, path_eq-apart, path_eq-same}
-use Rattle.folder_spec.proofs.Regions.{as_before, as_before_on, as_before_then, as_before_within, seen_as_before}
+use Rattle.folder_spec.proofs.Regions.{as_before, as_before_on, seen_as_before}
 use Rattle.folder_spec.proofs.Seen.{may_call_allowed, seen_changed}
-use Rattle.folder_spec.proofs.Tellings.{from_to_more, from_to_on, from_to_same}
+use Rattle.folder_spec.proofs.Tellings.{from_to_more}
 use Rattle.folder_spec.specs.declared.FolderFault.{FolderFault}
-use Rattle.folder_spec.specs.Event.{Call, MakeDir, Create, Append, Sync, Settle, Rename, RemoveFile, RemoveDir, Event, Allowed, Changes, Steps, Told}
+use Rattle.folder_spec.specs.Event.{Call, MakeDir, Create, Append, Sync, Settle, Rename, RemoveFile, RemoveDir, Allowed, Changes, Steps, Told}
 use Rattle.folder_spec.specs.Moments.{Went}
 use Rattle.folder_spec.specs.Path.{Part, Path, below, child}
 use Rattle.folder_spec.specs.Region.{IsAsBefore, Spares, WritesOnlyNew, apart_from, at_or_below}
@@ -17,23 +17,18 @@ use Rattle.folder_spec.specs.View.{Folder, NoEntry, View}
 use Rattle.folder_staging.specs.Removal.{IsBare, IsRemoving, IsWithin, Reach, Removes, RemovesWithin, deepest, from}
 use Rattle.folder_staging.specs.declared.removal.RemovalFault.{RemovalFault}
 use Rattle.migration_spec.proofs.Kept.{behind_none, is_below}
+use Rattle.migration_spec.proofs.Tellings.{seen_before, AreSound}
 use Rattle.migration_spec.specs.Guard.{old_path}
 use Rattle.work_folder.specs.Entries.{journal_path}
-use Rattle.retire_core.proofs.Going.{AreSound, IsWhole, behind_inside, fallen_same}
+use Rattle.retire_core.proofs.Going.{IsWhole, behind_inside, fallen_same}
 use Rattle.retire_core.specs.Clearing.{Clears, ClearsAt, ClearsBeside, ClearsEntry, ClearsOnly, ClearsRest, HasOnlyJournal, IsGone, IsInOrder, Leaves}
+use Rattle.migration_spec.proofs.Staying.{Kind, stays_more, stays_on, stays_same}
+use Rattle.folder_spec.proofs.Replaces.{apart-below}
 
 -- ---- regions
 
 pub apart_within : (work : Path) (name : Part) (q : Path) → IsTrue (apart_from work q) → IsTrue (apart_from (child work name) q)
-apart_within work name q apart = ap is_none (behind_none work (name ∷ []) q (none_of (below work q) apart))
-  where
-    none_of : (o : Option Path) → IsTrue (is_none o) → o ≡ None
-    none_of None is = refl
-    none_of (Some rest) is = absurd (cc is)
-
--- what is at a path or below it is behind it
-pub at_is : (at p : Path) → IsTrue (at_or_below at p) → (rest : Path) × (p ≡ at ++ rest)
-at_is at p is = is_below at p is
+apart_within work name q apart = ap is_none (behind_none work (name ∷ []) q (apart-below work q apart))
 
 -- ---- an entry that is removed
 
@@ -62,9 +57,7 @@ entry_cleared leave at t u n m result there removes =
     (λ s e within. clears_within at a.state e.call (there (seen a.state) (subst (λ o. IsSeen o (seen a.state)) (sym is) refl)) within) went) removes.moments
 
 pub entry_same : (at : Path) (t u : Option Told) → u ≡ t → ClearsEntry at t u
-entry_same at t u same =
-    from_to_same (λ a b. Went (IsAsBefore (apart_from at) a.state) (λ s e. ClearsAt at a.state e.call) a b) t u same
-    (λ a. went_nowhere (IsAsBefore (apart_from at) a.state) (λ s e. ClearsAt at a.state e.call) a (as_before (apart_from at) a.state))
+entry_same at = stays_same (apart_from at) (λ s0 s e. ClearsAt at s0 e.call)
 
 -- what is seen elsewhere stays
 pub entry_leaves : (at : Path) (t u : Option Told) → AreSound t → ClearsEntry at t u → Leaves at t u
@@ -78,12 +71,12 @@ entry_leaves at None u sound went v w is is_now q none = absurd is
 
 old_beside : (work : Path) (name : Part) (p : Path) → bytes_eq (codes "old") name ≡ false → IsTrue (at_or_below (child work name) p) → below (old_path work) p ≡ None
 old_beside work name p other inside =
-    let there = at_is (child work name) p inside in
+    let there = is_below (child work name) p inside in
     ap (below (old_path work)) (there.1 ∙ append_assoc work (name ∷ []) there.0) ∙ below-both work (codes "old" ∷ []) (name ∷ there.0) ∙ rw other refl
 
 pub inside_work : (work : Path) (name : Part) (p : Path) → IsTrue (at_or_below (child work name) p) → IsTrue (at_or_below work p)
 inside_work work name p inside =
-    let there = at_is (child work name) p inside in
+    let there = is_below (child work name) p inside in
     subst (λ q. IsTrue (at_or_below work q)) (sym (there.1 ∙ append_assoc work (name ∷ []) there.0)) (behind_inside work (name ∷ there.0))
 
 beside : (work : Path) (name : Part) (s0 : State) (call : Call) → bytes_eq (codes "old") name ≡ false → ClearsAt (child work name) s0 call → ClearsBeside work call
@@ -98,54 +91,30 @@ beside work name s0 (Rename old new) other at = absurd at
 
 -- another entry than `old`
 pub rest_by_entry : (work : Path) (name : Part) (t u : Option Told) → bytes_eq (codes "old") name ≡ false → ClearsEntry (child work name) t u → ClearsRest work t u
-rest_by_entry work name t u other clears =
-    let at = child work name in
-    from_to_more (λ a b. Went (IsAsBefore (apart_from at) a.state) (λ s e. ClearsAt at a.state e.call) a b) (λ a b. Went (IsAsBefore (apart_from work) a.state) (λ s e. ClearsBeside work e.call) a b) t u
-    (λ a b is went. went_more (IsAsBefore (apart_from at) a.state) (IsAsBefore (apart_from work) a.state) (λ s e. ClearsAt at a.state e.call) (λ s e. ClearsBeside work e.call) a b
-    (λ s h. as_before_within (apart_from work) (apart_from at) a.state s (λ q apart. apart_within work name q apart) h) (λ s e h. beside work name a.state e.call other h) went) clears
+rest_by_entry work name t u other =
+    stays_more (apart_from work) (apart_from (child work name)) (λ s0 s e. ClearsAt (child work name) s0 e.call) (λ s0 s e. ClearsBeside work e.call) t u (apart_within work name) (λ s0 s e is. beside work name s0 e.call other is)
 
 -- `old`
 pub only_by_old : (work : Path) (t u : Option Told) → ClearsEntry (old_path work) t u → ClearsOnly work t u
-only_by_old work t u clears =
-    let at = old_path work in
-    from_to_more (λ a b. Went (IsAsBefore (apart_from at) a.state) (λ s e. ClearsAt at a.state e.call) a b) (λ a b. Went (IsAsBefore (apart_from work) a.state) (λ s e. Clears work a.state e.call) a b) t u
-    (λ a b is went. went_more (IsAsBefore (apart_from at) a.state) (IsAsBefore (apart_from work) a.state) (λ s e. ClearsAt at a.state e.call) (λ s e. Clears work a.state e.call) a b
-    (λ s h. as_before_within (apart_from work) (apart_from at) a.state s (λ q apart. apart_within work (codes "old") q apart) h) (λ s e h. inl h) went) clears
+only_by_old work t u =
+    stays_more (apart_from work) (apart_from (old_path work)) (λ s0 s e. ClearsAt (old_path work) s0 e.call) (λ s0 s e. Clears work s0 e.call) t u (apart_within work (codes "old")) (λ s0 s e is. inl is)
 
 pub only_same : (work : Path) (t u : Option Told) → u ≡ t → ClearsOnly work t u
-only_same work t u same =
-    from_to_same (λ a b. Went (IsAsBefore (apart_from work) a.state) (λ s e. Clears work a.state e.call) a b) t u same
-    (λ a. went_nowhere (IsAsBefore (apart_from work) a.state) (λ s e. Clears work a.state e.call) a (as_before (apart_from work) a.state))
+only_same work = stays_same (apart_from work) (λ s0 s e. Clears work s0 e.call)
 
 pub rest_same : (work : Path) (t u : Option Told) → u ≡ t → ClearsRest work t u
-rest_same work t u same =
-    from_to_same (λ a b. Went (IsAsBefore (apart_from work) a.state) (λ s e. ClearsBeside work e.call) a b) t u same
-    (λ a. went_nowhere (IsAsBefore (apart_from work) a.state) (λ s e. ClearsBeside work e.call) a (as_before (apart_from work) a.state))
+rest_same work = stays_same (apart_from work) (λ s0 s e. ClearsBeside work e.call)
 
 pub rest_then : (work : Path) (t u w : Option Told) → ClearsRest work t u → ClearsRest work u w → ClearsRest work t w
-rest_then work t u w first second =
-    let Q : State → Event → Type 0 = λ s e. ClearsBeside work e.call in
-    from_to_on (λ a b. Went (IsAsBefore (apart_from work) a.state) Q a b) (λ a b. Went (IsAsBefore (apart_from work) a.state) Q a b) (λ a b. Went (IsAsBefore (apart_from work) a.state) Q a b) t u w
-    (λ a b c one two. went_on (IsAsBefore (apart_from work) a.state) Q a b c one
-    (went_more (IsAsBefore (apart_from work) b.state) (IsAsBefore (apart_from work) a.state) Q Q b c
-    (λ s h. as_before_then (apart_from work) (apart_from work) a.state b.state s (λ q apart. apart) (went_to (IsAsBefore (apart_from work) a.state) Q a b one) h) (λ s e h. h) two)) first second
+rest_then work t u w =
+    let Q : Kind = λ s0 s e. ClearsBeside work e.call in
+    stays_on (apart_from work) (apart_from work) Q Q t u w (λ q apart. apart) (λ s0 s1 s e is. is)
 
 pub only_then : (work : Path) (t u w : Option Told) → ClearsOnly work t u → ClearsRest work u w → ClearsOnly work t w
-only_then work t u w first second =
-    let Q : State → Event → Type 0 = λ s e. ClearsBeside work e.call in
-    from_to_on (λ a b. Went (IsAsBefore (apart_from work) a.state) (λ s e. Clears work a.state e.call) a b) (λ a b. Went (IsAsBefore (apart_from work) a.state) Q a b)
-    (λ a b. Went (IsAsBefore (apart_from work) a.state) (λ s e. Clears work a.state e.call) a b) t u w
-    (λ a b c one two. went_on (IsAsBefore (apart_from work) a.state) (λ s e. Clears work a.state e.call) a b c one
-    (went_more (IsAsBefore (apart_from work) b.state) (IsAsBefore (apart_from work) a.state) Q (λ s e. Clears work a.state e.call) b c
-    (λ s h. as_before_then (apart_from work) (apart_from work) a.state b.state s (λ q apart. apart) (went_to (IsAsBefore (apart_from work) a.state) (λ s e. Clears work a.state e.call) a b one) h) (λ s e h. inr h) two)) first second
+only_then work t u w =
+    stays_on (apart_from work) (apart_from work) (λ s0 s e. Clears work s0 e.call) (λ s0 s e. ClearsBeside work e.call) t u w (λ q apart. apart) (λ s0 s1 s e is. inr is)
 
 -- ---- what is seen of the work folder
-
--- what was seen before
-pub seen_before : (at : Path) (t u : Option Told) → ClearsEntry at t u → IfSeen u (λ w. (v : View) × IsSeen t v)
-seen_before at (Some a) (Some b) went w is = (seen a.state, refl)
-seen_before at None (Some b) went w is = absurd went
-seen_before at t None went w is = absurd is
 
 entry_apart : (work : Path) (name other : Part) → bytes_eq name other ≡ false → below (child work name) (child work other) ≡ None
 entry_apart work name other isnt = below-both work (name ∷ []) (other ∷ []) ∙ rw isnt refl
@@ -153,7 +122,7 @@ entry_apart work name other isnt = below-both work (name ∷ []) (other ∷ []) 
 root_apart : (work : Path) (name : Part) → below (child work name) work ≡ None
 root_apart work name = subst (λ q. below (child work name) q ≡ None) (append-nil work) (below-both work (name ∷ []) [])
 
-isnt_eq : (name other : Part) → name ≢ other → bytes_eq other name ≡ false
+pub isnt_eq : (name other : Part) → name ≢ other → bytes_eq other name ≡ false
 isnt_eq name other apart = by_test (bytes_eq other name) refl
   where
     by_test : (b : Bool) → bytes_eq other name ≡ b → bytes_eq other name ≡ false
@@ -177,13 +146,13 @@ only_journal work t0 t1 t2 t3 order one two three leaves1 leaves2 leaves3 gone1 
 }
   where
     at2 : (v : View) × IsSeen t2 v
-    at2 = seen_before (child work (codes "journal.new")) t2 t3 three w is
+    at2 = seen_before _ t2 t3 three w is
 
     at1 : (v : View) × IsSeen t1 v
-    at1 = seen_before (child work (codes "stage")) t1 t2 two at2.0 at2.1
+    at1 = seen_before _ t1 t2 two at2.0 at2.1
 
     at0 : (v : View) × IsSeen t0 v
-    at0 = seen_before (child work (codes "old")) t0 t1 one at1.0 at1.1
+    at0 = seen_before _ t0 t1 one at1.0 at1.1
 
     before : IsInOrder at0.0 work
     before = order at0.0 at0.1

@@ -1,8 +1,6 @@
 -- Over a guarded migration that can be retired each test passes, unless the folder fails or memory runs out.
 use Rattle.std.proofs.Math.Path.{fun_ext}
-use Rattle.std.proofs.Common.{◌≡◌, ◌≢◌, ◌⊎◌, inl, inr, List, [], ◌∷◌, ◌++◌, ◌&&◌, if◌then◌else◌, ℕ, Bool, true, false, Option, Some, None, Result, Ok, Err, MatchResult, IfErr, IsTrue, refl, sym, ap, ◌∙◌, subst, subst₂, append-nil, append_assoc, bytes_eq, codes, arith, zero, suc, Contains}
-use Rattle.std.specs.Prelude.{nat_eq}
-use Rattle.std.specs.List.{starts_with}
+use Rattle.std.proofs.Common.{◌≡◌, ◌≢◌, ◌⊎◌, inl, inr, List, [], ◌∷◌, ◌++◌, ℕ, Bool, true, false, Option, None, Result, Ok, Err, MatchResult, IfErr, IsTrue, refl, sym, ap, ◌∙◌, subst, subst₂, append-nil, append_assoc, bytes_eq, codes, arith, Contains}
 use Rattle.chunk_files.specs.Keys.{Keys}
 use Rattle.chunk_files.specs.Reading.{Wanting}
 use Rattle.folder_spec.proofs.Paths.{below-append, below-apart}
@@ -13,43 +11,36 @@ use Rattle.folder_spec.specs.declared.Kind.TheVariants as kind
 use Rattle.folder_staging.specs.Removal.{RemovesAs, deepest, from}
 use Rattle.folder_staging.specs.declared.removal.RemovalFault.{RemovalFault}
 use Rattle.folder_staging.specs.declared.removal.RemovalFault.TheVariants as removal
-use Rattle.mapped_trees.specs.Plans as plans
-use Rattle.mapped_trees.specs.Trees.{HasNoBroken, IsHeldIn, IsMapped, IsWhole, StaysApart}
+use Rattle.mapped_trees.specs.Trees.{AllowsTree, HasNoBroken, IsHeldIn, IsMapped, IsWhole, StaysApart}
 use Rattle.migration_spec.proofs.Entries.{none_foreign, old_free, with_old}
-use Rattle.migration_sides.proofs.Passing.{Any, apart_met, both_open, both_walked, entries_met, given, met, only_or, read_back}
+use Rattle.migration_sides.proofs.Passing.{Any, OnlyBy, apart_met, both_open, both_walked, entries_met, given, if_only, met, only_or, read_back}
 use Rattle.migration_sides.specs.Causes.{TestsApart}
 use Rattle.migration_sides.specs.Sides.{IsShallow}
 use Rattle.migration_sides.specs.Tests.{Then, own}
-use Rattle.migration_sides.specs.declared.fault.Side.{Side}
 use Rattle.move_journal.specs.Journal.{IsJournal}
 use Rattle.move_journal.specs.Reading.{ReadsAs, journal_bytes, StandsIn}
 use Rattle.move_journal.specs.declared.journal.Journal.{Journal}
 use Rattle.move_journal.specs.declared.journal.Phase.TheVariants as phase
 use Rattle.move_journal.proofs.Standing.{ReadsBack, not_missing}
-use Rattle.plain_tree.specs.Names as plain
 use Rattle.plain_tree.specs.declared.name_map.NameMap.{NameMap}
-use Rattle.plain_tree.specs.declared.NodeKind.{NodeKind}
-use Rattle.plain_tree.specs.declared.NodeKind.TheVariants.{Dir, File}
-use Rattle.tree_match.proofs.HeldTrees.{IsNoDifference, found_with}
-use Rattle.tree_match.proofs.Passing.{compares_met, each_file, each_mapped_file, each_named, map_met}
-use Rattle.tree_match.specs.Comparing.{Content, Is, Outcome, Stops, compared, content_at, is_cut}
+use Rattle.plain_tree.specs.declared.NodeKind.TheVariants.{File}
+use Rattle.tree_match.proofs.CutItems.{cut_content, cut_item}
+use Rattle.tree_match.proofs.HeldTrees.{IsNoDifference}
+use Rattle.tree_match.proofs.Passing.{NoneMeet, TellsTree, compares_met, each_file, each_mapped_file, holds_met, walk_maps}
+use Rattle.tree_match.specs.Comparing.{Stops, content_at}
 use Rattle.migration_spec.specs.Guard as guard
 use Rattle.migration_spec.specs.Guard.{AreOpenedBy, Case, HasJournal, IsDone, IsWork, LastJournal, Migration, Stands, Gone, has_old, has_old_by, kinds_in, old_path, tree_at}
 use Rattle.work_folder.specs.Apart.{AreApart}
-use Rattle.tree_match.specs.Mapping.{AreFirstToMeet, IsMappedPlan, MapsTo}
-use Rattle.tree_match.specs.Matching.{by_item, first_differing, first_further, held_as, held_by, item_with, matched}
+use Rattle.tree_match.specs.Mapping.{IsMappedPlan, MapsTo}
+use Rattle.tree_match.specs.Matching.{matched, where_of}
 use Rattle.tree_match.specs.Trees.{Compares, HoldsAllOrTooLong, IsMappedWalkOf, IsWalkOf, match_of, side_of, tree_of}
 use Rattle.tree_match.specs.Trees as trees
-use Rattle.tree_match.specs.declared.answer.How.{How}
-use Rattle.tree_match.specs.declared.answer.Match.{Match}
 use Rattle.tree_match.specs.declared.answer.MapFault.{MapFault}
-use Rattle.tree_match.specs.declared.answer.Match.TheVariants.{Same, Contained, Differs}
 use Rattle.vault_read.specs.Laws.{HaveOneAnswer}
 use Rattle.vault_spec.specs.Alike.{HasFolders}
 use Rattle.vault_spec.specs.Opens.{Tree}
 use Rattle.vault_spec.specs.Plan.{Planned}
 use Rattle.vault_spec.specs.Vault.{format_of}
-use Rattle.vault_walk.specs.Surveyed.{IsPlanOf}
 use Rattle.vault_walk.specs.declared.plan.Plan.{Plan}
 use Rattle.content_writing.specs.Making.{is_inside}
 use Rattle.work_folder.specs.Entries.{HasNoForeign, is_foreign, journal_path, new_journal_path, stage_path}
@@ -60,14 +51,14 @@ use Rattle.retire_core.proofs.Renamed.{HasNoSpecial}
 use Rattle.retire_core.specs.Causes.{Answer, IsOfFolder, Passes, ReadsDone, Retires, RetiresTold, TestsAway, TestsFree, TestsHeld, TestsItems, TestsMapped, TestsMatch, TestsPhase, TestsRemoval, TestsRemovals, TestsVaults, moved_away, retired_of}
 use Rattle.retire_core.specs.Completing.{CanRetire, IsAtEnd, PassesNoLimit}
 use Rattle.retire_core.specs.Faults.{of_journal, of_map, of_match, of_removal, of_step, of_work}
-use Rattle.retire_core.specs.declared.fault.RetireFault.TheVariants.{Work}
+use Rattle.retire_core.specs.declared.fault.RetireFault.TheVariants.{Differ, Work}
 use Rattle.retire_core.specs.declared.retiring.Retired.{Retired}
 
 -- ---- tests that can only pass
 
 -- such a value, unless the folder failed or memory ran out
 abbrev Only : {X : Type 0} → (X → Type 0) → Answer X → Type 0
-Only P answer = MatchResult answer P IsOfFolder
+Only = OnlyBy IsOfFolder
 
 -- ---- the journal, and the folders
 
@@ -82,63 +73,27 @@ module _ (reads : ReadsBack) (work : Path) (v : View) (journal : Journal) (is : 
 
 -- ---- no content that is compared passes the limit
 
-compared_short : (a b : Content) → a.ending ≢ Wanting → b.ending ≢ Wanting → (at : Path) → compared a b ≢ Stops at Wanting
-unfolding compared
-compared_short a b one two at = pick (is_cut a.ending && starts_with nat_eq b.bytes a.bytes) (is_cut b.ending && starts_with nat_eq a.bytes b.bytes)
-  where
-    pick : (first second : Bool) → (if first then Stops a.at a.ending else if second then Stops b.at b.ending else Is (bytes_eq a.bytes b.bytes)) ≢ Stops at Wanting
-    pick true second e = one (cc e)
-    pick false true e = two (cc e)
-    pick false false e = cc e
-
-held_short : (x y : NodeKind) (o : Outcome Bool) (at : Path) → (x ≡ File → y ≡ File → o ≢ Stops at Wanting) → held_as x y o ≢ Stops at Wanting
-held_short Dir Dir o at short e = cc e
-held_short Dir File o at short e = cc e
-held_short File Dir o at short e = cc e
-held_short File File (Is true) at short e = cc e
-held_short File File (Is false) at short e = cc e
-held_short File File (Stops there ending) at short e = let one : there ≡ at = cc e in let two : ending ≡ Wanting = cc e in short refl refl (cc (one, two))
-
-item_short : (path : plain.Path) (x : Outcome (Option How)) (rest : Outcome Match) (at : Path) → x ≢ Stops at Wanting → rest ≢ Stops at Wanting → by_item path x rest ≢ Stops at Wanting
-item_short path (Is None) rest at one two e = two e
-item_short path (Is (Some how)) rest at one two e = cc e
-item_short path (Stops there ending) rest at one two e = let p : there ≡ at = cc e in let q : ending ≡ Wanting = cc e in one (cc (p, q))
-
-first_short : (held : Planned → Outcome (Option How)) (items : List Planned) (last : Match) (at : Path) → ((x : Planned) → Contains items x → held x ≢ Stops at Wanting) → first_differing held items (Is last) ≢ Stops at Wanting
-unfolding first_differing
-first_short held [] last at short e = cc e
-first_short held (item ∷ items) last at short e =
-    item_short item.path (held item) (first_differing held items (Is last)) at (short item (zero, omega arith, refl))
-    (first_short held items last at (λ x among. short x (suc among.0, omega (arith, among.1), among.2))) e
-
 -- no file among these passes it
 abbrev AreShort : Keys → View → List Planned → Type 0
 AreShort keys v items = (x : Planned) → Contains items x → x.node ≡ File → (content_at keys v x.at).ending ≢ Wanting
 
 module _ (a b : Keys) (v : View) (items others : List Planned) (one : AreShort a v items) (two : AreShort b v others) where
-  by_short : (x : Planned) → Contains items x → (o : Option Planned) → item_with x.path others ≡ o → (at : Path) → held_by a b v x o ≢ Stops at Wanting
-  by_short x among None is at e = cc e
-  by_short x among (Some other) is at e =
-      let there = found_with x.path others other is in
-      held_short x.node other.node (compared (content_at a v x.at) (content_at b v other.at)) at
-      (λ file file_too. compared_short (content_at a v x.at) (content_at b v other.at) (one x among file) (two other there.0 file_too) at) e
-
   matched_short : (at : Path) → matched a items b others v ≢ Stops at Wanting
-  matched_short at = first_short (λ x. held_by a b v x (item_with x.path others)) items (first_further items others) at (λ x among. by_short x among (item_with x.path others) refl at)
+  matched_short at stops =
+      let cut = cut_item a b v items others at Wanting stops in
+      elim (cut_content (content_at a v cut.item.at) (content_at b v cut.other.at) at Wanting cut.stops) [
+        | inl within ↦ one cut.item cut.among cut.file within.ends
+        | inr within ↦ two cut.other cut.among_others cut.other_file within.ends
+      ]
 
 -- ---- the target holds the source
 
 -- what is cited of mapped trees and of vaults that are compared
 pub record AreHeldAlike : Type 0 where
-  pub plan : (v : View) (a : trees.Side) → IsWalkOf v a → plans.IsPlanOf (tree_of v a) a.items
-  pub meet : (v : View) (names : NameMap) (a : trees.Side) (one other : plain.Path) → IsWalkOf v a → StaysApart names (tree_of v a) → ¬ AreFirstToMeet names a.items one other
+  pub plan : TellsTree
+  pub meet : NoneMeet
   pub held : (names : NameMap) (m t : Tree) → IsMapped names m t → HasNoBroken m → IsHeldIn names m t
   pub holds : (v : View) (names : NameMap) (a b : trees.Side) → IsMappedWalkOf names v a → IsWalkOf v b → IsHeldIn names (tree_of v a) (tree_of v b) → HoldsAllOrTooLong (match_of v a b)
-
-passes_held : (m : Match) (answer : Answer (Unit {0})) → IsNoDifference m → TestsMatch m answer → Only Any answer
-passes_held Same answer held tested = given IsOfFolder Any tt answer tt tested
-passes_held (Contained path) answer held tested = given IsOfFolder Any tt answer tt tested
-passes_held (Differs path how) answer held tested = absurd held
 
 module _ (one : HaveOneAnswer) (cited : AreHeldAlike) (g : Migration) (from_pass to_pass : List ℕ) (v : View) (opened : AreOpenedBy g from_pass to_pass v) (done : IsDone g v) (limits : PassesNoLimit g v) where
   held_in : IsHeldIn g.names (tree_at g.source v) (tree_at g.target v)
@@ -147,13 +102,11 @@ module _ (one : HaveOneAnswer) (cited : AreHeldAlike) (g : Migration) (from_pass
       let held = cited.held g.names g.held (tree_at g.target v) done.target.all.held done.target.all.whole path named (λ none. there (same ∙ none)) in
       (held.0 ∙ sym same, subst IsWhole (sym same) held.1)
 
-  stays_apart : StaysApart g.names (tree_at g.source v)
-  stays_apart p q there there_too = done.target.all.apart p q (λ none. there (done.source.held p ∙ none)) (λ none. there_too (done.source.held q ∙ none))
-
   maps_met : (items : List Planned) → IsWalkOf v (side_of g.source items) → (t : Result Plan MapFault) → MapsTo g.names items t → MatchResult t (λ plan. IsMappedPlan g.names items plan.items) (λ why. IsOfFolder (of_map why))
-  maps_met items is = map_met (λ why. IsOfFolder (of_map why)) (inr refl) g.names items
-      (each_named g.names (format_of g.target.vault) g.held items (subst (λ (t : Tree). plans.IsPlanOf t items) (fun_ext done.source.held) (cited.plan v (side_of g.source items) is)) done.allowed)
-      (λ p q. cited.meet v g.names (side_of g.source items) p q is stays_apart)
+  maps_met items is =
+      let same = sym (fun_ext done.source.held) in
+      walk_maps cited.plan cited.meet (λ why. IsOfFolder (of_map why)) (inr refl) g.names (format_of g.target.vault) v (side_of g.source items) is
+      (subst (AllowsTree g.names (format_of g.target.vault)) same done.allowed) (subst (StaysApart g.names) same done.target.all.apart)
 
   items_met : (items mapped others : List Planned) (answer : Answer (Unit {0})) → IsWalkOf v (side_of g.source items) → IsMappedPlan g.names items mapped → IsWalkOf v (side_of g.target others)
       → TestsItems g.source mapped g.target others v answer → Only Any answer
@@ -163,7 +116,7 @@ module _ (one : HaveOneAnswer) (cited : AreHeldAlike) (g : Migration) (from_pass
       (cited.holds v g.names (side_of g.source mapped) (side_of g.target others) (record { own = items; walk = is; mapped = maps }) is_too held_in)
       (λ at too_long. absurd (matched_short (format_of g.source.vault).content (format_of g.target.vault).content v mapped others
       (each_mapped_file (λ ending. ending ≢ Wanting) g.source v limits.source.contents items is g.names mapped maps) (each_file (λ ending. ending ≢ Wanting) g.target v limits.target.contents others is_too) at too_long)))
-      (λ m held tested. passes_held m answer held tested)
+      (λ m held tested. holds_met IsOfFolder (λ path how. Differ path (where_of how)) m answer held tested)
 
   mapped_met : (items others : List Planned) (answer : Answer (Unit {0})) → IsWalkOf v (side_of g.source items) → IsWalkOf v (side_of g.target others) → TestsMapped g.names g.source items g.target others v answer → Only Any answer
   mapped_met items others answer is is_too =
@@ -377,11 +330,7 @@ module _ (laws : AreCited) (g : Migration) (from_pass to_pass : List ℕ) (v : V
   by_case (guard.Done x) end is = by_done x is
   by_case (guard.Retired x) end is = by_last x.gone x.journal end is
 
-if_only : {X : Type 0} (answer : Answer X) → Only Any answer → IfErr answer IsOfFolder
-if_only (Ok x) only = tt
-if_only (Err fault) only = only
-
 pub goes_through : AreCited → (g : Migration) (from_pass to_pass : List ℕ) (v : View) (answer : Answer Retired) → HasFolders v → AreOpenedBy g from_pass to_pass v → CanRetire g v → Retires g.work from_pass to_pass v answer
     → IfErr answer IsOfFolder
 goes_through laws g from_pass to_pass v answer folders opened can tested =
-    if_only answer (by_case laws g from_pass to_pass v folders opened can.separate can.limits can.guarded.case can.end can.guarded.work answer tested)
+    if_only IsOfFolder answer (by_case laws g from_pass to_pass v folders opened can.separate can.limits can.guarded.case can.end can.guarded.work answer tested)

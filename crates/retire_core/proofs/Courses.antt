@@ -1,37 +1,39 @@
 -- Parts of a run of `retire`, one after the other.
-use Rattle.std.proofs.Common.{IfOk, OnOk, ◌≡◌, ◌≢◌, ℕ, List, [], Bool, true, false, Option, Some, None, Result, Ok, Err, refl, sym, ap, ◌∙◌, inl, inr, subst, codes, bytes_eq, is_none, is_some, IsTrue}
-use Rattle.std.proofs.lemmas.Slice.Eq.{bytes_eq-Decides}
+use Rattle.std.proofs.Common.{IfOk, OnOk, ◌≡◌, ◌≢◌, ℕ, List, true, false, Option, Some, None, Result, Ok, Err, refl, sym, ap, ◌∙◌, inl, inr, subst, codes, bytes_eq, is_none, is_some, IsTrue}
 use Rattle.folder_spec.proofs.Moments.{went_by_call, went_more, went_nowhere, went_on, went_to}
-use Rattle.folder_spec.proofs.Regions.{as_before, as_before_on, as_before_then, seen_as_before}
-use Rattle.folder_spec.proofs.Tables.{present_is_table}
+use Rattle.folder_spec.proofs.Regions.{seen_as_before}
 use Rattle.folder_spec.proofs.Tellings.{from_to_more, from_to_on, from_to_same}
 use Rattle.folder_spec.specs.declared.FolderFault.{FolderFault}
-use Rattle.folder_spec.specs.Event.{Call, MakeDir, Create, Append, Sync, Settle, Rename, RemoveFile, RemoveDir, Changes, Done, Event, Steps, Told, told_after}
+use Rattle.folder_spec.specs.Event.{Call, MakeDir, Create, Append, Sync, Settle, Rename, RemoveFile, RemoveDir, Changes, Done, Steps, Told, told_after}
 use Rattle.folder_spec.specs.Moments.{Went}
 use Rattle.folder_spec.specs.Path.{Part, Path, below, child}
 use Rattle.folder_spec.specs.Region.{IsAsBefore, apart_from, apart_from_both, at_or_below}
 use Rattle.folder_spec.specs.Seen.{IfSeen, IsSeen, seen}
-use Rattle.folder_spec.specs.State.{State, IsSound, present}
-use Rattle.folder_spec.specs.View.{FileOf, Folder, Found, NoEntry, Special, View, found, kind_found}
+use Rattle.folder_spec.specs.State.{State, IsSound}
+use Rattle.folder_spec.specs.View.{FileOf, Folder, Found, NoEntry, Special, View, kind_found}
 use Rattle.move_journal.specs.Journal.{IsJournal}
 use Rattle.move_journal.specs.declared.journal.Journal.{Journal}
 use Rattle.move_journal.specs.declared.journal.Phase.TheVariants as phase
 use Rattle.move_journal.specs.Reading.{StandsIn}
 use Rattle.migration_spec.proofs.Guards.{ImagesShow, RootsAreAlike}
-use Rattle.migration_spec.specs.Alone.{KeepsGuarded, StaysGuarded}
+use Rattle.migration_spec.specs.Alone.{KeepsGuarded}
 use Rattle.migration_spec.specs.Guard.{Guarded, Migration, old_path}
 use Rattle.work_folder.specs.Apart.{AreApart}
 use Rattle.vault_write.proofs.Runs.{went_with}
 use Rattle.work_folder.specs.Entries.{HasNoForeign, is_foreign, journal_path}
 use Rattle.work_folder.specs.Looking.{TestsEntries}
-use Rattle.retire_core.proofs.Away.{SettlesGuarded, beside_both}
-use Rattle.retire_core.proofs.Cleared.{inside_work}
-use Rattle.retire_core.proofs.Going.{AreSound, retiring_stays}
+use Rattle.migration_spec.proofs.Entries.{entries_pass}
+use Rattle.migration_spec.proofs.Settling.{SettlesGuarded, settle_then}
+use Rattle.migration_spec.proofs.Tellings.{AreSound, folders_of}
+use Rattle.retire_core.proofs.Cleared.{inside_work, isnt_eq}
+use Rattle.retire_core.proofs.Going.{retiring_stays}
 use Rattle.retire_core.specs.Clearing.{Clears, ClearsOnly, IsGone, IsInOrder, MovesAway, MovesHeld, MovesHeldOnly, MovesOnly}
 use Rattle.retire_core.specs.Guarding.{ComesTo, IsAtRest, KeepsFromRest, KeepsRetiring}
 use Rattle.retire_core.specs.declared.fault.RetireFault.{RetireFault}
 use Rattle.retire_core.specs.declared.retiring.Retired.{Retired}
 use Rattle.retire_core.specs.Retiring.{HasRetired, IsHeld, MayEmpty, Removes, RemovesOnly, Retiring, Touches, TouchesOnly}
+use Rattle.migration_spec.proofs.Staying.{Kind, stays_more, stays_on, stays_same, stays_settled}
+use Rattle.migration_spec.proofs.Kept.{beside_both}
 
 -- ---- the source is moved where the target holds it
 
@@ -43,9 +45,7 @@ held_moves r t u held moves =
     (λ s h. h) (λ s e h. (h, held (seen a.state) (subst (λ o. IsSeen o (seen a.state)) (sym is) refl))) went) moves
 
 pub held_same : (r : Retiring) (t u : Option Told) → u ≡ t → MovesHeldOnly r t u
-held_same r t u same =
-    let R = apart_from_both r.from r.work in
-    from_to_same (λ a b. Went (IsAsBefore R a.state) (λ s e. MovesHeld r a.state s e.call) a b) t u same (λ a. went_nowhere (IsAsBefore R a.state) (λ s e. MovesHeld r a.state s e.call) a (as_before R a.state))
+held_same r = stays_same (apart_from_both r.from r.work) (λ s0 s e. MovesHeld r s0 s e.call)
 
 -- ---- what is touched
 
@@ -77,24 +77,17 @@ cleared_touches r s0 s (Rename old new) (inl at) = absurd at
 cleared_touches r s0 s (Rename old new) (inr beside) = absurd beside
 
 pub touches_moved : (r : Retiring) (t u : Option Told) → MovesHeldOnly r t u → TouchesOnly r t u
-touches_moved r t u moves =
+touches_moved r t u =
     let R = apart_from_both r.from r.work in
-    from_to_more (λ a b. Went (IsAsBefore R a.state) (λ s e. MovesHeld r a.state s e.call) a b) (λ a b. Went (IsAsBefore R a.state) (λ s e. Touches r s e.call) a b) t u
-    (λ a b is went. went_more (IsAsBefore R a.state) (IsAsBefore R a.state) (λ s e. MovesHeld r a.state s e.call) (λ s e. Touches r s e.call) a b
-    (λ s h. h) (λ s e h. moved_touches r a.state s e.call h) went) moves
+    stays_more R R (λ s0 s e. MovesHeld r s0 s e.call) (λ s0 s e. Touches r s e.call) t u (λ q apart. apart) (λ s0 s e is. moved_touches r s0 s e.call is)
 
 beside_work : (from work q : Path) → IsTrue (apart_from_both from work q) → IsTrue (apart_from work q)
 beside_work from work q is = ap is_none (beside_both from work q is).1
 
 pub touches_cleared : (r : Retiring) (t u w : Option Told) → MovesHeldOnly r t u → ClearsOnly r.work u w → TouchesOnly r t w
-touches_cleared r t u w moves clears =
-    let R = apart_from_both r.from r.work in
-    from_to_on (λ a b. Went (IsAsBefore R a.state) (λ s e. Touches r s e.call) a b) (λ a b. Went (IsAsBefore (apart_from r.work) a.state) (λ s e. Clears r.work a.state e.call) a b)
-    (λ a b. Went (IsAsBefore R a.state) (λ s e. Touches r s e.call) a b) t u w
-    (λ a b c one two. went_on (IsAsBefore R a.state) (λ s e. Touches r s e.call) a b c one
-    (went_more (IsAsBefore (apart_from r.work) b.state) (IsAsBefore R a.state) (λ s e. Clears r.work b.state e.call) (λ s e. Touches r s e.call) b c
-    (λ s h. as_before_then R (apart_from r.work) a.state b.state s (λ q apart. beside_work r.from r.work q apart) (went_to (IsAsBefore R a.state) (λ s e. Touches r s e.call) a b one) h)
-    (λ s e h. cleared_touches r b.state s e.call h) two)) (touches_moved r t u moves) clears
+touches_cleared r t u w moves =
+    stays_on (apart_from_both r.from r.work) (apart_from r.work) (λ s0 s e. Touches r s e.call) (λ s0 s e. Clears r.work s0 e.call) t u w (beside_work r.from r.work) (λ s0 s1 s e is. cleared_touches r s1 s e.call is)
+    (touches_moved r t u moves)
 
 -- ---- what is removed from `old`
 
@@ -174,11 +167,6 @@ rest_then alike shown g None None (Some c) keeps comes goes = absurd goes
 rest_then alike shown g (Some a) (Some b) None keeps comes goes = absurd goes
 
 -- a settle, and what follows it
-pub settle_fell : SettlesGuarded → (g : Migration) (t u : Option Told) (result : Result (Unit {0}) FolderFault) → Changes Settle t u result → KeepsGuarded g t u
-settle_fell settles g t u result changes =
-    from_to_more (λ a b. Steps Settle a b result) (λ a b. Guarded g a.state → StaysGuarded g a b) t u
-    (λ a b is steps guarded. went_by_call (Guarded g) (λ s e. Unit {0}) Settle a b result guarded (λ allowed. settles g a.state guarded) (λ added allowed. guarded) (λ outcome. tt) steps) changes
-
 at_rest : SettlesGuarded → (g : Migration) (a b : Told) → IsSound b.state → Guarded g a.state → b ≡ told_after a Settle Done → IsAtRest g b.state
 at_rest settles g a b sound guarded is = record {
   sound = sound;
@@ -186,23 +174,13 @@ at_rest settles g a b sound guarded is = record {
   settled = ap (λ (c : Told). c.state.later) is;
 }
 
-pub settle_then : SettlesGuarded → (g : Migration) (t u w : Option Told) (done : Unit {0}) → AreSound u → Changes Settle t u (Ok done) → KeepsFromRest g u w → KeepsGuarded g t w
-settle_then settles g (Some a) (Some b) (Some c) done sound changes keeps = λ guarded.
-    went_on (Guarded g) (λ s e. Unit {0}) a b c (settle_fell settles g (Some a) (Some b) (Ok done) changes guarded) (keeps (at_rest settles g a b (sound b refl) guarded changes.1))
-settle_then settles g None None None done sound changes keeps = tt
-settle_then settles g None (Some b) w done sound changes keeps = absurd changes
-settle_then settles g (Some a) None w done sound changes keeps = absurd changes
-settle_then settles g None None (Some c) done sound changes keeps = absurd keeps
-settle_then settles g (Some a) (Some b) None done sound changes keeps = absurd keeps
+pub settle_goes : SettlesGuarded → (g : Migration) (t u w : Option Told) (done : Unit {0}) → AreSound u → Changes Settle t u (Ok done) → KeepsFromRest g u w → KeepsGuarded g t w
+settle_goes settles g t u w done sound = settle_then settles (IsAtRest g) g t u w done (λ a b is is_then guarded. at_rest settles g a b (sound b is_then) guarded)
 
 -- ---- a settle before the rest of the run
 
 pub settle_touches : (r : Retiring) (t u : Option Told) (result : Result (Unit {0}) FolderFault) → Changes Settle t u result → TouchesOnly r t u
-settle_touches r t u result changes =
-    let R = apart_from_both r.from r.work in
-    from_to_more (λ a b. Steps Settle a b result) (λ a b. Went (IsAsBefore R a.state) (λ s e. Touches r s e.call) a b) t u
-    (λ a b is steps. went_by_call (IsAsBefore R a.state) (λ s e. Touches r s e.call) Settle a b result (as_before R a.state) (λ allowed. as_before_on R a.state a.state Settle tt tt (as_before R a.state))
-    (λ added allowed. as_before R a.state) (λ outcome. tt) steps) changes
+settle_touches r t u result = stays_settled (apart_from_both r.from r.work) (λ s0 s e. Touches r s e.call) t u result (λ s outcome. tt)
 
 pub settle_removes : (r : Retiring) (t u : Option Told) (result : Result (Unit {0}) FolderFault) → Changes Settle t u result → RemovesOnly r t u
 settle_removes r t u result changes =
@@ -210,12 +188,10 @@ settle_removes r t u result changes =
     (λ a b is steps. went_by_call (λ s. Unit {0}) (λ s e. Removes r a.state s e.call) Settle a b result tt (λ allowed. tt) (λ added allowed. tt) (λ outcome. tt) steps) changes
 
 pub touches_then : (r : Retiring) (t u w : Option Told) → TouchesOnly r t u → TouchesOnly r u w → TouchesOnly r t w
-touches_then r t u w first second =
+touches_then r t u w =
     let R = apart_from_both r.from r.work in
-    let Q : State → Event → Type 0 = λ s e. Touches r s e.call in
-    from_to_on (λ a b. Went (IsAsBefore R a.state) Q a b) (λ a b. Went (IsAsBefore R a.state) Q a b) (λ a b. Went (IsAsBefore R a.state) Q a b) t u w
-    (λ a b c one two. went_on (IsAsBefore R a.state) Q a b c one
-    (went_more (IsAsBefore R b.state) (IsAsBefore R a.state) Q Q b c (λ s h. as_before_then R R a.state b.state s (λ q apart. apart) (went_to (IsAsBefore R a.state) Q a b one) h) (λ s e h. h) two)) first second
+    let Q : Kind = λ s0 s e. Touches r s e.call in
+    stays_on R R Q Q t u w (λ q apart. apart) (λ s0 s1 s e is. is)
 
 -- the same is seen after it, so the same may be emptied
 empty_seen : (r : Retiring) (s0 s1 s : State) → seen s1 ≡ seen s0 → MayEmpty r s1 s → MayEmpty r s0 s
@@ -247,49 +223,32 @@ removes_settled r t u w done changes removes =
 pub none_else : (v : View) (work : Path) → HasNoForeign true v work → (name : Part) → name ≢ codes "journal" → name ≢ codes "journal.new" → name ≢ codes "stage" → name ≢ codes "old" → v (child work name) ≡ NoEntry
 none_else v work none name journal new stage old = by_found (v (child work name)) refl
   where
-    isnt : (other : Part) → name ≢ other → (b : Bool) → bytes_eq name other ≡ b → bytes_eq name other ≡ false
-    isnt other apart true e = absurd (apart ((bytes_eq-Decides name other).0 e))
-    isnt other apart false e = e
+    isnt : (other : Part) → name ≢ other → bytes_eq name other ≡ false
+    isnt other apart = isnt_eq other name (λ same. apart (sym same))
 
     foreign : {x : Found} → v (child work name) ≡ x → is_foreign true name (kind_found x) ≡ true → ⊥
     foreign e is = none name (ap (λ y. is_foreign true name (kind_found y)) e ∙ is)
 
     by_found : (x : Found) → v (child work name) ≡ x → v (child work name) ≡ NoEntry
     by_found NoEntry e = e
-    by_found (FileOf bytes) e = absurd (foreign e (rw (isnt (codes "journal") journal (bytes_eq name (codes "journal")) refl, isnt (codes "journal.new") new (bytes_eq name (codes "journal.new")) refl) refl))
-    by_found Folder e = absurd (foreign e (rw (isnt (codes "stage") stage (bytes_eq name (codes "stage")) refl, isnt (codes "old") old (bytes_eq name (codes "old")) refl) refl))
+    by_found (FileOf bytes) e = absurd (foreign e (rw (isnt (codes "journal") journal, isnt (codes "journal.new") new) refl))
+    by_found Folder e = absurd (foreign e (rw (isnt (codes "stage") stage, isnt (codes "old") old) refl))
     by_found Special e = absurd (foreign e refl)
-
-pub folder_above : (t : Option Told) → AreSound t → IfSeen t (λ v. (work : Path) (name : Part) → v (child work name) ≢ NoEntry → v work ≡ Folder)
-folder_above (Some a) sound v is work name stands =
-    ap (λ (w : View). w work) is
-    ∙ ap (found (λ n. (a.state.nodes n).now)) (((sound a refl).tables (present a.state) (present_is_table a.state)).parents work name
-    (λ none. stands (ap (λ (w : View). w (child work name)) is ∙ ap (found (λ n. (a.state.nodes n).now)) none)))
-folder_above None sound v is work name stands = absurd is
 
 pub in_order : (t : Option Told) → AreSound t → IfSeen t (λ v. (work : Path) (text : List ℕ) → v (journal_path work) ≡ FileOf text → TestsEntries true v work (Ok tt) → IsInOrder v work)
 in_order t sound v is work text stands tests = record {
-  folder = folder_above t sound v is work (codes "journal") (λ none. clash (sym none ∙ stands));
+  folder = folders_of t sound v is work (codes "journal") (λ none. clash (sym none ∙ stands));
   journal = (text, stands);
-  others = none_else v work (elim tests [ inl none ↦ none.0 | inr some ↦ absurd (cc (some.2)) ]);
+  others = none_else v work (entries_pass true v work tests);
 }
   where
     clash : NoEntry ≡ FileOf text → ⊥
     clash e = cc e
 
--- what overlaps nothing isn't the base
-pub not_base : (p q : Path) → AreApart p q → q ≢ []
-not_base p q apart is = clash (subst (λ z. below z p ≡ None) is apart.other)
-  where
-    clash : {x : Path} → Some x ≡ None → ⊥
-    clash e = cc e
-
 -- ---- nothing has changed
 
 pub touches_same : (r : Retiring) (t u : Option Told) → u ≡ t → TouchesOnly r t u
-touches_same r t u same =
-    let R = apart_from_both r.from r.work in
-    from_to_same (λ a b. Went (IsAsBefore R a.state) (λ s e. Touches r s e.call) a b) t u same (λ a. went_nowhere (IsAsBefore R a.state) (λ s e. Touches r s e.call) a (as_before R a.state))
+touches_same r = stays_same (apart_from_both r.from r.work) (λ s0 s e. Touches r s e.call)
 
 pub removes_same : (r : Retiring) (t u : Option Told) → u ≡ t → RemovesOnly r t u
 removes_same r t u same =
@@ -311,12 +270,6 @@ pub retired_by : (work : Path) (journal : Journal) (t u : Option Told) (result :
 retired_by work journal t u (Ok x) is done stands source folder items = λ v seen_now.
     record { journal = journal; is = is; phase = done; stands = stands v seen_now; items = items; source_gone = source; work_gone = folder }
 retired_by work journal t u (Err fault) is done stands source folder items = tt
-
--- what a settle shows
-pub settle_seen : (t u : Option Told) (done : Unit {0}) → Changes Settle t u (Ok done) → IfSeen t (λ v. IsSeen u v)
-settle_seen (Some a) (Some b) done changes v is = is ∙ ap (λ (c : Told). seen c.state) (sym changes.1)
-settle_seen None u done changes v is = absurd is
-settle_seen (Some a) None done changes v is = absurd changes
 
 pub retired_earlier : (work : Path) (t u w : Option Told) (result : Result Retired RetireFault) → IfSeen t (λ v. IsSeen u v)
     → IfOk result (λ x. IfSeen u (λ v. HasRetired work x.items w v)) → IfOk result (λ x. IfSeen t (λ v. HasRetired work x.items w v))

@@ -13,16 +13,18 @@ use Rattle.folder_spec.specs.Moments.{EachEvent, EachState, WasAllowed, WasAllow
 use Rattle.folder_spec.specs.Path.{Part, Path, child}
 use Rattle.folder_spec.specs.Region.{at_or_below}
 use Rattle.folder_spec.specs.Seen.{seen}
-use Rattle.folder_spec.specs.State.{State, IsSound, present}
+use Rattle.folder_spec.specs.State.{State, present}
 use Rattle.folder_spec.specs.View.{NoEntry}
 use Rattle.folder_staging.specs.Removal.{IsRemoving, IsWithin, Reach, Removes, RemovesWithin, deepest, from}
 use Rattle.folder_staging.specs.declared.removal.RemovalFault.{RemovalFault}
+use Rattle.migration_spec.proofs.Along.{nothing_each}
 use Rattle.migration_spec.proofs.Guards.{ImagesShow, RootsAreAlike}
 use Rattle.migration_spec.specs.Alone.{StaysGuarded}
 use Rattle.migration_spec.specs.Guard.{Migration, Guarded, old_path}
 use Rattle.work_folder.specs.Entries.{journal_path}
 use Rattle.retire_core.proofs.RetiredTables.{removing, retiring_guarded, same_nodes}
 use Rattle.retire_core.specs.Guarding.{IsAtRest, IsDoneAtRest, IsRetiredTable, IsRetiring, KeepsDone, KeepsFromRest, KeepsRetiring}
+use Rattle.migration_spec.proofs.Settling.{still_guarded}
 
 -- ---- one after the other
 
@@ -44,15 +46,12 @@ pub retiring_stays : RootsAreAlike → ImagesShow → (g : Migration) (a b : Tol
 retiring_stays alike shown g a b went = went_more (IsRetiring g) (Guarded g) (λ s e. Unit {0}) (λ s e. Unit {0}) a b (λ s is. retiring_guarded alike shown g s is) (λ s e is. tt) went
 
 pub rest_same : (g : Migration) (t u : Option Told) → u ≡ t → KeepsFromRest g t u
-rest_same g t u same = from_to_same (λ a b. IsAtRest g a.state → StaysGuarded g a b) t u same (λ a at. went_nowhere (Guarded g) (λ s e. Unit {0}) a at.guarded)
+rest_same g t u = still_guarded (IsAtRest g) g t u (λ s at. at.guarded)
 
 pub done_same : (g : Migration) (t u : Option Told) → u ≡ t → KeepsDone g t u
-done_same g t u same = from_to_same (λ a b. IsDoneAtRest g a.state → StaysGuarded g a b) t u same (λ a at. went_nowhere (Guarded g) (λ s e. Unit {0}) a at.rest.guarded)
+done_same g t u = still_guarded (IsDoneAtRest g) g t u (λ s at. at.rest.guarded)
 
 -- ---- one call
-
-abbrev pub AreSound : Option Told → Type 0
-AreSound t = (a : Told) → t ≡ Some a → IsSound a.state
 
 -- a call that does nothing where it fails
 abbrev pub IsWhole : Call → Type 0
@@ -143,17 +142,13 @@ module _ (alike : RootsAreAlike) (g : Migration) (name : Part) (other : name ≢
   retiring_along s [] is within allowed = is
   retiring_along s (e ∷ es) is within allowed = (is, retiring_along (after s e) es (step s e.call e.outcome within.0 allowed.0 is) within.1 allowed.1)
 
-  no_events : (s : State) (es : List Event) → EachEvent (λ s e. Unit {0}) s es
-  no_events s [] = tt
-  no_events s (e ∷ es) = (tt, no_events (after s e) es)
-
   pub removal_retiring : (a b : Told) → Went (IsRemoving r a.state) (λ s e. RemovesWithin r e.call) a b → IsRetiring g a.state → StaysRetiring g a b
   removal_retiring a b went is = record {
     events = went.events;
     log = went.log;
     state = went.state;
     states = retiring_along a.state went.events is went.each went.allowed;
-    each = no_events a.state went.events;
+    each = nothing_each a.state went.events;
     allowed = went.allowed;
   }
 

@@ -1,10 +1,9 @@
 -- The journal, which stands alone in the work folder, is removed, and then the work folder.
-use Rattle.std.proofs.Common.{◌≡◌, [], ◌∷◌, None, Option, Result, refl, sym, ap, ◌∙◌, subst, append-nil, codes, IsTrue}
+use Rattle.std.proofs.Common.{◌≡◌, [], ◌∷◌, None, Option, Result, refl, sym, ap, ◌∙◌, subst, append-nil, codes}
 use Rattle.folder_spec.proofs.Paths.{below-both, child-apart}
 use Rattle.folder_spec.specs.declared.FolderFault.{FolderFault}
 use Rattle.folder_spec.specs.Event.{Changes, RemoveDir, RemoveFile, Settle, Told}
 use Rattle.folder_spec.specs.Path.{Path, below, child}
-use Rattle.folder_spec.specs.Region.{at_or_below}
 use Rattle.folder_spec.specs.Seen.{IfSeen, IsSeen, seen}
 use Rattle.migration_spec.proofs.Guards.{RootsAreAlike}
 use Rattle.migration_spec.specs.Guard.{Migration, old_path}
@@ -13,9 +12,7 @@ use Rattle.retire_core.proofs.Cleared.{inside_apart, rest_call}
 use Rattle.retire_core.proofs.Going.{behind_inside, nothing_seen, removed_dir, removed_file, retiring_call, settled_retiring}
 use Rattle.retire_core.specs.Clearing.{ClearsRest, HasOnlyJournal}
 use Rattle.retire_core.specs.Guarding.{KeepsRetiring}
-
-itself_inside : (work : Path) → IsTrue (at_or_below work work)
-itself_inside work = subst (λ q. IsTrue (at_or_below work q)) (append-nil work) (behind_inside work [])
+use Rattle.folder_spec.proofs.Stages.{at_itself}
 
 -- ---- it stays retired
 
@@ -32,7 +29,7 @@ journal_retiring alike g work t u result same alone changes =
 pub folder_retiring : RootsAreAlike → (g : Migration) (work : Path) (t u : Option Told) (result : Result (Unit {0}) FolderFault) → g.work ≡ work → Changes (RemoveDir work) t u result → KeepsRetiring g t u
 folder_retiring alike g work t u result same changes =
     retiring_call g (RemoveDir g.work) t u result tt
-    (λ a is allowed retiring. removed_dir alike g a.state g.work (itself_inside g.work) (λ last. absurd (child-apart g.work (codes "journal") (sym last))) allowed retiring)
+    (λ a is allowed retiring. removed_dir alike g a.state g.work (at_itself g.work) (λ last. absurd (child-apart g.work (codes "journal") (sym last))) allowed retiring)
     (subst (λ w. Changes (RemoveDir w) t u result) (sym same) changes)
 
 pub settle_retiring : (g : Migration) (t u : Option Told) (result : Result (Unit {0}) FolderFault) → Changes Settle t u result → KeepsRetiring g t u
@@ -48,8 +45,8 @@ journal_clears work t u result changes =
 
 pub folder_clears : (work : Path) (t u : Option Told) (result : Result (Unit {0}) FolderFault) → Changes (RemoveDir work) t u result → ClearsRest work t u
 folder_clears work t u result changes =
-    rest_call work (RemoveDir work) t u result tt (λ s. ((λ q apart. inside_apart work work q (itself_inside work) apart), tt))
-    (itself_inside work, subst (λ q. below (old_path work) q ≡ None) (append-nil work) (below-both work (codes "old" ∷ []) [])) changes
+    rest_call work (RemoveDir work) t u result tt (λ s. ((λ q apart. inside_apart work work q (at_itself work) apart), tt))
+    (at_itself work, subst (λ q. below (old_path work) q ≡ None) (append-nil work) (below-both work (codes "old" ∷ []) [])) changes
 
 pub settle_clears : (work : Path) (t u : Option Told) (result : Result (Unit {0}) FolderFault) → Changes Settle t u result → ClearsRest work t u
 settle_clears work t u result changes = rest_call work Settle t u result tt (λ s. (tt, tt)) tt changes

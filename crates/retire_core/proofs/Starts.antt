@@ -2,11 +2,11 @@
 use Rattle.std.proofs.Common.{◌≡◌, ◌≢◌, OnOk, Option, Some, None, Result, Ok, Err, refl, sym, ap, ◌∙◌, subst}
 use Rattle.folder_spec.specs.declared.Kind.{Kind}
 use Rattle.folder_spec.specs.declared.Kind.TheVariants as kind
-use Rattle.folder_spec.specs.Event.{Told}
+use Rattle.folder_spec.specs.Event.{Told, FromTo}
 use Rattle.folder_spec.specs.Path.{Path}
-use Rattle.folder_spec.specs.Seen.{IfSeen, IsSeen, seen}
+use Rattle.folder_spec.specs.Seen.{IfSeen, seen}
 use Rattle.folder_spec.specs.State.{State}
-use Rattle.folder_spec.specs.View.{FileOf, Folder, Found, NoEntry, Special, View, kind_found}
+use Rattle.folder_spec.specs.View.{FileOf, Folder, Found, NoEntry, Special, kind_found}
 use Rattle.folder_model.specs.Answers.{Answers}
 use Rattle.move_journal.specs.Journal.{IsJournal}
 use Rattle.move_journal.specs.declared.journal.Journal.{Journal}
@@ -18,8 +18,9 @@ use Rattle.migration_spec.specs.Guard as guard
 use Rattle.migration_spec.specs.Guard.{Migration, Building, Case, Gone, HasJournal, LastJournal, NotBegun, Retired, Stands}
 use Rattle.retire_core.proofs.RetiredTables.{rest_done, rest_retired, rest_seen}
 use Rattle.retire_core.specs.Clearing.{MovesHeldOnly}
-use Rattle.retire_core.specs.Guarding.{ComesFromDone, ComesTo, IsAtRest, IsDoneAtRest, KeepsDone, KeepsFromRest}
+use Rattle.retire_core.specs.Guarding.{ComesFromDone, ComesTo, IsAtRest, IsDoneAtRest, KeepsDone, KeepsFromRest, IsRetiring}
 use Rattle.retire_core.specs.Retiring.{Retiring}
+use Rattle.migration_spec.specs.Alone.{StaysGuarded}
 
 -- a kind that is Missing is of nothing, and another isn't
 pub missing_none : (x : Found) → kind_found x ≡ kind.Missing → x ≡ NoEntry
@@ -76,19 +77,21 @@ done_at g journal a known there at = record {
   done = rest_done known.one_journal g a.state journal at (subst (λ p. seen a.state p ≢ NoEntry) (source_is g journal a known at) (there (seen a.state) refl)) known.is known.done (known.stands (seen a.state) refl);
 }
 
+-- so what goes on from that goes on from a migration at rest
+by_done : (Goes : Told → Told → Type 0) (g : Migration) (journal : Journal) (r : Retiring) (t u : Option Told) → IsKnown g journal t → IfSeen t (λ v. v journal.source ≢ NoEntry) → MovesHeldOnly r t u
+    → (g.source.root ≡ journal.source → FromTo (λ a b. IsDoneAtRest g a.state → Goes a b) t u) → FromTo (λ a b. IsAtRest g a.state → Goes a b) t u
+by_done Goes g journal r (Some a) (Some b) known there shape goes = λ at. goes (sym (source_is g journal a known at)) (done_at g journal a known there at)
+by_done Goes g journal r None None known there shape goes = tt
+by_done Goes g journal r None (Some b) known there shape goes = absurd shape
+by_done Goes g journal r (Some a) None known there shape goes = absurd shape
+
 pub rest_by_done : (g : Migration) (journal : Journal) (r : Retiring) (t u : Option Told) → IsKnown g journal t → IfSeen t (λ v. v journal.source ≢ NoEntry) → MovesHeldOnly r t u
     → (g.source.root ≡ journal.source → KeepsDone g t u) → KeepsFromRest g t u
-rest_by_done g journal r (Some a) (Some b) known there shape keeps = λ at. keeps (sym (source_is g journal a known at)) (done_at g journal a known there at)
-rest_by_done g journal r None None known there shape keeps = tt
-rest_by_done g journal r None (Some b) known there shape keeps = absurd shape
-rest_by_done g journal r (Some a) None known there shape keeps = absurd shape
+rest_by_done g = by_done (StaysGuarded g) g
 
 pub comes_by_done : (g : Migration) (journal : Journal) (r : Retiring) (t u : Option Told) → IsKnown g journal t → IfSeen t (λ v. v journal.source ≢ NoEntry) → MovesHeldOnly r t u
     → (g.source.root ≡ journal.source → ComesFromDone g t u) → ComesTo g t u
-comes_by_done g journal r (Some a) (Some b) known there shape comes = λ at. comes (sym (source_is g journal a known at)) (done_at g journal a known there at)
-comes_by_done g journal r None None known there shape comes = tt
-comes_by_done g journal r None (Some b) known there shape comes = absurd shape
-comes_by_done g journal r (Some a) None known there shape comes = absurd shape
+comes_by_done g = by_done (λ a b. IsRetiring g b.state) g
 
 -- ---- a kind that was asked for
 
@@ -103,9 +106,3 @@ missing_by_kind t at k answer is v shown = missing_none (v at) (sym (answer v sh
 pub on_ok_more : {T E : Type 0} (P Q : Type 0) (result : Result T E) → (P → Q) → OnOk result P → OnOk result Q
 on_ok_more P Q (Ok value) more h = more h
 on_ok_more P Q (Err fault) more h = tt
-
--- what was seen before
-pub moved_before : (r : Retiring) (t u : Option Told) → MovesHeldOnly r t u → IfSeen u (λ w. (v : View) × IsSeen t v)
-moved_before r (Some a) (Some b) went w is = (seen a.state, refl)
-moved_before r None (Some b) went w is = absurd went
-moved_before r t None went w is = absurd is

@@ -9,18 +9,14 @@ use Rattle.migration_sides.specs.Causes.{Opens, TestsApart, WalksBoth}
 use Rattle.migration_sides.specs.Tests.{PassesOr, Then, UnlessBy, own}
 use Rattle.plain_tree.specs.declared.name_map.NameMap.{NameMap}
 use Rattle.tree_match.specs.Mapping.{MapsTo}
-use Rattle.tree_match.specs.Trees.{Compares}
+use Rattle.tree_match.specs.Matching.{where_of}
+use Rattle.tree_match.specs.Trees.{Compares, HoldsOr}
 use Rattle.move_journal.specs.Reading.{ReadsAs, journal_bytes}
 use Rattle.move_journal.specs.declared.journal.Journal.{Journal}
 use Rattle.move_journal.specs.declared.journal.Phase.{Phase}
 use Rattle.move_journal.specs.declared.journal.Phase.TheVariants as phase
 use Rattle.migration_spec.specs.Guard.{old_path}
-use Rattle.tree_match.specs.declared.answer.How.{How}
-use Rattle.tree_match.specs.declared.answer.How.TheVariants as how
 use Rattle.tree_match.specs.declared.answer.Match.{Match}
-use Rattle.tree_match.specs.declared.answer.Match.TheVariants.{Same, Contained, Differs}
-use Rattle.tree_match.specs.declared.answer.Where.{Where}
-use Rattle.tree_match.specs.declared.answer.Where.TheVariants as place
 use Rattle.vault_spec.specs.Opened.{OpenedVault}
 use Rattle.vault_spec.specs.Plan.{Planned}
 use Rattle.work_folder.specs.Entries.{new_journal_path, stage_path}
@@ -60,17 +56,9 @@ ReadsDone work v = Then of_journal (ReadsAs (journal_bytes v work)) (λ journal.
 
 -- ---- whether the target holds the source
 
--- how an item of the source isn't so in the target
-abbrev pub where_of : How → Where
-where_of how.Missing = place.Missing
-where_of how.Kind = place.Kind
-where_of how.Content = place.Content
-
 -- each item of the source is so in the target at its mapped path, which may have more
 abbrev pub TestsMatch : Match → Answer (Unit {0}) → Type 0
-TestsMatch Same answer = answer ≡ Ok tt
-TestsMatch (Contained path) answer = answer ≡ Ok tt
-TestsMatch (Differs path how) answer = answer ≡ Err (Differ path (where_of how))
+TestsMatch = HoldsOr (λ path how. Differ path (where_of how))
 
 -- so it is by comparing their items
 abbrev pub TestsItems : OpenedVault → List Planned → OpenedVault → List Planned → View → Answer (Unit {0}) → Type 0

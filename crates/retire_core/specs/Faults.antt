@@ -2,15 +2,12 @@
 -- met it.
 use Rattle.std.specs.Prelude.{◌≡◌}
 use Rattle.folder_spec.specs.declared.FolderFault.{FolderFault}
-use Rattle.folder_spec.specs.declared.FolderFault.TheVariants as folder
 use Rattle.folder_staging.specs.declared.removal.RemovalFault.{RemovalFault}
 use Rattle.folder_staging.specs.declared.removal.RemovalFault.TheVariants as removal
 use Rattle.move_journal.specs.declared.journal.JournalFault.{JournalFault}
 use Rattle.move_journal.specs.declared.journal.JournalFault.TheVariants as journal
 use Rattle.migration_sides.specs.declared.fault.StepFault.{StepFault}
-use Rattle.migration_sides.specs.declared.fault.StepFault.TheVariants as step
 use Rattle.tree_match.specs.declared.answer.MapFault.{MapFault}
-use Rattle.tree_match.specs.declared.answer.MapFault.TheVariants as map
 use Rattle.tree_match.specs.declared.answer.MatchFault.{MatchFault}
 use Rattle.tree_match.specs.declared.answer.MatchFault.TheVariants as match
 use Rattle.vault_read.specs.declared.fault.LoadFault.TheVariants as load
@@ -19,11 +16,12 @@ use Rattle.work_folder.specs.declared.fault.WorkFault.{WorkFault}
 use Rattle.work_folder.specs.declared.fault.WorkFault.TheVariants as work
 use Rattle.retire_core.specs.declared.fault.RetireFault.{RetireFault}
 use Rattle.retire_core.specs.declared.fault.RetireFault.TheVariants.{Work, Journal, Unfinished, Overlap, Load, Walk, NotAllowed, Meet, Match, Depth, Failed, NoMemory}
+use Rattle.migration_sides.specs.Faults.{folder_as, journal_as, step_as, work_as}
+use Rattle.tree_match.specs.Comparing.{match_as}
+use Rattle.tree_match.specs.Mapping.{map_as}
 
 abbrev pub of_folder : FolderFault → RetireFault
-of_folder folder.Failed = Failed
-of_folder folder.Refused = Failed
-of_folder folder.NoMemory = NoMemory
+of_folder fault = folder_as Failed NoMemory fault
 
 abbrev pub of_removal : RemovalFault → RetireFault
 of_removal removal.Depth = Depth
@@ -32,31 +30,19 @@ of_removal removal.Failed = Failed
 of_removal removal.NoMemory = NoMemory
 
 abbrev pub of_work : WorkFault → RetireFault
-of_work work.Failed = Failed
-of_work work.NoMemory = NoMemory
-of_work fault = Work fault
+of_work fault = work_as Failed NoMemory Work fault
 
 abbrev pub of_journal : JournalFault → RetireFault
-of_journal journal.Failed = Failed
-of_journal journal.NoMemory = NoMemory
-of_journal fault = Journal fault
+of_journal fault = journal_as Failed NoMemory Journal fault
 
 abbrev pub of_step : StepFault → RetireFault
-of_step (step.Overlap first second) = Overlap first second
-of_step (step.Load side fault) = Load side fault
-of_step (step.Walk fault) = Walk fault
-of_step step.Failed = Failed
-of_step step.NoMemory = NoMemory
+of_step fault = step_as Failed NoMemory Overlap Load Walk fault
 
 abbrev pub of_map : MapFault → RetireFault
-of_map (map.NotAName path) = NotAllowed path
-of_map (map.Meet one other) = Meet one other
-of_map map.NoMemory = NoMemory
+of_map fault = map_as NoMemory NotAllowed Meet fault
 
 abbrev pub of_match : MatchFault → RetireFault
-of_match match.Failed = Failed
-of_match match.NoMemory = NoMemory
-of_match fault = Match fault
+of_match fault = match_as Failed NoMemory Match fault
 
 -- The faults that `retire` may answer: the folder's failing and want of memory as such alone.
 abbrev pub IsRetireFault : RetireFault → Type 0

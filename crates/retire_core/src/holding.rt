@@ -3,7 +3,7 @@ ghost use Rattle.std.specs.Prelude.{◌≡◌, ◌≤◌, IfErr, OnOk};
 ghost use Rattle.port_model.specs.Counts.{CountRose};
 ghost use Rattle.folder_spec.specs.Seen.{IfSeen};
 ghost use Rattle.migration_sides.specs.Sides.{IsWalked};
-ghost use Rattle.retire_core.specs.Causes.{TestsMapped, TestsVaults, Unless, where_of};
+ghost use Rattle.retire_core.specs.Causes.{TestsMapped, TestsVaults, Unless};
 ghost use Rattle.retire_core.specs.Faults.{Blamed, IsLaterFault};
 ghost use Rattle.retire_core.specs.Retiring.{AreHeld};
 
@@ -12,7 +12,7 @@ use folder_model::Folder;
 use migration_sides::{Plans, Sides, walk_both};
 use std::alloc::Global;
 use tree_match::laws::{mapped_plans_can_be_compared, what_is_held_opens_the_same};
-use tree_match::{How, Match, Where, holds_all, map_plan};
+use tree_match::{Match, holds_all, map_plan, where_of};
 
 // The target holds all that the source does, each item at its mapped path, and may hold more.
 pub(crate) fn test_held<F: Folder>(
@@ -60,15 +60,5 @@ fn compare<F: Folder>(
         // what the target has besides is of no account
         Match::Contained(_) => Ok(()),
         Match::Differs(path, how) => Err(RetireFault::Differ(path, where_of(how))),
-    }
-}
-
-fn where_of(how: How) -> Where
-    ensures { result ≡ where_of how }
-{
-    match how {
-        How::Missing => Where::Missing,
-        How::Kind => Where::Kind,
-        How::Content => Where::Content,
     }
 }

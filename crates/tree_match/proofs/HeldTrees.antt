@@ -1,5 +1,5 @@
 -- That a vault has the items of another, where comparing their plans tells so; and what the items of a walk are.
-use Rattle.std.proofs.Common.{◌≡◌, ◌≢◌, ◌⊎◌, inl, inr, zero, suc, ◌<◌, List, [], ◌∷◌, length, Bool, true, false, if◌then◌else◌, Option, Some, None, refl, sym, ap, subst, ◌∙◌, arith, Contains}
+use Rattle.std.proofs.Common.{◌≡◌, ◌≢◌, inl, inr, suc, ◌<◌, List, [], ◌∷◌, length, Bool, true, false, if◌then◌else◌, Option, Some, None, refl, sym, ap, subst, ◌∙◌, arith, Contains}
 use Rattle.std.specs.Cmp.Lexicographic.{pointwise_decides, bytes_decides}
 use Rattle.chunk_files.specs.Reading.{Ending}
 use Rattle.folder_spec.specs.Path as folder
@@ -24,6 +24,7 @@ use Rattle.tree_match.specs.Trees.{Side, IsWalkOf, tree_of}
 use Rattle.tree_match.specs.declared.answer.How.{How}
 use Rattle.tree_match.specs.declared.answer.Match.{Match}
 use Rattle.tree_match.specs.declared.answer.Match.TheVariants.{Same, Contained, Differs}
+use Rattle.tree_match.proofs.InOrder.{first_or_among}
 
 -- ---- items that are held
 
@@ -36,10 +37,6 @@ abbrev pub IsNoDifference : Match → Type 0
 IsNoDifference Same = Unit {0}
 IsNoDifference (Contained path) = Unit {0}
 IsNoDifference (Differs path how) = ⊥
-
-pub first_or_among : (y : Planned) (ys : List Planned) (x : Planned) → Contains (y ∷ ys) x → (y ≡ x) ⊎ Contains ys x
-first_or_among y ys x (zero, few, is) = inl is
-first_or_among y ys x (suc k, few, is) = inr (k, omega (arith, few), is)
 
 is_answer : (one other : Match) → Is one ≡ Is other → one ≡ other
 is_answer one other e = cc e

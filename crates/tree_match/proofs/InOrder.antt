@@ -14,6 +14,10 @@ use Rattle.tree_match.specs.Mapping.{IsMappedPlan, mapped_item}
 use Rattle.vault_spec.specs.Plan.{Planned}
 use Rattle.vault_walk.specs.Survey.{IsOrdered}
 
+pub first_or_among : {X : Type 0} (y : X) (ys : List X) (x : X) → Contains (y ∷ ys) x → (y ≡ x) ⊎ Contains ys x
+first_or_among y ys x (zero, few, is) = inl is
+first_or_among y ys x (suc k, few, is) = inr (k, omega (arith, few), is)
+
 module _ {X : Type 0} (R : X → X → Type 0) (apart : (x y : X) → R x y → R y x → ⊥) where
   -- the first comes before the others
   head_first : (x : X) (xs : List X) → AllPairs R (x ∷ xs) → (y : X) → Contains xs y → R x y
@@ -21,10 +25,6 @@ module _ {X : Type 0} (R : X → X → Type 0) (apart : (x y : X) → R x y → 
 
   tail_ordered : (x : X) (xs : List X) → AllPairs R (x ∷ xs) → AllPairs R xs
   tail_ordered x xs ordered i j d before few = ordered (suc i) (suc j) d (omega (arith, before)) (omega (arith, few))
-
-  head_or : (x : X) (xs : List X) (y : X) → Contains (x ∷ xs) y → (x ≡ y) ⊎ Contains xs y
-  head_or x xs y (zero, few, is) = inl is
-  head_or x xs y (suc k, few, is) = inr (k, omega (arith, few), is)
 
   later : (x : X) (xs : List X) (y : X) → Contains xs y → Contains (x ∷ xs) y
   later x xs y among = (suc among.0, omega (arith, among.1), among.2)
@@ -40,22 +40,22 @@ module _ {X : Type 0} (R : X → X → Type 0) (apart : (x y : X) → R x y → 
       subst (λ (z : X). x ∷ xs ≡ z ∷ ys) first (ap (λ (zs : List X). x ∷ zs) (same_lists xs ys (tail_ordered x xs one) (tail_ordered y ys other) within behind))
     where
       first : x ≡ y
-      first = elim (head_or y ys x (there x (zero, omega arith, refl))) [
+      first = elim (first_or_among y ys x (there x (zero, omega arith, refl))) [
         | inl same ↦ sym same
-        | inr x_later ↦ elim (head_or x xs y (back y (zero, omega arith, refl))) [
+        | inr x_later ↦ elim (first_or_among x xs y (back y (zero, omega arith, refl))) [
           | inl same ↦ same
           | inr y_later ↦ absurd (apart x y (head_first x xs one y y_later) (head_first y ys other x x_later))
         ]
       ]
 
       within : (z : X) → Contains xs z → Contains ys z
-      within z among = elim (head_or y ys z (there z (later x xs z among))) [
+      within z among = elim (first_or_among y ys z (there z (later x xs z among))) [
         | inl same ↦ absurd (not_itself x z (first ∙ same) (head_first x xs one z among))
         | inr behind_y ↦ behind_y
       ]
 
       behind : (z : X) → Contains ys z → Contains xs z
-      behind z among = elim (head_or x xs z (back z (later y ys z among))) [
+      behind z among = elim (first_or_among x xs z (back z (later y ys z among))) [
         | inl same ↦ absurd (not_itself y z (sym first ∙ same) (head_first y ys other z among))
         | inr behind_x ↦ behind_x
       ]

@@ -8,7 +8,7 @@ use Rattle.folder_spec.specs.Path.{Path}
 use Rattle.folder_spec.specs.Seen.{under}
 use Rattle.folder_spec.specs.View.{View}
 use Rattle.mapped_trees.specs.Plans.{IsPlanOf}
-use Rattle.mapped_trees.specs.Trees.{AllowsTree}
+use Rattle.mapped_trees.specs.Trees.{AllowsTree, StaysApart}
 use Rattle.plain_tree.specs.Mapped.{mapped_name, mapped_path}
 use Rattle.plain_tree.specs.Names as plain
 use Rattle.plain_tree.specs.declared.NodeKind.{NodeKind}
@@ -17,11 +17,12 @@ use Rattle.plain_tree.specs.declared.name_map.NameMap.{NameMap}
 use Rattle.tree_match.proofs.HeldTrees.{IsNoDifference, planned}
 use Rattle.tree_match.specs.Comparing.{Answers, Is, Outcome, Stops, content_at}
 use Rattle.tree_match.specs.Mapping.{AreFirstToMeet, IsMappedPlan, MapsTo, is_named, mapped_item}
-use Rattle.tree_match.specs.Trees.{AndFurther, AsSame, HoldsAllBy, HoldsAllOrTooLong, IsWalkOf, side_of}
+use Rattle.tree_match.specs.Trees.{AndFurther, AsSame, HoldsAllBy, HoldsAllOrTooLong, HoldsOr, IsMappedWalkOf, IsWalkOf, Side, side_of, tree_of}
+use Rattle.tree_match.specs.declared.answer.How.{How}
 use Rattle.tree_match.specs.declared.answer.MapFault.{MapFault}
 use Rattle.tree_match.specs.declared.answer.MapFault.TheVariants as map_
 use Rattle.tree_match.specs.declared.answer.Match.{Match}
-use Rattle.tree_match.specs.declared.answer.Match.TheVariants.{Contained, Same}
+use Rattle.tree_match.specs.declared.answer.Match.TheVariants.{Contained, Differs, Same}
 use Rattle.tree_match.specs.declared.answer.MatchFault.{MatchFault}
 use Rattle.tree_match.specs.declared.answer.MatchFault.TheVariants as match
 use Rattle.vault_faults.specs.declared.fault.Limit.TheVariants as limit
@@ -35,6 +36,20 @@ use Rattle.vault_spec.specs.Plan.{Planned}
 use Rattle.vault_spec.specs.Standing as stood
 use Rattle.vault_spec.specs.Vault.{format_of}
 use Rattle.vault_walk.specs.declared.plan.Plan.{Plan}
+
+-- ---- laws that are cited
+
+-- a walk tells the tree
+abbrev pub TellsTree : Type 0
+TellsTree = (v : View) (a : Side) → IsWalkOf v a → IsPlanOf (tree_of v a) a.items
+
+-- no two items come to one path where a walk at mapped paths is one
+abbrev pub MappedStayApart : Type 0
+MappedStayApart = (v : View) (names : NameMap) (a : Side) → IsMappedWalkOf names v a → StaysApart names (tree_of v a)
+
+-- of a tree of which no two items come to one path none meet
+abbrev pub NoneMeet : Type 0
+NoneMeet = (v : View) (names : NameMap) (a : Side) (one other : plain.Path) → IsWalkOf v a → StaysApart names (tree_of v a) → ¬ AreFirstToMeet names a.items one other
 
 -- ---- mapping
 
@@ -65,6 +80,12 @@ map_met Chance memory names items named apart (Err (map_.NotAName path)) maps =
     true_or_false false one other = cc one
 map_met Chance memory names items named apart (Err (map_.Meet one other)) maps = absurd (apart one other maps.1)
 map_met Chance memory names items named apart (Err map_.NoMemory) maps = memory
+
+-- so a walk is mapped of a tree whose mapped names are allowed, and of which no two items come to one path
+pub walk_maps : TellsTree → NoneMeet → (Chance : MapFault → Type 0) → Chance map_.NoMemory → (names : NameMap) (f : Format) (v : View) (a : Side) → IsWalkOf v a → AllowsTree names f (tree_of v a)
+    → StaysApart names (tree_of v a) → (t : Result Plan MapFault) → MapsTo names a.items t → MatchResult t (λ plan. IsMappedPlan names a.items plan.items) Chance
+walk_maps tells meet Chance memory names f v a walk allowed apart =
+    map_met Chance memory names a.items (each_named names f (tree_of v a) a.items (tells v a walk) allowed) (λ one other. meet v names a one other walk apart)
 
 -- ---- the files of a plan
 
@@ -122,3 +143,9 @@ compares_met Chance failed memory o all long (Err (match.Limit limit.Depth)) ans
 compares_met Chance failed memory o all long (Err (match.Limit limit.Input)) answers = absurd answers
 compares_met Chance failed memory o all long (Err match.Failed) answers = failed
 compares_met Chance failed memory o all long (Err match.NoMemory) answers = memory
+
+-- where no item differs, that is told
+pub holds_met : {G : Type 0} (Chance : G → Type 0) (differs : plain.Path → How → G) (m : Match) (answer : Result (Unit {0}) G) → IsNoDifference m → HoldsOr differs m answer → MatchResult answer (λ _. Unit {0}) Chance
+holds_met {G = G} Chance differs Same answer none is = subst (λ (x : Result (Unit {0}) G). MatchResult x (λ _. Unit {0}) Chance) (sym is) tt
+holds_met {G = G} Chance differs (Contained path) answer none is = subst (λ (x : Result (Unit {0}) G). MatchResult x (λ _. Unit {0}) Chance) (sym is) tt
+holds_met Chance differs (Differs path how) answer none is = absurd none

@@ -26,7 +26,7 @@ use Rattle.vault_spec.specs.Vault.{format_of}
 use Rattle.tree_match.proofs.CutContents.{Partly, All, Front, partly_read}
 use Rattle.tree_match.proofs.Differing.{holds_none, holds_one, further_found, further_none, further_end}
 use Rattle.tree_match.proofs.HeldParts.{IsPart, OpenAlike}
-use Rattle.tree_match.proofs.HeldTrees.{found_with, first_or_among, stopped}
+use Rattle.tree_match.proofs.HeldTrees.{found_with, stopped}
 use Rattle.tree_match.proofs.ToldTrees.{TellsTree, opens_file, opens_node}
 use Rattle.tree_match.specs.Comparing.{Outcome, Is, Stops, compared, content_at, content_of, bytes_found, is_cut}
 use Rattle.tree_match.specs.Matching.{content_held, first_differing, first_further, held_as, held_by, item_with}
@@ -34,6 +34,7 @@ use Rattle.tree_match.specs.Trees.{Side, HoldsAllBy, AsSame, AndFurther, HoldsAl
 use Rattle.tree_match.specs.declared.answer.How.{How}
 use Rattle.tree_match.specs.declared.answer.Match.{Match}
 use Rattle.tree_match.specs.declared.answer.Match.TheVariants.{Same}
+use Rattle.tree_match.proofs.InOrder.{first_or_among}
 
 -- ---- two fronts of one content
 

@@ -63,3 +63,9 @@ IsFault P NoMemory = Unit {0}
 abbrev pub Answers : {A : Type 0} → Outcome A → Result A MatchFault → Type 0
 Answers outcome (Ok x) = outcome ≡ Is x
 Answers outcome (Err fault) = IsFault (λ at ending. outcome ≡ Stops at ending) fault
+
+-- a fault, by those of a command: that the folder failed, that memory was refused, and what others are told as
+abbrev pub match_as : {G : Type 0} → G → G → (MatchFault → G) → MatchFault → G
+match_as failed none told Failed = failed
+match_as failed none told NoMemory = none
+match_as failed none told fault = told fault

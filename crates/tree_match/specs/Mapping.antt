@@ -61,6 +61,12 @@ MapsTo names items (Err (NotAName path)) = IsFirstUnnamed names items path
 MapsTo names items (Err (Meet one other)) = AreNamed names items × AreFirstToMeet names items one other
 MapsTo names items (Err NoMemory) = Unit {0}
 
+-- such a fault, by those of a command: that memory was refused, and what others are told as
+abbrev pub map_as : {G : Type 0} → G → (plain.Path → G) → (plain.Path → plain.Path → G) → MapFault → G
+map_as none unnamed meet (NotAName path) = unnamed path
+map_as none unnamed meet (Meet one other) = meet one other
+map_as none unnamed meet NoMemory = none
+
 -- ---- words of private contracts
 
 -- an item is refused only where a mapped name of it is no name

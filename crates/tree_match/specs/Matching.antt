@@ -14,6 +14,8 @@ use Rattle.tree_match.specs.declared.answer.How.{How}
 use Rattle.tree_match.specs.declared.answer.How.TheVariants.{Missing, Kind, Content}
 use Rattle.tree_match.specs.declared.answer.Match.{Match}
 use Rattle.tree_match.specs.declared.answer.Match.TheVariants.{Same, Contained, Differs}
+use Rattle.tree_match.specs.declared.answer.Where.{Where}
+use Rattle.tree_match.specs.declared.answer.Where.TheVariants as place
 
 -- a plan can be matched: its items are in order of their paths, each path once, and a file stands where each file is
 pub record IsMatchable (v : View) (items : List Planned) : Type 0 where
@@ -67,3 +69,9 @@ first_further items (other ∷ others) = by_other other.path (item_with other.pa
 abbrev pub matched : Keys → List Planned → Keys → List Planned → View → Outcome Match
 matched a items b others v =
     first_differing (λ item. held_by a b v item (item_with item.path others)) items (Is (first_further items others))
+
+-- how an item of the first vault isn't so in the second
+abbrev pub where_of : How → Where
+where_of Missing = place.Missing
+where_of Kind = place.Kind
+where_of Content = place.Content

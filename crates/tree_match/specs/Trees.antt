@@ -1,5 +1,5 @@
 -- What comparing two vaults by their plans tells of their trees.
-use Rattle.std.specs.Prelude.{◌≡◌, ◌⊎◌, List, Result}
+use Rattle.std.specs.Prelude.{◌≡◌, ◌⊎◌, List, Result, Ok, Err}
 use Rattle.chunk_files.specs.Reading.{Wanting}
 use Rattle.folder_spec.specs.Path.{Path}
 use Rattle.folder_spec.specs.Seen.{under}
@@ -9,8 +9,9 @@ use Rattle.plain_tree.specs.declared.name_map.NameMap.{NameMap}
 use Rattle.tree_match.specs.Comparing.{Answers, Outcome, Is, Stops}
 use Rattle.tree_match.specs.Mapping.{IsMappedPlan}
 use Rattle.tree_match.specs.Matching.{matched}
+use Rattle.tree_match.specs.declared.answer.How.{How}
 use Rattle.tree_match.specs.declared.answer.Match.{Match}
-use Rattle.tree_match.specs.declared.answer.Match.TheVariants.{Same, Contained}
+use Rattle.tree_match.specs.declared.answer.Match.TheVariants.{Same, Contained, Differs}
 use Rattle.tree_match.specs.declared.answer.MatchFault.{MatchFault}
 use Rattle.vault_spec.specs.Opened.{OpenedVault}
 use Rattle.vault_spec.specs.Opens.{Tree, tree}
@@ -52,6 +53,12 @@ match_of v a b = matched (format_of a.vault).content a.items (format_of b.vault)
 -- what comparing the items of an opened vault with those of another answers
 abbrev pub Compares : OpenedVault → List Planned → OpenedVault → List Planned → View → Result Match MatchFault → Type 0
 Compares a items b others v = Answers (match_of v (side_of a items) (side_of b others))
+
+-- the first vault's items are in the second, which may have further ones, or the one that differs is told by this fault
+abbrev pub HoldsOr : {G : Type 0} → (plain.Path → How → G) → Match → Result (Unit {0}) G → Type 0
+HoldsOr differs Same answer = answer ≡ Ok tt
+HoldsOr differs (Contained path) answer = answer ≡ Ok tt
+HoldsOr differs (Differs path how) answer = answer ≡ Err (differs path how)
 
 -- all items of the first vault are in the second, and there may be further ones
 pub data HoldsAllBy : Outcome Match → Type 0 where

@@ -1,4 +1,7 @@
 //! What comparing two vaults answers.
+ghost use Rattle.std.specs.Prelude.{◌≡◌};
+ghost use Rattle.tree_match.specs.Matching.{where_of};
+
 use chunk_files::ChunkFault;
 use folder_model::FPath;
 use plain_tree::PlainPath;
@@ -24,6 +27,17 @@ pub enum Where {
     Content,
     /// Only the vault that is to hold the other has an item there.
     Extra,
+}
+
+/// How a vault that is to hold another differs from it.
+pub fn where_of(how: How) -> Where
+    ensures { result ≡ where_of how }
+{
+    match how {
+        How::Missing => Where::Missing,
+        How::Kind => Where::Kind,
+        How::Content => Where::Content,
+    }
 }
 
 /// Whether a vault holds all items of another.

@@ -7,6 +7,6 @@ pub mod laws;
 pub mod mapping;
 pub mod matching;
 
-pub use answer::{How, MapFault, Match, MatchFault, Where};
+pub use answer::{How, MapFault, Match, MatchFault, Where, where_of};
 pub use mapping::map_plan;
 pub use matching::holds_all;

@@ -1,31 +1,33 @@
-use Rattle.std.proofs.Common.{IfErr, refl, inl}
+use Rattle.std.proofs.Common.{IfErr, refl, inl, Ok}
 use Rattle.folder_spec.specs.Region.{apart_from_both}
 use Rattle.migrate_core.proofs.Movings.{moves_nowhere, moves_on, settle_moves}
-use Rattle.migrate_core.proofs.Settled.{settle_fell, settle_then, still_guarded}
+use Rattle.migrate_core.proofs.Settled.{settle_goes}
 use Rattle.migrate_core.proofs.Endings.{if_ok_more, moved_before}
-use Rattle.migrate_core.proofs.Settled.{settle_seen, settle_was_seen}
 use Rattle.migrate_core.specs.Moved.{MovesTree}
-use Rattle.migration_sides.proofs.Told.{apart_passes, apart_refused}
+use Rattle.migration_sides.proofs.Told.{apart_passes, apart_refused, folder_unless}
 use Rattle.migration_sides.specs.Causes.{TestsApart}
 use Rattle.migration_sides.specs.Tests.{Then}
 use Rattle.migrate_core.proofs.Blaming.{apart_begins}
-use Rattle.migrate_core.proofs.Causing.{folder_unless, refused_as}
 use Rattle.migrate_core.specs.Causes.{Begins, BeginsApart, Unless}
 use Rattle.std.proofs.lemmas.Result.{err_from_is_err_and}
 use Rattle.migrate_core.specs.Faults.{is_of_begin, of_folder, of_step}
 use Rattle.migrate_core.specs.declared.placing.Done.{Done}
-use Rattle.migrate_core.proofs.Writings.{refusal_as, folder_refuses, may_write_after, nothing_written, settle_writes, step_refuses}
+use Rattle.migrate_core.proofs.Writings.{refused_written, may_write_after, nothing_written, settle_writes}
 use Rattle.migrate_core.proofs.Completing.{begin_completes, folder_chance, own_faults}
 use Rattle.migrate_core.specs.Completing.{IsOfChance}
 use Rattle.migrate_core.specs.Faults.{IsMoveFault}
-use Rattle.migrate_core.proofs.Limits.{folder_compares, if_taken, in_tree_before, limit_more, none_compared, none_taken, step_compares}
+use Rattle.migrate_core.proofs.Limits.{if_taken, in_tree_before, limit_more, none_compared, none_taken}
 use Rattle.migrate_core.specs.Limits.{PassesInTree}
 use Rattle.migrate_core.proofs.Sharing.{in_tree_since}
 use Rattle.migrate_core.specs.Sharing.{SharesInTree}
 use Rattle.migrate_core.proofs.beginning.begin.Goals as goal
+use Rattle.migration_spec.proofs.Settling.{settle_fell, settle_seen, settle_seen_back, still_guarded}
+use Rattle.migration_sides.proofs.Chains.{refused_as}
+use Rattle.migrate_core.proofs.Tested.{folder_tested, step_tested}
+use Rattle.migration_spec.specs.Guard.{Guarded}
 
 pub returns-in_err-test_apart-clause-guard : goal.returns-in_err-test_apart-clause-guard
-returns-in_err-test_apart-clause-guard g c = λ migration asked opened. still_guarded migration (g.F.Folder.told c.args.folder.now) (g.F.Folder.told c.args.folder.now) refl
+returns-in_err-test_apart-clause-guard g c = λ migration asked opened. still_guarded (Guarded migration) migration (g.F.Folder.told c.args.folder.now) (g.F.Folder.told c.args.folder.now) (λ s is. is) refl
 
 pub returns-in_err-test_apart-clause-moves : goal.returns-in_err-test_apart-clause-moves
 returns-in_err-test_apart-clause-moves g c =
@@ -42,10 +44,10 @@ returns-in_err-settle-clause-moves g c =
 pub returns-clause-guard : goal.returns-clause-guard
 returns-clause-guard g c = λ migration asked opened.
     let law = c.settling_and_entering_keep_migrations_guarded.ensures in
-    settle_then law.settles law.alone migration (g.F.Folder.told c.args.folder.now) (g.F.Folder.told c.settle.new.self) (g.F.Folder.told c.begin_settled.new.folder) c.in_ok-settle.field-0
+    settle_goes law.settles law.alone migration (g.F.Folder.told c.args.folder.now) (g.F.Folder.told c.settle.new.self) (g.F.Folder.told c.begin_settled.new.folder) c.in_ok-settle.field-0
     (g.met.F.Folder.sound c.args.folder.now) (g.met.F.Folder.sound c.settle.new.self) c.in_ok-settle.ensures.changes
     (c.begin_settled.ensures.guard migration asked
-    (λ v seen. opened v (settle_was_seen (g.F.Folder.told c.args.folder.now) (g.F.Folder.told c.settle.new.self) c.in_ok-settle.field-0 c.in_ok-settle.ensures.changes v seen)))
+    (λ v seen. opened v (settle_seen_back (g.F.Folder.told c.args.folder.now) (g.F.Folder.told c.settle.new.self) (Ok c.in_ok-settle.field-0) c.in_ok-settle.ensures.changes v seen)))
 
 pub returns-clause-moves : goal.returns-clause-moves
 returns-clause-moves g c =
@@ -82,7 +84,7 @@ pub returns-in_err-settle-clause-cause : goal.returns-in_err-settle-clause-cause
 returns-in_err-settle-clause-cause g c v seen =
     let p = err_from_is_err_and c.from_residual-in_err-settle.result c.from_residual-in_err-settle.ensures.1 in
     refused_as (λ answer. Unless answer (Begins c.args.names c.args.source.now c.args.target.now c.args.work.now c.args.source_pass.now c.args.target_pass.now v answer)) c.from_residual-in_err-settle.result p.0
-    (of_folder c.in_err-settle.field-0.0) p.1 p.2 (folder_unless _ c.in_err-settle.field-0.0)
+    (of_folder c.in_err-settle.field-0.0) p.1 p.2 (folder_unless of_folder refl _ c.in_err-settle.field-0.0)
 
 pub returns-clause-cause : goal.returns-clause-cause
 returns-clause-cause g c v seen =
@@ -94,19 +96,16 @@ returns-clause-cause g c v seen =
 
 pub returns-in_err-test_apart-clause-written : goal.returns-in_err-test_apart-clause-written
 returns-in_err-test_apart-clause-written g c v seen =
-    let told = g.F.Folder.told c.args.folder.now in
-    let left = g.R.Randoms.left c.args.random.now in
     let p = err_from_is_err_and c.from_residual.result c.from_residual.ensures.1 in
-    let refused = refusal_as c.from_residual.result p.0 (of_step c.in_err-test_apart.field-0.0) p.1 p.2 (step_refuses c.in_err-test_apart.field-0.0) in
-    inl (nothing_written c.from_residual.result refused left told told (c.draws_compose.ensures.none left) refl)
+    inl (nothing_written c.from_residual.result p.0 (of_step c.in_err-test_apart.field-0.0) p.1 p.2 (step_tested c.in_err-test_apart.field-0.0).1 (g.R.Randoms.left c.args.random.now) (g.F.Folder.told c.args.folder.now) (g.F.Folder.told c.args.folder.now) (c.draws_compose.ensures.none _) refl)
 
 pub returns-in_err-settle-clause-written : goal.returns-in_err-settle-clause-written
 returns-in_err-settle-clause-written g c v seen =
     let told = g.F.Folder.told c.args.folder.now in
-    let left = g.R.Randoms.left c.args.random.now in
+    let settled = g.F.Folder.told c.settle.new.self in
     let p = err_from_is_err_and c.from_residual-in_err-settle.result c.from_residual-in_err-settle.ensures.1 in
-    let refused = refusal_as c.from_residual-in_err-settle.result p.0 (of_folder c.in_err-settle.field-0.0) p.1 p.2 (folder_refuses c.in_err-settle.field-0.0) in
-    inl (record { refused = refused; undrawn = c.draws_compose.ensures.none left; files = settle_writes told (g.F.Folder.told c.settle.new.self) c.settle.result c.settle.ensures.changes })
+    inl (refused_written c.from_residual-in_err-settle.result p.0 (of_folder c.in_err-settle.field-0.0) p.1 p.2 (folder_tested c.in_err-settle.field-0.0).1 (g.R.Randoms.left c.args.random.now) told settled (c.draws_compose.ensures.none _)
+    (settle_writes told settled c.settle.result c.settle.ensures.changes))
 
 pub returns-clause-written : goal.returns-clause-written
 returns-clause-written g c v seen =
@@ -149,13 +148,13 @@ returns-in_err-test_apart-clause-blamed g c =
 pub returns-in_err-test_apart-clause-too_long : goal.returns-in_err-test_apart-clause-too_long
 returns-in_err-test_apart-clause-too_long g c =
     let p = err_from_is_err_and c.from_residual.result c.from_residual.ensures.1 in
-    none_compared _ c.from_residual.result p.0 (of_step c.in_err-test_apart.field-0.0) p.1 p.2 (step_compares c.in_err-test_apart.field-0.0)
+    none_compared _ c.from_residual.result p.0 (of_step c.in_err-test_apart.field-0.0) p.1 p.2 (step_tested c.in_err-test_apart.field-0.0).0
 
 pub returns-in_err-settle-clause-too_long : goal.returns-in_err-settle-clause-too_long
 returns-in_err-settle-clause-too_long g c =
     let why = c.in_err-settle.field-0.0 in
     let p = err_from_is_err_and c.from_residual-in_err-settle.result c.from_residual-in_err-settle.ensures.1 in
-    none_compared _ c.from_residual-in_err-settle.result p.0 (of_folder why) p.1 p.2 (folder_compares why)
+    none_compared _ c.from_residual-in_err-settle.result p.0 (of_folder why) p.1 p.2 (folder_tested why).0
 
 pub returns-clause-too_long : goal.returns-clause-too_long
 returns-clause-too_long g c =
@@ -172,13 +171,13 @@ returns-clause-too_long g c =
 pub returns-in_err-test_apart-clause-shared : goal.returns-in_err-test_apart-clause-shared
 returns-in_err-test_apart-clause-shared g c =
     let p = err_from_is_err_and c.from_residual.result c.from_residual.ensures.1 in
-    none_taken _ c.from_residual.result p.0 (of_step c.in_err-test_apart.field-0.0) p.1 p.2 (step_compares c.in_err-test_apart.field-0.0)
+    none_taken _ c.from_residual.result p.0 (of_step c.in_err-test_apart.field-0.0) p.1 p.2 (step_tested c.in_err-test_apart.field-0.0).0
 
 pub returns-in_err-settle-clause-shared : goal.returns-in_err-settle-clause-shared
 returns-in_err-settle-clause-shared g c =
     let why = c.in_err-settle.field-0.0 in
     let p = err_from_is_err_and c.from_residual-in_err-settle.result c.from_residual-in_err-settle.ensures.1 in
-    none_taken _ c.from_residual-in_err-settle.result p.0 (of_folder why) p.1 p.2 (folder_compares why)
+    none_taken _ c.from_residual-in_err-settle.result p.0 (of_folder why) p.1 p.2 (folder_tested why).0
 
 pub returns-clause-shared : goal.returns-clause-shared
 returns-clause-shared g c =

@@ -6,7 +6,7 @@ use Rattle.migration_spec.specs.Alone.{Unbegun}
 use Rattle.migrate_core.specs.Leading.{Guards}
 use Rattle.migrate_core.specs.Moving.{MovesOnly}
 use Rattle.migrate_core.specs.Sides.{IsAsked}
-use Rattle.migration_sides.proofs.Told.{opens_passes, opens_refused}
+use Rattle.migration_sides.proofs.Told.{opens_passes, opens_refused, work_refused}
 use Rattle.migration_sides.specs.Causes.{Opens}
 use Rattle.migration_sides.specs.Sides.{AreSeparate}
 use Rattle.migration_sides.specs.Tests.{Then}
@@ -16,20 +16,22 @@ use Rattle.migrate_core.proofs.Planned.{seen_of}
 use Rattle.migrate_core.proofs.Settled.{begins, settled_by, still_settled}
 use Rattle.migrate_core.proofs.Endings.{tree_moved}
 use Rattle.migrate_core.specs.Moved.{MovesTree, Placed}
-use Rattle.migrate_core.proofs.Causing.{refused_as, then_passes, work_refused}
 use Rattle.vault_spec.specs.Opened.{OpenedVault}
 use Rattle.migrate_core.specs.Causes.{Answer, BeginsWith, Unless}
 use Rattle.migrate_core.specs.Faults.{of_step, of_work}
 use Rattle.migrate_core.specs.declared.placing.Done.{Done}
 use Rattle.std.proofs.lemmas.Result.{err_from_is_err_and}
 use Rattle.work_folder.specs.Looking.{Tests}
-use Rattle.migrate_core.proofs.Writings.{refusal_as, work_refuses, nothing_written, step_refuses, tree_of}
+use Rattle.migrate_core.proofs.Writings.{nothing_written, tree_of}
 use Rattle.migrate_core.specs.Written.{MayWrite}
-use Rattle.migrate_core.proofs.Limits.{limit_in_tree, none_compared, none_taken, shared_in_tree, step_compares, work_compares}
+use Rattle.migrate_core.proofs.Limits.{limit_in_tree, none_compared, none_taken, shared_in_tree}
 use Rattle.migrate_core.specs.Copying.{StayGood}
 use Rattle.migrate_core.specs.Limits.{EndsBy, IsOfLimit, PassesInTree}
 use Rattle.migrate_core.specs.Sharing.{IsOfTaken, SharesInTree, SharesWhereTidy}
 use Rattle.migrate_core.proofs.beginning.begin_settled.Goals as goal
+use Rattle.migration_sides.proofs.Chains.{refused_as, then_passes}
+use Rattle.migrate_core.specs.declared.fault.MoveFault.TheVariants.{Failed, NoMemory}
+use Rattle.migrate_core.proofs.Tested.{step_tested, work_tested}
 
 pub returns-in_err-look-clause-guard : goal.returns-in_err-look-clause-guard
 returns-in_err-look-clause-guard g c = λ migration asked opened. still_settled migration (g.F.Folder.told c.args.folder.now) (g.F.Folder.told c.look.new.folder) c.look.ensures.told
@@ -115,7 +117,7 @@ returns-in_err-look-clause-cause g c v seen =
     let opens = λ (_ : Unit {0}). Opens {Y = Done} of_step v from to c.args.source_pass.now c.args.target_pass.now (λ source target. BeginsWith c.args.names source target work v) in
     let why = c.in_err-look.field-0.0 in
     let p = err_from_is_err_and c.from_residual.result c.from_residual.ensures.1 in
-    refused_as (λ answer. Unless answer (Then of_work (Tests v work) opens answer)) c.from_residual.result p.0 (of_work why) p.1 p.2 (work_refused (Tests v work) opens why (c.in_err-look.ensures.answer v seen))
+    refused_as (λ answer. Unless answer (Then of_work (Tests v work) opens answer)) c.from_residual.result p.0 (of_work why) p.1 p.2 (work_refused of_work (Tests v work) opens why (c.in_err-look.ensures.answer v seen))
 
 pub returns-in_err-sides-clause-cause : goal.returns-in_err-sides-clause-cause
 returns-in_err-sides-clause-cause g c v seen =
@@ -126,7 +128,7 @@ returns-in_err-sides-clause-cause g c v seen =
     let why = c.in_err-sides.field-0.0 in
     let p = err_from_is_err_and c.from_residual-in_err-sides.result c.from_residual-in_err-sides.ensures.1 in
     refused_as (λ answer. Unless answer (Then of_work (Tests v work) opens answer)) c.from_residual-in_err-sides.result p.0 (of_step why) p.1 p.2
-    (then_passes of_work (Tests v work) opens (Err (of_step why)) tt (c.in_ok-look.ensures.answer v seen)
+    (then_passes Failed NoMemory of_work (Tests v work) opens (Err (of_step why)) tt (c.in_ok-look.ensures.answer v seen)
     (opens_refused of_step v from to c.args.source_pass.now c.args.target_pass.now (λ source target. BeginsWith c.args.names source target work v) why
     (c.in_err-sides.ensures.cause v (subst (λ t. IsSeen t v) (sym c.look.ensures.told) seen))))
 
@@ -139,7 +141,7 @@ returns-clause-cause g c v seen =
     let sides = c.in_ok-sides.sides in
     let loads = c.in_ok-sides.ensures in
     let looked = subst (λ t. IsSeen t v) (sym c.look.ensures.told) seen in
-    then_passes of_work (Tests v work) (λ _. Opens of_step v from to c.args.source_pass.now c.args.target_pass.now next) c.begin_with.result tt (c.in_ok-look.ensures.answer v seen)
+    then_passes Failed NoMemory of_work (Tests v work) (λ _. Opens of_step v from to c.args.source_pass.now c.args.target_pass.now next) c.begin_with.result tt (c.in_ok-look.ensures.answer v seen)
     (opens_passes of_step v from to c.args.source_pass.now c.args.target_pass.now next c.begin_with.result sides.source sides.target loads.source loads.target
     (loads.opens_source v looked) (loads.opens_target v looked)
     (subst (λ n. Unless c.begin_with.result (BeginsWith n sides.source sides.target work v c.begin_with.result)) loads.names
@@ -147,19 +149,13 @@ returns-clause-cause g c v seen =
 
 pub returns-in_err-look-clause-written : goal.returns-in_err-look-clause-written
 returns-in_err-look-clause-written g c v seen =
-    let told = g.F.Folder.told c.args.folder.now in
-    let left = g.R.Randoms.left c.args.random.now in
     let p = err_from_is_err_and c.from_residual.result c.from_residual.ensures.1 in
-    let refused = refusal_as c.from_residual.result p.0 (of_work c.in_err-look.field-0.0) p.1 p.2 (work_refuses c.in_err-look.field-0.0) in
-    inl (nothing_written c.from_residual.result refused left told (g.F.Folder.told c.look.new.folder) (c.draws_compose.ensures.none left) c.look.ensures.told)
+    inl (nothing_written c.from_residual.result p.0 (of_work c.in_err-look.field-0.0) p.1 p.2 (work_tested c.in_err-look.field-0.0).1 (g.R.Randoms.left c.args.random.now) (g.F.Folder.told c.args.folder.now) (g.F.Folder.told c.look.new.folder) (c.draws_compose.ensures.none _) c.look.ensures.told)
 
 pub returns-in_err-sides-clause-written : goal.returns-in_err-sides-clause-written
 returns-in_err-sides-clause-written g c v seen =
-    let told = g.F.Folder.told c.args.folder.now in
-    let left = g.R.Randoms.left c.args.random.now in
     let p = err_from_is_err_and c.from_residual-in_err-sides.result c.from_residual-in_err-sides.ensures.1 in
-    let refused = refusal_as c.from_residual-in_err-sides.result p.0 (of_step c.in_err-sides.field-0.0) p.1 p.2 (step_refuses c.in_err-sides.field-0.0) in
-    inl (nothing_written c.from_residual-in_err-sides.result refused left told (g.F.Folder.told c.load_both.new.folder) (c.draws_compose.ensures.none left) (c.load_both.ensures.told ∙ c.look.ensures.told))
+    inl (nothing_written c.from_residual-in_err-sides.result p.0 (of_step c.in_err-sides.field-0.0) p.1 p.2 (step_tested c.in_err-sides.field-0.0).1 (g.R.Randoms.left c.args.random.now) (g.F.Folder.told c.args.folder.now) (g.F.Folder.told c.load_both.new.folder) (c.draws_compose.ensures.none _) (c.load_both.ensures.told ∙ c.look.ensures.told))
 
 pub returns-clause-written : goal.returns-clause-written
 returns-clause-written g c v seen =
@@ -178,12 +174,12 @@ pub returns-in_err-look-clause-too_long : goal.returns-in_err-look-clause-too_lo
 returns-in_err-look-clause-too_long g c =
     let why = c.in_err-look.field-0.0 in
     let p = err_from_is_err_and c.from_residual.result c.from_residual.ensures.1 in
-    none_compared _ c.from_residual.result p.0 (of_work why) p.1 p.2 (work_compares why)
+    none_compared _ c.from_residual.result p.0 (of_work why) p.1 p.2 (work_tested why).0
 
 pub returns-in_err-sides-clause-too_long : goal.returns-in_err-sides-clause-too_long
 returns-in_err-sides-clause-too_long g c =
     let p = err_from_is_err_and c.from_residual-in_err-sides.result c.from_residual-in_err-sides.ensures.1 in
-    none_compared _ c.from_residual-in_err-sides.result p.0 (of_step c.in_err-sides.field-0.0) p.1 p.2 (step_compares c.in_err-sides.field-0.0)
+    none_compared _ c.from_residual-in_err-sides.result p.0 (of_step c.in_err-sides.field-0.0) p.1 p.2 (step_tested c.in_err-sides.field-0.0).0
 
 pub returns-clause-too_long : goal.returns-clause-too_long
 returns-clause-too_long g c =
@@ -206,12 +202,12 @@ pub returns-in_err-look-clause-shared : goal.returns-in_err-look-clause-shared
 returns-in_err-look-clause-shared g c =
     let why = c.in_err-look.field-0.0 in
     let p = err_from_is_err_and c.from_residual.result c.from_residual.ensures.1 in
-    none_taken _ c.from_residual.result p.0 (of_work why) p.1 p.2 (work_compares why)
+    none_taken _ c.from_residual.result p.0 (of_work why) p.1 p.2 (work_tested why).0
 
 pub returns-in_err-sides-clause-shared : goal.returns-in_err-sides-clause-shared
 returns-in_err-sides-clause-shared g c =
     let p = err_from_is_err_and c.from_residual-in_err-sides.result c.from_residual-in_err-sides.ensures.1 in
-    none_taken _ c.from_residual-in_err-sides.result p.0 (of_step c.in_err-sides.field-0.0) p.1 p.2 (step_compares c.in_err-sides.field-0.0)
+    none_taken _ c.from_residual-in_err-sides.result p.0 (of_step c.in_err-sides.field-0.0) p.1 p.2 (step_tested c.in_err-sides.field-0.0).0
 
 pub returns-clause-shared : goal.returns-clause-shared
 returns-clause-shared g c =

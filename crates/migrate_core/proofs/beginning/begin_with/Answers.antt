@@ -14,22 +14,25 @@ use Rattle.migration_sides.specs.Tests.{Then, own}
 use Rattle.migrate_core.proofs.Blaming.{step_begins}
 use Rattle.migrate_core.proofs.Leadings.{refused_nowhere}
 use Rattle.migrate_core.proofs.Movings.{moves_nowhere}
-use Rattle.migrate_core.proofs.Causing.{mapped_pass, mapped_refused, own_passes, own_refused, refused_as}
+use Rattle.migrate_core.proofs.Causing.{mapped_pass, mapped_refused}
 use Rattle.migrate_core.specs.Causes.{Answer, BeginsWith, Moves, TestsEmpty, TestsMapped, Unless}
 use Rattle.migrate_core.specs.Faults.{of_step}
 use Rattle.work_folder.specs.Entering.{EntersAs}
 use Rattle.migrate_core.specs.declared.placing.Done.{Done}
 use Rattle.vault_spec.specs.Plan.{Planned}
-use Rattle.migrate_core.proofs.Writings.{refusal_as, nothing_written, step_refuses}
+use Rattle.migrate_core.proofs.Writings.{nothing_written}
 use Rattle.migrate_core.specs.Written.{WritesBy, journal_texts, lacked}
 use Rattle.migrate_core.proofs.Started.{empty_held, may_begin}
 use Rattle.migrate_core.specs.Copying.{MayBegin}
-use Rattle.migrate_core.proofs.Limits.{ends_more, ends_uncompared, step_compares}
+use Rattle.migrate_core.proofs.Limits.{ends_more, ends_uncompared}
 use Rattle.migrate_core.specs.Copying.{StayGood}
 use Rattle.migrate_core.specs.Limits.{EndsBy}
 use Rattle.migrate_core.proofs.Sharing.{source_shares}
 use Rattle.migrate_core.specs.Sharing.{IsFilled, SharesFrom, SharesWhereTidy}
 use Rattle.migrate_core.proofs.beginning.begin_with.Goals as goal
+use Rattle.migration_sides.proofs.Chains.{own_passes, own_refused, refused_as}
+use Rattle.migrate_core.specs.declared.fault.MoveFault.TheVariants.{Failed, NoMemory}
+use Rattle.migrate_core.proofs.Tested.{step_tested}
 
 pub returns-in_err-plans-clause-guard : goal.returns-in_err-plans-clause-guard
 returns-in_err-plans-clause-guard g c =
@@ -109,7 +112,7 @@ returns-in_err-test_empty-clause-cause g c v seen =
     let p = err_from_is_err_and c.from_residual-in_err-test_empty.result c.from_residual-in_err-test_empty.ensures.1 in
     refused_as (λ answer. Unless answer (BeginsWith rule from to c.args.work.now v answer)) c.from_residual-in_err-test_empty.result p.0 fault p.1 p.2
     (walks_passes of_step from to v next (Err fault) plans.source.items plans.target.items (c.in_ok-plans.ensures.passed_source v seen) (c.in_ok-plans.ensures.passed_target v seen)
-    (own_refused (TestsEmpty plans.target.items) (λ _. TestsMapped rule (format_of to.vault) plans.source.items moves) fault
+    (own_refused Failed NoMemory (TestsEmpty plans.target.items) (λ _. TestsMapped rule (format_of to.vault) plans.source.items moves) fault
     (subst (λ items. Unless {X = Unit {0}} (Err fault) (TestsEmpty items (Err fault))) c.as_slice.ensures c.in_err-test_empty.ensures.cause)))
 
 pub returns-in_err-mapped-clause-cause : goal.returns-in_err-mapped-clause-cause
@@ -124,7 +127,7 @@ returns-in_err-mapped-clause-cause g c v seen =
     let p = err_from_is_err_and c.from_residual-in_err-mapped.result c.from_residual-in_err-mapped.ensures.1 in
     refused_as (λ answer. Unless answer (BeginsWith rule from to c.args.work.now v answer)) c.from_residual-in_err-mapped.result p.0 fault p.1 p.2
     (walks_passes of_step from to v next (Err fault) plans.source.items plans.target.items (c.in_ok-plans.ensures.passed_source v seen) (c.in_ok-plans.ensures.passed_target v seen)
-    (own_passes (TestsEmpty plans.target.items) (λ _. TestsMapped rule (format_of to.vault) plans.source.items moves) (Err fault) tt
+    (own_passes Failed NoMemory (TestsEmpty plans.target.items) (λ _. TestsMapped rule (format_of to.vault) plans.source.items moves) (Err fault) tt
     (subst (λ items. Unless {X = Unit {0}} (Ok tt) (TestsEmpty items (Ok tt))) c.as_slice.ensures c.in_ok-test_empty.ensures.cause)
     (mapped_refused rule (format_of to.vault) plans.source.items moves fault c.in_err-mapped.ensures.cause)))
 
@@ -137,34 +140,25 @@ returns-clause-cause g c v seen =
     let next : List Planned → List Planned → Answer Done → Type 0 = λ items there. Then own (TestsEmpty there) (λ _. TestsMapped rule (format_of to.vault) items moves) in
     let plans = c.in_ok-plans.plans in
     walks_passes of_step from to v next c.move_all.result plans.source.items plans.target.items (c.in_ok-plans.ensures.passed_source v seen) (c.in_ok-plans.ensures.passed_target v seen)
-    (own_passes (TestsEmpty plans.target.items) (λ _. TestsMapped rule (format_of to.vault) plans.source.items moves) c.move_all.result tt
+    (own_passes Failed NoMemory (TestsEmpty plans.target.items) (λ _. TestsMapped rule (format_of to.vault) plans.source.items moves) c.move_all.result tt
     (subst (λ items. Unless {X = Unit {0}} (Ok tt) (TestsEmpty items (Ok tt))) c.as_slice.ensures c.in_ok-test_empty.ensures.cause)
     (mapped_pass rule (format_of to.vault) plans.source.items moves c.move_all.result c.in_ok-mapped.mapped c.in_ok-mapped.ensures.passed c.in_ok-mapped.ensures.maps
     (c.move_all.ensures.cause v (subst (λ t. IsSeen t v) (sym c.walk_both.ensures.told) seen))))
 
 pub returns-in_err-plans-clause-written : goal.returns-in_err-plans-clause-written
 returns-in_err-plans-clause-written g c =
-    let told = g.F.Folder.told c.args.folder.now in
-    let left = g.R.Randoms.left c.args.random.now in
     let p = err_from_is_err_and c.from_residual.result c.from_residual.ensures.1 in
-    let refused = refusal_as c.from_residual.result p.0 (of_step c.in_err-plans.field-0.0) p.1 p.2 (step_refuses c.in_err-plans.field-0.0) in
-    inl (nothing_written c.from_residual.result refused left told (g.F.Folder.told c.walk_both.new.folder) (c.draws_compose.ensures.none left) c.walk_both.ensures.told)
+    inl (nothing_written c.from_residual.result p.0 (of_step c.in_err-plans.field-0.0) p.1 p.2 (step_tested c.in_err-plans.field-0.0).1 (g.R.Randoms.left c.args.random.now) (g.F.Folder.told c.args.folder.now) (g.F.Folder.told c.walk_both.new.folder) (c.draws_compose.ensures.none _) c.walk_both.ensures.told)
 
 pub returns-in_err-test_empty-clause-written : goal.returns-in_err-test_empty-clause-written
 returns-in_err-test_empty-clause-written g c =
-    let told = g.F.Folder.told c.args.folder.now in
-    let left = g.R.Randoms.left c.args.random.now in
     let p = err_from_is_err_and c.from_residual-in_err-test_empty.result c.from_residual-in_err-test_empty.ensures.1 in
-    let refused = refusal_as c.from_residual-in_err-test_empty.result p.0 (c.in_err-test_empty.field-0.0) p.1 p.2 (c.in_err-test_empty.ensures.tested) in
-    inl (nothing_written c.from_residual-in_err-test_empty.result refused left told (g.F.Folder.told c.walk_both.new.folder) (c.draws_compose.ensures.none left) c.walk_both.ensures.told)
+    inl (nothing_written c.from_residual-in_err-test_empty.result p.0 c.in_err-test_empty.field-0.0 p.1 p.2 c.in_err-test_empty.ensures.tested (g.R.Randoms.left c.args.random.now) (g.F.Folder.told c.args.folder.now) (g.F.Folder.told c.walk_both.new.folder) (c.draws_compose.ensures.none _) c.walk_both.ensures.told)
 
 pub returns-in_err-mapped-clause-written : goal.returns-in_err-mapped-clause-written
 returns-in_err-mapped-clause-written g c =
-    let told = g.F.Folder.told c.args.folder.now in
-    let left = g.R.Randoms.left c.args.random.now in
     let p = err_from_is_err_and c.from_residual-in_err-mapped.result c.from_residual-in_err-mapped.ensures.1 in
-    let refused = refusal_as c.from_residual-in_err-mapped.result p.0 (c.in_err-mapped.field-0.0) p.1 p.2 (c.in_err-mapped.ensures.tested) in
-    inl (nothing_written c.from_residual-in_err-mapped.result refused left told (g.F.Folder.told c.walk_both.new.folder) (c.draws_compose.ensures.none left) c.walk_both.ensures.told)
+    inl (nothing_written c.from_residual-in_err-mapped.result p.0 c.in_err-mapped.field-0.0 p.1 p.2 c.in_err-mapped.ensures.tested (g.R.Randoms.left c.args.random.now) (g.F.Folder.told c.args.folder.now) (g.F.Folder.told c.walk_both.new.folder) (c.draws_compose.ensures.none _) c.walk_both.ensures.told)
 
 pub returns-clause-written : goal.returns-clause-written
 returns-clause-written g c =
@@ -204,7 +198,7 @@ move_all-requires-clause-copying g c =
 pub returns-in_err-plans-clause-ends : goal.returns-in_err-plans-clause-ends
 returns-in_err-plans-clause-ends g c =
     let p = err_from_is_err_and c.from_residual.result c.from_residual.ensures.1 in
-    ends_uncompared _ _ c.args.sides.now.names c.args.sides.now.source c.args.sides.now.target (g.F.Folder.told c.walk_both.new.folder) c.from_residual.result p.0 (of_step c.in_err-plans.field-0.0) p.1 p.2 (step_compares c.in_err-plans.field-0.0)
+    ends_uncompared _ _ c.args.sides.now.names c.args.sides.now.source c.args.sides.now.target (g.F.Folder.told c.walk_both.new.folder) c.from_residual.result p.0 (of_step c.in_err-plans.field-0.0) p.1 p.2 (step_tested c.in_err-plans.field-0.0).0
 
 pub returns-in_err-test_empty-clause-ends : goal.returns-in_err-test_empty-clause-ends
 returns-in_err-test_empty-clause-ends g c =

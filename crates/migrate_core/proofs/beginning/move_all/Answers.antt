@@ -1,4 +1,4 @@
-use Rattle.std.proofs.Common.{◌≡◌, [], Result, ◌∙◌, Ok, IfOk, sym, ap, subst, Err, Contains, ◌∷◌}
+use Rattle.std.proofs.Common.{◌≡◌, [], Result, ◌∙◌, Ok, IfOk, sym, ap, subst, Err, Contains, ◌∷◌, refl}
 use Rattle.folder_spec.specs.declared.FolderFault.{FolderFault}
 use Rattle.std.proofs.lemmas.Result.{err_from_is_err_and}
 use Rattle.folder_spec.specs.Region.{apart_from_both}
@@ -10,30 +10,31 @@ use Rattle.work_folder.specs.Changing.{ChangesAt}
 use Rattle.work_folder.specs.Entering.{IsLeftOver, IsReady, IsWorkOrStage, EntersAs}
 use Rattle.migrate_core.proofs.Beginnings.{AreCited, enters_goes, told_goes, written_goes}
 use Rattle.migrate_core.proofs.Leadings.{goes_failed, goes_on, then_known}
-use Rattle.migrate_core.proofs.Movings.{moves_on, moves_to, seen_stays, source_beside, mapped_walk, moving_stays, turned_over}
-use Rattle.migrate_core.proofs.WorkFolders.{entered_moves, fresh_folder, fresh_tidy, ready_stays, tidy_written, writing_moves, written_beside, written_folder, written_moves}
+use Rattle.migrate_core.proofs.Movings.{moves_on, moves_to, items_stay}
+use Rattle.migrate_core.proofs.WorkFolders.{entered_moves, fresh_folder, fresh_tidy, ready_stays, tidy_written, writing_moves, written_beside, written_folder, written_moves, begun_moves}
 use Rattle.migrate_core.specs.Leading.{LeadsTold}
 use Rattle.migrate_core.specs.Moving.{MovesOnly}
 use Rattle.migrate_core.specs.Sides.{new_journal}
 use Rattle.migrate_core.proofs.Endings.{if_ok_more}
 use Rattle.migrate_core.specs.Moved.{IsTidyWork, Moved, StaysTidyWork, lacking, done_of}
-use Rattle.migrate_core.proofs.Causing.{folder_unless, moves_pass, never_more, refused_as, work_refused}
+use Rattle.migrate_core.proofs.Causing.{moves_pass, never_more}
 use Rattle.migrate_core.specs.Causes.{IsOfMoving, Moves, Unless, StopsAt}
-use Rattle.migrate_core.specs.Copying.{HasCopied, HaveOwnFolders}
-use Rattle.migrate_core.proofs.Copyings.{copied_as}
+use Rattle.migrate_core.specs.Copying.{HaveOwnFolders}
 use Rattle.migrate_core.specs.Faults.{of_folder, of_work}
-use Rattle.migrate_core.proofs.Writings.{changing_writes, in_first, journal_written, kept_by, lacked_is, none_ordered, nothing_yet, beside_on, folder_refuses, stop_is_test, work_refuses, only_more, source_beside_at, texts_first, texts_then}
+use Rattle.migrate_core.proofs.Writings.{changing_writes, in_first, journal_written, none_ordered, nothing_yet, beside_on, stop_is_test, only_more, texts_first, texts_then}
 use Rattle.migrate_core.specs.Written.{BringsOnlyTo, WritesBeside, WritesBy, journal_texts, lacked}
 use Rattle.move_journal.specs.Journal.{journal_text}
-use Rattle.migrate_core.proofs.Stopping.{if_stops_before, seen_stops}
-use Rattle.migrate_core.proofs.Leadings.{seen_then}
-use Rattle.migrate_core.proofs.Limits.{ends_more, ends_uncompared, folder_compares, good_copies, work_compares}
+use Rattle.migrate_core.proofs.Limits.{ends_more, ends_uncompared}
 use Rattle.migrate_core.specs.Copying.{CopiesAll, StayGood}
 use Rattle.migrate_core.proofs.Sharing.{filled_as, shares_before}
 use Rattle.migrate_core.specs.Sharing.{IsFilled, SharesFrom}
 use Rattle.vault_spec.specs.Staying.{LoadsAlike}
 use Rattle.folder_spec.specs.Seen.{under}
 use Rattle.migrate_core.proofs.beginning.move_all.Goals as goal
+use Rattle.migration_sides.proofs.Chains.{refused_as}
+use Rattle.migration_sides.proofs.Told.{folder_unless, work_refused}
+use Rattle.migrate_core.proofs.Tested.{folder_tested, work_tested}
+use Rattle.migrate_core.proofs.Readied.{begun_readied, lacked_kept, readied_good, readied_stops, source_is, target_is}
 
 pub returns-in_err-entered-clause-guard : goal.returns-in_err-entered-clause-guard
 returns-in_err-entered-clause-guard g c m sides =
@@ -70,9 +71,7 @@ returns-in_err-write-clause-moves g c =
     let told = g.F.Folder.told c.args.folder.now in
     let entered = g.F.Folder.told c.enter.new.folder in
     let written = g.F.Folder.told c.write.new.folder in
-    moves_on (apart_from_both work root) root told entered written
-    (entered_moves work root (IsWorkOrStage work) (IsLeftOver work) told entered c.requires.apart.target c.enter.ensures.enters.moments)
-    (written_moves work root c.in_ok-journal.journal entered written c.requires.apart.target c.write.ensures.moments)
+    begun_moves work root c.in_ok-journal.journal told entered written c.requires.apart.target c.enter.ensures.enters.moments c.write.ensures.moments
 
 pub go_on-requires-clause-walked : goal.go_on-requires-clause-walked
 go_on-requires-clause-walked g c =
@@ -82,10 +81,8 @@ go_on-requires-clause-walked g c =
     let told = g.F.Folder.told c.args.folder.now in
     let entered = g.F.Folder.told c.enter.new.folder in
     let written = g.F.Folder.told c.write.new.folder in
-    moving_stays (apart_from_both work root) c.args.sides.now.names from c.args.items.now.own.items c.args.items.now.mapped.items told written (λ rest. source_beside from.root root work rest c.requires.apart) (g.met.F.Folder.sound c.args.folder.now)
-    (moves_to (apart_from_both work root) root told written (moves_on (apart_from_both work root) root told entered written
-    (entered_moves work root (IsWorkOrStage work) (IsLeftOver work) told entered c.requires.apart.target c.enter.ensures.enters.moments)
-    (written_moves work root c.in_ok-journal.journal entered written c.requires.apart.target c.write.ensures.moments))) c.requires.walked
+    items_stay c.args.sides.now.names from root work c.args.items.now.own.items c.args.items.now.mapped.items told written c.requires.apart (g.met.F.Folder.sound c.args.folder.now)
+    (begun_moves work root c.in_ok-journal.journal told entered written c.requires.apart.target c.enter.ensures.enters.moments c.write.ensures.moments) c.requires.walked
 
 pub go_on-requires-clause-ready : goal.go_on-requires-clause-ready
 go_on-requires-clause-ready g c =
@@ -118,9 +115,7 @@ returns-clause-moves g c =
     let written = g.F.Folder.told c.write.new.folder in
     let after = g.F.Folder.told c.go_on.new.folder in
     moves_on (apart_from_both work root) root told written after
-    (moves_on (apart_from_both work root) root told entered written
-    (entered_moves work root (IsWorkOrStage work) (IsLeftOver work) told entered c.requires.apart.target c.enter.ensures.enters.moments)
-    (written_moves work root c.in_ok-journal.journal entered written c.requires.apart.target c.write.ensures.moments))
+    (begun_moves work root c.in_ok-journal.journal told entered written c.requires.apart.target c.enter.ensures.enters.moments c.write.ensures.moments)
     (subst (λ w. MovesOnly w root written after) c.in_ok-entered.ensures.path c.go_on.ensures.moves)
 
 pub returns-in_err-write-clause-guard : goal.returns-in_err-write-clause-guard
@@ -146,8 +141,8 @@ returns-in_err-write-clause-guard g c m sides =
     let j = c.in_ok-journal.journal in
     let is = c.in_ok-journal.ensures.new ∙ ap (λ r. new_journal rule r c.root-2.result.now items) c.root.ensures ∙ ap (λ r. new_journal rule from.root r items) c.root-2.ensures in
     let apart = c.requires.apart.target in
-    let walked = moving_stays (apart_from_both work to.root) rule from items mapped told entered (λ rest. source_beside from.root to.root work rest c.requires.apart) (g.met.F.Folder.sound c.args.folder.now)
-    (moves_to (apart_from_both work to.root) to.root told entered (entered_moves work to.root (IsWorkOrStage work) (IsLeftOver work) told entered apart c.enter.ensures.enters.moments)) c.requires.walked in
+    let walked = items_stay rule from to.root work items mapped told entered c.requires.apart (g.met.F.Folder.sound c.args.folder.now)
+    (entered_moves work to.root (IsWorkOrStage work) (IsLeftOver work) told entered apart c.enter.ensures.enters.moments) c.requires.walked in
     let p = err_from_is_err_and c.from_residual-in_err-write.result c.from_residual-in_err-write.ensures.1 in
     goes_failed m Unbegun Begun Finished told written c.write.result c.from_residual-in_err-write.result p.0 p.1
     (written_goes cited rule from to work items mapped told entered written j
@@ -177,12 +172,10 @@ returns-clause-guard g c m sides =
     let j = c.in_ok-journal.journal in
     let is = c.in_ok-journal.ensures.new ∙ ap (λ r. new_journal rule r c.root-2.result.now items) c.root.ensures ∙ ap (λ r. new_journal rule from.root r items) c.root-2.ensures in
     let apart = c.requires.apart.target in
-    let walked = moving_stays (apart_from_both work to.root) rule from items mapped told entered (λ rest. source_beside from.root to.root work rest c.requires.apart) (g.met.F.Folder.sound c.args.folder.now)
-    (moves_to (apart_from_both work to.root) to.root told entered (entered_moves work to.root (IsWorkOrStage work) (IsLeftOver work) told entered apart c.enter.ensures.enters.moments)) c.requires.walked in
+    let walked = items_stay rule from to.root work items mapped told entered c.requires.apart (g.met.F.Folder.sound c.args.folder.now)
+    (entered_moves work to.root (IsWorkOrStage work) (IsLeftOver work) told entered apart c.enter.ensures.enters.moments) c.requires.walked in
     let after = g.F.Folder.told c.go_on.new.folder in
-    let moved = entered_moves work to.root (IsWorkOrStage work) (IsLeftOver work) told entered apart c.enter.ensures.enters.moments in
-    let here = moving_stays (apart_from_both work to.root) rule from items mapped entered written (λ rest. source_beside from.root to.root work rest c.requires.apart) (g.met.F.Folder.sound c.enter.new.folder)
-    (moves_to (apart_from_both work to.root) to.root entered written (written_moves work to.root j entered written apart c.write.ensures.moments)) walked in
+    let here = items_stay rule from to.root work items mapped entered written c.requires.apart (g.met.F.Folder.sound c.enter.new.folder) (written_moves work to.root j entered written apart c.write.ensures.moments) walked in
     let done : Result (Unit {0}) FolderFault = Ok tt in
     let one = written_goes cited rule from to work items mapped told entered written j
     done is c.requires.source c.requires.target c.in_ok-journal.ensures.digest c.requires.named walked (g.met.F.Folder.sound c.write.new.folder) c.enter.ensures.enters.moments c.write.ensures.moments
@@ -222,9 +215,7 @@ returns-clause-placed g c =
     let entered = g.F.Folder.told c.enter.new.folder in
     let written = g.F.Folder.told c.write.new.folder in
     if_ok_more (λ done. IfSeen written (λ v. done.placed ≡ lacking [] c.args.items.now.mapped.items)) (λ done. IfSeen told (λ v. done.placed ≡ lacking [] c.args.items.now.mapped.items)) c.go_on.result
-    (λ done is. then_known _ told written (moves_on (apart_from_both c.args.work.now c.args.sides.now.target.root) c.args.sides.now.target.root told entered written
-    (entered_moves c.args.work.now c.args.sides.now.target.root (IsWorkOrStage c.args.work.now) (IsLeftOver c.args.work.now) told entered c.requires.apart.target c.enter.ensures.enters.moments)
-    (written_moves c.args.work.now c.args.sides.now.target.root c.in_ok-journal.journal entered written c.requires.apart.target c.write.ensures.moments)) (done.placed ≡ lacking [] c.args.items.now.mapped.items) is) c.go_on.ensures.placed
+    (λ done is. then_known _ told written (begun_moves c.args.work.now c.args.sides.now.target.root c.in_ok-journal.journal told entered written c.requires.apart.target c.enter.ensures.enters.moments c.write.ensures.moments) (done.placed ≡ lacking [] c.args.items.now.mapped.items) is) c.go_on.ensures.placed
 
 pub returns-in_err-entered-clause-cause : goal.returns-in_err-entered-clause-cause
 returns-in_err-entered-clause-cause g c v seen =
@@ -237,7 +228,7 @@ returns-in_err-entered-clause-cause g c v seen =
     let why = c.in_err-entered.field-0.0 in
     let p = err_from_is_err_and c.from_residual.result c.from_residual.ensures.1 in
     refused_as (λ answer. Unless answer (Moves (EntersAs v work) from to v mapped answer)) c.from_residual.result p.0 (of_work why) p.1 p.2
-    (work_refused (EntersAs v work) (λ _. IsOfMoving (HaveOwnFolders from to v) (StopsAt (HaveOwnFolders from to v) from v mapped)) why (c.in_err-entered.ensures.enters.answer v seen))
+    (work_refused of_work (EntersAs v work) (λ _. IsOfMoving (HaveOwnFolders from to v) (StopsAt (HaveOwnFolders from to v) from v mapped)) why (c.in_err-entered.ensures.enters.answer v seen))
 
 pub returns-in_err-journal-clause-cause : goal.returns-in_err-journal-clause-cause
 returns-in_err-journal-clause-cause g c v seen =
@@ -261,7 +252,7 @@ returns-in_err-write-clause-cause g c v seen =
     let items = c.args.items.now.own.items in
     let mapped = c.args.items.now.mapped.items in
     let p = err_from_is_err_and c.from_residual-in_err-write.result c.from_residual-in_err-write.ensures.1 in
-    refused_as (λ answer. Unless answer (Moves (EntersAs v c.args.work.now) from to v mapped answer)) c.from_residual-in_err-write.result p.0 (of_folder c.in_err-write.field-0.0) p.1 p.2 (folder_unless _ c.in_err-write.field-0.0)
+    refused_as (λ answer. Unless answer (Moves (EntersAs v c.args.work.now) from to v mapped answer)) c.from_residual-in_err-write.result p.0 (of_folder c.in_err-write.field-0.0) p.1 p.2 (folder_unless of_folder refl _ c.in_err-write.field-0.0)
 
 pub returns-clause-cause : goal.returns-clause-cause
 returns-clause-cause g c v seen =
@@ -274,21 +265,8 @@ returns-clause-cause g c v seen =
     let told = g.F.Folder.told c.args.folder.now in
     let entered = g.F.Folder.told c.enter.new.folder in
     let written = g.F.Folder.told c.write.new.folder in
-    let region = apart_from_both work to.root in
-    let kept = kept_by region from.root mapped told written (g.met.F.Folder.sound c.args.folder.now)
-    (λ one among. source_beside_at rule from to.root work mapped told one c.requires.apart (mapped_walk rule told from items mapped c.requires.walked) among)
-    (moves_to region to.root told written (moves_on region to.root told entered written (entered_moves work to.root (IsWorkOrStage work) (IsLeftOver work) told entered c.requires.apart.target c.enter.ensures.enters.moments)
-    (written_moves work to.root c.in_ok-journal.journal entered written c.requires.apart.target c.write.ensures.moments))) in
-    let away = apart_from_both work from.root in
-    let source_is = seen_stays region from.root told written (g.met.F.Folder.sound c.args.folder.now) (λ rest. source_beside from.root to.root work rest c.requires.apart)
-    (moves_to region to.root told written (moves_on region to.root told entered written (entered_moves work to.root (IsWorkOrStage work) (IsLeftOver work) told entered c.requires.apart.target c.enter.ensures.enters.moments)
-    (written_moves work to.root c.in_ok-journal.journal entered written c.requires.apart.target c.write.ensures.moments))) in
-    let target_is = seen_stays away to.root told written (g.met.F.Folder.sound c.args.folder.now) (λ rest. source_beside to.root from.root work rest (turned_over from.root to.root work c.requires.apart))
-    (moves_to away from.root told written (moves_on away from.root told entered written (entered_moves work from.root (IsWorkOrStage work) (IsLeftOver work) told entered c.requires.apart.source c.enter.ensures.enters.moments)
-    (written_moves work from.root c.in_ok-journal.journal entered written c.requires.apart.source c.write.ensures.moments))) in
-    moves_pass (EntersAs v work) from to v mapped c.go_on.result (c.in_ok-entered.ensures.enters.answer v seen)
-    (seen_stops c.go_on.result (HaveOwnFolders from to) from mapped told v seen (if_stops_before c.go_on.result (HasCopied rule from to []) (HaveOwnFolders from to) from mapped told written kept
-    (λ x w is_x is_w own. copied_as rule from to [] x w (source_is x w is_x is_w) (target_is x w is_x is_w) (c.requires.copying x is_x own)) c.go_on.ensures.moving))
+    let readied = begun_readied work from.root to.root c.in_ok-journal.journal told entered written c.requires.apart (g.met.F.Folder.sound c.args.folder.now) c.enter.ensures.enters.moments c.write.ensures.moments in
+    readied_stops rule from to work items mapped [] told written readied (EntersAs v work) v c.go_on.result c.requires.walked c.requires.copying seen (c.in_ok-entered.ensures.enters.answer v seen) c.go_on.ensures.moving
 
 pub returns-in_err-entered-clause-written : goal.returns-in_err-entered-clause-written
 returns-in_err-entered-clause-written g c =
@@ -305,7 +283,7 @@ returns-in_err-entered-clause-written g c =
     let entering = changing_writes work (IsWorkOrStage work) (IsLeftOver work) to.root c.requires.apart.target told entered c.enter.ensures.enters.moments in
     let p = err_from_is_err_and c.from_residual.result c.from_residual.ensures.1 in
     refused_as (λ answer. WritesBy answer from to (lacked [] mapped) texts left left told entered) c.from_residual.result p.0 (of_work c.in_err-entered.field-0.0) p.1 p.2
-    (nothing_yet (of_work c.in_err-entered.field-0.0) from to (lacked [] mapped) texts left left told entered (work_refuses c.in_err-entered.field-0.0) (c.draws_compose.ensures.none left) entering)
+    (nothing_yet (of_work c.in_err-entered.field-0.0) from to (lacked [] mapped) texts left left told entered (work_tested c.in_err-entered.field-0.0).1 (c.draws_compose.ensures.none left) entering)
 
 pub returns-in_err-journal-clause-written : goal.returns-in_err-journal-clause-written
 returns-in_err-journal-clause-written g c =
@@ -346,7 +324,7 @@ returns-in_err-write-clause-written g c =
     let so_far = beside_on to.root (λ file. ⊥) (λ file. Contains first file) (λ file. Contains first file) (λ file none. absurd none) (λ file text. text) told entered written entering writing in
     let p = err_from_is_err_and c.from_residual-in_err-write.result c.from_residual-in_err-write.ensures.1 in
     refused_as (λ answer. WritesBy answer from to (lacked [] mapped) texts left left told written) c.from_residual-in_err-write.result p.0 (of_folder c.in_err-write.field-0.0) p.1 p.2
-    (texts_first (of_folder c.in_err-write.field-0.0) from to (lacked [] mapped) texts left left told written (folder_refuses c.in_err-write.field-0.0) (c.draws_compose.ensures.none left)
+    (texts_first (of_folder c.in_err-write.field-0.0) from to (lacked [] mapped) texts left left told written (folder_tested c.in_err-write.field-0.0).1 (c.draws_compose.ensures.none left)
     (only_more (BringsOnlyTo to.root (λ at. ⊥)) (BringsOnlyTo to.root (λ at. ⊥)) (λ file. Contains first file) (λ file. Contains texts file) (λ call is. is) (λ file text. in_first first last file text) told written so_far))
 
 pub returns-clause-written : goal.returns-clause-written
@@ -371,11 +349,8 @@ returns-clause-written g c =
     let so_far = beside_on to.root (λ file. ⊥) (λ file. Contains first file) (λ file. Contains first file) (λ file none. absurd none) (λ file text. text) told entered written entering writing in
     let after = g.F.Folder.told c.go_on.new.folder in
     let left2 = g.R.Randoms.left c.go_on.new.random in
-    let region = apart_from_both work to.root in
-    let kept = kept_by region from.root (lacked [] mapped) told written (g.met.F.Folder.sound c.args.folder.now)
-    (λ one among. source_beside_at rule from to.root work mapped told one c.requires.apart (mapped_walk rule told from items mapped c.requires.walked) (lacked_is [] mapped one among))
-    (moves_to region to.root told written (moves_on region to.root told entered written (entered_moves work to.root (IsWorkOrStage work) (IsLeftOver work) told entered c.requires.apart.target c.enter.ensures.enters.moments)
-    (written_moves work to.root j entered written c.requires.apart.target c.write.ensures.moments))) in
+    let readied = begun_readied work from.root to.root j told entered written c.requires.apart (g.met.F.Folder.sound c.args.folder.now) c.enter.ensures.enters.moments c.write.ensures.moments in
+    let kept = lacked_kept rule from to work items mapped [] told written readied c.requires.walked in
     texts_then c.draws_compose.ensures.composed from to (lacked [] mapped) first last left left left2 told written after c.go_on.result kept (c.draws_compose.ensures.none left) so_far
     (subst (λ (k : Journal). WritesBy c.go_on.result from to (lacked [] mapped) (journal_text (done_of k) ∷ []) left left2 written after) is (c.go_on.ensures.written none_ordered))
 
@@ -395,7 +370,7 @@ pub returns-in_err-entered-clause-ends : goal.returns-in_err-entered-clause-ends
 returns-in_err-entered-clause-ends g c =
     let why = c.in_err-entered.field-0.0 in
     let p = err_from_is_err_and c.from_residual.result c.from_residual.ensures.1 in
-    ends_uncompared _ _ c.args.sides.now.names c.args.sides.now.source c.args.sides.now.target (g.F.Folder.told c.enter.new.folder) c.from_residual.result p.0 (of_work why) p.1 p.2 (work_compares why)
+    ends_uncompared _ _ c.args.sides.now.names c.args.sides.now.source c.args.sides.now.target (g.F.Folder.told c.enter.new.folder) c.from_residual.result p.0 (of_work why) p.1 p.2 (work_tested why).0
 
 pub returns-in_err-journal-clause-ends : goal.returns-in_err-journal-clause-ends
 returns-in_err-journal-clause-ends g c =
@@ -406,7 +381,7 @@ pub returns-in_err-write-clause-ends : goal.returns-in_err-write-clause-ends
 returns-in_err-write-clause-ends g c =
     let why = c.in_err-write.field-0.0 in
     let p = err_from_is_err_and c.from_residual-in_err-write.result c.from_residual-in_err-write.ensures.1 in
-    ends_uncompared _ _ c.args.sides.now.names c.args.sides.now.source c.args.sides.now.target (g.F.Folder.told c.write.new.folder) c.from_residual-in_err-write.result p.0 (of_folder why) p.1 p.2 (folder_compares why)
+    ends_uncompared _ _ c.args.sides.now.names c.args.sides.now.source c.args.sides.now.target (g.F.Folder.told c.write.new.folder) c.from_residual-in_err-write.result p.0 (of_folder why) p.1 p.2 (folder_tested why).0
 
 pub returns-clause-ends : goal.returns-clause-ends
 returns-clause-ends g c =
@@ -422,17 +397,12 @@ returns-clause-ends g c =
     let after = g.F.Folder.told c.go_on.new.folder in
     let left = g.R.Randoms.left c.args.random.now in
     let left' = g.R.Randoms.left c.go_on.new.random in
-    let region = apart_from_both work to.root in
-    let away = apart_from_both work from.root in
-    let moves = moves_on region to.root told entered written (entered_moves work to.root (IsWorkOrStage work) (IsLeftOver work) told entered c.requires.apart.target c.enter.ensures.enters.moments)
-    (written_moves work to.root c.in_ok-journal.journal entered written c.requires.apart.target c.write.ensures.moments) in
-    let moves_away = moves_on away from.root told entered written (entered_moves work from.root (IsWorkOrStage work) (IsLeftOver work) told entered c.requires.apart.source c.enter.ensures.enters.moments)
-    (written_moves work from.root c.in_ok-journal.journal entered written c.requires.apart.source c.write.ensures.moments) in
-    let source_is = seen_stays region from.root told written (g.met.F.Folder.sound c.args.folder.now) (λ rest. source_beside from.root to.root work rest c.requires.apart) (moves_to region to.root told written moves) in
-    let target_is = seen_stays away to.root told written (g.met.F.Folder.sound c.args.folder.now) (λ rest. source_beside to.root from.root work rest (turned_over from.root to.root work c.requires.apart)) (moves_to away from.root told written moves_away) in
+    let readied = begun_readied work from.root to.root c.in_ok-journal.journal told entered written c.requires.apart (g.met.F.Folder.sound c.args.folder.now) c.enter.ensures.enters.moments c.write.ensures.moments in
+    let source_same = source_is rule from to work items mapped [] told written readied in
+    let target_same = target_is rule from to work items mapped [] told written readied in
     ends_more (CopiesAll rule from to [] mapped written after) (StayGood from to told after) (SharesFrom (IsFilled rule from to []) to mapped left left' written after) (SharesFrom (IsFilled rule from to []) to mapped left left' told after) rule from to after
-    c.go_on.result (good_copies rule from to [] mapped told written after c.requires.copying (seen_then _ told written moves) source_is target_is)
-    (shares_before region to.root (IsFilled rule from to []) (IsFilled rule from to []) to mapped mapped left left left' told written after moves
-    (λ v w is_v is_w. filled_as rule from to [] v w (source_is v w is_v is_w) (target_is v w is_v is_w))
-    (λ v w is_v is_w filled. subst (LoadsAlike (under to.root v)) (sym (target_is v w is_v is_w)) (λ pass vault opens. opens)) (λ item among. among) c.draws_compose.ensures.composed (λ v is. ([], c.draws_compose.ensures.none left)))
+    c.go_on.result (readied_good rule from to work items mapped [] told written readied after c.requires.copying)
+    (shares_before (apart_from_both work to.root) to.root (IsFilled rule from to []) (IsFilled rule from to []) to mapped mapped left left left' told written after readied.moves
+    (λ v w is_v is_w. filled_as rule from to [] v w (source_same v w is_v is_w) (target_same v w is_v is_w))
+    (λ v w is_v is_w filled. subst (LoadsAlike (under to.root v)) (sym (target_same v w is_v is_w)) (λ pass vault opens. opens)) (λ item among. among) c.draws_compose.ensures.composed (λ v is. ([], c.draws_compose.ensures.none left)))
     c.go_on.ensures.ends

@@ -17,17 +17,21 @@ use Rattle.move_journal.specs.Journal.{journal_text}
 use Rattle.migrate_core.specs.Written.{BringsOnlyTo, WritesBeside}
 use Rattle.std.proofs.Common.{IfErr}
 use Rattle.tree_match.specs.Trees.{IsSameOrTooLong, match_of, side_of}
-use Rattle.migrate_core.proofs.Causing.{never_more, refused_as, stop_more}
+use Rattle.migrate_core.proofs.Causing.{never_more, stop_more}
 use Rattle.migrate_core.proofs.Compared.{copied_matches, copied_within, walk_stops}
 use Rattle.migrate_core.specs.Causes.{StopsLater, nothing_stops}
 use Rattle.migrate_core.specs.Copying.{CopiesAll, HasCopied}
-use Rattle.migrate_core.proofs.Limits.{ends_uncompared, step_compares}
+use Rattle.migrate_core.proofs.Limits.{ends_uncompared}
 use Rattle.migrate_core.specs.Faults.{of_step}
 use Rattle.migrate_core.proofs.Copyings.{copied_as}
-use Rattle.migrate_core.proofs.Movings.{moves_to, seen_stays, source_beside, turned_over}
+use Rattle.migrate_core.proofs.Movings.{source_stays, turned_over}
 use Rattle.migrate_core.specs.Limits.{EndsBy}
 use Rattle.migrate_core.proofs.Sharing.{whichever_taken}
 use Rattle.migrate_core.proofs.finishing.finish.Goals as goal
+use Rattle.migration_sides.proofs.Chains.{refused_as}
+use Rattle.migrate_core.proofs.Tested.{step_tested}
+use Rattle.folder_spec.specs.Path.{Path}
+use Rattle.work_folder.specs.Apart.{AreApart}
 
 pub returns-in_err-target-clause-guard : goal.returns-in_err-target-clause-guard
 returns-in_err-target-clause-guard g c m sides tells =
@@ -186,7 +190,7 @@ pub returns-in_err-target-clause-ends : goal.returns-in_err-target-clause-ends
 returns-in_err-target-clause-ends g c =
     let p = err_from_is_err_and c.from_residual.result c.from_residual.ensures.1 in
     let why = c.in_err-target.field-0.0 in
-    ends_uncompared _ _ c.args.sides.now.names c.args.sides.now.source c.args.sides.now.target (g.F.Folder.told c.walk_one.new.folder) c.from_residual.result p.0 (of_step why) p.1 p.2 (step_compares why)
+    ends_uncompared _ _ c.args.sides.now.names c.args.sides.now.source c.args.sides.now.target (g.F.Folder.told c.walk_one.new.folder) c.from_residual.result p.0 (of_step why) p.1 p.2 (step_tested why).0
 
 pub returns-in_err-test_same-clause-ends : goal.returns-in_err-test_same-clause-ends
 returns-in_err-test_same-clause-ends g c =
@@ -212,10 +216,7 @@ returns-clause-ends g c v w is_v is_w has =
     let told = g.F.Folder.told c.args.folder.now in
     let after = g.F.Folder.told c.say_done.new.folder in
     let same = c.in_ok-test_same.ensures.told ∙ c.in_ok-target.ensures.told in
-    let region = apart_from_both work to.root in
-    let away = apart_from_both work from.root in
-    copied_as c.args.sides.now.names from to c.args.items.now.mapped.items v w
-    (seen_stays region from.root told after (g.met.F.Folder.sound c.args.folder.now) (λ rest. source_beside from.root to.root work rest c.requires.apart)
-    (moves_to region to.root told after (subst (λ t. MovesOnly work to.root t after) same (c.say_done.ensures.moves to.root c.requires.apart.target))) v w is_v is_w)
-    (seen_stays away to.root told after (g.met.F.Folder.sound c.args.folder.now) (λ rest. source_beside to.root from.root work rest (turned_over from.root to.root work c.requires.apart))
-    (moves_to away from.root told after (subst (λ t. MovesOnly work from.root t after) same (c.say_done.ensures.moves from.root c.requires.apart.source))) v w is_v is_w) has
+    let moves = λ (root : Path) (apart : AreApart root work). subst (λ t. MovesOnly work root t after) same (c.say_done.ensures.moves root apart) in
+    let sound = g.met.F.Folder.sound c.args.folder.now in
+    copied_as c.args.sides.now.names from to c.args.items.now.mapped.items v w (source_stays from.root to.root work told after c.requires.apart sound (moves to.root c.requires.apart.target) v w is_v is_w)
+    (source_stays to.root from.root work told after (turned_over from.root to.root work c.requires.apart) sound (moves from.root c.requires.apart.source) v w is_v is_w) has

@@ -5,7 +5,7 @@ use Rattle.folder_spec.specs.Seen.{IfSeen}
 use Rattle.move_journal.specs.Writing.{IsWorkFolder}
 use Rattle.migration_spec.specs.Alone.{Begun, Finished}
 use Rattle.content_writing.specs.Making.{is_apart}
-use Rattle.migrate_core.proofs.Leadings.{goes_failed, goes_on, refused_nowhere, seen_then}
+use Rattle.migrate_core.proofs.Leadings.{goes_failed, goes_on, refused_nowhere}
 use Rattle.migrate_core.proofs.Movings.{mapped_walk, moves_on, moves_to, moves_within, moving_stays, source_apart}
 use Rattle.migrate_core.proofs.WorkFolders.{beside_staged, journal_stays, placing_has, tidy_placed, work_folder_stays}
 use Rattle.migrate_core.specs.Leading.{Goes, progress_of}
@@ -17,7 +17,6 @@ use Rattle.migrate_core.specs.Sides.{AllowsEach, IsMappedWalk, StandAll}
 use Rattle.vault_spec.specs.Vault.{format_of}
 use Rattle.migrate_core.specs.Written.{WritesAll, WritesBy, WritesFirst, lacked}
 use Rattle.migrate_core.proofs.Writings.{by_all, by_texts, then_texts}
-use Rattle.migrate_core.proofs.Causing.{refused_as}
 use Rattle.move_journal.specs.Journal.{journal_text}
 use Rattle.move_journal.specs.Reading.{StandsIn}
 use Rattle.migrate_core.proofs.Stopping.{later_seen}
@@ -26,6 +25,8 @@ use Rattle.migrate_core.proofs.Limits.{ends_later, ends_stopped}
 use Rattle.migrate_core.specs.Limits.{StopsFor}
 use Rattle.migrate_core.specs.Sharing.{IsFilled, OneShares, SharesFrom}
 use Rattle.migrate_core.proofs.finishing.go_on.Goals as goal
+use Rattle.migration_spec.proofs.Tellings.{seen_then}
+use Rattle.migration_sides.proofs.Chains.{refused_as}
 
 pub place_missing-requires-clause-walked : goal.place_missing-requires-clause-walked
 place_missing-requires-clause-walked g c =

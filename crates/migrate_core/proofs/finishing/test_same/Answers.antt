@@ -3,13 +3,13 @@ use Rattle.std.proofs.lemmas.Result.{err_from_is_err_and}
 use Rattle.folder_spec.specs.View.{View}
 use Rattle.tree_match.specs.Trees.{IsSameOrTooLong, match_of, side_of}
 use Rattle.migrate_core.proofs.Planned.{mapped_files}
-use Rattle.migrate_core.proofs.Causing.{refused_as}
 use Rattle.migrate_core.proofs.Compared.{match_stops}
 use Rattle.migrate_core.specs.Causes.{StopsLater}
 use Rattle.migrate_core.specs.Faults.{of_match}
 use Rattle.migrate_core.proofs.Limits.{by_match, source_first}
 use Rattle.migrate_core.specs.Limits.{PassesLimit, PassesSeen}
 use Rattle.migrate_core.proofs.finishing.test_same.Goals as goal
+use Rattle.migration_sides.proofs.Chains.{refused_as}
 
 pub holds_all-requires-clause-a : goal.holds_all-requires-clause-a
 holds_all-requires-clause-a g c v is = record {

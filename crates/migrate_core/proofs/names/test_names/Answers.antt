@@ -4,10 +4,11 @@ use Rattle.vault_spec.specs.Plan.{Planned}
 use Rattle.vault_spec.specs.Vault.{format_of}
 use Rattle.migrate_core.specs.Sides.{AllowsMappedLast}
 use Rattle.migrate_core.specs.Causes.{ForbidsMappedLast, TestsNames, Unless}
-use Rattle.migrate_core.proofs.Causing.{names_pass, names_refused, refused_as}
+use Rattle.migrate_core.proofs.Causing.{names_pass, names_refused}
 use Rattle.std.proofs.lemmas.Result.{err_from_is_err_and}
 use Rattle.migrate_core.specs.declared.fault.MoveFault.TheVariants.{NoMemory, NotAllowed}
 use Rattle.migrate_core.proofs.names.test_names.Goals as goal
+use Rattle.migration_sides.proofs.Chains.{refused_as}
 
 pub loop-item-preserved : goal.loop-item-preserved
 loop-item-preserved c =

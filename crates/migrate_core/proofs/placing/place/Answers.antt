@@ -8,7 +8,7 @@ use Rattle.vault_spec.specs.Making.{NewDirectory}
 use Rattle.vault_spec.specs.Plan.{Planned}
 use Rattle.migrate_core.proofs.Leadings.{goes_failed}
 use Rattle.migrate_core.proofs.Placings.{directory_goes, made_moves, made_ready}
-use Rattle.migrate_core.proofs.Causing.{refused_as, put_stop}
+use Rattle.migrate_core.proofs.Causing.{put_stop}
 use Rattle.migrate_core.proofs.Writings.{directory_copy, directory_ends, one_begun, one_written}
 use Rattle.migrate_core.specs.Written.{MadeItem, WritesBy}
 use Rattle.migrate_core.specs.Faults.{of_put}
@@ -21,6 +21,7 @@ use Rattle.migrate_core.specs.Limits.{StopsFor}
 use Rattle.migrate_core.specs.Sharing.{IsMadeFor, Lacks, SharesFrom}
 use Rattle.vault_write.specs.Calls.{MakesAt, MakesDirectory, New}
 use Rattle.migrate_core.proofs.placing.place.Goals as goal
+use Rattle.migration_sides.proofs.Chains.{refused_as}
 
 pub returns-in_ok-place_dir-in-Dir-clause-guard : goal.returns-in_ok-place_dir-in-Dir-clause-guard
 returns-in_ok-place_dir-in-Dir-clause-guard g c m sides =

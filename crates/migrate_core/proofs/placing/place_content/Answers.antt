@@ -18,7 +18,7 @@ use Rattle.migrate_core.proofs.Placings.{file_goes, made_moves, made_ready}
 use Rattle.migrate_core.proofs.Planned.{content_elsewhere, content_is, content_ready, content_coming}
 use Rattle.migrate_core.proofs.Writings.{ToldContent, file_copy, file_ends, nothing_yet, one_begun, one_written, only_nowhere}
 use Rattle.migrate_core.specs.Written.{BringsOnlyTo, MadeItem, WritesBy}
-use Rattle.migrate_core.proofs.Causing.{refused_as, put_stop}
+use Rattle.migrate_core.proofs.Causing.{put_stop}
 use Rattle.migrate_core.specs.Causes.{StopsAt, StopsSeen}
 use Rattle.migrate_core.proofs.Stopping.{file_stops, refusal_tells}
 use Rattle.migrate_core.specs.declared.fault.MoveFault.TheVariants.{NoMemory}
@@ -29,6 +29,7 @@ use Rattle.migrate_core.proofs.Sharing.{item_stops}
 use Rattle.migrate_core.specs.Limits.{StopsFor}
 use Rattle.migrate_core.specs.Sharing.{IsMadeFor, Lacks, SharesFrom}
 use Rattle.migrate_core.proofs.placing.place_content.Goals as goal
+use Rattle.migration_sides.proofs.Chains.{refused_as}
 
 pub returns-in_err-reader-clause-moves : goal.returns-in_err-reader-clause-moves
 returns-in_err-reader-clause-moves g c = moves_nowhere (is_apart c.args.work.now c.args.sides.now.target.root) c.args.sides.now.target.root (g.F.Folder.told c.args.folder.now) (g.F.Folder.told c.args.folder.now) refl

@@ -6,12 +6,11 @@ use Rattle.std.proofs.lemmas.Result.{err_from_is_err_and}
 use Rattle.migration_spec.specs.Alone.{Begun}
 use Rattle.content_writing.specs.Making.{is_apart}
 use Rattle.migrate_core.proofs.Blaming.{blamed_since}
-use Rattle.migrate_core.proofs.Leadings.{goes_failed, goes_on, guards_on, leads_on, one_view, seen_before, still_guards, still_leads}
+use Rattle.migrate_core.proofs.Leadings.{goes_failed, goes_on, guards_on, leads_on, still_guards, still_leads}
 use Rattle.migrate_core.proofs.Compared.{source_tells}
-use Rattle.migrate_core.proofs.Movings.{mapped_stays, moves_nowhere, moves_on, moves_to, source_apart}
+use Rattle.migrate_core.proofs.Movings.{moves_nowhere, moves_on, mapped_stay}
 use Rattle.migrate_core.specs.Written.{BringsOnlyTo, WritesAll, WritesBy, WritesFirst, lacked, slices}
-use Rattle.migrate_core.proofs.Writings.{all_on, first_of_more, first_on, kept_by, lacked_is, lacked_next, lacked_split, next_among, only_nowhere, source_place, texts_alone}
-use Rattle.migrate_core.proofs.Causing.{refused_as}
+use Rattle.migrate_core.proofs.Writings.{all_on, first_of_more, first_on, lacked_is, lacked_next, lacked_split, next_among, only_nowhere, texts_alone, next_kept}
 use Rattle.migrate_core.proofs.Stopping.{stops_before}
 use Rattle.migrate_core.specs.Causes.{StopsSeen}
 use Rattle.migrate_core.proofs.Copyings.{all_copied, none_copied, one_copied, there_copied}
@@ -23,6 +22,9 @@ use Rattle.migrate_core.specs.Sharing.{IsFilled, Lacks, SharesFrom}
 use Rattle.migrate_core.specs.Faults.{is_of_begin}
 use Rattle.migrate_core.proofs.placing.place_missing.Goals as goal
 use Rattle.migrate_core.proofs.placing.place_missing.Goals.{then-branch, else-branch}
+use Rattle.folder_spec.proofs.Seen.{one_view}
+use Rattle.migration_spec.proofs.Tellings.{seen_before}
+use Rattle.migration_sides.proofs.Chains.{refused_as}
 
 pub loop-item-init : goal.loop-item-init
 loop-item-init g c =
@@ -37,9 +39,9 @@ loop-item-init g c =
       counted = λ ordered. refl;
       written = λ ordered. texts_alone c.args.sides.now.source c.args.sides.now.target [] [] (g.R.Randoms.left c.args.random.now) (g.R.Randoms.left c.args.random.now) told told
           (c.draws_compose.ensures.none (g.R.Randoms.left c.args.random.now)) (only_nowhere (BringsOnlyTo c.args.sides.now.target.root (λ at. ⊥)) (λ file. Contains [] file) told told refl);
-      copied = λ v w is_v is_w h. none_copied c.args.sides.now.names c.args.sides.now.source c.args.sides.now.target c.args.there.now v w (one_view told v w is_v is_w) h;
+      copied = λ v w is_v is_w h. none_copied c.args.sides.now.names c.args.sides.now.source c.args.sides.now.target c.args.there.now v w (one_view told w v is_w is_v) h;
       none = λ all. refl;
-      fills = λ v w is_v is_w h. none_filled c.args.sides.now.target v w (one_view told v w is_v is_w) h.1;
+      fills = λ v w is_v is_w h. none_filled c.args.sides.now.target v w (one_view told w v is_w is_v) h.1;
     }
 
 pub place_missing_one-requires-clause-item : goal.place_missing_one-requires-clause-item
@@ -51,8 +53,7 @@ place_missing_one-requires-clause-item g c =
     let work = c.args.work.now in
     record {
       items = c.args.items.now;
-      walked = mapped_stays (is_apart work to.root) c.args.sides.now.names from c.args.items.now told here (λ rest. source_apart from.root to.root work rest c.requires.apart) (g.met.F.Folder.sound c.args.folder.now)
-          (moves_to (is_apart work to.root) to.root told here c.loop-item.invariant.moves) c.requires.walked;
+      walked = mapped_stay c.args.sides.now.names from to.root work c.args.items.now told here c.requires.apart (g.met.F.Folder.sound c.args.folder.now) c.loop-item.invariant.moves c.requires.walked;
       among = (c.loop-item.item-index, c.loop-item-test.true, sym c.item-item.is);
     }
 
@@ -127,9 +128,8 @@ loop-item-preserved g c =
     let left2 = g.R.Randoms.left c.place_missing_one.new.random in
     let k = c.loop-item.item-index in
     let item = c.item-item.result in
-    let kept = kept_by (is_apart work to.root) from.root (lacked there (item ∷ [])) told here (g.met.F.Folder.sound c.args.folder.now)
-    (λ one among. source_place rule from to.root work items told one c.requires.apart c.requires.walked (next_among items k item c.loop-item-test.true c.item-item.is one (lacked_is there (item ∷ []) one among)))
-    (moves_to (is_apart work to.root) to.root told here c.loop-item.invariant.moves) in
+    let kept = next_kept rule from to.root work items k item (lacked there (item ∷ [])) told here c.requires.apart (g.met.F.Folder.sound c.args.folder.now) c.requires.walked c.loop-item-test.true c.item-item.is
+    (lacked_is there (item ∷ [])) c.loop-item.invariant.moves in
     let i = c.loop-item.invariant in
     record {
       grows = omega (arith, i.grows, c.place_missing_one.ensures.grows);
@@ -187,9 +187,8 @@ returns-in_err-place_missing_one-clause-written g c ordered =
     let left2 = g.R.Randoms.left c.place_missing_one.new.random in
     let k = c.loop-item.item-index in
     let item = c.item-item.result in
-    let kept = kept_by (is_apart work to.root) from.root (lacked there (item ∷ [])) told here (g.met.F.Folder.sound c.args.folder.now)
-    (λ one among. source_place rule from to.root work items told one c.requires.apart c.requires.walked (next_among items k item c.loop-item-test.true c.item-item.is one (lacked_is there (item ∷ []) one among)))
-    (moves_to (is_apart work to.root) to.root told here c.loop-item.invariant.moves) in
+    let kept = next_kept rule from to.root work items k item (lacked there (item ∷ [])) told here c.requires.apart (g.met.F.Folder.sound c.args.folder.now) c.requires.walked c.loop-item-test.true c.item-item.is
+    (lacked_is there (item ∷ [])) c.loop-item.invariant.moves in
     let p = err_from_is_err_and c.from_residual.result c.from_residual.ensures.1 in
     refused_as (λ answer. WritesBy answer from to (lacked there items) [] left left2 told told') c.from_residual.result p.0 c.in_err-place_missing_one.field-0.0 p.1 p.2
     (subst (λ xs. WritesFirst c.in_err-place_missing_one.field-0.0 from to xs [] left left2 told told') (ap (λ xs. xs ++ lacked there (drop (k + 1) items)) (lacked_next there items k item c.loop-item-test.true c.item-item.is) ∙ lacked_split there items (k + 1))
@@ -215,12 +214,10 @@ returns-in_err-place_missing_one-clause-moving g c =
     let k = c.loop-item.item-index in
     let item = c.item-item.result in
     let fault = c.in_err-place_missing_one.field-0.0 in
-    let kept = kept_by (is_apart work to.root) from.root (item ∷ []) told here (g.met.F.Folder.sound c.args.folder.now)
-    (λ one among. source_place rule from to.root work items told one c.requires.apart c.requires.walked (next_among items k item c.loop-item-test.true c.item-item.is one among))
-    (moves_to (is_apart work to.root) to.root told here c.loop-item.invariant.moves) in
+    let kept = next_kept rule from to.root work items k item (item ∷ []) told here c.requires.apart (g.met.F.Folder.sound c.args.folder.now) c.requires.walked c.loop-item-test.true c.item-item.is (λ one among. among)
+    c.loop-item.invariant.moves in
     let p = err_from_is_err_and c.from_residual.result c.from_residual.ensures.1 in
-    let walked = mapped_stays (is_apart work to.root) rule from items told here (λ rest. source_apart from.root to.root work rest c.requires.apart) (g.met.F.Folder.sound c.args.folder.now)
-    (moves_to (is_apart work to.root) to.root told here c.loop-item.invariant.moves) c.requires.walked in
+    let walked = mapped_stay rule from to.root work items told here c.requires.apart (g.met.F.Folder.sound c.args.folder.now) c.loop-item.invariant.moves c.requires.walked in
     refused_as (λ answer. IfErr answer (StopsSeen (HasCopied rule from to c.args.there.now) told from items)) c.from_residual.result p.0 fault p.1 p.2
     (stops_before (Enters to item) (HasCopied rule from to c.args.there.now) from (item ∷ []) items told here fault kept (next_among items k item c.loop-item-test.true c.item-item.is)
     (λ v w is_v is_w h.
@@ -259,8 +256,7 @@ returns-in_err-place_missing_one-clause-stops g c =
     let item = c.item-item.result in
     let fault = c.in_err-place_missing_one.field-0.0 in
     let i = c.loop-item.invariant in
-    let walked = mapped_stays (is_apart work to.root) rule from items told here (λ rest. source_apart from.root to.root work rest c.requires.apart) (g.met.F.Folder.sound c.args.folder.now)
-    (moves_to (is_apart work to.root) to.root told here i.moves) c.requires.walked in
+    let walked = mapped_stay rule from to.root work items told here c.requires.apart (g.met.F.Folder.sound c.args.folder.now) i.moves c.requires.walked in
     let p = err_from_is_err_and c.from_residual.result c.from_residual.ensures.1 in
     refused_as (λ answer. IfErr answer (StopsFor (SharesFrom (IsFilled rule from to there) to items left left2 told told'))) c.from_residual.result p.0 fault p.1 p.2
     (stops_more (SharesFrom (Lacks rule from to item) to (item ∷ []) left1 left2 here told') (SharesFrom (IsFilled rule from to there) to items left left2 told told') fault

@@ -2,12 +2,11 @@ use Rattle.std.proofs.Common.{refl, sym, ◌∙◌, Contains, [], cond, not, sub
 use Rattle.folder_spec.specs.Seen.{seen}
 use Rattle.migration_spec.specs.Alone.{Begun}
 use Rattle.content_writing.specs.Making.{is_apart}
-use Rattle.migrate_core.proofs.Leadings.{nothing_told, one_view, still_guards, still_leads}
+use Rattle.migrate_core.proofs.Leadings.{nothing_told, still_guards, still_leads}
 use Rattle.migrate_core.proofs.Movings.{moves_nowhere}
 use Rattle.migrate_core.proofs.Planned.{seen_of}
 use Rattle.migrate_core.proofs.Searched.{there_by, there_where}
 use Rattle.migrate_core.proofs.Writings.{only_nowhere, texts_alone}
-use Rattle.migrate_core.proofs.Causing.{refused_as}
 use Rattle.std.proofs.lemmas.Result.{err_from_is_err_and}
 use Rattle.migrate_core.specs.Written.{BringsOnlyTo, WritesAll, WritesBy, WritesFirst, lacked}
 use Rattle.migrate_core.specs.Causes.{StopsSeen}
@@ -16,6 +15,8 @@ use Rattle.migrate_core.proofs.Copyings.{stands_copied}
 use Rattle.migrate_core.specs.Limits.{StopsFor}
 use Rattle.migrate_core.specs.Sharing.{Lacks, SharesFrom}
 use Rattle.migrate_core.proofs.placing.place_missing_one.Goals as goal
+use Rattle.folder_spec.proofs.Seen.{one_view}
+use Rattle.migration_sides.proofs.Chains.{refused_as}
 
 pub returns-in_err-place-clause-none : goal.returns-in_err-place-clause-none
 returns-in_err-place-clause-none g c stands =
@@ -82,7 +83,7 @@ pub returns-then-stands-clause-copies : goal.returns-then-stands-clause-copies
 returns-then-stands-clause-copies g c v w is_v is_w h =
     let there = c.args.there.now in
     let item = c.args.item.now in
-    stands_copied c.args.sides.now.names c.args.sides.now.source c.args.sides.now.target there item v w (one_view (g.F.Folder.told c.args.folder.now) v w is_v is_w)
+    stands_copied c.args.sides.now.names c.args.sides.now.source c.args.sides.now.target there item v w (one_view (g.F.Folder.told c.args.folder.now) w v is_w is_v)
     (there_by item.path there (sym (c.stands.ensures (c.requires.there v is_v)) ∙ c.if-stands.true)) h
 
 pub returns-clause-copies : goal.returns-clause-copies

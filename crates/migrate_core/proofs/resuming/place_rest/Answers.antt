@@ -11,30 +11,30 @@ use Rattle.migrate_core.specs.Moving.{MovesOnly}
 use Rattle.migration_sides.specs.Sides.{AreSeparate}
 use Rattle.migrate_core.specs.Sides.{AreItemsToMove, StandAll}
 use Rattle.migrate_core.proofs.Leadings.{alone_goes, goes_failed, then_known}
-use Rattle.migrate_core.proofs.Movings.{moves_on, moves_to, seen_stays, source_beside, mapped_walk, moving_stays, turned_over}
-use Rattle.migrate_core.proofs.Restaged.{rest_goes, stage_alone, stage_apart, stage_moves, stage_stays, still_known}
+use Rattle.migrate_core.proofs.Movings.{moves_on, items_stay}
+use Rattle.migrate_core.proofs.Restaged.{rest_goes, stage_alone, stage_apart, stage_moves, stage_stays, still_known, stage_readied}
 use Rattle.migrate_core.proofs.WorkFolders.{staging_has, work_folder_stays}
 use Rattle.folder_spec.specs.Seen.{IfSeen}
 use Rattle.migrate_core.proofs.WorkFolders.{journal_stays}
 use Rattle.migrate_core.proofs.Endings.{if_ok_more}
 use Rattle.migrate_core.specs.Moved.{Moved, lacking, done_of}
-use Rattle.migrate_core.proofs.Causing.{moves_pass, refused_as, work_refused}
 use Rattle.migrate_core.specs.Causes.{IsOfMoving, Moves, Unless, StopsAt, StopsSeen}
 use Rattle.migrate_core.specs.Copying.{HasCopied, HaveOwnFolders}
-use Rattle.migrate_core.proofs.Copyings.{copied_as}
 use Rattle.migrate_core.specs.Faults.{of_work}
-use Rattle.migrate_core.proofs.Writings.{changing_writes, kept_by, lacked_is, nothing_yet, work_refuses, only_more, source_beside_at, texts_then}
+use Rattle.migrate_core.proofs.Writings.{changing_writes, nothing_yet, only_more, texts_then}
 use Rattle.migrate_core.specs.Written.{BringsOnlyTo, WritesBy, lacked}
 use Rattle.move_journal.specs.Journal.{journal_text}
 use Rattle.move_journal.specs.Reading.{StandsIn}
 use Rattle.migrate_core.proofs.Blaming.{blamed_later}
-use Rattle.migrate_core.proofs.Stopping.{if_stops_before, seen_stops}
-use Rattle.migrate_core.proofs.Leadings.{seen_then}
-use Rattle.migrate_core.proofs.Limits.{ends_more, ends_uncompared, good_copies, work_compares}
+use Rattle.migrate_core.proofs.Limits.{ends_more, ends_uncompared}
 use Rattle.migrate_core.specs.Copying.{CopiesAll, StayGood}
 use Rattle.migrate_core.specs.Limits.{EndsBy}
 use Rattle.migrate_core.specs.Sharing.{IsFilled, SharesFrom}
 use Rattle.migrate_core.proofs.resuming.place_rest.Goals as goal
+use Rattle.migration_sides.proofs.Chains.{refused_as}
+use Rattle.migration_sides.proofs.Told.{work_refused}
+use Rattle.migrate_core.proofs.Tested.{work_tested}
+use Rattle.migrate_core.proofs.Readied.{lacked_kept, readied_good, readied_stops}
 
 pub again-requires-clause-folder : goal.again-requires-clause-folder
 again-requires-clause-folder g c = λ v seen. (c.requires.used v seen).folder.folder
@@ -65,11 +65,9 @@ pub go_on-requires-clause-walked : goal.go_on-requires-clause-walked
 go_on-requires-clause-walked g c =
     let t0 = g.F.Folder.told c.args.folder.now in
     let t1 = g.F.Folder.told c.again.new.folder in
-    let from = c.args.sides.now.source in
     let target = c.args.sides.now.target.root in
-    let region = apart_from_both c.args.work.now target in
-    moving_stays region c.args.sides.now.names from c.args.items.now.own.items c.args.items.now.mapped.items t0 t1 (λ rest. source_beside from.root target c.args.work.now rest c.requires.apart) (g.met.F.Folder.sound c.args.folder.now)
-    (moves_to region target t0 t1 (stage_moves c.args.work.now target t0 t1 c.requires.apart.target c.again.ensures.restages.moments)) c.requires.source
+    items_stay c.args.sides.now.names c.args.sides.now.source target c.args.work.now c.args.items.now.own.items c.args.items.now.mapped.items t0 t1 c.requires.apart (g.met.F.Folder.sound c.args.folder.now)
+    (stage_moves c.args.work.now target t0 t1 c.requires.apart.target c.again.ensures.restages.moments) c.requires.source
 
 pub go_on-requires-clause-there : goal.go_on-requires-clause-there
 go_on-requires-clause-there g c = λ v seen.
@@ -160,7 +158,7 @@ returns-in_err-again-clause-cause g c v seen =
     let why = c.in_err-again.field-0.0 in
     let p = err_from_is_err_and c.from_residual.result c.from_residual.ensures.1 in
     refused_as (λ answer. Unless answer (Moves (Empties v c.args.work.now) from to v mapped answer)) c.from_residual.result p.0 (of_work why) p.1 p.2
-    (work_refused (Empties v c.args.work.now) (λ _. IsOfMoving (HaveOwnFolders from to v) (StopsAt (HaveOwnFolders from to v) from v mapped)) why (c.in_err-again.ensures.restages.answer v seen))
+    (work_refused of_work (Empties v c.args.work.now) (λ _. IsOfMoving (HaveOwnFolders from to v) (StopsAt (HaveOwnFolders from to v) from v mapped)) why (c.in_err-again.ensures.restages.answer v seen))
 
 pub returns-clause-cause : goal.returns-clause-cause
 returns-clause-cause g c v seen =
@@ -172,20 +170,10 @@ returns-clause-cause g c v seen =
     let mapped = c.args.items.now.mapped.items in
     let told = g.F.Folder.told c.args.folder.now in
     let ready = g.F.Folder.told c.again.new.folder in
-    let region = apart_from_both work to.root in
-    let kept = kept_by region from.root mapped told ready (g.met.F.Folder.sound c.args.folder.now)
-    (λ one among. source_beside_at rule from to.root work mapped told one c.requires.apart (mapped_walk rule told from own mapped c.requires.source) among)
-    (moves_to region to.root told ready (stage_moves work to.root told ready c.requires.apart.target c.again.ensures.restages.moments)) in
     let there = c.args.target.now.items in
-    let away = apart_from_both work from.root in
-    let source_is = seen_stays region from.root told ready (g.met.F.Folder.sound c.args.folder.now) (λ rest. source_beside from.root to.root work rest c.requires.apart)
-    (moves_to region to.root told ready (stage_moves work to.root told ready c.requires.apart.target c.again.ensures.restages.moments)) in
-    let target_is = seen_stays away to.root told ready (g.met.F.Folder.sound c.args.folder.now) (λ rest. source_beside to.root from.root work rest (turned_over from.root to.root work c.requires.apart))
-    (moves_to away from.root told ready (stage_moves work from.root told ready c.requires.apart.source c.again.ensures.restages.moments)) in
-    moves_pass (Empties v work) from to v mapped c.go_on.result (c.in_ok-again.ensures.restages.answer v seen)
-    (seen_stops c.go_on.result (HaveOwnFolders from to) from mapped told v seen (if_stops_before c.go_on.result (HasCopied rule from to there) (HaveOwnFolders from to) from mapped told ready kept
-    (λ x w is_x is_w own. copied_as rule from to there x w (source_is x w is_x is_w) (target_is x w is_x is_w) (c.requires.copying x is_x own))
-    (subst (λ xs. IfErr c.go_on.result (StopsSeen (HasCopied rule from to xs) ready from mapped)) c.as_slice-there.ensures c.go_on.ensures.moving)))
+    readied_stops rule from to work own mapped there told ready (stage_readied work from.root to.root told ready c.requires.apart (g.met.F.Folder.sound c.args.folder.now) c.again.ensures.restages.moments) (Empties v work) v c.go_on.result
+    c.requires.source c.requires.copying seen (c.in_ok-again.ensures.restages.answer v seen)
+    (subst (λ xs. IfErr c.go_on.result (StopsSeen (HasCopied rule from to xs) ready from mapped)) c.as_slice-there.ensures c.go_on.ensures.moving)
 
 pub returns-in_err-again-clause-written : goal.returns-in_err-again-clause-written
 returns-in_err-again-clause-written g c v seen =
@@ -203,7 +191,7 @@ returns-in_err-again-clause-written g c v seen =
     let staging = changing_writes (stage_path work) (IsStage work) (IsBelowStage work) to.root (stage_apart work to.root c.requires.apart.target) told ready c.again.ensures.restages.moments in
     let p = err_from_is_err_and c.from_residual.result c.from_residual.ensures.1 in
     refused_as (λ answer. WritesBy answer from to (lacked there mapped) texts left left told ready) c.from_residual.result p.0 (of_work c.in_err-again.field-0.0) p.1 p.2
-    (nothing_yet (of_work c.in_err-again.field-0.0) from to (lacked there mapped) texts left left told ready (work_refuses c.in_err-again.field-0.0) (c.draws_compose.ensures.none left) staging)
+    (nothing_yet (of_work c.in_err-again.field-0.0) from to (lacked there mapped) texts left left told ready (work_tested c.in_err-again.field-0.0).1 (c.draws_compose.ensures.none left) staging)
 
 pub returns-clause-written : goal.returns-clause-written
 returns-clause-written g c v seen =
@@ -221,10 +209,7 @@ returns-clause-written g c v seen =
     let staging = changing_writes (stage_path work) (IsStage work) (IsBelowStage work) to.root (stage_apart work to.root c.requires.apart.target) told ready c.again.ensures.restages.moments in
     let after = g.F.Folder.told c.go_on.new.folder in
     let left2 = g.R.Randoms.left c.go_on.new.random in
-    let region = apart_from_both work to.root in
-    let kept = kept_by region from.root (lacked there mapped) told ready (g.met.F.Folder.sound c.args.folder.now)
-    (λ one among. source_beside_at rule from to.root work mapped told one c.requires.apart (mapped_walk rule told from own mapped c.requires.source) (lacked_is there mapped one among))
-    (moves_to region to.root told ready (stage_moves work to.root told ready c.requires.apart.target c.again.ensures.restages.moments)) in
+    let kept = lacked_kept rule from to work own mapped there told ready (stage_readied work from.root to.root told ready c.requires.apart (g.met.F.Folder.sound c.args.folder.now) c.again.ensures.restages.moments) c.requires.source in
     texts_then c.draws_compose.ensures.composed from to (lacked there mapped) [] texts left left left2 told ready after c.go_on.result kept (c.draws_compose.ensures.none left)
     (only_more (BringsOnlyTo to.root (λ at. ⊥)) (BringsOnlyTo to.root (λ at. ⊥)) (λ file. ⊥) (λ file. Contains [] file) (λ call is. is) (λ file none. absurd none) told ready staging)
     (subst (λ xs. WritesBy c.go_on.result from to (lacked xs mapped) texts left left2 ready after) c.as_slice-there.ensures
@@ -240,7 +225,7 @@ pub returns-in_err-again-clause-ends : goal.returns-in_err-again-clause-ends
 returns-in_err-again-clause-ends g c =
     let why = c.in_err-again.field-0.0 in
     let p = err_from_is_err_and c.from_residual.result c.from_residual.ensures.1 in
-    ends_uncompared _ _ c.args.sides.now.names c.args.sides.now.source c.args.sides.now.target (g.F.Folder.told c.again.new.folder) c.from_residual.result p.0 (of_work why) p.1 p.2 (work_compares why)
+    ends_uncompared _ _ c.args.sides.now.names c.args.sides.now.source c.args.sides.now.target (g.F.Folder.told c.again.new.folder) c.from_residual.result p.0 (of_work why) p.1 p.2 (work_tested why).0
 
 pub returns-clause-ends : goal.returns-clause-ends
 returns-clause-ends g c =
@@ -256,13 +241,7 @@ returns-clause-ends g c =
     let after = g.F.Folder.told c.go_on.new.folder in
     let left = g.R.Randoms.left c.args.random.now in
     let left' = g.R.Randoms.left c.go_on.new.random in
-    let region = apart_from_both work to.root in
-    let away = apart_from_both work from.root in
-    let moves = stage_moves work to.root told ready c.requires.apart.target c.again.ensures.restages.moments in
-    let moves_away = stage_moves work from.root told ready c.requires.apart.source c.again.ensures.restages.moments in
+    let readied = stage_readied work from.root to.root told ready c.requires.apart (g.met.F.Folder.sound c.args.folder.now) c.again.ensures.restages.moments in
     ends_more (CopiesAll rule from to there mapped ready after) (StayGood from to told after) (SharesFrom (IsFilled rule from to there) to mapped left left' ready after) (Unit {0}) rule from to after c.go_on.result
-    (good_copies rule from to there mapped told ready after c.requires.copying (seen_then _ told ready moves)
-    (seen_stays region from.root told ready (g.met.F.Folder.sound c.args.folder.now) (λ rest. source_beside from.root to.root work rest c.requires.apart) (moves_to region to.root told ready moves))
-    (seen_stays away to.root told ready (g.met.F.Folder.sound c.args.folder.now) (λ rest. source_beside to.root from.root work rest (turned_over from.root to.root work c.requires.apart)) (moves_to away from.root told ready moves_away)))
-    (λ shares. tt)
+    (readied_good rule from to work own mapped there told ready readied after c.requires.copying) (λ shares. tt)
     (subst (λ xs. EndsBy (CopiesAll rule from to xs mapped ready after) (SharesFrom (IsFilled rule from to xs) to mapped left left' ready after) rule from to after c.go_on.result) c.as_slice-there.ensures c.go_on.ensures.ends)

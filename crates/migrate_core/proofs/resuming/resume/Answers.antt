@@ -1,21 +1,25 @@
 use Rattle.folder_spec.specs.Region.{apart_from_both}
 use Rattle.migrate_core.proofs.Movings.{moves_on, settle_moves}
-use Rattle.migrate_core.proofs.Settled.{settle_fell, settle_seen, settle_then, settle_was_seen}
 use Rattle.folder_spec.specs.Seen.{IfSeen}
 use Rattle.migrate_core.proofs.Endings.{if_ok_more, told_before}
 use Rattle.migrate_core.specs.Moved.{MovesTold}
-use Rattle.migrate_core.proofs.Causing.{folder_unless, refused_as}
 use Rattle.std.proofs.lemmas.Result.{err_from_is_err_and}
 use Rattle.migrate_core.specs.Faults.{is_of_resume, of_folder}
 use Rattle.migrate_core.specs.Causes.{Resumes, Unless}
-use Rattle.migrate_core.proofs.Writings.{refusal_as, folder_refuses, settle_writes, told_after}
-use Rattle.std.proofs.Common.{IfErr, inl}
+use Rattle.migrate_core.proofs.Writings.{refused_written, settle_writes, told_after}
+use Rattle.std.proofs.Common.{IfErr, inl, Ok, refl}
 use Rattle.migrate_core.proofs.Completing.{folder_chance, own_faults}
-use Rattle.migrate_core.proofs.Continuing.{folders_of, resume_completes}
+use Rattle.migrate_core.proofs.Continuing.{resume_completes}
 use Rattle.migrate_core.specs.Completing.{IsOfChance}
-use Rattle.migrate_core.proofs.Limits.{as_told_before, folder_compares, limit_more, none_compared}
+use Rattle.migrate_core.proofs.Limits.{as_told_before, limit_more, none_compared}
 use Rattle.migrate_core.specs.Limits.{PassesAsTold}
 use Rattle.migrate_core.proofs.resuming.resume.Goals as goal
+use Rattle.migration_spec.proofs.Settling.{settle_fell, settle_seen, settle_seen_back}
+use Rattle.migrate_core.proofs.Settled.{settle_goes}
+use Rattle.migration_spec.proofs.Tellings.{folders_of}
+use Rattle.migration_sides.proofs.Chains.{refused_as}
+use Rattle.migration_sides.proofs.Told.{folder_unless}
+use Rattle.migrate_core.proofs.Tested.{folder_tested}
 
 pub returns-in_err-settle-clause-guard : goal.returns-in_err-settle-clause-guard
 returns-in_err-settle-clause-guard g c = λ migration resumed opened.
@@ -24,9 +28,9 @@ returns-in_err-settle-clause-guard g c = λ migration resumed opened.
 pub returns-clause-guard : goal.returns-clause-guard
 returns-clause-guard g c = λ migration resumed opened.
     let law = c.settling_and_entering_keep_migrations_guarded.ensures in
-    settle_then law.settles law.alone migration (g.F.Folder.told c.args.folder.now) (g.F.Folder.told c.settle.new.self) (g.F.Folder.told c.resume_settled.new.folder) c.in_ok-settle.field-0
+    settle_goes law.settles law.alone migration (g.F.Folder.told c.args.folder.now) (g.F.Folder.told c.settle.new.self) (g.F.Folder.told c.resume_settled.new.folder) c.in_ok-settle.field-0
     (g.met.F.Folder.sound c.args.folder.now) (g.met.F.Folder.sound c.settle.new.self) c.in_ok-settle.ensures.changes (c.resume_settled.ensures.guard migration resumed
-    (λ v seen. opened v (settle_was_seen (g.F.Folder.told c.args.folder.now) (g.F.Folder.told c.settle.new.self) c.in_ok-settle.field-0 c.in_ok-settle.ensures.changes v seen)))
+    (λ v seen. opened v (settle_seen_back (g.F.Folder.told c.args.folder.now) (g.F.Folder.told c.settle.new.self) (Ok c.in_ok-settle.field-0) c.in_ok-settle.ensures.changes v seen)))
 
 pub returns-in_err-settle-clause-moves : goal.returns-in_err-settle-clause-moves
 returns-in_err-settle-clause-moves g c = λ v journal seen is stands.
@@ -56,7 +60,7 @@ pub returns-in_err-settle-clause-cause : goal.returns-in_err-settle-clause-cause
 returns-in_err-settle-clause-cause g c v seen =
     let p = err_from_is_err_and c.from_residual.result c.from_residual.ensures.1 in
     refused_as (λ answer. Unless answer (Resumes c.args.work.now c.args.source_pass.now c.args.target_pass.now v answer)) c.from_residual.result p.0 (of_folder c.in_err-settle.field-0.0) p.1 p.2
-    (folder_unless _ c.in_err-settle.field-0.0)
+    (folder_unless of_folder refl _ c.in_err-settle.field-0.0)
 
 pub returns-clause-cause : goal.returns-clause-cause
 returns-clause-cause g c v seen =
@@ -65,10 +69,10 @@ returns-clause-cause g c v seen =
 pub returns-in_err-settle-clause-written : goal.returns-in_err-settle-clause-written
 returns-in_err-settle-clause-written g c v seen =
     let told = g.F.Folder.told c.args.folder.now in
-    let left = g.R.Randoms.left c.args.random.now in
+    let settled = g.F.Folder.told c.settle.new.self in
     let p = err_from_is_err_and c.from_residual.result c.from_residual.ensures.1 in
-    let refused = refusal_as c.from_residual.result p.0 (of_folder c.in_err-settle.field-0.0) p.1 p.2 (folder_refuses c.in_err-settle.field-0.0) in
-    inl (record { refused = refused; undrawn = c.draws_compose.ensures.none left; files = settle_writes told (g.F.Folder.told c.settle.new.self) c.settle.result c.settle.ensures.changes })
+    inl (refused_written c.from_residual.result p.0 (of_folder c.in_err-settle.field-0.0) p.1 p.2 (folder_tested c.in_err-settle.field-0.0).1 (g.R.Randoms.left c.args.random.now) told settled (c.draws_compose.ensures.none _)
+    (settle_writes told settled c.settle.result c.settle.ensures.changes))
 
 pub returns-clause-written : goal.returns-clause-written
 returns-clause-written g c v seen =
@@ -96,7 +100,7 @@ pub returns-in_err-settle-clause-too_long : goal.returns-in_err-settle-clause-to
 returns-in_err-settle-clause-too_long g c v seen =
     let why = c.in_err-settle.field-0.0 in
     let p = err_from_is_err_and c.from_residual.result c.from_residual.ensures.1 in
-    none_compared _ c.from_residual.result p.0 (of_folder why) p.1 p.2 (folder_compares why)
+    none_compared _ c.from_residual.result p.0 (of_folder why) p.1 p.2 (folder_tested why).0
 
 pub returns-clause-too_long : goal.returns-clause-too_long
 returns-clause-too_long g c v seen =

@@ -8,11 +8,10 @@ use Rattle.migrate_core.proofs.Movings.{moves_nowhere}
 use Rattle.migrate_core.proofs.Settled.{in_use, journal_folder, still_settled}
 use Rattle.migrate_core.proofs.Endings.{if_ok_more}
 use Rattle.migrate_core.specs.Moved.{MovesTold, MovesTree}
-use Rattle.migration_sides.proofs.Told.{apart_passes, apart_refused}
+use Rattle.migration_sides.proofs.Told.{apart_passes, apart_refused, work_refused}
 use Rattle.migration_sides.specs.Causes.{TestsApart}
 use Rattle.migration_sides.specs.Tests.{Then}
 use Rattle.migrate_core.proofs.Blaming.{apart_resumes}
-use Rattle.migrate_core.proofs.Causing.{journal_refused, refused_as, then_passes, work_refused}
 use Rattle.migrate_core.specs.Causes.{Resumes, ResumesTold, Unless, is_done}
 use Rattle.work_folder.specs.Looking.{Gives, TestsEntries}
 use Rattle.move_journal.specs.Reading.{ReadsAs, journal_bytes}
@@ -20,11 +19,14 @@ use Rattle.move_journal.proofs.Standing.{read_stands}
 use Rattle.migrate_core.specs.Faults.{of_journal, of_step, of_work}
 use Rattle.migrate_core.specs.declared.placing.Done.{Done}
 use Rattle.std.proofs.lemmas.Result.{err_from_is_err_and}
-use Rattle.migrate_core.proofs.Writings.{refusal_as, work_refuses, journal_refuses, nothing_written, step_refuses, told_of}
+use Rattle.migrate_core.proofs.Writings.{nothing_written, told_of}
 use Rattle.migrate_core.specs.Written.{MayWriteTree}
-use Rattle.migrate_core.proofs.Limits.{journal_compares, limit_more, none_compared, step_compares, work_compares}
+use Rattle.migrate_core.proofs.Limits.{limit_more, none_compared}
 use Rattle.migrate_core.specs.Limits.{PassesAsTold, PassesInTree}
 use Rattle.migrate_core.proofs.resuming.resume_settled.Goals as goal
+use Rattle.migration_sides.proofs.Chains.{refused_as, then_passes, then_refused}
+use Rattle.migrate_core.specs.declared.fault.MoveFault.TheVariants.{Failed, NoMemory}
+use Rattle.migrate_core.proofs.Tested.{journal_tested, step_tested, work_tested}
 
 pub returns-in_err-journal-clause-guard : goal.returns-in_err-journal-clause-guard
 returns-in_err-journal-clause-guard g c = λ migration resumed opened. still_settled migration (g.F.Folder.told c.args.folder.now) (g.F.Folder.told c.read.new.folder) c.read.ensures.told
@@ -100,7 +102,7 @@ returns-in_err-journal-clause-cause g c v seen =
     let why = c.in_err-journal.field-0.0 in
     let p = err_from_is_err_and c.from_residual.result c.from_residual.ensures.1 in
     refused_as (λ answer. Unless answer (Resumes work pass pass' v answer)) c.from_residual.result p.0 (of_journal why) p.1 p.2
-    (journal_refused (journal_bytes v work) folders why (c.in_err-journal.ensures.answer v seen))
+    (then_refused Failed NoMemory of_journal (ReadsAs (journal_bytes v work)) folders why (c.in_err-journal.ensures.answer v seen))
 
 pub returns-in_err-test_apart-clause-cause : goal.returns-in_err-test_apart-clause-cause
 returns-in_err-test_apart-clause-cause g c v seen =
@@ -114,7 +116,7 @@ returns-in_err-test_apart-clause-cause g c v seen =
     let why = c.in_err-test_apart.field-0.0 in
     let p = err_from_is_err_and c.from_residual-in_err-test_apart.result c.from_residual-in_err-test_apart.ensures.1 in
     refused_as (λ answer. Unless answer (Resumes work pass pass' v answer)) c.from_residual-in_err-test_apart.result p.0 (of_step why) p.1 p.2
-    (then_passes of_journal (ReadsAs (journal_bytes v work)) folders (Err (of_step why)) read (c.in_ok-journal.ensures.answer v seen)
+    (then_passes Failed NoMemory of_journal (ReadsAs (journal_bytes v work)) folders (Err (of_step why)) read (c.in_ok-journal.ensures.answer v seen)
     (apart_refused of_step read.source read.target work (entries read) why c.in_err-test_apart.ensures.cause))
 
 pub returns-in_err-look_again-clause-cause : goal.returns-in_err-look_again-clause-cause
@@ -130,9 +132,9 @@ returns-in_err-look_again-clause-cause g c v seen =
     let p = err_from_is_err_and c.from_residual-in_err-look_again.result c.from_residual-in_err-look_again.ensures.1 in
     let looked = c.in_err-look_again.ensures.answer v (subst (λ t. IsSeen t v) (sym c.read.ensures.told) seen) in
     refused_as (λ answer. Unless answer (Resumes work pass pass' v answer)) c.from_residual-in_err-look_again.result p.0 (of_work why) p.1 p.2
-    (then_passes of_journal (ReadsAs (journal_bytes v work)) folders (Err (of_work why)) read (c.in_ok-journal.ensures.answer v seen)
+    (then_passes Failed NoMemory of_journal (ReadsAs (journal_bytes v work)) folders (Err (of_work why)) read (c.in_ok-journal.ensures.answer v seen)
     (apart_passes of_step read.source read.target work (entries read) (Err (of_work why)) c.in_ok-test_apart.ensures.cause
-    (work_refused (TestsEntries (is_done read.phase) v work) (λ _. told read) why
+    (work_refused of_work (TestsEntries (is_done read.phase) v work) (λ _. told read) why
     (subst (λ old. Gives {T = Unit {0}} (TestsEntries old v work) (Err why)) c.is_done.ensures looked))))
 
 pub returns-clause-cause : goal.returns-clause-cause
@@ -146,35 +148,26 @@ returns-clause-cause g c v seen =
     let read = c.in_ok-journal.journal in
     let answer = c.resume_told.result in
     let once = subst (λ t. IsSeen t v) (sym c.read.ensures.told) seen in
-    then_passes of_journal (ReadsAs (journal_bytes v work)) folders answer read (c.in_ok-journal.ensures.answer v seen)
+    then_passes Failed NoMemory of_journal (ReadsAs (journal_bytes v work)) folders answer read (c.in_ok-journal.ensures.answer v seen)
     (apart_passes of_step read.source read.target work (entries read) answer c.in_ok-test_apart.ensures.cause
-    (then_passes of_work (TestsEntries (is_done read.phase) v work) (λ _. told read) answer tt
+    (then_passes Failed NoMemory of_work (TestsEntries (is_done read.phase) v work) (λ _. told read) answer tt
     (subst (λ old. TestsEntries old v work (Ok tt)) c.is_done.ensures (c.in_ok-look_again.ensures.answer v once))
     (c.resume_told.ensures.cause v (subst (λ t. IsSeen t v) (sym c.look_again.ensures.told) once))))
 
 pub returns-in_err-journal-clause-written : goal.returns-in_err-journal-clause-written
 returns-in_err-journal-clause-written g c v seen =
-    let told = g.F.Folder.told c.args.folder.now in
-    let left = g.R.Randoms.left c.args.random.now in
     let p = err_from_is_err_and c.from_residual.result c.from_residual.ensures.1 in
-    let refused = refusal_as c.from_residual.result p.0 (of_journal c.in_err-journal.field-0.0) p.1 p.2 (journal_refuses c.in_err-journal.field-0.0) in
-    inl (nothing_written c.from_residual.result refused left told (g.F.Folder.told c.read.new.folder) (c.draws_compose.ensures.none left) c.read.ensures.told)
+    inl (nothing_written c.from_residual.result p.0 (of_journal c.in_err-journal.field-0.0) p.1 p.2 (journal_tested c.in_err-journal.field-0.0).1 (g.R.Randoms.left c.args.random.now) (g.F.Folder.told c.args.folder.now) (g.F.Folder.told c.read.new.folder) (c.draws_compose.ensures.none _) c.read.ensures.told)
 
 pub returns-in_err-test_apart-clause-written : goal.returns-in_err-test_apart-clause-written
 returns-in_err-test_apart-clause-written g c v seen =
-    let told = g.F.Folder.told c.args.folder.now in
-    let left = g.R.Randoms.left c.args.random.now in
     let p = err_from_is_err_and c.from_residual-in_err-test_apart.result c.from_residual-in_err-test_apart.ensures.1 in
-    let refused = refusal_as c.from_residual-in_err-test_apart.result p.0 (of_step c.in_err-test_apart.field-0.0) p.1 p.2 (step_refuses c.in_err-test_apart.field-0.0) in
-    inl (nothing_written c.from_residual-in_err-test_apart.result refused left told (g.F.Folder.told c.read.new.folder) (c.draws_compose.ensures.none left) c.read.ensures.told)
+    inl (nothing_written c.from_residual-in_err-test_apart.result p.0 (of_step c.in_err-test_apart.field-0.0) p.1 p.2 (step_tested c.in_err-test_apart.field-0.0).1 (g.R.Randoms.left c.args.random.now) (g.F.Folder.told c.args.folder.now) (g.F.Folder.told c.read.new.folder) (c.draws_compose.ensures.none _) c.read.ensures.told)
 
 pub returns-in_err-look_again-clause-written : goal.returns-in_err-look_again-clause-written
 returns-in_err-look_again-clause-written g c v seen =
-    let told = g.F.Folder.told c.args.folder.now in
-    let left = g.R.Randoms.left c.args.random.now in
     let p = err_from_is_err_and c.from_residual-in_err-look_again.result c.from_residual-in_err-look_again.ensures.1 in
-    let refused = refusal_as c.from_residual-in_err-look_again.result p.0 (of_work c.in_err-look_again.field-0.0) p.1 p.2 (work_refuses c.in_err-look_again.field-0.0) in
-    inl (nothing_written c.from_residual-in_err-look_again.result refused left told (g.F.Folder.told c.look_again.new.folder) (c.draws_compose.ensures.none left) (c.look_again.ensures.told ∙ c.read.ensures.told))
+    inl (nothing_written c.from_residual-in_err-look_again.result p.0 (of_work c.in_err-look_again.field-0.0) p.1 p.2 (work_tested c.in_err-look_again.field-0.0).1 (g.R.Randoms.left c.args.random.now) (g.F.Folder.told c.args.folder.now) (g.F.Folder.told c.look_again.new.folder) (c.draws_compose.ensures.none _) (c.look_again.ensures.told ∙ c.read.ensures.told))
 
 pub returns-clause-written : goal.returns-clause-written
 returns-clause-written g c v seen =
@@ -193,18 +186,18 @@ pub returns-in_err-journal-clause-too_long : goal.returns-in_err-journal-clause-
 returns-in_err-journal-clause-too_long g c v seen =
     let why = c.in_err-journal.field-0.0 in
     let p = err_from_is_err_and c.from_residual.result c.from_residual.ensures.1 in
-    none_compared _ c.from_residual.result p.0 (of_journal why) p.1 p.2 (journal_compares why)
+    none_compared _ c.from_residual.result p.0 (of_journal why) p.1 p.2 (journal_tested why).0
 
 pub returns-in_err-test_apart-clause-too_long : goal.returns-in_err-test_apart-clause-too_long
 returns-in_err-test_apart-clause-too_long g c v seen =
     let p = err_from_is_err_and c.from_residual-in_err-test_apart.result c.from_residual-in_err-test_apart.ensures.1 in
-    none_compared _ c.from_residual-in_err-test_apart.result p.0 (of_step c.in_err-test_apart.field-0.0) p.1 p.2 (step_compares c.in_err-test_apart.field-0.0)
+    none_compared _ c.from_residual-in_err-test_apart.result p.0 (of_step c.in_err-test_apart.field-0.0) p.1 p.2 (step_tested c.in_err-test_apart.field-0.0).0
 
 pub returns-in_err-look_again-clause-too_long : goal.returns-in_err-look_again-clause-too_long
 returns-in_err-look_again-clause-too_long g c v seen =
     let why = c.in_err-look_again.field-0.0 in
     let p = err_from_is_err_and c.from_residual-in_err-look_again.result c.from_residual-in_err-look_again.ensures.1 in
-    none_compared _ c.from_residual-in_err-look_again.result p.0 (of_work why) p.1 p.2 (work_compares why)
+    none_compared _ c.from_residual-in_err-look_again.result p.0 (of_work why) p.1 p.2 (work_tested why).0
 
 pub returns-clause-too_long : goal.returns-clause-too_long
 returns-clause-too_long g c v seen =

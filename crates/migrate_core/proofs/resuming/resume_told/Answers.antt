@@ -12,18 +12,20 @@ use Rattle.migrate_core.proofs.Planned.{seen_of}
 use Rattle.migrate_core.proofs.Settled.{resumes, settled_by, still_settled}
 use Rattle.migrate_core.proofs.Endings.{tree_moved}
 use Rattle.migrate_core.specs.Moved.{Placed}
-use Rattle.migrate_core.proofs.Causing.{own_passes, own_refused, refused_as}
 use Rattle.vault_spec.specs.Opened.{OpenedVault}
 use Rattle.migrate_core.specs.Causes.{Answer, ResumesTold, ResumesWith, TestsSource, Unless}
 use Rattle.migrate_core.specs.Faults.{of_step}
 use Rattle.migrate_core.specs.declared.placing.Done.{Done}
 use Rattle.std.proofs.lemmas.Result.{err_from_is_err_and}
-use Rattle.migrate_core.proofs.Writings.{refusal_as, nothing_written, step_refuses, tree_of}
+use Rattle.migrate_core.proofs.Writings.{nothing_written, tree_of}
 use Rattle.migrate_core.specs.Written.{MayWrite}
-use Rattle.migrate_core.proofs.Limits.{limit_in_tree, none_compared, step_compares}
+use Rattle.migrate_core.proofs.Limits.{limit_in_tree, none_compared}
 use Rattle.migrate_core.specs.Copying.{StayGood}
 use Rattle.migrate_core.specs.Limits.{EndsBy}
 use Rattle.migrate_core.proofs.resuming.resume_told.Goals as goal
+use Rattle.migration_sides.proofs.Chains.{own_passes, own_refused, refused_as}
+use Rattle.migrate_core.specs.declared.fault.MoveFault.TheVariants.{Failed, NoMemory}
+use Rattle.migrate_core.proofs.Tested.{step_tested}
 
 pub returns-in_err-test_source-clause-guard : goal.returns-in_err-test_source-clause-guard
 returns-in_err-test_source-clause-guard g c = λ migration resumed opened.
@@ -114,7 +116,7 @@ returns-in_err-test_source-clause-cause g c v seen =
     let tests = TestsSource journal.phase work journal.source v in
     let fault = c.in_err-test_source.field-0.0 in
     let p = err_from_is_err_and c.from_residual.result c.from_residual.ensures.1 in
-    refused_as (λ answer. Unless answer (ResumesTold work pass pass' v journal answer)) c.from_residual.result p.0 fault p.1 p.2 (own_refused tests opens fault (c.in_err-test_source.ensures.cause v seen))
+    refused_as (λ answer. Unless answer (ResumesTold work pass pass' v journal answer)) c.from_residual.result p.0 fault p.1 p.2 (own_refused Failed NoMemory tests opens fault (c.in_err-test_source.ensures.cause v seen))
 
 pub returns-in_err-sides-clause-cause : goal.returns-in_err-sides-clause-cause
 returns-in_err-sides-clause-cause g c v seen =
@@ -128,7 +130,7 @@ returns-in_err-sides-clause-cause g c v seen =
     let why = c.in_err-sides.field-0.0 in
     let p = err_from_is_err_and c.from_residual-in_err-sides.result c.from_residual-in_err-sides.ensures.1 in
     refused_as (λ answer. Unless answer (ResumesTold work pass pass' v journal answer)) c.from_residual-in_err-sides.result p.0 (of_step why) p.1 p.2
-    (own_passes tests opens (Err (of_step why)) tt (c.in_ok-test_source.ensures.cause v seen)
+    (own_passes Failed NoMemory tests opens (Err (of_step why)) tt (c.in_ok-test_source.ensures.cause v seen)
     (opens_refused of_step v journal.source journal.target pass pass' next why (c.in_err-sides.ensures.cause v (subst (λ t. IsSeen t v) (sym c.test_source.ensures.told) seen))))
 
 pub returns-clause-cause : goal.returns-clause-cause
@@ -144,25 +146,19 @@ returns-clause-cause g c v seen =
     let sides = c.in_ok-sides.sides in
     let loads = c.in_ok-sides.ensures in
     let once = subst (λ t. IsSeen t v) (sym c.test_source.ensures.told) seen in
-    own_passes tests opens answer tt (c.in_ok-test_source.ensures.cause v seen)
+    own_passes Failed NoMemory tests opens answer tt (c.in_ok-test_source.ensures.cause v seen)
     (opens_passes of_step v journal.source journal.target pass pass' next answer sides.source sides.target loads.source loads.target (loads.opens_source v once) (loads.opens_target v once)
     (c.resume_with.ensures.cause v (subst (λ t. IsSeen t v) (sym c.load_both.ensures.told) once)))
 
 pub returns-in_err-test_source-clause-written : goal.returns-in_err-test_source-clause-written
 returns-in_err-test_source-clause-written g c v seen =
-    let told = g.F.Folder.told c.args.folder.now in
-    let left = g.R.Randoms.left c.args.random.now in
     let p = err_from_is_err_and c.from_residual.result c.from_residual.ensures.1 in
-    let refused = refusal_as c.from_residual.result p.0 (c.in_err-test_source.field-0.0) p.1 p.2 (c.in_err-test_source.ensures.tested) in
-    inl (nothing_written c.from_residual.result refused left told (g.F.Folder.told c.test_source.new.folder) (c.draws_compose.ensures.none left) c.test_source.ensures.told)
+    inl (nothing_written c.from_residual.result p.0 c.in_err-test_source.field-0.0 p.1 p.2 c.in_err-test_source.ensures.tested (g.R.Randoms.left c.args.random.now) (g.F.Folder.told c.args.folder.now) (g.F.Folder.told c.test_source.new.folder) (c.draws_compose.ensures.none _) c.test_source.ensures.told)
 
 pub returns-in_err-sides-clause-written : goal.returns-in_err-sides-clause-written
 returns-in_err-sides-clause-written g c v seen =
-    let told = g.F.Folder.told c.args.folder.now in
-    let left = g.R.Randoms.left c.args.random.now in
     let p = err_from_is_err_and c.from_residual-in_err-sides.result c.from_residual-in_err-sides.ensures.1 in
-    let refused = refusal_as c.from_residual-in_err-sides.result p.0 (of_step c.in_err-sides.field-0.0) p.1 p.2 (step_refuses c.in_err-sides.field-0.0) in
-    inl (nothing_written c.from_residual-in_err-sides.result refused left told (g.F.Folder.told c.load_both.new.folder) (c.draws_compose.ensures.none left) (c.load_both.ensures.told ∙ c.test_source.ensures.told))
+    inl (nothing_written c.from_residual-in_err-sides.result p.0 (of_step c.in_err-sides.field-0.0) p.1 p.2 (step_tested c.in_err-sides.field-0.0).1 (g.R.Randoms.left c.args.random.now) (g.F.Folder.told c.args.folder.now) (g.F.Folder.told c.load_both.new.folder) (c.draws_compose.ensures.none _) (c.load_both.ensures.told ∙ c.test_source.ensures.told))
 
 pub returns-clause-written : goal.returns-clause-written
 returns-clause-written g c v seen =
@@ -185,7 +181,7 @@ returns-in_err-test_source-clause-too_long g c =
 pub returns-in_err-sides-clause-too_long : goal.returns-in_err-sides-clause-too_long
 returns-in_err-sides-clause-too_long g c =
     let p = err_from_is_err_and c.from_residual-in_err-sides.result c.from_residual-in_err-sides.ensures.1 in
-    none_compared _ c.from_residual-in_err-sides.result p.0 (of_step c.in_err-sides.field-0.0) p.1 p.2 (step_compares c.in_err-sides.field-0.0)
+    none_compared _ c.from_residual-in_err-sides.result p.0 (of_step c.in_err-sides.field-0.0) p.1 p.2 (step_tested c.in_err-sides.field-0.0).0
 
 pub returns-clause-too_long : goal.returns-clause-too_long
 returns-clause-too_long g c =

@@ -13,22 +13,24 @@ use Rattle.tree_match.specs.Mapping.{IsMappedPlan}
 use Rattle.migrate_core.proofs.Blaming.{step_resumes}
 use Rattle.migrate_core.proofs.Leadings.{refused_nowhere}
 use Rattle.migrate_core.proofs.Movings.{moves_nowhere}
-use Rattle.migrate_core.proofs.Causing.{items_pass, items_refused, refused_as}
+use Rattle.migrate_core.proofs.Causing.{items_pass, items_refused}
 use Rattle.migrate_core.specs.Causes.{Answer, Moves, ResumesWith, TestsItems, Unless}
 use Rattle.migrate_core.specs.Faults.{of_step}
 use Rattle.work_folder.specs.Entering.{Empties}
 use Rattle.vault_spec.specs.Plan.{Planned}
 use Rattle.migrate_core.specs.declared.placing.Done.{Done}
-use Rattle.migrate_core.proofs.Writings.{refusal_as, by_texts, done_text, nothing_written, step_refuses}
+use Rattle.migrate_core.proofs.Writings.{by_texts, done_text, nothing_written}
 use Rattle.migrate_core.specs.Written.{WritesBy, journal_texts, lacked}
 use Rattle.move_journal.specs.Journal.{journal_text}
 use Rattle.migrate_core.proofs.Started.{matched_held, may_begin}
 use Rattle.migrate_core.specs.Copying.{MayBegin}
-use Rattle.migrate_core.proofs.Limits.{ends_uncompared, step_compares}
+use Rattle.migrate_core.proofs.Limits.{ends_uncompared}
 use Rattle.migrate_core.specs.Copying.{StayGood}
 use Rattle.migrate_core.specs.Limits.{EndsBy}
 use Rattle.migrate_core.proofs.Sharing.{whichever_taken}
 use Rattle.migrate_core.proofs.resuming.resume_with.Goals as goal
+use Rattle.migration_sides.proofs.Chains.{refused_as}
+use Rattle.migrate_core.proofs.Tested.{step_tested}
 
 pub returns-in_err-plans-clause-guard : goal.returns-in_err-plans-clause-guard
 returns-in_err-plans-clause-guard g c =
@@ -135,19 +137,13 @@ returns-clause-cause g c v seen =
 
 pub returns-in_err-plans-clause-written : goal.returns-in_err-plans-clause-written
 returns-in_err-plans-clause-written g c v seen =
-    let told = g.F.Folder.told c.args.folder.now in
-    let left = g.R.Randoms.left c.args.random.now in
     let p = err_from_is_err_and c.from_residual.result c.from_residual.ensures.1 in
-    let refused = refusal_as c.from_residual.result p.0 (of_step c.in_err-plans.field-0.0) p.1 p.2 (step_refuses c.in_err-plans.field-0.0) in
-    inl (nothing_written c.from_residual.result refused left told (g.F.Folder.told c.walk_both.new.folder) (c.draws_compose.ensures.none left) c.walk_both.ensures.told)
+    inl (nothing_written c.from_residual.result p.0 (of_step c.in_err-plans.field-0.0) p.1 p.2 (step_tested c.in_err-plans.field-0.0).1 (g.R.Randoms.left c.args.random.now) (g.F.Folder.told c.args.folder.now) (g.F.Folder.told c.walk_both.new.folder) (c.draws_compose.ensures.none _) c.walk_both.ensures.told)
 
 pub returns-in_err-mapped-clause-written : goal.returns-in_err-mapped-clause-written
 returns-in_err-mapped-clause-written g c v seen =
-    let told = g.F.Folder.told c.args.folder.now in
-    let left = g.R.Randoms.left c.args.random.now in
     let p = err_from_is_err_and c.from_residual-in_err-mapped.result c.from_residual-in_err-mapped.ensures.1 in
-    let refused = refusal_as c.from_residual-in_err-mapped.result p.0 (c.in_err-mapped.field-0.0) p.1 p.2 (c.in_err-mapped.ensures.tested) in
-    inl (nothing_written c.from_residual-in_err-mapped.result refused left told (g.F.Folder.told c.test_plans.new.folder) (c.draws_compose.ensures.none left) (c.test_plans.ensures.told ∙ c.walk_both.ensures.told))
+    inl (nothing_written c.from_residual-in_err-mapped.result p.0 c.in_err-mapped.field-0.0 p.1 p.2 c.in_err-mapped.ensures.tested (g.R.Randoms.left c.args.random.now) (g.F.Folder.told c.args.folder.now) (g.F.Folder.told c.test_plans.new.folder) (c.draws_compose.ensures.none _) (c.test_plans.ensures.told ∙ c.walk_both.ensures.told))
 
 pub returns-clause-written : goal.returns-clause-written
 returns-clause-written g c v seen =
@@ -193,7 +189,7 @@ place_rest-requires-clause-copying g c =
 pub returns-in_err-plans-clause-ends : goal.returns-in_err-plans-clause-ends
 returns-in_err-plans-clause-ends g c =
     let p = err_from_is_err_and c.from_residual.result c.from_residual.ensures.1 in
-    ends_uncompared _ _ c.args.sides.now.names c.args.sides.now.source c.args.sides.now.target (g.F.Folder.told c.walk_both.new.folder) c.from_residual.result p.0 (of_step c.in_err-plans.field-0.0) p.1 p.2 (step_compares c.in_err-plans.field-0.0)
+    ends_uncompared _ _ c.args.sides.now.names c.args.sides.now.source c.args.sides.now.target (g.F.Folder.told c.walk_both.new.folder) c.from_residual.result p.0 (of_step c.in_err-plans.field-0.0) p.1 p.2 (step_tested c.in_err-plans.field-0.0).0
 
 pub returns-in_err-mapped-clause-ends : goal.returns-in_err-mapped-clause-ends
 returns-in_err-mapped-clause-ends g c =

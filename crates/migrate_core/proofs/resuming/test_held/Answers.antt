@@ -1,6 +1,6 @@
 use Rattle.vault_spec.specs.Vault.{format_of}
 use Rattle.migrate_core.specs.Faults.{of_match}
-use Rattle.migrate_core.proofs.Causing.{Passed, match_refused, none_differs, own_passes, own_refused, refused_as, then_passes}
+use Rattle.migrate_core.proofs.Causing.{Passed, none_differs}
 use Rattle.migration_sides.specs.Tests.{Then, own}
 use Rattle.tree_match.specs.Trees.{Compares}
 use Rattle.migrate_core.proofs.Planned.{mapped_files}
@@ -9,11 +9,12 @@ use Rattle.tree_match.specs.declared.answer.Match.{Match}
 use Rattle.std.proofs.lemmas.Result.{err_from_is_err_and}
 use Rattle.tree_match.specs.Matching.{matched}
 use Rattle.std.proofs.Common.{Err, Ok, ap, inr, refl, subst, sym}
-use Rattle.migrate_core.specs.declared.fault.MoveFault.TheVariants.{Differ}
+use Rattle.migrate_core.specs.declared.fault.MoveFault.TheVariants.{Differ, Failed, NoMemory}
 use Rattle.migrate_core.proofs.Limits.{by_match, target_first}
 use Rattle.migrate_core.specs.Limits.{PassesLimit, PassesSeen}
 use Rattle.std.proofs.Common.{IfErr}
 use Rattle.migrate_core.proofs.resuming.test_held.Goals as goal
+use Rattle.migration_sides.proofs.Chains.{own_passes, own_refused, refused_as, then_passes, then_refused}
 
 pub holds_all-requires-clause-a : goal.holds_all-requires-clause-a
 holds_all-requires-clause-a g c = λ v seen. record { ordered = c.requires.target.ordered v seen; files = c.requires.target.files v seen }
@@ -32,7 +33,7 @@ returns-in_err-holds_all-clause-cause g c v seen =
     let held = λ (m : Match). Then own (TestsHeld m) (λ _. Passed) in
     let p = err_from_is_err_and c.from_residual.result c.from_residual.ensures.1 in
     refused_as (λ answer. Unless answer (TestsMatch to c.args.target.now.items from c.args.mapped.now.items v Passed answer)) c.from_residual.result p.0 (of_match why) p.1 p.2
-    (match_refused (matched (format_of to.vault).content c.args.target.now.items (format_of from.vault).content c.args.mapped.now.items v) held why (c.in_err-holds_all.ensures.answers v seen))
+    (then_refused Failed NoMemory of_match (Compares to c.args.target.now.items from c.args.mapped.now.items v) held why (c.in_err-holds_all.ensures.answers v seen))
 
 pub returns-in-Same : goal.returns-in-Same
 returns-in-Same g c =
@@ -48,8 +49,8 @@ returns-in-Same g c =
       tested = tt;
       limit = tt;
       blamed = tt;
-      cause = λ v seen. then_passes of_match (Compares to items from others v) held (Ok tt) m (c.in_ok-holds_all.ensures.answers v seen)
-          (own_passes (TestsHeld m) (λ _. Passed) (Ok tt) tt (inr (inr (none_differs m c.in-Same.is))) (inr (inr refl)));
+      cause = λ v seen. then_passes Failed NoMemory of_match (Compares to items from others v) held (Ok tt) m (c.in_ok-holds_all.ensures.answers v seen)
+          (own_passes Failed NoMemory (TestsHeld m) (λ _. Passed) (Ok tt) tt (inr (inr (none_differs m c.in-Same.is))) (inr (inr refl)));
     }
 
 pub returns-clause-cause : goal.returns-clause-cause
@@ -61,10 +62,10 @@ returns-clause-cause g c v seen =
     let m = c.in_ok-holds_all.field-0 in
     let held : Match → Answer (Unit {0}) → Type 0 = λ m. Then own (TestsHeld m) (λ _. Passed) in
     let path = c.in-Differs.path in
-    let place = c.where_of.result in
-    then_passes of_match (Compares to items from others v) held (Err (Differ path place)) m (c.in_ok-holds_all.ensures.answers v seen)
-    (own_refused (TestsHeld m) (λ _. Passed) (Differ path place)
-    (inr (inr (subst (λ x. TestsHeld x (Err (Differ path place))) (sym c.in-Differs.is) (ap (λ w. Err (Differ path w)) c.where_of.ensures)))))
+    let place = c.where_in.result in
+    then_passes Failed NoMemory of_match (Compares to items from others v) held (Err (Differ path place)) m (c.in_ok-holds_all.ensures.answers v seen)
+    (own_refused Failed NoMemory (TestsHeld m) (λ _. Passed) (Differ path place)
+    (inr (inr (subst (λ x. TestsHeld x (Err (Differ path place))) (sym c.in-Differs.is) (ap (λ w. Err (Differ path w)) c.where_in.ensures)))))
 
 pub returns-in_err-holds_all-clause-limit : goal.returns-in_err-holds_all-clause-limit
 returns-in_err-holds_all-clause-limit g c =

@@ -1,4 +1,4 @@
-use Rattle.std.proofs.Common.{◌≡◌, ◌≤◌, Ok, arith, inr, subst, sym}
+use Rattle.std.proofs.Common.{◌≡◌, ◌≤◌, Ok, arith, inr, subst, sym, refl}
 use Rattle.std.proofs.lemmas.Result.{err_from_is_err_and}
 use Rattle.folder_model.proofs.Counting.{never_falls}
 use Rattle.folder_model.specs.Answers.{Answers}
@@ -11,7 +11,8 @@ use Rattle.retire_core.proofs.Blaming.{blamed_kind, blamed_removal}
 use Rattle.retire_core.proofs.Cleared.{bare_of, entry_cleared, entry_leaves, entry_same}
 use Rattle.retire_core.proofs.Going.{removes_retiring}
 use Rattle.migration_sides.proofs.Chains.{refused_as}
-use Rattle.retire_core.proofs.Causing.{folder_unless, none_removed, removal_done, removal_refused}
+use Rattle.migration_sides.proofs.Told.{folder_unless}
+use Rattle.retire_core.proofs.Causing.{none_removed, removal_done, removal_refused}
 use Rattle.retire_core.proofs.Starts.{missing_by_kind, there_by_kind}
 use Rattle.retire_core.specs.Causes.{Refuses, TestsRemoval, Unless}
 use Rattle.retire_core.specs.Faults.{of_folder, of_removal}
@@ -88,7 +89,7 @@ pub returns-in_err-kind-clause-cause : goal.returns-in_err-kind-clause-cause
 returns-in_err-kind-clause-cause g c v seen =
     let p = err_from_is_err_and c.from_residual-in_err-kind.result c.from_residual-in_err-kind.ensures.1 in
     refused_as (λ answer. Unless answer (TestsRemoval (child c.args.work.now c.args.name.now) v answer)) c.from_residual-in_err-kind.result p.0 (of_folder c.in_err-kind.field-0.0) p.1 p.2
-    (folder_unless _ c.in_err-kind.field-0.0)
+    (folder_unless of_folder refl _ c.in_err-kind.field-0.0)
 
 pub returns-in-Missing-clause-cause : goal.returns-in-Missing-clause-cause
 returns-in-Missing-clause-cause g c v seen =

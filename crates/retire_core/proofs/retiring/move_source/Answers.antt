@@ -2,10 +2,11 @@ use Rattle.std.proofs.Common.{Err, Ok, arith, refl, subst, subst₂, sym}
 use Rattle.std.proofs.lemmas.Result.{err_from_is_err_and}
 use Rattle.folder_spec.specs.Event.{Changes, Rename}
 use Rattle.migration_spec.specs.Guard.{old_path}
-use Rattle.retire_core.proofs.Away.{AreLaws, away_comes, away_gone, away_guarded, away_settled, move_allowed, moves_call, moves_same, moves_settled, order_call, order_settled, settle_seen_back}
+use Rattle.retire_core.proofs.Away.{AreLaws, away_comes, away_gone, away_guarded, away_settled, move_allowed, moves_call, moves_same, moves_settled, order_call, order_settled}
 use Rattle.retire_core.proofs.Blaming.{blamed_call}
 use Rattle.retire_core.proofs.Causing.{folder_fails, moved_seen}
 use Rattle.retire_core.proofs.retiring.move_source.Goals as goal
+use Rattle.migration_spec.proofs.Settling.{settle_seen_back}
 
 pub returns-in_err-old-clause-moves : goal.returns-in_err-old-clause-moves
 returns-in_err-old-clause-moves g c = moves_same c.args.source.now c.args.work.now (g.F.Folder.told c.args.folder.now) (g.F.Folder.told c.args.folder.now) refl

@@ -10,15 +10,18 @@ use Rattle.migration_spec.specs.Guard.{Migration, old_path}
 use Rattle.retire_core.proofs.Blaming.{blamed_kind}
 use Rattle.retire_core.proofs.Courses.{held_same}
 use Rattle.retire_core.proofs.Going.{rest_same}
-use Rattle.retire_core.proofs.Starts.{IsKnown, comes_by_done, comes_missing, missing_by_kind, moved_before, on_ok_more, rest_by_done, there_by_kind}
+use Rattle.migration_spec.proofs.Tellings.{seen_before}
+use Rattle.retire_core.proofs.Starts.{IsKnown, comes_by_done, comes_missing, missing_by_kind, on_ok_more, rest_by_done, there_by_kind}
 use Rattle.retire_core.specs.Clearing.{IsGone, IsInOrder, MovesHeldOnly}
 use Rattle.retire_core.specs.Guarding.{ComesFromDone, ComesTo, KeepsDone}
 use Rattle.retire_core.specs.Retiring.{retiring_by}
 use Rattle.migration_sides.proofs.Chains.{refused_as}
-use Rattle.retire_core.proofs.Causing.{away_none, away_there, folder_unless, is_free, not_free, one_view}
+use Rattle.migration_sides.proofs.Told.{folder_unless}
+use Rattle.retire_core.proofs.Causing.{away_none, away_there, is_free, not_free}
 use Rattle.retire_core.specs.Causes.{TestsAway, Unless, moved_away}
 use Rattle.retire_core.specs.Faults.{of_folder}
 use Rattle.retire_core.proofs.retiring.put_away.Goals as goal
+use Rattle.folder_spec.proofs.Seen.{one_view}
 
 pub returns-in_err-kind-clause-guard : goal.returns-in_err-kind-clause-guard
 returns-in_err-kind-clause-guard g c = λ migration at_work. rest_same migration (g.F.Folder.told c.args.folder.now) (g.F.Folder.told c.kind.new.self) c.kind.ensures.told
@@ -88,7 +91,7 @@ returns-clause-order g c =
     let r = retiring_by work c.args.source_pass.now c.args.target_pass.now c.args.journal.now in
     on_ok_more (IsGone c.args.journal.now.source t3) (IfSeen t3 (λ v. IsInOrder v work)) c.move_held.result
     (λ gone w is.
-    let before = moved_before r t0 t3 (subst (λ t. MovesHeldOnly r t t3) same c.move_held.ensures.moves) w is in
+    let before = seen_before _ t0 t3 (subst (λ t. MovesHeldOnly r t t3) same c.move_held.ensures.moves) w is in
     c.move_held.ensures.leaves before.0 w (subst (λ t. IsSeen t before.0) (sym same) before.1) is (c.requires.order before.0 before.1)) c.move_held.ensures.gone
 
 pub returns-in_err-kind-clause-cause : goal.returns-in_err-kind-clause-cause
@@ -99,7 +102,7 @@ returns-in_err-kind-clause-cause g c v seen =
     let journal = c.args.journal.now in
     let p = err_from_is_err_and c.from_residual.result c.from_residual.ensures.1 in
     refused_as (λ answer. Unless answer (TestsAway work pass pass_too journal v answer)) c.from_residual.result p.0 (of_folder c.in_err-kind.field-0.0) p.1 p.2
-    (folder_unless _ c.in_err-kind.field-0.0)
+    (folder_unless of_folder refl _ c.in_err-kind.field-0.0)
 
 pub returns-then-eq-clause-cause : goal.returns-then-eq-clause-cause
 returns-then-eq-clause-cause g c v seen =

@@ -1,12 +1,16 @@
-use Rattle.std.proofs.Common.{subst, sym}
+use Rattle.std.proofs.Common.{subst, sym, refl, inl, inr}
 use Rattle.retire_core.specs.Faults.{of_folder}
-use Rattle.retire_core.proofs.Courses.{folder_above, removes_settled, retired_earlier, settle_fell, settle_removes, settle_seen, settle_then, settle_touches, touches_then}
+use Rattle.retire_core.proofs.Courses.{removes_settled, retired_earlier, settle_removes, settle_touches, touches_then, settle_goes}
 use Rattle.retire_core.specs.Retiring.{retiring_by}
-use Rattle.migration_sides.proofs.Chains.{refused_as}
-use Rattle.retire_core.proofs.Causing.{folder_fails, folder_unless, unless_completes}
-use Rattle.retire_core.specs.Causes.{Retires, Unless}
+use Rattle.migration_sides.proofs.Chains.{refused_as, unless_met}
+use Rattle.migration_sides.proofs.Told.{folder_unless}
+use Rattle.retire_core.proofs.Causing.{folder_fails}
+use Rattle.retire_core.specs.Causes.{Retires, Unless, IsOfFolder}
 use Rattle.std.proofs.lemmas.Result.{err_from_is_err_and}
 use Rattle.retire_core.proofs.retiring.retire.Goals as goal
+use Rattle.migration_spec.proofs.Tellings.{folders_of}
+use Rattle.migration_spec.proofs.Settling.{settle_fell, settle_seen}
+use Rattle.retire_core.specs.declared.fault.RetireFault.TheVariants.{Failed, NoMemory}
 
 pub returns-in_err-settle-clause-guard : goal.returns-in_err-settle-clause-guard
 returns-in_err-settle-clause-guard g c = λ migration at_work.
@@ -22,7 +26,7 @@ returns-in_err-settle-clause-removes g c = λ v journal seen is stands.
 
 pub returns-clause-guard : goal.returns-clause-guard
 returns-clause-guard g c = λ migration at_work.
-    settle_then c.settling_and_entering_keep_migrations_guarded.ensures.settles migration (g.F.Folder.told c.args.folder.now) (g.F.Folder.told c.settle.new.self) (g.F.Folder.told c.retire_settled.new.folder) c.in_ok-settle.field-0
+    settle_goes c.settling_and_entering_keep_migrations_guarded.ensures.settles migration (g.F.Folder.told c.args.folder.now) (g.F.Folder.told c.settle.new.self) (g.F.Folder.told c.retire_settled.new.folder) c.in_ok-settle.field-0
     (g.met.F.Folder.sound c.settle.new.self) c.in_ok-settle.ensures.changes (c.retire_settled.ensures.guard migration at_work)
 
 pub returns-clause-touches : goal.returns-clause-touches
@@ -51,7 +55,7 @@ pub returns-in_err-settle-clause-cause : goal.returns-in_err-settle-clause-cause
 returns-in_err-settle-clause-cause g c v seen =
     let p = err_from_is_err_and c.from_residual.result c.from_residual.ensures.1 in
     refused_as (λ answer. Unless answer (Retires c.args.work.now c.args.source_pass.now c.args.target_pass.now v answer)) c.from_residual.result p.0 (of_folder c.in_err-settle.field-0.0) p.1 p.2
-    (folder_unless _ c.in_err-settle.field-0.0)
+    (folder_unless of_folder refl _ c.in_err-settle.field-0.0)
 
 pub returns-clause-cause : goal.returns-clause-cause
 returns-clause-cause g c v seen =
@@ -66,7 +70,7 @@ pub returns-clause-completes : goal.returns-clause-completes
 returns-clause-completes g c = λ migration v seen at_work opened can.
     let t0 = g.F.Folder.told c.args.folder.now in
     let cause = c.retire_settled.ensures.cause v (settle_seen t0 (g.F.Folder.told c.settle.new.self) c.in_ok-settle.field-0 c.in_ok-settle.ensures.changes v seen) in
-    unless_completes c.retire_settled.result (Retires c.args.work.now c.args.source_pass.now c.args.target_pass.now v c.retire_settled.result)
+    unless_met Failed NoMemory IsOfFolder (inl refl) (inr refl) c.retire_settled.result (Retires c.args.work.now c.args.source_pass.now c.args.target_pass.now v c.retire_settled.result)
     (λ tested. c.what_can_be_retired_is_retired.ensures migration c.args.source_pass.now c.args.target_pass.now v c.retire_settled.result
-    (λ p a there. folder_above t0 (g.met.F.Folder.sound c.args.folder.now) v seen p a there) opened can
+    (folders_of t0 (g.met.F.Folder.sound c.args.folder.now) v seen) opened can
     (subst (λ w. Retires w c.args.source_pass.now c.args.target_pass.now v c.retire_settled.result) (sym at_work) tested)) cause

@@ -7,7 +7,7 @@ use Rattle.std.proofs.lemmas.Result.{err_from_is_err_and}
 use Rattle.port_model.specs.Counts.{CountRose}
 use Rattle.retire_core.proofs.Blaming.{blamed_later, blamed_step, if_err_both, later_own}
 use Rattle.retire_core.specs.Faults.{Blamed, IsLaterFault, IsRetireFault, of_step, of_work}
-use Rattle.retire_core.proofs.Courses.{folder_above, in_order, removes_same, retired_by, touches_same}
+use Rattle.retire_core.proofs.Courses.{in_order, removes_same, retired_by, touches_same}
 use Rattle.retire_core.proofs.Going.{rest_same}
 use Rattle.retire_core.specs.Guarding.{KeepsFromRest}
 use Rattle.retire_core.specs.Retiring.{RemovesOnly, TouchesOnly, retiring_by}
@@ -15,6 +15,7 @@ use Rattle.migration_sides.proofs.Chains.{refused_as}
 use Rattle.retire_core.proofs.Causing.{foreign, is_told, not_done, overlapping}
 use Rattle.retire_core.specs.Causes.{Retires, Unless}
 use Rattle.retire_core.proofs.retiring.retire_settled.Goals as goal
+use Rattle.migration_spec.proofs.Tellings.{folders_of}
 
 pub returns-in_err-journal-clause-guard : goal.returns-in_err-journal-clause-guard
 returns-in_err-journal-clause-guard g c = λ migration at_work. rest_same migration (g.F.Folder.told c.args.folder.now) (g.F.Folder.told c.read_done.new.folder) c.read_done.ensures.told
@@ -41,7 +42,7 @@ returns-in_err-test_apart-clause-removes g c = λ v journal seen is stands.
 pub look_again-requires : goal.look_again-requires
 look_again-requires g c = λ v seen.
     let stands : StandsIn c.args.work.now c.in_ok-journal.journal v = c.in_ok-journal.ensures.stands v (subst (λ t. IsSeen t v) c.read_done.ensures.told seen) in
-    folder_above (g.F.Folder.told c.read_done.new.folder) (g.met.F.Folder.sound c.read_done.new.folder) v seen c.args.work.now (codes "journal")
+    folders_of (g.F.Folder.told c.read_done.new.folder) (g.met.F.Folder.sound c.read_done.new.folder) v seen c.args.work.now (codes "journal")
     (not_missing c.args.work.now c.in_ok-journal.journal v stands)
 
 pub returns-in_err-look_again-clause-guard : goal.returns-in_err-look_again-clause-guard

@@ -1,4 +1,4 @@
-use Rattle.retire_core.proofs.Courses.{gone_still, not_base, removes_cleared, removes_moved, rest_then, touches_cleared, touches_moved}
+use Rattle.retire_core.proofs.Courses.{gone_still, removes_cleared, removes_moved, rest_then, touches_cleared, touches_moved}
 use Rattle.retire_core.specs.Retiring.{retiring_by}
 use Rattle.std.proofs.lemmas.Result.{err_from_is_err_and}
 use Rattle.migration_sides.proofs.Chains.{refused_as}
@@ -6,6 +6,7 @@ use Rattle.retire_core.proofs.Causing.{is_retired, not_away, not_removed, remove
 use Rattle.retire_core.specs.Causes.{RetiresTold, Unless}
 use Rattle.std.proofs.Common.{Err, Ok}
 use Rattle.retire_core.proofs.retiring.retire_told.Goals as goal
+use Rattle.retire_core.proofs.Away.{not_base}
 
 pub returns-in_err-put_away-clause-touches : goal.returns-in_err-put_away-clause-touches
 returns-in_err-put_away-clause-touches g c =

@@ -1,8 +1,8 @@
-use Rattle.std.proofs.Common.{arith}
+use Rattle.std.proofs.Common.{arith, refl}
 use Rattle.std.proofs.lemmas.Result.{err_from_is_err_and}
 use Rattle.retire_core.proofs.Blaming.{blamed_kind}
 use Rattle.migration_sides.proofs.Chains.{refused_as}
-use Rattle.retire_core.proofs.Causing.{folder_unless}
+use Rattle.migration_sides.proofs.Told.{folder_unless}
 use Rattle.retire_core.specs.Causes.{TestsFree, Unless}
 use Rattle.retire_core.specs.Faults.{of_folder}
 use Rattle.retire_core.proofs.retiring.test_free.Goals as goal
@@ -18,4 +18,4 @@ pub returns-in_err-kind-clause-cause : goal.returns-in_err-kind-clause-cause
 returns-in_err-kind-clause-cause g c v seen =
     let p = err_from_is_err_and c.from_residual-in_err-kind.result c.from_residual-in_err-kind.ensures.1 in
     refused_as (λ answer. Unless answer (TestsFree c.args.work.now v answer)) c.from_residual-in_err-kind.result p.0 (of_folder c.in_err-kind.field-0.0) p.1 p.2
-    (folder_unless _ c.in_err-kind.field-0.0)
+    (folder_unless of_folder refl _ c.in_err-kind.field-0.0)

@@ -14,13 +14,11 @@ use Rattle.migration_sides.specs.declared.fault.StepFault.TheVariants.{Failed, N
 use Rattle.plain_tree.specs.Mapped.{mapped_path}
 use Rattle.plain_tree.specs.Names as plain
 use Rattle.plain_tree.specs.declared.name_map.NameMap.{NameMap}
-use Rattle.tree_match.specs.Comparing.{Answers, Is, Outcome, Stops}
+use Rattle.tree_match.specs.Comparing.{Answers, Outcome, Stops}
 use Rattle.mapped_trees.specs.Plans.{IsPlanOf}
 use Rattle.mapped_trees.specs.Trees.{IsHeldIn, IsPartOf, IsWhole}
 use Rattle.tree_match.specs.Trees.{AreSame, IsMappedWalkOf, IsSameOrTooLong, IsTooLong, IsWalkOf, Side, match_of, side_of, side_with, tree_of}
-use Rattle.tree_match.specs.declared.answer.How.{How}
 use Rattle.tree_match.specs.declared.answer.Match.{Match}
-use Rattle.tree_match.specs.declared.answer.Match.TheVariants.{Contained, Differs, Same}
 use Rattle.tree_match.specs.declared.answer.MatchFault.{MatchFault}
 use Rattle.tree_match.specs.declared.answer.MatchFault.TheVariants as match
 use Rattle.vault_spec.specs.Opened.{OpenedVault}
@@ -73,13 +71,6 @@ walk_stops a v P clean within fault (inr (inr (Err why, walks, is))) = subst (λ
 
 -- ---- comparing
 
-none_same : (outcome : Outcome Match) → IsSameOrTooLong outcome → (m : Match) → m ≢ Same → outcome ≢ Is m
-none_same _ AreSame m other e = other (same e)
-  where
-    same : {x y : Match} → Is x ≡ Is y → y ≡ x
-    same e = cc e
-none_same _ (IsTooLong at) m other e = cc e
-
 abbrev stopped : Path → Ending → Outcome Match
 stopped at ending = Stops at ending
 
@@ -98,12 +89,6 @@ match_stops outcome (match.Limit limit.Depth) is = absurd is
 match_stops outcome (match.Limit limit.Input) is = absurd is
 match_stops outcome match.Failed is = tt
 match_stops outcome match.NoMemory is = tt
-
-pub never_contained : (outcome : Outcome Match) (path : plain.Path) → outcome ≡ Is (Contained path) → ¬ IsSameOrTooLong outcome
-never_contained outcome path is same = none_same outcome same (Contained path) (λ e. cc e) is
-
-pub never_differs : (outcome : Outcome Match) (path : plain.Path) (how : How) → outcome ≡ Is (Differs path how) → ¬ IsSameOrTooLong outcome
-never_differs outcome path how is same = none_same outcome same (Differs path how) (λ e. cc e) is
 
 -- ---- once all is copied
 

@@ -8,8 +8,7 @@ use Rattle.folder_spec.specs.Seen.{IfSeen, IsSeen, seen, under}
 use Rattle.folder_spec.specs.Region.{apart_from_both}
 use Rattle.folder_spec.specs.State.{IsSound, Node}
 use Rattle.folder_spec.specs.View.{View, FileOf, found}
-use Rattle.folder_spec.proofs.Moments.{went_nowhere}
-use Rattle.folder_spec.proofs.Tellings.{from_to_more, from_to_same}
+use Rattle.folder_spec.proofs.Tellings.{from_to_more}
 use Rattle.move_journal.proofs.Standing as standing
 use Rattle.move_journal.specs.Journal.{IsJournal}
 use Rattle.move_journal.specs.Reading.{journal_path, StandsIn}
@@ -19,7 +18,7 @@ use Rattle.move_journal.specs.declared.journal.Phase.TheVariants as phase
 use Rattle.plain_tree.specs.declared.name_map.NameMap.{NameMap}
 use Rattle.migration_spec.specs.Alone.{Progress, Unbegun, Begun, Finished, IsAlone, IsIn, StaysGuarded}
 use Rattle.tree_match.specs.Comparing.{Is}
-use Rattle.migration_spec.specs.Guard.{Migration, Guarded, HoldsAll, HoldsSource, IsThere, Tells, tree_at}
+use Rattle.migration_spec.specs.Guard.{Migration, HoldsAll, HoldsSource, IsThere, Tells, tree_at}
 use Rattle.mapped_trees.specs.Trees.{HasNoBroken, IsHeldIn, IsMapped, IsPartOf, IsWhole, StaysApart}
 use Rattle.migration_sides.specs.Sides.{AreSeparate, IsWalked, opened_in}
 use Rattle.tree_match.specs.Trees.{Side, HoldsAllBy, AsSame, IsMappedWalkOf, IsWalkOf, match_of, side_of, tree_of}
@@ -127,14 +126,6 @@ holds_all shown apart held_in same_part mapped g p t a items others is at walked
     to_walk = walk_of g.target others t v walked_target (seen_of t a is) target.good.orderly
 
 -- ---- the journal says so
-
--- it says so already
-pub says_already : {T E : Type 0} (g : Migration) (t u : Option Told) (result : Result T E) → u ≡ t → FinishesFrom g Finished t u result
-says_already g t u result is = (
-  from_to_same (λ a b. IsAlone g Finished a.state → HoldsAll g (seen a.state) → StaysGuarded g a b) t u is (λ a at holds. went_nowhere (Guarded g) (λ s e. Unit {0}) a at.guarded),
-  if_ok (FromTo (λ a b. IsAlone g Finished a.state → HoldsAll g (seen a.state) → IsAlone g Finished b.state) t u) result
-      (from_to_same (λ a b. IsAlone g Finished a.state → HoldsAll g (seen a.state) → IsAlone g Finished b.state) t u is (λ a at holds. at)),
-)
 
 abbrev pub JournalFinishes : Type 0
 JournalFinishes = (g : Migration) (j : Journal) (a b : Told) → IsAlone g Begun a.state → HoldsAll g (seen a.state) → IsJournal j → j.phase ≡ phase.Done → Tells g j

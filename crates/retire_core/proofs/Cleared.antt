@@ -99,9 +99,6 @@ pub only_by_old : (work : Path) (t u : Option Told) → ClearsEntry (old_path wo
 only_by_old work t u =
     stays_more (apart_from work) (apart_from (old_path work)) (λ s0 s e. ClearsAt (old_path work) s0 e.call) (λ s0 s e. Clears work s0 e.call) t u (apart_within work (codes "old")) (λ s0 s e is. inl is)
 
-pub only_same : (work : Path) (t u : Option Told) → u ≡ t → ClearsOnly work t u
-only_same work = stays_same (apart_from work) (λ s0 s e. Clears work s0 e.call)
-
 pub rest_same : (work : Path) (t u : Option Told) → u ≡ t → ClearsRest work t u
 rest_same work = stays_same (apart_from work) (λ s0 s e. ClearsBeside work e.call)
 

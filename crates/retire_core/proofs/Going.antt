@@ -1,11 +1,11 @@
 -- How a migration whose source is retired goes on from call to call.
 use Rattle.std.proofs.Common.{◌≡◌, ◌≢◌, ℕ, List, [], ◌∷◌, ◌++◌, Option, Some, Result, refl, sym, ap, ◌∙◌, inl, inr, subst, append_assoc, codes, is_some, IsTrue}
-use Rattle.folder_spec.proofs.Moments.{went_by_call, went_more, went_nowhere, went_on, went_to}
+use Rattle.folder_spec.proofs.Moments.{went_by_call, went_more, went_on, went_to}
 use Rattle.folder_spec.proofs.Paths.{append-cancel, below-append}
 use Rattle.folder_spec.proofs.Seen.{none_seen}
 use Rattle.folder_spec.proofs.Sound.{changed_sound}
 use Rattle.folder_spec.proofs.Tables.{present_is_table}
-use Rattle.folder_spec.proofs.Tellings.{from_to_more, from_to_on, from_to_same}
+use Rattle.folder_spec.proofs.Tellings.{from_to_more, from_to_on}
 use Rattle.folder_spec.specs.declared.FolderFault.{FolderFault}
 use Rattle.folder_spec.specs.declared.Spot.TheVariants.{Nothing}
 use Rattle.folder_spec.specs.Event.{Call, MakeDir, Create, Append, Sync, Settle, Rename, RemoveFile, RemoveDir, Outcome, Done, Fell, Denied, Event, Allowed, Changes, Steps, Told, after, changed, outcome_state}
@@ -30,9 +30,6 @@ use Rattle.migration_spec.proofs.Settling.{still_guarded}
 
 abbrev pub StaysRetiring : Migration → Told → Told → Type 0
 StaysRetiring g = Went (IsRetiring g) (λ s e. Unit {0})
-
-pub retiring_same : (g : Migration) (t u : Option Told) → u ≡ t → KeepsRetiring g t u
-retiring_same g t u same = from_to_same (λ a b. IsRetiring g a.state → StaysRetiring g a b) t u same (λ a is. went_nowhere (IsRetiring g) (λ s e. Unit {0}) a is)
 
 pub retiring_then : (g : Migration) (t u w : Option Told) → KeepsRetiring g t u → KeepsRetiring g u w → KeepsRetiring g t w
 retiring_then g t u w first second =

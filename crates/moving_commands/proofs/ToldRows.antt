@@ -129,6 +129,16 @@ told_maps : {Y G : Type 0} (P : G → Type 0) (told : MapFault → G) → ((faul
     → ((mapped : List Planned) → next mapped (Err why) → P why) → Then told (MapsTo rule items) (λ plan. next plan.items) (Err why) → P why
 told_maps P told holds rule items next why rest = told_then P told (MapsTo rule items) (λ plan. next plan.items) why (λ fault refused. holds fault) (λ plan maps. rest plan.items)
 
+-- that a migration was begun is told neither by the entries of the work folder nor by the stage
+other_by_entries : (old : Bool) (v : View) (work : Path) (fault : WorkFault) → TestsEntries old v work (Err fault) → fault ≢ works.Begun
+other_by_entries old v work fault (inl passed) = cc passed.1
+other_by_entries old v work works.Begun (inr first) = cc first.2
+other_by_entries old v work fault (inr first) = λ is. cc
+
+other_by_stage : (v : View) (work : Path) (fault : WorkFault) → Empties v work (Err fault) → fault ≢ works.Begun
+other_by_stage v work works.Begun empties = absurd empties
+other_by_stage v work fault empties = λ is. cc
+
 told_names : (P : MoveFault → Type 0) → ((at : plain.Path) → P (moves.NotAllowed at)) → (rule : NameMap) (f : Format) (items : List Planned) (why : MoveFault) → TestsNames rule f items (Err why) → P why
 told_names P holds rule f [] why is = cc is
 told_names P holds rule f (item ∷ items) why tested =
@@ -217,14 +227,9 @@ not_by_journal : (fault : JournalFault) → NotBegun (of_journal fault)
 not_by_journal journals.Failed = tt
 not_by_journal fault = tt
 
-not_by_entries : (old : Bool) (v : View) (work : Path) (fault : WorkFault) → TestsEntries old v work (Err fault) → NotBegun (of_work fault)
-not_by_entries old v work works.Begun (inl passed) = cc passed.1
-not_by_entries old v work works.Begun (inr first) = cc first.2
-not_by_entries old v work fault tested = tt
-
-not_by_stage : (v : View) (work : Path) (fault : WorkFault) → Empties v work (Err fault) → NotBegun (of_work fault)
-not_by_stage v work works.Begun empties = absurd empties
-not_by_stage v work fault empties = tt
+not_by_work : (fault : WorkFault) → fault ≢ works.Begun → NotBegun (of_work fault)
+not_by_work works.Begun other = absurd (other refl)
+not_by_work fault other = tt
 
 not_by_step : (fault : StepFault) → NotBegun (of_step fault)
 not_by_step steps.Failed = tt
@@ -261,7 +266,7 @@ module _ (work : Path) (source_pass target_pass : List ℕ) (v : View) (why : Mo
 
     goes_not : (items : List Planned) → goes items (Err why) → NotBegun why
     goes_not items =
-        told_then NotBegun of_work (Empties v work) (λ (_ : Unit {0}). IsOfMoving (HaveOwnFolders a b v) (StopsAt (HaveOwnFolders a b v) a v items)) why (not_by_stage v work)
+        told_then NotBegun of_work (Empties v work) (λ (_ : Unit {0}). IsOfMoving (HaveOwnFolders a b v) (StopsAt (HaveOwnFolders a b v) a v items)) why (λ fault empties. not_by_work fault (other_by_stage v work fault empties))
         (λ x passed. not_by_stop (HaveOwnFolders a b v) (StopsAt (HaveOwnFolders a b v) a v items) why)
 
     compares_not : (items there : List Planned) → compares items there (Err why) → NotBegun why
@@ -293,7 +298,7 @@ module _ (work : Path) (source_pass target_pass : List ℕ) (v : View) (why : Mo
       (λ journal reads. told_apart NotBegun of_step not_by_step v why journal.source journal.target work
       (λ (_ : Unit {0}). Then of_work (TestsEntries (is_done journal.phase) v work) (λ (_ : Unit {0}). ResumesTold {Y = placing.Done} work source_pass target_pass v journal))
       (told_then NotBegun of_work (TestsEntries (is_done journal.phase) v work) (λ (_ : Unit {0}). ResumesTold {Y = placing.Done} work source_pass target_pass v journal) why
-      (not_by_entries (is_done journal.phase) v work) (λ y passes. told_not journal)))
+      (λ fault tested. not_by_work fault (other_by_entries (is_done journal.phase) v work fault tested)) (λ y passes. told_not journal)))
 
 -- ---- `retire`
 
@@ -305,10 +310,9 @@ never_by_journal : (fault : JournalFault) → NeverBegun (retired.of_journal fau
 never_by_journal journals.Failed = tt
 never_by_journal fault = tt
 
-never_by_entries : (old : Bool) (v : View) (work : Path) (fault : WorkFault) → TestsEntries old v work (Err fault) → NeverBegun (retired.of_work fault)
-never_by_entries old v work works.Begun (inl passed) = cc passed.1
-never_by_entries old v work works.Begun (inr first) = cc first.2
-never_by_entries old v work fault tested = tt
+never_by_work : (fault : WorkFault) → fault ≢ works.Begun → NeverBegun (retired.of_work fault)
+never_by_work works.Begun other = absurd (other refl)
+never_by_work fault other = tt
 
 never_by_step : (fault : StepFault) → NeverBegun (retired.of_step fault)
 never_by_step steps.Failed = tt
@@ -390,7 +394,7 @@ module _ (work : Path) (source_pass target_pass : List ℕ) (v : View) where
       reads_never
       (λ journal reads. told_apart NeverBegun retired.of_step never_by_step v why journal.source journal.target work
       (λ (_ : Unit {0}). Then retired.of_work (TestsEntries true v work) (λ (_ : Unit {0}). retiring.RetiresTold work source_pass target_pass journal v))
-      (told_then NeverBegun retired.of_work (TestsEntries true v work) (λ (_ : Unit {0}). retiring.RetiresTold work source_pass target_pass journal v) why (never_by_entries true v work)
+      (told_then NeverBegun retired.of_work (TestsEntries true v work) (λ (_ : Unit {0}). retiring.RetiresTold work source_pass target_pass journal v) why (λ fault tested. never_by_work fault (other_by_entries true v work fault tested))
       (λ y passes. gone_never journal why)))
 
 -- ---- the answers

@@ -41,7 +41,7 @@ use Rattle.moving_commands.specs.Migrate.{HasMigrated, IsAskedFor, MigratesApart
 use Rattle.moving_commands.specs.Migrate as migrating
 use Rattle.moving_answers.specs.Faults.{of_move}
 use Rattle.moving_answers.specs.Stops.{is_of_stop, is_of_told_stop}
-use Rattle.moving_commands.specs.Moving.{AnswersMove, ArePhrases, Comes, Completes, FailPasses, HoldKeys, KeepsAll, OfPasses, Outcome, RefusesPasses, RefusesUndrawn, done_text, is_of_chance}
+use Rattle.moving_commands.specs.Moving.{AnswersBy, AnswersMove, ArePhrases, Comes, Completes, FailPasses, HoldKeys, KeepsAll, OfPasses, Outcome, RefusesPasses, RefusesUndrawn, done_text, is_of_chance}
 use Rattle.command_opening.specs.Opening.{IsPhrase, OfPassFile, passphrase_in}
 use Rattle.command_opening.specs.Places.{RefusesOverlap, overlap}
 use Rattle.command_answers.specs.Printing.{PrintsText}
@@ -204,8 +204,8 @@ module _ {O : Type 0} (passes : Passes) (IsCaused DoesSo : List ℕ → List ℕ
     answers = f comes.outcome comes.answers;
   }
 
-move_printed : (work : Path) (IsRoot : MoveFault → Path → Type 0) (answer : Answer) (done : moved.Done) → IsPrinted answer → (outcome : Outcome) → outcome ≡ Ok done → AnswersMove work IsRoot answer outcome
-move_printed work IsRoot answer done is_printed outcome is = subst (AnswersMove work IsRoot answer) (sym is) is_printed
+pub answers_printed : {D F : Type 0} (IsRoot : F → Path → Type 0) (told : F → Path → Answer) (answer : Answer) (done : D) → IsPrinted answer → (outcome : Result D F) → outcome ≡ Ok done → AnswersBy IsRoot told answer outcome
+answers_printed IsRoot told answer done is_printed outcome is = subst (AnswersBy IsRoot told answer) (sym is) is_printed
 
 -- ---- `migrate`
 
@@ -269,7 +269,7 @@ module _ (moving : Moving) where
   migrate_printed done answer told told' taken taken' stream stream' has comes keeps moves prints is_printed = record {
     own = printed_is_own is_of_stop answer refl is_printed;
     comes = λ v is. inr (comes_as moving.passes (migrating.IsCaused moving v) (migrating.IsWritten moving told told' stream stream') v (λ outcome. outcome ≡ Ok done)
-        (AnswersMove moving.work (migrating.IsRootOf moving) answer) (move_printed moving.work (migrating.IsRootOf moving) answer done is_printed) (comes v is));
+        (AnswersMove moving.work (migrating.IsRootOf moving) answer) (answers_printed (migrating.IsRootOf moving) (λ fault root. of_move moving.work root fault) answer done is_printed) (comes v is));
     keeps = keeps;
     moves = moves;
     completes = λ g v is asked can. printed_is_own is_of_chance answer refl is_printed;
@@ -291,6 +291,10 @@ module _ (moving : Moving) where
 -- ---- `resume`
 
 module _ (resuming : Resuming) where
+  -- the root that a fault names is the journal's
+  abbrev IsOurs : View → MoveFault → Path → Type 0
+  IsOurs v fault root = resuming_on.IsRootOf resuming.work v (resuming_on.unopened fault) root
+
   abbrev Brings : Option Told → Option Told → Type 0
   Brings told told' = OfJournal resuming.work told (λ journal. MovesOnly resuming.work journal.target told told')
 
@@ -314,7 +318,7 @@ module _ (resuming : Resuming) where
   resume_printed done answer told told' taken taken' stream stream' has comes keeps moves prints is_printed = record {
     own = printed_is_own is_of_told_stop answer refl is_printed;
     comes = λ v is. inr (comes_as resuming.passes (resuming_on.IsCaused resuming v) (resuming_on.IsWritten resuming told told' stream stream' v) v (λ outcome. outcome ≡ Ok done)
-        (AnswersMove resuming.work (resuming_on.IsRootOf resuming.work v) answer) (move_printed resuming.work (resuming_on.IsRootOf resuming.work v) answer done is_printed) (comes v is));
+        (AnswersMove resuming.work (IsOurs v) answer) (answers_printed (IsOurs v) (λ fault root. of_move resuming.work root fault) answer done is_printed) (comes v is));
     keeps = keeps;
     moves = moves;
     completes = λ g v is asked can. printed_is_own is_of_chance answer refl is_printed;
@@ -342,12 +346,12 @@ module _ (resuming : Resuming) where
 
     load_root : (found : Option Journal) (side : Side) (f : LoadFault) → resuming_on.IsFoundJournal resuming.work v found → (tested : Result Journal JournalFault) (P : Journal → Type 0)
         → ReadsAs (journal_bytes v resuming.work) tested → MatchResult tested P (λ fault. stopped_by (moves.Load side f) ≡ stopped_by (causes.of_journal fault))
-        → resuming_on.IsRootOf resuming.work v (moves.Load side f) (resuming_on.root_by resuming.work found (moves.Load side f))
-    load_root found side f is (Ok j) P reads match = root_read resuming.work v side found j is reads (λ o. resuming_on.root_by resuming.work o (moves.Load side f)) (λ k. refl)
+        → resuming_on.IsRootIn resuming.work v side (resuming_on.root_by resuming.work found (Some side))
+    load_root found side f is (Ok j) P reads match = root_read resuming.work v side found j is reads (λ o. resuming_on.root_by resuming.work o (Some side)) (λ k. refl)
     load_root found side f is (Err fault) P reads match = absurd (no_load side f fault (fault_is (moves.Load side f) (causes.of_journal fault) match))
 
     pub journal_root : (found : Option Journal) (fault : MoveFault) → resuming_on.IsFoundJournal resuming.work v found → (s t : List ℕ) → resuming_on.IsCaused resuming v s t (Err fault)
-        → resuming_on.IsRootOf resuming.work v fault (resuming_on.root_by resuming.work found fault)
+        → IsOurs v fault (resuming_on.root_by resuming.work found (resuming_on.unopened fault))
     journal_root found (moves.Load side f) is s t (inl failed) = let no = fault_is (moves.Load side f) moves.Failed failed in cc
     journal_root found (moves.Load side f) is s t (inr (inl memory)) = let no = fault_is (moves.Load side f) moves.NoMemory memory in cc
     journal_root found (moves.Load side f) is s t (inr (inr tested)) = load_root found side f is tested.0 _ tested.1 tested.2

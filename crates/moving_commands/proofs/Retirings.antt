@@ -1,5 +1,5 @@
 -- A source that is retired: what was done where the command wasn't begun, and how it is answered.
-use Rattle.std.proofs.Common.{◌≡◌, ℕ, List, Option, Ok, Err, inl, inr, refl, sym, ap, ◌∙◌, subst, IsTrue, ◌⊎◌}
+use Rattle.std.proofs.Common.{◌≡◌, ℕ, List, Option, Some, Ok, Err, inl, inr, refl, sym, ap, ◌∙◌, subst, IsTrue, ◌⊎◌}
 use Rattle.std.specs.Prelude.{◌≢◌, MatchResult}
 use Rattle.std.proofs.lemmas.Bool.{or_left}
 use Rattle.std.proofs.KnownBytes.{Keeps-refl}
@@ -24,16 +24,16 @@ use Rattle.migration_sides.specs.declared.fault.Side.{Side}
 use Rattle.vault_read.specs.declared.fault.LoadFault.{LoadFault}
 use Rattle.moving_commands.specs.Moving.{KeepsAll}
 use Rattle.command_answers.specs.Printing.{PrintsText}
-use Rattle.moving_commands.specs.Resume.{IsFoundJournal, IsResumedFor}
+use Rattle.moving_commands.specs.Resume.{IsFoundJournal, IsResumedFor, IsRootOf, root_by}
 use Rattle.moving_answers.specs.Faults.{of_retire}
 use Rattle.moving_answers.specs.Stops.{is_of_refusal}
-use Rattle.moving_commands.specs.Retire.{AnswersRetire, ComesTo, Completes, IsCaused, IsRetired, IsRootOf, MayCome, Outcome, Retires, RetiresSource, TouchesNoMore, retired_text, root_by}
+use Rattle.moving_commands.specs.Retire.{AnswersRetire, ComesTo, Completes, IsCaused, IsRetired, MayCome, Outcome, Retires, RetiresSource, TouchesNoMore, retired_text, unopened}
 use Rattle.command_opening.specs.Shown.{is_of_end}
 use Rattle.command_opening.specs.World.{World}
 use Rattle.command_answers.specs.declared.answer.Answer.{Answer}
 use Rattle.command_answers.specs.declared.answer.Answer.TheVariants.{OutOfMemory}
 use Rattle.command_words.specs.declared.commands.Resuming.{Resuming}
-use Rattle.moving_commands.proofs.Migrations.{AreSafe, OfJournal, comes_as, journal_since, keeps_same, passes_unread, root_read}
+use Rattle.moving_commands.proofs.Migrations.{AreSafe, OfJournal, answers_printed, comes_as, journal_since, keeps_same, passes_unread, root_read}
 use Rattle.command_opening.proofs.Printings.{IsPrinted, nothing_printed, printed, printed_is_own}
 
 abbrev refused_by : {X : Type 0} → RetireFault → tests.Answer X
@@ -49,9 +49,6 @@ pub folder_answered : (work root : Path) (fault : RetireFault) (answer : Answer)
 folder_answered work root fault answer of (inl memory) = inr (inl memory)
 folder_answered work root fault answer (inl failed) (inr is) = inl (is ∙ ap (of_retire work root) failed)
 folder_answered work root fault answer (inr memory) (inr is) = inr (inl (is ∙ ap (of_retire work root) memory))
-
-answers_printed : (work : Path) (v : View) (answer : Answer) (done : Retired) → IsPrinted answer → (outcome : Outcome) → outcome ≡ Ok done → AnswersRetire work v answer outcome
-answers_printed work v answer done is_printed outcome is = subst (AnswersRetire work v answer) (sym is) is_printed
 
 module _ (resuming : Resuming) where
   pub touches_since : (told mid told' : Option Told) (v : View) (source_pass target_pass : List ℕ) (outcome : Outcome) → mid ≡ told → IsSeen told v
@@ -79,7 +76,7 @@ module _ (resuming : Resuming) where
   retire_printed done answer told told' taken taken' has comes keeps prints is_printed = record {
     own = printed_is_own is_of_refusal answer refl is_printed;
     comes = λ v is. inr (comes_as resuming.passes (IsCaused resuming v) (TouchesNoMore resuming told told' v) v (λ outcome. outcome ≡ Ok done) (AnswersRetire resuming.work v answer)
-        (answers_printed resuming.work v answer done is_printed) (comes v is));
+        (answers_printed (λ fault. IsRootOf resuming.work v (unopened fault)) (λ fault root. of_retire resuming.work root fault) answer done is_printed) (comes v is));
     keeps = keeps;
     completes = λ g v is asked can. printed_completes answer is_printed;
     prints = printed retired_text (IsRetired resuming told told') done answer taken taken' has prints is_printed;
@@ -110,10 +107,10 @@ module _ (resuming : Resuming) where
         absurd (no_load side f fault (fault_is (faults.Load side f) other match ∙ fault_is {X = Journal} other (of_journal fault) same))
 
     pub retire_root : (found : Option Journal) (fault : RetireFault) → IsFoundJournal resuming.work v found → (s t : List ℕ) → IsCaused resuming v s t (Err fault)
-        → IsRootOf resuming.work v fault (root_by resuming.work found fault)
+        → IsRootOf resuming.work v (unopened fault) (root_by resuming.work found (unopened fault))
     retire_root found (faults.Load side f) is s t (inl failed) = let no = fault_is {X = Retired} (faults.Load side f) faults.Failed failed in cc
     retire_root found (faults.Load side f) is s t (inr (inl memory)) = let no = fault_is {X = Retired} (faults.Load side f) faults.NoMemory memory in cc
     retire_root found (faults.Load side f) is s t (inr (inr tested)) =
         let read = journal_read side f tested.0 _ tested.1 tested.2 in
-        root_read resuming.work v side found read.0 is read.1 (λ o. root_by resuming.work o (faults.Load side f)) (λ k. refl)
+        root_read resuming.work v side found read.0 is read.1 (λ o. root_by resuming.work o (Some side)) (λ k. refl)
     retire_root found fault is s t cause = tt

@@ -74,13 +74,13 @@ use Rattle.moving_commands.proofs.Rows.{migrate_row, resume_row, retire_row}
 use Rattle.moving_answers.specs.Faults.{of_move, of_retire}
 use Rattle.moving_commands.specs.Migrate.{MigratesApart, MigratesTree, OwnFolders, Pair, first_overlap}
 use Rattle.moving_commands.specs.Migrate as migrating
-use Rattle.moving_commands.specs.Moving.{AnswersMove, ArePhrases, Outcome, OfPasses}
+use Rattle.moving_commands.specs.Moving.{AnswersBy, ArePhrases, OfPasses}
 use Rattle.command_opening.specs.Opening.{OfPassFile, passphrase_in}
 use Rattle.command_opening.specs.Places.{RefusesOverlap}
 use Rattle.command_opening.specs.Refusing as refusing
 use Rattle.moving_commands.specs.Resume.{ResumesTree}
 use Rattle.moving_commands.specs.Resume as resuming_on
-use Rattle.moving_commands.specs.Retire.{AnswersRetire, RetiresSource}
+use Rattle.moving_commands.specs.Retire.{RetiresSource}
 use Rattle.moving_commands.specs.Retire as retiring_on
 use Rattle.command_opening.specs.Shown.{Shown, is_of_opening, refused}
 use Rattle.command_opening.specs.World.{World}
@@ -467,6 +467,16 @@ by_printing command answer done output memory (inl is) = subst (EndsTold command
 by_printing command answer done output memory (inr (inl is)) = subst (EndsTold command) (sym is) output
 by_printing command answer done output memory (inr (inr is)) = subst (EndsTold command) (sym is) memory
 
+-- a command is answered as it comes out, where no fault is told by what only a folder leads to that contradicts itself
+answered_told : {D F : Type 0} (command : Option Command) (IsRoot : F → Path → Type 0) (told : F → Path → Answer) (answer : Answer) (outcome : Result D F)
+    → EndsTold command Done → EndsTold command OutputFault → EndsTold command OutOfMemory → Ends command answer
+    → ((fault : F) (root : Path) → outcome ≡ Err fault → ¬ IsTrue (is_among (row_of command).contradicted (status_of (told fault root)))) → AnswersBy IsRoot told answer outcome → EndsTold command answer
+answered_told command IsRoot told answer (Ok done) finished output memory any never printed = by_printing command answer finished output memory printed
+answered_told command IsRoot told answer (Err fault) finished output memory any never (inl none) = subst (EndsTold command) (sym none) memory
+answered_told command IsRoot told answer (Err fault) finished output memory any never (inr (root, is_root, is)) =
+    told_by (may_end_told command (status_of answer)) (is_among (row_of command).contradicted (status_of answer)) any
+    (subst (λ a. ¬ IsTrue (is_among (row_of command).contradicted (status_of a))) (sym is) (never fault root refl))
+
 -- ---- the three commands
 
 pub migrate_told : (moving : Moving) (answer : Answer) (before after : World) (v : View) → IsSeen before.told v → OwnFolders moving v → MigratesTree moving answer before after
@@ -487,17 +497,12 @@ migrate_told moving answer before after v seen folders did = by (first_overlap m
     by_cause source_pass target_pass phrases fault (inr (inr begins)) =
         less_differs (SharesFolder moving.source moving.target moving.work source_pass target_pass v fault) (no_share source_pass target_pass phrases) fault (begins_or moving.source moving.target moving.work source_pass target_pass v fault moving.names begins)
 
-    by_outcome : (source_pass target_pass : List ℕ) → ArePhrases moving.passes source_pass target_pass v → (outcome : Outcome) → migrating.IsCaused moving v source_pass target_pass outcome
-        → AnswersMove moving.work (migrating.IsRootOf moving) answer outcome → EndsTold (Some (Migrate moving)) answer
-    by_outcome source_pass target_pass phrases (Ok done) cause printed = by_printing (Some (Migrate moving)) answer refl refl refl printed
-    by_outcome source_pass target_pass phrases (Err fault) cause (inl memory) = subst (EndsTold (Some (Migrate moving))) (sym memory) refl
-    by_outcome source_pass target_pass phrases (Err fault) cause (inr (root, is_root, is)) =
-        told_by (may_end_told (Some (Migrate moving)) (status_of answer)) (is_among (row_of (Some (Migrate moving))).contradicted (status_of answer)) any
-        (subst (λ a. ¬ IsTrue (is_among (20 ∷ []) (status_of a))) (sym is) (no_difference moving.work root fault (by_cause source_pass target_pass phrases fault cause)))
-
     came : migrating.MayCome moving answer before.told after.told before.random after.random v → EndsTold (Some (Migrate moving)) answer
     came (inl refuses) = by_opening (may_end_told (Some (Migrate moving))) refl refl refl refl refl refl refl answer (by_passes moving.passes v answer refuses.0.answers)
-    came (inr comes) = by_outcome comes.source_pass comes.target_pass comes.phrases comes.outcome comes.cause comes.answers
+    came (inr comes) =
+        answered_told (Some (Migrate moving)) (migrating.IsRootOf moving) (λ fault root. of_move moving.work root fault) answer comes.outcome refl refl refl any
+        (λ fault root is. no_difference moving.work root fault
+        (by_cause comes.source_pass comes.target_pass comes.phrases fault (subst (migrating.IsCaused moving v comes.source_pass comes.target_pass) is comes.cause))) comes.answers
 
     by : (o : Option Pair) → MatchOption o (MigratesApart moving answer before.told after.told before.taken after.taken before.random after.random)
         (λ two. RefusesOverlap two.first two.second answer before after) → EndsTold (Some (Migrate moving)) answer
@@ -515,17 +520,12 @@ resume_told resuming answer before after v seen did = came (did.resumes.comes v 
     by_cause source_pass target_pass fault (inr (inl memory)) = subst NotBegun (sym (fault_is fault moves.NoMemory memory)) tt
     by_cause source_pass target_pass fault (inr (inr resumes)) = resumes_not resuming.work source_pass target_pass v fault resumes
 
-    by_outcome : (source_pass target_pass : List ℕ) (outcome : Outcome) → resuming_on.IsCaused resuming v source_pass target_pass outcome
-        → AnswersMove resuming.work (resuming_on.IsRootOf resuming.work v) answer outcome → EndsTold (Some (Resume resuming)) answer
-    by_outcome source_pass target_pass (Ok done) cause printed = by_printing (Some (Resume resuming)) answer refl refl refl printed
-    by_outcome source_pass target_pass (Err fault) cause (inl memory) = subst (EndsTold (Some (Resume resuming))) (sym memory) refl
-    by_outcome source_pass target_pass (Err fault) cause (inr (root, is_root, is)) =
-        told_by (may_end_told (Some (Resume resuming)) (status_of answer)) (is_among (row_of (Some (Resume resuming))).contradicted (status_of answer)) any
-        (subst (λ a. ¬ IsTrue (is_among (17 ∷ []) (status_of a))) (sym is) (no_beginning resuming.work root fault (by_cause source_pass target_pass fault cause)))
-
     came : resuming_on.MayCome resuming answer before.told after.told before.random after.random v → EndsTold (Some (Resume resuming)) answer
     came (inl refuses) = by_opening (may_end_told (Some (Resume resuming))) refl refl refl refl refl refl refl answer (by_passes resuming.passes v answer refuses.0.answers)
-    came (inr comes) = by_outcome comes.source_pass comes.target_pass comes.outcome comes.cause comes.answers
+    came (inr comes) =
+        answered_told (Some (Resume resuming)) (λ fault. resuming_on.IsRootOf resuming.work v (resuming_on.unopened fault)) (λ fault root. of_move resuming.work root fault) answer comes.outcome refl refl refl any
+        (λ fault root is. no_beginning resuming.work root fault
+        (by_cause comes.source_pass comes.target_pass fault (subst (resuming_on.IsCaused resuming v comes.source_pass comes.target_pass) is comes.cause))) comes.answers
 
 pub retire_told : (resuming : Resuming) (answer : Answer) (before after : World) → IfSeen before.told (λ v. RetiresSource resuming answer before after → EndsTold (Some (Retire resuming)) answer)
 retire_told resuming answer before after v seen did = came (did.retires.comes v seen)
@@ -538,14 +538,9 @@ retire_told resuming answer before after v seen did = came (did.retires.comes v 
     by_cause source_pass target_pass fault (inr (inl memory)) = subst NeverBegun (sym (fault_is fault retires.NoMemory memory)) tt
     by_cause source_pass target_pass fault (inr (inr gone)) = retires_never resuming.work source_pass target_pass v fault gone
 
-    by_outcome : (source_pass target_pass : List ℕ) (outcome : retiring_on.Outcome) → retiring_on.IsCaused resuming v source_pass target_pass outcome → AnswersRetire resuming.work v answer outcome
-        → EndsTold (Some (Retire resuming)) answer
-    by_outcome source_pass target_pass (Ok done) cause printed = by_printing (Some (Retire resuming)) answer refl refl refl printed
-    by_outcome source_pass target_pass (Err fault) cause (inl memory) = subst (EndsTold (Some (Retire resuming))) (sym memory) refl
-    by_outcome source_pass target_pass (Err fault) cause (inr (root, is_root, is)) =
-        told_by (may_end_told (Some (Retire resuming)) (status_of answer)) (is_among (row_of (Some (Retire resuming))).contradicted (status_of answer)) any
-        (subst (λ a. ¬ IsTrue (is_among (17 ∷ []) (status_of a))) (sym is) (never_beginning resuming.work root fault (by_cause source_pass target_pass fault cause)))
-
     came : retiring_on.MayCome resuming answer before.told after.told v → EndsTold (Some (Retire resuming)) answer
     came (inl refuses) = by_opening (may_end_told (Some (Retire resuming))) refl refl refl refl refl refl refl answer (by_passes resuming.passes v answer refuses.answers)
-    came (inr comes) = by_outcome comes.source_pass comes.target_pass comes.outcome comes.cause comes.answers
+    came (inr comes) =
+        answered_told (Some (Retire resuming)) (λ fault. resuming_on.IsRootOf resuming.work v (retiring_on.unopened fault)) (λ fault root. of_retire resuming.work root fault) answer comes.outcome refl refl refl any
+        (λ fault root is. never_beginning resuming.work root fault
+        (by_cause comes.source_pass comes.target_pass fault (subst (retiring_on.IsCaused resuming v comes.source_pass comes.target_pass) is comes.cause))) comes.answers

@@ -51,10 +51,14 @@ RefusesUndrawn passes answer told told' stream stream' v = RefusesPasses passes 
 abbrev pub Outcome : Type 0
 Outcome = Result moved.Done MoveFault
 
--- the answer to it, of a migration through this work folder; the root is that of the vault that isn't opened
+-- The answer to what a command comes to, of which a fault is told so; the root is that of the vault that isn't opened.
+abbrev pub AnswersBy : {D F : Type 0} → (F → Path → Type 0) → (F → Path → Answer) → Answer → Result D F → Type 0
+AnswersBy IsRoot told answer (Ok done) = (answer ≡ Done) ⊎ ((answer ≡ OutputFault) ⊎ (answer ≡ OutOfMemory))
+AnswersBy IsRoot told answer (Err fault) = (answer ≡ OutOfMemory) ⊎ ((root : Path) × IsRoot fault root × (answer ≡ told fault root))
+
+-- so of a migration through this work folder
 abbrev pub AnswersMove : Path → (MoveFault → Path → Type 0) → Answer → Outcome → Type 0
-AnswersMove work IsRoot answer (Ok done) = (answer ≡ Done) ⊎ ((answer ≡ OutputFault) ⊎ (answer ≡ OutOfMemory))
-AnswersMove work IsRoot answer (Err fault) = (answer ≡ OutOfMemory) ⊎ ((root : Path) × IsRoot fault root × (answer ≡ of_move work root fault))
+AnswersMove work IsRoot answer outcome = AnswersBy IsRoot (λ fault root. of_move work root fault) answer outcome
 
 -- They are read, and under them the call comes to this, for such a cause; it does so, and is answered so.
 pub record Comes {O : Type 0} (passes : Passes) (IsCaused : List ℕ → List ℕ → O → Type 0) (DoesSo : List ℕ → List ℕ → O → Type 0) (IsAnswered : O → Type 0) (v : View) : Type 0 where

@@ -49,10 +49,15 @@ root_in journal Target = journal.target
 abbrev pub IsRootIn : Path → View → Side → Path → Type 0
 IsRootIn work v side root = (journal : Journal) × IsJournal journal × StandsIn work journal v × (root ≡ root_in journal side)
 
--- the root of the vault that isn't opened is the journal's
-abbrev pub IsRootOf : Path → View → MoveFault → Path → Type 0
-IsRootOf work v (Load side fault) root = IsRootIn work v side root
-IsRootOf work v fault root = Unit {0}
+-- and that of the vault that isn't opened, where one isn't
+abbrev pub IsRootOf : Path → View → Option Side → Path → Type 0
+IsRootOf work v (Some side) root = IsRootIn work v side root
+IsRootOf work v None root = Unit {0}
+
+-- the vault that isn't opened
+abbrev pub unopened : MoveFault → Option Side
+unopened (Load side fault) = Some side
+unopened fault = None
 
 -- why `resume` comes to what it comes to under these passphrases, by what is seen at first; and what it draws and writes
 abbrev pub IsCaused : Resuming → View → List ℕ → List ℕ → Outcome → Type 0
@@ -67,7 +72,7 @@ ComesTo resuming IsAnswered told told' stream stream' v = Comes resuming.passes 
 -- or the passphrases aren't read, or the folder failed, or memory was refused
 abbrev pub MayCome : Resuming → Answer → Option Told → Option Told → Option ByteStream → Option ByteStream → View → Type 0
 MayCome resuming answer told told' stream stream' v =
-    RefusesUndrawn resuming.passes answer told told' stream stream' v ⊎ ComesTo resuming (AnswersMove resuming.work (IsRootOf resuming.work v) answer) told told' stream stream' v
+    RefusesUndrawn resuming.passes answer told told' stream stream' v ⊎ ComesTo resuming (AnswersMove resuming.work (λ fault. IsRootOf resuming.work v (unopened fault)) answer) told told' stream stream' v
 
 -- Whatever the answer is, nothing is lost; where a journal stands in the work folder, all but that folder and the target stays as it was,
 -- and nothing of the target is removed or replaced. At 0 the tree is moved. Where no test can fail and no content is damaged, it comes to
@@ -92,6 +97,7 @@ abbrev pub IsFoundJournal : Path → View → Option Journal → Type 0
 IsFoundJournal work v None = (journal : Journal) → IsJournal journal → ¬ StandsIn work journal v
 IsFoundJournal work v (Some journal) = IsJournal journal × StandsIn work journal v
 
-abbrev pub root_by : Path → Option Journal → MoveFault → Path
-root_by work (Some journal) (Load side fault) = root_in journal side
-root_by work found fault = work
+-- the root of the vault on this side, as that journal tells it
+abbrev pub root_by : Path → Option Journal → Option Side → Path
+root_by work (Some journal) (Some side) = root_in journal side
+root_by work found side = work

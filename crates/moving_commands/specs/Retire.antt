@@ -1,5 +1,5 @@
 -- `retire`: removing the source of a finished migration, and its work folder.
-use Rattle.std.specs.Prelude.{◌≡◌, ◌⊎◌, ◌++◌, ◌∷◌, [], ℕ, Bool, ◌||◌, List, codes, decimal, IsTrue, Option, Some, Result, Ok, Err}
+use Rattle.std.specs.Prelude.{◌⊎◌, ◌++◌, ◌∷◌, [], ℕ, Bool, ◌||◌, List, codes, decimal, IsTrue, Option, Some, None, Result}
 use Rattle.std.specs.Io.KnownBytes.{Keeps}
 use Rattle.folder_spec.specs.Event.{Told}
 use Rattle.folder_spec.specs.Path.{Path}
@@ -15,17 +15,17 @@ use Rattle.retire_core.specs.Retiring.{HasRetired, RemovesOnly, TouchesOnly, ret
 use Rattle.retire_core.specs.declared.fault.RetireFault.{RetireFault}
 use Rattle.retire_core.specs.declared.fault.RetireFault.TheVariants.{Load}
 use Rattle.retire_core.specs.declared.retiring.Retired.{Retired}
+use Rattle.migration_sides.specs.declared.fault.Side.{Side}
 use Rattle.migration_spec.specs.Guard.{Migration}
 use Rattle.moving_answers.specs.Faults.{of_retire}
 use Rattle.moving_answers.specs.Stops.{is_of_refusal}
-use Rattle.moving_commands.specs.Moving.{Comes, KeepsAll, RefusesPasses}
+use Rattle.moving_commands.specs.Moving.{AnswersBy, Comes, KeepsAll, RefusesPasses}
 use Rattle.command_answers.specs.Printing.{PrintsDone}
 use Rattle.command_opening.specs.Refusing as folder
-use Rattle.moving_commands.specs.Resume.{IsResumedFor, IsRootIn, root_in}
+use Rattle.moving_commands.specs.Resume.{IsResumedFor, IsRootOf}
 use Rattle.command_opening.specs.Shown.{is_of_end}
 use Rattle.command_opening.specs.World.{World}
 use Rattle.command_answers.specs.declared.answer.Answer.{Answer}
-use Rattle.command_answers.specs.declared.answer.Answer.TheVariants.{Done, OutOfMemory, OutputFault}
 use Rattle.command_words.specs.declared.commands.Resuming.{Resuming}
 
 -- whether the command may end with this answer
@@ -36,14 +36,13 @@ is_of_retiring answer = is_of_refusal answer || is_of_end answer
 abbrev pub Outcome : Type 0
 Outcome = Result Retired RetireFault
 
--- the root of the vault that isn't opened is the journal's
-abbrev pub IsRootOf : Path → View → RetireFault → Path → Type 0
-IsRootOf work v (Load side fault) root = IsRootIn work v side root
-IsRootOf work v fault root = Unit {0}
+-- the vault that isn't opened
+abbrev pub unopened : RetireFault → Option Side
+unopened (Load side fault) = Some side
+unopened fault = None
 
 abbrev pub AnswersRetire : Path → View → Answer → Outcome → Type 0
-AnswersRetire work v answer (Ok retired) = (answer ≡ Done) ⊎ ((answer ≡ OutputFault) ⊎ (answer ≡ OutOfMemory))
-AnswersRetire work v answer (Err fault) = (answer ≡ OutOfMemory) ⊎ ((root : Path) × IsRootOf work v fault root × (answer ≡ of_retire work root fault))
+AnswersRetire work v answer outcome = AnswersBy (λ fault. IsRootOf work v (unopened fault)) (λ fault root. of_retire work root fault) answer outcome
 
 -- why `retire` comes to what it comes to under these passphrases, by what is seen at first
 abbrev pub IsCaused : Resuming → View → List ℕ → List ℕ → Outcome → Type 0
@@ -86,9 +85,3 @@ pub record Retires (resuming : Resuming) (answer : Answer) (told told' : Option 
 pub record RetiresSource (resuming : Resuming) (answer : Answer) (before after : World) : Type 0 where
   pub retires : Retires resuming answer before.told after.told before.taken after.taken
   pub untouched : Keeps before.left after.left
-
--- ---- private contracts
-
-abbrev pub root_by : Path → Option Journal → RetireFault → Path
-root_by work (Some journal) (Load side fault) = root_in journal side
-root_by work found fault = work

@@ -6,13 +6,14 @@ ghost use Rattle.command_opening.specs.Opening.{IsPhrase};
 ghost use Rattle.command_opening.specs.Shown.{is_of_opening};
 ghost use Rattle.command_answers.specs.Printing.{PrintsText};
 ghost use Rattle.moving_commands.specs.Moving.{FailPasses, done_text};
-ghost use Rattle.moving_commands.specs.Resume.{IsFoundJournal};
+ghost use Rattle.moving_commands.specs.Resume.{IsFoundJournal, root_by};
 
 use command_answers::{Answer, print};
 use command_opening::read_pass;
 use command_words::{Passes, Resuming};
 use folder_model::{FPath, Folder};
 use migrate_core::Done;
+use migration_sides::Side;
 use move_journal::laws::journals_are_read_back;
 use move_journal::{Journal, JournalFault, read};
 use port_model::Sink;
@@ -116,4 +117,19 @@ fn text_of(alloc: Global, done: &Done) -> Result<String, AllocError>
     text.push_str(format!(in alloc; ", items {items}")?.as_str())?;
     text.push('\n')?;
     Ok(text)
+}
+
+/// The root of the vault on this side, as the journal tells it, or else the work folder.
+pub(crate) fn root_by<'a>(
+    work: &'a FPath,
+    journal: &'a Option<Journal>,
+    side: Option<Side>,
+) -> &'a FPath
+    ensures { result.now ≡ root_by work.now journal.now side }
+{
+    match (journal, side) {
+        (Some(journal), Some(Side::Source)) => &journal.source,
+        (Some(journal), Some(Side::Target)) => &journal.target,
+        _ => work,
+    }
 }

@@ -13,9 +13,9 @@ ghost use Rattle.command_opening.specs.World.{World};
 ghost use Rattle.moving_answers.specs.Faults.{of_move};
 ghost use Rattle.moving_answers.specs.Stops.{is_of_told_stop};
 ghost use Rattle.moving_commands.specs.Moving.{Completes, KeepsAll};
-ghost use Rattle.moving_commands.specs.Resume.{ComesTo, HasResumed, IsResumedFor, MayCome, ResumesTree, root_by};
+ghost use Rattle.moving_commands.specs.Resume.{ComesTo, HasResumed, IsResumedFor, MayCome, ResumesTree, root_by, unopened};
 
-use crate::moving::{learn, print_done};
+use crate::moving::{learn, print_done, root_by};
 use command_answers::Answer;
 use command_words::Resuming;
 use content_writing::PutFault;
@@ -84,22 +84,21 @@ fn go_on<F: Folder, R: Randoms>(
 
 // The answer to a migration that stops.
 fn stopped(work: &FPath, journal: &Option<Journal>, fault: MoveFault) -> Answer
-    ensures answers { (result ≡ Answer.OutOfMemory) ⊎ (result ≡ of_move work.now (root_by work.now journal.now fault) fault) }
+    ensures answers { (result ≡ Answer.OutOfMemory) ⊎ (result ≡ of_move work.now (root_by work.now journal.now (unopened fault)) fault) }
     ensures own { IsMoveFault fault → IsTrue (is_of_told_stop result) }
     ensures failed { result ≡ Answer.FolderFault → IsMoveFault fault → fault ≡ MoveFault.Failed }
     ensures drawn { result ≡ Answer.RandomFault → fault ≡ MoveFault.Place PutFault.Random }
 {
-    let root = root_by(work, journal, &fault);
+    let root = root_by(work, journal, unopened(&fault));
     answer_to_move(work, root, fault)
 }
 
-// The root of the vault that isn't opened.
-fn root_by<'a>(work: &'a FPath, journal: &'a Option<Journal>, fault: &MoveFault) -> &'a FPath
-    ensures { result.now ≡ root_by work.now journal.now fault.now }
+// The vault that isn't opened.
+fn unopened(fault: &MoveFault) -> Option<Side>
+    ensures { result ≡ unopened fault.now }
 {
-    match (journal, fault) {
-        (Some(journal), MoveFault::Load(Side::Source, _)) => &journal.source,
-        (Some(journal), MoveFault::Load(Side::Target, _)) => &journal.target,
-        _ => work,
+    match fault {
+        MoveFault::Load(side, _) => Some(*side),
+        _ => None,
     }
 }

@@ -12,9 +12,10 @@ ghost use Rattle.moving_answers.specs.Faults.{of_retire};
 ghost use Rattle.moving_answers.specs.Stops.{is_of_refusal};
 ghost use Rattle.moving_commands.specs.Moving.{KeepsAll};
 ghost use Rattle.moving_commands.specs.Resume.{IsResumedFor};
-ghost use Rattle.moving_commands.specs.Retire.{ComesTo, Completes, IsRetired, MayCome, RetiresSource, retired_text, root_by};
+ghost use Rattle.moving_commands.specs.Resume.{root_by};
+ghost use Rattle.moving_commands.specs.Retire.{ComesTo, Completes, IsRetired, MayCome, RetiresSource, retired_text, unopened};
 
-use crate::moving::learn;
+use crate::moving::{learn, root_by};
 use command_answers::{Answer, print};
 use command_words::Resuming;
 use folder_model::{FPath, Folder};
@@ -72,22 +73,21 @@ fn remove<F: Folder>(alloc: Global, resuming: &Resuming, folder: &mut F) -> Resu
 
 // The answer to a source that isn't retired.
 fn refused(work: &FPath, journal: &Option<Journal>, fault: RetireFault) -> Answer
-    ensures answers { (result ≡ Answer.OutOfMemory) ⊎ (result ≡ of_retire work.now (root_by work.now journal.now fault) fault) }
+    ensures answers { (result ≡ Answer.OutOfMemory) ⊎ (result ≡ of_retire work.now (root_by work.now journal.now (unopened fault)) fault) }
     ensures own { IsRetireFault fault → IsTrue (is_of_refusal result) }
     ensures failed { result ≡ Answer.FolderFault → IsRetireFault fault → fault ≡ RetireFault.Failed }
 {
-    let root = root_by(work, journal, &fault);
+    let root = root_by(work, journal, unopened(&fault));
     answer_to_retire(work, root, fault)
 }
 
-// The root of the vault that isn't opened.
-fn root_by<'a>(work: &'a FPath, journal: &'a Option<Journal>, fault: &RetireFault) -> &'a FPath
-    ensures { result.now ≡ root_by work.now journal.now fault.now }
+// The vault that isn't opened.
+fn unopened(fault: &RetireFault) -> Option<Side>
+    ensures { result ≡ unopened fault.now }
 {
-    match (journal, fault) {
-        (Some(journal), RetireFault::Load(Side::Source, _)) => &journal.source,
-        (Some(journal), RetireFault::Load(Side::Target, _)) => &journal.target,
-        _ => work,
+    match fault {
+        RetireFault::Load(side, _) => Some(*side),
+        _ => None,
     }
 }
 

@@ -6,7 +6,7 @@ use Rattle.migrate_core.specs.Completing.{CanResume}
 use Rattle.migrate_core.specs.Moving.{MovesOnly}
 use Rattle.migration_spec.specs.Guard.{Migration}
 use Rattle.moving_commands.specs.Moving.{ArePhrases, Completes}
-use Rattle.moving_commands.specs.Resume.{IsResumedFor, IsWritten, MayCome, root_by}
+use Rattle.moving_commands.specs.Resume.{IsResumedFor, IsWritten, MayCome, root_by, unopened}
 use Rattle.moving_commands.proofs.Migrations.{chance_answered, journal_root, journal_since, keeps_since, keeps_same, phrases_are, read_completes, keys_read, keys_seen, unread_undrawn}
 use Rattle.moving_commands.proofs.resuming.go_on.Goals as goal
 
@@ -96,7 +96,7 @@ returns-clause-stopped g c = λ v is.
       answers = elim c.stopped.ensures.answers [
         | inl memory ↦ inl memory
         | inr named ↦ inr (
-          root_by resuming.work found c.in-Err.fault,
+          root_by resuming.work found (unopened c.in-Err.fault),
           journal_root resuming v found c.in-Err.fault (c.in_ok-known.ensures.found v is) c.as_slice.result.now c.as_slice-2.result.now cause,
           named,
         )
@@ -118,7 +118,7 @@ returns-clause-completes g c = λ m v is asked can.
     let seen = subst (λ t. IsSeen t v) (sym c.in_ok-known.ensures.told) is in
     let are : ArePhrases resuming.passes c.as_slice.result.now c.as_slice-2.result.now v = phrases_are resuming.passes known.phrases.source known.phrases.target
     c.as_slice.result.now c.as_slice-2.result.now v c.as_slice.ensures c.as_slice-2.ensures (c.in_ok-known.ensures.source v is) (c.in_ok-known.ensures.target v is) in
-    chance_answered resuming.work (root_by resuming.work known.journal c.in-Err.fault) c.in-Err.fault c.stopped.result
+    chance_answered resuming.work (root_by resuming.work known.journal (unopened c.in-Err.fault)) c.in-Err.fault c.stopped.result
     (c.in-Err.ensures.completes m v seen asked.work (keys_read m resuming.passes v c.as_slice.result.now c.as_slice-2.result.now are asked.keys) can) c.stopped.ensures.answers
 
 pub returns-in-Ok-clause-moves : goal.returns-in-Ok-clause-moves

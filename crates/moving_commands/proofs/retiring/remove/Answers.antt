@@ -4,8 +4,8 @@ use Rattle.folder_spec.specs.Seen.{IfSeen, IsSeen}
 use Rattle.retire_core.specs.Completing.{CanRetire}
 use Rattle.migration_spec.specs.Guard.{Migration}
 use Rattle.moving_commands.specs.Moving.{ArePhrases}
-use Rattle.moving_commands.specs.Resume.{IsResumedFor}
-use Rattle.moving_commands.specs.Retire.{Completes, MayCome, root_by}
+use Rattle.moving_commands.specs.Resume.{IsResumedFor, root_by}
+use Rattle.moving_commands.specs.Retire.{Completes, MayCome, unopened}
 use Rattle.moving_commands.proofs.Migrations.{keeps_same, keeps_since, keys_read, passes_unread, phrases_are, phrases_read}
 use Rattle.moving_commands.proofs.Retirings.{folder_answered, retire_root, touches_since}
 use Rattle.moving_commands.proofs.retiring.remove.Goals as goal
@@ -73,7 +73,7 @@ returns-clause-stopped g c = λ v is.
       answers = elim c.refused.ensures.answers [
         | inl memory ↦ inl memory
         | inr named ↦ inr (
-          root_by resuming.work found c.in-Err.fault,
+          root_by resuming.work found (unopened c.in-Err.fault),
           retire_root resuming v found c.in-Err.fault (c.in_ok-known.ensures.found v is) c.as_slice.result.now c.as_slice-2.result.now (c.in-Err.ensures.cause v seen),
           named,
         )
@@ -96,5 +96,5 @@ returns-clause-completes g c = λ m v is asked can.
     let seen = subst (λ t. IsSeen t v) (sym c.in_ok-known.ensures.told) is in
     let are : ArePhrases resuming.passes c.as_slice.result.now c.as_slice-2.result.now v = phrases_are resuming.passes known.phrases.source known.phrases.target
     c.as_slice.result.now c.as_slice-2.result.now v c.as_slice.ensures c.as_slice-2.ensures (c.in_ok-known.ensures.source v is) (c.in_ok-known.ensures.target v is) in
-    folder_answered resuming.work (root_by resuming.work known.journal c.in-Err.fault) c.in-Err.fault c.refused.result
+    folder_answered resuming.work (root_by resuming.work known.journal (unopened c.in-Err.fault)) c.in-Err.fault c.refused.result
     (c.in-Err.ensures.completes m v seen asked.work (keys_read m resuming.passes v c.as_slice.result.now c.as_slice-2.result.now are asked.keys) can) c.refused.ensures.answers

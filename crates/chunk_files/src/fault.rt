@@ -4,7 +4,7 @@ ghost use Rattle.chunk_files.specs.Fault.{fault_text};
 use std::fmt;
 
 /// The first fault of a content file. A chunk is named by its number, counted from 0.
-#[derive(Clone, Copy, Debug, PartialEq, Eq)]
+#[derive(Clone, Copy, PartialEq, Eq)]
 pub enum ChunkFault {
     /// There are bytes, but fewer than a header has.
     NoHeader,
@@ -23,7 +23,7 @@ pub enum ChunkFault {
 }
 
 /// Why a content file could not be made. The encoder is then of no further use.
-#[derive(Clone, Copy, Debug, PartialEq, Eq)]
+#[derive(Clone, Copy, PartialEq, Eq)]
 pub enum EncodeFault {
     /// The random source failed; its count of faults says how often.
     Random,

@@ -7,7 +7,7 @@ use gcm_mode::Gcm;
 use std::marker::Model;
 
 /// How a vault's content files are laid out.
-#[derive(Clone, Copy, Debug, PartialEq, Eq)]
+#[derive(Clone, Copy, PartialEq, Eq)]
 pub enum Layout {
     /// gocryptfs, on-disk format 2, with GCM contents.
     Go,

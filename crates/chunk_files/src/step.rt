@@ -1,5 +1,5 @@
 /// What a decoder gives next.
-#[derive(Clone, Copy, Debug, PartialEq, Eq)]
+#[derive(Clone, Copy, PartialEq, Eq)]
 pub enum Step {
     /// It needs more bytes than it holds for the header or a whole chunk.
     More,

@@ -11,14 +11,14 @@ use plain_tree::PlainPath;
 use std::alloc::AllocError;
 
 /// What a message names: a path of the folder, or one of a vault's plain tree.
-#[derive(Debug, Drop)]
+#[derive(Drop)]
 pub enum Named {
     Folder(FPath),
     Plain(PlainPath),
 }
 
 /// Why a configuration is refused.
-#[derive(Debug, Drop)]
+#[derive(Drop)]
 pub enum Refusal {
     Gocryptfs(GoConfFault),
     Cryptomator(CmConfFault),
@@ -27,7 +27,7 @@ pub enum Refusal {
 }
 
 /// What is damaged: a content, or a directory that is to be entered.
-#[derive(Clone, Copy, Debug, PartialEq, Eq)]
+#[derive(Clone, Copy, PartialEq, Eq)]
 pub enum Damage {
     Content(ChunkFault),
     NoDirKey,
@@ -35,7 +35,7 @@ pub enum Damage {
 }
 
 /// A limit that is passed.
-#[derive(Debug, Drop)]
+#[derive(Drop)]
 pub enum Limit {
     /// The depth of a plain path.
     Depth,
@@ -50,7 +50,7 @@ pub enum Limit {
 }
 
 /// Why a journal is of no use.
-#[derive(Clone, Copy, Debug, PartialEq, Eq)]
+#[derive(Clone, Copy, PartialEq, Eq)]
 pub enum Flaw {
     /// There is none.
     Missing,
@@ -61,7 +61,7 @@ pub enum Flaw {
 }
 
 /// How an item of one tree differs from the other tree.
-#[derive(Clone, Copy, Debug, PartialEq, Eq)]
+#[derive(Clone, Copy, PartialEq, Eq)]
 pub enum Difference {
     /// The other has no such item.
     Missing,
@@ -74,7 +74,7 @@ pub enum Difference {
 }
 
 /// How a command ends.
-#[derive(Debug, Drop)]
+#[derive(Drop)]
 pub enum Answer {
     /// All was done.
     Done,

@@ -8,7 +8,7 @@ use folder_model::FPath;
 use std::alloc::{AllocError, Global};
 
 /// The folders that a command may change, and the one that it reads meanwhile.
-#[derive(Debug, Drop)]
+#[derive(Drop)]
 pub enum Claims {
     /// The command changes nothing.
     Nothing,

@@ -12,7 +12,7 @@ use plain_tree::{PathFault, PlainPath};
 use std::alloc::{AllocError, Global};
 
 /// The formats in which vaults are made.
-#[derive(Clone, Copy, Debug, PartialEq, Eq, Drop)]
+#[derive(Clone, Copy, PartialEq, Eq, Drop)]
 pub enum Format {
     Gocryptfs,
     /// Cryptomator's with SIV_GCM.

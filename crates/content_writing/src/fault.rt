@@ -7,7 +7,7 @@ use std::alloc::AllocError;
 use vault_faults::{CatFault, FindFault, Limit};
 
 /// Why an item isn't made.
-#[derive(Debug, Drop)]
+#[derive(Drop)]
 pub enum PutFault {
     /// The directory that is to have it isn't found or isn't entered.
     Find(FindFault),

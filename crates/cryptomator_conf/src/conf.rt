@@ -7,7 +7,7 @@ use kdf_suite::ScryptCost;
 use text_model::Bytes;
 
 /// What `masterkey.cryptomator` says.
-#[derive(Debug, PartialEq, Eq, Drop)]
+#[derive(PartialEq, Eq, Drop)]
 pub struct MasterFile {
     /// The salt of scrypt, of any length.
     pub salt: Bytes,
@@ -20,7 +20,7 @@ pub struct MasterFile {
 }
 
 /// The hash of the signature of `vault.cryptomator`.
-#[derive(Clone, Copy, Debug, PartialEq, Eq)]
+#[derive(Clone, Copy, PartialEq, Eq)]
 pub enum Alg {
     Hs256,
     Hs384,
@@ -28,7 +28,7 @@ pub enum Alg {
 }
 
 /// The ciphers of a vault.
-#[derive(Clone, Copy, Debug, PartialEq, Eq)]
+#[derive(Clone, Copy, PartialEq, Eq)]
 pub enum Combo {
     /// Names by AES-SIV, contents by AES-GCM.
     SivGcm,
@@ -49,7 +49,7 @@ impl Combo {
 }
 
 /// What `vault.cryptomator` says.
-#[derive(Debug, PartialEq, Eq, Drop)]
+#[derive(PartialEq, Eq, Drop)]
 pub struct VaultFile {
     pub alg: Alg,
     pub combo: Combo,
@@ -71,7 +71,7 @@ pub struct CmDraw {
 }
 
 /// New files: `masterkey.cryptomator` and `vault.cryptomator`.
-#[derive(Debug, PartialEq, Eq, Drop)]
+#[derive(PartialEq, Eq, Drop)]
 pub struct CmFiles {
     pub master: Bytes,
     pub vault: Bytes,

@@ -9,7 +9,7 @@ use std::fmt;
 use text_model::Text;
 
 /// Why a configuration is refused: the first of its tests that fails.
-#[derive(Debug, PartialEq, Eq, Drop)]
+#[derive(PartialEq, Eq, Drop)]
 pub enum CmConfFault {
     /// The bytes are no JSON object.
     NotJson,
@@ -78,7 +78,7 @@ impl fmt::Display for CmConfFault {
 }
 
 /// Why no keys are unlocked.
-#[derive(Clone, Copy, Debug, PartialEq, Eq)]
+#[derive(Clone, Copy, PartialEq, Eq)]
 pub enum UnlockFault {
     /// The passphrase is another one.
     WrongPass,
@@ -98,7 +98,7 @@ impl From<AllocError> for UnlockFault {
 }
 
 /// The signature of `vault.cryptomator` isn't the keys'.
-#[derive(Clone, Copy, Debug, PartialEq, Eq)]
+#[derive(Clone, Copy, PartialEq, Eq)]
 pub struct BadSignature;
 
 impl fmt::Display for BadSignature {

@@ -5,7 +5,7 @@ use vault_read::LoadFault;
 use work_folder::WorkFault;
 
 /// Why the demonstration doesn't make a vault or its items.
-#[derive(Debug, Drop)]
+#[derive(Drop)]
 pub enum MakeFault {
     /// The work folder isn't ready.
     Work(WorkFault),

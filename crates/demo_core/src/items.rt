@@ -123,7 +123,7 @@ pub fn fill(out: &mut [u8], seed: u64, number: u32, place: u32)
 }
 
 /// How many directories and files there are, and how many bytes the files have.
-#[derive(Clone, Copy, Debug, PartialEq, Eq)]
+#[derive(Clone, Copy, PartialEq, Eq)]
 pub struct Totals {
     pub directories: u32,
     pub files: u32,

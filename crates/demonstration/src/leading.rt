@@ -45,7 +45,7 @@ use vault_spec::laws::{clean_vaults_are_shallow, plans_are_the_tree};
 use work_folder::Work;
 
 /// One of the two migrations: from `g` to `c`, or from `c` to `h`.
-#[derive(Clone, Copy, Debug, PartialEq, Eq)]
+#[derive(Clone, Copy, PartialEq, Eq)]
 pub(crate) enum Leg {
     There,
     Back,

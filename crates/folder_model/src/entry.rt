@@ -7,7 +7,7 @@ use std::marker::Model;
 /// One entry of a directory: its name and what stands there.
 ///
 /// Contracts see the name as a list of bytes.
-#[derive(Debug, Drop)]
+#[derive(Drop)]
 pub struct Entry {
     pub name: String,
     pub kind: Kind,

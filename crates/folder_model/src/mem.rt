@@ -29,7 +29,7 @@ use table::{NameTable, absorb_all};
 ///
 /// It keeps one table as an ordered map, the steps that made the tables after it, and how many of
 /// these are kept. A settle does the steps to the map, as far as there is memory for it.
-#[derive(Debug, Drop)]
+#[derive(Drop)]
 pub struct MemFolder {
     alloc: Global,
     nodes: Vec<FileBytes>,

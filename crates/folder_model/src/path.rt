@@ -13,7 +13,7 @@ use std::marker::Model;
 /// A path in a folder: its parts, from the base down. The base has none.
 ///
 /// Contracts see it as the list of its parts, each a list of bytes.
-#[derive(Debug, Drop)]
+#[derive(Drop)]
 pub struct FPath {
     parts: Vec<String>,
 }

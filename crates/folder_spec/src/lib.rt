@@ -41,7 +41,7 @@ impl From<AllocError> for FolderFault {
 }
 
 /// What a name table has at a path: a file by the number of its node.
-#[derive(Debug, Clone, Copy, PartialEq, Eq, Drop)]
+#[derive(Clone, Copy, PartialEq, Eq, Drop)]
 pub enum Spot {
     Nothing,
     Directory,

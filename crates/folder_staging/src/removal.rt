@@ -14,7 +14,7 @@ use std::alloc::AllocError;
 const DEEPEST: u64 = 128;
 
 /// Why a removal did not remove all.
-#[derive(Debug, PartialEq, Drop)]
+#[derive(PartialEq, Drop)]
 pub enum RemovalFault {
     /// Something stands deeper than 128 parts below the path.
     Depth,

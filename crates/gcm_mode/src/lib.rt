@@ -30,7 +30,7 @@ use hash::{bit_length, hash_on};
 use products::Powers;
 
 /// The tag isn't that of the text, its associated data and its initialization vector.
-#[derive(Clone, Copy, Debug, PartialEq, Eq)]
+#[derive(Clone, Copy, PartialEq, Eq)]
 pub struct BadTag;
 
 /// GCM under one AES-256 key, with four kilobytes of tables for it. A clause sees the key's 32 bytes.

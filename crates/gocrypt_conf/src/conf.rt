@@ -4,7 +4,7 @@ use kdf_suite::ScryptCost;
 use text_model::Bytes;
 
 /// What `gocryptfs.conf` says.
-#[derive(Debug, Drop)]
+#[derive(Drop)]
 pub struct GoConf {
     /// The salt of scrypt, of any length.
     pub salt: Bytes,

@@ -9,7 +9,7 @@ use std::fmt;
 use text_model::Text;
 
 /// Why a configuration is refused: the first of its tests that fails.
-#[derive(Debug, PartialEq, Eq, Drop)]
+#[derive(PartialEq, Eq, Drop)]
 pub enum GoConfFault {
     /// The bytes are no JSON object.
     NotJson,
@@ -69,7 +69,7 @@ impl fmt::Display for GoConfFault {
 }
 
 /// Why no keys are unlocked.
-#[derive(Clone, Copy, Debug, PartialEq, Eq)]
+#[derive(Clone, Copy, PartialEq, Eq)]
 pub enum UnlockFault {
     /// The passphrase is another one.
     WrongPass,

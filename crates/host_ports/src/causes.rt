@@ -13,7 +13,7 @@ use std::io;
 use std::io::ErrorKind;
 
 /// Why a call failed or was refused.
-#[derive(Clone, Copy, Debug, PartialEq, Eq)]
+#[derive(Clone, Copy, PartialEq, Eq)]
 pub enum Cause {
     /// What stands there, or that nothing does, is in the way of the call.
     InTheWay,
@@ -60,7 +60,7 @@ impl Cause {
 }
 
 /// The path at which a call failed, where it has one and there was memory for it, and why.
-#[derive(Debug, Drop)]
+#[derive(Drop)]
 pub struct Trouble {
     pub at: Option<FPath>,
     pub cause: Cause,

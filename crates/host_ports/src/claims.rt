@@ -12,14 +12,14 @@ use std::io::ErrorKind;
 const TRIES: u32 = 100;
 
 /// Whether other runs may hold the same directory.
-#[derive(Clone, Copy, Debug, PartialEq, Eq)]
+#[derive(Clone, Copy, PartialEq, Eq)]
 pub enum Hold {
     Alone,
     Shared,
 }
 
 /// A path that a run claims, before it changes anything.
-#[derive(Debug, Drop)]
+#[derive(Drop)]
 pub struct Wanted {
     pub at: FPath,
     pub hold: Hold,

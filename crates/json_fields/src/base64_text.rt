@@ -10,7 +10,7 @@ use base64::engine::general_purpose::{STANDARD, URL_SAFE_NO_PAD};
 use std::alloc::{AllocError, Global};
 
 /// An alphabet of base64, and whether texts are padded.
-#[derive(Clone, Copy, Debug, PartialEq, Eq)]
+#[derive(Clone, Copy, PartialEq, Eq)]
 pub enum Alphabet {
     /// The standard alphabet, with padding (section 4).
     Standard,

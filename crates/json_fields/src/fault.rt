@@ -6,7 +6,7 @@ use std::alloc::{AllocError, Global};
 use text_model::Text;
 
 /// Why a field isn't read.
-#[derive(Debug, PartialEq, Eq, Drop)]
+#[derive(PartialEq, Eq, Drop)]
 pub enum FieldFault {
     /// The field of this name is missing or has another form.
     Wrong(Text),

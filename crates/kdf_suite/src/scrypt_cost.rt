@@ -12,7 +12,7 @@ use std::marker::Model;
 /// n is a power of two, at least 2 and less than 2^(16 · r); r is at least 1, and p is 1 to 16. The
 /// table, of 128 · n · r bytes, has at most 2^29 bytes, and the parts, of 128 · r · p bytes, at most
 /// 2^24.
-#[derive(Clone, Copy, Debug, PartialEq, Eq)]
+#[derive(Clone, Copy, PartialEq, Eq)]
 pub struct ScryptCost {
     n: u64,
     r: u64,
@@ -32,7 +32,7 @@ impl Model for ScryptCost {
 }
 
 /// Three numbers that are no cost of scrypt.
-#[derive(Clone, Copy, Debug, PartialEq, Eq)]
+#[derive(Clone, Copy, PartialEq, Eq)]
 pub struct BadCost;
 
 impl ScryptCost {

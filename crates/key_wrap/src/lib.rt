@@ -13,7 +13,7 @@ use aes_lanes::{Block, Cipher, Key256, same_bytes};
 pub mod laws;
 
 /// No key wraps to these bytes.
-#[derive(Clone, Copy, Debug, PartialEq, Eq)]
+#[derive(Clone, Copy, PartialEq, Eq)]
 pub struct BadWrap;
 
 // The integrity value and the four parts of the key, as they stand between two steps.

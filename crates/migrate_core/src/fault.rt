@@ -12,7 +12,7 @@ use vault_walk::WalkFault;
 use work_folder::WorkFault;
 
 /// Why a migration stops. What it has placed so far stays, and `resume` goes on from there.
-#[derive(Debug, Drop)]
+#[derive(Drop)]
 pub enum MoveFault {
     /// The work folder isn't ready.
     Work(WorkFault),

@@ -41,7 +41,7 @@ use vault_write::{place_dir, place_file};
 use work_folder::Work;
 
 /// What a migration has done: how many items it placed, and how many the target has.
-#[derive(Clone, Copy, Debug, PartialEq, Eq)]
+#[derive(Clone, Copy, PartialEq, Eq)]
 pub struct Done {
     pub placed: u64,
     pub items: u64,

@@ -5,14 +5,14 @@ use vault_read::LoadFault;
 use vault_walk::WalkFault;
 
 /// Either vault of a migration.
-#[derive(Clone, Copy, Debug, PartialEq, Eq)]
+#[derive(Clone, Copy, PartialEq, Eq)]
 pub enum Side {
     Source,
     Target,
 }
 
 /// Why a step refuses. Each command tells it by its own fault.
-#[derive(Debug, Drop)]
+#[derive(Drop)]
 pub enum StepFault {
     /// One of these folders is the other, or is in it.
     Overlap(FPath, FPath),

@@ -5,7 +5,7 @@ use plain_tree::NameMap;
 use std::alloc::AllocError;
 
 /// How far a migration has come.
-#[derive(Debug, Clone, Copy, PartialEq, Eq, Drop)]
+#[derive(Clone, Copy, PartialEq, Eq, Drop)]
 pub enum Phase {
     /// Items are still being placed in the target.
     Building,
@@ -14,7 +14,7 @@ pub enum Phase {
 }
 
 /// How a journal's text is laid out.
-#[derive(Debug, Clone, Copy, PartialEq, Eq, Drop)]
+#[derive(Clone, Copy, PartialEq, Eq, Drop)]
 pub enum Form {
     /// In six lines, with none for the rule for names. It is read, as that of a migration whose names stay as they are, and never written.
     First,
@@ -23,7 +23,7 @@ pub enum Form {
 }
 
 /// What a migration moves, and how far it has come.
-#[derive(Debug, Drop)]
+#[derive(Drop)]
 pub struct Journal {
     pub phase: Phase,
     /// What becomes of the names of its items.
@@ -37,7 +37,7 @@ pub struct Journal {
 }
 
 /// Why no journal was read.
-#[derive(Debug, Clone, Copy, PartialEq, Eq, Drop)]
+#[derive(Clone, Copy, PartialEq, Eq, Drop)]
 pub enum JournalFault {
     /// No file is at the journal's place.
     NoJournal,

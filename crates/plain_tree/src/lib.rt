@@ -16,7 +16,7 @@ pub use reading::MAX_PARTS;
 pub use shown::shown_text;
 
 /// What a path of the plain tree leads to.
-#[derive(Clone, Copy, Debug, PartialEq, Eq)]
+#[derive(Clone, Copy, PartialEq, Eq)]
 pub enum NodeKind {
     Dir,
     File,

@@ -19,7 +19,7 @@ pub const MAX_NAME_SIZE: usize = 255;
 
 /// A name of 1 to 255 bytes, with no `/` and no zero byte, that isn't `.` or `..`. It need not be
 /// text. Contracts see it as its bytes. Names are ordered by their bytes.
-#[derive(Debug, Drop)]
+#[derive(Drop)]
 pub struct Name {
     bytes: Vec<u8>,
 }
@@ -36,7 +36,7 @@ impl Model for Name {
 }
 
 /// Why no name was made.
-#[derive(Clone, Copy, Debug, PartialEq, Eq)]
+#[derive(Clone, Copy, PartialEq, Eq)]
 pub enum NameNewFault {
     /// The bytes are no name.
     BadName,

@@ -11,7 +11,7 @@ use std::str;
 use unicode_normalization::to_nfc;
 
 /// What becomes of names on the way from one vault into another.
-#[derive(Clone, Copy, Debug, PartialEq, Eq)]
+#[derive(Clone, Copy, PartialEq, Eq)]
 pub enum NameMap {
     /// Each name stays as it is.
     Same,

@@ -14,7 +14,7 @@ use std::marker::Model;
 
 /// A path of the plain tree: its names from the root down. The root has none. Contracts see it as
 /// the list of its names. Paths are ordered name by name, a prefix first.
-#[derive(Debug, Drop)]
+#[derive(Drop)]
 pub struct PlainPath {
     names: Vec<Name>,
 }
@@ -32,7 +32,7 @@ impl Model for PlainPath {
 }
 
 /// Why a text gave no path.
-#[derive(Clone, Copy, Debug, PartialEq, Eq)]
+#[derive(Clone, Copy, PartialEq, Eq)]
 pub enum PathFault {
     /// The text is no path.
     BadPath,

@@ -17,7 +17,7 @@ use port_model::{Sink, Source, SourceFault};
 use std::alloc::Global;
 
 /// How `decrypt-file` ends.
-#[derive(Clone, Copy, Debug, PartialEq, Eq)]
+#[derive(Clone, Copy, PartialEq, Eq)]
 pub enum DecryptEnd {
     /// The whole input was decrypted.
     Done,

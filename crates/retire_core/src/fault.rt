@@ -12,7 +12,7 @@ use vault_walk::WalkFault;
 use work_folder::WorkFault;
 
 /// Why a source isn't retired, or not to the end. `retire` may be called again.
-#[derive(Debug, Drop)]
+#[derive(Drop)]
 pub enum RetireFault {
     /// What stands in the work folder has no place there.
     Work(WorkFault),

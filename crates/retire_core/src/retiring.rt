@@ -30,7 +30,7 @@ use std::alloc::Global;
 use work_folder::{Work, WorkFault};
 
 /// What was retired.
-#[derive(Debug, Clone, Copy, PartialEq, Eq)]
+#[derive(Clone, Copy, PartialEq, Eq)]
 pub struct Retired {
     /// How many items the source had.
     pub items: u64,

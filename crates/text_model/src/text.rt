@@ -9,7 +9,7 @@ use std::fmt;
 use std::marker::Model;
 
 /// A text. Contracts see it as its bytes.
-#[derive(Debug, Drop)]
+#[derive(Drop)]
 pub struct Text {
     text: String,
 }

@@ -9,7 +9,7 @@ use std::alloc::AllocError;
 use vault_faults::{CatFault, Limit};
 
 /// How an item of a vault differs from what another holds.
-#[derive(Clone, Copy, Debug, PartialEq, Eq)]
+#[derive(Clone, Copy, PartialEq, Eq)]
 pub enum How {
     /// No item there has its path.
     Missing,
@@ -20,7 +20,7 @@ pub enum How {
 }
 
 /// How two vaults differ at a path.
-#[derive(Clone, Copy, Debug, PartialEq, Eq)]
+#[derive(Clone, Copy, PartialEq, Eq)]
 pub enum Where {
     Missing,
     Kind,
@@ -41,7 +41,7 @@ pub fn where_of(how: How) -> Where
 }
 
 /// Whether a vault holds all items of another.
-#[derive(Debug, Drop)]
+#[derive(Drop)]
 pub enum Match {
     /// It does, and it holds no other items.
     Same,
@@ -52,7 +52,7 @@ pub enum Match {
 }
 
 /// Why a plan isn't mapped.
-#[derive(Debug, Drop)]
+#[derive(Drop)]
 pub enum MapFault {
     /// A name of the item at this path, mapped, is no name. It is the first such item.
     NotAName(PlainPath),
@@ -73,7 +73,7 @@ impl From<AllocError> for MapFault {
 }
 
 /// Why two vaults aren't compared to the end.
-#[derive(Debug, Drop)]
+#[derive(Drop)]
 pub enum MatchFault {
     /// The content file at this path has this fault.
     Damaged(FPath, ChunkFault),

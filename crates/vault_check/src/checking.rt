@@ -22,7 +22,7 @@ use vault_spec::laws::what_stands_is_found_step_by_step;
 use vault_walk::{Finding, Surveyed, survey};
 
 /// What a check of a vault tells: its findings, which have the numbers 1 to 13, and its notes, which have the number 14.
-#[derive(Debug, Drop)]
+#[derive(Drop)]
 pub struct Report {
     pub findings: Vec<Finding>,
     pub notes: Vec<FPath>,

@@ -5,7 +5,7 @@ use vault_faults::Limit;
 use vault_walk::WalkFault;
 
 /// Why a vault isn't checked, or isn't repaired.
-#[derive(Debug, Drop)]
+#[derive(Drop)]
 pub enum CheckFault {
     /// The vault is too deep or has too many items, or the content file at a path is too long.
     Limit(Limit),

@@ -6,7 +6,7 @@ use plain_tree::PlainPath;
 use std::alloc::AllocError;
 
 /// Why a plain path isn't found, or isn't entered.
-#[derive(Debug, Drop)]
+#[derive(Drop)]
 pub enum FindFault {
     /// Nothing stands at this path.
     NotFound(PlainPath),
@@ -48,7 +48,7 @@ impl From<FolderFault> for FindFault {
 }
 
 /// A limit that was passed.
-#[derive(Debug, Drop)]
+#[derive(Drop)]
 pub enum Limit {
     /// The depth of a plain path.
     Depth,
@@ -61,7 +61,7 @@ pub enum Limit {
 }
 
 /// Why a content isn't read to its end.
-#[derive(Debug, Drop)]
+#[derive(Drop)]
 pub enum CatFault {
     /// No file was found.
     Find(FindFault),

@@ -3,14 +3,14 @@ use std::alloc::AllocError;
 use text_model::Text;
 
 /// What is stored of a name: the entry's name and, for a long name, the text of its long-name file.
-#[derive(Debug, PartialEq, Eq, Drop)]
+#[derive(PartialEq, Eq, Drop)]
 pub struct Stored {
     pub name: Text,
     pub full: Option<Text>,
 }
 
 /// Why a text gave no name.
-#[derive(Clone, Copy, Debug, PartialEq, Eq)]
+#[derive(Clone, Copy, PartialEq, Eq)]
 pub enum NameFault {
     /// No name encrypts to the text.
     NotStored,

@@ -6,7 +6,7 @@ use gocrypt_conf::GoConfFault;
 use std::alloc::AllocError;
 
 /// Why a folder and a passphrase are no vault: the first test that fails.
-#[derive(Debug, Drop)]
+#[derive(Drop)]
 pub enum LoadFault {
     /// Nothing stands at this path.
     Missing(FPath),

@@ -24,7 +24,7 @@ use vault_spec::Lack;
 
 /// A file or directory of a vault, and its path in the folder: the vault's root for the root, the entry for another directory,
 /// and for a file the file of its content.
-#[derive(Debug, Drop)]
+#[derive(Drop)]
 pub struct Place {
     pub at: FPath,
     pub node: NodeKind,
@@ -32,7 +32,7 @@ pub struct Place {
 
 /// A directory of a vault: its path in the folder as a `Place` has it, the folder that holds its entries, and the key that
 /// their names are stored under.
-#[derive(Debug, Drop)]
+#[derive(Drop)]
 pub struct DirPlace {
     pub at: FPath,
     pub folder: FPath,

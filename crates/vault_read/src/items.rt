@@ -26,7 +26,7 @@ pub(crate) const ID_FILE: &str = "dir.c9r";
 const SYMLINK_FILE: &str = "symlink.c9r";
 
 /// What an entry is, if its name is right.
-#[derive(Clone, Copy, Debug, PartialEq, Eq)]
+#[derive(Clone, Copy, PartialEq, Eq)]
 pub enum EntryItem {
     Nothing,
     /// A file whose content the entry stores.

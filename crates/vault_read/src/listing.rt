@@ -44,7 +44,7 @@ const LONG_END: &str = ".c9s";
 const MAX_TEXT_SIZE: usize = 1_024;
 
 /// An item with its name in its directory.
-#[derive(Debug, Drop)]
+#[derive(Drop)]
 pub struct Item {
     pub name: Name,
     pub node: NodeKind,
@@ -80,7 +80,7 @@ pub fn list<F: Folder>(
 }
 
 /// The name that an entry stands for, and whether it is long: whether its text stands in a file of its own.
-#[derive(Debug, Drop)]
+#[derive(Drop)]
 pub struct NameAt {
     pub name: Name,
     pub long: bool,

@@ -19,7 +19,7 @@ use vault_names::laws::cm_folders_are_plain;
 use vault_names::{CmNameKeys, GoNameKeys, Stored};
 
 /// The formats of vaults.
-#[derive(Clone, Copy, Debug, PartialEq, Eq)]
+#[derive(Clone, Copy, PartialEq, Eq)]
 pub enum VaultKind {
     /// gocryptfs, on-disk format 2.
     Gocryptfs,

@@ -6,7 +6,7 @@
 pub mod laws;
 
 /// What a check finds in a vault, by the numbers from 1 to 14. The last is a note and no fault.
-#[derive(Debug, Clone, Copy, PartialEq, Eq, Drop)]
+#[derive(Clone, Copy, PartialEq, Eq, Drop)]
 pub enum Finding {
     BadStoredName,
     NoDirKey,
@@ -25,7 +25,7 @@ pub enum Finding {
 }
 
 /// What keeps a directory that stands from being entered.
-#[derive(Debug, Clone, Copy, PartialEq, Eq, Drop)]
+#[derive(Clone, Copy, PartialEq, Eq, Drop)]
 pub enum Lack {
     NoDirKey,
     NoFolder,

@@ -6,7 +6,7 @@ use std::alloc::AllocError;
 use vault_faults::Limit;
 
 /// A finding: its path in the folder, its number, and the fault of a damaged content.
-#[derive(Debug, Drop)]
+#[derive(Drop)]
 pub struct Finding {
     pub at: FPath,
     pub number: u8,
@@ -14,7 +14,7 @@ pub struct Finding {
 }
 
 /// Why a walk gives no plan.
-#[derive(Debug, Drop)]
+#[derive(Drop)]
 pub enum WalkFault {
     /// The vault isn't clean. This is the first finding.
     NotClean(Finding),

@@ -7,7 +7,7 @@ use crate::order::in_order;
 use folder_model::FPath;
 
 /// A finding of a number at a path of the folder.
-#[derive(Debug, PartialEq, Eq, PartialOrd, Ord, Drop)]
+#[derive(PartialEq, Eq, PartialOrd, Ord, Drop)]
 pub(crate) struct Found {
     pub(crate) at: FPath,
     pub(crate) number: u8,

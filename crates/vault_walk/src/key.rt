@@ -12,7 +12,7 @@ use std::marker::Model;
 use vault_read::Directory;
 
 /// The key of a directory, ordered by its bytes.
-#[derive(Debug, Drop)]
+#[derive(Drop)]
 pub(crate) struct Key {
     bytes: Vec<u8>,
 }
@@ -81,7 +81,7 @@ impl Key {
 }
 
 /// A directory, ordered by its folder and its key.
-#[derive(Debug, PartialEq, Eq, PartialOrd, Ord, Drop)]
+#[derive(PartialEq, Eq, PartialOrd, Ord, Drop)]
 pub(crate) struct Node {
     pub(crate) folder: FPath,
     pub(crate) key: Key,

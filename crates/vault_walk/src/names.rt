@@ -21,7 +21,7 @@ const FULL_END: &str = ".name";
 const LONG_START: &str = "gocryptfs.longname.";
 
 /// What a path outside of the folders of entries is for.
-#[derive(Clone, Copy, Debug, PartialEq, Eq)]
+#[derive(Clone, Copy, PartialEq, Eq)]
 pub(crate) enum Role {
     /// Nothing that is looked at.
     Expected,

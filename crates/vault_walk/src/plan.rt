@@ -11,7 +11,7 @@ use std::marker::Model;
 
 /// An item of a vault: its path from the root, its kind, and its path in the folder, which is that of its content where it is a
 /// file.
-#[derive(Debug, Drop)]
+#[derive(Drop)]
 pub struct PlanItem {
     pub path: PlainPath,
     pub node: NodeKind,
@@ -27,7 +27,7 @@ impl Model for PlanItem {
 }
 
 /// The items of a plan. Contracts see them as a list.
-#[derive(Debug, Drop)]
+#[derive(Drop)]
 pub struct PlanItems {
     items: Vec<PlanItem>,
 }
@@ -65,7 +65,7 @@ impl PlanItems {
 }
 
 /// The items of a vault.
-#[derive(Debug, Drop)]
+#[derive(Drop)]
 pub struct Plan {
     pub items: PlanItems,
 }

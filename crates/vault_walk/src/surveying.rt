@@ -36,7 +36,7 @@ use vault_read::{Vault, joined};
 use vault_spec::laws::what_stands_is_found_step_by_step;
 
 /// What a survey tells of a vault: its items, its findings, which have the numbers 1 to 11, and its notes, which have the number 14.
-#[derive(Debug, Drop)]
+#[derive(Drop)]
 pub struct Surveyed {
     pub plan: Plan,
     pub findings: Vec<Finding>,

@@ -16,7 +16,7 @@ use std::alloc::{AllocError, Global};
 use std::collections::BTreeSet;
 
 /// A directory item with a key: the directory of that, and the item's entry.
-#[derive(Debug, PartialEq, Eq, PartialOrd, Ord, Drop)]
+#[derive(PartialEq, Eq, PartialOrd, Ord, Drop)]
 pub(crate) struct Target {
     pub(crate) node: Node,
     pub(crate) at: FPath,

@@ -5,7 +5,7 @@ use folder_staging::RemovalFault;
 use std::alloc::AllocError;
 
 /// Why a work folder is not ready.
-#[derive(Debug, PartialEq, Drop)]
+#[derive(PartialEq, Drop)]
 pub enum WorkFault {
     /// Nothing stands at this path, where the work folder's parent is to be.
     NoParent(FPath),

@@ -10,7 +10,7 @@ use std::marker::Model;
 /// A work folder that was ready when it was entered: its `stage` was a directory without entries.
 ///
 /// Contracts see it as its path.
-#[derive(Debug, Drop)]
+#[derive(Drop)]
 pub struct Work {
     at: FPath,
 }

@@ -2,7 +2,7 @@
 use crate::path::FPath;
 
 /// A call that changes the folder.
-#[derive(Debug, Drop)]
+#[derive(Drop)]
 pub enum Call {
     MakeDir(FPath),
     Create(FPath),
@@ -15,7 +15,7 @@ pub enum Call {
 }
 
 /// How a call ended: of a failed one, how many bytes it had added.
-#[derive(Debug, Clone, Copy, PartialEq, Eq, Drop)]
+#[derive(Clone, Copy, PartialEq, Eq, Drop)]
 pub enum Outcome {
     Done,
     Failed(usize),
@@ -23,7 +23,7 @@ pub enum Outcome {
 }
 
 /// A call that was answered.
-#[derive(Debug, Drop)]
+#[derive(Drop)]
 pub struct Logged {
     pub call: Call,
     pub outcome: Outcome,

@@ -9,7 +9,7 @@ use crate::mem::step::Step;
 use std::alloc::{AllocError, Global};
 
 /// Which image a crash leaves.
-#[derive(Debug, Drop)]
+#[derive(Drop)]
 pub struct Pick {
     /// The number of the name table: 0 is the kept one, and a number past the last means the last.
     pub table: usize,

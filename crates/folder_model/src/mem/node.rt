@@ -6,7 +6,7 @@ ghost use Rattle.folder_spec.specs.Event.{empty_node, grown, synced};
 use std::alloc::{AllocError, Global};
 use std::marker::Model;
 
-#[derive(Debug, Drop)]
+#[derive(Drop)]
 pub struct FileBytes {
     bytes: Vec<u8>,
     kept: usize,

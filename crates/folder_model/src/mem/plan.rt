@@ -5,7 +5,7 @@ ghost use Rattle.folder_model.specs.Plan.{added_for};
 use std::alloc::{AllocError, Global};
 
 /// A call that is to fail, by its number over all calls.
-#[derive(Debug, Clone, Copy, Drop)]
+#[derive(Clone, Copy, Drop)]
 pub struct Failing {
     pub call: u64,
     /// How many first bytes of its piece an append adds.
@@ -13,7 +13,7 @@ pub struct Failing {
 }
 
 /// How many calls there were, and how many of them were to change the folder, and which are to fail.
-#[derive(Debug, Drop)]
+#[derive(Drop)]
 pub struct CallPlan {
     calls: u64,
     changes: u64,

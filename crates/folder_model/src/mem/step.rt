@@ -12,7 +12,7 @@ use folder_spec::Spot;
 use std::alloc::{AllocError, Global};
 
 /// A change of a name table.
-#[derive(Debug, Drop)]
+#[derive(Drop)]
 pub enum Step {
     /// This stands at the path now.
     Put(FPath, Spot),
@@ -21,7 +21,7 @@ pub enum Step {
 }
 
 // What stands at a path after a step.
-#[derive(Debug, Drop)]
+#[derive(Drop)]
 enum Looked {
     Here(Spot),
     // What stood there before.

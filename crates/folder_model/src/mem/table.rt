@@ -12,7 +12,7 @@ use std::alloc::{AllocError, Global};
 use std::collections::BTreeMap;
 
 /// What stands at each path: nothing where there is no entry.
-#[derive(Debug, Drop)]
+#[derive(Drop)]
 pub struct NameTable {
     alloc: Global,
     spots: BTreeMap<FPath, Spot>,

@@ -103,13 +103,10 @@ fn kind_of_root<F: Folder>(folder: &mut F, root: &FPath) -> Result<VaultKind, Fo
     ensures kind { IfOk result (λ kind. IfSeen (F.told folder.old) (λ v. kind ≡ kind_by (is_file (v (root.now ++ go_conf))) (is_file (v (root.now ++ vault_file))))) }
     ensures counts { CountsAbove (F.faults folder.old) (F.faults folder.new) result }
 {
-    if is_file_below(folder, root, GO_CONF)? {
-        return Ok(VaultKind::Gocryptfs);
-    }
-    if is_file_below(folder, root, VAULT_FILE)? {
-        Ok(VaultKind::Cryptomator)
-    } else {
+    if is_file_below(folder, root, GO_CONF)? || !is_file_below(folder, root, VAULT_FILE)? {
         Ok(VaultKind::Gocryptfs)
+    } else {
+        Ok(VaultKind::Cryptomator)
     }
 }
 

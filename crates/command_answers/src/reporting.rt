@@ -4,8 +4,8 @@ ghost use Rattle.command_answers.specs.Messages.{IsReported, TakesText, is_plain
 
 use crate::answer::Answer;
 use crate::texts::{
-    at_path, behind, both, changed_text, damage_text, differ_text, finding_name, flaw_text,
-    limit_text, named_text, refusal_text, shown_folder,
+    at_path, behind, behind_folder, both, changed_text, damage_text, differ_text, finding_name,
+    flaw_text, limit_text, named_text, refusal_text, shown_folder,
 };
 use port_model::Sink;
 use std::alloc::{AllocError, Global};
@@ -78,11 +78,7 @@ fn message_of(alloc: Global, answer: &Answer) -> Result<String, AllocError>
             at,
             refusal_text(alloc, why)?.as_str(),
         ),
-        Answer::WrongPass(root) => behind(
-            alloc,
-            "wrong passphrase: ",
-            shown_folder(alloc, root)?.as_str(),
-        ),
+        Answer::WrongPass(root) => behind_folder(alloc, "wrong passphrase: ", root),
         Answer::NotFound(what) => behind(alloc, "not found: ", named_text(alloc, what)?.as_str()),
         Answer::WrongKind(what) => behind(alloc, "wrong kind: ", named_text(alloc, what)?.as_str()),
         Answer::DamagedInput(fault) => format!(in alloc; "damaged: input: {fault}"),
@@ -102,12 +98,8 @@ fn message_of(alloc: Global, answer: &Answer) -> Result<String, AllocError>
             shown_folder(alloc, first)?.as_str(),
             shown_folder(alloc, second)?.as_str(),
         ),
-        Answer::NotEmpty(at) => behind(alloc, "not empty: ", shown_folder(alloc, at)?.as_str()),
-        Answer::Begun(work) => behind(
-            alloc,
-            "already begun: ",
-            shown_folder(alloc, work)?.as_str(),
-        ),
+        Answer::NotEmpty(at) => behind_folder(alloc, "not empty: ", at),
+        Answer::Begun(work) => behind_folder(alloc, "already begun: ", work),
         Answer::Unusable(work, why) => at_path(
             alloc,
             "no usable journal: ",
@@ -118,13 +110,9 @@ fn message_of(alloc: Global, answer: &Answer) -> Result<String, AllocError>
             changed_text(alloc, plan, *items, plan_now, *items_now)
         }
         Answer::Differ(path, how) => differ_text(alloc, path, *how),
-        Answer::Taken(at) => behind(alloc, "place taken: ", shown_folder(alloc, at)?.as_str()),
+        Answer::Taken(at) => behind_folder(alloc, "place taken: ", at),
         Answer::Limit(which) => behind(alloc, "limit: ", limit_text(alloc, which)?.as_str()),
-        Answer::Retired(work) => behind(
-            alloc,
-            "source retired: ",
-            shown_folder(alloc, work)?.as_str(),
-        ),
+        Answer::Retired(work) => behind_folder(alloc, "source retired: ", work),
         Answer::Meet(one, other) => both(
             alloc,
             "names meet: ",

@@ -19,6 +19,13 @@ pub(crate) fn behind(alloc: Global, words: &str, text: &str) -> Result<String, A
     Ok(whole)
 }
 
+// A folder's path behind words.
+pub(crate) fn behind_folder(alloc: Global, words: &str, at: &FPath) -> Result<String, AllocError>
+    ensures { IfOk result (λ whole. string_bytes whole ≡ words.now ++ shown_path at.now) }
+{
+    behind(alloc, words, shown_folder(alloc, at)?.as_str())
+}
+
 // Words, a path, and what is said of it.
 pub(crate) fn at_path(
     alloc: Global,
@@ -28,7 +35,7 @@ pub(crate) fn at_path(
 ) -> Result<String, AllocError>
     ensures { IfOk result (λ whole. string_bytes whole ≡ words.now ++ shown_path at.now ++ codes ": " ++ text.now) }
 {
-    let mut whole = behind(alloc, words, shown_folder(alloc, at)?.as_str())?;
+    let mut whole = behind_folder(alloc, words, at)?;
     whole.push_str(": ")?;
     whole.push_str(text)?;
     Ok(whole)
@@ -84,7 +91,7 @@ pub(crate) fn limit_text(alloc: Global, which: &Limit) -> Result<String, AllocEr
     match which {
         Limit::Depth => String::from_str(alloc, "depth"),
         Limit::Items => String::from_str(alloc, "items"),
-        Limit::Length(at) => behind(alloc, "length ", shown_folder(alloc, at)?.as_str()),
+        Limit::Length(at) => behind_folder(alloc, "length ", at),
         Limit::PassFile => String::from_str(alloc, "pass file"),
         Limit::Input => String::from_str(alloc, "input"),
         Limit::Removal => String::from_str(alloc, "removal"),
@@ -111,14 +118,12 @@ pub(crate) fn changed_text(
 ) -> Result<String, AllocError>
     ensures { IfOk result (λ text. string_bytes text ≡ codes "source changed: " ++ plan_text plan.now items ++ codes " " ++ plan_text plan_now.now items_now) }
 {
-    let mut text = behind(
+    both(
         alloc,
         "source changed: ",
         plan_text(alloc, plan, items)?.as_str(),
-    )?;
-    text.push_str(" ")?;
-    text.push_str(plan_text(alloc, plan_now, items_now)?.as_str())?;
-    Ok(text)
+        plan_text(alloc, plan_now, items_now)?.as_str(),
+    )
 }
 
 fn plan_text(alloc: Global, plan: &[u8; 32], items: u64) -> Result<String, AllocError>

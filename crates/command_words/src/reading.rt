@@ -1,9 +1,9 @@
 //! What the words behind a command's name write, by the command's row.
 ghost use Rattle.std.specs.List.{list_all};
-ghost use Rattle.std.specs.Prelude.{◌≡◌, ◌==◌, ◌++◌, All, IfOk, IfSome, map, nat_le, option_map, string_bytes};
+ghost use Rattle.std.specs.Prelude.{◌≡◌, ◌==◌, ◌++◌, ◌∷◌, All, IfOk, IfSome, MatchOption, None, map, nat_le, option_map, string_bytes};
 ghost use Rattle.command_words.specs.Rows.{option_of_code, row_of_code};
 ghost use Rattle.command_words.specs.Words.{is_among};
-ghost use Rattle.command_words.specs.Values.{fits, flag_values, is_of, may_lack, option_values, times, value_named, values_of, written};
+ghost use Rattle.command_words.specs.Values.{fits, flag_values, is_of, joined, may_lack, option_values, times, value_by, value_named, values_of, written};
 ghost use Rattle.command_words.specs.Written.{IsWritten};
 
 use crate::arguments::{Arguments, Choice, is_among};
@@ -137,10 +137,8 @@ fn words_read(
     let mut values = Vec::new(alloc);
     let (mut kinds, mut words) = (kinds, words);
     while let Some((kind, more)) = kinds.split_first() {
-        let (word, others) = match words.split_first() {
-            Some((word, others)) => (word.as_str(), others),
-            None if may_lack(*kind, more) => ("", words),
-            None => return Ok(None),
+        let Some((word, others)) = next_word(*kind, more, words) else {
+            return Ok(None);
         };
         let Some(value) = value_of(alloc, *kind, word)? else {
             return Ok(None);
@@ -153,6 +151,18 @@ fn words_read(
         Ok(Some(values))
     } else {
         Ok(None)
+    }
+}
+
+// The word of this kind, before words of these kinds, and the words behind it: the empty text where it is left out.
+fn next_word<'a>(kind: Kind, more: &[Kind], words: &'a [Text]) -> Option<(&'a str, &'a [Text])>
+    ensures { MatchOption result (values_of (kind ∷ more.now) words.now ≡ None)
+        (λ found. values_of (kind ∷ more.now) words.now ≡ joined (value_by kind found.0.now) (values_of more.now found.1.now)) }
+{
+    match words.split_first() {
+        Some((word, others)) => Some((word.as_str(), others)),
+        None if may_lack(kind, more) => Some(("", words)),
+        None => None,
     }
 }
 

@@ -7,9 +7,8 @@ use Rattle.folder_spec.specs.Event.{Settle, changed, with_table}
 use Rattle.folder_spec.specs.Path.{Part, Path, below, child}
 use Rattle.folder_spec.specs.Seen.{seen, under}
 use Rattle.folder_spec.specs.State.{State, Table, IsClean as CleanNode, IsSound, IsTableOf, moved, present}
-use Rattle.folder_spec.specs.View.{FileOf, Folder, Found, NoEntry, Special, View, found, kind_found, view_in}
+use Rattle.folder_spec.specs.View.{FileOf, Folder, Found, NoEntry, Special, View, kind_found, view_in}
 use Rattle.folder_spec.specs.declared.Kind.TheVariants as kind
-use Rattle.folder_spec.specs.declared.Spot.{Spot}
 use Rattle.folder_spec.specs.declared.Spot.TheVariants.{Nothing, FileNode}
 use Rattle.move_journal.specs.declared.journal.Phase.TheVariants as phase
 use Rattle.migration_spec.proofs.Guards.{ImagesShow, RootsAreAlike, guarded_by, ShowsCase, journal_alike, target_alike}
@@ -21,7 +20,7 @@ use Rattle.vault_spec.specs.Findings.{IsClean}
 use Rattle.vault_spec.specs.Vault.{Vault, format_of}
 use Rattle.content_writing.specs.Making.{is_inside}
 use Rattle.work_folder.specs.Entries.{is_foreign, journal_path, stage_path}
-use Rattle.retire_core.proofs.RetiredTables.{kinds_in_table, only_table, rest_seen, same_foreign, same_nodes}
+use Rattle.retire_core.proofs.RetiredTables.{found_alike, kinds_in_table, only_table, rest_seen, same_foreign, same_nodes}
 use Rattle.retire_core.specs.Guarding.{IsDoneAtRest, IsRetiredTable, IsRetiring}
 
 -- below the root of a clean vault are only files and directories
@@ -59,9 +58,6 @@ module _ (alike : RootsAreAlike) (none_special : HasNoSpecial) (g : Migration) (
 
   abbrev w : View
   w = view_in s after
-
-  find : {x y : Spot} → x ≡ y → found (λ n. (s.nodes n).now) x ≡ found (λ n. (s.nodes n).now) y
-  find same = ap (found (λ n. (s.nodes n).now)) same
 
   -- the work folder before: nothing is foreign, and `old` isn't there
   guarded : IsGuarded g (seen s)
@@ -104,12 +100,12 @@ module _ (alike : RootsAreAlike) (none_special : HasNoSpecial) (g : Migration) (
   target_stays : under g.target.root v ≡ under g.target.root w
   target_stays = alike g.target.root v w (λ q inside.
       let there = is_below g.target.root q inside in
-      sym (find (stays q
+      sym (found_alike s (stays q
       (behind_none g.work (codes "old" ∷ []) q (apart_below g.target.root g.work q at.rest.guarded.separate.target inside))
       (ap (below g.source.root) there.1 ∙ below-apart g.source.root g.target.root there.0 at.rest.guarded.separate.vaults.one at.rest.guarded.separate.vaults.other))))
 
   journal_stays : w (journal_path g.work) ≡ v (journal_path g.work)
-  journal_stays = find (entry_stays (codes "journal") refl)
+  journal_stays = found_alike s (entry_stays (codes "journal") refl)
 
   clean_after : (q : Path) (n : ℕ) → IsTrue (is_kept g q) → after q ≡ FileNode n → CleanNode (s.nodes n)
   clean_after q n kept at_node = by_source (begins_or_not g.source.root q)
@@ -129,13 +125,13 @@ module _ (alike : RootsAreAlike) (none_special : HasNoSpecial) (g : Migration) (
 
   -- the work folder afterwards
   kind_stays : (q : Path) → after q ≡ t q → kinds_in w q ≡ kinds_in v q
-  kind_stays q same = ap kind_found (find same)
+  kind_stays q same = ap kind_found (found_alike s same)
 
   work_stays : after g.work ≡ t g.work
   work_stays = stays g.work (subst (λ q. below old q ≡ None) (append-nil g.work) (below-both g.work (codes "old" ∷ []) [])) (subst (λ q. below g.source.root q ≡ None) (append-nil g.work) (in_work []))
 
   old_folder : kinds_in w old ≡ kind.Dir
-  old_folder = ap kind_found (find (ap after (sym (append-nil old)) ∙ old_there []) ∙ at.done.source.there.good.orderly.root_there)
+  old_folder = ap kind_found (found_alike s (ap after (sym (append-nil old)) ∙ old_there []) ∙ at.done.source.there.good.orderly.root_there)
 
   entries : ((name : Part) → ¬ IsTrue (is_foreign false name (kinds_in v (child g.work name)))) → (name : Part) → ¬ IsTrue (is_foreign true name (kinds_in w (child g.work name)))
   entries none name foreign = by_name (bytes_eq name (codes "old")) refl
@@ -172,12 +168,12 @@ module _ (alike : RootsAreAlike) (none_special : HasNoSpecial) (g : Migration) (
     moved = λ q inside other.
         let there = inside_is old q inside in
         none_special g.source.vault (under g.source.root v) at.done.source.there.good.clean at.done.source.there.good.orderly there.0
-        (kind_special (v (g.source.root ++ there.0)) (ap kind_found (find (sym (old_there there.0))) ∙ ap (kinds_in w) (sym there.1) ∙ other));
+        (kind_special (v (g.source.root ++ there.0)) (ap kind_found (found_alike s (sym (old_there there.0))) ∙ ap (kinds_in w) (sym there.1) ∙ other));
   }
 
   abbrev retired_after : IsRetired g w
   retired_after = record {
-    gone = find source_gone;
+    gone = found_alike s source_gone;
     journal = Stands (journal_alike g phase.Done w v journal_stays at.done.journal);
     target = target_alike g w v target_stays at.done.target;
   }

@@ -78,6 +78,10 @@ without_old k work none is = record {
         by_name true is = nothing_foreign false name (ap (is_foreign false name) (sym (ap (λ a. k (child work a)) ((bytes_eq-Decides name (codes "old")).0 is) ∙ none)) ∙ foreign)
         by_name false is = no_ (same_foreign name (k (child work name)) is ∙ foreign)
 
+-- what stands alike is found alike
+pub found_alike : (s : State) {x y : Spot} → x ≡ y → found (λ n. (s.nodes n).now) x ≡ found (λ n. (s.nodes n).now) y
+found_alike s same = ap (found (λ n. (s.nodes n).now)) same
+
 -- ---- guarded
 
 pub kinds_in_table : (s : State) (t : Table) → kinds_in (view_in s t) ≡ kinds_of t
@@ -181,17 +185,14 @@ module _ (alike : RootsAreAlike) (g : Migration) (s : State) (p : Path) (is : Is
     | inr other ↦ inr (other.0, put-other (present s) p Nothing q other.0)
   ]
 
-  find : {x y : Spot} → x ≡ y → found (λ n. (s.nodes n).now) x ≡ found (λ n. (s.nodes n).now) y
-  find same = ap (found (λ n. (s.nodes n).now)) same
-
   fewer : AreFewer (kinds_in v) (kinds_in w)
-  fewer q = elim (there_or_gone q) [ inl gone ↦ inr (ap kind_found (find gone.1)) | inr same ↦ inl (ap kind_found (find same.1)) ]
+  fewer q = elim (there_or_gone q) [ inl gone ↦ inr (ap kind_found (found_alike s gone.1)) | inr same ↦ inl (ap kind_found (found_alike s same.1)) ]
 
   -- what is apart from the work folder stays
   stays : (q : Path) → below g.work q ≡ None → w q ≡ v q
   stays q none = elim (there_or_gone q) [
     | inl gone ↦ absurd (clash (subst (λ z. IsTrue (at_or_below g.work z)) gone.0 inside) none)
-    | inr same ↦ find same.1
+    | inr same ↦ found_alike s same.1
   ]
     where
       clash : IsTrue (at_or_below g.work q) → below g.work q ≡ None → ⊥
@@ -205,8 +206,8 @@ module _ (alike : RootsAreAlike) (g : Migration) (s : State) (p : Path) (is : Is
 
   old_gone : present s (old_path g.work) ≡ Nothing → kinds_in w (old_path g.work) ≡ kind.Missing
   old_gone none = elim (there_or_gone (old_path g.work)) [
-    | inl gone ↦ ap kind_found (find gone.1)
-    | inr same ↦ ap kind_found (find (same.1 ∙ none))
+    | inl gone ↦ ap kind_found (found_alike s gone.1)
+    | inr same ↦ ap kind_found (found_alike s (same.1 ∙ none))
   ]
 
   left_old : (old : Bool) → present s (old_path g.work) ≡ Nothing → IsWork old (kinds_in v) g.work → IsWork false (kinds_in w) g.work
@@ -219,8 +220,8 @@ module _ (alike : RootsAreAlike) (g : Migration) (s : State) (p : Path) (is : Is
 
   left : Left
   left = elim (there_or_gone (journal_path g.work)) [
-    | inl gone ↦ (Gone (find gone.1), left_old (has_old_by g v before.retired.journal) (last gone.0) before.work)
-    | inr same ↦ left_by before.retired.journal before.work (find same.1)
+    | inl gone ↦ (Gone (found_alike s gone.1), left_old (has_old_by g v before.retired.journal) (last gone.0) before.work)
+    | inr same ↦ left_by before.retired.journal before.work (found_alike s same.1)
   ]
 
   removed_table : IsRetiredTable g s after
@@ -230,7 +231,7 @@ module _ (alike : RootsAreAlike) (g : Migration) (s : State) (p : Path) (is : Is
       | inr same ↦ before.clean q n kept (sym same.1 ∙ at)
     ];
     retired = record {
-      gone = elim (there_or_gone g.source.root) [ inl gone ↦ find gone.1 | inr same ↦ find same.1 ∙ before.retired.gone ];
+      gone = elim (there_or_gone g.source.root) [ inl gone ↦ found_alike s gone.1 | inr same ↦ found_alike s same.1 ∙ before.retired.gone ];
       journal = left.0;
       target = target_alike g w v target_stays before.retired.target;
     };

@@ -1,5 +1,5 @@
 -- Ending a migration: that the target holds all that the source held, and what writing so in the journal does.
-use Rattle.std.proofs.Common.{◌≡◌, ◌≢◌, ℕ, List, ◌∷◌, ◌++◌, [], length, Option, Some, None, Result, Ok, Err, IfOk, OnOk, refl, sym, ap, ◌∙◌, subst}
+use Rattle.std.proofs.Common.{◌≡◌, ◌≢◌, ℕ, List, ◌∷◌, ◌++◌, [], length, Option, Some, None, Result, Ok, Err, IfOk, IsErrAnd, OnOk, refl, sym, ap, ◌∙◌, subst}
 use Rattle.std.proofs.Math.Path.{fun_ext}
 use Rattle.folder_spec.specs.declared.FolderFault.{FolderFault}
 use Rattle.folder_spec.specs.Event.{Told, FromTo}
@@ -175,9 +175,10 @@ says_done_here finishes finished g work j t u result same is phase tells sound w
     (subst (λ w. OnOk result (HasWritten w (done_of j) t u)) same written))
 
 -- another refusal
-pub says_failed : {T U E D : Type 0} (g : Migration) (j : Journal) (t u : Option Told) (result : Result T E) (other : Result U D) (fault : D) → other ≡ Err fault
+pub says_failed : {T U E D : Type 0} (Q : D → Type 0) (g : Migration) (j : Journal) (t u : Option Told) (result : Result T E) (other : Result U D) → IsErrAnd other Q
     → FinishesFrom g (progress_of j.phase) t u result → FinishesFrom g (progress_of j.phase) t u other
-says_failed g j t u result other fault is h = (h.0, subst (λ r. IfOk r (λ value. FromTo (λ a b. IsAlone g (progress_of j.phase) a.state → HoldsAll g (seen a.state) → IsAlone g Finished b.state) t u)) (sym is) tt)
+says_failed Q g j t u result (Ok value) refused h = absurd refused
+says_failed Q g j t u result (Err fault) refused h = (h.0, tt)
 
 -- and so does what ends a migration between two vaults that compare as the same
 pub finish_goes : {T E : Type 0} → SeenAlone → MappedStayApart → HoldsHeld → SameIsPart → BothAreMapped → (g : Migration) (rule : NameMap) (from to : OpenedVault) (work : Path) → AreSides g rule from to work

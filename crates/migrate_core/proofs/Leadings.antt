@@ -1,5 +1,5 @@
 -- Calls that lead a migration on, one after the other.
-use Rattle.std.proofs.Common.{◌≡◌, Option, Some, None, Result, Ok, Err, IfOk, OnOk, refl, sym, subst}
+use Rattle.std.proofs.Common.{◌≡◌, Option, Some, None, Result, Ok, Err, IfOk, IsErrAnd, OnOk, refl}
 use Rattle.folder_spec.proofs.Moments.{went_nowhere, went_on, went_more, went_to}
 use Rattle.folder_spec.proofs.Tellings.{from_to_more, from_to_on, from_to_same}
 use Rattle.folder_spec.specs.Event.{Told, FromTo}
@@ -27,12 +27,14 @@ pub goes_nowhere : {T E : Type 0} (g : Migration) (p : Progress) (t u : Option T
 goes_nowhere g p t u result is = (still_guards g p t u is, if_ok (Leads g p p t u) result (still_leads g p t u is))
 
 -- a refusal that changes nothing, wherever the call was to lead
-pub refused_nowhere : {T E : Type 0} (g : Migration) (p q : Progress) (t u : Option Told) (result : Result T E) (fault : E) → result ≡ Err fault → u ≡ t → Goes g p q t u result
-refused_nowhere {T = T} {E = E} g p q t u result fault refused is = subst (λ (r : Result T E). Goes g p q t u r) (sym refused) (still_guards g p t u is, tt)
+pub refused_nowhere : {T E : Type 0} (Q : E → Type 0) (g : Migration) (p q : Progress) (t u : Option Told) (result : Result T E) → IsErrAnd result Q → u ≡ t → Goes g p q t u result
+refused_nowhere Q g p q t u (Ok value) refused is = absurd refused
+refused_nowhere Q g p q t u (Err fault) refused is = (still_guards g p t u is, tt)
 
 -- what fails doesn't lead on
-pub goes_failed : {T U E D : Type 0} (g : Migration) (p q r : Progress) (t u : Option Told) (result : Result T E) (other : Result U D) (fault : D) → other ≡ Err fault → Goes g p q t u result → Goes g p r t u other
-goes_failed {U = U} {D = D} g p q r t u result other fault refused goes = subst (λ (x : Result U D). Goes g p r t u x) (sym refused) (goes.0, tt)
+pub goes_failed : {T U E D : Type 0} (Q : D → Type 0) (g : Migration) (p q r : Progress) (t u : Option Told) (result : Result T E) (other : Result U D) → IsErrAnd other Q → Goes g p q t u result → Goes g p r t u other
+goes_failed Q g p q r t u result (Ok value) refused goes = absurd refused
+goes_failed Q g p q r t u result (Err fault) refused goes = (goes.0, tt)
 
 pub guards_on : (g : Migration) (p q : Progress) (t u w : Option Told) → Guards g p t u → Leads g p q t u → Guards g q u w → Guards g p t w
 guards_on g p q None None None first leads later = tt

@@ -1,5 +1,5 @@
 -- At which content comparing the two vaults stops when it passes the limit.
-use Rattle.std.proofs.Common.{◌≡◌, ◌⊎◌, inl, inr, ℕ, ◌+◌, ◌*◌, ◌≤◌, ◌<◌, ◌++◌, nat_eq, nat_lt, Bool, true, false, List, length, take, drop, Option, Some, Result, Ok, Err, IfErr, Contains, refl, sym, ap, ◌∙◌, subst, subst₂, arith}
+use Rattle.std.proofs.Common.{◌≡◌, ◌⊎◌, inl, inr, ℕ, ◌+◌, ◌*◌, ◌≤◌, ◌<◌, ◌++◌, nat_eq, nat_lt, Bool, true, false, List, length, take, drop, Option, Some, Result, Ok, Err, IfErr, IsErrAnd, Contains, refl, sym, ap, ◌∙◌, subst, subst₂, arith}
 use Rattle.std.proofs.Math.Seq.{drop-append_seam}
 use Rattle.std.proofs.lemmas.Bool.{ltb-true, le-ltb}
 use Rattle.std.proofs.lemmas.List.{length-take, take_all}
@@ -52,7 +52,7 @@ use Rattle.migrate_core.specs.Limits.{StopsElsewhere, StopsFor, EndsBy, HasSmall
 use Rattle.migrate_core.specs.Sides.{IsMappedWalk}
 use Rattle.migrate_core.specs.declared.fault.MoveFault.{MoveFault}
 use Rattle.migrate_core.specs.declared.fault.MoveFault.TheVariants.{Work, Journal as Unread, Overlap, Load, Walk, NotEmpty, NotAllowed, Meet, Changed, Match as Matching, Differ, Place, SourceGone, Failed, NoMemory}
-use Rattle.migration_sides.proofs.Chains.{refused_as}
+use Rattle.migration_sides.proofs.Chains.{fault_as, refused_as}
 
 -- ---- how much is read where reading ends at the limit
 
@@ -323,15 +323,15 @@ pub limit_more : {T : Type 0} (P Q : Path → Type 0) (result : Result T MoveFau
 limit_more P Q (Ok value) more h = tt
 limit_more P Q (Err fault) more h = limit_all (λ v. Unit {0}) (λ v. P) Q fault (λ at all. more at (all (λ q. NoEntry) tt)) (λ v s. h)
 
-pub none_compared : {T : Type 0} (Q : Path → Type 0) (result : Result T MoveFault) (fault why : MoveFault) → result ≡ Err fault → fault ≡ why → StopsElsewhere why → IfErr result (IsOfLimit Q)
-none_compared Q result fault why is same none = refused_as (λ answer. IfErr answer (IsOfLimit Q)) result fault why is same (uncompared Q why none)
+pub none_compared : {T : Type 0} (Q : Path → Type 0) (result : Result T MoveFault) (why : MoveFault) → IsErrAnd result (λ fault. fault ≡ why) → StopsElsewhere why → IfErr result (IsOfLimit Q)
+none_compared Q result why is none = fault_as (IsOfLimit Q) result is (uncompared Q why none)
 
-pub ends_stopped : {T : Type 0} (P Q : Type 0) (rule : NameMap) (from to : OpenedVault) (t : Option Told) (result : Result T MoveFault) (fault why : MoveFault) → result ≡ Err fault → fault ≡ why → StopsFor Q why → EndsBy P Q rule from to t result
-ends_stopped P Q rule from to t result fault why is same stops =
-    refused_as (λ answer. EndsBy P Q rule from to t answer) result fault why is same ((λ v seen. not_compared (PassesLimit rule from to v) Q why stops), taken_for Q Q why (λ h. h) stops)
+pub ends_stopped : {T : Type 0} (P Q : Type 0) (rule : NameMap) (from to : OpenedVault) (t : Option Told) (result : Result T MoveFault) (why : MoveFault) → IsErrAnd result (λ fault. fault ≡ why) → StopsFor Q why → EndsBy P Q rule from to t result
+ends_stopped P Q rule from to t result why is stops =
+    refused_as (λ answer. EndsBy P Q rule from to t answer) result is ((λ v seen. not_compared (PassesLimit rule from to v) Q why stops), taken_for Q Q why (λ h. h) stops)
 
-pub ends_uncompared : {T : Type 0} (P Q : Type 0) (rule : NameMap) (from to : OpenedVault) (t : Option Told) (result : Result T MoveFault) (fault why : MoveFault) → result ≡ Err fault → fault ≡ why → StopsElsewhere why → EndsBy P Q rule from to t result
-ends_uncompared P Q rule from to t result fault why is same none = ends_stopped P Q rule from to t result fault why is same (stops_more ⊥ Q why (λ never. absurd never) none)
+pub ends_uncompared : {T : Type 0} (P Q : Type 0) (rule : NameMap) (from to : OpenedVault) (t : Option Told) (result : Result T MoveFault) (why : MoveFault) → IsErrAnd result (λ fault. fault ≡ why) → StopsElsewhere why → EndsBy P Q rule from to t result
+ends_uncompared P Q rule from to t result why is none = ends_stopped P Q rule from to t result why is (stops_more ⊥ Q why (λ never. absurd never) none)
 
 pub ends_more : {T : Type 0} (P Q R S : Type 0) (rule : NameMap) (from to : OpenedVault) (t : Option Told) (result : Result T MoveFault) → (P → Q) → (R → S) → EndsBy P R rule from to t result → EndsBy Q S rule from to t result
 ends_more P Q R S rule from to t (Ok value) more further ends = more ends
@@ -343,8 +343,8 @@ pub ends_later : {T : Type 0} (P Q : Type 0) (Is R : View → Type 0) (rule : Na
 ends_later P Q Is R rule from to t u w (Ok value) more after later ends = more ends
 ends_later P Q Is R rule from to t u w (Err fault) more after later ends = (ends.0, later_taken Is R t u fault after later)
 
-pub none_taken : {T : Type 0} (Q : Type 0) (result : Result T MoveFault) (fault why : MoveFault) → result ≡ Err fault → fault ≡ why → StopsElsewhere why → IfErr result (IsOfTaken Q)
-none_taken Q result fault why is same none = refused_as (λ answer. IfErr answer (IsOfTaken Q)) result fault why is same (taken_for ⊥ Q why (λ never. absurd never) none)
+pub none_taken : {T : Type 0} (Q : Type 0) (result : Result T MoveFault) (why : MoveFault) → IsErrAnd result (λ fault. fault ≡ why) → StopsElsewhere why → IfErr result (IsOfTaken Q)
+none_taken Q result why is none = fault_as (IsOfTaken Q) result is (taken_for ⊥ Q why (λ never. absurd never) none)
 
 pub if_taken : {T : Type 0} (P Q : Type 0) (result : Result T MoveFault) → (P → Q) → IfErr result (IsOfTaken P) → IfErr result (IsOfTaken Q)
 if_taken P Q (Ok value) more h = tt

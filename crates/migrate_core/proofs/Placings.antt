@@ -38,7 +38,7 @@ use Rattle.work_folder.specs.Entering.{IsReady}
 use Rattle.work_folder.specs.Entries.{stage_path}
 use Rattle.migrate_core.proofs.Leadings.{goes_nowhere}
 use Rattle.migrate_core.proofs.Movings.{moves_nowhere}
-use Rattle.migrate_core.proofs.Planned.{DirectoriesOpen, FilesFit, FilesOpen, IsContentOf, SeenAlone, content_coming, directory_held, file_held}
+use Rattle.migrate_core.proofs.Planned.{DirectoriesOpen, FilesFit, FilesOpen, IsContentOf, SeenAlone, coming_told, directory_held, file_held}
 use Rattle.migrate_core.specs.Leading.{Goes, Leads}
 use Rattle.migrate_core.specs.Moving.{OnlyBrings, MovesBeside}
 use Rattle.migrate_core.specs.Sides.{AreSides, IsItemOf}
@@ -182,5 +182,5 @@ module _ (guards : PlacingGuards) (leads : PlacingLeads) (shown : SeenAlone) (g 
   file_goes opens fits node content gives left made =
       made_goes guards leads g item.path (NewFile made.writing.content) made.writing.ending made.writing.drawn t u result
       (λ a is at whole. file_held shown opens fits g Begun t a item is at item_here node made.writing.content made.writing.ending
-      (λ c told. made.takes.told c (ap (λ x. still_coming (path_of content) x (coming_of content)) is ∙ content_coming g.source item content (subst (λ x. IsContentOf x item content) sides.source gives) a ∙ told)) whole)
+      (coming_told g.source item content (subst (λ x. IsContentOf x item content) sides.source gives) t (record { bytes = made.writing.content; ending = made.writing.ending }) made.takes.told a is) whole)
       sound (made_here (NewFile made.writing.content) made.writing.ending made.writing.drawn made.makes)

@@ -177,6 +177,11 @@ pub content_coming : (from : OpenedVault) (item : Planned) (content : VaultConte
     → still_coming (path_of content) (Some a) (coming_of content) ≡ coming_read (reader_of from item) content_limit [] (seen a.state item.at)
 content_coming from item content is a = ap (λ r. still_coming r (Some a) (coming_of content)) is.reads ∙ is.coming (seen a.state item.at)
 
+-- what is told of what comes is told of what the source's file gives
+pub coming_told : (from : OpenedVault) (item : Planned) (content : VaultContent) → IsContentOf from item content → (t : Option Told) (whole : Coming) → ((c : Coming) → still_coming (path_of content) t (coming_of content) ≡ Some c → c ≡ whole)
+    → (a : Told) → t ≡ Some a → (c : Coming) → coming_read (reader_of from item) content_limit [] (seen a.state item.at) ≡ Some c → c ≡ whole
+coming_told from item content gives t whole told a is c comes = told c (ap (λ x. still_coming (path_of content) x (coming_of content)) is ∙ content_coming from item content gives a ∙ comes)
+
 is_told : {c : Option Coming} {d : Coming} → c ≡ Some d → IsTold c
 is_told e = subst IsTold (sym e) tt
 

@@ -1,5 +1,5 @@
 -- What is written, one item after the other.
-use Rattle.std.proofs.Common.{◌≡◌, ◌≢◌, IfErr, ◌+◌, inl, inr, ◌≤◌, ◌<◌, ℕ, zero, suc, nat_lt, Bool, true, false, not, cond, List, [], ◌∷◌, ◌++◌, length, take, drop, get_or, Contains, Option, Some, None, IsTrue, Result, Ok, Err, refl, sym, ap, ◌∙◌, subst, subst₂, arith, append_assoc, append-nil}
+use Rattle.std.proofs.Common.{◌≡◌, ◌≢◌, IfErr, ◌+◌, inl, inr, ◌≤◌, ◌<◌, ℕ, zero, suc, nat_lt, Bool, true, false, not, cond, List, [], ◌∷◌, ◌++◌, length, take, drop, get_or, Contains, Option, Some, None, IsErrAnd, IsTrue, Result, Ok, Err, refl, sym, ap, ◌∙◌, subst, subst₂, arith, append_assoc, append-nil}
 use Rattle.std.specs.List.{concat}
 use Rattle.std.proofs.lemmas.Bool.{ltb-true, ltb-false}
 use Rattle.std.proofs.lemmas.List.Elements.{filter-append}
@@ -57,6 +57,7 @@ use Rattle.migrate_core.proofs.Placings.{below_root}
 use Rattle.migrate_core.proofs.WorkFolders.{apart_at, elsewhere_at, not_in_root, not_moved}
 use Rattle.work_folder.specs.Apart.{AreApart}
 use Rattle.migrate_core.proofs.Planned.{FilesFit, mapped_behind, mapped_files, reader_of}
+use Rattle.migration_sides.proofs.Chains.{refused_as}
 use Rattle.migration_sides.specs.Sides.{AreSeparate, opened_in}
 use Rattle.migrate_core.specs.Moved.{done_of, is_there}
 use Rattle.migrate_core.specs.Causes.{IsStop, StopsLater, nothing_stops}
@@ -536,17 +537,17 @@ module _ (from to : OpenedVault) (work : Path) (apart : AreApart to.root work) (
       let makes : MakesItem to x t u = item_made to work apart x ending t u (Ok tt) made in
       record { made = x ∷ []; writes = writes_one (Ok tt) from to item x s s' t u drawn copy makes (item_answered from to work item x ending t u (Ok tt) makes ends made) }
 
-  pub one_begun : (why : PutFault) → MakesAt New to work x.path x.item ending x.drawn t u (Err why) → WritesFirst (of_put why) from to (item ∷ []) [] s s' t u
-  one_begun why made =
+  pub one_begun : {T : Type 0} (result : Result T MoveFault) (why : PutFault) → IsErrAnd result (λ fault. fault ≡ of_put why) → MakesAt New to work x.path x.item ending x.drawn t u (Err why) → WritesBy result from to (item ∷ []) [] s s' t u
+  one_begun result why is made =
       let makes : MakesItem to x t u = item_made to work apart x ending t u (Err why) made in
-      record {
+      refused_as (λ answer. WritesBy answer from to (item ∷ []) [] s s' t u) result is (record {
         made = x ∷ [];
         first = item ∷ [];
         rest = [];
         are = refl;
         writes = writes_one (Err (of_put why)) from to item x s s' t u drawn copy makes
             (λ v is. told_as from to t u v item x why (item_answered from to work item x ending t u (Err why) makes ends made v is));
-      }
+      })
 
 pub directory_copy : (from : OpenedVault) (item : Planned) (t : Option Told) (path : plain.Path) (drawn : List ℕ) → path ≡ item.path → item.node ≡ Dir → IsCopy from item t (record { path = path; item = NewDirectory; drawn = drawn })
 directory_copy from item t path drawn at node v is = record { path = at; directory = λ dir. refl; file = λ file. absurd (other (sym node ∙ file)) }
@@ -668,25 +669,21 @@ module _ (compose : Compose) (from to : OpenedVault) (items : List Planned) (tex
     };
   }
 
-pub nothing_yet : (fault : MoveFault) (from to : OpenedVault) (items : List Planned) (texts : List (List ℕ)) (s s' : Option ByteStream) (t u : Option Told) → IsOfTest fault → Draws s s' [] → WritesBeside to.root (λ file. ⊥) t u
-    → WritesFirst fault from to items texts s s' t u
-nothing_yet fault from to items texts s s' t u test undrawn files = record {
-  made = [];
-  first = [];
-  rest = items;
-  are = refl;
-  writes = record { drawn = undrawn; copies = λ v is. tt; answered = λ v is. test; files = beside_made to [] (λ file. ⊥) (IsOneOf to [] texts) (λ file none. absurd none) t u files };
-}
+-- a test refuses before any item is placed, and at most texts are written
+pub texts_first : {T : Type 0} (result : Result T MoveFault) (why : MoveFault) → IsErrAnd result (λ fault. fault ≡ why) → IsOfTest why → (from to : OpenedVault) (items : List Planned) (texts : List (List ℕ)) (s s' : Option ByteStream) (t u : Option Told)
+    → (P : List ℕ → Type 0) → ((file : List ℕ) → P file → Contains texts file) → Draws s s' [] → WritesBeside to.root P t u → WritesBy result from to items texts s s' t u
+texts_first result why is test from to items texts s s' t u P among undrawn files =
+    refused_as (λ answer. WritesBy answer from to items texts s s' t u) result is (record {
+      made = [];
+      first = [];
+      rest = items;
+      are = refl;
+      writes = record { drawn = undrawn; copies = λ v is. tt; answered = λ v is. test; files = beside_made to [] P (IsOneOf to [] texts) (λ file text. inl (among file text)) t u files };
+    })
 
-pub texts_first : (fault : MoveFault) (from to : OpenedVault) (items : List Planned) (texts : List (List ℕ)) (s s' : Option ByteStream) (t u : Option Told) → IsOfTest fault → Draws s s' [] → WritesBeside to.root (λ file. Contains texts file) t u
-    → WritesFirst fault from to items texts s s' t u
-texts_first fault from to items texts s s' t u test undrawn files = record {
-  made = [];
-  first = [];
-  rest = items;
-  are = refl;
-  writes = record { drawn = undrawn; copies = λ v is. tt; answered = λ v is. test; files = beside_made to [] (λ file. Contains texts file) (IsOneOf to [] texts) (λ file text. inl text) t u files };
-}
+pub nothing_yet : {T : Type 0} (result : Result T MoveFault) (why : MoveFault) → IsErrAnd result (λ fault. fault ≡ why) → IsOfTest why → (from to : OpenedVault) (items : List Planned) (texts : List (List ℕ)) (s s' : Option ByteStream) (t u : Option Told)
+    → Draws s s' [] → WritesBeside to.root (λ file. ⊥) t u → WritesBy result from to items texts s s' t u
+nothing_yet result why is test from to items texts s s' t u undrawn files = texts_first result why is test from to items texts s s' t u (λ file. ⊥) (λ file none. absurd none) undrawn files
 
 -- ---- where the source's files stand
 
@@ -750,13 +747,12 @@ by_all (Ok value) Is from to items texts s s' t u t' after stops all = all
 by_all (Err fault) Is from to items texts s s' t u t' after stops all = first_of_all from to items texts s s' t t' fault (λ v seen_v. let w = after v seen_v in stop_is_test fault (Is w.0) (stops w.0 w.1)) all
 
 -- a test refuses, and nothing is drawn or written
-pub refused_written : {T : Type 0} (result : Result T MoveFault) (fault why : MoveFault) → result ≡ Err fault → fault ≡ why → IsOfTest why → (s : Option ByteStream) (t u : Option Told) → Draws s s [] → WritesBeside [] (λ file. ⊥) t u
+pub refused_written : {T : Type 0} (result : Result T MoveFault) (why : MoveFault) → IsErrAnd result (λ fault. fault ≡ why) → IsOfTest why → (s : Option ByteStream) (t u : Option Told) → Draws s s [] → WritesBeside [] (λ file. ⊥) t u
     → WritesNothing result s s t u
-refused_written {T = T} result fault why is same tested s t u undrawn files =
-    record { refused = subst (λ (r : Result T MoveFault). IsRefusal r) (sym (is ∙ ap Err same)) tested; undrawn = undrawn; files = files }
+refused_written result why is tested s t u undrawn files = record { refused = refused_as (λ answer. IsRefusal answer) result is tested; undrawn = undrawn; files = files }
 
-pub nothing_written : {T : Type 0} (result : Result T MoveFault) (fault why : MoveFault) → result ≡ Err fault → fault ≡ why → IsOfTest why → (s : Option ByteStream) (t u : Option Told) → Draws s s [] → u ≡ t → WritesNothing result s s t u
-nothing_written result fault why is same tested s t u undrawn stays = refused_written result fault why is same tested s t u undrawn (only_nowhere (BringsOnlyTo [] (λ at. ⊥)) (λ file. ⊥) t u stays)
+pub nothing_written : {T : Type 0} (result : Result T MoveFault) (why : MoveFault) → IsErrAnd result (λ fault. fault ≡ why) → IsOfTest why → (s : Option ByteStream) (t u : Option Told) → Draws s s [] → u ≡ t → WritesNothing result s s t u
+nothing_written result why is tested s t u undrawn stays = refused_written result why is tested s t u undrawn (only_nowhere (BringsOnlyTo [] (λ at. ⊥)) (λ file. ⊥) t u stays)
 
 -- the vaults are those of two roots and their passphrases
 pub tree_of : {T : Type 0} (result : Result T MoveFault) (names : NameMap) (from to : Path) (pass pass' : List ℕ) (source target : OpenedVault) (s s' : Option ByteStream) (t t' : Option Told) → source.root ≡ from → target.root ≡ to

@@ -1,6 +1,6 @@
 -- Parts of a chain of tests, of which the folder may always fail and memory run out: a part that passes, one that refuses, and what is
 -- told on.
-use Rattle.std.proofs.Common.{◌≡◌, inl, inr, IfErr, Result, Ok, Err, refl, sym, ap, ◌∙◌, subst}
+use Rattle.std.proofs.Common.{◌≡◌, inl, inr, IfErr, IsErrAnd, Result, Ok, Err, refl, sym, ap, subst}
 use Rattle.migration_sides.specs.Tests.{Then, UnlessBy, own}
 
 abbrev failing : {G : Type 0} (Y : Type 0) → G → Result Y G
@@ -11,9 +11,13 @@ err_is {Z = Z} fault why e =
     let same : fault ≡ why = cc e in
     ap (failing Z) same
 
--- what holds of the fault that a call gave holds of the answer
-pub refused_as : {Y G : Type 0} (P : Result Y G → Type 0) (answer : Result Y G) (fault why : G) → answer ≡ Err fault → fault ≡ why → P (Err why) → P answer
-refused_as {Y = Y} P answer fault why is same h = subst P (sym (is ∙ ap (failing Y) same)) h
+-- what holds of the fault that a call gave holds of what the exit of a `?` answers
+pub refused_as : {Y G : Type 0} {why : G} (P : Result Y G → Type 0) (answer : Result Y G) → IsErrAnd answer (λ fault. fault ≡ why) → P (Err why) → P answer
+refused_as P (Ok value) is h = absurd is
+refused_as {G = G} P (Err fault) is h = subst (λ (x : G). P (Err x)) (sym is) h
+
+pub fault_as : {Y G : Type 0} {why : G} (Q : G → Type 0) (answer : Result Y G) → IsErrAnd answer (λ fault. fault ≡ why) → Q why → IfErr answer Q
+fault_as Q = refused_as (λ answer. IfErr answer Q)
 
 module _ {G : Type 0} (failed none : G) where
   pub unless_more : {X : Type 0} (answer : Result X G) (P Q : Type 0) → (P → Q) → UnlessBy failed none answer P → UnlessBy failed none answer Q

@@ -1,4 +1,4 @@
-use Rattle.std.proofs.Common.{IfErr, refl, inl, Ok}
+use Rattle.std.proofs.Common.{refl, inl, Ok}
 use Rattle.folder_spec.specs.Region.{apart_from_both}
 use Rattle.migrate_core.proofs.Movings.{moves_nowhere, moves_on, settle_moves}
 use Rattle.migrate_core.proofs.Settled.{settle_goes}
@@ -9,20 +9,17 @@ use Rattle.migration_sides.specs.Causes.{TestsApart}
 use Rattle.migration_sides.specs.Tests.{Then}
 use Rattle.migrate_core.proofs.Blaming.{apart_begins}
 use Rattle.migrate_core.specs.Causes.{Begins, BeginsApart, Unless}
-use Rattle.std.proofs.lemmas.Result.{err_from_is_err_and}
 use Rattle.migrate_core.specs.Faults.{is_of_begin, of_folder, of_step}
 use Rattle.migrate_core.specs.declared.placing.Done.{Done}
 use Rattle.migrate_core.proofs.Writings.{refused_written, may_write_after, nothing_written, settle_writes}
 use Rattle.migrate_core.proofs.Completing.{begin_completes, folder_chance, own_faults}
-use Rattle.migrate_core.specs.Completing.{IsOfChance}
-use Rattle.migrate_core.specs.Faults.{IsMoveFault}
 use Rattle.migrate_core.proofs.Limits.{if_taken, in_tree_before, limit_more, none_compared, none_taken}
 use Rattle.migrate_core.specs.Limits.{PassesInTree}
 use Rattle.migrate_core.proofs.Sharing.{in_tree_since}
 use Rattle.migrate_core.specs.Sharing.{SharesInTree}
 use Rattle.migrate_core.proofs.beginning.begin.Goals as goal
 use Rattle.migration_spec.proofs.Settling.{settle_fell, settle_seen, settle_seen_back, still_guarded}
-use Rattle.migration_sides.proofs.Chains.{refused_as}
+use Rattle.migration_sides.proofs.Chains.{fault_as, refused_as}
 use Rattle.migrate_core.proofs.Tested.{folder_tested, step_tested}
 use Rattle.migration_spec.specs.Guard.{Guarded}
 
@@ -75,16 +72,13 @@ returns-in_err-test_apart-clause-cause g c v seen =
     let to = c.args.target.now in
     let work = c.args.work.now in
     let begins = BeginsApart {Y = Done} c.args.names from to work c.args.source_pass.now c.args.target_pass.now v in
-    let p = err_from_is_err_and c.from_residual.result c.from_residual.ensures.1 in
-    let why = c.in_err-test_apart.field-0.0 in
-    refused_as (λ answer. Unless answer (Then of_step (TestsApart from to work) (λ _. begins) answer)) c.from_residual.result p.0 (of_step why) p.1 p.2
-    (apart_refused of_step from to work (λ _. begins) why c.in_err-test_apart.ensures.cause)
+    refused_as (λ answer. Unless answer (Then of_step (TestsApart from to work) (λ _. begins) answer)) c.from_residual.result c.from_residual.ensures.1
+    (apart_refused of_step from to work (λ _. begins) c.in_err-test_apart.field-0.0 c.in_err-test_apart.ensures.cause)
 
 pub returns-in_err-settle-clause-cause : goal.returns-in_err-settle-clause-cause
 returns-in_err-settle-clause-cause g c v seen =
-    let p = err_from_is_err_and c.from_residual-in_err-settle.result c.from_residual-in_err-settle.ensures.1 in
-    refused_as (λ answer. Unless answer (Begins c.args.names c.args.source.now c.args.target.now c.args.work.now c.args.source_pass.now c.args.target_pass.now v answer)) c.from_residual-in_err-settle.result p.0
-    (of_folder c.in_err-settle.field-0.0) p.1 p.2 (folder_unless of_folder refl _ c.in_err-settle.field-0.0)
+    refused_as (λ answer. Unless answer (Begins c.args.names c.args.source.now c.args.target.now c.args.work.now c.args.source_pass.now c.args.target_pass.now v answer)) c.from_residual-in_err-settle.result
+    c.from_residual-in_err-settle.ensures.1 (folder_unless of_folder refl _ c.in_err-settle.field-0.0)
 
 pub returns-clause-cause : goal.returns-clause-cause
 returns-clause-cause g c v seen =
@@ -96,15 +90,13 @@ returns-clause-cause g c v seen =
 
 pub returns-in_err-test_apart-clause-written : goal.returns-in_err-test_apart-clause-written
 returns-in_err-test_apart-clause-written g c v seen =
-    let p = err_from_is_err_and c.from_residual.result c.from_residual.ensures.1 in
-    inl (nothing_written c.from_residual.result p.0 (of_step c.in_err-test_apart.field-0.0) p.1 p.2 (step_tested c.in_err-test_apart.field-0.0).1 (g.R.Randoms.left c.args.random.now) (g.F.Folder.told c.args.folder.now) (g.F.Folder.told c.args.folder.now) (c.draws_compose.ensures.none _) refl)
+    inl (nothing_written c.from_residual.result _ c.from_residual.ensures.1 (step_tested c.in_err-test_apart.field-0.0).1 _ _ _ (c.draws_compose.ensures.none _) refl)
 
 pub returns-in_err-settle-clause-written : goal.returns-in_err-settle-clause-written
 returns-in_err-settle-clause-written g c v seen =
     let told = g.F.Folder.told c.args.folder.now in
     let settled = g.F.Folder.told c.settle.new.self in
-    let p = err_from_is_err_and c.from_residual-in_err-settle.result c.from_residual-in_err-settle.ensures.1 in
-    inl (refused_written c.from_residual-in_err-settle.result p.0 (of_folder c.in_err-settle.field-0.0) p.1 p.2 (folder_tested c.in_err-settle.field-0.0).1 (g.R.Randoms.left c.args.random.now) told settled (c.draws_compose.ensures.none _)
+    inl (refused_written c.from_residual-in_err-settle.result _ c.from_residual-in_err-settle.ensures.1 (folder_tested c.in_err-settle.field-0.0).1 (g.R.Randoms.left c.args.random.now) told settled (c.draws_compose.ensures.none _)
     (settle_writes told settled c.settle.result c.settle.ensures.changes))
 
 pub returns-clause-written : goal.returns-clause-written
@@ -120,18 +112,15 @@ pub returns-in_err-test_apart-clause-completes : goal.returns-in_err-test_apart-
 returns-in_err-test_apart-clause-completes g c m v seen asked opened can =
     let pass = c.args.source_pass.now in
     let pass' = c.args.target_pass.now in
-    let why = c.in_err-test_apart.field-0.0 in
     let result = c.from_residual.result in
-    let p = err_from_is_err_and result c.from_residual.ensures.1 in
     begin_completes m v c.args.names c.args.source.now c.args.target.now c.args.work.now pass pass' result asked
     (c.what_can_begin_is_done.ensures m pass pass' v result opened can
-    (refused_as (λ answer. IfErr answer IsMoveFault) result p.0 (of_step why) p.1 p.2 (apart_begins {F = ⊥} {R = ⊥} why c.in_err-test_apart.ensures.blamed).own))
+    (fault_as _ result c.from_residual.ensures.1 (apart_begins {F = ⊥} {R = ⊥} c.in_err-test_apart.field-0.0 c.in_err-test_apart.ensures.blamed).own))
     (returns-in_err-test_apart-clause-cause g c v seen)
 
 pub returns-in_err-settle-clause-completes : goal.returns-in_err-settle-clause-completes
 returns-in_err-settle-clause-completes g c m v seen asked opened can =
-    let p = err_from_is_err_and c.from_residual-in_err-settle.result c.from_residual-in_err-settle.ensures.1 in
-    refused_as (λ answer. IfErr answer IsOfChance) c.from_residual-in_err-settle.result p.0 (of_folder c.in_err-settle.field-0.0) p.1 p.2 (folder_chance c.in_err-settle.field-0.0)
+    fault_as _ c.from_residual-in_err-settle.result c.from_residual-in_err-settle.ensures.1 (folder_chance c.in_err-settle.field-0.0)
 
 pub returns-clause-completes : goal.returns-clause-completes
 returns-clause-completes g c m v seen asked opened can =
@@ -142,19 +131,15 @@ returns-clause-completes g c m v seen asked opened can =
 
 pub returns-in_err-test_apart-clause-blamed : goal.returns-in_err-test_apart-clause-blamed
 returns-in_err-test_apart-clause-blamed g c =
-    let p = err_from_is_err_and c.from_residual.result c.from_residual.ensures.1 in
-    rw (p.1, p.2) (apart_begins c.in_err-test_apart.field-0.0 c.in_err-test_apart.ensures.blamed)
+    fault_as _ c.from_residual.result c.from_residual.ensures.1 (apart_begins c.in_err-test_apart.field-0.0 c.in_err-test_apart.ensures.blamed)
 
 pub returns-in_err-test_apart-clause-too_long : goal.returns-in_err-test_apart-clause-too_long
 returns-in_err-test_apart-clause-too_long g c =
-    let p = err_from_is_err_and c.from_residual.result c.from_residual.ensures.1 in
-    none_compared _ c.from_residual.result p.0 (of_step c.in_err-test_apart.field-0.0) p.1 p.2 (step_tested c.in_err-test_apart.field-0.0).0
+    none_compared _ c.from_residual.result _ c.from_residual.ensures.1 (step_tested c.in_err-test_apart.field-0.0).0
 
 pub returns-in_err-settle-clause-too_long : goal.returns-in_err-settle-clause-too_long
 returns-in_err-settle-clause-too_long g c =
-    let why = c.in_err-settle.field-0.0 in
-    let p = err_from_is_err_and c.from_residual-in_err-settle.result c.from_residual-in_err-settle.ensures.1 in
-    none_compared _ c.from_residual-in_err-settle.result p.0 (of_folder why) p.1 p.2 (folder_tested why).0
+    none_compared _ c.from_residual-in_err-settle.result _ c.from_residual-in_err-settle.ensures.1 (folder_tested c.in_err-settle.field-0.0).0
 
 pub returns-clause-too_long : goal.returns-clause-too_long
 returns-clause-too_long g c =
@@ -170,14 +155,11 @@ returns-clause-too_long g c =
 
 pub returns-in_err-test_apart-clause-shared : goal.returns-in_err-test_apart-clause-shared
 returns-in_err-test_apart-clause-shared g c =
-    let p = err_from_is_err_and c.from_residual.result c.from_residual.ensures.1 in
-    none_taken _ c.from_residual.result p.0 (of_step c.in_err-test_apart.field-0.0) p.1 p.2 (step_tested c.in_err-test_apart.field-0.0).0
+    none_taken _ c.from_residual.result _ c.from_residual.ensures.1 (step_tested c.in_err-test_apart.field-0.0).0
 
 pub returns-in_err-settle-clause-shared : goal.returns-in_err-settle-clause-shared
 returns-in_err-settle-clause-shared g c =
-    let why = c.in_err-settle.field-0.0 in
-    let p = err_from_is_err_and c.from_residual-in_err-settle.result c.from_residual-in_err-settle.ensures.1 in
-    none_taken _ c.from_residual-in_err-settle.result p.0 (of_folder why) p.1 p.2 (folder_tested why).0
+    none_taken _ c.from_residual-in_err-settle.result _ c.from_residual-in_err-settle.ensures.1 (folder_tested c.in_err-settle.field-0.0).0
 
 pub returns-clause-shared : goal.returns-clause-shared
 returns-clause-shared g c =

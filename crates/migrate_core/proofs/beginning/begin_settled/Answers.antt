@@ -20,7 +20,6 @@ use Rattle.vault_spec.specs.Opened.{OpenedVault}
 use Rattle.migrate_core.specs.Causes.{Answer, BeginsWith, Unless}
 use Rattle.migrate_core.specs.Faults.{of_step, of_work}
 use Rattle.migrate_core.specs.declared.placing.Done.{Done}
-use Rattle.std.proofs.lemmas.Result.{err_from_is_err_and}
 use Rattle.work_folder.specs.Looking.{Tests}
 use Rattle.migrate_core.proofs.Writings.{nothing_written, tree_of}
 use Rattle.migrate_core.specs.Written.{MayWrite}
@@ -29,7 +28,7 @@ use Rattle.migrate_core.specs.Copying.{StayGood}
 use Rattle.migrate_core.specs.Limits.{EndsBy, IsOfLimit, PassesInTree}
 use Rattle.migrate_core.specs.Sharing.{IsOfTaken, SharesInTree, SharesWhereTidy}
 use Rattle.migrate_core.proofs.beginning.begin_settled.Goals as goal
-use Rattle.migration_sides.proofs.Chains.{refused_as, then_passes}
+use Rattle.migration_sides.proofs.Chains.{fault_as, refused_as, then_passes}
 use Rattle.migrate_core.specs.declared.fault.MoveFault.TheVariants.{Failed, NoMemory}
 use Rattle.migrate_core.proofs.Tested.{step_tested, work_tested}
 
@@ -61,7 +60,6 @@ begin_with-requires-clause-apart g c = subst₂ (λ p q. AreSeparate p q c.args.
 pub returns-clause-guard : goal.returns-clause-guard
 returns-clause-guard g c = λ migration asked opened.
     let t0 = g.F.Folder.told c.args.folder.now in
-    let t1 = g.F.Folder.told c.look.new.folder in
     let t2 = g.F.Folder.told c.load_both.new.folder in
     let t3 = g.F.Folder.told c.begin_with.new.folder in
     let same : t2 ≡ t0 = c.load_both.ensures.told ∙ c.look.ensures.told in
@@ -81,9 +79,7 @@ returns-clause-guard g c = λ migration asked opened.
 
 pub returns-clause-moves : goal.returns-clause-moves
 returns-clause-moves g c =
-    let t0 = g.F.Folder.told c.args.folder.now in
     let t3 = g.F.Folder.told c.begin_with.new.folder in
-    let sides = c.in_ok-sides.sides in
     subst (λ t. MovesOnly c.args.work.now c.args.target.now t t3) (c.load_both.ensures.told ∙ c.look.ensures.told)
     (subst (λ r. MovesOnly c.args.work.now r (g.F.Folder.told c.load_both.new.folder) t3) c.in_ok-sides.ensures.target c.begin_with.ensures.moves)
 
@@ -115,9 +111,7 @@ returns-in_err-look-clause-cause g c v seen =
     let to = c.args.target.now in
     let work = c.args.work.now in
     let opens = λ (_ : Unit {0}). Opens {Y = Done} of_step v from to c.args.source_pass.now c.args.target_pass.now (λ source target. BeginsWith c.args.names source target work v) in
-    let why = c.in_err-look.field-0.0 in
-    let p = err_from_is_err_and c.from_residual.result c.from_residual.ensures.1 in
-    refused_as (λ answer. Unless answer (Then of_work (Tests v work) opens answer)) c.from_residual.result p.0 (of_work why) p.1 p.2 (work_refused of_work (Tests v work) opens why (c.in_err-look.ensures.answer v seen))
+    refused_as (λ answer. Unless answer (Then of_work (Tests v work) opens answer)) c.from_residual.result c.from_residual.ensures.1 (work_refused of_work (Tests v work) opens c.in_err-look.field-0.0 (c.in_err-look.ensures.answer v seen))
 
 pub returns-in_err-sides-clause-cause : goal.returns-in_err-sides-clause-cause
 returns-in_err-sides-clause-cause g c v seen =
@@ -126,8 +120,7 @@ returns-in_err-sides-clause-cause g c v seen =
     let work = c.args.work.now in
     let opens = λ (_ : Unit {0}). Opens {Y = Done} of_step v from to c.args.source_pass.now c.args.target_pass.now (λ source target. BeginsWith c.args.names source target work v) in
     let why = c.in_err-sides.field-0.0 in
-    let p = err_from_is_err_and c.from_residual-in_err-sides.result c.from_residual-in_err-sides.ensures.1 in
-    refused_as (λ answer. Unless answer (Then of_work (Tests v work) opens answer)) c.from_residual-in_err-sides.result p.0 (of_step why) p.1 p.2
+    refused_as (λ answer. Unless answer (Then of_work (Tests v work) opens answer)) c.from_residual-in_err-sides.result c.from_residual-in_err-sides.ensures.1
     (then_passes Failed NoMemory of_work (Tests v work) opens (Err (of_step why)) tt (c.in_ok-look.ensures.answer v seen)
     (opens_refused of_step v from to c.args.source_pass.now c.args.target_pass.now (λ source target. BeginsWith c.args.names source target work v) why
     (c.in_err-sides.ensures.cause v (subst (λ t. IsSeen t v) (sym c.look.ensures.told) seen))))
@@ -149,13 +142,11 @@ returns-clause-cause g c v seen =
 
 pub returns-in_err-look-clause-written : goal.returns-in_err-look-clause-written
 returns-in_err-look-clause-written g c v seen =
-    let p = err_from_is_err_and c.from_residual.result c.from_residual.ensures.1 in
-    inl (nothing_written c.from_residual.result p.0 (of_work c.in_err-look.field-0.0) p.1 p.2 (work_tested c.in_err-look.field-0.0).1 (g.R.Randoms.left c.args.random.now) (g.F.Folder.told c.args.folder.now) (g.F.Folder.told c.look.new.folder) (c.draws_compose.ensures.none _) c.look.ensures.told)
+    inl (nothing_written c.from_residual.result _ c.from_residual.ensures.1 (work_tested c.in_err-look.field-0.0).1 _ _ _ (c.draws_compose.ensures.none _) c.look.ensures.told)
 
 pub returns-in_err-sides-clause-written : goal.returns-in_err-sides-clause-written
 returns-in_err-sides-clause-written g c v seen =
-    let p = err_from_is_err_and c.from_residual-in_err-sides.result c.from_residual-in_err-sides.ensures.1 in
-    inl (nothing_written c.from_residual-in_err-sides.result p.0 (of_step c.in_err-sides.field-0.0) p.1 p.2 (step_tested c.in_err-sides.field-0.0).1 (g.R.Randoms.left c.args.random.now) (g.F.Folder.told c.args.folder.now) (g.F.Folder.told c.load_both.new.folder) (c.draws_compose.ensures.none _) (c.load_both.ensures.told ∙ c.look.ensures.told))
+    inl (nothing_written c.from_residual-in_err-sides.result _ c.from_residual-in_err-sides.ensures.1 (step_tested c.in_err-sides.field-0.0).1 _ _ _ (c.draws_compose.ensures.none _) (c.load_both.ensures.told ∙ c.look.ensures.told))
 
 pub returns-clause-written : goal.returns-clause-written
 returns-clause-written g c v seen =
@@ -172,14 +163,11 @@ returns-clause-written g c v seen =
 
 pub returns-in_err-look-clause-too_long : goal.returns-in_err-look-clause-too_long
 returns-in_err-look-clause-too_long g c =
-    let why = c.in_err-look.field-0.0 in
-    let p = err_from_is_err_and c.from_residual.result c.from_residual.ensures.1 in
-    none_compared _ c.from_residual.result p.0 (of_work why) p.1 p.2 (work_tested why).0
+    none_compared _ c.from_residual.result _ c.from_residual.ensures.1 (work_tested c.in_err-look.field-0.0).0
 
 pub returns-in_err-sides-clause-too_long : goal.returns-in_err-sides-clause-too_long
 returns-in_err-sides-clause-too_long g c =
-    let p = err_from_is_err_and c.from_residual-in_err-sides.result c.from_residual-in_err-sides.ensures.1 in
-    none_compared _ c.from_residual-in_err-sides.result p.0 (of_step c.in_err-sides.field-0.0) p.1 p.2 (step_tested c.in_err-sides.field-0.0).0
+    none_compared _ c.from_residual-in_err-sides.result _ c.from_residual-in_err-sides.ensures.1 (step_tested c.in_err-sides.field-0.0).0
 
 pub returns-clause-too_long : goal.returns-clause-too_long
 returns-clause-too_long g c =
@@ -200,14 +188,11 @@ returns-clause-too_long g c =
 
 pub returns-in_err-look-clause-shared : goal.returns-in_err-look-clause-shared
 returns-in_err-look-clause-shared g c =
-    let why = c.in_err-look.field-0.0 in
-    let p = err_from_is_err_and c.from_residual.result c.from_residual.ensures.1 in
-    none_taken _ c.from_residual.result p.0 (of_work why) p.1 p.2 (work_tested why).0
+    none_taken _ c.from_residual.result _ c.from_residual.ensures.1 (work_tested c.in_err-look.field-0.0).0
 
 pub returns-in_err-sides-clause-shared : goal.returns-in_err-sides-clause-shared
 returns-in_err-sides-clause-shared g c =
-    let p = err_from_is_err_and c.from_residual-in_err-sides.result c.from_residual-in_err-sides.ensures.1 in
-    none_taken _ c.from_residual-in_err-sides.result p.0 (of_step c.in_err-sides.field-0.0) p.1 p.2 (step_tested c.in_err-sides.field-0.0).0
+    none_taken _ c.from_residual-in_err-sides.result _ c.from_residual-in_err-sides.ensures.1 (step_tested c.in_err-sides.field-0.0).0
 
 pub returns-clause-shared : goal.returns-clause-shared
 returns-clause-shared g c =
@@ -232,5 +217,4 @@ returns-in_err-sides-clause-blamed g c =
     let n0 = g.F.Folder.faults c.args.folder.now in
     let n1 = g.F.Folder.faults c.look.new.folder in
     let n2 = g.F.Folder.faults c.load_both.new.folder in
-    let p = err_from_is_err_and c.from_residual-in_err-sides.result c.from_residual-in_err-sides.ensures.1 in
-    rw (p.1, p.2) (step_begins n0 n1 n2 c.in_err-sides.field-0.0 c.look.ensures.grows c.in_err-sides.ensures.blamed)
+    fault_as _ c.from_residual-in_err-sides.result c.from_residual-in_err-sides.ensures.1 (step_begins n0 n1 n2 c.in_err-sides.field-0.0 c.look.ensures.grows c.in_err-sides.ensures.blamed)

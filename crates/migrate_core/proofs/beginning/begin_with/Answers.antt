@@ -2,8 +2,6 @@ use Rattle.std.proofs.Common.{◌≡◌, ◌∙◌, [], sym, ap, subst, arith, E
 use Rattle.folder_spec.specs.Seen.{IfSeen, IsSeen}
 use Rattle.migrate_core.proofs.Endings.{if_ok_more, placed_of}
 use Rattle.migrate_core.specs.Moved.{lacking}
-use Rattle.std.proofs.lemmas.Result.{err_from_is_err_and}
-use Rattle.folder_spec.specs.Region.{apart_from_both}
 use Rattle.migration_spec.specs.Alone.{Unbegun, Finished}
 use Rattle.vault_spec.specs.Vault.{format_of}
 use Rattle.migrate_core.specs.Leading.{Goes}
@@ -30,39 +28,27 @@ use Rattle.migrate_core.specs.Limits.{EndsBy}
 use Rattle.migrate_core.proofs.Sharing.{source_shares}
 use Rattle.migrate_core.specs.Sharing.{IsFilled, SharesFrom, SharesWhereTidy}
 use Rattle.migrate_core.proofs.beginning.begin_with.Goals as goal
-use Rattle.migration_sides.proofs.Chains.{own_passes, own_refused, refused_as}
+use Rattle.migration_sides.proofs.Chains.{fault_as, own_passes, own_refused, refused_as}
 use Rattle.migrate_core.specs.declared.fault.MoveFault.TheVariants.{Failed, NoMemory}
 use Rattle.migrate_core.proofs.Tested.{step_tested}
 
 pub returns-in_err-plans-clause-guard : goal.returns-in_err-plans-clause-guard
-returns-in_err-plans-clause-guard g c =
-    let p = err_from_is_err_and c.from_residual.result c.from_residual.ensures.1 in
-    λ migration sides. refused_nowhere migration Unbegun Finished (g.F.Folder.told c.args.folder.now) (g.F.Folder.told c.walk_both.new.folder) c.from_residual.result p.0 p.1 c.walk_both.ensures.told
+returns-in_err-plans-clause-guard g c m sides = refused_nowhere _ m Unbegun Finished (g.F.Folder.told c.args.folder.now) (g.F.Folder.told c.walk_both.new.folder) c.from_residual.result c.from_residual.ensures.1 c.walk_both.ensures.told
 
 pub returns-in_err-plans-clause-moves : goal.returns-in_err-plans-clause-moves
-returns-in_err-plans-clause-moves g c =
-    let target = c.args.sides.now.target.root in
-    moves_nowhere (apart_from_both c.args.work.now target) target (g.F.Folder.told c.args.folder.now) (g.F.Folder.told c.walk_both.new.folder) c.walk_both.ensures.told
+returns-in_err-plans-clause-moves g c = moves_nowhere _ c.args.sides.now.target.root _ _ c.walk_both.ensures.told
 
 pub returns-in_err-test_empty-clause-guard : goal.returns-in_err-test_empty-clause-guard
-returns-in_err-test_empty-clause-guard g c =
-    let p = err_from_is_err_and c.from_residual-in_err-test_empty.result c.from_residual-in_err-test_empty.ensures.1 in
-    λ migration sides. refused_nowhere migration Unbegun Finished (g.F.Folder.told c.args.folder.now) (g.F.Folder.told c.walk_both.new.folder) c.from_residual-in_err-test_empty.result p.0 p.1 c.walk_both.ensures.told
+returns-in_err-test_empty-clause-guard g c m sides = refused_nowhere _ m Unbegun Finished (g.F.Folder.told c.args.folder.now) (g.F.Folder.told c.walk_both.new.folder) c.from_residual-in_err-test_empty.result c.from_residual-in_err-test_empty.ensures.1 c.walk_both.ensures.told
 
 pub returns-in_err-test_empty-clause-moves : goal.returns-in_err-test_empty-clause-moves
-returns-in_err-test_empty-clause-moves g c =
-    let target = c.args.sides.now.target.root in
-    moves_nowhere (apart_from_both c.args.work.now target) target (g.F.Folder.told c.args.folder.now) (g.F.Folder.told c.walk_both.new.folder) c.walk_both.ensures.told
+returns-in_err-test_empty-clause-moves g c = moves_nowhere _ c.args.sides.now.target.root _ _ c.walk_both.ensures.told
 
 pub returns-in_err-mapped-clause-guard : goal.returns-in_err-mapped-clause-guard
-returns-in_err-mapped-clause-guard g c =
-    let p = err_from_is_err_and c.from_residual-in_err-mapped.result c.from_residual-in_err-mapped.ensures.1 in
-    λ migration sides. refused_nowhere migration Unbegun Finished (g.F.Folder.told c.args.folder.now) (g.F.Folder.told c.walk_both.new.folder) c.from_residual-in_err-mapped.result p.0 p.1 c.walk_both.ensures.told
+returns-in_err-mapped-clause-guard g c m sides = refused_nowhere _ m Unbegun Finished (g.F.Folder.told c.args.folder.now) (g.F.Folder.told c.walk_both.new.folder) c.from_residual-in_err-mapped.result c.from_residual-in_err-mapped.ensures.1 c.walk_both.ensures.told
 
 pub returns-in_err-mapped-clause-moves : goal.returns-in_err-mapped-clause-moves
-returns-in_err-mapped-clause-moves g c =
-    let target = c.args.sides.now.target.root in
-    moves_nowhere (apart_from_both c.args.work.now target) target (g.F.Folder.told c.args.folder.now) (g.F.Folder.told c.walk_both.new.folder) c.walk_both.ensures.told
+returns-in_err-mapped-clause-moves g c = moves_nowhere _ c.args.sides.now.target.root _ _ c.walk_both.ensures.told
 
 pub move_all-requires-clause-walked : goal.move_all-requires-clause-walked
 move_all-requires-clause-walked g c = record {
@@ -96,9 +82,7 @@ returns-in_err-plans-clause-cause g c v seen =
     let rule = c.args.sides.now.names in
     let moves : List Planned → Answer Done → Type 0 = λ mapped. Moves (EntersAs v c.args.work.now) from to v mapped in
     let next : List Planned → List Planned → Answer Done → Type 0 = λ items there. Then own (TestsEmpty there) (λ _. TestsMapped rule (format_of to.vault) items moves) in
-    let why = c.in_err-plans.field-0.0 in
-    let p = err_from_is_err_and c.from_residual.result c.from_residual.ensures.1 in
-    refused_as (λ answer. Unless answer (BeginsWith rule from to c.args.work.now v answer)) c.from_residual.result p.0 (of_step why) p.1 p.2 (walks_refused of_step from to v next why (c.in_err-plans.ensures.cause v seen))
+    refused_as (λ answer. Unless answer (BeginsWith rule from to c.args.work.now v answer)) c.from_residual.result c.from_residual.ensures.1 (walks_refused of_step from to v next c.in_err-plans.field-0.0 (c.in_err-plans.ensures.cause v seen))
 
 pub returns-in_err-test_empty-clause-cause : goal.returns-in_err-test_empty-clause-cause
 returns-in_err-test_empty-clause-cause g c v seen =
@@ -109,8 +93,7 @@ returns-in_err-test_empty-clause-cause g c v seen =
     let next : List Planned → List Planned → Answer Done → Type 0 = λ items there. Then own (TestsEmpty there) (λ _. TestsMapped rule (format_of to.vault) items moves) in
     let plans = c.in_ok-plans.plans in
     let fault = c.in_err-test_empty.field-0.0 in
-    let p = err_from_is_err_and c.from_residual-in_err-test_empty.result c.from_residual-in_err-test_empty.ensures.1 in
-    refused_as (λ answer. Unless answer (BeginsWith rule from to c.args.work.now v answer)) c.from_residual-in_err-test_empty.result p.0 fault p.1 p.2
+    refused_as (λ answer. Unless answer (BeginsWith rule from to c.args.work.now v answer)) c.from_residual-in_err-test_empty.result c.from_residual-in_err-test_empty.ensures.1
     (walks_passes of_step from to v next (Err fault) plans.source.items plans.target.items (c.in_ok-plans.ensures.passed_source v seen) (c.in_ok-plans.ensures.passed_target v seen)
     (own_refused Failed NoMemory (TestsEmpty plans.target.items) (λ _. TestsMapped rule (format_of to.vault) plans.source.items moves) fault
     (subst (λ items. Unless {X = Unit {0}} (Err fault) (TestsEmpty items (Err fault))) c.as_slice.ensures c.in_err-test_empty.ensures.cause)))
@@ -124,8 +107,7 @@ returns-in_err-mapped-clause-cause g c v seen =
     let next : List Planned → List Planned → Answer Done → Type 0 = λ items there. Then own (TestsEmpty there) (λ _. TestsMapped rule (format_of to.vault) items moves) in
     let plans = c.in_ok-plans.plans in
     let fault = c.in_err-mapped.field-0.0 in
-    let p = err_from_is_err_and c.from_residual-in_err-mapped.result c.from_residual-in_err-mapped.ensures.1 in
-    refused_as (λ answer. Unless answer (BeginsWith rule from to c.args.work.now v answer)) c.from_residual-in_err-mapped.result p.0 fault p.1 p.2
+    refused_as (λ answer. Unless answer (BeginsWith rule from to c.args.work.now v answer)) c.from_residual-in_err-mapped.result c.from_residual-in_err-mapped.ensures.1
     (walks_passes of_step from to v next (Err fault) plans.source.items plans.target.items (c.in_ok-plans.ensures.passed_source v seen) (c.in_ok-plans.ensures.passed_target v seen)
     (own_passes Failed NoMemory (TestsEmpty plans.target.items) (λ _. TestsMapped rule (format_of to.vault) plans.source.items moves) (Err fault) tt
     (subst (λ items. Unless {X = Unit {0}} (Ok tt) (TestsEmpty items (Ok tt))) c.as_slice.ensures c.in_ok-test_empty.ensures.cause)
@@ -147,22 +129,18 @@ returns-clause-cause g c v seen =
 
 pub returns-in_err-plans-clause-written : goal.returns-in_err-plans-clause-written
 returns-in_err-plans-clause-written g c =
-    let p = err_from_is_err_and c.from_residual.result c.from_residual.ensures.1 in
-    inl (nothing_written c.from_residual.result p.0 (of_step c.in_err-plans.field-0.0) p.1 p.2 (step_tested c.in_err-plans.field-0.0).1 (g.R.Randoms.left c.args.random.now) (g.F.Folder.told c.args.folder.now) (g.F.Folder.told c.walk_both.new.folder) (c.draws_compose.ensures.none _) c.walk_both.ensures.told)
+    inl (nothing_written c.from_residual.result _ c.from_residual.ensures.1 (step_tested c.in_err-plans.field-0.0).1 _ _ _ (c.draws_compose.ensures.none _) c.walk_both.ensures.told)
 
 pub returns-in_err-test_empty-clause-written : goal.returns-in_err-test_empty-clause-written
 returns-in_err-test_empty-clause-written g c =
-    let p = err_from_is_err_and c.from_residual-in_err-test_empty.result c.from_residual-in_err-test_empty.ensures.1 in
-    inl (nothing_written c.from_residual-in_err-test_empty.result p.0 c.in_err-test_empty.field-0.0 p.1 p.2 c.in_err-test_empty.ensures.tested (g.R.Randoms.left c.args.random.now) (g.F.Folder.told c.args.folder.now) (g.F.Folder.told c.walk_both.new.folder) (c.draws_compose.ensures.none _) c.walk_both.ensures.told)
+    inl (nothing_written c.from_residual-in_err-test_empty.result _ c.from_residual-in_err-test_empty.ensures.1 c.in_err-test_empty.ensures.tested _ _ _ (c.draws_compose.ensures.none _) c.walk_both.ensures.told)
 
 pub returns-in_err-mapped-clause-written : goal.returns-in_err-mapped-clause-written
 returns-in_err-mapped-clause-written g c =
-    let p = err_from_is_err_and c.from_residual-in_err-mapped.result c.from_residual-in_err-mapped.ensures.1 in
-    inl (nothing_written c.from_residual-in_err-mapped.result p.0 c.in_err-mapped.field-0.0 p.1 p.2 c.in_err-mapped.ensures.tested (g.R.Randoms.left c.args.random.now) (g.F.Folder.told c.args.folder.now) (g.F.Folder.told c.walk_both.new.folder) (c.draws_compose.ensures.none _) c.walk_both.ensures.told)
+    inl (nothing_written c.from_residual-in_err-mapped.result _ c.from_residual-in_err-mapped.ensures.1 c.in_err-mapped.ensures.tested _ _ _ (c.draws_compose.ensures.none _) c.walk_both.ensures.told)
 
 pub returns-clause-written : goal.returns-clause-written
 returns-clause-written g c =
-    let told = g.F.Folder.told c.args.folder.now in
     let left = g.R.Randoms.left c.args.random.now in
     let from = c.args.sides.now.source in
     let to = c.args.sides.now.target in
@@ -197,18 +175,15 @@ move_all-requires-clause-copying g c =
 
 pub returns-in_err-plans-clause-ends : goal.returns-in_err-plans-clause-ends
 returns-in_err-plans-clause-ends g c =
-    let p = err_from_is_err_and c.from_residual.result c.from_residual.ensures.1 in
-    ends_uncompared _ _ c.args.sides.now.names c.args.sides.now.source c.args.sides.now.target (g.F.Folder.told c.walk_both.new.folder) c.from_residual.result p.0 (of_step c.in_err-plans.field-0.0) p.1 p.2 (step_tested c.in_err-plans.field-0.0).0
+    ends_uncompared _ _ c.args.sides.now.names c.args.sides.now.source c.args.sides.now.target (g.F.Folder.told c.walk_both.new.folder) c.from_residual.result _ c.from_residual.ensures.1 (step_tested c.in_err-plans.field-0.0).0
 
 pub returns-in_err-test_empty-clause-ends : goal.returns-in_err-test_empty-clause-ends
 returns-in_err-test_empty-clause-ends g c =
-    let p = err_from_is_err_and c.from_residual-in_err-test_empty.result c.from_residual-in_err-test_empty.ensures.1 in
-    ends_uncompared _ _ c.args.sides.now.names c.args.sides.now.source c.args.sides.now.target (g.F.Folder.told c.walk_both.new.folder) c.from_residual-in_err-test_empty.result p.0 c.in_err-test_empty.field-0.0 p.1 p.2 c.in_err-test_empty.ensures.uncompared
+    ends_uncompared _ _ c.args.sides.now.names c.args.sides.now.source c.args.sides.now.target (g.F.Folder.told c.walk_both.new.folder) c.from_residual-in_err-test_empty.result _ c.from_residual-in_err-test_empty.ensures.1 c.in_err-test_empty.ensures.uncompared
 
 pub returns-in_err-mapped-clause-ends : goal.returns-in_err-mapped-clause-ends
 returns-in_err-mapped-clause-ends g c =
-    let p = err_from_is_err_and c.from_residual-in_err-mapped.result c.from_residual-in_err-mapped.ensures.1 in
-    ends_uncompared _ _ c.args.sides.now.names c.args.sides.now.source c.args.sides.now.target (g.F.Folder.told c.walk_both.new.folder) c.from_residual-in_err-mapped.result p.0 c.in_err-mapped.field-0.0 p.1 p.2 c.in_err-mapped.ensures.uncompared
+    ends_uncompared _ _ c.args.sides.now.names c.args.sides.now.source c.args.sides.now.target (g.F.Folder.told c.walk_both.new.folder) c.from_residual-in_err-mapped.result _ c.from_residual-in_err-mapped.ensures.1 c.in_err-mapped.ensures.uncompared
 
 pub returns-clause-ends : goal.returns-clause-ends
 returns-clause-ends g c =
@@ -234,5 +209,4 @@ pub returns-in_err-plans-clause-blamed : goal.returns-in_err-plans-clause-blamed
 returns-in_err-plans-clause-blamed g c =
     let n0 = g.F.Folder.faults c.args.folder.now in
     let n1 = g.F.Folder.faults c.walk_both.new.folder in
-    let p = err_from_is_err_and c.from_residual.result c.from_residual.ensures.1 in
-    rw (p.1, p.2) (step_begins n0 n0 n1 c.in_err-plans.field-0.0 (omega arith) c.in_err-plans.ensures.blamed)
+    fault_as _ c.from_residual.result c.from_residual.ensures.1 (step_begins n0 n0 n1 c.in_err-plans.field-0.0 (omega arith) c.in_err-plans.ensures.blamed)

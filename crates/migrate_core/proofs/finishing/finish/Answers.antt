@@ -1,5 +1,4 @@
 use Rattle.std.proofs.Common.{Result, ◌∙◌, Ok, length, sym, ap, subst, Contains, [], ◌∷◌}
-use Rattle.std.proofs.lemmas.Result.{err_from_is_err_and}
 use Rattle.folder_spec.specs.Region.{apart_from_both}
 use Rattle.folder_spec.specs.Seen.{IsSeen}
 use Rattle.migration_spec.specs.Alone.{Finished}
@@ -15,28 +14,25 @@ use Rattle.migrate_core.specs.Moved.{StaysTidyWork, done_of}
 use Rattle.migrate_core.proofs.Writings.{only_nowhere}
 use Rattle.move_journal.specs.Journal.{journal_text}
 use Rattle.migrate_core.specs.Written.{BringsOnlyTo, WritesBeside}
-use Rattle.std.proofs.Common.{IfErr}
 use Rattle.tree_match.specs.Trees.{IsSameOrTooLong, match_of, side_of}
 use Rattle.migrate_core.proofs.Causing.{never_more, stop_more}
 use Rattle.migrate_core.proofs.Compared.{copied_matches, copied_within, walk_stops}
-use Rattle.migrate_core.specs.Causes.{StopsLater, nothing_stops}
+use Rattle.migrate_core.specs.Causes.{nothing_stops}
 use Rattle.migrate_core.specs.Copying.{CopiesAll, HasCopied}
 use Rattle.migrate_core.proofs.Limits.{ends_uncompared}
-use Rattle.migrate_core.specs.Faults.{of_step}
 use Rattle.migrate_core.proofs.Copyings.{copied_as}
 use Rattle.migrate_core.proofs.Movings.{source_stays, turned_over}
 use Rattle.migrate_core.specs.Limits.{EndsBy}
 use Rattle.migrate_core.proofs.Sharing.{whichever_taken}
 use Rattle.migrate_core.proofs.finishing.finish.Goals as goal
-use Rattle.migration_sides.proofs.Chains.{refused_as}
+use Rattle.migration_sides.proofs.Chains.{fault_as, refused_as}
 use Rattle.migrate_core.proofs.Tested.{step_tested}
 use Rattle.folder_spec.specs.Path.{Path}
 use Rattle.work_folder.specs.Apart.{AreApart}
 
 pub returns-in_err-target-clause-guard : goal.returns-in_err-target-clause-guard
 returns-in_err-target-clause-guard g c m sides tells =
-    let p = err_from_is_err_and c.from_residual.result c.from_residual.ensures.1 in
-    refused_nowhere m (progress_of c.args.journal.phase) Finished (g.F.Folder.told c.args.folder.now) (g.F.Folder.told c.walk_one.new.folder) c.from_residual.result p.0 p.1 c.walk_one.ensures.told
+    refused_nowhere _ m (progress_of c.args.journal.phase) Finished (g.F.Folder.told c.args.folder.now) (g.F.Folder.told c.walk_one.new.folder) c.from_residual.result c.from_residual.ensures.1 c.walk_one.ensures.told
 
 pub returns-in_err-target-clause-moves : goal.returns-in_err-target-clause-moves
 returns-in_err-target-clause-moves g c =
@@ -45,8 +41,7 @@ returns-in_err-target-clause-moves g c =
 
 pub returns-in_err-test_same-clause-guard : goal.returns-in_err-test_same-clause-guard
 returns-in_err-test_same-clause-guard g c m sides tells =
-    let p = err_from_is_err_and c.from_residual-in_err-test_same.result c.from_residual-in_err-test_same.ensures.1 in
-    refused_nowhere m (progress_of c.args.journal.phase) Finished (g.F.Folder.told c.args.folder.now) (g.F.Folder.told c.test_same.new.folder) c.from_residual-in_err-test_same.result p.0 p.1
+    refused_nowhere _ m (progress_of c.args.journal.phase) Finished (g.F.Folder.told c.args.folder.now) (g.F.Folder.told c.test_same.new.folder) c.from_residual-in_err-test_same.result c.from_residual-in_err-test_same.ensures.1
     (c.test_same.ensures.told ∙ c.walk_one.ensures.told)
 
 pub returns-in_err-test_same-clause-moves : goal.returns-in_err-test_same-clause-moves
@@ -77,8 +72,7 @@ returns-in_err-say_done-clause-guard g c m sides tells =
     let same = c.in_ok-test_same.ensures.told ∙ c.in_ok-target.ensures.told in
     let rule = c.args.sides.now.names in
     let at = progress_of c.args.journal.phase in
-    let p = err_from_is_err_and c.from_residual-in_err-say_done.result c.from_residual-in_err-say_done.ensures.1 in
-    goes_failed m at Finished Finished told told' c.say_done.result c.from_residual-in_err-say_done.result p.0 p.1
+    goes_failed _ m at Finished Finished told told' c.say_done.result c.from_residual-in_err-say_done.result c.from_residual-in_err-say_done.ensures.1
     (subst (λ t. Goes m at Finished t told' c.say_done.result) same
     (finish_goes c.guarded_migrations_are_seen.ensures.alone c.mapped_walks_tell_the_mapped_tree.ensures.apart c.what_is_held_opens_the_same.ensures.held c.what_is_held_opens_the_same.ensures.same c.mapped_trees_are_held.ensures.both m rule from to c.args.work.now
     (record { source = sides.source; target = sides.target; names = sym c.requires.names ∙ sides.names; work = sides.work }) at c.args.items.now.mapped.items c.in_ok-target.target.items here told' c.say_done.result
@@ -149,11 +143,9 @@ returns-in_err-target-clause-moving g c =
     let to = c.args.sides.now.target in
     let rule = c.args.sides.now.names in
     let items = c.args.items.now.mapped.items in
-    let fault = c.in_err-target.field-0.0 in
-    let p = err_from_is_err_and c.from_residual.result c.from_residual.ensures.1 in
-    refused_as (λ answer. IfErr answer (StopsLater (HasCopied rule from to items) (g.F.Folder.told c.args.folder.now))) c.from_residual.result p.0 (of_step fault) p.1 p.2
+    fault_as _ c.from_residual.result c.from_residual.ensures.1
     (λ v is. walk_stops to v (HasCopied rule from to items v) (λ h. h.copying.target.clean)
-    (λ h. copied_within c.what_stands_is_found_step_by_step.ensures.below c.what_stands_is_found_step_by_step.ensures.behind c.files_have_their_contents.ensures rule from to v h.copying) fault
+    (λ h. copied_within c.what_stands_is_found_step_by_step.ensures.below c.what_stands_is_found_step_by_step.ensures.behind c.files_have_their_contents.ensures rule from to v h.copying) c.in_err-target.field-0.0
     (c.in_err-target.ensures.cause v is))
 
 pub returns-in_err-test_same-clause-moving : goal.returns-in_err-test_same-clause-moving
@@ -164,10 +156,8 @@ returns-in_err-test_same-clause-moving g c =
     let items = c.args.items.now.mapped.items in
     let others = c.in_ok-target.target.items in
     let told = g.F.Folder.told c.args.folder.now in
-    let fault = c.in_err-test_same.field-0.0 in
-    let p = err_from_is_err_and c.from_residual-in_err-test_same.result c.from_residual-in_err-test_same.ensures.1 in
-    refused_as (λ answer. IfErr answer (StopsLater (HasCopied rule from to items) told)) c.from_residual-in_err-test_same.result p.0 fault p.1 p.2
-    (λ v is. stop_more (IsSameOrTooLong (match_of v (side_of from items) (side_of to others))) (HasCopied rule from to items v) nothing_stops nothing_stops fault
+    fault_as _ c.from_residual-in_err-test_same.result c.from_residual-in_err-test_same.ensures.1
+    (λ v is. stop_more (IsSameOrTooLong (match_of v (side_of from items) (side_of to others))) (HasCopied rule from to items v) nothing_stops nothing_stops c.in_err-test_same.field-0.0
     (copied_matches c.walks_tell_the_tree.ensures.plan c.mapped_walks_tell_the_mapped_tree.ensures.apart c.what_is_held_opens_the_same.ensures.alike rule from to items others told told v
     (mapped_walk rule told from c.args.items.now.own.items items c.requires.walked) is c.in_ok-target.ensures.walked is) (λ why none. none)
     (c.in_err-test_same.ensures.moving v (subst (λ t. IsSeen t v) (sym c.walk_one.ensures.told) is)))
@@ -178,19 +168,15 @@ returns-in_err-say_done-clause-moving g c =
     let to = c.args.sides.now.target in
     let rule = c.args.sides.now.names in
     let items = c.args.items.now.mapped.items in
-    let fault = c.in_err-say_done.field-0.0 in
-    let p = err_from_is_err_and c.from_residual-in_err-say_done.result c.from_residual-in_err-say_done.ensures.1 in
-    refused_as (λ answer. IfErr answer (StopsLater (HasCopied rule from to items) (g.F.Folder.told c.args.folder.now))) c.from_residual-in_err-say_done.result p.0 fault p.1 p.2
-    (λ v is. never_more (HasCopied rule from to items v) nothing_stops fault c.in_err-say_done.ensures.moving)
+    fault_as _ c.from_residual-in_err-say_done.result c.from_residual-in_err-say_done.ensures.1
+    (λ v is. never_more (HasCopied rule from to items v) nothing_stops c.in_err-say_done.field-0.0 c.in_err-say_done.ensures.moving)
 
 pub returns-clause-tidy : goal.returns-clause-tidy
 returns-clause-tidy g c = subst (λ t. StaysTidyWork c.args.work.now t (g.F.Folder.told c.say_done.new.folder)) (c.in_ok-test_same.ensures.told ∙ c.in_ok-target.ensures.told) c.in_ok-say_done.ensures.tidy
 
 pub returns-in_err-target-clause-ends : goal.returns-in_err-target-clause-ends
 returns-in_err-target-clause-ends g c =
-    let p = err_from_is_err_and c.from_residual.result c.from_residual.ensures.1 in
-    let why = c.in_err-target.field-0.0 in
-    ends_uncompared _ _ c.args.sides.now.names c.args.sides.now.source c.args.sides.now.target (g.F.Folder.told c.walk_one.new.folder) c.from_residual.result p.0 (of_step why) p.1 p.2 (step_tested why).0
+    ends_uncompared _ _ c.args.sides.now.names c.args.sides.now.source c.args.sides.now.target (g.F.Folder.told c.walk_one.new.folder) c.from_residual.result _ c.from_residual.ensures.1 (step_tested c.in_err-target.field-0.0).0
 
 pub returns-in_err-test_same-clause-ends : goal.returns-in_err-test_same-clause-ends
 returns-in_err-test_same-clause-ends g c =
@@ -199,14 +185,12 @@ returns-in_err-test_same-clause-ends g c =
     let rule = c.args.sides.now.names in
     let items = c.args.items.now.mapped.items in
     let here = g.F.Folder.told c.test_same.new.folder in
-    let p = err_from_is_err_and c.from_residual-in_err-test_same.result c.from_residual-in_err-test_same.ensures.1 in
-    refused_as (λ answer. EndsBy (CopiesAll rule from to items items (g.F.Folder.told c.args.folder.now) here) (Unit {0}) rule from to here answer) c.from_residual-in_err-test_same.result p.0 c.in_err-test_same.field-0.0 p.1 p.2
+    refused_as (λ answer. EndsBy (CopiesAll rule from to items items (g.F.Folder.told c.args.folder.now) here) (Unit {0}) rule from to here answer) c.from_residual-in_err-test_same.result c.from_residual-in_err-test_same.ensures.1
     ((λ v is. c.in_err-test_same.ensures.limit v (subst (λ t. IsSeen t v) c.test_same.ensures.told is)), whichever_taken c.in_err-test_same.field-0.0)
 
 pub returns-in_err-say_done-clause-ends : goal.returns-in_err-say_done-clause-ends
 returns-in_err-say_done-clause-ends g c =
-    let p = err_from_is_err_and c.from_residual-in_err-say_done.result c.from_residual-in_err-say_done.ensures.1 in
-    ends_uncompared _ _ c.args.sides.now.names c.args.sides.now.source c.args.sides.now.target (g.F.Folder.told c.say_done.new.folder) c.from_residual-in_err-say_done.result p.0 c.in_err-say_done.field-0.0 p.1 p.2 c.in_err-say_done.ensures.uncompared
+    ends_uncompared _ _ c.args.sides.now.names c.args.sides.now.source c.args.sides.now.target (g.F.Folder.told c.say_done.new.folder) c.from_residual-in_err-say_done.result _ c.from_residual-in_err-say_done.ensures.1 c.in_err-say_done.ensures.uncompared
 
 pub returns-clause-ends : goal.returns-clause-ends
 returns-clause-ends g c v w is_v is_w has =

@@ -1,5 +1,4 @@
-use Rattle.std.proofs.Common.{◌≡◌, ◌∙◌, ap, sym, subst, [], arith, ◌∷◌, IfErr, IfOk}
-use Rattle.std.proofs.lemmas.Result.{err_from_is_err_and}
+use Rattle.std.proofs.Common.{◌≡◌, ◌∙◌, ap, sym, subst, [], arith, ◌∷◌, IfOk}
 use Rattle.folder_spec.specs.Region.{apart_from_both}
 use Rattle.folder_spec.specs.Seen.{IfSeen}
 use Rattle.move_journal.specs.Writing.{IsWorkFolder}
@@ -26,7 +25,7 @@ use Rattle.migrate_core.specs.Limits.{StopsFor}
 use Rattle.migrate_core.specs.Sharing.{IsFilled, OneShares, SharesFrom}
 use Rattle.migrate_core.proofs.finishing.go_on.Goals as goal
 use Rattle.migration_spec.proofs.Tellings.{seen_then}
-use Rattle.migration_sides.proofs.Chains.{refused_as}
+use Rattle.migration_sides.proofs.Chains.{fault_as, refused_as}
 
 pub place_missing-requires-clause-walked : goal.place_missing-requires-clause-walked
 place_missing-requires-clause-walked g c =
@@ -37,14 +36,12 @@ place_missing-requires-clause-walked g c =
 
 pub returns-in_err-placed-clause-building : goal.returns-in_err-placed-clause-building
 returns-in_err-placed-clause-building g c phase m sides tells =
-    let p = err_from_is_err_and c.from_residual.result c.from_residual.ensures.1 in
-    goes_failed m Begun Begun Finished (g.F.Folder.told c.args.folder.now) (g.F.Folder.told c.place_missing.new.folder) c.place_missing.result c.from_residual.result p.0 p.1
+    goes_failed _ m Begun Begun Finished (g.F.Folder.told c.args.folder.now) (g.F.Folder.told c.place_missing.new.folder) c.place_missing.result c.from_residual.result c.from_residual.ensures.1
     (c.place_missing.ensures.guard m (record { source = sides.source; target = sides.target; names = sym c.requires.names ∙ sides.names; work = sides.work }))
 
 pub returns-in_err-placed-clause-done : goal.returns-in_err-placed-clause-done
 returns-in_err-placed-clause-done g c phase all m sides tells =
-    let p = err_from_is_err_and c.from_residual.result c.from_residual.ensures.1 in
-    refused_nowhere m Finished Finished (g.F.Folder.told c.args.folder.now) (g.F.Folder.told c.place_missing.new.folder) c.from_residual.result p.0 p.1
+    refused_nowhere _ m Finished Finished (g.F.Folder.told c.args.folder.now) (g.F.Folder.told c.place_missing.new.folder) c.from_residual.result c.from_residual.ensures.1
     (c.place_missing.ensures.none (subst (λ items. StandAll items c.args.there.now) (sym c.as_slice-mapped.ensures) all))
 
 pub returns-in_err-placed-clause-moves : goal.returns-in_err-placed-clause-moves
@@ -83,7 +80,6 @@ returns-clause-building g c phase m sides tells =
 
 pub returns-clause-done : goal.returns-clause-done
 returns-clause-done g c phase all m sides tells =
-    let told = g.F.Folder.told c.args.folder.now in
     let told' = g.F.Folder.told c.finish.new.folder in
     subst (λ t. Goes m Finished Finished t told' c.finish.result) (c.in_ok-placed.ensures.none (subst (λ items. StandAll items c.args.there.now) (sym c.as_slice-mapped.ensures) all))
     (subst (λ p. Goes m p Finished (g.F.Folder.told c.place_missing.new.folder) told' c.finish.result) (ap progress_of phase)
@@ -126,9 +122,8 @@ returns-in_err-placed-clause-written g c ordered =
     let here = g.F.Folder.told c.place_missing.new.folder in
     let left = g.R.Randoms.left c.args.random.now in
     let left1 = g.R.Randoms.left c.place_missing.new.random in
-    let p = err_from_is_err_and c.from_residual.result c.from_residual.ensures.1 in
     by_texts from to (lacked there items) [] texts left left1 told here (λ text none. absurd (omega (arith, none.1))) c.from_residual.result
-    (refused_as (λ answer. WritesBy answer from to (lacked there items) [] left left1 told here) c.from_residual.result p.0 c.in_err-placed.field-0.0 p.1 p.2
+    (refused_as (λ answer. WritesBy answer from to (lacked there items) [] left left1 told here) c.from_residual.result c.from_residual.ensures.1
     (subst (λ xs. WritesFirst c.in_err-placed.field-0.0 from to (lacked there xs) [] left left1 told here) c.as_slice-mapped.ensures (c.in_err-placed.ensures.written ordered)))
 
 pub returns-clause-written : goal.returns-clause-written
@@ -154,8 +149,7 @@ returns-in_err-placed-clause-moving g c =
     let from = c.args.sides.now.source in
     let told = g.F.Folder.told c.args.folder.now in
     let Has = HasCopied rule from c.args.sides.now.target c.args.there.now in
-    let p = err_from_is_err_and c.from_residual.result c.from_residual.ensures.1 in
-    refused_as (λ answer. IfErr answer (StopsSeen Has told from c.args.items.now.mapped.items)) c.from_residual.result p.0 c.in_err-placed.field-0.0 p.1 p.2
+    fault_as _ c.from_residual.result c.from_residual.ensures.1
     (subst (λ xs. StopsSeen Has told from xs c.in_err-placed.field-0.0) c.as_slice-mapped.ensures c.in_err-placed.ensures.moving)
 
 pub returns-clause-moving : goal.returns-clause-moving
@@ -193,10 +187,8 @@ returns-in_err-placed-clause-ends g c =
     let here = g.F.Folder.told c.place_missing.new.folder in
     let left = g.R.Randoms.left c.args.random.now in
     let left1 = g.R.Randoms.left c.place_missing.new.random in
-    let fault = c.in_err-placed.field-0.0 in
-    let p = err_from_is_err_and c.from_residual.result c.from_residual.ensures.1 in
-    ends_stopped _ (SharesFrom (IsFilled rule from to c.args.there.now) to c.args.items.now.mapped.items left left1 told here) rule from to here c.from_residual.result p.0 fault p.1 p.2
-    (subst (λ xs. StopsFor (SharesFrom (IsFilled rule from to c.args.there.now) to xs left left1 told here) fault) c.as_slice-mapped.ensures c.in_err-placed.ensures.stops)
+    ends_stopped _ (SharesFrom (IsFilled rule from to c.args.there.now) to c.args.items.now.mapped.items left left1 told here) rule from to here c.from_residual.result _ c.from_residual.ensures.1
+    (subst (λ xs. StopsFor (SharesFrom (IsFilled rule from to c.args.there.now) to xs left left1 told here) c.in_err-placed.field-0.0) c.as_slice-mapped.ensures c.in_err-placed.ensures.stops)
 
 pub returns-clause-ends : goal.returns-clause-ends
 returns-clause-ends g c =

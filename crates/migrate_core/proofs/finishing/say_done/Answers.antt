@@ -1,5 +1,4 @@
 use Rattle.std.proofs.Common.{Ok, subst, Contains, [], refl, ◌∷◌}
-use Rattle.std.proofs.lemmas.Result.{err_from_is_err_and}
 use Rattle.migrate_core.proofs.Endings.{says_done_here, says_failed, written_stands}
 use Rattle.migrate_core.specs.Moved.{done_of}
 use Rattle.migrate_core.proofs.WorkFolders.{tidy_unchanged, tidy_written, written_beside, written_moves}
@@ -17,8 +16,7 @@ returns-in_ok-write-in-Building-clause-guard g c m same tells =
 
 pub returns-in_err-write-in-Building-clause-guard : goal.returns-in_err-write-in-Building-clause-guard
 returns-in_err-write-in-Building-clause-guard g c m same tells =
-    let p = err_from_is_err_and c.from_residual.result c.from_residual.ensures.1 in
-    says_failed m c.args.journal (g.F.Folder.told c.args.folder.now) (g.F.Folder.told c.write.new.folder) c.write.result c.from_residual.result p.0 p.1
+    says_failed _ m c.args.journal (g.F.Folder.told c.args.folder.now) (g.F.Folder.told c.write.new.folder) c.write.result c.from_residual.result c.from_residual.ensures.1
     (says_done_here c.journals_keep_migrations_guarded.ensures.finishes c.journals_keep_migrations_guarded.ensures.finished m c.args.work.now c.args.journal
     (g.F.Folder.told c.args.folder.now) (g.F.Folder.told c.write.new.folder) c.write.result same c.requires.journal c.in-Building.is tells (g.met.F.Folder.sound c.write.new.folder)
     c.write.ensures.moments c.write.ensures.written)

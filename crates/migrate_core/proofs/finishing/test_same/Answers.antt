@@ -1,15 +1,10 @@
-use Rattle.std.proofs.Common.{IfErr}
-use Rattle.std.proofs.lemmas.Result.{err_from_is_err_and}
-use Rattle.folder_spec.specs.View.{View}
-use Rattle.tree_match.specs.Trees.{IsSameOrTooLong, match_of, side_of}
+use Rattle.tree_match.specs.Trees.{match_of, side_of}
 use Rattle.migrate_core.proofs.Planned.{mapped_files}
 use Rattle.migrate_core.proofs.Compared.{match_stops}
-use Rattle.migrate_core.specs.Causes.{StopsLater}
-use Rattle.migrate_core.specs.Faults.{of_match}
 use Rattle.migrate_core.proofs.Limits.{by_match, source_first}
-use Rattle.migrate_core.specs.Limits.{PassesLimit, PassesSeen}
+use Rattle.migrate_core.specs.Limits.{PassesLimit}
 use Rattle.migrate_core.proofs.finishing.test_same.Goals as goal
-use Rattle.migration_sides.proofs.Chains.{refused_as}
+use Rattle.migration_sides.proofs.Chains.{fault_as}
 
 pub holds_all-requires-clause-a : goal.holds_all-requires-clause-a
 holds_all-requires-clause-a g c v is = record {
@@ -21,11 +16,8 @@ pub returns-in_err-holds_all-clause-moving : goal.returns-in_err-holds_all-claus
 returns-in_err-holds_all-clause-moving g c =
     let from = c.args.sides.now.source in
     let to = c.args.sides.now.target in
-    let Same : View → Type 0 = λ v. IsSameOrTooLong (match_of v (side_of from c.args.mapped.now.items) (side_of to c.args.target.now.items)) in
-    let why = c.in_err-holds_all.field-0.0 in
-    let p = err_from_is_err_and c.from_residual.result c.from_residual.ensures.1 in
-    refused_as (λ answer. IfErr answer (StopsLater Same (g.F.Folder.told c.args.folder.now))) c.from_residual.result p.0 (of_match why) p.1 p.2
-    (λ v is. match_stops (match_of v (side_of from c.args.mapped.now.items) (side_of to c.args.target.now.items)) why (c.in_err-holds_all.ensures.answers v is))
+    fault_as _ c.from_residual.result c.from_residual.ensures.1
+    (λ v is. match_stops (match_of v (side_of from c.args.mapped.now.items) (side_of to c.args.target.now.items)) c.in_err-holds_all.field-0.0 (c.in_err-holds_all.ensures.answers v is))
 
 pub returns-in_err-holds_all-clause-limit : goal.returns-in_err-holds_all-clause-limit
 returns-in_err-holds_all-clause-limit g c =
@@ -35,10 +27,8 @@ returns-in_err-holds_all-clause-limit g c =
     let others = c.args.target.now.items in
     let rule = c.args.sides.now.names in
     let told = g.F.Folder.told c.args.folder.now in
-    let why = c.in_err-holds_all.field-0.0 in
-    let p = err_from_is_err_and c.from_residual.result c.from_residual.ensures.1 in
-    refused_as (λ answer. IfErr answer (PassesSeen rule from to told)) c.from_residual.result p.0 (of_match why) p.1 p.2
-    (λ v is. by_match (PassesLimit rule from to v) (match_of v (side_of from items) (side_of to others)) why (c.in_err-holds_all.ensures.answers v is)
+    fault_as _ c.from_residual.result c.from_residual.ensures.1
+    (λ v is. by_match (PassesLimit rule from to v) (match_of v (side_of from items) (side_of to others)) c.in_err-holds_all.field-0.0 (c.in_err-holds_all.ensures.answers v is)
     (source_first rule from to items others told v c.requires.source c.requires.target is))
 
 pub holds_all-requires-clause-b : goal.holds_all-requires-clause-b

@@ -1,15 +1,13 @@
-use Rattle.std.proofs.Common.{Err, IfErr, Ok, subst}
-use Rattle.std.proofs.lemmas.Result.{err_from_is_err_and}
-use Rattle.migration_sides.proofs.Chains.{then_refused, own_passes, own_refused, refused_as}
+use Rattle.std.proofs.Common.{Err, Ok, subst}
+use Rattle.migration_sides.proofs.Chains.{fault_as, own_passes, own_refused, then_refused}
 use Rattle.migration_sides.specs.Tests.{Then, nothing_follows}
 use Rattle.tree_match.specs.Mapping.{MapsTo}
 use Rattle.vault_spec.specs.Vault.{format_of}
 use Rattle.vault_walk.specs.declared.plan.Plan.{Plan}
 use Rattle.migrate_core.proofs.Blaming.{map_begins}
 use Rattle.migrate_core.proofs.MappedNames.{each_allowed}
-use Rattle.migrate_core.specs.Causes.{Answer, Refuses, TestsMapped, TestsNames, Unless}
-use Rattle.migrate_core.specs.Faults.{IsOfTest, of_map}
-use Rattle.migrate_core.specs.Limits.{StopsElsewhere}
+use Rattle.migrate_core.specs.Causes.{Answer, TestsNames, Unless}
+use Rattle.migrate_core.specs.Faults.{of_map}
 use Rattle.migrate_core.specs.Sides.{AllowsEachMapped}
 use Rattle.migrate_core.specs.declared.fault.MoveFault.TheVariants.{Failed, NoMemory}
 use Rattle.migrate_core.proofs.names.map_allowed.Goals as goal
@@ -22,8 +20,7 @@ returns-in_err-test_names-clause-cause c =
     let items = c.args.plan.now.items in
     let fault = c.in_err-test_names.field-0.0 in
     let next : Unit {0} → Answer (Unit {0}) → Type 0 = λ _. Then of_map (MapsTo rule items) (λ (plan : Plan). nothing_follows plan.items) in
-    let p = err_from_is_err_and c.from_residual.result c.from_residual.ensures.1 in
-    refused_as (λ answer. IfErr answer (Refuses (TestsMapped rule f items nothing_follows))) c.from_residual.result p.0 fault p.1 p.2
+    fault_as _ c.from_residual.result c.from_residual.ensures.1
     (own_refused Failed NoMemory (TestsNames rule f items) next fault (subst (λ xs. Unless {X = Unit {0}} (Err fault) (TestsNames rule f xs (Err fault))) c.as_slice.ensures c.in_err-test_names.ensures.cause))
 
 pub returns-in_err-map_plan-clause-cause : goal.returns-in_err-map_plan-clause-cause
@@ -33,27 +30,21 @@ returns-in_err-map_plan-clause-cause c =
     let items = c.args.plan.now.items in
     let why = c.in_err-map_plan.field-0.0 in
     let next : Unit {0} → Answer (Unit {0}) → Type 0 = λ _. Then of_map (MapsTo rule items) (λ (plan : Plan). nothing_follows plan.items) in
-    let p = err_from_is_err_and c.from_residual-in_err-map_plan.result c.from_residual-in_err-map_plan.ensures.1 in
-    refused_as (λ answer. IfErr answer (Refuses (TestsMapped rule f items nothing_follows))) c.from_residual-in_err-map_plan.result p.0 (of_map why) p.1 p.2
+    fault_as _ c.from_residual-in_err-map_plan.result c.from_residual-in_err-map_plan.ensures.1
     (own_passes Failed NoMemory (TestsNames rule f items) next (Err (of_map why)) tt (subst (λ xs. Unless {X = Unit {0}} (Ok tt) (TestsNames rule f xs (Ok tt))) c.as_slice.ensures c.in_ok-test_names.ensures.cause)
     (then_refused Failed NoMemory of_map (MapsTo rule items) (λ (plan : Plan). nothing_follows plan.items) why c.in_err-map_plan.ensures))
 
 pub returns-in_err-map_plan-clause-tested : goal.returns-in_err-map_plan-clause-tested
 returns-in_err-map_plan-clause-tested c =
-    let why = c.in_err-map_plan.field-0.0 in
-    let p = err_from_is_err_and c.from_residual-in_err-map_plan.result c.from_residual-in_err-map_plan.ensures.1 in
-    refused_as (λ answer. IfErr answer IsOfTest) c.from_residual-in_err-map_plan.result p.0 (of_map why) p.1 p.2 (map_tested why).1
+    fault_as _ c.from_residual-in_err-map_plan.result c.from_residual-in_err-map_plan.ensures.1 (map_tested c.in_err-map_plan.field-0.0).1
 
 pub returns-in_err-map_plan-clause-uncompared : goal.returns-in_err-map_plan-clause-uncompared
 returns-in_err-map_plan-clause-uncompared c =
-    let why = c.in_err-map_plan.field-0.0 in
-    let p = err_from_is_err_and c.from_residual-in_err-map_plan.result c.from_residual-in_err-map_plan.ensures.1 in
-    refused_as (λ answer. IfErr answer StopsElsewhere) c.from_residual-in_err-map_plan.result p.0 (of_map why) p.1 p.2 (map_tested why).0
+    fault_as _ c.from_residual-in_err-map_plan.result c.from_residual-in_err-map_plan.ensures.1 (map_tested c.in_err-map_plan.field-0.0).0
 
 pub returns-in_err-map_plan-clause-blamed : goal.returns-in_err-map_plan-clause-blamed
 returns-in_err-map_plan-clause-blamed c =
-    let p = err_from_is_err_and c.from_residual-in_err-map_plan.result c.from_residual-in_err-map_plan.ensures.1 in
-    rw (p.1, p.2) (map_begins c.in_err-map_plan.field-0.0)
+    fault_as _ c.from_residual-in_err-map_plan.result c.from_residual-in_err-map_plan.ensures.1 (map_begins c.in_err-map_plan.field-0.0)
 
 pub returns-clause-allowed : goal.returns-clause-allowed
 returns-clause-allowed c =

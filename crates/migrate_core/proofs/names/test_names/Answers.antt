@@ -5,7 +5,6 @@ use Rattle.vault_spec.specs.Vault.{format_of}
 use Rattle.migrate_core.specs.Sides.{AllowsMappedLast}
 use Rattle.migrate_core.specs.Causes.{ForbidsMappedLast, TestsNames, Unless}
 use Rattle.migrate_core.proofs.Causing.{names_pass, names_refused}
-use Rattle.std.proofs.lemmas.Result.{err_from_is_err_and}
 use Rattle.migrate_core.specs.declared.fault.MoveFault.TheVariants.{NoMemory, NotAllowed}
 use Rattle.migrate_core.proofs.names.test_names.Goals as goal
 use Rattle.migration_sides.proofs.Chains.{refused_as}
@@ -31,7 +30,6 @@ pub returns-in_err-test_name-clause-cause : goal.returns-in_err-test_name-clause
 returns-in_err-test_name-clause-cause c =
     let f = format_of c.args.vault.now.vault in
     let fault = c.in_err-test_name.field-0.0 in
-    let p = err_from_is_err_and c.from_residual.result c.from_residual.ensures.1 in
-    refused_as (λ answer. Unless answer (TestsNames c.args.names f c.args.items.now answer)) c.from_residual.result p.0 fault p.1 p.2
+    refused_as (λ answer. Unless answer (TestsNames c.args.names f c.args.items.now answer)) c.from_residual.result c.from_residual.ensures.1
     (names_refused c.args.names f c.args.items.now c.loop-item.item-index c.item-item.result fault c.loop-item.invariant c.loop-item-test.true c.item-item.is
     (subst (λ path. (fault ≡ NoMemory) ⊎ (ForbidsMappedLast c.args.names f path × (fault ≡ NotAllowed path))) (ap (λ (x : Planned). x.path) c.item.view_is) c.in_err-test_name.ensures.forbids))

@@ -1,5 +1,4 @@
-use Rattle.std.proofs.Common.{IsTrue, Err, Ok, refl, sym, ap, ◌∙◌, subst, [], ◌∷◌, IfErr}
-use Rattle.std.proofs.lemmas.Result.{err_from_is_err_and}
+use Rattle.std.proofs.Common.{IsTrue, Err, Ok, refl, sym, ap, ◌∙◌, subst, [], ◌∷◌, Result}
 use Rattle.std.specs.List.{list_all}
 use Rattle.content_writing.specs.Content.{Whole}
 use Rattle.migration_spec.specs.Alone.{Begun}
@@ -10,56 +9,55 @@ use Rattle.migrate_core.proofs.Leadings.{goes_failed}
 use Rattle.migrate_core.proofs.Placings.{directory_goes, made_moves, made_ready}
 use Rattle.migrate_core.proofs.Causing.{put_stop}
 use Rattle.migrate_core.proofs.Writings.{directory_copy, directory_ends, one_begun, one_written}
-use Rattle.migrate_core.specs.Written.{MadeItem, WritesBy}
-use Rattle.migrate_core.specs.Faults.{of_put}
 use Rattle.migrate_core.proofs.Stopping.{directory_stops, refusal_tells}
-use Rattle.migrate_core.specs.Causes.{StopsAt, StopsSeen}
+use Rattle.migrate_core.specs.Causes.{StopsAt}
 use Rattle.migrate_core.specs.Copying.{Enters}
 use Rattle.migrate_core.proofs.Copyings.{directory_copies}
 use Rattle.migrate_core.proofs.Sharing.{item_stops}
-use Rattle.migrate_core.specs.Limits.{StopsFor}
-use Rattle.migrate_core.specs.Sharing.{IsMadeFor, Lacks, SharesFrom}
+use Rattle.migrate_core.specs.Sharing.{IsMadeFor}
 use Rattle.vault_write.specs.Calls.{MakesAt, MakesDirectory, New}
+use Rattle.migrate_core.proofs.placing.place.Given.{Over}
 use Rattle.migrate_core.proofs.placing.place.Goals as goal
-use Rattle.migration_sides.proofs.Chains.{refused_as}
+use Rattle.migrate_core.proofs.placing.place.Goals.{After-place_dir}
+use Rattle.migration_sides.proofs.Chains.{fault_as}
+use Rattle.migrate_core.specs.Leading.{LeadsEach}
+use Rattle.migrate_core.specs.Moving.{MovesBeside}
+use Rattle.content_writing.specs.Making.{is_apart}
+use Rattle.content_writing.specs.declared.fault.PutFault.{PutFault}
+
+-- once the directory is placed, or that has failed
+module _ (g : Over) (c : After-place_dir g) where
+  moves : MovesBeside (is_apart c.args.work.now c.args.sides.now.target.root) c.args.sides.now.target.root (g.F.Folder.told c.args.folder.now) (g.F.Folder.told c.place_dir.new.folder)
+  moves =
+      made_moves c.args.sides.now.target c.args.work.now c.item.inside.path NewDirectory Whole c.place_dir.ensures.made.drawn (g.F.Folder.told c.args.folder.now) (g.F.Folder.told c.place_dir.new.folder) c.place_dir.result
+      c.place_dir.ensures.made.makes c.requires.apart.target
+
+  goes : (result : Result (Unit {0}) PutFault)
+      → MakesDirectory c.args.sides.now.target c.args.work.now c.item.inside.path (g.R.Randoms.left c.args.random.now) (g.R.Randoms.left c.place_dir.new.random) (g.F.Folder.told c.args.folder.now) (g.F.Folder.told c.place_dir.new.folder) result
+      → LeadsEach c.args.sides.now.names c.args.sides.now.source c.args.sides.now.target c.args.work.now Begun Begun (g.F.Folder.told c.args.folder.now) (g.F.Folder.told c.place_dir.new.folder) result
+  goes result made m sides =
+      let told = g.F.Folder.told c.args.folder.now in
+      let told' = g.F.Folder.told c.place_dir.new.folder in
+      let left = g.R.Randoms.left c.args.random.now in
+      let left' = g.R.Randoms.left c.place_dir.new.random in
+      let to = c.args.sides.now.target in
+      directory_goes c.placing_keeps_migrations_guarded.ensures.one c.placing_keeps_migrations_guarded.ensures.next c.guarded_migrations_are_seen.ensures.alone m c.args.sides.now.names c.args.sides.now.source to c.args.work.now sides c.args.item.now
+      told told' left left' result c.requires.item (g.met.F.Folder.sound c.place_dir.new.folder) c.mapped_walks_tell_the_mapped_tree.ensures.directory (sym (ap (λ (x : Planned). x.node) c.item.view_is) ∙ c.in-Dir.is)
+      (subst (λ p. MakesDirectory to c.args.work.now p left left' told told' result) (ap (λ (x : Planned). x.path) c.item.view_is) made)
 
 pub returns-in_ok-place_dir-in-Dir-clause-guard : goal.returns-in_ok-place_dir-in-Dir-clause-guard
-returns-in_ok-place_dir-in-Dir-clause-guard g c m sides =
-    let path = ap (λ (x : Planned). x.path) c.item.view_is in
-    let told = g.F.Folder.told c.args.folder.now in
-    let told' = g.F.Folder.told c.place_dir.new.folder in
-    let left = g.R.Randoms.left c.args.random.now in
-    let left' = g.R.Randoms.left c.place_dir.new.random in
-    let from = c.args.sides.now.source in
-    let to = c.args.sides.now.target in
-    directory_goes c.placing_keeps_migrations_guarded.ensures.one c.placing_keeps_migrations_guarded.ensures.next c.guarded_migrations_are_seen.ensures.alone m c.args.sides.now.names from to c.args.work.now sides c.args.item.now
-    told told' left left' (Ok tt) c.requires.item (g.met.F.Folder.sound c.place_dir.new.folder) c.mapped_walks_tell_the_mapped_tree.ensures.directory (sym (ap (λ (x : Planned). x.node) c.item.view_is) ∙ c.in-Dir.is)
-    (subst (λ p. MakesDirectory to c.args.work.now p left left' told told' (Ok tt)) path c.in_ok-place_dir-in-Dir.ensures.made)
+returns-in_ok-place_dir-in-Dir-clause-guard g c m sides = goes g (goal.at.returns-in_ok-place_dir-in-Dir-clause-guard g c).After-place_dir (Ok tt) c.in_ok-place_dir-in-Dir.ensures.made m sides
 
 pub returns-in_err-place_dir-in-Dir-clause-guard : goal.returns-in_err-place_dir-in-Dir-clause-guard
 returns-in_err-place_dir-in-Dir-clause-guard g c m sides =
-    let path = ap (λ (x : Planned). x.path) c.item.view_is in
-    let told = g.F.Folder.told c.args.folder.now in
-    let told' = g.F.Folder.told c.place_dir.new.folder in
-    let left = g.R.Randoms.left c.args.random.now in
-    let left' = g.R.Randoms.left c.place_dir.new.random in
-    let from = c.args.sides.now.source in
-    let to = c.args.sides.now.target in
-    let p = err_from_is_err_and c.from_residual.result c.from_residual.ensures.1 in
-    goes_failed m Begun Begun Begun told told' c.place_dir.result c.from_residual.result p.0 p.1
-    (directory_goes c.placing_keeps_migrations_guarded.ensures.one c.placing_keeps_migrations_guarded.ensures.next c.guarded_migrations_are_seen.ensures.alone m c.args.sides.now.names from to c.args.work.now sides c.args.item.now
-    told told' left left' c.place_dir.result c.requires.item (g.met.F.Folder.sound c.place_dir.new.folder) c.mapped_walks_tell_the_mapped_tree.ensures.directory (sym (ap (λ (x : Planned). x.node) c.item.view_is) ∙ c.in-Dir.is)
-    (subst (λ p. MakesDirectory to c.args.work.now p left left' told told' c.place_dir.result) path c.place_dir.ensures.made))
+    goes_failed _ m Begun Begun Begun (g.F.Folder.told c.args.folder.now) (g.F.Folder.told c.place_dir.new.folder) c.place_dir.result c.from_residual.result c.from_residual.ensures.1
+    (goes g (goal.at.returns-in_err-place_dir-in-Dir-clause-guard g c).After-place_dir c.place_dir.result c.place_dir.ensures.made m sides)
 
 pub returns-in_ok-place_dir-in-Dir-clause-moves : goal.returns-in_ok-place_dir-in-Dir-clause-moves
-returns-in_ok-place_dir-in-Dir-clause-moves g c =
-    made_moves c.args.sides.now.target c.args.work.now c.item.inside.path NewDirectory Whole c.place_dir.ensures.made.drawn (g.F.Folder.told c.args.folder.now) (g.F.Folder.told c.place_dir.new.folder) c.place_dir.result
-    c.place_dir.ensures.made.makes c.requires.apart.target
+returns-in_ok-place_dir-in-Dir-clause-moves g c = moves g (goal.at.returns-in_ok-place_dir-in-Dir-clause-moves g c).After-place_dir
 
 pub returns-in_err-place_dir-in-Dir-clause-moves : goal.returns-in_err-place_dir-in-Dir-clause-moves
-returns-in_err-place_dir-in-Dir-clause-moves g c =
-    made_moves c.args.sides.now.target c.args.work.now c.item.inside.path NewDirectory Whole c.place_dir.ensures.made.drawn (g.F.Folder.told c.args.folder.now) (g.F.Folder.told c.place_dir.new.folder) c.place_dir.result
-    c.place_dir.ensures.made.makes c.requires.apart.target
+returns-in_err-place_dir-in-Dir-clause-moves g c = moves g (goal.at.returns-in_err-place_dir-in-Dir-clause-moves g c).After-place_dir
 
 pub returns-in_ok-place_dir-in-Dir-clause-ready : goal.returns-in_ok-place_dir-in-Dir-clause-ready
 returns-in_ok-place_dir-in-Dir-clause-ready g c =
@@ -69,37 +67,23 @@ returns-in_ok-place_dir-in-Dir-clause-ready g c =
 pub returns-in_err-place_dir-in-Dir-clause-written : goal.returns-in_err-place_dir-in-Dir-clause-written
 returns-in_err-place_dir-in-Dir-clause-written g c =
     let from = c.args.sides.now.source in
-    let to = c.args.sides.now.target in
-    let told = g.F.Folder.told c.args.folder.now in
-    let left = g.R.Randoms.left c.args.random.now in
     let item = c.args.item.now in
-    let told' = g.F.Folder.told c.place_dir.new.folder in
-    let left' = g.R.Randoms.left c.place_dir.new.random in
-    let path = ap (λ (x : Planned). x.path) c.item.view_is in
+    let told = g.F.Folder.told c.args.folder.now in
     let node = sym (ap (λ (x : Planned). x.node) c.item.view_is) ∙ c.in-Dir.is in
     let made = c.in_err-place_dir-in-Dir.ensures.made in
-    let x : MadeItem = record { path = c.item.inside.path; item = NewDirectory; drawn = made.drawn } in
-    let copy = directory_copy from item told c.item.inside.path made.drawn path node in
-    let p = err_from_is_err_and c.from_residual.result c.from_residual.ensures.1 in
-    let why = c.in_err-place_dir-in-Dir.field-0.0 in
-    refused_as (λ answer. WritesBy answer from to (item ∷ []) [] left left' told told') c.from_residual.result p.0 (of_put why) p.1 p.2
-    (one_begun from to c.args.work.now c.requires.apart.target item x Whole left left' told told' made.were_drawn copy (directory_ends from item told node) why made.makes)
+    one_begun from c.args.sides.now.target c.args.work.now c.requires.apart.target item (record { path = c.item.inside.path; item = NewDirectory; drawn = made.drawn }) Whole (g.R.Randoms.left c.args.random.now) (g.R.Randoms.left c.place_dir.new.random)
+    told (g.F.Folder.told c.place_dir.new.folder) made.were_drawn (directory_copy from item told c.item.inside.path made.drawn (ap (λ (x : Planned). x.path) c.item.view_is) node) (directory_ends from item told node)
+    c.from_residual.result c.in_err-place_dir-in-Dir.field-0.0 c.from_residual.ensures.1 made.makes
 
 pub returns-in_ok-place_dir-in-Dir-clause-written : goal.returns-in_ok-place_dir-in-Dir-clause-written
 returns-in_ok-place_dir-in-Dir-clause-written g c =
     let from = c.args.sides.now.source in
-    let to = c.args.sides.now.target in
-    let told = g.F.Folder.told c.args.folder.now in
-    let left = g.R.Randoms.left c.args.random.now in
     let item = c.args.item.now in
-    let told' = g.F.Folder.told c.place_dir.new.folder in
-    let left' = g.R.Randoms.left c.place_dir.new.random in
-    let path = ap (λ (x : Planned). x.path) c.item.view_is in
+    let told = g.F.Folder.told c.args.folder.now in
     let node = sym (ap (λ (x : Planned). x.node) c.item.view_is) ∙ c.in-Dir.is in
     let made = c.in_ok-place_dir-in-Dir.ensures.made in
-    let x : MadeItem = record { path = c.item.inside.path; item = NewDirectory; drawn = made.drawn } in
-    let copy = directory_copy from item told c.item.inside.path made.drawn path node in
-    one_written from to c.args.work.now c.requires.apart.target item x Whole left left' told told' made.were_drawn copy (directory_ends from item told node) made.makes
+    one_written from c.args.sides.now.target c.args.work.now c.requires.apart.target item (record { path = c.item.inside.path; item = NewDirectory; drawn = made.drawn }) Whole (g.R.Randoms.left c.args.random.now) (g.R.Randoms.left c.place_dir.new.random)
+    told (g.F.Folder.told c.place_dir.new.folder) made.were_drawn (directory_copy from item told c.item.inside.path made.drawn (ap (λ (x : Planned). x.path) c.item.view_is) node) (directory_ends from item told node) made.makes
 
 pub returns-in_err-place_dir-in-Dir-clause-moving : goal.returns-in_err-place_dir-in-Dir-clause-moving
 returns-in_err-place_dir-in-Dir-clause-moving g c =
@@ -107,13 +91,12 @@ returns-in_err-place_dir-in-Dir-clause-moving g c =
     let told = g.F.Folder.told c.args.folder.now in
     let item = c.args.item.now in
     let why = c.in_err-place_dir-in-Dir.field-0.0 in
-    let p = err_from_is_err_and c.from_residual.result c.from_residual.ensures.1 in
     let to = c.args.sides.now.target in
     let told' = g.F.Folder.told c.place_dir.new.folder in
     let left = g.R.Randoms.left c.args.random.now in
     let left' = g.R.Randoms.left c.place_dir.new.random in
     let made = subst (λ q. MakesDirectory to c.args.work.now q left left' told told' (Err why)) (ap (λ (x : Planned). x.path) c.item.view_is) c.in_err-place_dir-in-Dir.ensures.made in
-    refused_as (λ answer. IfErr answer (StopsSeen (Enters to item) told from (item ∷ []))) c.from_residual.result p.0 (of_put why) p.1 p.2
+    fault_as _ c.from_residual.result c.from_residual.ensures.1
     (λ v seen. put_stop (Enters to item v) (StopsAt (Enters to item v) from v (item ∷ [])) why
     (directory_stops from to item v Whole c.requires.allowed why c.in_err-place_dir-in-Dir.ensures.fault
     (refusal_tells to c.args.work.now item.path NewDirectory Whole made.drawn told told' why made.makes v seen)))
@@ -144,8 +127,7 @@ returns-in_err-place_dir-in-Dir-clause-stops g c =
     let why = c.in_err-place_dir-in-Dir.field-0.0 in
     let made = c.in_err-place_dir-in-Dir.ensures.made in
     let node = sym (ap (λ (x : Planned). x.node) c.item.view_is) ∙ c.in-Dir.is in
-    let p = err_from_is_err_and c.from_residual.result c.from_residual.ensures.1 in
-    refused_as (λ answer. IfErr answer (StopsFor (SharesFrom (Lacks c.args.sides.now.names from to item) to (item ∷ []) left left' told told'))) c.from_residual.result p.0 (of_put why) p.1 p.2
+    fault_as _ c.from_residual.result c.from_residual.ensures.1
     (item_stops c.what_stands_is_found_step_by_step.ensures.behind c.files_have_their_contents.ensures c.what_is_found_stands.ensures.enters c.args.sides.now.names
     from to (c.items_keep_vaults.ensures to.vault) c.args.work.now item NewDirectory Whole made.drawn left left' made.were_drawn told told'
     (subst (λ p. IsTrue (list_all is_name p)) (ap (λ (x : Planned). x.path) c.item.view_is) c.names-named.ensures.named) (subst (λ kind. IsMadeFor kind NewDirectory) (sym node) refl) c.requires.apart.target why

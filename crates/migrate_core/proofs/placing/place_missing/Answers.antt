@@ -1,8 +1,7 @@
-use Rattle.std.proofs.Common.{◌∙◌, ◌+◌, true, false, refl, sym, ap, arith, Contains, [], drop, subst, take, ◌++◌, ◌∷◌, IfErr}
+use Rattle.std.proofs.Common.{◌∙◌, ◌+◌, true, false, refl, sym, ap, arith, Contains, [], drop, subst, take, ◌++◌, ◌∷◌}
 use Rattle.std.proofs.lemmas.List.{take_all}
 use Rattle.migrate_core.proofs.Searched.{counted_on}
 use Rattle.migrate_core.specs.Moved.{lacking}
-use Rattle.std.proofs.lemmas.Result.{err_from_is_err_and}
 use Rattle.migration_spec.specs.Alone.{Begun}
 use Rattle.content_writing.specs.Making.{is_apart}
 use Rattle.migrate_core.proofs.Blaming.{blamed_since}
@@ -12,19 +11,17 @@ use Rattle.migrate_core.proofs.Movings.{moves_nowhere, moves_on, mapped_stay}
 use Rattle.migrate_core.specs.Written.{BringsOnlyTo, WritesAll, WritesBy, WritesFirst, lacked, slices}
 use Rattle.migrate_core.proofs.Writings.{all_on, first_of_more, first_on, lacked_is, lacked_next, lacked_split, next_among, only_nowhere, texts_alone, next_kept}
 use Rattle.migrate_core.proofs.Stopping.{stops_before}
-use Rattle.migrate_core.specs.Causes.{StopsSeen}
 use Rattle.migrate_core.proofs.Copyings.{all_copied, none_copied, one_copied, there_copied}
 use Rattle.migrate_core.proofs.Entered.{next_enters}
 use Rattle.migrate_core.specs.Copying.{Enters, HasCopied}
 use Rattle.migrate_core.proofs.Sharing.{next_lacks, none_filled, one_filled, shares_before, stops_more}
-use Rattle.migrate_core.specs.Limits.{StopsFor}
 use Rattle.migrate_core.specs.Sharing.{IsFilled, Lacks, SharesFrom}
 use Rattle.migrate_core.specs.Faults.{is_of_begin}
 use Rattle.migrate_core.proofs.placing.place_missing.Goals as goal
 use Rattle.migrate_core.proofs.placing.place_missing.Goals.{then-branch, else-branch}
 use Rattle.folder_spec.proofs.Seen.{one_view}
 use Rattle.migration_spec.proofs.Tellings.{seen_before}
-use Rattle.migration_sides.proofs.Chains.{refused_as}
+use Rattle.migration_sides.proofs.Chains.{fault_as, refused_as}
 
 pub loop-item-init : goal.loop-item-init
 loop-item-init g c =
@@ -68,8 +65,7 @@ returns-in_err-place_missing_one-clause-guard g c m sides =
     let here = g.F.Folder.told c.loop-item.folder in
     let told' = g.F.Folder.told c.place_missing_one.new.folder in
     let led = c.loop-item.invariant.led m sides in
-    let p = err_from_is_err_and c.from_residual.result c.from_residual.ensures.1 in
-    goes_failed m Begun Begun Begun told told' c.place_missing_one.result c.from_residual.result p.0 p.1
+    goes_failed _ m Begun Begun Begun told told' c.place_missing_one.result c.from_residual.result c.from_residual.ensures.1
     (goes_on m Begun Begun Begun told here told' c.place_missing_one.result led.0 led.1 (c.place_missing_one.ensures.guard m sides))
 
 pub returns-in_err-place_missing_one-clause-moves : goal.returns-in_err-place_missing_one-clause-moves
@@ -90,8 +86,7 @@ returns-in_err-place_missing_one-clause-random g c = omega (arith, c.loop-item.i
 
 pub returns-in_err-place_missing_one-clause-blamed : goal.returns-in_err-place_missing_one-clause-blamed
 returns-in_err-place_missing_one-clause-blamed g c =
-    let p = err_from_is_err_and c.from_residual.result c.from_residual.ensures.1 in
-    rw (p.1, p.2)
+    fault_as _ c.from_residual.result c.from_residual.ensures.1
     (blamed_since is_of_begin is_of_begin (λ why begins. begins) _ _ _ _ _ _ c.loop-item.invariant.grows c.loop-item.invariant.random c.in_err-place_missing_one.field-0.0 c.in_err-place_missing_one.ensures.blamed)
 
 pub returns-clause-grows : goal.returns-clause-grows
@@ -189,8 +184,7 @@ returns-in_err-place_missing_one-clause-written g c ordered =
     let item = c.item-item.result in
     let kept = next_kept rule from to.root work items k item (lacked there (item ∷ [])) told here c.requires.apart (g.met.F.Folder.sound c.args.folder.now) c.requires.walked c.loop-item-test.true c.item-item.is
     (lacked_is there (item ∷ [])) c.loop-item.invariant.moves in
-    let p = err_from_is_err_and c.from_residual.result c.from_residual.ensures.1 in
-    refused_as (λ answer. WritesBy answer from to (lacked there items) [] left left2 told told') c.from_residual.result p.0 c.in_err-place_missing_one.field-0.0 p.1 p.2
+    refused_as (λ answer. WritesBy answer from to (lacked there items) [] left left2 told told') c.from_residual.result c.from_residual.ensures.1
     (subst (λ xs. WritesFirst c.in_err-place_missing_one.field-0.0 from to xs [] left left2 told told') (ap (λ xs. xs ++ lacked there (drop (k + 1) items)) (lacked_next there items k item c.loop-item-test.true c.item-item.is) ∙ lacked_split there items (k + 1))
     (first_of_more from to (lacked there (take k items) ++ lacked there (item ∷ [])) [] left left2 told told' (lacked there (drop (k + 1) items)) c.in_err-place_missing_one.field-0.0
     (first_on c.draws_compose.ensures.composed from to (lacked there (take k items)) (lacked there (item ∷ [])) [] [] left left1 left2 told here told' kept
@@ -213,13 +207,11 @@ returns-in_err-place_missing_one-clause-moving g c =
     let here = g.F.Folder.told c.loop-item.folder in
     let k = c.loop-item.item-index in
     let item = c.item-item.result in
-    let fault = c.in_err-place_missing_one.field-0.0 in
     let kept = next_kept rule from to.root work items k item (item ∷ []) told here c.requires.apart (g.met.F.Folder.sound c.args.folder.now) c.requires.walked c.loop-item-test.true c.item-item.is (λ one among. among)
     c.loop-item.invariant.moves in
-    let p = err_from_is_err_and c.from_residual.result c.from_residual.ensures.1 in
     let walked = mapped_stay rule from to.root work items told here c.requires.apart (g.met.F.Folder.sound c.args.folder.now) c.loop-item.invariant.moves c.requires.walked in
-    refused_as (λ answer. IfErr answer (StopsSeen (HasCopied rule from to c.args.there.now) told from items)) c.from_residual.result p.0 fault p.1 p.2
-    (stops_before (Enters to item) (HasCopied rule from to c.args.there.now) from (item ∷ []) items told here fault kept (next_among items k item c.loop-item-test.true c.item-item.is)
+    fault_as _ c.from_residual.result c.from_residual.ensures.1
+    (stops_before (Enters to item) (HasCopied rule from to c.args.there.now) from (item ∷ []) items told here c.in_err-place_missing_one.field-0.0 kept (next_among items k item c.loop-item-test.true c.item-item.is)
     (λ v w is_v is_w h.
     let copied = c.loop-item.invariant.copied v w is_v is_w h in
     next_enters c.what_stands_is_found_step_by_step.ensures.below c.what_is_found_stands.ensures.enters c.prefix_comes_first.ensures.child rule from to c.args.there.now items k item w
@@ -254,12 +246,10 @@ returns-in_err-place_missing_one-clause-stops g c =
     let left2 = g.R.Randoms.left c.place_missing_one.new.random in
     let k = c.loop-item.item-index in
     let item = c.item-item.result in
-    let fault = c.in_err-place_missing_one.field-0.0 in
     let i = c.loop-item.invariant in
     let walked = mapped_stay rule from to.root work items told here c.requires.apart (g.met.F.Folder.sound c.args.folder.now) i.moves c.requires.walked in
-    let p = err_from_is_err_and c.from_residual.result c.from_residual.ensures.1 in
-    refused_as (λ answer. IfErr answer (StopsFor (SharesFrom (IsFilled rule from to there) to items left left2 told told'))) c.from_residual.result p.0 fault p.1 p.2
-    (stops_more (SharesFrom (Lacks rule from to item) to (item ∷ []) left1 left2 here told') (SharesFrom (IsFilled rule from to there) to items left left2 told told') fault
+    fault_as _ c.from_residual.result c.from_residual.ensures.1
+    (stops_more (SharesFrom (Lacks rule from to item) to (item ∷ []) left1 left2 here told') (SharesFrom (IsFilled rule from to there) to items left left2 told told') c.in_err-place_missing_one.field-0.0
     (shares_before (is_apart work to.root) to.root (Lacks rule from to item) (IsFilled rule from to there) to (item ∷ []) items left left1 left2 told here told' i.moves
     (λ v w is_v is_w h.
     let copied = i.copied v w is_v is_w h.0 in

@@ -1,4 +1,4 @@
-use Rattle.std.proofs.Common.{refl, sym, ◌∙◌, Contains, [], cond, not, subst, ◌∷◌, IfErr}
+use Rattle.std.proofs.Common.{refl, sym, ◌∙◌, Contains, [], cond, not, subst, ◌∷◌}
 use Rattle.folder_spec.specs.Seen.{seen}
 use Rattle.migration_spec.specs.Alone.{Begun}
 use Rattle.content_writing.specs.Making.{is_apart}
@@ -7,16 +7,11 @@ use Rattle.migrate_core.proofs.Movings.{moves_nowhere}
 use Rattle.migrate_core.proofs.Planned.{seen_of}
 use Rattle.migrate_core.proofs.Searched.{there_by, there_where}
 use Rattle.migrate_core.proofs.Writings.{only_nowhere, texts_alone}
-use Rattle.std.proofs.lemmas.Result.{err_from_is_err_and}
 use Rattle.migrate_core.specs.Written.{BringsOnlyTo, WritesAll, WritesBy, WritesFirst, lacked}
-use Rattle.migrate_core.specs.Causes.{StopsSeen}
-use Rattle.migrate_core.specs.Copying.{Enters}
 use Rattle.migrate_core.proofs.Copyings.{stands_copied}
-use Rattle.migrate_core.specs.Limits.{StopsFor}
-use Rattle.migrate_core.specs.Sharing.{Lacks, SharesFrom}
 use Rattle.migrate_core.proofs.placing.place_missing_one.Goals as goal
 use Rattle.folder_spec.proofs.Seen.{one_view}
-use Rattle.migration_sides.proofs.Chains.{refused_as}
+use Rattle.migration_sides.proofs.Chains.{fault_as, refused_as}
 
 pub returns-in_err-place-clause-none : goal.returns-in_err-place-clause-none
 returns-in_err-place-clause-none g c stands =
@@ -49,8 +44,7 @@ returns-in_err-place-clause-written g c ordered =
     let item = c.args.item.now in
     let told' = g.F.Folder.told c.place.new.folder in
     let left' = g.R.Randoms.left c.place.new.random in
-    let p = err_from_is_err_and c.from_residual.result c.from_residual.ensures.1 in
-    refused_as (λ answer. WritesBy answer from to (lacked c.args.there.now (item ∷ [])) [] left left' told told') c.from_residual.result p.0 c.in_err-place.field-0.0 p.1 p.2
+    refused_as (λ answer. WritesBy answer from to (lacked c.args.there.now (item ∷ [])) [] left left' told told') c.from_residual.result c.from_residual.ensures.1
     (subst (λ b. WritesFirst c.in_err-place.field-0.0 from to (cond (not b) (item ∷ []) []) [] left left' told told') (sym c.if-stands.false ∙ c.stands.ensures ordered) c.in_err-place.ensures.written)
 
 pub returns-clause-written : goal.returns-clause-written
@@ -76,8 +70,7 @@ returns-then-stands-clause-written g c ordered =
 
 pub returns-in_err-place-clause-moving : goal.returns-in_err-place-clause-moving
 returns-in_err-place-clause-moving g c =
-    let p = err_from_is_err_and c.from_residual.result c.from_residual.ensures.1 in
-    refused_as (λ answer. IfErr answer (StopsSeen (Enters c.args.sides.now.target c.args.item.now) (g.F.Folder.told c.args.folder.now) c.args.sides.now.source (c.args.item.now ∷ []))) c.from_residual.result p.0 c.in_err-place.field-0.0 p.1 p.2 c.in_err-place.ensures.moving
+    fault_as _ c.from_residual.result c.from_residual.ensures.1 c.in_err-place.ensures.moving
 
 pub returns-then-stands-clause-copies : goal.returns-then-stands-clause-copies
 returns-then-stands-clause-copies g c v w is_v is_w h =
@@ -91,13 +84,5 @@ returns-clause-copies g c v w is_v is_w h = c.in_ok-place.ensures.copies v w is_
 
 pub returns-in_err-place-clause-stops : goal.returns-in_err-place-clause-stops
 returns-in_err-place-clause-stops g c =
-    let from = c.args.sides.now.source in
-    let to = c.args.sides.now.target in
-    let item = c.args.item.now in
-    let left = g.R.Randoms.left c.args.random.now in
-    let left' = g.R.Randoms.left c.place.new.random in
-    let told = g.F.Folder.told c.args.folder.now in
-    let told' = g.F.Folder.told c.place.new.folder in
-    let p = err_from_is_err_and c.from_residual.result c.from_residual.ensures.1 in
-    refused_as (λ answer. IfErr answer (StopsFor (SharesFrom (Lacks c.args.sides.now.names from to item) to (item ∷ []) left left' told told'))) c.from_residual.result p.0 c.in_err-place.field-0.0 p.1 p.2
+    fault_as _ c.from_residual.result c.from_residual.ensures.1
     c.in_err-place.ensures.stops

@@ -3,21 +3,19 @@ use Rattle.migrate_core.proofs.Movings.{moves_on, settle_moves}
 use Rattle.folder_spec.specs.Seen.{IfSeen}
 use Rattle.migrate_core.proofs.Endings.{if_ok_more, told_before}
 use Rattle.migrate_core.specs.Moved.{MovesTold}
-use Rattle.std.proofs.lemmas.Result.{err_from_is_err_and}
 use Rattle.migrate_core.specs.Faults.{is_of_resume, of_folder}
 use Rattle.migrate_core.specs.Causes.{Resumes, Unless}
 use Rattle.migrate_core.proofs.Writings.{refused_written, settle_writes, told_after}
-use Rattle.std.proofs.Common.{IfErr, inl, Ok, refl}
+use Rattle.std.proofs.Common.{inl, Ok, refl}
 use Rattle.migrate_core.proofs.Completing.{folder_chance, own_faults}
 use Rattle.migrate_core.proofs.Continuing.{resume_completes}
-use Rattle.migrate_core.specs.Completing.{IsOfChance}
 use Rattle.migrate_core.proofs.Limits.{as_told_before, limit_more, none_compared}
 use Rattle.migrate_core.specs.Limits.{PassesAsTold}
 use Rattle.migrate_core.proofs.resuming.resume.Goals as goal
 use Rattle.migration_spec.proofs.Settling.{settle_fell, settle_seen, settle_seen_back}
 use Rattle.migrate_core.proofs.Settled.{settle_goes}
 use Rattle.migration_spec.proofs.Tellings.{folders_of}
-use Rattle.migration_sides.proofs.Chains.{refused_as}
+use Rattle.migration_sides.proofs.Chains.{fault_as, refused_as}
 use Rattle.migration_sides.proofs.Told.{folder_unless}
 use Rattle.migrate_core.proofs.Tested.{folder_tested}
 
@@ -58,8 +56,7 @@ returns-clause-moved g c =
 
 pub returns-in_err-settle-clause-cause : goal.returns-in_err-settle-clause-cause
 returns-in_err-settle-clause-cause g c v seen =
-    let p = err_from_is_err_and c.from_residual.result c.from_residual.ensures.1 in
-    refused_as (λ answer. Unless answer (Resumes c.args.work.now c.args.source_pass.now c.args.target_pass.now v answer)) c.from_residual.result p.0 (of_folder c.in_err-settle.field-0.0) p.1 p.2
+    refused_as (λ answer. Unless answer (Resumes c.args.work.now c.args.source_pass.now c.args.target_pass.now v answer)) c.from_residual.result c.from_residual.ensures.1
     (folder_unless of_folder refl _ c.in_err-settle.field-0.0)
 
 pub returns-clause-cause : goal.returns-clause-cause
@@ -70,8 +67,7 @@ pub returns-in_err-settle-clause-written : goal.returns-in_err-settle-clause-wri
 returns-in_err-settle-clause-written g c v seen =
     let told = g.F.Folder.told c.args.folder.now in
     let settled = g.F.Folder.told c.settle.new.self in
-    let p = err_from_is_err_and c.from_residual.result c.from_residual.ensures.1 in
-    inl (refused_written c.from_residual.result p.0 (of_folder c.in_err-settle.field-0.0) p.1 p.2 (folder_tested c.in_err-settle.field-0.0).1 (g.R.Randoms.left c.args.random.now) told settled (c.draws_compose.ensures.none _)
+    inl (refused_written c.from_residual.result _ c.from_residual.ensures.1 (folder_tested c.in_err-settle.field-0.0).1 (g.R.Randoms.left c.args.random.now) told settled (c.draws_compose.ensures.none _)
     (settle_writes told settled c.settle.result c.settle.ensures.changes))
 
 pub returns-clause-written : goal.returns-clause-written
@@ -85,8 +81,7 @@ returns-clause-written g c v seen =
 
 pub returns-in_err-settle-clause-completes : goal.returns-in_err-settle-clause-completes
 returns-in_err-settle-clause-completes g c m v seen asked opened can =
-    let p = err_from_is_err_and c.from_residual.result c.from_residual.ensures.1 in
-    refused_as (λ answer. IfErr answer IsOfChance) c.from_residual.result p.0 (of_folder c.in_err-settle.field-0.0) p.1 p.2 (folder_chance c.in_err-settle.field-0.0)
+    fault_as _ c.from_residual.result c.from_residual.ensures.1 (folder_chance c.in_err-settle.field-0.0)
 
 pub returns-clause-completes : goal.returns-clause-completes
 returns-clause-completes g c m v seen asked opened can =
@@ -98,9 +93,7 @@ returns-clause-completes g c m v seen asked opened can =
 
 pub returns-in_err-settle-clause-too_long : goal.returns-in_err-settle-clause-too_long
 returns-in_err-settle-clause-too_long g c v seen =
-    let why = c.in_err-settle.field-0.0 in
-    let p = err_from_is_err_and c.from_residual.result c.from_residual.ensures.1 in
-    none_compared _ c.from_residual.result p.0 (of_folder why) p.1 p.2 (folder_tested why).0
+    none_compared _ c.from_residual.result _ c.from_residual.ensures.1 (folder_tested c.in_err-settle.field-0.0).0
 
 pub returns-clause-too_long : goal.returns-clause-too_long
 returns-clause-too_long g c v seen =

@@ -1,4 +1,4 @@
-use Rattle.std.proofs.Common.{◌∙◌, subst, Err, Ok, sym, inl}
+use Rattle.std.proofs.Common.{◌∙◌, subst, Err, Ok, sym, inl, ℕ, List}
 use Rattle.folder_spec.specs.Region.{apart_from_both}
 use Rattle.folder_spec.specs.Seen.{IfSeen, IsSeen}
 use Rattle.move_journal.specs.declared.journal.Journal.{Journal}
@@ -12,21 +12,33 @@ use Rattle.migration_sides.proofs.Told.{apart_passes, apart_refused, work_refuse
 use Rattle.migration_sides.specs.Causes.{TestsApart}
 use Rattle.migration_sides.specs.Tests.{Then}
 use Rattle.migrate_core.proofs.Blaming.{apart_resumes}
-use Rattle.migrate_core.specs.Causes.{Resumes, ResumesTold, Unless, is_done}
+use Rattle.migrate_core.specs.Causes.{Resumes, ResumesTold, Unless, is_done, Answer}
 use Rattle.work_folder.specs.Looking.{Gives, TestsEntries}
 use Rattle.move_journal.specs.Reading.{ReadsAs, journal_bytes}
 use Rattle.move_journal.proofs.Standing.{read_stands}
 use Rattle.migrate_core.specs.Faults.{of_journal, of_step, of_work}
 use Rattle.migrate_core.specs.declared.placing.Done.{Done}
-use Rattle.std.proofs.lemmas.Result.{err_from_is_err_and}
 use Rattle.migrate_core.proofs.Writings.{nothing_written, told_of}
 use Rattle.migrate_core.specs.Written.{MayWriteTree}
 use Rattle.migrate_core.proofs.Limits.{limit_more, none_compared}
 use Rattle.migrate_core.specs.Limits.{PassesAsTold, PassesInTree}
 use Rattle.migrate_core.proofs.resuming.resume_settled.Goals as goal
-use Rattle.migration_sides.proofs.Chains.{refused_as, then_passes, then_refused}
+use Rattle.migration_sides.proofs.Chains.{fault_as, refused_as, then_passes, then_refused}
 use Rattle.migrate_core.specs.declared.fault.MoveFault.TheVariants.{Failed, NoMemory}
 use Rattle.migrate_core.proofs.Tested.{journal_tested, step_tested, work_tested}
+use Rattle.folder_spec.specs.Path.{Path}
+use Rattle.folder_spec.specs.View.{View}
+
+-- behind the journal: the folders don't overlap, and nothing foreign stands in the work folder
+module _ (work : Path) (pass pass' : List ℕ) (v : View) where
+  abbrev entries : Journal → Unit {0} → Answer Done → Type 0
+  entries journal _ = Then of_work (TestsEntries (is_done journal.phase) v work) (λ _. ResumesTold work pass pass' v journal)
+
+  abbrev folders : Journal → Answer Done → Type 0
+  folders journal = Then of_step (TestsApart journal.source journal.target work) (entries journal)
+
+  journal_passes : (answer : Answer Done) (journal : Journal) → ReadsAs (journal_bytes v work) (Ok journal) → Unless answer (folders journal answer) → Unless answer (Resumes work pass pass' v answer)
+  journal_passes = then_passes Failed NoMemory of_journal (ReadsAs (journal_bytes v work)) folders
 
 pub returns-in_err-journal-clause-guard : goal.returns-in_err-journal-clause-guard
 returns-in_err-journal-clause-guard g c = λ migration resumed opened. still_settled migration (g.F.Folder.told c.args.folder.now) (g.F.Folder.told c.read.new.folder) c.read.ensures.told
@@ -96,45 +108,31 @@ returns-in_err-journal-clause-cause g c v seen =
     let work = c.args.work.now in
     let pass = c.args.source_pass.now in
     let pass' = c.args.target_pass.now in
-    let told = λ (j : Journal). ResumesTold {Y = Done} work pass pass' v j in
-    let entries = λ (j : Journal) (_ : Unit {0}). Then of_work (TestsEntries (is_done j.phase) v work) (λ _. told j) in
-    let folders = λ (j : Journal). Then of_step (TestsApart j.source j.target work) (entries j) in
-    let why = c.in_err-journal.field-0.0 in
-    let p = err_from_is_err_and c.from_residual.result c.from_residual.ensures.1 in
-    refused_as (λ answer. Unless answer (Resumes work pass pass' v answer)) c.from_residual.result p.0 (of_journal why) p.1 p.2
-    (then_refused Failed NoMemory of_journal (ReadsAs (journal_bytes v work)) folders why (c.in_err-journal.ensures.answer v seen))
+    refused_as (λ answer. Unless answer (Resumes work pass pass' v answer)) c.from_residual.result c.from_residual.ensures.1
+    (then_refused Failed NoMemory of_journal (ReadsAs (journal_bytes v work)) (folders work pass pass' v) c.in_err-journal.field-0.0 (c.in_err-journal.ensures.answer v seen))
 
 pub returns-in_err-test_apart-clause-cause : goal.returns-in_err-test_apart-clause-cause
 returns-in_err-test_apart-clause-cause g c v seen =
     let work = c.args.work.now in
     let pass = c.args.source_pass.now in
     let pass' = c.args.target_pass.now in
-    let told = λ (j : Journal). ResumesTold {Y = Done} work pass pass' v j in
-    let entries = λ (j : Journal) (_ : Unit {0}). Then of_work (TestsEntries (is_done j.phase) v work) (λ _. told j) in
-    let folders = λ (j : Journal). Then of_step (TestsApart j.source j.target work) (entries j) in
     let read = c.in_ok-journal.journal in
     let why = c.in_err-test_apart.field-0.0 in
-    let p = err_from_is_err_and c.from_residual-in_err-test_apart.result c.from_residual-in_err-test_apart.ensures.1 in
-    refused_as (λ answer. Unless answer (Resumes work pass pass' v answer)) c.from_residual-in_err-test_apart.result p.0 (of_step why) p.1 p.2
-    (then_passes Failed NoMemory of_journal (ReadsAs (journal_bytes v work)) folders (Err (of_step why)) read (c.in_ok-journal.ensures.answer v seen)
-    (apart_refused of_step read.source read.target work (entries read) why c.in_err-test_apart.ensures.cause))
+    refused_as (λ answer. Unless answer (Resumes work pass pass' v answer)) c.from_residual-in_err-test_apart.result c.from_residual-in_err-test_apart.ensures.1
+    (journal_passes work pass pass' v (Err (of_step why)) read (c.in_ok-journal.ensures.answer v seen) (apart_refused of_step read.source read.target work (entries work pass pass' v read) why c.in_err-test_apart.ensures.cause))
 
 pub returns-in_err-look_again-clause-cause : goal.returns-in_err-look_again-clause-cause
 returns-in_err-look_again-clause-cause g c v seen =
     let work = c.args.work.now in
     let pass = c.args.source_pass.now in
     let pass' = c.args.target_pass.now in
-    let told = λ (j : Journal). ResumesTold {Y = Done} work pass pass' v j in
-    let entries = λ (j : Journal) (_ : Unit {0}). Then of_work (TestsEntries (is_done j.phase) v work) (λ _. told j) in
-    let folders = λ (j : Journal). Then of_step (TestsApart j.source j.target work) (entries j) in
     let read = c.in_ok-journal.journal in
     let why = c.in_err-look_again.field-0.0 in
-    let p = err_from_is_err_and c.from_residual-in_err-look_again.result c.from_residual-in_err-look_again.ensures.1 in
     let looked = c.in_err-look_again.ensures.answer v (subst (λ t. IsSeen t v) (sym c.read.ensures.told) seen) in
-    refused_as (λ answer. Unless answer (Resumes work pass pass' v answer)) c.from_residual-in_err-look_again.result p.0 (of_work why) p.1 p.2
-    (then_passes Failed NoMemory of_journal (ReadsAs (journal_bytes v work)) folders (Err (of_work why)) read (c.in_ok-journal.ensures.answer v seen)
-    (apart_passes of_step read.source read.target work (entries read) (Err (of_work why)) c.in_ok-test_apart.ensures.cause
-    (work_refused of_work (TestsEntries (is_done read.phase) v work) (λ _. told read) why
+    refused_as (λ answer. Unless answer (Resumes work pass pass' v answer)) c.from_residual-in_err-look_again.result c.from_residual-in_err-look_again.ensures.1
+    (journal_passes work pass pass' v (Err (of_work why)) read (c.in_ok-journal.ensures.answer v seen)
+    (apart_passes of_step read.source read.target work (entries work pass pass' v read) (Err (of_work why)) c.in_ok-test_apart.ensures.cause
+    (work_refused of_work (TestsEntries (is_done read.phase) v work) (λ _. ResumesTold work pass pass' v read) why
     (subst (λ old. Gives {T = Unit {0}} (TestsEntries old v work) (Err why)) c.is_done.ensures looked))))
 
 pub returns-clause-cause : goal.returns-clause-cause
@@ -142,32 +140,26 @@ returns-clause-cause g c v seen =
     let work = c.args.work.now in
     let pass = c.args.source_pass.now in
     let pass' = c.args.target_pass.now in
-    let told = λ (j : Journal). ResumesTold {Y = Done} work pass pass' v j in
-    let entries = λ (j : Journal) (_ : Unit {0}). Then of_work (TestsEntries (is_done j.phase) v work) (λ _. told j) in
-    let folders = λ (j : Journal). Then of_step (TestsApart j.source j.target work) (entries j) in
     let read = c.in_ok-journal.journal in
     let answer = c.resume_told.result in
     let once = subst (λ t. IsSeen t v) (sym c.read.ensures.told) seen in
-    then_passes Failed NoMemory of_journal (ReadsAs (journal_bytes v work)) folders answer read (c.in_ok-journal.ensures.answer v seen)
-    (apart_passes of_step read.source read.target work (entries read) answer c.in_ok-test_apart.ensures.cause
-    (then_passes Failed NoMemory of_work (TestsEntries (is_done read.phase) v work) (λ _. told read) answer tt
+    journal_passes work pass pass' v answer read (c.in_ok-journal.ensures.answer v seen)
+    (apart_passes of_step read.source read.target work (entries work pass pass' v read) answer c.in_ok-test_apart.ensures.cause
+    (then_passes Failed NoMemory of_work (TestsEntries (is_done read.phase) v work) (λ _. ResumesTold work pass pass' v read) answer tt
     (subst (λ old. TestsEntries old v work (Ok tt)) c.is_done.ensures (c.in_ok-look_again.ensures.answer v once))
     (c.resume_told.ensures.cause v (subst (λ t. IsSeen t v) (sym c.look_again.ensures.told) once))))
 
 pub returns-in_err-journal-clause-written : goal.returns-in_err-journal-clause-written
 returns-in_err-journal-clause-written g c v seen =
-    let p = err_from_is_err_and c.from_residual.result c.from_residual.ensures.1 in
-    inl (nothing_written c.from_residual.result p.0 (of_journal c.in_err-journal.field-0.0) p.1 p.2 (journal_tested c.in_err-journal.field-0.0).1 (g.R.Randoms.left c.args.random.now) (g.F.Folder.told c.args.folder.now) (g.F.Folder.told c.read.new.folder) (c.draws_compose.ensures.none _) c.read.ensures.told)
+    inl (nothing_written c.from_residual.result _ c.from_residual.ensures.1 (journal_tested c.in_err-journal.field-0.0).1 _ _ _ (c.draws_compose.ensures.none _) c.read.ensures.told)
 
 pub returns-in_err-test_apart-clause-written : goal.returns-in_err-test_apart-clause-written
 returns-in_err-test_apart-clause-written g c v seen =
-    let p = err_from_is_err_and c.from_residual-in_err-test_apart.result c.from_residual-in_err-test_apart.ensures.1 in
-    inl (nothing_written c.from_residual-in_err-test_apart.result p.0 (of_step c.in_err-test_apart.field-0.0) p.1 p.2 (step_tested c.in_err-test_apart.field-0.0).1 (g.R.Randoms.left c.args.random.now) (g.F.Folder.told c.args.folder.now) (g.F.Folder.told c.read.new.folder) (c.draws_compose.ensures.none _) c.read.ensures.told)
+    inl (nothing_written c.from_residual-in_err-test_apart.result _ c.from_residual-in_err-test_apart.ensures.1 (step_tested c.in_err-test_apart.field-0.0).1 _ _ _ (c.draws_compose.ensures.none _) c.read.ensures.told)
 
 pub returns-in_err-look_again-clause-written : goal.returns-in_err-look_again-clause-written
 returns-in_err-look_again-clause-written g c v seen =
-    let p = err_from_is_err_and c.from_residual-in_err-look_again.result c.from_residual-in_err-look_again.ensures.1 in
-    inl (nothing_written c.from_residual-in_err-look_again.result p.0 (of_work c.in_err-look_again.field-0.0) p.1 p.2 (work_tested c.in_err-look_again.field-0.0).1 (g.R.Randoms.left c.args.random.now) (g.F.Folder.told c.args.folder.now) (g.F.Folder.told c.look_again.new.folder) (c.draws_compose.ensures.none _) (c.look_again.ensures.told ∙ c.read.ensures.told))
+    inl (nothing_written c.from_residual-in_err-look_again.result _ c.from_residual-in_err-look_again.ensures.1 (work_tested c.in_err-look_again.field-0.0).1 _ _ _ (c.draws_compose.ensures.none _) (c.look_again.ensures.told ∙ c.read.ensures.told))
 
 pub returns-clause-written : goal.returns-clause-written
 returns-clause-written g c v seen =
@@ -184,20 +176,15 @@ returns-clause-written g c v seen =
 
 pub returns-in_err-journal-clause-too_long : goal.returns-in_err-journal-clause-too_long
 returns-in_err-journal-clause-too_long g c v seen =
-    let why = c.in_err-journal.field-0.0 in
-    let p = err_from_is_err_and c.from_residual.result c.from_residual.ensures.1 in
-    none_compared _ c.from_residual.result p.0 (of_journal why) p.1 p.2 (journal_tested why).0
+    none_compared _ c.from_residual.result _ c.from_residual.ensures.1 (journal_tested c.in_err-journal.field-0.0).0
 
 pub returns-in_err-test_apart-clause-too_long : goal.returns-in_err-test_apart-clause-too_long
 returns-in_err-test_apart-clause-too_long g c v seen =
-    let p = err_from_is_err_and c.from_residual-in_err-test_apart.result c.from_residual-in_err-test_apart.ensures.1 in
-    none_compared _ c.from_residual-in_err-test_apart.result p.0 (of_step c.in_err-test_apart.field-0.0) p.1 p.2 (step_tested c.in_err-test_apart.field-0.0).0
+    none_compared _ c.from_residual-in_err-test_apart.result _ c.from_residual-in_err-test_apart.ensures.1 (step_tested c.in_err-test_apart.field-0.0).0
 
 pub returns-in_err-look_again-clause-too_long : goal.returns-in_err-look_again-clause-too_long
 returns-in_err-look_again-clause-too_long g c v seen =
-    let why = c.in_err-look_again.field-0.0 in
-    let p = err_from_is_err_and c.from_residual-in_err-look_again.result c.from_residual-in_err-look_again.ensures.1 in
-    none_compared _ c.from_residual-in_err-look_again.result p.0 (of_work why) p.1 p.2 (work_tested why).0
+    none_compared _ c.from_residual-in_err-look_again.result _ c.from_residual-in_err-look_again.ensures.1 (work_tested c.in_err-look_again.field-0.0).0
 
 pub returns-clause-too_long : goal.returns-clause-too_long
 returns-clause-too_long g c v seen =
@@ -218,5 +205,4 @@ returns-clause-too_long g c v seen =
 
 pub returns-in_err-test_apart-clause-blamed : goal.returns-in_err-test_apart-clause-blamed
 returns-in_err-test_apart-clause-blamed g c =
-    let p = err_from_is_err_and c.from_residual-in_err-test_apart.result c.from_residual-in_err-test_apart.ensures.1 in
-    rw (p.1, p.2) (apart_resumes c.in_err-test_apart.field-0.0 c.in_err-test_apart.ensures.blamed)
+    fault_as _ c.from_residual-in_err-test_apart.result c.from_residual-in_err-test_apart.ensures.1 (apart_resumes c.in_err-test_apart.field-0.0 c.in_err-test_apart.ensures.blamed)

@@ -16,14 +16,13 @@ use Rattle.vault_spec.specs.Opened.{OpenedVault}
 use Rattle.migrate_core.specs.Causes.{Answer, ResumesTold, ResumesWith, TestsSource, Unless}
 use Rattle.migrate_core.specs.Faults.{of_step}
 use Rattle.migrate_core.specs.declared.placing.Done.{Done}
-use Rattle.std.proofs.lemmas.Result.{err_from_is_err_and}
 use Rattle.migrate_core.proofs.Writings.{nothing_written, tree_of}
 use Rattle.migrate_core.specs.Written.{MayWrite}
 use Rattle.migrate_core.proofs.Limits.{limit_in_tree, none_compared}
 use Rattle.migrate_core.specs.Copying.{StayGood}
 use Rattle.migrate_core.specs.Limits.{EndsBy}
 use Rattle.migrate_core.proofs.resuming.resume_told.Goals as goal
-use Rattle.migration_sides.proofs.Chains.{own_passes, own_refused, refused_as}
+use Rattle.migration_sides.proofs.Chains.{fault_as, own_passes, own_refused, refused_as}
 use Rattle.migrate_core.specs.declared.fault.MoveFault.TheVariants.{Failed, NoMemory}
 use Rattle.migrate_core.proofs.Tested.{step_tested}
 
@@ -54,7 +53,6 @@ resume_with-requires-clause-used g c = λ v seen. c.requires.used v (subst (λ t
 pub returns-clause-guard : goal.returns-clause-guard
 returns-clause-guard g c = λ migration resumed opened.
     let t0 = g.F.Folder.told c.args.folder.now in
-    let t1 = g.F.Folder.told c.test_source.new.folder in
     let t2 = g.F.Folder.told c.load_both.new.folder in
     let t3 = g.F.Folder.told c.resume_with.new.folder in
     let same : t2 ≡ t0 = c.load_both.ensures.told ∙ c.test_source.ensures.told in
@@ -114,9 +112,7 @@ returns-in_err-test_source-clause-cause g c v seen =
     let next : OpenedVault → OpenedVault → Answer Done → Type 0 = λ source target. ResumesWith source target work journal v in
     let opens = λ (_ : Unit {0}). Opens of_step v journal.source journal.target pass pass' next in
     let tests = TestsSource journal.phase work journal.source v in
-    let fault = c.in_err-test_source.field-0.0 in
-    let p = err_from_is_err_and c.from_residual.result c.from_residual.ensures.1 in
-    refused_as (λ answer. Unless answer (ResumesTold work pass pass' v journal answer)) c.from_residual.result p.0 fault p.1 p.2 (own_refused Failed NoMemory tests opens fault (c.in_err-test_source.ensures.cause v seen))
+    refused_as (λ answer. Unless answer (ResumesTold work pass pass' v journal answer)) c.from_residual.result c.from_residual.ensures.1 (own_refused Failed NoMemory tests opens c.in_err-test_source.field-0.0 (c.in_err-test_source.ensures.cause v seen))
 
 pub returns-in_err-sides-clause-cause : goal.returns-in_err-sides-clause-cause
 returns-in_err-sides-clause-cause g c v seen =
@@ -128,8 +124,7 @@ returns-in_err-sides-clause-cause g c v seen =
     let opens = λ (_ : Unit {0}). Opens of_step v journal.source journal.target pass pass' next in
     let tests = TestsSource journal.phase work journal.source v in
     let why = c.in_err-sides.field-0.0 in
-    let p = err_from_is_err_and c.from_residual-in_err-sides.result c.from_residual-in_err-sides.ensures.1 in
-    refused_as (λ answer. Unless answer (ResumesTold work pass pass' v journal answer)) c.from_residual-in_err-sides.result p.0 (of_step why) p.1 p.2
+    refused_as (λ answer. Unless answer (ResumesTold work pass pass' v journal answer)) c.from_residual-in_err-sides.result c.from_residual-in_err-sides.ensures.1
     (own_passes Failed NoMemory tests opens (Err (of_step why)) tt (c.in_ok-test_source.ensures.cause v seen)
     (opens_refused of_step v journal.source journal.target pass pass' next why (c.in_err-sides.ensures.cause v (subst (λ t. IsSeen t v) (sym c.test_source.ensures.told) seen))))
 
@@ -152,13 +147,11 @@ returns-clause-cause g c v seen =
 
 pub returns-in_err-test_source-clause-written : goal.returns-in_err-test_source-clause-written
 returns-in_err-test_source-clause-written g c v seen =
-    let p = err_from_is_err_and c.from_residual.result c.from_residual.ensures.1 in
-    inl (nothing_written c.from_residual.result p.0 c.in_err-test_source.field-0.0 p.1 p.2 c.in_err-test_source.ensures.tested (g.R.Randoms.left c.args.random.now) (g.F.Folder.told c.args.folder.now) (g.F.Folder.told c.test_source.new.folder) (c.draws_compose.ensures.none _) c.test_source.ensures.told)
+    inl (nothing_written c.from_residual.result _ c.from_residual.ensures.1 c.in_err-test_source.ensures.tested _ _ _ (c.draws_compose.ensures.none _) c.test_source.ensures.told)
 
 pub returns-in_err-sides-clause-written : goal.returns-in_err-sides-clause-written
 returns-in_err-sides-clause-written g c v seen =
-    let p = err_from_is_err_and c.from_residual-in_err-sides.result c.from_residual-in_err-sides.ensures.1 in
-    inl (nothing_written c.from_residual-in_err-sides.result p.0 (of_step c.in_err-sides.field-0.0) p.1 p.2 (step_tested c.in_err-sides.field-0.0).1 (g.R.Randoms.left c.args.random.now) (g.F.Folder.told c.args.folder.now) (g.F.Folder.told c.load_both.new.folder) (c.draws_compose.ensures.none _) (c.load_both.ensures.told ∙ c.test_source.ensures.told))
+    inl (nothing_written c.from_residual-in_err-sides.result _ c.from_residual-in_err-sides.ensures.1 (step_tested c.in_err-sides.field-0.0).1 _ _ _ (c.draws_compose.ensures.none _) (c.load_both.ensures.told ∙ c.test_source.ensures.told))
 
 pub returns-clause-written : goal.returns-clause-written
 returns-clause-written g c v seen =
@@ -175,13 +168,11 @@ returns-clause-written g c v seen =
 
 pub returns-in_err-test_source-clause-too_long : goal.returns-in_err-test_source-clause-too_long
 returns-in_err-test_source-clause-too_long g c =
-    let p = err_from_is_err_and c.from_residual.result c.from_residual.ensures.1 in
-    none_compared _ c.from_residual.result p.0 c.in_err-test_source.field-0.0 p.1 p.2 c.in_err-test_source.ensures.uncompared
+    none_compared _ c.from_residual.result _ c.from_residual.ensures.1 c.in_err-test_source.ensures.uncompared
 
 pub returns-in_err-sides-clause-too_long : goal.returns-in_err-sides-clause-too_long
 returns-in_err-sides-clause-too_long g c =
-    let p = err_from_is_err_and c.from_residual-in_err-sides.result c.from_residual-in_err-sides.ensures.1 in
-    none_compared _ c.from_residual-in_err-sides.result p.0 (of_step c.in_err-sides.field-0.0) p.1 p.2 (step_tested c.in_err-sides.field-0.0).0
+    none_compared _ c.from_residual-in_err-sides.result _ c.from_residual-in_err-sides.ensures.1 (step_tested c.in_err-sides.field-0.0).0
 
 pub returns-clause-too_long : goal.returns-clause-too_long
 returns-clause-too_long g c =
@@ -199,5 +190,4 @@ returns-in_err-sides-clause-blamed g c =
     let n0 = g.F.Folder.faults c.args.folder.now in
     let n1 = g.F.Folder.faults c.test_source.new.folder in
     let n2 = g.F.Folder.faults c.load_both.new.folder in
-    let p = err_from_is_err_and c.from_residual-in_err-sides.result c.from_residual-in_err-sides.ensures.1 in
-    rw (p.1, p.2) (step_resumes n0 n1 n2 c.in_err-sides.field-0.0 c.test_source.ensures.grows c.in_err-sides.ensures.blamed)
+    fault_as _ c.from_residual-in_err-sides.result c.from_residual-in_err-sides.ensures.1 (step_resumes n0 n1 n2 c.in_err-sides.field-0.0 c.test_source.ensures.grows c.in_err-sides.ensures.blamed)

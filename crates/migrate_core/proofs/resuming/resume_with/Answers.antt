@@ -1,7 +1,6 @@
 use Rattle.std.proofs.Common.{◌≡◌, ◌∙◌, sym, subst, arith, Err, List, [], inl, inr, ◌∷◌}
 use Rattle.migrate_core.proofs.Endings.{if_ok_more, placed_of}
 use Rattle.migrate_core.specs.Moved.{lacking, done_of}
-use Rattle.std.proofs.lemmas.Result.{err_from_is_err_and}
 use Rattle.folder_spec.specs.Region.{apart_from_both}
 use Rattle.folder_spec.specs.Seen.{IfSeen, IsSeen}
 use Rattle.migration_spec.specs.Alone.{Finished}
@@ -29,13 +28,12 @@ use Rattle.migrate_core.specs.Copying.{StayGood}
 use Rattle.migrate_core.specs.Limits.{EndsBy}
 use Rattle.migrate_core.proofs.Sharing.{whichever_taken}
 use Rattle.migrate_core.proofs.resuming.resume_with.Goals as goal
-use Rattle.migration_sides.proofs.Chains.{refused_as}
+use Rattle.migration_sides.proofs.Chains.{fault_as, refused_as}
 use Rattle.migrate_core.proofs.Tested.{step_tested}
 
 pub returns-in_err-plans-clause-guard : goal.returns-in_err-plans-clause-guard
 returns-in_err-plans-clause-guard g c =
-    let p = err_from_is_err_and c.from_residual.result c.from_residual.ensures.1 in
-    λ migration sides tells. refused_nowhere migration (progress_of c.args.journal.phase) Finished (g.F.Folder.told c.args.folder.now) (g.F.Folder.told c.walk_both.new.folder) c.from_residual.result p.0 p.1 c.walk_both.ensures.told
+    λ migration sides tells. refused_nowhere _ migration (progress_of c.args.journal.phase) Finished (g.F.Folder.told c.args.folder.now) (g.F.Folder.told c.walk_both.new.folder) c.from_residual.result c.from_residual.ensures.1 c.walk_both.ensures.told
 
 pub returns-in_err-plans-clause-moves : goal.returns-in_err-plans-clause-moves
 returns-in_err-plans-clause-moves g c =
@@ -50,8 +48,7 @@ test_plans-requires-clause-target g c = subst (λ t. IsWalked t c.args.sides.now
 
 pub returns-in_err-mapped-clause-guard : goal.returns-in_err-mapped-clause-guard
 returns-in_err-mapped-clause-guard g c =
-    let p = err_from_is_err_and c.from_residual-in_err-mapped.result c.from_residual-in_err-mapped.ensures.1 in
-    λ migration sides tells. refused_nowhere migration (progress_of c.args.journal.phase) Finished (g.F.Folder.told c.args.folder.now) (g.F.Folder.told c.test_plans.new.folder) c.from_residual-in_err-mapped.result p.0 p.1 (c.test_plans.ensures.told ∙ c.walk_both.ensures.told)
+    λ migration sides tells. refused_nowhere _ migration (progress_of c.args.journal.phase) Finished (g.F.Folder.told c.args.folder.now) (g.F.Folder.told c.test_plans.new.folder) c.from_residual-in_err-mapped.result c.from_residual-in_err-mapped.ensures.1 (c.test_plans.ensures.told ∙ c.walk_both.ensures.told)
 
 pub returns-in_err-mapped-clause-moves : goal.returns-in_err-mapped-clause-moves
 returns-in_err-mapped-clause-moves g c =
@@ -97,9 +94,7 @@ returns-in_err-plans-clause-cause g c v seen =
     let work = c.args.work.now in
     let journal = c.args.journal in
     let next : List Planned → List Planned → Answer Done → Type 0 = λ items there. TestsItems from to journal v items there (λ mapped. Moves (Empties v work) from to v mapped) in
-    let why = c.in_err-plans.field-0.0 in
-    let p = err_from_is_err_and c.from_residual.result c.from_residual.ensures.1 in
-    refused_as (λ answer. Unless answer (ResumesWith from to work journal v answer)) c.from_residual.result p.0 (of_step why) p.1 p.2 (walks_refused of_step from to v next why (c.in_err-plans.ensures.cause v seen))
+    refused_as (λ answer. Unless answer (ResumesWith from to work journal v answer)) c.from_residual.result c.from_residual.ensures.1 (walks_refused of_step from to v next c.in_err-plans.field-0.0 (c.in_err-plans.ensures.cause v seen))
 
 pub returns-in_err-mapped-clause-cause : goal.returns-in_err-mapped-clause-cause
 returns-in_err-mapped-clause-cause g c v seen =
@@ -113,8 +108,7 @@ returns-in_err-mapped-clause-cause g c v seen =
     let items = plans.source.items in
     let there = plans.target.items in
     let fault = c.in_err-mapped.field-0.0 in
-    let p = err_from_is_err_and c.from_residual-in_err-mapped.result c.from_residual-in_err-mapped.ensures.1 in
-    refused_as (λ answer. Unless answer (ResumesWith from to work journal v answer)) c.from_residual-in_err-mapped.result p.0 fault p.1 p.2
+    refused_as (λ answer. Unless answer (ResumesWith from to work journal v answer)) c.from_residual-in_err-mapped.result c.from_residual-in_err-mapped.ensures.1
     (walks_passes of_step from to v next (Err fault) items there (c.in_ok-plans.ensures.passed_source v seen) (c.in_ok-plans.ensures.passed_target v seen)
     (items_refused from to journal v items there moves fault (c.in_err-mapped.ensures.cause v (subst (λ t. IsSeen t v) (sym c.walk_both.ensures.told) seen))))
 
@@ -137,13 +131,11 @@ returns-clause-cause g c v seen =
 
 pub returns-in_err-plans-clause-written : goal.returns-in_err-plans-clause-written
 returns-in_err-plans-clause-written g c v seen =
-    let p = err_from_is_err_and c.from_residual.result c.from_residual.ensures.1 in
-    inl (nothing_written c.from_residual.result p.0 (of_step c.in_err-plans.field-0.0) p.1 p.2 (step_tested c.in_err-plans.field-0.0).1 (g.R.Randoms.left c.args.random.now) (g.F.Folder.told c.args.folder.now) (g.F.Folder.told c.walk_both.new.folder) (c.draws_compose.ensures.none _) c.walk_both.ensures.told)
+    inl (nothing_written c.from_residual.result _ c.from_residual.ensures.1 (step_tested c.in_err-plans.field-0.0).1 _ _ _ (c.draws_compose.ensures.none _) c.walk_both.ensures.told)
 
 pub returns-in_err-mapped-clause-written : goal.returns-in_err-mapped-clause-written
 returns-in_err-mapped-clause-written g c v seen =
-    let p = err_from_is_err_and c.from_residual-in_err-mapped.result c.from_residual-in_err-mapped.ensures.1 in
-    inl (nothing_written c.from_residual-in_err-mapped.result p.0 c.in_err-mapped.field-0.0 p.1 p.2 c.in_err-mapped.ensures.tested (g.R.Randoms.left c.args.random.now) (g.F.Folder.told c.args.folder.now) (g.F.Folder.told c.test_plans.new.folder) (c.draws_compose.ensures.none _) (c.test_plans.ensures.told ∙ c.walk_both.ensures.told))
+    inl (nothing_written c.from_residual-in_err-mapped.result _ c.from_residual-in_err-mapped.ensures.1 c.in_err-mapped.ensures.tested _ _ _ (c.draws_compose.ensures.none _) (c.test_plans.ensures.told ∙ c.walk_both.ensures.told))
 
 pub returns-clause-written : goal.returns-clause-written
 returns-clause-written g c v seen =
@@ -188,17 +180,15 @@ place_rest-requires-clause-copying g c =
 
 pub returns-in_err-plans-clause-ends : goal.returns-in_err-plans-clause-ends
 returns-in_err-plans-clause-ends g c =
-    let p = err_from_is_err_and c.from_residual.result c.from_residual.ensures.1 in
-    ends_uncompared _ _ c.args.sides.now.names c.args.sides.now.source c.args.sides.now.target (g.F.Folder.told c.walk_both.new.folder) c.from_residual.result p.0 (of_step c.in_err-plans.field-0.0) p.1 p.2 (step_tested c.in_err-plans.field-0.0).0
+    ends_uncompared _ _ c.args.sides.now.names c.args.sides.now.source c.args.sides.now.target (g.F.Folder.told c.walk_both.new.folder) c.from_residual.result _ c.from_residual.ensures.1 (step_tested c.in_err-plans.field-0.0).0
 
 pub returns-in_err-mapped-clause-ends : goal.returns-in_err-mapped-clause-ends
 returns-in_err-mapped-clause-ends g c =
-    let p = err_from_is_err_and c.from_residual-in_err-mapped.result c.from_residual-in_err-mapped.ensures.1 in
     let rule = c.args.sides.now.names in
     let from = c.args.sides.now.source in
     let to = c.args.sides.now.target in
     let here = g.F.Folder.told c.test_plans.new.folder in
-    refused_as (λ answer. EndsBy (StayGood from to (g.F.Folder.told c.args.folder.now) here) (Unit {0}) rule from to here answer) c.from_residual-in_err-mapped.result p.0 c.in_err-mapped.field-0.0 p.1 p.2
+    refused_as (λ answer. EndsBy (StayGood from to (g.F.Folder.told c.args.folder.now) here) (Unit {0}) rule from to here answer) c.from_residual-in_err-mapped.result c.from_residual-in_err-mapped.ensures.1
     ((λ v is. c.in_err-mapped.ensures.limit v (subst (λ t. IsSeen t v) c.test_plans.ensures.told is)), whichever_taken c.in_err-mapped.field-0.0)
 
 pub returns-clause-ends : goal.returns-clause-ends
@@ -213,5 +203,4 @@ pub returns-in_err-plans-clause-blamed : goal.returns-in_err-plans-clause-blamed
 returns-in_err-plans-clause-blamed g c =
     let n0 = g.F.Folder.faults c.args.folder.now in
     let n1 = g.F.Folder.faults c.walk_both.new.folder in
-    let p = err_from_is_err_and c.from_residual.result c.from_residual.ensures.1 in
-    rw (p.1, p.2) (step_resumes n0 n0 n1 c.in_err-plans.field-0.0 (omega arith) c.in_err-plans.ensures.blamed)
+    fault_as _ c.from_residual.result c.from_residual.ensures.1 (step_resumes n0 n0 n1 c.in_err-plans.field-0.0 (omega arith) c.in_err-plans.ensures.blamed)

@@ -6,15 +6,13 @@ use Rattle.tree_match.specs.Trees.{Compares}
 use Rattle.migrate_core.proofs.Planned.{mapped_files}
 use Rattle.migrate_core.specs.Causes.{Answer, TestsHeld, TestsMatch, Unless}
 use Rattle.tree_match.specs.declared.answer.Match.{Match}
-use Rattle.std.proofs.lemmas.Result.{err_from_is_err_and}
 use Rattle.tree_match.specs.Matching.{matched}
 use Rattle.std.proofs.Common.{Err, Ok, ap, inr, refl, subst, sym}
 use Rattle.migrate_core.specs.declared.fault.MoveFault.TheVariants.{Differ, Failed, NoMemory}
 use Rattle.migrate_core.proofs.Limits.{by_match, target_first}
-use Rattle.migrate_core.specs.Limits.{PassesLimit, PassesSeen}
-use Rattle.std.proofs.Common.{IfErr}
+use Rattle.migrate_core.specs.Limits.{PassesLimit}
 use Rattle.migrate_core.proofs.resuming.test_held.Goals as goal
-use Rattle.migration_sides.proofs.Chains.{own_passes, own_refused, refused_as, then_passes, then_refused}
+use Rattle.migration_sides.proofs.Chains.{fault_as, own_passes, own_refused, refused_as, then_passes, then_refused}
 
 pub holds_all-requires-clause-a : goal.holds_all-requires-clause-a
 holds_all-requires-clause-a g c = λ v seen. record { ordered = c.requires.target.ordered v seen; files = c.requires.target.files v seen }
@@ -29,11 +27,9 @@ pub returns-in_err-holds_all-clause-cause : goal.returns-in_err-holds_all-clause
 returns-in_err-holds_all-clause-cause g c v seen =
     let from = c.args.sides.now.source in
     let to = c.args.sides.now.target in
-    let why = c.in_err-holds_all.field-0.0 in
     let held = λ (m : Match). Then own (TestsHeld m) (λ _. Passed) in
-    let p = err_from_is_err_and c.from_residual.result c.from_residual.ensures.1 in
-    refused_as (λ answer. Unless answer (TestsMatch to c.args.target.now.items from c.args.mapped.now.items v Passed answer)) c.from_residual.result p.0 (of_match why) p.1 p.2
-    (then_refused Failed NoMemory of_match (Compares to c.args.target.now.items from c.args.mapped.now.items v) held why (c.in_err-holds_all.ensures.answers v seen))
+    refused_as (λ answer. Unless answer (TestsMatch to c.args.target.now.items from c.args.mapped.now.items v Passed answer)) c.from_residual.result c.from_residual.ensures.1
+    (then_refused Failed NoMemory of_match (Compares to c.args.target.now.items from c.args.mapped.now.items v) held c.in_err-holds_all.field-0.0 (c.in_err-holds_all.ensures.answers v seen))
 
 pub returns-in-Same : goal.returns-in-Same
 returns-in-Same g c =
@@ -75,8 +71,6 @@ returns-in_err-holds_all-clause-limit g c =
     let items = c.args.mapped.now.items in
     let others = c.args.target.now.items in
     let told = g.F.Folder.told c.args.folder.now in
-    let why = c.in_err-holds_all.field-0.0 in
-    let p = err_from_is_err_and c.from_residual.result c.from_residual.ensures.1 in
-    refused_as (λ answer. IfErr answer (PassesSeen rule from to told)) c.from_residual.result p.0 (of_match why) p.1 p.2
-    (λ v is. by_match (PassesLimit rule from to v) (matched (format_of to.vault).content others (format_of from.vault).content items v) why (c.in_err-holds_all.ensures.answers v is)
+    fault_as _ c.from_residual.result c.from_residual.ensures.1
+    (λ v is. by_match (PassesLimit rule from to v) (matched (format_of to.vault).content others (format_of from.vault).content items v) c.in_err-holds_all.field-0.0 (c.in_err-holds_all.ensures.answers v is)
     (target_first rule from to items others told v c.requires.source c.requires.target is))

@@ -1,6 +1,5 @@
 use Rattle.retire_core.proofs.Cleared.{only_then}
 use Rattle.retire_core.proofs.Going.{retiring_then}
-use Rattle.std.proofs.lemmas.Result.{err_from_is_err_and}
 use Rattle.migration_sides.proofs.Chains.{passed_is, refused_as}
 use Rattle.retire_core.proofs.Causing.{ends}
 use Rattle.retire_core.specs.Causes.{TestsRemovals, Unless}
@@ -18,8 +17,7 @@ returns-clause-clears g c =
 
 pub returns-in_err-clear_beside-clause-cause : goal.returns-in_err-clear_beside-clause-cause
 returns-in_err-clear_beside-clause-cause g c v seen =
-    let p = err_from_is_err_and c.from_residual.result c.from_residual.ensures.1 in
-    refused_as (λ answer. Unless answer (TestsRemovals c.args.work.now v answer)) c.from_residual.result p.0 (c.in_err-clear_beside.field-0.0) p.1 p.2
+    refused_as (λ answer. Unless answer (TestsRemovals c.args.work.now v answer)) c.from_residual.result c.from_residual.ensures.1
     (c.in_err-clear_beside.ensures.cause v seen)
 
 pub returns-clause-cause : goal.returns-clause-cause

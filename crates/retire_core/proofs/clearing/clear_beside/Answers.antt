@@ -1,7 +1,6 @@
 use Rattle.std.proofs.Common.{codes, refl, Err, Ok}
 use Rattle.retire_core.proofs.Cleared.{on_ok_journal, only_by_old, only_then, rest_by_entry}
 use Rattle.retire_core.proofs.Going.{retiring_then}
-use Rattle.std.proofs.lemmas.Result.{err_from_is_err_and}
 use Rattle.migration_sides.proofs.Chains.{refused_as}
 use Rattle.retire_core.proofs.Causing.{both_removed, old_stays, removed_before, stage_stays}
 use Rattle.retire_core.specs.Causes.{TestsRemovals, Unless}
@@ -50,16 +49,14 @@ returns-clause-cleared g c =
 
 pub returns-in_err-clear_entry-clause-cause : goal.returns-in_err-clear_entry-clause-cause
 returns-in_err-clear_entry-clause-cause g c v seen =
-    let p = err_from_is_err_and c.from_residual.result c.from_residual.ensures.1 in
-    refused_as (λ answer. Unless answer (TestsRemovals c.args.work.now v answer)) c.from_residual.result p.0 (c.in_err-clear_entry.field-0.0) p.1 p.2
+    refused_as (λ answer. Unless answer (TestsRemovals c.args.work.now v answer)) c.from_residual.result c.from_residual.ensures.1
     (old_stays c.args.work.now v c.in_err-clear_entry.field-0.0 (c.in_err-clear_entry.ensures.cause v seen))
 
 pub returns-in_err-clear_entry-2-clause-cause : goal.returns-in_err-clear_entry-2-clause-cause
 returns-in_err-clear_entry-2-clause-cause g c v seen =
     let t0 = g.F.Folder.told c.args.folder.now in
     let t1 = g.F.Folder.told c.clear_entry.new.folder in
-    let p = err_from_is_err_and c.from_residual-in_err-clear_entry-2.result c.from_residual-in_err-clear_entry-2.ensures.1 in
-    refused_as (λ answer. Unless answer (TestsRemovals c.args.work.now v answer)) c.from_residual-in_err-clear_entry-2.result p.0 (c.in_err-clear_entry-2.field-0.0) p.1 p.2
+    refused_as (λ answer. Unless answer (TestsRemovals c.args.work.now v answer)) c.from_residual-in_err-clear_entry-2.result c.from_residual-in_err-clear_entry-2.ensures.1
     (stage_stays c.args.work.now v c.in_err-clear_entry-2.field-0.0 (c.in_ok-clear_entry.ensures.cause v seen)
     (removed_before c.args.work.now (codes "old") (codes "stage") t0 t1 (Err c.in_err-clear_entry-2.field-0.0) refl c.clear_entry.ensures.clears c.clear_entry.ensures.leaves c.in_err-clear_entry-2.ensures.cause v seen))
 

@@ -10,7 +10,7 @@ use Rattle.folder_spec.specs.declared.Kind.{Kind}
 use Rattle.retire_core.proofs.Blaming.{blamed_kind, blamed_removal}
 use Rattle.retire_core.proofs.Cleared.{bare_of, entry_cleared, entry_leaves, entry_same}
 use Rattle.retire_core.proofs.Going.{removes_retiring}
-use Rattle.migration_sides.proofs.Chains.{refused_as}
+use Rattle.migration_sides.proofs.Chains.{fault_as, refused_as}
 use Rattle.migration_sides.proofs.Told.{folder_unless}
 use Rattle.retire_core.proofs.Causing.{none_removed, removal_done, removal_refused}
 use Rattle.retire_core.proofs.Starts.{missing_by_kind, there_by_kind}
@@ -26,8 +26,7 @@ returns-in_err-kind-clause-clears g c = entry_same (child c.args.work.now c.args
 pub returns-in_err-kind-clause-blamed : goal.returns-in_err-kind-clause-blamed
 returns-in_err-kind-clause-blamed g c =
     let n0 = g.F.Folder.faults c.args.folder.now in
-    let p = err_from_is_err_and c.from_residual-in_err-kind.result c.from_residual-in_err-kind.ensures.1 in
-    rw (p.1, p.2)
+    fault_as _ c.from_residual-in_err-kind.result c.from_residual-in_err-kind.ensures.1
     (blamed_kind (g.F.Folder.told c.args.folder.now) c.in_ok-at.at n0 n0 (g.F.Folder.faults c.kind.new.self) c.in_err-kind.field-0.0 (omega arith) c.in_err-kind.ensures.answer c.in_err-kind.ensures.counts)
 
 pub returns-in_err-remove_all-in_default : goal.returns-in_err-remove_all-in_default
@@ -87,8 +86,7 @@ returns g c =
 
 pub returns-in_err-kind-clause-cause : goal.returns-in_err-kind-clause-cause
 returns-in_err-kind-clause-cause g c v seen =
-    let p = err_from_is_err_and c.from_residual-in_err-kind.result c.from_residual-in_err-kind.ensures.1 in
-    refused_as (λ answer. Unless answer (TestsRemoval (child c.args.work.now c.args.name.now) v answer)) c.from_residual-in_err-kind.result p.0 (of_folder c.in_err-kind.field-0.0) p.1 p.2
+    refused_as (λ answer. Unless answer (TestsRemoval (child c.args.work.now c.args.name.now) v answer)) c.from_residual-in_err-kind.result c.from_residual-in_err-kind.ensures.1
     (folder_unless of_folder refl _ c.in_err-kind.field-0.0)
 
 pub returns-in-Missing-clause-cause : goal.returns-in-Missing-clause-cause

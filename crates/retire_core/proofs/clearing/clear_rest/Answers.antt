@@ -1,5 +1,4 @@
 use Rattle.std.proofs.Common.{Ok, Err, arith, subst}
-use Rattle.std.proofs.lemmas.Result.{err_from_is_err_and}
 use Rattle.folder_model.proofs.Counting.{never_falls}
 use Rattle.folder_spec.specs.Event.{Changes, RemoveDir, RemoveFile}
 use Rattle.work_folder.specs.Entries.{journal_path}
@@ -9,6 +8,7 @@ use Rattle.retire_core.proofs.Going.{retiring_then}
 use Rattle.retire_core.proofs.Lasts.{folder_clears, folder_retiring, journal_clears, journal_retiring, settle_clears, settle_retiring}
 use Rattle.retire_core.proofs.Causing.{folder_fails}
 use Rattle.retire_core.proofs.clearing.clear_rest.Goals as goal
+use Rattle.migration_sides.proofs.Chains.{fault_as}
 
 pub returns-in_err-remove_file-clause-guard : goal.returns-in_err-remove_file-clause-guard
 returns-in_err-remove_file-clause-guard g c = λ migration same.
@@ -30,8 +30,7 @@ returns-in_err-remove_file-clause-blamed g c =
     let n0 = g.F.Folder.faults c.args.folder.now in
     let work = c.args.work.now in
     let fault = c.in_err-remove_file.field-0.0 in
-    let p = err_from_is_err_and c.from_residual-in_err-remove_file.result c.from_residual-in_err-remove_file.ensures.1 in
-    rw (p.1, p.2)
+    fault_as _ c.from_residual-in_err-remove_file.result c.from_residual-in_err-remove_file.ensures.1
     (blamed_call (RemoveFile (journal_path work)) t0 t1 n0 n0 (g.F.Folder.faults c.remove_file.new.self) fault (omega arith) (journal_allowed work t0 c.requires.alone)
     (subst (λ q. Changes (RemoveFile q) t0 t1 (Err fault)) c.in_ok-journal.ensures c.in_err-remove_file.ensures.changes) c.in_err-remove_file.ensures.counts)
 
@@ -62,10 +61,8 @@ returns-in_err-remove_dir-clause-blamed g c =
     let n0 = g.F.Folder.faults c.args.folder.now in
     let n1 = g.F.Folder.faults c.remove_file.new.self in
     let work = c.args.work.now in
-    let fault = c.in_err-remove_dir.field-0.0 in
-    let p = err_from_is_err_and c.from_residual-in_err-remove_dir.result c.from_residual-in_err-remove_dir.ensures.1 in
-    rw (p.1, p.2)
-    (blamed_call (RemoveDir work) t1 t2 n0 n1 (g.F.Folder.faults c.remove_dir.new.self) fault (never_falls {T = Unit {0}} t0 n0 n1 (Ok c.in_ok-remove_file.field-0) c.in_ok-remove_file.ensures.counts)
+    fault_as _ c.from_residual-in_err-remove_dir.result c.from_residual-in_err-remove_dir.ensures.1
+    (blamed_call (RemoveDir work) t1 t2 n0 n1 (g.F.Folder.faults c.remove_dir.new.self) c.in_err-remove_dir.field-0.0 (never_falls {T = Unit {0}} t0 n0 n1 (Ok c.in_ok-remove_file.field-0) c.in_ok-remove_file.ensures.counts)
     (folder_allowed work t0 t1 c.in_ok-remove_file.field-0 c.requires.below_base (g.met.F.Folder.sound c.args.folder.now) c.requires.alone
     (subst (λ q. Changes (RemoveFile q) t0 t1 (Ok c.in_ok-remove_file.field-0)) c.in_ok-journal.ensures c.in_ok-remove_file.ensures.changes)) c.in_err-remove_dir.ensures.changes c.in_err-remove_dir.ensures.counts)
 
@@ -120,15 +117,12 @@ returns-clause-gone g c =
 
 pub returns-in_err-remove_file-clause-fails : goal.returns-in_err-remove_file-clause-fails
 returns-in_err-remove_file-clause-fails g c =
-    let p = err_from_is_err_and c.from_residual-in_err-remove_file.result c.from_residual-in_err-remove_file.ensures.1 in
-    rw (p.1, p.2) (folder_fails c.in_err-remove_file.field-0.0)
+    fault_as _ c.from_residual-in_err-remove_file.result c.from_residual-in_err-remove_file.ensures.1 (folder_fails c.in_err-remove_file.field-0.0)
 
 pub returns-in_err-remove_dir-clause-fails : goal.returns-in_err-remove_dir-clause-fails
 returns-in_err-remove_dir-clause-fails g c =
-    let p = err_from_is_err_and c.from_residual-in_err-remove_dir.result c.from_residual-in_err-remove_dir.ensures.1 in
-    rw (p.1, p.2) (folder_fails c.in_err-remove_dir.field-0.0)
+    fault_as _ c.from_residual-in_err-remove_dir.result c.from_residual-in_err-remove_dir.ensures.1 (folder_fails c.in_err-remove_dir.field-0.0)
 
 pub returns-in_err-settle-clause-fails : goal.returns-in_err-settle-clause-fails
 returns-in_err-settle-clause-fails g c =
-    let p = err_from_is_err_and c.from_residual-in_err-settle.result c.from_residual-in_err-settle.ensures.1 in
-    rw (p.1, p.2) (folder_fails c.in_err-settle.field-0.0)
+    fault_as _ c.from_residual-in_err-settle.result c.from_residual-in_err-settle.ensures.1 (folder_fails c.in_err-settle.field-0.0)

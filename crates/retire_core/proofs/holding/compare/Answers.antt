@@ -1,11 +1,10 @@
 use Rattle.std.proofs.Common.{◌∙◌, ap, subst, sym, Err, Ok, inr, refl}
-use Rattle.std.proofs.lemmas.Result.{err_from_is_err_and}
 use Rattle.migration_sides.proofs.Chains.{refused_as, then_passes, then_refused}
 use Rattle.tree_match.specs.Comparing.{Is}
 use Rattle.tree_match.specs.Trees.{AndFurther, AsSame, Compares, HoldsAllBy, side_of}
 use Rattle.retire_core.proofs.Causing.{is_mapped, unmapped}
 use Rattle.retire_core.specs.Causes.{TestsMapped, TestsMatch, Unless}
-use Rattle.retire_core.specs.Faults.{of_map, of_match}
+use Rattle.retire_core.specs.Faults.{of_match}
 use Rattle.retire_core.specs.declared.fault.RetireFault.TheVariants.{Differ, Failed, NoMemory}
 use Rattle.retire_core.proofs.holding.compare.Goals as goal
 
@@ -36,8 +35,7 @@ returns-in_err-mapped-clause-cause g c v seen =
     let sides = c.args.sides.now in
     let items = c.args.plans.now.source.items in
     let others = c.args.plans.now.target.items in
-    let p = err_from_is_err_and c.from_residual.result c.from_residual.ensures.1 in
-    refused_as (λ answer. Unless answer (TestsMapped sides.names sides.source items sides.target others v answer)) c.from_residual.result p.0 (of_map c.in_err-mapped.field-0.0) p.1 p.2
+    refused_as (λ answer. Unless answer (TestsMapped sides.names sides.source items sides.target others v answer)) c.from_residual.result c.from_residual.ensures.1
     (unmapped sides.names sides.source sides.target v items others c.in_err-mapped.field-0.0 c.in_err-mapped.ensures)
 
 pub returns-in_err-holds_all-clause-cause : goal.returns-in_err-holds_all-clause-cause
@@ -46,8 +44,7 @@ returns-in_err-holds_all-clause-cause g c v seen =
     let items = c.args.plans.now.source.items in
     let others = c.args.plans.now.target.items in
     let mapped = c.in_ok-mapped.mapped in
-    let p = err_from_is_err_and c.from_residual-in_err-holds_all.result c.from_residual-in_err-holds_all.ensures.1 in
-    refused_as (λ answer. Unless answer (TestsMapped sides.names sides.source items sides.target others v answer)) c.from_residual-in_err-holds_all.result p.0 (of_match c.in_err-holds_all.field-0.0) p.1 p.2
+    refused_as (λ answer. Unless answer (TestsMapped sides.names sides.source items sides.target others v answer)) c.from_residual-in_err-holds_all.result c.from_residual-in_err-holds_all.ensures.1
     (is_mapped sides.names sides.source sides.target v items others mapped (Err (of_match c.in_err-holds_all.field-0.0)) c.in_ok-mapped.ensures
     (then_refused Failed NoMemory of_match (Compares sides.source mapped.items sides.target others v) TestsMatch c.in_err-holds_all.field-0.0 (c.in_err-holds_all.ensures.answers v seen)))
 

@@ -1,25 +1,21 @@
 use Rattle.std.proofs.Common.{OnOk, subst, sym}
-use Rattle.std.proofs.lemmas.Result.{err_from_is_err_and}
 use Rattle.folder_spec.specs.Seen.{IfSeen, IsSeen}
-use Rattle.migration_sides.proofs.Chains.{refused_as}
+use Rattle.migration_sides.proofs.Chains.{fault_as, refused_as}
 use Rattle.retire_core.proofs.Blaming.{blamed_step}
 use Rattle.retire_core.proofs.Causing.{both_clean, unclean}
 use Rattle.retire_core.specs.Causes.{TestsVaults, Unless}
-use Rattle.retire_core.specs.Faults.{of_step}
 use Rattle.port_model.specs.Counts.{CountRose}
 use Rattle.retire_core.specs.Retiring.{AreHeld}
 use Rattle.retire_core.proofs.holding.test_held.Goals as goal
 
 pub returns-in_err-plans-clause-blamed : goal.returns-in_err-plans-clause-blamed
 returns-in_err-plans-clause-blamed g c =
-    let p = err_from_is_err_and c.from_residual.result c.from_residual.ensures.1 in
-    rw (p.1, p.2) (blamed_step (CountRose (g.F.Folder.faults c.args.folder.now) (g.F.Folder.faults c.walk_both.new.folder)) c.in_err-plans.field-0.0 c.in_err-plans.ensures.blamed)
+    fault_as _ c.from_residual.result c.from_residual.ensures.1 (blamed_step (CountRose (g.F.Folder.faults c.args.folder.now) (g.F.Folder.faults c.walk_both.new.folder)) c.in_err-plans.field-0.0 c.in_err-plans.ensures.blamed)
 
 pub returns-in_err-plans-clause-cause : goal.returns-in_err-plans-clause-cause
 returns-in_err-plans-clause-cause g c v seen =
     let sides = c.args.sides.now in
-    let p = err_from_is_err_and c.from_residual.result c.from_residual.ensures.1 in
-    refused_as (λ answer. Unless answer (TestsVaults sides.names sides.source sides.target v answer)) c.from_residual.result p.0 (of_step c.in_err-plans.field-0.0) p.1 p.2
+    refused_as (λ answer. Unless answer (TestsVaults sides.names sides.source sides.target v answer)) c.from_residual.result c.from_residual.ensures.1
     (unclean sides.names sides.source sides.target v c.in_err-plans.field-0.0 (c.in_err-plans.ensures.cause v seen))
 
 pub returns-clause-held : goal.returns-clause-held

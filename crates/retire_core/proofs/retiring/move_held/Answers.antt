@@ -10,11 +10,9 @@ use Rattle.retire_core.proofs.Going.{done_same}
 use Rattle.retire_core.specs.Clearing.{MovesHeldOnly}
 use Rattle.retire_core.specs.Guarding.{ComesFromDone, KeepsDone}
 use Rattle.retire_core.specs.Retiring.{AreHeld, retiring_by}
-use Rattle.std.proofs.lemmas.Result.{err_from_is_err_and}
-use Rattle.migration_sides.proofs.Chains.{passed_is, refused_as}
+use Rattle.migration_sides.proofs.Chains.{fault_as, passed_is, refused_as}
 use Rattle.retire_core.proofs.Causing.{both_opened, closed, ends}
 use Rattle.retire_core.specs.Causes.{Answer, TestsHeld, TestsVaults, Unless}
-use Rattle.retire_core.specs.Faults.{of_step}
 use Rattle.retire_core.specs.declared.fault.RetireFault.{RetireFault}
 use Rattle.retire_core.specs.declared.fault.RetireFault.TheVariants.{Failed, NoMemory}
 use Rattle.folder_spec.specs.View.{View}
@@ -35,8 +33,7 @@ returns-in_err-sides-clause-moves g c =
 
 pub returns-in_err-sides-clause-blamed : goal.returns-in_err-sides-clause-blamed
 returns-in_err-sides-clause-blamed g c =
-    let p = err_from_is_err_and c.from_residual.result c.from_residual.ensures.1 in
-    rw (p.1, p.2) (blamed_step (CountRose (g.F.Folder.faults c.args.folder.now) (g.F.Folder.faults c.load_both.new.folder)) c.in_err-sides.field-0.0 c.in_err-sides.ensures.blamed)
+    fault_as _ c.from_residual.result c.from_residual.ensures.1 (blamed_step (CountRose (g.F.Folder.faults c.args.folder.now) (g.F.Folder.faults c.load_both.new.folder)) c.in_err-sides.field-0.0 c.in_err-sides.ensures.blamed)
 
 pub returns-in_err-sides-clause-leaves : goal.returns-in_err-sides-clause-leaves
 returns-in_err-sides-clause-leaves g c = order_same c.args.work.now (g.F.Folder.told c.args.folder.now) (g.F.Folder.told c.load_both.new.folder) c.load_both.ensures.told
@@ -73,8 +70,6 @@ returns-clause-comes g c =
 pub returns-clause-moves : goal.returns-clause-moves
 returns-clause-moves g c =
     let r = retiring_by c.args.work.now c.args.source_pass.now c.args.target_pass.now c.args.journal.now in
-    let t0 = g.F.Folder.told c.args.folder.now in
-    let t1 = g.F.Folder.told c.load_both.new.folder in
     let t2 = g.F.Folder.told c.test_held.new.folder in
     let t3 = g.F.Folder.told c.move_source.new.folder in
     let sides = c.in_ok-sides.sides in
@@ -104,8 +99,7 @@ returns-in_err-sides-clause-cause g c v seen =
     let to = c.args.journal.now.target in
     let pass = c.args.source_pass.now in
     let pass_too = c.args.target_pass.now in
-    let p = err_from_is_err_and c.from_residual.result c.from_residual.ensures.1 in
-    refused_as (λ answer. Unless answer (TestsHeld names from to pass pass_too v answer)) c.from_residual.result p.0 (of_step c.in_err-sides.field-0.0) p.1 p.2
+    refused_as (λ answer. Unless answer (TestsHeld names from to pass pass_too v answer)) c.from_residual.result c.from_residual.ensures.1
     (closed names from to pass pass_too v c.in_err-sides.field-0.0 (c.in_err-sides.ensures.cause v seen))
 
 pub returns-in_err-test_held-clause-cause : goal.returns-in_err-test_held-clause-cause
@@ -117,8 +111,7 @@ returns-in_err-test_held-clause-cause g c v seen =
     let pass_too = c.args.target_pass.now in
     let sides = c.in_ok-sides.sides in
     let why = c.in_err-test_held.field-0.0 in
-    let p = err_from_is_err_and c.from_residual-in_err-test_held.result c.from_residual-in_err-test_held.ensures.1 in
-    refused_as (λ answer. Unless answer (TestsHeld names from to pass pass_too v answer)) c.from_residual-in_err-test_held.result p.0 why p.1 p.2
+    refused_as (λ answer. Unless answer (TestsHeld names from to pass pass_too v answer)) c.from_residual-in_err-test_held.result c.from_residual-in_err-test_held.ensures.1
     (both_opened names from to pass pass_too v sides.source sides.target (failing why) c.in_ok-sides.ensures.source c.in_ok-sides.ensures.target
     (c.in_ok-sides.ensures.opens_source v seen) (c.in_ok-sides.ensures.opens_target v seen)
     (subst (λ n. Unless (failing why) (TestsVaults n sides.source sides.target v (failing why))) c.in_ok-sides.ensures.names

@@ -1,11 +1,11 @@
 use Rattle.std.proofs.Common.{Err, Ok, arith, refl, subst, subst₂, sym}
-use Rattle.std.proofs.lemmas.Result.{err_from_is_err_and}
 use Rattle.folder_spec.specs.Event.{Changes, Rename}
 use Rattle.migration_spec.specs.Guard.{old_path}
 use Rattle.retire_core.proofs.Away.{AreLaws, away_comes, away_gone, away_guarded, away_settled, move_allowed, moves_call, moves_same, moves_settled, order_call, order_settled}
 use Rattle.retire_core.proofs.Blaming.{blamed_call}
 use Rattle.retire_core.proofs.Causing.{folder_fails, moved_seen}
 use Rattle.retire_core.proofs.retiring.move_source.Goals as goal
+use Rattle.migration_sides.proofs.Chains.{fault_as}
 use Rattle.migration_spec.proofs.Settling.{settle_seen_back}
 
 pub returns-in_err-old-clause-moves : goal.returns-in_err-old-clause-moves
@@ -40,8 +40,7 @@ returns-in_err-rename-clause-blamed g c =
     let source = c.args.source.now in
     let work = c.args.work.now in
     let fault = c.in_err-rename.field-0.0 in
-    let p = err_from_is_err_and c.from_residual-in_err-rename.result c.from_residual-in_err-rename.ensures.1 in
-    rw (p.1, p.2)
+    fault_as _ c.from_residual-in_err-rename.result c.from_residual-in_err-rename.ensures.1
     (blamed_call (Rename source (old_path work)) t0 t1 n0 n0 (g.F.Folder.faults c.rename.new.self) fault (omega arith) (move_allowed source work t0 c.requires.apart c.requires.there c.requires.free c.requires.folder)
     (subst (λ q. Changes (Rename source q) t0 t1 (Err fault)) c.in_ok-old.ensures c.in_err-rename.ensures.changes) c.in_err-rename.ensures.counts)
 
@@ -124,13 +123,11 @@ returns-clause-leaves g c =
 
 pub returns-in_err-rename-clause-fails : goal.returns-in_err-rename-clause-fails
 returns-in_err-rename-clause-fails g c =
-    let p = err_from_is_err_and c.from_residual-in_err-rename.result c.from_residual-in_err-rename.ensures.1 in
-    rw (p.1, p.2) (folder_fails c.in_err-rename.field-0.0)
+    fault_as _ c.from_residual-in_err-rename.result c.from_residual-in_err-rename.ensures.1 (folder_fails c.in_err-rename.field-0.0)
 
 pub returns-in_err-settle-clause-fails : goal.returns-in_err-settle-clause-fails
 returns-in_err-settle-clause-fails g c =
-    let p = err_from_is_err_and c.from_residual-in_err-settle.result c.from_residual-in_err-settle.ensures.1 in
-    rw (p.1, p.2) (folder_fails c.in_err-settle.field-0.0)
+    fault_as _ c.from_residual-in_err-settle.result c.from_residual-in_err-settle.ensures.1 (folder_fails c.in_err-settle.field-0.0)
 
 pub returns-clause-seen : goal.returns-clause-seen
 returns-clause-seen g c =

@@ -1,7 +1,6 @@
 use denote.Enum.Bare.{same_true, sameb}
 use Rattle.move_journal.specs.Reading.{StandsIn}
 use Rattle.std.proofs.Common.{rules, true, false, ap, ◌≡◌, ◌≢◌, ◌∙◌, arith, subst, sym, inl, inr, refl}
-use Rattle.std.proofs.lemmas.Result.{err_from_is_err_and}
 use Rattle.folder_spec.specs.Seen.{IfSeen, IsSeen, moved_view}
 use Rattle.folder_spec.specs.View.{View}
 use Rattle.folder_spec.specs.contracts.Kind.{the_type}
@@ -15,7 +14,7 @@ use Rattle.retire_core.proofs.Starts.{IsKnown, comes_by_done, comes_missing, mis
 use Rattle.retire_core.specs.Clearing.{IsGone, IsInOrder, MovesHeldOnly}
 use Rattle.retire_core.specs.Guarding.{ComesFromDone, ComesTo, KeepsDone}
 use Rattle.retire_core.specs.Retiring.{retiring_by}
-use Rattle.migration_sides.proofs.Chains.{refused_as}
+use Rattle.migration_sides.proofs.Chains.{fault_as, refused_as}
 use Rattle.migration_sides.proofs.Told.{folder_unless}
 use Rattle.retire_core.proofs.Causing.{away_none, away_there, is_free, not_free}
 use Rattle.retire_core.specs.Causes.{TestsAway, Unless, moved_away}
@@ -33,8 +32,7 @@ returns-in_err-kind-clause-moves g c =
 pub returns-in_err-kind-clause-blamed : goal.returns-in_err-kind-clause-blamed
 returns-in_err-kind-clause-blamed g c =
     let n0 = g.F.Folder.faults c.args.folder.now in
-    let p = err_from_is_err_and c.from_residual.result c.from_residual.ensures.1 in
-    rw (p.1, p.2)
+    fault_as _ c.from_residual.result c.from_residual.ensures.1
     (blamed_kind (g.F.Folder.told c.args.folder.now) c.args.journal.now.source n0 n0 (g.F.Folder.faults c.kind.new.self) c.in_err-kind.field-0.0 (omega arith) c.in_err-kind.ensures.answer c.in_err-kind.ensures.counts)
 
 pub returns-then-eq-clause-comes : goal.returns-then-eq-clause-comes
@@ -100,8 +98,7 @@ returns-in_err-kind-clause-cause g c v seen =
     let pass = c.args.source_pass.now in
     let pass_too = c.args.target_pass.now in
     let journal = c.args.journal.now in
-    let p = err_from_is_err_and c.from_residual.result c.from_residual.ensures.1 in
-    refused_as (λ answer. Unless answer (TestsAway work pass pass_too journal v answer)) c.from_residual.result p.0 (of_folder c.in_err-kind.field-0.0) p.1 p.2
+    refused_as (λ answer. Unless answer (TestsAway work pass pass_too journal v answer)) c.from_residual.result c.from_residual.ensures.1
     (folder_unless of_folder refl _ c.in_err-kind.field-0.0)
 
 pub returns-then-eq-clause-cause : goal.returns-then-eq-clause-cause
@@ -126,8 +123,7 @@ returns-in_err-test_free-clause-cause g c v seen =
     let journal = c.args.journal.now in
     let kind = c.in_ok-kind.field-0 in
     let isnt : kind ≢ Missing = (λ is. let equal : false ≡ true = sym c.if-eq.false ∙ c.eq.ensures ∙ ap (λ k. sameb the_type k Missing) is in cc equal) in
-    let p = err_from_is_err_and c.from_residual-in_err-test_free.result c.from_residual-in_err-test_free.ensures.1 in
-    refused_as (λ answer. Unless answer (TestsAway work pass pass_too journal v answer)) c.from_residual-in_err-test_free.result p.0 (c.in_err-test_free.field-0.0) p.1 p.2
+    refused_as (λ answer. Unless answer (TestsAway work pass pass_too journal v answer)) c.from_residual-in_err-test_free.result c.from_residual-in_err-test_free.ensures.1
     (not_free work pass pass_too journal v (there_by_kind (g.F.Folder.told c.args.folder.now) journal.source kind c.in_ok-kind.ensures.answer isnt v seen) c.in_err-test_free.field-0.0
     (c.in_err-test_free.ensures.cause v (subst (λ t. IsSeen t v) (sym c.kind.ensures.told) seen)))
 

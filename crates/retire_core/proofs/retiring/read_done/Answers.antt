@@ -1,4 +1,3 @@
-use Rattle.std.proofs.lemmas.Result.{err_from_is_err_and}
 use Rattle.migration_sides.proofs.Chains.{refused_as, then_passes, then_refused}
 use Rattle.retire_core.specs.Causes.{ReadsDone, TestsPhase, Unless}
 use Rattle.retire_core.specs.Faults.{of_journal}
@@ -11,8 +10,7 @@ use Rattle.retire_core.proofs.retiring.read_done.Goals as goal
 
 pub returns-in_err-journal-clause-cause : goal.returns-in_err-journal-clause-cause
 returns-in_err-journal-clause-cause g c v seen =
-    let p = err_from_is_err_and c.from_residual.result c.from_residual.ensures.1 in
-    refused_as (λ answer. Unless answer (ReadsDone c.args.work.now v answer)) c.from_residual.result p.0 (of_journal c.in_err-journal.field-0.0) p.1 p.2
+    refused_as (λ answer. Unless answer (ReadsDone c.args.work.now v answer)) c.from_residual.result c.from_residual.ensures.1
     (then_refused Failed NoMemory of_journal (ReadsAs (journal_bytes v c.args.work.now)) (λ (journal : Journal). TestsPhase journal journal.phase) c.in_err-journal.field-0.0 (c.in_err-journal.ensures.answer v seen))
 
 pub returns-in-Building-clause-cause : goal.returns-in-Building-clause-cause

@@ -2,11 +2,10 @@ use Rattle.std.proofs.Common.{subst, sym, refl, inl, inr}
 use Rattle.retire_core.specs.Faults.{of_folder}
 use Rattle.retire_core.proofs.Courses.{removes_settled, retired_earlier, settle_removes, settle_touches, touches_then, settle_goes}
 use Rattle.retire_core.specs.Retiring.{retiring_by}
-use Rattle.migration_sides.proofs.Chains.{refused_as, unless_met}
+use Rattle.migration_sides.proofs.Chains.{fault_as, refused_as, unless_met}
 use Rattle.migration_sides.proofs.Told.{folder_unless}
 use Rattle.retire_core.proofs.Causing.{folder_fails}
 use Rattle.retire_core.specs.Causes.{Retires, Unless, IsOfFolder}
-use Rattle.std.proofs.lemmas.Result.{err_from_is_err_and}
 use Rattle.retire_core.proofs.retiring.retire.Goals as goal
 use Rattle.migration_spec.proofs.Tellings.{folders_of}
 use Rattle.migration_spec.proofs.Settling.{settle_fell, settle_seen}
@@ -53,8 +52,7 @@ returns-clause-retired g c =
 
 pub returns-in_err-settle-clause-cause : goal.returns-in_err-settle-clause-cause
 returns-in_err-settle-clause-cause g c v seen =
-    let p = err_from_is_err_and c.from_residual.result c.from_residual.ensures.1 in
-    refused_as (λ answer. Unless answer (Retires c.args.work.now c.args.source_pass.now c.args.target_pass.now v answer)) c.from_residual.result p.0 (of_folder c.in_err-settle.field-0.0) p.1 p.2
+    refused_as (λ answer. Unless answer (Retires c.args.work.now c.args.source_pass.now c.args.target_pass.now v answer)) c.from_residual.result c.from_residual.ensures.1
     (folder_unless of_folder refl _ c.in_err-settle.field-0.0)
 
 pub returns-clause-cause : goal.returns-clause-cause
@@ -62,9 +60,7 @@ returns-clause-cause g c v seen =
     c.retire_settled.ensures.cause v (settle_seen (g.F.Folder.told c.args.folder.now) (g.F.Folder.told c.settle.new.self) c.in_ok-settle.field-0 c.in_ok-settle.ensures.changes v seen)
 
 pub returns-in_err-settle-clause-completes : goal.returns-in_err-settle-clause-completes
-returns-in_err-settle-clause-completes g c =
-    let p = err_from_is_err_and c.from_residual.result c.from_residual.ensures.1 in
-    rw (p.1, p.2) (λ migration v seen at_work opened can. folder_fails c.in_err-settle.field-0.0)
+returns-in_err-settle-clause-completes g c migration v seen at_work opened can = fault_as _ c.from_residual.result c.from_residual.ensures.1 (folder_fails c.in_err-settle.field-0.0)
 
 pub returns-clause-completes : goal.returns-clause-completes
 returns-clause-completes g c = λ migration v seen at_work opened can.

@@ -3,15 +3,14 @@ use Rattle.folder_spec.specs.Seen.{IsSeen}
 use Rattle.move_journal.specs.declared.journal.Journal.{Journal}
 use Rattle.move_journal.specs.Reading.{StandsIn}
 use Rattle.move_journal.proofs.Standing.{not_missing}
-use Rattle.std.proofs.lemmas.Result.{err_from_is_err_and}
 use Rattle.port_model.specs.Counts.{CountRose}
 use Rattle.retire_core.proofs.Blaming.{blamed_later, blamed_step, if_err_both, later_own}
-use Rattle.retire_core.specs.Faults.{Blamed, IsLaterFault, IsRetireFault, of_step, of_work}
+use Rattle.retire_core.specs.Faults.{Blamed, IsLaterFault, IsRetireFault, of_step}
 use Rattle.retire_core.proofs.Courses.{in_order, removes_same, retired_by, touches_same}
 use Rattle.retire_core.proofs.Going.{rest_same}
 use Rattle.retire_core.specs.Guarding.{KeepsFromRest}
 use Rattle.retire_core.specs.Retiring.{RemovesOnly, TouchesOnly, retiring_by}
-use Rattle.migration_sides.proofs.Chains.{refused_as}
+use Rattle.migration_sides.proofs.Chains.{fault_as, refused_as}
 use Rattle.retire_core.proofs.Causing.{foreign, is_told, not_done, overlapping}
 use Rattle.retire_core.specs.Causes.{Retires, Unless}
 use Rattle.retire_core.proofs.retiring.retire_settled.Goals as goal
@@ -99,11 +98,10 @@ returns-clause-retired g c =
 
 pub returns-in_err-test_apart-clause-blamed : goal.returns-in_err-test_apart-clause-blamed
 returns-in_err-test_apart-clause-blamed g c =
-    let p = err_from_is_err_and c.from_residual-in_err-test_apart.result c.from_residual-in_err-test_apart.ensures.1 in
     let fault = c.in_err-test_apart.field-0.0 in
     let blamed = c.in_err-test_apart.ensures.blamed in
     let later = blamed_step ⊥ fault blamed in
-    rw (p.1, p.2) (record { own = later_own (of_step fault) later.own; failed = λ is. absurd (later.failed is) })
+    fault_as _ c.from_residual-in_err-test_apart.result c.from_residual-in_err-test_apart.ensures.1 (record { own = later_own (of_step fault) later.own; failed = λ is. absurd (later.failed is) })
 
 pub returns-clause-blamed : goal.returns-clause-blamed
 returns-clause-blamed g c =
@@ -120,8 +118,7 @@ returns-in_err-journal-clause-cause g c v seen =
     let work = c.args.work.now in
     let pass = c.args.source_pass.now in
     let pass_too = c.args.target_pass.now in
-    let p = err_from_is_err_and c.from_residual.result c.from_residual.ensures.1 in
-    refused_as (λ answer. Unless answer (Retires work pass pass_too v answer)) c.from_residual.result p.0 (c.in_err-journal.field-0.0) p.1 p.2
+    refused_as (λ answer. Unless answer (Retires work pass pass_too v answer)) c.from_residual.result c.from_residual.ensures.1
     (not_done work pass pass_too v c.in_err-journal.field-0.0 (c.in_err-journal.ensures.cause v seen))
 
 pub returns-in_err-test_apart-clause-cause : goal.returns-in_err-test_apart-clause-cause
@@ -129,8 +126,7 @@ returns-in_err-test_apart-clause-cause g c v seen =
     let work = c.args.work.now in
     let pass = c.args.source_pass.now in
     let pass_too = c.args.target_pass.now in
-    let p = err_from_is_err_and c.from_residual-in_err-test_apart.result c.from_residual-in_err-test_apart.ensures.1 in
-    refused_as (λ answer. Unless answer (Retires work pass pass_too v answer)) c.from_residual-in_err-test_apart.result p.0 (of_step c.in_err-test_apart.field-0.0) p.1 p.2
+    refused_as (λ answer. Unless answer (Retires work pass pass_too v answer)) c.from_residual-in_err-test_apart.result c.from_residual-in_err-test_apart.ensures.1
     (overlapping work pass pass_too v c.in_ok-journal.journal (c.in_ok-journal.ensures.cause v seen) c.in_err-test_apart.field-0.0 c.in_err-test_apart.ensures.cause)
 
 pub returns-in_err-look_again-clause-cause : goal.returns-in_err-look_again-clause-cause
@@ -138,8 +134,7 @@ returns-in_err-look_again-clause-cause g c v seen =
     let work = c.args.work.now in
     let pass = c.args.source_pass.now in
     let pass_too = c.args.target_pass.now in
-    let p = err_from_is_err_and c.from_residual-in_err-look_again.result c.from_residual-in_err-look_again.ensures.1 in
-    refused_as (λ answer. Unless answer (Retires work pass pass_too v answer)) c.from_residual-in_err-look_again.result p.0 (of_work c.in_err-look_again.field-0.0) p.1 p.2
+    refused_as (λ answer. Unless answer (Retires work pass pass_too v answer)) c.from_residual-in_err-look_again.result c.from_residual-in_err-look_again.ensures.1
     (foreign work pass pass_too v c.in_ok-journal.journal (c.in_ok-journal.ensures.cause v seen) c.in_ok-test_apart.ensures.cause c.in_err-look_again.field-0.0
     (c.in_err-look_again.ensures.answer v (subst (λ t. IsSeen t v) (sym c.read_done.ensures.told) seen)))
 

@@ -1,6 +1,5 @@
 use Rattle.retire_core.proofs.Courses.{gone_still, removes_cleared, removes_moved, rest_then, touches_cleared, touches_moved}
 use Rattle.retire_core.specs.Retiring.{retiring_by}
-use Rattle.std.proofs.lemmas.Result.{err_from_is_err_and}
 use Rattle.migration_sides.proofs.Chains.{refused_as}
 use Rattle.retire_core.proofs.Causing.{is_retired, not_away, not_removed, removed_then}
 use Rattle.retire_core.specs.Causes.{RetiresTold, Unless}
@@ -60,8 +59,7 @@ returns-in_err-put_away-clause-cause g c v seen =
     let pass = c.args.source_pass.now in
     let pass_too = c.args.target_pass.now in
     let journal = c.args.journal.now in
-    let p = err_from_is_err_and c.from_residual.result c.from_residual.ensures.1 in
-    refused_as (λ answer. Unless answer (RetiresTold work pass pass_too journal v answer)) c.from_residual.result p.0 (c.in_err-put_away.field-0.0) p.1 p.2
+    refused_as (λ answer. Unless answer (RetiresTold work pass pass_too journal v answer)) c.from_residual.result c.from_residual.ensures.1
     (not_away work pass pass_too journal v c.in_err-put_away.field-0.0 (c.in_err-put_away.ensures.cause v seen))
 
 pub returns-in_err-clear-clause-cause : goal.returns-in_err-clear-clause-cause
@@ -70,8 +68,7 @@ returns-in_err-clear-clause-cause g c v seen =
     let pass = c.args.source_pass.now in
     let pass_too = c.args.target_pass.now in
     let journal = c.args.journal.now in
-    let p = err_from_is_err_and c.from_residual-in_err-clear.result c.from_residual-in_err-clear.ensures.1 in
-    refused_as (λ answer. Unless answer (RetiresTold work pass pass_too journal v answer)) c.from_residual-in_err-clear.result p.0 (c.in_err-clear.field-0.0) p.1 p.2
+    refused_as (λ answer. Unless answer (RetiresTold work pass pass_too journal v answer)) c.from_residual-in_err-clear.result c.from_residual-in_err-clear.ensures.1
     (not_removed work pass pass_too journal v c.in_err-clear.field-0.0 (c.in_ok-put_away.ensures.cause v seen)
     (removed_then (retiring_by work pass pass_too journal) journal.source work (g.F.Folder.told c.args.folder.now) (g.F.Folder.told c.put_away.new.folder) (Err c.in_err-clear.field-0.0) c.put_away.ensures.moves c.in_ok-put_away.ensures.seen
     c.in_err-clear.ensures.cause v seen))

@@ -52,7 +52,7 @@ module _ (g : Over) (c : After-place_file g) where
       (still_coming (path_of c.new-content.result) (g.F.Folder.told c.args.folder.now) (coming_of c.place_file.new.content)) (g.R.Randoms.left c.args.random.now) (g.R.Randoms.left c.place_file.new.random) (g.F.Folder.told c.args.folder.now)
       (g.F.Folder.told c.place_file.new.folder) result
       → LeadsEach c.args.sides.now.names c.args.sides.now.source c.args.sides.now.target c.args.work.now Begun Begun (g.F.Folder.told c.args.folder.now) (g.F.Folder.told c.place_file.new.folder) result
-  goes content_is_its result made m sides =
+  goes is_its_content result made m sides =
       let told = g.F.Folder.told c.args.folder.now in
       let told' = g.F.Folder.told c.place_file.new.folder in
       let left = g.R.Randoms.left c.args.random.now in
@@ -61,7 +61,7 @@ module _ (g : Over) (c : After-place_file g) where
       let coming = still_coming (path_of c.new-content.result) told (coming_of c.new-content.result) in
       let after = still_coming (path_of c.new-content.result) told (coming_of c.place_file.new.content) in
       file_goes c.placing_keeps_migrations_guarded.ensures.one c.placing_keeps_migrations_guarded.ensures.next c.guarded_migrations_are_seen.ensures.alone m c.args.sides.now.names c.args.sides.now.source to c.args.work.now sides c.args.item.now
-      told told' left left' result c.requires.item (g.met.F.Folder.sound c.place_file.new.folder) c.mapped_walks_tell_the_mapped_tree.ensures.file c.files_fit_as_contents.ensures c.requires.file c.new-content.result content_is_its after
+      told told' left left' result c.requires.item (g.met.F.Folder.sound c.place_file.new.folder) c.mapped_walks_tell_the_mapped_tree.ensures.file c.files_fit_as_contents.ensures c.requires.file c.new-content.result is_its_content after
       (subst (λ p. MakesFile New to c.args.work.now p coming after left left' told told' result) (ap (λ (x : Planned). x.path) c.item.view_is) made)
 
 pub returns-in_err-reader-clause-moves : goal.returns-in_err-reader-clause-moves

@@ -4,8 +4,6 @@ use Rattle.std.proofs.lemmas.Bool.{cases_order}
 use Rattle.std.proofs.lemmas.Cmp.{tied_itself}
 use Rattle.std.proofs.lemmas.List.{get_or_default}
 use Rattle.std.proofs.lemmas.List.Elements.{Contains-append_right}
-use Rattle.std.specs.Cmp.{IsTotalOrder}
-use Rattle.std.specs.Cmp.Lexicographic.{lists_total, nat_list_cmp_total}
 use Rattle.std.specs.Ordering.{ordering_reverse}
 use Rattle.std.specs.declared.cmp.Ordering.TheVariants.{Less, Equal, Greater}
 use Rattle.chunk_files.specs.Contents.{readable}
@@ -35,6 +33,7 @@ use Rattle.migrate_core.proofs.Endings.{root_directory}
 use Rattle.migrate_core.proofs.Fronts.{StandBelow, directory_above}
 use Rattle.migrate_core.proofs.MappedItems.{ComesFrom, MappedParts, TellsMapped, comes_from, item_at, mapped_parts, opens_from}
 use Rattle.migrate_core.specs.Copying.{Enters, HasCopied, tree_in}
+use Rattle.migrate_core.proofs.Searched.{paths_total}
 
 -- ---- a directory that opens in an orderly vault
 
@@ -74,9 +73,6 @@ in_front [] k j x before inside at = absurd (omega (arith, inside))
 in_front (y ∷ xs) zero j x before inside at = absurd (omega (arith, before))
 in_front (y ∷ xs) (suc k) zero x before inside at = (0, omega arith, at)
 in_front (y ∷ xs) (suc k) (suc j) x before inside at = let c = in_front xs k j x (omega (arith, before)) (omega (arith, inside)) at in (suc c.0, omega (arith, c.1), c.2)
-
-pub paths_total : IsTotalOrder path_cmp
-paths_total = lists_total nat_list_cmp_total
 
 -- what has an earlier path comes before
 before : (items : List Planned) → IsOrdered items → (x item : Planned) (j k : ℕ) → j < length items → get_or items j x ≡ x → k < length items → item ≡ get_or items k item → path_cmp x.path item.path ≡ Less → j < k

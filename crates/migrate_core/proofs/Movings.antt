@@ -1,5 +1,5 @@
 -- That calls move nothing but what they may, one after the other; and what stays with that.
-use Rattle.std.proofs.Common.{◌≡◌, ◌&&◌, Bool, true, false, not, List, ◌++◌, Option, Some, None, Result, refl, sym, ap, ◌∙◌, subst, IsTrue, is_none}
+use Rattle.std.proofs.Common.{◌≡◌, Bool, not, List, ◌++◌, Option, Some, None, Result, refl, sym, ap, ◌∙◌, subst, IsTrue, is_none}
 use Rattle.std.proofs.Math.Path.{fun_ext}
 use Rattle.folder_spec.specs.declared.FolderFault.{FolderFault}
 use Rattle.folder_spec.specs.Path.{Path, below}
@@ -27,6 +27,7 @@ use Rattle.migrate_core.specs.Moving.{OnlyBrings, MovesBeside, MovesOnly}
 use Rattle.migrate_core.specs.Sides.{AreItemsToMove, IsMappedWalk}
 use Rattle.migration_spec.proofs.Staying.{Kind, stays_more, stays_on, stays_same, stays_settled}
 use Rattle.migration_spec.proofs.Tellings.{AreSound}
+use Rattle.std.proofs.lemmas.Bool.{and_from}
 
 -- ---- one after the other
 
@@ -56,13 +57,9 @@ settle_moves region root t u result = stays_settled region (λ s0 s e. OnlyBring
 
 -- ---- the regions
 
-pub both : (a b : Bool) → IsTrue a → IsTrue b → IsTrue (a && b)
-both true b one other = other
-both false b one other = absurd (cc one)
-
 -- what begins with neither is apart
 pub apart_of : (work root q : Path) → below work q ≡ None → below root q ≡ None → IsTrue (is_apart work root q)
-apart_of work root q one other = both (not (is_staged work q)) (apart_from root q) (ap not (not_staged work q one)) (ap is_none other)
+apart_of work root q one other = and_from (not (is_staged work q)) (apart_from root q) (ap not (not_staged work q one)) (ap is_none other)
 
 -- the source is apart from the work folder and from the target
 module _ (from to through rest : Path) (separate : AreSeparate from to through) where

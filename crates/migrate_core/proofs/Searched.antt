@@ -21,7 +21,7 @@ use Rattle.vault_walk.specs.Survey.{IsOrdered}
 use Rattle.migrate_core.specs.Moved.{is_there, lacking}
 use Rattle.migrate_core.specs.Sides.{StandsIn}
 
-paths_total : IsTotalOrder path_cmp
+pub paths_total : IsTotalOrder path_cmp
 paths_total = lists_total nat_list_cmp_total
 
 are_sorted : (items : List Planned) → IsOrdered items → IsSortedBy (λ (x y : Planned). is_lt (path_cmp x.path y.path)) items

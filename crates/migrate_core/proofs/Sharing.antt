@@ -46,7 +46,8 @@ use Rattle.migrate_core.proofs.Compared.{planned_at}
 use Rattle.tree_match.proofs.Passing.{TellsTree}
 use Rattle.migrate_core.proofs.Copyings.{copied_as}
 use Rattle.migrate_core.proofs.Endings.{root_directory}
-use Rattle.migrate_core.proofs.Entered.{EnteredLeads, paths_total}
+use Rattle.migrate_core.proofs.Entered.{EnteredLeads}
+use Rattle.migrate_core.proofs.Searched.{paths_total}
 use Rattle.migrate_core.proofs.MappedItems.{ComesFrom, TellsMapped, comes_from}
 use Rattle.migrate_core.proofs.Placings.{made_moves}
 use Rattle.migrate_core.proofs.Stopping.{Stays}

@@ -24,10 +24,11 @@ use Rattle.content_writing.specs.Making.{is_apart, is_inside, is_staged}
 use Rattle.work_folder.specs.Changing.{ChangesAt, ChangesOnly, IsChangingAt}
 use Rattle.work_folder.specs.Entering.{IsReady, IsFresh, IsLeftOver, IsWorkOrStage}
 use Rattle.work_folder.specs.Entries.{journal_path, stage_path}
-use Rattle.migrate_core.proofs.Movings.{apart_of, both, moves_within, moves_on}
+use Rattle.migrate_core.proofs.Movings.{apart_of, moves_within, moves_on}
 use Rattle.migrate_core.specs.Moved.{IsTidyWork, StaysTidyWork}
 use Rattle.migrate_core.specs.Moving.{OnlyBrings, MovesBeside, MovesOnly}
 use Rattle.migration_spec.proofs.Tellings.{AreSound}
+use Rattle.std.proofs.lemmas.Bool.{and_from}
 
 -- ---- calls that spare a region with the target in it
 
@@ -69,11 +70,11 @@ apart_at work root apart rest = ap is_none (below-apart work root rest apart.oth
 
 -- what isn't in the work folder is elsewhere
 pub elsewhere_of : (work q : Path) → below work q ≡ None → IsTrue (elsewhere work q)
-elsewhere_of work q none = both (apart_from (new_journal_path work) q) (apart_from (journal_path work) q) (ap is_none (behind_none work (codes "journal.new" ∷ []) q none)) (ap is_none (behind_none work (codes "journal" ∷ []) q none))
+elsewhere_of work q none = and_from (apart_from (new_journal_path work) q) (apart_from (journal_path work) q) (ap is_none (behind_none work (codes "journal.new" ∷ []) q none)) (ap is_none (behind_none work (codes "journal" ∷ []) q none))
 
 -- and so is all in it but the two journals
 pub elsewhere_in : (work rest : Path) → below (codes "journal.new" ∷ []) rest ≡ None → below (codes "journal" ∷ []) rest ≡ None → IsTrue (elsewhere work (work ++ rest))
-elsewhere_in work rest new journal = both (apart_from (new_journal_path work) (work ++ rest)) (apart_from (journal_path work) (work ++ rest)) (ap is_none (below-both work (codes "journal.new" ∷ []) rest ∙ new)) (ap is_none (below-both work (codes "journal" ∷ []) rest ∙ journal))
+elsewhere_in work rest new journal = and_from (apart_from (new_journal_path work) (work ++ rest)) (apart_from (journal_path work) (work ++ rest)) (ap is_none (below-both work (codes "journal.new" ∷ []) rest ∙ new)) (ap is_none (below-both work (codes "journal" ∷ []) rest ∙ journal))
 
 pub elsewhere_at : (work root : Path) → AreApart root work → (rest : Path) → IsTrue (elsewhere work (root ++ rest))
 elsewhere_at work root apart rest = elsewhere_of work (root ++ rest) (below-apart work root rest apart.other apart.one)
@@ -190,7 +191,7 @@ placing_has work root apart = record {
 }
   where
     at : (rest : Path) → is_inside (below (codes "stage" ∷ []) rest) ≡ false → IsTrue (is_apart work root (work ++ rest))
-    at rest outside = both (not (is_staged work (work ++ rest))) (apart_from root (work ++ rest)) (ap not (staged_in work rest ∙ outside)) (ap is_none (below-apart root work rest apart.one apart.other))
+    at rest outside = and_from (not (is_staged work (work ++ rest))) (apart_from root (work ++ rest)) (ap not (staged_in work rest ∙ outside)) (ap is_none (below-apart root work rest apart.one apart.other))
 
 pub staging_has : (work : Path) → HasWorkFolder (apart_from (stage_path work)) work
 staging_has work = record {
@@ -275,7 +276,7 @@ tidy_placed work root (Some a) (Some b) apart sound stayed ready was v is = reco
 
     inside : (name : Part) → name ≢ codes "stage" → IsTrue (is_apart work root (child work name))
     inside name stage =
-        both (not (is_staged work (work ++ name ∷ []))) (apart_from root (work ++ name ∷ [])) (ap not (staged_in work (name ∷ []) ∙ outside name stage)) (ap is_none (below-apart root work (name ∷ []) apart.one apart.other))
+        and_from (not (is_staged work (work ++ name ∷ []))) (apart_from root (work ++ name ∷ [])) (ap not (staged_in work (name ∷ []) ∙ outside name stage)) (ap is_none (below-apart root work (name ∷ []) apart.one apart.other))
 tidy_placed work root None None apart sound stayed ready was v is = absurd is
 tidy_placed work root (Some a) None apart sound stayed ready was v is = absurd stayed
 tidy_placed work root None (Some b) apart sound stayed ready was v is = absurd stayed

@@ -27,8 +27,7 @@ pub returns-in_err-test_apart-clause-guard : goal.returns-in_err-test_apart-clau
 returns-in_err-test_apart-clause-guard g c = λ migration asked opened. still_guarded (Guarded migration) migration (g.F.Folder.told c.args.folder.now) (g.F.Folder.told c.args.folder.now) (λ s is. is) refl
 
 pub returns-in_err-test_apart-clause-moves : goal.returns-in_err-test_apart-clause-moves
-returns-in_err-test_apart-clause-moves g c =
-    moves_nowhere (apart_from_both c.args.work.now c.args.target.now) c.args.target.now (g.F.Folder.told c.args.folder.now) (g.F.Folder.told c.args.folder.now) refl
+returns-in_err-test_apart-clause-moves g c = moves_nowhere _ c.args.target.now _ _ refl
 
 pub returns-in_err-settle-clause-guard : goal.returns-in_err-settle-clause-guard
 returns-in_err-settle-clause-guard g c = λ migration asked opened.

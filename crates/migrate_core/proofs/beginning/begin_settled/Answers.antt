@@ -33,20 +33,16 @@ use Rattle.migrate_core.specs.declared.fault.MoveFault.TheVariants.{Failed, NoMe
 use Rattle.migrate_core.proofs.Tested.{step_tested, work_tested}
 
 pub returns-in_err-look-clause-guard : goal.returns-in_err-look-clause-guard
-returns-in_err-look-clause-guard g c = λ migration asked opened. still_settled migration (g.F.Folder.told c.args.folder.now) (g.F.Folder.told c.look.new.folder) c.look.ensures.told
+returns-in_err-look-clause-guard g c migration asked opened = still_settled migration _ _ c.look.ensures.told
 
 pub returns-in_err-look-clause-moves : goal.returns-in_err-look-clause-moves
-returns-in_err-look-clause-moves g c =
-    moves_nowhere (apart_from_both c.args.work.now c.args.target.now) c.args.target.now (g.F.Folder.told c.args.folder.now) (g.F.Folder.told c.look.new.folder) c.look.ensures.told
+returns-in_err-look-clause-moves g c = moves_nowhere _ c.args.target.now _ _ c.look.ensures.told
 
 pub returns-in_err-sides-clause-guard : goal.returns-in_err-sides-clause-guard
-returns-in_err-sides-clause-guard g c = λ migration asked opened.
-    still_settled migration (g.F.Folder.told c.args.folder.now) (g.F.Folder.told c.load_both.new.folder) (c.load_both.ensures.told ∙ c.look.ensures.told)
+returns-in_err-sides-clause-guard g c migration asked opened = still_settled migration _ _ (c.load_both.ensures.told ∙ c.look.ensures.told)
 
 pub returns-in_err-sides-clause-moves : goal.returns-in_err-sides-clause-moves
-returns-in_err-sides-clause-moves g c =
-    moves_nowhere (apart_from_both c.args.work.now c.args.target.now) c.args.target.now (g.F.Folder.told c.args.folder.now) (g.F.Folder.told c.load_both.new.folder)
-    (c.load_both.ensures.told ∙ c.look.ensures.told)
+returns-in_err-sides-clause-moves g c = moves_nowhere _ c.args.target.now _ _ (c.load_both.ensures.told ∙ c.look.ensures.told)
 
 pub begin_with-requires-clause-source : goal.begin_with-requires-clause-source
 begin_with-requires-clause-source g c = subst IsParsed (sym c.in_ok-sides.ensures.source) c.requires.source

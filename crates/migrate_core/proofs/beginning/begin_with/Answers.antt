@@ -33,19 +33,19 @@ use Rattle.migrate_core.specs.declared.fault.MoveFault.TheVariants.{Failed, NoMe
 use Rattle.migrate_core.proofs.Tested.{step_tested}
 
 pub returns-in_err-plans-clause-guard : goal.returns-in_err-plans-clause-guard
-returns-in_err-plans-clause-guard g c m sides = refused_nowhere _ m Unbegun Finished (g.F.Folder.told c.args.folder.now) (g.F.Folder.told c.walk_both.new.folder) c.from_residual.result c.from_residual.ensures.1 c.walk_both.ensures.told
+returns-in_err-plans-clause-guard g c m sides = refused_nowhere _ m Unbegun Finished _ _ c.from_residual.result c.from_residual.ensures.1 c.walk_both.ensures.told
 
 pub returns-in_err-plans-clause-moves : goal.returns-in_err-plans-clause-moves
 returns-in_err-plans-clause-moves g c = moves_nowhere _ c.args.sides.now.target.root _ _ c.walk_both.ensures.told
 
 pub returns-in_err-test_empty-clause-guard : goal.returns-in_err-test_empty-clause-guard
-returns-in_err-test_empty-clause-guard g c m sides = refused_nowhere _ m Unbegun Finished (g.F.Folder.told c.args.folder.now) (g.F.Folder.told c.walk_both.new.folder) c.from_residual-in_err-test_empty.result c.from_residual-in_err-test_empty.ensures.1 c.walk_both.ensures.told
+returns-in_err-test_empty-clause-guard g c m sides = refused_nowhere _ m Unbegun Finished _ _ c.from_residual-in_err-test_empty.result c.from_residual-in_err-test_empty.ensures.1 c.walk_both.ensures.told
 
 pub returns-in_err-test_empty-clause-moves : goal.returns-in_err-test_empty-clause-moves
 returns-in_err-test_empty-clause-moves g c = moves_nowhere _ c.args.sides.now.target.root _ _ c.walk_both.ensures.told
 
 pub returns-in_err-mapped-clause-guard : goal.returns-in_err-mapped-clause-guard
-returns-in_err-mapped-clause-guard g c m sides = refused_nowhere _ m Unbegun Finished (g.F.Folder.told c.args.folder.now) (g.F.Folder.told c.walk_both.new.folder) c.from_residual-in_err-mapped.result c.from_residual-in_err-mapped.ensures.1 c.walk_both.ensures.told
+returns-in_err-mapped-clause-guard g c m sides = refused_nowhere _ m Unbegun Finished _ _ c.from_residual-in_err-mapped.result c.from_residual-in_err-mapped.ensures.1 c.walk_both.ensures.told
 
 pub returns-in_err-mapped-clause-moves : goal.returns-in_err-mapped-clause-moves
 returns-in_err-mapped-clause-moves g c = moves_nowhere _ c.args.sides.now.target.root _ _ c.walk_both.ensures.told

@@ -1,5 +1,4 @@
 use Rattle.std.proofs.Common.{Result, ◌∙◌, Ok, length, sym, ap, subst, Contains, [], ◌∷◌}
-use Rattle.folder_spec.specs.Region.{apart_from_both}
 use Rattle.folder_spec.specs.Seen.{IsSeen}
 use Rattle.migration_spec.specs.Alone.{Finished}
 use Rattle.migrate_core.specs.declared.fault.MoveFault.{MoveFault}
@@ -32,22 +31,18 @@ use Rattle.work_folder.specs.Apart.{AreApart}
 
 pub returns-in_err-target-clause-guard : goal.returns-in_err-target-clause-guard
 returns-in_err-target-clause-guard g c m sides tells =
-    refused_nowhere _ m (progress_of c.args.journal.phase) Finished (g.F.Folder.told c.args.folder.now) (g.F.Folder.told c.walk_one.new.folder) c.from_residual.result c.from_residual.ensures.1 c.walk_one.ensures.told
+    refused_nowhere _ m (progress_of c.args.journal.phase) Finished _ _ c.from_residual.result c.from_residual.ensures.1 c.walk_one.ensures.told
 
 pub returns-in_err-target-clause-moves : goal.returns-in_err-target-clause-moves
-returns-in_err-target-clause-moves g c =
-    let root = c.args.sides.now.target.root in
-    moves_nowhere (apart_from_both c.args.work.now root) root (g.F.Folder.told c.args.folder.now) (g.F.Folder.told c.walk_one.new.folder) c.walk_one.ensures.told
+returns-in_err-target-clause-moves g c = moves_nowhere _ c.args.sides.now.target.root _ _ c.walk_one.ensures.told
 
 pub returns-in_err-test_same-clause-guard : goal.returns-in_err-test_same-clause-guard
 returns-in_err-test_same-clause-guard g c m sides tells =
-    refused_nowhere _ m (progress_of c.args.journal.phase) Finished (g.F.Folder.told c.args.folder.now) (g.F.Folder.told c.test_same.new.folder) c.from_residual-in_err-test_same.result c.from_residual-in_err-test_same.ensures.1
+    refused_nowhere _ m (progress_of c.args.journal.phase) Finished _ _ c.from_residual-in_err-test_same.result c.from_residual-in_err-test_same.ensures.1
     (c.test_same.ensures.told ∙ c.walk_one.ensures.told)
 
 pub returns-in_err-test_same-clause-moves : goal.returns-in_err-test_same-clause-moves
-returns-in_err-test_same-clause-moves g c =
-    let root = c.args.sides.now.target.root in
-    moves_nowhere (apart_from_both c.args.work.now root) root (g.F.Folder.told c.args.folder.now) (g.F.Folder.told c.test_same.new.folder) (c.test_same.ensures.told ∙ c.walk_one.ensures.told)
+returns-in_err-test_same-clause-moves g c = moves_nowhere _ c.args.sides.now.target.root _ _ (c.test_same.ensures.told ∙ c.walk_one.ensures.told)
 
 pub test_same-requires-clause-source : goal.test_same-requires-clause-source
 test_same-requires-clause-source g c =

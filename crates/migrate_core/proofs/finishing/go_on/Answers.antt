@@ -41,7 +41,7 @@ returns-in_err-placed-clause-building g c phase m sides tells =
 
 pub returns-in_err-placed-clause-done : goal.returns-in_err-placed-clause-done
 returns-in_err-placed-clause-done g c phase all m sides tells =
-    refused_nowhere _ m Finished Finished (g.F.Folder.told c.args.folder.now) (g.F.Folder.told c.place_missing.new.folder) c.from_residual.result c.from_residual.ensures.1
+    refused_nowhere _ m Finished Finished _ _ c.from_residual.result c.from_residual.ensures.1
     (c.place_missing.ensures.none (subst (λ items. StandAll items c.args.there.now) (sym c.as_slice-mapped.ensures) all))
 
 pub returns-in_err-placed-clause-moves : goal.returns-in_err-placed-clause-moves

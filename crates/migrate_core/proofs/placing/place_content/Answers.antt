@@ -65,7 +65,7 @@ module _ (g : Over) (c : After-place_file g) where
       (subst (λ p. MakesFile New to c.args.work.now p coming after left left' told told' result) (ap (λ (x : Planned). x.path) c.item.view_is) made)
 
 pub returns-in_err-reader-clause-moves : goal.returns-in_err-reader-clause-moves
-returns-in_err-reader-clause-moves g c = moves_nowhere (is_apart c.args.work.now c.args.sides.now.target.root) c.args.sides.now.target.root (g.F.Folder.told c.args.folder.now) (g.F.Folder.told c.args.folder.now) refl
+returns-in_err-reader-clause-moves g c = moves_nowhere _ c.args.sides.now.target.root _ _ refl
 
 pub place_file-requires-clause-ready : goal.place_file-requires-clause-ready
 place_file-requires-clause-ready g c =

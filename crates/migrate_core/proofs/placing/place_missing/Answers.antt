@@ -32,7 +32,7 @@ loop-item-init g c =
       few = omega arith;
       ready = c.requires.ready;
       led = λ m sides. (still_guards m Begun told told refl, still_leads m Begun told told refl);
-      moves = moves_nowhere (is_apart c.args.work.now c.args.sides.now.target.root) c.args.sides.now.target.root told told refl;
+      moves = moves_nowhere _ c.args.sides.now.target.root _ _ refl;
       counted = λ ordered. refl;
       written = λ ordered. texts_alone c.args.sides.now.source c.args.sides.now.target [] [] (g.R.Randoms.left c.args.random.now) (g.R.Randoms.left c.args.random.now) told told
           (c.draws_compose.ensures.none (g.R.Randoms.left c.args.random.now)) (only_nowhere (BringsOnlyTo c.args.sides.now.target.root (λ at. ⊥)) (λ file. Contains [] file) told told refl);

@@ -1,7 +1,6 @@
 use Rattle.std.proofs.Common.{refl, sym, ◌∙◌, Contains, [], cond, not, subst, ◌∷◌}
 use Rattle.folder_spec.specs.Seen.{seen}
 use Rattle.migration_spec.specs.Alone.{Begun}
-use Rattle.content_writing.specs.Making.{is_apart}
 use Rattle.migrate_core.proofs.Leadings.{nothing_told, still_guards, still_leads}
 use Rattle.migrate_core.proofs.Movings.{moves_nowhere}
 use Rattle.migrate_core.proofs.Planned.{seen_of}
@@ -31,9 +30,7 @@ returns-then-stands-clause-guard g c m sides =
     (still_guards m Begun told told refl, still_leads m Begun told told refl)
 
 pub returns-then-stands-clause-moves : goal.returns-then-stands-clause-moves
-returns-then-stands-clause-moves g c =
-    let root = c.args.sides.now.target.root in
-    moves_nowhere (is_apart c.args.work.now root) root (g.F.Folder.told c.args.folder.now) (g.F.Folder.told c.args.folder.now) refl
+returns-then-stands-clause-moves g c = moves_nowhere _ c.args.sides.now.target.root _ _ refl
 
 pub returns-in_err-place-clause-written : goal.returns-in_err-place-clause-written
 returns-in_err-place-clause-written g c ordered =

@@ -1,5 +1,4 @@
 use Rattle.std.proofs.Common.{◌∙◌, subst, Err, Ok, sym, inl, ℕ, List}
-use Rattle.folder_spec.specs.Region.{apart_from_both}
 use Rattle.folder_spec.specs.Seen.{IfSeen, IsSeen}
 use Rattle.move_journal.specs.declared.journal.Journal.{Journal}
 use Rattle.migrate_core.specs.Leading.{KeepsSettled}
@@ -41,10 +40,10 @@ module _ (work : Path) (pass pass' : List ℕ) (v : View) where
   journal_passes = then_passes Failed NoMemory of_journal (ReadsAs (journal_bytes v work)) folders
 
 pub returns-in_err-journal-clause-guard : goal.returns-in_err-journal-clause-guard
-returns-in_err-journal-clause-guard g c = λ migration resumed opened. still_settled migration (g.F.Folder.told c.args.folder.now) (g.F.Folder.told c.read.new.folder) c.read.ensures.told
+returns-in_err-journal-clause-guard g c migration resumed opened = still_settled migration _ _ c.read.ensures.told
 
 pub returns-in_err-test_apart-clause-guard : goal.returns-in_err-test_apart-clause-guard
-returns-in_err-test_apart-clause-guard g c = λ migration resumed opened. still_settled migration (g.F.Folder.told c.args.folder.now) (g.F.Folder.told c.read.new.folder) c.read.ensures.told
+returns-in_err-test_apart-clause-guard g c migration resumed opened = still_settled migration _ _ c.read.ensures.told
 
 pub look_again-requires : goal.look_again-requires
 look_again-requires g c = λ v seen.
@@ -52,8 +51,7 @@ look_again-requires g c = λ v seen.
     (c.in_ok-journal.ensures.answer v (subst (λ t. IsSeen t v) c.read.ensures.told seen))
 
 pub returns-in_err-look_again-clause-guard : goal.returns-in_err-look_again-clause-guard
-returns-in_err-look_again-clause-guard g c = λ migration resumed opened.
-    still_settled migration (g.F.Folder.told c.args.folder.now) (g.F.Folder.told c.look_again.new.folder) (c.look_again.ensures.told ∙ c.read.ensures.told)
+returns-in_err-look_again-clause-guard g c migration resumed opened = still_settled migration _ _ (c.look_again.ensures.told ∙ c.read.ensures.told)
 
 pub resume_told-requires-clause-used : goal.resume_told-requires-clause-used
 resume_told-requires-clause-used g c = λ v seen.
@@ -68,15 +66,15 @@ returns-clause-guard g c = λ migration resumed opened.
 
 pub returns-in_err-journal-clause-moves : goal.returns-in_err-journal-clause-moves
 returns-in_err-journal-clause-moves g c = λ v journal seen is stands.
-    moves_nowhere (apart_from_both c.args.work.now journal.target) journal.target (g.F.Folder.told c.args.folder.now) (g.F.Folder.told c.read.new.folder) c.read.ensures.told
+    moves_nowhere _ journal.target _ _ c.read.ensures.told
 
 pub returns-in_err-test_apart-clause-moves : goal.returns-in_err-test_apart-clause-moves
 returns-in_err-test_apart-clause-moves g c = λ v journal seen is stands.
-    moves_nowhere (apart_from_both c.args.work.now journal.target) journal.target (g.F.Folder.told c.args.folder.now) (g.F.Folder.told c.read.new.folder) c.read.ensures.told
+    moves_nowhere _ journal.target _ _ c.read.ensures.told
 
 pub returns-in_err-look_again-clause-moves : goal.returns-in_err-look_again-clause-moves
 returns-in_err-look_again-clause-moves g c = λ v journal seen is stands.
-    moves_nowhere (apart_from_both c.args.work.now journal.target) journal.target (g.F.Folder.told c.args.folder.now) (g.F.Folder.told c.look_again.new.folder) (c.look_again.ensures.told ∙ c.read.ensures.told)
+    moves_nowhere _ journal.target _ _ (c.look_again.ensures.told ∙ c.read.ensures.told)
 
 pub returns-clause-moves : goal.returns-clause-moves
 returns-clause-moves g c = λ v journal seen is stands.

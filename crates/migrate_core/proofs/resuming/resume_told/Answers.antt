@@ -27,22 +27,16 @@ use Rattle.migrate_core.specs.declared.fault.MoveFault.TheVariants.{Failed, NoMe
 use Rattle.migrate_core.proofs.Tested.{step_tested}
 
 pub returns-in_err-test_source-clause-guard : goal.returns-in_err-test_source-clause-guard
-returns-in_err-test_source-clause-guard g c = λ migration resumed opened.
-    still_settled migration (g.F.Folder.told c.args.folder.now) (g.F.Folder.told c.test_source.new.folder) c.test_source.ensures.told
+returns-in_err-test_source-clause-guard g c migration resumed opened = still_settled migration _ _ c.test_source.ensures.told
 
 pub returns-in_err-test_source-clause-moves : goal.returns-in_err-test_source-clause-moves
-returns-in_err-test_source-clause-moves g c =
-    let target = c.args.journal.target in
-    moves_nowhere (apart_from_both c.args.work.now target) target (g.F.Folder.told c.args.folder.now) (g.F.Folder.told c.test_source.new.folder) c.test_source.ensures.told
+returns-in_err-test_source-clause-moves g c = moves_nowhere _ c.args.journal.target _ _ c.test_source.ensures.told
 
 pub returns-in_err-sides-clause-guard : goal.returns-in_err-sides-clause-guard
-returns-in_err-sides-clause-guard g c = λ migration resumed opened.
-    still_settled migration (g.F.Folder.told c.args.folder.now) (g.F.Folder.told c.load_both.new.folder) (c.load_both.ensures.told ∙ c.test_source.ensures.told)
+returns-in_err-sides-clause-guard g c migration resumed opened = still_settled migration _ _ (c.load_both.ensures.told ∙ c.test_source.ensures.told)
 
 pub returns-in_err-sides-clause-moves : goal.returns-in_err-sides-clause-moves
-returns-in_err-sides-clause-moves g c =
-    let target = c.args.journal.target in
-    moves_nowhere (apart_from_both c.args.work.now target) target (g.F.Folder.told c.args.folder.now) (g.F.Folder.told c.load_both.new.folder) (c.load_both.ensures.told ∙ c.test_source.ensures.told)
+returns-in_err-sides-clause-moves g c = moves_nowhere _ c.args.journal.target _ _ (c.load_both.ensures.told ∙ c.test_source.ensures.told)
 
 pub resume_with-requires-clause-apart : goal.resume_with-requires-clause-apart
 resume_with-requires-clause-apart g c = subst₂ (λ p q. AreSeparate p q c.args.work.now) (sym c.in_ok-sides.ensures.source) (sym c.in_ok-sides.ensures.target) c.requires.apart

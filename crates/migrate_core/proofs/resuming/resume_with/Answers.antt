@@ -1,7 +1,6 @@
 use Rattle.std.proofs.Common.{◌≡◌, ◌∙◌, sym, subst, arith, Err, List, [], inl, inr, ◌∷◌}
 use Rattle.migrate_core.proofs.Endings.{if_ok_more, placed_of}
 use Rattle.migrate_core.specs.Moved.{lacking, done_of}
-use Rattle.folder_spec.specs.Region.{apart_from_both}
 use Rattle.folder_spec.specs.Seen.{IfSeen, IsSeen}
 use Rattle.migration_spec.specs.Alone.{Finished}
 use Rattle.migrate_core.specs.Leading.{Goes, progress_of}
@@ -32,13 +31,10 @@ use Rattle.migration_sides.proofs.Chains.{fault_as, refused_as}
 use Rattle.migrate_core.proofs.Tested.{step_tested}
 
 pub returns-in_err-plans-clause-guard : goal.returns-in_err-plans-clause-guard
-returns-in_err-plans-clause-guard g c =
-    λ migration sides tells. refused_nowhere _ migration (progress_of c.args.journal.phase) Finished (g.F.Folder.told c.args.folder.now) (g.F.Folder.told c.walk_both.new.folder) c.from_residual.result c.from_residual.ensures.1 c.walk_both.ensures.told
+returns-in_err-plans-clause-guard g c migration sides tells = refused_nowhere _ migration (progress_of c.args.journal.phase) Finished _ _ c.from_residual.result c.from_residual.ensures.1 c.walk_both.ensures.told
 
 pub returns-in_err-plans-clause-moves : goal.returns-in_err-plans-clause-moves
-returns-in_err-plans-clause-moves g c =
-    let target = c.args.sides.now.target.root in
-    moves_nowhere (apart_from_both c.args.work.now target) target (g.F.Folder.told c.args.folder.now) (g.F.Folder.told c.walk_both.new.folder) c.walk_both.ensures.told
+returns-in_err-plans-clause-moves g c = moves_nowhere _ c.args.sides.now.target.root _ _ c.walk_both.ensures.told
 
 pub test_plans-requires-clause-source : goal.test_plans-requires-clause-source
 test_plans-requires-clause-source g c = subst (λ t. IsWalked t c.args.sides.now.source c.in_ok-plans.plans.source.items) (sym c.walk_both.ensures.told) c.in_ok-plans.ensures.source
@@ -47,13 +43,10 @@ pub test_plans-requires-clause-target : goal.test_plans-requires-clause-target
 test_plans-requires-clause-target g c = subst (λ t. IsWalked t c.args.sides.now.target c.in_ok-plans.plans.target.items) (sym c.walk_both.ensures.told) c.in_ok-plans.ensures.target
 
 pub returns-in_err-mapped-clause-guard : goal.returns-in_err-mapped-clause-guard
-returns-in_err-mapped-clause-guard g c =
-    λ migration sides tells. refused_nowhere _ migration (progress_of c.args.journal.phase) Finished (g.F.Folder.told c.args.folder.now) (g.F.Folder.told c.test_plans.new.folder) c.from_residual-in_err-mapped.result c.from_residual-in_err-mapped.ensures.1 (c.test_plans.ensures.told ∙ c.walk_both.ensures.told)
+returns-in_err-mapped-clause-guard g c migration sides tells = refused_nowhere _ migration (progress_of c.args.journal.phase) Finished _ _ c.from_residual-in_err-mapped.result c.from_residual-in_err-mapped.ensures.1 (c.test_plans.ensures.told ∙ c.walk_both.ensures.told)
 
 pub returns-in_err-mapped-clause-moves : goal.returns-in_err-mapped-clause-moves
-returns-in_err-mapped-clause-moves g c =
-    let target = c.args.sides.now.target.root in
-    moves_nowhere (apart_from_both c.args.work.now target) target (g.F.Folder.told c.args.folder.now) (g.F.Folder.told c.test_plans.new.folder) (c.test_plans.ensures.told ∙ c.walk_both.ensures.told)
+returns-in_err-mapped-clause-moves g c = moves_nowhere _ c.args.sides.now.target.root _ _ (c.test_plans.ensures.told ∙ c.walk_both.ensures.told)
 
 pub place_rest-requires-clause-used : goal.place_rest-requires-clause-used
 place_rest-requires-clause-used g c = λ v seen. c.requires.used v (subst (λ t. IsSeen t v) (c.test_plans.ensures.told ∙ c.walk_both.ensures.told) seen)

@@ -1,5 +1,5 @@
 -- What rules make of names and of paths.
-use Rattle.std.proofs.Common.{◌≡◌, ◌≢◌, ℕ, zero, suc, ◌<◌, Bool, true, false, cond, ◌&&◌, IsTrue, List, [], ◌∷◌, map, length, get_or, Some, None, Decides, refl, arith, sym, ap, ap₂, ◌∙◌, subst, encode_utf8_all}
+use Rattle.std.proofs.Common.{◌≡◌, ◌≢◌, ℕ, zero, suc, ◌+◌, ◌<◌, ◌≤◌, Bool, true, false, cond, ◌&&◌, IsTrue, List, [], ◌∷◌, ◌++◌, map, length, take, get_or, Some, None, Decides, refl, arith, sym, ap, ap₂, ◌∙◌, subst, encode_utf8_all}
 use Rattle.std.specs.Prelude.{AllPairs}
 use Rattle.std.specs.Cmp.{IsTotalOrder}
 use Rattle.std.specs.List.{list_all}
@@ -11,6 +11,8 @@ use Rattle.std.specs.declared.cmp.Ordering.{Ordering}
 use Rattle.std.specs.declared.cmp.Ordering.TheVariants.{Less, Equal, Greater}
 use Rattle.std.proofs.lemmas.Str.{is_utf8-from_IsUtf8, IsUtf8-from_is_utf8, chars-encodes, chars_from_encodes, encodes-chars}
 use Rattle.std.proofs.lemmas.Bool.Decides.{same_from_decides}
+use Rattle.std.proofs.lemmas.List.{map_more, take_all}
+use Rattle.std.proofs.lemmas.List.Folds.{list_all-append}
 use Rattle.std.proofs.lemmas.Map.Keys.{IsDistinct-IsPermutation}
 use Rattle.std.proofs.lemmas.Map.Made.{AllPairs-from_IsDistinct, IsDistinct-from_AllPairs}
 use lib.Utf8.{scalars}
@@ -105,6 +107,27 @@ unnamed names path k x few is none = by (is_name (mapped_name names x)) refl non
     by : (b : Bool) → is_name (mapped_name names x) ≡ b → None ≡ cond b (Some (mapped_name names x)) None → None ≡ cond (list_all is_name (mapped_path names path)) (Some (mapped_path names path)) None
     by true e none = cc none
     by false e none = ap (λ (b : Bool). cond b (Some (mapped_path names path)) None) (sym (not_all names path k x few is e))
+
+-- one more that is a name
+pub named_more : (names : NameMap) (path before after : Path) (k : ℕ) (x new : List ℕ) → k < length path → x ≡ get_or path k x
+    → Some new ≡ cond (is_name (mapped_name names x)) (Some (mapped_name names x)) None → before ≡ mapped_path names (take k path) → list_all is_name before ≡ true
+    → after ≡ before ++ new ∷ [] → (after ≡ mapped_path names (take (k + 1) path)) × (list_all is_name after ≡ true)
+named_more names path before after k x new few is some mapped named grown = by (is_name (mapped_name names x)) refl some
+  where
+    by : (b : Bool) → is_name (mapped_name names x) ≡ b → Some new ≡ cond b (Some (mapped_name names x)) None → (after ≡ mapped_path names (take (k + 1) path)) × (list_all is_name after ≡ true)
+    by true e some =
+        let same : new ≡ mapped_name names x = cc some in (
+          grown ∙ ap₂ (λ (p : Path) (n : List ℕ). p ++ n ∷ []) mapped (same ∙ ap (mapped_name names) is) ∙ sym (map_more (mapped_name names) path k x few),
+          ap (list_all is_name) grown ∙ list_all-append is_name before (new ∷ []) ∙ ap₂ (λ (a b : Bool). a && (b && true)) named (ap is_name same ∙ e),
+        )
+    by false e some = cc some
+
+-- all are names
+pub all_named : (names : NameMap) (path mapped : Path) (k : ℕ) → length path ≤ k → mapped ≡ mapped_path names (take k path) → list_all is_name mapped ≡ true
+    → Some mapped ≡ cond (list_all is_name (mapped_path names path)) (Some (mapped_path names path)) None
+all_named names path mapped k long is named =
+    let whole : mapped ≡ mapped_path names path = is ∙ ap (mapped_path names) (take_all k path long) in
+    ap Some whole ∙ ap (λ (b : Bool). cond b (Some (mapped_path names path)) None) (sym (ap (list_all is_name) (sym whole) ∙ named))
 
 -- ---- paths in order
 

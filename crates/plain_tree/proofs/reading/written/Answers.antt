@@ -1,9 +1,20 @@
-use Rattle.std.proofs.Common.{◌≡◌, Some, None, ◌<◌, ◌++◌, drop, length, arith, ◌∙◌, sym, ap}
+use Rattle.std.proofs.Common.{◌≡◌, List, [], ℕ, Option, Some, None, ◌<◌, ◌++◌, drop, length, arith, ◌∙◌, refl, sym, ap}
 use Rattle.std.specs.Option.{option_map}
 use Rattle.std.proofs.lemmas.List.{length-drop, take_rest}
 use Rattle.plain_tree.specs.FirstByte.{first_written}
+use Rattle.plain_tree.specs.Reading.{written}
 use Rattle.plain_tree.proofs.Writing.{written-more, written-none}
 use Rattle.plain_tree.proofs.reading.written.Goals as goal
+
+before_all : (bytes : List ℕ) (all : Option (List ℕ)) → bytes ≡ [] → all ≡ option_map (λ rest. bytes ++ rest) all
+before_all bytes None none = refl
+before_all bytes (Some rest) none = ap (λ (b : List ℕ). Some (b ++ rest)) (sym none)
+
+pub loop-at-init : goal.loop-at-init
+loop-at-init c = before_all c.new-bytes.result.items (written c.args.text.now) c.new-bytes.ensures.items
+
+pub loop-at-smaller : goal.loop-at-smaller
+loop-at-smaller c = omega (arith, c.in-Some.ensures.within)
 
 pub loop-at-preserved : goal.loop-at-preserved
 loop-at-preserved c =

@@ -88,11 +88,11 @@ impl MemFolder {
         ensures err { OnErr result (state_of self.new ≡ state_of self.old) }
         ensures rest { KeepsRest self.old self.new }
     {
-        let step = Step::Put(at, Spot::FileNode(self.nodes.len()));
+        let number = self.nodes.len();
         self.steps.reserve(1)?;
         self.nodes.reserve(1)?;
         let _ = self.nodes.push(FileBytes::new(self.alloc));
-        let _ = self.steps.push(step);
+        let _ = self.steps.push(Step::Put(at, Spot::FileNode(number)));
         Ok(())
     }
 

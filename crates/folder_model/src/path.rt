@@ -1,5 +1,5 @@
 //! Folder paths.
-ghost use Rattle.std.specs.Prelude.{◌≡◌, ◌+◌, ◌<◌, [], ◌++◌, map, length, string_bytes, Some, None, is_some, IfOk, OnOk, MatchOption, ◌≢◌, IsTrue, IsFalse};
+ghost use Rattle.std.specs.Prelude.{◌≡◌, ◌+◌, ◌<◌, [], ◌∷◌, ◌++◌, map, length, string_bytes, Some, None, is_some, IfOk, OnOk, MatchOption, ◌≢◌, IsTrue, IsFalse};
 ghost use Rattle.std.specs.List.{list_all};
 ghost use Rattle.std.specs.Option.{option_map};
 ghost use Rattle.folder_spec.specs.Path.{Part, path_eq, below, parent, child};
@@ -68,11 +68,23 @@ fn is_text(text: &str) -> bool
     !text.is_empty() && text.len() <= 1024 && has_plain_bytes(text) && has_plain_parts(text)
 }
 
+/// Adds a copy of the text.
+pub(crate) fn push_text(
+    alloc: Global,
+    texts: &mut Vec<String>,
+    text: &str,
+) -> Result<(), AllocError>
+    ensures { OnOk result (map (λ s. string_bytes s) texts.new.items ≡ map (λ s. string_bytes s) texts.old.items ++ text.now ∷ []) }
+{
+    texts.push(String::from_str(alloc, text)?)?;
+    Ok(())
+}
+
 fn push_parts(alloc: Global, parts: &mut Vec<String>, more: &[String]) -> Result<(), AllocError>
     ensures { OnOk result (map (λ s. string_bytes s) parts.new.items ≡ map (λ s. string_bytes s) parts.old.items ++ map (λ s. string_bytes s) more.now) }
 {
     for part in more {
-        parts.push(String::from_str(alloc, part.as_str())?)?;
+        push_text(alloc, parts, part.as_str())?;
     }
     Ok(())
 }
@@ -90,7 +102,7 @@ fn split_parts(alloc: Global, text: &str) -> Result<Vec<String>, AllocError>
 {
     let mut parts = Vec::new(alloc);
     for part in text.split('/') {
-        parts.push(String::from_str(alloc, part)?)?;
+        push_text(alloc, &mut parts, part)?;
     }
     Ok(parts)
 }
@@ -208,7 +220,7 @@ impl FPath {
     {
         let alloc = *self.parts.allocator();
         let mut parts = copy_parts(alloc, self.parts.as_slice())?;
-        parts.push(String::from_str(alloc, part)?)?;
+        push_text(alloc, &mut parts, part)?;
         Ok(FPath { parts })
     }
 

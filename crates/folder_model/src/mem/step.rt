@@ -7,7 +7,7 @@ ghost use Rattle.folder_model.specs.Tables.{names_of};
 ghost use Rattle.folder_model.specs.Steps.{step_table, replay, looked_in, target, KeepsEntries, GainsEntry};
 
 use crate::mem::table::NameTable;
-use crate::path::FPath;
+use crate::path::{FPath, push_text};
 use folder_spec::Spot;
 use std::alloc::{AllocError, Global};
 
@@ -98,10 +98,10 @@ fn push_entry(
 ) -> Result<(), AllocError>
     ensures { OnOk result (GainsEntry step.now at.now (map (λ s. string_bytes s) found.old.items) (map (λ s. string_bytes s) found.new.items)) }
 {
-    if let Some(name) = made_entry(step, at) {
-        found.push(String::from_str(alloc, name)?)?;
+    match made_entry(step, at) {
+        Some(name) => push_text(alloc, found, name),
+        None => Ok(()),
     }
-    Ok(())
 }
 
 /// Names among which are those of all entries at the path after the steps.

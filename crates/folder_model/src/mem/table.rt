@@ -6,7 +6,7 @@ ghost use Rattle.folder_model.specs.Steps.{base_table, step_table, replay, table
 ghost use Rattle.folder_model.specs.Tables.{table_of, names_of, placed, HasParents, AddsName, AddsNames, MovesPath};
 
 use crate::mem::step::Step;
-use crate::path::FPath;
+use crate::path::{FPath, push_text};
 use folder_spec::Spot;
 use std::alloc::{AllocError, Global};
 use std::collections::BTreeMap;
@@ -45,10 +45,10 @@ fn add_name(
 ) -> Result<(), AllocError>
     ensures { OnOk result (AddsName path.now at.now (map (λ s. string_bytes s) found.old.items) (map (λ s. string_bytes s) found.new.items)) }
 {
-    if let Some(name) = path.entry_of(at) {
-        found.push(String::from_str(alloc, name)?)?;
+    match path.entry_of(at) {
+        Some(name) => push_text(alloc, found, name),
+        None => Ok(()),
     }
-    Ok(())
 }
 
 // Adds to the names those of the entries of the directory.
@@ -247,18 +247,6 @@ fn absorb_front(table: &mut NameTable, steps: &[Step]) -> usize
     done
 }
 
-fn drop_front(steps: &mut Vec<Step>, count: usize)
-    ensures { steps.new.items ≡ drop count steps.old.items }
-{
-    if steps.len() <= count {
-        steps.clear();
-        return;
-    }
-    for _step in 0..count {
-        let _ = steps.remove(0);
-    }
-}
-
 /// Does the steps, as many as there is memory for, and drops these.
 pub fn absorb_all(table: &mut NameTable, steps: &mut Vec<Step>)
     requires { (t : Table) → IsAmong t (names_of table.old ∷ tables_after (names_of table.old) steps.old.items) → HasParents t }
@@ -266,5 +254,5 @@ pub fn absorb_all(table: &mut NameTable, steps: &mut Vec<Step>)
     ensures tables { (t : Table) → IsAmong t (names_of table.new ∷ tables_after (names_of table.new) steps.new.items) → IsAmong t (names_of table.old ∷ tables_after (names_of table.old) steps.old.items) }
 {
     let done = absorb_front(table, steps.as_slice());
-    drop_front(steps, done);
+    steps.drain(..done);
 }

@@ -1,8 +1,14 @@
 -- All that `split` gives has been copied at the end.
-use Rattle.std.proofs.Common.{◌∙◌, lit<}
+use Rattle.std.proofs.Common.{◌∙◌, ◌++◌, ◌∷◌, [], List, ℕ, ap, lit<, sym}
+use Rattle.std.proofs.lemmas.List.{map-append}
 use Rattle.std.proofs.lemmas.Iterator.Consumers.{YieldsList-end, YieldsList-at}
 use Rattle.std.proofs.lemmas.Iterator.Splits.{YieldsList-from_str_split}
 use Rattle.folder_model.proofs.path.split_parts.Goals as goal
+
+pub loop-part-preserved : goal.loop-part-preserved
+loop-part-preserved c =
+    c.in_ok-push_text.ensures ∙ ap (λ (parts : List (List ℕ)). parts ++ c.in-Some.part.now ∷ []) c.loop-part.invariant
+    ∙ sym (map-append (λ x. x.now) c.loop-part.yielded (c.in-Some.part ∷ []))
 
 pub returns : goal.returns
 returns c =

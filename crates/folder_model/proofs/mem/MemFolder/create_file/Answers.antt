@@ -35,9 +35,9 @@ invariant_of-self-2 c =
     (was_pushed c.push.result (vec_capacity c.reserve-2.new.self) (vec_len c.reserve-2.new.self) c.push.ensures.full c.in_ok-reserve-2.ensures.ok)
     ∙ ap₂ (λ nodes node. nodes ++ node ∷ []) c.reserve-2.ensures.items c.new.ensures in
     let new_steps : c.push-2.new.self.items ≡ self.steps.items ++ Put c.args.at (FileNode (length self.nodes.items)) ∷ [] =
-    all_pushed c.push-2.result c.push-2.new.self.items c.reserve.new.self.items (Put c.args.at (FileNode c.len.result)) c.push-2.ensures.items
+    all_pushed c.push-2.result c.push-2.new.self.items c.reserve.new.self.items (Put c.args.at (FileNode c.len-number.result)) c.push-2.ensures.items
     (was_pushed c.push-2.result (vec_capacity c.reserve.new.self) (vec_len c.reserve.new.self) c.push-2.ensures.full c.in_ok-reserve.ensures.ok)
-    ∙ ap₂ (λ steps n. steps ++ Put c.args.at (FileNode n) ∷ []) c.reserve.ensures.items (c.len.ensures ∙ self.nodes.ok.0) in
+    ∙ ap₂ (λ steps n. steps ++ Put c.args.at (FileNode n) ∷ []) c.reserve.ensures.items (c.len-number.ensures ∙ self.nodes.ok.0) in
     let h : (self.kept ≤ length c.push-2.new.self.items) × KeepsFronts c.push.new.self.items × AreSoundTables (length c.push.new.self.items) (names_of self.base) c.push-2.new.self.items =
     created_holds self.nodes.items c.push.new.self.items (names_of self.base) self.steps.items c.push-2.new.self.items self.kept c.args.at new_nodes new_steps self.within self.fronts self.sound c.requires in
     record { within = h.0; fronts = h.1; sound = h.2 }
@@ -50,7 +50,7 @@ returns-clause-ok c =
     (was_pushed c.push.result (vec_capacity c.reserve-2.new.self) (vec_len c.reserve-2.new.self) c.push.ensures.full c.in_ok-reserve-2.ensures.ok)
     ∙ ap₂ (λ nodes node. nodes ++ node ∷ []) c.reserve-2.ensures.items c.new.ensures in
     let new_steps : c.push-2.new.self.items ≡ self.steps.items ++ Put c.args.at (FileNode (length self.nodes.items)) ∷ [] =
-    all_pushed c.push-2.result c.push-2.new.self.items c.reserve.new.self.items (Put c.args.at (FileNode c.len.result)) c.push-2.ensures.items
+    all_pushed c.push-2.result c.push-2.new.self.items c.reserve.new.self.items (Put c.args.at (FileNode c.len-number.result)) c.push-2.ensures.items
     (was_pushed c.push-2.result (vec_capacity c.reserve.new.self) (vec_len c.reserve.new.self) c.push-2.ensures.full c.in_ok-reserve.ensures.ok)
-    ∙ ap₂ (λ steps n. steps ++ Put c.args.at (FileNode n) ∷ []) c.reserve.ensures.items (c.len.ensures ∙ self.nodes.ok.0) in
+    ∙ ap₂ (λ steps n. steps ++ Put c.args.at (FileNode n) ∷ []) c.reserve.ensures.items (c.len-number.ensures ∙ self.nodes.ok.0) in
     ap₂ (λ nodes steps. state_from nodes (names_of self.base) steps self.kept) new_nodes new_steps ∙ created self.nodes.items (names_of self.base) self.steps.items self.kept c.args.at self.within

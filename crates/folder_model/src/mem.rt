@@ -53,9 +53,9 @@ fn front_of(bytes: &[u8], count: u64) -> &[u8]
 }
 
 impl MemFolder {
-    ghost use Rattle.std.specs.Prelude.{◌≡◌, ◌↔◌, ◌+◌, ◌++◌, Some, true, min, length, vec_len, vec_capacity, IfOk, OnOk, OnErr, IsTrue, [], ◌∷◌};
+    ghost use Rattle.std.specs.Prelude.{◌≡◌, ◌↔◌, ℕ, ◌+◌, ◌++◌, None, Some, min, length, vec_len, vec_capacity, IfOk, OnOk, OnErr, IsTrue, [], ◌∷◌};
     ghost use Rattle.folder_spec.specs.State.{present, HasFile, IsSound};
-    ghost use Rattle.folder_spec.specs.Event.{IsFree, IsEmptyDir, Allowed, AllowedIn, with_table, changed, Create, Settle, Append, Sync, Rename, RemoveDir, Steps, fallen, piece_of};
+    ghost use Rattle.folder_spec.specs.Event.{IsFree, IsEmptyDir, Allowed, AllowedIn, with_table, changed, Create, Settle, Append, Sync, Rename, RemoveDir, Steps, fallen, outcome_state, piece_of};
     ghost use Rattle.folder_spec.specs.View.{Folder, kind_found};
     ghost use Rattle.folder_spec.specs.Seen.{seen, ShowsFile};
     ghost use Rattle.folder_spec.specs.Listing.{IsListing};
@@ -314,22 +314,30 @@ impl MemFolder {
         }
     }
 
-    // Fails a call that is allowed, and that there is room to log.
-    fn fall(&mut self, call: Call, added: u64) -> Result<(), FolderFault>
-        requires allowed { Allowed (state_of self.old) (call_of call) }
-        requires room { vec_len self.old.log + 1 ≤ vec_capacity self.old.log }
-        ensures answer { FailsAs true result }
-        ensures changes { Steps (call_of call) (told_of self.old) (told_of self.new) result }
-        ensures added { FellBy added (call_of call) (told_of self.old) (told_of self.new) result }
-        ensures counts { Counts (Some (told_of self.old)) self.old.faults self.new.faults result }
+    // Makes room to log a call, and does it, refuses it or lets it fail. Of a call that wants memory
+    // nothing is done.
+    fn outcome(&mut self, call: &Call, due: Option<u64>) -> Result<Outcome, AllocError>
+        ensures room { IfOk result (λ outcome. vec_len self.new.log + 1 ≤ vec_capacity self.new.log) }
+        ensures done { IfOk result (λ outcome. outcome ≡ Outcome.Done → (due ≡ None) × Allowed (state_of self.old) (call_of call.now)) }
+        ensures failed { IfOk result (λ outcome. (n : ℕ) → outcome ≡ Outcome.Failed n → (added : ℕ) × (due ≡ Some added) × Allowed (state_of self.old) (call_of call.now) × (n ≡ min added (length (piece_of (call_of call.now))))) }
+        ensures refused { IfOk result (λ outcome. outcome ≡ Outcome.Refused → ¬ Allowed (state_of self.old) (call_of call.now)) }
+        ensures ok { IfOk result (λ outcome. state_of self.new ≡ outcome_state (state_of self.old) (call_of call.now) (outcome_of outcome)) }
+        ensures err { OnErr result (state_of self.new ≡ state_of self.old) }
+        ensures log { self.new.log.items ≡ self.old.log.items }
+        ensures faults { self.new.faults ≡ self.old.faults }
         ensures plan { plan_of self.new ≡ plan_of self.old }
     {
-        let Ok(added) = self.add_front(&call, added) else {
-            return Err(FolderFault::NoMemory);
-        };
-        self.count_fault();
-        self.note(call, Outcome::Failed(added));
-        Err(FolderFault::Failed)
+        self.log.reserve(1)?;
+        if !self.allows(call)? {
+            return Ok(Outcome::Refused);
+        }
+        match due {
+            Some(added) => Ok(Outcome::Failed(self.add_front(call, added)?)),
+            None => {
+                self.apply(call)?;
+                Ok(Outcome::Done)
+            }
+        }
     }
 
     // Answers a call that changes the folder. It does all of the change or nothing of it, but for
@@ -342,24 +350,22 @@ impl MemFolder {
         ensures due { FailsAs (change_fails_next (plan_of self.old)) result }
     {
         let due = self.change_due();
-        if self.log.reserve(1).is_err() {
-            return Err(FolderFault::NoMemory);
+        match self.outcome(&call, due) {
+            Ok(Outcome::Done) => {
+                self.note(call, Outcome::Done);
+                Ok(())
+            }
+            Ok(Outcome::Failed(added)) => {
+                self.note(call, Outcome::Failed(added));
+                self.count_fault();
+                Err(FolderFault::Failed)
+            }
+            Ok(Outcome::Refused) => {
+                self.note(call, Outcome::Refused);
+                Err(FolderFault::Refused)
+            }
+            Err(_) => Err(FolderFault::NoMemory),
         }
-        let Ok(allowed) = self.allows(&call) else {
-            return Err(FolderFault::NoMemory);
-        };
-        if !allowed {
-            self.note(call, Outcome::Refused);
-            return Err(FolderFault::Refused);
-        }
-        if let Some(added) = due {
-            return self.fall(call, added);
-        }
-        if self.apply(&call).is_err() {
-            return Err(FolderFault::NoMemory);
-        }
-        self.note(call, Outcome::Done);
-        Ok(())
     }
 
     fn may_remove_dir(&self, at: &FPath) -> Result<bool, AllocError>

@@ -36,10 +36,10 @@ impl fmt::Display for ChunkFault {
 
     fn fmt<W: fmt::Write>(&self, f: &mut fmt::Formatter<W>) -> fmt::Result {
         match self {
-            ChunkFault::NoHeader => write!(f, "no header"),
+            ChunkFault::NoHeader => f.write_str("no header"),
             ChunkFault::HeaderVersion(version) => write!(f, "header version {version}"),
-            ChunkFault::ZeroId => write!(f, "zero file id"),
-            ChunkFault::HeaderTag => write!(f, "header tag"),
+            ChunkFault::ZeroId => f.write_str("zero file id"),
+            ChunkFault::HeaderTag => f.write_str("header tag"),
             ChunkFault::ShortChunk(number) => write!(f, "chunk {number} short"),
             ChunkFault::ZeroNonce(number) => write!(f, "chunk {number} zero nonce"),
             ChunkFault::ChunkTag(number) => write!(f, "chunk {number} tag"),

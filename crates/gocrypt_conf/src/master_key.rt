@@ -1,6 +1,6 @@
 // The master key, sealed for the configuration.
 
-ghost use Rattle.std.specs.Prelude.{◌≡◌, ◌≢◌, ℕ, List, take, IfOk, OnErr};
+ghost use Rattle.std.specs.Prelude.{◌≡◌, ◌≢◌, ◌++◌, ℕ, List, take, IfOk, OnErr};
 ghost use Rattle.gocrypt_conf.specs.MasterKey.{sealed_key};
 
 use aes_lanes::Key256;
@@ -16,12 +16,19 @@ pub(crate) fn seal_master(key: &[u8; 32], nonce: &[u8; 16], master: &[u8; 32]) -
 {
     let mut text = *master;
     let tag = Gcm::new(Key256::new(key)).seal(nonce, ASSOCIATED_DATA, &mut text);
+    joined(nonce, &text, &tag)
+}
+
+// The three parts, one after the other.
+fn joined(nonce: &[u8; 16], text: &[u8; 32], tag: &[u8; 16]) -> [u8; 64]
+    ensures { result ≡ nonce.now ++ text.now ++ tag.now }
+{
     let mut bytes = [0; 64];
     let (front, last) = bytes.split_at_mut(48);
     let (first, middle) = front.split_at_mut(16);
     first.copy_from_slice(nonce);
-    middle.copy_from_slice(&text);
-    last.copy_from_slice(&tag);
+    middle.copy_from_slice(text);
+    last.copy_from_slice(tag);
     bytes
 }
 

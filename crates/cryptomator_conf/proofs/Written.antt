@@ -1,14 +1,14 @@
 -- The text of `masterkey.cryptomator`, as what is written for its value.
-use Rattle.std.proofs.Common.{◌≡◌, ℕ, List, ◌++◌, false, codes, decimal, refl, ◌∙◌, append_assoc}
+use Rattle.std.proofs.Common.{◌≡◌, ℕ, List, ◌++◌, codes, decimal, refl, sym, ◌∙◌, append_assoc}
 use Rattle.std.specs.Fmt.{digits}
 use Rattle.json.specs.Print.{escape, escape_byte}
 use Rattle.base64.specs.GeneralPurpose.{IsBytes}
-use Rattle.json_fields.specs.declared.base64_text.Alphabet.TheVariants.{Standard}
+use Rattle.json_fields.specs.declared.base64_text.Alphabet.TheVariants.{Standard, UrlSafe}
 use Rattle.json_fields.specs.Base64.{encoded_by}
-use Rattle.serde_json.specs.Data.{Data}
-use Rattle.serde_json.specs.Written.{compact_text, has_float}
+use Rattle.serde_json.specs.Written.{compact_text}
+use Rattle.cryptomator_conf.specs.declared.conf.Combo.{Combo}
 use Rattle.cryptomator_conf.specs.declared.conf.MasterFile.{MasterFile}
-use Rattle.cryptomator_conf.specs.Text.{master_text}
+use Rattle.cryptomator_conf.specs.Text.{master_text, header_text, payload_text, signed_text}
 use Rattle.cryptomator_conf.specs.Value.{master_data}
 
 -- base64 stands in a JSON string as it is
@@ -34,11 +34,26 @@ compact_text-master_data file tag plain hmac primary salt bytes =
     (codes "{\"hmacMasterKey\":\"") (codes ",\"primaryMasterKey\":\"") (codes ",\"scryptBlockSize\":") (codes ",\"scryptCostParam\":") (codes ",\"scryptSalt\":\"")
     (codes ",\"version\":999,\"versionMac\":\"") (codes "}"))
 
--- what is written for the value is the text
-pub text_of_master : (file : MasterFile) (tag text hmac primary salt tag_text : List ℕ) (n r : ℕ) (value : Data) → IsPlain → IsBytes file.hmac → IsBytes file.primary → IsBytes file.salt → IsBytes tag
-    → (has_float value ≡ false → text ≡ compact_text value) → value ≡ master_data hmac primary r n salt tag_text
-    → hmac ≡ encoded_by Standard file.hmac → primary ≡ encoded_by Standard file.primary → r ≡ file.cost.r → n ≡ file.cost.n → salt ≡ encoded_by Standard file.salt → tag_text ≡ encoded_by Standard tag
+-- the parts of the text, as they are written one by one
+row : (hmac primary r n salt tag a b c d e f g : List ℕ)
+    → (a ++ (hmac ++ (b ++ (primary ++ (c ++ (r ++ (d ++ (n ++ (e ++ (salt ++ (f ++ tag))))))))))) ++ g
+    ≡ a ++ hmac ++ b ++ primary ++ c ++ r ++ d ++ n ++ e ++ salt ++ f ++ tag ++ g
+row hmac primary r n salt tag a b c d e f g = simp append_assoc refl
+
+pub text_of_parts : (file : MasterFile) (tag text : List ℕ)
+    → text ≡ (codes "{\"hmacMasterKey\":\"" ++ (encoded_by Standard file.hmac ++ (codes "\",\"primaryMasterKey\":\"" ++ (encoded_by Standard file.primary
+    ++ (codes "\",\"scryptBlockSize\":" ++ (decimal file.cost.r ++ (codes ",\"scryptCostParam\":" ++ (decimal file.cost.n
+    ++ (codes ",\"scryptSalt\":\"" ++ (encoded_by Standard file.salt ++ (codes "\",\"version\":999,\"versionMac\":\"" ++ encoded_by Standard tag))))))))))) ++ codes "\"}"
     → text ≡ master_text file tag
-text_of_master file tag text hmac primary salt tag_text n r value plain hmac_bytes primary_bytes salt_bytes tag_bytes written is is_hmac is_primary is_r is_n is_salt is_tag =
-    let no_float : has_float value ≡ false = rw is refl in
-    written no_float ∙ rw (is, is_hmac, is_primary, is_r, is_n, is_salt, is_tag) (compact_text-master_data file tag plain hmac_bytes primary_bytes salt_bytes tag_bytes)
+unfolding master_text
+text_of_parts file tag text written =
+    written
+    ∙ row (encoded_by Standard file.hmac) (encoded_by Standard file.primary) (decimal file.cost.r) (decimal file.cost.n) (encoded_by Standard file.salt) (encoded_by Standard tag)
+    (codes "{\"hmacMasterKey\":\"") (codes "\",\"primaryMasterKey\":\"") (codes "\",\"scryptBlockSize\":") (codes ",\"scryptCostParam\":") (codes ",\"scryptSalt\":\"")
+    (codes "\",\"version\":999,\"versionMac\":\"") (codes "\"}")
+
+-- what is signed, as its parts are written one by one
+pub signed_in_parts : (combo : Combo) (id : List ℕ)
+    → encoded_by UrlSafe header_text ++ (codes "." ++ encoded_by UrlSafe (payload_text combo id)) ≡ signed_text combo id
+unfolding signed_text
+signed_in_parts combo id = sym (append_assoc (encoded_by UrlSafe header_text) (codes ".") (encoded_by UrlSafe (payload_text combo id)))

@@ -1,19 +1,16 @@
 //! The texts of new configuration files.
 
 ghost use Rattle.std.specs.Prelude.{◌≡◌, IfOk, string_bytes};
-ghost use Rattle.serde_json.specs.View.{view};
 ghost use Rattle.cryptomator_conf.specs.Text.{made_master, master_text, payload_text, signed_text, vault_text, version_mac, version_bytes};
-ghost use Rattle.cryptomator_conf.specs.Value.{master_data};
 
 use crate::conf::{CmDraw, CmFiles, Combo};
 use crate::keys::wrapping_key;
 use crate::signing::signing_key;
 use aes_lanes::Key256;
+use base64::display::Base64Display;
 use base64::engine::general_purpose::{STANDARD, URL_SAFE_NO_PAD};
-use json_fields::laws::base64_is_plain;
 use kdf_suite::{ScryptCost, hmac256};
 use key_wrap::wrap_key;
-use serde_json::{Value, json};
 use std::alloc::{AllocError, Global};
 use text_model::Bytes;
 use vault_keys::{CmKeys, id_text};
@@ -74,7 +71,7 @@ fn one_part(cost: &ScryptCost) -> ScryptCost
     }
 }
 
-// The text of `masterkey.cryptomator`, with the tag of its version.
+// The text of `masterkey.cryptomator`, with the tag of its version. Base64 stands in a JSON string as it is.
 fn master_text(
     alloc: Global,
     cost: &ScryptCost,
@@ -86,36 +83,16 @@ fn master_text(
     ensures { IfOk result (λ text. string_bytes text
         ≡ master_text (record { salt = salt.now; cost = cost.now; primary = primary.now; hmac = hmac.now }) tag.now) }
 {
-    base64_is_plain();
-    let hmac = STANDARD.encode(alloc, hmac)?;
-    let primary = STANDARD.encode(alloc, primary)?;
-    let salt = STANDARD.encode(alloc, salt)?;
-    let tag = STANDARD.encode(alloc, tag)?;
-    let object = master_object(alloc, hmac, primary, cost.r(), cost.n(), salt, tag)?;
-    object.to_string(alloc)
-}
-
-fn master_object(
-    alloc: Global,
-    hmac: String,
-    primary: String,
-    r: u64,
-    n: u64,
-    salt: String,
-    tag: String,
-) -> Result<Value, AllocError>
-    ensures { IfOk result (λ object. view object
-        ≡ master_data (string_bytes hmac) (string_bytes primary) r n (string_bytes salt) (string_bytes tag)) }
-{
-    json!(in alloc; {
-        "hmacMasterKey": hmac,
-        "primaryMasterKey": primary,
-        "scryptBlockSize": r,
-        "scryptCostParam": n,
-        "scryptSalt": salt,
-        "version": 999u64,
-        "versionMac": tag
-    })
+    let hmac = Base64Display::new(hmac, &STANDARD);
+    let primary = Base64Display::new(primary, &STANDARD);
+    let salt = Base64Display::new(salt, &STANDARD);
+    let tag = Base64Display::new(tag, &STANDARD);
+    let (r, n) = (cost.r(), cost.n());
+    format!(in alloc;
+        "{{\"hmacMasterKey\":\"{hmac}\",\"primaryMasterKey\":\"{primary}\",\
+         \"scryptBlockSize\":{r},\"scryptCostParam\":{n},\"scryptSalt\":\"{salt}\",\
+         \"version\":999,\"versionMac\":\"{tag}\"}}"
+    )
 }
 
 // The text of `vault.cryptomator`.
@@ -136,15 +113,13 @@ fn vault_text(alloc: Global, combo: Combo, drawn: &CmDraw) -> Result<String, All
 }
 
 // What is signed: the two objects, with a dot between them.
-#[tactic(auto, unfolding(crate::specs::Text::signed_text))]
 fn signed_text(alloc: Global, combo: Combo, id: &str) -> Result<String, AllocError>
     ensures { IfOk result (λ text. string_bytes text ≡ signed_text combo id.now) }
 {
     let payload = payload_text(alloc, combo, id)?;
-    let mut text = URL_SAFE_NO_PAD.encode(alloc, HEADER.as_bytes())?;
-    text.push_str(".")?;
-    URL_SAFE_NO_PAD.encode_string(payload.as_bytes(), &mut text)?;
-    Ok(text)
+    let header = Base64Display::new(HEADER.as_bytes(), &URL_SAFE_NO_PAD);
+    let payload = Base64Display::new(payload.as_bytes(), &URL_SAFE_NO_PAD);
+    format!(in alloc; "{header}.{payload}")
 }
 
 // The text of the token's second object.

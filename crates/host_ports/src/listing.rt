@@ -34,13 +34,20 @@ fn add_found(
 ) -> Result<(), Cause>
     ensures { IsErr found → IsErr result }
 {
-    let entry = found.map_err(|error| unlisted(&error))?;
-    let stands = entry.file_type().map_err(|error| cause_of(&error))?;
-    let name = String::from_str(alloc, entry.file_name())?;
-    match entries.push(Entry::new(name, kind_of(stands))) {
+    match entries.push(entry_of(alloc, found)?) {
         Ok(()) => Ok(()),
         Err(_) => Err(Cause::NoMemory),
     }
+}
+
+// An entry that was found.
+fn entry_of(alloc: Global, found: io::Result<DirEntry<HostRuntime, Global>>) -> Result<Entry, Cause>
+    ensures { IsErr found → IsErr result }
+{
+    let entry = found.map_err(|error| unlisted(&error))?;
+    let stands = entry.file_type().map_err(|error| cause_of(&error))?;
+    let name = String::from_str(alloc, entry.file_name())?;
+    Ok(Entry::new(name, kind_of(stands)))
 }
 
 // Why an entry isn't listed. A name that isn't UTF-8 is found as an error.

@@ -1,6 +1,6 @@
 //! Where the paths of a folder stand on the machine, and what stands there.
 
-ghost use Rattle.std.specs.Prelude.{◌≡◌, ◌==◌, ◌||◌, not, map, IfOk, IfSome, IsSome, IsTrue, OnOk, string_bytes};
+ghost use Rattle.std.specs.Prelude.{◌≡◌, ◌∷◌, ◌++◌, ◌==◌, ◌||◌, not, map, IfOk, IfSome, IsSome, IsTrue, OnOk, string_bytes};
 ghost use Rattle.std.specs.List.{list_all};
 ghost use Rattle.folder_model.specs.Text.{is_plain_part};
 ghost use Rattle.folder_spec.specs.Path.{parent};
@@ -102,10 +102,17 @@ pub fn text_of(alloc: Global, base: &str, parts: &[String]) -> Result<String, Al
 {
     let mut text = String::from_str(alloc, base)?;
     for part in parts {
-        text.push_str("/")?;
-        text.push_str(part.as_str())?;
+        add_part(&mut text, part.as_str())?;
     }
     Ok(text)
+}
+
+// Adds a part behind a slash.
+fn add_part(text: &mut String, part: &str) -> Result<(), AllocError>
+    ensures { OnOk result (string_bytes text.new ≡ string_bytes text.old ++ 47 ∷ part.now) }
+{
+    text.push_str("/")?;
+    text.push_str(part)
 }
 
 // The first of these parts, at most so many.
@@ -134,8 +141,7 @@ fn walk(
     let mut text = String::from_str(alloc, base)?;
     for (index, part) in dir.parts().iter().enumerate() {
         here = here.child(part.as_str())?;
-        text.push_str("/")?;
-        text.push_str(part.as_str())?;
+        add_part(&mut text, part.as_str())?;
         if !noted.knows(&here) && !is_directory(rt, text.as_str())? {
             return Ok(Walked {
                 looked: index.saturating_add(1),

@@ -81,11 +81,9 @@ impl SignOfLife {
         let read = self.read / MEGABYTE;
         let written = self.written / MEGABYTE;
         let seconds = since.as_secs();
-        let mut line = String::from_str(alloc, CLEAR)?;
-        line.push_str(format!(in alloc; "{placed} files placed, ")?.as_str())?;
-        line.push_str(format!(in alloc; "{read} MB read, {written} MB written, ")?.as_str())?;
-        line.push_str(format!(in alloc; "{seconds} s")?.as_str())?;
-        Ok(line)
+        format!(in alloc;
+            "{CLEAR}{placed} files placed, {read} MB read, {written} MB written, {seconds} s"
+        )
     }
 
     /// Takes the line off the terminal, before anything else is printed.

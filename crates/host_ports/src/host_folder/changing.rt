@@ -22,6 +22,27 @@ const FILE_MODE: u32 = 0o600;
 
 const DIRECTORY_MODE: u32 = 0o700;
 
+// Makes a directory.
+fn create_dir(rt: &HostRuntime, text: &str) -> Result<(), Cause> {
+    let mut builder = DirBuilder::new();
+    builder.mode(DIRECTORY_MODE);
+    builder.create(rt, text).map_err(|error| cause_of(&error))
+}
+
+// Makes a file, and opens it at its end.
+fn create_file(rt: &HostRuntime, text: &str) -> Result<fs::File, Cause> {
+    let mut options = OpenOptions::new();
+    options.append(true).create_new(true).mode(FILE_MODE);
+    options.open(rt, text).map_err(|error| cause_of(&error))
+}
+
+// Opens a file at its end.
+fn open_to_append(rt: &HostRuntime, text: &str) -> Result<fs::File, Cause> {
+    let mut options = OpenOptions::new();
+    options.append(true);
+    options.open(rt, text).map_err(|error| cause_of(&error))
+}
+
 #[tactic(auto, using(crate::proofs::Dirs::sees_same, crate::proofs::Dirs::sees_after))]
 impl HostFolder {
     // Notes that the directory above a path changes.
@@ -68,12 +89,8 @@ impl HostFolder {
         ensures faults { self.new.faults ≡ self.old.faults }
     {
         let text = self.make_room(at)?;
-        let mut builder = DirBuilder::new();
-        builder.mode(DIRECTORY_MODE);
         self.forget_below(at);
-        builder
-            .create(&self.rt, text.as_str())
-            .map_err(|error| cause_of(&error))?;
+        create_dir(&self.rt, text.as_str())?;
         self.claims
             .hold_made(&self.rt, self.alloc, self.base.as_str(), at)?;
         self.keep_new_dir(at);
@@ -98,12 +115,8 @@ impl HostFolder {
     {
         let text = self.make_room(at)?;
         let copy = at.copy()?;
-        let mut options = OpenOptions::new();
-        options.append(true).create_new(true).mode(FILE_MODE);
         self.forget_below(at);
-        let file = options
-            .open(&self.rt, text.as_str())
-            .map_err(|error| cause_of(&error))?;
+        let file = create_file(&self.rt, text.as_str())?;
         self.kinds.learn(at, Kind::File);
         self.keep_made(copy, file);
         Ok(())
@@ -133,14 +146,18 @@ impl HostFolder {
         if let Some(made) = self.handles.made_at(at) {
             return put(&mut &made.file, piece);
         }
+        put(&mut self.opened_to_grow(at)?, piece)
+    }
+
+    // A file that may be changed, opened at its end.
+    fn opened_to_grow(&mut self, at: &FPath) -> Result<fs::File, Cause>
+        ensures looks { LooksAt at.now self.old.dirs self.new.dirs result }
+        ensures bar { HeedsBar Cause.Held self.old self.new result }
+        ensures faults { self.new.faults ≡ self.old.faults }
+    {
         self.may_change(at)?;
         let text = self.place_of(at, Kind::File)?;
-        let mut options = OpenOptions::new();
-        options.append(true);
-        let mut file = options
-            .open(&self.rt, text.as_str())
-            .map_err(|error| cause_of(&error))?;
-        put(&mut file, piece)
+        open_to_append(&self.rt, text.as_str())
     }
 
     pub(super) fn remove_file_now(&mut self, at: &FPath) -> Result<(), Cause>

@@ -142,13 +142,22 @@ impl HostFolder {
         if let Some(opened) = self.handles.read.open_at(at) {
             return fill_from(&opened.file, start, out);
         }
-        let text = self.place_of(at, Kind::File)?;
-        let opened = Opened {
-            at: at.copy()?,
-            file: fs::open(&self.rt, text.as_str()).map_err(|error| cause_of(&error))?,
-        };
+        let opened = self.opened(at)?;
         let answer = fill_from(&opened.file, start, out);
         self.handles.read.keep(opened);
         answer
+    }
+
+    // A file, opened to be read.
+    fn opened(&mut self, at: &FPath) -> Result<Opened, Cause>
+        ensures looks { LooksAt at.now self.old.dirs self.new.dirs result }
+        ensures bar { self.new.barred ≡ self.old.barred }
+        ensures faults { self.new.faults ≡ self.old.faults }
+    {
+        let text = self.place_of(at, Kind::File)?;
+        Ok(Opened {
+            at: at.copy()?,
+            file: fs::open(&self.rt, text.as_str()).map_err(|error| cause_of(&error))?,
+        })
     }
 }

@@ -1,5 +1,5 @@
 -- Base32 of four groups, and its characters.
-use Rattle.std.proofs.Common.{◌≡◌, ℕ, zero, suc, ◌*◌, ◌/◌, ◌%◌, ◌<◌, true, List, [], ◌∷◌, ◌++◌, length, length-append, map, take, drop, get_or, flat_map, refl, sym, ap, ◌∙◌, arith, lit<, append-nil}
+use Rattle.std.proofs.Common.{◌≡◌, ℕ, zero, suc, ◌*◌, ◌/◌, ◌%◌, ◌<◌, true, List, [], ◌∷◌, ◌++◌, length, length-append, map, take, drop, get_or, flat_map, refl, sym, ap, ◌∙◌, arith, lit<, append-nil, append_assoc}
 use Rattle.std.specs.Simd.{first_chunks}
 use Rattle.std.specs.Str.{IsAscii, IsUtf8}
 use Rattle.std.specs.List.{list_all}
@@ -10,11 +10,11 @@ use Rattle.std.proofs.lemmas.Str.{IsUtf8-from_ascii}
 use Rattle.vault_names.proofs.Blocks.{length-first_chunks}
 use Rattle.vault_names.specs.Base32.{base32, group_text, is_base32, number_of, symbol}
 
-joined : (a b c d : List ℕ) → a ++ (b ++ (c ++ d)) ≡ a ++ (b ++ (c ++ (d ++ [])))
-joined a b c d = ap (λ e. a ++ (b ++ (c ++ e))) (sym (append-nil d))
+joined : (a b c d : List ℕ) → a ++ b ++ c ++ d ≡ a ++ (b ++ (c ++ (d ++ [])))
+joined a b c d = simp (append_assoc, append-nil) refl
 
 pub base32-groups : (hash : List ℕ) (groups : List (List ℕ)) → length hash ≡ 20 → groups ≡ first_chunks 5 (length hash / 5) hash
-    → group_text (get_or groups 0 []) ++ (group_text (get_or groups 1 []) ++ (group_text (get_or groups 2 []) ++ group_text (get_or groups 3 []))) ≡ base32 hash
+    → group_text (get_or groups 0 []) ++ group_text (get_or groups 1 []) ++ group_text (get_or groups 2 []) ++ group_text (get_or groups 3 []) ≡ base32 hash
 unfolding base32
 base32-groups hash groups size is =
     let four : length hash / 5 ≡ 4 = omega (arith, size) in

@@ -1,5 +1,5 @@
 //! Base32 (RFC 4648, section 6) of hashes of twenty bytes.
-ghost use Rattle.std.specs.Prelude.{◌≡◌, ◌<◌};
+ghost use Rattle.std.specs.Prelude.{◌≡◌, ◌<◌, ◌++◌};
 ghost use Rattle.vault_names.specs.Base32.{base32, group_text, number_of, symbol};
 
 /// The base32 text of a hash. It takes no memory.
@@ -7,14 +7,26 @@ pub fn base32_of(hash: &[u8; 20]) -> [u8; 32]
     ensures { result ≡ base32 hash.now }
 {
     let (groups, _) = hash.as_chunks::<5>();
+    joined(
+        &group_text(&groups[0]),
+        &group_text(&groups[1]),
+        &group_text(&groups[2]),
+        &group_text(&groups[3]),
+    )
+}
+
+// Four texts, one after the other.
+fn joined(one: &[u8; 8], two: &[u8; 8], three: &[u8; 8], four: &[u8; 8]) -> [u8; 32]
+    ensures { result ≡ one.now ++ two.now ++ three.now ++ four.now }
+{
     let mut text = [0; 32];
     let (first, rest) = text.split_at_mut(8);
     let (second, rest) = rest.split_at_mut(8);
     let (third, fourth) = rest.split_at_mut(8);
-    first.copy_from_slice(&group_text(&groups[0]));
-    second.copy_from_slice(&group_text(&groups[1]));
-    third.copy_from_slice(&group_text(&groups[2]));
-    fourth.copy_from_slice(&group_text(&groups[3]));
+    first.copy_from_slice(one);
+    second.copy_from_slice(two);
+    third.copy_from_slice(three);
+    fourth.copy_from_slice(four);
     text
 }
 

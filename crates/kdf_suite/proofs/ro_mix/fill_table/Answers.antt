@@ -13,9 +13,3 @@ rows-preserved c = record {
   table = rw c.in_ok-extend_from_slice.ensures.items (IsTable-more _ _ _ _ c.rows.x (omega (arith, c.rows.auto.x, c.requires.x)) c.rows.invariant.mixed c.rows.invariant.table);
   mixed = rw add-one (c.copy_from_slice.ensures.after ∙ c.block_mix.ensures ∙ ap (block_mix c.args.r) c.rows.invariant.mixed);
 }
-
-pub overflow_mul-r : goal.overflow_mul-r
-overflow_mul-r c = omega (arith, c.requires.x)
-
-pub overflow_mul-r-2 : goal.overflow_mul-r-2
-overflow_mul-r-2 c = omega (arith, c.requires.fits)

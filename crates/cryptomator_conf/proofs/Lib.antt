@@ -5,5 +5,6 @@ mod Passphrase
 mod ReadBack
 mod Sizes
 mod Trimmed
+mod Value
 mod VaultReadBack
 mod Written

@@ -31,7 +31,7 @@ use Rattle.cryptomator_conf.specs.declared.conf.MasterFile.{MasterFile}
 use Rattle.cryptomator_conf.specs.declared.fault.CmConfFault.{CmConfFault}
 use Rattle.cryptomator_conf.specs.Master.{MasterFields, Checks, ReadsMaster, master_fields_of, master_fields_in}
 use Rattle.cryptomator_conf.specs.Text.{master_text}
-use Rattle.cryptomator_conf.specs.Value.{master_data}
+use Rattle.cryptomator_conf.proofs.Value.{master_data}
 use Rattle.cryptomator_conf.proofs.Written.{IsPlain, compact_text-master_data}
 
 -- what is written for a value reads as the value

@@ -31,7 +31,7 @@ use Rattle.cryptomator_conf.specs.Laws.{made_vault}
 use Rattle.kdf_suite.specs.Hmac.{hmac_sha256}
 use Rattle.cryptomator_conf.specs.Signature.{signature_of}
 use Rattle.cryptomator_conf.specs.Text.{keys_of, header_text, payload_text, signed_text, vault_text}
-use Rattle.cryptomator_conf.specs.Value.{header_data, payload_data}
+use Rattle.cryptomator_conf.proofs.Value.{header_data, payload_data}
 use Rattle.cryptomator_conf.specs.Vault.{after, settings_of, vault_fields_of, vault_in, vault_of}
 use Rattle.cryptomator_conf.proofs.Dots.{parts-joined}
 use Rattle.cryptomator_conf.proofs.IdText.{escape-id, utf8-id, bytes-id}

@@ -9,7 +9,7 @@ use Rattle.serde_json.specs.Written.{compact_text}
 use Rattle.cryptomator_conf.specs.declared.conf.Combo.{Combo}
 use Rattle.cryptomator_conf.specs.declared.conf.MasterFile.{MasterFile}
 use Rattle.cryptomator_conf.specs.Text.{master_text, header_text, payload_text, signed_text}
-use Rattle.cryptomator_conf.specs.Value.{master_data}
+use Rattle.cryptomator_conf.proofs.Value.{master_data}
 
 -- base64 stands in a JSON string as it is
 abbrev pub IsPlain : Type 0

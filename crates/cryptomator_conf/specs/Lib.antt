@@ -8,5 +8,4 @@ pub mod Vault
 pub mod Signature
 pub mod Text
 pub mod Laws
-pub mod Value
 pub mod Views

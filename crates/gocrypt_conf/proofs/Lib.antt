@@ -3,4 +3,5 @@ mod OneAnswer
 mod ReadBack
 mod SealedBytes
 mod Sealing
+mod Value
 mod Written

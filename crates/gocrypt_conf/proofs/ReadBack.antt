@@ -32,7 +32,7 @@ use Rattle.gocrypt_conf.specs.Text.{text_with, conf_text, made_conf}
 use Rattle.gocrypt_conf.specs.Keys.{unlocking_key}
 use Rattle.gocrypt_conf.specs.MasterKey.{sealed_key}
 use Rattle.gocrypt_conf.specs.Laws.{MadeTextReturns}
-use Rattle.gocrypt_conf.specs.Value.{conf_data, scrypt_data}
+use Rattle.gocrypt_conf.proofs.Value.{conf_data, scrypt_data}
 use Rattle.gocrypt_conf.proofs.Checked.{all_passed}
 use Rattle.json_fields.proofs.Objects.{object_in}
 use Rattle.gocrypt_conf.proofs.Sealing.{HasTags, nonce_first}

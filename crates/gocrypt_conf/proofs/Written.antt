@@ -6,7 +6,7 @@ use Rattle.base64.specs.Engines.{standard}
 use Rattle.base64.specs.GeneralPurpose.{encode_of, IsBytes}
 use Rattle.serde_json.specs.Written.{compact_text}
 use Rattle.gocrypt_conf.specs.Text.{text_with}
-use Rattle.gocrypt_conf.specs.Value.{conf_data, scrypt_data}
+use Rattle.gocrypt_conf.proofs.Value.{conf_data, scrypt_data}
 
 decimal-2 : decimal 2 ≡ codes "2"
 unfolding digits

@@ -7,4 +7,3 @@ pub mod Tests
 pub mod Text
 pub mod Laws
 pub mod Views
-pub mod Value

@@ -1,4 +1,4 @@
--- The JSON values of configurations that are written (private contracts only).
+-- The JSON values of configurations that are written.
 use Rattle.std.specs.Prelude.{ℕ, List, codes}
 use Rattle.serde_json.specs.Data.{Data, number, unsigned, string, object, member, no_members}
 use Rattle.cryptomator_conf.specs.declared.conf.Combo.{Combo}

@@ -1,4 +1,4 @@
--- The JSON value of a configuration that is written (private contracts only).
+-- The JSON value of a configuration that is written.
 use Rattle.std.specs.Prelude.{ℕ, List, codes}
 use Rattle.serde_json.specs.Data.{Data, number, unsigned, string, array, object, item, no_items, member, no_members}
 

@@ -155,16 +155,16 @@ counter_mode-from_rest image next sixteen start counter text bytes rest k at fro
           ∙ ap (slice_index (image (iterate next (i / 16) start))) place)
     ])
 
--- an image of the first n of sixteen counter blocks
+-- an image of n counter blocks, the first of sixteen blocks
 pub image_at : (image next : List ℕ → List ℕ) (start : List ℕ) (blocks images rest : List (List ℕ)) (n k : ℕ) → images ≡ map image (take n blocks)
-    → k < n → n ≤ 16 → length blocks ≡ 16 → ((i : ℕ) → i < 16 → get_or blocks i [] ≡ iterate next i start)
+    → k < n → n ≤ 16 → length blocks ≡ 16 → ((i : ℕ) → i < n → get_or blocks i [] ≡ iterate next i start)
     → get_or (images ++ rest) k [] ≡ image (iterate next k start)
 image_at image next start blocks images rest n k is lt most sixteen each =
     let few : length (take n blocks) ≡ n = length-take-le n blocks (omega arith) in
     let within : k < length (take n blocks) = omega arith in
     let inside : k < length images = omega (arith, ap length is ∙ length-map (take n blocks) image, few) in
     get_or_append_left images rest [] k inside ∙ ap (λ l. get_or l k []) is ∙ get_or-map image (take n blocks) k [] [] within
-    ∙ ap image (get_or-take n blocks k [] lt ∙ each k (omega arith))
+    ∙ ap image (get_or-take n blocks k [] lt ∙ each k lt)
 
 -- a number's bytes read at once, as they are read one by one
 number_of-4 : (a b c d : ℕ) → from_be_bytes w32 (a ∷ b ∷ c ∷ d ∷ []) ≡ number_of (a ∷ b ∷ c ∷ d ∷ [])

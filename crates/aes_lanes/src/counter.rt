@@ -14,13 +14,14 @@ use crate::plane_rounds::counter_images;
 use crate::planes::Planes;
 use crate::rounds::encrypt_rest;
 
-// Sixteen counter blocks from `counter` on, where the last four bytes count.
-fn next32(counter: &Block) -> [Block; 16]
+// The first of sixteen counter blocks from `counter` on, where the last four bytes count.
+fn next32(counter: &Block, count: u32) -> [Block; 16]
+    requires { count ≤ 16 }
     ensures sixteen { length result ≡ 16 }
-    ensures counts { (i : ℕ) → i < 16 → get_or result i [] ≡ iterate increment32 i counter.now }
+    ensures counts { (i : ℕ) → i < count → get_or result i [] ≡ iterate increment32 i counter.now }
 {
     let mut blocks = [[0; 16]; 16];
-    for i in 0..16u32 {
+    for i in 0..count {
         blocks[i as usize] = counted32(counter, i);
     }
     blocks
@@ -68,7 +69,7 @@ fn last32_xor(keys: &[Block], planes: &[Planes], rounds: usize, start: &Block, b
         → bytes.new ≡ ctr32 (cipher rounds words) start.now bytes.old }
 {
     let count = bytes.len().div_ceil(16);
-    let mut stream = next32(start);
+    let mut stream = next32(start, count as u32);
     encrypt_rest(keys, planes, rounds, &mut stream[..count]);
     xor_stream(&stream, bytes);
 }

@@ -9,68 +9,58 @@ use crate::block::Block;
 use crate::planes::Planes;
 use std::simd::prelude::*;
 
-// Of two vectors of bytes: in each byte, every second bit of the one between those of the other, from the lower.
-#[inline(always)]
-fn low1(a: u8x32, b: u8x32) -> u8x32
-    requires a { IsPlane a }
-    requires b { IsPlane b }
-    ensures plane { IsPlane result }
-    ensures bits { (p : ℕ) → p < 32 → bits_at p result ≡ low_bits 1 (bits_at p a) (bits_at p b) }
-{
-    a ^ ((((a >> u8x32::splat(1)) ^ b) & u8x32::splat(0x55)) << u8x32::splat(1))
+// Two vectors of bytes.
+#[derive(Clone, Copy)]
+struct Pair {
+    low: u8x32,
+    high: u8x32,
+    ghost low_plane: { IsPlane low },
+    ghost high_plane: { IsPlane high },
 }
 
-// The same from the higher.
+// In each byte, bits 1, 3, 5 and 7 of the first vector exchanged for bits 0, 2, 4 and 6 of the second.
 #[inline(always)]
-fn high1(a: u8x32, b: u8x32) -> u8x32
+fn exchanged1(a: u8x32, b: u8x32) -> Pair
     requires a { IsPlane a }
     requires b { IsPlane b }
-    ensures plane { IsPlane result }
-    ensures bits { (p : ℕ) → p < 32 → bits_at p result ≡ high_bits 1 (bits_at p a) (bits_at p b) }
+    ensures low { (p : ℕ) → p < 32 → bits_at p result.low ≡ low_bits 1 (bits_at p a) (bits_at p b) }
+    ensures high { (p : ℕ) → p < 32 → bits_at p result.high ≡ high_bits 1 (bits_at p a) (bits_at p b) }
 {
-    b ^ (((a >> u8x32::splat(1)) ^ b) & u8x32::splat(0x55))
+    let part = ((a >> u8x32::splat(1)) ^ b) & u8x32::splat(0x55);
+    Pair {
+        low: a ^ (part << u8x32::splat(1)),
+        high: b ^ part,
+    }
 }
 
-// The same with two bits at a time.
+// In each byte, bits 2, 3, 6 and 7 of the first vector exchanged for bits 0, 1, 4 and 5 of the second.
 #[inline(always)]
-fn low2(a: u8x32, b: u8x32) -> u8x32
+fn exchanged2(a: u8x32, b: u8x32) -> Pair
     requires a { IsPlane a }
     requires b { IsPlane b }
-    ensures plane { IsPlane result }
-    ensures bits { (p : ℕ) → p < 32 → bits_at p result ≡ low_bits 2 (bits_at p a) (bits_at p b) }
+    ensures low { (p : ℕ) → p < 32 → bits_at p result.low ≡ low_bits 2 (bits_at p a) (bits_at p b) }
+    ensures high { (p : ℕ) → p < 32 → bits_at p result.high ≡ high_bits 2 (bits_at p a) (bits_at p b) }
 {
-    a ^ ((((a >> u8x32::splat(2)) ^ b) & u8x32::splat(0x33)) << u8x32::splat(2))
+    let part = ((a >> u8x32::splat(2)) ^ b) & u8x32::splat(0x33);
+    Pair {
+        low: a ^ (part << u8x32::splat(2)),
+        high: b ^ part,
+    }
 }
 
+// In each byte, the four high bits of the first vector exchanged for the four low bits of the second.
 #[inline(always)]
-fn high2(a: u8x32, b: u8x32) -> u8x32
+fn exchanged4(a: u8x32, b: u8x32) -> Pair
     requires a { IsPlane a }
     requires b { IsPlane b }
-    ensures plane { IsPlane result }
-    ensures bits { (p : ℕ) → p < 32 → bits_at p result ≡ high_bits 2 (bits_at p a) (bits_at p b) }
+    ensures low { (p : ℕ) → p < 32 → bits_at p result.low ≡ low_bits 4 (bits_at p a) (bits_at p b) }
+    ensures high { (p : ℕ) → p < 32 → bits_at p result.high ≡ high_bits 4 (bits_at p a) (bits_at p b) }
 {
-    b ^ (((a >> u8x32::splat(2)) ^ b) & u8x32::splat(0x33))
-}
-
-// The same with four bits at a time.
-#[inline(always)]
-fn low4(a: u8x32, b: u8x32) -> u8x32
-    requires a { IsPlane a }
-    requires b { IsPlane b }
-    ensures plane { IsPlane result }
-    ensures bits { (p : ℕ) → p < 32 → bits_at p result ≡ low_bits 4 (bits_at p a) (bits_at p b) }
-{
-    a ^ ((((a >> u8x32::splat(4)) ^ b) & u8x32::splat(0x0f)) << u8x32::splat(4))
-}
-
-#[inline(always)]
-fn high4(a: u8x32, b: u8x32) -> u8x32
-    requires a { IsPlane a }
-    requires b { IsPlane b }
-    ensures plane { IsPlane result }
-    ensures bits { (p : ℕ) → p < 32 → bits_at p result ≡ high_bits 4 (bits_at p a) (bits_at p b) }
-{
-    b ^ (((a >> u8x32::splat(4)) ^ b) & u8x32::splat(0x0f))
+    let part = ((a >> u8x32::splat(4)) ^ b) & u8x32::splat(0x0f);
+    Pair {
+        low: a ^ (part << u8x32::splat(4)),
+        high: b ^ part,
+    }
 }
 
 // Bit k of each byte of vector i becomes bit i of that of vector k.
@@ -79,31 +69,27 @@ fn transposed(s: &Planes) -> Planes
     ensures { (p i k : ℕ) → p < 32 → i < 8 → k < 8
         → bit p k (get_or (list_of result) i []) ≡ bit p i (get_or (list_of s.now) k []) }
 {
-    let a0 = low1(s.p0, s.p1);
-    let a1 = high1(s.p0, s.p1);
-    let a2 = low1(s.p2, s.p3);
-    let a3 = high1(s.p2, s.p3);
-    let a4 = low1(s.p4, s.p5);
-    let a5 = high1(s.p4, s.p5);
-    let a6 = low1(s.p6, s.p7);
-    let a7 = high1(s.p6, s.p7);
-    let b0 = low2(a0, a2);
-    let b1 = low2(a1, a3);
-    let b2 = high2(a0, a2);
-    let b3 = high2(a1, a3);
-    let b4 = low2(a4, a6);
-    let b5 = low2(a5, a7);
-    let b6 = high2(a4, a6);
-    let b7 = high2(a5, a7);
+    let a01 = exchanged1(s.p0, s.p1);
+    let a23 = exchanged1(s.p2, s.p3);
+    let a45 = exchanged1(s.p4, s.p5);
+    let a67 = exchanged1(s.p6, s.p7);
+    let b02 = exchanged2(a01.low, a23.low);
+    let b13 = exchanged2(a01.high, a23.high);
+    let b46 = exchanged2(a45.low, a67.low);
+    let b57 = exchanged2(a45.high, a67.high);
+    let c04 = exchanged4(b02.low, b46.low);
+    let c15 = exchanged4(b13.low, b57.low);
+    let c26 = exchanged4(b02.high, b46.high);
+    let c37 = exchanged4(b13.high, b57.high);
     Planes {
-        p0: low4(b0, b4),
-        p1: low4(b1, b5),
-        p2: low4(b2, b6),
-        p3: low4(b3, b7),
-        p4: high4(b0, b4),
-        p5: high4(b1, b5),
-        p6: high4(b2, b6),
-        p7: high4(b3, b7),
+        p0: c04.low,
+        p1: c15.low,
+        p2: c26.low,
+        p3: c37.low,
+        p4: c04.high,
+        p5: c15.high,
+        p6: c26.high,
+        p7: c37.high,
     }
 }
 

@@ -270,20 +270,20 @@ fn mix(s: &Planes) -> Planes
     ensures { (k : ℕ) → block_of (list_of result) k ≡ mix_columns (block_of (list_of s.now) k) }
 {
     let t0 = s.p0.swizzle(TURN);
-    let t1 = s.p1.swizzle(TURN);
-    let t2 = s.p2.swizzle(TURN);
-    let t3 = s.p3.swizzle(TURN);
-    let t4 = s.p4.swizzle(TURN);
-    let t5 = s.p5.swizzle(TURN);
-    let t6 = s.p6.swizzle(TURN);
-    let t7 = s.p7.swizzle(TURN);
     let a0 = s.p0 ^ t0;
+    let t1 = s.p1.swizzle(TURN);
     let a1 = s.p1 ^ t1;
+    let t2 = s.p2.swizzle(TURN);
     let a2 = s.p2 ^ t2;
+    let t3 = s.p3.swizzle(TURN);
     let a3 = s.p3 ^ t3;
+    let t4 = s.p4.swizzle(TURN);
     let a4 = s.p4 ^ t4;
+    let t5 = s.p5.swizzle(TURN);
     let a5 = s.p5 ^ t5;
+    let t6 = s.p6.swizzle(TURN);
     let a6 = s.p6 ^ t6;
+    let t7 = s.p7.swizzle(TURN);
     let a7 = s.p7 ^ t7;
     Planes {
         p0: a7 ^ t0 ^ a0.swizzle(HALF_TURN),

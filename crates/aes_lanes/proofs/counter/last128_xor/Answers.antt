@@ -10,4 +10,4 @@ returns g c =
     let start = c.args.start.now in
     c.xor_stream.ensures image next start (g.met.C.Cipher.length_image c.args.key.now)
     (λ k lt. image_at image next start c.next128-stream.result c.encrypt_blocks.new.blocks _ _ k c.encrypt_blocks.ensures
-    (omega (arith, c.div_ceil-count.ensures)) (omega (arith, c.div_ceil-count.ensures)) c.next128-stream.ensures.sixteen c.next128-stream.ensures.counts)
+    (omega (arith, c.div_ceil-count.ensures)) (omega (arith, c.div_ceil-count.ensures)) c.next128-stream.ensures.sixteen (λ i li. c.next128-stream.ensures.counts i (omega (arith, c.div_ceil-count.ensures))))

@@ -1,4 +1,4 @@
-use Rattle.std.proofs.Common.{◌≡◌, ◌∙◌, sym, ap, arith}
+use Rattle.std.proofs.Common.{◌∙◌, sym, ap, arith}
 use Rattle.aes_lanes.specs.Bytes.{xor_bytes}
 use Rattle.aes_lanes.specs.PlaneList.{sixty_threes}
 use Rattle.aes_lanes.proofs.Masks.{plane_key-first, plane_key-later}

@@ -79,11 +79,10 @@ fn write_file(alloc: Global, chunk: &[u8; CHUNK], out: &mut ChunkBuf) -> Result<
 // The bytes of a file, or none.
 fn file_of(alloc: Global, chunk: &[u8; CHUNK], out: &mut ChunkBuf) -> Result<Vec<u8>, AllocError> {
     let mut random = randoms(alloc)?;
-    let mut file = Vec::new(alloc);
     let Ok(mut begun) = Encoder::start(keys(), &mut random, false, out) else {
-        return Ok(file);
+        return Ok(Vec::new(alloc));
     };
-    file.extend_from_slice(&out.bytes()[..begun.length])?;
+    let mut file = out.bytes()[..begun.length].to_vec(alloc)?;
     if let Ok(size) = begun.encoder.chunk(&mut random, chunk, out) {
         file.extend_from_slice(&out.bytes()[..size])?;
     }

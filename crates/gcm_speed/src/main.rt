@@ -10,83 +10,56 @@ use contents::{read_files, stream_and_tag, write_files};
 use eme_mode::Eme;
 use gcm_mode::Gcm;
 use siv_mode::Siv;
+use std::alloc::{AllocError, Global};
 use std::rt::{Clock, Env};
 use std::time::{Duration, Instant};
 use std::{env, io};
 
-fn main(rt: HostRuntime) -> io::Result<()> {
-    let megabytes = megabytes(&rt)?;
-
-    let start = Instant::now(&rt)?;
-    let last = stream(megabytes);
-    report(&rt, "stream", megabytes, start.elapsed(&rt)?, last)?;
-
-    let start = Instant::now(&rt)?;
-    let last = unseal(megabytes);
-    report(&rt, "unseal", megabytes, start.elapsed(&rt)?, last)?;
-
-    contents_of(&rt, megabytes)?;
-
-    let start = Instant::now(&rt)?;
-    let last = sixteen_blocks(megabytes);
-    report(&rt, "sixteen blocks", megabytes, start.elapsed(&rt)?, last)?;
-
-    let start = Instant::now(&rt)?;
-    let last = sixteen_blocks_back(megabytes);
-    report(
-        &rt,
-        "sixteen blocks back",
-        megabytes,
-        start.elapsed(&rt)?,
-        last,
-    )?;
-
-    let start = Instant::now(&rt)?;
-    let last = one_block(megabytes);
-    report(&rt, "one block", megabytes, start.elapsed(&rt)?, last)?;
-
-    let start = Instant::now(&rt)?;
-    let last = new_keys(megabytes);
-    report_each(&rt, "new key", megabytes, start.elapsed(&rt)?, last)?;
-
-    let start = Instant::now(&rt)?;
-    let last = short_texts(megabytes);
-    report_each(
-        &rt,
-        "new key and 40 bytes",
-        megabytes,
-        start.elapsed(&rt)?,
-        last,
-    )?;
-
-    let start = Instant::now(&rt)?;
-    let last = names_in_siv(megabytes);
-    report_each(&rt, "name in SIV", megabytes, start.elapsed(&rt)?, last)?;
-
-    let start = Instant::now(&rt)?;
-    let last = names_in_eme(megabytes);
-    report_each(&rt, "name in EME", megabytes, start.elapsed(&rt)?, last)
+#[derive(Clone, Copy)]
+enum Work {
+    Stream,
+    Unseal,
+    StreamAndTag,
+    WriteFiles,
+    ReadFiles,
+    SixteenBlocks,
+    SixteenBlocksBack,
+    OneBlock,
+    NewKeys,
+    ShortTexts,
+    NamesInSiv,
+    NamesInEme,
 }
 
-// Contents with SIV_CTRMAC, and counter mode and HMAC-SHA-256 alone.
-fn contents_of(rt: &HostRuntime, megabytes: u32) -> io::Result<()> {
-    let start = Instant::now(rt)?;
-    let last = stream_and_tag(megabytes);
-    report(
-        rt,
-        "counter mode and HMAC",
-        megabytes,
-        start.elapsed(rt)?,
-        last,
-    )?;
+// What is told of a work: how many megabytes a second, or how long a round takes.
+#[derive(Clone, Copy)]
+enum Measure {
+    Rate,
+    Round,
+}
 
-    let start = Instant::now(rt)?;
-    let last = write_files(rt.alloc(), megabytes)?;
-    report(rt, "contents written", megabytes, start.elapsed(rt)?, last)?;
+// Contents with SIV_CTRMAC stand behind counter mode and HMAC-SHA-256 alone.
+const WORKS: [(&str, Work, Measure); 12] = [
+    ("stream", Work::Stream, Measure::Rate),
+    ("unseal", Work::Unseal, Measure::Rate),
+    ("counter mode and HMAC", Work::StreamAndTag, Measure::Rate),
+    ("contents written", Work::WriteFiles, Measure::Rate),
+    ("contents read", Work::ReadFiles, Measure::Rate),
+    ("sixteen blocks", Work::SixteenBlocks, Measure::Rate),
+    (
+        "sixteen blocks back",
+        Work::SixteenBlocksBack,
+        Measure::Rate,
+    ),
+    ("one block", Work::OneBlock, Measure::Rate),
+    ("new key", Work::NewKeys, Measure::Round),
+    ("new key and 40 bytes", Work::ShortTexts, Measure::Round),
+    ("name in SIV", Work::NamesInSiv, Measure::Round),
+    ("name in EME", Work::NamesInEme, Measure::Round),
+];
 
-    let start = Instant::now(rt)?;
-    let last = read_files(rt.alloc(), megabytes)?;
-    report(rt, "contents read", megabytes, start.elapsed(rt)?, last)
+fn main(rt: HostRuntime) -> io::Result<()> {
+    report_all(&rt, megabytes(&rt)?)
 }
 
 // The number that the first word is, or 0.
@@ -98,30 +71,56 @@ fn megabytes(rt: &(impl Env + Alloc)) -> io::Result<u32> {
     Ok(word.as_str().parse::<u32>().unwrap_or(0))
 }
 
-// One line; `last` is printed so that no compiler leaves the work out.
-fn report(rt: &impl Print, what: &str, megabytes: u32, time: Duration, last: u8) -> io::Result<()> {
-    let microseconds = time.as_micros();
-    if megabytes == 0 || microseconds == 0 {
-        return println!(rt; "{what}: {megabytes} MB");
-    }
-    let bytes = u128::from(megabytes) << 20;
-    println!(rt; "{what}: {} MB/s (last byte {last})", bytes / microseconds)
+// How long so many megabytes of a work take, or thousands of rounds, and a byte that it made.
+fn timed(rt: &HostRuntime, work: Work, megabytes: u32) -> io::Result<(Duration, u8)> {
+    let start = Instant::now(rt)?;
+    let last = done(work, rt.alloc(), megabytes)?;
+    Ok((start.elapsed(rt)?, last))
 }
 
-// The same, for a thousand rounds a megabyte.
-fn report_each(
+fn done(work: Work, alloc: Global, megabytes: u32) -> Result<u8, AllocError> {
+    match work {
+        Work::Stream => Ok(stream(megabytes)),
+        Work::Unseal => Ok(unseal(megabytes)),
+        Work::StreamAndTag => Ok(stream_and_tag(megabytes)),
+        Work::WriteFiles => write_files(alloc, megabytes),
+        Work::ReadFiles => read_files(alloc, megabytes),
+        Work::SixteenBlocks => Ok(sixteen_blocks(megabytes)),
+        Work::SixteenBlocksBack => Ok(sixteen_blocks_back(megabytes)),
+        Work::OneBlock => Ok(one_block(megabytes)),
+        Work::NewKeys => Ok(new_keys(megabytes)),
+        Work::ShortTexts => Ok(short_texts(megabytes)),
+        Work::NamesInSiv => Ok(names_in_siv(megabytes)),
+        Work::NamesInEme => Ok(names_in_eme(megabytes)),
+    }
+}
+
+fn report_all(rt: &HostRuntime, megabytes: u32) -> io::Result<()> {
+    for (what, work, measure) in &WORKS {
+        let (time, last) = timed(rt, *work, megabytes)?;
+        report(rt, what, *measure, megabytes, time, last)?;
+    }
+    Ok(())
+}
+
+// One line; `last` is printed so that no compiler leaves the work out.
+fn report(
     rt: &impl Print,
     what: &str,
+    measure: Measure,
     megabytes: u32,
     time: Duration,
     last: u8,
 ) -> io::Result<()> {
-    let nanoseconds = time.as_nanos();
-    if megabytes == 0 {
-        return println!(rt; "{what}: {megabytes} rounds");
+    let megabytes = u128::from(megabytes);
+    let (total, parts, given, unit) = match measure {
+        Measure::Rate => (megabytes << 20, time.as_micros(), "MB", "MB/s"),
+        Measure::Round => (time.as_nanos(), 1000 * megabytes, "rounds", "ns"),
+    };
+    if megabytes == 0 || parts == 0 {
+        return println!(rt; "{what}: {megabytes} {given}");
     }
-    let rounds = 1000 * u128::from(megabytes);
-    println!(rt; "{what}: {} ns (last byte {last})", nanoseconds / rounds)
+    println!(rt; "{what}: {} {unit} (last byte {last})", total / parts)
 }
 
 fn stream(megabytes: u32) -> u8 {

@@ -8,24 +8,33 @@ use aes_lanes::lanes::{sub, unsub};
 use aes_lanes::{
     Block, Cipher, Key128, Key256, ctr32_xor, ctr128_xor, inverse_sbox, same_bytes, sbox, xor_into,
 };
+use std::alloc::{AllocError, Global};
 use std::simd::prelude::*;
 
 /// Makes a call of this module, and says whether there is one of this name.
 pub fn answer(name: &str, args: &mut Arguments, answer: &mut Answer) -> bool {
     match name {
-        "aes-128" => both_ways(&Key128::new(&args.array(0)), args, answer),
-        "aes-256" => both_ways(&Key256::new(&args.array(0)), args, answer),
+        "aes-128" => aes_128(args, answer),
+        "aes-256" => aes_256(args, answer),
         "ctr32-256" => twice_in_four_bytes(args, answer),
         "ctr32-256-end" => end_of_stream(args, answer),
         "ctr128-128" => twice_in_sixteen_bytes(args, answer),
         "streams" => streams(args, answer),
         "blocks-at-once" => at_once(args, answer),
         "xor" => sum(args, answer),
-        "same" => answer.yes_or_no(same_bytes(args.bytes(0), args.bytes(1))),
+        "same" => same(args, answer),
         "s-boxes" => s_boxes(answer),
         _ => return false,
     }
     true
+}
+
+fn aes_128(args: &mut Arguments, answer: &mut Answer) {
+    both_ways(&Key128::new(&args.array(0)), args, answer);
+}
+
+fn aes_256(args: &mut Arguments, answer: &mut Answer) {
+    both_ways(&Key256::new(&args.array(0)), args, answer);
 }
 
 // The images of blocks, which are decrypted again.
@@ -34,9 +43,7 @@ fn both_ways<C: Cipher>(cipher: &C, args: &mut Arguments, answer: &mut Answer) {
     cipher.encrypt_blocks(changed);
     answer.bytes(changed.as_flattened());
     cipher.decrypt_blocks(changed);
-    if !args.is_given_back(1) {
-        answer.word("images that decrypt to others");
-    }
+    answer.unless(args.is_given_back(1), "images that decrypt to others");
 }
 
 // A text in counter mode on four bytes, which a second time gives the text again.
@@ -46,9 +53,7 @@ fn twice_in_four_bytes(args: &mut Arguments, answer: &mut Answer) {
     ctr32_xor(&key, &start, changed);
     answer.bytes(changed);
     ctr32_xor(&key, &start, changed);
-    if !args.is_given_back(2) {
-        answer.word("a text that isn't given back");
-    }
+    answer.unless(args.is_given_back(2), "a text that isn't given back");
 }
 
 // A text in counter mode on sixteen bytes, which a second time gives the text again.
@@ -58,9 +63,7 @@ fn twice_in_sixteen_bytes(args: &mut Arguments, answer: &mut Answer) {
     ctr128_xor(&key, &start, changed);
     answer.bytes(changed);
     ctr128_xor(&key, &start, changed);
-    if !args.is_given_back(2) {
-        answer.word("a text that isn't given back");
-    }
+    answer.unless(args.is_given_back(2), "a text that isn't given back");
 }
 
 // The last bytes of a text in counter mode on four bytes.
@@ -71,17 +74,29 @@ fn end_of_stream(args: &mut Arguments, answer: &mut Answer) {
     answer.bytes(&changed[changed.len().saturating_sub(size)..]);
 }
 
-// The stream block by block, each by itself; the counter doesn't pass four bytes.
-fn plain_stream(key: &Key256, start: &Block, bytes: &mut [u8]) {
-    let mut counter = *start;
+/// Xors the stream into bytes block by block, each by itself; the counter doesn't pass four bytes.
+pub fn plain_stream(key: &Key256, start: &Block, bytes: &mut [u8]) {
+    let mut counter = u128::from_be_bytes(*start);
     for chunk in bytes.chunks_mut(16) {
-        let mut stream = [counter];
+        let mut stream = [counter.to_be_bytes()];
         key.encrypt_blocks(&mut stream);
-        for (byte, added) in chunk.iter_mut().zip(stream[0]) {
-            *byte ^= added;
-        }
-        counter = u128::from_be_bytes(counter).wrapping_add(1).to_be_bytes();
+        xor(chunk, &stream[0]);
+        counter = counter.wrapping_add(1);
     }
+}
+
+fn xor(bytes: &mut [u8], stream: &Block) {
+    let count = bytes.len().min(16);
+    let sum = block_number(bytes) ^ u128::from_be_bytes(*stream);
+    bytes[..count].copy_from_slice(&sum.to_be_bytes()[..count]);
+}
+
+/// The number of at most sixteen bytes, padded with zeros behind.
+pub fn block_number(bytes: &[u8]) -> u128 {
+    let count = bytes.len().min(16);
+    let mut block = [0; 16];
+    block[..count].copy_from_slice(&bytes[..count]);
+    u128::from_be_bytes(block)
 }
 
 // Whether the two streams of some bytes are the plain one.
@@ -101,47 +116,82 @@ fn streams(args: &mut Arguments, answer: &mut Answer) {
     let (least, most) = (args.few(3), args.few(4));
     let alloc = answer.alloc();
     for length in least..=most {
-        let (Ok(mut one), Ok(mut other)) = (
-            vec![in alloc; value; length],
-            vec![in alloc; value; length],
-        ) else {
-            return answer.lacks();
-        };
-        if !streams_are_plain(&key, &start, one.as_mut_slice(), other.as_mut_slice()) {
-            answer.word("other streams of");
-            return answer.shows(&length);
+        match are_plain(alloc, &key, &start, value, length) {
+            Ok(true) => {}
+            Ok(false) => {
+                answer.word("other streams of");
+                return answer.shows(&length);
+            }
+            Err(_) => return answer.lacks(),
         }
     }
     answer.word("plain");
 }
 
-// Whether blocks at once are as one by one, and are decrypted again.
-fn are_one_by_one(key: &Key256, plain: &[Block], changed: &mut [Block]) -> bool {
-    key.encrypt_blocks(changed);
-    let mut are_same = true;
-    for (image, block) in changed.iter().zip(plain) {
-        let mut alone = [*block];
-        key.encrypt_blocks(&mut alone);
-        are_same = are_same && alone[0] == *image;
+// Whether the two streams of a byte, so many times, are the plain one.
+fn are_plain(
+    alloc: Global,
+    key: &Key256,
+    start: &Block,
+    value: u8,
+    length: usize,
+) -> Result<bool, AllocError>
+    requires { length ≤ 200000 }
+{
+    let mut one = vec![in alloc; value; length]?;
+    let mut other = vec![in alloc; value; length]?;
+    Ok(streams_are_plain(key, start, one.as_mut_slice(), other.as_mut_slice()))
+}
+
+// Encrypts blocks one by one.
+fn one_by_one(key: &Key256, blocks: &mut [Block]) {
+    for block in blocks.chunks_mut(1) {
+        key.encrypt_blocks(block);
     }
-    key.decrypt_blocks(changed);
-    are_same && *changed == *plain
+}
+
+// Whether blocks at once have the first of these images, and are decrypted again.
+fn are_images(
+    alloc: Global,
+    key: &Key256,
+    plain: &[Block],
+    images: &[Block],
+) -> Result<bool, AllocError> {
+    let mut changed = plain.to_vec(alloc)?;
+    let blocks = changed.as_mut_slice();
+    key.encrypt_blocks(blocks);
+    let are_same = images.starts_with(blocks);
+    key.decrypt_blocks(blocks);
+    Ok(are_same && *blocks == *plain)
 }
 
 // Compares the images of the first blocks at once with those one by one, for each number of them.
 fn at_once(args: &Arguments, answer: &mut Answer) {
     let (key, plain) = (Key256::new(&args.array(0)), args.blocks(1));
+    let Ok(mut images) = plain.to_vec(answer.alloc()) else {
+        return answer.lacks();
+    };
+    one_by_one(&key, images.as_mut_slice());
+    have_images(&key, plain, images.as_slice(), answer);
+}
+
+fn have_images(key: &Key256, plain: &[Block], images: &[Block], answer: &mut Answer) {
+    let alloc = answer.alloc();
     for count in 0..=plain.len() {
-        let plain = &plain[..count];
-        let Ok(mut changed) = plain.to_vec(answer.alloc()) else {
-            return answer.lacks();
-        };
-        if !are_one_by_one(&key, plain, changed.as_mut_slice()) {
-            answer.word("other images of");
-            return answer.shows(&count);
+        match are_images(alloc, key, &plain[..count], images) {
+            Ok(true) => {}
+            Ok(false) => {
+                answer.word("other images of");
+                return answer.shows(&count);
+            }
+            Err(_) => return answer.lacks(),
         }
     }
     answer.word("one by one");
+}
+
+fn same(args: &Arguments, answer: &mut Answer) {
+    answer.yes_or_no(same_bytes(args.bytes(0), args.bytes(1)));
 }
 
 fn sum(args: &Arguments, answer: &mut Answer) {

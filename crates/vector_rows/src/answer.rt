@@ -59,6 +59,21 @@ impl Answer {
         self.said.word(text);
     }
 
+    /// Adds words where something that has to hold doesn't.
+    pub fn unless(&mut self, holds: bool, words: &str) {
+        if !holds {
+            self.said.word(words);
+        }
+    }
+
+    /// Adds `read`, or what the fault of a reader shows as a word.
+    pub fn read<E: fmt::Display>(&mut self, fault: Option<&E>) {
+        match fault {
+            None => self.said.word("read"),
+            Some(fault) => self.said.shows(fault),
+        }
+    }
+
     /// Adds bytes in hexadecimal as a word.
     pub fn hex(&mut self, bytes: &[u8]) {
         self.said.hex(bytes);
@@ -84,19 +99,23 @@ impl Answer {
         self.said.word(if yes { "yes" } else { "no" });
     }
 
-    /// How the answer is shown, and how the one that a row expects is, where it has the form of this one. Words are the answer where
-    /// there are any.
-    pub fn shown(&mut self, expected: &str) -> Result<(String, String), AllocError> {
-        let alloc = self.alloc;
-        let words = self.said.take()?;
-        if !words.is_empty() {
-            return Ok((words, String::from_str(alloc, expected)?));
+    /// How the answer that a row expects is shown, where it has the form of this one.
+    pub fn shown_beside(&self, expected: &str) -> Result<String, AllocError> {
+        if self.said.is_empty() {
+            if let Some(bytes) = bytes_of(self.alloc, expected)? {
+                return shown_bytes(self.alloc, bytes.as_slice());
+            }
         }
-        let expected = match bytes_of(alloc, expected)? {
-            Some(bytes) => shown_bytes(alloc, bytes.as_slice())?,
-            None => String::from_str(alloc, expected)?,
-        };
-        Ok((shown_bytes(alloc, self.bytes.as_slice())?, expected))
+        String::from_str(self.alloc, expected)
+    }
+
+    /// How the answer is shown. Words are the answer where there are any.
+    pub fn shown(&mut self) -> Result<String, AllocError> {
+        let words = self.said.take()?;
+        if words.is_empty() {
+            return shown_bytes(self.alloc, self.bytes.as_slice());
+        }
+        Ok(words)
     }
 }
 

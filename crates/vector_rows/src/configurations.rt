@@ -6,7 +6,9 @@ use crate::answer::Answer;
 use crate::arguments::Arguments;
 use crate::keys::{cost, cost_shown};
 use base64::engine::general_purpose::{STANDARD, URL_SAFE_NO_PAD};
-use cryptomator_conf::{CmDraw, CmFiles, Combo, check_signature, make_combo, read_master};
+use cryptomator_conf::{
+    CmDraw, CmFiles, Combo, MasterFile, check_signature, make_combo, read_master, read_vault,
+};
 use gocrypt_conf::{GoConf, GoDraw};
 use kdf_suite::hmac256;
 use std::alloc::{AllocError, Global};
@@ -41,10 +43,8 @@ fn changed(whole: &str, args: &Arguments, place: usize, answer: &mut Answer) -> 
 }
 
 fn go_read(bytes: &[u8], answer: &mut Answer) {
-    match gocrypt_conf::read(answer.alloc(), bytes) {
-        Ok(_) => answer.word("read"),
-        Err(fault) => answer.shows(&fault),
-    }
+    let read = gocrypt_conf::read(answer.alloc(), bytes);
+    answer.read(read.as_ref().err());
 }
 
 // What a call on a configuration that can be read answers.
@@ -64,9 +64,7 @@ fn go_salt(conf: GoConf, answer: &mut Answer) {
     let GoConf { salt, .. } = conf;
     answer.bytes(salt.as_slice());
     let size = salt.as_slice().len();
-    if salt.into_vec().len() != size {
-        answer.word("another vector");
-    }
+    answer.unless(salt.into_vec().len() == size, "another vector");
 }
 
 fn go_unlock(conf: &GoConf, pass: &[u8], answer: &mut Answer) {
@@ -129,17 +127,13 @@ fn cm_answer(name: &str, args: &Arguments, answer: &mut Answer) -> bool {
 }
 
 fn master_read(bytes: &[u8], answer: &mut Answer) {
-    match read_master(answer.alloc(), bytes) {
-        Ok(_) => answer.word("read"),
-        Err(fault) => answer.shows(&fault),
-    }
+    let read = read_master(answer.alloc(), bytes);
+    answer.read(read.as_ref().err());
 }
 
 fn vault_read(bytes: &[u8], answer: &mut Answer) {
-    match cryptomator_conf::read_vault(answer.alloc(), bytes) {
-        Ok(_) => answer.word("read"),
-        Err(fault) => answer.shows(&fault),
-    }
+    let read = read_vault(answer.alloc(), bytes);
+    answer.read(read.as_ref().err());
 }
 
 // A token of two objects, with a signature of one byte.
@@ -167,10 +161,14 @@ pub fn keys(args: &Arguments, place: usize) -> CmKeys
 }
 
 fn cm_unlock(args: &Arguments, answer: &mut Answer) {
-    let Ok(file) = read_master(answer.alloc(), args.bytes(0)) else {
-        return answer.word("no masterkey.cryptomator");
-    };
-    match cryptomator_conf::unlock(answer.alloc(), &file, args.bytes(1)) {
+    match read_master(answer.alloc(), args.bytes(0)) {
+        Ok(file) => cm_unlocked(&file, args.bytes(1), answer),
+        Err(_) => answer.word("no masterkey.cryptomator"),
+    }
+}
+
+fn cm_unlocked(file: &MasterFile, pass: &[u8], answer: &mut Answer) {
+    match cryptomator_conf::unlock(answer.alloc(), file, pass) {
         Ok(keys) => {
             answer.bytes(&keys.enc);
             answer.bytes(&keys.mac);
@@ -181,7 +179,7 @@ fn cm_unlock(args: &Arguments, answer: &mut Answer) {
 }
 
 fn signature(bytes: &[u8], keys: &CmKeys, answer: &mut Answer) {
-    let Ok(file) = cryptomator_conf::read_vault(answer.alloc(), bytes) else {
+    let Ok(file) = read_vault(answer.alloc(), bytes) else {
         return answer.word("no vault.cryptomator");
     };
     match check_signature(&file, keys) {

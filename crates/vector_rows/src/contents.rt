@@ -13,9 +13,7 @@ use std::alloc::{AllocError, Global};
 /// Makes a call of this module, and says whether there is one of this name.
 pub fn answer(name: &str, args: &mut Arguments, answer: &mut Answer) -> bool {
     match name {
-        "file" => file(args, answer),
-        "file-size" => file_size(args, answer),
-        "file-sum" => file_sum(args, answer),
+        "file" | "file-size" | "file-sum" => file(name, args, answer),
         "reads" => gives(args, args.bytes(2), args.bytes(3), answer),
         "parts" => of_parts(args, answer),
         "first-step" => first_step(args, answer),
@@ -162,6 +160,18 @@ impl Making {
             .extend_from_slice(part(self.out.bytes(), 0, size))?;
         Ok(())
     }
+
+    // Adds a content of at most four chunks, each of so many bytes.
+    fn add_all(&mut self, content: &[u8], full: usize) -> Result<(), NotMade>
+        requires size { full ≡ (format_of self.old.encoder.keys).full_size }
+        requires few { full ≤ 32768 }
+        requires first { self.old.encoder.number ≡ 0 }
+    {
+        self.add(chunk_at(content, 0, full))?;
+        self.add(chunk_at(content, full, full))?;
+        self.add(chunk_at(content, 2 * full, full))?;
+        self.add(chunk_at(content, 3 * full, full))
+    }
 }
 
 // The file of a content of at most four chunks.
@@ -173,48 +183,34 @@ fn made(
 ) -> Result<Vec<u8>, NotMade> {
     let full = full_of(&keys);
     let mut making = begin(alloc, keys, content.is_empty(), random)?;
-    making.add(chunk_at(content, 0, full))?;
-    making.add(chunk_at(content, full, full))?;
-    making.add(chunk_at(content, 2 * full, full))?;
-    making.add(chunk_at(content, 3 * full, full))?;
+    making.add_all(content, full)?;
     Ok(making.file)
 }
 
-fn file(args: &Arguments, answer: &mut Answer) {
+// The file of a content, or what a call of this name tells of it.
+fn file(name: &str, args: &Arguments, answer: &mut Answer) {
     match made(answer.alloc(), keys(args), args.bytes(2), args.bytes(3)) {
-        Ok(file) => answer.bytes(file.as_slice()),
+        Ok(file) => told(name, file.as_slice(), args, answer),
         Err(fault) => not_made(fault, answer),
     }
 }
 
-// The number and the sum of the bytes of a content's file, which gives the content back.
-fn file_sum(args: &Arguments, answer: &mut Answer) {
-    match made(answer.alloc(), keys(args), args.bytes(2), args.bytes(3)) {
-        Ok(file) => {
-            if !is_given_back(args, file.as_slice(), answer) {
-                answer.word("it isn't given back:");
-            }
-            answer.sum(file.as_slice());
-        }
-        Err(fault) => not_made(fault, answer),
+// The bytes of a content's file, or the size or the number and the sum of one that gives the content back.
+fn told(name: &str, file: &[u8], args: &Arguments, answer: &mut Answer) {
+    if name == "file" {
+        return answer.bytes(file);
+    }
+    let is_given_back = is_given_back(args, file, answer.alloc());
+    answer.unless(is_given_back, "it isn't given back:");
+    if name == "file-size" {
+        answer.shows(&file.len());
+    } else {
+        answer.sum(file);
     }
 }
 
-// The size of the file of a content, which gives the content back.
-fn file_size(args: &Arguments, answer: &mut Answer) {
-    match made(answer.alloc(), keys(args), args.bytes(2), args.bytes(3)) {
-        Ok(file) => {
-            if !is_given_back(args, file.as_slice(), answer) {
-                answer.word("it isn't given back:");
-            }
-            answer.shows(&file.len());
-        }
-        Err(fault) => not_made(fault, answer),
-    }
-}
-
-fn is_given_back(args: &Arguments, file: &[u8], answer: &Answer) -> bool {
-    match read(answer.alloc(), keys(args), file, file.len()) {
+fn is_given_back(args: &Arguments, file: &[u8], alloc: Global) -> bool {
+    match read(alloc, keys(args), file, file.len()) {
         Ok(back) => back.content.as_slice() == args.bytes(2) && back.ending == Ok(Step::End),
         Err(_) => false,
     }
@@ -233,6 +229,25 @@ fn read(alloc: Global, keys: ContentKeys, file: &[u8], size: usize) -> Result<Gi
     let mut decoder = Decoder::start(alloc, keys)?;
     let mut out = ChunkBuf::new(alloc)?;
     let mut content = Vec::new(alloc);
+    let ending = read_on(&mut decoder, &mut out, &mut content, file, size)?;
+    let again = decoder.next(&mut out);
+    Ok(Given {
+        content,
+        ending,
+        again,
+    })
+}
+
+// Feeds a decoder a file, adds what it gives to a content, and answers how it ends.
+fn read_on(
+    decoder: &mut Decoder,
+    out: &mut ChunkBuf,
+    content: &mut Vec<u8>,
+    file: &[u8],
+    size: usize,
+) -> Result<Result<Step, ChunkFault>, AllocError>
+    requires { decoder.old.taken ≡ 0 }
+{
     let mut ending = Ok(Step::More);
     let mut at = 0;
     'rounds: for _round in 0..file.len() + 20 {
@@ -240,19 +255,14 @@ fn read(alloc: Global, keys: ContentKeys, file: &[u8], size: usize) -> Result<Gi
         if at == file.len() {
             decoder.end();
         }
-        ending = decoder.next(&mut out);
+        ending = decoder.next(out);
         match ending {
             Ok(Step::Chunk(count)) => content.extend_from_slice(part(out.bytes(), 0, count))?,
             Ok(Step::More) => {}
             _ => break,
         }
     }
-    let again = decoder.next(&mut out);
-    Ok(Given {
-        content,
-        ending,
-        again,
-    })
+    Ok(ending)
 }
 
 // A step, or the fault that a decoder answers in its place.
@@ -272,13 +282,12 @@ fn step(step: &Result<Step, ChunkFault>, answer: &mut Answer) {
 fn say_given(given: &Given, content: &[u8], answer: &mut Answer) {
     let size = given.content.len();
     answer.shows(&size);
-    if given.content.as_slice() != part(content, 0, size) {
-        answer.word("other");
-    }
+    answer.unless(given.content.as_slice() == part(content, 0, size), "other");
     answer.word("bytes,");
-    if given.again != given.ending {
-        answer.word("another ending the second time,");
-    }
+    answer.unless(
+        given.again == given.ending,
+        "another ending the second time,",
+    );
     step(&given.ending, answer);
 }
 
@@ -293,12 +302,10 @@ fn gives(args: &Arguments, file: &[u8], content: &[u8], answer: &mut Answer) {
         let Ok(other) = read(alloc, keys(args), file, size) else {
             return answer.lacks();
         };
-        if other.content.as_slice() != whole.content.as_slice()
-            || other.ending != whole.ending
-            || other.again != whole.again
-        {
-            answer.word("and another answer by other pieces");
-        }
+        let is_same = other.content.as_slice() == whole.content.as_slice()
+            && other.ending == whole.ending
+            && other.again == whole.again;
+        answer.unless(is_same, "and another answer by other pieces");
     }
 }
 
@@ -340,11 +347,11 @@ fn push_part(
 // How many bytes parts of a file give of its content, and how they end.
 fn of_parts(args: &Arguments, answer: &mut Answer) {
     let alloc = answer.alloc();
-    let (Ok(file), Ok(other)) = (
-        made(alloc, keys(args), args.bytes(4), args.bytes(5)),
-        made(alloc, keys(args), b"x", args.bytes(6)),
-    ) else {
+    let Ok(file) = made(alloc, keys(args), args.bytes(4), args.bytes(5)) else {
         return answer.word("no file");
+    };
+    let Ok(other) = made(alloc, keys(args), b"x", args.bytes(6)) else {
+        return answer.word("no other file");
     };
     let mut parts = Vec::new(alloc);
     for place in 7..args.count() {
@@ -359,26 +366,29 @@ fn of_parts(args: &Arguments, answer: &mut Answer) {
 // What a decoder that was fed a file, which has ended or not, answers first, and a second time.
 fn first_step(args: &Arguments, answer: &mut Answer) {
     let alloc = answer.alloc();
-    let (Ok(mut buffer), Ok(mut decoder)) = (
-        ChunkBuf::new(alloc),
-        Decoder::start(alloc, keys(args)),
-    ) else {
+    let Ok(mut buffer) = ChunkBuf::new(alloc) else {
         return answer.lacks();
     };
+    match Decoder::start(alloc, keys(args)) {
+        Ok(mut decoder) => asked_twice(&mut decoder, &mut buffer, args, answer),
+        Err(_) => answer.lacks(),
+    }
+}
+
+fn asked_twice(decoder: &mut Decoder, buffer: &mut ChunkBuf, args: &Arguments, answer: &mut Answer)
+    requires { decoder.old.taken ≡ 0 }
+{
     let (room, file) = (decoder.room(), args.bytes(2));
-    if room != 32_816 || decoder.feed(file) != file.len() {
-        answer.word("it takes fewer bytes:");
-    }
-    if decoder.room().checked_add(file.len()) != Some(room) {
-        answer.word("it has another room:");
-    }
+    let is_all_taken = room == 32_816 && decoder.feed(file) == file.len();
+    answer.unless(is_all_taken, "it takes fewer bytes:");
+    let left = decoder.room().checked_add(file.len());
+    answer.unless(left == Some(room), "it has another room:");
     if args.word(3) == "ended" {
         decoder.end();
     }
-    let first = decoder.next(&mut buffer);
-    if decoder.next(&mut buffer) != first {
-        answer.word("another answer the second time:");
-    }
+    let first = decoder.next(buffer);
+    let second = decoder.next(buffer);
+    answer.unless(second == first, "another answer the second time:");
     step(&first, answer);
 }
 
@@ -424,15 +434,14 @@ fn buffer(args: &Arguments, answer: &mut Answer) {
     let Ok(mut buffer) = ChunkBuf::new(answer.alloc()) else {
         return answer.lacks();
     };
-    for (byte, written) in buffer
-        .bytes_mut()
-        .iter_mut()
-        .skip(args.few(0))
-        .zip(args.bytes(1))
-    {
-        *byte = *written;
-    }
+    write_at(buffer.bytes_mut(), args.few(0), args.bytes(1));
     answer.bytes(part(buffer.bytes(), 0, args.few(2)));
+}
+
+fn write_at(bytes: &mut [u8], place: usize, written: &[u8]) {
+    let place = place.min(bytes.len());
+    let count = written.len().min(bytes.len() - place);
+    bytes[place..place + count].copy_from_slice(&written[..count]);
 }
 
 fn buffer_size(answer: &mut Answer) {

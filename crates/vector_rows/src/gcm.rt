@@ -2,11 +2,13 @@
 
 ghost use Rattle.std.specs.Prelude.{◌≡◌, ◌<◌, ◌≤◌, ◌^◌, length, IsOk};
 
+use crate::aes::{block_number, plain_stream};
 use crate::answer::Answer;
 use crate::arguments::Arguments;
 use aes_lanes::{Block, Cipher, Key256, same_bytes};
 use gcm_mode::laws::{opens_to_one_text, unsealing_undoes_sealing};
 use gcm_mode::{BadTag, Gcm, product};
+use std::alloc::{AllocError, Global};
 
 /// Makes a call of this module, and says whether there is one of this name.
 pub fn answer(name: &str, args: &mut Arguments, answer: &mut Answer) -> bool {
@@ -77,7 +79,10 @@ fn sealed(args: &mut Arguments, answer: &mut Answer) {
         return answer.word("an initialization vector of no bytes");
     }
     let alloc = answer.alloc();
-    let (Ok(mut text), Ok(mut sealed)) = (plain.to_vec(alloc), plain.to_vec(alloc)) else {
+    let Ok(mut text) = plain.to_vec(alloc) else {
+        return answer.lacks();
+    };
+    let Ok(mut sealed) = plain.to_vec(alloc) else {
         return answer.lacks();
     };
     let (text, sealed) = (text.as_mut_slice(), sealed.as_mut_slice());
@@ -85,19 +90,8 @@ fn sealed(args: &mut Arguments, answer: &mut Answer) {
     let again = gcm.seal(iv, ad, sealed);
     answer.bytes(sealed);
     answer.bytes(&tag);
-    if tag != again {
-        answer.word("another tag the second time");
-    }
+    answer.unless(tag == again, "another tag the second time");
     answer.word(wrong_in(&gcm, iv, ad, text, &tag, sealed, plain));
-}
-
-// A number of sixteen bytes, padded with zeros behind.
-fn block_number(bytes: &[u8]) -> u128 {
-    let mut block = [0; 16];
-    for (place, byte) in block.iter_mut().zip(bytes) {
-        *place = *byte;
-    }
-    u128::from_be_bytes(block)
 }
 
 // GHASH goes on from `hash` over some bytes, each product bit by bit.
@@ -108,25 +102,12 @@ fn plain_hash(subkey: u128, mut hash: u128, bytes: &[u8]) -> u128 {
     hash
 }
 
-// Encrypts a text in place, one block at a time. The counter doesn't pass four bytes.
-fn plain_stream(key: &Key256, start: u128, text: &mut [u8]) {
-    let mut counter = start;
-    for chunk in text.chunks_mut(16) {
-        counter = counter.wrapping_add(1);
-        let mut stream = [counter.to_be_bytes()];
-        key.encrypt_blocks(&mut stream);
-        for (byte, added) in chunk.iter_mut().zip(stream[0]) {
-            *byte ^= added;
-        }
-    }
-}
-
 // Encrypts a text in place by the plain bodies, and gives its tag.
 fn plain_seal(key: &Key256, iv: &[u8; 12], ad: &[u8], text: &mut [u8]) -> Block {
     let start = block_number(iv).wrapping_add(1);
     let mut blocks = [[0; 16], start.to_be_bytes()];
     key.encrypt_blocks(&mut blocks);
-    plain_stream(key, start, text);
+    plain_stream(key, &start.wrapping_add(1).to_be_bytes(), text);
     let subkey = u128::from_be_bytes(blocks[0]);
     let hash = plain_hash(subkey, plain_hash(subkey, 0, ad), text);
     let lengths = ((ad.len() as u128).wrapping_mul(8) << 64) ^ (text.len() as u128).wrapping_mul(8);
@@ -134,46 +115,39 @@ fn plain_seal(key: &Key256, iv: &[u8; 12], ad: &[u8], text: &mut [u8]) -> Block 
     tag.to_be_bytes()
 }
 
-// Whether a text is sealed as by the plain bodies.
+// Whether a byte, so many times, is sealed as by the plain bodies.
 fn is_sealed_as_plain(
+    alloc: Global,
     key: &[u8; 32],
-    gcm: &Gcm,
     iv: &[u8; 12],
     ad: &[u8],
-    text: &mut [u8],
-    plain: &mut [u8],
-) -> bool
+    value: u8,
+    count: usize,
+) -> Result<bool, AllocError>
     requires ad_within { length ad.now ≤ 200000 }
-    requires text_within { length text.old ≤ 200000 }
+    requires text_within { count ≤ 200000 }
 {
-    let tag = gcm.seal(iv, ad, text);
+    let mut text = vec![in alloc; value; count]?;
+    let mut plain = vec![in alloc; value; count]?;
+    let (text, plain) = (text.as_mut_slice(), plain.as_mut_slice());
+    let tag = Gcm::new(Key256::new(key)).seal(iv, ad, text);
     let plain_tag = plain_seal(&Key256::new(key), iv, ad, plain);
-    same_bytes(text, plain) && tag == plain_tag
+    Ok(same_bytes(text, plain) && tag == plain_tag)
 }
 
 // Compares what texts of each length from one to another seal to with what the plain bodies make of them.
-fn lengths(args: &mut Arguments, answer: &mut Answer) {
+fn lengths(args: &Arguments, answer: &mut Answer) {
     let (key, iv, ad) = (args.array(0), args.array(1), args.bytes(2));
     let value = args.byte(3);
-    let gcm = Gcm::new(Key256::new(&key));
     let alloc = answer.alloc();
-    for length in args.few(4)..=args.few(5) {
-        let (Ok(mut text), Ok(mut plain)) = (
-            vec![in alloc; value; length],
-            vec![in alloc; value; length],
-        ) else {
-            return answer.lacks();
-        };
-        if !is_sealed_as_plain(
-            &key,
-            &gcm,
-            &iv,
-            ad,
-            text.as_mut_slice(),
-            plain.as_mut_slice(),
-        ) {
-            answer.word("others of");
-            return answer.shows(&length);
+    for count in args.few(4)..=args.few(5) {
+        match is_sealed_as_plain(alloc, &key, &iv, ad, value, count) {
+            Ok(true) => {}
+            Ok(false) => {
+                answer.word("others of");
+                return answer.shows(&count);
+            }
+            Err(_) => return answer.lacks(),
         }
     }
     answer.word("plain");

@@ -45,26 +45,30 @@ fn status(rt: &impl Eprint, wrong: &str) -> ExitCode {
 fn wrong_rows<R: Env + Files + Print + AllocGlobal>(rt: &R) -> io::Result<String> {
     let mut tally = Tally::new(rt.alloc());
     for file in env::args(rt)?.skip(1) {
-        let text = fs::read_to_string(rt, file.as_str())?;
-        play(rt, &mut tally, file.as_str(), text.as_str())?;
+        play(rt, &mut tally, file.as_str())?;
     }
     Ok(tally.wrong_names(rt.alloc())?)
 }
 
 // Plays the rows of a file. It prints the wrong ones, and how many were right.
-fn play<R: Print + AllocGlobal>(
+fn play<R: Files + Print + AllocGlobal>(rt: &R, tally: &mut Tally, file: &str) -> io::Result<()> {
+    let before = tally.right();
+    let text = fs::read_to_string(rt, file)?;
+    play_lines(rt, tally, file, text.as_str())?;
+    let right = tally.right().saturating_sub(before);
+    println!(rt; "{file}: {right} rows right")
+}
+
+fn play_lines<R: Print + AllocGlobal>(
     rt: &R,
     tally: &mut Tally,
     file: &str,
     text: &str,
 ) -> io::Result<()> {
-    let before = tally.right();
     let mut given = rows::Given::new(rt.alloc());
     for (place, line) in text.lines().enumerate() {
-        let place = place.saturating_add(1);
-        let said = rows::play(&mut given, tally, file, place, line)?;
+        let said = given.play(tally, file, place.saturating_add(1), line)?;
         print!(rt; "{said}")?;
     }
-    let right = tally.right().saturating_sub(before);
-    println!(rt; "{file}: {right} rows right")
+    Ok(())
 }

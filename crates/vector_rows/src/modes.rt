@@ -105,9 +105,8 @@ fn encrypted(args: &mut Arguments, answer: &mut Answer) {
     eme.encrypt(&tweak, changed);
     answer.bytes(changed.as_flattened());
     eme.decrypt(&tweak, changed);
-    if !args.is_given_back(2) || !are_two_given_back(&eme, &tweak, args.blocks(2)) {
-        answer.word("they aren't given back");
-    }
+    let are_given_back = args.is_given_back(2) && are_two_given_back(&eme, &tweak, args.blocks(2));
+    answer.unless(are_given_back, "they aren't given back");
 }
 
 // Unwrapping what was wrapped gives it back, whatever it is.
@@ -125,9 +124,7 @@ fn wrap_and_unwrap(kek: &Key256, key: &[u8; 32]) -> [u8; 32]
 fn wrapped(args: &Arguments, answer: &mut Answer) {
     let (kek, key) = (Key256::new(&args.array(0)), args.array(1));
     answer.bytes(&wrap_key(&kek, &key));
-    if wrap_and_unwrap(&kek, &key) != key {
-        answer.word("it isn't given back");
-    }
+    answer.unless(wrap_and_unwrap(&kek, &key) == key, "it isn't given back");
 }
 
 fn unwrapped(args: &Arguments, answer: &mut Answer) {

@@ -6,7 +6,7 @@ use crate::configurations::keys;
 use crate::paths::name;
 use aes_lanes::Block;
 use plain_tree::Name;
-use std::alloc::AllocError;
+use std::alloc::{AllocError, Global};
 use vault_keys::{CmKeys, GoKeys};
 use vault_names::{
     NameFault, Stored, base32_of, cm_folder, cm_long, cm_read, cm_store, go_long, go_read,
@@ -17,12 +17,12 @@ use vault_names::{
 pub fn answer(name: &str, args: &mut Arguments, answer: &mut Answer) -> bool {
     match name {
         "size" => answer.shows(&args.bytes(0).len()),
-        "go-name" => go_short(args, answer),
-        "go-long-name" => go_long_name(args, answer),
-        "go-read" => read_answer(go_read_text(args, answer), answer),
-        "cm-name" => cm_short(args, answer),
-        "cm-long-name" => cm_long_name(args, answer),
-        "cm-read" => read_answer(cm_read_text(args, answer), answer),
+        "go-name" => short(&go_dir(args), args, answer),
+        "go-long-name" => long(&go_dir(args), args, answer),
+        "go-read" => read(&go_dir(args), args, answer),
+        "cm-name" => short(&cm_dir(args), args, answer),
+        "cm-long-name" => long(&cm_dir(args), args, answer),
+        "cm-read" => read(&cm_dir(args), args, answer),
         "cm-folder" => answer.made(cm_folder(answer.alloc(), &keys(args, 0), args.bytes(2))),
         "cm-dir-id" => answer.made(new_dir_id(answer.alloc(), &args.array(0))),
         "base32" => answer.bytes(&base32_of(&args.array(0))),
@@ -31,157 +31,113 @@ pub fn answer(name: &str, args: &mut Arguments, answer: &mut Answer) -> bool {
     true
 }
 
-// The keys of a vault of gocryptfs; that of contents is zeros.
-fn go_keys(args: &Arguments) -> GoKeys {
-    GoKeys {
+const THRESHOLD: u32 = 220;
+
+// A directory of a vault, with the vault's keys.
+#[derive(Clone, Copy)]
+enum Dir<'a> {
+    // What its `gocryptfs.diriv` holds.
+    Go(GoKeys, Block),
+    // Its id.
+    Cm(CmKeys, &'a [u8]),
+}
+
+// A directory of gocryptfs; the key of contents is zeros.
+fn go_dir(args: &Arguments) -> Dir<'_> {
+    let keys = GoKeys {
         content: [0; 32],
         names: args.array(0),
+    };
+    Dir::Go(keys, args.array(1))
+}
+
+fn cm_dir(args: &Arguments) -> Dir<'_> {
+    Dir::Cm(keys(args, 0), args.bytes(2))
+}
+
+impl Dir<'_> {
+    // How a name is stored.
+    fn stored(&self, alloc: Global, name: &Name) -> Result<Stored, AllocError> {
+        match self {
+            Dir::Go(keys, iv) => go_store(alloc, keys, iv, name),
+            Dir::Cm(keys, id) => cm_store(alloc, keys, THRESHOLD, id, name),
+        }
+    }
+
+    // The name that a text stores.
+    fn name_of(&self, alloc: Global, text: &str) -> Result<Name, NameFault> {
+        match self {
+            Dir::Go(keys, iv) => go_read(alloc, keys, iv, text),
+            Dir::Cm(keys, id) => cm_read(alloc, keys, id, text),
+        }
+    }
+
+    // The entry's name behind which a text stands.
+    fn entry_of(&self, alloc: Global, text: &str) -> Result<String, AllocError> {
+        match self {
+            Dir::Go(..) => go_long(alloc, text),
+            Dir::Cm(..) => cm_long(alloc, text),
+        }
+    }
+
+    fn is_stored_as(&self, alloc: Global, text: &str, name: &Name) -> bool {
+        match self.name_of(alloc, text) {
+            Ok(read) => read == *name,
+            Err(_) => false,
+        }
     }
 }
 
-// What the `gocryptfs.diriv` of a directory holds.
-fn go_iv(args: &Arguments) -> Block {
-    args.array(1)
-}
-
-// The name whose text the last argument writes, in a directory of gocryptfs.
-fn go_read_text(args: &Arguments, answer: &Answer) -> Result<Name, NameFault> {
+// The name whose text the last argument writes.
+fn read(dir: &Dir, args: &Arguments, answer: &mut Answer) {
     let text = args.text(args.count().saturating_sub(1));
-    go_read(answer.alloc(), &go_keys(args), &go_iv(args), text)
-}
-
-// The name whose text the last argument writes, in a directory of Cryptomator.
-fn cm_read_text(args: &Arguments, answer: &Answer) -> Result<Name, NameFault> {
-    let text = args.text(args.count().saturating_sub(1));
-    cm_read(answer.alloc(), &keys(args, 0), args.bytes(2), text)
-}
-
-fn read_answer(read: Result<Name, NameFault>, answer: &mut Answer) {
-    match read {
+    match dir.name_of(answer.alloc(), text) {
         Ok(name) => answer.bytes(name.bytes()),
         Err(NameFault::NotStored) => answer.word("not stored"),
         Err(NameFault::NoMemory) => answer.lacks(),
     }
 }
 
-// Whether a text that was read is that of a name.
-fn is_read_as(read: Result<Name, NameFault>, name: &Name) -> bool {
-    match read {
-        Ok(read) => read == *name,
-        Err(_) => false,
-    }
-}
-
-// The answer of an entry's name, where nothing stands behind it and its text is read back.
-fn short(stored: &Stored, read: Result<Name, NameFault>, name: &Name, answer: &mut Answer) {
-    if stored.full.is_some() {
-        answer.word("a long name:");
-    }
-    if !is_read_as(read, name) {
-        answer.word("it isn't read back:");
-    }
+// The entry's name that stores the last argument. Nothing stands behind it, and it is read back.
+fn short(dir: &Dir, args: &Arguments, answer: &mut Answer) {
+    let Some(name) = name(args, args.count().saturating_sub(1), answer) else {
+        return;
+    };
+    let alloc = answer.alloc();
+    let Ok(stored) = dir.stored(alloc, &name) else {
+        return answer.lacks();
+    };
+    answer.unless(stored.full.is_none(), "a long name:");
+    let is_read_back = dir.is_stored_as(alloc, stored.name.as_str(), &name);
+    answer.unless(is_read_back, "it isn't read back:");
     answer.word(stored.name.as_str());
 }
 
-// The answer of an entry's name, behind which a text stands that gives the entry's name.
-fn long(stored: &Stored, wanted: &str, entry: Result<String, AllocError>, answer: &mut Answer) {
+// The entry's name that stores the argument before the last, whose text the last one writes. The text is read back, and has this entry.
+fn long(dir: &Dir, args: &Arguments, answer: &mut Answer) {
+    let last = args.count().saturating_sub(1);
+    let Some(name) = name(args, last.saturating_sub(1), answer) else {
+        return;
+    };
+    let (alloc, text) = (answer.alloc(), args.text(last));
+    answer.unless(dir.is_stored_as(alloc, text, &name), "it isn't read back:");
+    match dir.stored(alloc, &name) {
+        Ok(stored) => long_told(&stored, text, dir.entry_of(alloc, text), answer),
+        Err(_) => answer.lacks(),
+    }
+}
+
+fn long_told(stored: &Stored, text: &str, entry: Result<String, AllocError>, answer: &mut Answer) {
     match &stored.full {
-        Some(full) => {
-            if full.as_str() != wanted {
-                answer.word("another text:");
-            }
-        }
+        Some(full) => answer.unless(full.as_str() == text, "another text:"),
         None => answer.word("a short name:"),
     }
     match entry {
-        Ok(entry) => {
-            if entry.as_str() != stored.name.as_str() {
-                answer.word("its text has another entry:");
-            }
-        }
+        Ok(entry) => answer.unless(
+            entry.as_str() == stored.name.as_str(),
+            "its text has another entry:",
+        ),
         Err(_) => answer.lacks(),
     }
     answer.word(stored.name.as_str());
-}
-
-// How a name is stored in a directory of gocryptfs.
-fn go_stored(name: &Name, args: &Arguments, answer: &mut Answer) -> Option<Stored> {
-    let stored = go_store(answer.alloc(), &go_keys(args), &go_iv(args), name);
-    if stored.is_err() {
-        answer.lacks();
-    }
-    stored.ok()
-}
-
-// How a name is stored in a directory of Cryptomator.
-fn cm_stored(name: &Name, args: &Arguments, answer: &mut Answer) -> Option<Stored> {
-    let stored = cm_store(
-        answer.alloc(),
-        &keys(args, 0),
-        THRESHOLD,
-        args.bytes(2),
-        name,
-    );
-    if stored.is_err() {
-        answer.lacks();
-    }
-    stored.ok()
-}
-
-const THRESHOLD: u32 = 220;
-
-fn go_short(args: &Arguments, answer: &mut Answer) {
-    let Some(name) = name(args, 2, answer) else {
-        return;
-    };
-    if let Some(stored) = go_stored(&name, args, answer) {
-        let read = go_read(
-            answer.alloc(),
-            &go_keys(args),
-            &go_iv(args),
-            stored.name.as_str(),
-        );
-        short(&stored, read, &name, answer);
-    }
-}
-
-fn cm_short(args: &Arguments, answer: &mut Answer) {
-    let Some(name) = name(args, 3, answer) else {
-        return;
-    };
-    if let Some(stored) = cm_stored(&name, args, answer) {
-        let read = cm_read(
-            answer.alloc(),
-            &keys(args, 0),
-            args.bytes(2),
-            stored.name.as_str(),
-        );
-        short(&stored, read, &name, answer);
-    }
-}
-
-fn go_long_name(args: &Arguments, answer: &mut Answer) {
-    let Some(name) = name(args, 2, answer) else {
-        return;
-    };
-    if !is_read_as(go_read_text(args, answer), &name) {
-        answer.word("it isn't read back:");
-    }
-    if let Some(stored) = go_stored(&name, args, answer) {
-        let entry = go_long(answer.alloc(), args.text(3));
-        long(&stored, args.text(3), entry, answer);
-    }
-}
-
-fn cm_long_name(args: &Arguments, answer: &mut Answer) {
-    let Some(name) = name(args, 3, answer) else {
-        return;
-    };
-    if !is_read_as(cm_read_text(args, answer), &name) {
-        answer.word("it isn't read back:");
-    }
-    if let Some(stored) = cm_stored(&name, args, answer) {
-        let entry = cm_long(answer.alloc(), args.text(4));
-        long(&stored, args.text(4), entry, answer);
-    }
 }

@@ -26,12 +26,8 @@ pub fn answer(name: &str, args: &mut Arguments, answer: &mut Answer) -> bool {
 pub fn name(args: &Arguments, place: usize, answer: &mut Answer) -> Option<Name> {
     match Name::new(answer.alloc(), args.bytes(place)) {
         Ok(name) => Some(name),
-        Err(NameNewFault::BadName) => {
-            answer.word("bad name");
-            None
-        }
-        Err(NameNewFault::NoMemory) => {
-            answer.lacks();
+        Err(fault) => {
+            refused(fault, answer);
             None
         }
     }
@@ -44,11 +40,7 @@ fn name_back(args: &Arguments, answer: &mut Answer) {
     };
     answer.bytes(name.bytes());
     match name.copy() {
-        Ok(copy) => {
-            if copy != name {
-                answer.word("its copy is another");
-            }
-        }
+        Ok(copy) => answer.unless(copy == name, "its copy is another"),
         Err(_) => answer.lacks(),
     }
 }
@@ -58,11 +50,15 @@ fn shown(args: &Arguments, answer: &mut Answer) {
     let Some(name) = name(args, 0, answer) else {
         return;
     };
-    let (Ok(shown), Ok(of_bytes)) = (name.shown(), shown_text(answer.alloc(), args.bytes(0))) else {
+    let Ok(shown) = name.shown() else {
         return answer.lacks();
     };
-    if shown.as_str() != of_bytes.as_str() {
-        answer.word("its bytes are shown otherwise:");
+    match shown_text(answer.alloc(), args.bytes(0)) {
+        Ok(of_bytes) => answer.unless(
+            of_bytes.as_str() == shown.as_str(),
+            "its bytes are shown otherwise:",
+        ),
+        Err(_) => answer.lacks(),
     }
     answer.word(shown.as_str());
 }
@@ -98,17 +94,16 @@ fn mapped(args: &Arguments, answer: &mut Answer) {
         return;
     };
     let names = rule(args.word(0));
-    let new = match names.apply(answer.alloc(), &name) {
-        Ok(new) => new,
-        Err(fault) => return refused(fault, answer),
-    };
+    match names.apply(answer.alloc(), &name) {
+        Ok(new) => mapped_again(names, &new, answer),
+        Err(fault) => refused(fault, answer),
+    }
+}
+
+fn mapped_again(names: NameMap, new: &Name, answer: &mut Answer) {
     answer.bytes(new.bytes());
-    match names.apply(answer.alloc(), &new) {
-        Ok(again) => {
-            if again != new {
-                answer.word("another of that");
-            }
-        }
+    match names.apply(answer.alloc(), new) {
+        Ok(again) => answer.unless(again == *new, "another of that"),
         Err(fault) => refused(fault, answer),
     }
 }
@@ -119,29 +114,28 @@ fn mapped_path(args: &Arguments, answer: &mut Answer) {
         return answer.word("no path");
     };
     match path.mapped(rule(args.word(0))) {
-        Ok(new) => match new.shown() {
-            Ok(shown) => answer.word(shown.as_str()),
-            Err(_) => answer.lacks(),
-        },
+        Ok(new) => answer.made(new.shown()),
         Err(fault) => refused(fault, answer),
     }
 }
 
-// How many names a path has. It shows itself as it was written, and equals its copy.
 fn path_back(args: &Arguments, answer: &mut Answer) {
-    let path = match PlainPath::parse(answer.alloc(), args.text(0)) {
-        Ok(path) => path,
-        Err(PathFault::BadPath) => return answer.word("bad path"),
-        Err(PathFault::NoMemory) => return answer.lacks(),
-    };
-    let (Ok(shown), Ok(copy)) = (path.shown(), path.copy()) else {
-        return answer.lacks();
-    };
-    if shown.as_str() != args.text(0) {
-        answer.word("it is shown otherwise:");
+    match PlainPath::parse(answer.alloc(), args.text(0)) {
+        Ok(path) => path_told(&path, args.text(0), answer),
+        Err(PathFault::BadPath) => answer.word("bad path"),
+        Err(PathFault::NoMemory) => answer.lacks(),
     }
-    if copy != path {
-        answer.word("its copy is another:");
+}
+
+// How many names a path has. It shows itself as it was written, and equals its copy.
+fn path_told(path: &PlainPath, written: &str, answer: &mut Answer) {
+    match path.shown() {
+        Ok(shown) => answer.unless(shown.as_str() == written, "it is shown otherwise:"),
+        Err(_) => answer.lacks(),
+    }
+    match path.copy() {
+        Ok(copy) => answer.unless(copy == *path, "its copy is another:"),
+        Err(_) => answer.lacks(),
     }
     answer.shows(&path.names().len());
 }

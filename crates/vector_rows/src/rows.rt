@@ -6,41 +6,31 @@ use crate::calls::answer;
 use row_words::{Tally, cut};
 use std::alloc::{AllocError, Global};
 
-// A value, or the kinds of a call's arguments, with the name that a line gave it.
-#[derive(Drop)]
-struct Named {
-    name: String,
-    text: String,
-}
-
-/// What the lines so far gave names to: `let NAME VALUE` values, and `call NAME KIND ..` calls.
+/// What the lines so far gave names to: `let NAME VALUE` values, and `call NAME KIND ..` calls. Each is kept as `NAME TEXT`.
 #[derive(Drop)]
 pub struct Given {
     alloc: Global,
-    values: Vec<Named>,
-    calls: Vec<Named>,
+    values: Vec<String>,
+    calls: Vec<String>,
 }
 
-fn text_of<'a>(all: &'a [Named], name: &str) -> Option<&'a str> {
+fn text_of<'a>(all: &'a [String], name: &str) -> Option<&'a str> {
     for named in all {
-        if named.name.as_str() == name {
-            return Some(named.text.as_str());
+        let (known, text) = cut(named.as_str());
+        if known == name {
+            return Some(text);
         }
     }
     None
 }
 
 // Gives a text a name: `NAME TEXT`. It says whether the name was free.
-fn give(alloc: Global, all: &mut Vec<Named>, words: &str) -> Result<bool, AllocError> {
-    let (name, text) = cut(words);
+fn give(alloc: Global, all: &mut Vec<String>, words: &str) -> Result<bool, AllocError> {
+    let (name, _) = cut(words);
     if name.is_empty() || text_of(all.as_slice(), name).is_some() {
         return Ok(false);
     }
-    let (name, text) = (
-        String::from_str(alloc, name)?,
-        String::from_str(alloc, text)?,
-    );
-    all.push(Named { name, text })?;
+    all.push(String::from_str(alloc, words)?)?;
     Ok(true)
 }
 
@@ -70,13 +60,12 @@ impl Given {
     // Adds the value of the name at the front of a piece, and what stands behind the name.
     fn push_value(&self, out: &mut String, piece: &str) -> Result<(), AllocError> {
         let (name, comma) = piece.split_at(piece.find(',').unwrap_or(piece.len()));
-        match text_of(self.values.as_slice(), name) {
-            Some(value) => out.push_str(value)?,
-            None => {
-                out.push('$')?;
-                out.push_str(name)?;
-            }
-        }
+        let (front, value) = match text_of(self.values.as_slice(), name) {
+            Some(value) => ("", value),
+            None => ("$", name),
+        };
+        out.push_str(front)?;
+        out.push_str(value)?;
         out.push_str(comma)
     }
 }
@@ -84,49 +73,76 @@ impl Given {
 // The most arguments that a call has.
 const MOST: usize = 100;
 
+// The kind of the next argument, and the kinds behind it. A last kind with `..` behind it is that of all further ones.
+fn next_kind(kinds: &str) -> (&str, &str) {
+    let (kind, more) = cut(kinds);
+    match kind.strip_suffix("..") {
+        Some(every) => (every, kinds),
+        None => (kind, more),
+    }
+}
+
+// Whether the kinds behind those of all arguments want no further one.
+fn want_none(kinds: &str) -> bool {
+    kinds.is_empty() || kinds.ends_with("..") && !kinds.contains(' ')
+}
+
 impl Given {
-    // Reads arguments, each of its kind, and says whether they are those of a call with these kinds. A last kind with `..` behind it is
-    // that of all further ones.
+    // Reads arguments, each of its kind, and says whether they are those of a call with these kinds.
     fn read(&self, words: &str, kinds: &str, args: &mut Arguments) -> Result<bool, AllocError> {
         let (mut words, mut kinds) = (words, kinds);
         for _ in 0..MOST {
             if words.is_empty() {
-                return Ok(kinds.is_empty() || kinds.ends_with("..") && !kinds.contains(' '));
+                return Ok(want_none(kinds));
             }
             let (word, more) = cut(words);
-            words = more;
-            let (mut kind, more) = cut(kinds);
-            match kind.strip_suffix("..") {
-                Some(every) => kind = every,
-                None => kinds = more,
-            }
-            let word = self.written_out(word)?;
-            if !args.add(self.alloc, word.as_str(), kind)? {
+            let (kind, more_kinds) = next_kind(kinds);
+            if !self.read_one(word, kind, args)? {
                 return Ok(false);
             }
+            words = more;
+            kinds = more_kinds;
         }
         Ok(false)
     }
 
-    // Makes the call of a row, and shows its answer and the expected one; or says why the row isn't read.
-    fn called(&self, line: &str) -> Result<Result<(String, String), &'static str>, AllocError> {
+    fn read_one(&self, word: &str, kind: &str, args: &mut Arguments) -> Result<bool, AllocError> {
+        let word = self.written_out(word)?;
+        args.add(self.alloc, word.as_str(), kind)
+    }
+
+    // Makes the call of a row, and counts it by its answer and the expected one, or as one that isn't read.
+    fn called(&self, tally: &mut Tally, row: &str, line: &str) -> Result<String, AllocError> {
         let Some((call, expected)) = line.split_once(" = ") else {
-            return Ok(Err("it has no answer"));
+            return tally.unread(self.alloc, row, "it has no answer");
         };
         let (name, words) = cut(call);
         let Some(kinds) = text_of(self.calls.as_slice(), name) else {
-            return Ok(Err("a call that no line declares"));
+            return tally.unread(self.alloc, row, "a call that no line declares");
         };
         let mut args = Arguments::new(self.alloc);
         if !self.read(words, kinds, &mut args)? {
-            return Ok(Err("arguments of other kinds"));
+            return tally.unread(self.alloc, row, "arguments of other kinds");
         }
         let mut found = Answer::new(self.alloc);
         if !answer(name, &mut args, &mut found) {
-            return Ok(Err("no such call"));
+            return tally.unread(self.alloc, row, "no such call");
         }
+        self.compared(tally, row, &mut found, expected)
+    }
+
+    // Counts a row by its answer and the expected one.
+    fn compared(
+        &self,
+        tally: &mut Tally,
+        row: &str,
+        found: &mut Answer,
+        expected: &str,
+    ) -> Result<String, AllocError> {
         let expected = self.written_out(expected)?;
-        Ok(Ok(found.shown(expected.as_str())?))
+        let expected = found.shown_beside(expected.as_str())?;
+        let found = found.shown()?;
+        tally.compared(self.alloc, row, expected.as_str(), found.as_str())
     }
 
     // Gives a value a name.
@@ -134,36 +150,29 @@ impl Given {
         let words = self.written_out(words)?;
         give(self.alloc, &mut self.values, words.as_str())
     }
-}
 
-/// Plays a line and counts it where it is a row. It gives what is to be printed: nothing of a right row.
-pub fn play(
-    given: &mut Given,
-    tally: &mut Tally,
-    file: &str,
-    place: usize,
-    line: &str,
-) -> Result<String, AllocError> {
-    let alloc = given.alloc;
-    if line.is_empty() || line.starts_with('#') {
-        return Ok(String::new(alloc));
-    }
-    let (verb, rest) = cut(line);
-    let name = format!(in alloc; "{file}:{place} {verb}")?;
-    let is_free = match verb {
-        "let" => given.give_value(rest)?,
-        "call" => give(alloc, &mut given.calls, rest)?,
-        _ => {
-            return match given.called(line)? {
-                Ok((found, expected)) => {
-                    tally.compared(alloc, name.as_str(), expected.as_str(), found.as_str())
-                }
-                Err(why) => tally.unread(alloc, name.as_str(), why),
-            };
+    /// Plays a line and counts it where it is a row. It gives what is to be printed: nothing of a right row.
+    pub fn play(
+        &mut self,
+        tally: &mut Tally,
+        file: &str,
+        place: usize,
+        line: &str,
+    ) -> Result<String, AllocError> {
+        let alloc = self.alloc;
+        if line.is_empty() || line.starts_with('#') {
+            return Ok(String::new(alloc));
         }
-    };
-    if is_free {
-        return Ok(String::new(alloc));
+        let (verb, rest) = cut(line);
+        let row = format!(in alloc; "{file}:{place} {verb}")?;
+        let is_free = match verb {
+            "let" => self.give_value(rest)?,
+            "call" => give(alloc, &mut self.calls, rest)?,
+            _ => return self.called(tally, row.as_str(), line),
+        };
+        if is_free {
+            return Ok(String::new(alloc));
+        }
+        tally.unread(alloc, row.as_str(), "a name that isn't free")
     }
-    tally.unread(alloc, name.as_str(), "a name that isn't free")
 }

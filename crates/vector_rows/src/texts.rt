@@ -39,9 +39,8 @@ fn text(args: &Arguments, place: usize, answer: &mut Answer) -> Text {
 fn text_back(args: &Arguments, answer: &mut Answer) {
     let held = text(args, 0, answer);
     answer.bytes(held.as_str().as_bytes());
-    if held.into_string().as_str() != args.text(0) {
-        answer.word("another string is given back");
-    }
+    let is_given_back = held.into_string().as_str() == args.text(0);
+    answer.unless(is_given_back, "another string is given back");
 }
 
 fn text_copied(args: &Arguments, answer: &mut Answer) {
@@ -81,9 +80,8 @@ fn bytes(args: &Arguments, place: usize, answer: &mut Answer) -> Bytes {
 fn bytes_back(args: &Arguments, answer: &mut Answer) {
     let held = bytes(args, 0, answer);
     answer.bytes(held.as_slice());
-    if held.into_vec().as_slice() != args.bytes(0) {
-        answer.word("another vector is given back");
-    }
+    let is_given_back = held.into_vec().as_slice() == args.bytes(0);
+    answer.unless(is_given_back, "another vector is given back");
 }
 
 fn bytes_equal(args: &Arguments, answer: &mut Answer) {

@@ -1,5 +1,5 @@
 //! The rows of files, one after the other.
-use crate::course::Line;
+use crate::block::{Block, BlockKind};
 use crate::player::Player;
 use crate::playing::judge;
 use row_words::{cut, number};
@@ -8,27 +8,6 @@ use std::mem;
 
 // How many times a definition is added at most.
 const MOST_TIMES: u64 = 1_000;
-
-/// A block of lines: a definition, a row or a sweep.
-#[derive(Drop)]
-pub struct Block {
-    pub verb: String,
-    pub name: String,
-    pub lines: Vec<Line>,
-    // Why it can't be read, where it can't.
-    fault: Option<String>,
-}
-
-impl Block {
-    fn new(alloc: Global) -> Block {
-        Block {
-            verb: String::new(alloc),
-            name: String::new(alloc),
-            lines: Vec::new(alloc),
-            fault: None,
-        }
-    }
-}
 
 /// What was read so far: the definitions, and the block that is being read.
 #[derive(Drop)]
@@ -65,28 +44,29 @@ impl Book {
         self.wrong.as_str()
     }
 
-    // Where the line that is being read stands.
-    fn here(&self) -> Result<String, AllocError> {
-        let (alloc, number) = (self.alloc, self.number);
-        let file = self.file.as_str();
-        format!(in alloc; "{file}:{number}")
-    }
-
     // Notes why the block can't be read.
     fn fault(&mut self, what: &str) -> Result<(), AllocError> {
-        let alloc = self.alloc;
-        let here = self.here()?;
-        self.open.fault = Some(format!(in alloc; "  at {here}: {what}\n")?);
-        Ok(())
+        let (file, number) = (self.file.as_str(), self.number);
+        self.open.wrong.clear();
+        writeln!(self.open.wrong, "  at {file}:{number}: {what}")
+    }
+
+    // Whether there is a definition of this name.
+    fn is_defined(&self, name: &str) -> bool {
+        for def in &self.defs {
+            if def.name.as_str() == name {
+                return true;
+            }
+        }
+        false
     }
 
     // Adds the lines of a definition to the block, and says whether there is one.
     fn add_def(&mut self, name: &str) -> Result<bool, AllocError> {
         for def in &self.defs {
             if def.name.as_str() == name {
-                for line in &def.lines {
-                    self.open.lines.push(line.copy()?)?;
-                }
+                self.open.push(def.lines.as_str())?;
+                self.open.groups.push_str(def.groups.as_str())?;
                 return Ok(true);
             }
         }
@@ -108,97 +88,111 @@ impl Book {
     }
 
     // Adds a line to the block.
-    fn add(&mut self, text: &str) -> Result<(), AllocError> {
-        if self.open.verb.is_empty() {
+    fn add(&mut self, text: &str, begins_group: bool) -> Result<(), AllocError> {
+        if self.open.kind.is_none() {
             return self.fault("a line outside of all blocks");
         }
-        let line = Line {
-            at: self.here()?,
-            text: String::from_str(self.alloc, text)?,
-        };
-        self.open.lines.push(line)?;
-        Ok(())
+        let (alloc, number) = (self.alloc, self.number);
+        let file = self.file.as_str();
+        let line = format!(in alloc; "{file}:{number}\t{text}\n")?;
+        if begins_group {
+            self.open.groups.push_str(line.as_str())
+        } else {
+            self.open.push(line.as_str())
+        }
     }
 
     // Begins a block.
-    fn begin(&mut self, verb: &str, name: &str) -> Result<(), AllocError> {
-        if !self.open.verb.is_empty() {
+    fn begin(&mut self, kind: BlockKind, name: &str) -> Result<(), AllocError> {
+        if self.open.kind.is_some() {
             return self.fault("a block in a block");
         }
-        self.open.verb = String::from_str(self.alloc, verb)?;
-        self.open.name = String::from_str(self.alloc, name)?;
+        self.open.kind = Some(kind);
+        self.open.name.push_str(name)
+    }
+
+    // Says of a block whether it is right.
+    fn say(&mut self, block: &Block) -> Result<String, AllocError> {
+        let alloc = self.alloc;
+        let (name, why) = (block.name.as_str(), block.wrong.as_str());
+        let is_right = why.is_empty();
+        if !is_right {
+            let file = self.file.as_str();
+            writeln!(self.wrong, "wrong: {name} ({file})")?;
+        }
+        let verdict = if is_right { "right" } else { "wrong" };
+        format!(in alloc; "{verdict}: {name}\n{why}")
+    }
+
+    // Judges the block that was read, where nothing is wrong with it so far.
+    fn judge<P: Player>(&mut self) -> Result<(), AllocError> {
+        if !self.open.wrong.is_empty() {
+            return Ok(());
+        }
+        if !self.open.is_definition() {
+            return judge::<P>(self.alloc, &mut self.open);
+        }
+        if self.is_defined(self.open.name.as_str()) {
+            return self.open.wrong.push_str("  defined twice\n");
+        }
         Ok(())
     }
 
-    // Says of a row whether it is right.
-    fn say(&mut self, name: &str, wrong: Option<String>) -> Result<String, AllocError> {
-        let alloc = self.alloc;
-        match wrong {
-            None => format!(in alloc; "right: {name}\n"),
-            Some(text) => {
-                let file = self.file.as_str();
-                writeln!(self.wrong, "wrong: {name} ({file})")?;
-                format!(in alloc; "wrong: {name}\n{text}")
-            }
-        }
-    }
-
-    // Keeps a definition, and says that it is wrong where there is one of its name.
-    fn define(&mut self, block: Block) -> Result<String, AllocError> {
-        let alloc = self.alloc;
-        for def in &self.defs {
-            if def.name.as_str() == block.name.as_str() {
-                let why = String::from_str(alloc, "  defined twice\n")?;
-                let name = block.name.clone()?;
-                return self.say(name.as_str(), Some(why));
-            }
-        }
-        self.defs.push(block)?;
-        Ok(String::new(alloc))
-    }
-
-    // Takes the block that was read, and says what comes of it.
+    // Closes the block that was read, and says what comes of it.
     fn end<P: Player>(&mut self) -> Result<String, AllocError> {
-        let alloc = self.alloc;
-        let mut block = mem::replace(&mut self.open, Block::new(alloc));
-        let fault = block.fault.take();
-        let name = block.name.clone()?;
-        if fault.is_some() {
-            return self.say(name.as_str(), fault);
+        self.judge::<P>()?;
+        let block = mem::replace(&mut self.open, Block::new(self.alloc));
+        if block.is_definition() && block.wrong.is_empty() {
+            self.defs.push(block)?;
+            return Ok(String::new(self.alloc));
         }
-        if block.verb.as_str() == "def" {
-            return self.define(block);
+        self.say(&block)
+    }
+
+    // Adds the lines of a definition, which there has to be.
+    fn use_def(&mut self, name: &str) -> Result<(), AllocError> {
+        if self.add_def(name)? {
+            return Ok(());
         }
-        let wrong = judge::<P>(alloc, &block)?;
-        self.say(name.as_str(), wrong)
+        self.fault("no such definition")
+    }
+
+    // Adds the lines of a definition so many times: `COUNT NAME`.
+    fn use_times(&mut self, words: &str) -> Result<(), AllocError> {
+        if self.add_times(words)? {
+            return Ok(());
+        }
+        self.fault("no such definition so many times")
+    }
+
+    // Takes a line that doesn't end a block.
+    fn read(&mut self, line: &str) -> Result<(), AllocError> {
+        let (verb, rest) = cut(line);
+        match verb {
+            "def" => self.begin(BlockKind::Def, rest),
+            "row" => self.begin(BlockKind::Row, rest),
+            "sweep" => self.begin(BlockKind::Sweep, rest),
+            "use" => self.use_def(rest),
+            "times" => self.use_times(rest),
+            "" | "#" => Ok(()),
+            _ => self.add(line, verb == "group" || verb == "without"),
+        }
     }
 
     /// Takes a line, and says what comes of it.
     pub fn take<P: Player>(&mut self, line: &str) -> Result<String, AllocError> {
         self.number = self.number.saturating_add(1);
-        let (verb, rest) = cut(line);
-        match verb {
-            "row" | "sweep" | "def" => self.begin(verb, rest)?,
-            "use" => {
-                if !self.add_def(rest)? {
-                    self.fault("no such definition")?;
-                }
-            }
-            "times" => {
-                if !self.add_times(rest)? {
-                    self.fault("no such definition so many times")?;
-                }
-            }
-            "end" => return self.end::<P>(),
-            "" | "#" => {}
-            _ => self.add(line)?,
+        let (verb, _) = cut(line);
+        if verb == "end" {
+            return self.end::<P>();
         }
+        self.read(line)?;
         Ok(String::new(self.alloc))
     }
 
     /// Ends a file, and says what is wrong with a block that doesn't end.
     pub fn close<P: Player>(&mut self) -> Result<String, AllocError> {
-        if self.open.verb.is_empty() && self.open.fault.is_none() {
+        if self.open.kind.is_none() && self.open.wrong.is_empty() {
             return Ok(String::new(self.alloc));
         }
         self.fault("a block that doesn't end")?;

@@ -1,4 +1,5 @@
 //! How one playing of a row goes: its lines are played, and what each says is compared with what is expected right behind it.
+use crate::block::{for_words, placed};
 use crate::names::Names;
 use crate::player::Player;
 use crate::stage::{MOST_SHOWN, Stage};
@@ -6,162 +7,119 @@ use crate::stop::Stop;
 use row_words::{bytes_of, cut, push_shown};
 use std::alloc::{AllocError, Global};
 
-/// A line of a row, and where it stands.
-#[derive(Drop)]
-pub struct Line {
-    pub at: String,
-    pub text: String,
-}
-
-impl Line {
-    pub fn copy(&self) -> Result<Line, AllocError> {
-        Ok(Line {
-            at: self.at.clone()?,
-            text: self.text.clone()?,
-        })
-    }
-}
-
-/// A playing of a row.
+/// The playing of a row, or of a sweep in which a call fails.
 #[derive(Drop)]
 pub struct Course {
     alloc: Global,
     stage: Stage,
-    // Whether what no line expects is kept to be compared as a whole.
-    is_sweep: bool,
-    // What the last line said, and how many of these lines were expected.
-    said: Vec<String>,
+    /// The values that names have from the beginning of a play, a line `NAME VALUE` each.
+    pub values: String,
+    // The call that fails in turn, 0 in a row.
+    turn: u64,
+    // What the last line said, and how many lines of it were expected.
+    said: String,
     expected: usize,
     // The last line that was played.
     last: String,
-    // What was kept.
+    // What was said in a sweep and not expected, which is to be compared as a whole: lines as rows write them.
     kept: String,
     // What is wrong, where anything is.
-    wrong: Option<String>,
+    wrong: String,
 }
 
-// The expected line as it is said: a word with a count, which writes bytes, becomes what is shown of them.
-fn said_as(alloc: Global, line: &str) -> Result<String, AllocError> {
-    let mut text = String::new(alloc);
+// Adds a word of an expected line as it is said: one with a count, which writes bytes, becomes what is shown of them.
+fn push_word(alloc: Global, text: &mut String, word: &str) -> Result<(), AllocError> {
+    if word.contains('*') {
+        if let Some(bytes) = bytes_of(alloc, word)? {
+            return push_shown(text, bytes.as_slice(), MOST_SHOWN);
+        }
+    }
+    text.push_str(word)
+}
+
+// Adds an expected line as it is said.
+fn push_said_as(alloc: Global, text: &mut String, line: &str) -> Result<(), AllocError> {
     let mut in_text = false;
     for word in line.split(' ') {
-        in_text = in_text || word.starts_with('\'');
         if !text.is_empty() {
             text.push(' ')?;
         }
-        let bytes = if in_text || !word.contains('*') {
-            None
+        in_text = in_text || word.starts_with('\'');
+        if in_text {
+            text.push_str(word)?;
         } else {
-            bytes_of(alloc, word)?
-        };
-        match bytes {
-            Some(bytes) => push_shown(&mut text, bytes.as_slice(), MOST_SHOWN)?,
-            None => text.push_str(word)?,
+            push_word(alloc, text, word)?;
         }
     }
+    Ok(())
+}
+
+// An expected line as it is said.
+fn said_as(alloc: Global, line: &str) -> Result<String, AllocError> {
+    let mut text = String::new(alloc);
+    push_said_as(alloc, &mut text, line)?;
     Ok(text)
 }
 
+// The line of a text at a place.
+fn line_at(text: &str, place: usize) -> Option<&str> {
+    text.lines().nth(place)
+}
+
+// Adds lines, each behind this mark.
+fn push_lines(text: &mut String, mark: &str, lines: &str) -> Result<(), AllocError> {
+    for line in lines.lines() {
+        writeln!(text, "{mark} {line}")?;
+    }
+    Ok(())
+}
+
+// Notes what is wrong first.
+fn note_wrong(
+    wrong: &mut String,
+    last: &str,
+    expected: &str,
+    found: &str,
+) -> Result<(), AllocError> {
+    if !wrong.is_empty() {
+        return Ok(());
+    }
+    writeln!(
+        wrong,
+        "  at {last}\n  expected: {expected}\n  found: {found}"
+    )
+}
+
 impl Course {
-    pub fn new(alloc: Global, names: Names, is_sweep: bool) -> Result<Course, AllocError> {
+    pub fn new(alloc: Global) -> Result<Course, AllocError> {
         Ok(Course {
             alloc,
-            stage: Stage::new(alloc, names)?,
-            is_sweep,
-            said: Vec::new(alloc),
+            stage: Stage::new(alloc, Names::new(alloc))?,
+            values: String::new(alloc),
+            turn: 0,
+            said: String::new(alloc),
             expected: 0,
             last: String::new(alloc),
             kept: String::new(alloc),
-            wrong: None,
+            wrong: String::new(alloc),
         })
     }
 
-    // Notes what is wrong first.
-    fn is_wrong(&mut self, expected: &str, found: &str) -> Result<(), AllocError> {
-        let alloc = self.alloc;
-        let last = self.last.as_str();
-        let text = format!(in alloc; "  at {last}\n  expected: {expected}\n  found: {found}\n")?;
-        if self.wrong.is_none() {
-            self.wrong = Some(text);
-        }
-        Ok(())
-    }
-
-    // Comes to the end of the lines that are expected of the last one played.
-    fn end_line(&mut self) -> Result<(), AllocError> {
-        let said = std::mem::replace(&mut self.said, Vec::new(self.alloc));
-        if self.is_sweep && self.expected == 0 {
-            for line in &said {
-                self.kept.push_str(line.as_str())?;
-                self.kept.push('\n')?;
-            }
-        } else if let Some(line) = said.get(self.expected) {
-            self.is_wrong("no more lines", line.as_str())?;
-        }
+    // Begins anew.
+    fn begin(&mut self, turn: u64) -> Result<(), AllocError> {
+        self.stage = Stage::new(self.alloc, Names::new(self.alloc))?;
+        self.stage.names.add(self.values.as_str())?;
+        self.turn = turn;
+        self.said.clear();
         self.expected = 0;
+        self.last.clear();
+        self.kept.clear();
         Ok(())
     }
 
-    // Plays a line.
-    fn play_line<P: Player>(&mut self, at: &str, text: &str, turn: u64) -> Result<(), AllocError> {
-        let alloc = self.alloc;
-        self.end_line()?;
-        self.last = format!(in alloc; "{at}: {text}")?;
-        match self.stage.play::<P>(text, turn) {
-            Ok(said) => {
-                for line in said.as_str().lines() {
-                    self.said.push(String::from_str(alloc, line)?)?;
-                }
-                Ok(())
-            }
-            Err(Stop::NoMemory) => Err(AllocError),
-            Err(stop) => self.is_wrong("a line that can be played", stop.text()),
-        }
-    }
-
-    // Compares an expected line with the next one that was said.
-    fn expect(&mut self, at: &str, line: &str) -> Result<(), AllocError> {
-        let alloc = self.alloc;
-        let line = said_as(alloc, line)?;
-        let found = match self.said.get(self.expected) {
-            Some(found) => found.clone()?,
-            None => String::from_str(alloc, "no more lines")?,
-        };
-        self.expected = self.expected.saturating_add(1);
-        if found.as_str() != line.as_str() {
-            let line = format!(in alloc; "{line} ({at})")?;
-            self.is_wrong(line.as_str(), found.as_str())?;
-        }
-        Ok(())
-    }
-
-    /// Takes a line: plays it, or compares it with what was said where it begins with `=`. `turn` is the call that fails in turn.
-    pub fn take<P: Player>(&mut self, line: &Line, turn: u64) -> Result<(), AllocError> {
-        if self.wrong.is_some() {
-            return Ok(());
-        }
-        let (at, text) = (line.at.as_str(), line.text.as_str());
-        let Some(text) = self.stage.names.expand(text)? else {
-            return self.is_wrong("names that stand for something", text);
-        };
-        let (verb, expected) = cut(text.as_str());
-        if verb == "=" {
-            return self.expect(at, expected);
-        }
-        self.play_line::<P>(at, text.as_str(), turn)
-    }
-
-    /// Comes to the end of the row's lines.
-    pub fn end(&mut self) -> Result<(), AllocError> {
-        if self.wrong.is_none() {
-            self.end_line()?;
-        }
-        Ok(())
-    }
-
-    /// Takes what is wrong.
-    pub fn take_wrong(&mut self) -> Option<String> {
-        self.wrong.take()
+    /// Whether nothing is wrong so far.
+    pub fn is_right(&self) -> bool {
+        self.wrong.is_empty()
     }
 
     /// Whether the call that fails in turn was made.
@@ -169,16 +127,123 @@ impl Course {
         self.stage.is_hit()
     }
 
-    /// Takes what was said and is to be compared as a whole.
-    pub fn take_kept(&mut self) -> String {
-        std::mem::replace(&mut self.kept, String::new(self.alloc))
+    // Comes to the end of the lines that are expected of the last one played.
+    fn end_line(&mut self) -> Result<(), AllocError> {
+        if self.turn > 0 && self.expected == 0 {
+            push_lines(&mut self.kept, "=", self.said.as_str())?;
+        } else if let Some(line) = line_at(self.said.as_str(), self.expected) {
+            note_wrong(&mut self.wrong, self.last.as_str(), "no more lines", line)?;
+        }
+        self.said.clear();
+        self.expected = 0;
+        Ok(())
     }
 
-    /// An expected line as it is said; `None` where it can't be read.
-    pub fn said_as(&self, line: &str) -> Result<Option<String>, AllocError> {
-        match self.stage.names.expand(line)? {
-            Some(line) => Ok(Some(said_as(self.alloc, line.as_str())?)),
-            None => Ok(None),
+    // Plays a line.
+    fn play_line<P: Player>(&mut self, at: &str, text: &str) -> Result<(), AllocError> {
+        self.end_line()?;
+        self.last.clear();
+        write!(self.last, "{at}: {text}")?;
+        match self.stage.play::<P>(text, self.turn) {
+            Ok(said) => {
+                self.said = said;
+                Ok(())
+            }
+            Err(Stop::NoMemory) => Err(AllocError),
+            Err(stop) => self.is_wrong("a line that can be played", stop.text()),
         }
+    }
+
+    fn is_wrong(&mut self, expected: &str, found: &str) -> Result<(), AllocError> {
+        note_wrong(&mut self.wrong, self.last.as_str(), expected, found)
+    }
+
+    // Compares an expected line with the next one that was said.
+    fn expect(&mut self, at: &str, line: &str) -> Result<(), AllocError> {
+        let line = said_as(self.alloc, line)?;
+        let (line, last) = (line.as_str(), self.last.as_str());
+        let found = line_at(self.said.as_str(), self.expected).unwrap_or("no more lines");
+        self.expected = self.expected.saturating_add(1);
+        if found == line {
+            return Ok(());
+        }
+        writeln!(
+            self.wrong,
+            "  at {last}\n  expected: {line} ({at})\n  found: {found}"
+        )
+    }
+
+    // Takes a line: plays it, or compares it with what was said where it begins with `=`.
+    fn take<P: Player>(&mut self, at: &str, text: &str) -> Result<(), AllocError> {
+        let Some(expanded) = self.stage.names.expand(text)? else {
+            return self.is_wrong("names that stand for something", text);
+        };
+        let (verb, expected) = cut(expanded.as_str());
+        if verb == "=" {
+            return self.expect(at, expected);
+        }
+        self.play_line::<P>(at, expanded.as_str())
+    }
+
+    /// Plays lines from the beginning. `turn` is the call that fails in turn, 0 where none does.
+    pub fn play<P: Player>(&mut self, lines: &str, turn: u64) -> Result<(), AllocError> {
+        self.begin(turn)?;
+        for line in lines.lines() {
+            let (at, text) = placed(line);
+            if self.is_right() && for_words(text).is_none() {
+                self.take::<P>(at, text)?;
+            }
+        }
+        if self.is_right() {
+            self.end_line()?;
+        }
+        Ok(())
+    }
+
+    /// Adds a line that is expected of a sweep as a line that is kept is written.
+    pub fn push_expected(&self, text: &mut String, line: &str) -> Result<(), AllocError> {
+        let Some(line) = self.stage.names.expand(line)? else {
+            return writeln!(text, "= {line}");
+        };
+        let line = said_as(self.alloc, line.as_str())?;
+        writeln!(text, "= {line}")
+    }
+
+    /// What was said in a sweep and not expected, which is to be compared as a whole: lines as rows write them.
+    pub fn kept(&self) -> &str {
+        self.kept.as_str()
+    }
+
+    /// Notes what is wrong with the plays of a row as a whole.
+    pub fn fail(&mut self, what: &str) -> Result<(), AllocError> {
+        self.turn = 0;
+        self.wrong.push_str(what)
+    }
+
+    /// Notes that the groups that a sweep comes to aren't those that are expected, or that too few calls fail.
+    pub fn fail_groups(
+        &mut self,
+        expected: &str,
+        found: &str,
+        failed: u64,
+    ) -> Result<(), AllocError> {
+        self.turn = 0;
+        write!(
+            self.wrong,
+            "  expected:\n{expected}  found, where {failed} calls fail:\n{found}"
+        )
+    }
+
+    /// Adds what is wrong, where anything is.
+    pub fn tell(&self, text: &mut String) -> Result<(), AllocError> {
+        if self.is_right() {
+            return Ok(());
+        }
+        push_lines(text, "  for", self.values.as_str())?;
+        let turn = self.turn;
+        if turn > 0 {
+            writeln!(text, "  call {turn}")?;
+        }
+        text.push_str(self.wrong.as_str())
     }
 }

@@ -2,6 +2,7 @@
 //! how a file of rows is read and judged. What a line does that the stage doesn't know is its player's.
 #![tactic(auto)]
 
+mod block;
 mod book;
 mod course;
 pub mod handed;

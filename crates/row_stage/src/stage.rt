@@ -26,6 +26,17 @@ pub enum Object {
     Err,
 }
 
+fn object_named(word: &str) -> Option<Object> {
+    match word {
+        "folder" => Some(Object::Folder),
+        "random" => Some(Object::Random),
+        "input" => Some(Object::Input),
+        "out" => Some(Object::Out),
+        "err" => Some(Object::Err),
+        _ => None,
+    }
+}
+
 // The calls of each object that fail in the next run, counted from 1.
 #[derive(Drop)]
 struct Fails {
@@ -44,6 +55,38 @@ impl Fails {
             input: Vec::new(alloc),
             out: Vec::new(alloc),
             err: Vec::new(alloc),
+        }
+    }
+}
+
+// What a verb does: it lets a call fail, changes the folder, looks at it, gives the next run something, or is the player's.
+#[derive(Clone, Copy)]
+enum Part {
+    Fail,
+    Change,
+    Look,
+    Give,
+    Player,
+}
+
+impl Part {
+    fn of(verb: &str) -> Part {
+        match verb {
+            "fail" => Part::Fail,
+            "settle"
+            | "crash"
+            | "dir"
+            | "file"
+            | "more"
+            | "gone"
+            | "move"
+            | "copy"
+            | "flip"
+            | "cut"
+            | "other" => Part::Change,
+            "list" | "show" | "length" | "kind" | "left" => Part::Look,
+            "name" | "draw" | "in" | "take" | "piece" => Part::Give,
+            _ => Part::Player,
         }
     }
 }
@@ -174,13 +217,8 @@ impl Stage {
     fn fail(&mut self, words: &str, turn: u64) {
         let (object, words) = cut(words);
         let (call, count) = cut(words);
-        let object = match object {
-            "folder" => Object::Folder,
-            "random" => Object::Random,
-            "input" => Object::Input,
-            "out" => Object::Out,
-            "err" => Object::Err,
-            _ => return self.stop(Stop::Line),
+        let Some(object) = object_named(object) else {
+            return self.stop(Stop::Line);
         };
         let call = self.call(object, call, turn);
         let count = if count.is_empty() {
@@ -223,23 +261,24 @@ impl Stage {
     /// What the next run is handed beside the folder. Calls of the folder are counted from here on.
     pub fn hand(&mut self) -> Result<Handed, AllocError> {
         let alloc = self.alloc;
+        self.folder.begin_run(self.fails.folder.as_slice())?;
         let fails = mem::replace(&mut self.fails, Fails::none(alloc));
+        let out = taken(alloc, fails.out)?;
+        let err = taken(alloc, fails.err)?;
+        let drawn = self.drawn.clone()?;
         let input = mem::replace(&mut self.input, Vec::new(alloc));
-        self.folder.begin_run(fails.folder.as_slice())?;
-        let random = Drawn {
-            list: ListRandoms::new(self.drawn.clone()?, fails.random),
-            calls: 0,
-        };
-        let input = Pieces {
-            source: MemSource::new(input, fails.input),
-            most: self.most as usize,
-            calls: 0,
-        };
         Ok(Handed {
-            random,
-            input,
-            out: taken(alloc, fails.out)?,
-            err: taken(alloc, fails.err)?,
+            random: Drawn {
+                list: ListRandoms::new(drawn, fails.random),
+                calls: 0,
+            },
+            input: Pieces {
+                source: MemSource::new(input, fails.input),
+                most: self.most as usize,
+                calls: 0,
+            },
+            out,
+            err,
         })
     }
 
@@ -314,22 +353,12 @@ impl Stage {
     /// does. What the stage doesn't know is the player's.
     pub fn play<P: Player>(&mut self, line: &str, turn: u64) -> Result<String, Stop> {
         let (verb, words) = cut(line);
-        match verb {
-            "fail" => self.fail(words, turn),
-            "settle"
-            | "crash"
-            | "dir"
-            | "file"
-            | "more"
-            | "gone"
-            | "move"
-            | "copy"
-            | "flip"
-            | "cut"
-            | "other" => self.change(verb, words),
-            "list" | "show" | "length" | "kind" | "left" => self.look(verb, words),
-            "name" | "draw" | "in" | "take" | "piece" => self.give(verb, words),
-            _ => P::play(self, verb, words),
+        match Part::of(verb) {
+            Part::Fail => self.fail(words, turn),
+            Part::Change => self.change(verb, words),
+            Part::Look => self.look(verb, words),
+            Part::Give => self.give(verb, words),
+            Part::Player => P::play(self, verb, words),
         }
         match self.stop.take() {
             Some(stop) => Err(stop),

@@ -115,21 +115,20 @@ impl Stand {
         answer
     }
 
-    // The entries of a directory, with the one that is another.
-    fn entries(&mut self, at: &FPath) -> Result<Vec<Entry>, FolderFault>
-        ensures { self.new.faults ≡ self.old.faults }
-    {
-        let mut entries = self.folder.list(at)?;
-        if self.other.is_none() {
-            return Ok(entries);
-        }
-        for entry in entries.iter_mut() {
-            let below = at.child(entry.name.as_str())?;
-            if self.is_other(&below) {
-                entry.kind = Kind::Other;
+    // Has the entry of a directory that is another be neither a file nor a directory.
+    fn mark_other(&self, at: &FPath, entries: &mut [Entry]) {
+        let Some(other) = &self.other else {
+            return;
+        };
+        if let Some((name, parts)) = other.parts().split_last() {
+            if other.starts_with(at) && parts.len() == at.depth() {
+                for entry in entries {
+                    if entry.name.as_str() == name.as_str() {
+                        entry.kind = Kind::Other;
+                    }
+                }
             }
         }
-        Ok(entries)
     }
 }
 
@@ -152,7 +151,10 @@ impl Folder for Stand {
     }
 
     fn list(&mut self, at: &FPath) -> Result<Vec<Entry>, FolderFault> {
-        let answer = self.entries(at);
+        let mut answer = self.folder.list(at);
+        if let Ok(entries) = &mut answer {
+            self.mark_other(at, entries.as_mut_slice());
+        }
         self.counted(answer)
     }
 

@@ -63,7 +63,10 @@ fn write_journal(stage: &mut Stage, work: &FPath, words: &str) {
         Ok(plan) => plan,
         Err(_) => return stage.stop(Stop::Line),
     };
-    let (Some(source), Some(target)) = (parsed(stage, from), parsed(stage, to)) else {
+    let Some(source) = parsed(stage, from) else {
+        return;
+    };
+    let Some(target) = parsed(stage, to) else {
         return;
     };
     let journal = Journal {

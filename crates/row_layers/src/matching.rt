@@ -54,7 +54,7 @@ pub fn plan(stage: &mut Stage, word: &str) -> Plan {
     }
 }
 
-fn say_match(stage: &mut Stage, answer: Match) {
+fn say_match(stage: &mut Stage, answer: &Match) {
     match answer {
         Match::Same => stage.said.word("Same"),
         Match::Contained(path) => {
@@ -95,12 +95,15 @@ pub fn call_matching(stage: &mut Stage, words: &str) {
     let (a, words) = cut(words);
     let (a_plan, words) = cut(words);
     let (b, b_plan) = cut(words);
-    let (Some(a), Some(b)) = (vault_named(stage, a), vault_named(stage, b)) else {
+    let Some(a) = vault_named(stage, a) else {
+        return;
+    };
+    let Some(b) = vault_named(stage, b) else {
         return;
     };
     let (a_plan, b_plan) = (plan(stage, a_plan), plan(stage, b_plan));
     match holds_all(stage.alloc, &mut stage.folder, &a, &a_plan, &b, &b_plan) {
-        Ok(answer) => say_match(stage, answer),
+        Ok(answer) => say_match(stage, &answer),
         Err(fault) => {
             match_fault(&mut stage.said, &fault);
             stage.ended(1);

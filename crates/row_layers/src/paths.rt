@@ -50,14 +50,15 @@ fn read_path(stage: &mut Stage, word: &str) {
 }
 
 // Says the parts of a path that was made from its parts.
-fn say_parts(stage: &mut Stage, path: FPath) {
+fn say_parts(stage: &mut Stage, word: &str) {
+    let path = stage.path(word);
     let again = FPath::from_parts(path.into_parts());
     for part in again.parts() {
         stage.done(part.as_str());
     }
 }
 
-fn of_path(stage: &mut Stage, verb: &str, path: FPath, other: &str) {
+fn of_path(stage: &mut Stage, verb: &str, path: &FPath, other: &str) {
     match verb {
         "depth" => {
             stage.said.shows(&path.depth());
@@ -65,7 +66,6 @@ fn of_path(stage: &mut Stage, verb: &str, path: FPath, other: &str) {
         }
         "parent" => say_path(stage, path.parent()),
         "copy" => say_path(stage, path.copy()),
-        "parts" => say_parts(stage, path),
         "child" => say_path(stage, path.child(other)),
         _ => {
             let other = stage.path(other);
@@ -102,10 +102,13 @@ pub fn call_paths(stage: &mut Stage, verb: &str, words: &str) {
         return make_entry(stage, words);
     }
     let (verb, words) = cut(words);
-    if verb == "read" {
-        return read_path(stage, words);
-    }
     let (path, other) = cut(words);
-    let path = stage.path(path);
-    of_path(stage, verb, path, other);
+    match verb {
+        "read" => read_path(stage, words),
+        "parts" => say_parts(stage, path),
+        _ => {
+            let path = stage.path(path);
+            of_path(stage, verb, &path, other);
+        }
+    }
 }

@@ -24,42 +24,37 @@ const GO_KEYS: GoKeys = GoKeys {
     names: [4; 32],
 };
 
-const CM_VAULT: CmVault = CmVault {
-    keys: CmKeys {
-        enc: [5; 32],
-        mac: [6; 32],
-    },
-    combo: Combo::SivGcm,
-    threshold: 220,
+const CM_KEYS: CmKeys = CmKeys {
+    enc: [5; 32],
+    mac: [6; 32],
 };
 
-const CTR_VAULT: CmVault = CmVault {
-    keys: CmKeys {
-        enc: [5; 32],
-        mac: [6; 32],
-    },
-    combo: Combo::SivCtrMac,
-    threshold: 220,
-};
+fn cm_keys(combo: Combo) -> VaultKeys {
+    VaultKeys::Cryptomator(CmVault {
+        keys: CM_KEYS,
+        combo,
+        threshold: 220,
+    })
+}
+
+fn keys_named(word: &str) -> Option<VaultKeys> {
+    match word {
+        "go" => Some(VaultKeys::Gocryptfs(GO_KEYS)),
+        "cm" => Some(cm_keys(Combo::SivGcm)),
+        "ctr" => Some(cm_keys(Combo::SivCtrMac)),
+        _ => None,
+    }
+}
 
 /// The vault that a word names: `go:ROOT`, `cm:ROOT` and `ctr:ROOT` have keys of their own, `demo:ROOT` opens by the passphrase
 /// `demo`, and ROOT by that of the vaults in rows.
 pub fn vault_named(stage: &mut Stage, word: &str) -> Option<Vault> {
-    match word.split_once(':') {
-        Some(("go", root)) => {
-            let root = stage.path(root);
-            Some(Vault::new(root, VaultKeys::Gocryptfs(GO_KEYS)))
-        }
-        Some(("cm", root)) => {
-            let root = stage.path(root);
-            Some(Vault::new(root, VaultKeys::Cryptomator(CM_VAULT)))
-        }
-        Some(("ctr", root)) => {
-            let root = stage.path(root);
-            Some(Vault::new(root, VaultKeys::Cryptomator(CTR_VAULT)))
-        }
-        Some((_, root)) => vault_at(stage, root, b"demo"),
-        None => vault_at(stage, word, PASSPHRASE),
+    let Some((keys, root)) = word.split_once(':') else {
+        return vault_at(stage, word, PASSPHRASE);
+    };
+    match keys_named(keys) {
+        Some(keys) => Some(Vault::new(stage.path(root), keys)),
+        None => vault_at(stage, root, b"demo"),
     }
 }
 

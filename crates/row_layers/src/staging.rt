@@ -80,6 +80,27 @@ fn call_publish(stage: &mut Stage, verb: &str, staged: &FPath, at: &FPath, bytes
     say_folder(stage, answer);
 }
 
+// Puts a side file and then a file in their places.
+fn replace_both(
+    stage: &mut Stage,
+    staged: &FPath,
+    side: &FPath,
+    side_bytes: &[u8],
+    at: &FPath,
+    bytes: &[u8],
+) {
+    if staged.depth() == 0
+        || !are_places_apart(staged, side)
+        || !are_places_apart(staged, at)
+        || !is_not_below(side, at)
+    {
+        return stage.stop(Stop::Line);
+    }
+    let folder = &mut stage.folder;
+    let answer = replace_with_side_file(folder, staged, side, side_bytes, at, bytes);
+    say_folder(stage, answer);
+}
+
 // Puts a side file and then a file in their places: `STAGED SIDE BYTES AT BYTES`.
 fn call_side_file(stage: &mut Stage, words: &str) {
     let (staged, words) = cut(words);
@@ -88,22 +109,8 @@ fn call_side_file(stage: &mut Stage, words: &str) {
     let (at, bytes) = cut(words);
     let (staged, side, at) = (stage.path(staged), stage.path(side), stage.path(at));
     let (side_bytes, bytes) = (stage.bytes(side_bytes), stage.bytes(bytes));
-    if staged.depth() == 0
-        || !are_places_apart(&staged, &side)
-        || !are_places_apart(&staged, &at)
-        || !is_not_below(&side, &at)
-    {
-        return stage.stop(Stop::Line);
-    }
-    let answer = replace_with_side_file(
-        &mut stage.folder,
-        &staged,
-        &side,
-        side_bytes.as_slice(),
-        &at,
-        bytes.as_slice(),
-    );
-    say_folder(stage, answer);
+    let (side_bytes, bytes) = (side_bytes.as_slice(), bytes.as_slice());
+    replace_both(stage, &staged, &side, side_bytes, &at, bytes);
 }
 
 /// Plays a line that stages, publishes or removes.

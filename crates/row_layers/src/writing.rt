@@ -77,7 +77,10 @@ fn call_item(stage: &mut Stage, verb: &str, words: &str, handed: &mut Handed) {
     let (work, words) = cut(words);
     let (vault, path) = cut(words);
     let (work, path) = (stage.path(work), plain_path(stage, path));
-    let (Some(vault), Some(work)) = (vault_named(stage, vault), entered(stage, &work)) else {
+    let Some(vault) = vault_named(stage, vault) else {
+        return;
+    };
+    let Some(work) = entered(stage, &work) else {
         return;
     };
     call_place(stage, verb, &work, &vault, &path, handed);
@@ -103,10 +106,10 @@ fn call_copy(stage: &mut Stage, vault: &Vault, staged: &FPath, from: &FPath, han
     if staged.depth() == 0 || from.starts_with(staged) {
         return stage.stop(Stop::Line);
     }
-    let (Ok(mut buffers), Ok(reader)) = (
-        Buffers::new(stage.alloc),
-        ContentReader::start(stage.alloc, vault, from),
-    ) else {
+    let Ok(mut buffers) = Buffers::new(stage.alloc) else {
+        return stage.stop(Stop::NoMemory);
+    };
+    let Ok(reader) = ContentReader::start(stage.alloc, vault, from) else {
         return stage.stop(Stop::NoMemory);
     };
     let mut content = VaultContent::new(stage.alloc, reader);

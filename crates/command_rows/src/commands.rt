@@ -40,7 +40,10 @@ fn words_of(alloc: Global, text: &str) -> Result<Vec<String>, AllocError> {
 
 // Runs words, and says the status, and what both streams took.
 fn run_words(stage: &mut Stage, text: &str) {
-    let (Ok(words), Ok(mut handed)) = (words_of(stage.alloc, text), stage.hand()) else {
+    let Ok(words) = words_of(stage.alloc, text) else {
+        return stage.stop(Stop::NoMemory);
+    };
+    let Ok(mut handed) = stage.hand() else {
         return stage.stop(Stop::NoMemory);
     };
     let status = run(

@@ -18,18 +18,28 @@ fn main(rt: HostRuntime) -> ExitCode {
     }
 }
 
+// Takes a line, and prints what comes of it.
+fn play_line(rt: &HostRuntime, book: &mut Book, line: &str) -> io::Result<()> {
+    let said = book.take::<Commands>(line)?;
+    print!(rt; "{said}")
+}
+
+// Plays the rows of a file.
+fn play_file(rt: &HostRuntime, book: &mut Book, name: &str) -> io::Result<()> {
+    let text = fs::read_to_string(rt, name)?;
+    book.open(name)?;
+    for line in text.as_str().lines() {
+        play_line(rt, book, line)?;
+    }
+    let said = book.close::<Commands>()?;
+    print!(rt; "{said}")
+}
+
 // Plays the rows of each file, and says whether all are right.
 fn play_files(rt: &HostRuntime) -> io::Result<bool> {
     let mut book = Book::new(rt.alloc());
     for name in env::args(rt)?.skip(1) {
-        let text = fs::read_to_string(rt, name.as_str())?;
-        book.open(name.as_str())?;
-        for line in text.as_str().lines() {
-            let said = book.take::<Commands>(line)?;
-            print!(rt; "{said}")?;
-        }
-        let said = book.close::<Commands>()?;
-        print!(rt; "{said}")?;
+        play_file(rt, &mut book, name.as_str())?;
     }
     let wrong = book.wrong();
     eprint!(rt; "{wrong}")?;

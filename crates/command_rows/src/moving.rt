@@ -133,7 +133,10 @@ fn call_begin(stage: &mut Stage, words: &str, handed: &mut Handed) {
         NameMap::Same
     };
     let work = stage.path(work);
-    let (Some(from), Some(to)) = (parsed(stage, from), parsed(stage, to)) else {
+    let Some(from) = parsed(stage, from) else {
+        return;
+    };
+    let Some(to) = parsed(stage, to) else {
         return;
     };
     let (alloc, folder, random) = (stage.alloc, &mut stage.folder, &mut handed.random);

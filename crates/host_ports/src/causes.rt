@@ -43,6 +43,12 @@ impl From<AllocError> for Cause {
     }
 }
 
+impl From<io::Error> for Cause {
+    fn from(error: io::Error) -> Cause {
+        cause_of(&error)
+    }
+}
+
 impl Cause {
     /// What is said of it.
     pub fn message(self, alloc: Global) -> Result<String, AllocError> {
@@ -78,7 +84,7 @@ impl Trouble {
 }
 
 // The cause that an error is. What stands in the way of a call refuses it.
-pub fn cause_of(error: &io::Error) -> Cause
+fn cause_of(error: &io::Error) -> Cause
     ensures { (result ≡ Cause.NoMemory) ↔ (error_kind error.now ≡ ErrorKind.OutOfMemory) }
 {
     match error.kind() {

@@ -1,6 +1,6 @@
 //! What a run holds for itself while it works, by locks of directories.
 
-use crate::causes::{Cause, cause_of};
+use crate::causes::Cause;
 use crate::places::{Node, metadata_at, text_of, up_to};
 use folder_model::FPath;
 use std::alloc::Global;
@@ -203,7 +203,7 @@ impl Claim {
 // The directory at a text of so many parts below the base; `None` where none stands there. A link counts as a directory only at the base.
 fn node_at(rt: &HostRuntime, text: &str, depth: usize) -> Result<Option<Node>, Cause> {
     let found = if depth == 0 {
-        Some(fs::metadata(rt, text).map_err(|error| cause_of(&error))?)
+        Some(fs::metadata(rt, text)?)
     } else {
         metadata_at(rt, text)?
     };
@@ -236,7 +236,7 @@ fn try_lock(rt: &HostRuntime, text: &str, depth: usize, hold: Hold) -> Result<Tr
         Err(error) => return unopened(node, error.kind()),
     };
     take(&file, hold)?;
-    let opened = file.metadata().map_err(|error| cause_of(&error))?;
+    let opened = file.metadata()?;
     let opened = Some(Node::of(&opened));
     if opened == Some(node) && node_at(rt, text, depth)? == opened {
         Ok(Tried::Held(Held {

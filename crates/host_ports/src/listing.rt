@@ -6,7 +6,7 @@ ghost use Rattle.std.specs.List.Sorted.{IsSortedByKey};
 ghost use Rattle.std.specs.Ordering.{nat_cmp};
 ghost use Rattle.folder_spec.specs.Listing.{Item};
 
-use crate::causes::{Cause, cause_of, kind_of};
+use crate::causes::{Cause, kind_of};
 use folder_model::Entry;
 use std::alloc::Global;
 use std::fs::DirEntry;
@@ -17,7 +17,7 @@ use std::{fs, io};
 pub fn entries_of(rt: &HostRuntime, alloc: Global, text: &str) -> Result<Vec<Entry>, Cause>
     ensures { IfOk result (λ entries. IsSortedByKey (λ (entry : Item). entry.name) (slice_cmp nat_cmp) entries.items) }
 {
-    let found = fs::read_dir(rt, text).map_err(|error| cause_of(&error))?;
+    let found = fs::read_dir(rt, text)?;
     let mut entries = Vec::new(alloc);
     for entry in found {
         add_found(alloc, &mut entries, entry)?;
@@ -44,17 +44,17 @@ fn add_found(
 fn entry_of(alloc: Global, found: io::Result<DirEntry<HostRuntime, Global>>) -> Result<Entry, Cause>
     ensures { IsErr found → IsErr result }
 {
-    let entry = found.map_err(|error| unlisted(&error))?;
-    let stands = entry.file_type().map_err(|error| cause_of(&error))?;
+    let entry = found.map_err(unlisted)?;
+    let stands = entry.file_type()?;
     let name = String::from_str(alloc, entry.file_name())?;
     Ok(Entry::new(name, kind_of(stands)))
 }
 
 // Why an entry isn't listed. A name that isn't UTF-8 is found as an error.
-fn unlisted(error: &io::Error) -> Cause {
+fn unlisted(error: io::Error) -> Cause {
     match error.kind() {
         ErrorKind::InvalidFilename => Cause::NotText,
-        _ => cause_of(error),
+        _ => Cause::from(error),
     }
 }
 

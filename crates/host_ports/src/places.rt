@@ -7,7 +7,7 @@ ghost use Rattle.folder_spec.specs.Path.{parent};
 ghost use Rattle.host_ports.specs.Noted.{Sees, has};
 ghost use Rattle.host_ports.specs.Places.{is_entry_name, names_entries, place_text};
 
-use crate::causes::{Cause, cause_of, kind_of};
+use crate::causes::{Cause, kind_of};
 use crate::noted::Noted;
 use folder_model::{FPath, Kind};
 use std::alloc::{AllocError, Global};
@@ -84,7 +84,7 @@ pub fn metadata_at(rt: &HostRuntime, text: &str) -> Result<Option<Metadata>, Cau
     match fs::symlink_metadata(rt, text) {
         Ok(metadata) => Ok(Some(metadata)),
         Err(error) if error.kind() == ErrorKind::NotFound => Ok(None),
-        Err(error) => Err(cause_of(&error)),
+        Err(error) => Err(Cause::from(error)),
     }
 }
 
@@ -101,10 +101,18 @@ pub fn text_of(alloc: Global, base: &str, parts: &[String]) -> Result<String, Al
     ensures { IfOk result (λ text. string_bytes text ≡ place_text base.now (map (λ s. string_bytes s) parts.now)) }
 {
     let mut text = String::from_str(alloc, base)?;
-    for part in parts {
-        add_part(&mut text, part.as_str())?;
-    }
+    add_parts(&mut text, parts)?;
     Ok(text)
+}
+
+// Adds each of these parts behind a slash.
+fn add_parts(text: &mut String, parts: &[String]) -> Result<(), AllocError>
+    ensures { OnOk result (string_bytes text.new ≡ place_text (string_bytes text.old) (map (λ s. string_bytes s) parts.now)) }
+{
+    for part in parts {
+        add_part(text, part.as_str())?;
+    }
+    Ok(())
 }
 
 // Adds a part behind a slash.
@@ -140,9 +148,7 @@ fn walk(
     let mut here = FPath::base(alloc);
     let mut text = String::from_str(alloc, base)?;
     for (index, part) in dir.parts().iter().enumerate() {
-        here = here.child(part.as_str())?;
-        add_part(&mut text, part.as_str())?;
-        if !noted.knows(&here) && !is_directory(rt, text.as_str())? {
+        if !goes_down(rt, noted, &mut here, &mut text, part.as_str())? {
             return Ok(Walked {
                 looked: index.saturating_add(1),
                 reached: false,
@@ -153,6 +159,19 @@ fn walk(
         looked: dir.depth(),
         reached: true,
     })
+}
+
+// Goes one part further down from a path and its text: whether a directory stands there. What was found once isn't looked at again.
+fn goes_down(
+    rt: &HostRuntime,
+    noted: &Noted,
+    here: &mut FPath,
+    text: &mut String,
+    part: &str,
+) -> Result<bool, Cause> {
+    *here = here.child(part)?;
+    add_part(text, part)?;
+    Ok(noted.knows(here) || is_directory(rt, text.as_str())?)
 }
 
 // Whether a directory stands at a path, and no link leads there. What was found once isn't looked at again.

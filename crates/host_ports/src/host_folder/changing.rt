@@ -6,16 +6,16 @@ ghost use Rattle.host_ports.specs.Calls.{ChangesAt, HeedsBar, LooksAt};
 ghost use Rattle.host_ports.specs.Noted.{Sees, SeesBut, has, same};
 ghost use Rattle.host_ports.specs.Places.{names_entries};
 
-use crate::causes::{Cause, cause_of};
+use crate::causes::Cause;
 use crate::handles::Made;
 use crate::host_folder::HostFolder;
 use crate::pieces::put;
 use crate::places::{Node, test_names};
 use folder_model::{FPath, Kind};
 use std::alloc::AllocError;
-use std::fs;
 use std::fs::{DirBuilder, OpenOptions};
 use std::os::unix::fs::{DirBuilderExt, OpenOptionsExt, PermissionsExt};
+use std::{fs, io};
 
 // Who may use what is made: its owner alone.
 const FILE_MODE: u32 = 0o600;
@@ -23,24 +23,24 @@ const FILE_MODE: u32 = 0o600;
 const DIRECTORY_MODE: u32 = 0o700;
 
 // Makes a directory.
-fn create_dir(rt: &HostRuntime, text: &str) -> Result<(), Cause> {
+fn create_dir(rt: &HostRuntime, text: &str) -> io::Result<()> {
     let mut builder = DirBuilder::new();
     builder.mode(DIRECTORY_MODE);
-    builder.create(rt, text).map_err(|error| cause_of(&error))
+    builder.create(rt, text)
 }
 
 // Makes a file, and opens it at its end.
-fn create_file(rt: &HostRuntime, text: &str) -> Result<fs::File, Cause> {
+fn create_file(rt: &HostRuntime, text: &str) -> io::Result<fs::File> {
     let mut options = OpenOptions::new();
     options.append(true).create_new(true).mode(FILE_MODE);
-    options.open(rt, text).map_err(|error| cause_of(&error))
+    options.open(rt, text)
 }
 
 // Opens a file at its end.
-fn open_to_append(rt: &HostRuntime, text: &str) -> Result<fs::File, Cause> {
+fn open_to_append(rt: &HostRuntime, text: &str) -> io::Result<fs::File> {
     let mut options = OpenOptions::new();
     options.append(true);
-    options.open(rt, text).map_err(|error| cause_of(&error))
+    options.open(rt, text)
 }
 
 #[tactic(auto, using(crate::proofs::Dirs::sees_same, crate::proofs::Dirs::sees_after))]
@@ -91,21 +91,21 @@ impl HostFolder {
         let text = self.make_room(at)?;
         self.forget_below(at);
         create_dir(&self.rt, text.as_str())?;
-        self.claims
-            .hold_made(&self.rt, self.alloc, self.base.as_str(), at)?;
-        self.keep_new_dir(at);
-        Ok(())
+        self.keep_new_dir(at)
     }
 
-    // Keeps that nothing stands in a directory that was just made. Where it is a claimed one itself, another run may have held it before
-    // this one did.
-    fn keep_new_dir(&mut self, at: &FPath)
+    // Holds a directory that was just made, if it is a claimed one, and keeps that nothing stands in it. Where it is a claimed one itself,
+    // another run may have held it before this one did.
+    fn keep_new_dir(&mut self, at: &FPath) -> Result<(), Cause>
         ensures { self.new ≡ self.old }
     {
+        self.claims
+            .hold_made(&self.rt, self.alloc, self.base.as_str(), at)?;
         self.kinds.learn(at, Kind::Dir);
         if self.claims.hold_above(at) {
             self.kinds.keep_all(at, &[]);
         }
+        Ok(())
     }
 
     pub(super) fn add_file(&mut self, at: &FPath) -> Result<(), Cause>
@@ -114,9 +114,16 @@ impl HostFolder {
         ensures faults { self.new.faults ≡ self.old.faults }
     {
         let text = self.make_room(at)?;
+        self.create_at(at, text.as_str())
+    }
+
+    // Makes a file at a path with this text, and keeps it open.
+    fn create_at(&mut self, at: &FPath, text: &str) -> Result<(), Cause>
+        ensures { self.new ≡ self.old }
+    {
         let copy = at.copy()?;
         self.forget_below(at);
-        let file = create_file(&self.rt, text.as_str())?;
+        let file = create_file(&self.rt, text)?;
         self.kinds.learn(at, Kind::File);
         self.keep_made(copy, file);
         Ok(())
@@ -157,7 +164,7 @@ impl HostFolder {
     {
         self.may_change(at)?;
         let text = self.place_of(at, Kind::File)?;
-        open_to_append(&self.rt, text.as_str())
+        Ok(open_to_append(&self.rt, text.as_str())?)
     }
 
     pub(super) fn remove_file_now(&mut self, at: &FPath) -> Result<(), Cause>
@@ -166,7 +173,7 @@ impl HostFolder {
         ensures faults { self.new.faults ≡ self.old.faults }
     {
         let text = self.take_file(at)?;
-        fs::remove_file(&self.rt, text.as_str()).map_err(|error| cause_of(&error))?;
+        fs::remove_file(&self.rt, text.as_str())?;
         self.forget_below(at);
         self.kinds.learn(at, Kind::Missing);
         Ok(())
@@ -185,7 +192,7 @@ impl HostFolder {
             return Err(Cause::InTheWay);
         }
         let text = self.make_room(at)?;
-        fs::remove_dir(&self.rt, text.as_str()).map_err(|error| cause_of(&error))?;
+        fs::remove_dir(&self.rt, text.as_str())?;
         self.forget_below(at);
         self.kinds.learn(at, Kind::Missing);
         self.noted.forget(at);

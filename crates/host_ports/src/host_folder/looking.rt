@@ -1,6 +1,6 @@
 //! What the machine's folder looks at and reads.
 
-ghost use Rattle.std.specs.Prelude.{◌≡◌, ◌≤◌, ◌≢◌, ◌⊎◌, IfErr, IfOk, OnOk, IsTrue, IsSome, length};
+ghost use Rattle.std.specs.Prelude.{◌≡◌, ◌≤◌, ◌≢◌, ◌⊎◌, IfErr, IfOk, IfSome, OnOk, IsTrue, IsSome, None, length};
 ghost use Rattle.std.specs.Cmp.Lexicographic.{slice_cmp};
 ghost use Rattle.std.specs.List.Sorted.{IsSortedByKey};
 ghost use Rattle.std.specs.Ordering.{nat_cmp};
@@ -11,7 +11,7 @@ ghost use Rattle.host_ports.specs.Causes.{IsFailure};
 ghost use Rattle.host_ports.specs.Calls.{LooksAt};
 ghost use Rattle.host_ports.specs.Noted.{has};
 
-use crate::causes::{Cause, cause_of};
+use crate::causes::Cause;
 use crate::handles::Opened;
 use crate::host_folder::HostFolder;
 use crate::listing::entries_of;
@@ -139,9 +139,31 @@ impl HostFolder {
         ensures faults { self.new.faults ≡ self.old.faults }
     {
         test_names(at)?;
-        if let Some(opened) = self.handles.read.open_at(at) {
-            return fill_from(&opened.file, start, out);
+        match self.open_bytes(at, start, out) {
+            Some(answer) => answer,
+            None => self.opened_bytes(at, start, out),
         }
+    }
+
+    // Reads from the file that is open at a path, where one is.
+    fn open_bytes(&mut self, at: &FPath, start: u64, out: &mut [u8]) -> Option<Result<usize, Cause>>
+        ensures same { self.new ≡ self.old }
+        ensures within { IfSome result (λ answer. IfOk answer (λ n. n ≤ length out.old)) }
+        ensures failed { IfSome result (λ answer. IfErr answer IsFailure) }
+        ensures unread { result ≡ None → out.new ≡ out.old }
+    {
+        let opened = self.handles.read.open_at(at)?;
+        Some(fill_from(&opened.file, start, out))
+    }
+
+    // Opens a file, reads from it and keeps it open.
+    fn opened_bytes(&mut self, at: &FPath, start: u64, out: &mut [u8]) -> Result<usize, Cause>
+        ensures looks { LooksAt at.now self.old.dirs self.new.dirs result }
+        ensures within { IfOk result (λ n. n ≤ length out.old) }
+        ensures unread { IfErr result (λ cause. IsFailure cause ⊎ (out.new ≡ out.old)) }
+        ensures bar { self.new.barred ≡ self.old.barred }
+        ensures faults { self.new.faults ≡ self.old.faults }
+    {
         let opened = self.opened(at)?;
         let answer = fill_from(&opened.file, start, out);
         self.handles.read.keep(opened);
@@ -157,7 +179,7 @@ impl HostFolder {
         let text = self.place_of(at, Kind::File)?;
         Ok(Opened {
             at: at.copy()?,
-            file: fs::open(&self.rt, text.as_str()).map_err(|error| cause_of(&error))?,
+            file: fs::open(&self.rt, text.as_str())?,
         })
     }
 }

@@ -7,7 +7,7 @@ ghost use Rattle.host_ports.specs.Calls.{HeedsBar};
 ghost use Rattle.host_ports.specs.Noted.{IsJust, IsSettled, Sees, has};
 ghost use Rattle.host_ports.specs.Places.{names_entries};
 
-use crate::causes::{Cause, cause_of};
+use crate::causes::Cause;
 use crate::handles::Made;
 use crate::host_folder::HostFolder;
 use crate::places::{Node, Place};
@@ -124,9 +124,7 @@ impl HostFolder {
     ) -> Result<(), Cause>
         ensures { self.new ≡ self.old }
     {
-        fs::rename(&self.rt, from.text.as_str(), to.text.as_str()).map_err(|error| cause_of(
-            &error,
-        ))?;
+        fs::rename(&self.rt, from.text.as_str(), to.text.as_str())?;
         self.forget_below(old);
         self.forget_below(new);
         self.keep_kind(old, Kind::Missing);

@@ -4,15 +4,15 @@ ghost use Rattle.std.specs.Prelude.{◌≡◌, OnErr, OnOk};
 ghost use Rattle.host_ports.specs.Calls.{HeedsBar, LooksAt};
 ghost use Rattle.host_ports.specs.Noted.{IsSettled};
 
-use crate::causes::{Cause, Trouble, cause_of};
+use crate::causes::{Cause, Trouble};
 use crate::handles::{Opened, Pair};
 use crate::host_folder::HostFolder;
 use crate::noted::Noted;
 use crate::places::{test_names, text_of};
 use folder_model::{FPath, Kind};
 use std::alloc::Global;
-use std::fs;
 use std::io::ErrorKind;
+use std::{fs, io};
 
 #[tactic(auto, using(crate::proofs::Dirs::sees_same, crate::proofs::Dirs::sees_after))]
 impl HostFolder {
@@ -24,23 +24,22 @@ impl HostFolder {
         self.test_barred()?;
         test_names(at)?;
         if let Some(synced) = self.sync_made(at) {
-            return synced;
+            return Ok(synced?);
         }
         self.may_change(at)?;
         let text = self.place_of(at, Kind::File)?;
-        self.sync_at(text.as_str())
+        Ok(self.sync_at(text.as_str())?)
     }
 
     // Syncs the file that was made last, where it was made there.
-    fn sync_made(&self, at: &FPath) -> Option<Result<(), Cause>> {
+    fn sync_made(&self, at: &FPath) -> Option<io::Result<()>> {
         let made = self.handles.made_at(at)?;
-        Some(made.file.sync_all().map_err(|error| cause_of(&error)))
+        Some(made.file.sync_all())
     }
 
     // Syncs what stands at a text.
-    fn sync_at(&self, text: &str) -> Result<(), Cause> {
-        let file = fs::open(&self.rt, text).map_err(|error| cause_of(&error))?;
-        file.sync_all().map_err(|error| cause_of(&error))
+    fn sync_at(&self, text: &str) -> io::Result<()> {
+        fs::open(&self.rt, text)?.sync_all()
     }
 
     pub(super) fn settle_now(&mut self) -> Result<(), Cause>
@@ -114,17 +113,17 @@ fn sync_dir(
     dir: &FPath,
 ) -> Result<(), Cause> {
     if let Some(opened) = synced.open_at(dir) {
-        return opened.file.sync_all().map_err(|error| cause_of(&error));
+        return Ok(opened.file.sync_all()?);
     }
     let mut text = text_of(alloc, base, dir.parts())?;
     text.push_str("/.")?;
     let opened = Opened {
         at: dir.copy()?,
-        file: fs::open(rt, text.as_str()).map_err(|error| cause_of(&error))?,
+        file: fs::open(rt, text.as_str())?,
     };
-    let answer = opened.file.sync_all().map_err(|error| cause_of(&error));
+    let answer = opened.file.sync_all();
     synced.keep(opened);
-    answer
+    Ok(answer?)
 }
 
 // Whether a directory that this process hasn't changed is passed over where a sync of it fails for this cause: it may not be opened, or

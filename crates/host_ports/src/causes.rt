@@ -13,7 +13,7 @@ use std::io;
 use std::io::ErrorKind;
 
 /// Why a call failed or was refused.
-#[derive(Clone, Copy, PartialEq, Eq)]
+#[derive(Clone, Copy)]
 pub enum Cause {
     /// What stands there, or that nothing does, is in the way of the call.
     InTheWay,

@@ -12,7 +12,7 @@ use std::io::ErrorKind;
 const TRIES: u32 = 100;
 
 /// Whether other runs may hold the same directory.
-#[derive(Clone, Copy, PartialEq, Eq)]
+#[derive(Clone, Copy)]
 pub enum Hold {
     Alone,
     Shared,
@@ -90,16 +90,22 @@ impl Claims {
 
     /// Whether a path is that of a claimed directory that is held, or lies below one.
     pub fn hold(&self, at: &FPath) -> bool {
-        self.claims
-            .iter()
-            .any(|claim| claim.is_held() && at.starts_with(&claim.at))
+        self.holding(at).is_some()
     }
 
     /// Whether a path lies below a claimed directory that is held.
     pub fn hold_above(&self, at: &FPath) -> bool {
-        self.claims.iter().any(|claim| claim.is_held()
-            && claim.at.depth() < at.depth()
-            && at.starts_with(&claim.at))
+        match self.holding(at) {
+            Some(claim) => claim.at.depth() < at.depth(),
+            None => false,
+        }
+    }
+
+    // The claim of a directory that is held, at a path or above it. There is one at most, since none lies in another.
+    fn holding(&self, at: &FPath) -> Option<&Claim> {
+        self.claims
+            .iter()
+            .find(|claim| claim.is_held() && at.starts_with(&claim.at))
     }
 
     /// Sees to it that what stands now at each claimed path at or above this one is held.
@@ -207,11 +213,10 @@ fn node_at(rt: &HostRuntime, text: &str, depth: usize) -> Result<Option<Node>, C
     } else {
         metadata_at(rt, text)?
     };
-    Ok(
-        found
-            .filter(|metadata| metadata.is_dir())
-            .map(|metadata| Node::of(&metadata)),
-    )
+    match found {
+        Some(metadata) if metadata.is_dir() => Ok(Some(Node::of(&metadata))),
+        _ => Ok(None),
+    }
 }
 
 // Locks the directory at a text; `None` where none stands there.
@@ -236,9 +241,7 @@ fn try_lock(rt: &HostRuntime, text: &str, depth: usize, hold: Hold) -> Result<Tr
         Err(error) => return unopened(node, error.kind()),
     };
     take(&file, hold)?;
-    let opened = file.metadata()?;
-    let opened = Some(Node::of(&opened));
-    if opened == Some(node) && node_at(rt, text, depth)? == opened {
+    if Node::of(&file.metadata()?) == node && node_at(rt, text, depth)? == Some(node) {
         Ok(Tried::Held(Held {
             node,
             _lock: Some(file),

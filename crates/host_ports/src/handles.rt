@@ -1,9 +1,10 @@
 //! Files and directories that stay open from one call to the next.
 
+use crate::causes::Cause;
 use crate::places::Node;
 use folder_model::FPath;
 use std::fs::File;
-use std::mem;
+use std::{fs, mem};
 
 // A file that was made, the path at which it was, the node that it is, and its mode.
 #[derive(Drop)]
@@ -19,6 +20,16 @@ pub struct Made {
 pub struct Opened {
     pub at: FPath,
     pub file: File,
+}
+
+impl Opened {
+    // Opens what stands at a path with this text.
+    pub fn open(rt: &HostRuntime, at: &FPath, text: &str) -> Result<Opened, Cause> {
+        Ok(Opened {
+            at: at.copy()?,
+            file: fs::open(rt, text)?,
+        })
+    }
 }
 
 // The two that were used last.

@@ -130,7 +130,7 @@ pub fn up_to(parts: &[String], most: usize) -> &[String] {
 }
 
 // How far down a directory was reached: how many of its parts were looked at, and whether each is a directory.
-#[derive(Clone, Copy)]
+#[derive(Drop)]
 struct Walked {
     looked: usize,
     reached: bool,

@@ -77,10 +77,19 @@ impl HostFolder {
         ensures bar { HeedsBar Cause.Held self.old self.new result }
         ensures faults { self.new.faults ≡ self.old.faults }
     {
-        self.may_change(at)?;
-        let text = self.place_of(at, Kind::File)?;
+        let text = self.file_to_change(at)?;
         self.note_above(at)?;
         Ok(text)
+    }
+
+    // The text of a file that may be changed.
+    pub(super) fn file_to_change(&mut self, at: &FPath) -> Result<String, Cause>
+        ensures looks { LooksAt at.now self.old.dirs self.new.dirs result }
+        ensures bar { HeedsBar Cause.Held self.old self.new result }
+        ensures faults { self.new.faults ≡ self.old.faults }
+    {
+        self.may_change(at)?;
+        self.place_of(at, Kind::File)
     }
 
     pub(super) fn add_dir(&mut self, at: &FPath) -> Result<(), Cause>
@@ -162,8 +171,7 @@ impl HostFolder {
         ensures bar { HeedsBar Cause.Held self.old self.new result }
         ensures faults { self.new.faults ≡ self.old.faults }
     {
-        self.may_change(at)?;
-        let text = self.place_of(at, Kind::File)?;
+        let text = self.file_to_change(at)?;
         Ok(open_to_append(&self.rt, text.as_str())?)
     }
 

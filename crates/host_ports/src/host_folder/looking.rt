@@ -18,7 +18,6 @@ use crate::listing::entries_of;
 use crate::pieces::fill_from;
 use crate::places::{Place, look, reach, test_names};
 use folder_model::{Entry, FPath, Kind};
-use std::fs;
 
 #[tactic(auto, using(crate::proofs::Dirs::sees_same, crate::proofs::Dirs::sees_after))]
 impl HostFolder {
@@ -177,9 +176,6 @@ impl HostFolder {
         ensures faults { self.new.faults ≡ self.old.faults }
     {
         let text = self.place_of(at, Kind::File)?;
-        Ok(Opened {
-            at: at.copy()?,
-            file: fs::open(&self.rt, text.as_str())?,
-        })
+        Opened::open(&self.rt, at, text.as_str())
     }
 }

@@ -29,17 +29,25 @@ impl HostFolder {
     {
         self.test_barred()?;
         let (from, to) = self.look_both(old, new)?;
+        self.test_move(old, new, &from, &to)?;
+        if from.kind == Some(Kind::Dir) {
+            self.move_dir(old, new, &from, &to)
+        } else {
+            self.move_file(old, new, &from, &to)
+        }
+    }
+
+    // What stands at one place must be something that may move to the other, where nothing has come since.
+    fn test_move(&mut self, old: &FPath, new: &FPath, from: &Place, to: &Place) -> Result<(), Cause>
+        ensures { self.new ≡ self.old }
+    {
         if old.depth() == 0 || new.starts_with(old) || !may_move(from.kind, to.kind) {
             return Err(Cause::InTheWay);
         }
         if has_come(self.kinds.kind_at(new), to.kind) {
             return Err(Cause::Replaced);
         }
-        if from.kind == Some(Kind::Dir) {
-            self.move_dir(old, new, &from, &to)
-        } else {
-            self.move_file(old, new, &from, &to)
-        }
+        Ok(())
     }
 
     fn look_both(&mut self, old: &FPath, new: &FPath) -> Result<(Place, Place), Cause>

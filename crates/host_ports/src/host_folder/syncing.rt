@@ -23,12 +23,10 @@ impl HostFolder {
     {
         self.test_barred()?;
         test_names(at)?;
-        if let Some(synced) = self.sync_made(at) {
-            return Ok(synced?);
+        match self.sync_made(at) {
+            Some(synced) => Ok(synced?),
+            None => self.sync_opened(at),
         }
-        self.may_change(at)?;
-        let text = self.place_of(at, Kind::File)?;
-        Ok(self.sync_at(text.as_str())?)
     }
 
     // Syncs the file that was made last, where it was made there.
@@ -37,9 +35,14 @@ impl HostFolder {
         Some(made.file.sync_all())
     }
 
-    // Syncs what stands at a text.
-    fn sync_at(&self, text: &str) -> io::Result<()> {
-        fs::open(&self.rt, text)?.sync_all()
+    // Syncs a file that may be changed, opened for it.
+    fn sync_opened(&mut self, at: &FPath) -> Result<(), Cause>
+        ensures looks { LooksAt at.now self.old.dirs self.new.dirs result }
+        ensures bar { HeedsBar Cause.Held self.old self.new result }
+        ensures faults { self.new.faults ≡ self.old.faults }
+    {
+        let text = self.file_to_change(at)?;
+        Ok(sync_at(&self.rt, text.as_str())?)
     }
 
     pub(super) fn settle_now(&mut self) -> Result<(), Cause>
@@ -81,6 +84,11 @@ impl HostFolder {
     }
 }
 
+// Syncs what stands at a text.
+fn sync_at(rt: &HostRuntime, text: &str) -> io::Result<()> {
+    fs::open(rt, text)?.sync_all()
+}
+
 // Syncs each directory that is noted, once. One that this process hasn't changed is passed over where it can't be synced.
 fn sync_each(
     rt: &HostRuntime,
@@ -104,7 +112,7 @@ fn sync_each(
     Ok(())
 }
 
-// Syncs a directory. What stands there is opened only if it is one.
+// Syncs a directory.
 fn sync_dir(
     rt: &HostRuntime,
     alloc: Global,
@@ -115,15 +123,17 @@ fn sync_dir(
     if let Some(opened) = synced.open_at(dir) {
         return Ok(opened.file.sync_all()?);
     }
-    let mut text = text_of(alloc, base, dir.parts())?;
-    text.push_str("/.")?;
-    let opened = Opened {
-        at: dir.copy()?,
-        file: fs::open(rt, text.as_str())?,
-    };
+    let opened = open_dir(rt, alloc, base, dir)?;
     let answer = opened.file.sync_all();
     synced.keep(opened);
     Ok(answer?)
+}
+
+// Opens what stands there only if it is a directory.
+fn open_dir(rt: &HostRuntime, alloc: Global, base: &str, dir: &FPath) -> Result<Opened, Cause> {
+    let mut text = text_of(alloc, base, dir.parts())?;
+    text.push_str("/.")?;
+    Opened::open(rt, dir, text.as_str())
 }
 
 // Whether a directory that this process hasn't changed is passed over where a sync of it fails for this cause: it may not be opened, or

@@ -35,6 +35,20 @@ impl Model for Choice {
 }
 
 impl Choice {
+    // An option with a copy of this name, and of this value, if it has one.
+    fn of(alloc: Global, name: &str, value: Option<&str>) -> Result<Choice, AllocError>
+        ensures name { IfOk result (λ choice. choice.name ≡ name.now) }
+        ensures value { IfOk result (λ choice. choice.value ≡ option_map (λ text. text.now) value.entry) }
+    {
+        Ok(Choice {
+            name: Text::copy_of(alloc, name)?,
+            value: match value {
+                Some(value) => Some(Text::copy_of(alloc, value)?),
+                None => None,
+            },
+        })
+    }
+
     pub(crate) fn name(&self) -> &str
         ensures { result.now ≡ self.now.name }
     {
@@ -146,31 +160,19 @@ fn choice_of(
     ensures { IfOk result (λ choice. choice ≡ choice_of (map (λ flag. flag.now) flags.now) word.now (map string_bytes rest.now)) }
 {
     match word.split_once('=') {
-        Some((name, value)) => Ok(Choice {
-            name: Text::copy_of(alloc, name)?,
-            value: Some(Text::copy_of(alloc, value)?),
-        }),
-        None => Ok(Choice {
-            name: Text::copy_of(alloc, word)?,
-            value: if is_among(word, flags) {
-                None
-            } else {
-                value_in(alloc, rest)?
-            },
-        }),
+        Some((name, value)) => Choice::of(alloc, name, Some(value)),
+        None if is_among(word, flags) => Choice::of(alloc, word, None),
+        None => Choice::of(alloc, word, value_in(rest)),
     }
 }
 
 // The next word as an option's value.
-fn value_in(alloc: Global, rest: &[String]) -> Result<Option<Text>, AllocError>
-    ensures { IfOk result (λ value. value ≡ value_in (map string_bytes rest.now)) }
+fn value_in(rest: &[String]) -> Option<&str>
+    ensures { option_map (λ value. value.now) result ≡ value_in (map string_bytes rest.now) }
 {
     match rest {
-        [next, ..] if !begins_with_dash(next.as_str()) => Ok(Some(Text::copy_of(
-            alloc,
-            next.as_str(),
-        )?)),
-        _ => Ok(None),
+        [next, ..] if !begins_with_dash(next.as_str()) => Some(next.as_str()),
+        _ => None,
     }
 }
 

@@ -1,9 +1,9 @@
 //! What a command claims before it changes anything.
-ghost use Rattle.std.specs.Prelude.{◌≡◌, IfOk, Some, map, string_bytes};
+ghost use Rattle.std.specs.Prelude.{◌≡◌, IfOk, map, string_bytes};
 ghost use Rattle.command_words.specs.Claims.{claims_by};
 ghost use Rattle.command_words.specs.Commands.{command_of};
 
-use crate::commands::Command;
+use crate::commands::{Change, Command};
 use folder_model::FPath;
 use std::alloc::{AllocError, Global};
 
@@ -33,37 +33,41 @@ pub enum Claims {
 pub fn claims_of(alloc: Global, words: &[String]) -> Result<Claims, AllocError>
     ensures { IfOk result (λ claims. claims ≡ claims_by (command_of (map string_bytes words.now))) }
 {
-    match Command::from_words(alloc, words)? {
-        Some(command) => claims_by(&command),
-        None => Ok(Claims::Nothing),
-    }
+    Ok(claims_by(Command::from_words(alloc, words)?))
 }
 
-// What a command claims. It is borrowed, so that no exit drops it.
-fn claims_by(command: &Command) -> Result<Claims, AllocError>
-    ensures { IfOk result (λ claims. claims ≡ claims_by (Some command.now)) }
+// What a command claims.
+fn claims_by(command: Option<Command>) -> Claims
+    ensures { result ≡ claims_by command }
 {
     match command {
-        Command::Init(new) => beside(&new.vault, &new.work),
-        Command::Mkdir(change) => beside(&change.target.vault, &change.work),
-        Command::Put(change) => beside(&change.target.vault, &change.work),
-        Command::Repair(repairing) => beside(&repairing.vault, &repairing.lost),
-        Command::Migrate(moving) => Ok(Claims::Migration {
-            source: moving.source.copy()?,
-            target: moving.target.copy()?,
-            work: moving.work.copy()?,
-        }),
-        Command::Resume(resuming) => Ok(Claims::Resumption(resuming.work.copy()?)),
-        Command::Retire(resuming) => Ok(Claims::Retirement(resuming.work.copy()?)),
-        _ => Ok(Claims::Nothing),
+        Some(Command::Init(new)) => Claims::Beside {
+            vault: new.vault,
+            other: new.work,
+        },
+        Some(Command::Mkdir(change)) => claims_of_change(change),
+        Some(Command::Put(change)) => claims_of_change(change),
+        Some(Command::Repair(repairing)) => Claims::Beside {
+            vault: repairing.vault,
+            other: repairing.lost,
+        },
+        Some(Command::Migrate(moving)) => Claims::Migration {
+            source: moving.source,
+            target: moving.target,
+            work: moving.work,
+        },
+        Some(Command::Resume(resuming)) => Claims::Resumption(resuming.work),
+        Some(Command::Retire(resuming)) => Claims::Retirement(resuming.work),
+        _ => Claims::Nothing,
     }
 }
 
-fn beside(vault: &FPath, other: &FPath) -> Result<Claims, AllocError>
-    ensures { IfOk result (λ claims. claims ≡ Claims.Beside vault.now other.now) }
+fn claims_of_change(change: Change) -> Claims
+    ensures { result ≡ Claims.Beside change.target.vault change.work }
 {
-    Ok(Claims::Beside {
-        vault: vault.copy()?,
-        other: other.copy()?,
-    })
+    let target = change.target;
+    Claims::Beside {
+        vault: target.vault,
+        other: change.work,
+    }
 }

@@ -3,7 +3,7 @@ ghost use Rattle.std.specs.List.{list_all};
 ghost use Rattle.std.specs.Prelude.{◌≡◌, ◌==◌, ◌++◌, ◌∷◌, All, IfOk, IfSome, MatchOption, None, map, nat_le, option_map, string_bytes};
 ghost use Rattle.command_words.specs.Rows.{option_of_code, row_of_code};
 ghost use Rattle.command_words.specs.Words.{is_among};
-ghost use Rattle.command_words.specs.Values.{fits, flag_values, is_of, joined, may_lack, option_values, times, value_by, value_named, values_of, written};
+ghost use Rattle.command_words.specs.Values.{fits, flag_values, is_of, joined, may_lack, option_values, times, value_by, value_named, values_in, values_of, written};
 ghost use Rattle.command_words.specs.Written.{IsWritten};
 
 use crate::arguments::{Arguments, Choice, is_among};
@@ -23,14 +23,26 @@ pub(crate) fn values_of_words(
     ensures written { IfOk result (λ values. IfSome values (λ all. All IsWritten all.items)) }
 {
     let arguments = Arguments::of(alloc, row.flags, words)?;
+    values_in(alloc, row, &arguments)
+}
+
+// What arguments write: lent, so that no exit drops them.
+fn values_in(
+    alloc: Global,
+    row: &Row,
+    arguments: &Arguments,
+) -> Result<Option<Vec<Value>>, AllocError>
+    ensures is { IfOk result (λ values. option_map (λ all. all.items) values ≡ values_in (row_of_code row.now) arguments.now) }
+    ensures written { IfOk result (λ values. IfSome values (λ all. All IsWritten all.items)) }
+{
     let choices = arguments.choices();
     if !fits(row, choices) {
         return Ok(None);
     }
-    let (Some(values), Some(options)) = (
-        words_read(alloc, row.words, arguments.positional())?,
-        options_read(alloc, row.options, choices)?,
-    ) else {
+    let Some(values) = words_read(alloc, row.words, arguments.positional())? else {
+        return Ok(None);
+    };
+    let Some(options) = options_read(alloc, row.options, choices)? else {
         return Ok(None);
     };
     let flags = flags_read(alloc, row.flags, choices)?;

@@ -1,3 +1,4 @@
 mod SmallDemonstrations
+mod ValuesRead
 mod WrittenNumbers
 mod WrittenValues

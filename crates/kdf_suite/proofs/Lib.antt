@@ -10,3 +10,5 @@ mod PowerOfTwo
 mod Costs
 mod Digests
 mod DiagonalRounds
+mod Spread
+mod WholeBlocks

@@ -1,28 +1,24 @@
--- Sixteen words written at a place of a list.
-use Rattle.std.proofs.Common.{◌≡◌, ℕ, ◌+◌, ◌-◌, ◌≤◌, List, ◌++◌, length, take, drop, arith}
-use Rattle.std.proofs.lemmas.List.{length-append, length-drop, length-take, places, same_lists}
+-- A block written over a block of others.
+use Rattle.std.proofs.Common.{◌≡◌, ◌≢◌, ℕ, ◌+◌, ◌*◌, ◌≤◌, List, ◌++◌, length, take, drop, ap, ◌∙◌, sym, inl, inr, arith}
+use Rattle.std.proofs.lemmas.Bool.{cases_lt}
+use Rattle.std.proofs.lemmas.List.{drop-take, drop_at, length-take-le, take_at}
+use Rattle.std.proofs.lemmas.Slice.{drop-put_mid, take-put_mid_below}
+use Rattle.kdf_suite.specs.RoMix.{block_at}
+use borrow.Rule.Slice.PartMut.{put_mid}
 
--- the list with these words at this place
-abbrev pub written_at : ℕ → List ℕ → List ℕ → List ℕ
-written_at at words xs = take at xs ++ (words ++ drop (at + 16) xs)
+module _ (place n : ℕ) (words xs : List ℕ) (within : 16 * place + 16 ≤ length xs) (size : n ≡ 16) (long : length words ≡ 16) where
+  -- the blocks with these words in the place of one of them
+  abbrev now : List ℕ
+  now = put_mid (16 * place) n xs words
 
-module _ (n at : ℕ) (words xs : List ℕ) where
-  -- what stands before the place
-  pub take-written_below : n ≤ at → at ≤ length xs → take n (written_at at words xs) ≡ take n xs
-  take-written_below below within =
-      same_lists _ _ (simp (length-append, length-drop, length-take) (omega arith)) (λ k d h. grind (arith, places))
+  pub block_at-written : block_at now place ≡ words
+  block_at-written =
+      ap (take 16) (drop_at (take (16 * place) xs) (words ++ drop n (drop (16 * place) xs)) (16 * place) (length-take-le (16 * place) xs (omega arith)))
+      ∙ take_at words (drop n (drop (16 * place) xs)) 16 long
 
-  -- what stands up to the end of the words
-  pub take-written : n ≡ at + 16 → at ≤ length xs → length words ≡ 16 → take n (written_at at words xs) ≡ take at xs ++ words
-  take-written end within long =
-      same_lists _ _ (simp (length-append, length-drop, length-take) (omega arith)) (λ k d h. grind (arith, places))
-
-  -- what stands after the words
-  pub drop-written_above : at + 16 ≤ n → at ≤ length xs → length words ≡ 16 → drop n (written_at at words xs) ≡ drop n xs
-  drop-written_above above within long =
-      same_lists _ _ (simp (length-append, length-drop, length-take) (omega arith)) (λ k d h. grind (arith, places))
-
-  -- the words written in what stands from a place before them on
-  pub drop-written_below : n ≤ at → at ≤ length xs → drop n (written_at at words xs) ≡ written_at (at - n) words (drop n xs)
-  drop-written_below below within =
-      same_lists _ _ (simp (length-append, length-drop, length-take) (omega arith)) (λ k d h. grind (arith, places))
+  pub block_at-written_other : (k : ℕ) → k ≢ place → block_at now k ≡ block_at xs k
+  block_at-written_other k other =
+      elim (cases_lt k place) [
+        | inl below ↦ sym (drop-take (16 * k) 16 now) ∙ ap (drop (16 * k)) (take-put_mid_below (16 * place) n xs words (16 * k + 16) (omega arith) (omega arith)) ∙ drop-take (16 * k) 16 xs
+        | inr above ↦ ap (take 16) (drop-put_mid (16 * place) n xs words (16 * k) (omega arith) (omega arith) (omega arith))
+      ]

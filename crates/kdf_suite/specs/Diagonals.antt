@@ -1,5 +1,6 @@
 -- Words of private contracts: the words of a block by their diagonals, on which the steps of its columns or rows are taken at once.
-use Rattle.std.specs.Prelude.{ℕ, ◌-◌, ◌*◌, ◌/◌, ◌%◌, ◌^◌, List, [], ◌∷◌, bit_or, bit_xor, replicate, slice_index}
+use Rattle.std.specs.Prelude.{◌≡◌, ℕ, ◌+◌, ◌-◌, ◌*◌, ◌/◌, ◌%◌, ◌^◌, List, [], ◌∷◌, bit_or, bit_xor, map, replicate, slice_index}
+use Rattle.std.specs.List.{range_with_len}
 use Rattle.std.specs.Simd.Lanes.{zip2}
 use Rattle.kdf_suite.specs.Salsa.{add32}
 use Rattle.kdf_suite.specs.declared.salsa.Diagonals.{Diagonals}
@@ -34,3 +35,29 @@ words_of s =
     ∷ slice_index s.second 0 ∷ slice_index s.first 1 ∷ slice_index s.fourth 2 ∷ slice_index s.third 3
     ∷ slice_index s.third 0 ∷ slice_index s.second 1 ∷ slice_index s.first 2 ∷ slice_index s.fourth 3
     ∷ slice_index s.fourth 0 ∷ slice_index s.third 1 ∷ slice_index s.second 2 ∷ slice_index s.first 3 ∷ []
+
+-- these are the diagonals of a block: four words each
+abbrev pub IsWhole : Diagonals → Type 0
+IsWhole s = s ≡ diagonals_of (words_of s)
+
+-- two blocks combined, word by word
+abbrev pub combined : (ℕ → ℕ → ℕ) → Diagonals → Diagonals → Diagonals
+combined f s t = record {
+  first = zip2 f s.first t.first;
+  second = zip2 f s.second t.second;
+  third = zip2 f s.third t.third;
+  fourth = zip2 f s.fourth t.fourth;
+}
+
+-- the place, step times as far from the start of its block, round and round
+abbrev pub place : ℕ → ℕ → ℕ
+place step i = 16 * (i / 16) + step * (i % 16) % 16
+
+-- n words, each from its place
+unfoldable pub spread : ℕ → ℕ → List ℕ → List ℕ
+spread step n x = map (λ i. slice_index x (place step i)) (range_with_len 0 n)
+
+-- the first n words of blocks that have their diagonals one after another, in the standard's order. The
+-- diagonals go through a block by steps of 5, and 5 · 13 is 1 modulo 16
+abbrev pub in_order : ℕ → List ℕ → List ℕ
+in_order n x = spread 13 n x

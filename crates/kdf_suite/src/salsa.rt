@@ -1,17 +1,14 @@
 // The Salsa20/8 core (RFC 7914, section 3), on the diagonals of a block, which take the steps of its four columns or rows at once.
 
-ghost use Rattle.std.specs.Prelude.{◌≡◌, ◌≤◌, List, ℕ};
-ghost use Rattle.kdf_suite.specs.Diagonals.{diagonals_of, quartered, turned, words_of};
-ghost use Rattle.kdf_suite.specs.Salsa.{column_round, double_rounds, row_round, salsa20_8};
+ghost use Rattle.std.specs.Prelude.{◌≡◌, ◌≤◌, List, ℕ, bit_xor, length};
+ghost use Rattle.kdf_suite.specs.Diagonals.{IsWhole, combined, diagonals_of, in_order, quartered, turned, words_of};
+ghost use Rattle.kdf_suite.specs.Salsa.{add32, column_round, double_rounds, row_round, salsa20_8};
 
 use std::simd::prelude::*;
 
-// The words of a block of 64 bytes.
-pub(crate) type Block = [u32; 16];
-
 // The words of a block by their diagonals: of the four columns, each from the diagonal down, the first words, the second ones, and so on.
 #[derive(Clone, Copy)]
-struct Diagonals {
+pub(crate) struct Diagonals {
     first: u32x4,
     second: u32x4,
     third: u32x4,
@@ -44,34 +41,6 @@ fn quartered(s: Diagonals) -> Diagonals
         third,
         fourth,
     }
-}
-
-// The diagonals of a block.
-#[inline(always)]
-fn diagonals_of(x: &Block) -> Diagonals
-    ensures { result ≡ diagonals_of x.now }
-{
-    Diagonals {
-        first: u32x4::from_array([x[0], x[5], x[10], x[15]]),
-        second: u32x4::from_array([x[4], x[9], x[14], x[3]]),
-        third: u32x4::from_array([x[8], x[13], x[2], x[7]]),
-        fourth: u32x4::from_array([x[12], x[1], x[6], x[11]]),
-    }
-}
-
-// The block of these diagonals.
-#[inline(always)]
-fn words_of(s: Diagonals) -> Block
-    ensures { result ≡ words_of s }
-{
-    let a = s.first.to_array();
-    let b = s.second.to_array();
-    let c = s.third.to_array();
-    let d = s.fourth.to_array();
-    [
-        a[0], d[1], c[2], b[3], b[0], a[1], d[2], c[3], c[0], b[1], a[2], d[3], d[0], c[1], b[2],
-        a[3],
-    ]
 }
 
 #[inline(always)]
@@ -107,25 +76,80 @@ fn row_round(s: Diagonals) -> Diagonals
     }
 }
 
-// The block after four double rounds.
+// Four double rounds.
 #[inline(always)]
-fn eight_rounds(block: &Block) -> Block
-    ensures { result ≡ double_rounds 4 block.now }
+fn eight_rounds(block: Diagonals) -> Diagonals
+    requires { IsWhole block }
+    ensures whole { IsWhole result }
+    ensures rounds { words_of result ≡ double_rounds 4 (words_of block) }
 {
-    let mut s = diagonals_of(block);
+    let mut s = block;
     'rounds: for _round in 0..4u32 {
         let next = row_round(column_round(s));
         s = next;
     }
-    words_of(s)
+    s
 }
 
-// Takes the block through the Salsa20/8 core.
-pub(crate) fn salsa20_8(block: &mut Block)
-    ensures { block.new ≡ salsa20_8 block.old }
+// The Salsa20/8 core.
+#[inline(always)]
+pub(crate) fn salsa20_8(block: Diagonals) -> Diagonals
+    requires { IsWhole block }
+    ensures whole { IsWhole result }
+    ensures core { words_of result ≡ salsa20_8 (words_of block) }
 {
     let mixed = eight_rounds(block);
-    'words: for i in 0..16 {
-        block[i] = block[i].wrapping_add(mixed[i]);
+    added(block, mixed)
+}
+
+#[inline(always)]
+fn added(s: Diagonals, t: Diagonals) -> Diagonals
+    ensures { result ≡ combined add32 s t }
+{
+    Diagonals {
+        first: s.first + t.first,
+        second: s.second + t.second,
+        third: s.third + t.third,
+        fourth: s.fourth + t.fourth,
     }
+}
+
+#[inline(always)]
+pub(crate) fn xored(s: Diagonals, t: Diagonals) -> Diagonals
+    ensures { result ≡ combined bit_xor s t }
+{
+    Diagonals {
+        first: s.first ^ t.first,
+        second: s.second ^ t.second,
+        third: s.third ^ t.third,
+        fourth: s.fourth ^ t.fourth,
+    }
+}
+
+// The diagonals of a block that has them one after another.
+#[inline(always)]
+pub(crate) fn diagonals_at(block: &[u32]) -> Diagonals
+    requires { length block.now ≡ 16 }
+    ensures whole { IsWhole result }
+    ensures words { words_of result ≡ in_order 16 block.now }
+{
+    Diagonals {
+        first: u32x4::from_slice(block),
+        second: u32x4::from_slice(&block[4..]),
+        third: u32x4::from_slice(&block[8..]),
+        fourth: u32x4::from_slice(&block[12..]),
+    }
+}
+
+// Writes the diagonals one after another.
+#[inline(always)]
+pub(crate) fn put_diagonals(s: Diagonals, block: &mut [u32])
+    requires whole { IsWhole s }
+    requires room { length block.old ≡ 16 }
+    ensures { in_order 16 block.new ≡ words_of s }
+{
+    s.first.copy_to_slice(block);
+    s.second.copy_to_slice(&mut block[4..]);
+    s.third.copy_to_slice(&mut block[8..]);
+    s.fourth.copy_to_slice(&mut block[12..]);
 }

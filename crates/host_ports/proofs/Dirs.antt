@@ -1,11 +1,13 @@
 -- Directories that are noted, step by step.
-use Rattle.std.proofs.Common.{◌≡◌, ◌≢◌, Bool, true, false, List, [], ◌∷◌, length, ◌||◌, cond, inl, inr, refl, sym, ap, ◌∙◌, subst, IsTrue}
+use Rattle.std.proofs.Common.{◌≡◌, ◌≢◌, Bool, true, false, ℕ, ◌-◌, ◌<◌, List, [], ◌∷◌, ◌++◌, length, length-append, slice_index_or, Option, Some, None, is_some, ◌||◌, cond, inl, inr, refl, sym, ap, ◌∙◌, subst, arith, IsTrue}
 use Rattle.std.specs.Prelude.{◌⊎◌, IsFalse}
 use Rattle.std.specs.Ordering.{is_eq, ordering_then}
 use Rattle.std.proofs.lemmas.Cmp.{nat_list_cmp_total, tied_itself}
+use Rattle.std.proofs.lemmas.List.Elements.{All-weaker}
+use Rattle.folder_spec.proofs.Paths.{below_is, parent-child}
 use Rattle.folder_model.specs.Order.{path_cmp}
-use Rattle.folder_spec.specs.Path.{Part, Path, parent}
-use Rattle.host_ports.specs.Noted.{Dirs, IsJust, Sees, SeesBut, has, is_noted, same}
+use Rattle.folder_spec.specs.Path.{Part, Path, below, parent}
+use Rattle.host_ports.specs.Noted.{AreAmong, Dirs, IsJust, Sees, SeesBut, has, is_noted, same}
 
 -- what was known stays so, or came to be noted, through two steps
 then_noted : (x y z w : Bool) → (IsTrue y → IsTrue x ⊎ IsTrue w) → IsTrue y ⊎ IsTrue z → (IsTrue w → IsTrue z) → IsTrue x ⊎ IsTrue z
@@ -162,3 +164,28 @@ apart_parent part (next ∷ rest) = ap (λ order. is_eq (ordering_then order (pa
 pub below_apart : (at : Path) → length at ≢ 0 → IsFalse (same at (parent at))
 below_apart [] some = absurd (some refl)
 below_apart (part ∷ rest) some = apart_parent part rest
+
+-- ---- directories that are compared first
+
+pub among_more : (some old new : List Path) (dir : Path) → HasMore old new dir → AreAmong some old → AreAmong some new
+among_more some old new dir more are = All-weaker (λ at. IsTrue (has old at)) (λ at. IsTrue (has new at)) (has_more_stays old new dir more) some are
+
+-- the one at a place is known
+pub among_has : (some all listed : List Path) (k : ℕ) (dir at : Path) → listed ≡ some → k < length listed → dir ≡ slice_index_or listed k dir → dir ≡ at → AreAmong some all → IsTrue (has all at)
+among_has some all listed k dir at same within there is are =
+    let among : AreAmong listed all = subst (λ l. AreAmong l all) (sym same) are in
+    subst (λ x. IsTrue (has all x)) (sym there ∙ is) (among k dir within)
+
+-- a path that begins with a directory one part shorter has it above
+above_is : (dir at rest : Path) → at ≡ dir ++ rest → length at - 1 ≡ length dir → parent at ≡ dir
+above_is [] at [] is deep = ap parent is
+above_is (first ∷ dir) at [] is deep = absurd (omega (arith, deep, ap length is, length-append (first ∷ dir) []))
+above_is dir at (part ∷ []) is deep = ap parent is ∙ parent-child dir part
+above_is dir at (part ∷ next ∷ rest) is deep = absurd (omega (arith, deep, ap length is, length-append dir (part ∷ next ∷ rest)))
+
+pub above_begins : (dir at : Path) → is_some (below dir at) ≡ true → length at - 1 ≡ length dir → parent at ≡ dir
+above_begins dir at begins deep = of (below dir at) refl begins
+  where
+    of : (found : Option Path) → below dir at ≡ found → is_some found ≡ true → parent at ≡ dir
+    of None e some = cc
+    of (Some rest) e some = above_is dir at rest (below_is dir at rest e) deep

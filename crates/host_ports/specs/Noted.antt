@@ -2,7 +2,7 @@
 -- count of faults.
 use Rattle.std.specs.Prelude.{◌≡◌, ◌⊎◌, ℕ, Bool, List, [], ◌||◌, IsTrue, IsFalse}
 use Rattle.std.specs.BTreeMap.{is_at}
-use Rattle.std.specs.List.{list_any}
+use Rattle.std.specs.List.{All, list_any}
 use Rattle.folder_model.specs.Order.{path_cmp}
 use Rattle.folder_spec.specs.Path.{Path}
 
@@ -26,6 +26,10 @@ same one other = is_at (path_cmp one) other
 -- a directory is one of these
 abbrev pub has : List Path → Path → Bool
 has dirs at = list_any (same at) dirs
+
+-- each of these directories is one of those
+abbrev pub AreAmong : List Path → List Path → Type 0
+AreAmong some all = All (λ dir. IsTrue (has all dir)) some
 
 -- a settle has to sync a directory
 abbrev pub is_noted : Dirs → Path → Bool

@@ -1,7 +1,7 @@
 //! The directories that a settle has to sync.
 
 ghost use Rattle.std.specs.Prelude.{◌≡◌, ◌⊎◌, [], IfOk, IsFalse, IsTrue, OnErr, OnOk};
-ghost use Rattle.folder_spec.specs.Path.{Path};
+ghost use Rattle.folder_spec.specs.Path.{Path, parent};
 ghost use Rattle.host_ports.specs.Noted.{Sees, SeesBut, has, same};
 
 use crate::places::up_to;
@@ -11,22 +11,28 @@ use std::collections::BTreeSet;
 use std::marker::Model;
 use std::ops::Bound;
 
+// How many of the known directories are compared first, before they are searched.
+const MOST: usize = 8;
+
 /// The directories of which this process has seen entries, and those of them that still have to be synced: since it saw
 /// what an earlier process may have left unsynced there, or since it changed their entries.
 #[derive(Drop)]
 pub struct Noted {
     alloc: Global,
     known: BTreeSet<FPath, Global>,
+    lately: Vec<FPath>,
     seen: BTreeSet<FPath, Global>,
     changed: BTreeSet<FPath, Global>,
 }
 
 impl Model for Noted {
-    ghost use Rattle.host_ports.specs.Noted.{Dirs};
+    ghost use Rattle.host_ports.specs.Noted.{AreAmong, Dirs};
 
     ghost Value = { Dirs };
 
     ghost view = { λ n. record { known = n.known.keys; seen = n.seen.keys; changed = n.changed.keys } };
+
+    ghost invariant = { λ n. AreAmong n.lately.items n.known.keys };
 }
 
 impl Noted {
@@ -36,6 +42,7 @@ impl Noted {
         Noted {
             alloc,
             known: BTreeSet::new(alloc),
+            lately: Vec::new(alloc),
             seen: BTreeSet::new(alloc),
             changed: BTreeSet::new(alloc),
         }
@@ -46,6 +53,56 @@ impl Noted {
         ensures { result ≡ has self.now.known dir.now }
     {
         self.known.contains(dir)
+    }
+
+    /// Whether it knows the directory above a path.
+    pub fn knows_above(&mut self, at: &FPath) -> Result<bool, AllocError>
+        ensures known { IfOk result (λ known. known ≡ has self.old.known (parent at.now)) }
+        ensures same { self.new ≡ self.old }
+    {
+        if self.knew_above(at) {
+            return Ok(true);
+        }
+        let above = at.parent()?;
+        let known = self.knows(&above);
+        if known {
+            self.remember(above);
+        }
+        Ok(known)
+    }
+
+    // Whether the directory above a path is one of those that it was asked for last.
+    fn knew_above(&self, at: &FPath) -> bool
+        ensures { IsTrue result → IsTrue (has self.now.known (parent at.now)) }
+    {
+        let depth = at.depth().saturating_sub(1);
+        for dir in self.lately.as_slice() {
+            if dir.depth() == depth && at.starts_with(dir) {
+                return true;
+            }
+        }
+        false
+    }
+
+    /// Whether it knows the directory, and was asked for it lately. It takes no search.
+    pub fn knew(&self, dir: &FPath) -> bool
+        ensures { IsTrue result → IsTrue (has self.now.known dir.now) }
+    {
+        for known in self.lately.as_slice() {
+            if known.is(dir) {
+                return true;
+            }
+        }
+        false
+    }
+
+    // Has a known directory compared first from here on, if there is memory for it.
+    fn remember(&mut self, dir: FPath)
+        requires { IsTrue (has self.old.known dir) }
+        ensures { self.new ≡ self.old }
+    {
+        self.lately.truncate(MOST - 1);
+        let _ = self.lately.insert(0, dir);
     }
 
     /// Notes a directory of which an entry is seen, if it is the first one.
@@ -118,6 +175,7 @@ impl Noted {
         ensures sees { SeesBut dir.now self.old self.new }
         ensures keeps { (at : Path) → IsFalse (same dir.now at) → IsTrue (has self.old.changed at) → IsTrue (has self.new.changed at) }
     {
+        self.lately.clear();
         self.known.remove(dir);
         self.seen.remove(dir);
         self.changed.remove(dir);
@@ -140,6 +198,7 @@ impl Noted {
         ensures seen { self.new.seen ≡ self.old.seen }
         ensures changed { self.new.changed ≡ self.old.changed }
     {
+        self.lately.clear();
         self.known.remove(dir);
     }
 

@@ -100,9 +100,19 @@ fn is_directory(rt: &HostRuntime, text: &str) -> Result<bool, Cause> {
 pub fn text_of(alloc: Global, base: &str, parts: &[String]) -> Result<String, AllocError>
     ensures { IfOk result (λ text. string_bytes text ≡ place_text base.now (map (λ s. string_bytes s) parts.now)) }
 {
-    let mut text = String::from_str(alloc, base)?;
+    let mut text = String::with_capacity(alloc, room_of(base, parts))?;
+    text.push_str(base)?;
     add_parts(&mut text, parts)?;
     Ok(text)
+}
+
+// How many bytes the text of the path with these parts has.
+fn room_of(base: &str, parts: &[String]) -> usize {
+    let mut room = base.len();
+    for part in parts {
+        room = room.saturating_add(part.len()).saturating_add(1);
+    }
+    room
 }
 
 // Adds each of these parts behind a slash.
@@ -174,24 +184,25 @@ fn goes_down(
     Ok(noted.knows(here) || is_directory(rt, text.as_str())?)
 }
 
-// Whether a directory stands at a path, and no link leads there. What was found once isn't looked at again.
+// Whether a directory stands above a path, and no link leads there. What was found once isn't looked at again.
 #[tactic(auto, using(crate::proofs::Dirs::sees_same, crate::proofs::Dirs::sees_after))]
 fn reaches(
     rt: &HostRuntime,
     alloc: Global,
     base: &str,
     noted: &mut Noted,
-    dir: &FPath,
+    at: &FPath,
 ) -> Result<bool, Cause>
     ensures sees { Sees noted.old noted.new }
-    ensures known { IfOk result (λ reached. IsTrue reached → IsTrue (has noted.new.known dir.now)) }
+    ensures known { IfOk result (λ reached. IsTrue reached → IsTrue (has noted.new.known (parent at.now))) }
     ensures changed { noted.new.changed ≡ noted.old.changed }
 {
-    if noted.knows(dir) {
+    if noted.knows_above(at)? {
         return Ok(true);
     }
-    let walked = walk(rt, alloc, base, noted, dir)?;
-    noted.see_down(dir, walked.looked, walked.reached)?;
+    let dir = at.parent()?;
+    let walked = walk(rt, alloc, base, noted, &dir)?;
+    noted.see_down(&dir, walked.looked, walked.reached)?;
     Ok(walked.reached)
 }
 
@@ -212,7 +223,7 @@ pub fn reach(
     ensures changed { noted.new.changed ≡ noted.old.changed }
 {
     test_names(at)?;
-    if !reaches(rt, alloc, base, noted, &at.parent()?)? {
+    if !reaches(rt, alloc, base, noted, at)? {
         return Ok(None);
     }
     Ok(Some(text_of(alloc, base, at.parts())?))
@@ -234,7 +245,7 @@ pub fn look(
     ensures changed { noted.new.changed ≡ noted.old.changed }
 {
     match reach(rt, alloc, base, noted, at)? {
-        Some(text) if noted.knows(at) => Ok(Place {
+        Some(text) if noted.knew(at) => Ok(Place {
             text,
             kind: Some(Kind::Dir),
             metadata: None,

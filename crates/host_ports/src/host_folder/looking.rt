@@ -77,7 +77,7 @@ impl HostFolder {
         ensures faults { self.new.faults ≡ self.old.faults }
     {
         test_names(at)?;
-        if self.noted.knows(&at.parent()?) {
+        if self.noted.knows_above(at)? {
             if let Some(kind) = self.kinds.kind_at(at) {
                 return Ok(kind);
             }

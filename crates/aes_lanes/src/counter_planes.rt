@@ -11,19 +11,25 @@ use crate::plane_blocks::gather;
 use crate::planes::Planes;
 use std::simd::prelude::*;
 
+// The order of a counter block's bytes in which its number is a word that starts with its lowest byte.
+const TURNED: [usize; 16] = [0, 1, 2, 3, 4, 5, 6, 7, 8, 9, 10, 11, 15, 14, 13, 12];
+
+// The counter block that is `count` after one, as vectors.
+#[inline(always)]
+fn counted(block: u8x16, count: u32) -> u8x16
+    ensures { result ≡ iterate increment32 count block }
+{
+    let turned: u8x16 = block.swizzle(TURNED);
+    let words = u32x4::from_le_bytes(turned) + u32x4::from_array([0, 0, 0, count]);
+    words.to_le_bytes().swizzle(TURNED)
+}
+
 /// The counter block that is `count` after one.
 #[inline(always)]
 pub(crate) fn counted32(block: &Block, count: u32) -> Block
     ensures { result ≡ iterate increment32 count block.now }
 {
-    let number = u32::from_be_bytes([block[12], block[13], block[14], block[15]]);
-    let words = u32x4::from_array([
-        u32::from_le_bytes([block[0], block[1], block[2], block[3]]),
-        u32::from_le_bytes([block[4], block[5], block[6], block[7]]),
-        u32::from_le_bytes([block[8], block[9], block[10], block[11]]),
-        u32::from_le_bytes(number.wrapping_add(count).to_be_bytes()),
-    ]);
-    words.to_le_bytes().to_array()
+    counted(u8x16::from_array(*block), count).to_array()
 }
 
 /// The planes of sixteen counter blocks from `counter` on.

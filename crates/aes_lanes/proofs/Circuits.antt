@@ -5,8 +5,8 @@ use Rattle.std.proofs.lemmas.List.{get_or-replicate}
 use Rattle.std.proofs.Math.Nat.{zero-div}
 use Rattle.aes_lanes.specs.Field.{affine_map, inverse_affine_map, inverse_sbox, sbox}
 use Rattle.aes_lanes.specs.Laws.Field.{at_each, inverses, inverse_by_table, sbox_by_table, sbox-by_table, inverse_affine_map-lt, inverse_sbox_by_table, inverse_sbox-by_table}
-use Rattle.aes_lanes.specs.Planes.{IsPlane, bit, byte_of, byte_at}
-use Rattle.aes_lanes.proofs.PlaneBits.{IsPlane-sum, IsPlane-both, IsPlane-splat, bit-sum, bit-both, bit-lt, eight, eight_same, bits_of, on_bits}
+use Rattle.aes_lanes.specs.Planes.{IsPlane, bit, bit_of, byte_of, byte_at}
+use Rattle.aes_lanes.proofs.PlaneBits.{IsPlane-sum, IsPlane-both, IsPlane-splat, bit-sum, bit-both, bit-lt, bit_of-xor, bit_of-and, eight, eight_same, bits_of, on_bits}
 
 -- a gate of two earlier values, each named by how many values stand between
 pub data Gate : Type 0 where
@@ -19,22 +19,22 @@ values xor and none [] given = given
 values xor and none (sum i j ∷ gates) given = values xor and none gates (xor (get_or given i none) (get_or given j none) ∷ given)
 values xor and none (both i j ∷ gates) given = values xor and none gates (and (get_or given i none) (get_or given j none) ∷ given)
 
--- the 115 gates of Boyar and Peralta, without the complement of four values
+-- the 115 gates of Boyar and Peralta, without the complement of four values, in the order of the code
 unfoldable pub sbox_gates : List Gate
 sbox_gates =
-    sum 3 5 ∷ sum 1 7 ∷ sum 2 5 ∷ sum 3 8 ∷ sum 5 6 ∷ sum 0 12 ∷ sum 0 9 ∷ sum 5 6 ∷ sum 2 8 ∷ sum 3 15 ∷
-    sum 0 6 ∷ sum 15 3 ∷ sum 0 17 ∷ sum 1 14 ∷ sum 1 21 ∷ sum 2 10 ∷ sum 2 13 ∷ sum 24 0 ∷ sum 2 1 ∷
-    sum 3 15 ∷ sum 15 3 ∷ sum 19 0 ∷ sum 22 1 ∷ both 15 10 ∷ both 13 9 ∷ sum 0 1 ∷ both 19 33 ∷ sum 0 3 ∷
-    both 26 7 ∷ both 19 23 ∷ sum 0 1 ∷ both 22 13 ∷ sum 0 3 ∷ both 30 16 ∷ both 33 15 ∷ sum 0 1 ∷
-    both 32 20 ∷ sum 0 3 ∷ sum 12 2 ∷ sum 11 1 ∷ sum 9 4 ∷ sum 8 3 ∷ sum 3 28 ∷ sum 3 23 ∷ sum 3 22 ∷
-    sum 3 22 ∷ sum 3 2 ∷ both 4 2 ∷ sum 2 0 ∷ both 2 0 ∷ sum 0 6 ∷ sum 6 5 ∷ sum 8 4 ∷ both 0 1 ∷ sum 0 8 ∷
-    sum 10 0 ∷ sum 7 1 ∷ both 11 0 ∷ sum 0 2 ∷ sum 10 1 ∷ both 9 0 ∷ sum 14 0 ∷ sum 0 3 ∷ sum 12 8 ∷
-    sum 13 2 ∷ sum 10 6 ∷ sum 2 3 ∷ both 1 54 ∷ both 9 53 ∷ both 14 76 ∷ both 5 49 ∷ both 9 65 ∷ both 21 54 ∷
-    both 9 56 ∷ both 7 55 ∷ both 12 59 ∷ both 10 68 ∷ both 18 66 ∷ both 23 71 ∷ both 14 77 ∷ both 18 70 ∷
-    both 30 72 ∷ both 18 79 ∷ both 16 82 ∷ both 21 80 ∷ sum 2 1 ∷ sum 8 7 ∷ sum 14 6 ∷ sum 11 10 ∷ sum 19 9 ∷
-    sum 20 17 ∷ sum 16 15 ∷ sum 24 21 ∷ sum 19 18 ∷ sum 10 9 ∷ sum 15 7 ∷ sum 6 3 ∷ sum 25 11 ∷ sum 27 4 ∷
-    sum 13 2 ∷ sum 18 3 ∷ sum 9 3 ∷ sum 13 4 ∷ sum 31 4 ∷ sum 3 2 ∷ sum 36 2 ∷ sum 7 3 ∷ sum 11 5 ∷
-    sum 20 8 ∷ sum 5 4 ∷ sum 17 4 ∷ sum 20 5 ∷ sum 25 7 ∷ sum 9 2 ∷ sum 19 4 ∷ []
+    sum 3 5 ∷ sum 2 3 ∷ sum 0 9 ∷ sum 3 8 ∷ sum 4 10 ∷ sum 2 8 ∷ sum 1 5 ∷ sum 4 13 ∷ sum 0 4 ∷ sum 13 2 ∷
+    sum 0 11 ∷ sum 11 14 ∷ sum 2 17 ∷ both 6 0 ∷ sum 1 21 ∷ sum 4 3 ∷ both 4 0 ∷ both 11 24 ∷ both 9 3 ∷
+    sum 6 17 ∷ sum 18 4 ∷ sum 2 7 ∷ sum 2 6 ∷ both 18 2 ∷ both 16 21 ∷ both 24 2 ∷ sum 8 12 ∷ sum 1 10 ∷
+    sum 25 28 ∷ sum 29 8 ∷ sum 37 14 ∷ both 27 11 ∷ sum 0 15 ∷ sum 8 9 ∷ both 5 3 ∷ sum 15 31 ∷ sum 2 8 ∷
+    sum 15 9 ∷ sum 3 14 ∷ sum 12 6 ∷ sum 2 29 ∷ sum 36 20 ∷ sum 2 6 ∷ sum 4 10 ∷ sum 7 2 ∷ sum 4 2 ∷
+    sum 2 16 ∷ both 6 2 ∷ sum 1 0 ∷ both 3 0 ∷ sum 0 7 ∷ sum 6 4 ∷ sum 9 4 ∷ both 0 1 ∷ sum 0 7 ∷ sum 6 0 ∷
+    both 9 0 ∷ sum 8 0 ∷ both 7 0 ∷ sum 8 4 ∷ sum 14 1 ∷ sum 16 6 ∷ sum 5 0 ∷ both 8 70 ∷ sum 3 1 ∷
+    sum 14 4 ∷ both 6 50 ∷ sum 12 4 ∷ sum 8 3 ∷ both 18 38 ∷ both 2 57 ∷ both 2 48 ∷ both 6 51 ∷
+    both 10 58 ∷ both 6 67 ∷ both 10 55 ∷ both 13 67 ∷ both 22 71 ∷ both 18 66 ∷ both 28 50 ∷ both 14 75 ∷
+    both 20 78 ∷ sum 10 6 ∷ both 22 75 ∷ both 15 83 ∷ both 20 81 ∷ sum 9 8 ∷ sum 16 14 ∷ sum 21 16 ∷
+    sum 14 12 ∷ sum 11 5 ∷ sum 21 7 ∷ sum 10 1 ∷ sum 29 23 ∷ sum 30 13 ∷ sum 12 2 ∷ sum 15 4 ∷ sum 2 9 ∷
+    sum 25 9 ∷ sum 19 1 ∷ sum 18 1 ∷ sum 11 8 ∷ sum 11 4 ∷ sum 18 17 ∷ sum 30 2 ∷ sum 13 2 ∷ sum 7 4 ∷
+    sum 7 11 ∷ sum 7 0 ∷ sum 22 1 ∷ sum 13 14 ∷ sum 23 6 ∷ sum 11 0 ∷ sum 19 8 ∷ sum 10 5 ∷ []
 
 -- the linear part of the inverse affine map
 unfoldable pub linear_gates : List Gate
@@ -70,10 +70,10 @@ unfoldable pub by_gates : List Gate → List ℕ → ℕ → ℕ
 by_gates gates places x = byte_of (chosen 0 places (values bit_xor bit_and 0 gates (given_bits (bits_of x))))
 
 -- what they are on all 256 bytes
-pub sbox-by_gates : (x : ℕ) → x < 256 → by_gates sbox_gates (6 ∷ 7 ∷ 2 ∷ 3 ∷ 4 ∷ 0 ∷ 1 ∷ 8 ∷ []) x ≡ bit_xor (sbox x) 0x63
+pub sbox-by_gates : (x : ℕ) → x < 256 → by_gates sbox_gates (9 ∷ 4 ∷ 5 ∷ 1 ∷ 3 ∷ 0 ∷ 2 ∷ 8 ∷ []) x ≡ bit_xor (sbox x) 0x63
 unfolding by_gates byte_of bits_of values sbox_gates inverses inverse_by_table affine_map sbox_by_table
 sbox-by_gates x h =
-    at_each (by_gates sbox_gates (6 ∷ 7 ∷ 2 ∷ 3 ∷ 4 ∷ 0 ∷ 1 ∷ 8 ∷ [])) (λ x. bit_xor (sbox_by_table x) 0x63) refl x h
+    at_each (by_gates sbox_gates (9 ∷ 4 ∷ 5 ∷ 1 ∷ 3 ∷ 0 ∷ 2 ∷ 8 ∷ [])) (λ x. bit_xor (sbox_by_table x) 0x63) refl x h
     ∙ ap (λ s. bit_xor s 0x63) (sym (sbox-by_table x h))
 
 pub linear-by_gates : (x : ℕ) → x < 256 → by_gates linear_gates (14 ∷ 12 ∷ 10 ∷ 8 ∷ 6 ∷ 4 ∷ 2 ∷ 0 ∷ []) x ≡ bit_xor (inverse_affine_map x) 0x05
@@ -95,6 +95,43 @@ unsbox-by_sbox x h =
     ap (λ s. bit_xor (inverse_affine_map (bit_xor s 0x63)) 0x05) (sbox-by_table (inverse_affine_map x) (inverse_affine_map-lt x h))
     ∙ at_each (λ x. bit_xor (inverse_affine_map (bit_xor (sbox_by_table (inverse_affine_map x)) 0x63)) 0x05) inverse_sbox_by_table refl x h
     ∙ sym (inverse_sbox-by_table x h)
+
+-- the bits of numbers, through gates
+bit_of-picked : (k : ℕ) (given : List ℕ) (i : ℕ) → bit_of k (get_or given i 0) ≡ get_or (map (bit_of k) given) i 0
+bit_of-picked k [] i = ap (λ n. n % 2) (zero-div (2 ^ k))
+bit_of-picked k (x ∷ given) zero = refl
+bit_of-picked k (x ∷ given) (suc i) = bit_of-picked k given i
+
+values-numbers : (k : ℕ) (gates : List Gate) (given : List ℕ)
+    → map (bit_of k) (values bit_xor bit_and 0 gates given) ≡ values bit_xor bit_and 0 gates (map (bit_of k) given)
+unfolding values
+values-numbers k [] given = refl
+values-numbers k (sum i j ∷ gates) given =
+    values-numbers k gates (bit_xor (get_or given i 0) (get_or given j 0) ∷ given)
+    ∙ ap (λ b. values bit_xor bit_and 0 gates (b ∷ map (bit_of k) given)) (bit_of-xor k (get_or given i 0) (get_or given j 0) ∙ ap₂ bit_xor (bit_of-picked k given i) (bit_of-picked k given j))
+values-numbers k (both i j ∷ gates) given =
+    values-numbers k gates (bit_and (get_or given i 0) (get_or given j 0) ∷ given)
+    ∙ ap (λ b. values bit_xor bit_and 0 gates (b ∷ map (bit_of k) given)) (bit_of-and k (get_or given i 0) (get_or given j 0) ∙ ap₂ bit_and (bit_of-picked k given i) (bit_of-picked k given j))
+
+-- gates that are a function of each byte, on the bits k of eight numbers, beside a number of which that bit is 1
+pub byte_of-gates : (gates : List Gate) (i0 i1 i2 i3 i4 i5 i6 i7 : ℕ) (f : ℕ → ℕ)
+    → ((x : ℕ) → x < 256 → by_gates gates (i0 ∷ i1 ∷ i2 ∷ i3 ∷ i4 ∷ i5 ∷ i6 ∷ i7 ∷ []) x ≡ f x)
+    → (x0 x1 x2 x3 x4 x5 x6 x7 u k : ℕ) → bit_of k u ≡ 1
+    → byte_of (map (bit_of k) (chosen 0 (i0 ∷ i1 ∷ i2 ∷ i3 ∷ i4 ∷ i5 ∷ i6 ∷ i7 ∷ [])
+    (values bit_xor bit_and 0 gates (x7 ∷ x6 ∷ x5 ∷ x4 ∷ x3 ∷ x2 ∷ x1 ∷ x0 ∷ u ∷ []))))
+    ≡ f (byte_of (map (bit_of k) (x0 ∷ x1 ∷ x2 ∷ x3 ∷ x4 ∷ x5 ∷ x6 ∷ x7 ∷ [])))
+unfolding by_gates
+byte_of-gates gates i0 i1 i2 i3 i4 i5 i6 i7 f table x0 x1 x2 x3 x4 x5 x6 x7 u k one =
+    let given : List ℕ = x7 ∷ x6 ∷ x5 ∷ x4 ∷ x3 ∷ x2 ∷ x1 ∷ x0 ∷ u ∷ [] in
+    let all : List ℕ = values bit_xor bit_and 0 gates given in
+    let places : List ℕ = i0 ∷ i1 ∷ i2 ∷ i3 ∷ i4 ∷ i5 ∷ i6 ∷ i7 ∷ [] in
+    let picked : (i : ℕ) → bit_of k (get_or all i 0) ≡ get_or (map (bit_of k) all) i 0 = bit_of-picked k all in
+    ap byte_of (eight_same (picked i0) (picked i1) (picked i2) (picked i3) (picked i4) (picked i5) (picked i6) (picked i7)
+    ∙ ap (chosen 0 places) (values-numbers k gates given
+    ∙ ap (λ b. values bit_xor bit_and 0 gates (bit_of k x7 ∷ bit_of k x6 ∷ bit_of k x5 ∷ bit_of k x4 ∷ bit_of k x3 ∷ bit_of k x2 ∷ bit_of k x1 ∷ bit_of k x0 ∷ b ∷ [])) one))
+    ∙ on_bits (λ l. byte_of (chosen 0 places (values bit_xor bit_and 0 gates (given_bits l)))) f table
+    (bit_of k x0) (bit_of k x1) (bit_of k x2) (bit_of k x3) (bit_of k x4) (bit_of k x5) (bit_of k x6) (bit_of k x7)
+    (bit-lt _) (bit-lt _) (bit-lt _) (bit-lt _) (bit-lt _) (bit-lt _) (bit-lt _) (bit-lt _)
 
 -- a plane with this bit in a place
 pub record HasBit (p k : ℕ) (v : List ℕ) (b : ℕ) : Type 0 where

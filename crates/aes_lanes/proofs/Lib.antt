@@ -9,7 +9,7 @@ mod CounterWords
 mod LaneSteps
 mod ShuffleSteps
 mod PlaneBits
-mod Gates
+mod Circuits
 mod Masks
 mod PlaneMoves
 mod PlaneUnmix
@@ -21,3 +21,4 @@ mod XorSteps
 mod PlaneSwaps
 mod PlaneCopies
 mod PlaneBlocks
+mod PlaneWords

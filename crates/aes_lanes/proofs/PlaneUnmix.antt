@@ -11,7 +11,7 @@ use Rattle.aes_lanes.specs.Laws.Columns.{mixed-sum}
 use Rattle.aes_lanes.specs.Planes.{IsPlane, bit, byte_of, byte_at, block_of, lane_block, place}
 use Rattle.aes_lanes.proofs.PlaneBits.{bits-lt, eight_same, eight_lt, byte_at-lt, range-agree, bits_of, on_bits, byte_of-xor}
 use Rattle.aes_lanes.proofs.PlaneMoves.{moved, half_turn, second, four, sums-lt, IsPlane-moved, bit-moved}
-use Rattle.aes_lanes.proofs.Gates.{Gate, sum, values, zeros, HasBit, HaveBits, HaveBits-more, HasBit-zeros, values-bits}
+use Rattle.aes_lanes.proofs.Circuits.{Gate, sum, values, zeros, HasBit, HaveBits, HaveBits-more, HasBit-zeros, values-bits}
 
 -- the sums of the code, of the planes and of those two rows on
 unfoldable pub spread_gates : List Gate

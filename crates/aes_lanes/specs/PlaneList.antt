@@ -3,10 +3,14 @@ use Rattle.std.specs.Prelude.{◌≡◌, ℕ, zero, suc, ◌<◌, length, get_or
 use Rattle.aes_lanes.specs.Bytes.{xor_bytes}
 use Rattle.aes_lanes.specs.Schedule.{round_key}
 use Rattle.aes_lanes.specs.Planes.{block_of}
+use Rattle.aes_lanes.specs.declared.gates.Bits.{Bits}
 use Rattle.aes_lanes.specs.declared.planes.Planes.{Planes}
 
 abbrev pub list_of : Planes → List (List ℕ)
 list_of s = s.p0 ∷ s.p1 ∷ s.p2 ∷ s.p3 ∷ s.p4 ∷ s.p5 ∷ s.p6 ∷ s.p7 ∷ []
+
+abbrev pub bits_list : Bits → List ℕ
+bits_list bits = bits.b0 ∷ bits.b1 ∷ bits.b2 ∷ bits.b3 ∷ bits.b4 ∷ bits.b5 ∷ bits.b6 ∷ bits.b7 ∷ []
 
 -- 0x63 in each of sixteen bytes: what the gates leave out of the S-box
 abbrev pub sixty_threes : List ℕ

@@ -8,9 +8,12 @@ pub record IsPlane (plane : List ℕ) : Type 0 where
   pub long : length plane ≡ 32
   pub bytes : (p : ℕ) → slice_index plane p < 256
 
--- bit k of byte p of a plane
+-- bit k of a number, and of byte p of a plane
+abbrev pub bit_of : ℕ → ℕ → ℕ
+bit_of k number = number / 2 ^ k % 2
+
 abbrev pub bit : ℕ → ℕ → List ℕ → ℕ
-bit p k plane = slice_index plane p / 2 ^ k % 2
+bit p k plane = bit_of k (slice_index plane p)
 
 -- the byte of some bits, the lowest first
 unfoldable pub byte_of : List ℕ → ℕ

@@ -3,7 +3,7 @@ use Rattle.aes_lanes.specs.Planes.{block_of}
 use Rattle.aes_lanes.proofs.Masks.{masked-all, length-block_of}
 use Rattle.aes_lanes.specs.PlaneList.{list_of}
 use Rattle.aes_lanes.proofs.PlaneBits.{block_of-map}
-use Rattle.aes_lanes.proofs.Gates.{IsPlane-gates, byte_at-gates, values, gates_63, sum63-by_gates, zeros, ones}
+use Rattle.aes_lanes.proofs.Circuits.{IsPlane-gates, byte_at-gates, values, gates_63, sum63-by_gates, zeros, ones}
 use Rattle.aes_lanes.proofs.plane_rounds.add_63.Goals as goal
 
 pub invariant_of-result : goal.invariant_of-result

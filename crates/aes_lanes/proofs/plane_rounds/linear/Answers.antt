@@ -1,6 +1,6 @@
 use Rattle.std.proofs.Common.{bit_xor}
 use Rattle.aes_lanes.specs.Field.{inverse_affine_map}
-use Rattle.aes_lanes.proofs.Gates.{IsPlane-gates, byte_at-gates, values, linear_gates, linear-by_gates, zeros, ones}
+use Rattle.aes_lanes.proofs.Circuits.{IsPlane-gates, byte_at-gates, values, linear_gates, linear-by_gates, zeros, ones}
 use Rattle.aes_lanes.proofs.plane_rounds.linear.Goals as goal
 
 pub invariant_of-result : goal.invariant_of-result

@@ -1,4 +1,4 @@
-use Rattle.aes_lanes.proofs.Gates.{values, zeros}
+use Rattle.aes_lanes.proofs.Circuits.{values, zeros}
 use Rattle.aes_lanes.proofs.PlaneUnmix.{IsPlane-spread, block_of-spread, spread_gates}
 use Rattle.aes_lanes.proofs.plane_rounds.spread.Goals as goal
 

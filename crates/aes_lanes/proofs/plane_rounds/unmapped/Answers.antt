@@ -3,7 +3,7 @@ use Rattle.aes_lanes.specs.Field.{inverse_affine_map}
 use Rattle.aes_lanes.specs.Laws.Sums.{bit_xor-twice}
 use Rattle.aes_lanes.specs.Planes.{byte_at}
 use Rattle.aes_lanes.specs.PlaneList.{list_of}
-use Rattle.aes_lanes.proofs.Gates.{IsPlane-gates, byte_at-gates, values, gates_05, sum05-by_gates, zeros, ones}
+use Rattle.aes_lanes.proofs.Circuits.{IsPlane-gates, byte_at-gates, values, gates_05, sum05-by_gates, zeros, ones}
 use Rattle.aes_lanes.proofs.plane_rounds.unmapped.Goals as goal
 
 pub invariant_of-result : goal.invariant_of-result

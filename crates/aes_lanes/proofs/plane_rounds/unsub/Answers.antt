@@ -4,7 +4,7 @@ use Rattle.aes_lanes.specs.Rounds.{inverse_sub_bytes}
 use Rattle.aes_lanes.specs.Planes.{byte_at}
 use Rattle.aes_lanes.specs.PlaneList.{list_of}
 use Rattle.aes_lanes.proofs.PlaneBits.{block_of-map, byte_at-lt}
-use Rattle.aes_lanes.proofs.Gates.{unsbox-by_sbox}
+use Rattle.aes_lanes.proofs.Circuits.{unsbox-by_sbox}
 use Rattle.aes_lanes.proofs.plane_rounds.unsub.Goals as goal
 
 pub returns : goal.returns

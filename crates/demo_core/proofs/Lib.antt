@@ -9,5 +9,6 @@ pub mod Drawn
 pub mod Standing
 pub mod Beside
 pub mod Chances
+pub mod Faults
 pub mod Filling
 pub mod Shared

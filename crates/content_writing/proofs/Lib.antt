@@ -6,3 +6,4 @@ pub mod Standing
 mod Exits
 mod StoredParts
 mod Underway
+pub mod Blaming

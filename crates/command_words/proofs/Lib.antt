@@ -1,3 +1,4 @@
+mod OptionsRead
 mod SmallDemonstrations
 mod ValuesRead
 mod WrittenNumbers

@@ -1,5 +1,5 @@
 -- What a fault of a first call says of the call around it.
-use Rattle.std.proofs.Common.{◌≡◌, ◌≢◌, ◌∙◌, ◌⊎◌, ℕ, Result, Ok, Err, IfErr, IfOk, IsErrAnd, inl, inr, refl, sym, subst}
+use Rattle.std.proofs.Common.{◌≡◌, ◌≢◌, ◌∙◌, ◌⊎◌, ℕ, Result, Ok, Err, IfErr, IfOk, OnOk, IsErrAnd, inl, inr, refl, sym, subst}
 use Rattle.content_writing.specs.declared.fault.PutFault.{PutFault}
 use Rattle.content_writing.specs.declared.fault.PutFault.TheVariants as put
 use Rattle.folder_spec.specs.Path.{Path}
@@ -15,6 +15,10 @@ use Rattle.demo_core.specs.declared.fault.MakeFault.TheVariants.{Load, NoMemory,
 pub never_ok : {T E : Type 0} (result : Result T E) (Q : E → Type 0) (P : T → Type 0) → IsErrAnd result Q → IfOk result P
 never_ok (Ok value) Q P by_fault = absurd by_fault
 never_ok (Err fault) Q P by_fault = tt
+
+pub never_done : {T E : Type 0} (result : Result T E) (Q : E → Type 0) (P : Type 0) → IsErrAnd result Q → OnOk result P
+never_done (Ok value) Q P by_fault = absurd by_fault
+never_done (Err fault) Q P by_fault = tt
 
 pub at_fault : {T E : Type 0} (result : Result T E) (P : E → Type 0) (fault : E) → IsErrAnd result (λ e. e ≡ fault) → P fault → IfErr result P
 at_fault (Ok value) P fault by_fault holds = absurd by_fault

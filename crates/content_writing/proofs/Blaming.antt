@@ -1,5 +1,5 @@
 -- What is blamed where writing a content ends early.
-use Rattle.std.proofs.Common.{◌≢◌, ◌≤◌, ℕ, List, Option, Err, subst, arith}
+use Rattle.std.proofs.Common.{◌≡◌, ◌≢◌, ◌≤◌, ℕ, List, Option, Result, Ok, Err, IsErrAnd, sym, subst, arith}
 use Rattle.chunk_files.specs.Keys.{Keys}
 use Rattle.folder_model.proofs.Counting.{rose_since}
 use Rattle.folder_model.specs.Answers.{CountsAbove}
@@ -11,6 +11,14 @@ use Rattle.content_writing.specs.Streaming.{EndsGathering, FailsToStore, Gathers
 use Rattle.content_writing.specs.Writing.{Blames}
 use Rattle.content_writing.specs.declared.fault.PutFault.{PutFault}
 use Rattle.content_writing.specs.declared.fault.PutFault.TheVariants as puts
+
+-- ---- a call that ended by one fault
+
+pub blames_at : {T : Type 0} (result : Result T PutFault) (fault blamed : PutFault) (old new : ℕ) → IsErrAnd result (λ e. e ≡ fault) → Blames {T = T} (Err fault) blamed old new → Blames result blamed old new
+blames_at (Ok value) fault blamed old new by_fault blames = absurd by_fault
+blames_at {T} (Err e) fault blamed old new by_fault blames = subst (λ x. Blames {T = T} (Err x) blamed old new) (sym by_fault) blames
+
+-- ---- what a fault is of
 
 -- gathering draws nothing
 pub gathers_undrawn : (full : ℕ) (gathered : List ℕ) (coming left : Option Coming) (why : PutFault) → Gathers full gathered coming left (Err why) → why ≢ puts.Random

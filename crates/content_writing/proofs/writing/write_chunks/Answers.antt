@@ -1,7 +1,7 @@
 use Rattle.std.proofs.Common.{◌≡◌, ◌<◌, ◌++◌, ℕ, List, [], length, Option, Result, Err, Ok, sym, ap, ◌∙◌, subst, arith}
 use Rattle.folder_model.proofs.Counting.{rose_since}
-use Rattle.std.proofs.lemmas.List.{nil_from_length}
 use Rattle.std.proofs.lemmas.Result.{err_from_is_err_and}
+use Rattle.std.proofs.lemmas.List.{nil_from_length}
 use Rattle.chunk_files.specs.declared.keys.Layout.{Layout}
 use Rattle.chunk_files.specs.Keys.{Keys, format_of, full_size}
 use Rattle.folder_spec.specs.Event.{Told}
@@ -12,7 +12,7 @@ use Rattle.content_writing.specs.Streaming.{Gathers, IsStaged, StoresChunk, Star
 use Rattle.content_writing.specs.Faults.{of_folder}
 use Rattle.content_writing.specs.declared.fault.PutFault.{PutFault}
 use Rattle.content_writing.specs.declared.fault.PutFault.TheVariants as put
-use Rattle.content_writing.proofs.Blaming.{folder_blames, folder_undrawn, folder_unread, gathers_undrawn, stores_unread}
+use Rattle.content_writing.proofs.Blaming.{blames_at, folder_blames, folder_undrawn, folder_unread, gathers_undrawn, stores_unread}
 use Rattle.content_writing.proofs.Drawing.{full_is, some_full}
 use Rattle.content_writing.proofs.Standing.{IsStill, staged_still, still_same, ready_now, ready_before}
 use Rattle.content_writing.proofs.Underway.{first_fails, begin_fails, has_begun, store_fails, next_fails, next_underway, finish_fails, is_written, staged_seen}
@@ -35,20 +35,24 @@ returns-in_err-gather g c =
     let still = still_coming (g.C.Content.reads c.args.content.now) told in
     let w : Start = record { keys = c.args.keys; at = c.args.staged.now; told = told; stream = stream; coming = still (g.C.Content.coming c.args.content.now) } in
     let full : c.full-full.result ≡ (format_of c.args.keys).full_size = full_at c.args.keys c.layout.result c.full-full.result c.layout.ensures c.full-full.ensures in
-    let p = err_from_is_err_and c.from_residual.result c.from_residual.ensures.1 in
+    let by_fault = c.from_residual.ensures.1 in
+    let p = err_from_is_err_and c.from_residual.result by_fault in
     let e = c.in_err-gather.ensures in
-    rw (p.1, p.2) (record {
-      written =
+    record {
+      written = rw (p.1, p.2)
           (first_fails w c.gather.new.plain (still (g.C.Content.coming c.gather.new.content)) (g.F.Folder.told c.gather.new.folder) c.in_err-gather.field-0.0 (c.draws_compose.ensures.none stream)
           c.in_err-gather.ensures.told
           (subst (λ (n : ℕ). Gathers n c.gather.new.plain w.coming (still (g.C.Content.coming c.gather.new.content)) (Err c.in_err-gather.field-0.0)) full c.in_err-gather.ensures.gathered));
       reads = e.reads;
       room = omega (arith, e.room);
       lender = e.lender;
-      failed = e.failed;
-      source = e.source;
-      random = (omega arith, λ same. absurd (gathers_undrawn _ _ _ _ c.in_err-gather.field-0.0 e.gathered (let is : c.in_err-gather.field-0.0 ≡ put.Random = cc same in is)));
-    })
+      failed = blames_at c.from_residual.result c.in_err-gather.field-0.0 put.Failed _ _ by_fault
+          e.failed;
+      source = blames_at c.from_residual.result c.in_err-gather.field-0.0 put.Source _ _ by_fault
+          e.source;
+      random = blames_at c.from_residual.result c.in_err-gather.field-0.0 put.Random _ _ by_fault
+          (omega arith, λ same. absurd (gathers_undrawn _ _ _ _ c.in_err-gather.field-0.0 e.gathered (let is : c.in_err-gather.field-0.0 ≡ put.Random = cc same in is)));
+    }
 
 pub returns-in_err-encoder : goal.returns-in_err-encoder
 returns-in_err-encoder g c =
@@ -59,20 +63,24 @@ returns-in_err-encoder g c =
     let full : c.full-full.result ≡ (format_of c.args.keys).full_size = full_at c.args.keys c.layout.result c.full-full.result c.layout.ensures c.full-full.ensures in
     let h : Gathers (format_of c.args.keys).full_size c.gather.new.plain w.coming (still (g.C.Content.coming c.gather.new.content)) (Ok c.in_ok-gather.field-0) =
     subst (λ (n : ℕ). Gathers n c.gather.new.plain w.coming (still (g.C.Content.coming c.gather.new.content)) (Ok c.in_ok-gather.field-0)) full c.in_ok-gather.ensures.gathered in
-    let p = err_from_is_err_and c.from_residual-in_err-encoder.result c.from_residual-in_err-encoder.ensures.1 in
+    let by_fault = c.from_residual-in_err-encoder.ensures.1 in
+    let p = err_from_is_err_and c.from_residual-in_err-encoder.result by_fault in
     let e = c.in_ok-gather.ensures in
     let begun = c.in_err-encoder.ensures in
-    rw (p.1, p.2) (record {
-      written =
+    record {
+      written = rw (p.1, p.2)
           (begin_fails w (some_full c.args.keys) c.gather.new.plain (still (g.C.Content.coming c.gather.new.content)) (g.F.Folder.told c.gather.new.folder) (g.F.Folder.told c.begin_content.new.folder)
           (g.R.Randoms.left c.begin_content.new.random) c.len.result c.len.ensures.size c.in_ok-gather.ensures.told h c.in_err-encoder.field-0.0 c.in_err-encoder.ensures.begun);
       reads = e.reads;
       room = omega (arith, e.room);
       lender = e.lender;
-      failed = (omega (arith, e.failed.0, begun.failed.0), λ same. rose_since _ _ _ e.failed.0 (begun.failed.1 (let is : c.in_err-encoder.field-0.0 ≡ put.Failed = cc same in ap Err is)));
-      source = (e.source.0, λ same. absurd (stores_unread _ _ c.in_err-encoder.field-0.0 begun.begun.ends (let is : c.in_err-encoder.field-0.0 ≡ put.Source = cc same in is)));
-      random = (begun.random.0, λ same. begun.random.1 (let is : c.in_err-encoder.field-0.0 ≡ put.Random = cc same in ap Err is));
-    })
+      failed = blames_at c.from_residual-in_err-encoder.result c.in_err-encoder.field-0.0 put.Failed _ _ by_fault
+          (omega (arith, e.failed.0, begun.failed.0), λ same. rose_since _ _ _ e.failed.0 (begun.failed.1 (let is : c.in_err-encoder.field-0.0 ≡ put.Failed = cc same in ap Err is)));
+      source = blames_at c.from_residual-in_err-encoder.result c.in_err-encoder.field-0.0 put.Source _ _ by_fault
+          (e.source.0, λ same. absurd (stores_unread _ _ c.in_err-encoder.field-0.0 begun.begun.ends (let is : c.in_err-encoder.field-0.0 ≡ put.Source = cc same in is)));
+      random = blames_at c.from_residual-in_err-encoder.result c.in_err-encoder.field-0.0 put.Random _ _ by_fault
+          (begun.random.0, λ same. begun.random.1 (let is : c.in_err-encoder.field-0.0 ≡ put.Random = cc same in ap Err is));
+    }
 
 pub chunks-init : goal.chunks-init
 chunks-init g c =
@@ -124,18 +132,22 @@ returns-in_err-store_chunk g c =
     let stream1 = g.R.Randoms.left c.store_chunk.new.random in
     let s : StoresChunk c.chunks.encoder c.store_chunk.new.encoder c.chunks.plain c.args.staged.now stream0 stream1 told0 told1 (Err c.in_err-store_chunk.field-0.0) =
     subst (λ (b : List ℕ). StoresChunk c.chunks.encoder c.store_chunk.new.encoder b c.args.staged.now stream0 stream1 told0 told1 (Err c.in_err-store_chunk.field-0.0)) c.bytes.ensures c.in_err-store_chunk.ensures.stored in
-    let p = err_from_is_err_and c.from_residual-in_err-store_chunk.result c.from_residual-in_err-store_chunk.ensures.1 in
+    let by_fault = c.from_residual-in_err-store_chunk.ensures.1 in
+    let p = err_from_is_err_and c.from_residual-in_err-store_chunk.result by_fault in
     let e = c.in_err-store_chunk.ensures in
-    rw (p.1, p.2) (record {
-      written =
+    record {
+      written = rw (p.1, p.2)
           (store_fails w c.chunks.encoder c.store_chunk.new.encoder c.chunks.plain told0 told1 stream0 stream1 left c.draws_compose.ensures.composed i.underway some c.in_err-store_chunk.field-0.0 s);
       reads = i.reads;
       room = omega (arith, i.room);
       lender = i.lender;
-      failed = (omega (arith, i.failed, e.failed.0), λ same. rose_since _ _ _ i.failed (e.failed.1 same));
-      source = (i.source, λ same. absurd (stores_unread _ _ c.in_err-store_chunk.field-0.0 s.ends (let is : c.in_err-store_chunk.field-0.0 ≡ put.Source = cc same in is)));
-      random = (omega (arith, i.random, e.random.0), λ same. rose_since _ _ _ i.random (e.random.1 same));
-    })
+      failed = blames_at c.from_residual-in_err-store_chunk.result c.in_err-store_chunk.field-0.0 put.Failed _ _ by_fault
+          (omega (arith, i.failed, e.failed.0), λ same. rose_since _ _ _ i.failed (e.failed.1 same));
+      source = blames_at c.from_residual-in_err-store_chunk.result c.in_err-store_chunk.field-0.0 put.Source _ _ by_fault
+          (i.source, λ same. absurd (stores_unread _ _ c.in_err-store_chunk.field-0.0 s.ends (let is : c.in_err-store_chunk.field-0.0 ≡ put.Source = cc same in is)));
+      random = blames_at c.from_residual-in_err-store_chunk.result c.in_err-store_chunk.field-0.0 put.Random _ _ by_fault
+          (omega (arith, i.random, e.random.0), λ same. rose_since _ _ _ i.random (e.random.1 same));
+    }
 
 pub gather_next-requires-clause-ready : goal.gather_next-requires-clause-ready
 gather_next-requires-clause-ready g c =
@@ -209,10 +221,11 @@ returns-in_err-gather_next g c =
     subst (λ (b : List ℕ). StoresChunk c.chunks.encoder c.store_chunk.new.encoder b c.args.staged.now stream0 stream1 told0 told1 (Ok c.in_ok-store_chunk.field-0)) c.bytes.ensures c.in_ok-store_chunk.ensures.stored in
     let e = c.in_err-gather_next.ensures in
     let left' = still (g.C.Content.coming c.gather_next.new.content) in
-    let p = err_from_is_err_and c.from_residual-in_err-gather_next.result c.from_residual-in_err-gather_next.ensures.1 in
+    let by_fault = c.from_residual-in_err-gather_next.ensures.1 in
+    let p = err_from_is_err_and c.from_residual-in_err-gather_next.result by_fault in
     let stored = c.in_ok-store_chunk.ensures in
-    rw (p.1, p.2) (record {
-      written =
+    record {
+      written = rw (p.1, p.2)
           (next_fails w c.chunks.encoder c.store_chunk.new.encoder c.chunks.plain told0 told1 stream0 stream1 left c.draws_compose.ensures.composed i.underway some s c.gather_next.new.plain left' (g.F.Folder.told c.gather_next.new.folder) e.told c.in_err-gather_next.field-0.0 (omega (arith, e.went_on, full))
           (subst (λ (n : ℕ). Gathers n c.gather_next.new.plain left left' (Err c.in_err-gather_next.field-0.0)) full (gathers_at (g.C.Content.reads c.chunks.content) (g.C.Content.reads c.args.content.now) told1 told c.full-full.result c.gather_next.new.plain (g.C.Content.coming c.chunks.content)
           (g.C.Content.coming c.gather_next.new.content) (Err c.in_err-gather_next.field-0.0) i.reads (staged_still (g.C.Content.reads c.args.content.now) c.args.staged.now (i.underway.made ++ s.piece) told told1 (g.met.F.Folder.sound c.args.folder.now) c.requires.apart
@@ -220,10 +233,13 @@ returns-in_err-gather_next g c =
       reads = e.reads ∙ i.reads;
       room = omega (arith, e.room, i.room);
       lender = e.lender ∙ i.lender;
-      failed = (omega (arith, i.failed, stored.failed.0, e.failed.0), λ same. rose_since _ _ _ (omega (arith, i.failed, stored.failed.0)) (e.failed.1 same));
-      source = (omega (arith, i.source, e.source.0), λ same. rose_since _ _ _ i.source (e.source.1 same));
-      random = (omega (arith, i.random, stored.random.0), λ same. absurd (gathers_undrawn _ _ _ _ c.in_err-gather_next.field-0.0 (e.gathered e.went_on) (let is : c.in_err-gather_next.field-0.0 ≡ put.Random = cc same in is)));
-    })
+      failed = blames_at c.from_residual-in_err-gather_next.result c.in_err-gather_next.field-0.0 put.Failed _ _ by_fault
+          (omega (arith, i.failed, stored.failed.0, e.failed.0), λ same. rose_since _ _ _ (omega (arith, i.failed, stored.failed.0)) (e.failed.1 same));
+      source = blames_at c.from_residual-in_err-gather_next.result c.in_err-gather_next.field-0.0 put.Source _ _ by_fault
+          (omega (arith, i.source, e.source.0), λ same. rose_since _ _ _ i.source (e.source.1 same));
+      random = blames_at c.from_residual-in_err-gather_next.result c.in_err-gather_next.field-0.0 put.Random _ _ by_fault
+          (omega (arith, i.random, stored.random.0), λ same. absurd (gathers_undrawn _ _ _ _ c.in_err-gather_next.field-0.0 (e.gathered e.went_on) (let is : c.in_err-gather_next.field-0.0 ≡ put.Random = cc same in is)));
+    }
 
 pub finish_file-requires : goal.finish_file-requires
 finish_file-requires g c =
@@ -245,19 +261,23 @@ returns-in_err-finish_file g c =
     let told0 = g.F.Folder.told c.chunks.folder in
     let stream0 = g.R.Randoms.left c.chunks.random in
     let none : c.chunks.plain ≡ [] = nil_from_length c.chunks.plain (omega (arith, c.len-in-chunks.ensures.size, c.chunks-test.false)) in
-    let p = err_from_is_err_and c.from_residual-in_err-finish_file.result c.from_residual-in_err-finish_file.ensures.1 in
+    let by_fault = c.from_residual-in_err-finish_file.ensures.1 in
+    let p = err_from_is_err_and c.from_residual-in_err-finish_file.result by_fault in
     let why = c.in_err-finish_file.field-0.0 in
-    rw (p.1, p.2) (record {
-      written =
+    record {
+      written = rw (p.1, p.2)
           (finish_fails w (some_full c.args.keys) c.chunks.encoder c.chunks.plain told0 (g.F.Folder.told c.finish_file.new.folder) stream0 left i.underway none c.in_err-finish_file.field-0.0
           c.in_err-finish_file.ensures.finished);
       reads = i.reads;
       room = omega (arith, i.room);
       lender = i.lender;
-      failed = folder_blames {T = Unit {0}} _ _ _ why i.failed c.in_err-finish_file.ensures.counts;
-      source = (i.source, λ same. absurd (folder_unread why (let is : of_folder why ≡ put.Source = cc same in is)));
-      random = (i.random, λ same. absurd (folder_undrawn why (let is : of_folder why ≡ put.Random = cc same in is)));
-    })
+      failed = blames_at c.from_residual-in_err-finish_file.result (of_folder why) put.Failed _ _ by_fault
+          (folder_blames {T = Unit {0}} _ _ _ why i.failed c.in_err-finish_file.ensures.counts);
+      source = blames_at c.from_residual-in_err-finish_file.result (of_folder why) put.Source _ _ by_fault
+          (i.source, λ same. absurd (folder_unread why (let is : of_folder why ≡ put.Source = cc same in is)));
+      random = blames_at c.from_residual-in_err-finish_file.result (of_folder why) put.Random _ _ by_fault
+          (i.random, λ same. absurd (folder_undrawn why (let is : of_folder why ≡ put.Random = cc same in is)));
+    }
 
 pub returns-clause-written : goal.returns-clause-written
 returns-clause-written g c =

@@ -17,7 +17,8 @@ use std::marker::Model;
 #[derive(Drop)]
 pub struct Decoder {
     keys: ContentKeys,
-    told: Option<Told>,
+    // Boxed, since a decoder is moved by each function that makes one.
+    told: Box<Option<Told>>,
     number: u64,
     taken: u64,
     held: Held,
@@ -31,21 +32,23 @@ impl Model for Decoder {
 
     ghost Value = { Decoding };
 
-    ghost view = { λ d. record { keys = d.keys; header = option_map header_of d.told; number = d.number; taken = d.taken; held = d.held; ended = d.ended } };
+    ghost view = { λ d. record { keys = d.keys; header = option_map header_of d.told.value; number = d.number; taken = d.taken; held = d.held; ended = d.ended } };
 
-    ghost invariant = { λ d. IsPlaced (record { keys = d.keys; header = option_map header_of d.told; number = d.number; taken = d.taken; held = d.held; ended = d.ended })
-        × IfSome d.told (λ told. layout_of told ≡ d.keys.layout) };
+    ghost invariant = { λ d. IsPlaced (record { keys = d.keys; header = option_map header_of d.told.value; number = d.number; taken = d.taken; held = d.held; ended = d.ended })
+        × IfSome d.told.value (λ told. layout_of told ≡ d.keys.layout) };
 }
 
 impl Decoder {
-    /// A decoder that was fed nothing. It takes one buffer of 32,816 bytes, and no memory after that.
+    /// A decoder that was fed nothing. It takes one buffer of 32,816 bytes and room for the tables of a key, and no memory after
+    /// that.
     pub fn start(alloc: Global, keys: ContentKeys) -> Result<Decoder, AllocError>
         ensures { IfOk result (λ d. d ≡ started keys) }
     {
         let held = Held::new(alloc)?;
+        let told = Box::new(alloc, None)?;
         Ok(Decoder {
             keys,
-            told: None,
+            told,
             number: 0,
             taken: 0,
             held,
@@ -99,7 +102,7 @@ impl Decoder {
         ensures wanting { result ≡ Ok Step.More → length self.new.held < wanted self.new.keys self.new.header }
         ensures room { result ≡ Ok Step.More → length self.new.held < 32816 }
     {
-        match self.told {
+        match &*self.told {
             Some(_) => self.step_chunk(out),
             None => match self.step_header() {
                 Some(step) => step,
@@ -130,7 +133,7 @@ impl Decoder {
         }
         match read_header(&self.keys, &self.held.bytes()[..size]) {
             Ok(told) => {
-                self.told = Some(told);
+                *self.told = Some(told);
                 self.held.skip(size);
                 None
             }
@@ -149,7 +152,7 @@ impl Decoder {
         ensures placed { IsPlaced self.new }
         ensures wanting { result ≡ Ok Step.More → length self.new.held < wanted self.new.keys self.new.header }
     {
-        let Some(told) = &self.told else {
+        let Some(told) = &*self.told else {
             return Ok(Step::More);
         };
         let held = self.held.len();

@@ -94,13 +94,18 @@ fn slot_in(alloc: Global, vault: &Vault, dir: &DirPlace, name: &Name) -> Result<
 {
     let stored = stored_in(alloc, vault, dir.key.as_slice(), name)?;
     let Stored { name, full } = stored;
-    let mut side = String::from_str(alloc, name.as_str())?;
-    side.push_str(".name")?;
-    Ok(Slot {
-        at: dir.folder.child(name.as_str())?,
-        side: dir.folder.child(side.as_str())?,
-        full,
-    })
+    let side = side_in(alloc, &dir.folder, name.as_str())?;
+    let at = dir.folder.child(name.as_str())?;
+    Ok(Slot { at, side, full })
+}
+
+// Where the text of a long name is stored, beside the entry of this name.
+fn side_in(alloc: Global, folder: &FPath, entry: &str) -> Result<FPath, AllocError>
+    ensures { IfOk result (λ side. side ≡ child folder.now (full_name entry.now)) }
+{
+    let mut name = String::from_str(alloc, entry)?;
+    name.push_str(".name")?;
+    folder.child(name.as_str())
 }
 
 // What stands at a path.
@@ -143,10 +148,7 @@ pub(crate) fn slot_at<F: Folder>(
     ensures kind { IfErr result (λ fault. IsPlaceFault fault) }
     ensures counts { CountsFailed PutFault.Failed (F.faults folder.old) (F.faults folder.new) result }
 {
-    what_is_found_stands();
-    let dir = entered(alloc, folder, vault, front)?;
-    allow(vault, path, name)?;
-    let slot = slot_in(alloc, vault, &dir, name)?;
+    let slot = slot_over(alloc, folder, vault, path, front, name)?;
     is_free(folder, &slot.at)?;
     Ok(slot)
 }

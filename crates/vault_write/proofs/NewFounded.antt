@@ -148,6 +148,21 @@ cm_all d drawn all folder.NoMemory h = h
 abbrev pub cm_two : List ℕ → List ℕ → List (List ℕ × List ℕ)
 cm_two master vault = (codes "masterkey.cryptomator", master) ∷ (codes "vault.cryptomator", vault) ∷ []
 
+-- a call that puts the vault of what was drawn at the path
+abbrev pub FoundsDrawn : {E : Type 0} → Path → Path → List ℕ → Cost → Combo → CmDraw → Option Told → Option Told → Result (Unit {0}) E → Type 0
+FoundsDrawn work at pass cost combo d t u result = Founds work at (new_cm_vault pass cost combo d) (cm_files pass cost combo d) t u result
+
+module _ (work at : Path) (t u : Option Told) (result : Result (Unit {0}) FolderFault) where
+  abbrev Made : List ℕ → List ℕ → List ℕ → Type 0
+  Made m v x = Founds work at (with_home x (folder_view (cm_two m v))) (cm_two m v) t u result
+
+  pub cm_made : (pass : List ℕ) (cost : Cost) (combo : Combo) (d : CmDraw) (master vault home : List ℕ) → master ≡ master_text (made_master pass cost d) (version_mac d.mac version_bytes) → vault ≡ vault_text combo d
+      → home ≡ cm_folder_of (keys_of d) [] → Made master vault home → FoundsDrawn work at pass cost combo d t u result
+  cm_made pass cost combo d master vault home is_master is_vault is_home f =
+      subst (λ x. Made (master_text (made_master pass cost d) (version_mac d.mac version_bytes)) (vault_text combo d) x) is_home
+      (subst (λ v. Made (master_text (made_master pass cost d) (version_mac d.mac version_bytes)) v home) is_vault
+      (subst (λ m. Made m vault home) is_master f))
+
 module _ (work at : Path) (pass : List ℕ) (cost : Cost) (combo : Combo) (s s' : Option ByteStream) (t : Option Told) (sound : (a : Told) → t ≡ Some a → IsSound a.state) (may : MayFound t work at) where
   pub cm_undrawn : (fault : PutFault) → DrawsCm s s' (Err fault) → FoundsCm work at pass cost combo s s' t t (Err fault)
   cm_undrawn fault h = record {
@@ -160,49 +175,27 @@ module _ (work at : Path) (pass : List ℕ) (cost : Cost) (combo : Combo) (s s' 
     vault = tt;
   }
 
-  module _ (d : CmDraw) (h : DrawsCm s s' (Ok d)) where
-    pub cm_unmade : FoundsCm work at pass cost combo s s' t t (Err puts.NoMemory)
-    cm_unmade = record {
+  module _ (d : CmDraw) (h : DrawsCm s s' (Ok d)) (u : Option Told) where
+    pub cm_failed : (fault : FolderFault) → FoundsDrawn {E = FolderFault} work at pass cost combo d t u (Err fault) → FoundsCm work at pass cost combo s s' t u (Err (of_folder fault))
+    cm_failed fault f = record {
+      draw = h.draw;
+      drawn = h.drawn;
+      sizes = h.sizes;
+      were_drawn = h.were_drawn;
+      drew = cm_all h.draw h.drawn [] fault h.drew;
+      founds = as_fault work at (new_cm_vault pass cost combo h.draw) (cm_files pass cost combo h.draw) t u fault (of_folder fault)
+          (subst (λ (e : CmDraw). FoundsDrawn {E = FolderFault} work at pass cost combo e t u (Err fault)) h.is f);
+      vault = tt;
+    }
+
+    pub cm_done : cm.MadeFilesReturn → IsCost cost → CmEmptyAndTidy pass cost combo d → FoundsDrawn {E = FolderFault} work at pass cost combo d t u (Ok tt) → FoundsCm work at pass cost combo s s' t u (Ok tt)
+    cm_done returns is_cost both f = record {
       draw = h.draw;
       drawn = h.drawn;
       sizes = h.sizes;
       were_drawn = h.were_drawn;
       drew = h.drew;
-      founds = founds_none work at (new_cm_vault pass cost combo h.draw) (cm_files pass cost combo h.draw) t puts.NoMemory sound may;
-      vault = tt;
+      founds = as_done work at (new_cm_vault pass cost combo h.draw) (cm_files pass cost combo h.draw) t u
+          (subst (λ (e : CmDraw). FoundsDrawn {E = FolderFault} work at pass cost combo e t u (Ok tt)) h.is f);
+      vault = cm_is_new returns pass cost combo h.draw is_cost h.sizes (subst (CmEmptyAndTidy pass cost combo) h.is both);
     }
-
-    module _ (master vault home : List ℕ) (is_master : master ≡ master_text (made_master pass cost d) (version_mac d.mac version_bytes)) (is_vault : vault ≡ vault_text combo d)
-        (is_home : home ≡ cm_folder_of (keys_of d) []) (u : Option Told) where
-      abbrev Made : List ℕ → List ℕ → List ℕ → Result (Unit {0}) FolderFault → Type 0
-      Made m v x result = Founds work at (with_home x (folder_view (cm_two m v))) (cm_two m v) t u result
-
-      cm_at_these : (result : Result (Unit {0}) FolderFault) → Made master vault home result → Founds work at (new_cm_vault pass cost combo h.draw) (cm_files pass cost combo h.draw) t u result
-      cm_at_these result f =
-          subst (λ (e : CmDraw). Made (master_text (made_master pass cost e) (version_mac e.mac version_bytes)) (vault_text combo e) (cm_folder_of (keys_of e) []) result) h.is
-          (subst (λ x. Made (master_text (made_master pass cost d) (version_mac d.mac version_bytes)) (vault_text combo d) x result) is_home
-          (subst (λ v. Made (master_text (made_master pass cost d) (version_mac d.mac version_bytes)) v home result) is_vault
-          (subst (λ m. Made m vault home result) is_master f)))
-
-      pub cm_failed : (fault : FolderFault) → Made master vault home (Err fault) → FoundsCm work at pass cost combo s s' t u (Err (of_folder fault))
-      cm_failed fault f = record {
-        draw = h.draw;
-        drawn = h.drawn;
-        sizes = h.sizes;
-        were_drawn = h.were_drawn;
-        drew = cm_all h.draw h.drawn [] fault h.drew;
-        founds = as_fault work at (new_cm_vault pass cost combo h.draw) (cm_files pass cost combo h.draw) t u fault (of_folder fault) (cm_at_these (Err fault) f);
-        vault = tt;
-      }
-
-      pub cm_done : cm.MadeFilesReturn → IsCost cost → CmEmptyAndTidy pass cost combo d → Made master vault home (Ok tt)
-          → FoundsCm work at pass cost combo s s' t u (Ok tt)
-      cm_done returns is_cost both f = record {
-        draw = h.draw;
-        drawn = h.drawn;
-        sizes = h.sizes;
-        were_drawn = h.were_drawn;
-        drew = h.drew;
-        founds = as_done work at (new_cm_vault pass cost combo h.draw) (cm_files pass cost combo h.draw) t u (cm_at_these (Ok tt) f);
-        vault = cm_is_new returns pass cost combo h.draw is_cost h.sizes (subst (CmEmptyAndTidy pass cost combo) h.is both);
-      }

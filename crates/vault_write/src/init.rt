@@ -16,13 +16,14 @@ ghost use Rattle.folder_staging.specs.Places.{IsPlace};
 ghost use Rattle.vault_names.specs.Base32.{is_base32};
 ghost use Rattle.vault_spec.specs.Cryptomator.{top};
 ghost use Rattle.vault_spec.specs.Gocryptfs.{key_file};
+ghost use Rattle.vault_spec.specs.NewVault.{cm_files, new_cm_vault};
 ghost use Rattle.vault_write.specs.Founding.{MayFound, Founds, FoundsGo, FoundsCm, StagesWhole, StagesHome, with_home, texts};
 
 use crate::drawing::{draw_cm, draw_go};
 use crate::stage::staged_at;
 use content_writing::PutFault;
-use cryptomator_conf::Combo;
 use cryptomator_conf::laws::made_files_give_back_their_keys;
+use cryptomator_conf::{CmDraw, Combo};
 use folder_model::{FPath, Folder};
 use folder_spec::FolderFault;
 use folder_staging::laws::{
@@ -112,20 +113,38 @@ pub fn init_cm_combo<F: Folder, R: Randoms>(
     ensures counted { R.faults random.old ≤ R.faults random.new }
 {
     made_files_give_back_their_keys();
-    cm_folders_are_plain();
     new_vaults_of_cryptomator_are_empty();
     vaults_of_cryptomator_stay_tidy();
     cost_is_one(cost);
     let drawn = draw_cm(random)?;
+    Ok(found_drawn(alloc, folder, work, at, pass, cost, combo, &drawn)?)
+}
+
+// Puts the Cryptomator vault of what was drawn at the path.
+fn found_drawn<F: Folder>(
+    alloc: Global,
+    folder: &mut F,
+    work: &Work,
+    at: &FPath,
+    pass: &[u8],
+    cost: &ScryptCost,
+    combo: Combo,
+    drawn: &CmDraw,
+) -> Result<(), FolderFault>
+    requires { MayFound (F.told folder.old) work.now at.now }
+    ensures founds { Founds work.now at.now (new_cm_vault pass.now cost.now combo drawn.now) (cm_files pass.now cost.now combo drawn.now) (F.told folder.old) (F.told folder.new) result }
+    ensures counts { CountsAbove (F.faults folder.old) (F.faults folder.new) result }
+{
+    cm_folders_are_plain();
     let keys = CmKeys {
         enc: drawn.enc,
         mac: drawn.mac,
     };
-    let files = cryptomator_conf::make_combo(alloc, pass, cost, combo, &drawn)?;
+    let files = cryptomator_conf::make_combo(alloc, pass, cost, combo, drawn)?;
     let home = cm_folder(alloc, &keys, &[])?;
     let master = files.master.as_slice();
     let vault = files.vault.as_slice();
-    Ok(found_cm(folder, work, at, master, vault, home.as_str())?)
+    found_cm(folder, work, at, master, vault, home.as_str())
 }
 
 // A cost is one at which scrypt works.

@@ -547,34 +547,9 @@ fn stage_entry<F: Folder, R: Randoms, C: Content<F>>(
     ensures random { Blames result PutFault.Random (R.faults random.old) (R.faults random.new) }
 {
     match inside {
-        None => stage_alone(folder, staged, keys, content, random, buffers),
+        None => write_content(folder, staged, keys, content, random, buffers),
         Some(_) => stage_folder(folder, staged, keys, inside, content, random, buffers),
     }
-}
-
-// Stages a content file.
-fn stage_alone<F: Folder, R: Randoms, C: Content<F>>(
-    folder: &mut F,
-    staged: &FPath,
-    keys: ContentKeys,
-    content: &mut C,
-    random: &mut R,
-    buffers: &mut Buffers,
-) -> Result<(), PutFault>
-    requires free { IfSeen (F.told folder.old) (λ v. ShowsFree v staged.now) }
-    requires below_base { staged.now ≢ [] }
-    requires ready { IsReady (C.reads content.old) (F.told folder.old) (C.coming content.old) }
-    requires apart { ReadsApart (C.reads content.old) staged.now }
-    ensures staged { StagesEntry keys None staged.now (still_coming (C.reads content.old) (F.told folder.old) (C.coming content.old)) (still_coming (C.reads content.old) (F.told folder.old) (C.coming content.new))
-        (R.left random.old) (R.left random.new) (F.told folder.old) (F.told folder.new) result }
-    ensures reads { C.reads content.new ≡ C.reads content.old }
-    ensures room { C.room content.new ≤ C.room content.old }
-    ensures lender { C.lender content.new ≡ C.lender content.old }
-    ensures failed { Blames result PutFault.Failed (F.faults folder.old) (F.faults folder.new) }
-    ensures source { Blames result PutFault.Source (C.faults content.old) (C.faults content.new) }
-    ensures random { Blames result PutFault.Random (R.faults random.old) (R.faults random.new) }
-{
-    write_content(folder, staged, keys, content, random, buffers)
 }
 
 // Stages a folder with a content file and the text of a long name.

@@ -1,7 +1,7 @@
 use Rattle.std.proofs.Common.{Err, sym, ap, ◌∙◌, subst}
 use Rattle.std.proofs.lemmas.Result.{err_from_is_err_and}
 use Rattle.vault_write.specs.Founding.{DrawsGo}
-use Rattle.vault_write.proofs.Drawn.{go_none, go_one, go_two, go_three}
+use Rattle.vault_write.proofs.Drawn.{go_all, go_none, go_one, go_two, go_three}
 use Rattle.vault_write.proofs.drawing.draw_go.Goals as goal
 
 pub returns-in_err-master-clause-draws : goal.returns-in_err-master-clause-draws
@@ -27,3 +27,9 @@ returns-in_err-key-clause-draws g c =
     let p = err_from_is_err_and c.from_residual-in_err-key.result c.from_residual-in_err-key.ensures.1 in
     subst (DrawsGo (g.R.Randoms.left c.args.random.now) (g.R.Randoms.left c.draw_some-2.new.random)) (sym (p.1 ∙ ap Err p.2))
     (go_three c.draws_compose.ensures.composed (g.R.Randoms.left c.args.random.now) (g.R.Randoms.left c.draw.new.random) c.in_ok-master.master (record { size = c.in_ok-master.ensures.size; small = c.in_ok-master.ensures.small }) c.in_ok-master.ensures.drawn (g.R.Randoms.left c.draw-2.new.random) c.in_ok-salt.salt (record { size = c.in_ok-salt.ensures.size; small = c.in_ok-salt.ensures.small }) c.in_ok-salt.ensures.drawn (g.R.Randoms.left c.draw_some.new.random) c.in_ok-nonce.nonce c.in_ok-nonce.ensures.draws (g.R.Randoms.left c.draw_some-2.new.random) c.in_err-key.field-0.0 c.in_err-key.ensures.draws)
+
+pub returns-clause-draws : goal.returns-clause-draws
+returns-clause-draws g c =
+    go_all c.draws_compose.ensures.composed (g.R.Randoms.left c.args.random.now) (g.R.Randoms.left c.draw.new.random) c.in_ok-master.master (record { size = c.in_ok-master.ensures.size; small = c.in_ok-master.ensures.small }) c.in_ok-master.ensures.drawn
+    (g.R.Randoms.left c.draw-2.new.random) c.in_ok-salt.salt (record { size = c.in_ok-salt.ensures.size; small = c.in_ok-salt.ensures.small }) c.in_ok-salt.ensures.drawn (g.R.Randoms.left c.draw_some.new.random) c.in_ok-nonce.nonce c.in_ok-nonce.ensures.draws
+    (g.R.Randoms.left c.draw_some-2.new.random) c.in_ok-key.key c.in_ok-key.ensures.draws

@@ -2,9 +2,9 @@
 use Rattle.std.specs.Option.{option_or}
 use Rattle.std.specs.List.{list_all}
 use Rattle.std.proofs.lemmas.Bool.{le-leb, eqb-true}
-use Rattle.std.proofs.lemmas.List.{take_all}
+use Rattle.std.proofs.lemmas.List.{take_all, take_more}
 use Rattle.std.proofs.lemmas.Bool.Decides.{leb_tells, eqb_tells}
-use Rattle.std.proofs.Common.{arith, true, false, Bool, nat_lt, nat_le, nat_eq, ◌≡◌, ◌⊎◌, ◌<◌, ℕ, ◌≤◌, zero, suc, List, [], ◌∷◌, ◌++◌, length, take, replicate, cond, ◌*◌, Option, Some, None, Result, Ok, Err, refl, sym, ap, ◌∙◌, inl, inr, subst, IsTrue}
+use Rattle.std.proofs.Common.{arith, true, false, Bool, nat_lt, nat_le, nat_eq, ◌≡◌, ◌⊎◌, ◌<◌, ℕ, ◌≤◌, zero, suc, List, [], ◌∷◌, ◌++◌, ◌+◌, ◌-◌, get_or, length, take, replicate, cond, ◌*◌, Option, Some, None, Result, Ok, Err, refl, sym, ap, ◌∙◌, inl, inr, subst, IsTrue}
 use Rattle.chunk_files.specs.Keys as contents
 use Rattle.chunk_files.specs.Keys.{Keys}
 use Rattle.chunk_files.specs.Zeros.{is_all_zero}
@@ -17,7 +17,7 @@ use Rattle.content_writing.specs.declared.fault.PutFault.TheVariants as puts
 use Rattle.vault_keys.specs.Id.{id_of}
 use Rattle.folder_spec.specs.declared.FolderFault.{FolderFault}
 use Rattle.folder_spec.specs.Path.{Path, parent}
-use Rattle.folder_spec.proofs.Paths.{child-not_base}
+use Rattle.folder_spec.proofs.Paths.{child-injective, child-last, child-not_base}
 use Rattle.folder_spec.proofs.Seen.{seen_of}
 use Rattle.folder_spec.specs.State.{IsSound}
 use Rattle.folder_spec.specs.Event.{Told, FromTo}
@@ -37,7 +37,7 @@ use Rattle.vault_spec.specs.Gocryptfs.{directory_key, taken_unless}
 use Rattle.vault_spec.specs.Making.{NewDirectory, draws}
 use Rattle.vault_spec.specs.Standing.{entry_at}
 use Rattle.vault_spec.specs.Vault.{Vault, Gocryptfs, Cryptomator, format_of}
-use Rattle.vault_write.specs.Calls.{MakesDirectory}
+use Rattle.vault_write.specs.Calls.{MakesDirectory, MakesOne, New}
 use Rattle.vault_write.specs.Editing.{Edits, HasFinished, HasBegun, GoPlaces, CmPlaces, go_making, cm_making}
 use Rattle.vault_write.specs.Founding.{SomeDrew, DrawsSome}
 use Rattle.content_writing.specs.Making.{Placing, Making, format}
@@ -282,6 +282,13 @@ pub no_names : (names path : plain.Path) → length names < 1 → names ≡ path
 no_names [] path short is = sym is
 no_names (name ∷ names) path short is = let size : length (name ∷ names) ≡ suc (length names) = refl in absurd (omega (arith, short, size))
 
+-- the names are those in front of the last, and that
+pub last_name : (names path : plain.Path) (name : List ℕ) → names ≡ path → 1 ≤ length names → name ≡ get_or names (length names - 1) name → path ≡ take (length names - 1) names ++ name ∷ []
+last_name names path name same some is =
+    let below : length names - 1 < length names = omega (arith, some) in
+    let whole : length names ≤ length names - 1 + 1 = omega arith in
+    sym same ∙ sym (take_all (length names - 1 + 1) names whole) ∙ take_more names (length names - 1) name below ∙ ap (λ x. take (length names - 1) names ++ x ∷ []) (sym is)
+
 pub root_made : (vault : OpenedVault) (work : Path) (path : plain.Path) (s : Stream) (t : Option Told) (result : Result (Unit {0}) PutFault) → path ≡ [] → TakesRoot vault.root result
     → MakesDirectory vault work path s s t t result
 root_made vault work path s t result is takes = record {
@@ -290,5 +297,20 @@ root_made vault work path s t result is takes = record {
   makes = record {
     named = λ front name whole. absurd (child-not_base front name (sym whole ∙ is));
     root = λ none. (refl, refl, takes);
+  };
+}
+
+pub named_made : (vault : OpenedVault) (work : Path) (path front : plain.Path) (name : List ℕ) (s s' : Stream) (t u : Option Told) (result : Result (Unit {0}) PutFault) → path ≡ front ++ name ∷ []
+    → PlacesOne (placing vault work front name NewDirectory) s s' t u result → MakesDirectory vault work path s s' t u result
+named_made vault work path front name s s' t u result is k = record {
+  drawn = k.drawn;
+  were_drawn = k.were_drawn;
+  makes = record {
+    named = λ front' name' also.
+        let up : front ≡ front' = child-injective front front' name name' (sym is ∙ also) in
+        let last : name ≡ name' = child-last front name name' (sym is ∙ also ∙ ap (λ p. p ++ name' ∷ []) (sym up)) in
+        subst (λ p. MakesOne New (placing vault work p name' NewDirectory) Whole k.drawn t u result) up
+        (subst (λ n. MakesOne New (placing vault work front n NewDirectory) Whole k.drawn t u result) last k.one);
+    root = λ none. absurd (child-not_base front name (sym is ∙ none));
   };
 }

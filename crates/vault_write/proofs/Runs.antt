@@ -1,6 +1,5 @@
 -- Runs of calls of which more is known.
 use Rattle.std.proofs.Common.{◌≡◌, List, [], ◌∷◌, ◌++◌, inl, IsTrue}
-use Rattle.folder_spec.specs.declared.Spot.{Spot}
 use Rattle.folder_spec.specs.Path.{Part, Path, child}
 use Rattle.folder_spec.specs.State.{State}
 use Rattle.folder_spec.specs.Event.{Call, MakeDir, Create, Append, Sync, Settle, Rename, RemoveFile, RemoveDir, Event, after, Told}

@@ -1,5 +1,5 @@
 -- The report of an entry that is of a name, by what the entry is.
-use Rattle.std.proofs.Common.{◌≡◌, ◌⊎◌, ◌↔◌, ◌<◌, ◌++◌, ◌∷◌, [], ℕ, true, List, Some, Err, inl, inr, refl, sym, ap, ◌∙◌, subst, append-nil, arith}
+use Rattle.std.proofs.Common.{◌≡◌, ◌≢◌, ◌⊎◌, ◌↔◌, ◌<◌, ◌++◌, ◌∷◌, [], ℕ, true, List, Some, Err, inl, inr, refl, sym, ap, ◌∙◌, subst, append-nil, arith}
 use Rattle.std.specs.Prelude.{Contains}
 use Rattle.std.proofs.lemmas.List.Elements.{Contains-append_left, Contains-append_right, Contains-append_cases, Contains-push}
 use Rattle.folder_spec.specs.Listing as folder
@@ -15,8 +15,13 @@ use Rattle.vault_spec.specs.declared.Finding.{Finding}
 use Rattle.vault_spec.specs.declared.Finding.TheVariants as is
 use Rattle.vault_spec.specs.declared.Lack.{Lack}
 use Rattle.vault_spec.specs.declared.Lack.TheVariants as lacks
+use Rattle.vault_spec.specs.Cryptomator.{content_file}
+use Rattle.vault_spec.specs.Vault.{Vault}
+use Rattle.vault_read.specs.Items.{item_of}
+use Rattle.vault_read.specs.declared.items.EntryItem.{EntryItem}
+use Rattle.vault_read.specs.declared.items.EntryItem.TheVariants as items
 use Rattle.vault_read.specs.declared.listing.NameAt.{NameAt}
-use Rattle.vault_walk.specs.Report.{AreInside, HaveOwnNames, IsDirectoryReport, IsEntryIn, IsMainOf, IsMember, IsNamed, LeadsRight, found_by, lack_by, lead_of, standing_by}
+use Rattle.vault_walk.specs.Report.{AreInside, HaveOwnNames, IsDirectoryReport, IsEntryIn, IsMainOf, IsMember, IsNamed, LeadsRight, FitMembers, FitsLead, FitsWhat, found_by, lack_by, lead_of, leaf_found, leaf_members, standing_by}
 use Rattle.vault_walk.specs.declared.found.Found.{Found}
 use Rattle.vault_walk.specs.declared.report.Lead.{Lead}
 use Rattle.vault_walk.specs.declared.report.Lead.TheVariants as lead
@@ -50,6 +55,20 @@ one_apart member i j d less within =
     let first : i < j = less in
     let last : j < 1 = within in
     absurd (omega (arith, first, last))
+
+-- no directory is led to
+pub leaf_fits : (vault : Vault) (at : Path) (name : List ℕ) (item : EntryItem) (members : List Member) → members ≡ leaf_members at name item → FitMembers vault members
+leaf_fits vault at name items.EntryFile members is member there = subst (λ (m : Member). FitsWhat vault m.what) (only_one (record { name = name; at = at; what = what.File }) member (subst (λ ms. Contains ms member) is there)) tt
+leaf_fits vault at name items.ContentFile members is member there =
+    subst (λ (m : Member). FitsWhat vault m.what) (only_one (record { name = name; at = child at content_file; what = what.File }) member (subst (λ ms. Contains ms member) is there)) tt
+leaf_fits vault at name items.Directory members is member there = absurd (none_within member (subst (λ ms. Contains ms member) is there))
+leaf_fits vault at name items.Nothing members is member there = absurd (none_within member (subst (λ ms. Contains ms member) is there))
+leaf_fits vault at name (items.NoItem finding) members is member there = absurd (none_within member (subst (λ ms. Contains ms member) is there))
+
+-- a directory whose key fits is led to
+pub lead_fits : (vault : Vault) (at : Path) (name : List ℕ) (its_lead : Lead) (members : List Member) → members ≡ (record { name = name; at = at; what = what.Dir its_lead }) ∷ [] → FitsLead vault its_lead → FitMembers vault members
+lead_fits vault at name its_lead members is fits member there =
+    subst (λ (m : Member). FitsWhat vault m.what) (only_one (record { name = name; at = at; what = what.Dir its_lead }) member (subst (λ ms. Contains ms member) is there)) fits
 
 -- the items of an entry
 pub record AreMembersOf (f : Format) (v : View) (dir : Directory) (entry : Part) (members : List Member) : Type 0 where
@@ -127,6 +146,17 @@ module _ (f : Format) (right : FindsRight f) (v : View) (dir : Directory) (entry
           subst (λ xs. Contains xs x) (sym found) (by_back at finding x x_at (number ∙ ap number_of same))
       back x (Locked lack other lead x_at number) = let clash : NoItem finding ≡ DirectoryItem = sym item ∙ other in cc clash
       back x (Inside u) = absurd (right.inner_odd named.long finding u.entry (v x.at) (ap (λ i. f.inner_role named.long i u.entry (v x.at)) (sym item) ∙ u.extra))
+
+  pub main_leaf : (e : folder.Item) (report : Report) (item : EntryItem) (inside : List Found) → e.name ≡ entry → IsEntryIn v dir e → item ≢ items.Directory → item_of item ≡ f.item named.long (under at v)
+      → report.members.items ≡ leaf_members at named.name item → report.found.items ≡ leaf_found at item inside → AreInside f v at named.long (f.item named.long (under at v)) inside → IsMainOf f v dir entry report
+  main_leaf e report items.Nothing inside name listed other is members found are = absurd (main_nothing e name listed (sym is))
+  main_leaf e report items.EntryFile inside name listed other is members found are =
+      main_file report [] (sym is) (members ∙ ap (λ p. (record { name = named.name; at = p; what = what.File }) ∷ []) (sym (append-nil at)))
+      (subst (AreInside f v at named.long (f.item named.long (under at v))) (sym found) are)
+  main_leaf e report items.ContentFile inside name listed other is members found are =
+      main_file report (content_file ∷ []) (sym is) members (subst (AreInside f v at named.long (f.item named.long (under at v))) (sym found) are)
+  main_leaf e report items.Directory inside name listed other is members found are = absurd (other refl)
+  main_leaf e report (items.NoItem finding) inside name listed other is members found are = main_odd report finding (sym is) members found
 
   -- what a directory item lacks
   lack_on : (its_lead : Lead) (x : Found) → f.item named.long (under at v) ≡ DirectoryItem → directory_with f v at (key_of f (under at v)) ≡ lead_of its_lead → Contains (found_by at (lack_by its_lead)) x

@@ -7,6 +7,7 @@ use Rattle.folder_spec.specs.Seen.{under}
 use Rattle.folder_spec.specs.View as view
 use Rattle.folder_spec.specs.View.{NoEntry, Folder, FileOf, Special, View, kind_found}
 use Rattle.folder_spec.specs.declared.Kind.TheVariants.{Missing}
+use Rattle.vault_spec.specs.Cryptomator.{content_file}
 use Rattle.vault_spec.specs.Findings.{IsEntryOf, number_of}
 use Rattle.vault_spec.specs.Format.{Format, Directory, Item, Extra, key_of}
 use Rattle.vault_spec.specs.Listing.{node_of}
@@ -18,6 +19,8 @@ use Rattle.vault_spec.specs.declared.Finding.TheVariants as is
 use Rattle.vault_spec.specs.declared.Lack.{Lack}
 use Rattle.vault_spec.specs.declared.Lack.TheVariants as lacks
 use Rattle.vault_read.specs.Opened.{FitsKey}
+use Rattle.vault_read.specs.declared.items.EntryItem.{EntryItem}
+use Rattle.vault_read.specs.declared.items.EntryItem.TheVariants as entry
 use Rattle.vault_read.specs.declared.listing.NameAt.{NameAt}
 use Rattle.vault_walk.specs.Here.{IsFindingHere, IsIdleHere, IsOrphanHere}
 use Rattle.vault_walk.specs.declared.found.Found.{Found}
@@ -173,6 +176,21 @@ abbrev pub lack_by : Lead → Option Finding
 lack_by lead.NoKey = Some is.NoDirKey
 lack_by (lead.NoFolder dir) = Some is.NoFolder
 lack_by (lead.To dir) = None
+
+-- the item that is no directory, and what is found there with what is found in its own folder
+abbrev pub leaf_members : Path → List ℕ → EntryItem → List Member
+leaf_members at name entry.EntryFile = record { name = name; at = at; what = what.File } ∷ []
+leaf_members at name entry.ContentFile = record { name = name; at = child at content_file; what = what.File } ∷ []
+leaf_members at name entry.Directory = []
+leaf_members at name entry.Nothing = []
+leaf_members at name (entry.NoItem finding) = []
+
+abbrev pub leaf_found : Path → EntryItem → List Found → List Found
+leaf_found at entry.EntryFile inside = inside
+leaf_found at entry.ContentFile inside = inside
+leaf_found at entry.Directory inside = []
+leaf_found at entry.Nothing inside = []
+leaf_found at (entry.NoItem finding) inside = found_by at (Some finding)
 
 -- the report of a directory item, with what is found in its own folder
 pub record IsDirectoryReport (f : Format) (v : View) (at : Path) (name : List ℕ) (inside : List Found) (report : Report) : Type 0 where

@@ -12,7 +12,8 @@ ghost use Rattle.vault_spec.specs.Format as spec;
 ghost use Rattle.vault_spec.specs.Format.{is_file};
 ghost use Rattle.vault_spec.specs.Vault.{format_of};
 ghost use Rattle.vault_walk.specs.Names.{is_fixed_by, is_full_by};
-ghost use Rattle.vault_walk.specs.Report.{found_by, idle_by, lack_by, FitMembers, HasReported, IsDirectoryReport, IsLeadOf, IsMainOf, IsNamed, IsReport, IsReportOf, IsSideOf, FitsLead, IsEntryIn};
+ghost use Rattle.vault_walk.specs.Report.{found_by, idle_by, lack_by, leaf_found, leaf_members, FitMembers, HasReported, IsLeadOf, IsMainOf, IsNamed, IsReport, IsReportOf, IsSideOf, FitsLead, IsEntryIn};
+ghost use Rattle.vault_walk.specs.declared.report.What.TheVariants as what;
 
 use crate::entries::entries_at;
 use crate::found::Found;
@@ -226,35 +227,49 @@ fn named_report<F: Folder>(
     let item = item_at(alloc, folder, vault, at, long)?;
     let found = found_inside(alloc, folder, vault, at, long, item)?;
     match item {
-        EntryItem::Nothing => Ok(nothing(alloc)),
-        EntryItem::EntryFile => Ok(one_member(alloc, name, at.copy()?, What::File, found)?),
-        EntryItem::ContentFile => {
-            let content = at.child(CONTENT_FILE)?;
-            Ok(one_member(alloc, name, content, What::File, found)?)
+        EntryItem::Directory => {
+            let lead = lead_at(alloc, folder, vault, at)?;
+            Ok(directory_report(alloc, at, name, lead, found)?)
         }
-        EntryItem::Directory => Ok(directory_report(alloc, folder, vault, at, name, found)?),
-        EntryItem::NoItem(finding) => Ok(one_found(alloc, at, finding)?),
+        _ => Ok(leaf_report(alloc, at, name, item, found)?),
     }
 }
 
-// What the directory item of a name is, with what is found in its own folder.
-fn directory_report<F: Folder>(
+// What the item of a name is that is no directory, with what is found in its own folder.
+fn leaf_report(
     alloc: Global,
-    folder: &mut F,
-    vault: &Vault,
     at: &FPath,
     name: Name,
-    mut found: Vec<Found>,
-) -> Result<Report, FolderFault>
-    ensures told { F.told folder.new ≡ F.told folder.old }
-    ensures report { IfOk result (λ report. (v : View) → IsSeen (F.told folder.old) v
-        → IsDirectoryReport (format_of vault.now.vault) (under vault.now.root v) at.now name found.items report) }
-    ensures fits { IfOk result (λ report. FitMembers vault.now.vault report.members.items) }
-    ensures counts { CountsAbove (F.faults folder.old) (F.faults folder.new) result }
+    item: EntryItem,
+    found: Vec<Found>,
+) -> Result<Report, AllocError>
+    ensures members { IfOk result (λ report. report.members.items ≡ leaf_members at.now name item) }
+    ensures found { IfOk result (λ report. report.found.items ≡ leaf_found at.now item found.items) }
 {
-    let lead = lead_at(alloc, folder, vault, at)?;
+    match item {
+        EntryItem::EntryFile => one_member(alloc, name, at.copy()?, What::File, found),
+        EntryItem::ContentFile => {
+            let content = at.child(CONTENT_FILE)?;
+            one_member(alloc, name, content, What::File, found)
+        }
+        EntryItem::NoItem(finding) => one_found(alloc, at, finding),
+        EntryItem::Nothing | EntryItem::Directory => Ok(nothing(alloc)),
+    }
+}
+
+// What the directory item of a name is, by where it leads, with what is found in its own folder.
+fn directory_report(
+    alloc: Global,
+    at: &FPath,
+    name: Name,
+    lead: Lead,
+    mut found: Vec<Found>,
+) -> Result<Report, AllocError>
+    ensures members { IfOk result (λ report. report.members.items ≡ (record { name = name; at = at.now; what = what.Dir lead }) ∷ []) }
+    ensures found { IfOk result (λ report. report.found.items ≡ found.items ++ found_by at.now (lack_by lead)) }
+{
     add_found(&mut found, at, lack_of(&lead))?;
-    Ok(one_member(alloc, name, at.copy()?, What::Dir(lead), found)?)
+    one_member(alloc, name, at.copy()?, What::Dir(lead), found)
 }
 
 // The finding of a directory item without its key or its folder.

@@ -1,5 +1,5 @@
 -- A walk through one level.
-use Rattle.std.proofs.Common.{◌≡◌, true, false, nat_eq, nat_le, vec_len, ◌≢◌, ◌⊎◌, ◌↔◌, inl, inr, ℕ, suc, ◌+◌, ◌<◌, List, [], ◌∷◌, ◌++◌, map, Ok, refl, sym, ap, ◌∙◌, subst, arith, append-nil, append_assoc, length, length-append, get_or, ⊎_elim}
+use Rattle.std.proofs.Common.{◌≡◌, true, false, nat_eq, nat_le, vec_len, ◌≢◌, ◌⊎◌, ◌↔◌, inl, inr, ℕ, suc, ◌+◌, ◌<◌, ◌≤◌, List, [], ◌∷◌, ◌++◌, map, Ok, refl, sym, ap, ◌∙◌, subst, arith, append-nil, append_assoc, length, length-append, get_or, ⊎_elim}
 use Rattle.std.specs.Prelude.{Contains}
 use Rattle.std.specs.List.{flat_map}
 use Rattle.std.proofs.lemmas.List.{length-map, get_or_append_left, get_or-append-add, get_or_default}
@@ -279,3 +279,17 @@ past_room walk report more none size =
   where
     over : (n m : ℕ) → nat_le n m ≡ false → m < n
     over n m e = grind (arith, nat_tests)
+
+-- and where it is not past it, the items are few enough after the visit
+pub within_room : (walk after : Walk) (way : Way) (report : Report) (next later : List Way) (more : ℕ) → HasVisited walk after way report next later → nat_le (length walk.items.items + more) item_limit ≡ true
+    → more ≡ vec_len report.members → length after.items.items ≤ item_limit
+within_room walk after way report next later more visited some size =
+    let sizes : more ≡ length report.members.items = size ∙ report.members.ok.0 in
+    let room : length walk.items.items + more ≤ item_limit = within (length walk.items.items + more) item_limit some in
+    let are : after.items.items ≡ walk.items.items ++ map (item_by way.path) report.members.items = visited.settled.items_stay ∙ visited.gained.items_are in
+    let whole : length after.items.items ≡ length walk.items.items + length report.members.items
+    = ap length are ∙ length-append walk.items.items (map (item_by way.path) report.members.items) ∙ ap (λ n. length walk.items.items + n) (length-map report.members.items (item_by way.path)) in
+    subst (λ n. n ≤ item_limit) (sym (whole ∙ ap (λ n. length walk.items.items + n) (sym sizes))) room
+  where
+    within : (n m : ℕ) → nat_le n m ≡ true → n ≤ m
+    within n m e = grind (arith, nat_tests)

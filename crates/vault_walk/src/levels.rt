@@ -15,14 +15,13 @@ ghost use Rattle.vault_walk.specs.Report.{FitMembers, IsReport};
 ghost use Rattle.vault_walk.specs.Survey.{depth_limit, item_limit, HasTooMany, IsTooDeep};
 ghost use Rattle.vault_walk.specs.Surveyed.{IsOnlyTooDeep, IsWithin};
 ghost use Rattle.vault_walk.specs.Walking as walking;
-ghost use Rattle.vault_walk.specs.declared.report.Report.{Report};
 
 use crate::fault::WalkFault;
 use crate::found::Found;
 use crate::key::{Node, node_of};
 use crate::names::number_of;
 use crate::plan::PlanItem;
-use crate::report::{Lead, Member, What, report_of};
+use crate::report::{Lead, Member, Report, What, report_of};
 use crate::twice::Target;
 use folder_model::{FPath, Folder};
 use folder_spec::FolderFault;
@@ -201,8 +200,22 @@ impl Walk {
         if !self.has_room(report.members.len()) {
             return Err(WalkFault::Limit(Limit::Items));
         }
-        self.add_members(alloc, &way.path, report.members, next)?;
-        Ok(self.settle(way, report.found)?)
+        Ok(self.keep(alloc, way, report, next)?)
+    }
+
+    // Keeps what a directory holds, which was visited, and which directories it leads on to.
+    fn keep(
+        &mut self,
+        alloc: Global,
+        way: Way,
+        report: Report,
+        next: &mut Vec<Way>,
+    ) -> Result<(), AllocError>
+        ensures { OnOk result (HasVisited self.old self.new way report next.old.items next.new.items) }
+    {
+        let Report { members, found } = report;
+        self.add_members(alloc, &way.path, members, next)?;
+        self.settle(way, found)
     }
 
     // Visits the directories at the limit on depth, which hold no items.

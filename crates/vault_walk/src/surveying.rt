@@ -22,9 +22,10 @@ ghost use Rattle.vault_walk.specs.Walking as walking;
 
 use crate::apart::found_apart;
 use crate::fault::{Finding, WalkFault};
-use crate::found::{Found, found_in_order};
+use crate::found::Found;
 use crate::laws::each_item_once_is_the_plan;
 use crate::levels::{Walk, Way, walked};
+use crate::order::in_order;
 use crate::plan::{Plan, PlanItem, PlanItems};
 use crate::twice::{Target, found_twice};
 use folder_model::{FPath, Folder};
@@ -136,7 +137,7 @@ fn all_found<F: Folder>(
     let mut twice = found_twice(alloc, targets)?;
     found.append(&mut apart)?;
     found.append(&mut twice)?;
-    Ok(found_in_order(found))
+    Ok(in_order(found))
 }
 
 // The folders of directories.

@@ -5,15 +5,17 @@ ghost use Rattle.std.specs.List.{flat_map};
 ghost use Rattle.std.specs.Ordering.{is_eq};
 ghost use Rattle.folder_spec.specs.View.{View};
 ghost use Rattle.vault_spec.specs.Format.{Format};
-ghost use Rattle.vault_walk.specs.Apart.{AreShared, AreTargets, AreTwice, IsMetAgain, shared_at, shared_in};
+ghost use Rattle.vault_walk.specs.Apart.{AreShared, AreTargets, AreTwice, IsMetAgain, shared_in};
 ghost use Rattle.vault_walk.specs.Nodes.{node_cmp};
 
 use crate::found::Found;
 use crate::key::Node;
 use crate::order::in_order;
+use crate::report::add_found;
 use folder_model::FPath;
 use std::alloc::{AllocError, Global};
 use std::collections::BTreeSet;
+use vault_spec::Finding;
 
 /// A directory item with a key: the directory of that, and the item's entry.
 #[derive(PartialEq, Eq, PartialOrd, Ord, Drop)]
@@ -43,21 +45,10 @@ fn shared(
 {
     let mut found = Vec::new(alloc);
     for target in targets {
-        add_if(&mut found, again.contains(&target.node), &target.at)?;
+        let twice = again.contains(&target.node).then_some(Finding::DirIdTwice);
+        add_found(&mut found, &target.at, twice)?;
     }
     Ok(found)
-}
-
-fn add_if(found: &mut Vec<Found>, shares: bool, at: &FPath) -> Result<(), AllocError>
-    ensures { OnOk result (found.new.items ≡ found.old.items ++ shared_at shares at.now) }
-{
-    if shares {
-        found.push(Found {
-            at: at.copy()?,
-            number: 5,
-        })?;
-    }
-    Ok(())
 }
 
 // The directories that more than one of these items has.

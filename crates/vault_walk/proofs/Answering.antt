@@ -1,8 +1,9 @@
 -- How the answers of a walk's calls go on.
-use Rattle.std.proofs.Common.{inl, inr, ℕ, ◌≤◌, Err, arith}
+use Rattle.std.proofs.Common.{◌≡◌, inl, inr, ℕ, ◌≤◌, Result, Ok, Err, IfErr, IsErrAnd, sym, ◌∙◌, subst, arith}
 use Rattle.port_model.specs.Counts.{CountRose}
 use Rattle.vault_faults.specs.declared.fault.Limit.TheVariants as limit
 use Rattle.vault_walk.specs.Levels.{Answers}
+use Rattle.vault_walk.specs.Surveyed.{IsSurveyFault, IsWalkFault}
 use Rattle.vault_walk.specs.declared.fault.WalkFault.{WalkFault}
 use Rattle.vault_walk.specs.declared.fault.WalkFault.TheVariants as fault
 
@@ -19,3 +20,42 @@ answers_on T U many deep many' deep' before mid after (fault.Limit (limit.Length
 answers_on T U many deep many' deep' before mid after (fault.Limit limit.Input) on past less a = a
 answers_on T U many deep many' deep' before mid after fault.Failed on past less a = (omega (arith, less, a.0), rose_before before mid after less a.1)
 answers_on T U many deep many' deep' before mid after fault.NoMemory on past less a = omega (arith, less, a)
+
+-- ---- a call that ended by one fault
+
+pub at_fault : {T E : Type 0} (result : Result T E) (P : E → Type 0) (fault : E) → IsErrAnd result (λ e. e ≡ fault) → P fault → IfErr result P
+at_fault (Ok value) P fault by_fault holds = absurd by_fault
+at_fault (Err e) P fault by_fault holds = subst P (sym by_fault) holds
+
+pub one_fault : {T E : Type 0} (result : Result T E) (fault other : E) → IsErrAnd result (λ e. e ≡ fault) → result ≡ Err other → fault ≡ other
+one_fault (Ok value) fault other by_fault same = absurd by_fault
+one_fault (Err e) fault other by_fault same = sym by_fault ∙ (let is : e ≡ other = cc same in is)
+
+-- ---- what a walk's fault tells
+
+pub answers_many : (T many deep : Type 0) (before after : ℕ) (x : WalkFault) → Answers {T = T} many deep before after (Err x) → x ≡ fault.Limit limit.Items → many
+answers_many T many deep before after x a is = (subst (λ y. Answers {T = T} many deep before after (Err y)) is a).1
+
+pub answers_deep : (T many deep : Type 0) (before after : ℕ) (x : WalkFault) → Answers {T = T} many deep before after (Err x) → x ≡ fault.Limit limit.Depth → deep
+answers_deep T many deep before after x a is = (subst (λ y. Answers {T = T} many deep before after (Err y)) is a).1
+
+pub answers_failed : (T many deep : Type 0) (before after : ℕ) (x : WalkFault) → Answers {T = T} many deep before after (Err x) → x ≡ fault.Failed → CountRose before after
+answers_failed T many deep before after x a is = (subst (λ y. Answers {T = T} many deep before after (Err y)) is a).1
+
+pub answers_fault : (T many deep : Type 0) (before after : ℕ) (x : WalkFault) → Answers {T = T} many deep before after (Err x) → IsSurveyFault x
+answers_fault T many deep before after (fault.NotClean finding) a = a
+answers_fault T many deep before after (fault.Limit limit.Items) a = tt
+answers_fault T many deep before after (fault.Limit limit.Depth) a = tt
+answers_fault T many deep before after (fault.Limit (limit.Length at)) a = a
+answers_fault T many deep before after (fault.Limit limit.Input) a = a
+answers_fault T many deep before after fault.Failed a = tt
+answers_fault T many deep before after fault.NoMemory a = tt
+
+pub walk_fault : (x : WalkFault) → IsSurveyFault x → IsWalkFault x
+walk_fault (fault.NotClean finding) is = tt
+walk_fault (fault.Limit limit.Items) is = tt
+walk_fault (fault.Limit limit.Depth) is = tt
+walk_fault (fault.Limit (limit.Length at)) is = absurd is
+walk_fault (fault.Limit limit.Input) is = absurd is
+walk_fault fault.Failed is = tt
+walk_fault fault.NoMemory is = tt

@@ -1,10 +1,24 @@
 use Rattle.std.proofs.Common.{◌≡◌, subst}
 use Rattle.folder_spec.specs.Seen.{under}
 use Rattle.vault_spec.specs.Vault.{format_of}
-use Rattle.vault_walk.specs.Surveyed.{IsFirstFinding}
+use Rattle.vault_walk.specs.Surveyed.{IsFirstFinding, IsSurveyFault, IsWalkFault}
+use Rattle.vault_walk.specs.declared.fault.WalkFault.TheVariants as fault
+use Rattle.vault_walk.proofs.Answering.{at_fault, one_fault, walk_fault}
 use Rattle.vault_walk.proofs.FirstFindings.{clean_where, first_finding}
 use Rattle.vault_walk.proofs.PlanOrder.{placed_in_order}
 use Rattle.vault_walk.proofs.surveying.walk.Goals as goal
+
+pub returns-in_err-plan-clause-not_clean : goal.returns-in_err-plan-clause-not_clean
+returns-in_err-plan-clause-not_clean g c = λ finding same v is.
+    absurd (subst IsSurveyFault (one_fault c.from_residual.result c.in_err-plan.field-0.0 (fault.NotClean finding) c.from_residual.ensures.1 same) c.in_err-plan.ensures.fault)
+
+pub returns-in_err-plan-clause-limits_first : goal.returns-in_err-plan-clause-limits_first
+returns-in_err-plan-clause-limits_first g c = λ finding same v is.
+    absurd (subst IsSurveyFault (one_fault c.from_residual.result c.in_err-plan.field-0.0 (fault.NotClean finding) c.from_residual.ensures.1 same) c.in_err-plan.ensures.fault)
+
+pub returns-in_err-plan-clause-fault : goal.returns-in_err-plan-clause-fault
+returns-in_err-plan-clause-fault g c =
+    at_fault c.from_residual.result IsWalkFault c.in_err-plan.field-0.0 c.from_residual.ensures.1 (walk_fault c.in_err-plan.field-0.0 c.in_err-plan.ensures.fault)
 
 pub returns-in-Some-clause-not_clean : goal.returns-in-Some-clause-not_clean
 returns-in-Some-clause-not_clean g c finding same v is =

@@ -1,5 +1,5 @@
 -- How the reading of a content ends, by what a step gives of it.
-use Rattle.std.proofs.Common.{◌≡◌, ◌≢◌, ℕ, zero, suc, List, Err, refl, sym, ap, ◌∙◌, subst}
+use Rattle.std.proofs.Common.{◌≡◌, ◌≢◌, ℕ, zero, suc, List, Option, Some, Result, Ok, Err, IfOk, IfErr, refl, sym, ap, ◌∙◌, subst}
 use Rattle.chunk_files.specs.declared.fault.ChunkFault.{ChunkFault}
 use Rattle.chunk_files.specs.Reading.{Ending, Whole, Wanting, Faulty, Reading}
 use Rattle.folder_spec.specs.Path.{Path}
@@ -8,6 +8,9 @@ use Rattle.vault_faults.specs.declared.fault.Limit.{Limit}
 use Rattle.vault_faults.specs.declared.fault.Limit.TheVariants.{Depth, Items, Length, Input}
 use Rattle.vault_faults.specs.declared.fault.CatFault.{CatFault}
 use Rattle.vault_faults.specs.declared.fault.CatFault.TheVariants as cat
+use Rattle.vault_check.specs.Contents.{IsContentFault, ended_by}
+use Rattle.vault_check.specs.declared.fault.CheckFault.{CheckFault}
+use Rattle.vault_check.specs.declared.fault.CheckFault.TheVariants as check
 
 passed : (before after : Reading) → Passes before after → before.ending ≡ after.ending
 passed before after (k, is) = ap (λ (r : Reading). r.ending) is
@@ -45,6 +48,48 @@ pub ends_wanting : (at named : Path) (limit : Limit) (found : CatFault) (buffer 
 ends_wanting at named limit found buffer before after is gives =
     by_limit at named limit buffer before after (subst (λ x. Gives at (Err x) buffer before after) is gives)
 
-pub limit_named : (at named : Path) (limit : Limit) (found : CatFault) → found ≡ cat.Limit limit → IsReaderFault at found → limit ≡ Length named → named ≡ at
-limit_named at named limit found is reader named_so =
-    let here : IsReaderFault at (cat.Limit (Length named)) = subst (IsReaderFault at) (is ∙ ap cat.Limit named_so) reader in here
+-- ---- what is answered where the reading ends by a fault
+
+abbrev pub Answer : Type 0
+Answer = Result (Option ChunkFault) CheckFault
+
+pub answers_damage : (fault : CatFault) (answer : Answer) (P : Option ChunkFault → Type 0) → answer ≡ ended_by fault → ((path : Path) (found : ChunkFault) → fault ≡ cat.Damaged path found → P (Some found)) → IfOk answer P
+answers_damage (cat.Damaged path found) answer P is holds = subst (λ a. IfOk a P) (sym is) (holds path found refl)
+answers_damage (cat.Limit limit) answer P is holds = subst (λ a. IfOk a P) (sym is) tt
+answers_damage cat.Failed answer P is holds = subst (λ a. IfOk a P) (sym is) tt
+answers_damage cat.NoMemory answer P is holds = subst (λ a. IfOk a P) (sym is) tt
+answers_damage (cat.Find fault) answer P is holds = subst (λ a. IfOk a P) (sym is) tt
+answers_damage cat.Sink answer P is holds = subst (λ a. IfOk a P) (sym is) tt
+
+pub answers_length : (fault : CatFault) (named : Path) (answer : Answer) → answer ≡ ended_by fault → answer ≡ Err (check.Limit (Length named)) → fault ≡ cat.Limit (Length named)
+answers_length (cat.Limit limit) named answer is same =
+    let both : Err (check.Limit limit) ≡ Err (check.Limit (Length named)) = sym is ∙ same in
+    let its : limit ≡ Length named = cc both in
+    ap cat.Limit its
+answers_length (cat.Damaged path found) named answer is same = let clash : Ok (Some found) ≡ Err (check.Limit (Length named)) = sym is ∙ same in cc clash
+answers_length cat.Failed named answer is same = let clash : Err check.Failed ≡ Err (check.Limit (Length named)) = sym is ∙ same in cc clash
+answers_length cat.NoMemory named answer is same = let clash : Err check.NoMemory ≡ Err (check.Limit (Length named)) = sym is ∙ same in cc clash
+answers_length (cat.Find fault) named answer is same = let clash : Err check.NoMemory ≡ Err (check.Limit (Length named)) = sym is ∙ same in cc clash
+answers_length cat.Sink named answer is same = let clash : Err check.NoMemory ≡ Err (check.Limit (Length named)) = sym is ∙ same in cc clash
+
+pub answers_failed : (fault : CatFault) (answer : Answer) → answer ≡ ended_by fault → answer ≡ Err check.Failed → fault ≡ cat.Failed
+answers_failed cat.Failed answer is same = refl
+answers_failed (cat.Damaged path found) answer is same = let clash : Ok (Some found) ≡ Err check.Failed = sym is ∙ same in cc clash
+answers_failed (cat.Limit limit) answer is same = let clash : Err (check.Limit limit) ≡ Err check.Failed = sym is ∙ same in cc clash
+answers_failed cat.NoMemory answer is same = let clash : Err check.NoMemory ≡ Err check.Failed = sym is ∙ same in cc clash
+answers_failed (cat.Find fault) answer is same = let clash : Err check.NoMemory ≡ Err check.Failed = sym is ∙ same in cc clash
+answers_failed cat.Sink answer is same = let clash : Err check.NoMemory ≡ Err check.Failed = sym is ∙ same in cc clash
+
+by_length : (limit : Limit) (at : Path) → IsReaderFault at (cat.Limit limit) → IsContentFault (check.Limit limit)
+by_length (Length path) at reader = tt
+by_length Depth at reader = absurd reader
+by_length Items at reader = absurd reader
+by_length Input at reader = absurd reader
+
+pub answers_fault : (fault : CatFault) (at : Path) (answer : Answer) → answer ≡ ended_by fault → IsReaderFault at fault → IfErr answer IsContentFault
+answers_fault (cat.Damaged path found) at answer is reader = subst (λ a. IfErr a IsContentFault) (sym is) tt
+answers_fault (cat.Limit limit) at answer is reader = subst (λ a. IfErr a IsContentFault) (sym is) (by_length limit at reader)
+answers_fault cat.Failed at answer is reader = subst (λ a. IfErr a IsContentFault) (sym is) tt
+answers_fault cat.NoMemory at answer is reader = subst (λ a. IfErr a IsContentFault) (sym is) tt
+answers_fault (cat.Find fault) at answer is reader = absurd reader
+answers_fault cat.Sink at answer is reader = absurd reader

@@ -1,5 +1,5 @@
 -- Reading the content files of a vault for their faults (private contracts only).
-use Rattle.std.specs.Prelude.{◌≡◌, ◌↔◌, ◌++◌, ◌∷◌, [], ℕ, List, Option, Some, None, AllPairs, Contains}
+use Rattle.std.specs.Prelude.{◌≡◌, ◌↔◌, ◌++◌, ◌∷◌, [], ℕ, List, Option, Some, None, Result, Ok, Err, AllPairs, Contains}
 use Rattle.std.specs.List.{filter_map}
 use Rattle.std.specs.declared.cmp.Ordering.TheVariants.{Less}
 use Rattle.chunk_files.specs.declared.fault.ChunkFault.{ChunkFault}
@@ -16,6 +16,8 @@ use Rattle.vault_spec.specs.Findings.{finding_of, number_of}
 use Rattle.vault_spec.specs.Format.{Format}
 use Rattle.vault_spec.specs.Plan.{Planned}
 use Rattle.vault_walk.specs.declared.fault.Finding.{Finding}
+use Rattle.vault_faults.specs.declared.fault.CatFault.{CatFault}
+use Rattle.vault_faults.specs.declared.fault.CatFault.TheVariants as cat
 use Rattle.vault_faults.specs.declared.fault.Limit.TheVariants as limit
 use Rattle.vault_check.specs.declared.fault.CheckFault.{CheckFault}
 use Rattle.vault_check.specs.declared.fault.CheckFault.TheVariants as check
@@ -28,6 +30,15 @@ ending_of (Some fault) = Faulty fault
 -- the content file there ends so
 abbrev pub EndsAs : Format → View → Path → Ending → Type 0
 EndsAs f v at ending = (bytes : List ℕ) × (v at ≡ FileOf bytes) × ((limited_reading f.content bytes).ending ≡ ending)
+
+-- the fault of a content of which reading ends by this, or why it isn't known
+abbrev pub ended_by : CatFault → Result (Option ChunkFault) CheckFault
+ended_by (cat.Damaged path found) = Ok (Some found)
+ended_by (cat.Limit limit) = Err (check.Limit limit)
+ended_by cat.Failed = Err check.Failed
+ended_by cat.NoMemory = Err check.NoMemory
+ended_by (cat.Find fault) = Err check.NoMemory
+ended_by cat.Sink = Err check.NoMemory
 
 -- the place of an item's content, if it is a file
 abbrev pub content_place : NodeKind → Path → Option Path

@@ -7,7 +7,7 @@ ghost use Rattle.port_model.specs.Counts.{CountRose};
 ghost use Rattle.vault_faults.specs.declared.fault.Limit.TheVariants.{Length};
 ghost use Rattle.vault_spec.specs.Findings.{finding_of, number_of};
 ghost use Rattle.vault_spec.specs.Vault.{format_of};
-ghost use Rattle.vault_check.specs.Contents.{AreContentsOf, EndsAs, HasRead, IsContentFault, content_of, ending_of, told_damage};
+ghost use Rattle.vault_check.specs.Contents.{AreContentsOf, EndsAs, HasRead, IsContentFault, content_of, ended_by, ending_of, told_damage};
 
 use crate::fault::CheckFault;
 use crate::order::paths_in_order;
@@ -120,10 +120,19 @@ fn fault_of<F: Folder>(
         match reader.next(folder, chunk) {
             Ok(0) => return Ok(None),
             Ok(_) => {}
-            Err(CatFault::Damaged(_, fault)) => return Ok(Some(fault)),
-            Err(CatFault::Limit(limit)) => return Err(CheckFault::Limit(limit)),
-            Err(CatFault::Failed) => return Err(CheckFault::Failed),
-            Err(_) => return Err(CheckFault::NoMemory),
+            Err(fault) => return ended_by(fault),
         }
+    }
+}
+
+// The fault of a content of which reading ends by this, or why it isn't known.
+fn ended_by(fault: CatFault) -> Result<Option<ChunkFault>, CheckFault>
+    ensures { result ≡ ended_by fault }
+{
+    match fault {
+        CatFault::Damaged(_, found) => Ok(Some(found)),
+        CatFault::Limit(limit) => Err(CheckFault::Limit(limit)),
+        CatFault::Failed => Err(CheckFault::Failed),
+        _ => Err(CheckFault::NoMemory),
     }
 }

@@ -1,9 +1,11 @@
-use Rattle.std.proofs.Common.{◌≡◌, ◌∙◌, refl, sym, ap, subst, arith}
+use Rattle.std.proofs.Common.{◌≡◌, ◌∙◌, Err, refl, sym, ap, subst, arith}
 use Rattle.chunk_files.specs.Reading.{Reading}
+use Rattle.folder_model.proofs.Counting.{rose_since}
 use Rattle.folder_spec.specs.Seen.{IsSeen, ShowsFile}
-use Rattle.vault_read.specs.Contents.{still}
+use Rattle.vault_read.specs.Contents.{IsReaderFault, still}
+use Rattle.vault_faults.specs.declared.fault.CatFault.TheVariants as cat
 use Rattle.vault_faults.specs.declared.fault.Limit.TheVariants.{Length}
-use Rattle.vault_check.proofs.Endings.{ends_later, ends_whole, ends_faulty, ends_wanting, limit_named}
+use Rattle.vault_check.proofs.Endings.{answers_damage, answers_failed, answers_fault, answers_length, ends_later, ends_whole, ends_faulty, ends_wanting}
 use Rattle.vault_check.proofs.contents.fault_of.Goals as goal
 
 pub chunks-init : goal.chunks-init
@@ -32,33 +34,37 @@ returns-in-Ok-eq0-clause-ending g c = λ v seen.
           ∙ ends_whole c.in-Ok-eq0.field-0 c.next.new.out (still c.chunks.reader.decoding file.0) (still c.next.new.self.decoding file.0) c.in-Ok-eq0.field-0-test gives,
     )
 
-pub returns-in-Err-Damaged-clause-ending : goal.returns-in-Err-Damaged-clause-ending
-returns-in-Err-Damaged-clause-ending g c = λ v seen.
+pub returns-in-Err : goal.returns-in-Err
+returns-in-Err g c =
     let i = c.chunks.invariant in
-    let file : ShowsFile v c.args.at.now = c.requires v seen in
-    let gives = c.in-Err-Damaged.ensures.gives v (subst (λ t. IsSeen t v) (sym i.told) seen) file.0 (ap v i.at ∙ file.1) in (
-      file.0,
-      file.1,
-      i.ending v seen file.0 file.1
-          ∙ ends_faulty c.chunks.reader.at _ c.in-Err-Damaged.fault c.in-Err-Damaged.field-0 c.next.new.out (still c.chunks.reader.decoding file.0) (still c.next.new.self.decoding file.0) c.in-Err-Damaged.field-0-is gives,
-    )
-
-pub returns-in-Err-Limit-clause-length : goal.returns-in-Err-Limit-clause-length
-returns-in-Err-Limit-clause-length g c = λ named is.
-    let i = c.chunks.invariant in
-    let limit : c.in-Err-Limit.limit ≡ Length named = cc in
-    let named_at : named ≡ c.args.at.now =
-    limit_named c.chunks.reader.at named c.in-Err-Limit.limit c.in-Err-Limit.field-0 c.in-Err-Limit.field-0-is c.in-Err-Limit.ensures.fault limit ∙ i.at in (
-      named_at,
-      λ v seen.
+    let e = c.in-Err.ensures in
+    let fault = c.in-Err.fault in
+    let is = c.ended_by.ensures in
+    let at = c.chunks.reader.at in
+    let out = c.next.new.out in
+    record {
+      told = e.told ∙ i.told;
+      ending = answers_damage fault c.ended_by.result _ is (λ path found damaged v seen.
           let file : ShowsFile v c.args.at.now = c.requires v seen in
-          let gives = c.in-Err-Limit.ensures.gives v (subst (λ t. IsSeen t v) (sym i.told) seen) file.0 (ap v i.at ∙ file.1) in (
-            file.0,
-            file.1,
-            i.ending v seen file.0 file.1
-                ∙ (ends_wanting c.chunks.reader.at named c.in-Err-Limit.limit c.in-Err-Limit.field-0 c.next.new.out (still c.chunks.reader.decoding file.0) (still c.next.new.self.decoding file.0) c.in-Err-Limit.field-0-is gives limit).1,
-          ),
-    )
+          let before = still c.chunks.reader.decoding file.0 in
+          let after = still c.next.new.self.decoding file.0 in
+          let gives = e.gives v (subst (λ t. IsSeen t v) (sym i.told) seen) file.0 (ap v i.at ∙ file.1) in
+          (file.0, file.1, i.ending v seen file.0 file.1 ∙ ends_faulty at path found fault out before after damaged gives));
+      length = λ named same.
+          let limit = answers_length fault named c.ended_by.result is same in
+          let named_at : named ≡ c.args.at.now = (let here : IsReaderFault at (cat.Limit (Length named)) = subst (IsReaderFault at) limit e.fault in here) ∙ i.at in (
+            named_at,
+            λ v seen.
+                let file : ShowsFile v c.args.at.now = c.requires v seen in
+                let before = still c.chunks.reader.decoding file.0 in
+                let after = still c.next.new.self.decoding file.0 in
+                let gives = e.gives v (subst (λ t. IsSeen t v) (sym i.told) seen) file.0 (ap v i.at ∙ file.1) in
+                (file.0, file.1, i.ending v seen file.0 file.1 ∙ (ends_wanting at named (Length named) fault out before after limit gives refl).1),
+          );
+      fault = answers_fault fault at c.ended_by.result is e.fault;
+      grows = omega (arith, i.grows, e.grows);
+      failed = λ same. rose_since _ _ _ i.grows (e.failed (ap Err (answers_failed fault c.ended_by.result is same)));
+    }
 
 pub chunks-preserved : goal.chunks-preserved
 chunks-preserved g c =

@@ -11,3 +11,4 @@ mod Repaired
 mod Reports
 mod StraysFound
 mod StraysGathered
+mod Faults

@@ -7,8 +7,10 @@ use Rattle.vault_spec.specs.Alike.{place_of}
 use Rattle.vault_spec.specs.Vault.{format_of}
 use Rattle.vault_faults.specs.declared.fault.Limit.TheVariants as limit
 use Rattle.vault_check.specs.declared.fault.CheckFault.TheVariants as check
-use Rattle.vault_check.specs.Contents.{TellsDamage}
+use Rattle.vault_check.specs.Answers.{IsCheckFault, of_walk}
+use Rattle.vault_check.specs.Contents.{IsContentFault, TellsDamage}
 use Rattle.vault_check.proofs.Damages.{contents_there, none_too_long, too_long}
+use Rattle.vault_check.proofs.Faults.{at_fault, content_fault, one_fault, survey_fault}
 use Rattle.vault_check.proofs.Planned.{IsContentIn, content_listed, content_within}
 use Rattle.vault_check.proofs.Reports.{all_differ, all_reported}
 use Rattle.std.specs.List.{filter_map}
@@ -74,3 +76,17 @@ returns-clause-report g c = λ v seen.
     (subst (λ xs. IsPermutation xs c.findings_in_order.result.items) both c.findings_in_order.ensures.same)
     (c.findings_in_order.ensures.ordered (subst AreDifferent (sym both) different)) in
     record { all = k.0; notes = s.notes; are = k.1; notes_are = s.is.notes_are; findings_told = k.2; notes_told = s.notes_are }
+
+pub returns-in_err-plan-clause-fault : goal.returns-in_err-plan-clause-fault
+returns-in_err-plan-clause-fault g c = at_fault c.from_residual.result IsCheckFault (of_walk c.in_err-plan.field-0.0) c.from_residual.ensures.1 (survey_fault c.in_err-plan.field-0.0 c.in_err-plan.ensures.fault)
+
+pub returns-in_err-damaged-clause-items : goal.returns-in_err-damaged-clause-items
+returns-in_err-damaged-clause-items g c = λ is v seen.
+    absurd (subst IsContentFault (one_fault c.from_residual-in_err-damaged.result c.in_err-damaged.field-0.0 (check.Limit limit.Items) c.from_residual-in_err-damaged.ensures.1 is) c.in_err-damaged.ensures.fault)
+
+pub returns-in_err-damaged-clause-depth : goal.returns-in_err-damaged-clause-depth
+returns-in_err-damaged-clause-depth g c = λ is v seen.
+    absurd (subst IsContentFault (one_fault c.from_residual-in_err-damaged.result c.in_err-damaged.field-0.0 (check.Limit limit.Depth) c.from_residual-in_err-damaged.ensures.1 is) c.in_err-damaged.ensures.fault)
+
+pub returns-in_err-damaged-clause-fault : goal.returns-in_err-damaged-clause-fault
+returns-in_err-damaged-clause-fault g c = at_fault c.from_residual-in_err-damaged.result IsCheckFault c.in_err-damaged.field-0.0 c.from_residual-in_err-damaged.ensures.1 (content_fault c.in_err-damaged.field-0.0 c.in_err-damaged.ensures.fault)

@@ -16,6 +16,9 @@ loop-at-init g c = record {
   grows = omega arith;
 }
 
+pub fault_of-requires : goal.fault_of-requires
+fault_of-requires g c = λ v seen. c.requires v (subst (λ t. IsSeen t v) c.loop-at.invariant.told seen) c.at-item.result (c.loop-at.at-index, c.loop-at-test.true, sym c.at-item.is)
+
 pub loop-at-preserved : goal.loop-at-preserved
 loop-at-preserved g c =
     let i = c.loop-at.invariant in

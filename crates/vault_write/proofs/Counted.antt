@@ -1,6 +1,6 @@
 -- Which faults are answered, and how counts of faults rise.
 use Rattle.std.specs.Prelude.{IfErr}
-use Rattle.std.proofs.Common.{arith, ◌≡◌, ◌≢◌, ◌≤◌, ℕ, Option, Result, Ok, Err, inl, inr, sym, ◌∙◌, subst}
+use Rattle.std.proofs.Common.{arith, ◌≡◌, ◌≤◌, ℕ, Option, Result, Ok, Err, inl, inr, sym, ◌∙◌, subst}
 use Rattle.content_writing.specs.Faults.{of_folder}
 use Rattle.content_writing.specs.declared.fault.PutFault.{PutFault}
 use Rattle.content_writing.specs.declared.fault.PutFault.TheVariants as puts
@@ -9,7 +9,6 @@ use Rattle.port_model.specs.Counts.{CountRose}
 use Rattle.vault_write.specs.Faults.{IsDirectoryFault, IsFileFault, IsPlaceFault}
 use Rattle.chunk_files.specs.Keys.{Keys}
 use Rattle.plain_tree.specs.Names as plain
-use Rattle.vault_faults.specs.declared.fault.FindFault.TheVariants as finds
 use Rattle.vault_spec.specs.Opened.{OpenedVault}
 use Rattle.vault_write.specs.Calls.{Writing}
 use Rattle.vault_write.specs.Filing.{IsAtDirectory, PlacesBy, StopsBy}
@@ -83,19 +82,3 @@ placing_is_file_fault keys w Does Only (Err fault) ends = stop_is_file_fault key
 
 pub is_file_fault : (fault : PutFault) (result : Result (Unit {0}) PutFault) → IsFileFault fault → result ≡ Err fault → IfErr result IsFileFault
 is_file_fault fault result file is = subst (λ r. IfErr r IsFileFault) (sym is) file
-
-pub folder_is_file_fault : (fault : FolderFault) → IsFileFault (of_folder fault)
-folder_is_file_fault folder.Failed = tt
-folder_is_file_fault folder.Refused = tt
-folder_is_file_fault folder.NoMemory = tt
-
--- looking at a directory neither reads a source nor draws
-pub directory_unread : (vault : OpenedVault) (path : plain.Path) (told : Option Told) (fault : PutFault) → IsAtDirectory vault path told fault → fault ≢ puts.Source
-directory_unread vault path told fault (inl failed) source = let clash : puts.Failed ≡ puts.Source = sym failed ∙ source in cc clash
-directory_unread vault path told fault (inr (inl memory)) source = let clash : puts.NoMemory ≡ puts.Source = sym memory ∙ source in cc clash
-directory_unread vault path told fault (inr (inr found)) source = let clash : puts.Find (finds.WrongKind path) ≡ puts.Source = sym found.0 ∙ source in cc clash
-
-pub directory_undrawn : (vault : OpenedVault) (path : plain.Path) (told : Option Told) (fault : PutFault) → IsAtDirectory vault path told fault → fault ≢ puts.Random
-directory_undrawn vault path told fault (inl failed) random = let clash : puts.Failed ≡ puts.Random = sym failed ∙ random in cc clash
-directory_undrawn vault path told fault (inr (inl memory)) random = let clash : puts.NoMemory ≡ puts.Random = sym memory ∙ random in cc clash
-directory_undrawn vault path told fault (inr (inr found)) random = let clash : puts.Find (finds.WrongKind path) ≡ puts.Random = sym found.0 ∙ random in cc clash

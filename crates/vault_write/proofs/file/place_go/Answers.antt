@@ -1,4 +1,4 @@
-use Rattle.std.proofs.Common.{None, Ok, Err, sym, subst, ◌≡◌, refl, ap, arith}
+use Rattle.std.proofs.Common.{None, Ok, Err, sym, subst}
 use Rattle.folder_spec.specs.Seen.{IsSeen}
 use Rattle.content_writing.specs.Content.{still_coming}
 use Rattle.content_writing.specs.Faults.{of_folder}
@@ -6,65 +6,32 @@ use Rattle.vault_spec.specs.Making.{full_texts}
 use Rattle.vault_write.specs.Calls.{New}
 use Rattle.vault_write.specs.Editing.{AddsEdits, side_edits}
 use Rattle.vault_write.specs.Filing.{PlacesEntry, PlacesFile}
-use Rattle.content_writing.specs.declared.fault.PutFault.TheVariants as puts
-use Rattle.content_writing.proofs.Blaming.{blames_at, folder_blames, folder_undrawn, folder_unread}
-use Rattle.vault_write.specs.Faults.{IsFileFault, IsPlaceFault}
-use Rattle.vault_write.proofs.Counted.{folder_is_file_fault, place_is_file_fault}
-use Rattle.vault_write.proofs.Found.{same_refused}
 use Rattle.vault_write.proofs.FileBegun.{file_places, side_refused}
 use Rattle.vault_write.proofs.FileMade.{file_refused, go_failed, go_may, go_placed, go_ready}
 use Rattle.vault_write.proofs.Filing.{at_fault, reads_outside}
 use Rattle.vault_write.proofs.file.place_go.Goals as goal
 
-pub returns-in_err-wants : goal.returns-in_err-wants
-returns-in_err-wants g c =
-    let result = c.from_residual.result in
-    let by_fault = c.from_residual.ensures.1 in
-    let fault = c.in_err-wants.field-0.0 in
-    let e = c.in_err-wants.ensures in
-    record {
-      made =
-          subst (λ o. PlacesFile New c.args.vault.now c.args.work.now c.args.front.now c.args.name.now (still_coming (g.C.Content.reads c.args.content.now) (g.F.Folder.told c.args.folder.now) (g.C.Content.coming c.args.content.now)) (still_coming (g.C.Content.reads c.args.content.now) (g.F.Folder.told c.args.folder.now) (g.C.Content.coming c.args.content.now)) (g.R.Randoms.left c.args.random.now) (g.R.Randoms.left c.args.random.now) (g.F.Folder.told c.args.folder.now) o c.from_residual.result) (sym c.wants_side.ensures.told)
-          (at_fault (PlacesFile New c.args.vault.now c.args.work.now c.args.front.now c.args.name.now (still_coming (g.C.Content.reads c.args.content.now) (g.F.Folder.told c.args.folder.now) (g.C.Content.coming c.args.content.now)) (still_coming (g.C.Content.reads c.args.content.now) (g.F.Folder.told c.args.folder.now) (g.C.Content.coming c.args.content.now)) (g.R.Randoms.left c.args.random.now) (g.R.Randoms.left c.args.random.now) (g.F.Folder.told c.args.folder.now) (g.F.Folder.told c.args.folder.now)) c.from_residual.result c.in_err-wants.field-0.0 c.from_residual.ensures.1
-          (file_refused c.args.vault.now c.args.work.now c.args.front.now c.args.name.now (still_coming (g.C.Content.reads c.args.content.now) (g.F.Folder.told c.args.folder.now) (g.C.Content.coming c.args.content.now)) (g.R.Randoms.left c.args.random.now) (g.F.Folder.told c.args.folder.now) c.in_err-wants.field-0.0
-          (λ content. side_refused c.args.vault.now.root c.args.vault.now.vault c.requires.kind c.args.front.now c.args.name.now content (g.F.Folder.told c.args.folder.now) c.args.slot.now.at c.args.slot.now.side c.args.slot.now.full
-          c.in_err-wants.field-0.0 c.requires.slot c.in_err-wants.ensures.taken)));
-      fault = same_refused result fault IsFileFault by_fault (place_is_file_fault fault e.kind);
-      reads = refl;
-      room = omega arith;
-      lender = refl;
-      failed = blames_at result fault puts.Failed _ _ by_fault (e.counts.grows, λ same. e.counts.rose (let is : fault ≡ puts.Failed = cc same in ap Err is));
-      source = blames_at result fault puts.Source _ _ by_fault (omega arith, λ same. absurd (subst IsPlaceFault (let is : fault ≡ puts.Source = cc same in is) e.kind));
-      random = blames_at result fault puts.Random _ _ by_fault (omega arith, λ same. absurd (subst IsPlaceFault (let is : fault ≡ puts.Random = cc same in is) e.kind));
-    }
+pub returns-in_err-wants-clause-made : goal.returns-in_err-wants-clause-made
+returns-in_err-wants-clause-made g c =
+    subst (λ o. PlacesFile New c.args.vault.now c.args.work.now c.args.front.now c.args.name.now (still_coming (g.C.Content.reads c.args.content.now) (g.F.Folder.told c.args.folder.now) (g.C.Content.coming c.args.content.now)) (still_coming (g.C.Content.reads c.args.content.now) (g.F.Folder.told c.args.folder.now) (g.C.Content.coming c.args.content.now)) (g.R.Randoms.left c.args.random.now) (g.R.Randoms.left c.args.random.now) (g.F.Folder.told c.args.folder.now) o c.from_residual.result) (sym c.wants_side.ensures.told)
+    (at_fault (PlacesFile New c.args.vault.now c.args.work.now c.args.front.now c.args.name.now (still_coming (g.C.Content.reads c.args.content.now) (g.F.Folder.told c.args.folder.now) (g.C.Content.coming c.args.content.now)) (still_coming (g.C.Content.reads c.args.content.now) (g.F.Folder.told c.args.folder.now) (g.C.Content.coming c.args.content.now)) (g.R.Randoms.left c.args.random.now) (g.R.Randoms.left c.args.random.now) (g.F.Folder.told c.args.folder.now) (g.F.Folder.told c.args.folder.now)) c.from_residual.result c.in_err-wants.field-0.0 c.from_residual.ensures.1
+    (file_refused c.args.vault.now c.args.work.now c.args.front.now c.args.name.now (still_coming (g.C.Content.reads c.args.content.now) (g.F.Folder.told c.args.folder.now) (g.C.Content.coming c.args.content.now)) (g.R.Randoms.left c.args.random.now) (g.F.Folder.told c.args.folder.now) c.in_err-wants.field-0.0
+    (λ content. side_refused c.args.vault.now.root c.args.vault.now.vault c.requires.kind c.args.front.now c.args.name.now content (g.F.Folder.told c.args.folder.now) c.args.slot.now.at c.args.slot.now.side c.args.slot.now.full
+    c.in_err-wants.field-0.0 c.requires.slot c.in_err-wants.ensures.taken)))
 
 pub publish_side-requires : goal.publish_side-requires
 publish_side-requires g c = λ v is is_wanted.
     (file_places c.what_is_found_stands.ensures.enters c.what_is_found_stands.ensures.folder c.args.vault.now.root c.args.vault.now.vault c.requires.kind c.args.work.now c.args.front.now c.args.name.now (g.F.Folder.told c.args.folder.now) c.requires.may
     c.args.slot.now.at c.args.slot.now.side c.args.slot.now.full c.in_ok-wants.wants c.requires.slot c.in_ok-wants.ensures.wants v (subst (λ o. IsSeen o v) c.wants_side.ensures.told is)).side_comes is_wanted
 
-pub returns-in_err-publish_side : goal.returns-in_err-publish_side
-returns-in_err-publish_side g c =
-    let result = c.from_residual-in_err-publish_side.result in
-    let by_fault = c.from_residual-in_err-publish_side.ensures.1 in
-    let fault = c.in_err-publish_side.field-0.0 in
-    let looked = c.wants_side.ensures.counts.grows in
-    record {
-      made =
-          at_fault (PlacesFile New c.args.vault.now c.args.work.now c.args.front.now c.args.name.now (still_coming (g.C.Content.reads c.args.content.now) (g.F.Folder.told c.args.folder.now) (g.C.Content.coming c.args.content.now)) (still_coming (g.C.Content.reads c.args.content.now) (g.F.Folder.told c.args.folder.now) (g.C.Content.coming c.args.content.now)) (g.R.Randoms.left c.args.random.now) (g.R.Randoms.left c.args.random.now) (g.F.Folder.told c.args.folder.now) (g.F.Folder.told c.publish_side.new.folder)) c.from_residual-in_err-publish_side.result (of_folder c.in_err-publish_side.field-0.0) c.from_residual-in_err-publish_side.ensures.1
-          (go_failed c.edits_show_trees.ensures.during c.edits_show_trees.ensures.first c.edits_show_trees.ensures.settled c.roots_show_their_own.ensures.edits c.files_are_what_they_give.ensures c.encrypted_files_are_files.ensures
-          c.what_is_found_stands.ensures.enters c.args.vault.now (c.items_keep_vaults.ensures c.args.vault.now.vault) c.args.work.now c.args.front.now c.args.name.now c.requires.named
-          c.args.slot.now.at c.args.slot.now.side c.args.slot.now.full (g.F.Folder.told c.args.folder.now) (g.met.F.Folder.sound c.args.folder.now) c.requires.may c.requires.slot
-          c.requires.kind c.in_ok-wants.wants c.in_ok-wants.ensures.wants (g.F.Folder.told c.publish_side.new.folder)
-          (still_coming (g.C.Content.reads c.args.content.now) (g.F.Folder.told c.args.folder.now) (g.C.Content.coming c.args.content.now)) (g.R.Randoms.left c.args.random.now) c.in_err-publish_side.field-0.0 (subst (λ o. AddsEdits c.args.work.now (side_edits c.in_ok-wants.wants c.args.slot.now.side c.args.slot.now.full) (full_texts c.args.slot.now.full) o (g.F.Folder.told c.publish_side.new.folder) (Err c.in_err-publish_side.field-0.0)) c.wants_side.ensures.told c.in_err-publish_side.ensures.made));
-      fault = same_refused result (of_folder fault) IsFileFault by_fault (folder_is_file_fault fault);
-      reads = refl;
-      room = omega arith;
-      lender = refl;
-      failed = blames_at result (of_folder fault) puts.Failed _ _ by_fault (folder_blames _ _ _ fault looked c.in_err-publish_side.ensures.counts);
-      source = blames_at result (of_folder fault) puts.Source _ _ by_fault (omega arith, λ same. absurd (folder_unread fault (let is : of_folder fault ≡ puts.Source = cc same in is)));
-      random = blames_at result (of_folder fault) puts.Random _ _ by_fault (omega arith, λ same. absurd (folder_undrawn fault (let is : of_folder fault ≡ puts.Random = cc same in is)));
-    }
+pub returns-in_err-publish_side-clause-made : goal.returns-in_err-publish_side-clause-made
+returns-in_err-publish_side-clause-made g c =
+    at_fault (PlacesFile New c.args.vault.now c.args.work.now c.args.front.now c.args.name.now (still_coming (g.C.Content.reads c.args.content.now) (g.F.Folder.told c.args.folder.now) (g.C.Content.coming c.args.content.now)) (still_coming (g.C.Content.reads c.args.content.now) (g.F.Folder.told c.args.folder.now) (g.C.Content.coming c.args.content.now)) (g.R.Randoms.left c.args.random.now) (g.R.Randoms.left c.args.random.now) (g.F.Folder.told c.args.folder.now) (g.F.Folder.told c.publish_side.new.folder)) c.from_residual-in_err-publish_side.result (of_folder c.in_err-publish_side.field-0.0) c.from_residual-in_err-publish_side.ensures.1
+    (go_failed c.edits_show_trees.ensures.during c.edits_show_trees.ensures.first c.edits_show_trees.ensures.settled c.roots_show_their_own.ensures.edits c.files_are_what_they_give.ensures c.encrypted_files_are_files.ensures
+    c.what_is_found_stands.ensures.enters c.args.vault.now (c.items_keep_vaults.ensures c.args.vault.now.vault) c.args.work.now c.args.front.now c.args.name.now c.requires.named
+    c.args.slot.now.at c.args.slot.now.side c.args.slot.now.full (g.F.Folder.told c.args.folder.now) (g.met.F.Folder.sound c.args.folder.now) c.requires.may c.requires.slot
+    c.requires.kind c.in_ok-wants.wants c.in_ok-wants.ensures.wants (g.F.Folder.told c.publish_side.new.folder)
+    (still_coming (g.C.Content.reads c.args.content.now) (g.F.Folder.told c.args.folder.now) (g.C.Content.coming c.args.content.now)) (g.R.Randoms.left c.args.random.now) c.in_err-publish_side.field-0.0 (subst (λ o. AddsEdits c.args.work.now (side_edits c.in_ok-wants.wants c.args.slot.now.side c.args.slot.now.full) (full_texts c.args.slot.now.full) o (g.F.Folder.told c.publish_side.new.folder) (Err c.in_err-publish_side.field-0.0)) c.wants_side.ensures.told c.in_err-publish_side.ensures.made))
 
 pub place_entry-requires-clause-may : goal.place_entry-requires-clause-may
 place_entry-requires-clause-may g c =

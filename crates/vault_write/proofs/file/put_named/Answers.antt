@@ -1,4 +1,4 @@
-use Rattle.std.proofs.Common.{Some, None, sym, subst, ◌∙◌, ◌≡◌, Err, refl, ap, arith}
+use Rattle.std.proofs.Common.{Some, None, sym, subst, ◌∙◌}
 use Rattle.folder_spec.specs.Seen.{IfSeen, under}
 use Rattle.content_writing.specs.Content.{IsReady, still_coming}
 use Rattle.vault_spec.specs.Making.{NewFile}
@@ -7,59 +7,25 @@ use Rattle.vault_spec.specs.Vault.{format_of}
 use Rattle.vault_write.specs.Calls.{InPlace, New}
 use Rattle.vault_write.specs.Filing.{IsAtDirectory, IsSlotOver, PlacesFile, StandsAs}
 use Rattle.content_writing.specs.Placing.{MayMake}
-use Rattle.content_writing.specs.declared.fault.PutFault.TheVariants as puts
-use Rattle.content_writing.proofs.Blaming.{blames_at}
-use Rattle.vault_write.specs.Faults.{IsFileFault, IsPlaceFault}
-use Rattle.vault_write.proofs.Counted.{directory_is_file_fault, directory_undrawn, directory_unread, place_is_file_fault, rose_since}
-use Rattle.vault_write.proofs.Found.{same_refused}
 use Rattle.vault_write.proofs.FileMade.{placed_at}
 use Rattle.vault_write.proofs.Filing.{at_fault}
 use Rattle.vault_write.proofs.PutMade.{directory_refused, over_refused, put_new, put_refused, stands_then}
 use Rattle.vault_write.proofs.file.put_named.Goals as goal
 
-pub returns-in_err-slot : goal.returns-in_err-slot
-returns-in_err-slot g c =
-    let result = c.from_residual.result in
-    let by_fault = c.from_residual.ensures.1 in
-    let fault = c.in_err-slot.field-0.0 in
-    let e = c.in_err-slot.ensures in
-    record {
-      made =
-          subst (λ o. PlacesFile InPlace c.args.vault.now c.args.work.now c.args.front.now c.args.name.now (still_coming (g.C.Content.reads c.args.content.now) (g.F.Folder.told c.args.folder.now) (g.C.Content.coming c.args.content.now)) (still_coming (g.C.Content.reads c.args.content.now) (g.F.Folder.told c.args.folder.now) (g.C.Content.coming c.args.content.now)) (g.R.Randoms.left c.args.random.now) (g.R.Randoms.left c.args.random.now) (g.F.Folder.told c.args.folder.now) o c.from_residual.result) (sym c.slot_over.ensures.told)
-          (at_fault (PlacesFile InPlace c.args.vault.now c.args.work.now c.args.front.now c.args.name.now (still_coming (g.C.Content.reads c.args.content.now) (g.F.Folder.told c.args.folder.now) (g.C.Content.coming c.args.content.now)) (still_coming (g.C.Content.reads c.args.content.now) (g.F.Folder.told c.args.folder.now) (g.C.Content.coming c.args.content.now)) (g.R.Randoms.left c.args.random.now) (g.R.Randoms.left c.args.random.now) (g.F.Folder.told c.args.folder.now) (g.F.Folder.told c.args.folder.now)) c.from_residual.result c.in_err-slot.field-0.0 c.from_residual.ensures.1
-          (put_refused c.args.vault.now c.args.work.now c.args.front.now c.args.name.now (still_coming (g.C.Content.reads c.args.content.now) (g.F.Folder.told c.args.folder.now) (g.C.Content.coming c.args.content.now)) (g.R.Randoms.left c.args.random.now) (g.F.Folder.told c.args.folder.now) c.in_err-slot.field-0.0
-          (λ content. over_refused c.what_is_found_stands.ensures.enters c.args.vault.now c.args.work.now c.args.front.now c.args.name.now content (g.F.Folder.told c.args.folder.now) c.in_err-slot.field-0.0 (c.in_err-slot.ensures.refused (NewFile content)) c.in_err-slot.ensures.over)));
-      fault = same_refused result fault IsFileFault by_fault (place_is_file_fault fault e.kind);
-      reads = refl;
-      room = omega arith;
-      lender = refl;
-      failed = blames_at result fault puts.Failed _ _ by_fault (e.counts.grows, λ same. e.counts.rose (let is : fault ≡ puts.Failed = cc same in ap Err is));
-      source = blames_at result fault puts.Source _ _ by_fault (omega arith, λ same. absurd (subst IsPlaceFault (let is : fault ≡ puts.Source = cc same in is) e.kind));
-      random = blames_at result fault puts.Random _ _ by_fault (omega arith, λ same. absurd (subst IsPlaceFault (let is : fault ≡ puts.Random = cc same in is) e.kind));
-    }
+pub returns-in_err-slot-clause-made : goal.returns-in_err-slot-clause-made
+returns-in_err-slot-clause-made g c =
+    subst (λ o. PlacesFile InPlace c.args.vault.now c.args.work.now c.args.front.now c.args.name.now (still_coming (g.C.Content.reads c.args.content.now) (g.F.Folder.told c.args.folder.now) (g.C.Content.coming c.args.content.now)) (still_coming (g.C.Content.reads c.args.content.now) (g.F.Folder.told c.args.folder.now) (g.C.Content.coming c.args.content.now)) (g.R.Randoms.left c.args.random.now) (g.R.Randoms.left c.args.random.now) (g.F.Folder.told c.args.folder.now) o c.from_residual.result) (sym c.slot_over.ensures.told)
+    (at_fault (PlacesFile InPlace c.args.vault.now c.args.work.now c.args.front.now c.args.name.now (still_coming (g.C.Content.reads c.args.content.now) (g.F.Folder.told c.args.folder.now) (g.C.Content.coming c.args.content.now)) (still_coming (g.C.Content.reads c.args.content.now) (g.F.Folder.told c.args.folder.now) (g.C.Content.coming c.args.content.now)) (g.R.Randoms.left c.args.random.now) (g.R.Randoms.left c.args.random.now) (g.F.Folder.told c.args.folder.now) (g.F.Folder.told c.args.folder.now)) c.from_residual.result c.in_err-slot.field-0.0 c.from_residual.ensures.1
+    (put_refused c.args.vault.now c.args.work.now c.args.front.now c.args.name.now (still_coming (g.C.Content.reads c.args.content.now) (g.F.Folder.told c.args.folder.now) (g.C.Content.coming c.args.content.now)) (g.R.Randoms.left c.args.random.now) (g.F.Folder.told c.args.folder.now) c.in_err-slot.field-0.0
+    (λ content. over_refused c.what_is_found_stands.ensures.enters c.args.vault.now c.args.work.now c.args.front.now c.args.name.now content (g.F.Folder.told c.args.folder.now) c.in_err-slot.field-0.0 (c.in_err-slot.ensures.refused (NewFile content)) c.in_err-slot.ensures.over)))
 
-pub returns-in_err-at : goal.returns-in_err-at
-returns-in_err-at g c =
-    let result = c.from_residual-in_err-at.result in
-    let by_fault = c.from_residual-in_err-at.ensures.1 in
-    let fault = c.in_err-at.field-0.0 in
-    let e = c.in_err-at.ensures in
-    let found = c.slot_over.ensures.counts.grows in
-    record {
-      made =
-          subst (λ o. PlacesFile InPlace c.args.vault.now c.args.work.now c.args.front.now c.args.name.now (still_coming (g.C.Content.reads c.args.content.now) (g.F.Folder.told c.args.folder.now) (g.C.Content.coming c.args.content.now)) (still_coming (g.C.Content.reads c.args.content.now) (g.F.Folder.told c.args.folder.now) (g.C.Content.coming c.args.content.now)) (g.R.Randoms.left c.args.random.now) (g.R.Randoms.left c.args.random.now) (g.F.Folder.told c.args.folder.now) o c.from_residual-in_err-at.result) (sym (c.standing_file.ensures.told ∙ c.slot_over.ensures.told))
-          (at_fault (PlacesFile InPlace c.args.vault.now c.args.work.now c.args.front.now c.args.name.now (still_coming (g.C.Content.reads c.args.content.now) (g.F.Folder.told c.args.folder.now) (g.C.Content.coming c.args.content.now)) (still_coming (g.C.Content.reads c.args.content.now) (g.F.Folder.told c.args.folder.now) (g.C.Content.coming c.args.content.now)) (g.R.Randoms.left c.args.random.now) (g.R.Randoms.left c.args.random.now) (g.F.Folder.told c.args.folder.now) (g.F.Folder.told c.args.folder.now)) c.from_residual-in_err-at.result c.in_err-at.field-0.0 c.from_residual-in_err-at.ensures.1
-          (put_refused c.args.vault.now c.args.work.now c.args.front.now c.args.name.now (still_coming (g.C.Content.reads c.args.content.now) (g.F.Folder.told c.args.folder.now) (g.C.Content.coming c.args.content.now)) (g.R.Randoms.left c.args.random.now) (g.F.Folder.told c.args.folder.now) c.in_err-at.field-0.0
-          (λ content. directory_refused c.args.vault.now c.args.work.now c.args.path.now c.args.front.now c.args.name.now content (g.F.Folder.told c.args.folder.now) c.in_err-at.field-0.0 c.requires.path c.in_ok-slot.ensures.slot.allowed
-          (subst (λ o. IsAtDirectory c.args.vault.now c.args.path.now o c.in_err-at.field-0.0) c.slot_over.ensures.told c.in_err-at.ensures.fault))));
-      fault = same_refused result fault IsFileFault by_fault (directory_is_file_fault c.args.vault.now c.args.path.now (g.F.Folder.told c.slot_over.new.folder) fault e.fault);
-      reads = refl;
-      room = omega arith;
-      lender = refl;
-      failed = blames_at result fault puts.Failed _ _ by_fault (omega (arith, found, e.counts.grows), λ same. rose_since _ _ _ found (e.counts.rose (let is : fault ≡ puts.Failed = cc same in ap Err is)));
-      source = blames_at result fault puts.Source _ _ by_fault (omega arith, λ same. absurd (directory_unread c.args.vault.now c.args.path.now (g.F.Folder.told c.slot_over.new.folder) fault e.fault (let is : fault ≡ puts.Source = cc same in is)));
-      random = blames_at result fault puts.Random _ _ by_fault (omega arith, λ same. absurd (directory_undrawn c.args.vault.now c.args.path.now (g.F.Folder.told c.slot_over.new.folder) fault e.fault (let is : fault ≡ puts.Random = cc same in is)));
-    }
+pub returns-in_err-at-clause-made : goal.returns-in_err-at-clause-made
+returns-in_err-at-clause-made g c =
+    subst (λ o. PlacesFile InPlace c.args.vault.now c.args.work.now c.args.front.now c.args.name.now (still_coming (g.C.Content.reads c.args.content.now) (g.F.Folder.told c.args.folder.now) (g.C.Content.coming c.args.content.now)) (still_coming (g.C.Content.reads c.args.content.now) (g.F.Folder.told c.args.folder.now) (g.C.Content.coming c.args.content.now)) (g.R.Randoms.left c.args.random.now) (g.R.Randoms.left c.args.random.now) (g.F.Folder.told c.args.folder.now) o c.from_residual-in_err-at.result) (sym (c.standing_file.ensures.told ∙ c.slot_over.ensures.told))
+    (at_fault (PlacesFile InPlace c.args.vault.now c.args.work.now c.args.front.now c.args.name.now (still_coming (g.C.Content.reads c.args.content.now) (g.F.Folder.told c.args.folder.now) (g.C.Content.coming c.args.content.now)) (still_coming (g.C.Content.reads c.args.content.now) (g.F.Folder.told c.args.folder.now) (g.C.Content.coming c.args.content.now)) (g.R.Randoms.left c.args.random.now) (g.R.Randoms.left c.args.random.now) (g.F.Folder.told c.args.folder.now) (g.F.Folder.told c.args.folder.now)) c.from_residual-in_err-at.result c.in_err-at.field-0.0 c.from_residual-in_err-at.ensures.1
+    (put_refused c.args.vault.now c.args.work.now c.args.front.now c.args.name.now (still_coming (g.C.Content.reads c.args.content.now) (g.F.Folder.told c.args.folder.now) (g.C.Content.coming c.args.content.now)) (g.R.Randoms.left c.args.random.now) (g.F.Folder.told c.args.folder.now) c.in_err-at.field-0.0
+    (λ content. directory_refused c.args.vault.now c.args.work.now c.args.path.now c.args.front.now c.args.name.now content (g.F.Folder.told c.args.folder.now) c.in_err-at.field-0.0 c.requires.path c.in_ok-slot.ensures.slot.allowed
+    (subst (λ o. IsAtDirectory c.args.vault.now c.args.path.now o c.in_err-at.field-0.0) c.slot_over.ensures.told c.in_err-at.ensures.fault))))
 
 pub replace-requires-clause-may : goal.replace-requires-clause-may
 replace-requires-clause-may g c = subst (λ o. MayMake o c.args.work.now c.args.vault.now.root) (sym (c.standing_file.ensures.told ∙ c.slot_over.ensures.told)) c.requires.may

@@ -31,25 +31,7 @@ pub one_fault : {T E : Type 0} (result : Result T E) (fault other : E) → IsErr
 one_fault (Ok value) fault other by_fault same = absurd by_fault
 one_fault (Err e) fault other by_fault same = sym by_fault ∙ (let is : e ≡ other = cc same in is)
 
--- ---- what a walk's fault tells
-
-pub answers_many : (T many deep : Type 0) (before after : ℕ) (x : WalkFault) → Answers {T = T} many deep before after (Err x) → x ≡ fault.Limit limit.Items → many
-answers_many T many deep before after x a is = (subst (λ y. Answers {T = T} many deep before after (Err y)) is a).1
-
-pub answers_deep : (T many deep : Type 0) (before after : ℕ) (x : WalkFault) → Answers {T = T} many deep before after (Err x) → x ≡ fault.Limit limit.Depth → deep
-answers_deep T many deep before after x a is = (subst (λ y. Answers {T = T} many deep before after (Err y)) is a).1
-
-pub answers_failed : (T many deep : Type 0) (before after : ℕ) (x : WalkFault) → Answers {T = T} many deep before after (Err x) → x ≡ fault.Failed → CountRose before after
-answers_failed T many deep before after x a is = (subst (λ y. Answers {T = T} many deep before after (Err y)) is a).1
-
-pub answers_fault : (T many deep : Type 0) (before after : ℕ) (x : WalkFault) → Answers {T = T} many deep before after (Err x) → IsSurveyFault x
-answers_fault T many deep before after (fault.NotClean finding) a = a
-answers_fault T many deep before after (fault.Limit limit.Items) a = tt
-answers_fault T many deep before after (fault.Limit limit.Depth) a = tt
-answers_fault T many deep before after (fault.Limit (limit.Length at)) a = a
-answers_fault T many deep before after (fault.Limit limit.Input) a = a
-answers_fault T many deep before after fault.Failed a = tt
-answers_fault T many deep before after fault.NoMemory a = tt
+-- ---- what a fault of a survey is to a walk
 
 pub walk_fault : (x : WalkFault) → IsSurveyFault x → IsWalkFault x
 walk_fault (fault.NotClean finding) is = tt

@@ -1,6 +1,6 @@
 use Rattle.std.proofs.Common.{◌≡◌, ◌⊎◌, inl, inr, ◌∷◌, [], ◌++◌, List, sym, ap, ◌∙◌, subst, take, arith}
 use Rattle.std.specs.Prelude.{Contains}
-use Rattle.std.proofs.lemmas.List.{take_all, take_more}
+use Rattle.std.proofs.lemmas.List.{take_more}
 use Rattle.std.proofs.lemmas.List.Elements.{Contains-append_cases, Contains-get_or}
 use Rattle.folder_spec.specs.Listing.{Item}
 use Rattle.folder_spec.specs.Seen.{IsSeen, under}
@@ -43,8 +43,3 @@ loop-entry-preserved g c =
           (sym (take_more entries i e c.loop-entry-test.true ∙ ap (λ x. take i entries ++ x ∷ []) (sym c.entry-item.is)))
           (one_more_reported f w dir (take i entries) e report more all (c.loop-entry.invariant.reported v is listed) its c.in_ok-add.ensures.members c.in_ok-add.ensures.found);
     }
-
-pub returns-clause-report : goal.returns-clause-report
-returns-clause-report g c v is listed =
-    subst (λ es. HasReported (format_of c.args.vault.now.vault) (under c.args.vault.now.root v) c.args.dir.now es c.loop-entry.report) (take_all c.loop-entry.entry-index c.args.entries.now c.loop-entry-test.false)
-    (c.loop-entry.invariant.reported v is listed)

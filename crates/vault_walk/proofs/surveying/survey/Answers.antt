@@ -1,33 +1,14 @@
-use Rattle.std.proofs.Common.{◌≡◌, ◌≤◌, ◌++◌, ℕ, refl, sym, ap, ◌∙◌, subst}
+use Rattle.std.proofs.Common.{◌≡◌, ◌≤◌, ◌++◌, refl, sym, ap, ◌∙◌, subst}
 use Rattle.folder_spec.specs.Path.{Path}
 use Rattle.folder_spec.specs.Seen.{IsSeen, under}
 use Rattle.vault_spec.specs.Vault.{format_of}
 use Rattle.vault_walk.specs.Survey.{item_limit}
-use Rattle.vault_faults.specs.declared.fault.Limit.TheVariants as limit
-use Rattle.vault_walk.specs.Surveyed.{findings_behind, notes_behind, ArePlaced, IsSurveyFault}
-use Rattle.vault_walk.specs.declared.fault.WalkFault.TheVariants as fault
-use Rattle.vault_walk.proofs.Answering.{answers_deep, answers_failed, answers_fault, answers_many, at_fault, one_fault}
+use Rattle.vault_walk.specs.Surveyed.{findings_behind, notes_behind, ArePlaced}
 use Rattle.vault_walk.proofs.FilesStand.{placed_behind, survey_files}
 use Rattle.vault_walk.proofs.Folders.{folders_under, seen_folders}
 use Rattle.vault_walk.proofs.Surveys.{met_by, placed_size, surveyed_is}
 use Rattle.vault_walk.proofs.Walks.{lead_through}
 use Rattle.vault_walk.proofs.surveying.survey.Goals as goal
-
-pub returns-in_err-visits-clause-items : goal.returns-in_err-visits-clause-items
-returns-in_err-visits-clause-items g c = λ same.
-    answers_many ℕ _ _ _ _ c.in_err-visits.field-0.0 c.in_err-visits.ensures.answers (one_fault c.from_residual.result c.in_err-visits.field-0.0 (fault.Limit limit.Items) c.from_residual.ensures.1 same)
-
-pub returns-in_err-visits-clause-depth : goal.returns-in_err-visits-clause-depth
-returns-in_err-visits-clause-depth g c = λ same.
-    answers_deep ℕ _ _ _ _ c.in_err-visits.field-0.0 c.in_err-visits.ensures.answers (one_fault c.from_residual.result c.in_err-visits.field-0.0 (fault.Limit limit.Depth) c.from_residual.ensures.1 same)
-
-pub returns-in_err-visits-clause-fault : goal.returns-in_err-visits-clause-fault
-returns-in_err-visits-clause-fault g c =
-    at_fault c.from_residual.result IsSurveyFault c.in_err-visits.field-0.0 c.from_residual.ensures.1 (answers_fault ℕ _ _ _ _ c.in_err-visits.field-0.0 c.in_err-visits.ensures.answers)
-
-pub returns-in_err-visits-clause-failed : goal.returns-in_err-visits-clause-failed
-returns-in_err-visits-clause-failed g c = λ same.
-    answers_failed ℕ _ _ _ _ c.in_err-visits.field-0.0 c.in_err-visits.ensures.answers (one_fault c.from_residual.result c.in_err-visits.field-0.0 fault.Failed c.from_residual.ensures.1 same)
 
 pub returns-clause-survey : goal.returns-clause-survey
 returns-clause-survey g c v is =

@@ -12,49 +12,60 @@ use std::alloc::{AllocError, Global};
 pub fn claim(alloc: Global, words: &[String], folder: &mut HostFolder) -> Result<(), Answer> {
     match claims_of(alloc, words)? {
         Claims::Nothing => Ok(()),
-        Claims::Beside { vault, other } => {
-            hold(folder, &mut [alone(&vault)?, alone(&other)?])?;
-            folder.keep_on_one_file_system(&vault, &other);
-            Ok(())
-        }
+        Claims::Beside { vault, other } => claim_beside(&vault, &other, folder),
         Claims::Migration {
             source,
             target,
             work,
-        } => {
-            hold(
-                folder,
-                &mut [shared(&source)?, alone(&target)?, alone(&work)?],
-            )?;
-            folder.keep_on_one_file_system(&target, &work);
-            Ok(())
-        }
+        } => claim_migration(&source, &target, &work, folder),
         Claims::Resumption(work) => claim_resumption(alloc, &work, folder),
         Claims::Retirement(work) => claim_retirement(alloc, &work, folder),
     }
 }
 
+fn claim_beside(vault: &FPath, other: &FPath, folder: &mut HostFolder) -> Result<(), Answer> {
+    hold_both(folder, alone(vault)?, alone(other)?)?;
+    folder.keep_on_one_file_system(vault, other);
+    Ok(())
+}
+
+// The source is only read.
+fn claim_migration(
+    source: &FPath,
+    target: &FPath,
+    work: &FPath,
+    folder: &mut HostFolder,
+) -> Result<(), Answer> {
+    hold(folder, &mut [shared(source)?, alone(target)?, alone(work)?])?;
+    folder.keep_on_one_file_system(target, work);
+    Ok(())
+}
+
 // Claims the work folder, and then the vaults that its journal names. The source is only read.
 fn claim_resumption(alloc: Global, work: &FPath, folder: &mut HostFolder) -> Result<(), Answer> {
-    if let Some(journal) = claim_work(alloc, work, folder)? {
-        hold(
-            folder,
-            &mut [shared(&journal.source)?, alone(&journal.target)?],
-        )?;
-        folder.keep_on_one_file_system(&journal.target, work);
+    match claim_work(alloc, work, folder)? {
+        Some(journal) => claim_to_resume(&journal, work, folder),
+        None => Ok(()),
     }
+}
+
+fn claim_to_resume(journal: &Journal, work: &FPath, folder: &mut HostFolder) -> Result<(), Answer> {
+    hold_both(folder, shared(&journal.source)?, alone(&journal.target)?)?;
+    folder.keep_on_one_file_system(&journal.target, work);
     Ok(())
 }
 
 // Claims the work folder, and then the vaults that its journal names. The source is to be moved into the work folder.
 fn claim_retirement(alloc: Global, work: &FPath, folder: &mut HostFolder) -> Result<(), Answer> {
-    if let Some(journal) = claim_work(alloc, work, folder)? {
-        hold(
-            folder,
-            &mut [alone(&journal.source)?, alone(&journal.target)?],
-        )?;
-        folder.keep_on_one_file_system(&journal.source, work);
+    match claim_work(alloc, work, folder)? {
+        Some(journal) => claim_to_retire(&journal, work, folder),
+        None => Ok(()),
     }
+}
+
+fn claim_to_retire(journal: &Journal, work: &FPath, folder: &mut HostFolder) -> Result<(), Answer> {
+    hold_both(folder, alone(&journal.source)?, alone(&journal.target)?)?;
+    folder.keep_on_one_file_system(&journal.source, work);
     Ok(())
 }
 
@@ -78,6 +89,10 @@ fn hold(folder: &mut HostFolder, wanted: &mut [Wanted]) -> Result<(), Answer> {
         Err(FolderFault::NoMemory) => Err(Answer::OutOfMemory),
         _ => Ok(()),
     }
+}
+
+fn hold_both(folder: &mut HostFolder, one: Wanted, other: Wanted) -> Result<(), Answer> {
+    hold(folder, &mut [one, other])
 }
 
 fn alone(at: &FPath) -> Result<Wanted, AllocError> {

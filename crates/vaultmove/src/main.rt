@@ -31,17 +31,21 @@ fn main(rt: HostRuntime) -> ExitCode {
 fn status(rt: &HostRuntime) -> Result<u8, Answer> {
     let words = words(rt)?;
     let mut folder = HostFolder::new(rt.clone()?, rt.alloc(), "")?;
-    claim(rt.alloc(), words.as_slice(), &mut folder)?;
+    status_of(rt, words.as_slice(), &mut folder)
+}
+
+fn status_of(rt: &HostRuntime, words: &[String], folder: &mut HostFolder) -> Result<u8, Answer> {
+    claim(rt.alloc(), words, folder)?;
     let terminal = rt.stderr().is_terminal();
     let shared = terminal && rt.stdout().is_terminal();
-    let shows = terminal && !(shared && prints_as_it_goes(words.as_slice()));
+    let shows = terminal && !(shared && prints_as_it_goes(words));
     if shows {
         folder.show_life();
     }
-    let status = run_in(rt, words.as_slice(), &mut folder, shows, shared)?;
+    let status = run_in(rt, words, folder, shows, shared)?;
     folder.wipe();
     if terminal && status == FOLDER_FAULT {
-        tell(rt, &folder);
+        tell(rt, folder);
     }
     Ok(status)
 }
@@ -57,8 +61,8 @@ fn run_in(
 ) -> Result<u8, Answer> {
     let mut random = HostRandoms::new(rt.clone()?);
     let mut input = StdSource::new(rt.stdin());
-    let mut out = WipedSink::new(StdSink::new(rt.stdout()), rt.clone()?, shows && shared);
-    let mut err = WipedSink::new(StdSink::new(rt.stderr()), rt.clone()?, shows);
+    let mut out = WipedSink::new(StdSink::new(rt.stdout()), rt, shows && shared);
+    let mut err = WipedSink::new(StdSink::new(rt.stderr()), rt, shows);
     Ok(run(
         rt.alloc(),
         words,

@@ -1,5 +1,5 @@
 -- A vault is opened after a work folder was made ready, or why it isn't.
-use Rattle.std.proofs.Common.{◌≡◌, List, ℕ, Option, Ok, Err, subst}
+use Rattle.std.proofs.Common.{◌≡◌, List, ℕ, Option, Ok, Err, subst, IsTrue}
 use Rattle.std.specs.Prelude.{MatchResult}
 use Rattle.folder_spec.specs.Event.{Told}
 use Rattle.folder_spec.specs.Region.{Spares, apart_from}
@@ -19,7 +19,9 @@ use Rattle.command_opening.specs.Opening.{IsPhrase, OfPassFile, OfVault, Opens}
 use Rattle.command_opening.specs.Refusing.{RefusesPass, RefusesVault}
 use Rattle.command_beginning.specs.Refusing.{RefusesSite, RefusesWork}
 use Rattle.command_opening.specs.Shown.{refused}
+use Rattle.command_opening.specs.Tests.{is_of_beginning, is_of_readying}
 use Rattle.command_answers.specs.declared.answer.Answer.{Answer}
+use Rattle.command_answers.specs.declared.answer.Answer.TheVariants.{Refused}
 use Rattle.command_words.specs.declared.commands.Change.{Change}
 
 -- ---- what follows
@@ -39,6 +41,11 @@ site_then change v answer P Q f x =
 -- nothing has changed yet
 pub begins_nowhere : (work : Path) (t u : Option Told) → u ≡ t → ChangesWork work t u
 begins_nowhere work t u same = from_to_same (Begins work) t u same (λ a. went_nowhere (IsBeginning work a.state) (λ s e. Spares (apart_from work) e.call) a (beginning_none work a.state))
+
+-- what may be answered before a vault is opened may be where one is
+pub readied_begins : (answer : Answer) → IsTrue (is_of_readying answer) → IsTrue (is_of_beginning answer)
+readied_begins (Refused at why) own = cc
+readied_begins answer own = cc
 
 module _ (change : Change) (v : View) where
   -- the vault is opened in a later view, which shows the same at its root

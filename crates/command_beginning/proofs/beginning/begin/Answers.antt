@@ -1,16 +1,46 @@
-use Rattle.std.proofs.Common.{◌≡◌, false, IfErr, sym, subst}
+use Rattle.std.proofs.Common.{◌≡◌, false, IfErr, IsTrue, sym, subst}
 use Rattle.std.proofs.lemmas.Result.{err_from_is_err_and}
 use Rattle.folder_spec.specs.Seen.{IfSeen, IsSeen}
 use Rattle.command_opening.specs.Opening.{IsPhrase}
 use Rattle.command_opening.specs.Places.{overlap}
+use Rattle.command_opening.specs.Tests.{is_of_beginning}
 use Rattle.command_beginning.specs.Refusing.{RefusesSite}
 use Rattle.command_beginning.proofs.Beginnings.{same_under, seen_after}
-use Rattle.command_beginning.proofs.Sites.{begins_nowhere, site_opens, site_refused}
+use Rattle.command_beginning.proofs.Sites.{begins_nowhere, readied_begins, site_opens, site_refused, site_unread, site_unready}
 use Rattle.command_beginning.proofs.beginning.begin.Goals as goal
 
 pub returns-in_err-phrase-clause-moments : goal.returns-in_err-phrase-clause-moments
 returns-in_err-phrase-clause-moments g c =
     begins_nowhere c.args.change.now.work (g.F.Folder.told c.args.folder.now) (g.F.Folder.told c.read_apart.new.folder) c.in_err-phrase.ensures.told
+
+pub returns-in_err-phrase-clause-refused : goal.returns-in_err-phrase-clause-refused
+returns-in_err-phrase-clause-refused g c =
+    let change = c.args.change.now in
+    let p = err_from_is_err_and c.from_residual.result c.from_residual.ensures.1 in
+    subst (λ r. IfErr r (λ answer. overlap change.target.vault change.work ≡ false → IfSeen (g.F.Folder.told c.args.folder.now) (λ v. RefusesSite change v answer))) (sym p.1) (λ apart v is.
+    subst (RefusesSite change v) (sym p.2) (site_unread change v c.in_err-phrase.field-0.0 (c.in_err-phrase.ensures.refused apart v is)))
+
+pub returns-in_err-phrase-clause-own : goal.returns-in_err-phrase-clause-own
+returns-in_err-phrase-clause-own g c =
+    let change = c.args.change.now in
+    let p = err_from_is_err_and c.from_residual.result c.from_residual.ensures.1 in
+    subst (λ r. IfErr r (λ answer. overlap change.target.vault change.work ≡ false → IsTrue (is_of_beginning answer))) (sym p.1) (λ apart.
+    subst (λ answer. IsTrue (is_of_beginning answer)) (sym p.2) (readied_begins c.in_err-phrase.field-0.0 (c.in_err-phrase.ensures.own apart)))
+
+pub returns-in_err-work-clause-refused : goal.returns-in_err-work-clause-refused
+returns-in_err-work-clause-refused g c =
+    let change = c.args.change.now in
+    let p = err_from_is_err_and c.from_residual-in_err-work.result c.from_residual-in_err-work.ensures.1 in
+    subst (λ r. IfErr r (λ answer. overlap change.target.vault change.work ≡ false → IfSeen (g.F.Folder.told c.args.folder.now) (λ v. RefusesSite change v answer))) (sym p.1) (λ apart v is.
+    subst (RefusesSite change v) (sym p.2) (site_unready change v c.in_ok-phrase.phrase c.in_err-work.field-0.0 (c.in_ok-phrase.ensures.phrase v is)
+    (c.in_err-work.ensures.refused v (subst (λ t. IsSeen t v) (sym c.in_ok-phrase.ensures.told) is))))
+
+pub returns-in_err-work-clause-own : goal.returns-in_err-work-clause-own
+returns-in_err-work-clause-own g c =
+    let change = c.args.change.now in
+    let p = err_from_is_err_and c.from_residual-in_err-work.result c.from_residual-in_err-work.ensures.1 in
+    subst (λ r. IfErr r (λ answer. overlap change.target.vault change.work ≡ false → IsTrue (is_of_beginning answer))) (sym p.1) (λ apart.
+    subst (λ answer. IsTrue (is_of_beginning answer)) (sym p.2) (readied_begins c.in_err-work.field-0.0 c.in_err-work.ensures.own))
 
 pub returns-in_err-vault-clause-refused : goal.returns-in_err-vault-clause-refused
 returns-in_err-vault-clause-refused g c =

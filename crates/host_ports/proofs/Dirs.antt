@@ -7,7 +7,7 @@ use Rattle.std.proofs.lemmas.List.Elements.{All-weaker}
 use Rattle.folder_spec.proofs.Paths.{below_is, parent-child}
 use Rattle.folder_model.specs.Order.{path_cmp}
 use Rattle.folder_spec.specs.Path.{Part, Path, below, parent}
-use Rattle.host_ports.specs.Noted.{AreAmong, Dirs, IsJust, Sees, SeesBut, has, is_noted, same}
+use Rattle.host_ports.specs.Noted.{AreAmong, Dirs, HasMore, IsJust, Sees, SeesBut, has, is_noted, same}
 
 -- what was known stays so, or came to be noted, through two steps
 then_noted : (x y z w : Bool) → (IsTrue y → IsTrue x ⊎ IsTrue w) → IsTrue y ⊎ IsTrue z → (IsTrue w → IsTrue z) → IsTrue x ⊎ IsTrue z
@@ -73,13 +73,6 @@ or_is false y is = cc
 was_or_is_noted : (b before seen changed : Bool) → IsTrue before ⊎ IsTrue b → (IsTrue b → IsTrue seen) → IsTrue before ⊎ IsTrue (seen || changed)
 was_or_is_noted b before seen changed (inl was) noted = inl was
 was_or_is_noted b before seen changed (inr here) noted = inr (or_is seen changed (noted here))
-
--- the one list has this directory, and else what the other has
-abbrev pub HasMore : List Path → List Path → Path → Type 0
-HasMore old new dir = (at : Path) → has new at ≡ cond (same dir at) true (has old at)
-
-pub has_more_by : (old new : List Path) (key dir : Path) → key ≡ dir → HasMore old new key → HasMore old new dir
-has_more_by old new key dir is more = subst (HasMore old new) is more
 
 pub has_more_stays : (old new : List Path) (dir : Path) → HasMore old new dir → (at : Path) → IsTrue (has old at) → IsTrue (has new at)
 has_more_stays old new dir more at is = more_stays (same dir at) (has old at) (has new at) (more at) is

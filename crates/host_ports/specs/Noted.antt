@@ -1,6 +1,6 @@
 -- What contracts see of a folder of the machine: which directories a settle has to sync, whether it may change anything, and its
 -- count of faults.
-use Rattle.std.specs.Prelude.{◌≡◌, ◌⊎◌, ℕ, Bool, List, [], ◌||◌, IsTrue, IsFalse}
+use Rattle.std.specs.Prelude.{◌≡◌, ◌⊎◌, ℕ, Bool, true, List, [], ◌||◌, cond, IsTrue, IsFalse}
 use Rattle.std.specs.BTreeMap.{is_at}
 use Rattle.std.specs.List.{All, list_any}
 use Rattle.folder_model.specs.Order.{path_cmp}
@@ -26,6 +26,10 @@ same one other = is_at (path_cmp one) other
 -- a directory is one of these
 abbrev pub has : List Path → Path → Bool
 has dirs at = list_any (same at) dirs
+
+-- the second list has this directory, and else what the first has
+abbrev pub HasMore : List Path → List Path → Path → Type 0
+HasMore old new dir = (at : Path) → has new at ≡ cond (same dir at) true (has old at)
 
 -- each of these directories is one of those
 abbrev pub AreAmong : List Path → List Path → Type 0

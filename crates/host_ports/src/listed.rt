@@ -14,15 +14,14 @@ struct Listed {
 
 impl Listed {
     fn of(alloc: Global, dir: &FPath, entries: &[Entry]) -> Result<Listed, AllocError> {
-        let mut kinds = BTreeMap::new(alloc);
-        for entry in entries {
-            let name = String::from_str(alloc, entry.name.as_str())?;
-            kinds.insert(name, Some(entry.kind))?;
-        }
-        Ok(Listed {
+        let mut listed = Listed {
             dir: dir.copy()?,
-            kinds,
-        })
+            kinds: BTreeMap::new(alloc),
+        };
+        for entry in entries {
+            listed.put(alloc, entry.name.as_str(), Some(entry.kind))?;
+        }
+        Ok(listed)
     }
 
     fn kind_of(&self, name: &str) -> Option<Kind> {

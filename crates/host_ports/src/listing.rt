@@ -34,19 +34,23 @@ fn add_found(
 ) -> Result<(), Cause>
     ensures { IsErr found → IsErr result }
 {
-    match entries.push(entry_of(alloc, found)?) {
+    match found {
+        Ok(found) => add(entries, entry_of(alloc, &found)?),
+        Err(error) => Err(unlisted(error)),
+    }
+}
+
+fn add(entries: &mut Vec<Entry>, entry: Entry) -> Result<(), Cause> {
+    match entries.push(entry) {
         Ok(()) => Ok(()),
         Err(_) => Err(Cause::NoMemory),
     }
 }
 
 // An entry that was found.
-fn entry_of(alloc: Global, found: io::Result<DirEntry<HostRuntime, Global>>) -> Result<Entry, Cause>
-    ensures { IsErr found → IsErr result }
-{
-    let entry = found.map_err(unlisted)?;
-    let stands = entry.file_type()?;
-    let name = String::from_str(alloc, entry.file_name())?;
+fn entry_of(alloc: Global, found: &DirEntry<HostRuntime, Global>) -> Result<Entry, Cause> {
+    let stands = found.file_type()?;
+    let name = String::from_str(alloc, found.file_name())?;
     Ok(Entry::new(name, kind_of(stands)))
 }
 

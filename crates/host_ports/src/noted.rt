@@ -2,7 +2,7 @@
 
 ghost use Rattle.std.specs.Prelude.{◌≡◌, ◌⊎◌, [], IfOk, IsFalse, IsTrue, OnErr, OnOk};
 ghost use Rattle.folder_spec.specs.Path.{Path, parent};
-ghost use Rattle.host_ports.specs.Noted.{Sees, SeesBut, has, same};
+ghost use Rattle.host_ports.specs.Noted.{HasMore, Sees, SeesBut, has, same};
 
 use crate::places::up_to;
 use folder_model::FPath;
@@ -115,8 +115,8 @@ impl Noted {
         if self.known.contains(dir) {
             return Ok(());
         }
-        self.seen.insert(dir.copy()?)?;
-        self.known.insert(dir.copy()?)?;
+        add(&mut self.seen, dir)?;
+        add(&mut self.known, dir)?;
         Ok(())
     }
 
@@ -156,7 +156,7 @@ impl Noted {
         ensures just { (at : Path) → IsTrue (has self.new.changed at) → IsTrue (has self.old.changed at) ⊎ IsTrue (same dir.now at) }
         ensures seen { self.new.seen ≡ self.old.seen }
     {
-        self.changed.insert(dir.copy()?)?;
+        add(&mut self.changed, dir)?;
         Ok(())
     }
 
@@ -227,4 +227,14 @@ impl Noted {
     {
         &self.seen
     }
+}
+
+// Adds a directory to some.
+fn add(dirs: &mut BTreeSet<FPath, Global>, dir: &FPath) -> Result<(), AllocError>
+    ensures has { OnOk result (IsTrue (has dirs.new.keys dir.now)) }
+    ensures more { OnOk result (HasMore dirs.old.keys dirs.new.keys dir.now) }
+    ensures same { OnErr result (dirs.new.keys ≡ dirs.old.keys) }
+{
+    dirs.insert(dir.copy()?)?;
+    Ok(())
 }

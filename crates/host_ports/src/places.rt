@@ -139,36 +139,23 @@ pub fn up_to(parts: &[String], most: usize) -> &[String] {
     &parts[..count]
 }
 
-// How far down a directory was reached: how many of its parts were looked at, and whether each is a directory.
-#[derive(Drop)]
-struct Walked {
-    looked: usize,
-    reached: bool,
-}
-
 // Goes down to a directory from a base, which is taken to be one, and looks at each path on the way of which no entry was seen: whether
-// it is a directory, and no link leads there.
+// it is a directory, and no link leads there. How many of the directory's parts lead on.
 fn walk(
     rt: &HostRuntime,
     alloc: Global,
     base: &str,
     noted: &Noted,
     dir: &FPath,
-) -> Result<Walked, Cause> {
+) -> Result<usize, Cause> {
     let mut here = FPath::base(alloc);
     let mut text = String::from_str(alloc, base)?;
     for (index, part) in dir.parts().iter().enumerate() {
         if !goes_down(rt, noted, &mut here, &mut text, part.as_str())? {
-            return Ok(Walked {
-                looked: index.saturating_add(1),
-                reached: false,
-            });
+            return Ok(index);
         }
     }
-    Ok(Walked {
-        looked: dir.depth(),
-        reached: true,
-    })
+    Ok(dir.depth())
 }
 
 // Goes one part further down from a path and its text: whether a directory stands there. What was found once isn't looked at again.
@@ -201,9 +188,10 @@ fn reaches(
         return Ok(true);
     }
     let dir = at.parent()?;
-    let walked = walk(rt, alloc, base, noted, &dir)?;
-    noted.see_down(&dir, walked.looked, walked.reached)?;
-    Ok(walked.reached)
+    let down = walk(rt, alloc, base, noted, &dir)?;
+    let reached = down == dir.depth();
+    noted.see_down(&dir, down.saturating_add(1), reached)?;
+    Ok(reached)
 }
 
 // Looks at what stands above a path, and notes that an entry there is seen: the path's text, or `None` where no directory stands

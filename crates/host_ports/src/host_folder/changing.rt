@@ -37,10 +37,10 @@ fn create_file(rt: &HostRuntime, text: &str) -> io::Result<fs::File> {
 }
 
 // Opens a file at its end.
-fn open_to_append(rt: &HostRuntime, text: &str) -> io::Result<fs::File> {
+fn open_to_append(rt: &HostRuntime, text: &str) -> Result<fs::File, Cause> {
     let mut options = OpenOptions::new();
     options.append(true);
-    options.open(rt, text)
+    Ok(options.open(rt, text)?)
 }
 
 #[tactic(auto, using(crate::proofs::Dirs::sees_same, crate::proofs::Dirs::sees_after))]
@@ -159,10 +159,16 @@ impl HostFolder {
     {
         self.test_barred()?;
         test_names(at)?;
-        if let Some(made) = self.handles.made_at(at) {
-            return put(&mut &made.file, piece);
+        match self.put_made(at, piece) {
+            Some(answer) => answer,
+            None => put(&mut self.opened_to_grow(at)?, piece),
         }
-        put(&mut self.opened_to_grow(at)?, piece)
+    }
+
+    // Writes to the file that was made last, where it was made there.
+    fn put_made(&self, at: &FPath, piece: &[u8]) -> Option<Result<(), Cause>> {
+        let made = self.handles.made_at(at)?;
+        Some(put(&mut &made.file, piece))
     }
 
     // A file that may be changed, opened at its end.
@@ -172,7 +178,7 @@ impl HostFolder {
         ensures faults { self.new.faults ≡ self.old.faults }
     {
         let text = self.file_to_change(at)?;
-        Ok(open_to_append(&self.rt, text.as_str())?)
+        open_to_append(&self.rt, text.as_str())
     }
 
     pub(super) fn remove_file_now(&mut self, at: &FPath) -> Result<(), Cause>

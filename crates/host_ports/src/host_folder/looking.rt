@@ -82,10 +82,7 @@ impl HostFolder {
                 return Ok(kind);
             }
         }
-        let kind = match self.look(at)?.kind {
-            Some(kind) => kind,
-            None => Kind::Missing,
-        };
+        let kind = self.look(at)?.kind.unwrap_or(Kind::Missing);
         self.keep_kind(at, kind);
         Ok(kind)
     }

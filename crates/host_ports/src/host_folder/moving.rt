@@ -28,12 +28,40 @@ impl HostFolder {
         ensures faults { self.new.faults ≡ self.old.faults }
     {
         self.test_barred()?;
-        let (from, to) = self.look_both(old, new)?;
-        self.test_move(old, new, &from, &to)?;
+        let from = self.look(old)?;
+        self.move_from(old, new, &from)
+    }
+
+    // Moves what stands at one place to a path, at which it looks first.
+    fn move_from(&mut self, old: &FPath, new: &FPath, from: &Place) -> Result<(), Cause>
+        ensures names { OnOk result (IsTrue (names_entries new.now)) }
+        ensures changed { OnOk result (IsTrue (has self.new.dirs.changed (parent old.now)) × IsTrue (has self.new.dirs.changed (parent new.now))) }
+        ensures sees { Sees self.old.dirs self.new.dirs ⊎ IsJust self.new.dirs (parent old.now) (parent new.now) }
+        ensures bar { self.new.barred ≡ self.old.barred }
+        ensures faults { self.new.faults ≡ self.old.faults }
+    {
+        let to = self.look(new)?;
+        self.move_there(old, new, from, &to)
+    }
+
+    // Moves what may move from one place to another.
+    fn move_there(
+        &mut self,
+        old: &FPath,
+        new: &FPath,
+        from: &Place,
+        to: &Place,
+    ) -> Result<(), Cause>
+        ensures changed { OnOk result (IsTrue (has self.new.dirs.changed (parent old.now)) × IsTrue (has self.new.dirs.changed (parent new.now))) }
+        ensures sees { Sees self.old.dirs self.new.dirs ⊎ IsJust self.new.dirs (parent old.now) (parent new.now) }
+        ensures bar { self.new.barred ≡ self.old.barred }
+        ensures faults { self.new.faults ≡ self.old.faults }
+    {
+        self.test_move(old, new, from, to)?;
         if from.kind == Some(Kind::Dir) {
-            self.move_dir(old, new, &from, &to)
+            self.move_dir(old, new, from, to)
         } else {
-            self.move_file(old, new, &from, &to)
+            self.move_file(old, new, from, to)
         }
     }
 
@@ -48,17 +76,6 @@ impl HostFolder {
             return Err(Cause::Replaced);
         }
         Ok(())
-    }
-
-    fn look_both(&mut self, old: &FPath, new: &FPath) -> Result<(Place, Place), Cause>
-        ensures names { OnOk result (IsTrue (names_entries old.now) × IsTrue (names_entries new.now)) }
-        ensures sees { Sees self.old.dirs self.new.dirs }
-        ensures bar { self.new.barred ≡ self.old.barred }
-        ensures faults { self.new.faults ≡ self.old.faults }
-    {
-        let from = self.look(old)?;
-        let to = self.look(new)?;
-        Ok((from, to))
     }
 
     // Notes that the directories above two paths change.
@@ -115,11 +132,22 @@ impl HostFolder {
         self.sync_noted()?;
         self.may_move_there(old, new)?;
         let below = self.noted.known_below(old)?;
-        self.note_both(old, new)?;
-        self.claims.hold_moved(&self.rt, from.text.as_str(), new)?;
-        self.rename_there(old, new, from, to)?;
+        self.move_held(old, new, from, to)?;
         self.noted.unknow(below.as_slice());
         Ok(())
+    }
+
+    // Moves a directory, which is held first where it comes to a claimed path.
+    fn move_held(&mut self, old: &FPath, new: &FPath, from: &Place, to: &Place) -> Result<(), Cause>
+        ensures changed { OnOk result (IsTrue (has self.new.dirs.changed (parent old.now)) × IsTrue (has self.new.dirs.changed (parent new.now))) }
+        ensures sees { Sees self.old.dirs self.new.dirs }
+        ensures just { IsSettled self.old.dirs → IsJust self.new.dirs (parent old.now) (parent new.now) }
+        ensures bar { self.new.barred ≡ self.old.barred }
+        ensures faults { self.new.faults ≡ self.old.faults }
+    {
+        self.note_both(old, new)?;
+        self.claims.hold_moved(&self.rt, from.text.as_str(), new)?;
+        self.rename_there(old, new, from, to)
     }
 
     // Moves what stands at one text to another, and closes what was open at and below them.

@@ -42,7 +42,7 @@ impl HostFolder {
         ensures faults { self.new.faults ≡ self.old.faults }
     {
         let text = self.file_to_change(at)?;
-        Ok(sync_at(&self.rt, text.as_str())?)
+        sync_at(&self.rt, text.as_str())
     }
 
     pub(super) fn settle_now(&mut self) -> Result<(), Cause>
@@ -85,8 +85,9 @@ impl HostFolder {
 }
 
 // Syncs what stands at a text.
-fn sync_at(rt: &HostRuntime, text: &str) -> io::Result<()> {
-    fs::open(rt, text)?.sync_all()
+fn sync_at(rt: &HostRuntime, text: &str) -> Result<(), Cause> {
+    let file = fs::open(rt, text)?;
+    Ok(file.sync_all()?)
 }
 
 // Syncs each directory that is noted, once. One that this process hasn't changed is passed over where it can't be synced.
@@ -98,7 +99,9 @@ fn sync_each(
     synced: &mut Pair,
 ) -> Result<(), Trouble> {
     for dir in noted.changed() {
-        sync_dir(rt, alloc, base, synced, dir).map_err(|cause| Trouble::new(dir, cause))?;
+        if let Err(cause) = sync_dir(rt, alloc, base, synced, dir) {
+            return Err(Trouble::new(dir, cause));
+        }
     }
     for dir in noted.seen() {
         if noted.changed().contains(dir) {

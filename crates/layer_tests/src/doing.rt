@@ -1,11 +1,12 @@
 //! Calls of a folder, and their faults.
 use folder_model::{FPath, Folder, FolderFault};
 use std::alloc::Global;
+use std::fmt::Debug;
 use std::process::Abort;
 use std::test::Fail;
 
 /// A call.
-#[derive(Debug, Clone, Copy)]
+#[derive(Clone, Copy)]
 pub enum Doing {
     Kind,
     List,
@@ -32,12 +33,26 @@ pub fn play<F: Folder>(
     folder: &mut F,
     steps: &[Step],
 ) -> Result<(), Fail> {
-    for (doing, at, fault) in steps {
-        let path = FPath::parse(alloc, at)?;
-        let found = answer(alloc, folder, *doing, &path)?;
-        assert_eq!(rt; found, *fault, "{doing:?} {at}");
+    for (number, (doing, at, fault)) in steps.iter().enumerate() {
+        let found = made_at(alloc, folder, *doing, at)?;
+        assert_eq!(rt; found, *fault, "step {number}, at {at}");
     }
     Ok(())
+}
+
+/// Compares what was found at a path with what is wanted there.
+pub fn same<T: PartialEq + Debug>(rt: &impl Abort, at: &str, found: &T, wanted: &T) {
+    assert_eq!(rt; *found, *wanted, "at {at}");
+}
+
+fn made_at<F: Folder>(
+    alloc: Global,
+    folder: &mut F,
+    doing: Doing,
+    at: &str,
+) -> Result<Option<FolderFault>, Fail> {
+    let at = FPath::parse(alloc, at)?;
+    answer(alloc, folder, doing, &at)
 }
 
 fn answer<F: Folder>(
@@ -55,8 +70,18 @@ fn answer<F: Folder>(
         Doing::Append => folder.append(at, b"de").err(),
         Doing::Sync => folder.sync(at).err(),
         Doing::Settle => folder.settle().err(),
-        Doing::Rename(to) => folder.rename(at, &FPath::parse(alloc, to)?).err(),
+        Doing::Rename(to) => renamed(alloc, folder, at, to)?,
         Doing::RemoveFile => folder.remove_file(at).err(),
         Doing::RemoveDir => folder.remove_dir(at).err(),
     })
+}
+
+fn renamed<F: Folder>(
+    alloc: Global,
+    folder: &mut F,
+    at: &FPath,
+    to: &str,
+) -> Result<Option<FolderFault>, Fail> {
+    let to = FPath::parse(alloc, to)?;
+    Ok(folder.rename(at, &to).err())
 }

@@ -1,5 +1,5 @@
 //! The folder and the random bytes of the machine itself.
-use crate::doing::{Doing, Step, play};
+use crate::doing::{Doing, Step, play, same};
 use folder_model::{FPath, Folder, FolderFault, Kind};
 use host_ports::{HostFolder, HostRandoms};
 use port_model::Randoms;
@@ -40,54 +40,86 @@ const REMOVING: [Step; 4] = [
     (Doing::Settle, "dir", None),
 ];
 
-// The bytes of the file from these places on.
-fn reads<F: Folder>(rt: &impl Abort, folder: &mut F, file: &FPath) -> Result<(), Fail> {
-    for (start, count, piece) in [(1, 3, *b"ede."), (3, 1, *b"e..."), (5, 0, *b"....")] {
-        let mut out = *b"....";
-        assert_eq!(rt; folder.read(file, start, &mut out)?, count);
-        assert_eq!(rt; out, piece);
-    }
-    Ok(())
-}
+// What a read from a place on gives of the file: how many bytes, and what then stands in the buffer.
+const READS: [(u64, usize, [u8; 4]); 3] = [(1, 3, *b"ede."), (3, 1, *b"e..."), (5, 0, *b"....")];
 
-fn lists<F: Folder>(rt: &impl Abort, folder: &mut F, dir: &FPath) -> Result<(), Fail> {
-    let entries = folder.list(dir)?;
-    let wanted = [
-        ("a link", Kind::Other),
-        ("b file", Kind::File),
-        ("c", Kind::Dir),
-    ];
-    assert_eq!(rt; entries.len(), wanted.len());
-    for (entry, (name, kind)) in entries.iter().zip(wanted) {
-        assert_eq!(rt; entry.name.as_str(), name);
-        assert_eq!(rt; entry.kind, kind);
-    }
-    Ok(())
-}
+const ENTRIES: [(&str, Kind); 3] = [
+    ("a link", Kind::Other),
+    ("b file", Kind::File),
+    ("c", Kind::Dir),
+];
 
 // What stands at each path. No link is followed.
-fn kinds<F: Folder>(rt: &impl Abort, alloc: Global, folder: &mut F) -> Result<(), Fail> {
-    for (text, kind) in [
-        ("dir", Kind::Dir),
-        ("dir/a link", Kind::Other),
-        ("dir/a link/b file", Kind::Missing),
-        ("dir/b file", Kind::File),
-        ("nowhere/b file", Kind::Missing),
-    ] {
-        let at = FPath::parse(alloc, text)?;
-        assert_eq!(rt; folder.kind(&at)?, kind, "at {text}");
+const KINDS: [(&str, Kind); 5] = [
+    ("dir", Kind::Dir),
+    ("dir/a link", Kind::Other),
+    ("dir/a link/b file", Kind::Missing),
+    ("dir/b file", Kind::File),
+    ("nowhere/b file", Kind::Missing),
+];
+
+fn reads<F: Folder>(rt: &impl Abort, alloc: Global, folder: &mut F) -> Result<(), Fail> {
+    let file = FPath::parse(alloc, "dir/b file")?;
+    for (start, count, piece) in &READS {
+        let mut out = *b"....";
+        let read = folder.read(&file, *start, &mut out)?;
+        same(rt, "dir/b file", &read, count);
+        same(rt, "dir/b file", &out, piece);
     }
+    Ok(())
+}
+
+fn lists<F: Folder>(rt: &impl Abort, alloc: Global, folder: &mut F) -> Result<(), Fail> {
+    let dir = FPath::parse(alloc, "dir")?;
+    let entries = folder.list(&dir)?;
+    same(rt, "dir", &entries.len(), &ENTRIES.len());
+    for (entry, (name, kind)) in entries.iter().zip(&ENTRIES) {
+        same(rt, name, &entry.name.as_str(), name);
+        same(rt, name, &entry.kind, kind);
+    }
+    Ok(())
+}
+
+fn kinds<F: Folder>(rt: &impl Abort, alloc: Global, folder: &mut F) -> Result<(), Fail> {
+    for (text, kind) in &KINDS {
+        let at = FPath::parse(alloc, text)?;
+        let found = folder.kind(&at)?;
+        same(rt, text, &found, kind);
+    }
+    Ok(())
+}
+
+fn refuses_dots<F: Folder>(rt: &impl Abort, alloc: Global, folder: &mut F) -> Result<(), Fail> {
+    let dir = FPath::parse(alloc, "dir")?;
+    let above = dir.child("..")?;
+    same(
+        rt,
+        "dir/..",
+        &folder.kind(&above).err(),
+        &Some(FolderFault::Failed),
+    );
     Ok(())
 }
 
 // What the folder answers where these and the link stand.
 fn answers<F: Folder>(rt: &impl Abort, alloc: Global, folder: &mut F) -> Result<(), Fail> {
-    let dir = FPath::parse(alloc, "dir")?;
-    reads(rt, folder, &dir.child("b file")?)?;
-    lists(rt, folder, &dir)?;
+    reads(rt, alloc, folder)?;
+    lists(rt, alloc, folder)?;
     kinds(rt, alloc, folder)?;
-    assert_eq!(rt; folder.kind(&dir.child("..")?), Err(FolderFault::Failed));
+    refuses_dots(rt, alloc, folder)?;
     play(rt, alloc, folder, &REFUSING)
+}
+
+// What the machine itself says of the file.
+fn has_bytes(rt: &impl Abort, files: &(impl Files + Alloc)) -> Result<(), Fail> {
+    let bytes = fs::read(files, "dir/b file")?;
+    same(rt, "dir/b file", &bytes.as_slice(), &b"dede".as_slice());
+    Ok(())
+}
+
+fn is_gone(rt: &impl Abort, files: &(impl Files + Alloc)) -> Result<(), Fail> {
+    same(rt, "dir", &fs::exists(files, "dir")?, &false);
+    Ok(())
 }
 
 // A folder over the directory that this runs in.
@@ -98,16 +130,12 @@ fn holds<F: Folder>(
     folder: &mut F,
 ) -> Result<(), Fail> {
     play(rt, alloc, folder, &FILLING)?;
-    assert_eq!(rt;
-        fs::read(files, "dir/b file")?.as_slice(),
-        b"dede".as_slice()
-    );
+    has_bytes(rt, files)?;
     files.symlink("../dir", "dir/a link")?;
     answers(rt, alloc, folder)?;
     fs::remove_file(files, "dir/a link")?;
     play(rt, alloc, folder, &REMOVING)?;
-    assert_eq!(rt; fs::exists(files, "dir")?, false);
-    Ok(())
+    is_gone(rt, files)
 }
 
 #[test]

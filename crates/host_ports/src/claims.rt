@@ -236,32 +236,19 @@ fn try_lock(rt: &HostRuntime, text: &str, depth: usize, hold: Hold) -> Result<Tr
     let Some(node) = node_at(rt, text, depth)? else {
         return Ok(Tried::Nothing);
     };
-    match fs::open(rt, text) {
-        Ok(file) => {
-            if is_taken(rt, text, depth, hold, node, &file)? {
-                Ok(Tried::Held(Held {
-                    node,
-                    _lock: Some(file),
-                }))
-            } else {
-                Ok(Tried::Exchanged)
-            }
-        }
-        Err(error) => unopened(node, error.kind()),
+    let file = match fs::open(rt, text) {
+        Ok(file) => file,
+        Err(error) => return unopened(node, error.kind()),
+    };
+    take(&file, hold)?;
+    if Node::of(&file.metadata()?) == node && node_at(rt, text, depth)? == Some(node) {
+        Ok(Tried::Held(Held {
+            node,
+            _lock: Some(file),
+        }))
+    } else {
+        Ok(Tried::Exchanged)
     }
-}
-
-// Takes the lock of an open directory: whether it is this one, which still stands at the text.
-fn is_taken(
-    rt: &HostRuntime,
-    text: &str,
-    depth: usize,
-    hold: Hold,
-    node: Node,
-    file: &File,
-) -> Result<bool, Cause> {
-    take(file, hold)?;
-    Ok(Node::of(&file.metadata()?) == node && node_at(rt, text, depth)? == Some(node))
 }
 
 // What comes of a directory that isn't opened. One that may not be read can't be locked.

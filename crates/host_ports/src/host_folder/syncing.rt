@@ -42,7 +42,7 @@ impl HostFolder {
         ensures faults { self.new.faults ≡ self.old.faults }
     {
         let text = self.file_to_change(at)?;
-        sync_at(&self.rt, text.as_str())
+        Ok(sync_at(&self.rt, text.as_str())?)
     }
 
     pub(super) fn settle_now(&mut self) -> Result<(), Cause>
@@ -85,9 +85,8 @@ impl HostFolder {
 }
 
 // Syncs what stands at a text.
-fn sync_at(rt: &HostRuntime, text: &str) -> Result<(), Cause> {
-    let file = fs::open(rt, text)?;
-    Ok(file.sync_all()?)
+fn sync_at(rt: &HostRuntime, text: &str) -> io::Result<()> {
+    fs::open(rt, text)?.sync_all()
 }
 
 // Syncs each directory that is noted, once. One that this process hasn't changed is passed over where it can't be synced.

@@ -3,7 +3,6 @@ use Rattle.std.proofs.Common.{◌≡◌, ◌≢◌, Bool, true, false, ℕ, ◌-
 use Rattle.std.specs.Prelude.{◌⊎◌, IsFalse}
 use Rattle.std.specs.Ordering.{is_eq, ordering_then}
 use Rattle.std.proofs.lemmas.Cmp.{nat_list_cmp_total, tied_itself}
-use Rattle.std.proofs.lemmas.List.Elements.{All-weaker}
 use Rattle.folder_spec.proofs.Paths.{below_is, parent-child}
 use Rattle.folder_model.specs.Order.{path_cmp}
 use Rattle.folder_spec.specs.Path.{Part, Path, below, parent}
@@ -159,9 +158,6 @@ below_apart [] some = absurd (some refl)
 below_apart (part ∷ rest) some = apart_parent part rest
 
 -- ---- directories that are compared first
-
-pub among_more : (some old new : List Path) (dir : Path) → HasMore old new dir → AreAmong some old → AreAmong some new
-among_more some old new dir more are = All-weaker (λ at. IsTrue (has old at)) (λ at. IsTrue (has new at)) (has_more_stays old new dir more) some are
 
 -- the one at a place is known
 pub among_has : (some all listed : List Path) (k : ℕ) (dir at : Path) → listed ≡ some → k < length listed → dir ≡ slice_index_or listed k dir → dir ≡ at → AreAmong some all → IsTrue (has all at)

@@ -61,7 +61,7 @@ pub fn find<F: Folder>(
     ensures failed { result ≡ Err FindFault.Failed → CountRose (F.faults folder.old) (F.faults folder.new) }
 {
     let here = standing_found(alloc, folder, vault, path)?;
-    place_of(alloc, vault.root(), path, here)
+    place_of(alloc, vault.root(), path, &here)
 }
 
 /// The directory at a plain path, to be entered. It refuses as `find` does, and where a file is at the path, or a directory
@@ -186,21 +186,21 @@ fn place_of(
     alloc: Global,
     root: &FPath,
     path: &PlainPath,
-    here: Standing,
+    here: &Standing,
 ) -> Result<Place, FindFault>
-    ensures place { IfOk result (λ place. IsPlace root.now (standing_of here) place) }
-    ensures fault { IfErr result (λ fault. Refuses root.now (spec.item_there path.now (standing_of here)) fault) }
+    ensures place { IfOk result (λ place. IsPlace root.now (standing_of here.now) place) }
+    ensures fault { IfErr result (λ fault. Refuses root.now (spec.item_there path.now (standing_of here.now)) fault) }
     ensures tried { result ≢ Err FindFault.Failed }
 {
     match here {
         Standing::Absent => Err(FindFault::NotFound(path.copy()?)),
         Standing::Strange(_) => Err(FindFault::WrongKind(path.copy()?)),
         Standing::File(at) => Ok(Place {
-            at: joined(alloc, root, &at)?,
+            at: joined(alloc, root, at)?,
             node: NodeKind::File,
         }),
         Standing::Dir(at, _) => Ok(Place {
-            at: joined(alloc, root, &at)?,
+            at: joined(alloc, root, at)?,
             node: NodeKind::Dir,
         }),
     }

@@ -8,7 +8,7 @@ ghost use Rattle.vault_spec.specs.Standing as stands;
 ghost use Rattle.vault_spec.specs.Vault.{format_of};
 ghost use Rattle.vault_read.specs.Opened.{FitsKey};
 ghost use Rattle.vault_read.specs.Items.{item_of};
-ghost use Rattle.vault_read.specs.Stands.{standing_of, EntersFit, FitsDirectory, key_file_by, key_limit, key_by, is_key, is_small_file_of, standing_at};
+ghost use Rattle.vault_read.specs.Stands.{standing_of, EntersFit, key_file_by, key_limit, key_by, is_key, is_small_file_of, standing_at};
 ghost use Rattle.chunk_files.specs.Zeros.{is_all_zero};
 
 use crate::items::{CONTENT_FILE, EntryItem, ID_FILE, item_at};
@@ -63,10 +63,8 @@ pub fn root_standing<F: Folder>(
     ensures fits { IfOk result (λ here. EntersFit vault.now.vault here) }
     ensures counts { CountsAbove (F.faults folder.old) (F.faults folder.new) result }
 {
-    let at = FPath::base(alloc);
     let key = root_key(alloc, folder, vault)?;
-    let directory = directory_with(alloc, folder, vault, &at, key)?;
-    Ok(Standing::Dir(at, directory))
+    directory_with(alloc, folder, vault, FPath::base(alloc), key)
 }
 
 // What stands under a name in a directory.
@@ -123,12 +121,13 @@ fn standing_of<F: Folder>(
     ensures fits { IfOk result (λ here. EntersFit vault.now.vault here) }
     ensures counts { CountsAbove (F.faults folder.old) (F.faults folder.new) result }
 {
-    match (item, named) {
-        (EntryItem::Nothing, _) => Ok(Standing::Absent),
-        (EntryItem::EntryFile, true) => Ok(Standing::File(at)),
-        (EntryItem::ContentFile, true) => Ok(Standing::File(at.child(CONTENT_FILE)?)),
-        (EntryItem::Directory, true) => directory_at(alloc, folder, vault, at),
-        _ => Ok(Standing::Strange(at)),
+    match item {
+        EntryItem::Nothing => Ok(Standing::Absent),
+        _ if !named => Ok(Standing::Strange(at)),
+        EntryItem::EntryFile => Ok(Standing::File(at)),
+        EntryItem::ContentFile => Ok(Standing::File(at.child(CONTENT_FILE)?)),
+        EntryItem::Directory => directory_at(alloc, folder, vault, at),
+        EntryItem::NoItem(_) => Ok(Standing::Strange(at)),
     }
 }
 
@@ -145,31 +144,30 @@ fn directory_at<F: Folder>(
     ensures counts { CountsAbove (F.faults folder.old) (F.faults folder.new) result }
 {
     let key = key_at(alloc, folder, vault, &at)?;
-    let directory = directory_with(alloc, folder, vault, &at, key)?;
-    Ok(Standing::Dir(at, directory))
+    directory_with(alloc, folder, vault, at, key)
 }
 
-// The directory with this key, or what it lacks.
+// The directory with this key whose entry is at a path, or what it lacks.
 fn directory_with<F: Folder>(
     alloc: Global,
     folder: &mut F,
     vault: &Vault,
-    at: &FPath,
+    at: FPath,
     key: Option<Bytes>,
-) -> Result<Result<Directory, Lack>, FolderFault>
+) -> Result<Standing, FolderFault>
     requires { IfSome key (λ bytes. FitsKey vault.now.vault bytes) }
     ensures told { F.told folder.new ≡ F.told folder.old }
-    ensures directory { IfOk result (λ directory. IfSeen (F.told folder.old) (λ v. directory ≡ directory_with (format_of vault.now.vault) (under vault.now.root v) at.now key)) }
-    ensures fits { IfOk result (λ directory. FitsDirectory vault.now.vault directory) }
+    ensures stands { IfOk result (λ here. IfSeen (F.told folder.old) (λ v. standing_of here ≡ stands.Dir at (directory_with (format_of vault.now.vault) (under vault.now.root v) at key))) }
+    ensures fits { IfOk result (λ here. EntersFit vault.now.vault here) }
     ensures counts { CountsAbove (F.faults folder.old) (F.faults folder.new) result }
 {
     let Some(key) = key else {
-        return Ok(Err(Lack::NoDirKey));
+        return Ok(Standing::Dir(at, Err(Lack::NoDirKey)));
     };
-    let place = folder_of(alloc, vault, at, key.as_slice())?;
+    let place = folder_of(alloc, vault, &at, key.as_slice())?;
     match kind_under(alloc, folder, vault.root(), &place)? {
-        Kind::Dir => Ok(Ok(Directory { folder: place, key })),
-        _ => Ok(Err(Lack::NoFolder)),
+        Kind::Dir => Ok(Standing::Dir(at, Ok(Directory { folder: place, key }))),
+        _ => Ok(Standing::Dir(at, Err(Lack::NoFolder))),
     }
 }
 

@@ -12,6 +12,9 @@ use Rattle.folder_spec.specs.declared.FolderFault.{FolderFault}
 use Rattle.chunk_files.specs.Reading.{Reading, Whole, Wanting, Faulty, chunk_before}
 use Rattle.chunk_files.specs.Decoding.{Decoding, chunks_before}
 use Rattle.vault_read.specs.Contents.{content_limit, Suits, Passes, Stops, still}
+use Rattle.vault_faults.specs.declared.fault.CatFault.{CatFault}
+use Rattle.vault_faults.specs.declared.fault.CatFault.TheVariants.{Damaged, Limit, NoMemory}
+use Rattle.vault_faults.specs.declared.fault.Limit.TheVariants.{Length}
 use Rattle.vault_read.specs.declared.reader.Given.{Given}
 use Rattle.vault_read.specs.declared.reader.Given.TheVariants.{Bytes, End, Damage, PastLimit}
 
@@ -45,6 +48,13 @@ GivesOf bytes (Err fault) buffer d d' = Passes (still d bytes) (still d' bytes)
 -- so, and the bytes are still those of the file
 abbrev pub GivesGiven : List ℕ → Result Given FolderFault → List ℕ → Decoding → Decoding → Type 0
 GivesGiven bytes result buffer d d' = Suits d' bytes × GivesOf bytes result buffer d d'
+
+-- what a reader of the file at a path answers to it, unless memory is refused for the path in a fault
+abbrev pub AnswersGiven : Path → Given → Result ℕ CatFault → Type 0
+AnswersGiven at (Bytes n) result = result ≡ Ok n
+AnswersGiven at End result = result ≡ Ok 0
+AnswersGiven at (Damage fault) result = (result ≡ Err (Damaged at fault)) ⊎ (result ≡ Err NoMemory)
+AnswersGiven at PastLimit result = (result ≡ Err (Limit (Length at))) ⊎ (result ≡ Err NoMemory)
 
 -- of a reading so many bytes were written, all chunks before what is still to come
 pub record HasWritten (reading : Reading) (taken taken' : Option (List ℕ)) (total : ℕ) (rest : Reading) : Type 0 where

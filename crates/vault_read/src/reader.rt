@@ -7,7 +7,7 @@ ghost use Rattle.folder_spec.specs.Seen.{IfSeen, ShowsFile};
 ghost use Rattle.folder_model.specs.Answers.{CountsAbove};
 ghost use Rattle.vault_spec.specs.Vault.{format_of};
 ghost use Rattle.vault_read.specs.Contents.{content_limit, limited_reading, Suits, IsBeingRead, still, Gives, IsReaderFault};
-ghost use Rattle.vault_read.specs.Reading.{IsInStep, FeedsOn, GivesGiven, GoesOn};
+ghost use Rattle.vault_read.specs.Reading.{AnswersGiven, IsInStep, FeedsOn, GivesGiven, GoesOn};
 
 use crate::vault::Vault;
 use chunk_files::{ChunkBuf, ChunkFault, Decoder, Step};
@@ -77,12 +77,8 @@ impl ContentReader {
         ensures grows { F.faults folder.old ≤ F.faults folder.new }
         ensures failed { result ≡ Err CatFault.Failed → CountRose (F.faults folder.old) (F.faults folder.new) }
     {
-        match next_given(folder, &self.at, &mut self.decoder, &mut self.taken, out)? {
-            Given::Bytes(count) => Ok(count),
-            Given::End => Ok(0),
-            Given::Damage(fault) => Err(CatFault::Damaged(self.at.copy()?, fault)),
-            Given::PastLimit => Err(CatFault::Limit(Limit::Length(self.at.copy()?))),
-        }
+        let given = next_given(folder, &self.at, &mut self.decoder, &mut self.taken, out)?;
+        answer_of(&self.at, given)
     }
 }
 
@@ -94,6 +90,18 @@ enum Given {
     Damage(ChunkFault),
     // The file has more bytes than are read.
     PastLimit,
+}
+
+// What a reader of the file at a path answers to what its decoder gave.
+fn answer_of(at: &FPath, given: Given) -> Result<usize, CatFault>
+    ensures { AnswersGiven at.now given result }
+{
+    match given {
+        Given::Bytes(count) => Ok(count),
+        Given::End => Ok(0),
+        Given::Damage(fault) => Err(CatFault::Damaged(at.copy()?, fault)),
+        Given::PastLimit => Err(CatFault::Limit(Limit::Length(at.copy()?))),
+    }
 }
 
 // The next chunk that has bytes, where a file is read on as the decoder wants it.

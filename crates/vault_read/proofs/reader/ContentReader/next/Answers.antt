@@ -1,36 +1,39 @@
-use Rattle.std.proofs.Common.{◌≡◌, ◌∙◌, Ok, sym, ap, subst}
+use Rattle.std.proofs.Common.{◌≡◌, ◌∙◌, ◌<◌, ◌≤◌, Ok, length, sym, ap, subst, arith}
 use Rattle.folder_spec.specs.View.{FileOf}
 use Rattle.vault_read.specs.Contents.{Suits}
-use Rattle.vault_read.specs.Reading.{GivesOf}
-use Rattle.vault_read.proofs.GivenAnswers.{answers_bytes, answers_end, answers_damage, answers_limit}
+use Rattle.vault_read.proofs.GivenAnswers.{answered_fault, answered_gives, answered_ok, answered_well}
 use Rattle.vault_read.proofs.reader.ContentReader.next.Goals as goal
-use Rattle.vault_read.proofs.reader.ContentReader.next.Goals.{in-Bytes, in-End, in-Damage+in_ok-copy-in-Damage, in-PastLimit+in_ok-copy-in-PastLimit}
 
 pub returns-clause-suits : goal.returns-clause-suits
 returns-clause-suits g c = λ v seen.
     let r = rw (← c.self.view_is) at (c.requires v seen) in
-    (r.0, r.1, (c.in_ok-count.ensures.gives v seen r.0 r.1 r.2).0)
+    (r.0, r.1, (c.in_ok-given.ensures.gives v seen r.0 r.1 r.2).0)
 
 pub returns-clause-gives : goal.returns-clause-gives
 returns-clause-gives g c =
     rw (← c.self.view_is)
     (λ v seen bytes file.
     let d = c.self.inside.decoder in
-    let d2 = c.next_given.new.decoder in
-    let out = c.next_given.new.out in
     let r = rw (← c.self.view_is) at (c.requires v seen) in
     let same : r.0 ≡ bytes = (let both : FileOf r.0 ≡ FileOf bytes = sym r.1 ∙ file in cc both) in
     let s : Suits d bytes = subst (Suits d) same r.2 in
-    let e : GivesOf bytes (Ok c.in_ok-count.field-0) out d d2 = (c.in_ok-count.ensures.gives v seen bytes file s).1 in
-    let at = c.self.inside.at in
-    let given = c.in_ok-count.field-0 in
-    let result = c.match-branch-2.result in
-    elim c.match-branch-2.branch [
-      | in-Bytes w ↦
-          answers_bytes at bytes out d d2 given result e w.in-Bytes.count w.in-Bytes.is (c.in_ok-count.ensures.size w.in-Bytes.count (ap Ok w.in-Bytes.is)).0 w.result-is
-      | in-End w ↦ answers_end at bytes out d d2 given result e w.in-End.is w.result-is
-      | in-Damage+in_ok-copy-in-Damage w ↦
-          answers_damage at bytes out d d2 given result e w.in-Damage.fault w.in_ok-copy-in-Damage.field-0 w.in-Damage.is w.in_ok-copy-in-Damage.ensures w.result-is
-      | in-PastLimit+in_ok-copy-in-PastLimit w ↦
-          answers_limit at bytes out d d2 given result e w.in_ok-copy-in-PastLimit.field-0 w.in-PastLimit.is w.in_ok-copy-in-PastLimit.ensures w.result-is
-    ])
+    answered_gives c.self.inside.at bytes c.next_given.new.out d c.next_given.new.decoder c.in_ok-given.given c.answer_of.result c.answer_of.ensures
+    (λ n is. (c.in_ok-given.ensures.size n (ap Ok is)).0) (c.in_ok-given.ensures.gives v seen bytes file s).1)
+
+pub returns-clause-size : goal.returns-clause-size
+returns-clause-size g c =
+    answered_ok c.self.inside.at (λ n. n ≤ length c.next_given.new.out) c.in_ok-given.given c.answer_of.result c.answer_of.ensures
+    (λ n is. (c.in_ok-given.ensures.size n (ap Ok is)).1) (omega arith)
+
+pub returns-clause-number : goal.returns-clause-number
+returns-clause-number g c =
+    rw (← c.self.view_is)
+    (answered_ok c.self.inside.at (λ n. 0 < n → c.self.inside.decoder.number < c.next_given.new.decoder.number) c.in_ok-given.given c.answer_of.result c.answer_of.ensures
+    (λ n is some. (c.in_ok-given.ensures.size n (ap Ok is)).2) (λ none. absurd (omega arith)))
+
+pub returns-clause-fault : goal.returns-clause-fault
+returns-clause-fault g c =
+    rw (← c.self.view_is) (answered_fault c.self.inside.at c.in_ok-given.given c.answer_of.result c.answer_of.ensures)
+
+pub returns-clause-failed : goal.returns-clause-failed
+returns-clause-failed g c = λ failed. absurd (answered_well c.self.inside.at c.in_ok-given.given c.answer_of.result c.answer_of.ensures failed)

@@ -120,6 +120,9 @@ form_tells false None e = refl
 form_tells true (Some text) e = refl
 form_tells false (Some text) e = cc
 
+pub entry_tells : (entry : List ℕ) (long : Bool) (s : Stored) → IsTrue (is_entry entry long s) → long ≡ is_some s.full
+entry_tells entry long s right = sym (form_tells long s.full (and_parts (bytes_eq s.name entry) (has_form long s.full) right).1)
+
 where_named : (b : Bool) (x : Standing) (kind : NodeKind) → node_of (cond b x Absent) ≡ Some kind → (b ≡ true) × (node_of x ≡ Some kind)
 where_named true x kind e = (refl, e)
 where_named false x kind e = cc
@@ -152,23 +155,6 @@ module _ (vault : Vault) (v : View) (dir : Directory) (entry : List ℕ) where
       by_form (long_one is) = held v (full_path (kept name).name) text (kept name).full is
           (ap (λ e. v (full_path e)) (same_bytes (kept name).name entry parts.0) ∙ at)
 
-  -- so its item stands under the name
-  stands_at : (long : Bool) (name text : List ℕ) (item : Item) → IsTextAt (format_of vault) v dir entry long text → IsNameOf vault dir.key name text
-      → IsTrue (is_entry entry long (kept name)) → item ≡ (format_of vault).item long (under (child dir.folder entry) v)
-      → node_of (standing_in (format_of vault) v dir name) ≡ node_by item
-  unfolding standing_in
-  stands_at long name text item at name_of right is_item =
-      let f = format_of vault in
-      let s = kept name in
-      let place = child dir.folder s.name in
-      let parts = and_parts (bytes_eq s.name entry) (has_form long s.full) right in
-      ap (λ b. node_of (cond b (standing_of f v place (holds_full f v dir s) (item_at f v dir s)) Absent)) (name_is vault dir.key name text name_of)
-      ∙ ap (λ b. node_of (standing_of f v place b (item_at f v dir s))) (holds_at long name text at name_of right)
-      ∙ node_named f v place (item_at f v dir s)
-      ∙ ap (λ b. node_by (f.item b (under place v))) (form_tells long s.full parts.1)
-      ∙ ap (λ e. node_by (f.item long (under (child dir.folder e) v))) (same_bytes s.name entry parts.0)
-      ∙ ap node_by (sym is_item)
-
   -- the name of an entry has a text there
   text_of_entry : (long : Bool) (name : List ℕ) → TellsNames vault dir.key → long ≡ is_long (kind_of vault) entry → IsEntryOf (format_of vault) v dir entry name
       → (text : List ℕ) × IsTextAt (format_of vault) v dir entry long text × IsNameOf vault dir.key name text × IsTrue (is_entry entry long (kept name))
@@ -198,12 +184,6 @@ module _ (vault : Vault) (v : View) (dir : Directory) (entry : List ℕ) where
       let place = child dir.folder s.name in
       let named = where_named (is_name name) (standing_of f v place (holds_full f v dir s) (item_at f v dir s)) kind stands in
       record { named = named.0; stores = at_entry; full = named_where f v place (holds_full f v dir s) (item_at f v dir s) kind named.1 }
-
-  -- and has a text there
-  text_behind : (long : Bool) (name : List ℕ) (kind : NodeKind) → TellsNames vault dir.key → long ≡ is_long (kind_of vault) entry
-      → node_of (standing_in (format_of vault) v dir name) ≡ Some kind → (kept name).name ≡ entry
-      → (text : List ℕ) × IsTextAt (format_of vault) v dir entry long text × IsNameOf vault dir.key name text × IsTrue (is_entry entry long (kept name))
-  text_behind long name kind tells form stands at_entry = text_of_entry long name tells form (entry_behind name kind stands at_entry)
 
   -- the entry is that of the name that is found
   pub entry_found : (long : Bool) (name text : List ℕ) → IsTextAt (format_of vault) v dir entry long text → IsNameOf vault dir.key name text
@@ -237,47 +217,39 @@ module _ (vault : Vault) (v : View) (dir : Directory) (entry : List ℕ) where
       let behind = text_of_entry long name tells form of_name in
       none name (subst (IsNameOf vault dir.key name) (texts_alike (format_of vault) v dir entry long behind.0 text behind.1 at) behind.2) behind.3
 
-  -- the item of the name that is found
-  pub found_item : (long : Bool) (name text : List ℕ) (item : Item) → TellsNames vault dir.key → long ≡ is_long (kind_of vault) entry
-      → IsTextAt (format_of vault) v dir entry long text → IsNameOf vault dir.key name text → IsTrue (is_entry entry long (kept name))
+  -- the item of the one name that the entry is of
+  pub found_item : (long : Bool) (name : List ℕ) (item : Item) → IsEntryOf (format_of vault) v dir entry name
+      → ((other : List ℕ) → IsEntryOf (format_of vault) v dir entry other → other ≡ name) → long ≡ is_some (kept name).full
       → item ≡ (format_of vault).item long (under (child dir.folder entry) v) → IsItemOf (format_of vault) v dir entry (named_item name item)
-  found_item long name text item tells form at name_of right is_item found = (there, back)
+  unfolding standing_in
+  found_item long name item of_name one form is_item found = (there, back)
     where
       its_node : node_of (standing_in (format_of vault) v dir name) ≡ node_by item
-      its_node = stands_at long name text item at name_of right is_item
+      its_node =
+          let f = format_of vault in
+          let s = kept name in
+          let place = child dir.folder s.name in
+          ap (λ b. node_of (cond b (standing_of f v place (holds_full f v dir s) (item_at f v dir s)) Absent)) of_name.named
+          ∙ ap (λ b. node_of (standing_of f v place b (item_at f v dir s))) of_name.full
+          ∙ node_named f v place (item_at f v dir s)
+          ∙ ap (λ b. node_by (f.item b (under place v))) (sym form)
+          ∙ ap (λ e. node_by (f.item long (under (child dir.folder e) v))) of_name.stores
+          ∙ ap node_by (sym is_item)
 
       there : named_item name item ≡ Some found → IsItemAt (format_of vault) v dir entry found
       there e =
           let is = item_named name item found e in
           record {
             stands = ap (λ m. node_of (standing_in (format_of vault) v dir m)) is.0 ∙ its_node ∙ is.1;
-            entry_is = ap (λ m. (kept m).name) is.0 ∙ same_bytes (kept name).name entry (and_parts (bytes_eq (kept name).name entry) (has_form long (kept name).full) right).0;
+            entry_is = ap (λ m. (kept m).name) is.0 ∙ of_name.stores;
           }
 
       back : IsItemAt (format_of vault) v dir entry found → named_item name item ≡ Some found
       back a =
-          let behind = text_behind long found.name found.node tells form a.stands a.entry_is in
-          let same : found.name ≡ name
-          = tells.one found.name name text (subst (IsNameOf vault dir.key found.name) (texts_alike (format_of vault) v dir entry long behind.0 text behind.1 at) behind.2) name_of in
+          let same : found.name ≡ name = one found.name (entry_behind found.name found.node a.stands a.entry_is) in
           named_back name item found.node (sym its_node ∙ ap (λ m. node_of (standing_in (format_of vault) v dir m)) (sym same) ∙ a.stands)
           ∙ ap (λ m. Some (record { name = m; node = found.node })) (sym same)
 
-  -- none stands at an entry without a text
-  pub no_text : (long : Bool) → TellsNames vault dir.key → long ≡ is_long (kind_of vault) entry
-      → ((text : List ℕ) → IsUtf8 text → length text ≤ 1024 → ¬ IsTextAt (format_of vault) v dir entry long text) → IsItemOf (format_of vault) v dir entry None
-  no_text long tells form none found = (λ e. cc e, back)
-    where
-      back : IsItemAt (format_of vault) v dir entry found → None ≡ Some found
-      back a =
-          let behind = text_behind long found.name found.node tells form a.stands a.entry_is in
-          absurd (none behind.0 (tells.utf8 found.name behind.0 behind.2) (tells.short found.name behind.0 behind.2) behind.1)
-
-  -- nor at one whose text is no name's
-  pub no_name : (long : Bool) (text : List ℕ) → TellsNames vault dir.key → long ≡ is_long (kind_of vault) entry → IsTextAt (format_of vault) v dir entry long text
-      → ((name : List ℕ) → IsNameOf vault dir.key name text → ¬ IsTrue (is_entry entry long (kept name))) → IsItemOf (format_of vault) v dir entry None
-  no_name long text tells form at none found = (λ e. cc e, back)
-    where
-      back : IsItemAt (format_of vault) v dir entry found → None ≡ Some found
-      back a =
-          let behind = text_behind long found.name found.node tells form a.stands a.entry_is in
-          absurd (none found.name (subst (IsNameOf vault dir.key found.name) (texts_alike (format_of vault) v dir entry long behind.0 text behind.1 at) behind.2) behind.3)
+  -- and none, where it is of no name
+  pub no_item : ((name : List ℕ) → ¬ IsEntryOf (format_of vault) v dir entry name) → IsItemOf (format_of vault) v dir entry None
+  no_item none found = (λ e. cc e, λ a. absurd (none found.name (entry_behind found.name found.node a.stands a.entry_is)))

@@ -128,7 +128,6 @@ fn items_in<F: Folder>(
     ensures items { IfOk result (λ items. IfSeen (F.told folder.old) (λ v. AreListed (format_of vault.now.vault) (under vault.now.root v) dir.now items.items)) }
     ensures counts { CountsAbove (F.faults folder.old) (F.faults folder.new) result }
 {
-    texts_tell_names(vault, dir.key.as_slice());
     let at = joined(alloc, vault.root(), &dir.folder)?;
     let entries = folder.list(&at)?;
     let items = items_of(alloc, folder, vault, dir, entries.as_slice())?;
@@ -151,8 +150,7 @@ fn items_of<F: Folder>(
     dir: &Directory,
     entries: &[Entry],
 ) -> Result<Vec<Item>, FolderFault>
-    requires fits { FitsKey vault.now.vault dir.now.key }
-    requires laws { TellsNames vault.now.vault dir.now.key }
+    requires { FitsKey vault.now.vault dir.now.key }
     ensures told { F.told folder.new ≡ F.told folder.old }
     ensures items { IfOk result (λ items. IfSeen (F.told folder.old) (λ v. HasItems (format_of vault.now.vault) (under vault.now.root v) dir.now entries.now items.items)) }
     ensures counts { CountsAbove (F.faults folder.old) (F.faults folder.new) result }
@@ -183,19 +181,15 @@ fn entry_item<F: Folder>(
     dir: &Directory,
     entry: &str,
 ) -> Result<Option<Item>, FolderFault>
-    requires fits { FitsKey vault.now.vault dir.now.key }
-    requires laws { TellsNames vault.now.vault dir.now.key }
+    requires { FitsKey vault.now.vault dir.now.key }
     ensures told { F.told folder.new ≡ F.told folder.old }
     ensures item { IfOk result (λ found. IfSeen (F.told folder.old) (λ v. IsItemOf (format_of vault.now.vault) (under vault.now.root v) dir.now entry.now found)) }
     ensures counts { CountsAbove (F.faults folder.old) (F.faults folder.new) result }
 {
-    let long = is_long(vault.kind(), entry);
-    let Some(text) = text_at(alloc, folder, vault, dir, entry, long)? else {
+    let Some(found) = name_at(alloc, folder, vault, dir, entry)? else {
         return Ok(None);
     };
-    let Some(name) = entry_name(alloc, vault, dir, entry, long, &text)? else {
-        return Ok(None);
-    };
+    let NameAt { name, long } = found;
     let at = dir.folder.child(entry)?;
     let item = item_at(alloc, folder, vault, &at, long)?;
     Ok(named_item(name, item))

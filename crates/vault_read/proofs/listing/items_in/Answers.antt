@@ -20,7 +20,7 @@ returns-clause-items g c v is =
     let at_is : c.in_ok-at.at ≡ root ++ dir.folder = c.in_ok-at.ensures ∙ ap (λ r. r ++ c.dir.inside.folder) c.root.ensures ∙ ap (λ (d : Directory). root ++ d.folder) c.dir.view_is in
     listed vault root v dir entries c.in_ok-items.items.items c.sorted.result.items
     (subst (λ p. IsListing v p entries) at_is (c.in_ok-entries.ensures.answer v is).1)
-    (subst (λ es. HasItems (format_of vault) (under root v) dir es c.in_ok-items.items.items) c.as_slice-2.ensures.value
+    (subst (λ es. HasItems (format_of vault) (under root v) dir es c.in_ok-items.items.items) c.as_slice.ensures.value
     (c.in_ok-items.ensures.items v (subst (λ t. IsSeen t v) (sym c.in_ok-entries.ensures.told) is)))
     c.sorted.ensures
 

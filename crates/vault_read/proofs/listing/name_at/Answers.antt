@@ -3,7 +3,7 @@ use Rattle.folder_spec.specs.Seen.{under}
 use Rattle.vault_spec.specs.Format.{Directory}
 use Rattle.vault_read.specs.Listing.{TellsNames, is_long}
 use Rattle.vault_read.specs.Opened.{kind_of}
-use Rattle.vault_read.proofs.Entries.{entry_found, one_name, no_entry_text, no_entry_name}
+use Rattle.vault_read.proofs.Entries.{entry_found, entry_tells, one_name, no_entry_text, no_entry_name}
 use Rattle.vault_read.proofs.listing.name_at.Goals as goal
 
 pub returns-clause-name : goal.returns-clause-name
@@ -49,3 +49,8 @@ returns-clause-one g c v is =
     let text_is = rw c.in-Some.is at c.in_ok-text.ensures.text in
     let name_is = rw c.in-Some-2.is at c.in_ok-name.ensures.name in
     one_name vault w dir entry long c.in-Some-2.name c.in-Some.text tells form (text_is v is) name_is.0
+
+pub returns-clause-long : goal.returns-clause-long
+returns-clause-long g c =
+    let name_is = rw c.in-Some-2.is at c.in_ok-name.ensures.name in
+    entry_tells c.args.entry.now c.is_long-long.result _ name_is.1

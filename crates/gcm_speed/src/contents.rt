@@ -16,12 +16,10 @@ pub fn stream_and_tag(megabytes: u32) -> u8 {
     let key = Key256::new(&[1; 32]);
     let mut chunk = [0; CHUNK];
     let mut tag = [0; 32];
-    for _ in 0..megabytes {
-        for _ in 0..32 {
-            ctr128_xor(&key, &[3; 16], &mut chunk);
-            let next = hmac256(&[2; 32], &chunk);
-            tag = next;
-        }
+    for _ in 0..32 * u64::from(megabytes) {
+        ctr128_xor(&key, &[3; 16], &mut chunk);
+        let next = hmac256(&[2; 32], &chunk);
+        tag = next;
     }
     tag[0]
 }
@@ -31,11 +29,9 @@ pub fn write_files(alloc: Global, megabytes: u32) -> Result<u8, AllocError> {
     let mut out = ChunkBuf::new(alloc)?;
     let chunk = [4; CHUNK];
     let mut last = 0;
-    for _ in 0..megabytes {
-        for _ in 0..32 {
-            let file = write_file(alloc, &chunk, &mut out)?;
-            last = file;
-        }
+    for _ in 0..32 * u64::from(megabytes) {
+        let file = write_file(alloc, &chunk, &mut out)?;
+        last = file;
     }
     Ok(last)
 }
@@ -45,11 +41,9 @@ pub fn read_files(alloc: Global, megabytes: u32) -> Result<u8, AllocError> {
     let mut out = ChunkBuf::new(alloc)?;
     let file = file_of(alloc, &[4; CHUNK], &mut out)?;
     let mut last = 0;
-    for _ in 0..megabytes {
-        for _ in 0..32 {
-            let chunk = read_file(alloc, file.as_slice(), &mut out)?;
-            last = chunk;
-        }
+    for _ in 0..32 * u64::from(megabytes) {
+        let chunk = read_file(alloc, file.as_slice(), &mut out)?;
+        last = chunk;
     }
     Ok(last)
 }

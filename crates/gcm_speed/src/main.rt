@@ -126,10 +126,8 @@ fn report(
 fn stream(megabytes: u32) -> u8 {
     let key = Key256::new(&[1; 32]);
     let mut bytes = [0; 4096];
-    for _ in 0..megabytes {
-        for _ in 0..256 {
-            ctr32_xor(&key, &[2; 16], &mut bytes);
-        }
+    for _ in 0..256 * u64::from(megabytes) {
+        ctr32_xor(&key, &[2; 16], &mut bytes);
     }
     bytes[0]
 }
@@ -141,12 +139,10 @@ fn unseal(megabytes: u32) -> u8 {
     let mut sealed = [4; 4096];
     let tag = gcm.seal(&iv, &ad, &mut sealed);
     let mut last = 0;
-    for _ in 0..megabytes {
-        for _ in 0..256 {
-            let mut text = sealed;
-            if gcm.unseal(&iv, &ad, &mut text, &tag).is_ok() {
-                last = text[0];
-            }
+    for _ in 0..256 * u64::from(megabytes) {
+        let mut text = sealed;
+        if gcm.unseal(&iv, &ad, &mut text, &tag).is_ok() {
+            last = text[0];
         }
     }
     last
@@ -155,10 +151,8 @@ fn unseal(megabytes: u32) -> u8 {
 fn sixteen_blocks(megabytes: u32) -> u8 {
     let key = Key256::new(&[1; 32]);
     let mut blocks = [[2; 16]; 16];
-    for _ in 0..megabytes {
-        for _ in 0..4096 {
-            key.encrypt_blocks(&mut blocks);
-        }
+    for _ in 0..4096 * u64::from(megabytes) {
+        key.encrypt_blocks(&mut blocks);
     }
     blocks[0][0]
 }
@@ -166,10 +160,8 @@ fn sixteen_blocks(megabytes: u32) -> u8 {
 fn sixteen_blocks_back(megabytes: u32) -> u8 {
     let key = Key256::new(&[1; 32]);
     let mut blocks = [[2; 16]; 16];
-    for _ in 0..megabytes {
-        for _ in 0..4096 {
-            key.decrypt_blocks(&mut blocks);
-        }
+    for _ in 0..4096 * u64::from(megabytes) {
+        key.decrypt_blocks(&mut blocks);
     }
     blocks[0][0]
 }
@@ -177,10 +169,8 @@ fn sixteen_blocks_back(megabytes: u32) -> u8 {
 fn one_block(megabytes: u32) -> u8 {
     let key = Key256::new(&[1; 32]);
     let mut blocks = [[2; 16]];
-    for _ in 0..megabytes {
-        for _ in 0..65536 {
-            key.encrypt_blocks(&mut blocks);
-        }
+    for _ in 0..65536 * u64::from(megabytes) {
+        key.encrypt_blocks(&mut blocks);
     }
     blocks[0][0]
 }
@@ -188,12 +178,10 @@ fn one_block(megabytes: u32) -> u8 {
 // A key, and the tag of nothing under it.
 fn new_keys(megabytes: u32) -> u8 {
     let mut tag = [2; 16];
-    for _ in 0..megabytes {
-        for _ in 0..1000 {
-            let gcm = Gcm::new(Key256::new(&[tag[0]; 32]));
-            let next = gcm.seal(&[2; 12], &[], &mut []);
-            tag = next;
-        }
+    for _ in 0..1000 * u64::from(megabytes) {
+        let gcm = Gcm::new(Key256::new(&[tag[0]; 32]));
+        let next = gcm.seal(&[2; 12], &[], &mut []);
+        tag = next;
     }
     tag[0]
 }
@@ -204,13 +192,11 @@ fn short_texts(megabytes: u32) -> u8 {
     let mut sealed = [4; 40];
     let tag = Gcm::new(Key256::new(&[1; 32])).seal(&iv, &ad, &mut sealed);
     let mut last = 0;
-    for _ in 0..megabytes {
-        for _ in 0..1000 {
-            let gcm = Gcm::new(Key256::new(&[1; 32]));
-            let mut text = sealed;
-            if gcm.unseal(&iv, &ad, &mut text, &tag).is_ok() {
-                last = text[0];
-            }
+    for _ in 0..1000 * u64::from(megabytes) {
+        let gcm = Gcm::new(Key256::new(&[1; 32]));
+        let mut text = sealed;
+        if gcm.unseal(&iv, &ad, &mut text, &tag).is_ok() {
+            last = text[0];
         }
     }
     last
@@ -222,11 +208,9 @@ fn names_in_siv(megabytes: u32) -> u8 {
     let stream_key = Key256::new(&[2; 32]);
     let id = [3; 36];
     let mut name = [4; 20];
-    for _ in 0..megabytes {
-        for _ in 0..1000 {
-            let vector = siv.s2v(Some(&id), &name);
-            ctr128_xor(&stream_key, &vector, &mut name);
-        }
+    for _ in 0..1000 * u64::from(megabytes) {
+        let vector = siv.s2v(Some(&id), &name);
+        ctr128_xor(&stream_key, &vector, &mut name);
     }
     name[0]
 }
@@ -235,10 +219,8 @@ fn names_in_siv(megabytes: u32) -> u8 {
 fn names_in_eme(megabytes: u32) -> u8 {
     let eme = Eme::new(Key256::new(&[1; 32]));
     let mut blocks = [[2; 16]; 2];
-    for _ in 0..megabytes {
-        for _ in 0..1000 {
-            eme.encrypt(&[3; 16], &mut blocks);
-        }
+    for _ in 0..1000 * u64::from(megabytes) {
+        eme.encrypt(&[3; 16], &mut blocks);
     }
     blocks[0][0]
 }

@@ -32,7 +32,8 @@ fn demo_totals(stage: &mut Stage, seed: u64, count: u64) {
 
 // Makes the first vault of a demonstration.
 fn demo_first(stage: &mut Stage, seed: u64, count: u64) {
-    let (count, mut random) = (count.min(2_000) as u32, random_of(seed));
+    let count = count.min(2_000) as u32;
+    let mut random = random_of(seed);
     match make_first(stage.alloc, &mut stage.folder, seed, count, &mut random) {
         Ok(()) => stage.done("done"),
         Err(_) => stage.failed("fault"),

@@ -22,24 +22,24 @@ pub fn folder_word(fault: FolderFault) -> &'static str {
 }
 
 /// A word with a path of the folder.
-pub fn path_fault(said: &mut Said, word: &str, at: &FPath) {
+pub fn path_fault(said: &mut Said, word: &str, at: FPath) {
     said.word(word);
     said.made(at.text());
 }
 
 /// A word with a plain path.
-pub fn plain_fault(said: &mut Said, word: &str, path: &PlainPath) {
+pub fn plain_fault(said: &mut Said, word: &str, path: PlainPath) {
     said.word(word);
     said.made(path.shown());
 }
 
 // A content file with its fault.
-fn damaged(said: &mut Said, at: &FPath, fault: &ChunkFault) {
+fn damaged(said: &mut Said, at: FPath, fault: ChunkFault) {
     path_fault(said, "Damaged", at);
-    said.shows(fault);
+    said.shows(&fault);
 }
 
-fn limit_fault(said: &mut Said, limit: &Limit) {
+fn limit_fault(said: &mut Said, limit: Limit) {
     match limit {
         Limit::Depth => said.word("Limit Depth"),
         Limit::Items => said.word("Limit Items"),
@@ -48,12 +48,12 @@ fn limit_fault(said: &mut Said, limit: &Limit) {
     }
 }
 
-pub fn journal_fault(said: &mut Said, fault: &JournalFault) {
+pub fn journal_fault(said: &mut Said, fault: JournalFault) {
     match fault {
         JournalFault::NoJournal => said.word("NoJournal"),
         JournalFault::BadJournal(line) => {
             said.word("BadJournal");
-            said.shows(line);
+            said.shows(&line);
         }
         JournalFault::TooLarge => said.word("TooLarge"),
         JournalFault::Failed => said.word("Failed"),
@@ -61,7 +61,7 @@ pub fn journal_fault(said: &mut Said, fault: &JournalFault) {
     }
 }
 
-pub fn work_fault(said: &mut Said, fault: &WorkFault) {
+pub fn work_fault(said: &mut Said, fault: WorkFault) {
     match fault {
         WorkFault::NoParent(at) => path_fault(said, "NoParent", at),
         WorkFault::WrongKind(at) => path_fault(said, "WrongKind", at),
@@ -73,7 +73,7 @@ pub fn work_fault(said: &mut Said, fault: &WorkFault) {
     }
 }
 
-pub fn load_fault(said: &mut Said, fault: &LoadFault) {
+pub fn load_fault(said: &mut Said, fault: LoadFault) {
     match fault {
         LoadFault::Missing(at) => path_fault(said, "Missing", at),
         LoadFault::WrongKind(at) => path_fault(said, "WrongKind", at),
@@ -87,7 +87,7 @@ pub fn load_fault(said: &mut Said, fault: &LoadFault) {
     }
 }
 
-pub fn find_fault(said: &mut Said, fault: &FindFault) {
+pub fn find_fault(said: &mut Said, fault: FindFault) {
     match fault {
         FindFault::NotFound(path) => plain_fault(said, "NotFound", path),
         FindFault::WrongKind(path) => plain_fault(said, "WrongKind", path),
@@ -98,7 +98,7 @@ pub fn find_fault(said: &mut Said, fault: &FindFault) {
     }
 }
 
-pub fn cat_fault(said: &mut Said, fault: &CatFault) {
+pub fn cat_fault(said: &mut Said, fault: CatFault) {
     match fault {
         CatFault::Find(fault) => find_fault(said, fault),
         CatFault::Damaged(at, fault) => damaged(said, at, fault),
@@ -118,11 +118,11 @@ pub fn finding_line(said: &mut Said, finding: &Finding) {
     }
 }
 
-pub fn walk_fault(said: &mut Said, fault: &WalkFault) {
+pub fn walk_fault(said: &mut Said, fault: WalkFault) {
     match fault {
         WalkFault::NotClean(finding) => {
             said.word("NotClean");
-            finding_line(said, finding);
+            finding_line(said, &finding);
         }
         WalkFault::Limit(limit) => limit_fault(said, limit),
         WalkFault::Failed => said.word("Failed"),
@@ -130,7 +130,7 @@ pub fn walk_fault(said: &mut Said, fault: &WalkFault) {
     }
 }
 
-pub fn check_fault(said: &mut Said, fault: &CheckFault) {
+pub fn check_fault(said: &mut Said, fault: CheckFault) {
     match fault {
         CheckFault::Limit(limit) => limit_fault(said, limit),
         CheckFault::Failed => said.word("Failed"),
@@ -138,7 +138,7 @@ pub fn check_fault(said: &mut Said, fault: &CheckFault) {
     }
 }
 
-pub fn match_fault(said: &mut Said, fault: &MatchFault) {
+pub fn match_fault(said: &mut Said, fault: MatchFault) {
     match fault {
         MatchFault::Damaged(at, fault) => damaged(said, at, fault),
         MatchFault::Limit(limit) => limit_fault(said, limit),
@@ -147,7 +147,7 @@ pub fn match_fault(said: &mut Said, fault: &MatchFault) {
     }
 }
 
-pub fn map_fault(said: &mut Said, fault: &MapFault) {
+pub fn map_fault(said: &mut Said, fault: MapFault) {
     match fault {
         MapFault::NotAName(path) => plain_fault(said, "NotAName", path),
         MapFault::Meet(one, other) => {
@@ -158,7 +158,7 @@ pub fn map_fault(said: &mut Said, fault: &MapFault) {
     }
 }
 
-pub fn put_fault(said: &mut Said, fault: &PutFault) {
+pub fn put_fault(said: &mut Said, fault: PutFault) {
     match fault {
         PutFault::Find(fault) => find_fault(said, fault),
         PutFault::NotAllowed(path) => plain_fault(said, "NotAllowed", path),

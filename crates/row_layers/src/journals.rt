@@ -45,7 +45,7 @@ fn read_journal(stage: &mut Stage, work: &FPath) {
     match read(stage.alloc, &mut stage.folder, work) {
         Ok(journal) => say_journal(stage, &journal),
         Err(fault) => {
-            journal_fault(&mut stage.said, &fault);
+            journal_fault(&mut stage.said, fault);
             stage.ended(1);
         }
     }

@@ -84,7 +84,7 @@ pub fn call_mapping(stage: &mut Stage, words: &str) {
             stage.done("done");
         }
         Err(fault) => {
-            map_fault(&mut stage.said, &fault);
+            map_fault(&mut stage.said, fault);
             stage.ended(1);
         }
     }
@@ -101,11 +101,12 @@ pub fn call_matching(stage: &mut Stage, words: &str) {
     let Some(b) = vault_named(stage, b) else {
         return;
     };
-    let (a_plan, b_plan) = (plan(stage, a_plan), plan(stage, b_plan));
+    let a_plan = plan(stage, a_plan);
+    let b_plan = plan(stage, b_plan);
     match holds_all(stage.alloc, &mut stage.folder, &a, &a_plan, &b, &b_plan) {
         Ok(answer) => say_match(stage, &answer),
         Err(fault) => {
-            match_fault(&mut stage.said, &fault);
+            match_fault(&mut stage.said, fault);
             stage.ended(1);
         }
     }

@@ -6,8 +6,9 @@ use plain_tree::{NodeKind, PlainPath};
 use port_model::MemSink;
 use row_stage::{Stage, Stop};
 use row_words::cut;
+use std::alloc::AllocError;
 use vault_keys::{CmKeys, GoKeys};
-use vault_read::{CmVault, Vault, VaultKeys, cat, enter, find, list};
+use vault_read::{CmVault, Item, Vault, VaultKeys, cat, enter, find, list};
 
 /// The passphrase of the vaults in rows.
 pub const PASSPHRASE: &[u8] = b"secret";
@@ -91,25 +92,22 @@ fn make_vault(stage: &mut Stage, words: &str) {
     let Ok(mut handed) = stage.hand() else {
         return stage.stop(Stop::NoMemory);
     };
-    let (work, at) = (stage.path(WORK), stage.path(at));
+    let work = stage.path(WORK);
+    let at = stage.path(at);
     init(stage, verb, &work, &at, &mut handed);
     need_done(stage);
 }
 
 // The path of an item in the folder: of a directory its entry, of a file the file of its content.
 fn item(stage: &mut Stage, vault: &Vault, path: &PlainPath) -> Option<FPath> {
-    match find(stage.alloc, &mut stage.folder, vault, path) {
-        Ok(place) => Some(place.at),
-        Err(_) => None,
-    }
+    let place = find(stage.alloc, &mut stage.folder, vault, path).ok()?;
+    Some(place.at)
 }
 
 // The path of the folder that holds the entries of a directory.
 fn inside(stage: &mut Stage, vault: &Vault, path: &PlainPath) -> Option<FPath> {
-    match enter(stage.alloc, &mut stage.folder, vault, path) {
-        Ok(place) => Some(place.folder),
-        Err(_) => None,
-    }
+    let place = enter(stage.alloc, &mut stage.folder, vault, path).ok()?;
+    Some(place.folder)
 }
 
 // Names a path in a vault's folder: `NAME VAULT PATH`.
@@ -159,19 +157,25 @@ fn push_items(
     at: &PlainPath,
     left: &mut Vec<(PlainPath, NodeKind)>,
 ) {
-    let Ok(items) = list(stage.alloc, &mut stage.folder, vault, at) else {
-        return stage.stop(Stop::Vault);
-    };
-    for item in items.iter().rev() {
-        match at.child(&item.name) {
-            Ok(below) => {
-                if left.push((below, item.node)).is_err() {
-                    stage.stop(Stop::NoMemory);
-                }
-            }
-            Err(_) => stage.stop(Stop::NoMemory),
+    match list(stage.alloc, &mut stage.folder, vault, at).ok() {
+        Some(items) => {
+            let pushed = push_below(at, items.as_slice(), left);
+            stage.whole(pushed);
         }
+        None => stage.stop(Stop::Vault),
     }
+}
+
+// Adds the paths of items of a directory, the last first.
+fn push_below(
+    at: &PlainPath,
+    items: &[Item],
+    left: &mut Vec<(PlainPath, NodeKind)>,
+) -> Result<(), AllocError> {
+    for item in items.iter().rev() {
+        left.push((at.child(&item.name)?, item.node))?;
+    }
+    Ok(())
 }
 
 // Says a file of a vault with its content, as far as it can be read.
@@ -180,8 +184,8 @@ fn say_file(stage: &mut Stage, vault: &Vault, at: &PlainPath) {
     let Ok(mut out) = MemSink::new(alloc, MOST_READ, Vec::new(alloc)) else {
         return stage.stop(Stop::NoMemory);
     };
-    let whole = cat(alloc, &mut stage.folder, vault, at, &mut out).is_ok();
-    stage.said.word(if whole { "f" } else { "damaged" });
+    let length = cat(alloc, &mut stage.folder, vault, at, &mut out).ok();
+    stage.said.word(if length.is_some() { "f" } else { "damaged" });
     stage.said.made(at.shown());
     stage.say_bytes(out.bytes());
 }

@@ -27,13 +27,13 @@ fn call_load(stage: &mut Stage, words: &str) {
             VaultKind::Cryptomator => "cryptomator",
         }),
         Err(fault) => {
-            load_fault(&mut stage.said, &fault);
+            load_fault(&mut stage.said, fault);
             stage.ended(1);
         }
     }
 }
 
-fn say_find_fault(stage: &mut Stage, fault: &FindFault) {
+fn say_find_fault(stage: &mut Stage, fault: FindFault) {
     find_fault(&mut stage.said, fault);
     stage.ended(1);
 }
@@ -45,7 +45,7 @@ fn call_find(stage: &mut Stage, vault: &Vault, path: &PlainPath) {
             stage.said.made(place.at.text());
             stage.ended(0);
         }
-        Err(fault) => say_find_fault(stage, &fault),
+        Err(fault) => say_find_fault(stage, fault),
     }
 }
 
@@ -60,7 +60,7 @@ fn say_dir(stage: &mut Stage, at: &FPath, folder: &FPath, key: &[u8]) {
 fn call_enter(stage: &mut Stage, vault: &Vault, path: &PlainPath) {
     match enter(stage.alloc, &mut stage.folder, vault, path) {
         Ok(place) => say_dir(stage, &place.at, &place.folder, place.key.as_slice()),
-        Err(fault) => say_find_fault(stage, &fault),
+        Err(fault) => say_find_fault(stage, fault),
     }
 }
 
@@ -74,7 +74,7 @@ fn call_list(stage: &mut Stage, vault: &Vault, path: &PlainPath) {
             }
             stage.done("done");
         }
-        Err(fault) => say_find_fault(stage, &fault),
+        Err(fault) => say_find_fault(stage, fault),
     }
 }
 
@@ -84,7 +84,7 @@ fn call_cat(stage: &mut Stage, vault: &Vault, path: &PlainPath, handed: &mut Han
     let status = u8::from(answer.is_err());
     match answer {
         Ok(length) => stage.said.shows(&length),
-        Err(fault) => cat_fault(&mut stage.said, &fault),
+        Err(fault) => cat_fault(&mut stage.said, fault),
     }
     stage.said.bytes(handed.out.sink.bytes(), MOST_SHOWN);
     stage.ended(status);

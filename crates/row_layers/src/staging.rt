@@ -38,7 +38,7 @@ fn say_removal(stage: &mut Stage, answer: Result<(), RemovalFault>) {
         Ok(()) => stage.done("done"),
         Err(RemovalFault::Depth) => stage.failed("Depth"),
         Err(RemovalFault::Other(at)) => {
-            path_fault(&mut stage.said, "Other", &at);
+            path_fault(&mut stage.said, "Other", at);
             stage.ended(1);
         }
         Err(RemovalFault::Failed) => stage.failed("Failed"),
@@ -107,8 +107,11 @@ fn call_side_file(stage: &mut Stage, words: &str) {
     let (side, words) = cut(words);
     let (side_bytes, words) = cut(words);
     let (at, bytes) = cut(words);
-    let (staged, side, at) = (stage.path(staged), stage.path(side), stage.path(at));
-    let (side_bytes, bytes) = (stage.bytes(side_bytes), stage.bytes(bytes));
+    let staged = stage.path(staged);
+    let side = stage.path(side);
+    let at = stage.path(at);
+    let side_bytes = stage.bytes(side_bytes);
+    let bytes = stage.bytes(bytes);
     let (side_bytes, bytes) = (side_bytes.as_slice(), bytes.as_slice());
     replace_both(stage, &staged, &side, side_bytes, &at, bytes);
 }
@@ -132,7 +135,8 @@ pub fn call_staging(stage: &mut Stage, verb: &str, words: &str) {
         "remove_below" | "remove_all" => call_remove(stage, verb, &first),
         _ => {
             let (at, bytes) = cut(rest);
-            let (at, bytes) = (stage.path(at), stage.bytes(bytes));
+            let at = stage.path(at);
+            let bytes = stage.bytes(bytes);
             call_publish(stage, verb, &first, &at, bytes.as_slice());
         }
     }

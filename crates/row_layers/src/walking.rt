@@ -34,12 +34,12 @@ fn say_findings(stage: &mut Stage, findings: &[Finding], notes: &[FPath]) {
     stage.done("done");
 }
 
-fn say_walk_fault(stage: &mut Stage, fault: &WalkFault) {
+fn say_walk_fault(stage: &mut Stage, fault: WalkFault) {
     walk_fault(&mut stage.said, fault);
     stage.ended(1);
 }
 
-fn say_check_fault(stage: &mut Stage, fault: &CheckFault) {
+fn say_check_fault(stage: &mut Stage, fault: CheckFault) {
     check_fault(&mut stage.said, fault);
     stage.ended(1);
 }
@@ -50,7 +50,7 @@ fn call_survey(stage: &mut Stage, vault: &Vault) {
             say_plan(stage, &found.plan);
             say_findings(stage, found.findings.as_slice(), found.notes.as_slice());
         }
-        Err(fault) => say_walk_fault(stage, &fault),
+        Err(fault) => say_walk_fault(stage, fault),
     }
 }
 
@@ -60,14 +60,14 @@ fn call_walk(stage: &mut Stage, vault: &Vault) {
             say_plan(stage, &plan);
             stage.done("done");
         }
-        Err(fault) => say_walk_fault(stage, &fault),
+        Err(fault) => say_walk_fault(stage, fault),
     }
 }
 
 fn call_check(stage: &mut Stage, vault: &Vault) {
     match check(stage.alloc, &mut stage.folder, vault) {
         Ok(report) => say_findings(stage, report.findings.as_slice(), report.notes.as_slice()),
-        Err(fault) => say_check_fault(stage, &fault),
+        Err(fault) => say_check_fault(stage, fault),
     }
 }
 
@@ -81,7 +81,7 @@ fn call_repair(stage: &mut Stage, vault: &Vault, lost: &FPath) {
             }
             stage.done("done");
         }
-        Err(fault) => say_check_fault(stage, &fault),
+        Err(fault) => say_check_fault(stage, fault),
     }
 }
 

@@ -5,7 +5,7 @@ use row_stage::{Stage, Stop};
 use row_words::cut;
 use work_folder::{Work, WorkFault};
 
-fn say_work_fault(stage: &mut Stage, fault: &WorkFault) {
+fn say_work_fault(stage: &mut Stage, fault: WorkFault) {
     work_fault(&mut stage.said, fault);
     stage.ended(1);
 }
@@ -13,7 +13,7 @@ fn say_work_fault(stage: &mut Stage, fault: &WorkFault) {
 fn say_looked(stage: &mut Stage, answer: Result<(), WorkFault>) {
     match answer {
         Ok(()) => stage.done("done"),
-        Err(fault) => say_work_fault(stage, &fault),
+        Err(fault) => say_work_fault(stage, fault),
     }
 }
 
@@ -24,7 +24,7 @@ fn say_work(stage: &mut Stage, answer: Result<Work, WorkFault>) {
             stage.said.made(work.at().text());
             stage.ended(0);
         }
-        Err(fault) => say_work_fault(stage, &fault),
+        Err(fault) => say_work_fault(stage, fault),
     }
 }
 

@@ -21,7 +21,7 @@ fn say_put(stage: &mut Stage, answer: Result<(), PutFault>) {
     match answer {
         Ok(()) => stage.done("done"),
         Err(fault) => {
-            put_fault(&mut stage.said, &fault);
+            put_fault(&mut stage.said, fault);
             stage.ended(1);
         }
     }
@@ -76,7 +76,8 @@ fn call_place(
 fn call_item(stage: &mut Stage, verb: &str, words: &str, handed: &mut Handed) {
     let (work, words) = cut(words);
     let (vault, path) = cut(words);
-    let (work, path) = (stage.path(work), plain_path(stage, path));
+    let work = stage.path(work);
+    let path = plain_path(stage, path);
     let Some(vault) = vault_named(stage, vault) else {
         return;
     };
@@ -123,7 +124,8 @@ fn call_copy(stage: &mut Stage, vault: &Vault, staged: &FPath, from: &FPath, han
 fn call_content(stage: &mut Stage, verb: &str, words: &str, handed: &mut Handed) {
     let (vault, words) = cut(words);
     let (staged, from) = cut(words);
-    let (staged, from) = (stage.path(staged), stage.path(from));
+    let staged = stage.path(staged);
+    let from = stage.path(from);
     let Some(vault) = vault_named(stage, vault) else {
         return;
     };
@@ -139,7 +141,8 @@ pub fn call_writing(stage: &mut Stage, verb: &str, words: &str, handed: &mut Han
     match verb {
         "init_go" | "init_cm" | "init_ctr" => {
             let (work, at) = cut(words);
-            let (work, at) = (stage.path(work), stage.path(at));
+            let work = stage.path(work);
+            let at = stage.path(at);
             init(stage, verb, &work, &at, handed);
         }
         "write_content" | "copy_content" => call_content(stage, verb, words, handed),

@@ -1,7 +1,16 @@
 //! Lines that look at the folder, or at what the last run left.
 use crate::stage::Stage;
 use crate::stop::Stop;
-use folder_model::{FPath, Folder, Kind};
+use folder_model::{Entry, FPath, Folder, Kind};
+use std::alloc::AllocError;
+
+// Adds the paths of entries of a directory, the last first.
+fn push_entries(at: &FPath, entries: &[Entry], left: &mut Vec<FPath>) -> Result<(), AllocError> {
+    for entry in entries.iter().rev() {
+        left.push(at.child(entry.name.as_str())?)?;
+    }
+    Ok(())
+}
 
 impl Stage {
     // Says what stands below a directory, in the order of paths.
@@ -44,16 +53,8 @@ impl Stage {
     fn push_below(&mut self, at: &FPath, left: &mut Vec<FPath>) {
         match self.folder.list(at) {
             Ok(entries) => {
-                for entry in entries.iter().rev() {
-                    match at.child(entry.name.as_str()) {
-                        Ok(below) => {
-                            if left.push(below).is_err() {
-                                self.stop(Stop::NoMemory);
-                            }
-                        }
-                        Err(_) => self.stop(Stop::NoMemory),
-                    }
-                }
+                let pushed = push_entries(at, entries.as_slice(), left);
+                self.whole(pushed);
             }
             Err(fault) => self.stop(Stop::from(fault)),
         }

@@ -108,7 +108,8 @@ impl Stage {
                 self.well(moved);
             }
             "copy" => {
-                let (to, bytes) = (self.path(rest), self.read(at));
+                let to = self.path(rest);
+                let bytes = self.read(at);
                 self.make_file(&to, bytes.as_slice());
             }
             "flip" => {

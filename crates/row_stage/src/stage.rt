@@ -57,6 +57,21 @@ impl Fails {
             err: Vec::new(alloc),
         }
     }
+
+    fn of(&mut self, object: Object) -> &mut Vec<u64> {
+        match object {
+            Object::Folder => &mut self.folder,
+            Object::Random => &mut self.random,
+            Object::Input => &mut self.input,
+            Object::Out => &mut self.out,
+            Object::Err => &mut self.err,
+        }
+    }
+
+    // The calls of an object that fail, of which none is left.
+    fn take(&mut self, alloc: Global, object: Object) -> Vec<u64> {
+        mem::replace(self.of(object), Vec::new(alloc))
+    }
 }
 
 // What a verb does: it lets a call fail, changes the folder, looks at it, gives the next run something, or is the player's.
@@ -169,19 +184,19 @@ impl Stage {
 
     /// The path that a word writes, of any length; the empty word is the base.
     pub fn path(&mut self, word: &str) -> FPath {
-        let mut parts = Vec::new(self.alloc);
-        if !word.is_empty() {
-            for part in word.split('/') {
-                if part.is_empty() {
-                    self.stop(Stop::Line);
-                }
-                match String::from_str(self.alloc, part) {
-                    Ok(part) => self.whole(parts.push(part).map_err(|_| AllocError)),
-                    Err(_) => self.stop(Stop::NoMemory),
-                }
+        if word.is_empty() {
+            return FPath::base(self.alloc);
+        }
+        if word.starts_with('/') || word.ends_with('/') || word.contains("//") {
+            self.stop(Stop::Line);
+        }
+        match parts_of(self.alloc, word) {
+            Ok(parts) => FPath::from_parts(parts),
+            Err(_) => {
+                self.stop(Stop::NoMemory);
+                FPath::base(self.alloc)
             }
         }
-        FPath::from_parts(parts)
     }
 
     /// The bytes that a word writes.
@@ -244,14 +259,7 @@ impl Stage {
     }
 
     fn fail_call(&mut self, object: Object, call: u64) {
-        let added = match object {
-            Object::Folder => self.fails.folder.push(call),
-            Object::Random => self.fails.random.push(call),
-            Object::Input => self.fails.input.push(call),
-            Object::Out => self.fails.out.push(call),
-            Object::Err => self.fails.err.push(call),
-        };
-        if added.is_err() {
+        if self.fails.of(object).push(call).is_err() {
             self.stop(Stop::NoMemory);
         }
     }
@@ -260,26 +268,42 @@ impl Stage {
 
     /// What the next run is handed beside the folder. Calls of the folder are counted from here on.
     pub fn hand(&mut self) -> Result<Handed, AllocError> {
-        let alloc = self.alloc;
         self.folder.begin_run(self.fails.folder.as_slice())?;
-        let fails = mem::replace(&mut self.fails, Fails::none(alloc));
-        let out = taken(alloc, fails.out)?;
-        let err = taken(alloc, fails.err)?;
-        let drawn = self.drawn.clone()?;
-        let input = mem::replace(&mut self.input, Vec::new(alloc));
+        self.fails.folder.clear();
+        let out = self.taken(Object::Out)?;
+        let err = self.taken(Object::Err)?;
+        let random = self.random()?;
         Ok(Handed {
-            random: Drawn {
-                list: ListRandoms::new(drawn, fails.random),
-                calls: 0,
-            },
-            input: Pieces {
-                source: MemSource::new(input, fails.input),
-                most: self.most as usize,
-                calls: 0,
-            },
+            random,
+            input: self.pieces(),
             out,
             err,
         })
+    }
+
+    fn taken(&mut self, object: Object) -> Result<Taken, AllocError> {
+        let fails = self.fails.take(self.alloc, object);
+        Ok(Taken {
+            sink: MemSink::new(self.alloc, MOST_TAKEN, fails)?,
+            calls: 0,
+        })
+    }
+
+    fn random(&mut self) -> Result<Drawn, AllocError> {
+        let drawn = self.drawn.clone()?;
+        Ok(Drawn {
+            list: ListRandoms::new(drawn, self.fails.take(self.alloc, Object::Random)),
+            calls: 0,
+        })
+    }
+
+    fn pieces(&mut self) -> Pieces {
+        let input = mem::replace(&mut self.input, Vec::new(self.alloc));
+        Pieces {
+            source: MemSource::new(input, self.fails.take(self.alloc, Object::Input)),
+            most: self.most as usize,
+            calls: 0,
+        }
     }
 
     /// Notes what a run left of its input, and whether the call that fails in turn was made.
@@ -390,10 +414,11 @@ impl Stage {
     }
 }
 
-// An output of which these calls fail.
-fn taken(alloc: Global, fails: Vec<u64>) -> Result<Taken, AllocError> {
-    Ok(Taken {
-        sink: MemSink::new(alloc, MOST_TAKEN, fails)?,
-        calls: 0,
-    })
+// The parts of a path.
+fn parts_of(alloc: Global, word: &str) -> Result<Vec<String>, AllocError> {
+    let mut parts = Vec::new(alloc);
+    for part in word.split('/') {
+        parts.push(String::from_str(alloc, part)?)?;
+    }
+    Ok(parts)
 }

@@ -34,9 +34,9 @@ fn demo_totals(stage: &mut Stage, seed: u64, count: u64) {
 fn demo_first(stage: &mut Stage, seed: u64, count: u64) {
     let count = count.min(2_000) as u32;
     let mut random = random_of(seed);
-    match make_first(stage.alloc, &mut stage.folder, seed, count, &mut random) {
-        Ok(()) => stage.done("done"),
-        Err(_) => stage.failed("fault"),
+    match make_first(stage.alloc, &mut stage.folder, seed, count, &mut random).ok() {
+        Some(()) => stage.done("done"),
+        None => stage.failed("fault"),
     }
 }
 

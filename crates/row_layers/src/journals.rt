@@ -51,6 +51,16 @@ fn read_journal(stage: &mut Stage, work: &FPath) {
     }
 }
 
+// The digest that a word writes.
+fn digest(stage: &mut Stage, word: &str) -> Option<[u8; 32]> {
+    let bytes = stage.bytes(word);
+    let digest = <[u8; 32]>::try_from(bytes.as_slice()).ok();
+    if digest.is_none() {
+        stage.stop(Stop::Line);
+    }
+    digest
+}
+
 // Writes a journal: `PHASE NAMES FROM TO ITEMS DIGEST`.
 fn write_journal(stage: &mut Stage, work: &FPath, words: &str) {
     let (phase, words) = cut(words);
@@ -59,9 +69,8 @@ fn write_journal(stage: &mut Stage, work: &FPath, words: &str) {
     let (to, words) = cut(words);
     let (items, plan) = cut(words);
     let items = stage.number(items).min(200_000);
-    let plan = match <[u8; 32]>::try_from(stage.bytes(plan).as_slice()) {
-        Ok(plan) => plan,
-        Err(_) => return stage.stop(Stop::Line),
+    let Some(plan) = digest(stage, plan) else {
+        return;
     };
     let Some(source) = parsed(stage, from) else {
         return;

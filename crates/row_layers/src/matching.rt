@@ -7,6 +7,7 @@ use plain_tree::{NameMap, NodeKind};
 use row_stage::Stage;
 use row_words::cut;
 use tree_match::{How, Match, holds_all, map_plan};
+use vault_read::Vault;
 use vault_walk::{Plan, PlanItem, PlanItems};
 
 /// The rule for names that a word names.
@@ -95,15 +96,17 @@ pub fn call_matching(stage: &mut Stage, words: &str) {
     let (a, words) = cut(words);
     let (a_plan, words) = cut(words);
     let (b, b_plan) = cut(words);
-    let Some(a) = vault_named(stage, a) else {
-        return;
-    };
-    let Some(b) = vault_named(stage, b) else {
-        return;
-    };
+    if let Some(a) = vault_named(stage, a) {
+        if let Some(b) = vault_named(stage, b) {
+            compare(stage, &a, a_plan, &b, b_plan);
+        }
+    }
+}
+
+fn compare(stage: &mut Stage, a: &Vault, a_plan: &str, b: &Vault, b_plan: &str) {
     let a_plan = plan(stage, a_plan);
     let b_plan = plan(stage, b_plan);
-    match holds_all(stage.alloc, &mut stage.folder, &a, &a_plan, &b, &b_plan) {
+    match holds_all(stage.alloc, &mut stage.folder, a, &a_plan, b, &b_plan) {
         Ok(answer) => say_match(stage, &answer),
         Err(fault) => {
             match_fault(&mut stage.said, fault);

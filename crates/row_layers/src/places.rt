@@ -185,7 +185,9 @@ fn say_file(stage: &mut Stage, vault: &Vault, at: &PlainPath) {
         return stage.stop(Stop::NoMemory);
     };
     let length = cat(alloc, &mut stage.folder, vault, at, &mut out).ok();
-    stage.said.word(if length.is_some() { "f" } else { "damaged" });
+    stage
+        .said
+        .word(if length.is_some() { "f" } else { "damaged" });
     stage.said.made(at.shown());
     stage.say_bytes(out.bytes());
 }
@@ -196,19 +198,31 @@ fn tree(stage: &mut Stage, word: &str) {
         return;
     };
     let mut left = Vec::new(stage.alloc);
-    let root = PlainPath::root(stage.alloc);
-    push_items(stage, &vault, &root, &mut left);
+    push_items(stage, &vault, &PlainPath::root(stage.alloc), &mut left);
     for _ in 0..10_000u32 {
-        match left.pop() {
-            Some((at, NodeKind::Dir)) => {
-                stage.said.word("d");
-                stage.said.made(at.shown());
-                stage.said.end();
-                push_items(stage, &vault, &at, &mut left);
-            }
-            Some((at, NodeKind::File)) => say_file(stage, &vault, &at),
-            None => break,
+        let Some((at, node)) = left.pop() else {
+            break;
+        };
+        say_item(stage, &vault, &at, node, &mut left);
+    }
+}
+
+// Says an item, and adds what is in it.
+fn say_item(
+    stage: &mut Stage,
+    vault: &Vault,
+    at: &PlainPath,
+    node: NodeKind,
+    left: &mut Vec<(PlainPath, NodeKind)>,
+) {
+    match node {
+        NodeKind::Dir => {
+            stage.said.word("d");
+            stage.said.made(at.shown());
+            stage.said.end();
+            push_items(stage, vault, at, left);
         }
+        NodeKind::File => say_file(stage, vault, at),
     }
 }
 

@@ -97,13 +97,16 @@ pub fn call_reading(stage: &mut Stage, verb: &str, words: &str, handed: &mut Han
     }
     let (vault, path) = cut(words);
     let path = plain_path(stage, path);
-    let Some(vault) = vault_named(stage, vault) else {
-        return;
-    };
+    if let Some(vault) = vault_named(stage, vault) {
+        read_in(stage, verb, &vault, &path, handed);
+    }
+}
+
+fn read_in(stage: &mut Stage, verb: &str, vault: &Vault, path: &PlainPath, handed: &mut Handed) {
     match verb {
-        "find" => call_find(stage, &vault, &path),
-        "enter" => call_enter(stage, &vault, &path),
-        "items" => call_list(stage, &vault, &path),
-        _ => call_cat(stage, &vault, &path, handed),
+        "find" => call_find(stage, vault, path),
+        "enter" => call_enter(stage, vault, path),
+        "items" => call_list(stage, vault, path),
+        _ => call_cat(stage, vault, path, handed),
     }
 }

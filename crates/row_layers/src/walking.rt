@@ -101,13 +101,16 @@ pub fn call_walking(stage: &mut Stage, verb: &str, words: &str) {
     }
     let (vault, lost) = cut(words);
     let lost = stage.path(lost);
-    let Some(vault) = vault_named(stage, vault) else {
-        return;
-    };
+    if let Some(vault) = vault_named(stage, vault) {
+        walk_in(stage, verb, &vault, &lost);
+    }
+}
+
+fn walk_in(stage: &mut Stage, verb: &str, vault: &Vault, lost: &FPath) {
     match verb {
-        "survey" => call_survey(stage, &vault),
-        "walk" => call_walk(stage, &vault),
-        "check" => call_check(stage, &vault),
-        _ => call_repair(stage, &vault, &lost),
+        "survey" => call_survey(stage, vault),
+        "walk" => call_walk(stage, vault),
+        "check" => call_check(stage, vault),
+        _ => call_repair(stage, vault, lost),
     }
 }

@@ -78,13 +78,11 @@ fn call_item(stage: &mut Stage, verb: &str, words: &str, handed: &mut Handed) {
     let (vault, path) = cut(words);
     let work = stage.path(work);
     let path = plain_path(stage, path);
-    let Some(vault) = vault_named(stage, vault) else {
-        return;
-    };
-    let Some(work) = entered(stage, &work) else {
-        return;
-    };
-    call_place(stage, verb, &work, &vault, &path, handed);
+    if let Some(vault) = vault_named(stage, vault) {
+        if let Some(work) = entered(stage, &work) {
+            call_place(stage, verb, &work, &vault, &path, handed);
+        }
+    }
 }
 
 // Writes what the input has left as a content file of a vault.

@@ -116,13 +116,9 @@ fn streams(args: &mut Arguments, answer: &mut Answer) {
     let (least, most) = (args.few(3), args.few(4));
     let alloc = answer.alloc();
     for length in least..=most {
-        match are_plain(alloc, &key, &start, value, length) {
-            Ok(true) => {}
-            Ok(false) => {
-                answer.word("other streams of");
-                return answer.shows(&length);
-            }
-            Err(_) => return answer.lacks(),
+        let same = are_plain(alloc, &key, &start, value, length);
+        if !answer.goes_on(same, "other streams of", length) {
+            return;
         }
     }
     answer.word("plain");
@@ -178,13 +174,9 @@ fn at_once(args: &Arguments, answer: &mut Answer) {
 fn have_images(key: &Key256, plain: &[Block], images: &[Block], answer: &mut Answer) {
     let alloc = answer.alloc();
     for count in 0..=plain.len() {
-        match are_images(alloc, key, &plain[..count], images) {
-            Ok(true) => {}
-            Ok(false) => {
-                answer.word("other images of");
-                return answer.shows(&count);
-            }
-            Err(_) => return answer.lacks(),
+        let same = are_images(alloc, key, &plain[..count], images);
+        if !answer.goes_on(same, "other images of", count) {
+            return;
         }
     }
     answer.word("one by one");

@@ -67,10 +67,10 @@ impl Answer {
     }
 
     /// Adds `read`, or what the fault of a reader shows as a word.
-    pub fn read<E: fmt::Display>(&mut self, fault: Option<&E>) {
+    pub fn read<E: fmt::Display + Drop>(&mut self, fault: Option<E>) {
         match fault {
             None => self.said.word("read"),
-            Some(fault) => self.said.shows(fault),
+            Some(fault) => self.said.shows(&fault),
         }
     }
 
@@ -92,6 +92,20 @@ impl Answer {
     /// Adds a word that was made, where there was memory for it.
     pub fn made(&mut self, word: Result<String, AllocError>) {
         self.said.made(word);
+    }
+
+    /// Says whether two ways came to the same, in memory that there was. If not, it adds words and the number of things that they were
+    /// tried on.
+    pub fn goes_on(&mut self, same: Result<bool, AllocError>, words: &str, count: usize) -> bool {
+        match same {
+            Ok(true) => return true,
+            Ok(false) => {
+                self.word(words);
+                self.shows(&count);
+            }
+            Err(_) => self.lacks(),
+        }
+        false
     }
 
     /// Adds `yes` or `no`.

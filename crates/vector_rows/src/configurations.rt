@@ -18,20 +18,41 @@ use vault_keys::{CmKeys, id_text};
 pub fn answer(name: &str, args: &mut Arguments, answer: &mut Answer) -> bool {
     match name {
         "go-conf" => go_read(args.bytes(0), answer),
-        "go-conf-with" => go_read(changed(args.text(0), args, 1, answer).as_bytes(), answer),
         "go-make" => go_make(args, answer),
         "go-cost" | "go-salt" | "go-unlock" => go_answer(name, args, answer),
+        "go-conf-with"
+        | "cm-master-with"
+        | "cm-header-with"
+        | "cm-payload-with"
+        | "cm-signature-with" => changed_answer(name, args, answer),
         _ => return cm_answer(name, args, answer),
     }
     true
 }
 
+// Makes a call on a text of which a part is replaced.
+fn changed_answer(name: &str, args: &Arguments, answer: &mut Answer) {
+    let (whole, place) = match name {
+        "go-conf-with" | "cm-master-with" => (args.text(0), 1),
+        "cm-header-with" => (args.text(0), 2),
+        "cm-payload-with" => (args.text(1), 2),
+        _ => (args.text(2), 3),
+    };
+    let changed = changed(whole, args, place, answer);
+    let bytes = changed.as_bytes();
+    match name {
+        "go-conf-with" => go_read(bytes, answer),
+        "cm-master-with" => master_read(bytes, answer),
+        "cm-header-with" => token_read(bytes, args.bytes(1), answer),
+        "cm-payload-with" => token_read(args.bytes(0), bytes, answer),
+        _ => signature(bytes, &keys(args, 0), answer),
+    }
+}
+
 // A text with the first place of one part of it replaced: two arguments from a place on write the part and what it becomes.
-fn changed(whole: &str, args: &Arguments, place: usize, answer: &mut Answer) -> String
-    requires { place < 100 }
-{
+fn changed(whole: &str, args: &Arguments, place: usize, answer: &mut Answer) -> String {
     let alloc = answer.alloc();
-    let (old, new) = (args.text(place), args.text(place + 1));
+    let (old, new) = (args.text(place), args.text(place.saturating_add(1)));
     match whole.split_once(old) {
         Some((before, after)) => match format!(in alloc; "{before}{new}{after}") {
             Ok(text) => return text,
@@ -43,13 +64,13 @@ fn changed(whole: &str, args: &Arguments, place: usize, answer: &mut Answer) -> 
 }
 
 fn go_read(bytes: &[u8], answer: &mut Answer) {
-    let read = gocrypt_conf::read(answer.alloc(), bytes);
-    answer.read(read.as_ref().err());
+    let fault = gocrypt_conf::read(answer.alloc(), bytes).err();
+    answer.read(fault);
 }
 
 // What a call on a configuration that can be read answers.
 fn go_answer(name: &str, args: &Arguments, answer: &mut Answer) {
-    let Ok(conf) = gocrypt_conf::read(answer.alloc(), args.bytes(0)) else {
+    let Some(conf) = gocrypt_conf::read(answer.alloc(), args.bytes(0)).ok() else {
         return answer.word("no configuration");
     };
     match name {
@@ -96,26 +117,10 @@ fn go_make(args: &Arguments, answer: &mut Answer) {
 // Makes a call of cryptomator_conf.
 fn cm_answer(name: &str, args: &Arguments, answer: &mut Answer) -> bool {
     match name {
-        "cm-master-with" => master_read(changed(args.text(0), args, 1, answer).as_bytes(), answer),
         "cm-vault" => vault_read(args.bytes(0), answer),
-        "cm-header-with" => {
-            let header = changed(args.text(0), args, 2, answer);
-            token_read(header.as_bytes(), args.bytes(1), answer);
-        }
-        "cm-payload-with" => {
-            let payload = changed(args.text(1), args, 2, answer);
-            token_read(args.bytes(0), payload.as_bytes(), answer);
-        }
         "cm-unlock" => cm_unlock(args, answer),
         "cm-signature" => signature(args.bytes(2), &keys(args, 0), answer),
-        "cm-signature-before" => {
-            let followed = followed(args.bytes(3), args.bytes(0), answer);
-            signature(followed.as_slice(), &keys(args, 1), answer);
-        }
-        "cm-signature-with" => {
-            let changed = changed(args.text(2), args, 3, answer);
-            signature(changed.as_bytes(), &keys(args, 0), answer);
-        }
+        "cm-signature-before" => signature_before(args, answer),
         "cm-make-master" => made(args, answer, true),
         "cm-make-vault" => made(args, answer, false),
         "cm-make-ctrmac" => made_ctrmac(args, answer),
@@ -127,13 +132,13 @@ fn cm_answer(name: &str, args: &Arguments, answer: &mut Answer) -> bool {
 }
 
 fn master_read(bytes: &[u8], answer: &mut Answer) {
-    let read = read_master(answer.alloc(), bytes);
-    answer.read(read.as_ref().err());
+    let fault = read_master(answer.alloc(), bytes).err();
+    answer.read(fault);
 }
 
 fn vault_read(bytes: &[u8], answer: &mut Answer) {
-    let read = read_vault(answer.alloc(), bytes);
-    answer.read(read.as_ref().err());
+    let fault = read_vault(answer.alloc(), bytes).err();
+    answer.read(fault);
 }
 
 // A token of two objects, with a signature of one byte.
@@ -161,9 +166,9 @@ pub fn keys(args: &Arguments, place: usize) -> CmKeys
 }
 
 fn cm_unlock(args: &Arguments, answer: &mut Answer) {
-    match read_master(answer.alloc(), args.bytes(0)) {
-        Ok(file) => cm_unlocked(&file, args.bytes(1), answer),
-        Err(_) => answer.word("no masterkey.cryptomator"),
+    match read_master(answer.alloc(), args.bytes(0)).ok() {
+        Some(file) => cm_unlocked(&file, args.bytes(1), answer),
+        None => answer.word("no masterkey.cryptomator"),
     }
 }
 
@@ -179,13 +184,18 @@ fn cm_unlocked(file: &MasterFile, pass: &[u8], answer: &mut Answer) {
 }
 
 fn signature(bytes: &[u8], keys: &CmKeys, answer: &mut Answer) {
-    let Ok(file) = read_vault(answer.alloc(), bytes) else {
+    let Some(file) = read_vault(answer.alloc(), bytes).ok() else {
         return answer.word("no vault.cryptomator");
     };
     match check_signature(&file, keys) {
         Ok(()) => answer.word("right"),
         Err(wrong) => answer.shows(&wrong),
     }
+}
+
+fn signature_before(args: &Arguments, answer: &mut Answer) {
+    let followed = followed(args.bytes(3), args.bytes(0), answer);
+    signature(followed.as_slice(), &keys(args, 1), answer);
 }
 
 // Some bytes, and others behind them.

@@ -141,13 +141,9 @@ fn lengths(args: &Arguments, answer: &mut Answer) {
     let value = args.byte(3);
     let alloc = answer.alloc();
     for count in args.few(4)..=args.few(5) {
-        match is_sealed_as_plain(alloc, &key, &iv, ad, value, count) {
-            Ok(true) => {}
-            Ok(false) => {
-                answer.word("others of");
-                return answer.shows(&count);
-            }
-            Err(_) => return answer.lacks(),
+        let same = is_sealed_as_plain(alloc, &key, &iv, ad, value, count);
+        if !answer.goes_on(same, "others of", count) {
+            return;
         }
     }
     answer.word("plain");

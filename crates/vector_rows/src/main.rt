@@ -44,10 +44,15 @@ fn status(rt: &impl Eprint, wrong: &str) -> ExitCode {
 // Plays the rows of each file that the program's words name, and gives the names of the wrong ones.
 fn wrong_rows<R: Env + Files + Print + AllocGlobal>(rt: &R) -> io::Result<String> {
     let mut tally = Tally::new(rt.alloc());
-    for file in env::args(rt)?.skip(1) {
-        play(rt, &mut tally, file.as_str())?;
-    }
+    play_files(rt, &mut tally)?;
     Ok(tally.wrong_names(rt.alloc())?)
+}
+
+fn play_files<R: Env + Files + Print + AllocGlobal>(rt: &R, tally: &mut Tally) -> io::Result<()> {
+    for file in env::args(rt)?.skip(1) {
+        play(rt, tally, file.as_str())?;
+    }
+    Ok(())
 }
 
 // Plays the rows of a file. It prints the wrong ones, and how many were right.
@@ -67,8 +72,20 @@ fn play_lines<R: Print + AllocGlobal>(
 ) -> io::Result<()> {
     let mut given = rows::Given::new(rt.alloc());
     for (place, line) in text.lines().enumerate() {
-        let said = given.play(tally, file, place.saturating_add(1), line)?;
-        print!(rt; "{said}")?;
+        let place = place.saturating_add(1);
+        play_line(rt, tally, &mut given, file, place, line)?;
     }
     Ok(())
+}
+
+fn play_line<R: Print + AllocGlobal>(
+    rt: &R,
+    tally: &mut Tally,
+    given: &mut rows::Given,
+    file: &str,
+    place: usize,
+    line: &str,
+) -> io::Result<()> {
+    let said = given.play(tally, file, place, line)?;
+    print!(rt; "{said}")
 }

@@ -42,7 +42,8 @@ fn associated(args: &Arguments) -> Option<&[u8]> {
 
 // A text that is sealed, and given back. How it is sealed is for the caller to say.
 fn seal(args: &Arguments, answer: &mut Answer) -> Vec<u8> {
-    let (alloc, siv) = (answer.alloc(), siv(args));
+    let alloc = answer.alloc();
+    let siv = siv(args);
     let (ad, text) = (associated(args), args.bytes(3));
     let Ok(sealed) = siv.seal(alloc, ad, text) else {
         answer.lacks();

@@ -152,13 +152,16 @@ fn path(alloc: Global, text: &str) -> Option<PlainPath> {
 }
 
 fn order(args: &Arguments, answer: &mut Answer) {
-    let alloc = answer.alloc();
-    let (Some(left), Some(right)) = (path(alloc, args.text(0)), path(alloc, args.text(1))) else {
-        return answer.word("no two paths, each that of its names");
-    };
-    answer.word(match left.cmp(&right) {
-        Ordering::Less => "less",
-        Ordering::Equal => "equal",
-        Ordering::Greater => "greater",
+    answer.word(match compared(answer.alloc(), args.text(0), args.text(1)) {
+        Some(Ordering::Less) => "less",
+        Some(Ordering::Equal) => "equal",
+        Some(Ordering::Greater) => "greater",
+        None => "no two paths, each that of its names",
     });
+}
+
+fn compared(alloc: Global, left: &str, right: &str) -> Option<Ordering> {
+    let left = path(alloc, left)?;
+    let right = path(alloc, right)?;
+    Some(left.cmp(&right))
 }

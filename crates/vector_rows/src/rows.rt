@@ -120,15 +120,29 @@ impl Given {
         let Some(kinds) = text_of(self.calls.as_slice(), name) else {
             return tally.unread(self.alloc, row, "a call that no line declares");
         };
+        let mut found = Answer::new(self.alloc);
+        match self.make(name, words, kinds, &mut found)? {
+            Some(why) => tally.unread(self.alloc, row, why),
+            None => self.compared(tally, row, &mut found, expected),
+        }
+    }
+
+    // Makes a call, or says why there is none.
+    fn make(
+        &self,
+        name: &str,
+        words: &str,
+        kinds: &str,
+        found: &mut Answer,
+    ) -> Result<Option<&'static str>, AllocError> {
         let mut args = Arguments::new(self.alloc);
         if !self.read(words, kinds, &mut args)? {
-            return tally.unread(self.alloc, row, "arguments of other kinds");
+            return Ok(Some("arguments of other kinds"));
         }
-        let mut found = Answer::new(self.alloc);
-        if !answer(name, &mut args, &mut found) {
-            return tally.unread(self.alloc, row, "no such call");
+        if !answer(name, &mut args, found) {
+            return Ok(Some("no such call"));
         }
-        self.compared(tally, row, &mut found, expected)
+        Ok(None)
     }
 
     // Counts a row by its answer and the expected one.
@@ -163,16 +177,23 @@ impl Given {
         if line.is_empty() || line.starts_with('#') {
             return Ok(String::new(alloc));
         }
-        let (verb, rest) = cut(line);
+        let (verb, _) = cut(line);
         let row = format!(in alloc; "{file}:{place} {verb}")?;
+        self.play_row(tally, row.as_str(), line)
+    }
+
+    // Plays a line of this name that is no comment.
+    fn play_row(&mut self, tally: &mut Tally, row: &str, line: &str) -> Result<String, AllocError> {
+        let alloc = self.alloc;
+        let (verb, rest) = cut(line);
         let is_free = match verb {
             "let" => self.give_value(rest)?,
             "call" => give(alloc, &mut self.calls, rest)?,
-            _ => return self.called(tally, row.as_str(), line),
+            _ => return self.called(tally, row, line),
         };
         if is_free {
             return Ok(String::new(alloc));
         }
-        tally.unread(alloc, row.as_str(), "a name that isn't free")
+        tally.unread(alloc, row, "a name that isn't free")
     }
 }

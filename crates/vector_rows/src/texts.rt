@@ -52,7 +52,8 @@ fn text_copied(args: &Arguments, answer: &mut Answer) {
 
 // A text behind another one, as it shows itself.
 fn text_after(args: &Arguments, answer: &mut Answer) {
-    let (alloc, front, held) = (answer.alloc(), args.text(0), text(args, 1, answer));
+    let (alloc, front) = (answer.alloc(), args.text(0));
+    let held = text(args, 1, answer);
     match format!(in alloc; "{front}{held}") {
         Ok(both) => answer.bytes(both.as_bytes()),
         Err(_) => answer.lacks(),
@@ -60,7 +61,8 @@ fn text_after(args: &Arguments, answer: &mut Answer) {
 }
 
 fn texts_equal(args: &Arguments, answer: &mut Answer) {
-    let (left, right) = (text(args, 0, answer), text(args, 1, answer));
+    let left = text(args, 0, answer);
+    let right = text(args, 1, answer);
     answer.yes_or_no(left == right);
 }
 
@@ -85,7 +87,8 @@ fn bytes_back(args: &Arguments, answer: &mut Answer) {
 }
 
 fn bytes_equal(args: &Arguments, answer: &mut Answer) {
-    let (left, right) = (bytes(args, 0, answer), bytes(args, 1, answer));
+    let left = bytes(args, 0, answer);
+    let right = bytes(args, 1, answer);
     answer.yes_or_no(left == right);
 }
 
@@ -122,73 +125,59 @@ fn json_answer(name: &str, args: &Arguments, answer: &mut Answer) -> bool {
 
 // Makes a call on an object that was read.
 fn object_answer(name: &str, args: &Arguments, object: &Value, answer: &mut Answer) -> bool {
-    match name {
-        "json-object" => answer.word("yes"),
-        "json-number" => number(args.word(0), object, answer),
-        "json-number-in" => number_in(args, object, answer),
-        "json-text" => text_of(args, object, answer),
-        "json-bytes" => bytes_of(args, object, answer),
-        "json-object-at" => is_object(args, object, answer),
-        "json-texts" => texts(args, object, answer),
-        _ => return false,
+    match told(name, args, object, answer) {
+        Ok(is_known) => return is_known,
+        Err(FieldFault::Wrong(name)) => {
+            answer.word("field");
+            answer.shows(&name);
+        }
+        Err(FieldFault::NoMemory) => answer.lacks(),
     }
     true
 }
 
-// The fault of a field, which names it.
-fn fault(fault: FieldFault, answer: &mut Answer) {
-    match fault {
-        FieldFault::Wrong(name) => {
-            answer.word("field");
-            answer.shows(&name);
+// Tells what a call finds in an object, and whether there is a call of this name.
+fn told(
+    name: &str,
+    args: &Arguments,
+    object: &Value,
+    answer: &mut Answer,
+) -> Result<bool, FieldFault> {
+    let (alloc, field) = (answer.alloc(), args.word(0));
+    match name {
+        "json-object" => answer.word("yes"),
+        "json-number" => {
+            let number = number_at(alloc, field, object)?;
+            answer.shows(&number);
         }
-        FieldFault::NoMemory => answer.lacks(),
+        "json-number-in" => {
+            let inner = object_at(alloc, field, object)?;
+            let number = number_at(alloc, args.word(1), inner)?;
+            answer.shows(&number);
+        }
+        "json-text" => {
+            let text = text_at(alloc, field, object)?;
+            answer.bytes(text.as_bytes());
+        }
+        "json-bytes" => {
+            let bytes = bytes_at(alloc, alphabet(args), args.word(1), object)?;
+            answer.bytes(bytes.as_slice());
+        }
+        "json-object-at" => {
+            let _inner = object_at(alloc, field, object)?;
+            answer.word("object");
+        }
+        "json-texts" => texts(field, object, answer)?,
+        _ => return Ok(false),
     }
-}
-
-fn number(name: &str, object: &Value, answer: &mut Answer) {
-    match number_at(answer.alloc(), name, object) {
-        Ok(number) => answer.shows(&number),
-        Err(wrong) => fault(wrong, answer),
-    }
-}
-
-fn number_in(args: &Arguments, object: &Value, answer: &mut Answer) {
-    match object_at(answer.alloc(), args.word(0), object) {
-        Ok(inner) => number(args.word(1), inner, answer),
-        Err(wrong) => fault(wrong, answer),
-    }
-}
-
-fn text_of(args: &Arguments, object: &Value, answer: &mut Answer) {
-    match text_at(answer.alloc(), args.word(0), object) {
-        Ok(text) => answer.bytes(text.as_bytes()),
-        Err(wrong) => fault(wrong, answer),
-    }
-}
-
-fn bytes_of(args: &Arguments, object: &Value, answer: &mut Answer) {
-    match bytes_at(answer.alloc(), alphabet(args), args.word(1), object) {
-        Ok(bytes) => answer.bytes(bytes.as_slice()),
-        Err(wrong) => fault(wrong, answer),
-    }
-}
-
-fn is_object(args: &Arguments, object: &Value, answer: &mut Answer) {
-    match object_at(answer.alloc(), args.word(0), object) {
-        Ok(_) => answer.word("object"),
-        Err(wrong) => fault(wrong, answer),
-    }
+    Ok(true)
 }
 
 // The texts of an array, with a blank between each two.
-fn texts(args: &Arguments, object: &Value, answer: &mut Answer) {
-    match texts_at(answer.alloc(), args.word(0), object) {
-        Ok(texts) => {
-            for text in &texts {
-                answer.word(text);
-            }
-        }
-        Err(wrong) => fault(wrong, answer),
+fn texts(field: &str, object: &Value, answer: &mut Answer) -> Result<(), FieldFault> {
+    let texts = texts_at(answer.alloc(), field, object)?;
+    for text in &texts {
+        answer.word(text);
     }
+    Ok(())
 }

@@ -17,17 +17,17 @@ use row_words::{Said, cut};
 use tree_match::Where;
 use vault_read::LoadFault;
 
-fn overlap(said: &mut Said, one: &FPath, other: &FPath) {
+fn overlap(said: &mut Said, one: FPath, other: FPath) {
     path_fault(said, "Overlap", one);
     said.made(other.text());
 }
 
-fn meet(said: &mut Said, one: &PlainPath, other: &PlainPath) {
+fn meet(said: &mut Said, one: PlainPath, other: PlainPath) {
     plain_fault(said, "Meet", one);
     said.made(other.shown());
 }
 
-fn side_fault(said: &mut Said, side: &Side, fault: &LoadFault) {
+fn side_fault(said: &mut Said, side: Side, fault: LoadFault) {
     match side {
         Side::Source => said.word("Source"),
         Side::Target => said.word("Target"),
@@ -35,7 +35,7 @@ fn side_fault(said: &mut Said, side: &Side, fault: &LoadFault) {
     load_fault(said, fault);
 }
 
-fn differ(said: &mut Said, path: &PlainPath, how: &Where) {
+fn differ(said: &mut Said, path: PlainPath, how: Where) {
     plain_fault(said, "Differ", path);
     said.word(match how {
         Where::Missing => "Missing",
@@ -54,7 +54,7 @@ fn changed(said: &mut Said, was: &[u8; 32], items: u64, is: &[u8; 32], now: u64)
     said.hex(is);
 }
 
-fn move_fault(said: &mut Said, fault: &MoveFault) {
+fn move_fault(said: &mut Said, fault: MoveFault) {
     match fault {
         MoveFault::Work(fault) => work_fault(said, fault),
         MoveFault::Journal(fault) => journal_fault(said, fault),
@@ -64,7 +64,7 @@ fn move_fault(said: &mut Said, fault: &MoveFault) {
         MoveFault::NotEmpty(at) => path_fault(said, "NotEmpty", at),
         MoveFault::NotAllowed(path) => plain_fault(said, "NotAllowed", path),
         MoveFault::Meet(one, other) => meet(said, one, other),
-        MoveFault::Changed(was, items, is, now) => changed(said, was, *items, is, *now),
+        MoveFault::Changed(was, items, is, now) => changed(said, &was, items, &is, now),
         MoveFault::Match(fault) => match_fault(said, fault),
         MoveFault::Differ(path, how) => differ(said, path, how),
         MoveFault::Place(fault) => put_fault(said, fault),
@@ -74,7 +74,7 @@ fn move_fault(said: &mut Said, fault: &MoveFault) {
     }
 }
 
-fn retire_fault(said: &mut Said, fault: &RetireFault) {
+fn retire_fault(said: &mut Said, fault: RetireFault) {
     match fault {
         RetireFault::Work(fault) => work_fault(said, fault),
         RetireFault::Journal(fault) => journal_fault(said, fault),
@@ -102,7 +102,7 @@ fn say_moved(stage: &mut Stage, answer: Result<Done, MoveFault>) {
             stage.ended(0);
         }
         Err(fault) => {
-            move_fault(&mut stage.said, &fault);
+            move_fault(&mut stage.said, fault);
             stage.ended(1);
         }
     }
@@ -116,7 +116,7 @@ fn say_retired(stage: &mut Stage, answer: Result<Retired, RetireFault>) {
             stage.ended(0);
         }
         Err(fault) => {
-            retire_fault(&mut stage.said, &fault);
+            retire_fault(&mut stage.said, fault);
             stage.ended(1);
         }
     }
@@ -133,17 +133,15 @@ fn call_begin(stage: &mut Stage, words: &str, handed: &mut Handed) {
         NameMap::Same
     };
     let work = stage.path(work);
-    let Some(from) = parsed(stage, from) else {
-        return;
-    };
-    let Some(to) = parsed(stage, to) else {
-        return;
-    };
-    let (alloc, folder, random) = (stage.alloc, &mut stage.folder, &mut handed.random);
-    let answer = begin(
-        alloc, folder, &from, &to, &work, names, PASSPHRASE, PASSPHRASE, random,
-    );
-    say_moved(stage, answer);
+    if let Some(from) = parsed(stage, from) {
+        if let Some(to) = parsed(stage, to) {
+            let (alloc, folder, random) = (stage.alloc, &mut stage.folder, &mut handed.random);
+            let answer = begin(
+                alloc, folder, &from, &to, &work, names, PASSPHRASE, PASSPHRASE, random,
+            );
+            say_moved(stage, answer);
+        }
+    }
 }
 
 fn resumed(stage: &mut Stage, work: &FPath, handed: &mut Handed) -> Result<Done, MoveFault> {

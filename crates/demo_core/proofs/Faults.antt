@@ -1,5 +1,5 @@
 -- What a fault of a first call says of the call around it.
-use Rattle.std.proofs.Common.{◌≡◌, ◌≢◌, ◌∙◌, ◌⊎◌, ℕ, Result, Ok, Err, IfErr, IfOk, OnOk, IsErrAnd, inl, inr, refl, sym, subst}
+use Rattle.std.proofs.Common.{◌≡◌, ◌≢◌, ◌∙◌, ◌⊎◌, ℕ, inl, inr, refl, sym, subst}
 use Rattle.content_writing.specs.declared.fault.PutFault.{PutFault}
 use Rattle.content_writing.specs.declared.fault.PutFault.TheVariants as put
 use Rattle.folder_spec.specs.Path.{Path}
@@ -9,24 +9,6 @@ use Rattle.work_folder.specs.declared.fault.WorkFault.TheVariants as work
 use Rattle.demo_core.specs.Making.{IsFailed, IsItemFault, IsMakeFault, IsNotPut}
 use Rattle.demo_core.specs.declared.fault.MakeFault.{MakeFault}
 use Rattle.demo_core.specs.declared.fault.MakeFault.TheVariants.{Load, NoMemory, Put, Work}
-
--- ---- a call that ended by one fault
-
-pub never_ok : {T E : Type 0} (result : Result T E) (Q : E → Type 0) (P : T → Type 0) → IsErrAnd result Q → IfOk result P
-never_ok (Ok value) Q P by_fault = absurd by_fault
-never_ok (Err fault) Q P by_fault = tt
-
-pub never_done : {T E : Type 0} (result : Result T E) (Q : E → Type 0) (P : Type 0) → IsErrAnd result Q → OnOk result P
-never_done (Ok value) Q P by_fault = absurd by_fault
-never_done (Err fault) Q P by_fault = tt
-
-pub at_fault : {T E : Type 0} (result : Result T E) (P : E → Type 0) (fault : E) → IsErrAnd result (λ e. e ≡ fault) → P fault → IfErr result P
-at_fault (Ok value) P fault by_fault holds = absurd by_fault
-at_fault (Err e) P fault by_fault holds = subst P (sym by_fault) holds
-
-pub one_fault : {T E : Type 0} (result : Result T E) (fault other : E) → IsErrAnd result (λ e. e ≡ fault) → result ≡ Err other → fault ≡ other
-one_fault (Ok value) fault other by_fault same = absurd by_fault
-one_fault (Err e) fault other by_fault same = sym by_fault ∙ (let is : e ≡ other = cc same in is)
 
 -- ---- faults of the calls below
 

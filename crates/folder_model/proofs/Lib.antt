@@ -7,3 +7,4 @@ mod Others
 mod Entries
 mod Crashes
 pub mod Counting
+pub mod ByFault

@@ -1,5 +1,5 @@
 -- How the answers of a walk's calls go on.
-use Rattle.std.proofs.Common.{◌≡◌, inl, inr, ℕ, ◌≤◌, Result, Ok, Err, IfErr, IsErrAnd, sym, ◌∙◌, subst, arith}
+use Rattle.std.proofs.Common.{inl, inr, ℕ, ◌≤◌, Err, arith}
 use Rattle.port_model.specs.Counts.{CountRose}
 use Rattle.vault_faults.specs.declared.fault.Limit.TheVariants as limit
 use Rattle.vault_walk.specs.Levels.{Answers}
@@ -20,16 +20,6 @@ answers_on T U many deep many' deep' before mid after (fault.Limit (limit.Length
 answers_on T U many deep many' deep' before mid after (fault.Limit limit.Input) on past less a = a
 answers_on T U many deep many' deep' before mid after fault.Failed on past less a = (omega (arith, less, a.0), rose_before before mid after less a.1)
 answers_on T U many deep many' deep' before mid after fault.NoMemory on past less a = omega (arith, less, a)
-
--- ---- a call that ended by one fault
-
-pub at_fault : {T E : Type 0} (result : Result T E) (P : E → Type 0) (fault : E) → IsErrAnd result (λ e. e ≡ fault) → P fault → IfErr result P
-at_fault (Ok value) P fault by_fault holds = absurd by_fault
-at_fault (Err e) P fault by_fault holds = subst P (sym by_fault) holds
-
-pub one_fault : {T E : Type 0} (result : Result T E) (fault other : E) → IsErrAnd result (λ e. e ≡ fault) → result ≡ Err other → fault ≡ other
-one_fault (Ok value) fault other by_fault same = absurd by_fault
-one_fault (Err e) fault other by_fault same = sym by_fault ∙ (let is : e ≡ other = cc same in is)
 
 -- ---- what a fault of a survey is to a walk
 

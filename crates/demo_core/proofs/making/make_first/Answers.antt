@@ -12,7 +12,8 @@ use Rattle.demo_core.proofs.Shared.{goes_beside, shares_since}
 use Rattle.demo_core.proofs.Beside.{beside_then, made_beside, still_told, told_after}
 use Rattle.demo_core.proofs.Chances.{chance_free, chance_items, fresh_stays, load_free}
 use Rattle.demo_core.proofs.Drawn.{drew_for, drew_then}
-use Rattle.demo_core.proofs.Faults.{at_fault, never_done, not_put_own, one_fault, put_failed}
+use Rattle.folder_model.proofs.ByFault.{at_fault, never_done, one_fault}
+use Rattle.demo_core.proofs.Faults.{not_put_own, put_failed}
 use Rattle.demo_core.proofs.Standing.{holds_in_order, holds_seen}
 use Rattle.demo_core.specs.declared.fault.MakeFault.TheVariants.{Put}
 use Rattle.demo_core.proofs.making.make_first.Goals as goal

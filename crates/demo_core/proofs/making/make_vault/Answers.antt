@@ -13,7 +13,8 @@ use Rattle.content_writing.specs.Making.{is_apart}
 use Rattle.demo_core.specs.Making.{IsBeside, MakesBeside, making_folder}
 use Rattle.demo_core.proofs.Chances.{enter_chance, free_stays, fresh_stays}
 use Rattle.demo_core.proofs.Beside.{beside_nowhere, beside_then, made_beside, may_found, shown_told, told_after, work_beside, work_first}
-use Rattle.demo_core.proofs.Faults.{at_fault, never_ok, one_fault, put_failed, test_draws_nothing, test_own, work_failed}
+use Rattle.folder_model.proofs.ByFault.{at_fault, never_ok, one_fault}
+use Rattle.demo_core.proofs.Faults.{put_failed, test_draws_nothing, test_own, work_failed}
 use Rattle.demo_core.specs.declared.fault.MakeFault.TheVariants.{NoMemory, Put, Work}
 use Rattle.demo_core.proofs.making.make_vault.Goals as goal
 

@@ -10,7 +10,8 @@ use Rattle.vault_check.specs.declared.fault.CheckFault.TheVariants as check
 use Rattle.vault_check.specs.Answers.{IsCheckFault, of_walk}
 use Rattle.vault_check.specs.Contents.{IsContentFault, TellsDamage}
 use Rattle.vault_check.proofs.Damages.{contents_there, none_too_long, too_long}
-use Rattle.vault_check.proofs.Faults.{at_fault, content_fault, one_fault, survey_fault}
+use Rattle.folder_model.proofs.ByFault.{at_fault, one_fault}
+use Rattle.vault_check.proofs.Faults.{content_fault, survey_fault}
 use Rattle.vault_check.proofs.Planned.{IsContentIn, content_listed, content_within}
 use Rattle.vault_check.proofs.Reports.{all_differ, all_reported}
 use Rattle.std.specs.List.{filter_map}

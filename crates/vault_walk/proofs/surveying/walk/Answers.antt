@@ -3,7 +3,8 @@ use Rattle.folder_spec.specs.Seen.{under}
 use Rattle.vault_spec.specs.Vault.{format_of}
 use Rattle.vault_walk.specs.Surveyed.{IsFirstFinding, IsSurveyFault, IsWalkFault}
 use Rattle.vault_walk.specs.declared.fault.WalkFault.TheVariants as fault
-use Rattle.vault_walk.proofs.Answering.{at_fault, one_fault, walk_fault}
+use Rattle.folder_model.proofs.ByFault.{at_fault, one_fault}
+use Rattle.vault_walk.proofs.Answering.{walk_fault}
 use Rattle.vault_walk.proofs.FirstFindings.{clean_where, first_finding}
 use Rattle.vault_walk.proofs.PlanOrder.{placed_in_order}
 use Rattle.vault_walk.proofs.surveying.walk.Goals as goal

@@ -51,7 +51,8 @@ fn is_plain(part: &str) -> bool
 fn is_one_part(part: &str) -> bool
     ensures { result ≡ list_all (λ b. not (b == 47 || b == 0)) part.now }
 {
-    part.as_bytes().iter().all(|b| !(*b == b'/' || *b == 0))
+    let bytes = part.as_bytes();
+    !(bytes.contains(&b'/') || bytes.contains(&0))
 }
 
 // Whether the part names one entry of a directory.

@@ -149,14 +149,14 @@ impl Noted {
 
     /// Notes a directory whose entries change.
     #[tactic(auto, using(crate::proofs::Dirs::sees_same, crate::proofs::Dirs::sees_after))]
-    pub fn change(&mut self, dir: &FPath) -> Result<(), AllocError>
+    pub fn change(&mut self, dir: FPath) -> Result<(), AllocError>
         ensures sees { Sees self.old self.new }
-        ensures changed { OnOk result (IsTrue (has self.new.changed dir.now)) }
+        ensures changed { OnOk result (IsTrue (has self.new.changed dir)) }
         ensures keeps { (at : Path) → IsTrue (has self.old.changed at) → IsTrue (has self.new.changed at) }
-        ensures just { (at : Path) → IsTrue (has self.new.changed at) → IsTrue (has self.old.changed at) ⊎ IsTrue (same dir.now at) }
+        ensures just { (at : Path) → IsTrue (has self.new.changed at) → IsTrue (has self.old.changed at) ⊎ IsTrue (same dir at) }
         ensures seen { self.new.seen ≡ self.old.seen }
     {
-        add(&mut self.changed, dir)?;
+        put(&mut self.changed, dir)?;
         Ok(())
     }
 
@@ -229,12 +229,21 @@ impl Noted {
     }
 }
 
-// Adds a directory to some.
+// Adds a copy of a directory to some.
 fn add(dirs: &mut BTreeSet<FPath, Global>, dir: &FPath) -> Result<(), AllocError>
     ensures has { OnOk result (IsTrue (has dirs.new.keys dir.now)) }
     ensures more { OnOk result (HasMore dirs.old.keys dirs.new.keys dir.now) }
     ensures same { OnErr result (dirs.new.keys ≡ dirs.old.keys) }
 {
-    dirs.insert(dir.copy()?)?;
+    put(dirs, dir.copy()?)
+}
+
+// Adds a directory to some.
+fn put(dirs: &mut BTreeSet<FPath, Global>, dir: FPath) -> Result<(), AllocError>
+    ensures has { OnOk result (IsTrue (has dirs.new.keys dir)) }
+    ensures more { OnOk result (HasMore dirs.old.keys dirs.new.keys dir) }
+    ensures same { OnErr result (dirs.new.keys ≡ dirs.old.keys) }
+{
+    dirs.insert(dir)?;
     Ok(())
 }

@@ -56,7 +56,7 @@ impl HostFolder {
         ensures faults { self.new.faults ≡ self.old.faults }
     {
         let above = at.parent()?;
-        self.noted.change(&above)
+        self.noted.change(above)
     }
 
     // The text of a path at which a change may be made, where a directory stands above it, which is noted.

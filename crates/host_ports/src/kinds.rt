@@ -66,9 +66,9 @@ impl Kinds {
         self.listed.keep(dir, entries);
     }
 
-    // Forgets what stood at and below a path.
-    pub fn forget_below(&mut self, at: &FPath) {
+    // Forgets what stood at and below a path, and keeps what stands there now, if that is known, as `learn` does.
+    pub fn forget_below(&mut self, at: &FPath, stands: Option<Kind>) {
         self.seen.retain(|seen| !seen.at.starts_with(at));
-        self.listed.forget_below(at);
+        self.listed.forget_below(at, stands);
     }
 }

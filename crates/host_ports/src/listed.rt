@@ -92,15 +92,15 @@ impl Listings {
         put
     }
 
-    // Forgets what stood at and below a path.
-    pub fn forget_below(&mut self, at: &FPath) {
+    // Forgets what stood at and below a path, and keeps what stands there now, or that it isn't known.
+    pub fn forget_below(&mut self, at: &FPath, stands: Option<Kind>) {
         if lies_below(&self.last, at) {
             self.last = None;
         }
         if lies_below(&self.other, at) {
             self.other = None;
         }
-        self.put(at, None);
+        self.put(at, stands);
     }
 
     // Whether what stands in the directory with these parts is kept, which then is the one that was used last.

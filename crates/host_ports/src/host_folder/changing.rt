@@ -98,7 +98,7 @@ impl HostFolder {
         ensures faults { self.new.faults ≡ self.old.faults }
     {
         let text = self.make_room(at)?;
-        self.forget_below(at);
+        self.forget_below(at, None);
         create_dir(&self.rt, text.as_str())?;
         self.keep_new_dir(at)
     }
@@ -131,7 +131,7 @@ impl HostFolder {
         ensures { self.new ≡ self.old }
     {
         let copy = at.copy()?;
-        self.forget_below(at);
+        self.forget_below(at, None);
         let file = create_file(&self.rt, text)?;
         self.kinds.learn(at, Kind::File);
         self.keep_made(copy, file);
@@ -188,8 +188,7 @@ impl HostFolder {
     {
         let text = self.take_file(at)?;
         fs::remove_file(&self.rt, text.as_str())?;
-        self.forget_below(at);
-        self.kinds.learn(at, Kind::Missing);
+        self.forget_below(at, Some(Kind::Missing));
         Ok(())
     }
 
@@ -207,8 +206,7 @@ impl HostFolder {
         }
         let text = self.make_room(at)?;
         fs::remove_dir(&self.rt, text.as_str())?;
-        self.forget_below(at);
-        self.kinds.learn(at, Kind::Missing);
+        self.forget_below(at, Some(Kind::Missing));
         self.noted.forget(at);
         Ok(())
     }

@@ -105,12 +105,13 @@ impl HostFolder {
         }
     }
 
-    // Forgets what was open and what stood at and below a path, where something else comes to stand.
-    pub(super) fn forget_below(&mut self, at: &FPath)
+    // Forgets what was open and what stood at and below a path, where something else comes to stand, and keeps what does, if that is known
+    // and what stands in its directory is kept.
+    pub(super) fn forget_below(&mut self, at: &FPath, stands: Option<Kind>)
         ensures { self.new ≡ self.old }
     {
         self.handles.close_below(at);
-        self.kinds.forget_below(at);
+        self.kinds.forget_below(at, stands);
     }
 
     pub(super) fn entries(&mut self, at: &FPath) -> Result<Vec<Entry>, Cause>

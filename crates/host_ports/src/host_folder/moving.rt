@@ -161,12 +161,9 @@ impl HostFolder {
         ensures { self.new ≡ self.old }
     {
         fs::rename(&self.rt, from.text.as_str(), to.text.as_str())?;
-        self.forget_below(old);
-        self.forget_below(new);
+        self.forget_below(old, None);
         self.keep_kind(old, Kind::Missing);
-        if let Some(kind) = from.kind {
-            self.kinds.learn(new, kind);
-        }
+        self.forget_below(new, from.kind);
         Ok(())
     }
 }

@@ -1,12 +1,13 @@
 -- Directories that are noted, step by step.
 use Rattle.std.proofs.Common.{◌≡◌, ◌≢◌, Bool, true, false, ℕ, ◌-◌, ◌<◌, List, [], ◌∷◌, ◌++◌, length, length-append, slice_index_or, Option, Some, None, is_some, ◌||◌, cond, inl, inr, refl, sym, ap, ◌∙◌, subst, arith, IsTrue}
 use Rattle.std.specs.Prelude.{◌⊎◌, IsFalse}
+use Rattle.std.specs.List.{All}
 use Rattle.std.specs.Ordering.{is_eq, ordering_then}
 use Rattle.std.proofs.lemmas.Cmp.{nat_list_cmp_total, tied_itself}
 use Rattle.folder_spec.proofs.Paths.{below_is, parent-child}
 use Rattle.folder_model.specs.Order.{path_cmp}
 use Rattle.folder_spec.specs.Path.{Part, Path, below, parent}
-use Rattle.host_ports.specs.Noted.{AreAmong, Dirs, HasMore, IsJust, Sees, SeesBut, has, is_noted, same}
+use Rattle.host_ports.specs.Noted.{Dirs, HasMore, IsJust, Sees, SeesBut, has, is_noted, same}
 
 -- what was known stays so, or came to be noted, through two steps
 then_noted : (x y z w : Bool) → (IsTrue y → IsTrue x ⊎ IsTrue w) → IsTrue y ⊎ IsTrue z → (IsTrue w → IsTrue z) → IsTrue x ⊎ IsTrue z
@@ -159,11 +160,11 @@ below_apart (part ∷ rest) some = apart_parent part rest
 
 -- ---- directories that are compared first
 
--- the one at a place is known
-pub among_has : (some all listed : List Path) (k : ℕ) (dir at : Path) → listed ≡ some → k < length listed → dir ≡ slice_index_or listed k dir → dir ≡ at → AreAmong some all → IsTrue (has all at)
-among_has some all listed k dir at same within there is are =
-    let among : AreAmong listed all = subst (λ l. AreAmong l all) (sym same) are in
-    subst (λ x. IsTrue (has all x)) (sym there ∙ is) (among k dir within)
+-- the one at a place is as all are
+pub among : (P : Path → Type 0) (some listed : List Path) (k : ℕ) (dir at : Path) → listed ≡ some → k < length listed → dir ≡ slice_index_or listed k dir → dir ≡ at → All P some → P at
+among P some listed k dir at same within there is are =
+    let each : All P listed = subst (λ l. All P l) (sym same) are in
+    subst P (sym there ∙ is) (each k dir within)
 
 -- a path that begins with a directory one part shorter has it above
 above_is : (dir at rest : Path) → at ≡ dir ++ rest → length at - 1 ≡ length dir → parent at ≡ dir

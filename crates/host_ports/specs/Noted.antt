@@ -5,6 +5,7 @@ use Rattle.std.specs.BTreeMap.{is_at}
 use Rattle.std.specs.List.{All, list_any}
 use Rattle.folder_model.specs.Order.{path_cmp}
 use Rattle.folder_spec.specs.Path.{Path}
+use Rattle.host_ports.specs.Places.{names_entries}
 
 -- the directories of which an entry was seen, and those of them that have to be synced: since an earlier process may have left
 -- something unsynced there, or since their entries changed
@@ -34,6 +35,10 @@ HasMore old new dir = (at : Path) → has new at ≡ cond (same dir at) true (ha
 -- each of these directories is one of those
 abbrev pub AreAmong : List Path → List Path → Type 0
 AreAmong some all = All (λ dir. IsTrue (has all dir)) some
+
+-- each part of each of these directories names an entry
+abbrev pub AreNamed : List Path → Type 0
+AreNamed some = All (λ dir. IsTrue (names_entries dir)) some
 
 -- a settle has to sync a directory
 abbrev pub is_noted : Dirs → Path → Bool

@@ -3,8 +3,10 @@
 ghost use Rattle.std.specs.Prelude.{◌≡◌, ◌⊎◌, [], IfOk, IsFalse, IsTrue, OnErr, OnOk};
 ghost use Rattle.folder_spec.specs.Path.{Path, parent};
 ghost use Rattle.host_ports.specs.Noted.{HasMore, Sees, SeesBut, has, same};
+ghost use Rattle.host_ports.specs.Places.{names_entries};
 
-use crate::places::up_to;
+use crate::causes::Cause;
+use crate::places::{test_last_name, test_names, up_to};
 use folder_model::FPath;
 use std::alloc::{AllocError, Global};
 use std::collections::BTreeSet;
@@ -26,13 +28,13 @@ pub struct Noted {
 }
 
 impl Model for Noted {
-    ghost use Rattle.host_ports.specs.Noted.{AreAmong, Dirs};
+    ghost use Rattle.host_ports.specs.Noted.{AreAmong, AreNamed, Dirs};
 
     ghost Value = { Dirs };
 
     ghost view = { λ n. record { known = n.known.keys; seen = n.seen.keys; changed = n.changed.keys } };
 
-    ghost invariant = { λ n. AreAmong n.lately.items n.known.keys };
+    ghost invariant = { λ n. AreAmong n.lately.items n.known.keys × AreNamed n.lately.items };
 }
 
 impl Noted {
@@ -55,14 +57,18 @@ impl Noted {
         self.known.contains(dir)
     }
 
-    /// Whether it knows the directory above a path.
-    pub fn knows_above(&mut self, at: &FPath) -> Result<bool, AllocError>
+    /// Whether it knows the directory above a path, each part of which must name an entry. Those above the last one were tested before where
+    /// it was asked for that directory lately.
+    pub fn knows_above(&mut self, at: &FPath) -> Result<bool, Cause>
+        ensures names { OnOk result (IsTrue (names_entries at.now)) }
         ensures known { IfOk result (λ known. known ≡ has self.old.known (parent at.now)) }
         ensures same { self.new ≡ self.old }
     {
         if self.knew_above(at) {
+            test_last_name(at)?;
             return Ok(true);
         }
+        test_names(at)?;
         let above = at.parent()?;
         let known = self.knows(&above);
         if known {
@@ -73,7 +79,8 @@ impl Noted {
 
     // Whether the directory above a path is one of those that it was asked for last.
     fn knew_above(&self, at: &FPath) -> bool
-        ensures { IsTrue result → IsTrue (has self.now.known (parent at.now)) }
+        ensures known { IsTrue result → IsTrue (has self.now.known (parent at.now)) }
+        ensures named { IsTrue result → IsTrue (names_entries (parent at.now)) }
     {
         let depth = at.depth().saturating_sub(1);
         for dir in self.lately.as_slice() {
@@ -98,7 +105,8 @@ impl Noted {
 
     // Has a known directory compared first from here on, if there is memory for it.
     fn remember(&mut self, dir: FPath)
-        requires { IsTrue (has self.old.known dir) }
+        requires known { IsTrue (has self.old.known dir) }
+        requires named { IsTrue (names_entries dir) }
         ensures { self.new ≡ self.old }
     {
         self.lately.truncate(MOST - 1);

@@ -80,6 +80,20 @@ pub fn test_names(at: &FPath) -> Result<(), Cause>
     }
 }
 
+// The last part of a path must name an entry.
+pub fn test_last_name(at: &FPath) -> Result<(), Cause>
+    ensures { OnOk result (IsTrue (names_entries (parent at.now)) → IsTrue (names_entries at.now)) }
+{
+    let Some((name, _)) = at.parts().split_last() else {
+        return Ok(());
+    };
+    if is_entry_name(name.as_str()) {
+        Ok(())
+    } else {
+        Err(Cause::BadName)
+    }
+}
+
 // What the machine says of what stands at a text, without following a link there; `None` where nothing does.
 pub fn metadata_at(rt: &HostRuntime, text: &str) -> Result<Option<Metadata>, Cause> {
     match fs::symlink_metadata(rt, text) {
@@ -172,7 +186,8 @@ fn goes_down(
     Ok(noted.knows(here) || is_directory(rt, text.as_str())?)
 }
 
-// Whether a directory stands above a path, and no link leads there. What was found once isn't looked at again.
+// Whether a directory stands above a path, and no link leads there. Each part of the path must name an entry. What was found once isn't
+// looked at again.
 #[tactic(auto, using(crate::proofs::Dirs::sees_same, crate::proofs::Dirs::sees_after))]
 fn reaches(
     rt: &HostRuntime,
@@ -181,6 +196,7 @@ fn reaches(
     noted: &mut Noted,
     at: &FPath,
 ) -> Result<bool, Cause>
+    ensures names { OnOk result (IsTrue (names_entries at.now)) }
     ensures sees { Sees noted.old noted.new }
     ensures known { IfOk result (λ reached. IsTrue reached → IsTrue (has noted.new.known (parent at.now))) }
     ensures changed { noted.new.changed ≡ noted.old.changed }
@@ -211,7 +227,6 @@ pub fn reach(
     ensures known { IfOk result (λ reached. IsSome reached → IsTrue (has noted.new.known (parent at.now))) }
     ensures changed { noted.new.changed ≡ noted.old.changed }
 {
-    test_names(at)?;
     if !reaches(rt, alloc, base, noted, at)? {
         return Ok(None);
     }

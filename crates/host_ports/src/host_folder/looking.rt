@@ -76,7 +76,6 @@ impl HostFolder {
         ensures bar { self.new.barred ≡ self.old.barred }
         ensures faults { self.new.faults ≡ self.old.faults }
     {
-        test_names(at)?;
         if self.noted.knows_above(at)? {
             if let Some(kind) = self.kinds.kind_at(at) {
                 return Ok(kind);

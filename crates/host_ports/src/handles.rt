@@ -1,7 +1,7 @@
 //! Files and directories that stay open from one call to the next.
 
 use crate::causes::Cause;
-use crate::places::Node;
+use crate::places::{Node, are_same, is_at_or_below};
 use folder_model::FPath;
 use std::fs::File;
 use std::{fs, mem};
@@ -49,13 +49,13 @@ impl Pair {
 
     // The one that is open at this path.
     pub fn open_at(&mut self, at: &FPath) -> Option<&Opened> {
-        if is_at(&self.other, at) {
+        if !is_at(&self.last, at) {
+            if !is_at(&self.other, at) {
+                return None;
+            }
             mem::swap(&mut self.last, &mut self.other);
         }
-        match &self.last {
-            Some(opened) if opened.at.is(at) => Some(opened),
-            _ => None,
-        }
+        self.last.as_ref()
     }
 
     // Keeps one more, in the place of the one that wasn't used last.
@@ -99,7 +99,7 @@ impl Handles {
     // The file that was made at this path.
     pub fn made_at(&self, at: &FPath) -> Option<&Made> {
         match &self.made {
-            Some(made) if made.at.is(at) => Some(made),
+            Some(made) if are_same(made.at.parts(), at.parts()) => Some(made),
             _ => None,
         }
     }
@@ -109,7 +109,7 @@ impl Handles {
         if self
             .made
             .as_ref()
-            .is_some_and(|made| made.at.starts_with(at))
+            .is_some_and(|made| is_at_or_below(&made.at, at))
         {
             self.made = None;
         }
@@ -120,14 +120,14 @@ impl Handles {
 
 fn is_at(opened: &Option<Opened>, at: &FPath) -> bool {
     match opened {
-        Some(opened) => opened.at.is(at),
+        Some(opened) => are_same(opened.at.parts(), at.parts()),
         None => false,
     }
 }
 
 fn lies_below(opened: &Option<Opened>, at: &FPath) -> bool {
     match opened {
-        Some(opened) => opened.at.starts_with(at),
+        Some(opened) => is_at_or_below(&opened.at, at),
         None => false,
     }
 }

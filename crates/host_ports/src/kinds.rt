@@ -1,6 +1,7 @@
 //! What stood at the paths of claimed folders that were looked at last.
 
 use crate::listed::Listings;
+use crate::places::{are_same, is_at_or_below};
 use folder_model::{Entry, FPath, Kind};
 use std::alloc::{AllocError, Global};
 
@@ -36,13 +37,17 @@ impl Kinds {
     }
 
     fn kind_seen(&self, at: &FPath) -> Option<Kind> {
-        let seen = self.seen.iter().find(|seen| seen.at.is(at))?;
+        let seen = self
+            .seen
+            .iter()
+            .find(|seen| are_same(seen.at.parts(), at.parts()))?;
         Some(seen.kind)
     }
 
     // Keeps what stands at a path: with what stands in its directory, or in the place of what was kept first.
     pub fn keep(&mut self, at: &FPath, kind: Kind) -> Result<(), AllocError> {
-        self.seen.retain(|seen| !seen.at.is(at));
+        self.seen
+            .retain(|seen| !are_same(seen.at.parts(), at.parts()));
         if self.listed.put(at, Some(kind)) {
             return Ok(());
         }
@@ -68,7 +73,7 @@ impl Kinds {
 
     // Forgets what stood at and below a path, and keeps what stands there now, if that is known, as `learn` does.
     pub fn forget_below(&mut self, at: &FPath, stands: Option<Kind>) {
-        self.seen.retain(|seen| !seen.at.starts_with(at));
+        self.seen.retain(|seen| !is_at_or_below(&seen.at, at));
         self.listed.forget_below(at, stands);
     }
 }

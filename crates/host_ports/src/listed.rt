@@ -1,5 +1,6 @@
 //! What stands in the directories of claimed folders that were listed or made last.
 
+use crate::places::{are_same, is_at_or_below};
 use folder_model::{Entry, FPath, Kind};
 use std::alloc::{AllocError, Global};
 use std::collections::BTreeMap;
@@ -105,23 +106,26 @@ impl Listings {
 
     // Whether what stands in the directory with these parts is kept, which then is the one that was used last.
     fn bring(&mut self, dir: &[String]) -> bool {
-        if is_of(&self.other, dir) {
+        if !is_of(&self.last, dir) {
+            if !is_of(&self.other, dir) {
+                return false;
+            }
             mem::swap(&mut self.last, &mut self.other);
         }
-        is_of(&self.last, dir)
+        true
     }
 }
 
 fn is_of(listed: &Option<Listed>, dir: &[String]) -> bool {
     match listed {
-        Some(listed) => listed.dir.parts() == dir,
+        Some(listed) => are_same(listed.dir.parts(), dir),
         None => false,
     }
 }
 
 fn lies_below(listed: &Option<Listed>, at: &FPath) -> bool {
     match listed {
-        Some(listed) => listed.dir.starts_with(at),
+        Some(listed) => is_at_or_below(&listed.dir, at),
         None => false,
     }
 }

@@ -154,6 +154,16 @@ pub fn up_to(parts: &[String], most: usize) -> &[String] {
     &parts[..count]
 }
 
+// Whether two lists of parts are one. Those that are compared mostly have one front, so the last parts are looked at first.
+pub fn are_same(one: &[String], other: &[String]) -> bool {
+    one.len() == other.len() && one.last() == other.last() && one == other
+}
+
+// Whether a path is another one or lies below it.
+pub fn is_at_or_below(path: &FPath, at: &FPath) -> bool {
+    are_same(up_to(path.parts(), at.depth()), at.parts())
+}
+
 // Goes down to a directory from a base, which is taken to be one, and looks at each path on the way of which no entry was seen: whether
 // it is a directory, and no link leads there. How many of the directory's parts lead on.
 fn walk(

@@ -1,5 +1,5 @@
 -- What the bytes held and those that follow them give, step by step.
-use Rattle.std.proofs.Common.{◌≡◌, ℕ, ◌+◌, ◌<◌, ◌≤◌, ◌==◌, ◌&&◌, nat_lt, min, Bool, true, false, cond, List, [], ◌∷◌, ◌++◌, length, take, drop, Option, Some, None, Result, Ok, Err, inl, inr, refl, sym, ap, ◌∙◌, arith, append-nil, length-append}
+use Rattle.std.proofs.Common.{◌≡◌, ℕ, ◌+◌, ◌<◌, ◌≤◌, ◌==◌, ◌&&◌, nat_lt, min, Bool, true, false, cond, List, [], ◌∷◌, ◌++◌, length, take, drop, Option, Some, None, Result, Ok, Err, inl, inr, refl, sym, ap, ◌∙◌, arith, append-nil, length-append, IsSome}
 use Rattle.std.proofs.lemmas.Bool.{cases_lt, eqb-true, le-ltb, lt-ltb}
 use Rattle.std.proofs.lemmas.Bool.Decides.{eqb_tells}
 use Rattle.std.proofs.lemmas.List.{take-append-le, drop-append-le, take_all, drop_all}
@@ -7,6 +7,8 @@ use Rattle.chunk_files.specs.declared.fault.ChunkFault.{ChunkFault}
 use Rattle.chunk_files.specs.declared.fault.ChunkFault.TheVariants.{NoHeader}
 use Rattle.chunk_files.specs.declared.step.Step.{Step}
 use Rattle.chunk_files.specs.declared.step.Step.TheVariants.{More, Chunk, End}
+use Rattle.chunk_files.specs.declared.told.Told.{Told}
+use Rattle.chunk_files.specs.Told.{header_of, header_told}
 use Rattle.chunk_files.specs.Format.{Header, stored_size}
 use Rattle.chunk_files.specs.Keys.{Keys, format_of, IsHeaderOf}
 use Rattle.chunk_files.specs.Reading.{Whole, Wanting, Faulty, ends}
@@ -183,3 +185,8 @@ module _ (keys : Keys) where
       → (format_of keys).header_size ≤ length held → Err fault ≡ (format_of keys).read_header (take (format_of keys).header_size held)
       → read_at keys told number (held ++ more) goes_on ≡ ends (Faulty fault)
   header-fault-at told fault number held more goes_on none long is = rw none (header-read (Err fault) held more goes_on long is)
+
+-- what a header told stands there
+pub some-told : (is_told : Bool) (what : Told) → IsSome (header_told is_told what) → header_told is_told what ≡ Some (header_of what)
+some-told true what some = refl
+some-told false what some = absurd (let no : false ≡ true = some in cc)

@@ -8,7 +8,7 @@ use crate::header::read_header;
 use crate::held::Held;
 use crate::keys::ContentKeys;
 use crate::step::Step;
-use crate::told::Told;
+use crate::told::{Told, untold};
 use std::alloc::{AllocError, Global};
 use std::marker::Model;
 
@@ -17,8 +17,10 @@ use std::marker::Model;
 #[derive(Drop)]
 pub struct Decoder {
     keys: ContentKeys,
-    // Boxed, since a decoder is moved by each function that makes one.
-    told: Box<Option<Told>>,
+    // Boxed, since a decoder is moved by each function that makes one. Before the header is read, the vault's
+    // key stands there.
+    told: Box<Told>,
+    is_told: bool,
     number: u64,
     taken: u64,
     held: Held,
@@ -26,16 +28,16 @@ pub struct Decoder {
 }
 
 impl Model for Decoder {
-    ghost use Rattle.std.specs.Prelude.{◌≡◌, IfSome, option_map};
+    ghost use Rattle.std.specs.Prelude.{◌≡◌};
     ghost use Rattle.chunk_files.specs.Decoding.{Decoding, IsPlaced};
-    ghost use Rattle.chunk_files.specs.Told.{header_of, layout_of};
+    ghost use Rattle.chunk_files.specs.Told.{Suits, header_told};
 
     ghost Value = { Decoding };
 
-    ghost view = { λ d. record { keys = d.keys; header = option_map header_of d.told.value; number = d.number; taken = d.taken; held = d.held; ended = d.ended } };
+    ghost view = { λ d. record { keys = d.keys; header = header_told d.is_told d.told.value; number = d.number; taken = d.taken; held = d.held; ended = d.ended } };
 
-    ghost invariant = { λ d. IsPlaced (record { keys = d.keys; header = option_map header_of d.told.value; number = d.number; taken = d.taken; held = d.held; ended = d.ended })
-        × IfSome d.told.value (λ told. layout_of told ≡ d.keys.layout) };
+    ghost invariant = { λ d. IsPlaced (record { keys = d.keys; header = header_told d.is_told d.told.value; number = d.number; taken = d.taken; held = d.held; ended = d.ended })
+        × Suits d.is_told d.told.value d.keys };
 }
 
 impl Decoder {
@@ -45,10 +47,11 @@ impl Decoder {
         ensures { IfOk result (λ d. d ≡ started keys) }
     {
         let held = Held::new(alloc)?;
-        let told = Box::new(alloc, None)?;
+        let told = untold(alloc, &keys)?;
         Ok(Decoder {
             keys,
             told,
+            is_told: false,
             number: 0,
             taken: 0,
             held,
@@ -102,12 +105,12 @@ impl Decoder {
         ensures wanting { result ≡ Ok Step.More → length self.new.held < wanted self.new.keys self.new.header }
         ensures room { result ≡ Ok Step.More → length self.new.held < 32816 }
     {
-        match &*self.told {
-            Some(_) => self.step_chunk(out),
-            None => match self.step_header() {
-                Some(step) => step,
-                None => self.step_chunk(out),
-            },
+        if self.is_told {
+            return self.step_chunk(out);
+        }
+        match self.step_header() {
+            Some(step) => step,
+            None => self.step_chunk(out),
         }
     }
 
@@ -131,9 +134,9 @@ impl Decoder {
         if held < size {
             return Some(before_header(layout.is_whole_file(held), self.ended));
         }
-        match read_header(&self.keys, &self.held.bytes()[..size]) {
-            Ok(told) => {
-                *self.told = Some(told);
+        match read_header(&self.keys, &self.held.bytes()[..size], &mut self.told) {
+            Ok(()) => {
+                self.is_told = true;
                 self.held.skip(size);
                 None
             }
@@ -152,9 +155,6 @@ impl Decoder {
         ensures placed { IsPlaced self.new }
         ensures wanting { result ≡ Ok Step.More → length self.new.held < wanted self.new.keys self.new.header }
     {
-        let Some(told) = &*self.told else {
-            return Ok(Step::More);
-        };
         let held = self.held.len();
         let stored = self.keys.layout().stored();
         if held < stored && !self.ended {
@@ -166,7 +166,7 @@ impl Decoder {
         let size = held.min(stored);
         match open_chunk(
             &self.keys,
-            told,
+            &self.told,
             self.number,
             &self.held.bytes()[..size],
             out,

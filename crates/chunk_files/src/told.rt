@@ -1,10 +1,13 @@
 //! What a header tells of the chunks behind it.
 
-ghost use Rattle.std.specs.Prelude.{◌≡◌, ◌++◌, ◌≤◌, length, take};
+ghost use Rattle.std.specs.Prelude.{◌≡◌, ◌++◌, ◌≤◌, IfOk, false, length, take};
 ghost use Rattle.std.specs.Int.{to_be_bytes, w64};
+ghost use Rattle.chunk_files.specs.Told.{Suits};
 
+use crate::keys::{ContentKeys, Layout};
 use aes_lanes::Key256;
 use gcm_mode::Gcm;
+use std::alloc::{AllocError, Global};
 
 /// What a header tells, by its layout: the cipher of the chunks, under the key that seals them, and the bytes
 /// that bind them to their file, which are the file's id or the header's nonce.
@@ -13,6 +16,26 @@ pub enum Told {
     Go(Gcm, [u8; 16]),
     CmGcm(Gcm, [u8; 12]),
     CmCtr(Key256, [u8; 16]),
+}
+
+// The vault's key, under which a header is opened, where what it tells is to stand.
+pub fn untold(alloc: Global, keys: &ContentKeys) -> Result<Box<Told>, AllocError>
+    ensures { IfOk result (λ told. Suits false told.value keys.now) }
+{
+    match keys.layout() {
+        Layout::Go => boxed(alloc, Told::Go(keys.gcm(), [0; 16])),
+        Layout::CmGcm => boxed(alloc, Told::CmGcm(keys.gcm(), [0; 12])),
+        Layout::CmCtr => boxed(alloc, Told::CmCtr(keys.cipher(), [0; 16])),
+    }
+}
+
+fn boxed(alloc: Global, told: Told) -> Result<Box<Told>, AllocError>
+    ensures { IfOk result (λ boxed. boxed.value ≡ told) }
+{
+    match Box::new(alloc, told) {
+        Ok(boxed) => Ok(boxed),
+        Err(_) => Err(AllocError),
+    }
 }
 
 // The associated data by GCM of the chunk of this number, and how many bytes they are: the number, and the

@@ -5,7 +5,6 @@ mod Opening
 mod BufferSeals
 mod PutBehind
 mod Given
-mod HeldBytes
 mod Beginnings
 mod Decodings
 mod Lawful

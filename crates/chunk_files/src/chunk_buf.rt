@@ -1,4 +1,4 @@
-ghost use Rattle.std.specs.Prelude.{◌≡◌, ◌<◌, ◌≤◌, ◌+◌, ◌-◌, ◌++◌, ℕ, List, length, take, drop, replicate, IfOk};
+ghost use Rattle.std.specs.Prelude.{◌≡◌, ◌<◌, ◌≤◌, ◌+◌, ◌++◌, ℕ, List, length, take, replicate, IfOk};
 ghost use Rattle.chunk_files.specs.Sealed.{opened_text, sealed_text};
 ghost use Rattle.chunk_files.specs.Steps.{PutsText};
 ghost use Rattle.chunk_files.specs.Tagged.{opened_tagged, tagged_text};
@@ -78,16 +78,6 @@ impl ChunkBuf {
         ensures size { length self.new ≡ CHUNK_BUFFER_SIZE }
     {
         copy_at(&mut self.bytes, at, bytes);
-    }
-
-    // Moves the bytes from `start` to `end` to the front.
-    pub fn move_front(&mut self, start: usize, end: usize)
-        requires start { start ≤ end }
-        requires end { end ≤ CHUNK_BUFFER_SIZE }
-        ensures front { take (end - start) self.new ≡ take (end - start) (drop start self.old) }
-        ensures size { length self.new ≡ CHUNK_BUFFER_SIZE }
-    {
-        move_in(&mut self.bytes, start, end);
     }
 
     // Opens the text that is stored behind a nonce of `n` bytes to the front, and answers its length.
@@ -246,16 +236,6 @@ fn all_of(buffer: &[u8; CHUNK_BUFFER_SIZE]) -> &[u8]
     ensures size { length result.now ≡ CHUNK_BUFFER_SIZE }
 {
     buffer.as_slice()
-}
-
-// Moves bytes of a buffer to its front.
-fn move_in(buffer: &mut [u8; CHUNK_BUFFER_SIZE], start: usize, end: usize)
-    requires start { start ≤ end }
-    requires end { end ≤ CHUNK_BUFFER_SIZE }
-    ensures front { take (end - start) buffer.new ≡ take (end - start) (drop start buffer.old) }
-    ensures size { length buffer.new ≡ CHUNK_BUFFER_SIZE }
-{
-    buffer.copy_within(start..end, 0);
 }
 
 // Copies bytes into a buffer, behind its first `at`.

@@ -25,8 +25,16 @@ pub fn untold(alloc: Global, keys: &ContentKeys) -> Result<Box<Told>, AllocError
     match keys.layout() {
         Layout::Go => boxed(alloc, Told::Go(keys.gcm(), [0; 16])),
         Layout::CmGcm => boxed(alloc, Told::CmGcm(keys.gcm(), [0; 12])),
-        Layout::CmCtr => boxed(alloc, Told::CmCtr(keys.cipher(), [0; 16])),
+        Layout::CmCtr => untold_ctr(alloc, keys),
     }
+}
+
+// Apart, since a function clears its locals when it begins.
+fn untold_ctr(alloc: Global, keys: &ContentKeys) -> Result<Box<Told>, AllocError>
+    requires { keys.now.layout ≡ Layout.CmCtr }
+    ensures { IfOk result (λ told. Suits false told.value keys.now) }
+{
+    boxed(alloc, Told::CmCtr(keys.cipher(), [0; 16]))
 }
 
 fn boxed(alloc: Global, told: Told) -> Result<Box<Told>, AllocError>

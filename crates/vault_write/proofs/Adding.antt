@@ -17,7 +17,7 @@ use Rattle.folder_spec.proofs.Paths.{begins_or_not, not_below, parent-child, bel
 use Rattle.folder_spec.proofs.Replaces.{apart-from_below}
 use Rattle.folder_spec.proofs.Seen.{may_call_allowed, seen_of}
 use Rattle.folder_spec.proofs.Stages.{Staging, new_file_view}
-use Rattle.folder_spec.proofs.Tellings.{from_to_on, from_to_more, from_to_both}
+use Rattle.folder_spec.proofs.Tellings.{from_to_on, from_to_more, from_to_both, from_to_then}
 use Rattle.folder_spec.proofs.Written.{fronts_of_more}
 use Rattle.folder_spec.proofs.Regions.{seen_as_before}
 use Rattle.folder_staging.specs.Folders.{IsStagingFolder}
@@ -133,20 +133,13 @@ file_staging files at a b went =
     went_more (IsStaging files at a.state) (IsStagingFolder files at a.state) (λ s e. StagesAt at a.state s e.call) (λ s e. StagesAt at a.state s e.call) a b
     (λ s h. record { others = h.others; fronts = h.fronts }) (λ s e h. h) went
 
--- what is told afterwards is sound
-pub sound_after : (R : Told → Told → Type 0) (t u : Option Told) → ((a : Told) → u ≡ Some a → IsSound a.state) → FromTo R t u → FromTo (λ a b. R a b × IsSound b.state) t u
-sound_after R None None sound h = tt
-sound_after R (Some a) (Some b) sound h = (h, sound b refl)
-sound_after R None (Some b) sound h = absurd h
-sound_after R (Some a) None sound h = absurd h
-
 -- a file that was staged is staged whole
 pub file_staged : (files : List (List ℕ)) (at : Path) (bytes : List ℕ) (t u : Option Told) → ((a : Told) → u ≡ Some a → IsSound a.state)
     → Stages files at t u → FromTo (λ a b. IsNewFile bytes a.state b.state (present b.state at)) t u → FromTo (IsStagedWhole files at (file_view bytes)) t u
 file_staged files at bytes t u sound stages new =
     from_to_more (λ a b. (Staging files at a b × IsNewFile bytes a.state b.state (present b.state at)) × IsSound b.state) (IsStagedWhole files at (file_view bytes)) t u
     (λ a b is k. (file_staging files at a b k.0.0, new_file_view at bytes a.state b.state k.1 k.0.1, k.1))
-    (sound_after (λ a b. Staging files at a b × IsNewFile bytes a.state b.state (present b.state at)) t u sound
+    (from_to_then (λ a b. Staging files at a b × IsNewFile bytes a.state b.state (present b.state at)) (λ b. IsSound b.state) t u sound
     (from_to_both (Staging files at) (λ a b. IsNewFile bytes a.state b.state (present b.state at)) t u stages new))
 
 -- a place in a stage that is ready

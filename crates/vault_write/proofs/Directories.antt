@@ -14,7 +14,7 @@ use Rattle.folder_spec.specs.Seen.{IfSeen, ShowsFree}
 use Rattle.folder_spec.specs.View.{NoEntry, Folder, FileOf, View}
 use Rattle.folder_spec.proofs.Paths.{parent-child, child-not_base}
 use Rattle.folder_spec.proofs.Stages.{Staging, staging_more}
-use Rattle.folder_spec.proofs.Tellings.{from_to_more, from_to_both}
+use Rattle.folder_spec.proofs.Tellings.{from_to_more, from_to_both, from_to_then}
 use Rattle.folder_staging.specs.Folders.{StagesFolder, HasStaged, IsStagedFolder}
 use Rattle.folder_staging.specs.Pieces.{Stages}
 use Rattle.folder_staging.specs.Places.{IsStage}
@@ -23,7 +23,7 @@ use Rattle.vault_spec.specs.Cryptomator.{full_file, full_files}
 use Rattle.vault_spec.specs.Making.{full_texts}
 use Rattle.vault_write.specs.Editing.{AddsEdits, AddsName, MayCome, side_edits}
 use Rattle.vault_write.proofs.Edited.{StagingAt}
-use Rattle.vault_write.proofs.Adding.{adds_staging, adds_renamed, IsStagedWhole, sound_after, free_in_stage, renames_allowed}
+use Rattle.vault_write.proofs.Adding.{adds_staging, adds_renamed, IsStagedWhole, free_in_stage, renames_allowed}
 
 -- the laws of what is staged
 abbrev pub AreSeen : Type 0
@@ -95,7 +95,7 @@ name_place seen_law staged contents key_name key t u apart whole v is_seen =
 pub whole_staged : (files : List (List ℕ)) (staged : Path) (made : View) (t u : Option Told) → ((a : Told) → u ≡ Some a → IsSound a.state) → HasStaged files staged made t u → FromTo (IsStagedWhole files staged made) t u
 whole_staged files staged made t u sound whole =
     from_to_more (λ a b. (StagingAt files staged a b × IsStagedView b.state (present b.state) staged made) × IsSound b.state) (IsStagedWhole files staged made) t u (λ a b is k. (k.0.0, k.0.1, k.1))
-    (sound_after (λ a b. StagingAt files staged a b × IsStagedView b.state (present b.state) staged made) t u sound
+    (from_to_then (λ a b. StagingAt files staged a b × IsStagedView b.state (present b.state) staged made) (λ b. IsSound b.state) t u sound
     (from_to_both (StagingAt files staged) (λ a b. IsStagedView b.state (present b.state) staged made) t u whole.stages whole.whole))
 
 pub directory_renamed : (work : Path) (x : Part) (staged at : Path) (entries : List (Part × List ℕ)) (files : List (List ℕ)) (t u w : Option Told) (result : Result (Unit {0}) FolderFault) → staged ≡ child (stage_path work) x

@@ -4,7 +4,7 @@ use Rattle.std.specs.List.{list_all}
 use Rattle.std.proofs.lemmas.Bool.{le-leb, eqb-true}
 use Rattle.std.proofs.lemmas.List.{take_all, take_more}
 use Rattle.std.proofs.lemmas.Bool.Decides.{leb_tells, eqb_tells}
-use Rattle.std.proofs.Common.{arith, true, false, Bool, nat_lt, nat_le, nat_eq, ◌≡◌, ◌⊎◌, ◌<◌, ℕ, ◌≤◌, zero, suc, List, [], ◌∷◌, ◌++◌, ◌+◌, ◌-◌, get_or, length, take, replicate, cond, ◌*◌, Option, Some, None, Result, Ok, Err, refl, sym, ap, ◌∙◌, inl, inr, subst, IsTrue}
+use Rattle.std.proofs.Common.{arith, true, false, Bool, nat_lt, nat_le, nat_eq, ◌≡◌, ◌≢◌, ◌⊎◌, ◌<◌, ℕ, ◌≤◌, zero, suc, List, [], ◌∷◌, ◌++◌, ◌+◌, ◌-◌, get_or, length, take, replicate, cond, ◌*◌, Option, Some, None, Result, Ok, Err, IsErrAnd, refl, sym, ap, ◌∙◌, inl, inr, subst, IsTrue}
 use Rattle.chunk_files.specs.Keys as contents
 use Rattle.chunk_files.specs.Keys.{Keys}
 use Rattle.chunk_files.specs.Zeros.{is_all_zero}
@@ -17,7 +17,6 @@ use Rattle.content_writing.specs.declared.fault.PutFault.TheVariants as puts
 use Rattle.vault_keys.specs.Id.{id_of}
 use Rattle.folder_spec.specs.declared.FolderFault.{FolderFault}
 use Rattle.folder_spec.specs.Path.{Path, parent}
-use Rattle.folder_spec.proofs.Paths.{child-injective, child-last, child-not_base}
 use Rattle.folder_spec.proofs.Seen.{seen_of}
 use Rattle.folder_spec.specs.State.{IsSound}
 use Rattle.folder_spec.specs.Event.{Told, FromTo}
@@ -37,21 +36,23 @@ use Rattle.vault_spec.specs.Gocryptfs.{directory_key, taken_unless}
 use Rattle.vault_spec.specs.Making.{NewDirectory, draws}
 use Rattle.vault_spec.specs.Standing.{entry_at}
 use Rattle.vault_spec.specs.Vault.{Vault, Gocryptfs, Cryptomator, format_of}
-use Rattle.vault_write.specs.Calls.{MakesDirectory, MakesOne, New}
+use Rattle.vault_write.specs.Calls.{MakesDirectory, New}
 use Rattle.vault_write.specs.Editing.{Edits, HasFinished, HasBegun, GoPlaces, CmPlaces, go_making, cm_making}
 use Rattle.vault_write.specs.Founding.{SomeDrew, DrawsSome}
 use Rattle.content_writing.specs.Making.{Placing, Making, format}
 use Rattle.content_writing.specs.Placing.{MayMake}
-use Rattle.vault_write.specs.Refusing.{Answers, TakesRoot}
+use Rattle.vault_write.specs.Refusing.{Answers}
 use Rattle.vault_write.specs.Showing.{EditsShowTrees, SettledEditsShowTrees}
 use Rattle.vault_write.specs.Slots.{IsSlot, IsTakenAt, IsShelfTaken, IsHomeTaken, DrewAtMost, PlacesOne, wants_text, placing}
 use Rattle.vault_write.proofs.Begun.{FoldersStand, has_begun}
 use Rattle.vault_write.proofs.CmBegun.{cm_begun, cm_places, shelf_above}
-use Rattle.vault_write.proofs.Found.{Enters, taken_there}
+use Rattle.vault_write.proofs.Exits.{at_fault}
+use Rattle.vault_write.proofs.Found.{Enters, or_taken, taken_there}
 use Rattle.vault_write.proofs.GoBegun.{go_begun, go_places}
 use Rattle.vault_write.proofs.NewVaults.{is_key}
+use Rattle.vault_write.proofs.Seeing.{if_seen}
 use Rattle.vault_write.proofs.Stages.{left_true, right_true}
-use Rattle.vault_write.proofs.ItemMade.{IsBegun, RootsShow, one_ok, one_failed, one_refused}
+use Rattle.vault_write.proofs.ItemMade.{IsBegun, IsRootFault, RootsShow, makes_named, makes_root, one_ok, one_failed, one_refused}
 
 abbrev Stream : Type 0
 Stream = Option ByteStream
@@ -62,17 +63,17 @@ drawn_none (Some stream) = λ place. refl
 
 -- nothing was changed
 pub refused_one : (p : Placing) (drawn : List ℕ) (s s' : Stream) (t u : Option Told) (fault : PutFault) (result : Result (Unit {0}) PutFault)
-    → Draws s s' drawn → length drawn ≤ draws (format p) p.item → u ≡ t → IfSeen t (λ v. Answers p drawn Whole (under p.vault.root v) (Err fault)) → result ≡ Err fault
+    → Draws s s' drawn → length drawn ≤ draws (format p) p.item → u ≡ t → IfSeen t (λ v. Answers p drawn Whole (under p.vault.root v) (Err fault)) → IsErrAnd result (λ e. e ≡ fault)
     → PlacesOne p s s' t u result
-refused_one p drawn s s' t u fault result were few same answer is =
-    subst (PlacesOne p s s' t u) (sym is)
-    (subst (λ x. PlacesOne p s s' t x (Err fault)) (sym same) (record { drawn = drawn; were_drawn = were; one = one_refused p Whole drawn t fault few answer }))
+refused_one p drawn s s' t u fault result were few same answer by_fault =
+    at_fault (PlacesOne p s s' t u) result fault by_fault
+    (subst (λ x. PlacesOne p s s' t x (Err fault)) (sym same) (record { drawn = drawn; were_drawn = were; one = one_refused New p Whole drawn t fault few answer }))
 
 -- a call that did the edits failed, or made the item
 module _ (shows : EditsShowTrees) (settles : SettledEditsShowTrees) (roots : RootsShow) (p : Placing) (drawn : List ℕ) (m : Making) (s s' : Stream) (t w : Option Told)
     (begun : (a : Told) → t ≡ Some a → IsBegun p drawn m a) (were : Draws s s' drawn) (size : length drawn ≡ draws (format p) p.item) where
-  pub failed_one : (fault : FolderFault) (result : Result (Unit {0}) PutFault) → FromTo (Edits p.work p.vault.root m) t w → result ≡ Err (of_folder fault) → PlacesOne p s s' t w result
-  failed_one fault result went is = subst (PlacesOne p s s' t w) (sym is) (record { drawn = drawn; were_drawn = were; one = one_failed shows settles roots p drawn m t w begun size fault went })
+  pub failed_one : (fault : FolderFault) (result : Result (Unit {0}) PutFault) → FromTo (Edits p.work p.vault.root m) t w → IsErrAnd result (λ e. e ≡ of_folder fault) → PlacesOne p s s' t w result
+  failed_one fault result went by_fault = at_fault (PlacesOne p s s' t w) result (of_folder fault) by_fault (record { drawn = drawn; were_drawn = were; one = one_failed shows settles roots p drawn m t w begun size fault went })
 
   pub done_one : DrewNoZeros (format p).content drawn → FromTo (Edits p.work p.vault.root m) t w → FromTo (HasFinished p.work p.vault.root m) t w → PlacesOne p s s' t w (Ok tt)
   done_one none went finished = record { drawn = drawn; were_drawn = were; one = one_ok shows settles roots p drawn m t w begun size none went finished }
@@ -128,9 +129,9 @@ key_has_bits keys key size some (suc number) has = let long : 16 * suc (suc numb
 
 -- no key was drawn
 pub go_undrawn : (vault : OpenedVault) → kind_of vault.vault ≡ kind.Gocryptfs → (work : Path) (front : plain.Path) (name : List ℕ) (s s' : Stream) (t u : Option Told) (fault : PutFault) (result : Result (Unit {0}) PutFault)
-    → DrawsSome s s' (Err fault) → u ≡ t → result ≡ Err fault → PlacesOne (placing vault work front name NewDirectory) s s' t u result
-go_undrawn vault is work front name s s' t u fault result h same e =
-    refused_one (placing vault work front name NewDirectory) h.drawn s s' t u fault result h.were_drawn (few fault h.drew) same (λ v seen_so. answer fault (under vault.root v) h.drew) e
+    → DrawsSome s s' (Err fault) → u ≡ t → IsErrAnd result (λ e. e ≡ fault) → PlacesOne (placing vault work front name NewDirectory) s s' t u result
+go_undrawn vault is work front name s s' t u fault result h same by_fault =
+    refused_one (placing vault work front name NewDirectory) h.drawn s s' t u fault result h.were_drawn (few fault h.drew) same (λ v seen_so. answer fault (under vault.root v) h.drew) by_fault
   where
     few : (fault : PutFault) → SomeDrew h.bytes h.drawn (Err fault) → length h.drawn ≤ 16
     few puts.ZeroRandom k = let size : length h.drawn ≡ 16 = ap length k.0 ∙ h.sizes.size in omega (arith, size)
@@ -153,18 +154,14 @@ pub cm_may : Enters → FoldersStand → (root : Path) (vault : Vault) → kind_
 cm_may enters folders root (Cryptomator cm) is laws work front name named t may sound at side full slot shelf home wants id drawn home_is shelf_is home_free shelf_by id_is is_id sixteen = record {
   begun = begun_at;
   begins = has_begun (placing (record { root = root; vault = Cryptomator cm }) work front name NewDirectory) drawn (cm_making wants shelf home at full id) t refl may sound begun_at;
-  places = places_at t refl;
+  places = if_seen (λ v. CmPlaces v work wants shelf home at) t
+      (λ a told. cm_places enters cm root work front name id a at side full shelf home wants (sound a told) (slot (seen a.state) (seen_of t a told)) home_is shelf_is
+      (home_free (seen a.state) (seen_of t a told)) (shelf_by (seen a.state) (seen_of t a told)) may.apart may.beside folders (may.ready (seen a.state) (seen_of t a told)));
 }
   where
     begun_at : (a : Told) → t ≡ Some a → IsBegun (placing (record { root = root; vault = Cryptomator cm }) work front name NewDirectory) drawn (cm_making wants shelf home at full id) a
     begun_at a told = cm_begun enters cm root work front name id a at side full shelf home wants (sound a told) (slot (seen a.state) (seen_of t a told)) home_is shelf_is
         (home_free (seen a.state) (seen_of t a told)) (shelf_by (seen a.state) (seen_of t a told)) may.apart may.beside laws named drawn id_is is_id sixteen
-
-    places_at : (o : Option Told) → t ≡ o → IfSeen o (λ v. CmPlaces v work wants shelf home at)
-    places_at (Some a) told v s = subst (λ z. CmPlaces z work wants shelf home at) (sym s)
-        (cm_places enters cm root work front name id a at side full shelf home wants (sound a told) (slot (seen a.state) (seen_of t a told)) home_is shelf_is
-        (home_free (seen a.state) (seen_of t a told)) (shelf_by (seen a.state) (seen_of t a told)) may.apart may.beside folders (may.ready (seen a.state) (seen_of t a told)))
-    places_at None told v s = absurd s
 cm_may enters folders root (Gocryptfs keys) is laws work front name named t may sound at side full slot shelf home wants id drawn home_is shelf_is home_free shelf_by id_is is_id sixteen = let clash : kind.Gocryptfs ≡ kind.Cryptomator = is in cc
 
 -- no zeros are refused
@@ -205,9 +202,9 @@ is_id id size characters = rw (characters_small id characters, size) refl
 
 -- no id was drawn
 pub undrawn_one : (vault : OpenedVault) (work : Path) (front : plain.Path) (name : List ℕ) (s s' : Stream) (t u : Option Told) (fault : PutFault) (result : Result (Unit {0}) PutFault)
-    → DrewAtMost 16 s s' → (fault ≡ puts.Random) ⊎ (fault ≡ puts.NoMemory) → u ≡ t → result ≡ Err fault → PlacesOne (placing vault work front name NewDirectory) s s' t u result
-undrawn_one vault work front name s s' t u fault result h kinds same e =
-    refused_one (placing vault work front name NewDirectory) h.drawn s s' t u fault result h.were_drawn h.few same (λ v seen_so. answer (under vault.root v)) e
+    → DrewAtMost 16 s s' → (fault ≡ puts.Random) ⊎ (fault ≡ puts.NoMemory) → u ≡ t → IsErrAnd result (λ e. e ≡ fault) → PlacesOne (placing vault work front name NewDirectory) s s' t u result
+undrawn_one vault work front name s s' t u fault result h kinds same by_fault =
+    refused_one (placing vault work front name NewDirectory) h.drawn s s' t u fault result h.were_drawn h.few same (λ v seen_so. answer (under vault.root v)) by_fault
   where
     answer : (v : View) → Answers (placing vault work front name NewDirectory) h.drawn Whole v (Err fault)
     answer v = elim kinds [
@@ -228,6 +225,12 @@ module _ (cm : CmVault) (root work : Path) (front : plain.Path) (name id drawn :
   abbrev p : Placing
   p = placing (record { root = root; vault = Cryptomator cm }) work front name NewDirectory
 
+  abbrev home : Path
+  home = root ++ folder_named (cm_folder_of cm.keys id)
+
+  abbrev shelf : Path
+  shelf = parent home
+
   folders_taken : (place : Path) (v : View) → (s : IsSeen t v) → taken_folders (under root v) (cm_folder_of cm.keys id) ≡ Some place → Answers p drawn Whole (under root v) (Err (puts.Taken (root ++ place)))
   folders_taken place v s e = (
     place,
@@ -240,30 +243,25 @@ module _ (cm : CmVault) (root work : Path) (front : plain.Path) (name id drawn :
     },
   )
 
-  home_taken : (fault : PutFault) → IsTakenAt (root ++ folder_named (cm_folder_of cm.keys id)) t fault → IfSeen t (λ v. Answers p drawn Whole (under root v) (Err fault))
-  home_taken fault (inl failed) v s = subst (λ x. Answers p drawn Whole (under root v) (Err x)) (sym failed) tt
-  home_taken fault (inr (inl memory)) v s = subst (λ x. Answers p drawn Whole (under root v) (Err x)) (sym memory) tt
-  home_taken fault (inr (inr taken)) v s =
-      subst (λ x. Answers p drawn Whole (under root v) (Err x)) (sym taken.0)
-      (folders_taken (folder_named (cm_folder_of cm.keys id)) v s
+  home_taken : (fault : PutFault) → IsTakenAt home t fault → IfSeen t (λ v. Answers p drawn Whole (under root v) (Err fault))
+  home_taken fault is v s =
+      or_taken p drawn Whole (under root v) fault home (IfSeen t (λ v. v home ≢ NoEntry))
+      (λ taken. folders_taken (folder_named (cm_folder_of cm.keys id)) v s
       (ap (λ o. option_or o (taken_unless_folder (shelf_named (cm_folder_of cm.keys id)) (under root v (shelf_named (cm_folder_of cm.keys id)))))
-      (taken_there (folder_named (cm_folder_of cm.keys id)) (under root v (folder_named (cm_folder_of cm.keys id))) (taken.1 v s))))
+      (taken_there (folder_named (cm_folder_of cm.keys id)) (under root v (folder_named (cm_folder_of cm.keys id))) (taken v s)))) is
 
-  shelf_taken : (fault : PutFault) → IfSeen t (λ v. v (root ++ folder_named (cm_folder_of cm.keys id)) ≡ NoEntry) → IsShelfTaken (parent (root ++ folder_named (cm_folder_of cm.keys id))) t fault
-      → IfSeen t (λ v. Answers p drawn Whole (under root v) (Err fault))
-  shelf_taken fault free (inl failed) v s = subst (λ x. Answers p drawn Whole (under root v) (Err x)) (sym failed) tt
-  shelf_taken fault free (inr (inl memory)) v s = subst (λ x. Answers p drawn Whole (under root v) (Err x)) (sym memory) tt
-  shelf_taken fault free (inr (inr taken)) v s =
-      subst (λ x. Answers p drawn Whole (under root v) (Err x)) (sym (taken.0 ∙ ap puts.Taken (shelf_above root (cm_folder_of cm.keys id))))
+  shelf_taken : (fault : PutFault) → IfSeen t (λ v. v home ≡ NoEntry) → IsShelfTaken shelf t fault → IfSeen t (λ v. Answers p drawn Whole (under root v) (Err fault))
+  shelf_taken fault free is v s =
+      or_taken p drawn Whole (under root v) fault shelf (IfSeen t (λ v. taken_unless_folder shelf (v shelf) ≡ Some shelf))
+      (λ taken. subst (λ q. Answers p drawn Whole (under root v) (Err (puts.Taken q))) (sym (shelf_above root (cm_folder_of cm.keys id)))
       (folders_taken (shelf_named (cm_folder_of cm.keys id)) v s
       (ap (λ x. option_or (taken_at (folder_named (cm_folder_of cm.keys id)) x) (taken_unless_folder (shelf_named (cm_folder_of cm.keys id)) (under root v (shelf_named (cm_folder_of cm.keys id))))) (free v s)
-      ∙ unless_folder (parent (root ++ folder_named (cm_folder_of cm.keys id))) (shelf_named (cm_folder_of cm.keys id)) (under root v (shelf_named (cm_folder_of cm.keys id)))
-      (ap (λ q. taken_unless_folder (parent (root ++ folder_named (cm_folder_of cm.keys id))) (v q)) (sym (shelf_above root (cm_folder_of cm.keys id))) ∙ taken.1 v s)))
+      ∙ unless_folder shelf (shelf_named (cm_folder_of cm.keys id)) (under root v (shelf_named (cm_folder_of cm.keys id)))
+      (ap (λ q. taken_unless_folder shelf (v q)) (sym (shelf_above root (cm_folder_of cm.keys id))) ∙ taken v s)))) is
 
-  either_taken : (fault : PutFault) → IsHomeTaken (parent (root ++ folder_named (cm_folder_of cm.keys id))) (root ++ folder_named (cm_folder_of cm.keys id)) t fault
-      → IfSeen t (λ v. Answers p drawn Whole (under root v) (Err fault))
-  either_taken fault (inl home) = home_taken fault home
-  either_taken fault (inr shelf) = shelf_taken fault shelf.0 shelf.1
+  either_taken : (fault : PutFault) → IsHomeTaken shelf home t fault → IfSeen t (λ v. Answers p drawn Whole (under root v) (Err fault))
+  either_taken fault (inl first) = home_taken fault first
+  either_taken fault (inr second) = shelf_taken fault second.0 second.1
 
 pub home_refused : (root : Path) (vault : Vault) → kind_of vault ≡ kind.Cryptomator → (work : Path) (front : plain.Path) (name id drawn : List ℕ) (t : Option Told) (at side : Path) (full : Option (List ℕ)) → id ≡ id_of drawn
     → IfSeen t (λ v. IsSlot (record { root = root; vault = vault }) (format_of vault) front name (under root v) at side full) → (fault : PutFault)
@@ -289,28 +287,14 @@ last_name names path name same some is =
     let whole : length names ≤ length names - 1 + 1 = omega arith in
     sym same ∙ sym (take_all (length names - 1 + 1) names whole) ∙ take_more names (length names - 1) name below ∙ ap (λ x. take (length names - 1) names ++ x ∷ []) (sym is)
 
-pub root_made : (vault : OpenedVault) (work : Path) (path : plain.Path) (s : Stream) (t : Option Told) (result : Result (Unit {0}) PutFault) → path ≡ [] → TakesRoot vault.root result
-    → MakesDirectory vault work path s s t t result
-root_made vault work path s t result is takes = record {
-  drawn = [];
-  were_drawn = drawn_none s;
-  makes = record {
-    named = λ front name whole. absurd (child-not_base front name (sym whole ∙ is));
-    root = λ none. (refl, refl, takes);
-  };
-}
+pub root_made : (vault : OpenedVault) (work : Path) (path : plain.Path) (s : Stream) (t : Option Told) (fault : PutFault) → path ≡ [] → IsRootFault New vault.root fault
+    → MakesDirectory vault work path s s t t (Err fault)
+root_made vault work path s t fault none is = record { drawn = []; were_drawn = drawn_none s; makes = makes_root New vault work path NewDirectory Whole t fault none is }
 
 pub named_made : (vault : OpenedVault) (work : Path) (path front : plain.Path) (name : List ℕ) (s s' : Stream) (t u : Option Told) (result : Result (Unit {0}) PutFault) → path ≡ front ++ name ∷ []
     → PlacesOne (placing vault work front name NewDirectory) s s' t u result → MakesDirectory vault work path s s' t u result
 named_made vault work path front name s s' t u result is k = record {
   drawn = k.drawn;
   were_drawn = k.were_drawn;
-  makes = record {
-    named = λ front' name' also.
-        let up : front ≡ front' = child-injective front front' name name' (sym is ∙ also) in
-        let last : name ≡ name' = child-last front name name' (sym is ∙ also ∙ ap (λ p. p ++ name' ∷ []) (sym up)) in
-        subst (λ p. MakesOne New (placing vault work p name' NewDirectory) Whole k.drawn t u result) up
-        (subst (λ n. MakesOne New (placing vault work front n NewDirectory) Whole k.drawn t u result) last k.one);
-    root = λ none. absurd (child-not_base front name (sym is ∙ none));
-  };
+  makes = makes_named New vault work path front name NewDirectory Whole k.drawn t u result is k.one;
 }

@@ -1,5 +1,5 @@
 -- What a vault has drawn at each exit.
-use Rattle.std.proofs.Common.{◌≡◌, ◌<◌, ℕ, zero, suc, true, false, List, [], ◌++◌, slice_index, replicate, Option, Ok, Err, refl, ap, ◌∙◌, inl, inr, arith, append-nil}
+use Rattle.std.proofs.Common.{◌≡◌, ◌<◌, ℕ, zero, suc, true, false, List, [], ◌++◌, slice_index, replicate, Option, Result, Ok, Err, IsErrAnd, refl, sym, ap, ◌∙◌, inl, inr, subst, arith, append-nil}
 use Rattle.std.proofs.lemmas.List.{length-replicate}
 use Rattle.chunk_files.specs.Zeros.{is_all_zero}
 use Rattle.content_writing.specs.declared.fault.PutFault.{PutFault}
@@ -7,12 +7,17 @@ use Rattle.content_writing.specs.declared.fault.PutFault.TheVariants as puts
 use Rattle.port_model.specs.Draws.{ByteStream, Draws}
 use Rattle.vault_write.specs.declared.drawing.GoParts.{GoParts}
 use Rattle.vault_write.specs.Founding.{AreBytes, GoDrew, DrawsGo, DrawsCm, SomeDrew, DrawsSome}
+use Rattle.vault_write.proofs.Exits.{at_fault}
 
 abbrev Stream : Type 0
 Stream = Option ByteStream
 
 abbrev pub DrawsCompose : Type 0
 DrawsCompose = (first second third : Option ByteStream) (xs ys : List ℕ) → Draws first second xs → Draws second third ys → Draws first third (xs ++ ys)
+
+-- the random source failed
+pub at_random : {T : Type 0} (P : Result T PutFault → Type 0) (result : Result T PutFault) {fault : PutFault} → IsErrAnd result (λ e. e ≡ fault) → fault ≡ puts.Random → P (Err puts.Random) → P result
+at_random P result {fault} by_fault random holds = at_fault P result fault by_fault (subst (λ e. P (Err e)) (sym random) holds)
 
 -- what isn't drawn may be anything
 small_zeros : (n place : ℕ) → slice_index (replicate n 0) place < 256

@@ -27,7 +27,7 @@ use Rattle.folder_staging.specs.Removal.{IsBare}
 use Rattle.work_folder.specs.Entering.{IsReady, below_stage}
 use Rattle.content_writing.specs.Making.{Making, is_unstaged, is_apart, MayCome, StagesOrPlaces}
 use Rattle.vault_write.specs.Editing.{IsEditing, Edits, HasEdited, HasFinished}
-use Rattle.vault_write.proofs.Stages.{in_stage, unstaged_below, unstaged_apart, apart_unstaged, apart_root, at_root, root_unstaged, work_beside, stage_beside, staged_beside, work_unstaged, stage_unstaged}
+use Rattle.vault_write.proofs.Stages.{in_stage, unstaged_below, unstaged_apart, apart_unstaged, apart_root, at_root, root_unstaged, off_root, stage_beside, staged_beside, work_unstaged, stage_unstaged}
 use Rattle.vault_write.proofs.Runs.{went_with, works_in_stage}
 
 -- what is staged at a place, all else as it was
@@ -219,7 +219,7 @@ module _ (work root : Path) (m : Making) where
           (published_joined (is_unstaged work) done (e ∷ []) a.state b.state (changed c.state (Rename (child (stage_path work) x) e.at)) h.published renamed_one);
       views = λ q unstaged. ap (λ (t : Told). seen t.state q) is ∙ views_then allowed q unstaged;
       ready = subst (λ (t : Told). IsReady (seen t.state) work) (sym is) (record {
-        folder = kept_then allowed work (work_unstaged work) (work_beside work root e.at h.beside in_root) ∙ h.ready.folder;
+        folder = kept_then allowed work (work_unstaged work) (off_root root e.at work h.beside in_root) ∙ h.ready.folder;
         stage = kept_then allowed (stage_path work) (stage_unstaged work) (stage_beside work root e.at h.apart h.beside in_root) ∙ h.ready.stage;
         bare = bare_of (seen (changed c.state (Rename (child (stage_path work) x) e.at))) work (bare_then allowed);
       });
@@ -308,7 +308,7 @@ module _ (work root : Path) (m : Making) where
           (published_joined (is_unstaged work) done (directory_edit at ∷ []) a.state b.state (changed b.state (MakeDir at)) h.published made_one);
       views = λ q unstaged. ap (λ (t : Told). seen t.state q) is ∙ made_views allowed q unstaged;
       ready = subst (λ (t : Told). IsReady (seen t.state) work) (sym is) (record {
-        folder = kept work (work_beside work root at h.beside dir_in_root) ∙ h.ready.folder;
+        folder = kept work (off_root root at work h.beside dir_in_root) ∙ h.ready.folder;
         stage = kept (stage_path work) (stage_beside work root at h.apart h.beside dir_in_root) ∙ h.ready.stage;
         bare = bare_of (seen (changed b.state (MakeDir at))) work (λ y rest. kept (stage_path work ++ y ∷ rest) (staged_beside work root at (y ∷ rest) h.apart h.beside dir_in_root)
             ∙ h.ready.bare (y ∷ rest) (some_part y rest));

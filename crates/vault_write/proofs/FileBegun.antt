@@ -1,6 +1,5 @@
 -- A file is begun: what its edits are, and that they make it where its content comes whole.
-use Rattle.std.specs.Option.{option_or}
-use Rattle.std.proofs.Common.{true, false, Bool, ◌≡◌, ℕ, List, [], ◌∷◌, ◌++◌, Option, Some, None, Err, refl, sym, ap, ◌∙◌, inl, inr, subst, cond, bytes_eq, IsTrue}
+use Rattle.std.proofs.Common.{false, Bool, ◌≡◌, ℕ, List, [], ◌∷◌, ◌++◌, Option, Some, None, refl, sym, ap, ◌∙◌, subst, IsTrue}
 use Rattle.chunk_files.specs.Encrypt.{IsEncrypted, encrypt}
 use Rattle.chunk_files.specs.FileOf.{FilesAreWhatTheyGive, EncryptedFilesAreFiles, Gives}
 use Rattle.chunk_files.specs.Keys.{Keys}
@@ -10,7 +9,6 @@ use Rattle.folder_spec.specs.State.{IsSound}
 use Rattle.folder_spec.specs.Edit.{Edit, edit_under, edits_under, file_edit, view_after}
 use Rattle.folder_spec.specs.Event.{Told}
 use Rattle.folder_spec.specs.Seen.{IfSeen, seen, under}
-use Rattle.folder_spec.specs.View.{Found, NoEntry, Folder, FileOf, Special, View}
 use Rattle.folder_spec.proofs.Seen.{seen_of}
 use Rattle.vault_keys.specs.declared.keys.GoKeys.{GoKeys}
 use Rattle.plain_tree.specs.Names as plain
@@ -26,24 +24,23 @@ use Rattle.vault_spec.specs.Alike.{IsOrderly}
 use Rattle.vault_spec.specs.Anywhere.{ComesAtLast}
 use Rattle.vault_spec.specs.Cryptomator.{CmVault, cm_format, new_file_edit}
 use Rattle.vault_spec.specs.Format.{taken_at}
-use Rattle.vault_spec.specs.Gocryptfs.{full_name, go_format, full_edits, taken_unless, go_taken}
+use Rattle.vault_spec.specs.Gocryptfs.{go_format, full_edits, taken_unless}
 use Rattle.vault_spec.specs.Making.{NewFile, full_texts}
 use Rattle.vault_spec.specs.Opens.{Opened, Content, opened_by, opened_file}
 use Rattle.vault_spec.specs.Reached.{Leads}
 use Rattle.vault_spec.specs.Standing.{entry_at}
 use Rattle.vault_spec.specs.Vault.{Vault, Gocryptfs, Cryptomator, format_of}
-use Rattle.content_writing.specs.declared.fault.PutFault.{PutFault}
 use Rattle.vault_write.specs.Editing.{GoPlaces, MayCome, side_edits}
 use Rattle.vault_write.specs.Filing.{entry_edit}
 use Rattle.content_writing.specs.Making.{Placing, Making, format, making_in, new_item, path_of}
 use Rattle.content_writing.specs.Placing.{MayMake, making_at}
-use Rattle.vault_write.specs.Refusing.{Answers, HasTaken}
+use Rattle.vault_write.specs.Refusing.{HasTaken}
 use Rattle.vault_write.specs.Showing.{MakesAlone}
-use Rattle.vault_write.specs.Slots.{IsSlot, IsSideTaken, RefusesItem, placing, wants_text}
+use Rattle.vault_write.specs.Slots.{IsSlot, placing, wants_text}
 use Rattle.content_writing.specs.Trees.{opens_as}
 use Rattle.vault_write.proofs.Begun.{FoldersStand, all_are, entry_comes, folders_seen, same_making}
-use Rattle.vault_write.proofs.Found.{Enters}
-use Rattle.vault_write.proofs.GoBegun.{go_places, sides_are, untaken}
+use Rattle.vault_write.proofs.Found.{Enters, go_free}
+use Rattle.vault_write.proofs.GoBegun.{go_places, sides_under}
 use Rattle.vault_write.proofs.ItemMade.{IsBegun}
 
 -- these edits, the item itself by the last one
@@ -129,46 +126,6 @@ module _ (enters : Enters) (vault : OpenedVault) (laws : KeepsVaults (format_of 
 
 -- ---- in gocryptfs
 
--- something else stands there
-taken_so : (place : Path) (there : Found) (o : Option (List ℕ)) (other : Path) → taken_unless place there o ≡ Some place → taken_unless other there o ≡ Some other
-taken_so place there None other none = cc
-taken_so place NoEntry (Some text) other none = cc
-taken_so place (FileOf bytes) (Some text) other none = by_text (bytes_eq bytes text) none
-  where
-    by_text : (b : Bool) → cond b None (Some place) ≡ Some place → cond b None (Some other) ≡ Some other
-    by_text true e = cc
-    by_text false e = refl
-taken_so place Folder (Some text) other none = refl
-taken_so place Special (Some text) other none = refl
-
-module _ (keys : GoKeys) (root : Path) (front : plain.Path) (name : List ℕ) (v : View) (at side : Path) (full : Option (List ℕ))
-    (slot : IsSlot (record { root = root; vault = Gocryptfs keys }) (go_format keys) front name (under root v) at side full) where
-  abbrev side_at : Path
-  side_at = child slot.dir.folder (full_name ((go_format keys).stored slot.dir.key name).name)
-
-  -- what is taken, by what stands at the long name's file
-  beside_is : {X : Type 0} (f : Found → Option (List ℕ) → X) → f (v side) full ≡ f (under root v side_at) ((go_format keys).stored slot.dir.key name).full
-  beside_is f = ap (λ o. f (v side) o) slot.full_is ∙ ap (λ q. f (v q) ((go_format keys).stored slot.dir.key name).full) slot.side_is
-
-  taken_is : go_taken (under root v) slot.dir ((go_format keys).stored slot.dir.key name) ≡ taken_unless side_at (under root v side_at) ((go_format keys).stored slot.dir.key name).full
-  taken_is = ap (λ x. option_or (taken_at (entry_at (go_format keys) slot.dir name) x) (taken_unless side_at (under root v side_at) ((go_format keys).stored slot.dir.key name).full)) slot.free
-
-  pub go_free : taken_unless side (v side) full ≡ None → go_taken (under root v) slot.dir ((go_format keys).stored slot.dir.key name) ≡ None
-  go_free none = taken_is ∙ untaken side (under root v side_at) ((go_format keys).stored slot.dir.key name).full side_at (sym (beside_is (taken_unless side)) ∙ none)
-
-  pub go_side : taken_unless side (v side) full ≡ Some side → go_taken (under root v) slot.dir ((go_format keys).stored slot.dir.key name) ≡ Some side_at
-  go_side is = taken_is ∙ taken_so side (under root v side_at) ((go_format keys).stored slot.dir.key name).full side_at (sym (beside_is (taken_unless side)) ∙ is)
-
-  sides_under : (wants : Bool) → wants ≡ wants_text (v side) full → side_edits wants side full ≡ edits_under root (full_edits (under root v) slot.dir ((go_format keys).stored slot.dir.key name))
-  sides_under wants is =
-      ap (λ b. side_edits b side full) is
-      ∙ ap (λ o. side_edits (wants_text (v side) o) side o) slot.full_is
-      ∙ ap (λ q. side_edits (wants_text (v q) ((go_format keys).stored slot.dir.key name).full) q ((go_format keys).stored slot.dir.key name).full) slot.side_is
-      ∙ sides_are root side_at ((go_format keys).stored slot.dir.key name).full (under root v side_at)
-
-  entry_under : (bytes : List ℕ) → entry_edit at None bytes ≡ edit_under root (file_edit (child slot.dir.folder ((go_format keys).stored slot.dir.key name).name) bytes)
-  entry_under bytes = ap (λ q. entry_edit q None bytes) slot.at_is
-
 pub go_filed : Enters → (keys : GoKeys) → KeepsVaults (go_format keys) → (root work : Path) (front : plain.Path) (name content drawn : List ℕ) → IsTrue (is_name name) → (a : Told) → IsSound a.state
     → (at side : Path) (full : Option (List ℕ)) (wants : Bool) → IsSlot (record { root = root; vault = Gocryptfs keys }) (go_format keys) front name (under root (seen a.state)) at side full
     → wants ≡ wants_text (seen a.state side) full → taken_unless side (seen a.state side) full ≡ None → below work root ≡ None → below root work ≡ None
@@ -179,26 +136,7 @@ go_filed enters keys laws root work front name content drawn named a sound at si
     (side_edits wants side full) (full_edits (under root (seen a.state)) slot.dir ((go_format keys).stored slot.dir.key name))
     (entry_edit at None (encrypt (go_format keys).content drawn content)) (file_edit (child slot.dir.folder ((go_format keys).stored slot.dir.key name).name) (encrypt (go_format keys).content drawn content))
     (go_free keys root front name (seen a.state) at side full slot side_free) refl (sides_under keys root front name (seen a.state) at side full slot wants wants_is)
-    (entry_under keys root front name (seen a.state) at side full slot (encrypt (go_format keys).content drawn content))
-
--- the long name's file is taken
-pub side_taken : (keys : GoKeys) (root : Path) (front : plain.Path) (name : List ℕ) (content : List ℕ) (t : Option Told) (at side : Path) (full : Option (List ℕ)) (fault : PutFault)
-    → IfSeen t (λ v. IsSlot (record { root = root; vault = Gocryptfs keys }) (go_format keys) front name (under root v) at side full)
-    → IsSideTaken side full t fault → RefusesItem (record { root = root; vault = Gocryptfs keys }) front name (NewFile content) [] t fault
-side_taken keys root front name content t at side full fault slots (inl failed) work ending v s =
-    subst (λ x. Answers (placing (record { root = root; vault = Gocryptfs keys }) work front name (NewFile content)) [] ending (under root v) (Err x)) (sym failed) tt
-side_taken keys root front name content t at side full fault slots (inr (inl memory)) work ending v s =
-    subst (λ x. Answers (placing (record { root = root; vault = Gocryptfs keys }) work front name (NewFile content)) [] ending (under root v) (Err x)) (sym memory) tt
-side_taken keys root front name content t at side full fault slots (inr (inr is_taken)) work ending v s =
-    subst (λ x. Answers (placing (record { root = root; vault = Gocryptfs keys }) work front name (NewFile content)) [] ending (under root v) (Err x)) (sym is_taken.0) (
-      child (slots v s).dir.folder (full_name ((go_format keys).stored (slots v s).dir.key name).name),
-      (slots v s).side_is,
-      record {
-        dir = (slots v s).dir;
-        there = record { entered = (slots v s).entered; allowed = (slots v s).allowed };
-        is = go_side keys root front name v at side full (slots v s) (is_taken.1 v s);
-      },
-    )
+    (ap (λ q. entry_edit q None (encrypt (go_format keys).content drawn content)) slot.at_is)
 
 -- ---- in Cryptomator
 
@@ -251,11 +189,6 @@ pub filed_in_cm : Enters → (root : Path) (vault : Vault) → kind_of vault ≡
 filed_in_cm enters root (Cryptomator cm) is laws work front name named t sound may at side full slot content drawn a told =
     cm_filed enters cm laws root work front name content drawn named a (sound a told) at side full (slot (seen a.state) (seen_of t a told)) may.apart may.beside
 filed_in_cm enters root (Gocryptfs keys) is laws work front name named t sound may at side full slot content drawn a told = absurd (no_cm is)
-
-pub side_refused : (root : Path) (vault : Vault) → kind_of vault ≡ kind.Gocryptfs → (front : plain.Path) (name content : List ℕ) (t : Option Told) (at side : Path) (full : Option (List ℕ)) (fault : PutFault)
-    → SlotAt root vault front name t at side full → IsSideTaken side full t fault → RefusesItem (record { root = root; vault = vault }) front name (NewFile content) [] t fault
-side_refused root (Gocryptfs keys) is front name content t at side full fault slot stands = side_taken keys root front name content t at side full fault slot stands
-side_refused root (Cryptomator cm) is front name content t at side full fault slot stands = absurd (no_go is)
 
 -- where its parts come to stand
 pub file_places : Enters → FoldersStand → (root : Path) (vault : Vault) → kind_of vault ≡ kind.Gocryptfs → (work : Path) (front : plain.Path) (name : List ℕ) (t : Option Told) → MayMake t work root

@@ -1,6 +1,6 @@
 -- What a call promises that made a file's edits, or some of them.
 use Rattle.std.specs.Prelude.{Contains}
-use Rattle.std.proofs.Common.{arith, false, Bool, ◌≡◌, ◌≢◌, ℕ, ◌≤◌, List, [], ◌∷◌, ◌++◌, length, Option, Some, None, Result, Ok, Err, OnOk, refl, sym, ap, ◌∙◌, inl, inr, subst, append-nil, IsTrue}
+use Rattle.std.proofs.Common.{arith, false, Bool, ◌≡◌, ◌≢◌, ℕ, ◌≤◌, List, [], ◌∷◌, ◌++◌, length, Option, Some, None, Result, Ok, Err, IsErrAnd, OnOk, refl, sym, ap, ◌∙◌, inl, inr, subst, append-nil, IsTrue}
 use Rattle.std.proofs.lemmas.List.Elements.{Contains-append_left, Contains-append_right}
 use Rattle.std.proofs.Math.Path.{fun_ext}
 use Rattle.chunk_files.specs.Encrypt.{draws, encrypt}
@@ -9,17 +9,14 @@ use Rattle.chunk_files.specs.Keys as contents
 use Rattle.chunk_files.specs.Keys.{Keys}
 use Rattle.port_model.specs.Draws.{ByteStream}
 use Rattle.folder_spec.specs.declared.FolderFault.{FolderFault}
-use Rattle.folder_spec.specs.declared.FolderFault.TheVariants as folder
 use Rattle.folder_spec.specs.Path.{Path, below}
 use Rattle.folder_spec.specs.State.{State, IsSound}
 use Rattle.folder_spec.specs.Edit.{Edit, edited, edits_under, view_after, PublishesIn}
 use Rattle.folder_spec.specs.Event.{Call, MakeDir, Create, Append, Sync, Settle, Rename, RemoveFile, RemoveDir, Told, FromTo}
 use Rattle.folder_spec.specs.Moments.{Went}
-use Rattle.folder_spec.specs.Seen.{IfSeen, IsSeen, seen, under}
+use Rattle.folder_spec.specs.Seen.{IfSeen, seen, under}
 use Rattle.folder_spec.specs.View.{Found, View}
 use Rattle.folder_spec.proofs.Moments.{went_more, went_to}
-use Rattle.folder_spec.proofs.Paths.{child-injective, child-last, child-not_base}
-use Rattle.folder_spec.proofs.Tellings.{from_to_more}
 use Rattle.content_writing.proofs.Standing.{IsStill, ready_now, still_same}
 use Rattle.plain_tree.specs.Names as plain
 use Rattle.plain_tree.specs.Names.{is_name}
@@ -40,22 +37,25 @@ use Rattle.content_writing.specs.Faults.{of_folder}
 use Rattle.content_writing.specs.Writing.{DrewNoZeros}
 use Rattle.content_writing.specs.declared.fault.PutFault.{PutFault}
 use Rattle.content_writing.specs.declared.fault.PutFault.TheVariants as puts
-use Rattle.vault_write.specs.Calls.{AnswersRoot, How, MakesFile, MakesOne, New, ReadsElsewhere, Writing}
+use Rattle.vault_write.specs.Calls.{AnswersBy, How, InPlace, MakesFile, MakesOne, New, ReadsElsewhere, Writing}
 use Rattle.vault_write.specs.Editing.{AddsEdits, Edits, HasBegun, HasEdited, HasFinished, IsEditing, MayCome, SeesSome, side_edits}
+use Rattle.vault_write.specs.Faults.{IsFileFault}
 use Rattle.vault_write.specs.Filing.{DoesLast, IsWhole, OnlyStages, PlacesEntry, PlacesBy, PlacesFile, StopsBy, entry_edit, entry_files}
 use Rattle.content_writing.specs.Making.{Placing, Making, format, path_of, new_item, is_unstaged, StagesOrPlaces}
-use Rattle.content_writing.specs.Placing.{IsMaking, MayMake, making_at, EndsAs}
+use Rattle.content_writing.specs.Placing.{IsMaking, MayMake, making_at}
 use Rattle.vault_write.specs.Refusing.{Answers, HasTaken}
 use Rattle.vault_write.specs.Showing.{EditsShowTrees, EditsBeforeTheLastKeepTrees, SettledEditsShowTrees}
-use Rattle.vault_write.specs.Slots.{RefusesItem, placing, wants_text}
+use Rattle.vault_write.specs.Slots.{placing, wants_text}
 use Rattle.vault_write.proofs.Adding.{adds_none}
 use Rattle.vault_write.proofs.Begun.{FoldersStand, all_are, all_below}
 use Rattle.vault_write.proofs.Edited.{begun}
+use Rattle.vault_write.proofs.Exits.{at_fault}
 use Rattle.vault_write.proofs.FileBegun.{IsFiled, SlotAt, file_making, file_places, filed_in_cm, filed_in_go, is_begun, opens_whole}
 use Rattle.vault_write.proofs.Filing.{edits_still, placed_still, stops_folder, takes_none, untaken}
 use Rattle.vault_write.proofs.Found.{Enters}
-use Rattle.vault_write.proofs.ItemMade.{IsBegun, IsSplit, RootsShow, at_itself, one_failed, one_ok, one_refused, split, ends_stopped}
+use Rattle.vault_write.proofs.ItemMade.{IsBegun, IsRootFault, IsSplit, RootsShow, at_itself, by_root, makes_named, makes_root, one_failed, one_ok, one_refused, one_stopped, root_fault, split}
 use Rattle.vault_write.proofs.Placed.{doing_first, entry_may, none_among}
+use Rattle.vault_write.proofs.Seeing.{if_seen}
 use Rattle.vault_write.proofs.Stages.{root_unstaged}
 
 -- its edits but the last
@@ -113,30 +113,10 @@ module _ (keeps : EditsBeforeTheLastKeepTrees) (roots : RootsShow) (p : Placing)
         (fronts_keep (format p) (under p.vault.root (seen a.state)) (under p.vault.root (seen a.state)) parts.first parts.rest filed.at_last (path_of p) opens (λ path. refl)
         (subst (λ es. ComesAtLast (format p) (under p.vault.root (seen a.state)) (under p.vault.root (seen a.state)) (es ++ filed.at_last ∷ []) (path_of p) opens) parts.is filed.last))
 
-  module _ (t w : Option Told) (filed : (a : Told) → t ≡ Some a → IsFiled p opens drawn firsts e some_files a) where
-    ends_so : (t w : Option Told) → ((a : Told) → t ≡ Some a → IsFiled p opens drawn firsts e some_files a) → (fault : PutFault) → FromTo (Edits p.work p.vault.root (stopped_making firsts some_files)) t w
-        → (u v : View) → IsSeen t u → IsSeen w v → EndsAs p (under p.vault.root u) (under p.vault.root v) (Err fault)
-    ends_so (Some a) (Some b) filed_at fault k u v is_u is_v =
-        subst (λ x. EndsAs p (under p.vault.root x) (under p.vault.root v) (Err fault)) (sym is_u)
-        (subst (λ y. EndsAs p (under p.vault.root (seen a.state)) (under p.vault.root y) (Err fault)) (sym is_v)
-        (ends_stopped p fault (under p.vault.root (seen a.state)) (under p.vault.root (seen b.state)) (opens_still a b (filed_at a refl) k)))
-    ends_so None (Some b) filed_at fault k u v is_u is_v = absurd k
-    ends_so t None filed_at fault k u v is_u is_v = absurd is_v
-
-    pub one_stopped : (ending : Ending) (fault : PutFault) → length drawn ≤ making.draws (format p) p.item → FromTo (Edits p.work p.vault.root (stopped_making firsts some_files)) t w
-        → IfSeen t (λ v. Answers p drawn ending (under p.vault.root v) (Err fault)) → MakesOne New p ending drawn t w (Err fault)
-    one_stopped ending fault enough went answer = record {
-      enough = enough;
-      makes = record {
-        moments = from_to_more (Edits p.work p.vault.root (stopped_making firsts some_files))
-            (λ a b. Went (IsMaking p ending (making_at p (new_item p drawn) a.state) a.state) (λ s k. StagesOrPlaces p.work (making_at p (new_item p drawn) a.state) s k.call) a b) t w
-            (λ a b is k. went_stopped ending a b (filed a is) k) went;
-        done = tt;
-        ready = tt;
-        ends = ends_so t w filed fault went;
-      };
-      answer = answer;
-    }
+  pub filed_in_part : (t w : Option Told) → ((a : Told) → t ≡ Some a → IsFiled p opens drawn firsts e some_files a) → (ending : Ending) (fault : PutFault) → length drawn ≤ making.draws (format p) p.item
+      → FromTo (Edits p.work p.vault.root (stopped_making firsts some_files)) t w → IfSeen t (λ v. Answers p drawn ending (under p.vault.root v) (Err fault)) → MakesOne New p ending drawn t w (Err fault)
+  filed_in_part t w filed ending fault enough =
+      one_stopped New p ending drawn (Edits p.work p.vault.root (stopped_making firsts some_files)) t w fault enough (λ a b is k. went_stopped ending a b (filed a is) k) (λ a b is k. opens_still a b (filed a is) k)
 
 -- ---- what is answered
 
@@ -155,19 +135,16 @@ answers_stopped p w u (puts.Taken at) free stops = absurd stops
 -- ---- under a name
 
 -- refused before anything was changed
-pub file_refused : (vault : OpenedVault) (work : Path) (front : plain.Path) (name : List ℕ) (coming : Option Coming) (stream : Option ByteStream) (t : Option Told) (fault : PutFault)
-    → ((content : List ℕ) → RefusesItem vault front name (NewFile content) [] t fault) → PlacesFile New vault work front name coming coming stream stream t t (Err fault)
-file_refused vault work front name coming stream t fault refuses = record {
-  writing = untaken coming;
-  takes = takes_none (format_of vault.vault).content coming stream fault;
-  one = one_refused (placing vault work front name (NewFile (untaken coming).content)) (untaken coming).ending [] t fault (omega arith)
-      (λ v is. refuses (untaken coming).content work (untaken coming).ending v is);
-}
-
-pub memory_refused : (vault : OpenedVault) (front : plain.Path) (name content : List ℕ) (t : Option Told) (fault : FolderFault) → RefusesItem vault front name (NewFile content) [] t (of_folder fault)
-memory_refused vault front name content t folder.Failed work ending v is = tt
-memory_refused vault front name content t folder.Refused work ending v is = tt
-memory_refused vault front name content t folder.NoMemory work ending v is = tt
+pub file_refused : {vault : OpenedVault} {work : Path} {front : plain.Path} {name : List ℕ} {coming : Option Coming} {stream : Option ByteStream} {t u : Option Told} {result : Result (Unit {0}) PutFault} (how : How) (fault : PutFault)
+    → IsErrAnd result (λ e. e ≡ fault) → u ≡ t → ((content : List ℕ) (ending : Ending) → IfSeen t (λ v. AnswersBy how (placing vault work front name (NewFile content)) [] ending (under vault.root v) (Err fault)))
+    → PlacesFile how vault work front name coming coming stream stream t u result
+file_refused {vault} {work} {front} {name} {coming} {stream} {t} {u} {result} how fault by_fault same answers =
+    subst (λ o. PlacesFile how vault work front name coming coming stream stream t o result) (sym same)
+    (at_fault (PlacesFile how vault work front name coming coming stream stream t t) result fault by_fault (record {
+      writing = untaken coming;
+      takes = takes_none (format_of vault.vault).content coming stream fault;
+      one = one_refused how (placing vault work front name (NewFile (untaken coming).content)) (untaken coming).ending [] t fault (omega arith) (answers (untaken coming).content (untaken coming).ending);
+    }))
 
 -- a making of edits at a root may begin
 pub begins_at : (work root : Path) (m : Making) (t : Option Told) → m.replaces ≡ false → ((a : Told) → t ≡ Some a → (relative : List Edit) × (m.edits ≡ edits_under root relative)) → MayMake t work root
@@ -211,9 +188,8 @@ module _ (shows : EditsShowTrees) (keeps : EditsBeforeTheLastKeepTrees) (settles
         )) may sound
 
     -- nothing of it stood in the way
-    free_at : (t : Option Told) → Filed t → (content drawn : List ℕ) → IfSeen t (λ v. HasTaken (place content) drawn (under vault.root v) None)
-    free_at (Some a) filed_at content drawn v is = subst (λ x. HasTaken (place content) drawn (under vault.root x) None) (sym is) (filed_at content drawn a refl).taken
-    free_at None filed_at content drawn v is = absurd is
+    free_at : (content drawn : List ℕ) → IfSeen t (λ v. HasTaken (place content) drawn (under vault.root v) None)
+    free_at content drawn = if_seen (λ v. HasTaken (place content) drawn (under vault.root v) None) t (λ a told. (filed content drawn a told).taken)
 
     some_done : (result : Result (Unit {0}) FolderFault) → AddsEdits work firsts first_files t u result → (content drawn : List ℕ)
         → FromTo (Edits work vault.root (stopped_making firsts (all_files content drawn))) t u × OnOk result (FromTo (HasEdited work vault.root (stopped_making firsts (all_files content drawn)) firsts []) t u)
@@ -228,9 +204,9 @@ module _ (shows : EditsShowTrees) (keeps : EditsBeforeTheLastKeepTrees) (settles
     firsts_failed coming stream fault adds = record {
       writing = untaken coming;
       takes = takes_none keys coming stream (of_folder fault);
-      one = one_stopped keeps roots (place (untaken coming).content) (opens_so (untaken coming).content []) [] firsts (last_edit (untaken coming).content []) (all_files (untaken coming).content []) t u
+      one = filed_in_part keeps roots (place (untaken coming).content) (opens_so (untaken coming).content []) [] firsts (last_edit (untaken coming).content []) (all_files (untaken coming).content []) t u
           (filed (untaken coming).content []) (untaken coming).ending (of_folder fault) (omega arith) (some_done (Err fault) adds (untaken coming).content []).0
-          (λ v is. answers_stopped (place (untaken coming).content) (untaken coming) (under vault.root v) (of_folder fault) (free_at t filed (untaken coming).content [] v is) (stops_folder keys (untaken coming) fault));
+          (λ v is. answers_stopped (place (untaken coming).content) (untaken coming) (under vault.root v) (of_folder fault) (free_at (untaken coming).content [] v is) (stops_folder keys (untaken coming) fault));
     }
 
     module _ (s : Option Told) (w : Writing) (adds : AddsEdits work firsts first_files t u (Ok tt)) (enough : length w.drawn ≤ draws (contents.format_of keys) w.content) where
@@ -248,9 +224,9 @@ module _ (shows : EditsShowTrees) (keeps : EditsBeforeTheLastKeepTrees) (settles
       -- it only was staged
       stopped_one : (fault : PutFault) → StopsBy keys w fault → OnlyStages work (entry_files inside (encrypt keys w.drawn w.content)) u s → MakesOne New (place w.content) w.ending w.drawn t s (Err fault)
       stopped_one fault stops stages =
-          one_stopped keeps roots (place w.content) (opens_so w.content w.drawn) w.drawn firsts (last_edit w.content w.drawn) (all_files w.content w.drawn) t s (filed w.content w.drawn) w.ending fault enough
+          filed_in_part keeps roots (place w.content) (opens_so w.content w.drawn) w.drawn firsts (last_edit w.content w.drawn) (all_files w.content w.drawn) t s (filed w.content w.drawn) w.ending fault enough
           (stages vault.root (stopped_making firsts (all_files w.content w.drawn)) firsts [] t (entry_within (encrypt keys w.drawn w.content)) (some_done (Ok tt) adds w.content w.drawn).1).0
-          (λ v is. answers_stopped (place w.content) w (under vault.root v) fault (free_at t filed w.content w.drawn v is) stops)
+          (λ v is. answers_stopped (place w.content) w (under vault.root v) fault (free_at w.content w.drawn v is) stops)
 
       placed_one : (result : Result (Unit {0}) PutFault) → (result ≢ Err puts.ZeroRandom → DrewNoZeros keys w.drawn) → PlacesBy keys w (DoesLast work (last_edit w.content w.drawn) (entry_files inside (encrypt keys w.drawn w.content)) u s) (OnlyStages work (entry_files inside (encrypt keys w.drawn w.content)) u s) result
           → MakesOne New (place w.content) w.ending w.drawn t s result
@@ -325,34 +301,31 @@ module _ (shows : EditsShowTrees) (keeps : EditsBeforeTheLastKeepTrees) (settles
 
 -- ---- at a plain path
 
-pub placed_at : (how : How) (vault : OpenedVault) (work : Path) (front : plain.Path) (name : List ℕ) (reads : Option Path) (f f' : Found → Option Coming) (stream stream' : Option ByteStream) (t t' u : Option Told)
-    (result : Result (Unit {0}) PutFault) → t' ≡ t → PlacesFile how vault work front name (still_coming reads t' f) (still_coming reads t' f') stream stream' t' u result
+pub placed_at : {how : How} {vault : OpenedVault} {work : Path} {front : plain.Path} {name : List ℕ} {stream stream' : Option ByteStream} {t t' u : Option Told} {result : Result (Unit {0}) PutFault}
+    → (reads : Option Path) (f f' : Found → Option Coming) → t' ≡ t → PlacesFile how vault work front name (still_coming reads t' f) (still_coming reads t' f') stream stream' t' u result
     → PlacesFile how vault work front name (still_coming reads t f) (still_coming reads t f') stream stream' t u result
-placed_at how vault work front name reads f f' stream stream' t t' u result same k =
+placed_at {how} {vault} {work} {front} {name} {stream} {stream'} {t} {t'} {u} {result} reads f f' same k =
     subst (λ o. PlacesFile how vault work front name (still_coming reads o f) (still_coming reads o f') stream stream' o u result) same k
 
-pub named_file : (how : How) (vault : OpenedVault) (work : Path) (path front : plain.Path) (name : List ℕ) (coming left : Option Coming) (stream stream' : Option ByteStream) (t u : Option Told) (result : Result (Unit {0}) PutFault)
+pub named_file : {how : How} {vault : OpenedVault} {work : Path} {path front : plain.Path} {name : List ℕ} {coming left : Option Coming} {stream stream' : Option ByteStream} {t u : Option Told} {result : Result (Unit {0}) PutFault}
     → path ≡ front ++ name ∷ [] → PlacesFile how vault work front name coming left stream stream' t u result → MakesFile how vault work path coming left stream stream' t u result
-named_file how vault work path front name coming left stream stream' t u result is k = record {
+named_file {how} {vault} {work} {path} {front} {name} {t = t} {u = u} {result = result} is k = record {
   writing = k.writing;
   takes = k.takes;
-  makes = record {
-    named = λ front' name' also.
-        let up : front ≡ front' = child-injective front front' name name' (sym is ∙ also) in
-        let last : name ≡ name' = child-last front name name' (sym is ∙ also ∙ ap (λ p. p ++ name' ∷ []) (sym up)) in
-        subst (λ p. MakesOne how (placing vault work p name' (NewFile k.writing.content)) k.writing.ending k.writing.drawn t u result) up
-        (subst (λ n. MakesOne how (placing vault work front n (NewFile k.writing.content)) k.writing.ending k.writing.drawn t u result) last k.one);
-    root = λ none. absurd (child-not_base front name (sym is ∙ none));
-  };
+  makes = makes_named how vault work path front name (NewFile k.writing.content) k.writing.ending k.writing.drawn t u result is k.one;
 }
 
-pub root_file : (how : How) (vault : OpenedVault) (work : Path) (path : plain.Path) (coming : Option Coming) (stream : Option ByteStream) (t : Option Told) (fault : PutFault) → path ≡ []
-    → AnswersRoot how vault.root (Err fault) → MakesFile how vault work path coming coming stream stream t t (Err fault)
-root_file how vault work path coming stream t fault none answer = record {
+pub root_file : {vault : OpenedVault} {work : Path} {path : plain.Path} {coming : Option Coming} {stream : Option ByteStream} {t : Option Told} {fault : PutFault} (how : How) → path ≡ [] → IsRootFault how vault.root fault
+    → MakesFile how vault work path coming coming stream stream t t (Err fault)
+root_file {vault} {work} {path} {coming} {stream} {t} {fault} how none is = record {
   writing = untaken coming;
   takes = takes_none (format_of vault.vault).content coming stream fault;
-  makes = record {
-    named = λ front name is. absurd (child-not_base front name (sym is ∙ none));
-    root = λ none_. (refl, refl, answer);
-  };
+  makes = makes_root how vault work path (NewFile (untaken coming).content) (untaken coming).ending t fault none is;
 }
+
+fits_root : (how : How) (root : Path) → IsFileFault (root_fault how root)
+fits_root New root = tt
+fits_root InPlace root = tt
+
+pub root_fits : (how : How) (root : Path) (fault : PutFault) → IsRootFault how root fault → IsFileFault fault
+root_fits how root fault = by_root how root fault IsFileFault tt (fits_root how root)

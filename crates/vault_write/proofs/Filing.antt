@@ -1,7 +1,7 @@
 -- The entry of a content is staged whole, renamed, and settled.
-use Rattle.std.specs.Prelude.{Contains, IsErrAnd}
+use Rattle.std.specs.Prelude.{Contains}
 use Rattle.std.specs.Result.{IsErr}
-use Rattle.std.proofs.Common.{arith, true, false, not, zero, suc, ◌≡◌, ◌≢◌, ℕ, ◌≤◌, List, [], ◌∷◌, ◌++◌, length, Option, Some, None, Result, Ok, Err, OnOk, refl, sym, ap, ◌∙◌, inl, inr, subst, append-nil, append_assoc, IsTrue, codes, ◌*◌}
+use Rattle.std.proofs.Common.{arith, true, false, not, zero, suc, ◌≡◌, ◌≢◌, ℕ, ◌≤◌, List, [], ◌∷◌, ◌++◌, length, Option, Some, None, Result, Ok, Err, IsErrAnd, OnOk, refl, sym, ap, ◌∙◌, inl, inr, subst, append-nil, IsTrue, codes, ◌*◌}
 use Rattle.std.proofs.lemmas.List.Elements.{Contains-append_left, Contains-append_right}
 use Rattle.chunk_files.specs.Encrypt.{encrypt}
 use Rattle.chunk_files.specs.Keys.{Keys}
@@ -17,7 +17,6 @@ use Rattle.folder_spec.specs.Replace.{IsNewFile}
 use Rattle.folder_spec.specs.Seen.{IfSeen, ShowsFree, seen}
 use Rattle.folder_spec.specs.View.{Found, NoEntry, View}
 use Rattle.folder_spec.proofs.Edits.{off_edit}
-use Rattle.folder_spec.proofs.Paths.{begins_or_not, not_below}
 use Rattle.folder_spec.proofs.Moments.{went_to}
 use Rattle.folder_spec.proofs.Replaces.{apart-from_below}
 use Rattle.folder_spec.proofs.Stages.{Staging}
@@ -42,7 +41,8 @@ use Rattle.content_writing.specs.Making.{Making, is_inside, is_unstaged}
 use Rattle.vault_write.proofs.Adding.{adds_nothing, adds_renamed, adds_staging, file_staged, file_staging, finishes, IsStagedWhole, renames_allowed, staged_below}
 use Rattle.vault_write.proofs.Directories.{Are, AreSeen, Gain, gains, name_place, whole_staged}
 use Rattle.vault_write.proofs.Edited.{StagingAt}
-use Rattle.vault_write.proofs.Stages.{at_root}
+use Rattle.vault_write.proofs.Exits.{at_fault}
+use Rattle.vault_write.proofs.Stages.{off_root}
 
 -- ---- nothing was drawn or given
 
@@ -99,15 +99,6 @@ staging_still (Some q) staged files t u sound apart stages =
     from_to_more (StagingAt files staged) (λ a b. seen b.state q ≡ seen a.state q) t u
     (λ a b is k. seen_as_before (apart_from staged) a.state b.state (sound a is)
     (went_to (IsStagingFolder files staged a.state) _ a b k).others q (apart-from_below staged q apart)) stages
-
--- what is apart from a root is apart from what is at it or below
-pub off_root : (root at q : Path) → below root q ≡ None → IsTrue (at_or_below root at) → below at q ≡ None
-off_root root at q apart inside = elim (begins_or_not at q) [
-  | inr none ↦ none
-  | inl k ↦
-      let place : (rest : Path) × (at ≡ root ++ rest) = at_root root at inside in
-      absurd (not_below root (place.0 ++ k.0) (ap (below root) (sym (k.1 ∙ ap (λ p. p ++ k.0) place.1 ∙ append_assoc root place.0 k.0)) ∙ apart))
-]
 
 -- edits at and below a root leave all else
 view_outside : (root q : Path) (v : View) (edits : List Edit) → below root q ≡ None → ((x : Edit) → Contains edits x → IsTrue (at_or_below root x.at)) → view_after v edits q ≡ v q
@@ -306,37 +297,40 @@ entry_allowed work x staged at inside bytes files t u is sound sound_now may who
     (subst (λ p. FromTo (IsStagedWhole files p (entry_view inside bytes)) t u) is (whole_staged files staged (entry_view inside bytes) t u sound_now whole)) b there)
 
 -- nothing was staged
-pub entry_none : (keys : Keys) (work at : Path) (inside : Option (List ℕ)) (coming : Option Coming) (stream : Option ByteStream) (t : Option Told) (fault : PutFault) → StopsBy keys (untaken coming) fault
-    → PlacesEntry keys work at inside coming coming stream stream t t (Err fault)
-entry_none keys work at inside coming stream t fault stops = record {
-  writing = untaken coming;
-  enough = omega arith;
-  takes = takes_none keys coming stream fault;
-  ends = (stops, inl (adds_nothing work [] (entry_files inside (file_of keys (untaken coming))) t folder.NoMemory));
-}
+pub entry_none : {keys : Keys} {work at : Path} {inside : Option (List ℕ)} {coming : Option Coming} {stream : Option ByteStream} {t : Option Told} {result : Result (Unit {0}) PutFault} (fault : PutFault)
+    → IsErrAnd result (λ e. e ≡ fault) → StopsBy keys (untaken coming) fault → PlacesEntry keys work at inside coming coming stream stream t t result
+entry_none {keys} {work} {at} {inside} {coming} {stream} {t} {result} fault by_fault stops =
+    at_fault (PlacesEntry keys work at inside coming coming stream stream t t) result fault by_fault (record {
+      writing = untaken coming;
+      enough = omega arith;
+      takes = takes_none keys coming stream fault;
+      ends = (stops, inl (adds_nothing work [] (entry_files inside (file_of keys (untaken coming))) t folder.NoMemory));
+    })
 
 -- it only was staged, or not whole
-pub entry_stopped : (keys : Keys) (work at : Path) (x : Part) (staged : Path) (inside : Option (List ℕ)) (coming left : Option Coming) (stream stream' : Option ByteStream) (t u : Option Told) (fault : PutFault)
-    → staged ≡ child (stage_path work) x → StagesEntry keys inside staged coming left stream stream' t u (Err fault) → PlacesEntry keys work at inside coming left stream stream' t u (Err fault)
-entry_stopped keys work at x staged inside coming left stream stream' t u fault is k = record {
-  writing = k.writing;
-  enough = k.enough;
-  takes = k.takes;
-  ends = (k.ends, inl (only_stages work x staged (entry_files inside (file_of keys k.writing)) t u is k.stages));
-}
+pub entry_stopped : {keys : Keys} {work at staged : Path} {inside : Option (List ℕ)} {coming left : Option Coming} {stream stream' : Option ByteStream} {t u : Option Told} {result : Result (Unit {0}) PutFault} (x : Part) (fault : PutFault)
+    → IsErrAnd result (λ e. e ≡ fault) → staged ≡ child (stage_path work) x → StagesEntry keys inside staged coming left stream stream' t u (Err fault) → PlacesEntry keys work at inside coming left stream stream' t u result
+entry_stopped {keys} {work} {at} {staged} {inside} {coming} {left} {stream} {stream'} {t} {u} {result} x fault by_fault is k =
+    at_fault (PlacesEntry keys work at inside coming left stream stream' t u) result fault by_fault (record {
+      writing = k.writing;
+      enough = k.enough;
+      takes = k.takes;
+      ends = (k.ends, inl (only_stages work x staged (entry_files inside (file_of keys k.writing)) t u is k.stages));
+    })
 
-module _ (keys : Keys) (work at : Path) (staged : Path) (inside : Option (List ℕ)) (coming left : Option Coming) (stream stream' : Option ByteStream) (t u w : Option Told)
+module _ {keys : Keys} {work at staged : Path} {inside : Option (List ℕ)} {coming left : Option Coming} {stream stream' : Option ByteStream} {t u : Option Told} (w : Option Told)
     (is : staged ≡ child (stage_path work) (codes "f")) (may : IfSeen t (λ v. MayCome v work at)) (k : StagesEntry keys inside staged coming left stream stream' t u (Ok tt)) where
   published_so : (result : Result (Unit {0}) FolderFault) → PublishesEntry staged at u w result → DoesLast work (entry_edit at inside (file_of keys k.writing)) (entry_files inside (file_of keys k.writing)) t w result
   published_so result publishes = publishes work (entry_view inside (file_of keys k.writing)) (entry_files inside (file_of keys k.writing)) t is (λ v seen_so. (may v seen_so).free) k.ends.1
 
-  pub entry_failed : (fault : FolderFault) → PublishesEntry staged at u w (Err fault) → PlacesEntry keys work at inside coming left stream stream' t w (Err (of_folder fault))
-  entry_failed fault publishes = record {
-    writing = k.writing;
-    enough = k.enough;
-    takes = takes_then keys k.writing coming left stream stream' (of_folder fault) k.takes;
-    ends = (stops_folder keys k.writing fault, inr (fault, refl, k.ends.0, published_so (Err fault) publishes));
-  }
+  pub entry_failed : {result : Result (Unit {0}) PutFault} (fault : FolderFault) → IsErrAnd result (λ e. e ≡ of_folder fault) → PublishesEntry staged at u w (Err fault) → PlacesEntry keys work at inside coming left stream stream' t w result
+  entry_failed {result} fault by_fault publishes =
+      at_fault (PlacesEntry keys work at inside coming left stream stream' t w) result (of_folder fault) by_fault (record {
+        writing = k.writing;
+        enough = k.enough;
+        takes = takes_then keys k.writing coming left stream stream' (of_folder fault) k.takes;
+        ends = (stops_folder keys k.writing fault, inr (fault, refl, k.ends.0, published_so (Err fault) publishes));
+      })
 
   pub entry_placed : PublishesEntry staged at u w (Ok tt) → PlacesEntry keys work at inside coming left stream stream' t w (Ok tt)
   entry_placed publishes = record { writing = k.writing; enough = k.enough; takes = k.takes; ends = (k.ends.0, published_so (Ok tt) publishes) }
@@ -350,11 +344,6 @@ placed_still keys work at inside coming coming' left left' stream stream' t u re
 pub still_ready : (reads : Option Path) (staged : Path) (f : Found → Option Coming) (t s : Option Told) → ((a : Told) → t ≡ Some a → IsSound a.state) → ReadsApart reads staged → StagesFolder [] staged t s
     → IsReady reads t f → IsReady reads s f
 still_ready reads staged f t s sound apart stages ready = ready_now reads t s (staging_still reads staged [] t s sound apart stages) f ready
-
--- an exit by a fault
-pub at_fault : (P : Result (Unit {0}) PutFault → Type 0) (result : Result (Unit {0}) PutFault) (fault : PutFault) → IsErrAnd result (λ y. y ≡ fault) → P (Err fault) → P result
-at_fault P (Err y) fault is holds = subst (λ x. P (Err x)) (sym is) holds
-at_fault P (Ok value) fault is holds = absurd is
 
 content_not_full : content_file ≢ full_file
 content_not_full same = cc

@@ -1,7 +1,6 @@
 -- Where an item is to stand, by the directory that is entered; and why it is refused there.
-use Rattle.std.specs.Prelude.{IfErr, IsErrAnd}
-use Rattle.std.specs.Option.{option_or}
-use Rattle.std.proofs.Common.{cond, true, false, bytes_eq, ◌≡◌, ◌≢◌, ◌⊎◌, ◌↔◌, ℕ, Bool, List, [], ◌∷◌, ◌++◌, Option, Some, None, Result, Ok, Err, refl, sym, ap, ◌∙◌, inl, inr, subst, append_assoc}
+use Rattle.std.specs.Option.{option_map, option_or}
+use Rattle.std.proofs.Common.{cond, true, false, bytes_eq, ◌≡◌, ◌≢◌, ◌⊎◌, ◌↔◌, ℕ, Bool, List, [], ◌∷◌, ◌++◌, Option, Some, None, Ok, Err, refl, sym, ap, ◌∙◌, inl, inr, subst, append_assoc}
 use Rattle.folder_spec.specs.Path.{Path, child}
 use Rattle.folder_spec.specs.Event.{Told}
 use Rattle.folder_spec.specs.Seen.{IfSeen, IsSeen, under}
@@ -28,12 +27,10 @@ use Rattle.vault_spec.specs.Standing.{entry_at}
 use Rattle.vault_spec.specs.Vault.{Vault, Gocryptfs, Cryptomator, format_of}
 use Rattle.content_writing.specs.declared.fault.PutFault.{PutFault}
 use Rattle.content_writing.specs.declared.fault.PutFault.TheVariants as puts
+use Rattle.content_writing.specs.Content.{Ending}
+use Rattle.content_writing.specs.Making.{Placing}
 use Rattle.vault_write.specs.Refusing.{Answers}
 use Rattle.vault_write.specs.Slots.{IsSlot, IsTakenAt, IsSideTaken, RefusesItem, placing}
-
-pub same_refused : {T : Type 0} (r : Result T PutFault) (e : PutFault) (P : PutFault → Type 0) → IsErrAnd r (λ y. y ≡ e) → P e → IfErr r P
-same_refused (Ok value) e P is holds = tt
-same_refused (Err fault) e P is holds = subst P (sym is) holds
 
 abbrev pub Enters : Type 0
 Enters = (f : Format) (v : View) (path : plain.Path) (dir : Directory) → (enter f v path ≡ Ok dir) ↔ Leads f v path dir
@@ -100,6 +97,13 @@ entry_taken (Gocryptfs keys) u dir name (NewFile content) drawn there = ap (λ o
 entry_taken (Cryptomator cm) u dir name NewDirectory drawn there = ap (λ o. option_or o (taken_folders u (cm_folder_of cm.keys (id_of drawn)))) (taken_there (entry_at (cm_format cm) dir name) (u (entry_at (cm_format cm) dir name)) there)
 entry_taken (Cryptomator cm) u dir name (NewFile content) drawn there = taken_there (entry_at (cm_format cm) dir name) (u (entry_at (cm_format cm) dir name)) there
 
+-- a place is taken, where the folder and memory serve
+pub or_taken : (p : Placing) (drawn : List ℕ) (ending : Ending) (u : View) (fault : PutFault) (at : Path) (Taken : Type 0) → (Taken → Answers p drawn ending u (Err (puts.Taken at)))
+    → (fault ≡ puts.Failed) ⊎ ((fault ≡ puts.NoMemory) ⊎ ((fault ≡ puts.Taken at) × Taken)) → Answers p drawn ending u (Err fault)
+or_taken p drawn ending u fault at Taken answers (inl failed) = subst (λ x. Answers p drawn ending u (Err x)) (sym failed) tt
+or_taken p drawn ending u fault at Taken answers (inr (inl memory)) = subst (λ x. Answers p drawn ending u (Err x)) (sym memory) tt
+or_taken p drawn ending u fault at Taken answers (inr (inr (is, taken))) = subst (λ x. Answers p drawn ending u (Err x)) (sym is) (answers taken)
+
 -- ---- whether or not the folder tells its state
 
 module _ (enters : Enters) (vault : OpenedVault) (front : plain.Path) (name : List ℕ) (place : DirPlace) (t : Option Told)
@@ -114,32 +118,48 @@ module _ (enters : Enters) (vault : OpenedVault) (front : plain.Path) (name : Li
   slot_found free v s = is_slot enters vault front name place (under vault.root v) (found v s) at side full allowed at_is side_is full_is (ap v (sym (entry_at_is v s)) ∙ free v s)
 
   pub slot_taken : (item : NewItem) (fault : PutFault) → IsTakenAt at t fault → RefusesItem vault front name item [] t fault
-  slot_taken item fault (inl failed) work ending v s = subst (λ x. Answers (placing vault work front name item) [] ending (under vault.root v) (Err x)) (sym failed) tt
-  slot_taken item fault (inr (inl memory)) work ending v s = subst (λ x. Answers (placing vault work front name item) [] ending (under vault.root v) (Err x)) (sym memory) tt
-  slot_taken item fault (inr (inr is_taken)) work ending v s =
-      subst (λ x. Answers (placing vault work front name item) [] ending (under vault.root v) (Err x)) (sym is_taken.0) (
+  slot_taken item fault is_taken work ending v s =
+      or_taken (placing vault work front name item) [] ending (under vault.root v) fault at (IfSeen t (λ v. v at ≢ NoEntry)) (λ there. (
         entry_at (format_of vault.vault) (found v s).dir name,
         entry_at_is v s,
         record {
           dir = (found v s).dir;
           there = record { entered = enters_there enters vault front name place (under vault.root v) (found v s) at side full allowed at_is side_is full_is; allowed = allowed };
-          is = entry_taken vault.vault (under vault.root v) (found v s).dir name item [] (λ none. is_taken.1 v s (ap v (entry_at_is v s) ∙ none));
+          is = entry_taken vault.vault (under vault.root v) (found v s).dir name item [] (λ none. there v s (ap v (entry_at_is v s) ∙ none));
         },
-      )
+      )) is_taken
 
--- ---- a long name's file that is taken, in gocryptfs
+-- ---- a long name's file, in gocryptfs
 
 -- whichever path it has
-side_is_taken : (one other : Path) (there : Found) (full : Option (List ℕ)) → taken_unless one there full ≡ Some one → taken_unless other there full ≡ Some other
-side_is_taken one other there None e = cc
-side_is_taken one other NoEntry (Some text) e = cc
-side_is_taken one other (FileOf bytes) (Some text) e = by_text (bytes_eq bytes text) e
+taken_elsewhere : (one other : Path) (there : Found) (full : Option (List ℕ)) → taken_unless other there full ≡ option_map (λ _. other) (taken_unless one there full)
+taken_elsewhere one other there None = refl
+taken_elsewhere one other NoEntry (Some text) = refl
+taken_elsewhere one other (FileOf bytes) (Some text) = by_text (bytes_eq bytes text)
   where
-    by_text : (b : Bool) → cond b None (Some one) ≡ Some one → cond b None (Some other) ≡ Some other
-    by_text true e = cc
-    by_text false e = refl
-side_is_taken one other Folder (Some text) e = refl
-side_is_taken one other Special (Some text) e = refl
+    by_text : (b : Bool) → cond b None (Some other) ≡ option_map (λ _. other) (cond b None (Some one))
+    by_text true = refl
+    by_text false = refl
+taken_elsewhere one other Folder (Some text) = refl
+taken_elsewhere one other Special (Some text) = refl
+
+module _ (keys : GoKeys) (root : Path) (front : plain.Path) (name : List ℕ) (v : View) (at side : Path) (full : Option (List ℕ))
+    (slot : IsSlot (record { root = root; vault = Gocryptfs keys }) (go_format keys) front name (under root v) at side full) where
+  abbrev pub side_at : Path
+  side_at = child slot.dir.folder (full_name ((go_format keys).stored slot.dir.key name).name)
+
+  -- what is taken, by what stands there
+  go_taken_by : (taken : Option Path) → taken_unless side (v side) full ≡ taken → go_taken (under root v) slot.dir ((go_format keys).stored slot.dir.key name) ≡ option_map (λ _. side_at) taken
+  go_taken_by taken is =
+      ap (λ x. option_or (taken_at (entry_at (go_format keys) slot.dir name) x) (taken_unless side_at (under root v side_at) ((go_format keys).stored slot.dir.key name).full)) slot.free
+      ∙ taken_elsewhere side side_at (under root v side_at) ((go_format keys).stored slot.dir.key name).full
+      ∙ ap (option_map (λ _. side_at)) (ap (λ o. taken_unless side (under root v side_at) o) (sym slot.full_is) ∙ ap (λ q. taken_unless side (v q) full) (sym slot.side_is) ∙ is)
+
+  pub go_free : taken_unless side (v side) full ≡ None → go_taken (under root v) slot.dir ((go_format keys).stored slot.dir.key name) ≡ None
+  go_free = go_taken_by None
+
+  pub go_side : taken_unless side (v side) full ≡ Some side → go_taken (under root v) slot.dir ((go_format keys).stored slot.dir.key name) ≡ Some side_at
+  go_side = go_taken_by (Some side)
 
 go_item_taken : (keys : GoKeys) (u : View) (dir : Directory) (name : List ℕ) (item : NewItem) (place : Path) → go_taken u dir ((go_format keys).stored dir.key name) ≡ Some place
     → taken (go_format keys) u dir name item [] ≡ Some place
@@ -148,30 +168,17 @@ go_item_taken keys u dir name (NewFile content) place e = e
 
 module _ (keys : GoKeys) (root : Path) (front : plain.Path) (name : List ℕ) (t : Option Told) (at side : Path) (full : Option (List ℕ))
     (slot : IfSeen t (λ v. IsSlot (record { root = root; vault = Gocryptfs keys }) (go_format keys) front name (under root v) at side full)) where
-  -- where the text is to stand, behind the root
-  abbrev side_in : IfSeen t (λ v. Path)
-  side_in v s = child (slot v s).dir.folder (full_name ((go_format keys).stored (slot v s).dir.key name).name)
-
-  side_taken : (v : View) → (s : IsSeen t v) → taken_unless side (v side) full ≡ Some side
-      → go_taken (under root v) (slot v s).dir ((go_format keys).stored (slot v s).dir.key name) ≡ Some (side_in v s)
-  side_taken v s e =
-      ap (λ x. option_or (taken_at (entry_at (go_format keys) (slot v s).dir name) x) (taken_unless (side_in v s) (v (root ++ side_in v s)) ((go_format keys).stored (slot v s).dir.key name).full)) (slot v s).free
-      ∙ side_is_taken side (side_in v s) (v (root ++ side_in v s)) ((go_format keys).stored (slot v s).dir.key name).full
-      (ap (λ o. taken_unless side (v (root ++ side_in v s)) o) (sym (slot v s).full_is) ∙ ap (λ q. taken_unless side (v q) full) (sym (slot v s).side_is) ∙ e)
-
   go_side_refused : (item : NewItem) (fault : PutFault) → IsSideTaken side full t fault → RefusesItem (record { root = root; vault = Gocryptfs keys }) front name item [] t fault
-  go_side_refused item fault (inl failed) work ending v s = subst (λ x. Answers (placing (record { root = root; vault = Gocryptfs keys }) work front name item) [] ending (under root v) (Err x)) (sym failed) tt
-  go_side_refused item fault (inr (inl memory)) work ending v s = subst (λ x. Answers (placing (record { root = root; vault = Gocryptfs keys }) work front name item) [] ending (under root v) (Err x)) (sym memory) tt
-  go_side_refused item fault (inr (inr is_taken)) work ending v s =
-      subst (λ x. Answers (placing (record { root = root; vault = Gocryptfs keys }) work front name item) [] ending (under root v) (Err x)) (sym is_taken.0) (
-        side_in v s,
+  go_side_refused item fault is_taken work ending v s =
+      or_taken (placing (record { root = root; vault = Gocryptfs keys }) work front name item) [] ending (under root v) fault side (IfSeen t (λ v. taken_unless side (v side) full ≡ Some side)) (λ there. (
+        side_at keys root front name v at side full (slot v s),
         (slot v s).side_is,
         record {
           dir = (slot v s).dir;
           there = record { entered = (slot v s).entered; allowed = (slot v s).allowed };
-          is = go_item_taken keys (under root v) (slot v s).dir name item (side_in v s) (side_taken v s (is_taken.1 v s));
+          is = go_item_taken keys (under root v) (slot v s).dir name item (side_at keys root front name v at side full (slot v s)) (go_side keys root front name v at side full (slot v s) (there v s));
         },
-      )
+      )) is_taken
 
 pub side_refused : (root : Path) (vault : Vault) → kind_of vault ≡ kind.Gocryptfs → (front : plain.Path) (name : List ℕ) (t : Option Told) (at side : Path) (full : Option (List ℕ))
     → IfSeen t (λ v. IsSlot (record { root = root; vault = vault }) (format_of vault) front name (under root v) at side full) → (item : NewItem) (fault : PutFault)

@@ -1,5 +1,5 @@
 -- A vault is staged whole below the stage of a work folder, and put in its place.
-use Rattle.std.proofs.Common.{◌≡◌, ℕ, Bool, ◌&&◌, List, [], ◌∷◌, ◌++◌, Option, Some, None, Result, Ok, Err, OnOk, refl, sym, ap, ◌∙◌, subst, inl, inr, arith, append-nil, append_assoc, IsTrue, codes}
+use Rattle.std.proofs.Common.{◌≡◌, ℕ, Bool, ◌&&◌, List, [], ◌∷◌, ◌++◌, Option, Some, None, Result, Ok, Err, IsErrAnd, OnOk, refl, sym, ap, ◌∙◌, subst, inl, inr, arith, append-nil, append_assoc, IsTrue, codes}
 use Rattle.folder_spec.specs.declared.FolderFault.{FolderFault}
 use Rattle.folder_spec.specs.declared.Spot.TheVariants.{Nothing, Directory}
 use Rattle.folder_spec.specs.Path.{Part, Path, below, parent, child}
@@ -15,7 +15,7 @@ use Rattle.folder_spec.proofs.Tables.{present_is_table}
 use Rattle.folder_spec.proofs.Replaces.{apart-below, apart-from_below}
 use Rattle.folder_spec.proofs.Regions.{as_before, as_before_within, seen_as_before}
 use Rattle.folder_spec.proofs.Moments.{went_nowhere, went_more, went_to}
-use Rattle.folder_spec.proofs.Tellings.{from_to_more, from_to_both}
+use Rattle.folder_spec.proofs.Tellings.{from_to_more, from_to_both, from_to_then}
 use Rattle.folder_spec.proofs.Edits.{nothing_below_file, publishes_nothing, publishes_in_part, settled_in_part}
 use Rattle.folder_spec.proofs.Seen.{free_seen, seen_of}
 use Rattle.folder_spec.proofs.Stages.{at_itself}
@@ -25,7 +25,10 @@ use Rattle.work_folder.specs.Entries.{stage_path}
 use Rattle.work_folder.specs.Entering.{IsReady}
 use Rattle.content_writing.specs.Making.{is_unstaged, is_apart, StagesOrPlaces}
 use Rattle.vault_write.specs.Founding.{MayFound, texts, vault_edit, founding, IsFounding, Founds, StagesWhole}
-use Rattle.vault_write.proofs.Stages.{in_stage, unstaged_apart, apart_unstaged, apart_root, staged_beside, work_beside, stage_beside, work_unstaged, stage_unstaged}
+use Rattle.vault_write.proofs.Edited.{StagingAt}
+use Rattle.vault_write.proofs.Exits.{at_fault}
+use Rattle.vault_write.proofs.Seeing.{seen_then}
+use Rattle.vault_write.proofs.Stages.{in_stage, unstaged_apart, apart_unstaged, apart_root, staged_beside, off_root, stage_beside, work_unstaged, stage_unstaged}
 use Rattle.vault_write.proofs.Runs.{works_in_stage}
 
 both_true : (a b : Bool) → IsTrue a → IsTrue b → IsTrue (a && b)
@@ -120,7 +123,7 @@ module _ (work at : Path) (made : View) (files : List (Part × List ℕ)) (apart
 
   stage_is_bare : (s0 s : State) → IsSound s0 → IsSound s → IsAsBefore (apart_from_both (entry_of work) at) s0 s → present s (entry_of work) ≡ Nothing → IsReady (seen s0) work → IsReady (seen s) work
   stage_is_bare s0 s sound sound_now others gone ready = record {
-    folder = same work (apart_of work (work_unstaged work)) (work_beside work at at beside (at_itself at)) ∙ ready.folder;
+    folder = same work (apart_of work (work_unstaged work)) (off_root at at work beside (at_itself at)) ∙ ready.folder;
     stage = same (stage_path work) (apart_of (stage_path work) (stage_unstaged work)) (stage_beside work at at apart beside (at_itself at)) ∙ ready.stage;
     bare = λ rest some. elim (begins_or_not (entry_of work) (stage_path work ++ rest)) as (λ _. seen s (stage_path work ++ rest) ≡ NoEntry) [
       | inl k ↦ ap (found (λ n. (s.nodes n).now)) (ap (present s) k.1 ∙ nothing k.0)
@@ -149,13 +152,11 @@ module _ (work at : Path) (made : View) (files : List (Part × List ℕ)) (apart
 
   ready_after : (t u : Option Told) → ((a : Told) → t ≡ Some a → IsSound a.state) → ((a : Told) → u ≡ Some a → IsSound a.state) → IfSeen t (λ v. IsReady v work)
       → FromTo Placed t u → IfSeen u (λ v. IsReady v work)
-  ready_after (Some a) (Some b) sound sound_now ready placed v is =
-      subst (λ w. IsReady w work) (sym is)
-      (stage_is_bare a.state b.state (sound a refl) (sound_now b refl)
-      (went_to (IsPublishingFolder (texts files) (entry_of work) (vault_edit at made) a.state) (λ s e. StagesOrPuts (entry_of work) at a.state s e.call) a b placed.0).others
-      placed.1.gone (ready (seen a.state) refl))
-  ready_after None (Some b) sound sound_now ready placed v is = absurd placed
-  ready_after t None sound sound_now ready placed v is = absurd is
+  ready_after t u sound sound_now ready placed =
+      seen_then (λ a b. Placed a b × IsSound b.state) (λ v. IsReady v work) t u
+      (λ a b is k. stage_is_bare a.state b.state (sound a is) k.1
+      (went_to (IsPublishingFolder (texts files) (entry_of work) (vault_edit at made) a.state) (λ s e. StagesOrPuts (entry_of work) at a.state s e.call) a b k.0.0).others
+      k.0.1.gone (ready (seen a.state) (seen_of t a is))) (from_to_then Placed (λ b. IsSound b.state) t u sound_now placed)
 
   pub founds_placed : (t u w : Option Told) (result : Result (Unit {0}) FolderFault) → ((a : Told) → t ≡ Some a → IsSound a.state) → ((a : Told) → w ≡ Some a → IsSound a.state)
       → MayFound t work at → StagesWhole (entry_of work) made (texts files) t u (Ok tt) → PlacesFolder (entry_of work) at u w result → Founds work at made files t w result
@@ -189,18 +190,16 @@ module _ (work at : Path) (made : View) (files : List (Part × List ℕ)) (apart
           (λ a b. HasPlacedFolder (entry_of work) (vault_edit at made) a.state b.state) t w went h)
 
 -- where it isn't staged whole, nothing has come yet
-pub founds_staged : {E : Type 0} (work at : Path) (made : View) (files : List (Part × List ℕ)) (t u : Option Told) (fault : E) (refused : FolderFault)
-    → ((a : Told) → t ≡ Some a → IsSound a.state) → MayFound t work at → StagesWhole (entry_of work) made (texts files) t u (Err refused)
-    → Founds work at made files t u (Err fault)
-founds_staged work at made files t u fault refused sound may whole = record {
-  moments = staging_from work at made files may.make.apart may.make.beside t u sound (whole (texts files) (λ file among. among)).0;
-  done = tt;
-  ready = tt;
-}
+pub founds_staged : {E : Type 0} {work at : Path} {made : View} {files : List (Part × List ℕ)} {t u : Option Told} {result : Result (Unit {0}) E} (fault : E) (refusal : FolderFault) → IsErrAnd result (λ e. e ≡ fault)
+    → ((a : Told) → t ≡ Some a → IsSound a.state) → MayFound t work at → StagesWhole (entry_of work) made (texts files) t u (Err refusal) → Founds work at made files t u result
+founds_staged {work = work} {at} {made} {files} {t} {u} {result} fault refusal by_fault sound may whole =
+    at_fault (Founds work at made files t u) result fault by_fault
+    (record { moments = staging_from work at made files may.make.apart may.make.beside t u sound (whole (texts files) (λ file among. among)).0; done = tt; ready = tt })
 
-pub founds_none : {E : Type 0} (work at : Path) (made : View) (files : List (Part × List ℕ)) (t : Option Told) (fault : E) → ((a : Told) → t ≡ Some a → IsSound a.state)
-    → MayFound t work at → Founds work at made files t t (Err fault)
-founds_none work at made files t fault sound may = record { moments = none_yet work at made files may.make.apart may.make.beside t sound; done = tt; ready = tt }
+pub founds_none : {E : Type 0} {work at : Path} {made : View} {files : List (Part × List ℕ)} {t : Option Told} {result : Result (Unit {0}) E} (fault : E) → IsErrAnd result (λ e. e ≡ fault)
+    → ((a : Told) → t ≡ Some a → IsSound a.state) → MayFound t work at → Founds work at made files t t result
+founds_none {work = work} {at} {made} {files} {t} {result} fault by_fault sound may =
+    at_fault (Founds work at made files t t) result fault by_fault (record { moments = none_yet work at made files may.make.apart may.make.beside t sound; done = tt; ready = tt })
 
 -- ---- putting it there
 
@@ -217,23 +216,17 @@ may_place work at made files t u sound may folder whole =
     record {
       below_base = child-not_base (stage_path work) (codes "f");
       apart = record { apart = entry_apart work at may.make.apart; beside = entry_beside work at may.make.apart may.make.beside };
-      there = λ v is. there t u staged.whole v is;
-      free = λ v is. free t u sound may.free staged.stages v is;
+      there = seen_then (λ a b. IsStagedView b.state (present b.state) (entry_of work) made) (λ v. v (entry_of work) ≡ Folder) t u
+          (λ a b is view. ap (seen b.state) (sym (append-nil (entry_of work))) ∙ view.shown [] ∙ folder) staged.whole;
+      free = seen_then (StagingAt files (entry_of work)) (λ v. ShowsFree v at) t u free staged.stages;
     }
   where
-    there : (t u : Option Told) → FromTo (λ a b. IsStagedView b.state (present b.state) (entry_of work) made) t u → IfSeen u (λ v. v (entry_of work) ≡ Folder)
-    there (Some a) (Some b) view v is = ap (λ w. w (entry_of work)) is ∙ ap (seen b.state) (sym (append-nil (entry_of work))) ∙ view.shown [] ∙ folder
-    there None (Some b) view v is = absurd view
-    there t None view v is = absurd is
-
-    free : (t u : Option Told) → ((a : Told) → t ≡ Some a → IsSound a.state) → IfSeen t (λ v. ShowsFree v at) → StagesFolder files (entry_of work) t u → IfSeen u (λ v. ShowsFree v at)
-    free (Some a) (Some b) sound free_then went v is =
+    free : (a b : Told) → t ≡ Some a → StagingAt files (entry_of work) a b → ShowsFree (seen b.state) at
+    free a b is went =
         let others : IsAsBefore (apart_from (entry_of work)) a.state b.state =
         (went_to (IsStagingFolder files (entry_of work) a.state) (λ s e. StagesAt (entry_of work) a.state s e.call) a b went).others in
-        let same : (q : Path) → below (entry_of work) q ≡ None → v q ≡ seen a.state q =
-        λ q none. ap (λ w. w q) is ∙ seen_as_before (apart_from (entry_of work)) a.state b.state (sound a refl) others q (apart-from_below (entry_of work) q none) in
-        let was : ShowsFree (seen a.state) at = free_then (seen a.state) refl in
+        let same : (q : Path) → below (entry_of work) q ≡ None → seen b.state q ≡ seen a.state q =
+        λ q none. seen_as_before (apart_from (entry_of work)) a.state b.state (sound a is) others q (apart-from_below (entry_of work) q none) in
+        let was : ShowsFree (seen a.state) at = may.free (seen a.state) (seen_of t a is) in
         let none : below (entry_of work) at ≡ None = entry_apart work at may.make.apart in
         (same at none ∙ was.0, same (parent at) (below-parent (entry_of work) at none) ∙ was.1)
-    free None (Some b) sound free_then went v is = absurd went
-    free t None sound free_then went v is = absurd is

@@ -1,6 +1,5 @@
 -- A directory of gocryptfs is begun: what its edits are, and that they make it.
-use Rattle.std.specs.Option.{option_or}
-use Rattle.std.proofs.Common.{arith, true, false, Bool, ◌≡◌, ℕ, List, [], ◌∷◌, ◌++◌, length, Option, Some, None, refl, sym, ap, ◌∙◌, cond, bytes_eq, codes, ◌+◌, length-append, IsTrue}
+use Rattle.std.proofs.Common.{arith, true, false, Bool, ◌≡◌, ℕ, List, [], ◌∷◌, ◌++◌, length, Option, Some, None, refl, sym, ap, ◌∙◌, bytes_eq, codes, ◌+◌, length-append, IsTrue}
 use Rattle.folder_spec.specs.Path.{Part, Path, below, child}
 use Rattle.folder_spec.proofs.Paths.{below-both, below-sibling}
 use Rattle.std.proofs.lemmas.Slice.Eq.{bytes_eq-Decides}
@@ -14,14 +13,13 @@ use Rattle.vault_keys.specs.declared.keys.GoKeys.{GoKeys}
 use Rattle.plain_tree.specs.Names as plain
 use Rattle.plain_tree.specs.Names.{is_name}
 use Rattle.vault_read.specs.Laws.{KeepsVaults}
-use Rattle.vault_spec.specs.Format.{taken_at}
-use Rattle.vault_spec.specs.Gocryptfs.{key_file, full_name, directory_key, go_format, full_edits_at, taken_unless, go_taken}
+use Rattle.vault_spec.specs.Gocryptfs.{key_file, full_name, directory_key, go_format, full_edits, full_edits_at, taken_unless}
 use Rattle.vault_spec.specs.Making.{NewDirectory, edits}
 use Rattle.vault_spec.specs.Standing.{entry_at}
 use Rattle.vault_spec.specs.Vault.{Gocryptfs}
 use Rattle.vault_write.specs.Editing.{side_edits, go_making, GoPlaces}
 use Rattle.vault_write.specs.Slots.{IsSlot, wants_text, placing}
-use Rattle.vault_write.proofs.Found.{Enters}
+use Rattle.vault_write.proofs.Found.{Enters, go_free, side_at}
 use Rattle.vault_write.proofs.Begun.{FoldersStand, all_are, directory_begun, may_come_in, entry_comes}
 use Rattle.vault_write.proofs.ItemMade.{IsBegun}
 
@@ -33,48 +31,28 @@ sides_are root side (Some text) (FileOf bytes) = refl
 sides_are root side (Some text) Folder = refl
 sides_are root side (Some text) Special = refl
 
--- nothing stands there, or the text
-pub untaken : (place : Path) (there : Found) (o : Option (List ℕ)) (other : Path) → taken_unless place there o ≡ None → taken_unless other there o ≡ None
-untaken place there None other none = refl
-untaken place NoEntry (Some text) other none = refl
-untaken place (FileOf bytes) (Some text) other none = by_text (bytes_eq bytes text) none
-  where
-    by_text : (b : Bool) → cond b None (Some place) ≡ None → cond b None (Some other) ≡ None
-    by_text true e = refl
-    by_text false e = cc
-untaken place Folder (Some text) other none = cc
-untaken place Special (Some text) other none = cc
+pub sides_under : (keys : GoKeys) (root : Path) (front : plain.Path) (name : List ℕ) (v : View) (at side : Path) (full : Option (List ℕ))
+    → (slot : IsSlot (record { root = root; vault = Gocryptfs keys }) (go_format keys) front name (under root v) at side full) (wants : Bool) → wants ≡ wants_text (v side) full
+    → side_edits wants side full ≡ edits_under root (full_edits (under root v) slot.dir ((go_format keys).stored slot.dir.key name))
+sides_under keys root front name v at side full slot wants is =
+    ap (λ b. side_edits b side full) is
+    ∙ ap (λ o. side_edits (wants_text (v side) o) side o) slot.full_is
+    ∙ ap (λ q. side_edits (wants_text (v q) ((go_format keys).stored slot.dir.key name).full) q ((go_format keys).stored slot.dir.key name).full) slot.side_is
+    ∙ sides_are root (side_at keys root front name v at side full slot) ((go_format keys).stored slot.dir.key name).full (under root v (side_at keys root front name v at side full slot))
 
 module _ (enters : Enters) (keys : GoKeys) (laws : KeepsVaults (go_format keys)) (root work : Path) (front : plain.Path) (name key : List ℕ) (named : IsTrue (is_name name)) (is_key : directory_key key ≡ Some key) (sixteen : length key ≡ 16)
     (a : Told) (at side : Path) (full : Option (List ℕ)) (wants : Bool) (sound : IsSound a.state)
     (slot : IsSlot (record { root = root; vault = Gocryptfs keys }) (go_format keys) front name (under root (seen a.state)) at side full)
     (wants_is : wants ≡ wants_text (seen a.state side) full) (side_free : taken_unless side (seen a.state side) full ≡ None)
     (apart : below work root ≡ None) (beside : below root work ≡ None) where
-  free : go_taken (under root (seen a.state)) slot.dir ((go_format keys).stored slot.dir.key name) ≡ None
-  free =
-      ap (λ x. option_or (taken_at (entry_at (go_format keys) slot.dir name) x) (taken_unless (child slot.dir.folder (full_name ((go_format keys).stored slot.dir.key name).name))
-      (under root (seen a.state) (child slot.dir.folder (full_name ((go_format keys).stored slot.dir.key name).name))) ((go_format keys).stored slot.dir.key name).full)) slot.free
-      ∙ untaken side (under root (seen a.state) (child slot.dir.folder (full_name ((go_format keys).stored slot.dir.key name).name))) ((go_format keys).stored slot.dir.key name).full
-      (child slot.dir.folder (full_name ((go_format keys).stored slot.dir.key name).name))
-      (ap (λ o. taken_unless side (seen a.state (root ++ child slot.dir.folder (full_name ((go_format keys).stored slot.dir.key name).name))) o) (sym slot.full_is)
-      ∙ ap (λ q. taken_unless side (seen a.state q) full) (sym slot.side_is) ∙ side_free)
-
   are : side_edits wants side full ++ folder_edit at ((key_file, key) ∷ []) ∷ [] ≡ edits_under root (edits (go_format keys) (under root (seen a.state)) slot.dir name NewDirectory key)
-  are =
-      ap (λ b. side_edits b side full ++ folder_edit at ((key_file, key) ∷ []) ∷ []) wants_is
-      ∙ ap (λ q. side_edits (wants_text (seen a.state q) full) q full ++ folder_edit at ((key_file, key) ∷ []) ∷ []) slot.side_is
-      ∙ ap (λ o. side_edits (wants_text (seen a.state (root ++ child slot.dir.folder (full_name ((go_format keys).stored slot.dir.key name).name))) o)
-      (root ++ child slot.dir.folder (full_name ((go_format keys).stored slot.dir.key name).name)) o ++ folder_edit at ((key_file, key) ∷ []) ∷ []) slot.full_is
-      ∙ ap (λ q. side_edits (wants_text (seen a.state (root ++ child slot.dir.folder (full_name ((go_format keys).stored slot.dir.key name).name))) ((go_format keys).stored slot.dir.key name).full)
-      (root ++ child slot.dir.folder (full_name ((go_format keys).stored slot.dir.key name).name)) ((go_format keys).stored slot.dir.key name).full ++ folder_edit q ((key_file, key) ∷ []) ∷ []) slot.at_is
-      ∙ all_are root (side_edits (wants_text (seen a.state (root ++ (child slot.dir.folder (full_name ((go_format keys).stored slot.dir.key name).name)))) ((go_format keys).stored slot.dir.key name).full) (root ++ (child slot.dir.folder (full_name ((go_format keys).stored slot.dir.key name).name))) ((go_format keys).stored slot.dir.key name).full)
-      (full_edits_at (child slot.dir.folder (full_name ((go_format keys).stored slot.dir.key name).name)) (seen a.state (root ++ (child slot.dir.folder (full_name ((go_format keys).stored slot.dir.key name).name)))) ((go_format keys).stored slot.dir.key name).full)
-      (folder_edit (root ++ entry_at (go_format keys) slot.dir name) ((key_file, key) ∷ [])) (folder_edit (entry_at (go_format keys) slot.dir name) ((key_file, key) ∷ []))
-      (sides_are root (child slot.dir.folder (full_name ((go_format keys).stored slot.dir.key name).name)) ((go_format keys).stored slot.dir.key name).full (seen a.state (root ++ (child slot.dir.folder (full_name ((go_format keys).stored slot.dir.key name).name))))) refl
+  are = all_are root (side_edits wants side full) (full_edits (under root (seen a.state)) slot.dir ((go_format keys).stored slot.dir.key name))
+      (folder_edit at ((key_file, key) ∷ [])) (folder_edit (entry_at (go_format keys) slot.dir name) ((key_file, key) ∷ []))
+      (sides_under keys root front name (seen a.state) at side full slot wants wants_is) (ap (λ q. folder_edit q ((key_file, key) ∷ [])) slot.at_is)
 
   pub go_begun : IsBegun (placing (record { root = root; vault = Gocryptfs keys }) work front name NewDirectory) key (go_making wants side at full key) a
   go_begun = directory_begun enters (record { root = root; vault = Gocryptfs keys }) laws work front name key named (go_making wants side at full key) refl a sound at side full slot apart beside
-      is_key free are sixteen refl
+      is_key (go_free keys root front name (seen a.state) at side full slot side_free) are sixteen refl
 
 -- ---- where its parts come to stand
 

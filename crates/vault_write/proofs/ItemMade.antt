@@ -1,5 +1,5 @@
 -- What a call that made an item's edits promises of the vault's trees, and of what opens.
-use Rattle.std.proofs.Common.{arith, ◌≡◌, ◌⊎◌, ℕ, ◌≤◌, List, [], ◌∷◌, ◌++◌, length, Option, Some, None, Ok, Err, refl, sym, ap, ◌∙◌, inl, inr, subst, IsTrue, is_some}
+use Rattle.std.proofs.Common.{arith, ◌≡◌, ◌≢◌, ◌⊎◌, ℕ, ◌≤◌, List, [], ◌∷◌, ◌++◌, length, Option, Some, None, Result, Ok, Err, refl, sym, ap, ◌∙◌, inl, inr, subst, IsTrue, is_some}
 use Rattle.std.proofs.Math.Path.{fun_ext}
 use Rattle.folder_spec.specs.declared.FolderFault.{FolderFault}
 use Rattle.folder_spec.specs.Path.{Path, below}
@@ -8,36 +8,40 @@ use Rattle.folder_spec.specs.Edit.{Edit, edited, edit_under, edits_under, view_a
 use Rattle.folder_spec.specs.Event.{Told, FromTo}
 use Rattle.folder_spec.specs.Moments.{Moments, Went}
 use Rattle.folder_spec.specs.Region.{at_or_below}
-use Rattle.folder_spec.specs.Seen.{IfSeen, IsSeen, seen, under}
+use Rattle.folder_spec.specs.Seen.{IfSeen, seen, under}
 use Rattle.folder_spec.specs.View.{View}
-use Rattle.folder_spec.proofs.Paths.{below-append}
+use Rattle.folder_spec.proofs.Paths.{below-append, child-injective, child-last, child-not_base}
 use Rattle.folder_spec.proofs.Moments.{went_more, went_nowhere, went_to}
 use Rattle.folder_spec.proofs.Regions.{as_before}
 use Rattle.folder_spec.proofs.Tellings.{from_to_more, from_to_same}
-use Rattle.folder_spec.proofs.Seen.{one_view}
 use Rattle.plain_tree.specs.Names as plain
 use Rattle.vault_spec.specs.Adding.{OpensAs, OpensWith, ComesAlone, StaysClean}
 use Rattle.vault_spec.specs.Alike.{IsOrderly}
 use Rattle.vault_spec.specs.Anywhere.{ComesAtLast}
 use Rattle.vault_spec.specs.Format.{Format}
-use Rattle.vault_spec.specs.Making.{draws}
+use Rattle.vault_spec.specs.Making.{NewItem, draws}
+use Rattle.vault_spec.specs.Opened.{OpenedVault}
 use Rattle.vault_spec.specs.Opens.{Opened, opened}
 use Rattle.vault_spec.specs.Staying.{StaysVault}
 use Rattle.vault_spec.specs.Tidy.{IsTidy}
 use Rattle.folder_spec.specs.declared.FolderFault.TheVariants as folder
 use Rattle.content_writing.specs.Faults.{of_folder}
 use Rattle.content_writing.specs.Content.{Ending, Whole}
-use Rattle.content_writing.specs.Writing.{DrewNoZeros}
+use Rattle.content_writing.specs.Writing.{Blames, DrewNoZeros}
 use Rattle.content_writing.specs.declared.fault.PutFault.{PutFault}
 use Rattle.content_writing.specs.declared.fault.PutFault.TheVariants as puts
 use Rattle.work_folder.specs.Entering.{IsReady}
-use Rattle.vault_write.specs.Calls.{MakesOne, New}
+use Rattle.vault_faults.specs.declared.fault.FindFault.TheVariants as finds
+use Rattle.vault_write.specs.Calls.{AnswersBy, AnswersRoot, How, InPlace, MakesAt, MakesOne, New, making_by}
 use Rattle.vault_write.specs.Editing.{IsEditing, SeesSome, Edits, HasFinished}
 use Rattle.content_writing.specs.Making.{Placing, Making, format, path_of, new_item, is_unstaged, is_elsewhere, StagesOrPlaces}
-use Rattle.content_writing.specs.Placing.{IsMaking, ShowsNewTree, making_at, EndsAs, Makes}
+use Rattle.content_writing.specs.Placing.{IsMaking, ShowsNewTree, making_at, EndsAs}
 use Rattle.vault_write.specs.Refusing.{HasTaken, Answers}
 use Rattle.vault_write.specs.Showing.{MakeItem, MakeItemAt, EditsShowTrees, SettledEditsShowTrees}
+use Rattle.vault_write.specs.Slots.{placing}
 use Rattle.content_writing.specs.Trees.{StaysGood, opens_as}
+use Rattle.vault_write.proofs.Exits.{unblamed}
+use Rattle.vault_write.proofs.Seeing.{if_seen, seen_both, seen_then}
 use Rattle.vault_write.proofs.Stages.{root_unstaged}
 use Rattle.vault_write.proofs.TreesShown.{old_alone}
 
@@ -94,6 +98,97 @@ split root [] (d ∷ done) more e = cc
 abbrev pub RootsShow : Type 0
 RootsShow = (root : Path) (v : View) (edits : List Edit) → under root (view_after v (edits_under root edits)) ≡ view_after (under root v) edits
 
+abbrev OldOrNewOpens : Placing → View → View → Type 0
+OldOrNewOpens p u v = IsOrderly (format p) u → OpensAs (format p) u v ⊎ OpensWith (format p) u v (path_of p) (opens_as p.item)
+
+-- after the folder failed
+ends_failed_by : (p : Placing) (fault : FolderFault) (u v : View) → OldOrNewOpens p u v → EndsAs p u v (Err (of_folder fault))
+ends_failed_by p folder.Failed u v opens = opens
+ends_failed_by p folder.Refused u v opens = opens
+ends_failed_by p folder.NoMemory u v opens = opens
+
+-- where what opens stayed
+pub ends_stopped : (p : Placing) (fault : PutFault) (u v : View) → OpensAs (format p) u v → EndsAs p u v (Err fault)
+ends_stopped p puts.Failed u v same = λ orderly. inl same
+ends_stopped p puts.NoMemory u v same = λ orderly. inl same
+ends_stopped p fault u v same = same
+
+-- ---- whether or not the folder tells its state
+
+-- What a making of edits brings of an item, from one state to another.
+pub record Brings (how : How) (p : Placing) (drawn : List ℕ) (m : Making) (a b : Told) : Type 0 where
+  pub went : Edits p.work p.vault.root m a b → Went (IsMaking p Whole (making_at p (making_by how p drawn) a.state) a.state) (λ s e. StagesOrPlaces p.work (making_at p (making_by how p drawn) a.state) s e.call) a b
+  pub tree : HasFinished p.work p.vault.root m a b → ShowsNewTree p a.state b.state
+  pub opens : HasFinished p.work p.vault.root m a b → EndsAs p (under p.vault.root (seen a.state)) (under p.vault.root (seen b.state)) (Ok tt)
+  pub old_or_new : Edits p.work p.vault.root m a b → OldOrNewOpens p (under p.vault.root (seen a.state)) (under p.vault.root (seen b.state))
+
+module _ (how : How) (p : Placing) (drawn : List ℕ) (m : Making) (t w : Option Told) (brings : (a b : Told) → t ≡ Some a → Brings how p drawn m a b)
+    (size : length drawn ≡ draws (format p) p.item) (went : FromTo (Edits p.work p.vault.root m) t w) where
+  moments_of : Moments (λ s0 s. IsMaking p Whole (making_at p (making_by how p drawn) s0) s0 s) (λ s0 s e. StagesOrPlaces p.work (making_at p (making_by how p drawn) s0) s e.call) t w
+  moments_of = from_to_more (Edits p.work p.vault.root m)
+      (λ a b. Went (IsMaking p Whole (making_at p (making_by how p drawn) a.state) a.state) (λ s e. StagesOrPlaces p.work (making_at p (making_by how p drawn) a.state) s e.call) a b) t w
+      (λ a b is k. (brings a b is).went k) went
+
+  pub one_whole : FromTo (HasFinished p.work p.vault.root m) t w → IfSeen t (λ v. AnswersBy how p drawn Whole (under p.vault.root v) (Ok tt)) → MakesOne how p Whole drawn t w (Ok tt)
+  one_whole finished answer = record {
+    enough = omega (arith, size);
+    makes = record {
+      moments = moments_of;
+      done = from_to_more (HasFinished p.work p.vault.root m) (λ a b. ShowsNewTree p a.state b.state) t w (λ a b is k. (brings a b is).tree k) finished;
+      ready = seen_then (HasFinished p.work p.vault.root m) (λ v. IsReady v p.work) t w (λ a b is k. k.ready) finished;
+      ends = seen_both (HasFinished p.work p.vault.root m) (λ u v. EndsAs p (under p.vault.root u) (under p.vault.root v) (Ok tt)) t w (λ a b is k. (brings a b is).opens k) finished;
+    };
+    answer = answer;
+  }
+
+  pub one_broken : (fault : FolderFault) → IfSeen t (λ v. AnswersBy how p drawn Whole (under p.vault.root v) (Err (of_folder fault))) → MakesOne how p Whole drawn t w (Err (of_folder fault))
+  one_broken fault answer = record {
+    enough = omega (arith, size);
+    makes = record {
+      moments = moments_of;
+      done = tt;
+      ready = tt;
+      ends = seen_both (Edits p.work p.vault.root m) (λ u v. EndsAs p (under p.vault.root u) (under p.vault.root v) (Err (of_folder fault))) t w
+          (λ a b is k. ends_failed_by p fault (under p.vault.root (seen a.state)) (under p.vault.root (seen b.state)) ((brings a b is).old_or_new k)) went;
+    };
+    answer = answer;
+  }
+
+-- where what opens stayed
+pub one_stopped : (how : How) (p : Placing) (ending : Ending) (drawn : List ℕ) (R : Told → Told → Type 0) (t w : Option Told) (fault : PutFault) → length drawn ≤ draws (format p) p.item
+    → ((a b : Told) → t ≡ Some a → R a b → Went (IsMaking p ending (making_at p (making_by how p drawn) a.state) a.state) (λ s e. StagesOrPlaces p.work (making_at p (making_by how p drawn) a.state) s e.call) a b)
+    → ((a b : Told) → t ≡ Some a → R a b → OpensAs (format p) (under p.vault.root (seen a.state)) (under p.vault.root (seen b.state)))
+    → FromTo R t w → IfSeen t (λ v. AnswersBy how p drawn ending (under p.vault.root v) (Err fault)) → MakesOne how p ending drawn t w (Err fault)
+one_stopped how p ending drawn R t w fault enough went stays h answer = record {
+  enough = enough;
+  makes = record {
+    moments = from_to_more R
+        (λ a b. Went (IsMaking p ending (making_at p (making_by how p drawn) a.state) a.state) (λ s e. StagesOrPlaces p.work (making_at p (making_by how p drawn) a.state) s e.call) a b) t w went h;
+    done = tt;
+    ready = tt;
+    ends = seen_both R (λ u v. EndsAs p (under p.vault.root u) (under p.vault.root v) (Err fault)) t w
+        (λ a b is k. ends_stopped p fault (under p.vault.root (seen a.state)) (under p.vault.root (seen b.state)) (stays a b is k)) h;
+  };
+  answer = answer;
+}
+
+-- where nothing was changed
+pub one_refused : (how : How) (p : Placing) (ending : Ending) (drawn : List ℕ) (t : Option Told) (fault : PutFault) → length drawn ≤ draws (format p) p.item
+    → IfSeen t (λ v. AnswersBy how p drawn ending (under p.vault.root v) (Err fault)) → MakesOne how p ending drawn t t (Err fault)
+one_refused how p ending drawn t fault enough answer =
+    one_stopped how p ending drawn (λ a b. b ≡ a) t t fault enough (λ a b is same. subst (Makes a) (sym same) (nowhere a))
+    (λ a b is same path. ap (λ (c : Told). opened (format p) (under p.vault.root (seen c.state)) path) same) (from_to_same (λ a b. b ≡ a) t t refl (λ a. refl)) answer
+  where
+    Makes : Told → Told → Type 0
+    Makes a b = Went (IsMaking p ending (making_at p (making_by how p drawn) a.state) a.state) (λ s e. StagesOrPlaces p.work (making_at p (making_by how p drawn) a.state) s e.call) a b
+
+    nowhere : (a : Told) → Makes a a
+    nowhere a = went_nowhere (IsMaking p ending (making_at p (making_by how p drawn) a.state) a.state) (λ s e. StagesOrPlaces p.work (making_at p (making_by how p drawn) a.state) s e.call) a (record {
+      others = as_before (λ q. is_elsewhere p q) a.state;
+      trees = old_alone p ending a.state;
+      fronts = λ n new made. absurd (omega (arith, new, made));
+    })
+
 -- ---- an item that is begun, as it was seen at first
 
 pub record IsBegun (p : Placing) (drawn : List ℕ) (m : Making) (a : Told) : Type 0 where
@@ -118,11 +213,11 @@ module _ (shows : EditsShowTrees) (settles : SettledEditsShowTrees) (roots : Roo
     fronts = k.fronts;
   }
 
-  pub went_making : Edits p.work p.vault.root m a b → Went (IsMaking p Whole (making_at p (new_item p drawn) a.state) a.state) (λ s e. StagesOrPlaces p.work (making_at p (new_item p drawn) a.state) s e.call) a b
+  went_making : Edits p.work p.vault.root m a b → Went (IsMaking p Whole (making_at p (new_item p drawn) a.state) a.state) (λ s e. StagesOrPlaces p.work (making_at p (new_item p drawn) a.state) s e.call) a b
   went_making went = subst (λ n. Went (IsMaking p Whole n a.state) (λ s e. StagesOrPlaces p.work n s e.call) a b) (sym begun.making)
       (went_more (IsEditing p.work p.vault.root m a.state) (IsMaking p Whole m a.state) (λ s e. StagesOrPlaces p.work m s e.call) (λ s e. StagesOrPlaces p.work m s e.call) a b is_making (λ s e h. h) went)
 
-  pub new_tree : HasFinished p.work p.vault.root m a b → ShowsNewTree p a.state b.state
+  new_tree : HasFinished p.work p.vault.root m a b → ShowsNewTree p a.state b.state
   new_tree h = settles p begun.edits a.state b.state begun.item (subst (λ es. HasSettledIn (is_unstaged p.work) es a.state b.state) begun.are h.settled)
 
   root_seen : (done : List Edit) → ((q : Path) → IsTrue (is_unstaged p.work q) → seen b.state q ≡ view_after (seen a.state) done q) → under p.vault.root (seen b.state) ≡ under p.vault.root (view_after (seen a.state) done)
@@ -132,7 +227,7 @@ module _ (shows : EditsShowTrees) (settles : SettledEditsShowTrees) (roots : Roo
       → under p.vault.root (seen b.state) ≡ view_after (under p.vault.root (seen a.state)) first
   first_seen first done is views = root_seen done views ∙ ap (λ es. under p.vault.root (view_after (seen a.state) es)) is ∙ roots p.vault.root (seen a.state) first
 
-  pub ends_ok : HasFinished p.work p.vault.root m a b → EndsAs p (under p.vault.root (seen a.state)) (under p.vault.root (seen b.state)) (Ok tt)
+  ends_ok : HasFinished p.work p.vault.root m a b → EndsAs p (under p.vault.root (seen a.state)) (under p.vault.root (seen b.state)) (Ok tt)
   ends_ok h =
       let now : under p.vault.root (seen b.state) ≡ view_after (under p.vault.root (seen a.state)) begun.edits = first_seen begun.edits m.edits begun.are h.views in (
         ap (λ w. opened (format p) w (path_of p)) now ∙ last_opens (format p) (under p.vault.root (seen a.state)) (under p.vault.root (seen a.state)) begun.edits (path_of p) (opens_as p.item) begun.last,
@@ -145,8 +240,7 @@ module _ (shows : EditsShowTrees) (settles : SettledEditsShowTrees) (roots : Roo
       )
 
   -- after a failure some of the begun.edits are seen
-  pub ends_failed : Edits p.work p.vault.root m a b → IsOrderly (format p) (under p.vault.root (seen a.state))
-      → OpensAs (format p) (under p.vault.root (seen a.state)) (under p.vault.root (seen b.state)) ⊎ OpensWith (format p) (under p.vault.root (seen a.state)) (under p.vault.root (seen b.state)) (path_of p) (opens_as p.item)
+  ends_failed : Edits p.work p.vault.root m a b → OldOrNewOpens p (under p.vault.root (seen a.state)) (under p.vault.root (seen b.state))
   ends_failed went orderly =
       let now : SeesSome p.work m.edits a.state b.state = (went_to (IsEditing p.work p.vault.root m a.state) (λ s e. StagesOrPlaces p.work m s e.call) a b went).sees in
       let parts : IsSplit p.vault.root begun.edits now.done now.more = split p.vault.root begun.edits now.done now.more (sym begun.are ∙ now.is) in
@@ -155,96 +249,81 @@ module _ (shows : EditsShowTrees) (settles : SettledEditsShowTrees) (roots : Roo
       (fronts_open (format p) (under p.vault.root (seen a.state)) (under p.vault.root (seen a.state)) parts.first parts.rest (path_of p) (opens_as p.item) (λ path. refl)
       (subst (λ es. ComesAlone (format p) (under p.vault.root (seen a.state)) (under p.vault.root (seen a.state)) es (path_of p) (opens_as p.item)) parts.is (begun.alone orderly)))
 
--- ---- whether or not the folder tells its state
-
 module _ (shows : EditsShowTrees) (settles : SettledEditsShowTrees) (roots : RootsShow) (p : Placing) (drawn : List ℕ) (m : Making) (t w : Option Told)
-    (begun : (a : Told) → t ≡ Some a → IsBegun p drawn m a) where
-  moments_of : FromTo (Edits p.work p.vault.root m) t w → Moments (λ s0 s. IsMaking p Whole (making_at p (new_item p drawn) s0) s0 s) (λ s0 s e. StagesOrPlaces p.work (making_at p (new_item p drawn) s0) s e.call) t w
-  moments_of went = from_to_more (Edits p.work p.vault.root m)
-      (λ a b. Went (IsMaking p Whole (making_at p (new_item p drawn) a.state) a.state) (λ s e. StagesOrPlaces p.work (making_at p (new_item p drawn) a.state) s e.call) a b) t w
-      (λ a b is k. went_making shows settles roots p drawn m a b (begun a is) k) went
-
-  pub makes_ok : FromTo (Edits p.work p.vault.root m) t w → FromTo (HasFinished p.work p.vault.root m) t w → Makes p Whole (new_item p drawn) t w (Ok tt)
-  makes_ok went finished = record {
-    moments = moments_of went;
-    done = from_to_more (HasFinished p.work p.vault.root m) (λ a b. ShowsNewTree p a.state b.state) t w (λ a b is k. new_tree shows settles roots p drawn m a b (begun a is) k) finished;
-    ready = is_ready t w finished;
-    ends = ends t w begun finished;
+    (begun : (a : Told) → t ≡ Some a → IsBegun p drawn m a) (size : length drawn ≡ draws (format p) p.item) where
+  brings : (a b : Told) → t ≡ Some a → Brings New p drawn m a b
+  brings a b is = record {
+    went = went_making shows settles roots p drawn m a b (begun a is);
+    tree = new_tree shows settles roots p drawn m a b (begun a is);
+    opens = ends_ok shows settles roots p drawn m a b (begun a is);
+    old_or_new = ends_failed shows settles roots p drawn m a b (begun a is);
   }
-    where
-      is_ready : (t w : Option Told) → FromTo (HasFinished p.work p.vault.root m) t w → IfSeen w (λ v. IsReady v p.work)
-      is_ready (Some a) (Some b) k v is = subst (λ z. IsReady z p.work) (sym is) k.ready
-      is_ready None (Some b) k v is = absurd k
-      is_ready t None k v is = absurd is
 
-      ends : (t w : Option Told) → ((a : Told) → t ≡ Some a → IsBegun p drawn m a) → FromTo (HasFinished p.work p.vault.root m) t w
-          → (u v : View) → IsSeen t u → IsSeen w v → EndsAs p (under p.vault.root u) (under p.vault.root v) (Ok tt)
-      ends (Some a) (Some b) begun_at k u v is_u is_v =
-          subst (λ x. EndsAs p (under p.vault.root x) (under p.vault.root v) (Ok tt)) (sym is_u)
-          (subst (λ y. EndsAs p (under p.vault.root (seen a.state)) (under p.vault.root y) (Ok tt)) (sym is_v) (ends_ok shows settles roots p drawn m a b (begun_at a refl) k))
-      ends None (Some b) begun_at k u v is_u is_v = absurd k
-      ends t None begun_at k u v is_u is_v = absurd is_v
+  pub one_ok : DrewNoZeros (format p).content drawn → FromTo (Edits p.work p.vault.root m) t w → FromTo (HasFinished p.work p.vault.root m) t w → MakesOne New p Whole drawn t w (Ok tt)
+  one_ok none went finished =
+      one_whole New p drawn m t w brings size went finished (λ v is. (if_seen (λ v. HasTaken p drawn (under p.vault.root v) None) t (λ a told. (begun a told).taken) v is, refl, size, none))
 
-  abbrev pub OldOrNewOpens : View → View → Type 0
-  OldOrNewOpens u v = IsOrderly (format p) u → OpensAs (format p) u v ⊎ OpensWith (format p) u v (path_of p) (opens_as p.item)
-
-  failed_ends : (t w : Option Told) → ((a : Told) → t ≡ Some a → IsBegun p drawn m a) → FromTo (Edits p.work p.vault.root m) t w
-      → (u v : View) → IsSeen t u → IsSeen w v → OldOrNewOpens (under p.vault.root u) (under p.vault.root v)
-  failed_ends (Some a) (Some b) begun_at k u v is_u is_v =
-      subst (λ x. OldOrNewOpens (under p.vault.root x) (under p.vault.root v)) (sym is_u)
-      (subst (λ y. OldOrNewOpens (under p.vault.root (seen a.state)) (under p.vault.root y)) (sym is_v) (ends_failed shows settles roots p drawn m a b (begun_at a refl) k))
-  failed_ends None (Some b) begun_at k u v is_u is_v = absurd k
-  failed_ends t None begun_at k u v is_u is_v = absurd is_v
-
-  pub makes_failed : (fault : FolderFault) → FromTo (Edits p.work p.vault.root m) t w → Makes p Whole (new_item p drawn) t w (Err (of_folder fault))
-  makes_failed fault went = by_fault fault
-    where
-      by_fault : (fault : FolderFault) → Makes p Whole (new_item p drawn) t w (Err (of_folder fault))
-      by_fault folder.Failed = record { moments = moments_of went; done = tt; ready = tt; ends = failed_ends t w begun went }
-      by_fault folder.Refused = record { moments = moments_of went; done = tt; ready = tt; ends = failed_ends t w begun went }
-      by_fault folder.NoMemory = record { moments = moments_of went; done = tt; ready = tt; ends = failed_ends t w begun went }
-
-  pub one_ok : length drawn ≡ draws (format p) p.item → DrewNoZeros (format p).content drawn → FromTo (Edits p.work p.vault.root m) t w → FromTo (HasFinished p.work p.vault.root m) t w → MakesOne New p Whole drawn t w (Ok tt)
-  one_ok size none went finished = record {
-    enough = omega (arith, size);
-    makes = makes_ok went finished;
-    answer = λ v is. (taken_at t begun v is, refl, size, none);
-  }
-    where
-      taken_at : (t : Option Told) → ((a : Told) → t ≡ Some a → IsBegun p drawn m a) → IfSeen t (λ v. HasTaken p drawn (under p.vault.root v) None)
-      taken_at (Some a) begun_at v is = subst (λ x. HasTaken p drawn (under p.vault.root x) None) (sym is) (begun_at a refl).taken
-      taken_at None begun_at v is = absurd is
-
-  pub one_failed : length drawn ≡ draws (format p) p.item → (fault : FolderFault) → FromTo (Edits p.work p.vault.root m) t w → MakesOne New p Whole drawn t w (Err (of_folder fault))
-  one_failed size fault went = record { enough = omega (arith, size); makes = makes_failed fault went; answer = λ v is. answer fault (under p.vault.root v) }
+  pub one_failed : (fault : FolderFault) → FromTo (Edits p.work p.vault.root m) t w → MakesOne New p Whole drawn t w (Err (of_folder fault))
+  one_failed fault went = one_broken New p drawn m t w brings size went fault (λ v is. answer fault (under p.vault.root v))
     where
       answer : (fault : FolderFault) (u : View) → Answers p drawn Whole u (Err (of_folder fault))
       answer folder.Failed u = tt
       answer folder.Refused u = tt
       answer folder.NoMemory u = tt
 
--- where what opens stayed
-pub ends_stopped : (p : Placing) (fault : PutFault) (u v : View) → OpensAs (format p) u v → EndsAs p u v (Err fault)
-ends_stopped p puts.Failed u v same = λ orderly. inl same
-ends_stopped p puts.NoMemory u v same = λ orderly. inl same
-ends_stopped p fault u v same = same
+-- ---- at a plain path
 
--- ---- where nothing was changed
+pub makes_named : (how : How) (vault : OpenedVault) (work : Path) (path front : plain.Path) (name : List ℕ) (item : NewItem) (ending : Ending) (drawn : List ℕ) (t u : Option Told) (result : Result (Unit {0}) PutFault)
+    → path ≡ front ++ name ∷ [] → MakesOne how (placing vault work front name item) ending drawn t u result → MakesAt how vault work path item ending drawn t u result
+makes_named how vault work path front name item ending drawn t u result is one = record {
+  named = λ front' name' also.
+      let up : front ≡ front' = child-injective front front' name name' (sym is ∙ also) in
+      let last : name ≡ name' = child-last front name name' (sym is ∙ also ∙ ap (λ p. p ++ name' ∷ []) (sym up)) in
+      subst (λ p. MakesOne how (placing vault work p name' item) ending drawn t u result) up
+      (subst (λ n. MakesOne how (placing vault work front n item) ending drawn t u result) last one);
+  root = λ none. absurd (child-not_base front name (sym is ∙ none));
+}
 
-pub one_refused : (p : Placing) (ending : Ending) (drawn : List ℕ) (t : Option Told) (fault : PutFault) → length drawn ≤ draws (format p) p.item
-    → IfSeen t (λ v. Answers p drawn ending (under p.vault.root v) (Err fault)) → MakesOne New p ending drawn t t (Err fault)
-one_refused p ending drawn t fault enough answer = record {
-  enough = enough;
-  makes = record {
-    moments = from_to_same (λ a b. Went (IsMaking p ending (making_at p (new_item p drawn) a.state) a.state) (λ s e. StagesOrPlaces p.work (making_at p (new_item p drawn) a.state) s e.call) a b) t t refl
-        (λ a. went_nowhere (IsMaking p ending (making_at p (new_item p drawn) a.state) a.state) (λ s e. StagesOrPlaces p.work (making_at p (new_item p drawn) a.state) s e.call) a (record {
-          others = as_before (λ q. is_elsewhere p q) a.state;
-          trees = old_alone p ending a.state;
-          fronts = λ n new made. absurd (omega (arith, new, made));
-        }));
-    done = tt;
-    ready = tt;
-    ends = λ v w is_v is_w. subst (λ x. EndsAs p (under p.vault.root v) (under p.vault.root x) (Err fault)) (one_view t v w is_v is_w) (ends_stopped p fault (under p.vault.root v) (under p.vault.root v) (λ path. refl));
-  };
-  answer = answer;
+-- what is answered at the root, but want of memory
+abbrev pub root_fault : How → Path → PutFault
+root_fault New root = puts.Taken root
+root_fault InPlace root = puts.Find (finds.WrongKind [])
+
+abbrev pub IsRootFault : How → Path → PutFault → Type 0
+IsRootFault how root fault = (fault ≡ puts.NoMemory) ⊎ (fault ≡ root_fault how root)
+
+-- what holds of both holds of it
+pub by_root : (how : How) (root : Path) (fault : PutFault) (P : PutFault → Type 0) → P puts.NoMemory → P (root_fault how root) → IsRootFault how root fault → P fault
+by_root how root fault P memory other (inl is) = subst P (sym is) memory
+by_root how root fault P memory other (inr is) = subst P (sym is) other
+
+-- no count of faults is blamed for it
+abbrev IsCounted : PutFault → Type 0
+IsCounted puts.Failed = Unit {0}
+IsCounted puts.Source = Unit {0}
+IsCounted puts.Random = Unit {0}
+IsCounted fault = ⊥
+
+uncounted : (how : How) (root : Path) → ¬ IsCounted (root_fault how root)
+uncounted New root counted = counted
+uncounted InPlace root counted = counted
+
+pub root_blames : (how : How) (root : Path) (fault blamed : PutFault) {n : ℕ} → IsCounted blamed → IsRootFault how root fault → Blames {T = Unit {0}} (Err fault) blamed n n
+root_blames how root fault blamed counted is =
+    unblamed (Err fault) fault blamed refl
+    (by_root how root fault (λ x. x ≢ blamed) (λ same. subst IsCounted (sym same) counted) (λ same. uncounted how root (subst IsCounted (sym same) counted)) is) (omega arith)
+
+answers_memory : (how : How) (root : Path) → AnswersRoot how root (Err puts.NoMemory)
+answers_memory New root = λ other. refl
+answers_memory InPlace root = λ other. refl
+
+answers_root : (how : How) (root : Path) → AnswersRoot how root (Err (root_fault how root))
+answers_root New root = λ other. absurd (other refl)
+answers_root InPlace root = λ other. absurd (other refl)
+
+pub makes_root : (how : How) (vault : OpenedVault) (work : Path) (path : plain.Path) (item : NewItem) (ending : Ending) (t : Option Told) (fault : PutFault)
+    → path ≡ [] → IsRootFault how vault.root fault → MakesAt how vault work path item ending [] t t (Err fault)
+makes_root how vault work path item ending t fault none is = record {
+  named = λ front name whole. absurd (child-not_base front name (sym whole ∙ none));
+  root = λ base. (refl, refl, by_root how vault.root fault (λ x. AnswersRoot how vault.root (Err x)) (answers_memory how vault.root) (answers_root how vault.root) is);
 }

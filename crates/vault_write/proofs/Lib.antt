@@ -1,3 +1,5 @@
+mod Seeing
+mod Exits
 mod TreesShown
 pub mod Runs
 mod Edited

@@ -11,11 +11,12 @@ use Rattle.folder_spec.specs.Seen.{IfSeen, ShowsFree, put_found, seen}
 use Rattle.folder_spec.specs.View.{Folder, View}
 use Rattle.folder_spec.proofs.Edits.{off_edit}
 use Rattle.folder_spec.proofs.Paths.{below-parent, one_or_not, path_eq-same, parent-child, child-apart}
-use Rattle.folder_spec.proofs.Seen.{seen_changed}
+use Rattle.folder_spec.proofs.Seen.{seen_changed, seen_of}
 use Rattle.folder_spec.proofs.Tellings.{from_to_more}
 use Rattle.work_folder.specs.Entries.{stage_path}
 use Rattle.content_writing.specs.Making.{Making, is_inside, is_unstaged}
 use Rattle.vault_write.specs.Editing.{Edits, HasEdited, HasFinished, AddsEdits, MayCome, side_edits, shelf_edits, home_edits, GoPlaces, HomePlaces, CmPlaces}
+use Rattle.vault_write.proofs.Seeing.{seen_then}
 
 -- none of these edits comes to stand at a path or above it
 abbrev pub AreOff : List Edit → Path → Type 0
@@ -40,16 +41,17 @@ unstaged_at work q none = ap (λ o. not (is_inside o)) none
 -- so a place where something may come stays so
 pub may_still : (work root at : Path) (m : Making) (done more : List Edit) (t u : Option Told) → FromTo (HasEdited work root m done more) t u
     → IfSeen t (λ v. MayCome v work at × AreOff done at) → IfSeen u (λ w. MayCome w work at)
-may_still work root at m done more (Some a) (Some b) h may w is =
-    subst (λ z. MayCome z work at) (sym is) (record { ready = h.ready; free = (kept at there.1 there.0.apart ∙ there.0.free.0, kept (parent at) (off_parent done at there.1) (below-parent (stage_path work) at there.0.apart) ∙ there.0.free.1); apart = there.0.apart })
-  where
-    there : MayCome (seen a.state) work at × AreOff done at
-    there = may (seen a.state) refl
-
-    kept : (q : Path) → AreOff done q → below (stage_path work) q ≡ None → seen b.state q ≡ seen a.state q
-    kept q off none = h.views q (unstaged_at work q none) ∙ view_off (seen a.state) done q off
-may_still work root at m done more None (Some b) h may w is = absurd h
-may_still work root at m done more t None h may w is = absurd is
+may_still work root at m done more t u h may =
+    seen_then (HasEdited work root m done more) (λ w. MayCome w work at) t u
+    (λ a b is k.
+    let there : MayCome (seen a.state) work at × AreOff done at = may (seen a.state) (seen_of t a is) in
+    let kept : (q : Path) → AreOff done q → below (stage_path work) q ≡ None → seen b.state q ≡ seen a.state q =
+    λ q off none. k.views q (unstaged_at work q none) ∙ view_off (seen a.state) done q off in
+    record {
+      ready = k.ready;
+      free = (kept at there.1 there.0.apart ∙ there.0.free.0, kept (parent at) (off_parent done at there.1) (below-parent (stage_path work) at there.0.apart) ∙ there.0.free.1);
+      apart = there.0.apart;
+    }) h
 
 -- ---- a directory of gocryptfs
 
@@ -88,25 +90,21 @@ made_shown at t u (Ok value) sound changes = from_to_more (λ a b. Steps (MakeDi
 -- so the folder in it has its place
 pub home_free_then : (shelf home : Path) (t u : Option Told) → IfSeen t (λ v. HomePlaces v true shelf home) → FromTo (λ a b. seen b.state ≡ put_found (seen a.state) shelf Folder) t u
     → IfSeen u (λ w. ShowsFree w home)
-home_free_then shelf home (Some a) (Some b) places shown w is =
-    subst (λ z. ShowsFree z home) (sym (is ∙ shown)) (
-      off ∙ there.home_free,
-      ap (put_found (seen a.state) shelf Folder) up ∙ ap (λ t. cond t Folder (seen a.state shelf)) (path_eq-same shelf),
-    )
+home_free_then shelf home t u places =
+    seen_then (λ a b. seen b.state ≡ put_found (seen a.state) shelf Folder) (λ w. ShowsFree w home) t u
+    (λ a b is shown. subst (λ z. ShowsFree z home) (sym shown) (free_in (seen a.state) (places (seen a.state) (seen_of t a is))))
   where
-    there : HomePlaces (seen a.state) true shelf home
-    there = places (seen a.state) refl
-
-    up : parent home ≡ shelf
-    up = ap parent there.inside.1 ∙ parent-child shelf there.inside.0
-
-    off : put_found (seen a.state) shelf Folder home ≡ seen a.state home
-    off = elim (one_or_not shelf home) [
-      | inl same ↦ absurd (child-apart shelf there.inside.0 (sym there.inside.1 ∙ sym same))
-      | inr apart ↦ ap (λ t. cond t Folder (seen a.state home)) apart.1
-    ]
-home_free_then shelf home None (Some b) places shown w is = absurd shown
-home_free_then shelf home t None places shown w is = absurd is
+    free_in : (v : View) → HomePlaces v true shelf home → ShowsFree (put_found v shelf Folder) home
+    free_in v there = (
+      off ∙ there.home_free,
+      ap (put_found v shelf Folder) (ap parent there.inside.1 ∙ parent-child shelf there.inside.0) ∙ ap (λ t. cond t Folder (v shelf)) (path_eq-same shelf),
+    )
+      where
+        off : put_found v shelf Folder home ≡ v home
+        off = elim (one_or_not shelf home) [
+          | inl same ↦ absurd (child-apart shelf there.inside.0 (sym there.inside.1 ∙ sym same))
+          | inr apart ↦ ap (λ t. cond t Folder (v home)) apart.1
+        ]
 
 pub home_free_now : (shelf home : Path) (t : Option Told) → IfSeen t (λ v. HomePlaces v false shelf home) → IfSeen t (λ w. ShowsFree w home)
 home_free_now shelf home t places w is =

@@ -1,5 +1,5 @@
 -- What a call promises that puts a content, by what stands at its path.
-use Rattle.std.proofs.Common.{arith, ◌≡◌, ◌≢◌, ◌⊎◌, ℕ, List, [], ◌∷◌, ◌++◌, Option, Some, None, Result, Ok, Err, refl, sym, ap, ◌∙◌, inl, inr, subst, IsTrue}
+use Rattle.std.proofs.Common.{◌≡◌, ◌≢◌, ◌⊎◌, ℕ, List, [], ◌∷◌, ◌++◌, Option, Some, None, Result, Ok, Err, refl, sym, ap, ◌∙◌, inl, inr, subst, IsTrue}
 use Rattle.chunk_files.specs.Encrypt.{encrypt}
 use Rattle.port_model.specs.Draws.{ByteStream}
 use Rattle.folder_spec.specs.Path.{Path}
@@ -9,10 +9,8 @@ use Rattle.folder_spec.specs.Moments.{Went}
 use Rattle.folder_spec.specs.Region.{at_or_below}
 use Rattle.folder_spec.specs.Seen.{IfSeen, IsSeen, ShowsFile, seen, under}
 use Rattle.folder_spec.specs.View.{View}
-use Rattle.folder_spec.proofs.Moments.{went_nowhere}
-use Rattle.folder_spec.proofs.Regions.{as_before}
-use Rattle.folder_spec.proofs.Tellings.{from_to_more, from_to_same}
-use Rattle.folder_spec.proofs.Seen.{seen_of, one_view}
+use Rattle.folder_spec.proofs.Tellings.{from_to_more}
+use Rattle.folder_spec.proofs.Seen.{seen_of}
 use Rattle.plain_tree.specs.Names as plain
 use Rattle.vault_read.specs.Finding.{Refuses}
 use Rattle.vault_read.specs.Laws.{KeepsVaults}
@@ -32,68 +30,27 @@ use Rattle.content_writing.specs.Content.{Coming, Ending}
 use Rattle.content_writing.specs.Faults.{of_find}
 use Rattle.content_writing.specs.declared.fault.PutFault.{PutFault}
 use Rattle.content_writing.specs.declared.fault.PutFault.TheVariants as puts
-use Rattle.vault_write.specs.Calls.{InPlace, MakesOne, New}
+use Rattle.vault_write.specs.Calls.{InPlace, New}
 use Rattle.vault_write.specs.Filing.{IsAtDirectory, IsDir, IsOverFault, MayReplace, PlacesFile, StandsAs, StandsUnder}
-use Rattle.content_writing.specs.Making.{Placing, format, path_of, is_elsewhere, put_by, put_item, new_item, StagesOrPlaces}
-use Rattle.content_writing.specs.Placing.{EndsAs, IsMaking, MayMake, making_at}
-use Rattle.vault_write.specs.Refusing.{Answers, AnswersPut, AnswersPutBy, ForbidsName}
+use Rattle.content_writing.specs.Making.{Placing, format, path_of, put_by, put_item, new_item, StagesOrPlaces}
+use Rattle.content_writing.specs.Placing.{IsMaking, MayMake, making_at}
+use Rattle.vault_write.specs.Refusing.{Answers, AnswersAtDirectory, AnswersOver, AnswersPut, AnswersPutBy}
 use Rattle.vault_write.specs.Slots.{RefusesItem, placing}
-use Rattle.vault_write.proofs.Filing.{takes_none, untaken}
 use Rattle.vault_write.proofs.Found.{Enters}
-use Rattle.vault_write.proofs.ItemMade.{at_itself, ends_stopped}
+use Rattle.vault_write.proofs.ItemMade.{at_itself}
 use Rattle.vault_write.proofs.ReplacedMade.{IsReplaced, is_replaced}
-use Rattle.vault_write.proofs.TreesShown.{old_alone}
 
 -- ---- where nothing was changed
 
-put_refused_one : (p : Placing) (ending : Ending) (t : Option Told) (fault : PutFault) → IfSeen t (λ v. AnswersPut p [] ending (under p.vault.root v) (Err fault)) → MakesOne InPlace p ending [] t t (Err fault)
-put_refused_one p ending t fault answer = record {
-  enough = omega arith;
-  makes = record {
-    moments = from_to_same (λ a b. Went (IsMaking p ending (making_at p (put_item p []) a.state) a.state) (λ s e. StagesOrPlaces p.work (making_at p (put_item p []) a.state) s e.call) a b) t t refl
-        (λ a. went_nowhere (IsMaking p ending (making_at p (put_item p []) a.state) a.state) (λ s e. StagesOrPlaces p.work (making_at p (put_item p []) a.state) s e.call) a (record {
-          others = as_before (λ q. is_elsewhere p q) a.state;
-          trees = old_alone p ending a.state;
-          fronts = λ n new made. absurd (omega (arith, new, made));
-        }));
-    done = tt;
-    ready = tt;
-    ends = λ v w is_v is_w. subst (λ x. EndsAs p (under p.vault.root v) (under p.vault.root x) (Err fault)) (one_view t v w is_v is_w) (ends_stopped p fault (under p.vault.root v) (under p.vault.root v) (λ path. refl));
-  };
-  answer = answer;
-}
-
-pub put_refused : (vault : OpenedVault) (work : Path) (front : plain.Path) (name : List ℕ) (coming : Option Coming) (stream : Option ByteStream) (t : Option Told) (fault : PutFault)
-    → ((content : List ℕ) (ending : Ending) → IfSeen t (λ v. AnswersPut (placing vault work front name (NewFile content)) [] ending (under vault.root v) (Err fault)))
-    → PlacesFile InPlace vault work front name coming coming stream stream t t (Err fault)
-put_refused vault work front name coming stream t fault answers = record {
-  writing = untaken coming;
-  takes = takes_none (format_of vault.vault).content coming stream fault;
-  one = put_refused_one (placing vault work front name (NewFile (untaken coming).content)) (untaken coming).ending t fault (answers (untaken coming).content (untaken coming).ending);
-}
-
 -- whatever stands there
-memory_by : (s : Standing) (p : Placing) (ending : Ending) (u : View) → AnswersPutBy s p [] ending u (Err puts.NoMemory)
-memory_by Absent p ending u = tt
-memory_by (Strange at) p ending u = tt
-memory_by (File at) p ending u = tt
-memory_by (Dir at directory) p ending u = tt
-
-failed_by : (s : Standing) (p : Placing) (ending : Ending) (u : View) → AnswersPutBy s p [] ending u (Err puts.Failed)
-failed_by Absent p ending u = tt
-failed_by (Strange at) p ending u = tt
-failed_by (File at) p ending u = tt
-failed_by (Dir at directory) p ending u = tt
-
-forbidden_by : (s : Standing) (p : Placing) (ending : Ending) (u : View) (path : plain.Path) → path ≡ path_of p → ForbidsName p u → AnswersPutBy s p [] ending u (Err (puts.NotAllowed path))
-forbidden_by Absent p ending u path is forbids = (is, forbids, refl)
-forbidden_by (Strange at) p ending u path is forbids = (is, forbids, refl)
-forbidden_by (File at) p ending u path is forbids = (is, forbids, refl)
-forbidden_by (Dir at directory) p ending u path is forbids = (is, forbids, refl)
-
-pub put_memory : (vault : OpenedVault) (work : Path) (front : plain.Path) (name content : List ℕ) (ending : Ending) (v : View) → AnswersPut (placing vault work front name (NewFile content)) [] ending (under vault.root v) (Err puts.NoMemory)
-put_memory vault work front name content ending v =
-    memory_by (standing (format_of vault.vault) (under vault.root v) (front ++ name ∷ [])) (placing vault work front name (NewFile content)) ending (under vault.root v)
+pub put_anyway : (p : Placing) (ending : Ending) (u : View) (result : Result (Unit {0}) PutFault) → Answers p [] ending u result → AnswersOver p [] ending u result → AnswersAtDirectory p [] u result → AnswersPut p [] ending u result
+put_anyway p ending u result new over directory = by_standing (standing (format p) u (path_of p))
+  where
+    by_standing : (s : Standing) → AnswersPutBy s p [] ending u result
+    by_standing Absent = new
+    by_standing (Strange at) = new
+    by_standing (File at) = over
+    by_standing (Dir at dir) = directory
 
 -- ---- what stands under a name, by the directory
 
@@ -129,11 +86,10 @@ over_refused enters vault work front name content t (puts.Find fault) refuses ov
     subst (λ s. AnswersPutBy s (placing vault work front name (NewFile content)) [] ending (under vault.root v) (Err (puts.Find fault)))
     (sym (absent_under enters (format_of vault.vault) (under vault.root v) front name (over v is).0 (over v is).1)) (refuses work ending v is)
 over_refused enters vault work front name content t (puts.NotAllowed path) refuses over ending v is =
-    let k : (path ≡ front ++ name ∷ []) × ForbidsName (placing vault work front name (NewFile content)) (under vault.root v) × ([] ≡ []) = refuses work ending v is in
-    forbidden_by (standing (format_of vault.vault) (under vault.root v) (front ++ name ∷ [])) (placing vault work front name (NewFile content)) ending (under vault.root v) path k.0 k.1
+    put_anyway (placing vault work front name (NewFile content)) ending (under vault.root v) (Err (puts.NotAllowed path)) (refuses work ending v is) (refuses work ending v is) (refuses work ending v is)
 over_refused enters vault work front name content t puts.Failed refuses over ending v is =
-    failed_by (standing (format_of vault.vault) (under vault.root v) (front ++ name ∷ [])) (placing vault work front name (NewFile content)) ending (under vault.root v)
-over_refused enters vault work front name content t puts.NoMemory refuses over ending v is = put_memory vault work front name content ending v
+    put_anyway (placing vault work front name (NewFile content)) ending (under vault.root v) (Err puts.Failed) tt tt tt
+over_refused enters vault work front name content t puts.NoMemory refuses over ending v is = put_anyway (placing vault work front name (NewFile content)) ending (under vault.root v) (Err puts.NoMemory) tt tt tt
 over_refused enters vault work front name content t (puts.Taken at) refuses over ending v is = absurd over
 over_refused enters vault work front name content t (puts.Damaged at fault) refuses over ending v is = absurd over
 over_refused enters vault work front name content t (puts.Limit limit) refuses over ending v is = absurd over
@@ -152,9 +108,9 @@ pub directory_refused : (vault : OpenedVault) (work : Path) (path front : plain.
     → IsAtDirectory vault path t fault → (ending : Ending) → IfSeen t (λ v. AnswersPut (placing vault work front name (NewFile content)) [] ending (under vault.root v) (Err fault))
 directory_refused vault work path front name content t fault is allowed (inl failed) ending v seen_so =
     subst (λ x. AnswersPut (placing vault work front name (NewFile content)) [] ending (under vault.root v) (Err x)) (sym failed)
-    (failed_by (standing (format_of vault.vault) (under vault.root v) (front ++ name ∷ [])) (placing vault work front name (NewFile content)) ending (under vault.root v))
+    (put_anyway (placing vault work front name (NewFile content)) ending (under vault.root v) (Err puts.Failed) tt tt tt)
 directory_refused vault work path front name content t fault is allowed (inr (inl memory)) ending v seen_so =
-    subst (λ x. AnswersPut (placing vault work front name (NewFile content)) [] ending (under vault.root v) (Err x)) (sym memory) (put_memory vault work front name content ending v)
+    subst (λ x. AnswersPut (placing vault work front name (NewFile content)) [] ending (under vault.root v) (Err x)) (sym memory) (put_anyway (placing vault work front name (NewFile content)) ending (under vault.root v) (Err puts.NoMemory) tt tt tt)
 directory_refused vault work path front name content t fault is allowed (inr (inr (same, dir))) ending v seen_so =
     subst (λ x. AnswersPut (placing vault work front name (NewFile content)) [] ending (under vault.root v) (Err x)) (sym same)
     (at_directory (standing (format_of vault.vault) (under vault.root v) (front ++ name ∷ [])) (placing vault work front name (NewFile content)) ending (under vault.root v) (finds.WrongKind path)
@@ -186,10 +142,10 @@ answers_new (Strange at) p drawn ending u result is answers = answers
 answers_new (File at) p drawn ending u result is answers = absurd is
 answers_new (Dir at directory) p drawn ending u result is answers = absurd is
 
-pub put_new : (vault : OpenedVault) (work : Path) (front : plain.Path) (name : List ℕ) (coming left : Option Coming) (stream stream' : Option ByteStream) (t u : Option Told) (result : Result (Unit {0}) PutFault)
+pub put_new : {vault : OpenedVault} {work : Path} {front : plain.Path} {name : List ℕ} {coming left : Option Coming} {stream stream' : Option ByteStream} {t u : Option Told} {result : Result (Unit {0}) PutFault}
     → IfSeen t (λ v. StandsAs vault.root (standing (format_of vault.vault) (under vault.root v) (front ++ name ∷ [])) None)
     → PlacesFile New vault work front name coming left stream stream' t u result → PlacesFile InPlace vault work front name coming left stream stream' t u result
-put_new vault work front name coming left stream stream' t u result stands k = record {
+put_new {vault} {work} {front} {name} {t = t} {u = u} {result = result} stands k = record {
   writing = k.writing;
   takes = k.takes;
   one = record {

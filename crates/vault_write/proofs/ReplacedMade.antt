@@ -11,11 +11,10 @@ use Rattle.folder_spec.specs.Path.{Path, below}
 use Rattle.folder_spec.specs.State.{State, IsSound}
 use Rattle.folder_spec.specs.Edit.{Edit, edited, edits_under, file_edit, view_after, PublishesIn, HasSettledIn}
 use Rattle.folder_spec.specs.Event.{Call, MakeDir, Create, Append, Sync, Settle, Rename, RemoveFile, RemoveDir, Told, FromTo}
-use Rattle.folder_spec.specs.Moments.{Moments, Went}
-use Rattle.folder_spec.specs.Seen.{IfSeen, IsSeen, seen, under}
+use Rattle.folder_spec.specs.Moments.{Went}
+use Rattle.folder_spec.specs.Seen.{IfSeen, seen, under}
 use Rattle.folder_spec.specs.View.{View}
 use Rattle.folder_spec.proofs.Moments.{went_more, went_to}
-use Rattle.folder_spec.proofs.Tellings.{from_to_more}
 use Rattle.plain_tree.specs.Names as plain
 use Rattle.vault_read.specs.Laws.{KeepsVaults}
 use Rattle.vault_spec.specs.Opened.{OpenedVault}
@@ -27,7 +26,6 @@ use Rattle.vault_spec.specs.Opens.{Opened, opened, opened_file}
 use Rattle.vault_spec.specs.Standing as stands
 use Rattle.vault_spec.specs.Standing.{standing}
 use Rattle.vault_spec.specs.Vault.{format_of}
-use Rattle.work_folder.specs.Entering.{IsReady}
 use Rattle.content_writing.specs.Content.{Coming, Ending, Whole}
 use Rattle.content_writing.specs.Writing.{DrewNoZeros}
 use Rattle.content_writing.specs.Faults.{of_folder}
@@ -37,7 +35,7 @@ use Rattle.vault_write.specs.Calls.{InPlace, MakesOne, Writing}
 use Rattle.vault_write.specs.Editing.{Edits, HasFinished, IsEditing, SeesSome}
 use Rattle.vault_write.specs.Filing.{DoesReplace, IsWhole, OnlyStages, PlacesBy, PlacesFile, ReplacesContent, StopsBy, replace_making}
 use Rattle.content_writing.specs.Making.{Placing, format, path_of, put_by, put_item, is_unstaged, StagesOrPlaces}
-use Rattle.content_writing.specs.Placing.{IsMaking, MayMake, ShowsNewTree, making_at, EndsAs, Makes}
+use Rattle.content_writing.specs.Placing.{IsMaking, MayMake, ShowsNewTree, making_at, EndsAs}
 use Rattle.vault_write.specs.Refusing.{AnswersOver, AnswersPut, AnswersPutBy}
 use Rattle.vault_write.specs.Showing.{EditsShowTrees, EditsBeforeTheLastKeepTrees, MakeItem, MakesAlone, SettledEditsShowTrees}
 use Rattle.vault_write.specs.Slots.{placing}
@@ -45,7 +43,8 @@ use Rattle.content_writing.specs.Trees.{StaysGood, opens_as}
 use Rattle.vault_write.proofs.Begun.{folders_seen}
 use Rattle.vault_write.proofs.FileBegun.{opens_whole}
 use Rattle.vault_write.proofs.FileMade.{begins_at, first_shown, stopped_making}
-use Rattle.vault_write.proofs.ItemMade.{RootsShow, ends_stopped}
+use Rattle.vault_write.proofs.ItemMade.{Brings, RootsShow, one_broken, one_stopped, one_whole}
+use Rattle.vault_write.proofs.Seeing.{if_seen}
 
 -- Where the edit is done, this opens there.
 pub record IsReplaced (p : Placing) (opens : Opened) (drawn : List ℕ) (at : Path) (bytes : List ℕ) (a : Told) : Type 0 where
@@ -79,6 +78,13 @@ is_replaced vault laws work front name content drawn at place a sound at_is ther
   apart = apart;
   beside = beside;
 }
+
+-- what is answered where a file stands
+answers_over : (p : Placing) (opens : Opened) (drawn : List ℕ) (at : Path) (bytes : List ℕ) (t : Option Told) → ((a : Told) → t ≡ Some a → IsReplaced p opens drawn at bytes a)
+    → (ending : Ending) (result : Result (Unit {0}) PutFault) → ((x : View) → AnswersOver p drawn ending x result) → IfSeen t (λ v. AnswersPut p drawn ending (under p.vault.root v) result)
+answers_over p opens drawn at bytes t k ending result answers =
+    if_seen (λ v. AnswersPut p drawn ending (under p.vault.root v) result) t
+    (λ a told. subst (λ s. AnswersPutBy s p drawn ending (under p.vault.root (seen a.state)) result) (sym (k a told).stands) (answers (under p.vault.root (seen a.state))))
 
 one_edit : (p : Placing) (at place : Path) (bytes : List ℕ) → at ≡ p.vault.root ++ place → file_edit at bytes ∷ [] ≡ edits_under p.vault.root (file_edit place bytes ∷ [])
 one_edit p at place bytes is = ap (λ q. file_edit q bytes ∷ []) is
@@ -131,64 +137,18 @@ module _ (shows : EditsShowTrees) (settles : SettledEditsShowTrees) (roots : Roo
             inr (subst (λ w. OpensWith (format p) u w (path_of p) (opens_as p.item)) (sym (all_seen (λ q unstaged. views q unstaged ∙ ap (λ x. edited (seen a.state) x q) same))) (k.alone orderly))
         by_done (e ∷ next ∷ done) more is views = cc
 
-  module _ (t w : Option Told) (k : (a : Told) → t ≡ Some a → IsReplaced p (opens_as p.item) drawn at bytes a) (allowed : Allows (format p) p.name) where
-    replaced_moments : FromTo (Edits p.work p.vault.root (replace_making at bytes)) t w
-        → Moments (λ s0 s. IsMaking p Whole (making_at p (put_item p drawn) s0) s0 s) (λ s0 s e. StagesOrPlaces p.work (making_at p (put_item p drawn) s0) s e.call) t w
-    replaced_moments went = from_to_more (Edits p.work p.vault.root (replace_making at bytes))
-        (λ a b. Went (IsMaking p Whole (making_at p (put_item p drawn) a.state) a.state) (λ s e. StagesOrPlaces p.work (making_at p (put_item p drawn) a.state) s e.call) a b) t w
-        (λ a b is e. went_replacing a b (k a is) e) went
+  module _ (t w : Option Told) (k : (a : Told) → t ≡ Some a → IsReplaced p (opens_as p.item) drawn at bytes a) (allowed : Allows (format p) p.name) (size : length drawn ≡ making.draws (format p) p.item) where
+    brings : (a b : Told) → t ≡ Some a → Brings InPlace p drawn (replace_making at bytes) a b
+    brings a b is = record { went = went_replacing a b (k a is); tree = replaced_tree a b (k a is); opens = replaced_ends a b (k a is); old_or_new = old_or_new_opens a b (k a is) }
 
-    over : (t : Option Told) → ((a : Told) → t ≡ Some a → IsReplaced p (opens_as p.item) drawn at bytes a) → (ending : Ending) (result : Result (Unit {0}) PutFault) → ((x : View) → AnswersOver p drawn ending x result)
-        → IfSeen t (λ v. AnswersPut p drawn ending (under p.vault.root v) result)
-    over (Some a) at_told ending result answers v is = subst (λ x. AnswersPut p drawn ending (under p.vault.root x) result) (sym is)
-        (subst (λ s. AnswersPutBy s p drawn ending (under p.vault.root (seen a.state)) result) (sym (at_told a refl).stands) (answers (under p.vault.root (seen a.state))))
-    over None at_told ending result answers v is = absurd is
+    pub replaced_ok : DrewNoZeros (format p).content drawn → FromTo (Edits p.work p.vault.root (replace_making at bytes)) t w → FromTo (HasFinished p.work p.vault.root (replace_making at bytes)) t w → MakesOne InPlace p Whole drawn t w (Ok tt)
+    replaced_ok none went finished =
+        one_whole InPlace p drawn (replace_making at bytes) t w brings size went finished (answers_over p (opens_as p.item) drawn at bytes t k Whole (Ok tt) (λ x. (allowed, refl, size, none)))
 
-    pub replaced_ok : length drawn ≡ making.draws (format p) p.item → DrewNoZeros (format p).content drawn → FromTo (Edits p.work p.vault.root (replace_making at bytes)) t w → FromTo (HasFinished p.work p.vault.root (replace_making at bytes)) t w
-        → MakesOne InPlace p Whole drawn t w (Ok tt)
-    replaced_ok size none went finished = record {
-      enough = omega (arith, size);
-      makes = record {
-        moments = replaced_moments went;
-        done = from_to_more (HasFinished p.work p.vault.root (replace_making at bytes)) (λ a b. ShowsNewTree p a.state b.state) t w (λ a b is e. replaced_tree a b (k a is) e) finished;
-        ready = is_ready t w finished;
-        ends = ends t w k finished;
-      };
-      answer = over t k Whole (Ok tt) (λ x. (allowed, refl, size, none));
-    }
+    pub replaced_failed : (fault : FolderFault) → FromTo (Edits p.work p.vault.root (replace_making at bytes)) t w → MakesOne InPlace p Whole drawn t w (Err (of_folder fault))
+    replaced_failed fault went =
+        one_broken InPlace p drawn (replace_making at bytes) t w brings size went fault (answers_over p (opens_as p.item) drawn at bytes t k Whole (Err (of_folder fault)) (answers fault))
       where
-        is_ready : (t w : Option Told) → FromTo (HasFinished p.work p.vault.root (replace_making at bytes)) t w → IfSeen w (λ v. IsReady v p.work)
-        is_ready (Some a) (Some b) h v is = subst (λ z. IsReady z p.work) (sym is) h.ready
-        is_ready None (Some b) h v is = absurd h
-        is_ready t None h v is = absurd is
-
-        ends : (t w : Option Told) → ((a : Told) → t ≡ Some a → IsReplaced p (opens_as p.item) drawn at bytes a) → FromTo (HasFinished p.work p.vault.root (replace_making at bytes)) t w
-            → (x y : View) → IsSeen t x → IsSeen w y → EndsAs p (under p.vault.root x) (under p.vault.root y) (Ok tt)
-        ends (Some a) (Some b) at_told h x y is_x is_y =
-            subst (λ z. EndsAs p (under p.vault.root z) (under p.vault.root y) (Ok tt)) (sym is_x)
-            (subst (λ z. EndsAs p (under p.vault.root (seen a.state)) (under p.vault.root z) (Ok tt)) (sym is_y) (replaced_ends a b (at_told a refl) h))
-        ends None (Some b) at_told h x y is_x is_y = absurd h
-        ends t None at_told h x y is_x is_y = absurd is_y
-
-    abbrev OldOrNewOpens : View → View → Type 0
-    OldOrNewOpens x y = IsOrderly (format p) x → OpensAs (format p) x y ⊎ OpensWith (format p) x y (path_of p) (opens_as p.item)
-
-    failed_ends : (t w : Option Told) → ((a : Told) → t ≡ Some a → IsReplaced p (opens_as p.item) drawn at bytes a) → FromTo (Edits p.work p.vault.root (replace_making at bytes)) t w
-        → (x y : View) → IsSeen t x → IsSeen w y → OldOrNewOpens (under p.vault.root x) (under p.vault.root y)
-    failed_ends (Some a) (Some b) at_told h x y is_x is_y =
-        subst (λ z. OldOrNewOpens (under p.vault.root z) (under p.vault.root y)) (sym is_x)
-        (subst (λ z. OldOrNewOpens (under p.vault.root (seen a.state)) (under p.vault.root z)) (sym is_y) (old_or_new_opens a b (at_told a refl) h))
-    failed_ends None (Some b) at_told h x y is_x is_y = absurd h
-    failed_ends t None at_told h x y is_x is_y = absurd is_y
-
-    pub replaced_failed : length drawn ≡ making.draws (format p) p.item → (fault : FolderFault) → FromTo (Edits p.work p.vault.root (replace_making at bytes)) t w → MakesOne InPlace p Whole drawn t w (Err (of_folder fault))
-    replaced_failed size fault went = record { enough = omega (arith, size); makes = by_fault fault; answer = over t k Whole (Err (of_folder fault)) (answers fault) }
-      where
-        by_fault : (fault : FolderFault) → Makes p Whole (put_item p drawn) t w (Err (of_folder fault))
-        by_fault folder.Failed = record { moments = replaced_moments went; done = tt; ready = tt; ends = failed_ends t w k went }
-        by_fault folder.Refused = record { moments = replaced_moments went; done = tt; ready = tt; ends = failed_ends t w k went }
-        by_fault folder.NoMemory = record { moments = replaced_moments went; done = tt; ready = tt; ends = failed_ends t w k went }
-
         answers : (fault : FolderFault) (x : View) → AnswersOver p drawn Whole x (Err (of_folder fault))
         answers folder.Failed x = tt
         answers folder.Refused x = tt
@@ -229,36 +189,11 @@ module _ (keeps : EditsBeforeTheLastKeepTrees) (roots : RootsShow) (p : Placing)
         by_done [] more is views = subst (λ w. OpensAs (format p) (under p.vault.root (seen a.state)) w) (sym (first_shown roots p k.apart k.beside a b [] [] refl views)) (λ path. refl)
         by_done (e ∷ done) more is views = cc
 
-  module _ (t w : Option Told) (k : (a : Told) → t ≡ Some a → IsReplaced p opens drawn at bytes a) where
-    ends_only : (t w : Option Told) → ((a : Told) → t ≡ Some a → IsReplaced p opens drawn at bytes a) → (fault : PutFault) → FromTo (Edits p.work p.vault.root (stopped_making [] (bytes ∷ []))) t w
-        → (u v : View) → IsSeen t u → IsSeen w v → EndsAs p (under p.vault.root u) (under p.vault.root v) (Err fault)
-    ends_only (Some a) (Some b) at_told fault h u v is_u is_v =
-        subst (λ x. EndsAs p (under p.vault.root x) (under p.vault.root v) (Err fault)) (sym is_u)
-        (subst (λ y. EndsAs p (under p.vault.root (seen a.state)) (under p.vault.root y) (Err fault)) (sym is_v)
-        (ends_stopped p fault (under p.vault.root (seen a.state)) (under p.vault.root (seen b.state)) (opens_yet a b (at_told a refl) h)))
-    ends_only None (Some b) at_told fault h u v is_u is_v = absurd h
-    ends_only t None at_told fault h u v is_u is_v = absurd is_v
-
-    over_stopped : (t : Option Told) → ((a : Told) → t ≡ Some a → IsReplaced p opens drawn at bytes a) → (ending : Ending) (fault : PutFault) → ((x : View) → AnswersOver p drawn ending x (Err fault))
-        → IfSeen t (λ v. AnswersPut p drawn ending (under p.vault.root v) (Err fault))
-    over_stopped (Some a) at_told ending fault answers v is = subst (λ x. AnswersPut p drawn ending (under p.vault.root x) (Err fault)) (sym is)
-        (subst (λ s. AnswersPutBy s p drawn ending (under p.vault.root (seen a.state)) (Err fault)) (sym (at_told a refl).stands) (answers (under p.vault.root (seen a.state))))
-    over_stopped None at_told ending fault answers v is = absurd is
-
-    pub replaced_stopped : (ending : Ending) (fault : PutFault) → length drawn ≤ making.draws (format p) p.item → FromTo (Edits p.work p.vault.root (stopped_making [] (bytes ∷ []))) t w
-        → ((x : View) → AnswersOver p drawn ending x (Err fault)) → MakesOne InPlace p ending drawn t w (Err fault)
-    replaced_stopped ending fault enough went answers = record {
-      enough = enough;
-      makes = record {
-        moments = from_to_more (Edits p.work p.vault.root (stopped_making [] (bytes ∷ [])))
-            (λ a b. Went (IsMaking p ending (making_at p (put_item p drawn) a.state) a.state) (λ s e. StagesOrPlaces p.work (making_at p (put_item p drawn) a.state) s e.call) a b) t w
-            (λ a b is e. went_only ending a b (k a is) e) went;
-        done = tt;
-        ready = tt;
-        ends = ends_only t w k fault went;
-      };
-      answer = over_stopped t k ending fault answers;
-    }
+  pub replaced_stopped : (t w : Option Told) → ((a : Told) → t ≡ Some a → IsReplaced p opens drawn at bytes a) → (ending : Ending) (fault : PutFault) → length drawn ≤ making.draws (format p) p.item
+      → FromTo (Edits p.work p.vault.root (stopped_making [] (bytes ∷ []))) t w → ((x : View) → AnswersOver p drawn ending x (Err fault)) → MakesOne InPlace p ending drawn t w (Err fault)
+  replaced_stopped t w k ending fault enough went answers =
+      one_stopped InPlace p ending drawn (Edits p.work p.vault.root (stopped_making [] (bytes ∷ []))) t w fault enough (λ a b is e. went_only ending a b (k a is) e) (λ a b is e. opens_yet a b (k a is) e) went
+      (answers_over p opens drawn at bytes t k ending (Err fault) answers)
 
 -- ---- by the answer
 

@@ -1,6 +1,6 @@
 -- A content file is replaced: another is staged, renamed onto it, and the folder is settled.
 use Rattle.std.specs.Result.{IsErr}
-use Rattle.std.proofs.Common.{arith, zero, ◌≡◌, ℕ, true, false, List, [], ◌∷◌, ◌++◌, Option, Some, None, Result, Ok, Err, refl, sym, ap, ◌∙◌, inl, inr, subst, append-nil, IsTrue, codes}
+use Rattle.std.proofs.Common.{arith, zero, ◌≡◌, ℕ, true, false, List, [], ◌∷◌, ◌++◌, Option, Some, None, Result, Ok, Err, IsErrAnd, refl, sym, ap, ◌∙◌, inl, inr, subst, append-nil, IsTrue, codes}
 use Rattle.chunk_files.specs.Keys.{Keys}
 use Rattle.port_model.specs.Draws.{ByteStream}
 use Rattle.folder_spec.specs.declared.FolderFault.{FolderFault}
@@ -32,9 +32,11 @@ use Rattle.content_writing.specs.Making.{StagesOrPlaces, is_apart, is_unstaged}
 use Rattle.vault_write.proofs.Adding.{IsStagedWhole, adds_nothing, free_in_stage}
 use Rattle.vault_write.proofs.Edited.{StagingAt, some_part, bare_of}
 use Rattle.vault_write.proofs.Directories.{whole_staged}
-use Rattle.vault_write.proofs.Filing.{off_root, only_stages, stops_folder, takes_none, takes_then, untaken}
+use Rattle.vault_write.proofs.Exits.{at_fault}
+use Rattle.vault_write.proofs.Filing.{only_stages, stops_folder, takes_none, takes_then, untaken}
 use Rattle.vault_write.proofs.Runs.{went_with, works_in_stage}
-use Rattle.vault_write.proofs.Stages.{in_stage, unstaged_below, unstaged_apart, apart_unstaged, apart_root, root_unstaged, work_beside, stage_beside, staged_beside, work_unstaged, stage_unstaged}
+use Rattle.vault_write.proofs.Seeing.{if_seen}
+use Rattle.vault_write.proofs.Stages.{in_stage, unstaged_below, unstaged_apart, apart_unstaged, apart_root, root_unstaged, off_root, stage_beside, staged_beside, work_unstaged, stage_unstaged}
 
 module _ (work root at : Path) (bytes : List ℕ) (x : Part) (a : Told) (may : MayReplace work root at a) where
   abbrev staged : Path
@@ -139,7 +141,7 @@ module _ (work root at : Path) (bytes : List ℕ) (x : Part) (a : Told) (may : M
 
     ready_then : IsReady (seen then_) work
     ready_then = record {
-      folder = kept_then work (work_unstaged work) (work_beside work root at may.beside may.inside) ∙ may.ready.folder;
+      folder = kept_then work (work_unstaged work) (off_root root at work may.beside may.inside) ∙ may.ready.folder;
       stage = kept_then (stage_path work) (stage_unstaged work) (stage_beside work root at may.apart may.beside may.inside) ∙ may.ready.stage;
       bare = bare_of (seen then_) work bare_then;
     }
@@ -231,39 +233,41 @@ replaces_err work root at bytes t u fault (Err other) err does = does
 replaces_err work root at bytes t u fault (Ok value) err does = let clash : false ≡ true = err in cc
 
 pub replace_free : (work root at : Path) (x : Part) (place : Path) (t : Option Told) → place ≡ child (stage_path work) x → ((a : Told) → t ≡ Some a → MayReplace work root at a) → IfSeen t (λ v. ShowsFree v place)
-replace_free work root at x place (Some a) is may v is_seen = subst (ShowsFree v) (sym is) (free_in_stage work x v (subst (λ z. IsReady z work) (sym is_seen) (may a refl).ready))
-replace_free work root at x place None is may v is_seen = absurd is_seen
+replace_free work root at x place t is may = if_seen (λ v. ShowsFree v place) t (λ a told. subst (ShowsFree (seen a.state)) (sym is) (free_in_stage work x (seen a.state) (may a told).ready))
 
 -- ---- a content that was staged
 
 -- where only its stage was written
-pub replace_none : (keys : Keys) (work root at : Path) (coming : Option Coming) (stream : Option ByteStream) (t : Option Told) (fault : PutFault) → StopsBy keys (untaken coming) fault
-    → ReplacesContent keys work root at coming coming stream stream t t (Err fault)
-replace_none keys work root at coming stream t fault stops = record {
-  writing = untaken coming;
-  enough = omega arith;
-  takes = takes_none keys coming stream fault;
-  ends = (stops, inl (adds_nothing work [] (file_of keys (untaken coming) ∷ []) t folder.NoMemory));
-}
+pub replace_none : {keys : Keys} {work root at : Path} {coming : Option Coming} {stream : Option ByteStream} {t : Option Told} {result : Result (Unit {0}) PutFault} (fault : PutFault)
+    → IsErrAnd result (λ e. e ≡ fault) → StopsBy keys (untaken coming) fault → ReplacesContent keys work root at coming coming stream stream t t result
+replace_none {keys} {work} {root} {at} {coming} {stream} {t} {result} fault by_fault stops =
+    at_fault (ReplacesContent keys work root at coming coming stream stream t t) result fault by_fault (record {
+      writing = untaken coming;
+      enough = omega arith;
+      takes = takes_none keys coming stream fault;
+      ends = (stops, inl (adds_nothing work [] (file_of keys (untaken coming) ∷ []) t folder.NoMemory));
+    })
 
-pub replace_stopped : (keys : Keys) (work root at : Path) (x : Part) (staged : Path) (coming left : Option Coming) (stream stream' : Option ByteStream) (t u : Option Told) (fault : PutFault)
-    → staged ≡ child (stage_path work) x → StagesEntry keys None staged coming left stream stream' t u (Err fault) → ReplacesContent keys work root at coming left stream stream' t u (Err fault)
-replace_stopped keys work root at x staged coming left stream stream' t u fault is k = record {
-  writing = k.writing;
-  enough = k.enough;
-  takes = k.takes;
-  ends = (k.ends, inl (only_stages work x staged (file_of keys k.writing ∷ []) t u is k.stages));
-}
+pub replace_stopped : {keys : Keys} {work root at staged : Path} {coming left : Option Coming} {stream stream' : Option ByteStream} {t u : Option Told} {result : Result (Unit {0}) PutFault} (x : Part) (fault : PutFault)
+    → IsErrAnd result (λ e. e ≡ fault) → staged ≡ child (stage_path work) x → StagesEntry keys None staged coming left stream stream' t u (Err fault) → ReplacesContent keys work root at coming left stream stream' t u result
+replace_stopped {keys} {work} {root} {at} {staged} {coming} {left} {stream} {stream'} {t} {u} {result} x fault by_fault is k =
+    at_fault (ReplacesContent keys work root at coming left stream stream' t u) result fault by_fault (record {
+      writing = k.writing;
+      enough = k.enough;
+      takes = k.takes;
+      ends = (k.ends, inl (only_stages work x staged (file_of keys k.writing ∷ []) t u is k.stages));
+    })
 
-module _ (keys : Keys) (work root at staged : Path) (coming left : Option Coming) (stream stream' : Option ByteStream) (t u w : Option Told) (is : staged ≡ child (stage_path work) (codes "f"))
+module _ {keys : Keys} {work root at staged : Path} {coming left : Option Coming} {stream stream' : Option ByteStream} {t u : Option Told} (w : Option Told) (is : staged ≡ child (stage_path work) (codes "f"))
     (may : (a : Told) → t ≡ Some a → MayReplace work root at a) (k : StagesEntry keys None staged coming left stream stream' t u (Ok tt)) where
-  pub replace_failed : (fault : FolderFault) → ReplacesEntry staged at u w (Err fault) → ReplacesContent keys work root at coming left stream stream' t w (Err (of_folder fault))
-  replace_failed fault replaces = record {
-    writing = k.writing;
-    enough = k.enough;
-    takes = takes_then keys k.writing coming left stream stream' (of_folder fault) k.takes;
-    ends = (stops_folder keys k.writing fault, inr (fault, refl, k.ends.0, replaces work root (file_of keys k.writing) t is may k.ends.1));
-  }
+  pub replace_failed : {result : Result (Unit {0}) PutFault} (fault : FolderFault) → IsErrAnd result (λ e. e ≡ of_folder fault) → ReplacesEntry staged at u w (Err fault) → ReplacesContent keys work root at coming left stream stream' t w result
+  replace_failed {result} fault by_fault replaces =
+      at_fault (ReplacesContent keys work root at coming left stream stream' t w) result (of_folder fault) by_fault (record {
+        writing = k.writing;
+        enough = k.enough;
+        takes = takes_then keys k.writing coming left stream stream' (of_folder fault) k.takes;
+        ends = (stops_folder keys k.writing fault, inr (fault, refl, k.ends.0, replaces work root (file_of keys k.writing) t is may k.ends.1));
+      })
 
   pub replace_placed : ReplacesEntry staged at u w (Ok tt) → ReplacesContent keys work root at coming left stream stream' t w (Ok tt)
   replace_placed replaces = record { writing = k.writing; enough = k.enough; takes = k.takes; ends = (k.ends.0, replaces work root (file_of keys k.writing) t is may k.ends.1) }

@@ -69,17 +69,17 @@ root_below work root q apart beside is =
 pub root_unstaged : (work root q : Path) → below work root ≡ None → below root work ≡ None → IsTrue (at_or_below root q) → IsTrue (is_unstaged work q)
 root_unstaged work root q apart beside is = ap (λ o. not (is_inside o)) (root_below work root q apart beside is)
 
--- nothing at the root or below it is above the work folder or its stage
-pub work_beside : (work root at : Path) → below root work ≡ None → IsTrue (at_or_below root at) → below at work ≡ None
-work_beside work root at beside is = elim (begins_or_not at work) [
+-- what is apart from a root is apart from what is at it or below
+pub off_root : (root at q : Path) → below root q ≡ None → IsTrue (at_or_below root at) → below at q ≡ None
+off_root root at q apart is = elim (begins_or_not at q) [
   | inr none ↦ none
   | inl k ↦
       let place : (rest : Path) × (at ≡ root ++ rest) = at_root root at is in
-      absurd (not_below root (place.0 ++ k.0) (ap (below root) (sym (k.1 ∙ ap (λ p. p ++ k.0) place.1 ∙ append_assoc root place.0 k.0)) ∙ beside))
+      absurd (not_below root (place.0 ++ k.0) (ap (below root) (sym (k.1 ∙ ap (λ p. p ++ k.0) place.1 ∙ append_assoc root place.0 k.0)) ∙ apart))
 ]
 
 pub stage_beside : (work root at : Path) → below work root ≡ None → below root work ≡ None → IsTrue (at_or_below root at) → below at (stage_path work) ≡ None
-stage_beside work root at apart beside is = work_beside (stage_path work) root at (root_apart work root apart beside) is
+stage_beside work root at apart beside is = off_root root at (stage_path work) (root_apart work root apart beside) is
 
 -- nor above anything in the stage
 pub staged_beside : (work root at rest : Path) → below work root ≡ None → below root work ≡ None → IsTrue (at_or_below root at) → below at (stage_path work ++ rest) ≡ None

@@ -1,5 +1,5 @@
 -- Making a whole vault at a path where nothing stands, so that it comes there at once.
-use Rattle.std.specs.Prelude.{◌≡◌, ◌⊎◌, ◌<◌, ℕ, slice_index, false, true, List, [], ◌∷◌, ◌++◌, Contains, length, Option, Result, Ok, Err, IfOk, OnOk}
+use Rattle.std.specs.Prelude.{◌≡◌, ◌⊎◌, ◌<◌, ℕ, slice_index, false, true, List, [], ◌∷◌, ◌++◌, Contains, codes, length, Option, Result, Ok, Err, IfOk, OnOk}
 use Rattle.chunk_files.specs.Zeros.{is_all_zero}
 use Rattle.content_writing.specs.declared.fault.PutFault.{PutFault}
 use Rattle.content_writing.specs.declared.fault.PutFault.TheVariants as puts
@@ -24,6 +24,7 @@ use Rattle.folder_staging.specs.Folders.{StagesFolder, HasStaged}
 use Rattle.work_folder.specs.Entering.{IsReady}
 use Rattle.vault_spec.specs.Cryptomator.{top, shelf_named, folder_named}
 use Rattle.vault_spec.specs.Empty.{IsEmptyVault}
+use Rattle.vault_spec.specs.Gocryptfs.{key_file}
 use Rattle.vault_spec.specs.NewVault.{go_files, cm_files, new_go_vault, new_cm_vault}
 use Rattle.vault_spec.specs.Tidy.{IsTidy}
 use Rattle.vault_spec.specs.Vault.{Vault, Gocryptfs, Cryptomator, format_of, IsVault}
@@ -170,6 +171,13 @@ pub record FoundsCm (work at : Path) (pass : List ℕ) (cost : Cost) (combo : Co
   pub vault : OnOk result (IsNewVault (new_cm_vault pass cost combo draw) pass (new_cm combo draw))
 
 -- ---- private contracts
+
+-- the files at the top of a new vault, with these bytes
+abbrev pub go_two : List ℕ → List ℕ → List (List ℕ × List ℕ)
+go_two conf key = (codes "gocryptfs.conf", conf) ∷ (key_file, key) ∷ []
+
+abbrev pub cm_two : List ℕ → List ℕ → List (List ℕ × List ℕ)
+cm_two master vault = (codes "masterkey.cryptomator", master) ∷ (codes "vault.cryptomator", vault) ∷ []
 
 -- the parts are drawn, or the source fails, or gives zeros
 pub record DrawsGo (stream stream' : Option ByteStream) (result : Result GoParts PutFault) : Type 0 where

@@ -16,7 +16,7 @@ ghost use Rattle.vault_write.specs.Slots.{IsSlot, PlacesOne, placing};
 
 use crate::drawing::{draw_id, draw_some};
 use crate::laws::edits_show_trees;
-use crate::slot::{Home, Slot, home_of, slot_at, wants_side};
+use crate::slot::{Home, Slot, home_of, slot_at, taken, wants_side};
 use crate::stage::{make_folder, publish_directory, publish_side};
 use content_writing::PutFault;
 use folder_model::{FPath, Folder};
@@ -53,7 +53,7 @@ pub fn place_dir<F: Folder, R: Randoms>(
     ensures counted { R.faults random.old ≤ R.faults random.new }
 {
     match path.names() {
-        [] => Err(PutFault::Taken(vault.root().copy()?)),
+        [] => Err(taken(vault.root())),
         [front @ .., name] => place_named(alloc, folder, work, vault, path, front, name, random),
     }
 }

@@ -18,7 +18,7 @@ ghost use Rattle.vault_spec.specs.Standing.{standing};
 ghost use Rattle.vault_write.specs.Slots.{IsSlot, CountsFailed};
 
 use crate::laws::edits_show_trees;
-use crate::slot::{Slot, is_free, slot_at, slot_over, wants_side};
+use crate::slot::{Slot, is_free, slot_at, slot_over, taken, wants_side};
 use crate::stage::{publish_side, stage_name, staged_entry};
 use chunk_files::ContentKeys;
 use chunk_files::laws::{encrypted_files_are_files, files_are_what_they_give};
@@ -65,7 +65,7 @@ pub fn place_file<F: Folder, R: Randoms, C: Content<F>>(
     ensures random { Blames result PutFault.Random (R.faults random.old) (R.faults random.new) }
 {
     match path.names() {
-        [] => Err(PutFault::Taken(vault.root().copy()?)),
+        [] => Err(taken(vault.root())),
         [front @ .., name] => {
             place_named(
                 alloc, folder, work, vault, path, front, name, content, random,
@@ -101,12 +101,22 @@ pub fn put<F: Folder, R: Randoms, C: Content<F>>(
     ensures random { Blames result PutFault.Random (R.faults random.old) (R.faults random.new) }
 {
     match path.names() {
-        [] => Err(PutFault::Find(FindFault::WrongKind(path.copy()?))),
+        [] => Err(wrong_kind(path)),
         [front @ .., name] => {
             put_named(
                 alloc, folder, work, vault, path, front, name, content, random,
             )
         }
+    }
+}
+
+// A directory stands at a path.
+fn wrong_kind(path: &PlainPath) -> PutFault
+    ensures { (result ≡ PutFault.NoMemory) ⊎ (result ≡ PutFault.Find (FindFault.WrongKind path.now)) }
+{
+    match path.copy() {
+        Ok(path) => PutFault::Find(FindFault::WrongKind(path)),
+        Err(_) => PutFault::NoMemory,
     }
 }
 

@@ -1,5 +1,5 @@
 //! Making vaults.
-ghost use Rattle.std.specs.Prelude.{◌≡◌, ◌≤◌, ◌∷◌, [], List, ℕ, Err, IfOk, OnOk, IsTrue, codes, length};
+ghost use Rattle.std.specs.Prelude.{◌≡◌, ◌≤◌, ◌∷◌, [], List, ℕ, Err, IfOk, OnOk, IsTrue, length};
 ghost use Rattle.std.specs.List.{list_all};
 ghost use Rattle.kdf_suite.specs.ScryptCost.{IsCost};
 ghost use Rattle.port_model.specs.Counts.{CountRose};
@@ -15,9 +15,8 @@ ghost use Rattle.folder_staging.specs.Pieces.{Stages};
 ghost use Rattle.folder_staging.specs.Places.{IsPlace};
 ghost use Rattle.vault_names.specs.Base32.{is_base32};
 ghost use Rattle.vault_spec.specs.Cryptomator.{top};
-ghost use Rattle.vault_spec.specs.Gocryptfs.{key_file};
 ghost use Rattle.vault_spec.specs.NewVault.{cm_files, new_cm_vault};
-ghost use Rattle.vault_write.specs.Founding.{MayFound, Founds, FoundsGo, FoundsCm, StagesWhole, StagesHome, with_home, texts};
+ghost use Rattle.vault_write.specs.Founding.{MayFound, Founds, FoundsGo, FoundsCm, StagesWhole, StagesHome, cm_two, go_two, texts, with_home};
 
 use crate::drawing::{draw_cm, draw_go};
 use crate::stage::staged_at;
@@ -163,7 +162,7 @@ fn found_go<F: Folder>(
     key: &[u8],
 ) -> Result<(), FolderFault>
     requires { MayFound (F.told folder.old) work.now at.now }
-    ensures founds { let files : List (List ℕ × List ℕ) = (codes "gocryptfs.conf", conf.now) ∷ (key_file, key.now) ∷ [] in Founds work.now at.now (folder_view files) files (F.told folder.old) (F.told folder.new) result }
+    ensures founds { Founds work.now at.now (folder_view (go_two conf.now key.now)) (go_two conf.now key.now) (F.told folder.old) (F.told folder.new) result }
     ensures counts { CountsAbove (F.faults folder.old) (F.faults folder.new) result }
 {
     let staged = staged_at(work, "f")?;
@@ -190,7 +189,7 @@ fn found_cm<F: Folder>(
     requires may { MayFound (F.told folder.old) work.now at.now }
     requires size { length home.now ≡ 32 }
     requires characters { IsTrue (list_all is_base32 home.now) }
-    ensures founds { let both : List (List ℕ × List ℕ) = (codes "masterkey.cryptomator", master.now) ∷ (codes "vault.cryptomator", vault.now) ∷ [] in Founds work.now at.now (with_home home.now (folder_view both)) both (F.told folder.old) (F.told folder.new) result }
+    ensures founds { Founds work.now at.now (with_home home.now (folder_view (cm_two master.now vault.now))) (cm_two master.now vault.now) (F.told folder.old) (F.told folder.new) result }
     ensures counts { CountsAbove (F.faults folder.old) (F.faults folder.new) result }
 {
     let staged = staged_at(work, "f")?;
@@ -209,7 +208,7 @@ fn stage_cm<F: Folder>(
     requires free { IfSeen (F.told folder.old) (λ v. ShowsFree v staged.now) }
     requires size { length home.now ≡ 32 }
     requires characters { IsTrue (list_all is_base32 home.now) }
-    ensures staged { let both : List (List ℕ × List ℕ) = (codes "masterkey.cryptomator", master.now) ∷ (codes "vault.cryptomator", vault.now) ∷ [] in StagesWhole staged.now (with_home home.now (folder_view both)) (texts both) (F.told folder.old) (F.told folder.new) result }
+    ensures staged { StagesWhole staged.now (with_home home.now (folder_view (cm_two master.now vault.now))) (texts (cm_two master.now vault.now)) (F.told folder.old) (F.told folder.new) result }
     ensures counts { CountsAbove (F.faults folder.old) (F.faults folder.new) result }
 {
     staged_folders_are_seen();

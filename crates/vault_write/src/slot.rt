@@ -117,6 +117,16 @@ fn kind_at<F: Folder>(folder: &mut F, at: &FPath) -> Result<Kind, FolderFault>
     folder.kind(at)
 }
 
+// A place is taken.
+pub(crate) fn taken(at: &FPath) -> PutFault
+    ensures { (result ≡ PutFault.NoMemory) ⊎ (result ≡ PutFault.Taken at.now) }
+{
+    match at.copy() {
+        Ok(at) => PutFault::Taken(at),
+        Err(_) => PutFault::NoMemory,
+    }
+}
+
 // Nothing stands at a path.
 pub(crate) fn is_free<F: Folder>(folder: &mut F, at: &FPath) -> Result<(), PutFault>
     ensures told { F.told folder.new ≡ F.told folder.old }
@@ -127,7 +137,7 @@ pub(crate) fn is_free<F: Folder>(folder: &mut F, at: &FPath) -> Result<(), PutFa
 {
     match kind_at(folder, at)? {
         Kind::Missing => Ok(()),
-        _ => Err(PutFault::Taken(at.copy()?)),
+        _ => Err(taken(at)),
     }
 }
 
@@ -174,9 +184,9 @@ pub(crate) fn wants_side<F: Folder>(
                 if bytes.as_slice() == text.as_str().as_bytes() {
                     return Ok(false);
                 }
-                Err(PutFault::Taken(side.copy()?))
+                Err(taken(side))
             }
-            _ => Err(PutFault::Taken(side.copy()?)),
+            _ => Err(taken(side)),
         },
     }
 }
@@ -243,7 +253,7 @@ fn wants_shelf<F: Folder>(folder: &mut F, shelf: &FPath) -> Result<bool, PutFaul
     match kind_at(folder, shelf)? {
         Kind::Missing => Ok(true),
         Kind::Dir => Ok(false),
-        _ => Err(PutFault::Taken(shelf.copy()?)),
+        _ => Err(taken(shelf)),
     }
 }
 

@@ -1,36 +1,22 @@
-use Rattle.std.proofs.Common.{◌≡◌, ◌-◌, Err, length, take, sym, ap, ◌∙◌, arith}
-use Rattle.std.proofs.lemmas.Result.{err_from_is_err_and}
+use Rattle.std.proofs.Common.{◌-◌, length, take, subst, arith}
 use Rattle.content_writing.specs.declared.fault.PutFault.TheVariants as puts
+use Rattle.vault_write.specs.Calls.{New}
 use Rattle.vault_write.specs.Faults.{IsDirectoryFault}
 use Rattle.vault_write.proofs.DirectoryPlaced.{last_name, named_made, no_names, root_made}
-use Rattle.vault_write.proofs.Found.{same_refused}
+use Rattle.vault_write.proofs.ItemMade.{IsRootFault, by_root, root_blames}
 use Rattle.vault_write.proofs.directory.place_dir.Goals as goal
 
-pub returns-in_err-copy-in-empty : goal.returns-in_err-copy-in-empty
-returns-in_err-copy-in-empty g c =
-    let result = c.from_residual.result in
-    let by_fault = c.from_residual.ensures.1 in
-    let p = err_from_is_err_and result by_fault in
-    let is : result ≡ Err puts.NoMemory = p.1 ∙ ap Err p.2 in
+pub returns-in-empty : goal.returns-in-empty
+returns-in-empty g c =
+    let is = subst (λ at. IsRootFault New at c.taken.result) c.root.ensures c.taken.ensures in
     record {
-      made = root_made c.args.vault.now c.args.work.now c.args.path.now (g.R.Randoms.left c.args.random.now) (g.F.Folder.told c.args.folder.now) result (no_names c.names.result.now c.args.path.now c.in-empty.len_below c.names.ensures.value) (λ other. is);
-      fault = same_refused result puts.NoMemory IsDirectoryFault by_fault tt;
-      failed = λ same. let clash : Err puts.NoMemory ≡ Err puts.Failed = sym is ∙ same in cc clash;
-      random = λ same. let clash : Err puts.NoMemory ≡ Err puts.Random = sym is ∙ same in cc clash;
+      made = root_made c.args.vault.now c.args.work.now c.args.path.now (g.R.Randoms.left c.args.random.now) (g.F.Folder.told c.args.folder.now) c.taken.result (no_names c.names.result.now c.args.path.now c.in-empty.len_below c.names.ensures.value) is;
+      fault = by_root New c.args.vault.now.root c.taken.result IsDirectoryFault tt tt is;
+      failed = (root_blames New c.args.vault.now.root c.taken.result puts.Failed tt is).1;
+      random = (root_blames New c.args.vault.now.root c.taken.result puts.Random tt is).1;
       grows = omega arith;
       counted = omega arith;
     }
-
-pub returns-in_ok-copy-in-empty : goal.returns-in_ok-copy-in-empty
-returns-in_ok-copy-in-empty g c = record {
-  made = root_made c.args.vault.now c.args.work.now c.args.path.now (g.R.Randoms.left c.args.random.now) (g.F.Folder.told c.args.folder.now) (Err (puts.Taken c.in_ok-copy-in-empty.field-0)) (no_names c.names.result.now c.args.path.now c.in-empty.len_below c.names.ensures.value)
-      (λ other. absurd (other (ap (λ q. Err (puts.Taken q)) (c.in_ok-copy-in-empty.ensures ∙ c.root.ensures))));
-  fault = tt;
-  failed = λ same. cc same;
-  random = λ same. cc same;
-  grows = omega arith;
-  counted = omega arith;
-}
 
 pub place_named-requires-clause-path : goal.place_named-requires-clause-path
 place_named-requires-clause-path g c = last_name c.names.result.now c.args.path.now c.name-item.result c.names.ensures.value c.in-len1-up.len_at_least c.name-item.is

@@ -1,13 +1,11 @@
-use Rattle.std.proofs.Common.{Err, sym, ap, ◌∙◌, subst}
-use Rattle.std.proofs.lemmas.Result.{err_from_is_err_and}
+use Rattle.std.proofs.Common.{sym, ◌∙◌}
 use Rattle.vault_write.specs.Founding.{DrawsSome}
-use Rattle.vault_write.proofs.Drawn.{some_none, some_zeros}
+use Rattle.vault_write.proofs.Drawn.{at_random, some_none, some_zeros}
 use Rattle.vault_write.proofs.drawing.draw_some.Goals as goal
 
 pub returns-in_err-bytes-clause-draws : goal.returns-in_err-bytes-clause-draws
 returns-in_err-bytes-clause-draws g c =
-    let p = err_from_is_err_and c.from_residual.result c.from_residual.ensures.1 in
-    subst (DrawsSome (g.R.Randoms.left c.args.random.now) (g.R.Randoms.left c.draw.new.random)) (sym (p.1 ∙ ap Err (p.2 ∙ c.in_err-bytes.ensures.fault)))
+    at_random (DrawsSome (g.R.Randoms.left c.args.random.now) (g.R.Randoms.left c.draw.new.random)) c.from_residual.result c.from_residual.ensures.1 c.in_err-bytes.ensures.fault
     (some_none (g.R.Randoms.left c.args.random.now) (g.R.Randoms.left c.draw.new.random) c.in_err-bytes.ensures.nothing)
 
 pub returns-then-are_zeros-clause-draws : goal.returns-then-are_zeros-clause-draws

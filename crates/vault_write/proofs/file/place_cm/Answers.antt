@@ -1,6 +1,5 @@
-use Rattle.std.proofs.Common.{subst}
+use Rattle.std.proofs.Common.{sym}
 use Rattle.content_writing.specs.Content.{still_coming}
-use Rattle.vault_write.specs.Filing.{PlacesEntry}
 use Rattle.vault_write.proofs.FileBegun.{cm_entry_comes}
 use Rattle.vault_write.proofs.FileMade.{cm_placed}
 use Rattle.vault_write.proofs.Filing.{reads_outside}
@@ -20,5 +19,4 @@ returns-clause-made g c =
     c.what_is_found_stands.ensures.enters c.args.vault.now (c.items_keep_vaults.ensures c.args.vault.now.vault) c.args.work.now c.args.front.now c.args.name.now c.requires.named
     c.args.slot.now.at c.args.slot.now.side c.args.slot.now.full (g.F.Folder.told c.args.folder.now) (g.met.F.Folder.sound c.args.folder.now) c.requires.may c.requires.slot
     c.requires.kind (still_coming (g.C.Content.reads c.args.content.now) (g.F.Folder.told c.args.folder.now) (g.C.Content.coming c.args.content.now)) (still_coming (g.C.Content.reads c.args.content.now) (g.F.Folder.told c.args.folder.now) (g.C.Content.coming c.place_entry.new.content)) (g.R.Randoms.left c.args.random.now) (g.R.Randoms.left c.place_entry.new.random) (g.F.Folder.told c.place_entry.new.folder) c.place_entry.result
-    (subst (λ k. PlacesEntry k c.args.work.now c.args.slot.now.at c.args.slot.now.full (still_coming (g.C.Content.reads c.args.content.now) (g.F.Folder.told c.args.folder.now) (g.C.Content.coming c.args.content.now)) (still_coming (g.C.Content.reads c.args.content.now) (g.F.Folder.told c.args.folder.now) (g.C.Content.coming c.place_entry.new.content)) (g.R.Randoms.left c.args.random.now) (g.R.Randoms.left c.place_entry.new.random) (g.F.Folder.told c.args.folder.now) (g.F.Folder.told c.place_entry.new.folder) c.place_entry.result)
-    c.content_keys.ensures c.place_entry.ensures.made)
+    (rw (sym c.content_keys.ensures) c.place_entry.ensures.made)

@@ -1,13 +1,13 @@
-use Rattle.std.proofs.Common.{◌∙◌, sym, codes, ◌≡◌, refl, arith}
+use Rattle.std.proofs.Common.{◌∙◌, sym, codes, refl, arith}
 use Rattle.folder_spec.proofs.Paths.{child-not_base}
 use Rattle.work_folder.specs.Entries.{stage_path}
-use Rattle.content_writing.specs.Content.{still_coming}
 use Rattle.content_writing.specs.Faults.{of_folder}
 use Rattle.content_writing.specs.declared.fault.PutFault.TheVariants as puts
 use Rattle.content_writing.proofs.Blaming.{blames_at, folder_blames, folder_undrawn, folder_unread}
-use Rattle.vault_write.specs.Filing.{PlacesEntry, entry_files, file_of}
+use Rattle.vault_write.specs.Filing.{entry_files, file_of}
 use Rattle.vault_write.proofs.Directories.{directory_free}
-use Rattle.vault_write.proofs.Filing.{at_fault, entry_allowed, entry_failed, entry_none, entry_placed, entry_stopped, reads_apart}
+use Rattle.vault_write.proofs.Exits.{unblamed}
+use Rattle.vault_write.proofs.Filing.{entry_allowed, entry_failed, entry_none, entry_placed, entry_stopped, reads_apart}
 use Rattle.vault_write.proofs.file.place_entry.Goals as goal
 
 pub returns-in_err-staged : goal.returns-in_err-staged
@@ -15,15 +15,13 @@ returns-in_err-staged g c =
     let result = c.from_residual.result in
     let by_fault = c.from_residual.ensures.1 in
     record {
-      made =
-          at_fault (PlacesEntry c.args.keys c.args.work.now c.args.at.now c.args.inside.now (still_coming (g.C.Content.reads c.args.content.now) (g.F.Folder.told c.args.folder.now) (g.C.Content.coming c.args.content.now)) (still_coming (g.C.Content.reads c.args.content.now) (g.F.Folder.told c.args.folder.now) (g.C.Content.coming c.args.content.now)) (g.R.Randoms.left c.args.random.now) (g.R.Randoms.left c.args.random.now) (g.F.Folder.told c.args.folder.now) (g.F.Folder.told c.args.folder.now)) c.from_residual.result puts.NoMemory c.from_residual.ensures.1
-          (entry_none c.args.keys c.args.work.now c.args.at.now c.args.inside.now (still_coming (g.C.Content.reads c.args.content.now) (g.F.Folder.told c.args.folder.now) (g.C.Content.coming c.args.content.now)) (g.R.Randoms.left c.args.random.now) (g.F.Folder.told c.args.folder.now) puts.NoMemory tt);
+      made = entry_none puts.NoMemory by_fault tt;
       reads = refl;
       room = omega arith;
       lender = refl;
-      failed = blames_at result puts.NoMemory puts.Failed _ _ by_fault (omega arith, λ same. cc same);
-      source = blames_at result puts.NoMemory puts.Source _ _ by_fault (omega arith, λ same. cc same);
-      random = blames_at result puts.NoMemory puts.Random _ _ by_fault (omega arith, λ same. cc same);
+      failed = unblamed result puts.NoMemory puts.Failed by_fault (λ same. cc same) (omega arith);
+      source = unblamed result puts.NoMemory puts.Source by_fault (λ same. cc same) (omega arith);
+      random = unblamed result puts.NoMemory puts.Random by_fault (λ same. cc same) (omega arith);
     }
 
 pub stage_entry-requires-clause-free : goal.stage_entry-requires-clause-free
@@ -42,10 +40,7 @@ returns-in_err-stage_entry g c =
     let fault = c.in_err-stage_entry.field-0.0 in
     let e = c.in_err-stage_entry.ensures in
     record {
-      made =
-          at_fault (PlacesEntry c.args.keys c.args.work.now c.args.at.now c.args.inside.now (still_coming (g.C.Content.reads c.args.content.now) (g.F.Folder.told c.args.folder.now) (g.C.Content.coming c.args.content.now)) (still_coming (g.C.Content.reads c.args.content.now) (g.F.Folder.told c.args.folder.now) (g.C.Content.coming c.stage_entry.new.content)) (g.R.Randoms.left c.args.random.now) (g.R.Randoms.left c.stage_entry.new.random) (g.F.Folder.told c.args.folder.now) (g.F.Folder.told c.stage_entry.new.folder)) c.from_residual-in_err-stage_entry.result c.in_err-stage_entry.field-0.0 c.from_residual-in_err-stage_entry.ensures.1
-          (entry_stopped c.args.keys c.args.work.now c.args.at.now (codes "f") c.in_ok-staged.staged c.args.inside.now (still_coming (g.C.Content.reads c.args.content.now) (g.F.Folder.told c.args.folder.now) (g.C.Content.coming c.args.content.now)) (still_coming (g.C.Content.reads c.args.content.now) (g.F.Folder.told c.args.folder.now) (g.C.Content.coming c.stage_entry.new.content)) (g.R.Randoms.left c.args.random.now) (g.R.Randoms.left c.stage_entry.new.random) (g.F.Folder.told c.args.folder.now) (g.F.Folder.told c.stage_entry.new.folder)
-          c.in_err-stage_entry.field-0.0 c.in_ok-staged.ensures c.in_err-stage_entry.ensures.staged);
+      made = entry_stopped (codes "f") fault by_fault c.in_ok-staged.ensures e.staged;
       reads = e.reads;
       room = e.room;
       lender = e.lender;
@@ -67,18 +62,14 @@ returns-in_err-publish_entry g c =
     let fault = c.in_err-publish_entry.field-0.0 in
     let before = c.in_ok-stage_entry.ensures in
     record {
-      made =
-          at_fault (PlacesEntry c.args.keys c.args.work.now c.args.at.now c.args.inside.now (still_coming (g.C.Content.reads c.args.content.now) (g.F.Folder.told c.args.folder.now) (g.C.Content.coming c.args.content.now)) (still_coming (g.C.Content.reads c.args.content.now) (g.F.Folder.told c.args.folder.now) (g.C.Content.coming c.stage_entry.new.content)) (g.R.Randoms.left c.args.random.now) (g.R.Randoms.left c.stage_entry.new.random) (g.F.Folder.told c.args.folder.now) (g.F.Folder.told c.publish_entry.new.folder)) c.from_residual-in_err-publish_entry.result (of_folder c.in_err-publish_entry.field-0.0) c.from_residual-in_err-publish_entry.ensures.1
-          (entry_failed c.args.keys c.args.work.now c.args.at.now c.in_ok-staged.staged c.args.inside.now (still_coming (g.C.Content.reads c.args.content.now) (g.F.Folder.told c.args.folder.now) (g.C.Content.coming c.args.content.now)) (still_coming (g.C.Content.reads c.args.content.now) (g.F.Folder.told c.args.folder.now) (g.C.Content.coming c.stage_entry.new.content)) (g.R.Randoms.left c.args.random.now) (g.R.Randoms.left c.stage_entry.new.random) (g.F.Folder.told c.args.folder.now) (g.F.Folder.told c.stage_entry.new.folder) (g.F.Folder.told c.publish_entry.new.folder)
-          c.in_ok-staged.ensures c.requires.may c.in_ok-stage_entry.ensures.staged c.in_err-publish_entry.field-0.0 c.in_err-publish_entry.ensures.published);
+      made = entry_failed (g.F.Folder.told c.publish_entry.new.folder) c.in_ok-staged.ensures c.requires.may before.staged fault by_fault c.in_err-publish_entry.ensures.published;
       reads = before.reads;
       room = before.room;
       lender = before.lender;
       failed = blames_at result (of_folder fault) puts.Failed _ _ by_fault (folder_blames _ _ _ fault before.failed.0 c.in_err-publish_entry.ensures.counts);
-      source = blames_at result (of_folder fault) puts.Source _ _ by_fault (before.source.0, λ same. absurd (folder_unread fault (let is : of_folder fault ≡ puts.Source = cc same in is)));
-      random = blames_at result (of_folder fault) puts.Random _ _ by_fault (before.random.0, λ same. absurd (folder_undrawn fault (let is : of_folder fault ≡ puts.Random = cc same in is)));
+      source = unblamed result (of_folder fault) puts.Source by_fault (folder_unread fault) before.source.0;
+      random = unblamed result (of_folder fault) puts.Random by_fault (folder_undrawn fault) before.random.0;
     }
 
 pub returns-clause-made : goal.returns-clause-made
-returns-clause-made g c = entry_placed c.args.keys c.args.work.now c.args.at.now c.in_ok-staged.staged c.args.inside.now (still_coming (g.C.Content.reads c.args.content.now) (g.F.Folder.told c.args.folder.now) (g.C.Content.coming c.args.content.now)) (still_coming (g.C.Content.reads c.args.content.now) (g.F.Folder.told c.args.folder.now) (g.C.Content.coming c.stage_entry.new.content)) (g.R.Randoms.left c.args.random.now) (g.R.Randoms.left c.stage_entry.new.random) (g.F.Folder.told c.args.folder.now) (g.F.Folder.told c.stage_entry.new.folder) (g.F.Folder.told c.publish_entry.new.folder)
-    c.in_ok-staged.ensures c.requires.may c.in_ok-stage_entry.ensures.staged c.in_ok-publish_entry.ensures.published
+returns-clause-made g c = entry_placed (g.F.Folder.told c.publish_entry.new.folder) c.in_ok-staged.ensures c.requires.may c.in_ok-stage_entry.ensures.staged c.in_ok-publish_entry.ensures.published

@@ -1,23 +1,22 @@
-use Rattle.std.proofs.Common.{None, Ok, Err, sym, subst}
+use Rattle.std.proofs.Common.{sym, subst}
 use Rattle.folder_spec.specs.Seen.{IsSeen}
 use Rattle.content_writing.specs.Content.{still_coming}
 use Rattle.content_writing.specs.Faults.{of_folder}
-use Rattle.vault_spec.specs.Making.{full_texts}
+use Rattle.vault_spec.specs.Making.{NewFile}
 use Rattle.vault_write.specs.Calls.{New}
-use Rattle.vault_write.specs.Editing.{AddsEdits, side_edits}
-use Rattle.vault_write.specs.Filing.{PlacesEntry, PlacesFile}
-use Rattle.vault_write.proofs.FileBegun.{file_places, side_refused}
+use Rattle.vault_write.specs.Filing.{PlacesFile}
+use Rattle.vault_write.proofs.Exits.{at_fault}
+use Rattle.vault_write.proofs.FileBegun.{file_places}
 use Rattle.vault_write.proofs.FileMade.{file_refused, go_failed, go_may, go_placed, go_ready}
-use Rattle.vault_write.proofs.Filing.{at_fault, reads_outside}
+use Rattle.vault_write.proofs.Filing.{reads_outside}
+use Rattle.vault_write.proofs.Found.{side_refused}
 use Rattle.vault_write.proofs.file.place_go.Goals as goal
 
 pub returns-in_err-wants-clause-made : goal.returns-in_err-wants-clause-made
 returns-in_err-wants-clause-made g c =
-    subst (λ o. PlacesFile New c.args.vault.now c.args.work.now c.args.front.now c.args.name.now (still_coming (g.C.Content.reads c.args.content.now) (g.F.Folder.told c.args.folder.now) (g.C.Content.coming c.args.content.now)) (still_coming (g.C.Content.reads c.args.content.now) (g.F.Folder.told c.args.folder.now) (g.C.Content.coming c.args.content.now)) (g.R.Randoms.left c.args.random.now) (g.R.Randoms.left c.args.random.now) (g.F.Folder.told c.args.folder.now) o c.from_residual.result) (sym c.wants_side.ensures.told)
-    (at_fault (PlacesFile New c.args.vault.now c.args.work.now c.args.front.now c.args.name.now (still_coming (g.C.Content.reads c.args.content.now) (g.F.Folder.told c.args.folder.now) (g.C.Content.coming c.args.content.now)) (still_coming (g.C.Content.reads c.args.content.now) (g.F.Folder.told c.args.folder.now) (g.C.Content.coming c.args.content.now)) (g.R.Randoms.left c.args.random.now) (g.R.Randoms.left c.args.random.now) (g.F.Folder.told c.args.folder.now) (g.F.Folder.told c.args.folder.now)) c.from_residual.result c.in_err-wants.field-0.0 c.from_residual.ensures.1
-    (file_refused c.args.vault.now c.args.work.now c.args.front.now c.args.name.now (still_coming (g.C.Content.reads c.args.content.now) (g.F.Folder.told c.args.folder.now) (g.C.Content.coming c.args.content.now)) (g.R.Randoms.left c.args.random.now) (g.F.Folder.told c.args.folder.now) c.in_err-wants.field-0.0
-    (λ content. side_refused c.args.vault.now.root c.args.vault.now.vault c.requires.kind c.args.front.now c.args.name.now content (g.F.Folder.told c.args.folder.now) c.args.slot.now.at c.args.slot.now.side c.args.slot.now.full
-    c.in_err-wants.field-0.0 c.requires.slot c.in_err-wants.ensures.taken)))
+    file_refused New c.in_err-wants.field-0.0 c.from_residual.ensures.1 c.wants_side.ensures.told
+    (λ content. side_refused c.args.vault.now.root c.args.vault.now.vault c.requires.kind c.args.front.now c.args.name.now (g.F.Folder.told c.args.folder.now) c.args.slot.now.at c.args.slot.now.side c.args.slot.now.full
+    c.requires.slot (NewFile content) c.in_err-wants.field-0.0 c.in_err-wants.ensures.taken c.args.work.now)
 
 pub publish_side-requires : goal.publish_side-requires
 publish_side-requires g c = λ v is is_wanted.
@@ -31,7 +30,7 @@ returns-in_err-publish_side-clause-made g c =
     c.what_is_found_stands.ensures.enters c.args.vault.now (c.items_keep_vaults.ensures c.args.vault.now.vault) c.args.work.now c.args.front.now c.args.name.now c.requires.named
     c.args.slot.now.at c.args.slot.now.side c.args.slot.now.full (g.F.Folder.told c.args.folder.now) (g.met.F.Folder.sound c.args.folder.now) c.requires.may c.requires.slot
     c.requires.kind c.in_ok-wants.wants c.in_ok-wants.ensures.wants (g.F.Folder.told c.publish_side.new.folder)
-    (still_coming (g.C.Content.reads c.args.content.now) (g.F.Folder.told c.args.folder.now) (g.C.Content.coming c.args.content.now)) (g.R.Randoms.left c.args.random.now) c.in_err-publish_side.field-0.0 (subst (λ o. AddsEdits c.args.work.now (side_edits c.in_ok-wants.wants c.args.slot.now.side c.args.slot.now.full) (full_texts c.args.slot.now.full) o (g.F.Folder.told c.publish_side.new.folder) (Err c.in_err-publish_side.field-0.0)) c.wants_side.ensures.told c.in_err-publish_side.ensures.made))
+    (still_coming (g.C.Content.reads c.args.content.now) (g.F.Folder.told c.args.folder.now) (g.C.Content.coming c.args.content.now)) (g.R.Randoms.left c.args.random.now) c.in_err-publish_side.field-0.0 (rw (sym c.wants_side.ensures.told) c.in_err-publish_side.ensures.made))
 
 pub place_entry-requires-clause-may : goal.place_entry-requires-clause-may
 place_entry-requires-clause-may g c =
@@ -39,7 +38,7 @@ place_entry-requires-clause-may g c =
     c.what_is_found_stands.ensures.enters c.args.vault.now (c.items_keep_vaults.ensures c.args.vault.now.vault) c.args.work.now c.args.front.now c.args.name.now c.requires.named
     c.args.slot.now.at c.args.slot.now.side c.args.slot.now.full (g.F.Folder.told c.args.folder.now) (g.met.F.Folder.sound c.args.folder.now) c.requires.may c.requires.slot
     c.requires.kind c.in_ok-wants.wants c.in_ok-wants.ensures.wants (g.F.Folder.told c.publish_side.new.folder)
-    (subst (λ o. AddsEdits c.args.work.now (side_edits c.in_ok-wants.wants c.args.slot.now.side c.args.slot.now.full) (full_texts c.args.slot.now.full) o (g.F.Folder.told c.publish_side.new.folder) (Ok tt)) c.wants_side.ensures.told c.in_ok-publish_side.ensures.made) c.what_is_found_stands.ensures.folder
+    (rw (sym c.wants_side.ensures.told) c.in_ok-publish_side.ensures.made) c.what_is_found_stands.ensures.folder
 
 pub place_entry-requires-clause-ready : goal.place_entry-requires-clause-ready
 place_entry-requires-clause-ready g c =
@@ -47,7 +46,7 @@ place_entry-requires-clause-ready g c =
     c.what_is_found_stands.ensures.enters c.args.vault.now (c.items_keep_vaults.ensures c.args.vault.now.vault) c.args.work.now c.args.front.now c.args.name.now c.requires.named
     c.args.slot.now.at c.args.slot.now.side c.args.slot.now.full (g.F.Folder.told c.args.folder.now) (g.met.F.Folder.sound c.args.folder.now) c.requires.may c.requires.slot
     c.requires.kind c.in_ok-wants.wants c.in_ok-wants.ensures.wants (g.F.Folder.told c.publish_side.new.folder)
-    (subst (λ o. AddsEdits c.args.work.now (side_edits c.in_ok-wants.wants c.args.slot.now.side c.args.slot.now.full) (full_texts c.args.slot.now.full) o (g.F.Folder.told c.publish_side.new.folder) (Ok tt)) c.wants_side.ensures.told c.in_ok-publish_side.ensures.made) (g.C.Content.reads c.args.content.now) c.requires.elsewhere (g.C.Content.coming c.args.content.now) c.requires.ready
+    (rw (sym c.wants_side.ensures.told) c.in_ok-publish_side.ensures.made) (g.C.Content.reads c.args.content.now) c.requires.elsewhere (g.C.Content.coming c.args.content.now) c.requires.ready
 
 pub place_entry-requires-clause-outside : goal.place_entry-requires-clause-outside
 place_entry-requires-clause-outside g c = reads_outside (g.C.Content.reads c.args.content.now) c.args.work.now c.args.vault.now.root c.requires.elsewhere
@@ -58,6 +57,5 @@ returns-clause-made g c =
     c.what_is_found_stands.ensures.enters c.args.vault.now (c.items_keep_vaults.ensures c.args.vault.now.vault) c.args.work.now c.args.front.now c.args.name.now c.requires.named
     c.args.slot.now.at c.args.slot.now.side c.args.slot.now.full (g.F.Folder.told c.args.folder.now) (g.met.F.Folder.sound c.args.folder.now) c.requires.may c.requires.slot
     c.requires.kind c.in_ok-wants.wants c.in_ok-wants.ensures.wants (g.F.Folder.told c.publish_side.new.folder)
-    (subst (λ o. AddsEdits c.args.work.now (side_edits c.in_ok-wants.wants c.args.slot.now.side c.args.slot.now.full) (full_texts c.args.slot.now.full) o (g.F.Folder.told c.publish_side.new.folder) (Ok tt)) c.wants_side.ensures.told c.in_ok-publish_side.ensures.made) (g.C.Content.reads c.args.content.now) c.requires.elsewhere (g.C.Content.coming c.args.content.now) (g.C.Content.coming c.place_entry.new.content) (g.R.Randoms.left c.args.random.now) (g.R.Randoms.left c.place_entry.new.random) (g.F.Folder.told c.place_entry.new.folder) c.place_entry.result
-    (subst (λ k. PlacesEntry k c.args.work.now c.args.slot.now.at None (still_coming (g.C.Content.reads c.args.content.now) (g.F.Folder.told c.publish_side.new.folder) (g.C.Content.coming c.args.content.now)) (still_coming (g.C.Content.reads c.args.content.now) (g.F.Folder.told c.publish_side.new.folder) (g.C.Content.coming c.place_entry.new.content)) (g.R.Randoms.left c.args.random.now) (g.R.Randoms.left c.place_entry.new.random) (g.F.Folder.told c.publish_side.new.folder) (g.F.Folder.told c.place_entry.new.folder) c.place_entry.result)
-    c.content_keys.ensures c.place_entry.ensures.made)
+    (rw (sym c.wants_side.ensures.told) c.in_ok-publish_side.ensures.made) (g.C.Content.reads c.args.content.now) c.requires.elsewhere (g.C.Content.coming c.args.content.now) (g.C.Content.coming c.place_entry.new.content) (g.R.Randoms.left c.args.random.now) (g.R.Randoms.left c.place_entry.new.random) (g.F.Folder.told c.place_entry.new.folder) c.place_entry.result
+    (rw (sym c.content_keys.ensures) c.place_entry.ensures.made)

@@ -1,48 +1,25 @@
-use Rattle.std.proofs.Common.{◌-◌, Err, length, take, refl, ap, ◌∙◌, arith}
-use Rattle.content_writing.specs.Content.{still_coming}
+use Rattle.std.proofs.Common.{◌≡◌, ◌⊎◌, refl, subst, arith}
 use Rattle.content_writing.specs.declared.fault.PutFault.TheVariants as puts
-use Rattle.content_writing.proofs.Blaming.{blames_at}
 use Rattle.vault_faults.specs.declared.fault.FindFault.TheVariants as finds
-use Rattle.vault_write.specs.Calls.{InPlace, MakesFile}
-use Rattle.vault_write.specs.Faults.{IsFileFault}
+use Rattle.vault_write.specs.Calls.{InPlace}
 use Rattle.vault_write.proofs.DirectoryPlaced.{last_name, no_names}
-use Rattle.vault_write.proofs.FileMade.{named_file, root_file}
-use Rattle.vault_write.proofs.Filing.{at_fault}
-use Rattle.vault_write.proofs.Found.{same_refused}
+use Rattle.vault_write.proofs.FileMade.{named_file, root_file, root_fits}
+use Rattle.vault_write.proofs.ItemMade.{root_blames}
 use Rattle.vault_write.proofs.file.put.Goals as goal
 
-pub returns-in_err-copy-in-empty : goal.returns-in_err-copy-in-empty
-returns-in_err-copy-in-empty g c =
-    let result = c.from_residual.result in
-    let by_fault = c.from_residual.ensures.1 in
-    record {
-      made =
-          at_fault (MakesFile InPlace c.args.vault.now c.args.work.now c.args.path.now (still_coming (g.C.Content.reads c.args.content.now) (g.F.Folder.told c.args.folder.now) (g.C.Content.coming c.args.content.now)) (still_coming (g.C.Content.reads c.args.content.now) (g.F.Folder.told c.args.folder.now) (g.C.Content.coming c.args.content.now)) (g.R.Randoms.left c.args.random.now) (g.R.Randoms.left c.args.random.now) (g.F.Folder.told c.args.folder.now) (g.F.Folder.told c.args.folder.now)) c.from_residual.result puts.NoMemory c.from_residual.ensures.1
-          (root_file InPlace c.args.vault.now c.args.work.now c.args.path.now (still_coming (g.C.Content.reads c.args.content.now) (g.F.Folder.told c.args.folder.now) (g.C.Content.coming c.args.content.now)) (g.R.Randoms.left c.args.random.now) (g.F.Folder.told c.args.folder.now) puts.NoMemory
-          (no_names c.names.result.now c.args.path.now c.in-empty.len_below c.names.ensures.value) (λ never. refl));
-      fault = same_refused result puts.NoMemory IsFileFault by_fault tt;
-      reads = refl;
-      room = omega arith;
-      lender = refl;
-      failed = blames_at result puts.NoMemory puts.Failed _ _ by_fault (omega arith, λ same. cc same);
-      source = blames_at result puts.NoMemory puts.Source _ _ by_fault (omega arith, λ same. cc same);
-      random = blames_at result puts.NoMemory puts.Random _ _ by_fault (omega arith, λ same. cc same);
-    }
-
-pub returns-in_ok-copy-in-empty : goal.returns-in_ok-copy-in-empty
-returns-in_ok-copy-in-empty g c =
+pub returns-in-empty : goal.returns-in-empty
+returns-in-empty g c =
     let none = no_names c.names.result.now c.args.path.now c.in-empty.len_below c.names.ensures.value in
+    let is = subst (λ path. (c.wrong_kind.result ≡ puts.NoMemory) ⊎ (c.wrong_kind.result ≡ puts.Find (finds.WrongKind path))) none c.wrong_kind.ensures in
     record {
-      made =
-          root_file InPlace c.args.vault.now c.args.work.now c.args.path.now (still_coming (g.C.Content.reads c.args.content.now) (g.F.Folder.told c.args.folder.now) (g.C.Content.coming c.args.content.now)) (g.R.Randoms.left c.args.random.now) (g.F.Folder.told c.args.folder.now) (puts.Find (finds.WrongKind c.in_ok-copy-in-empty.field-0)) none
-          (λ never. absurd (never (ap (λ q. Err (puts.Find (finds.WrongKind q))) (c.in_ok-copy-in-empty.ensures ∙ none))));
-      fault = tt;
+      made = root_file InPlace none is;
+      fault = root_fits InPlace c.args.vault.now.root c.wrong_kind.result is;
       reads = refl;
       room = omega arith;
       lender = refl;
-      failed = (omega arith, λ same. cc same);
-      source = (omega arith, λ same. cc same);
-      random = (omega arith, λ same. cc same);
+      failed = root_blames InPlace c.args.vault.now.root c.wrong_kind.result puts.Failed tt is;
+      source = root_blames InPlace c.args.vault.now.root c.wrong_kind.result puts.Source tt is;
+      random = root_blames InPlace c.args.vault.now.root c.wrong_kind.result puts.Random tt is;
     }
 
 pub put_named-requires-clause-path : goal.put_named-requires-clause-path
@@ -50,7 +27,4 @@ put_named-requires-clause-path g c = last_name c.names.result.now c.args.path.no
 
 pub returns-in-len1-up-clause-made : goal.returns-in-len1-up-clause-made
 returns-in-len1-up-clause-made g c =
-    let names = c.names.result.now in
-    named_file InPlace c.args.vault.now c.args.work.now c.args.path.now (take (length names - 1) names) c.name-item.result
-    (still_coming (g.C.Content.reads c.args.content.now) (g.F.Folder.told c.args.folder.now) (g.C.Content.coming c.args.content.now)) (still_coming (g.C.Content.reads c.args.content.now) (g.F.Folder.told c.args.folder.now) (g.C.Content.coming c.put_named.new.content)) (g.R.Randoms.left c.args.random.now) (g.R.Randoms.left c.put_named.new.random) (g.F.Folder.told c.args.folder.now) (g.F.Folder.told c.put_named.new.folder) c.put_named.result
-    (last_name names c.args.path.now c.name-item.result c.names.ensures.value c.in-len1-up.len_at_least c.name-item.is) c.put_named.ensures.made
+    named_file (last_name c.names.result.now c.args.path.now c.name-item.result c.names.ensures.value c.in-len1-up.len_at_least c.name-item.is) c.put_named.ensures.made

@@ -1,17 +1,19 @@
+use Rattle.std.proofs.Common.{Err, refl}
+use Rattle.folder_spec.specs.Seen.{under}
 use Rattle.content_writing.specs.Content.{still_coming}
 use Rattle.content_writing.specs.declared.fault.PutFault.TheVariants as puts
+use Rattle.vault_spec.specs.Making.{NewFile}
 use Rattle.vault_write.specs.Calls.{InPlace}
-use Rattle.vault_write.specs.Filing.{PlacesFile}
-use Rattle.vault_write.proofs.Filing.{at_fault, reads_outside}
-use Rattle.vault_write.proofs.PutMade.{may_replace, put_memory, put_refused, replaced_at}
+use Rattle.vault_write.specs.Slots.{placing}
+use Rattle.vault_write.proofs.FileMade.{file_refused}
+use Rattle.vault_write.proofs.Filing.{reads_outside}
+use Rattle.vault_write.proofs.PutMade.{may_replace, put_anyway, replaced_at}
 use Rattle.vault_write.proofs.ReplacedMade.{replaced_file}
 use Rattle.vault_write.proofs.file.replace.Goals as goal
 
 pub returns-in_err-buffers-clause-made : goal.returns-in_err-buffers-clause-made
 returns-in_err-buffers-clause-made g c =
-    at_fault (PlacesFile InPlace c.args.vault.now c.args.work.now c.args.front.now c.args.name.now (still_coming (g.C.Content.reads c.args.content.now) (g.F.Folder.told c.args.folder.now) (g.C.Content.coming c.args.content.now)) (still_coming (g.C.Content.reads c.args.content.now) (g.F.Folder.told c.args.folder.now) (g.C.Content.coming c.args.content.now)) (g.R.Randoms.left c.args.random.now) (g.R.Randoms.left c.args.random.now) (g.F.Folder.told c.args.folder.now) (g.F.Folder.told c.args.folder.now)) c.from_residual.result puts.NoMemory c.from_residual.ensures.1
-    (put_refused c.args.vault.now c.args.work.now c.args.front.now c.args.name.now (still_coming (g.C.Content.reads c.args.content.now) (g.F.Folder.told c.args.folder.now) (g.C.Content.coming c.args.content.now)) (g.R.Randoms.left c.args.random.now) (g.F.Folder.told c.args.folder.now) puts.NoMemory
-    (λ content ending v is. put_memory c.args.vault.now c.args.work.now c.args.front.now c.args.name.now content ending v))
+    file_refused InPlace puts.NoMemory c.from_residual.ensures.1 refl (λ content ending v is. put_anyway (placing c.args.vault.now c.args.work.now c.args.front.now c.args.name.now (NewFile content)) ending (under c.args.vault.now.root v) (Err puts.NoMemory) tt tt tt)
 
 pub replace_entry-requires-clause-may : goal.replace_entry-requires-clause-may
 replace_entry-requires-clause-may g c =

@@ -1,19 +1,14 @@
-use Rattle.std.proofs.Common.{◌∙◌, sym, subst, codes, Ok, Err}
+use Rattle.std.proofs.Common.{◌∙◌, sym, codes}
 use Rattle.folder_spec.proofs.Paths.{child-not_base}
 use Rattle.work_folder.specs.Entries.{stage_path}
-use Rattle.content_writing.specs.Content.{still_coming}
-use Rattle.content_writing.specs.Faults.{of_folder}
 use Rattle.content_writing.specs.declared.fault.PutFault.TheVariants as puts
-use Rattle.vault_spec.specs.Vault.{format_of}
-use Rattle.vault_write.specs.Filing.{ReplacesContent, file_of}
-use Rattle.vault_write.proofs.Filing.{at_fault, reads_apart}
+use Rattle.vault_write.specs.Filing.{file_of}
+use Rattle.vault_write.proofs.Filing.{reads_apart}
 use Rattle.vault_write.proofs.Replacing.{replace_failed, replace_free, replace_none, replace_placed, replace_stopped, replaces_allowed}
 use Rattle.vault_write.proofs.file.replace_entry.Goals as goal
 
 pub returns-in_err-staged-clause-made : goal.returns-in_err-staged-clause-made
-returns-in_err-staged-clause-made g c =
-    at_fault (λ r. ReplacesContent (format_of c.args.vault.now.vault).content c.args.work.now c.args.vault.now.root c.args.at.now (still_coming (g.C.Content.reads c.args.content.now) (g.F.Folder.told c.args.folder.now) (g.C.Content.coming c.args.content.now)) (still_coming (g.C.Content.reads c.args.content.now) (g.F.Folder.told c.args.folder.now) (g.C.Content.coming c.args.content.now)) (g.R.Randoms.left c.args.random.now) (g.R.Randoms.left c.args.random.now) (g.F.Folder.told c.args.folder.now) (g.F.Folder.told c.args.folder.now) r) c.from_residual.result puts.NoMemory c.from_residual.ensures.1
-    (replace_none ((format_of c.args.vault.now.vault).content) c.args.work.now c.args.vault.now.root c.args.at.now (still_coming (g.C.Content.reads c.args.content.now) (g.F.Folder.told c.args.folder.now) (g.C.Content.coming c.args.content.now)) (g.R.Randoms.left c.args.random.now) (g.F.Folder.told c.args.folder.now) puts.NoMemory tt)
+returns-in_err-staged-clause-made g c = replace_none puts.NoMemory c.from_residual.ensures.1 tt
 
 pub stage_entry-requires-clause-free : goal.stage_entry-requires-clause-free
 stage_entry-requires-clause-free g c = replace_free c.args.work.now c.args.vault.now.root c.args.at.now (codes "f") c.in_ok-staged.staged (g.F.Folder.told c.args.folder.now) c.in_ok-staged.ensures c.requires.may
@@ -26,10 +21,7 @@ stage_entry-requires-clause-apart g c = reads_apart (g.C.Content.reads c.args.co
 
 pub returns-in_err-stage_entry-clause-made : goal.returns-in_err-stage_entry-clause-made
 returns-in_err-stage_entry-clause-made g c =
-    at_fault (λ r. ReplacesContent (format_of c.args.vault.now.vault).content c.args.work.now c.args.vault.now.root c.args.at.now (still_coming (g.C.Content.reads c.args.content.now) (g.F.Folder.told c.args.folder.now) (g.C.Content.coming c.args.content.now)) (still_coming (g.C.Content.reads c.args.content.now) (g.F.Folder.told c.args.folder.now) (g.C.Content.coming c.stage_entry.new.content)) (g.R.Randoms.left c.args.random.now) (g.R.Randoms.left c.stage_entry.new.random) (g.F.Folder.told c.args.folder.now) (g.F.Folder.told c.stage_entry.new.folder) r) c.from_residual-in_err-stage_entry.result c.in_err-stage_entry.field-0.0 c.from_residual-in_err-stage_entry.ensures.1
-    (subst (λ k. ReplacesContent k c.args.work.now c.args.vault.now.root c.args.at.now (still_coming (g.C.Content.reads c.args.content.now) (g.F.Folder.told c.args.folder.now) (g.C.Content.coming c.args.content.now)) (still_coming (g.C.Content.reads c.args.content.now) (g.F.Folder.told c.args.folder.now) (g.C.Content.coming c.stage_entry.new.content)) (g.R.Randoms.left c.args.random.now) (g.R.Randoms.left c.stage_entry.new.random) (g.F.Folder.told c.args.folder.now) (g.F.Folder.told c.stage_entry.new.folder) (Err c.in_err-stage_entry.field-0.0)) c.content_keys.ensures
-    (replace_stopped c.content_keys.result c.args.work.now c.args.vault.now.root c.args.at.now (codes "f") c.in_ok-staged.staged (still_coming (g.C.Content.reads c.args.content.now) (g.F.Folder.told c.args.folder.now) (g.C.Content.coming c.args.content.now)) (still_coming (g.C.Content.reads c.args.content.now) (g.F.Folder.told c.args.folder.now) (g.C.Content.coming c.stage_entry.new.content)) (g.R.Randoms.left c.args.random.now) (g.R.Randoms.left c.stage_entry.new.random) (g.F.Folder.told c.args.folder.now) (g.F.Folder.told c.stage_entry.new.folder)
-    c.in_err-stage_entry.field-0.0 c.in_ok-staged.ensures c.in_err-stage_entry.ensures.staged))
+    rw (sym c.content_keys.ensures) (replace_stopped (codes "f") c.in_err-stage_entry.field-0.0 c.from_residual-in_err-stage_entry.ensures.1 c.in_ok-staged.ensures c.in_err-stage_entry.ensures.staged)
 
 pub publish_entry-requires : goal.publish_entry-requires
 publish_entry-requires g c =
@@ -38,13 +30,8 @@ publish_entry-requires g c =
 
 pub returns-in_err-publish_entry-clause-made : goal.returns-in_err-publish_entry-clause-made
 returns-in_err-publish_entry-clause-made g c =
-    at_fault (λ r. ReplacesContent (format_of c.args.vault.now.vault).content c.args.work.now c.args.vault.now.root c.args.at.now (still_coming (g.C.Content.reads c.args.content.now) (g.F.Folder.told c.args.folder.now) (g.C.Content.coming c.args.content.now)) (still_coming (g.C.Content.reads c.args.content.now) (g.F.Folder.told c.args.folder.now) (g.C.Content.coming c.stage_entry.new.content)) (g.R.Randoms.left c.args.random.now) (g.R.Randoms.left c.stage_entry.new.random) (g.F.Folder.told c.args.folder.now) (g.F.Folder.told c.publish_entry.new.folder) r) c.from_residual-in_err-publish_entry.result (of_folder c.in_err-publish_entry.field-0.0) c.from_residual-in_err-publish_entry.ensures.1
-    (subst (λ k. ReplacesContent k c.args.work.now c.args.vault.now.root c.args.at.now (still_coming (g.C.Content.reads c.args.content.now) (g.F.Folder.told c.args.folder.now) (g.C.Content.coming c.args.content.now)) (still_coming (g.C.Content.reads c.args.content.now) (g.F.Folder.told c.args.folder.now) (g.C.Content.coming c.stage_entry.new.content)) (g.R.Randoms.left c.args.random.now) (g.R.Randoms.left c.stage_entry.new.random) (g.F.Folder.told c.args.folder.now) (g.F.Folder.told c.publish_entry.new.folder) (Err (of_folder c.in_err-publish_entry.field-0.0))) c.content_keys.ensures
-    (replace_failed c.content_keys.result c.args.work.now c.args.vault.now.root c.args.at.now c.in_ok-staged.staged (still_coming (g.C.Content.reads c.args.content.now) (g.F.Folder.told c.args.folder.now) (g.C.Content.coming c.args.content.now)) (still_coming (g.C.Content.reads c.args.content.now) (g.F.Folder.told c.args.folder.now) (g.C.Content.coming c.stage_entry.new.content)) (g.R.Randoms.left c.args.random.now) (g.R.Randoms.left c.stage_entry.new.random) (g.F.Folder.told c.args.folder.now) (g.F.Folder.told c.stage_entry.new.folder) (g.F.Folder.told c.publish_entry.new.folder)
-    c.in_ok-staged.ensures c.requires.may c.in_ok-stage_entry.ensures.staged c.in_err-publish_entry.field-0.0 c.in_err-publish_entry.ensures.replaced))
+    rw (sym c.content_keys.ensures) (replace_failed (g.F.Folder.told c.publish_entry.new.folder) c.in_ok-staged.ensures c.requires.may c.in_ok-stage_entry.ensures.staged c.in_err-publish_entry.field-0.0 c.from_residual-in_err-publish_entry.ensures.1 c.in_err-publish_entry.ensures.replaced)
 
 pub returns-clause-made : goal.returns-clause-made
 returns-clause-made g c =
-    subst (λ k. ReplacesContent k c.args.work.now c.args.vault.now.root c.args.at.now (still_coming (g.C.Content.reads c.args.content.now) (g.F.Folder.told c.args.folder.now) (g.C.Content.coming c.args.content.now)) (still_coming (g.C.Content.reads c.args.content.now) (g.F.Folder.told c.args.folder.now) (g.C.Content.coming c.stage_entry.new.content)) (g.R.Randoms.left c.args.random.now) (g.R.Randoms.left c.stage_entry.new.random) (g.F.Folder.told c.args.folder.now) (g.F.Folder.told c.publish_entry.new.folder) (Ok tt)) c.content_keys.ensures
-    (replace_placed c.content_keys.result c.args.work.now c.args.vault.now.root c.args.at.now c.in_ok-staged.staged (still_coming (g.C.Content.reads c.args.content.now) (g.F.Folder.told c.args.folder.now) (g.C.Content.coming c.args.content.now)) (still_coming (g.C.Content.reads c.args.content.now) (g.F.Folder.told c.args.folder.now) (g.C.Content.coming c.stage_entry.new.content)) (g.R.Randoms.left c.args.random.now) (g.R.Randoms.left c.stage_entry.new.random) (g.F.Folder.told c.args.folder.now) (g.F.Folder.told c.stage_entry.new.folder) (g.F.Folder.told c.publish_entry.new.folder)
-    c.in_ok-staged.ensures c.requires.may c.in_ok-stage_entry.ensures.staged c.in_ok-publish_entry.ensures.replaced)
+    rw (sym c.content_keys.ensures) (replace_placed (g.F.Folder.told c.publish_entry.new.folder) c.in_ok-staged.ensures c.requires.may c.in_ok-stage_entry.ensures.staged c.in_ok-publish_entry.ensures.replaced)

@@ -1,4 +1,4 @@
-use Rattle.std.proofs.Common.{[], ◌≡◌, refl, arith}
+use Rattle.std.proofs.Common.{[], refl, arith}
 use Rattle.content_writing.specs.Content.{still_coming}
 use Rattle.content_writing.specs.Faults.{of_folder}
 use Rattle.content_writing.specs.declared.fault.PutFault.TheVariants as puts
@@ -7,7 +7,8 @@ use Rattle.folder_model.proofs.Counting.{rose_since}
 use Rattle.vault_spec.specs.Cryptomator.{content_file}
 use Rattle.vault_write.specs.Filing.{StagesEntry}
 use Rattle.vault_write.proofs.Directories.{place_in}
-use Rattle.vault_write.proofs.Filing.{at_fault, inner_failed, inner_staged, inner_stopped, name_in_place, reads_apart_in, stages_none, still_ready, stops_folder, untaken}
+use Rattle.vault_write.proofs.Exits.{at_fault, unblamed}
+use Rattle.vault_write.proofs.Filing.{inner_failed, inner_staged, inner_stopped, name_in_place, reads_apart_in, stages_none, still_ready, stops_folder, untaken}
 use Rattle.vault_write.proofs.file.stage_folder.Goals as goal
 
 pub returns-in_err-begin_folder : goal.returns-in_err-begin_folder
@@ -24,8 +25,8 @@ returns-in_err-begin_folder g c =
       room = omega arith;
       lender = refl;
       failed = blames_at result (of_folder fault) puts.Failed _ _ by_fault (folder_blames _ _ _ fault (omega arith) c.in_err-begin_folder.ensures.counts);
-      source = blames_at result (of_folder fault) puts.Source _ _ by_fault (omega arith, λ same. absurd (folder_unread fault (let is : of_folder fault ≡ puts.Source = cc same in is)));
-      random = blames_at result (of_folder fault) puts.Random _ _ by_fault (omega arith, λ same. absurd (folder_undrawn fault (let is : of_folder fault ≡ puts.Random = cc same in is)));
+      source = unblamed result (of_folder fault) puts.Source by_fault (folder_unread fault) (omega arith);
+      random = unblamed result (of_folder fault) puts.Random by_fault (folder_undrawn fault) (omega arith);
     }
 
 pub returns-in_err-file : goal.returns-in_err-file
@@ -39,9 +40,9 @@ returns-in_err-file g c =
       reads = refl;
       room = omega arith;
       lender = refl;
-      failed = blames_at result puts.NoMemory puts.Failed _ _ by_fault (c.in_ok-begin_folder.ensures.counts, λ same. cc same);
-      source = blames_at result puts.NoMemory puts.Source _ _ by_fault (omega arith, λ same. cc same);
-      random = blames_at result puts.NoMemory puts.Random _ _ by_fault (omega arith, λ same. cc same);
+      failed = unblamed result puts.NoMemory puts.Failed by_fault (λ same. cc same) c.in_ok-begin_folder.ensures.counts;
+      source = unblamed result puts.NoMemory puts.Source by_fault (λ same. cc same) (omega arith);
+      random = unblamed result puts.NoMemory puts.Random by_fault (λ same. cc same) (omega arith);
     }
 
 pub write_content-requires-clause-stage : goal.write_content-requires-clause-stage
@@ -102,8 +103,8 @@ returns-in_err-stage_name g c =
       room = before.room;
       lender = before.lender;
       failed = blames_at result (of_folder fault) puts.Failed _ _ by_fault (folder_blames _ _ _ fault (omega (arith, c.in_ok-begin_folder.ensures.counts, before.failed.0)) c.in_err-stage_name.ensures.counts);
-      source = blames_at result (of_folder fault) puts.Source _ _ by_fault (before.source.0, λ same. absurd (folder_unread fault (let is : of_folder fault ≡ puts.Source = cc same in is)));
-      random = blames_at result (of_folder fault) puts.Random _ _ by_fault (before.random.0, λ same. absurd (folder_undrawn fault (let is : of_folder fault ≡ puts.Random = cc same in is)));
+      source = unblamed result (of_folder fault) puts.Source by_fault (folder_unread fault) before.source.0;
+      random = unblamed result (of_folder fault) puts.Random by_fault (folder_undrawn fault) before.random.0;
     }
 
 pub returns-clause-staged : goal.returns-clause-staged

@@ -1,7 +1,7 @@
-use Rattle.std.proofs.Common.{[], ◌∷◌, Err, sym, ap, ◌∙◌, subst}
-use Rattle.std.proofs.lemmas.Result.{err_from_is_err_and}
+use Rattle.std.proofs.Common.{[], ◌∷◌}
 use Rattle.folder_spec.specs.Edit.{folder_view}
 use Rattle.vault_write.specs.Founding.{StagesWhole}
+use Rattle.vault_write.proofs.Exits.{at_fault}
 use Rattle.vault_write.proofs.Staged.{place_in_staged, first_failed, one_staged, both_staged}
 use Rattle.vault_write.proofs.init.stage_files.Goals as goal
 
@@ -11,10 +11,9 @@ stage_in-requires g c v is =
 
 pub returns-in_err-stage_in-clause-staged : goal.returns-in_err-stage_in-clause-staged
 returns-in_err-stage_in-clause-staged g c =
-    let p = err_from_is_err_and c.from_residual-in_err-stage_in.result c.from_residual-in_err-stage_in.ensures.1 in
     let b1 = c.args.first_bytes.now in
     let b2 = c.args.second_bytes.now in
-    subst (StagesWhole c.args.staged.now (folder_view ((c.args.second.now, b2) ∷ (c.args.first.now, b1) ∷ [])) (b2 ∷ b1 ∷ []) (g.F.Folder.told c.args.folder.now) (g.F.Folder.told c.stage_in.new.folder)) (sym (p.1 ∙ ap Err p.2))
+    at_fault (StagesWhole c.args.staged.now (folder_view ((c.args.second.now, b2) ∷ (c.args.first.now, b1) ∷ [])) (b2 ∷ b1 ∷ []) (g.F.Folder.told c.args.folder.now) (g.F.Folder.told c.stage_in.new.folder)) c.from_residual-in_err-stage_in.result _ c.from_residual-in_err-stage_in.ensures.1
     (first_failed c.stagings_are_of_more_files.ensures c.staged_folders_gain_files.ensures.during c.staged_folders_gain_files.ensures.gained c.args.staged.now c.args.first.now c.args.first_bytes.now c.args.second.now c.args.second_bytes.now (g.F.Folder.told c.args.folder.now) (g.F.Folder.told c.begin_folder.new.folder) (g.F.Folder.told c.stage_in.new.folder)
     (λ contents. (c.in_ok-begin_folder.ensures.begun contents).1) c.stage_in.ensures.moments c.in_err-stage_in.field-0.0)
 

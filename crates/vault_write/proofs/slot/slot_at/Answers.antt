@@ -1,19 +1,19 @@
 use Rattle.std.proofs.Common.{◌≡◌, subst, []}
+use Rattle.folder_model.proofs.ByFault.{at_fault}
 use Rattle.folder_spec.specs.Seen.{IfSeen}
 use Rattle.folder_spec.specs.View.{NoEntry}
 use Rattle.vault_spec.specs.Making.{NewItem}
 use Rattle.vault_write.specs.Slots.{IsTakenAt, RefusesItem}
-use Rattle.vault_write.proofs.Found.{same_refused}
 use Rattle.vault_write.proofs.slot.slot_at.Goals as goal
 
 pub returns-in_err-slot-clause-refused : goal.returns-in_err-slot-clause-refused
 returns-in_err-slot-clause-refused g c =
-    same_refused c.from_residual.result c.in_err-slot.field-0.0 (λ fault. (item : NewItem) → RefusesItem c.args.vault.now c.args.front.now c.args.name.now item [] (g.F.Folder.told c.args.folder.now) fault)
+    at_fault c.from_residual.result (λ fault. (item : NewItem) → RefusesItem c.args.vault.now c.args.front.now c.args.name.now item [] (g.F.Folder.told c.args.folder.now) fault) c.in_err-slot.field-0.0
     c.from_residual.ensures.1 c.in_err-slot.ensures.refused
 
 pub returns-in_err-is_free-clause-refused : goal.returns-in_err-is_free-clause-refused
 returns-in_err-is_free-clause-refused g c =
-    same_refused c.from_residual-in_err-is_free.result c.in_err-is_free.field-0.0 (λ fault. (item : NewItem) → RefusesItem c.args.vault.now c.args.front.now c.args.name.now item [] (g.F.Folder.told c.args.folder.now) fault)
+    at_fault c.from_residual-in_err-is_free.result (λ fault. (item : NewItem) → RefusesItem c.args.vault.now c.args.front.now c.args.name.now item [] (g.F.Folder.told c.args.folder.now) fault) c.in_err-is_free.field-0.0
     c.from_residual-in_err-is_free.ensures.1
     (λ item. c.in_ok-slot.ensures.slot.taken item c.in_err-is_free.field-0.0
     (subst (λ t. IsTakenAt c.in_ok-slot.slot.at t c.in_err-is_free.field-0.0) c.slot_over.ensures.told c.in_err-is_free.ensures.taken))
